@@ -1,0 +1,23 @@
+//! The program `dpi_chain`: `program` of `dpi_program`, over the process's words, streams and files.
+#![tactic(auto)]
+
+use std::alloc::AllocError;
+use std::env;
+use std::io;
+use std::process::ExitCode;
+
+use dpi_program::program::program;
+
+/// Runs the program with the words after its name, and answers its exit status.
+fn status(rt: &HostRuntime) -> io::Result<u8> {
+    let owned: Vec<String> = env::args(rt)?.skip(1).collect(rt.alloc())?;
+    let words: Result<Vec<&str>, AllocError> = owned.iter().map(|word| word.as_str()).collect(rt.alloc());
+    Ok(program(rt, words?.as_slice(), &mut rt.stdin(), &mut rt.stdout(), &mut rt.stderr()))
+}
+
+fn main(rt: HostRuntime) -> ExitCode {
+    match status(&rt) {
+        Ok(number) => ExitCode::from(number),
+        Err(_) => ExitCode::from(1),
+    }
+}

@@ -1,0 +1,4 @@
+pub mod DigitLemmas
+pub mod KnownLemmas
+pub mod LineLemmas
+pub mod NumberLemmas

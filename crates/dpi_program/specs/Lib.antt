@@ -1,0 +1,5 @@
+pub mod Command
+pub mod Digits
+pub mod Lines
+pub mod Names
+pub mod Numbers

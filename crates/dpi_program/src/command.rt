@@ -1,0 +1,220 @@
+//! The command line: the subcommand `cut`, its options and their ranges.
+
+ghost use Rattle.std.specs.Prelude.{◌≡◌, ◌^◌, IfOk, IfErr, Some};
+ghost use Rattle.dpi_program.specs.Numbers.{number_below};
+ghost use Rattle.dpi_program.specs.Command.{IsRefused};
+
+use crate::numbers::number_below;
+use clap::{Arg, ArgAction, ArgMatches, Command};
+use pes_time::Time33;
+use std::alloc::{AllocError, Global};
+use std::fmt;
+use ts_packet::Pid;
+
+/// The first number that is no PID.
+const PID_LIMIT: u64 = 0x2000;
+
+/// The first number that is no time stamp, in ticks of 90 kHz.
+const TIME_LIMIT: u64 = 1 << 33;
+
+/// The first number that is no length, in ticks of 90 kHz.
+const LENGTH_LIMIT: u64 = 1 << 32;
+
+const ABOUT: &str = "Cuts programme intervals out of MPEG transport streams";
+
+const CUT_ABOUT: &str = "Cuts one interval of one PID out of a transport stream";
+
+const CUT_LONG_ABOUT: &str = "Cuts one interval of one PID out of a transport stream.
+
+The units (PES packets) of the PID whose presentation time (PTS) lies from --from up to, and not including, --from plus
+--length are left out, each with all its packets and their repeats. All other packets pass, in order: those of other PIDs
+byte for byte, those of the PID with the continuity counter that closes the gap. The clock may wrap inside the stream; the
+start is then taken as the time that lies within 13 hours of the stream's first one.
+
+Without --in and --out, packets are lines of 376 upper case hexadecimal digits on standard input and output.";
+
+const CUT_EXAMPLE: &str =
+    "Times are ticks of the 90 kHz clock: 90000 are one second, 3600 one picture of 25 a second.
+
+Example, the ten seconds of PID 256 from the time stamp 1800000 (20 seconds) on:
+  dpi_chain cut --pid 256 --from 1800000 --length 900000 --in network.ts --out cut.ts
+
+Exit status: 0 where the whole stream went through; 1 at a fault, which is named on standard error as `fault: NAME`, and
+what went out before it stands; 2 where the command line is not taken.";
+
+const CUT_USAGE: &str =
+    "dpi_chain cut --pid <PID> --from <TICKS> --length <TICKS> [--in <FILE>] [--out <FILE>]";
+
+/// What `cut` is to do.
+#[derive(Clone, Copy, Debug, Drop)]
+pub struct CutOptions<'a> {
+    /// The PID that is cut.
+    pub pid: Pid,
+    /// The start of the interval.
+    pub from: Time33,
+    /// The length of the interval, in ticks of 90 kHz.
+    pub length: u32,
+    /// The file that is read, or lines on standard input.
+    pub input: Option<&'a str>,
+    /// The file that is written, or lines on standard output.
+    pub output: Option<&'a str>,
+}
+
+/// The options that are numbers.
+#[derive(Clone, Copy, Debug, PartialEq, Eq, Drop)]
+pub enum NumberOption {
+    Pid,
+    From,
+    Length,
+}
+
+/// An option's text that is no number in its range.
+#[derive(Clone, Copy, Debug, Drop)]
+pub struct BadNumber<'a> {
+    pub option: NumberOption,
+    pub text: &'a str,
+}
+
+impl fmt::Display for NumberOption {
+    fn fmt<W: fmt::Write>(&self, f: &mut fmt::Formatter<W>) -> fmt::Result {
+        match self {
+            NumberOption::Pid => write!(
+                f,
+                "'--pid <PID>': a PID is a decimal number from 0 to 8191"
+            ),
+            NumberOption::From => write!(
+                f,
+                "'--from <TICKS>': a time is a decimal number of 90 kHz ticks from 0 to 8589934591 (2^33 - 1)"
+            ),
+            NumberOption::Length => write!(
+                f,
+                "'--length <TICKS>': a length is a decimal number of 90 kHz ticks from 0 to 4294967295 (2^32 - 1)"
+            ),
+        }
+    }
+}
+
+impl fmt::Display for BadNumber<'_> {
+    fn fmt<W: fmt::Write>(&self, f: &mut fmt::Formatter<W>) -> fmt::Result {
+        let option = self.option;
+        let text = self.text;
+        write!(
+            f,
+            "error: invalid value '{text}' for {option}\n\nUsage: {CUT_USAGE}\n\nFor more information, try '--help'.\n"
+        )
+    }
+}
+
+/// An option that takes one value.
+fn option<'a>(alloc: Global, id: &'a str, value_name: &'a str, help: &'a str) -> Arg<'a> {
+    Arg::new(alloc, id)
+        .long(id)
+        .value_name(value_name)
+        .action(ArgAction::Set)
+        .allow_negative_numbers(true)
+        .help(help)
+}
+
+/// The subcommand `cut`.
+fn cut_command<'a>(alloc: Global) -> Result<Command<'a>, AllocError> {
+    let pid = option(
+        alloc,
+        "pid",
+        "PID",
+        "The PID to cut in, a decimal number from 0 to 8191",
+    )
+    .required(true);
+    let from = option(
+        alloc,
+        "from",
+        "TICKS",
+        "Where the interval starts: a PTS in 90 kHz ticks, from 0 to 8589934591 (2^33 - 1)",
+    )
+    .required(true);
+    let length = option(
+        alloc,
+        "length",
+        "TICKS",
+        "How long it lasts, in 90 kHz ticks, from 0 (nothing is cut) to 4294967295 (2^32 - 1), some 13 hours",
+    )
+    .required(true);
+    let input = option(
+        alloc,
+        "in",
+        "FILE",
+        "The transport stream to read, a file or a pipe of 188-byte packets [default: lines of digits on standard input]",
+    );
+    let output = option(
+        alloc,
+        "out",
+        "FILE",
+        "The file to write, which is made anew [default: lines of digits on standard output]",
+    );
+    Command::new(alloc, "cut")
+        .about(CUT_ABOUT)
+        .long_about(CUT_LONG_ABOUT)
+        .after_help(CUT_EXAMPLE)
+        .override_usage(CUT_USAGE)
+        .arg(pid)?
+        .arg(from)?
+        .arg(length)?
+        .arg(input)?
+        .arg(output)
+}
+
+/// The command line of the program, whose words come without the program's name.
+pub fn command<'a>(alloc: Global) -> Result<Command<'a>, AllocError> {
+    Command::new(alloc, "dpi_chain")
+        .about(ABOUT)
+        .version("0.1.0")
+        .no_binary_name(true)
+        .subcommand_required(true)
+        .subcommand(cut_command(alloc)?)
+}
+
+/// The numbers of a cut: its PID, its start and its length. The first of them that is not in its range is answered.
+fn numbers<'a>(
+    pid: &'a str,
+    from: &'a str,
+    length: &'a str,
+) -> Result<(Pid, Time33, u32), BadNumber<'a>>
+    ensures pid { IfOk result (λ n. number_below pid.now 8192 ≡ Some n.0) }
+    ensures from { IfOk result (λ n. number_below from.now (2 ^ 33) ≡ Some n.1) }
+    ensures length { IfOk result (λ n. number_below length.now (2 ^ 32) ≡ Some n.2) }
+    ensures refused { IfErr result (λ bad. IsRefused bad.option pid.now from.now length.now) }
+{
+    let Some(pid) = number_below(pid, PID_LIMIT).and_then(|number| Pid::new(number as u16)) else {
+        return Err(BadNumber {
+            option: NumberOption::Pid,
+            text: pid,
+        });
+    };
+    let Some(from) = number_below(from, TIME_LIMIT).and_then(Time33::new) else {
+        return Err(BadNumber {
+            option: NumberOption::From,
+            text: from,
+        });
+    };
+    let Some(length) = number_below(length, LENGTH_LIMIT) else {
+        return Err(BadNumber {
+            option: NumberOption::Length,
+            text: length,
+        });
+    };
+    Ok((pid, from, length as u32))
+}
+
+/// What the options of `cut` say.
+pub fn cut_options<'a>(matches: &ArgMatches<'a>) -> Result<CutOptions<'a>, BadNumber<'a>> {
+    let pid = matches.get_str("pid").unwrap_or("");
+    let from = matches.get_str("from").unwrap_or("");
+    let length = matches.get_str("length").unwrap_or("");
+    let (pid, from, length) = numbers(pid, from, length)?;
+    Ok(CutOptions {
+        pid,
+        from,
+        length,
+        input: matches.get_str("in"),
+        output: matches.get_str("out"),
+    })
+}

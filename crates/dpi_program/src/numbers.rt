@@ -1,0 +1,33 @@
+//! Decimal numbers of the command line.
+
+ghost use Rattle.std.specs.Prelude.{◌≡◌};
+ghost use Rattle.std.specs.List.{list_all};
+ghost use Rattle.std.specs.Char.{is_ascii_digit};
+ghost use Rattle.dpi_program.specs.Numbers.{is_number, number_below};
+
+/// Whether each byte of the text is a decimal digit.
+fn are_digits(text: &str) -> bool
+    ensures { result ≡ list_all is_ascii_digit text.now }
+{
+    text.bytes().all(|byte| byte.is_ascii_digit())
+}
+
+/// Whether the text is decimal digits alone, at least one.
+fn is_number(text: &str) -> bool
+    ensures { result ≡ is_number text.now }
+{
+    !text.is_empty() && are_digits(text)
+}
+
+/// The number that the text writes in decimal digits alone, without a sign, where it is below `limit`; leading zeros are taken.
+pub fn number_below(text: &str, limit: u64) -> Option<u64>
+    ensures { result ≡ number_below text.now limit }
+{
+    if !is_number(text) {
+        return None;
+    }
+    match text.parse::<u64>() {
+        Ok(number) => { if number < limit { Some(number) } else { None } }
+        Err(_) => None,
+    }
+}

@@ -1,0 +1,5 @@
+pub mod LineLemmas
+pub mod ReadLemmas
+pub mod StampLemmas
+pub mod UndecidedLemmas
+pub mod WriteLemmas

@@ -1,0 +1,11 @@
+pub mod Cases
+pub mod FieldLemmas
+pub mod HistoryLemmas
+pub mod CountLemmas
+pub mod WritingLemmas
+pub mod TransferLemmas
+pub mod ReadingLemmas
+pub mod ClockLemmas
+pub mod PacketsLemmas
+pub mod RunLemmas
+pub mod Renumbered

@@ -1,0 +1,13 @@
+use Rattle.std.proofs.Common.{◌<◌, length, take}
+use Rattle.std.specs.Io.KnownBytes.{Appends}
+use Rattle.ts_packet.specs.Transfers.{Rose}
+use Rattle.ts_packet.specs.Sinks.{Later}
+use Rattle.ts_packet.proofs.transfer.write_whole.Given as goal
+
+abbrev pub invariant-loop-turn : goal.invariant-loop-turn
+invariant-loop-turn g l = record {
+  within : l.at < length l.bytes;
+  bytes : Appends (g.W.Target.contents l.initial.target) (g.W.Target.contents l.target) (take l.at l.bytes);
+  turns : Rose l._turn (g.W.Target.tally l.initial.target).calls (g.W.Target.tally l.target).calls;
+  later : Later (g.W.Target.tally l.initial.target) (g.W.Target.tally l.target);
+}

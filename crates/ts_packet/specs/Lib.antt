@@ -1,0 +1,10 @@
+pub mod Fields
+pub mod Duplicates
+pub mod Runs
+pub mod Packets
+pub mod Transfers
+pub mod Reading
+pub mod Sinks
+pub mod Following
+pub mod Numbering
+pub mod Clock

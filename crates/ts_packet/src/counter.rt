@@ -1,0 +1,65 @@
+//! The continuity counters of a PID whose packets are partly left out, with others put in.
+
+ghost use Rattle.std.specs.Prelude.{◌≡◌, ◌<◌, List, [], ◌∷◌, true, is_some};
+ghost use Rattle.ts_packet.specs.Fields.{number, payload};
+
+use crate::packet::Packet;
+
+/// Numbers the packets of one PID on their way out (ISO/IEC 13818-1, 2.4.3.3, continuity_counter).
+#[derive(Clone, Copy, Debug, PartialEq, Eq, Drop)]
+pub struct Counter {
+    /// By how much the counters of the way in are moved up.
+    shift: u8,
+    /// The counter of a packet put in next.
+    upcoming: u8,
+    ghost shift_below: { shift < 16 },
+    ghost upcoming_below: { upcoming < 16 },
+}
+
+impl Counter {
+    ghost use Rattle.ts_packet.specs.Numbering.{Event, Kept, Dropped, Inserted, Counts, number_out, last_number, one_past};
+
+    /// The counter of a PID on which nothing happened.
+    pub fn new() -> Counter
+        ensures { Counts result [] }
+    {
+        Counter {
+            shift: 0,
+            upcoming: 0,
+        }
+    }
+
+    /// The packet goes out: its continuity_counter there. A packet without payload is moved like the others.
+    pub fn kept(&mut self, packet: &Packet) -> u8
+        ensures counts { (events : List Event) → Counts self.old events → Counts self.new (Kept packet.now ∷ events) }
+        ensures number { (events : List Event) → Counts self.old events → result ≡ number_out packet.now events }
+        ensures below { result < 16 }
+    {
+        let number = (packet.counter() + self.shift) % 16;
+        if packet.has_payload() {
+            self.upcoming = (number + 1) % 16;
+        }
+        number
+    }
+
+    /// The packet, which has a payload, is left out.
+    pub fn dropped(&mut self, packet: &Packet)
+        requires { is_some (payload packet.now) ≡ true }
+        ensures { (events : List Event) → Counts self.old events → Counts self.new (Dropped packet.now ∷ events) }
+    {
+        self.shift = (self.shift + 15) % 16;
+        self.upcoming = (packet.counter() + self.shift + 1) % 16;
+    }
+
+    /// A payload packet is put in: its continuity_counter, one past that at the last payload packet, or 0 where there was none.
+    pub fn fresh(&mut self) -> u8
+        ensures counts { (events : List Event) → Counts self.old events → Counts self.new (Inserted ∷ events) }
+        ensures number { (events : List Event) → Counts self.old events → result ≡ one_past (last_number events) }
+        ensures below { result < 16 }
+    {
+        let number = self.upcoming;
+        self.shift = (self.shift + 1) % 16;
+        self.upcoming = (number + 1) % 16;
+        number
+    }
+}

@@ -1,0 +1,147 @@
+//! What bytes are read from and written to, with the counts that say what it did.
+
+use std::io;
+
+/// Why a call of a device gave nothing.
+#[derive(Clone, Copy, Debug, PartialEq, Eq, Drop)]
+pub enum DeviceFault {
+    /// The call was interrupted, and may be made again.
+    Interrupted,
+    /// The device failed.
+    Failed,
+}
+
+/// What bytes are read from.
+pub trait Source {
+    ghost use Rattle.std.specs.Prelude.{◌≡◌, ℕ, List, Option};
+    ghost use Rattle.std.specs.Io.KnownBytes.{ReadConsumes};
+    ghost use Rattle.std.specs.Io.{ReadsAtMost};
+    ghost use Rattle.ts_packet.specs.Transfers.{IsCounted, CountsFailure};
+
+    /// The bytes that reads will give from here on, where they are known.
+    ghost remaining: { Self → Option (List ℕ) };
+
+    /// How many reads were made, up to the greatest u64.
+    ghost calls: { Self → ℕ };
+
+    /// How many of them failed, up to the greatest u64.
+    ghost failures: { Self → ℕ };
+
+    /// Reads into the front of the buffer, and answers how many bytes; 0 only at the end, or where the buffer is empty.
+    fn read(&mut self, buf: &mut [u8]) -> Result<usize, DeviceFault>
+        ensures bound { ReadsAtMost result buf.new }
+        ensures bytes { ReadConsumes (remaining self.old) (remaining self.new) result buf.new }
+        ensures calls { IsCounted (calls self.old) (calls self.new) }
+        ensures failures { CountsFailure result (failures self.old) (failures self.new) };
+}
+
+/// What bytes are written to.
+pub trait Target {
+    ghost use Rattle.std.specs.Prelude.{◌≡◌, ℕ, List, Option};
+    ghost use Rattle.std.specs.Io.KnownBytes.{WriteAppends};
+    ghost use Rattle.std.specs.Io.{WritesAtMost};
+    ghost use Rattle.ts_packet.specs.Transfers.{IsCounted, CountsFailure, CountsZero};
+    ghost use Rattle.ts_packet.specs.Sinks.{Tally};
+
+    /// The bytes that it holds, where they are known.
+    ghost contents: { Self → Option (List ℕ) };
+
+    /// How many writes were made, how many of them failed, and how many took no byte, each up to the greatest u64.
+    ghost tally: { Self → Tally };
+
+    /// Writes a front of the buffer, and answers how many bytes it took.
+    fn write(&mut self, buf: &[u8]) -> Result<usize, DeviceFault>
+        ensures bound { WritesAtMost result buf.now }
+        ensures bytes { WriteAppends (contents self.old) (contents self.new) result buf.now }
+        ensures calls { IsCounted (tally self.old).calls (tally self.new).calls }
+        ensures failures { CountsFailure result (tally self.old).failed (tally self.new).failed }
+        ensures zeros { CountsZero result (tally self.old).zeros (tally self.new).zeros };
+}
+
+/// A reader or a writer of std, with its counts.
+#[derive(Drop)]
+pub struct Device<T> {
+    inner: T,
+    calls: u64,
+    failures: u64,
+    zeros: u64,
+}
+
+impl<T> Device<T> {
+    ghost use Rattle.std.specs.Prelude.{◌≡◌};
+
+    /// The device over this reader or writer, with no call made.
+    pub fn new(inner: T) -> Device<T>
+        ensures inner { result.inner ≡ inner }
+        ensures calls { result.calls ≡ 0 }
+        ensures failures { result.failures ≡ 0 }
+        ensures zeros { result.zeros ≡ 0 }
+    {
+        Device {
+            inner,
+            calls: 0,
+            failures: 0,
+            zeros: 0,
+        }
+    }
+
+    /// The reader or writer, as the calls left it.
+    pub fn into_inner(self) -> T
+        ensures { result ≡ self.inner }
+    {
+        let Device {
+            inner,
+            calls: _,
+            failures: _,
+            zeros: _,
+        } = self;
+        inner
+    }
+}
+
+impl<R: io::Read> Source for Device<R> {
+    ghost remaining = { λ d. R.remaining d.inner };
+
+    ghost calls = { λ d. d.calls };
+
+    ghost failures = { λ d. d.failures };
+
+    fn read(&mut self, buf: &mut [u8]) -> Result<usize, DeviceFault> {
+        self.calls = self.calls.saturating_add(1);
+        match self.inner.read(buf) {
+            Ok(n) => Ok(n),
+            Err(e) => {
+                if e.kind() == io::ErrorKind::Interrupted {
+                    return Err(DeviceFault::Interrupted);
+                }
+                self.failures = self.failures.saturating_add(1);
+                Err(DeviceFault::Failed)
+            }
+        }
+    }
+}
+
+impl<W: io::Write> Target for Device<W> {
+    ghost contents = { λ d. W.contents d.inner };
+
+    ghost tally = { λ d. record { calls = d.calls; failed = d.failures; zeros = d.zeros } };
+
+    fn write(&mut self, buf: &[u8]) -> Result<usize, DeviceFault> {
+        self.calls = self.calls.saturating_add(1);
+        match self.inner.write(buf) {
+            Ok(n) => {
+                if n == 0 {
+                    self.zeros = self.zeros.saturating_add(1);
+                }
+                Ok(n)
+            }
+            Err(e) => {
+                if e.kind() == io::ErrorKind::Interrupted {
+                    return Err(DeviceFault::Interrupted);
+                }
+                self.failures = self.failures.saturating_add(1);
+                Err(DeviceFault::Failed)
+            }
+        }
+    }
+}

@@ -1,0 +1,96 @@
+//! Packets in memory.
+
+ghost use Rattle.std.specs.Prelude.{◌≤◌, vec_len, vec_capacity};
+
+use crate::packet::Packet;
+use crate::sink::{PacketSink, PutFault};
+use std::alloc::{AllocError, Allocator, Global};
+
+/// Keeps packets, up to a number of them. The put that finds it full answers `Stuck`, and those after it `Failed`.
+#[derive(Drop)]
+pub struct PacketList<A: Allocator = Global> {
+    items: Vec<Packet, A>,
+    room: usize,
+    is_broken: bool,
+    ghost fits: { vec_len items ≤ room },
+    ghost has_room: { room ≤ vec_capacity items },
+}
+
+impl PacketList<Global> {
+    ghost use Rattle.std.specs.Prelude.{◌≡◌, [], IfOk, false};
+
+    /// An empty list with room for this many packets.
+    pub fn new(alloc: Global, room: usize) -> Result<PacketList<Global>, AllocError>
+        ensures { IfOk result (λ l. (l.items.items ≡ []) × (l.room ≡ room) × (l.is_broken ≡ false)) }
+    {
+        PacketList::new_in(alloc, room)
+    }
+}
+
+impl<A: Allocator> PacketList<A> {
+    ghost use Rattle.std.specs.Prelude.{◌≡◌, [], IfOk, false};
+
+    /// An empty list with room for this many packets, in the allocator's memory.
+    pub fn new_in(alloc: A, room: usize) -> Result<PacketList<A>, AllocError>
+        ensures { IfOk result (λ l. (l.items.items ≡ []) × (l.room ≡ room) × (l.is_broken ≡ false)) }
+    {
+        Ok(PacketList {
+            items: Vec::with_capacity(alloc, room)?,
+            room,
+            is_broken: false,
+        })
+    }
+
+    /// The packets put so far, in order.
+    pub fn packets(&self) -> &[Packet]
+        ensures { result.now ≡ self.now.items.items }
+    {
+        self.items.as_slice()
+    }
+}
+
+impl<A: Allocator> PacketSink for PacketList<A> {
+    ghost use Rattle.std.specs.Prelude.{◌≡◌, ◌∷◌, [], ◌++◌, ℕ, List, Option, true, false, Ok, Err, nat_le, nat_lt, vec_len, OnOk, IfErr, IfOk, ◌<◌};
+    ghost use Rattle.ts_packet.specs.declared.sink.PutFault.TheVariants.{Failed, Stuck};
+    ghost use Rattle.ts_packet.specs.Sinks.{no_tally, Blamed, Later-refl};
+    ghost use Rattle.std.proofs.Common.{refl, ◌∙◌};
+
+    ghost holds = { λ l start ps. (l.is_broken ≡ false) × (l.items.items ≡ ps) };
+
+    ghost fails = { λ l start ps p f. (l.is_broken ≡ true) × (f ≡ Stuck) × (l.items.items ≡ ps) };
+
+    ghost tally = { λ l. no_tally };
+
+    ghost is_full = { λ l. nat_le l.room (vec_len l.items) };
+
+    ghost leads = { λ s t. (t.room ≡ s.room) × (nat_le s.room (vec_len s.items) ≡ true → nat_le t.room (vec_len t.items) ≡ true) };
+
+    ghost leads_refl = { λ s. (refl, λ e. e) };
+
+    ghost leads_trans = { λ s t u h k. (k.0 ∙ h.0, λ e. k.1 (h.1 e)) };
+
+    ghost leads_later = { λ s t h. Later-refl no_tally };
+
+    ghost leads_full = { λ s t h. h.1 };
+
+    fn put(&mut self, packet: &Packet) -> Result<(), PutFault>
+        ensures leads { (self.new.room ≡ self.old.room) × (nat_le self.old.room (vec_len self.old.items) ≡ true → nat_le self.new.room (vec_len self.new.items) ≡ true) }
+        ensures ok { (start : Option (List ℕ)) (ps : List (List ℕ)) → (self.old.is_broken ≡ false) × (self.old.items.items ≡ ps) →
+            OnOk result ((self.new.is_broken ≡ false) × (self.new.items.items ≡ ps ++ packet.now ∷ [])) }
+        ensures err { (start : Option (List ℕ)) (ps : List (List ℕ)) → (self.old.is_broken ≡ false) × (self.old.items.items ≡ ps) →
+            IfErr result (λ f. (self.new.is_broken ≡ true) × (f ≡ PutFault.Stuck) × (self.new.items.items ≡ ps)) }
+        ensures blamed { IfErr result (λ f. Blamed f no_tally no_tally (nat_le self.new.room (vec_len self.new.items))) }
+        ensures room { self.old.is_broken ≡ false → vec_len self.old.items < self.old.room → result ≡ Ok tt }
+        ensures kept { IfErr result (λ _. (self.new.is_broken ≡ true) × (self.new.items.items ≡ self.old.items.items)) }
+        ensures broken { self.old.is_broken ≡ true → result ≡ Err PutFault.Failed }
+    {
+        if self.is_broken {
+            return Err(PutFault::Failed);
+        }
+        if self.items.len() < self.room && self.items.push(*packet).is_ok() {
+            return Ok(());
+        }
+        self.is_broken = true;
+        Err(PutFault::Stuck)
+    }
+}

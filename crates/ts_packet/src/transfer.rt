@@ -1,0 +1,72 @@
+//! A buffer's worth of bytes from or to a device, in as many calls as it takes.
+
+ghost use Rattle.std.specs.Prelude.{◌≡◌, ◌≢◌, ℕ, ◌<◌, ◌≤◌, length, take, IfOk, IfErr, OnOk, OnErr, false};
+ghost use Rattle.std.specs.Io.KnownBytes.{Appends};
+ghost use Rattle.ts_packet.specs.Transfers.{FillBlamed, Filled};
+ghost use Rattle.ts_packet.specs.Sinks.{Later, Blamed};
+
+use crate::device::{DeviceFault, Source, Target};
+use crate::sink::PutFault;
+
+/// How many calls of a device one transfer may take.
+pub const MAX_TURNS: u32 = 0x10_0000;
+
+/// Why a read gave up.
+#[derive(Clone, Copy, Debug, PartialEq, Eq, Drop)]
+pub enum FillFault {
+    /// The device failed.
+    Io,
+    /// 2^20 calls did not give enough.
+    Turns,
+}
+
+/// Reads until the buffer is full or the source ends, and answers how many bytes there are. An interrupted read is tried again.
+pub fn fill<S: Source>(source: &mut S, buf: &mut [u8]) -> Result<usize, FillFault>
+    requires { 0 < length buf.old }
+    ensures ok { IfOk result (λ n. Filled (S.remaining source.old) (S.remaining source.new) buf.new n) }
+    ensures blamed { IfErr result (λ f. FillBlamed f (S.calls source.old) (S.calls source.new) (S.failures source.old) (S.failures source.new)) }
+    ensures calls { S.calls source.old ≤ S.calls source.new }
+    ensures failures { S.failures source.old ≤ S.failures source.new }
+{
+    let mut at = 0;
+    for _turn in 0..MAX_TURNS {
+        match source.read(&mut buf[at..]) {
+            Ok(0) => return Ok(at),
+            Ok(n) => {
+                at += n;
+                if at == buf.len() {
+                    return Ok(at);
+                }
+            }
+            Err(DeviceFault::Interrupted) => {}
+            Err(DeviceFault::Failed) => return Err(FillFault::Io),
+        }
+    }
+    Err(FillFault::Turns)
+}
+
+/// Writes all the bytes. After a fault a front of them is out. An interrupted write is tried again.
+pub fn write_whole<W: Target>(target: &mut W, bytes: &[u8]) -> Result<(), PutFault>
+    requires { 0 < length bytes.now }
+    ensures ok { OnOk result (Appends (W.contents target.old) (W.contents target.new) bytes.now) }
+    ensures err { OnErr result ((n : ℕ) × Appends (W.contents target.old) (W.contents target.new) (take n bytes.now)) }
+    ensures blamed { IfErr result (λ f. Blamed f (W.tally target.old) (W.tally target.new) false) }
+    ensures failed { result ≢ Err PutFault.Failed }
+    ensures later { Later (W.tally target.old) (W.tally target.new) }
+{
+    let mut at = 0;
+    for _turn in 0..MAX_TURNS {
+        match target.write(&bytes[at..]) {
+            Ok(0) => return Err(PutFault::Stuck),
+            Ok(n) => {
+                at += n;
+                if at == bytes.len() {
+                    return Ok(());
+                }
+            }
+            Err(DeviceFault::Interrupted) => {}
+            Err(DeviceFault::Failed) => return Err(PutFault::Io),
+        }
+    }
+    Err(PutFault::Turns)
+}

@@ -1,0 +1,77 @@
+//! Packets to a device.
+
+use crate::device::Target;
+use crate::packet::Packet;
+use crate::sink::{PacketSink, PutFault};
+use crate::transfer::write_whole;
+
+/// Writes packets. After a fault a front of the packet is out, and from then on it answers `Failed` and writes nothing.
+#[derive(Drop)]
+pub struct PacketWriter<'a, W: Target> {
+    target: &'a mut W,
+    is_broken: bool,
+}
+
+impl<'a, W: Target> PacketWriter<'a, W> {
+    ghost use Rattle.std.specs.Prelude.{◌≡◌, false};
+
+    /// A writer to this device.
+    pub fn new(target: &'a mut W) -> PacketWriter<'a, W>
+        ensures same { result.target.ghost_name ≡ target.entry.ghost_name }
+        ensures target { result.target.now ≡ target.old }
+        ensures whole { result.is_broken ≡ false }
+    {
+        PacketWriter {
+            target,
+            is_broken: false,
+        }
+    }
+}
+
+impl<W: Target> PacketSink for PacketWriter<'_, W> {
+    ghost use Rattle.std.specs.Prelude.{◌≡◌, ◌≢◌, ◌∷◌, [], ◌++◌, ℕ, List, Option, Bool, true, false, take, IfSome, OnOk, IfErr, Err};
+    ghost use Rattle.ts_packet.specs.declared.sink.PutFault.TheVariants.{Failed};
+    ghost use Rattle.ts_packet.specs.Sinks.{Written, FailsToWrite, Later, Later-refl, Later-trans, Blamed};
+    ghost use Rattle.std.proofs.Common.{refl, ◌∙◌};
+
+    ghost holds = { λ w start ps. (w.is_broken ≡ false) × Written (W.contents w.target.now) start ps };
+
+    ghost fails = { λ w start ps p f. (w.is_broken ≡ true) × (f ≢ Failed) × FailsToWrite (W.contents w.target.now) start ps p };
+
+    ghost tally = { λ w. W.tally w.target.now };
+
+    ghost is_full = { λ w. false };
+
+    ghost leads = { λ v w. (w.target.ghost_name ≡ v.target.ghost_name) × Later (W.tally v.target.now) (W.tally w.target.now) };
+
+    ghost leads_refl = { λ s. (refl, Later-refl _) };
+
+    ghost leads_trans = { λ s t u h k. (k.0 ∙ h.0, Later-trans _ _ _ h.1 k.1) };
+
+    ghost leads_later = { λ s t h. h.1 };
+
+    ghost leads_full = { λ s t h e. e };
+
+    fn put(&mut self, packet: &Packet) -> Result<(), PutFault>
+        ensures leads { (self.new.target.ghost_name ≡ self.old.target.ghost_name) × Later (W.tally self.old.target.now) (W.tally self.new.target.now) }
+        ensures ok { (start : Option (List ℕ)) (ps : List (List ℕ)) → (self.old.is_broken ≡ false) × Written (W.contents self.old.target.now) start ps →
+            OnOk result ((self.new.is_broken ≡ false) × Written (W.contents self.new.target.now) start (ps ++ packet.now ∷ [])) }
+        ensures err { (start : Option (List ℕ)) (ps : List (List ℕ)) → (self.old.is_broken ≡ false) × Written (W.contents self.old.target.now) start ps →
+            IfErr result (λ f. (self.new.is_broken ≡ true) × (f ≢ PutFault.Failed) × FailsToWrite (W.contents self.new.target.now) start ps packet.now) }
+        ensures blamed { IfErr result (λ f. Blamed f (W.tally self.old.target.now) (W.tally self.new.target.now) false) }
+        ensures broken { self.old.is_broken ≡ true → (result ≡ Err PutFault.Failed) × (self.new.target.now ≡ self.old.target.now) }
+        ensures breaks { IfErr result (λ _. self.new.is_broken ≡ true) }
+    {
+        if self.is_broken {
+            return Err(PutFault::Failed);
+        }
+        self.is_broken = true;
+        match write_whole(self.target, packet.as_bytes()) {
+            Ok(()) => {
+                self.is_broken = false;
+                Ok(())
+            }
+            Err(fault) => Err(fault),
+        }
+    }
+}

@@ -1,0 +1,16 @@
+pub mod InOrder
+pub mod CutLemmas
+pub mod CutUnits
+pub mod CutGapless
+pub mod CutOthers
+pub mod CutRows
+pub mod CutCarries
+pub mod GaplessNeeded
+pub mod ClockLemmas
+pub mod TimingLemmas
+pub mod CutterLemmas
+pub mod PassLemmas
+pub mod GrowLemmas
+pub mod FaultLemmas
+pub mod RunLemmas
+pub mod StopLemmas

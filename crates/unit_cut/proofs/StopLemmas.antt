@@ -1,0 +1,143 @@
+-- A run that stops: what its fault says of the network, and what is out.
+use Rattle.std.specs.Prelude.{IfSome, All}
+use Rattle.std.proofs.Common.{◌≡◌, ◌≢◌, ℕ, ◌+◌, ◌-◌, ◌^◌, ◌<◌, ◌≤◌, List, [], ◌∷◌, ◌++◌, Bool, true, false, refl, sym, ap, ◌∙◌, subst, Option, None, Some, reverse, length, take, drop, arith, append_assoc, ◌⊎◌, inl, inr}
+use Rattle.ts_packet.specs.Packets.{packets_of, last_part, bytes_of, packet_fault}
+use Rattle.ts_packet.specs.Reading.{Given, HasRead, Refuses, ReadBlamed}
+use Rattle.ts_packet.specs.Runs.{Seen, seen_after}
+use Rattle.ts_packet.specs.Sinks.{Written, FailsToWrite, Tally, Later, Blamed}
+use Rattle.ts_packet.specs.Transfers.{Rose}
+use Rattle.ts_packet.specs.declared.packet.PacketFault.TheVariants as packet_faults
+use Rattle.ts_packet.specs.declared.reader.ReadFault.{ReadFault}
+use Rattle.ts_packet.specs.declared.reader.ReadFault.TheVariants as read_faults
+use Rattle.ts_packet.specs.declared.sink.PutFault.{PutFault}
+use Rattle.ts_packet.specs.declared.sink.PutFault.TheVariants as put_faults
+use Rattle.ts_packet.proofs.PacketsLemmas.{read_more, read_all, read_before, packets_of-append}
+use Rattle.unit_stream.specs.Faults.{unit_fault}
+use Rattle.unit_cut.specs.Cutting.{cut_between}
+use Rattle.unit_cut.specs.Standing.{Cut}
+use Rattle.unit_cut.specs.FirstFault.{first_fault, before_fault, or_then, as_read_fault, as_unit_fault, fault_at, first_of, fault_behind, sound_front}
+use Rattle.unit_cut.specs.Runs.{IsFirst, IsFront, Says, Stops, RunBlamed, IsSound, cut_by, HasPassed, PassFails}
+use Rattle.unit_cut.specs.declared.cutter.Cutter.{Cutter}
+use Rattle.unit_cut.specs.declared.run.CutFault.{CutFault}
+use Rattle.unit_cut.specs.declared.run.CutFault.TheVariants.{Read, Scrambled, HeaderSplit, TimeJump, Sink}
+use Rattle.unit_cut.proofs.FaultLemmas.{sound_all, fault_behind_sound, behind_some}
+use Rattle.unit_cut.proofs.GrowLemmas.{same_front}
+use Rattle.unit_cut.proofs.RunLemmas.{the_cut, is_the_cut, cut_of_fewer, front_of, front_of_part}
+use Rattle.unit_stream.specs.Times.{first_time}
+
+-- ---- the fault of a packet is the first
+
+first_is : (pid from len : ℕ) (bs : List ℕ) (ps : List (List ℕ)) (p : List ℕ) (qs : List (List ℕ)) (start out : Option (List ℕ)) (f : CutFault) → packets_of bs ≡ ps ++ p ∷ qs
+    → All (λ q. packet_fault q ≡ None) ps → IsSound pid ps → fault_at pid (record { packet = p; past = reverse ps }) ≡ Some f
+    → Written out start (cut_between from len pid ps) → IsFirst f pid from len bs start out
+first_is pid from len bs ps p qs start out f e a b at w =
+    let (first, front) = fault_behind_sound pid ps p qs f a b at in (
+      ap (λ l. or_then (first_of pid (seen_after [] l)) (fault_behind (last_part bs))) e ∙ ap (λ g. or_then g (fault_behind (last_part bs))) first,
+      subst (λ l. Written out start (cut_between from len pid l)) (sym (ap (λ l. sound_front pid (seen_after [] l)) e ∙ front)) w,
+    )
+
+last_is : (pid from len : ℕ) (bs rest : List ℕ) (ps : List (List ℕ)) (start out : Option (List ℕ)) → packets_of bs ≡ ps → last_part bs ≡ rest → 0 < length rest
+    → All (λ q. packet_fault q ≡ None) ps → IsSound pid ps → Written out start (cut_between from len pid ps) → IsFirst (Read read_faults.Truncated) pid from len bs start out
+last_is pid from len bs rest ps start out e l some a b w =
+    let (none, front) = sound_all pid ps a b in (
+      ap (λ q. or_then (first_of pid (seen_after [] q)) (fault_behind (last_part bs))) e ∙ ap (λ g. or_then g (fault_behind (last_part bs))) none ∙ ap fault_behind l ∙ behind_some rest some,
+      subst (λ q. Written out start (cut_between from len pid q)) (sym (ap (λ q. sound_front pid (seen_after [] q)) e ∙ front)) w,
+    )
+
+-- ---- the reader stops
+
+module _ (start out : Option (List ℕ)) (broken : Bool) (given : ℕ) (cutter : Cutter) (pid from len : ℕ) (ps : List (List ℕ)) (bs rest : List ℕ)
+    (h : HasPassed (Some bs) (Some rest) start out broken given cutter pid from len ps) where
+  out_is : Written out start (cut_between from len pid ps)
+  out_is = (h.passed (the_cut pid from len ps) (is_the_cut pid from len ps)).1
+
+  in_front : IsFront pid from len bs start out
+  in_front = front_of pid from len bs ps (packets_of rest) start out (ap packets_of h.read.bytes ∙ packets_of-append ps rest h.read.sizes) out_is
+
+  refused_packet : (f : CutFault) → 188 ≤ length rest → fault_at pid (record { packet = take 188 rest; past = reverse ps }) ≡ Some f → IsFirst f pid from len bs start out
+  refused_packet f long at =
+      first_is pid from len bs ps (take 188 rest) (packets_of (drop 188 rest)) start out f (read_before (Some bs) (Some rest) ps h.read long) h.read.sound h.sound at out_is
+
+  by_packet : (g : Option CutFault) (f : CutFault) → g ≡ Some f → or_then g (as_unit_fault (unit_fault (pid ∷ []) (take 188 rest) (reverse ps))) ≡ Some f
+  by_packet g f e = ap (λ o. or_then o (as_unit_fault (unit_fault (pid ∷ []) (take 188 rest) (reverse ps)))) e
+
+  says : (stopped : Bool) → stopped ≡ false → (fault : ReadFault) → Refuses stopped (Some rest) fault → Says (Read fault) pid from len bs start out
+  says stopped n read_faults.Truncated k =
+      let all = read_all (Some bs) (Some rest) ps h.read k.1 in
+      last_is pid from len bs rest ps start out all.0 all.1 k.0 h.read.sound h.sound out_is
+  says stopped n read_faults.SyncLost k = refused_packet (Read read_faults.SyncLost) k.0 (by_packet _ _ (ap as_read_fault k.1))
+  says stopped n read_faults.BadAdaptation k = refused_packet (Read read_faults.BadAdaptation) k.0 (by_packet _ _ (ap as_read_fault k.1))
+  says stopped n read_faults.Io k = tt
+  says stopped n read_faults.Turns k = tt
+  says stopped n read_faults.Failed k = let e : true ≡ false = sym k ∙ n in absurd (cc)
+
+pub read_stops : (input left start out : Option (List ℕ)) (broken : Bool) (given : ℕ) (cutter : Cutter) (pid from len : ℕ) (ps : List (List ℕ))
+    → HasPassed input left start out broken given cutter pid from len ps → (stopped : Bool) → stopped ≡ false → (fault : ReadFault) → Refuses stopped left fault → Stops (Read fault) pid from len input start out
+read_stops None left start out broken given cutter pid from len ps h stopped n fault k = tt
+read_stops (Some bs) None start out broken given cutter pid from len ps h stopped n fault k = absurd h.read.bytes
+read_stops (Some bs) (Some rest) start out broken given cutter pid from len ps h stopped n fault k =
+    (says start out broken given cutter pid from len ps bs rest h stopped n fault k, in_front start out broken given cutter pid from len ps bs rest h)
+
+rose_later : (n a b c : ℕ) → a ≤ b → Rose n b c → Rose n a c
+rose_later n a b c h (inl r) = inl (omega (arith, h, r))
+rose_later n a b c h (inr r) = inr r
+
+pub read_blamed : (input left start out : Option (List ℕ)) (broken : Bool) (given : ℕ) (cutter : Cutter) (pid from len : ℕ) (ps : List (List ℕ))
+    → HasPassed input left start out broken given cutter pid from len ps → (stopped : Bool) → stopped ≡ false → (fault : ReadFault) (calls calls' calls'' failures failures' failures'' : ℕ) (old new : Tally) → Refuses stopped left fault
+    → calls ≤ calls' → failures ≤ failures' → ReadBlamed fault given calls' calls'' failures' failures'' → RunBlamed (Read fault) input calls calls'' failures failures'' old new
+read_blamed input left start out broken given cutter pid from len ps h stopped n read_faults.Io c c' c'' f f' f'' old new k a b r = rose_later 1 f f' f'' b r
+read_blamed input left start out broken given cutter pid from len ps h stopped n read_faults.Turns c c' c'' f f' f'' old new k a b (inl r) = inl (rose_later (2 ^ 20) c c' c'' a r)
+read_blamed input left start out broken given cutter pid from len ps h stopped n read_faults.Turns c c' c'' f f' f'' old new k a b (inr r) = inr (left, (ps, h.read, sym h.count ∙ r))
+read_blamed input left start out broken given cutter pid from len ps h stopped n read_faults.Failed c c' c'' f f' f'' old new k a b r = let e : true ≡ false = sym k ∙ n in absurd (cc)
+read_blamed input left start out broken given cutter pid from len ps h stopped n read_faults.Truncated c c' c'' f f' f'' old new k a b r = tt
+read_blamed input left start out broken given cutter pid from len ps h stopped n read_faults.SyncLost c c' c'' f f' f'' old new k a b r = tt
+read_blamed input left start out broken given cutter pid from len ps h stopped n read_faults.BadAdaptation c c' c'' f f' f'' old new k a b r = tt
+
+-- ---- a packet is not passed on
+
+-- the packets of bytes of which these were read, and then this one
+one_past : (bs rest : List ℕ) (ps : List (List ℕ)) (p : List ℕ) → HasRead (Some bs) (Some rest) (ps ++ p ∷ []) → packets_of bs ≡ (ps ++ p ∷ []) ++ packets_of rest
+one_past bs rest ps p h = ap packets_of h.bytes ∙ packets_of-append (ps ++ p ∷ []) rest h.sizes
+
+module _ (start out' : Option (List ℕ)) (broken' : Bool) (pid from len : ℕ) (ps : List (List ℕ)) (p bs rest : List ℕ)
+    (all : packets_of bs ≡ (ps ++ p ∷ []) ++ packets_of rest) (sounds : All (λ q. packet_fault q ≡ None) ps) (sound : IsSound pid ps) (whole : packet_fault p ≡ None) where
+  abbrev Holds : List (List ℕ) → Type 0
+  Holds l = (broken' ≡ false) × Written out' start l
+
+  abbrev Fails : List (List ℕ) → List ℕ → PutFault → Type 0
+  Fails l q f = (broken' ≡ true) × (f ≢ put_faults.Failed) × FailsToWrite out' start l q
+
+  written_by : Written out' start (cut_by (the_cut pid from len (ps ++ p ∷ [])) ps) → Written out' start (cut_between from len pid ps)
+  written_by w = subst (Written out' start) (same_front from len pid ps (p ∷ []) (first_time (pid ∷ []) (reverse ps)) refl) w
+
+  unit_stops : (f : CutFault) → as_unit_fault (unit_fault (pid ∷ []) p (reverse ps)) ≡ Some f → Written out' start (cut_by (the_cut pid from len (ps ++ p ∷ [])) ps)
+      → IsFirst f pid from len bs start out' × IsFront pid from len bs start out'
+  unit_stops f e w =
+      let here : packets_of bs ≡ ps ++ p ∷ packets_of rest = all ∙ append_assoc ps (p ∷ []) (packets_of rest) in
+      let at : fault_at pid (record { packet = p; past = reverse ps }) ≡ Some f = ap (λ g. or_then (as_read_fault g) (as_unit_fault (unit_fault (pid ∷ []) p (reverse ps)))) whole ∙ e in (
+        first_is pid from len bs ps p (packets_of rest) start out' f here sounds sound at (written_by w),
+        front_of pid from len bs ps (p ∷ packets_of rest) start out' here (written_by w),
+      )
+
+  sink_says : (f : PutFault) → f ≢ put_faults.Failed → Says (Sink f) pid from len bs start out'
+  sink_says put_faults.Io n = tt
+  sink_says put_faults.Stuck n = tt
+  sink_says put_faults.Turns n = tt
+  sink_says put_faults.Failed n = n refl
+
+  fails_so : (f : CutFault) → PassFails (the_cut pid from len (ps ++ p ∷ [])) p ps f Holds Fails → Says f pid from len bs start out' × IsFront pid from len bs start out'
+  fails_so (Read f) k = absurd k
+  fails_so Scrambled k = unit_stops Scrambled k.0 k.1.1
+  fails_so HeaderSplit k = unit_stops HeaderSplit k.0 k.1.1
+  fails_so TimeJump k = unit_stops TimeJump k.0 k.1.1
+  fails_so (Sink f) (u, (q, c, w)) =
+      (sink_says f w.1, front_of_part pid from len bs (ps ++ p ∷ []) (packets_of rest) (cut_by (the_cut pid from len (ps ++ p ∷ [])) ps) q start out' all c w.2)
+
+pub pass_stops : (input left left' start out out' : Option (List ℕ)) (broken broken' : Bool) (given : ℕ) (cutter : Cutter) (pid from len : ℕ) (ps : List (List ℕ)) (p : List ℕ)
+    → HasPassed input left start out broken given cutter pid from len ps → Given left left' p → (f : CutFault)
+    → PassFails (the_cut pid from len (ps ++ p ∷ [])) p ps f (λ l. (broken' ≡ false) × Written out' start l) (λ l q g. (broken' ≡ true) × (g ≢ put_faults.Failed) × FailsToWrite out' start l q)
+    → Stops f pid from len input start out'
+pass_stops None left left' start out out' broken broken' given cutter pid from len ps p h r f k = tt
+pass_stops (Some bs) left None start out out' broken broken' given cutter pid from len ps p h r f k = absurd (read_more (Some bs) left None ps p h.read r).bytes
+pass_stops (Some bs) left (Some rest) start out out' broken broken' given cutter pid from len ps p h r f k =
+    fails_so start out' broken' pid from len ps p bs rest (one_past bs rest ps p (read_more (Some bs) left (Some rest) ps p h.read r)) h.read.sound h.sound r.sound f k

@@ -1,0 +1,19 @@
+use Rattle.std.proofs.Common.{◌≡◌, ◌≤◌, ◌-◌, ◌^◌, List, ℕ, false}
+use Rattle.ts_packet.specs.Sinks.{Later}
+use Rattle.unit_cut.specs.Runs.{HasPassed}
+use Rattle.unit_cut.proofs.run.cut.Given as goal
+
+abbrev pub invariant-loop-cutter : goal.invariant-loop-cutter
+invariant-loop-cutter g l = record {
+  source : l.reader.source.ghost_name ≡ l.initial.reader.source.ghost_name;
+  target : l.writer.target.ghost_name ≡ l.initial.writer.target.ghost_name;
+  whole : l.reader.is_broken ≡ false;
+  calls : g.S.Source.calls l.initial.reader.source.now ≤ g.S.Source.calls l.reader.source.now;
+  failures : g.S.Source.failures l.initial.reader.source.now ≤ g.S.Source.failures l.reader.source.now;
+  later : Later (g.W.Target.tally l.initial.writer.target.now) (g.W.Target.tally l.writer.target.now);
+  passed : (ps : List (List ℕ)) × HasPassed (g.S.Source.remaining l.initial.reader.source.now) (g.S.Source.remaining l.reader.source.now)
+      (g.W.Target.contents l.initial.writer.target.now) (g.W.Target.contents l.writer.target.now) l.writer.is_broken l.reader.given l.cutter l.fn.pid l.fn.from l.fn.length ps;
+}
+
+abbrev pub decreases-loop-cutter : goal.decreases-loop-cutter
+decreases-loop-cutter g l = 2 ^ 64 - l.reader.given

@@ -1,0 +1,6 @@
+pub mod Cutting
+pub mod Laws
+pub mod Ways
+pub mod Standing
+pub mod FirstFault
+pub mod Runs

@@ -1,0 +1,106 @@
+-- What a run of `cut` writes, where its devices tell their bytes, and what its faults say.
+use Rattle.std.specs.Prelude.{◌≡◌, ℕ, ◌+◌, ◌^◌, ◌-◌, ◌≤◌, ◌⊎◌, List, [], ◌∷◌, ◌++◌, Bool, false, Option, None, Some, IfSome, All, length, take, reverse}
+use Rattle.ts_packet.specs.Packets.{packets_of, bytes_of}
+use Rattle.ts_packet.specs.Reading.{HasRead}
+use Rattle.ts_packet.specs.Sinks.{Tally, Later, Blamed, Written}
+use Rattle.ts_packet.specs.Transfers.{Rose}
+use Rattle.ts_packet.specs.Runs.{Seen, seen_after}
+use Rattle.ts_packet.specs.declared.reader.ReadFault.{ReadFault}
+use Rattle.ts_packet.specs.declared.reader.ReadFault.TheVariants as read_faults
+use Rattle.ts_packet.specs.declared.sink.PutFault.{PutFault}
+use Rattle.ts_packet.specs.declared.sink.PutFault.TheVariants as put_faults
+use Rattle.unit_stream.specs.Faults.{unit_fault}
+use Rattle.unit_cut.specs.Cutting.{cut, cut_between}
+use Rattle.unit_cut.specs.Standing.{Cut, goes_by, Begins, StandsFor}
+use Rattle.unit_cut.specs.FirstFault.{first_fault, before_fault, as_unit_fault}
+use Rattle.unit_cut.specs.declared.cutter.Cutter.{Cutter}
+use Rattle.unit_cut.specs.declared.run.CutFault.{CutFault}
+use Rattle.unit_cut.specs.declared.run.CutFault.TheVariants.{Read, Scrambled, HeaderSplit, TimeJump, Sink}
+
+-- THE THEOREM: the network's bytes have no fault, and behind what the output held stand the packets of the cut
+abbrev pub CutsAll : ℕ → ℕ → ℕ → Option (List ℕ) → Option (List ℕ) → Option (List ℕ) → Type 0
+CutsAll pid from length input start out =
+    IfSome input (λ bs. (first_fault pid bs ≡ None) × Written out start (cut_between from length pid (packets_of bs)))
+
+-- a front of the cut is out
+abbrev pub IsFront : ℕ → ℕ → ℕ → List ℕ → Option (List ℕ) → Option (List ℕ) → Type 0
+IsFront pid from length bs start out = (n : ℕ) × IfSome start (λ known. out ≡ Some (known ++ take n (bytes_of (cut_between from length pid (packets_of bs)))))
+
+-- the fault is the first one of the bytes, and all that stood before it is out
+abbrev pub IsFirst : CutFault → ℕ → ℕ → ℕ → List ℕ → Option (List ℕ) → Option (List ℕ) → Type 0
+IsFirst fault pid from length bs start out = (first_fault pid bs ≡ Some fault) × Written out start (cut_between from length pid (before_fault pid bs))
+
+-- a fault of the bytes is the first one; a fault of a device says nothing of them
+abbrev pub Says : CutFault → ℕ → ℕ → ℕ → List ℕ → Option (List ℕ) → Option (List ℕ) → Type 0
+Says (Read read_faults.Io) pid from length bs start out = Unit {0}
+Says (Read read_faults.Turns) pid from length bs start out = Unit {0}
+Says (Read read_faults.Failed) pid from length bs start out = ⊥
+Says (Read read_faults.Truncated) pid from length bs start out = IsFirst (Read read_faults.Truncated) pid from length bs start out
+Says (Read read_faults.SyncLost) pid from length bs start out = IsFirst (Read read_faults.SyncLost) pid from length bs start out
+Says (Read read_faults.BadAdaptation) pid from length bs start out = IsFirst (Read read_faults.BadAdaptation) pid from length bs start out
+Says Scrambled pid from length bs start out = IsFirst Scrambled pid from length bs start out
+Says HeaderSplit pid from length bs start out = IsFirst HeaderSplit pid from length bs start out
+Says TimeJump pid from length bs start out = IsFirst TimeJump pid from length bs start out
+Says (Sink put_faults.Failed) pid from length bs start out = ⊥
+Says (Sink put_faults.Io) pid from length bs start out = Unit {0}
+Says (Sink put_faults.Stuck) pid from length bs start out = Unit {0}
+Says (Sink put_faults.Turns) pid from length bs start out = Unit {0}
+
+-- THE THEOREM FOR FAULTS: what the fault says, and what is out
+abbrev pub Stops : CutFault → ℕ → ℕ → ℕ → Option (List ℕ) → Option (List ℕ) → Option (List ℕ) → Type 0
+Stops fault pid from length input start out = IfSome input (λ bs. Says fault pid from length bs start out × IsFront pid from length bs start out)
+
+-- what a device must have done where a run stops so: the reader's calls and failures, and the writer's counts
+abbrev pub RunBlamed : CutFault → Option (List ℕ) → ℕ → ℕ → ℕ → ℕ → Tally → Tally → Type 0
+RunBlamed (Read read_faults.Io) input calls calls' failures failures' old new = Rose 1 failures failures'
+RunBlamed (Read read_faults.Turns) input calls calls' failures failures' old new =
+    Rose (2 ^ 20) calls calls' ⊎ ((left : Option (List ℕ)) × ((ps : List (List ℕ)) × HasRead input left ps × (length ps ≡ 2 ^ 64 - 1)))
+RunBlamed (Read read_faults.Failed) input calls calls' failures failures' old new = ⊥
+RunBlamed (Read read_faults.Truncated) input calls calls' failures failures' old new = Unit {0}
+RunBlamed (Read read_faults.SyncLost) input calls calls' failures failures' old new = Unit {0}
+RunBlamed (Read read_faults.BadAdaptation) input calls calls' failures failures' old new = Unit {0}
+RunBlamed Scrambled input calls calls' failures failures' old new = Unit {0}
+RunBlamed HeaderSplit input calls calls' failures failures' old new = Unit {0}
+RunBlamed TimeJump input calls calls' failures failures' old new = Unit {0}
+RunBlamed (Sink fault) input calls calls' failures failures' old new = Blamed fault old new false
+
+-- ---- on the way
+
+-- every packet was sound for the PID
+abbrev pub IsSound : ℕ → List (List ℕ) → Type 0
+IsSound pid ps = All (λ (s : Seen). unit_fault (pid ∷ []) s.packet s.past ≡ None) (seen_after [] ps)
+
+-- the cut that the run makes, whose begin the packets so far place
+pub record IsCutOf (k : Cut) (pid from length : ℕ) (ps : List (List ℕ)) : Type 0 where
+  pub pid_is : k.pid ≡ pid
+  pub from_is : k.from ≡ from
+  pub length_is : k.length ≡ length
+  pub begins : Begins k (reverse ps)
+
+-- what is left of these packets by that cut
+abbrev pub cut_by : Cut → List (List ℕ) → List (List ℕ)
+cut_by k ps = cut (goes_by k) (k.pid ∷ []) k.pid ps
+
+-- these packets were read, and passed on
+pub record HasPassed (input left : Option (List ℕ)) (start out : Option (List ℕ)) (broken : Bool) (given : ℕ) (cutter : Cutter) (pid from length' : ℕ) (ps : List (List ℕ)) : Type 0 where
+  pub read : HasRead input left ps
+  pub count : given ≡ length ps
+  pub sound : IsSound pid ps
+  pub whole : broken ≡ false
+  pub passed : (k : Cut) → IsCutOf k pid from length' ps → StandsFor cutter k (reverse ps) × Written out start (cut_by k ps)
+
+-- what one packet that is not passed on says
+abbrev pub PassFails : Cut → List ℕ → List (List ℕ) → CutFault → (List (List ℕ) → Type 0) → (List (List ℕ) → List ℕ → PutFault → Type 0) → Type 0
+PassFails k p ps (Read fault) holds fails = ⊥
+PassFails k p ps (Sink fault) holds fails =
+    (unit_fault (k.pid ∷ []) p (reverse ps) ≡ None) × ((q : List ℕ) × (cut_by k (ps ++ p ∷ []) ≡ cut_by k ps ++ q ∷ []) × fails (cut_by k ps) q fault)
+PassFails k p ps Scrambled holds fails = (as_unit_fault (unit_fault (k.pid ∷ []) p (reverse ps)) ≡ Some Scrambled) × holds (cut_by k ps)
+PassFails k p ps HeaderSplit holds fails = (as_unit_fault (unit_fault (k.pid ∷ []) p (reverse ps)) ≡ Some HeaderSplit) × holds (cut_by k ps)
+PassFails k p ps TimeJump holds fails = (as_unit_fault (unit_fault (k.pid ∷ []) p (reverse ps)) ≡ Some TimeJump) × holds (cut_by k ps)
+
+abbrev pub PassBlamed : CutFault → Tally → Tally → Bool → Type 0
+PassBlamed (Read fault) old new full = ⊥
+PassBlamed (Sink fault) old new full = Blamed fault old new full
+PassBlamed Scrambled old new full = Unit {0}
+PassBlamed HeaderSplit old new full = Unit {0}
+PassBlamed TimeJump old new full = Unit {0}

@@ -1,0 +1,85 @@
+-- What a cutter stands for after the packets that it has seen.
+use Rattle.std.specs.Prelude.{◌≡◌, ℕ, ◌+◌, ◌*◌, ◌%◌, ◌^◌, ◌<◌, ◌≤◌, ◌⊎◌, List, [], ◌∷◌, Bool, true, false, if◌then◌else◌, Option, Some, None, Result, Ok, Err, ℤ, pos, ◌+ℤ◌, ◌-ℤ◌, ◌≤ℤ◌, IfSome}
+use Rattle.pes_time.specs.Line.{ring_of, lift}
+use Rattle.ts_packet.specs.Fields.{on}
+use Rattle.ts_packet.specs.Duplicates.{original}
+use Rattle.ts_packet.specs.Numbering.{Event, Kept, Dropped, Counts}
+use Rattle.unit_stream.specs.Times.{begins, high, unit_time, first_time, stamp}
+use Rattle.unit_stream.specs.Faults.{unit_fault}
+use Rattle.unit_stream.specs.Pieces.{Reads}
+use Rattle.unit_stream.specs.declared.fault.UnitFault.{UnitFault}
+use Rattle.unit_cut.specs.Cutting.{inside, is_cut, kept_as}
+use Rattle.unit_cut.specs.declared.clock.Clock.{Clock}
+use Rattle.unit_cut.specs.declared.timing.Timing.{Timing}
+use Rattle.unit_cut.specs.declared.cutter.Cutter.{Cutter}
+
+-- how far h is past `begin`; 2^40 stands for all that is farther
+abbrev pub IsAhead : ℤ → ℤ → ℤ → Type 0
+IsAhead a begin h = (a ≡ h -ℤ begin) ⊎ ((a ≡ pos (2 ^ 40)) × ((begin +ℤ pos (2 ^ 40)) ≤ℤ h))
+
+-- the clock stands at the line time h, for a cut that begins at `begin`
+pub record ClockAt (clock : Clock) (begin h : ℤ) : Type 0 where
+  pub ring : clock.high ≡ ring_of h
+  pub way : IsAhead clock.ahead begin h
+
+abbrev pub ClockFor : Option Clock → ℤ → Option ℤ → Type 0
+ClockFor None begin None = Unit {0}
+ClockFor (Some c) begin (Some h) = ClockAt c begin h
+ClockFor None begin (Some h) = ⊥
+ClockFor (Some c) begin None = ⊥
+
+-- a cut: its PID, its begin on the ring and on the line, its length
+pub record Cut : Type 0 where
+  pub pid : ℕ
+  pub from : ℕ
+  pub begin : ℤ
+  pub length : ℕ
+
+-- its units
+abbrev pub goes_by : Cut → Option ℤ → Bool
+goes_by k = inside k.begin k.length
+
+-- the clock is at `greatest`, and the running unit has this time
+pub record TimingFor (timing : Timing) (k : Cut) (greatest time : Option ℤ) : Type 0 where
+  pub from : timing.from ≡ k.from
+  pub length : timing.length ≡ k.length
+  pub clock : ClockFor timing.clock k.begin greatest
+  pub going : timing.is_going ≡ goes_by k time
+
+-- the first stamp is what places the begin on the line
+abbrev pub BeginsWith : Cut → Option ℤ → Option ℕ → Type 0
+BeginsWith k None (Some p) = k.begin ≡ lift (pos p) k.from
+BeginsWith k None None = Unit {0}
+BeginsWith k (Some h) s = Unit {0}
+
+-- the begin is the one that the first timed unit of the packets so far places
+abbrev pub Begins : Cut → List (List ℕ) → Type 0
+Begins k past = IfSome (first_time (k.pid ∷ []) past) (λ first. k.begin ≡ lift first k.from)
+
+-- the greatest time, and for the first stamp that stamp
+abbrev pub high_or : Option ℤ → ℕ → ℤ
+high_or None p = pos p
+high_or (Some h) p = h
+
+-- what a cut does to the PID's packets, newest first
+abbrev pub events : (Option ℤ → Bool) → List ℕ → ℕ → List (List ℕ) → List Event
+events goes switched pid [] = []
+events goes switched pid (p ∷ past) =
+    if on pid p
+    then (if is_cut goes switched pid p past then (if original pid p past then Dropped p ∷ events goes switched pid past else events goes switched pid past)
+    else Kept p ∷ events goes switched pid past)
+    else events goes switched pid past
+
+-- the cutter has seen this past, newest first
+pub record StandsFor (cutter : Cutter) (k : Cut) (past : List (List ℕ)) : Type 0 where
+  pub same : cutter.pid ≡ k.pid
+  pub units : Reads cutter.units k.pid past
+  pub timing : TimingFor cutter.timing k (high (k.pid ∷ []) past) (unit_time (k.pid ∷ []) k.pid past)
+  pub counter : Counts cutter.counter (events (goes_by k) (k.pid ∷ []) k.pid past)
+
+-- what it answers to a packet p behind this past, and what becomes of the packet
+abbrev pub Answers : Cut → List ℕ → List (List ℕ) → Result Bool UnitFault → List ℕ → Type 0
+Answers k p past (Ok true) q = (unit_fault (k.pid ∷ []) p past ≡ None) × (is_cut (goes_by k) (k.pid ∷ []) k.pid p past ≡ false)
+    × (q ≡ kept_as (goes_by k) (k.pid ∷ []) k.pid p past)
+Answers k p past (Ok false) q = (unit_fault (k.pid ∷ []) p past ≡ None) × (is_cut (goes_by k) (k.pid ∷ []) k.pid p past ≡ true)
+Answers k p past (Err f) q = unit_fault (k.pid ∷ []) p past ≡ Some f

@@ -1,0 +1,124 @@
+//! Cuts the units of one PID out of a run, packet by packet.
+
+ghost use Rattle.std.specs.Prelude.{◌≡◌, ℕ, List, [], ◌∷◌, Option, Some, None, Result, Ok, Err, OnOk, IfOk, IfErr, true, false, not, is_some, if◌then◌else◌};
+ghost use Rattle.std.specs.Prelude.{◌&&◌};
+ghost use Rattle.ts_packet.specs.Fields.{on, payload, payload_on, scrambled, with_number};
+
+use crate::timing::Timing;
+use pes_time::Time33;
+use ts_packet::{Counter, Packet, Pid};
+use unit_stream::{Piece, UnitFault, UnitReader};
+
+/// Cuts out the units of one PID whose time lies in an interval. No packet is held and no memory is taken: a unit is decided
+/// at the packet that begins it.
+#[derive(Clone, Copy, Debug)]
+pub struct Cutter {
+    pid: Pid,
+    units: UnitReader,
+    timing: Timing,
+    counter: Counter,
+}
+
+impl Cutter {
+    ghost use Rattle.ts_packet.specs.Numbering.{Event, Counts, Kept, Dropped, number_out};
+    ghost use Rattle.unit_cut.specs.Standing.{StandsFor, Begins, Answers, Cut};
+
+    /// A cutter for the units of `pid` from `from` on, for `length` ticks of 90 kHz.
+    pub fn new(pid: Pid, from: Time33, length: u32) -> Cutter
+        ensures { (k : Cut) → k.pid ≡ pid → k.from ≡ from → k.length ≡ length → StandsFor result k [] }
+    {
+        Cutter {
+            pid,
+            units: UnitReader::new(pid),
+            timing: Timing::new(from, length),
+            counter: Counter::new(),
+        }
+    }
+
+    /// Keeps a packet, with its counter moved.
+    fn keep(&mut self, packet: &mut Packet)
+        ensures pid { self.new.pid ≡ self.old.pid }
+        ensures units { self.new.units ≡ self.old.units }
+        ensures timing { self.new.timing ≡ self.old.timing }
+        ensures counts { (events : List Event) → Counts self.old.counter events → Counts self.new.counter (Kept packet.old ∷ events) }
+        ensures packet { (events : List Event) → Counts self.old.counter events → packet.new ≡ with_number (number_out packet.old events) packet.old }
+    {
+        let number = self.counter.kept(packet);
+        packet.set_counter(number);
+    }
+
+    /// The next packet: whether it stays, with its counter moved, or goes.
+    ///
+    /// # Errors
+    ///
+    /// What the packet may not be, as [`UnitFault`] says. The cutter is spent then.
+    pub fn feed(&mut self, packet: &mut Packet) -> Result<bool, UnitFault>
+        ensures answers { (k : Cut) (past : List (List ℕ)) → Begins k (packet.old ∷ past) → StandsFor self.old k past → Answers k packet.old past result packet.new }
+        ensures stands { (k : Cut) (past : List (List ℕ)) → Begins k (packet.old ∷ past) → StandsFor self.old k past → OnOk result (StandsFor self.new k (packet.old ∷ past)) }
+    {
+        if !packet.is_on(self.pid) {
+            return Ok(true);
+        }
+        if has_scrambled_payload(packet) {
+            return Err(UnitFault::Scrambled);
+        }
+        match self.units.feed(packet) {
+            Piece::Start { payload } => match self.timing.begin(payload) {
+                Ok(()) => Ok(self.settle(packet)),
+                Err(fault) => Err(fault),
+            },
+            Piece::More { .. } => Ok(self.settle(packet)),
+            Piece::Lead => Ok(self.settle(packet)),
+            Piece::Duplicate => Ok(self.settle_duplicate(packet)),
+            Piece::NoPayload => {
+                self.keep(packet);
+                Ok(true)
+            }
+            Piece::Error => {
+                self.keep(packet);
+                Ok(true)
+            }
+        }
+    }
+
+    /// Whether an original payload packet stays; one that goes is counted.
+    fn settle(&mut self, packet: &mut Packet) -> bool
+        requires { is_some (payload packet.old) ≡ true }
+        ensures pid { self.new.pid ≡ self.old.pid }
+        ensures units { self.new.units ≡ self.old.units }
+        ensures timing { self.new.timing ≡ self.old.timing }
+        ensures stays { result ≡ not self.old.timing.is_going }
+        ensures counts { (events : List Event) → Counts self.old.counter events → Counts self.new.counter (if result then Kept packet.old ∷ events else Dropped packet.old ∷ events) }
+        ensures packet { (events : List Event) → Counts self.old.counter events → result ≡ true → packet.new ≡ with_number (number_out packet.old events) packet.old }
+    {
+        if self.timing.is_going() {
+            self.counter.dropped(packet);
+            return false;
+        }
+        self.keep(packet);
+        true
+    }
+
+    /// Whether a duplicate stays.
+    fn settle_duplicate(&mut self, packet: &mut Packet) -> bool
+        ensures pid { self.new.pid ≡ self.old.pid }
+        ensures units { self.new.units ≡ self.old.units }
+        ensures timing { self.new.timing ≡ self.old.timing }
+        ensures stays { result ≡ not self.old.timing.is_going }
+        ensures counts { (events : List Event) → Counts self.old.counter events → Counts self.new.counter (if result then Kept packet.old ∷ events else events) }
+        ensures packet { (events : List Event) → Counts self.old.counter events → result ≡ true → packet.new ≡ with_number (number_out packet.old events) packet.old }
+    {
+        if self.timing.is_going() {
+            return false;
+        }
+        self.keep(packet);
+        true
+    }
+}
+
+/// Whether there is a payload, and it is scrambled.
+fn has_scrambled_payload(packet: &Packet) -> bool
+    ensures { result ≡ (is_some (payload packet.now) && scrambled packet.now) }
+{
+    packet.payload().is_some() && packet.scrambled()
+}

@@ -1,0 +1,12 @@
+//! Cutting units of one PID out of a run of packets, and what holds of every cut.
+//! It stands on the units of `unit_stream`. The crate above uses that `Cutter::feed` answers by the definition of the cut.
+#![tactic(auto)]
+
+mod clock;
+mod cutter;
+pub mod laws;
+mod run;
+mod timing;
+
+pub use cutter::Cutter;
+pub use run::{CutFault, cut};

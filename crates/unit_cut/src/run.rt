@@ -1,0 +1,94 @@
+//! Cutting an interval of one PID out of a network, from bytes to bytes.
+
+ghost use Rattle.std.specs.Prelude.{◌≡◌, ℕ, ◌≤◌, List, [], ◌∷◌, ◌++◌, Option, Some, None, OnOk, IfErr, reverse, false};
+ghost use Rattle.ts_packet.specs.Sinks.{Later, Blamed};
+ghost use Rattle.unit_stream.specs.Faults.{unit_fault};
+ghost use Rattle.unit_cut.specs.FirstFault.{as_cut_fault};
+ghost use Rattle.unit_cut.specs.Standing.{Cut, StandsFor, Begins};
+ghost use Rattle.unit_cut.specs.Runs.{CutsAll, Stops, RunBlamed, cut_by, PassFails, PassBlamed};
+
+use crate::cutter::Cutter;
+use pes_time::Time33;
+use ts_packet::{
+    Packet, PacketReader, PacketSink, PacketWriter, Pid, PutFault, ReadFault, Source, Target,
+};
+use unit_stream::UnitFault;
+
+/// Why a cut stopped.
+#[derive(Clone, Copy, Debug, PartialEq, Eq, Drop)]
+pub enum CutFault {
+    /// The network could not be read on.
+    Read(ReadFault),
+    /// A payload packet of the PID has scrambling bits.
+    Scrambled,
+    /// The payload of the first packet of one of the PID's units ends before the unit's time stamps.
+    HeaderSplit,
+    /// The time of one of the PID's units lies more than 900,000 ticks of 90 kHz (10 seconds) from the greatest before it.
+    TimeJump,
+    /// The output could not be written on.
+    Sink(PutFault),
+}
+
+fn as_cut_fault(fault: UnitFault) -> CutFault
+    ensures { result ≡ as_cut_fault fault }
+{
+    match fault {
+        UnitFault::Scrambled => CutFault::Scrambled,
+        UnitFault::HeaderSplit => CutFault::HeaderSplit,
+        UnitFault::TimeJump => CutFault::TimeJump,
+    }
+}
+
+/// Passes one packet on, where it stays.
+fn pass<K: PacketSink>(
+    cutter: &mut Cutter,
+    packet: &mut Packet,
+    sink: &mut K,
+) -> Result<(), CutFault>
+    ensures leads { K.leads sink.old sink.new }
+    ensures ok { (k : Cut) (start : Option (List ℕ)) (ps : List (List ℕ)) → Begins k (packet.old ∷ reverse ps) → StandsFor cutter.old k (reverse ps) → K.holds sink.old start (cut_by k ps)
+        → OnOk result ((unit_fault (k.pid ∷ []) packet.old (reverse ps) ≡ None) × StandsFor cutter.new k (packet.old ∷ reverse ps) × K.holds sink.new start (cut_by k (ps ++ packet.old ∷ []))) }
+    ensures err { (k : Cut) (start : Option (List ℕ)) (ps : List (List ℕ)) → Begins k (packet.old ∷ reverse ps) → StandsFor cutter.old k (reverse ps) → K.holds sink.old start (cut_by k ps)
+        → IfErr result (λ f. PassFails k packet.old ps f (K.holds sink.new start) (K.fails sink.new start)) }
+    ensures blamed { IfErr result (λ f. PassBlamed f (K.tally sink.old) (K.tally sink.new) (K.is_full sink.new)) }
+{
+    match cutter.feed(packet) {
+        Ok(true) => match sink.put(packet) {
+            Ok(()) => Ok(()),
+            Err(fault) => Err(CutFault::Sink(fault)),
+        },
+        Ok(false) => Ok(()),
+        Err(fault) => Err(as_cut_fault(fault)),
+    }
+}
+
+/// Writes the network's packets but for those of the PID's units whose time lies in the interval from `from` on, for `length`
+/// ticks of 90 kHz.
+pub fn cut<S: Source, W: Target>(
+    network: &mut S,
+    out: &mut W,
+    pid: Pid,
+    from: Time33,
+    length: u32,
+) -> Result<(), CutFault>
+    ensures ok { OnOk result (CutsAll pid from length (S.remaining network.old) (W.contents out.old) (W.contents out.new)) }
+    ensures err { IfErr result (λ f. Stops f pid from length (S.remaining network.old) (W.contents out.old) (W.contents out.new)) }
+    ensures blamed { IfErr result (λ f. RunBlamed f (S.remaining network.old) (S.calls network.old) (S.calls network.new)
+        (S.failures network.old) (S.failures network.new) (W.tally out.old) (W.tally out.new)) }
+{
+    let mut reader = PacketReader::new(network);
+    let mut writer = PacketWriter::new(out);
+    let mut cutter = Cutter::new(pid, from, length);
+    let mut packet = Packet::null();
+    loop {
+        match reader.read_into(&mut packet) {
+            Ok(true) => {
+                if let Err(fault) = pass(&mut cutter, &mut packet, &mut writer) {
+                    return Err(fault);
+                }
+            }
+            Ok(false) => return Ok(()),
+            Err(fault) => return Err(CutFault::Read(fault)),
+        }
+    }
+}

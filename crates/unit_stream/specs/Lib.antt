@@ -1,0 +1,5 @@
+pub mod Times
+pub mod Faults
+pub mod Units
+pub mod Carrying
+pub mod Pieces

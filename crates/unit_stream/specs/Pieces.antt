@@ -1,0 +1,33 @@
+-- What a packet brings to the units of its PID.
+use Rattle.std.specs.Prelude.{◌≡◌, ℕ, ◌++◌, ◌∷◌, List, [], Bool, true, false, reverse, is_some}
+use Rattle.ts_packet.specs.Fields.{in_error, payload, payload_on, bytes, unit_start}
+use Rattle.ts_packet.specs.Duplicates.{original, repeats}
+use Rattle.ts_packet.specs.Following.{Follows}
+use Rattle.unit_stream.specs.Times.{begins, in_unit}
+use Rattle.unit_stream.specs.declared.reader.UnitReader.{UnitReader}
+use Rattle.unit_stream.specs.declared.reader.Piece.{Piece}
+use Rattle.unit_stream.specs.declared.reader.Piece.TheVariants.{Start, More, Duplicate, NoPayload, Lead, Error}
+
+-- the reader has followed the PID over this past, newest first
+pub record Reads (reader : UnitReader) (pid : ℕ) (past : List (List ℕ)) : Type 0 where
+  pub same : reader.pid ≡ pid
+  pub follows : Follows reader.follower pid past
+  pub begun : reader.has_begun ≡ in_unit pid past
+
+-- the piece is the one that this packet brings behind this past
+abbrev pub Brings : Piece → ℕ → List ℕ → List (List ℕ) → Type 0
+Brings (Start b) pid p past = (begins pid p past ≡ true) × (original pid p past ≡ true) × (payload_on pid p ≡ true) × (b.now ≡ bytes p)
+Brings (More b) pid p past = (original pid p past ≡ true) × (payload_on pid p ≡ true) × (unit_start p ≡ false) × (in_unit pid past ≡ true) × (b.now ≡ bytes p)
+Brings Lead pid p past = (original pid p past ≡ true) × (payload_on pid p ≡ true) × (unit_start p ≡ false) × (in_unit pid past ≡ false)
+Brings Duplicate pid p past = (payload_on pid p ≡ true) × (repeats pid p past ≡ true)
+Brings NoPayload pid p past = (in_error p ≡ false) × (payload_on pid p ≡ false)
+Brings Error pid p past = in_error p ≡ true
+
+-- a piece with payload comes of a packet with payload
+abbrev pub HasPayload : Piece → List ℕ → Type 0
+HasPayload (Start b) p = is_some (payload p) ≡ true
+HasPayload (More b) p = is_some (payload p) ≡ true
+HasPayload Lead p = is_some (payload p) ≡ true
+HasPayload Duplicate p = is_some (payload p) ≡ true
+HasPayload NoPayload p = Unit {0}
+HasPayload Error p = Unit {0}

@@ -1,0 +1,9 @@
+//! Units: the PES packets of an elementary stream, packet by packet.
+#![tactic(auto)]
+
+mod fault;
+pub mod laws;
+mod reader;
+
+pub use fault::UnitFault;
+pub use reader::{Piece, UnitReader};
