@@ -1,2 +1,3 @@
 pub mod UnitLemmas
 pub mod ReadingLemmas
+pub mod PieceLemmas

@@ -4,6 +4,7 @@ use Rattle.ts_packet.specs.Fields.{in_error, payload, payload_on, bytes, unit_st
 use Rattle.ts_packet.specs.Duplicates.{original, repeats}
 use Rattle.ts_packet.specs.Following.{Follows}
 use Rattle.unit_stream.specs.Times.{begins, in_unit}
+use Rattle.unit_stream.specs.Units.{units, payloads}
 use Rattle.unit_stream.specs.declared.reader.UnitReader.{UnitReader}
 use Rattle.unit_stream.specs.declared.reader.Piece.{Piece}
 use Rattle.unit_stream.specs.declared.reader.Piece.TheVariants.{Start, More, Duplicate, NoPayload, Lead, Error}
@@ -31,3 +32,22 @@ HasPayload Lead p = is_some (payload p) ≡ true
 HasPayload Duplicate p = is_some (payload p) ≡ true
 HasPayload NoPayload p = Unit {0}
 HasPayload Error p = Unit {0}
+
+-- the last of some byte strings made longer
+abbrev pub first_longer : List (List ℕ) → List ℕ → List (List ℕ)
+first_longer [] bs = []
+first_longer (u ∷ us) bs = (u ++ bs) ∷ us
+
+-- the units after one piece more
+abbrev pub with_piece : List (List ℕ) → Piece → List (List ℕ)
+with_piece us (Start b) = us ++ b.now ∷ []
+with_piece us (More b) = reverse (first_longer (reverse us) b.now)
+with_piece us Lead = us
+with_piece us Duplicate = us
+with_piece us NoPayload = us
+with_piece us Error = us
+
+-- THE LAW OF PIECES: what a reader gives joins to the units of its PID, whatever streams their times are read by
+abbrev pub PiecesJoin : Type 0
+PiecesJoin = (switched : List ℕ) (pid : ℕ) (ps : List (List ℕ)) (p : List ℕ) (piece : Piece) → Brings piece pid p (reverse ps) →
+    payloads (units switched pid (ps ++ p ∷ [])) ≡ with_piece (payloads (units switched pid ps)) piece
