@@ -10,11 +10,13 @@ pub data Event : Type 0 where
   Dropped : List ℕ → Event
   Inserted : Event
 
+-- a packet put in
 abbrev pub is_inserted : Event → Bool
 is_inserted Inserted = true
 is_inserted (Kept p) = false
 is_inserted (Dropped p) = false
 
+-- a packet left out
 abbrev pub is_dropped : Event → Bool
 is_dropped Inserted = false
 is_dropped (Kept p) = false

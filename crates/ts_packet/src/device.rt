@@ -47,15 +47,15 @@ pub trait Target {
     ghost contents: { Self → Option (List ℕ) };
 
     /// How many writes were made, how many of them failed, and how many took no byte, each up to the greatest u64.
-    ghost tally: { Self → Tally };
+    ghost counts: { Self → Tally };
 
     /// Writes a front of the buffer, and answers how many bytes it took.
     fn write(&mut self, buf: &[u8]) -> Result<usize, DeviceFault>
         ensures bound { WritesAtMost result buf.now }
         ensures bytes { WriteAppends (contents self.old) (contents self.new) result buf.now }
-        ensures calls { IsCounted (tally self.old).calls (tally self.new).calls }
-        ensures failures { CountsFailure result (tally self.old).failed (tally self.new).failed }
-        ensures zeros { CountsZero result (tally self.old).zeros (tally self.new).zeros };
+        ensures calls { IsCounted (counts self.old).calls (counts self.new).calls }
+        ensures failures { CountsFailure result (counts self.old).failed (counts self.new).failed }
+        ensures zeros { CountsZero result (counts self.old).zeros (counts self.new).zeros };
 }
 
 /// A reader or a writer of std, with its counts.
@@ -124,7 +124,7 @@ impl<R: io::Read> Source for Device<R> {
 impl<W: io::Write> Target for Device<W> {
     ghost contents = { λ d. W.contents d.inner };
 
-    ghost tally = { λ d. record { calls = d.calls; failed = d.failures; zeros = d.zeros } };
+    ghost counts = { λ d. record { calls = d.calls; failed = d.failures; zeros = d.zeros } };
 
     fn write(&mut self, buf: &[u8]) -> Result<usize, DeviceFault> {
         self.calls = self.calls.saturating_add(1);

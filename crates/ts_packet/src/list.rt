@@ -59,7 +59,7 @@ impl<A: Allocator> PacketSink for PacketList<A> {
 
     ghost fails = { λ l start ps p f. (l.is_broken ≡ true) × (f ≡ Stuck) × (l.items.items ≡ ps) };
 
-    ghost tally = { λ l. no_tally };
+    ghost counts = { λ l. no_tally };
 
     ghost is_full = { λ l. nat_le l.room (vec_len l.items) };
 

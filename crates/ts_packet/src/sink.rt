@@ -28,7 +28,7 @@ pub trait PacketSink {
     ghost fails: { Self → Option (List ℕ) → List (List ℕ) → List ℕ → PutFault → Type 0 };
 
     /// What the device below it counts.
-    ghost tally: { Self → Tally };
+    ghost counts: { Self → Tally };
 
     /// It takes no packet more.
     ghost is_full: { Self → Bool };
@@ -41,13 +41,13 @@ pub trait PacketSink {
         ensures leads { leads self.old self.new }
         ensures ok { (start : Option (List ℕ)) (ps : List (List ℕ)) → holds self.old start ps → OnOk result (holds self.new start (ps ++ packet.now ∷ [])) }
         ensures err { (start : Option (List ℕ)) (ps : List (List ℕ)) → holds self.old start ps → IfErr result (λ f. fails self.new start ps packet.now f) }
-        ensures blamed { IfErr result (λ f. Blamed f (tally self.old) (tally self.new) (is_full self.new)) };
+        ensures blamed { IfErr result (λ f. Blamed f (counts self.old) (counts self.new) (is_full self.new)) };
 
     ghost leads_refl: { (s : Self) → leads s s };
 
     ghost leads_trans: { (s t u : Self) → leads s t → leads t u → leads s u };
 
-    ghost leads_later: { (s t : Self) → leads s t → Later (tally s) (tally t) };
+    ghost leads_later: { (s t : Self) → leads s t → Later (counts s) (counts t) };
 
     ghost leads_full: { (s t : Self) → leads s t → is_full s ≡ true → is_full t ≡ true };
 }

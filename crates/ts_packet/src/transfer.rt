@@ -50,9 +50,9 @@ pub fn write_whole<W: Target>(target: &mut W, bytes: &[u8]) -> Result<(), PutFau
     requires { 0 < length bytes.now }
     ensures ok { OnOk result (Appends (W.contents target.old) (W.contents target.new) bytes.now) }
     ensures err { OnErr result ((n : ℕ) × Appends (W.contents target.old) (W.contents target.new) (take n bytes.now)) }
-    ensures blamed { IfErr result (λ f. Blamed f (W.tally target.old) (W.tally target.new) false) }
+    ensures blamed { IfErr result (λ f. Blamed f (W.counts target.old) (W.counts target.new) false) }
     ensures failed { result ≢ Err PutFault.Failed }
-    ensures later { Later (W.tally target.old) (W.tally target.new) }
+    ensures later { Later (W.counts target.old) (W.counts target.new) }
 {
     let mut at = 0;
     for _turn in 0..MAX_TURNS {

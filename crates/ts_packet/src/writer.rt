@@ -38,11 +38,11 @@ impl<W: Target> PacketSink for PacketWriter<'_, W> {
 
     ghost fails = { λ w start ps p f. (w.is_broken ≡ true) × (f ≢ Failed) × FailsToWrite (W.contents w.target.now) start ps p };
 
-    ghost tally = { λ w. W.tally w.target.now };
+    ghost counts = { λ w. W.counts w.target.now };
 
     ghost is_full = { λ w. false };
 
-    ghost leads = { λ v w. (w.target.ghost_name ≡ v.target.ghost_name) × Later (W.tally v.target.now) (W.tally w.target.now) };
+    ghost leads = { λ v w. (w.target.ghost_name ≡ v.target.ghost_name) × Later (W.counts v.target.now) (W.counts w.target.now) };
 
     ghost leads_refl = { λ s. (refl, Later-refl _) };
 
@@ -53,12 +53,12 @@ impl<W: Target> PacketSink for PacketWriter<'_, W> {
     ghost leads_full = { λ s t h e. e };
 
     fn put(&mut self, packet: &Packet) -> Result<(), PutFault>
-        ensures leads { (self.new.target.ghost_name ≡ self.old.target.ghost_name) × Later (W.tally self.old.target.now) (W.tally self.new.target.now) }
+        ensures leads { (self.new.target.ghost_name ≡ self.old.target.ghost_name) × Later (W.counts self.old.target.now) (W.counts self.new.target.now) }
         ensures ok { (start : Option (List ℕ)) (ps : List (List ℕ)) → (self.old.is_broken ≡ false) × Written (W.contents self.old.target.now) start ps →
             OnOk result ((self.new.is_broken ≡ false) × Written (W.contents self.new.target.now) start (ps ++ packet.now ∷ [])) }
         ensures err { (start : Option (List ℕ)) (ps : List (List ℕ)) → (self.old.is_broken ≡ false) × Written (W.contents self.old.target.now) start ps →
             IfErr result (λ f. (self.new.is_broken ≡ true) × (f ≢ PutFault.Failed) × FailsToWrite (W.contents self.new.target.now) start ps packet.now) }
-        ensures blamed { IfErr result (λ f. Blamed f (W.tally self.old.target.now) (W.tally self.new.target.now) false) }
+        ensures blamed { IfErr result (λ f. Blamed f (W.counts self.old.target.now) (W.counts self.new.target.now) false) }
         ensures broken { self.old.is_broken ≡ true → (result ≡ Err PutFault.Failed) × (self.new.target.now ≡ self.old.target.now) }
         ensures breaks { IfErr result (λ _. self.new.is_broken ≡ true) }
     {

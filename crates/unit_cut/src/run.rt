@@ -50,7 +50,7 @@ fn pass<K: PacketSink>(
         → OnOk result ((unit_fault (k.pid ∷ []) packet.old (reverse ps) ≡ None) × StandsFor cutter.new k (packet.old ∷ reverse ps) × K.holds sink.new start (cut_by k (ps ++ packet.old ∷ []))) }
     ensures err { (k : Cut) (start : Option (List ℕ)) (ps : List (List ℕ)) → Begins k (packet.old ∷ reverse ps) → StandsFor cutter.old k (reverse ps) → K.holds sink.old start (cut_by k ps)
         → IfErr result (λ f. PassFails k packet.old ps f (K.holds sink.new start) (K.fails sink.new start)) }
-    ensures blamed { IfErr result (λ f. PassBlamed f (K.tally sink.old) (K.tally sink.new) (K.is_full sink.new)) }
+    ensures blamed { IfErr result (λ f. PassBlamed f (K.counts sink.old) (K.counts sink.new) (K.is_full sink.new)) }
 {
     match cutter.feed(packet) {
         Ok(true) => match sink.put(packet) {
@@ -74,7 +74,7 @@ pub fn cut<S: Source, W: Target>(
     ensures ok { OnOk result (CutsAll pid from length (S.remaining network.old) (W.contents out.old) (W.contents out.new)) }
     ensures err { IfErr result (λ f. Stops f pid from length (S.remaining network.old) (W.contents out.old) (W.contents out.new)) }
     ensures blamed { IfErr result (λ f. RunBlamed f (S.remaining network.old) (S.calls network.old) (S.calls network.new)
-        (S.failures network.old) (S.failures network.new) (W.tally out.old) (W.tally out.new)) }
+        (S.failures network.old) (S.failures network.new) (W.counts out.old) (W.counts out.new)) }
 {
     let mut reader = PacketReader::new(network);
     let mut writer = PacketWriter::new(out);

@@ -8,6 +8,6 @@ abbrev pub invariant-loop-turn : goal.invariant-loop-turn
 invariant-loop-turn g l = record {
   within : l.at < length l.bytes;
   bytes : Appends (g.W.Target.contents l.initial.target) (g.W.Target.contents l.target) (take l.at l.bytes);
-  turns : Rose l._turn (g.W.Target.tally l.initial.target).calls (g.W.Target.tally l.target).calls;
-  later : Later (g.W.Target.tally l.initial.target) (g.W.Target.tally l.target);
+  turns : Rose l._turn (g.W.Target.counts l.initial.target).calls (g.W.Target.counts l.target).calls;
+  later : Later (g.W.Target.counts l.initial.target) (g.W.Target.counts l.target);
 }

@@ -71,7 +71,7 @@ returns-in-Err-clause-err g c =
 pub returns-in-Err-clause-blamed : goal.returns-in-Err-clause-blamed
 returns-in-Err-clause-blamed g c =
     let (ps, h) = c.loop-cutter.invariant.passed in
-    let done = read_blamed _ _ _ _ _ _ _ _ _ _ ps h c.loop-cutter.reader.is_broken c.loop-cutter.invariant.whole c.in-Err.fault _ _ _ _ _ _ (g.W.Target.tally c.args.out.now) (g.W.Target.tally c.loop-cutter.writer.target.now)
+    let done = read_blamed _ _ _ _ _ _ _ _ _ _ ps h c.loop-cutter.reader.is_broken c.loop-cutter.invariant.whole c.in-Err.fault _ _ _ _ _ _ (g.W.Target.counts c.args.out.now) (g.W.Target.counts c.loop-cutter.writer.target.now)
     c.in-Err.ensures.err c.loop-cutter.invariant.calls c.loop-cutter.invariant.failures c.in-Err.ensures.blamed in
     let start = c.new-reader.ensures.source in
     let reader = c.in-Err.ensures.same ∙ c.loop-cutter.invariant.source ∙ c.new-reader.ensures.same in

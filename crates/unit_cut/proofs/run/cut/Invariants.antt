@@ -10,7 +10,7 @@ invariant-loop-cutter g l = record {
   whole : l.reader.is_broken ≡ false;
   calls : g.S.Source.calls l.initial.reader.source.now ≤ g.S.Source.calls l.reader.source.now;
   failures : g.S.Source.failures l.initial.reader.source.now ≤ g.S.Source.failures l.reader.source.now;
-  later : Later (g.W.Target.tally l.initial.writer.target.now) (g.W.Target.tally l.writer.target.now);
+  later : Later (g.W.Target.counts l.initial.writer.target.now) (g.W.Target.counts l.writer.target.now);
   passed : (ps : List (List ℕ)) × HasPassed (g.S.Source.remaining l.initial.reader.source.now) (g.S.Source.remaining l.reader.source.now)
       (g.W.Target.contents l.initial.writer.target.now) (g.W.Target.contents l.writer.target.now) l.writer.is_broken l.reader.given l.cutter l.fn.pid l.fn.from l.fn.length ps;
 }
