@@ -35,6 +35,7 @@ impl Follower {
     /// Takes the next packet, of whatever PID, and answers whether it is an original: a payload packet of the PID that is no
     /// duplicate.
     #[tactic(auto, using(crate::proofs::HistoryLemmas::walk_is_last))]
+    #[inline(always)]
     pub fn feed(&mut self, packet: &Packet) -> bool
         ensures follows { (pid : ℕ) (past : List (List ℕ)) → Follows self.old pid past → Follows self.new pid (packet.now ∷ past) }
         ensures answer { (pid : ℕ) (past : List (List ℕ)) → Follows self.old pid past → result ≡ original pid packet.now past }
@@ -59,6 +60,7 @@ impl Follower {
     }
 
     /// The last payload packet says that this one is its duplicate.
+    #[inline(always)]
     fn is_repeated(&self, packet: &Packet) -> bool
         ensures { result ≡ repeats_last packet.now self.now.last }
     {

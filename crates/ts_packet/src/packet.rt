@@ -93,6 +93,7 @@ impl Packet {
 
     /// Reads the bytes of the next packet into this one, and answers how many there are: fewer than 188 only at the end. They are
     /// not judged.
+    #[inline(always)]
     pub(crate) fn fill_from<S: Source>(&mut self, source: &mut S) -> Result<usize, FillFault>
         ensures size { length self.new ≡ 188 }
         ensures ok { IfOk result (λ n. Filled (S.remaining source.old) (S.remaining source.new) self.new n) }

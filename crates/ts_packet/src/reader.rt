@@ -49,6 +49,7 @@ impl<'a, S: Source> PacketReader<'a, S> {
 
     /// Reads the next packet into the slot, where there is one; false at the end of the bytes. What a fault or the end leaves in
     /// the slot is open.
+    #[inline(always)]
     pub fn read_into(&mut self, packet: &mut Packet) -> Result<bool, ReadFault>
         ensures exact { self.old.is_broken ≡ false → IfSome (S.remaining self.old.source.now) (λ bs. Answers bs result) }
         ensures same { self.new.source.ghost_name ≡ self.old.source.ghost_name }

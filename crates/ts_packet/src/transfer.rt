@@ -21,6 +21,7 @@ pub enum FillFault {
 }
 
 /// Reads until the buffer is full or the source ends, and answers how many bytes there are. An interrupted read is tried again.
+#[inline(always)]
 pub fn fill<S: Source>(source: &mut S, buf: &mut [u8]) -> Result<usize, FillFault>
     requires { 0 < length buf.old }
     ensures ok { IfOk result (λ n. Filled (S.remaining source.old) (S.remaining source.new) buf.new n) }
@@ -46,6 +47,7 @@ pub fn fill<S: Source>(source: &mut S, buf: &mut [u8]) -> Result<usize, FillFaul
 }
 
 /// Writes all the bytes. After a fault a front of them is out. An interrupted write is tried again.
+#[inline(always)]
 pub fn write_whole<W: Target>(target: &mut W, bytes: &[u8]) -> Result<(), PutFault>
     requires { 0 < length bytes.now }
     ensures ok { OnOk result (Appends (W.contents target.old) (W.contents target.new) bytes.now) }

@@ -52,6 +52,7 @@ impl<W: Target> PacketSink for PacketWriter<'_, W> {
 
     ghost leads_full = { λ s t h e. e };
 
+    #[inline(always)]
     fn put(&mut self, packet: &Packet) -> Result<(), PutFault>
         ensures leads { (self.new.target.ghost_name ≡ self.old.target.ghost_name) × Later (W.counts self.old.target.now) (W.counts self.new.target.now) }
         ensures ok { (start : Option (List ℕ)) (ps : List (List ℕ)) → (self.old.is_broken ≡ false) × Written (W.contents self.old.target.now) start ps →

@@ -52,6 +52,7 @@ impl Cutter {
     /// # Errors
     ///
     /// What the packet may not be, as [`UnitFault`] says. The cutter is spent then.
+    #[inline(always)]
     pub fn feed(&mut self, packet: &mut Packet) -> Result<bool, UnitFault>
         ensures answers { (k : Cut) (past : List (List ℕ)) → Begins k (packet.old ∷ past) → StandsFor self.old k past → Answers k packet.old past result packet.new }
         ensures stands { (k : Cut) (past : List (List ℕ)) → Begins k (packet.old ∷ past) → StandsFor self.old k past → OnOk result (StandsFor self.new k (packet.old ∷ past)) }

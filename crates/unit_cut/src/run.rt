@@ -40,6 +40,7 @@ fn as_cut_fault(fault: UnitFault) -> CutFault
 }
 
 /// Passes one packet on, where it stays.
+#[inline(always)]
 fn pass<K: PacketSink>(
     cutter: &mut Cutter,
     packet: &mut Packet,

@@ -44,6 +44,7 @@ impl UnitReader {
     }
 
     /// What the next packet brings.
+    #[inline(always)]
     pub fn feed<'a>(&mut self, packet: &'a Packet) -> Piece<'a>
         ensures reads { (pid : ℕ) (past : List (List ℕ)) → Reads self.old pid past → Reads self.new pid (packet.now ∷ past) }
         ensures brings { (pid : ℕ) (past : List (List ℕ)) → Reads self.old pid past → Brings result pid packet.now past }
