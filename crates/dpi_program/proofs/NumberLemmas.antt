@@ -1,10 +1,10 @@
 -- `parse` on digits alone.
-use Rattle.std.proofs.Common.{◌≡◌, ℕ, ◌<◌, ◌≤◌, ◌^◌, List, length, Bool, true, false, nat_lt, ◌&&◌, if◌then◌else◌, Option, Some, None, Ok, Err, refl, arith, rules}
+use Rattle.std.proofs.Common.{◌≡◌, ℕ, ◌<◌, ◌≤◌, ◌^◌, List, length, Bool, true, false, nat_lt, ◌&&◌, if◌then◌else◌, Some, None, Ok, Err, refl, arith, rules}
 use Rattle.std.specs.List.{list_all}
 use Rattle.std.specs.Char.{is_ascii_digit}
 use Rattle.std.specs.Str.Parse.{digits_value, without_leading_plus, IsNumeral}
 use Rattle.std.proofs.lemmas.Str.Parse.{parse_digits, IsDigitsTest, IsNumeralModel, numerals_by_value}
-use Rattle.dpi_program.specs.Numbers.{is_number, number_below}
+use Rattle.dpi_program.specs.Numbers.{is_number}
 
 tells : IsDigitsTest (λ ds. list_all is_ascii_digit ds ≡ true)
 tells = search rules

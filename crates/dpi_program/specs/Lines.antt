@@ -1,8 +1,9 @@
 -- A text of lines, each the 376 upper case hexadecimal digits of a packet's 188 bytes and a line's end; the last line's end may
 -- be missing. A place in such a text is how many digits of its line stand before it, and, where a byte is half read, the value of
 -- its first digit.
-use Rattle.std.specs.Prelude.{◌≡◌, ℕ, ◌+◌, ◌*◌, ◌/◌, ◌%◌, ◌==◌, ◌&&◌, ◌||◌, not, Bool, true, false, List, [], ◌∷◌, ◌++◌, Option, Some, None, is_some, unwrap_or, if◌then◌else◌, take, drop}
-use Rattle.std.specs.Io.KnownBytes.{prepend_known}
+use Rattle.std.specs.Prelude.{ℕ, ◌+◌, ◌*◌, ◌/◌, ◌%◌, ◌==◌, ◌&&◌, ◌||◌, ◌-◌, not, nat_eq, length, option_and_then, Bool, true, false, List, [], ◌∷◌, ◌++◌, Option, Some, None, is_some, unwrap_or, if◌then◌else◌, take, drop}
+use lib.Pointwise.{pointwise}
+use Rattle.std.specs.Io.KnownBytes.{prepend_known, append_known}
 use Rattle.dpi_program.specs.Digits.{digit_value}
 
 -- the character may stand at this place: a digit, or behind 376 of them the line's end
@@ -39,3 +40,17 @@ abbrev pub left_behind : Bool → ℕ → ℕ → ℕ → List ℕ → Option (L
 left_behind true given at high packet known = None
 left_behind false given at high packet None = None
 left_behind false given at high packet (Some text) = left_of given at high packet text
+
+-- the bytes of a text of lines that each have their end, from a place on
+unfoldable pub closed : ℕ → ℕ → List ℕ → Option (List ℕ)
+closed at high [] = if at == 0 then Some [] else None
+closed at high (c ∷ rest) = if is_right at c then prepend_known (ended_byte at high c) (closed (next_place at) (next_high at high c) rest) else None
+
+-- what stands before this end of a text
+abbrev pub before : List ℕ → List ℕ → Option (List ℕ)
+before end text = if pointwise nat_eq (drop (length text - length end) text) end then Some (take (length text - length end) text) else None
+
+-- the bytes that a writer of lines holds, where the text of its device is known: those of the lines before the one that is out in
+-- part, and of the packet of that line what was taken
+abbrev pub held_of : ℕ → List ℕ → ℕ → List ℕ → Option (List ℕ) → Option (List ℕ)
+held_of sent line filled packet known = append_known (option_and_then (closed 0 0) (option_and_then (before (take sent line)) known)) (take filled packet)

@@ -6,13 +6,17 @@
 pub mod command;
 pub mod digits;
 pub mod line;
+pub mod line_source;
+pub mod line_target;
 pub mod lines;
 pub mod numbers;
 pub mod program;
 
-pub use unit_cut::{CutFault, cut};
-pub use lines::{LineSource, LineTarget, LinesFault, cut_lines};
+pub use line_source::LineSource;
+pub use line_target::LineTarget;
+pub use lines::{LinesFault, cut_lines};
 pub use program::ProgramFault;
+pub use unit_cut::{CutFault, cut};
 
 #[cfg(test)]
 mod tests;

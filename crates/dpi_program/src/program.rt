@@ -4,14 +4,16 @@ ghost use Rattle.std.specs.Prelude.{◌≡◌, ◌≤◌, IfErr, OnOk, IfOk, Err
 ghost use Rattle.dpi_program.specs.Names.{read_name, put_name, cut_name, fault_name};
 
 use crate::command::{CutOptions, command, cut_options};
-use unit_cut::{CutFault, cut};
-use crate::lines::{LineSource, LineTarget, LinesFault};
+use crate::line_source::LineSource;
+use crate::line_target::LineTarget;
+use crate::lines::LinesFault;
 use clap::Error;
 use clap::error::ErrorKind;
 use std::fs;
 use std::io::{BufReader, BufWriter, Read, Write};
 use std::rt::Files;
 use ts_packet::{Device, PutFault, ReadFault, Source};
+use unit_cut::{CutFault, cut};
 
 /// The exit status where all is done.
 const DONE: u8 = 0;

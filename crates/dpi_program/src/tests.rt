@@ -2,7 +2,6 @@
 
 use super::lines::{LinesFault, cut_lines};
 use super::program::program;
-use unit_cut::CutFault;
 use pes_time::Time33;
 use std::alloc::{AllocError, Global};
 use std::io::{self, Cursor, ErrorKind, Read, Write};
@@ -11,6 +10,7 @@ use std::rt::Files;
 use std::test::Fail;
 use std::{env, fs};
 use ts_packet::{Pid, PutFault, ReadFault};
+use unit_cut::CutFault;
 
 /// Three packets of PID 256, each the start of a unit: their counters are 0, 1, 2, their times 90000, 93000, 96000.
 const FIRST: &str = "47410010000001E00000808005210005BF21";

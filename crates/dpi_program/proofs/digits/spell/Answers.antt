@@ -1,4 +1,3 @@
-use Rattle.std.proofs.Common.{arith}
 use Rattle.dpi_program.proofs.DigitLemmas.{spell_step}
 use Rattle.dpi_program.proofs.digits.spell.Goals as goal
 

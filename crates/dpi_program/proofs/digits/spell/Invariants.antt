@@ -1,4 +1,4 @@
-use Rattle.std.proofs.Common.{◌≡◌, ℕ, ◌+◌, ◌*◌, ◌++◌, take, drop}
+use Rattle.std.proofs.Common.{◌≡◌, ◌+◌, ◌*◌, ◌++◌, take, drop}
 use Rattle.dpi_program.specs.Digits.{digits_of}
 use Rattle.dpi_program.proofs.digits.spell.Given as goal
 

@@ -1,4 +1,4 @@
-use Rattle.std.proofs.Common.{◌≡◌, ◌≤◌, ◌^◌, sym, arith}
+use Rattle.std.proofs.Common.{◌≤◌, ◌^◌, sym, arith}
 use Rattle.std.specs.Str.Parse.{digits_value}
 use Rattle.dpi_program.specs.Numbers.{is_number}
 use Rattle.dpi_program.proofs.NumberLemmas.{read_number, refused_number, below_limit, past_limit}

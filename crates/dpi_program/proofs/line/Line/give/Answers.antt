@@ -1,4 +1,4 @@
-use Rattle.std.proofs.Common.{◌≡◌, ℕ, ◌-◌, ◌+◌, ◌/◌, take, drop, ap, ◌∙◌, arith}
+use Rattle.std.proofs.Common.{◌≡◌, ◌-◌, ◌+◌, ◌/◌, take, drop, ap, ◌∙◌, arith}
 use Rattle.dpi_program.proofs.LineLemmas.{copied_front}
 use Rattle.dpi_program.proofs.line.Line.give.Goals as goal
 

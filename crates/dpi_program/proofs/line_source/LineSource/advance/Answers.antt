@@ -1,6 +1,6 @@
-use Rattle.std.proofs.Common.{◌≡◌, ℕ, false, take, rules, arith}
-use Rattle.dpi_program.proofs.KnownLemmas.{kept_after, kept_bad, kept_end, kept_broken, ended}
-use Rattle.dpi_program.proofs.lines.LineSource.advance.Goals as goal
+use Rattle.std.proofs.Common.{take, arith}
+use Rattle.dpi_program.proofs.KnownLemmas.{kept_after, kept_bad, ended}
+use Rattle.dpi_program.proofs.line_source.LineSource.advance.Goals as goal
 
 pub returns-then-take_end-clause-whole : goal.returns-then-take_end-clause-whole
 returns-then-take_end-clause-whole g c =

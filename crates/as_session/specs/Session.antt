@@ -1,0 +1,36 @@
+-- What a session stands for, and what it gives.
+use Rattle.std.specs.Prelude.{◌≡◌, ◌<◌, ◌≤◌, ℕ, length, take, if◌then◌else◌}
+use Rattle.scte104_codec.specs.declared.framing.Frame.TheVariants.{Whole}
+use Rattle.scte104_codec.specs.Framing.{frame_of}
+use Rattle.as_session.specs.declared.session.Session.{Session}
+use Rattle.as_session.specs.declared.session.Got.{Got}
+use Rattle.as_session.specs.declared.session.Got.TheVariants as got
+use Rattle.as_session.specs.declared.session.Step.{Step}
+use Rattle.as_session.specs.declared.session.Step.TheVariants as step
+use Rattle.as_session.specs.Feeding.{State, opened, shut, Given, nothing, message, closed}
+
+abbrev pub state_of : {A : Type 0} → Session A → State
+state_of s = if s.is_closed then shut else opened s.pending.items
+
+abbrev pub given : Got → Given
+given got.None = nothing
+given (got.Message m) = message m.now
+given got.Closed = closed
+
+-- what a step gives, whose message lies in the session
+abbrev pub step_given : {A : Type 0} → Session A → Step → Given
+step_given s step.Nothing = nothing
+step_given s (step.Message size) = message (take size s.message.items)
+step_given s step.Closed = closed
+
+-- a message of a step lies in the session, and used some of the piece
+abbrev pub IsWithin : ℕ → Step → Type 0
+IsWithin used step.Nothing = Unit {0}
+IsWithin used (step.Message size) = (size ≤ 65535) × (0 < used)
+IsWithin used step.Closed = Unit {0}
+
+-- a message that is lent is whole, so that it can be read, and used some of the piece
+abbrev pub LendsWhole : ℕ → Got → Type 0
+LendsWhole used got.None = Unit {0}
+LendsWhole used (got.Message m) = (0 < used) × (frame_of m.now ≡ Whole (length m.now))
+LendsWhole used got.Closed = Unit {0}

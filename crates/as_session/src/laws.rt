@@ -1,0 +1,19 @@
+//! What holds of whole runs of a session.
+
+ghost use Rattle.as_session.specs.Laws.{AnyPiecesGiveTheMessages, CallsGiveTheMessages, MessagesAreTheOnlyOnes};
+
+/// Up to a rest with no whole message at its front, a byte string is these messages and no others.
+pub fn messages_are_the_only_ones()
+    ensures { MessagesAreTheOnlyOnes }
+{}
+
+/// For every way to cut a byte string into pieces, the messages that come out are those of the string, in order, up
+/// to a bad size.
+pub fn any_pieces_give_the_messages()
+    ensures { AnyPiecesGiveTheMessages }
+{}
+
+/// Whatever pieces a session is fed, call after call, the messages that it gives are those of the bytes that it used.
+pub fn calls_give_the_messages()
+    ensures { CallsGiveTheMessages }
+{}

@@ -1,0 +1,13 @@
+pub mod Numbers
+pub mod Framing
+pub mod Head
+pub mod Operations
+pub mod OperationsLeft
+pub mod Spelling
+pub mod Reading
+pub mod Views
+pub mod Grammar
+pub mod Replies
+pub mod Requests
+pub mod AvailIdsLeft
+pub mod Laws

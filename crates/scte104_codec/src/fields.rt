@@ -1,0 +1,31 @@
+// Fields at a place of a message: the byte of the highest worth comes first.
+ghost use Rattle.std.specs.Prelude.{◌≡◌, ◌+◌, ◌≤◌, length, drop};
+ghost use Rattle.scte104_codec.specs.Numbers.{number16_at, number32_at};
+
+use byteorder::{BigEndian, ByteOrder};
+
+#[tactic(auto, unfolding(crate::specs::Numbers::number16_at))]
+pub fn number16(bytes: &[u8], place: usize) -> u16
+    requires { place + 2 ≤ length bytes.now }
+    ensures { result ≡ number16_at bytes.now place }
+{
+    let (_, rest) = bytes.split_at(place);
+    BigEndian::read_u16(rest)
+}
+
+#[tactic(auto, unfolding(crate::specs::Numbers::number32_at))]
+pub fn number32(bytes: &[u8], place: usize) -> u32
+    requires { place + 4 ≤ length bytes.now }
+    ensures { result ≡ number32_at bytes.now place }
+{
+    let (_, rest) = bytes.split_at(place);
+    BigEndian::read_u32(rest)
+}
+
+pub fn from(bytes: &[u8], place: usize) -> &[u8]
+    requires { place ≤ length bytes.now }
+    ensures { result.now ≡ drop place bytes.now }
+{
+    let (_, rest) = bytes.split_at(place);
+    rest
+}

@@ -1,0 +1,27 @@
+//! Messages of ANSI/SCTE 104, by which an automation system asks for breaks: where one ends, what its fields say,
+//! and the bytes of a reply. It stands on `byteorder` and `arrayvec`, and takes no memory.
+//! The crates above use one contract of it: `read` gives exactly what the grammar of `specs/Grammar.antt` says.
+#![tactic(auto)]
+
+mod cutting;
+mod fields;
+mod framing;
+mod head;
+mod laws;
+mod message;
+pub mod operation_ids;
+mod operations;
+mod reply;
+mod requests;
+
+pub use cutting::frame;
+pub use framing::{Frame, frame_size};
+pub use head::Head;
+pub use laws::{messages_are_framed, messages_read_back, replies_read_back, requests_read_back};
+pub use message::{BadMessage, Message, Multi, read};
+pub use operations::Operations;
+pub use reply::{Reply, write_reply};
+pub use requests::{AvailIds, SpliceRequest};
+
+#[cfg(test)]
+mod tests;
