@@ -1,5 +1,5 @@
 -- Whole runs of packets, in order: each packet with those before it, so that every statement over a run is a filter or a map.
-use Rattle.std.specs.Prelude.{◌≡◌, ℕ, ◌∷◌, List, [], Bool, not, Option, None, Some, filter, map, reverse, All}
+use Rattle.std.specs.Prelude.{ℕ, ◌∷◌, List, [], not, Option, None, filter, map, reverse, All}
 use Rattle.ts_packet.specs.Fields.{on, without_number}
 use Rattle.ts_packet.specs.Duplicates.{InStep, nearest}
 

@@ -1,8 +1,8 @@
-use Rattle.std.proofs.Common.{◌≡◌, ℕ, ◌-◌, ◌^◌, ◌<◌, Some, refl, ap, arith, ◌⊎◌, inl, inr, ◌∙◌, sym, true, false, Bool, ◌&&◌}
+use Rattle.std.proofs.Common.{◌≡◌, ℕ, ◌-◌, ◌^◌, ◌<◌, Some, refl, ap, arith, inl, inr, ◌∙◌, sym}
 use Rattle.std.specs.Prelude.{ℤ, pos, negsuc, ◌+ℤ◌, ◌-ℤ◌, ◌≤ℤ◌, ◌<ℤ◌, if◌then◌else◌}
 use Rattle.std.specs.Int.{int_max}
 use Rattle.std.proofs.lemmas.Int.{ints}
-use lib.Signed.{lt_z, le_z}
+use lib.Signed.{lt_z}
 use Rattle.pes_time.specs.Line.{signed, ring_of, lift}
 use Rattle.pes_time.proofs.LineLemmas.{ring-lift}
 use Rattle.unit_cut.specs.Cutting.{inside}

@@ -1,18 +1,17 @@
 -- One packet through the cutter, case by case.
-use Rattle.std.specs.Prelude.{ℤ, pos, count_by, IfSome}
-use Rattle.std.proofs.Common.{◌≡◌, ℕ, ◌+◌, ◌*◌, ◌%◌, List, [], ◌∷◌, Bool, true, false, not, refl, sym, ap, ◌∙◌, Option, None, Some, arith, ◌||◌, ◌&&◌, if◌then◌else◌, Result, Ok, Err, is_some}
+use Rattle.std.specs.Prelude.{ℤ, IfSome}
+use Rattle.std.proofs.Common.{◌≡◌, ℕ, ◌+◌, ◌*◌, ◌%◌, List, [], ◌∷◌, Bool, true, false, not, refl, sym, ap, ◌∙◌, Option, None, Some, arith, ◌||◌, ◌&&◌, if◌then◌else◌, Ok, is_some}
 use Rattle.std.proofs.lemmas.List.Sums.{sum_by-cons}
 use Rattle.std.specs.Prelude.{cond}
-use Rattle.pes_time.specs.Line.{place, lift}
+use Rattle.pes_time.specs.Line.{lift}
 use Rattle.pes_time.specs.Stamps.{stamp_of, is_split}
 use Rattle.ts_packet.specs.Fields.{in_error, on, number, payload_on, payload, scrambled, unit_start, bytes, renumbered, with_number}
 use Rattle.ts_packet.specs.Duplicates.{original, repeats}
-use Rattle.ts_packet.specs.Numbering.{Event, Kept, Dropped, Inserted, Counts, moved, number_out, is_inserted, is_dropped}
+use Rattle.ts_packet.specs.Numbering.{Event, Kept, Dropped, moved, number_out, is_inserted, is_dropped}
 use Rattle.ts_packet.proofs.Cases.{by_test}
 use Rattle.ts_packet.proofs.FieldLemmas.{payload_on-on}
 use Rattle.unit_stream.specs.Times.{begins, begins_one, high, raised, timed, unit_time, first_time, first_after, stamp, splits}
 use Rattle.unit_stream.specs.Faults.{unit_fault, start_fault, scrambled_one}
-use Rattle.unit_stream.specs.declared.fault.UnitFault.{UnitFault}
 use Rattle.unit_stream.specs.declared.fault.UnitFault.TheVariants.{Scrambled}
 use Rattle.unit_cut.specs.Cutting.{is_cut, gone, kept_as}
 use Rattle.unit_cut.specs.Standing.{Cut, goes_by, TimingFor, Begins, BeginsWith, events, Answers}

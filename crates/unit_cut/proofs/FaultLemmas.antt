@@ -1,13 +1,13 @@
 -- Where the first fault of a run stands.
 use Rattle.std.specs.Prelude.{All}
-use Rattle.std.proofs.Common.{◌≡◌, ℕ, ◌+◌, ◌<◌, ◌==◌, List, [], ◌∷◌, ◌++◌, Bool, true, false, refl, sym, ap, ◌∙◌, Option, None, Some, if◌then◌else◌, reverse, length, arith, subst}
+use Rattle.std.proofs.Common.{◌≡◌, ℕ, ◌<◌, ◌==◌, List, [], ◌∷◌, ◌++◌, false, refl, sym, ap, ◌∙◌, Option, None, Some, if◌then◌else◌, reverse, length, arith, subst}
 use Rattle.std.proofs.lemmas.List.{append-nil}
 use Rattle.std.proofs.lemmas.List.Elements.{All-head, All-tail, All-push}
 use Rattle.std.proofs.lemmas.Grind.{common_steps}
 use Rattle.ts_packet.specs.Packets.{packet_fault}
 use Rattle.ts_packet.specs.Runs.{Seen, seen_after}
 use Rattle.ts_packet.specs.declared.reader.ReadFault.TheVariants as read_faults
-use Rattle.ts_packet.proofs.RunLemmas.{onto, seen_after-append}
+use Rattle.ts_packet.proofs.RunLemmas.{seen_after-append}
 use Rattle.unit_stream.specs.Faults.{unit_fault}
 use Rattle.unit_cut.specs.FirstFault.{or_then, as_read_fault, as_unit_fault, fault_at, first_of, fault_behind, sound_front}
 use Rattle.unit_cut.specs.Runs.{IsSound}

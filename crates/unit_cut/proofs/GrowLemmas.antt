@@ -1,13 +1,11 @@
 -- The begin of an interval is placed once: what is cut out of a front of a run is cut out of the run.
-use Rattle.std.specs.Prelude.{ℤ, IfSome, All}
-use Rattle.std.proofs.Common.{◌≡◌, ℕ, List, [], ◌∷◌, ◌++◌, Bool, true, false, refl, sym, ap, ◌∙◌, Option, None, Some, if◌then◌else◌, reverse, ◌||◌}
-use Rattle.std.proofs.lemmas.List.{reverse-append}
+use Rattle.std.specs.Prelude.{ℤ, All}
+use Rattle.std.proofs.Common.{◌≡◌, ℕ, List, [], ◌∷◌, ◌++◌, Bool, true, false, refl, sym, ap, ◌∙◌, Option, None, Some, reverse, ◌||◌}
 use Rattle.std.proofs.lemmas.List.Elements.{All-head, All-tail, All-cons, All-nil}
-use Rattle.pes_time.specs.Line.{lift}
 use Rattle.ts_packet.specs.Runs.{Seen, seen_after}
 use Rattle.ts_packet.proofs.Cases.{by_test}
 use Rattle.ts_packet.proofs.RunLemmas.{onto}
-use Rattle.unit_stream.specs.Times.{begins, begins_one, first_time, first_after, unit_time, timed, high, stamp}
+use Rattle.unit_stream.specs.Times.{begins, begins_one, first_time, first_after, unit_time, stamp}
 use Rattle.unit_cut.specs.Cutting.{cut, cut_between, inside, begin_of}
 use Rattle.unit_cut.proofs.InOrder.{cut_grows, cut-same}
 

@@ -1,6 +1,6 @@
 -- One packet more in a cut.
 use Rattle.std.specs.Prelude.{ℤ}
-use Rattle.std.proofs.Common.{◌≡◌, ℕ, List, [], ◌∷◌, ◌++◌, Bool, true, false, refl, sym, ap, ◌∙◌, Option, if◌then◌else◌, reverse}
+use Rattle.std.proofs.Common.{◌≡◌, ℕ, List, [], ◌∷◌, ◌++◌, Bool, true, false, ap, ◌∙◌, Option, if◌then◌else◌, reverse}
 use Rattle.std.proofs.lemmas.List.{append-nil}
 use Rattle.unit_cut.specs.Cutting.{cut, is_cut, kept_as}
 use Rattle.unit_cut.proofs.InOrder.{cut_snoc}

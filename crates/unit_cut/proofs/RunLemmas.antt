@@ -1,33 +1,25 @@
 -- A whole run of a cut, from its first packet to its end or its fault.
-use Rattle.std.specs.Prelude.{ℤ, IfSome, All, pos, cond}
-use Rattle.std.proofs.Common.{◌≡◌, ◌≢◌, ℕ, ◌+◌, ◌-◌, ◌^◌, ◌<◌, ◌≤◌, List, [], ◌∷◌, ◌++◌, Bool, true, false, refl, sym, ap, ◌∙◌, subst, Option, None, Some, reverse, length, take, drop, arith, append_assoc, length-append, take-append-drop, ◌⊎◌, inl, inr}
+use Rattle.std.specs.Prelude.{ℤ, IfSome, All}
+use Rattle.std.proofs.Common.{◌≡◌, ℕ, ◌+◌, List, [], ◌∷◌, ◌++◌, Bool, false, refl, sym, ap, ◌∙◌, subst, Option, None, Some, reverse, length, take, drop, arith, append_assoc, length-append, take-append-drop}
 use Rattle.std.proofs.lemmas.List.{append-nil, reverse-append}
 use Rattle.std.proofs.lemmas.List.Elements.{All-nil}
-use Rattle.ts_packet.specs.Runs.{Seen, seen_after}
+use Rattle.ts_packet.specs.Runs.{seen_after}
 use lib.Seq.{take_all, take-append-le}
-use Rattle.std.specs.Io.KnownBytes.{Consumes, IsAtEnd}
+use Rattle.std.specs.Io.KnownBytes.{IsAtEnd}
 use Rattle.pes_time.specs.Line.{lift}
 use Rattle.ts_packet.specs.Packets.{packets_of, last_part, bytes_of, packet_fault}
-use Rattle.ts_packet.specs.Reading.{Given, HasRead, Refuses, ReadBlamed}
-use Rattle.ts_packet.specs.Sinks.{Written, FailsToWrite, Tally, Later, Blamed}
-use Rattle.ts_packet.specs.Transfers.{Rose}
-use Rattle.ts_packet.specs.declared.packet.PacketFault.TheVariants as packet_faults
-use Rattle.ts_packet.specs.declared.reader.ReadFault.{ReadFault}
-use Rattle.ts_packet.specs.declared.reader.ReadFault.TheVariants as read_faults
-use Rattle.ts_packet.specs.declared.sink.PutFault.{PutFault}
-use Rattle.ts_packet.specs.declared.sink.PutFault.TheVariants as put_faults
+use Rattle.ts_packet.specs.Reading.{Given}
+use Rattle.ts_packet.specs.Sinks.{Written, FailsToWrite}
 use Rattle.ts_packet.proofs.WritingLemmas.{bytes_of-append}
-use Rattle.ts_packet.proofs.PacketsLemmas.{read_none, read_more, read_all, read_to_end, read_before, packets_of-append}
+use Rattle.ts_packet.proofs.PacketsLemmas.{read_none, read_more, read_to_end}
 use Rattle.unit_stream.specs.Times.{first_time}
 use Rattle.unit_stream.specs.Faults.{unit_fault}
 use Rattle.unit_cut.specs.Cutting.{cut_between, begin_of}
-use Rattle.unit_cut.specs.Standing.{Cut, StandsFor, Begins, goes_by}
-use Rattle.unit_cut.specs.FirstFault.{first_fault, before_fault, or_then, as_read_fault, as_unit_fault, fault_at, first_of, fault_behind, sound_front}
-use Rattle.unit_cut.specs.Runs.{CutsAll, IsFront, IsFirst, Says, Stops, RunBlamed, IsSound, IsCutOf, cut_by, HasPassed, PassFails}
+use Rattle.unit_cut.specs.Standing.{Cut, StandsFor, Begins}
+use Rattle.unit_cut.specs.FirstFault.{first_fault, or_then, first_of, fault_behind}
+use Rattle.unit_cut.specs.Runs.{CutsAll, IsFront, IsSound, IsCutOf, cut_by, HasPassed}
 use Rattle.unit_cut.specs.declared.cutter.Cutter.{Cutter}
-use Rattle.unit_cut.specs.declared.run.CutFault.{CutFault}
-use Rattle.unit_cut.specs.declared.run.CutFault.TheVariants.{Read, Scrambled, HeaderSplit, TimeJump, Sink}
-use Rattle.unit_cut.proofs.FaultLemmas.{sound_all, fault_behind_sound, sound_more, behind_some}
+use Rattle.unit_cut.proofs.FaultLemmas.{sound_all, sound_more}
 use Rattle.unit_cut.proofs.GrowLemmas.{between_grows}
 use Rattle.unit_cut.proofs.CutterLemmas.{begins_before}
 

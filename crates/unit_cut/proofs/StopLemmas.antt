@@ -1,12 +1,11 @@
 -- A run that stops: what its fault says of the network, and what is out.
-use Rattle.std.specs.Prelude.{IfSome, All}
-use Rattle.std.proofs.Common.{◌≡◌, ◌≢◌, ℕ, ◌+◌, ◌-◌, ◌^◌, ◌<◌, ◌≤◌, List, [], ◌∷◌, ◌++◌, Bool, true, false, refl, sym, ap, ◌∙◌, subst, Option, None, Some, reverse, length, take, drop, arith, append_assoc, ◌⊎◌, inl, inr}
-use Rattle.ts_packet.specs.Packets.{packets_of, last_part, bytes_of, packet_fault}
+use Rattle.std.specs.Prelude.{All}
+use Rattle.std.proofs.Common.{◌≡◌, ◌≢◌, ℕ, ◌^◌, ◌<◌, ◌≤◌, List, [], ◌∷◌, ◌++◌, Bool, true, false, refl, sym, ap, ◌∙◌, subst, Option, None, Some, reverse, length, take, drop, arith, append_assoc, inl, inr}
+use Rattle.ts_packet.specs.Packets.{packets_of, last_part, packet_fault}
 use Rattle.ts_packet.specs.Reading.{Given, HasRead, Refuses, ReadBlamed}
-use Rattle.ts_packet.specs.Runs.{Seen, seen_after}
-use Rattle.ts_packet.specs.Sinks.{Written, FailsToWrite, Tally, Later, Blamed}
+use Rattle.ts_packet.specs.Runs.{seen_after}
+use Rattle.ts_packet.specs.Sinks.{Written, FailsToWrite, Tally}
 use Rattle.ts_packet.specs.Transfers.{Rose}
-use Rattle.ts_packet.specs.declared.packet.PacketFault.TheVariants as packet_faults
 use Rattle.ts_packet.specs.declared.reader.ReadFault.{ReadFault}
 use Rattle.ts_packet.specs.declared.reader.ReadFault.TheVariants as read_faults
 use Rattle.ts_packet.specs.declared.sink.PutFault.{PutFault}
@@ -14,15 +13,14 @@ use Rattle.ts_packet.specs.declared.sink.PutFault.TheVariants as put_faults
 use Rattle.ts_packet.proofs.PacketsLemmas.{read_more, read_all, read_before, packets_of-append}
 use Rattle.unit_stream.specs.Faults.{unit_fault}
 use Rattle.unit_cut.specs.Cutting.{cut_between}
-use Rattle.unit_cut.specs.Standing.{Cut}
-use Rattle.unit_cut.specs.FirstFault.{first_fault, before_fault, or_then, as_read_fault, as_unit_fault, fault_at, first_of, fault_behind, sound_front}
+use Rattle.unit_cut.specs.FirstFault.{or_then, as_read_fault, as_unit_fault, fault_at, first_of, fault_behind, sound_front}
 use Rattle.unit_cut.specs.Runs.{IsFirst, IsFront, Says, Stops, RunBlamed, IsSound, cut_by, HasPassed, PassFails}
 use Rattle.unit_cut.specs.declared.cutter.Cutter.{Cutter}
 use Rattle.unit_cut.specs.declared.run.CutFault.{CutFault}
 use Rattle.unit_cut.specs.declared.run.CutFault.TheVariants.{Read, Scrambled, HeaderSplit, TimeJump, Sink}
 use Rattle.unit_cut.proofs.FaultLemmas.{sound_all, fault_behind_sound, behind_some}
 use Rattle.unit_cut.proofs.GrowLemmas.{same_front}
-use Rattle.unit_cut.proofs.RunLemmas.{the_cut, is_the_cut, cut_of_fewer, front_of, front_of_part}
+use Rattle.unit_cut.proofs.RunLemmas.{the_cut, is_the_cut, front_of, front_of_part}
 use Rattle.unit_stream.specs.Times.{first_time}
 
 -- ---- the fault of a packet is the first

@@ -1,5 +1,5 @@
 -- The first stamp starts the clock at itself and then passes it.
-use Rattle.std.proofs.Common.{◌≡◌, Option, None, Some, ap, sym, ℕ, ◌+◌, ◌-◌, ◌%◌, ◌^◌, ◌<◌, refl, arith, Bool, true, false}
+use Rattle.std.proofs.Common.{◌≡◌, Option, None, Some, ap, ℕ, ◌+◌, ◌-◌, ◌%◌, ◌^◌, ◌<◌, refl, arith, false}
 use Rattle.std.specs.Prelude.{ℤ, pos}
 use Rattle.std.specs.Int.{int_max}
 use Rattle.std.proofs.lemmas.Int.{ints}

@@ -1,5 +1,5 @@
 -- What is left of a run when units of one PID go. `goes` is any test on a unit's time: an interval, or more of them.
-use Rattle.std.specs.Prelude.{◌≡◌, ℕ, ℤ, pos, ◌+ℤ◌, ◌+◌, ◌*◌, ◌++◌, ◌∷◌, List, [], Bool, true, false, not, ◌&&◌, if◌then◌else◌, Option, None, Some, filter, map, reverse}
+use Rattle.std.specs.Prelude.{ℕ, ℤ, pos, ◌+ℤ◌, ◌+◌, ◌*◌, ◌++◌, ◌∷◌, List, [], Bool, false, not, ◌&&◌, if◌then◌else◌, Option, None, Some, filter, map, reverse}
 use lib.Signed.{le_z, lt_z}
 use Rattle.pes_time.specs.Line.{lift}
 use Rattle.ts_packet.specs.Fields.{on, payload_on, renumbered}

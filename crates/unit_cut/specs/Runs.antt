@@ -1,11 +1,10 @@
 -- What a run of `cut` writes, where its devices tell their bytes, and what its faults say.
-use Rattle.std.specs.Prelude.{◌≡◌, ℕ, ◌+◌, ◌^◌, ◌-◌, ◌≤◌, ◌⊎◌, List, [], ◌∷◌, ◌++◌, Bool, false, Option, None, Some, IfSome, All, length, take, reverse}
+use Rattle.std.specs.Prelude.{◌≡◌, ℕ, ◌^◌, ◌-◌, ◌⊎◌, List, [], ◌∷◌, ◌++◌, Bool, false, Option, None, Some, IfSome, All, length, take, reverse}
 use Rattle.ts_packet.specs.Packets.{packets_of, bytes_of}
 use Rattle.ts_packet.specs.Reading.{HasRead}
-use Rattle.ts_packet.specs.Sinks.{Tally, Later, Blamed, Written}
+use Rattle.ts_packet.specs.Sinks.{Tally, Blamed, Written}
 use Rattle.ts_packet.specs.Transfers.{Rose}
 use Rattle.ts_packet.specs.Runs.{Seen, seen_after}
-use Rattle.ts_packet.specs.declared.reader.ReadFault.{ReadFault}
 use Rattle.ts_packet.specs.declared.reader.ReadFault.TheVariants as read_faults
 use Rattle.ts_packet.specs.declared.sink.PutFault.{PutFault}
 use Rattle.ts_packet.specs.declared.sink.PutFault.TheVariants as put_faults

@@ -1,10 +1,10 @@
 -- What a cutter stands for after the packets that it has seen.
-use Rattle.std.specs.Prelude.{◌≡◌, ℕ, ◌+◌, ◌*◌, ◌%◌, ◌^◌, ◌<◌, ◌≤◌, ◌⊎◌, List, [], ◌∷◌, Bool, true, false, if◌then◌else◌, Option, Some, None, Result, Ok, Err, ℤ, pos, ◌+ℤ◌, ◌-ℤ◌, ◌≤ℤ◌, IfSome}
+use Rattle.std.specs.Prelude.{◌≡◌, ℕ, ◌^◌, ◌⊎◌, List, [], ◌∷◌, Bool, true, false, if◌then◌else◌, Option, Some, None, Result, Ok, Err, ℤ, pos, ◌+ℤ◌, ◌-ℤ◌, ◌≤ℤ◌, IfSome}
 use Rattle.pes_time.specs.Line.{ring_of, lift}
 use Rattle.ts_packet.specs.Fields.{on}
 use Rattle.ts_packet.specs.Duplicates.{original}
 use Rattle.ts_packet.specs.Numbering.{Event, Kept, Dropped, Counts}
-use Rattle.unit_stream.specs.Times.{begins, high, unit_time, first_time, stamp}
+use Rattle.unit_stream.specs.Times.{high, unit_time, first_time}
 use Rattle.unit_stream.specs.Faults.{unit_fault}
 use Rattle.unit_stream.specs.Pieces.{Reads}
 use Rattle.unit_stream.specs.declared.fault.UnitFault.{UnitFault}

@@ -1,15 +1,13 @@
 -- The pieces of a reader join to units.
-use Rattle.std.specs.Prelude.{ℤ}
-use Rattle.std.proofs.Common.{◌≡◌, ℕ, List, [], ◌∷◌, ◌++◌, reverse, map, Bool, true, false, not, ◌&&◌, ◌||◌, refl, sym, ap, ◌∙◌, if◌then◌else◌, Option, None, Some}
-use Rattle.std.proofs.lemmas.List.{map-append, reverse-reverse}
-use Rattle.ts_packet.specs.Fields.{in_error, payload_on, bytes, unit_start}
+use Rattle.std.proofs.Common.{◌≡◌, ℕ, List, [], ◌∷◌, ◌++◌, reverse, Bool, true, false, not, ◌&&◌, ◌||◌, refl, sym, ap, ◌∙◌, if◌then◌else◌}
+use Rattle.std.proofs.lemmas.List.{map-append}
+use Rattle.ts_packet.specs.Fields.{payload_on, bytes, unit_start}
 use Rattle.ts_packet.specs.Duplicates.{original, repeats}
 use Rattle.ts_packet.proofs.Cases.{by_test}
 use Rattle.ts_packet.proofs.RunLemmas.{map-reverse}
 use Rattle.unit_stream.specs.Times.{begins, in_unit, unit_time}
 use Rattle.unit_stream.specs.Units.{TimedUnit, units, units_back, units_with, with_last_longer, longer, payloads}
-use Rattle.unit_stream.specs.Pieces.{Brings, first_longer, with_piece, PiecesJoin}
-use Rattle.unit_stream.specs.declared.reader.Piece.{Piece}
+use Rattle.unit_stream.specs.Pieces.{first_longer, PiecesJoin}
 use Rattle.unit_stream.specs.declared.reader.Piece.TheVariants.{Start, More, Duplicate, NoPayload, Lead, Error}
 use Rattle.unit_stream.proofs.UnitLemmas.{units_grow, units_in_order}
 use Rattle.unit_stream.proofs.ReadingLemmas.{error_off}

@@ -1,10 +1,8 @@
 -- What a reader of units knows of a packet.
-use Rattle.std.proofs.Common.{◌≡◌, ℕ, List, [], ◌∷◌, Bool, true, false, not, ◌&&◌, ◌||◌, refl, sym, ap, ◌∙◌, Option, None, Some, is_some, arith, if◌then◌else◌}
-use Rattle.ts_packet.specs.Fields.{in_error, on, payload_on, payload, bytes, or_none, unit_start}
-use Rattle.ts_packet.specs.Duplicates.{original, repeats, last_of}
-use Rattle.ts_packet.proofs.FieldLemmas.{payload_on-on}
+use Rattle.std.proofs.Common.{◌≡◌, ℕ, List, ◌∷◌, true, false, refl, sym, ap, None, Some}
+use Rattle.ts_packet.specs.Fields.{in_error, on, payload_on, payload, bytes, or_none}
+use Rattle.ts_packet.specs.Duplicates.{original, repeats}
 use Rattle.ts_packet.proofs.Cases.{by_test}
-use Rattle.unit_stream.specs.Times.{begins, in_unit}
 use Rattle.unit_stream.specs.Pieces.{Reads}
 use Rattle.unit_stream.specs.declared.reader.UnitReader.{UnitReader}
 

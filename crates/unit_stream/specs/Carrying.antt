@@ -1,5 +1,5 @@
 -- Which units a list of payload packets carries, whichever packets a reader takes for doubles.
-use Rattle.std.specs.Prelude.{◌≡◌, ℕ, ◌++◌, ◌∷◌, ◌⊎◌, List, [], Bool, true, false, Option, None, Some}
+use Rattle.std.specs.Prelude.{◌≡◌, ℕ, ◌++◌, ◌∷◌, ◌⊎◌, List, [], true, false, Option, None, Some}
 use Rattle.ts_packet.specs.Fields.{unit_start, bytes, alike}
 
 -- the packet repeats counter, start bit and payload of the one before it, which is not itself read as a double

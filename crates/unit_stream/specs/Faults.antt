@@ -1,5 +1,5 @@
 -- What a packet of a switched PID may not be, after the head.
-use Rattle.std.specs.Prelude.{◌≡◌, ℕ, ℤ, pos, negsuc, ◌-ℤ◌, ◌∷◌, List, [], Bool, true, false, ◌&&◌, ◌||◌, if◌then◌else◌, Option, None, Some}
+use Rattle.std.specs.Prelude.{ℕ, ℤ, pos, negsuc, ◌-ℤ◌, ◌∷◌, List, [], Bool, false, ◌&&◌, ◌||◌, if◌then◌else◌, Option, None, Some}
 use lib.Signed.{lt_z}
 use Rattle.pes_time.specs.Line.{place}
 use Rattle.ts_packet.specs.Fields.{payload_on, scrambled}

@@ -1,5 +1,5 @@
 -- What a packet brings to the units of its PID.
-use Rattle.std.specs.Prelude.{◌≡◌, ℕ, ◌++◌, ◌∷◌, List, [], Bool, true, false, reverse, is_some}
+use Rattle.std.specs.Prelude.{◌≡◌, ℕ, ◌++◌, ◌∷◌, List, [], true, false, reverse, is_some}
 use Rattle.ts_packet.specs.Fields.{in_error, payload, payload_on, bytes, unit_start}
 use Rattle.ts_packet.specs.Duplicates.{original, repeats}
 use Rattle.ts_packet.specs.Following.{Follows}

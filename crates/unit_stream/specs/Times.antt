@@ -1,7 +1,7 @@
 -- Units begin, and have times (ISO/IEC 13818-1, 2.4.3.6 and 2.4.3.7: a unit is one PES packet, its time is its PTS). All is said by the
 -- packets that came before, newest first; `switched` is the list of the PIDs whose units count. The past begins after the head.
 -- Times are integers: a line on which the 33-bit clock wraps any number of times.
-use Rattle.std.specs.Prelude.{◌≡◌, ℕ, ℤ, ◌∷◌, List, [], Bool, true, false, not, ◌&&◌, ◌||◌, if◌then◌else◌, Option, None, Some}
+use Rattle.std.specs.Prelude.{ℕ, ℤ, ◌∷◌, List, [], Bool, false, ◌&&◌, ◌||◌, if◌then◌else◌, Option, None, Some}
 use Rattle.pes_time.specs.Line.{place, raise}
 use Rattle.pes_time.specs.Stamps.{stamp_of, is_split}
 use Rattle.ts_packet.specs.Fields.{unit_start, bytes}

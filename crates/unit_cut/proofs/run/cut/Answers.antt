@@ -1,6 +1,6 @@
-use Rattle.std.proofs.Common.{rules, ◌≡◌, ◌≢◌, ℕ, List, [], ◌∷◌, ◌++◌, Bool, true, false, sym, ap, ◌∙◌, refl, reverse, arith, Option}
-use Rattle.ts_packet.specs.Sinks.{Written, FailsToWrite, Later, Later-refl, Later-trans}
-use Rattle.unit_cut.specs.Runs.{HasPassed, Stops, CutsAll, cut_by}
+use Rattle.std.proofs.Common.{rules, [], ◌∷◌, ◌++◌, ◌∙◌, refl, arith}
+use Rattle.ts_packet.specs.Sinks.{Later-refl, Later-trans}
+use Rattle.unit_cut.specs.Runs.{Stops, CutsAll}
 use Rattle.unit_cut.proofs.RunLemmas.{passed_none, passed_more, ends, the_cut, is_the_cut, cut_of_fewer}
 use Rattle.unit_cut.proofs.StopLemmas.{read_stops, read_blamed, pass_stops}
 use Rattle.unit_cut.specs.declared.run.CutFault.TheVariants.{Read}

@@ -1,7 +1,6 @@
-use Rattle.std.proofs.Common.{rules, ◌≡◌, ℕ, List, [], ◌∷◌, ◌++◌, sym, ap, ◌∙◌, refl, subst, reverse, None, Ok, true, false}
-use Rattle.unit_stream.specs.Faults.{unit_fault}
-use Rattle.unit_cut.specs.Cutting.{is_cut, kept_as}
-use Rattle.unit_cut.specs.Standing.{Answers, goes_by}
+use Rattle.std.proofs.Common.{[], ◌∷◌, reverse}
+use Rattle.unit_cut.specs.Cutting.{kept_as}
+use Rattle.unit_cut.specs.Standing.{goes_by}
 use Rattle.unit_cut.specs.Runs.{cut_by}
 use Rattle.unit_cut.proofs.PassLemmas.{cut_kept, cut_dropped}
 use Rattle.unit_cut.proofs.run.pass.Goals as goal

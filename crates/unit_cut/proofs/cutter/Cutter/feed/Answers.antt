@@ -1,14 +1,12 @@
-use Rattle.std.proofs.Common.{rules, ◌≡◌, ℕ, List, [], ◌∷◌, Bool, true, false, not, sym, ap, ◌∙◌, refl, subst, is_some, Some, None, Ok, Err, if◌then◌else◌, ◌&&◌}
-use Rattle.ts_packet.specs.Fields.{in_error, on, payload, payload_on, scrambled, unit_start}
-use Rattle.ts_packet.specs.Duplicates.{original, repeats}
-use Rattle.ts_packet.specs.Numbering.{Counts, Event, Kept}
-use Rattle.pes_time.specs.Stamps.{stamp_of, is_split}
-use Rattle.unit_stream.specs.Times.{begins, high, unit_time, stamp, splits, raised, timed}
-use Rattle.unit_stream.specs.Faults.{unit_fault, scrambled_one, start_fault}
-use Rattle.unit_stream.proofs.ReadingLemmas.{passes, is_repeat}
-use Rattle.unit_cut.specs.Cutting.{is_cut, kept_as}
-use Rattle.unit_cut.specs.Standing.{StandsFor, Begins, BeginsWith, Answers, Cut, TimingFor, goes_by, events}
-use Rattle.unit_cut.proofs.CutterLemmas.{off, error_off, has_payload, stamp_is, splits_is, kept_is, scrambled_is, scrambled_off, begins_off, begins_not, begins_repeat, fault_scrambled, fault_none, fault_start, timing_same, timing_start, cut_is, cut_off, begins_with, events_settled, events_repeated, settled, original_is}
+use Rattle.std.proofs.Common.{◌≡◌, [], ◌∷◌, true, false, not, sym, ap, ◌∙◌, refl, subst, None}
+use Rattle.ts_packet.specs.Fields.{on}
+use Rattle.ts_packet.specs.Numbering.{Counts}
+use Rattle.pes_time.specs.Stamps.{stamp_of}
+use Rattle.unit_stream.specs.Times.{high, unit_time, stamp, splits, raised, timed}
+use Rattle.unit_stream.specs.Faults.{scrambled_one, start_fault}
+use Rattle.unit_stream.proofs.ReadingLemmas.{passes}
+use Rattle.unit_cut.specs.Standing.{BeginsWith, TimingFor, goes_by, events}
+use Rattle.unit_cut.proofs.CutterLemmas.{off, error_off, stamp_is, splits_is, kept_is, scrambled_is, scrambled_off, begins_off, begins_not, begins_repeat, fault_scrambled, fault_none, fault_start, timing_same, timing_start, cut_is, cut_off, begins_with, events_settled, events_repeated, settled, original_is}
 use Rattle.unit_cut.proofs.cutter.Cutter.feed.Goals as goal
 
 -- ---- of another PID, or marked

@@ -1,4 +1,4 @@
-use Rattle.std.proofs.Common.{refl, sym}
+use Rattle.std.proofs.Common.{sym}
 use Rattle.unit_cut.proofs.cutter.Cutter.new.Goals as goal
 
 pub returns : goal.returns

@@ -1,11 +1,11 @@
-use Rattle.std.proofs.Common.{◌≡◌, refl, sym, ap, ◌∙◌, true, false, Bool, Some, None, Option, Result, Ok, Err, OnOk, IfErr, ℕ, if◌then◌else◌}
+use Rattle.std.proofs.Common.{◌≡◌, ap, ◌∙◌, true, false, Bool, Some, None, Option, Result, Ok, Err, OnOk, IfErr, ℕ, if◌then◌else◌}
 use Rattle.std.specs.Prelude.{ℤ}
 use Rattle.pes_time.specs.Line.{place, raise}
-use Rattle.pes_time.specs.Stamps.{stamp_of, is_split}
+use Rattle.pes_time.specs.Stamps.{stamp_of}
 use Rattle.unit_stream.specs.Times.{raised, timed}
 use Rattle.unit_stream.specs.Faults.{start_fault, jumps}
 use Rattle.unit_stream.specs.declared.fault.UnitFault.{UnitFault}
-use Rattle.unit_stream.specs.declared.fault.UnitFault.TheVariants.{HeaderSplit, TimeJump}
+use Rattle.unit_stream.specs.declared.fault.UnitFault.TheVariants.{TimeJump}
 use Rattle.unit_cut.specs.Standing.{TimingFor, Cut}
 use Rattle.unit_cut.specs.declared.timing.Timing.{Timing}
 use Rattle.unit_cut.proofs.timing.Timing.begin.Goals as goal

@@ -1,5 +1,4 @@
-use Rattle.std.proofs.Common.{◌≡◌, refl, sym, ◌∙◌, true, Some}
-use Rattle.unit_stream.specs.Faults.{jumps}
+use Rattle.std.proofs.Common.{refl, sym, ◌∙◌}
 use Rattle.unit_cut.specs.Standing.{high_or}
 use Rattle.unit_cut.proofs.TimingLemmas.{jumps_is}
 use Rattle.unit_cut.proofs.timing.Timing.pass.Goals as goal

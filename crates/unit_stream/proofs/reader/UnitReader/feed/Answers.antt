@@ -1,7 +1,6 @@
-use Rattle.std.proofs.Common.{rules, ◌≡◌, ℕ, List, [], ◌∷◌, sym, ap, ◌∙◌, refl, ◌&&◌, true, false, Some, None, not, Bool}
-use Rattle.ts_packet.specs.Fields.{in_error, on, payload_on, payload, bytes, unit_start}
+use Rattle.std.proofs.Common.{◌≡◌, sym, ap, ◌∙◌, refl, true, false}
+use Rattle.ts_packet.specs.Fields.{in_error, on, unit_start}
 use Rattle.ts_packet.specs.Duplicates.{original}
-use Rattle.unit_stream.specs.Pieces.{Reads, Brings}
 use Rattle.unit_stream.proofs.ReadingLemmas.{error_off, off, without_payload, with_payload, bytes_are, passes, is_repeat}
 use Rattle.unit_stream.proofs.reader.UnitReader.feed.Goals as goal
 
