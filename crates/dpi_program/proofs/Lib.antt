@@ -1,5 +1,1 @@
-pub mod DigitLemmas
-pub mod HeldLemmas
-pub mod KnownLemmas
-pub mod LineLemmas
 pub mod NumberLemmas

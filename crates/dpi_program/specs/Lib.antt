@@ -1,5 +1,3 @@
 pub mod Command
-pub mod Digits
-pub mod Lines
 pub mod Names
 pub mod Numbers

@@ -6,7 +6,7 @@ use Rattle.ts_packet.specs.declared.sink.PutFault.{PutFault}
 use Rattle.ts_packet.specs.declared.sink.PutFault.TheVariants as put
 use Rattle.unit_cut.specs.declared.run.CutFault.{CutFault}
 use Rattle.unit_cut.specs.declared.run.CutFault.TheVariants.{Read, Scrambled, HeaderSplit, TimeJump, Sink}
-use Rattle.dpi_program.specs.declared.lines.LinesFault.TheVariants.{BadLine, Cut}
+use Rattle.packet_lines.specs.declared.lines.LinesFault.TheVariants.{BadLine, Cut}
 use Rattle.dpi_program.specs.declared.program.ProgramFault.{ProgramFault}
 use Rattle.dpi_program.specs.declared.program.ProgramFault.TheVariants.{Lines, File, OutOfMemory}
 

@@ -4,11 +4,9 @@ ghost use Rattle.std.specs.Prelude.{◌≡◌, ◌≤◌, IfErr, OnOk, IfOk, Err
 ghost use Rattle.dpi_program.specs.Names.{read_name, put_name, cut_name, fault_name};
 
 use crate::command::{CutOptions, command, cut_options};
-use crate::line_source::LineSource;
-use crate::line_target::LineTarget;
-use crate::lines::LinesFault;
 use clap::Error;
 use clap::error::ErrorKind;
+use packet_lines::{LineSource, LineTarget, LinesFault};
 use std::fs;
 use std::io::{BufReader, BufWriter, Read, Write};
 use std::rt::Files;

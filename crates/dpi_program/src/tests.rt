@@ -1,7 +1,7 @@
 //! Runs of the program and of the cut over lines. Expected lines are worked out by hand from the rules, not by the program.
 
-use super::lines::{LinesFault, cut_lines};
 use super::program::program;
+use super::{LinesFault, cut_lines};
 use pes_time::Time33;
 use std::alloc::{AllocError, Global};
 use std::io::{self, Cursor, ErrorKind, Read, Write};

@@ -106,6 +106,7 @@ impl<R: io::Read> Source for Device<R> {
 
     ghost failures = { λ d. d.failures };
 
+    #[inline(always)]
     fn read(&mut self, buf: &mut [u8]) -> Result<usize, DeviceFault> {
         self.calls = self.calls.saturating_add(1);
         match self.inner.read(buf) {
@@ -126,6 +127,7 @@ impl<W: io::Write> Target for Device<W> {
 
     ghost counts = { λ d. record { calls = d.calls; failed = d.failures; zeros = d.zeros } };
 
+    #[inline(always)]
     fn write(&mut self, buf: &[u8]) -> Result<usize, DeviceFault> {
         self.calls = self.calls.saturating_add(1);
         match self.inner.write(buf) {

@@ -1,0 +1,4 @@
+pub mod TimeLemmas
+pub mod ListLemmas
+pub mod EventLemmas
+pub mod TableLemmas

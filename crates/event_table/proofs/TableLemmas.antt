@@ -1,0 +1,321 @@
+-- A table and the list that it stands for: each test of the one is that of the other, and each change keeps the relation.
+use Rattle.std.proofs.Common.{◌≡◌, ℕ, ◌+◌, ◌%◌, ◌^◌, ◌<◌, ◌==◌, Bool, true, false, ◌&&◌, List, [], ◌∷◌, ◌++◌, length, refl, ap, sym, ◌∙◌, subst, arith}
+use Rattle.std.specs.Prelude.{ℤ, ◌-ℤ◌, int_lt, unsigned_abs, map, find, filter, All, slice_set, slice_index_or, Option, None, Some, option_map, Ok, Err}
+use Rattle.std.specs.List.{list_any, position}
+use Rattle.std.specs.Ordering.{int_eq}
+use Rattle.std.proofs.lemmas.Int.{ints}
+use Rattle.std.proofs.lemmas.Bool.{or_parts}
+use Rattle.std.proofs.lemmas.List.Elements.{All-append, All-cons, All-nil, All-filter, filter_passes}
+use Rattle.std.proofs.lemmas.List.{length-map, map-append}
+use Rattle.std.proofs.lemmas.List.Kept.{AllPairs-filter}
+use Rattle.std.proofs.lemmas.List.Quantifiers.{all_pairs_push}
+use Rattle.pes_time.specs.Line.{signed, ring_of, lift, place as place_of}
+use Rattle.pes_time.proofs.LineLemmas.{signed-near, ring-lift}
+use Rattle.event_table.specs.declared.event.Event.{Event}
+use Rattle.event_table.specs.declared.table.Table.{Table}
+use Rattle.event_table.specs.declared.table.Armed.TheVariants.{New, Same}
+use Rattle.event_table.specs.declared.table.ArmRefusal.TheVariants.{InUse, Full, Overlap}
+use Rattle.event_table.specs.declared.table.CancelRefusal.TheVariants.{NoSuchEvent, TooLate}
+use Rattle.event_table.specs.declared.table.ShortenRefusal.TheVariants.{NoSuchEvent as NothingToShorten, BadEnd}
+use Rattle.event_table.specs.Rings.{is_before_on_ring, has_reached_on_ring, CanEnd, CanAdvance, IsAhead}
+use Rattle.event_table.specs.Events.{ring_end, covers_on_ring, meets_on_ring, repeats_on_ring, ends_early_on_ring, cancelled_event, ended_on_ring, CanArm}
+use Rattle.event_table.specs.Standing.{Standing, on_ring, on_line, end_of, forgotten_at, has_id, covers, meets, repeats, is_full, arm_answer, has_begun, cancel_answer, is_early_end, is_past_high, shorten_answer, with_first, cancelled_one, ending_at, with_cancelled, with_end, still_standing, IsTimeAt, IsApart, IsInReach, IsWithin}
+use Rattle.event_table.specs.Tables.{StandsFor}
+use Rattle.event_table.proofs.TimeLemmas.{InWindow, near-window, before-window, ring-plus, same-place}
+use Rattle.event_table.proofs.EventLemmas.{covers-near, repeats-near, meets-near, meets-comm, armable-reach, on_ring-on_line, high-window, not-lt, later-than, early-by, meets-less, early-parts, ending-end, ending-reach, next-window, next-reach, start-window, end-window, forgotten-window, ring_end-on_ring}
+use Rattle.event_table.proofs.ListLemmas.{list_any-map, filter-map, find-map, with_first-map, with_first-found, All-find, All-with_first, AllPairs-with_first, found-at, not_found}
+
+any-none : {X : Type 0} (p : X → Bool) (xs : List X) → list_any p xs ≡ false → All (λ x. p x ≡ false) xs
+any-none p [] none = All-nil (λ x. p x ≡ false)
+any-none p (x ∷ xs) none = All-cons (λ y. p y ≡ false) x xs (or_parts (p x) (list_any p xs) none).0 (any-none p xs (or_parts (p x) (list_any p xs) none).1)
+
+repeats-within : (line : Option ℤ) (e : Event) → e.start < 2 ^ 33 → (s : Standing) → IsWithin line s → repeats_on_ring e (on_ring s) ≡ repeats (on_line line e) s
+repeats-within None e fits s nothing = absurd nothing
+repeats-within (Some high) e fits s reach = repeats-near high e fits s reach
+
+covers-within : (line : Option ℤ) (p : ℕ) → p < 2 ^ 33 → (s : Standing) → IsWithin line s → covers_on_ring (on_ring s) p ≡ covers (place_of line p) s
+covers-within None p fits s nothing = absurd nothing
+covers-within (Some high) p fits s reach = covers-near high p fits s reach
+
+pub any-repeats : (t : Table) (line : Option ℤ) (standing : List Standing) (e : Event) → e.start < 2 ^ 33 → StandsFor t line standing
+    → list_any (λ other. repeats_on_ring e other) t.events.items ≡ list_any (repeats (on_line line e)) standing
+any-repeats t line standing e fits stands = rw stands.events (list_any-map on_ring (IsWithin line) _ _ (repeats-within line e fits) standing stands.within)
+
+pub find-covers : (t : Table) (line : Option ℤ) (standing : List Standing) (p : ℕ) → p < 2 ^ 33 → StandsFor t line standing
+    → find (λ e. covers_on_ring e p) t.events.items ≡ option_map on_ring (find (covers (place_of line p)) standing)
+find-covers t line standing p fits stands = rw stands.events (find-map on_ring (IsWithin line) _ _ (covers-within line p fits) standing stands.within)
+
+pub any-has_id : (t : Table) (line : Option ℤ) (standing : List Standing) (id : ℕ) → StandsFor t line standing
+    → list_any (λ e. e.id == id) t.events.items ≡ list_any (has_id id) standing
+any-has_id t line standing id stands = rw stands.events (list_any-map on_ring (IsWithin line) (λ e. e.id == id) (has_id id) (λ s _. refl) standing stands.within)
+
+meets-within : (high : ℤ) (e : Event) → e.start < 2 ^ 33 → CanArm (Some (ring_of high)) e → (s : Standing) → IsInReach high s
+    → meets_on_ring e (on_ring s) ≡ meets (on_line (Some high) e) s
+meets-within high e fits can s reach =
+    ap (λ a. meets_on_ring a (on_ring s)) (sym (on_ring-on_line high e fits)) ∙ meets-near high (on_line (Some high) e) s (armable-reach high e fits can) reach
+
+pub any-meets : (t : Table) (line : Option ℤ) (standing : List Standing) (e : Event) → e.start < 2 ^ 33 → CanArm t.last e → StandsFor t line standing
+    → list_any (meets_on_ring e) t.events.items ≡ list_any (meets (on_line line e)) standing
+any-meets t None standing e fits can stands = absurd (subst (λ h. CanArm h e) stands.high can)
+any-meets t (Some high) standing e fits can stands =
+    rw stands.events (list_any-map on_ring (IsInReach high) _ _ (meets-within high e fits (subst (λ h. CanArm h e) stands.high can)) standing stands.within)
+
+pub arm-in_use : (standing : List Standing) (n : Standing) → list_any (repeats n) standing ≡ false → list_any (has_id n.id) standing ≡ true → Err InUse ≡ arm_answer standing n
+arm-in_use standing n r i = rw (r, i) refl
+
+pub arm-full : (standing : List Standing) (n : Standing) → list_any (repeats n) standing ≡ false → list_any (has_id n.id) standing ≡ false → is_full standing ≡ true
+    → Err Full ≡ arm_answer standing n
+arm-full standing n r i f = rw (r, i, f) refl
+
+pub arm-overlap : (standing : List Standing) (n : Standing) → list_any (repeats n) standing ≡ false → list_any (has_id n.id) standing ≡ false → is_full standing ≡ false
+    → list_any (meets n) standing ≡ true → Err Overlap ≡ arm_answer standing n
+arm-overlap standing n r i f m = rw (r, i, f, m) refl
+
+pub arm-new : (standing : List Standing) (n : Standing) → list_any (repeats n) standing ≡ false → list_any (has_id n.id) standing ≡ false → is_full standing ≡ false
+    → list_any (meets n) standing ≡ false → Ok New ≡ arm_answer standing n
+arm-new standing n r i f m = rw (r, i, f, m) refl
+
+pub is_full-items : (t : Table) (line : Option ℤ) (standing : List Standing) → StandsFor t line standing → (length t.events.items == 32) ≡ is_full standing
+is_full-items t line standing stands = rw stands.events (ap (λ n. n == 32) (length-map standing on_ring))
+
+-- with no high time nothing may be armed
+pub arm-line : {X : Type 0} (t : Table) (standing : List Standing) (e : Event) → CanArm t.last e → StandsFor t None standing → X
+arm-line t standing e can stands = absurd (subst (λ h. CanArm h e) stands.high can)
+
+-- the list with the event added behind all others
+pub arm-stands : (t t' : Table) (line : Option ℤ) (standing : List Standing) (e : Event) → e.start < 2 ^ 33 → CanArm t.last e → StandsFor t line standing
+    → list_any (has_id e.id) standing ≡ false → list_any (meets (on_line line e)) standing ≡ false
+    → t'.last ≡ t.last → t'.events.items ≡ t.events.items ++ e ∷ [] → StandsFor t' line (standing ++ on_line line e ∷ [])
+arm-stands t t' None standing e fits can stands new_id apart high items = arm-line t standing e can stands
+arm-stands t t' (Some h) standing e fits can stands new_id apart high items =
+    let n : Standing = on_line (Some h) e in
+    let reach : IsInReach h n = armable-reach h e fits (subst (λ p. CanArm p e) stands.high can) in
+    let ids = any-none (has_id e.id) standing new_id in
+    let times = any-none (meets n) standing apart in
+    record {
+      high = high ∙ stands.high;
+      events = items ∙ ap (λ xs. xs ++ e ∷ []) stands.events ∙ ap (λ x. map on_ring standing ++ x ∷ []) (sym (on_ring-on_line h e fits)) ∙ sym (map-append on_ring standing (n ∷ []));
+      within = All-append (IsInReach h) standing (n ∷ []) stands.within (All-cons (IsInReach h) n [] reach (All-nil (IsInReach h)));
+      apart = all_pairs_push IsApart standing n stands.apart (λ k d below. record { ids = ids k d below; times = meets-comm (slice_index_or standing k d) n ∙ times k d below });
+    }
+
+-- the event of the line that a look-up by id found, and what stands at its place on the ring
+pub record Found (line : Option ℤ) (standing : List Standing) (id : ℕ) (e : Event) : Type 0 where
+  pub event : Standing
+  pub is : find (has_id id) standing ≡ Some event
+  pub ring : on_ring event ≡ e
+  pub within : IsWithin line event
+
+find-id : (t : Table) (line : Option ℤ) (standing : List Standing) (id : ℕ) → StandsFor t line standing
+    → find (λ e. e.id == id) t.events.items ≡ option_map on_ring (find (has_id id) standing)
+find-id t line standing id stands = rw stands.events (find-map on_ring (IsWithin line) (λ e. e.id == id) (has_id id) (λ s _. refl) standing stands.within)
+
+pub found : (t : Table) (line : Option ℤ) (standing : List Standing) (id place : ℕ) (e : Event) → StandsFor t line standing
+    → position (λ e. e.id == id) t.events.items ≡ Some place → e ≡ slice_index_or t.events.items place e → Found line standing id e
+found t line standing id place e stands is at =
+    from (find (has_id id) standing) refl (sym (find-id t line standing id stands) ∙ (found-at (λ e. e.id == id) e e t.events.items place is at).0)
+  where
+    from : (o : Option Standing) → find (has_id id) standing ≡ o → option_map on_ring o ≡ Some e → Found line standing id e
+    from None here is = absurd (let nothing : None ≡ Some e = is in cc)
+    from (Some s) here is = record { event = s; is = here; ring = cc; within = All-find (has_id id) (IsWithin line) s standing here stands.within }
+
+pub nothing-found : (t : Table) (line : Option ℤ) (standing : List Standing) (id : ℕ) → StandsFor t line standing
+    → position (λ e. e.id == id) t.events.items ≡ None → find (has_id id) standing ≡ None
+nothing-found t line standing id stands is =
+    from (find (has_id id) standing) refl (sym (find-id t line standing id stands) ∙ not_found (λ e. e.id == id) t.events.items is)
+  where
+    from : (o : Option Standing) → find (has_id id) standing ≡ o → option_map on_ring o ≡ None → find (has_id id) standing ≡ None
+    from None here is = here
+    from (Some s) here is = absurd (let nothing : Some (on_ring s) ≡ None = is in cc)
+
+-- the event found, changed on the ring and on the line
+pub changed-stands : (t t' : Table) (line : Option ℤ) (standing : List Standing) (id place : ℕ) (e e' : Event) (change : Standing → Standing) (f : Found line standing id e)
+    → StandsFor t line standing → position (λ e. e.id == id) t.events.items ≡ Some place → e ≡ slice_index_or t.events.items place e
+    → on_ring (change f.event) ≡ e' → IsWithin line (change f.event)
+    → ((x : Standing) → IsApart f.event x → IsApart (change f.event) x) → ((x : Standing) → IsApart x f.event → IsApart x (change f.event))
+    → t'.last ≡ t.last → t'.events.items ≡ slice_set t.events.items place e' → StandsFor t' line (with_first (has_id id) change standing)
+changed-stands t t' line standing id place e e' change f stands is at ring within after before high items =
+    let one : with_first (has_id id) change standing ≡ with_first (has_id id) (λ _. change f.event) standing = with_first-found (has_id id) change f.event standing f.is in
+    rw one (record {
+      high = high ∙ stands.high;
+      events = items ∙ (found-at (λ e. e.id == id) e' e t.events.items place is at).1
+          ∙ ap (λ xs. with_first (λ e. e.id == id) (λ _. e') xs) stands.events
+          ∙ ap (λ y. with_first (λ e. e.id == id) (λ _. y) (map on_ring standing)) (sym ring)
+          ∙ with_first-map on_ring (IsWithin line) (λ e. e.id == id) (has_id id) (λ s _. refl) (change f.event) standing stands.within;
+      within = All-with_first (has_id id) (IsWithin line) (change f.event) within standing stands.within;
+      apart = AllPairs-with_first (has_id id) IsApart f.event (change f.event) after before standing f.is stands.apart;
+    })
+
+has_begun-within : (line : Option ℤ) (s : Standing) → IsWithin line s → has_reached_on_ring (option_map ring_of line) (ring_of s.start) ≡ has_begun line s
+has_begun-within None s nothing = absurd nothing
+has_begun-within (Some h) s reach =
+    rw (before-window h h s.start (high-window h) (start-window h s reach)) (not-lt h s.start)
+
+pub reached : (t : Table) (line : Option ℤ) (standing : List Standing) (id : ℕ) (e : Event) (f : Found line standing id e) → StandsFor t line standing
+    → has_reached_on_ring t.last e.start ≡ has_begun line f.event
+reached t line standing id e f stands =
+    let start : e.start ≡ ring_of f.event.start = sym (ap (λ x. x.start) f.ring) in
+    rw (stands.high, start) (has_begun-within line f.event f.within)
+
+pub cancel-nothing : (line : Option ℤ) (standing : List Standing) (id : ℕ) → find (has_id id) standing ≡ None → Err NoSuchEvent ≡ cancel_answer line standing id
+cancel-nothing line standing id is = rw is refl
+
+pub cancel-late : (line : Option ℤ) (standing : List Standing) (id : ℕ) (s : Standing) → find (has_id id) standing ≡ Some s → has_begun line s ≡ true → Err TooLate ≡ cancel_answer line standing id
+cancel-late line standing id s is begun = rw (is, begun) refl
+
+pub cancel-done : (line : Option ℤ) (standing : List Standing) (id : ℕ) (s : Standing) → find (has_id id) standing ≡ Some s → has_begun line s ≡ false → Ok tt ≡ cancel_answer line standing id
+cancel-done line standing id s is begun = rw (is, begun) refl
+
+cancelled-within : (line : Option ℤ) (s : Standing) → IsWithin line s → IsWithin line (cancelled_one s)
+cancelled-within None s nothing = nothing
+cancelled-within (Some h) s reach = record { some = reach.some; shortened = reach.shortened; most = reach.most; start = reach.start; stands = reach.stands }
+
+pub cancelled-stands : (t t' : Table) (line : Option ℤ) (standing : List Standing) (id place : ℕ) (e : Event) → StandsFor t line standing
+    → position (λ e. e.id == id) t.events.items ≡ Some place → e ≡ slice_index_or t.events.items place e
+    → t'.last ≡ t.last → t'.events.items ≡ slice_set t.events.items place (cancelled_event e) → StandsFor t' line (with_cancelled id standing)
+cancelled-stands t t' line standing id place e stands is at high items =
+    let f = found t line standing id place e stands is at in
+    changed-stands t t' line standing id place e (cancelled_event e) cancelled_one f stands is at
+    (ap cancelled_event f.ring) (cancelled-within line f.event f.within)
+    (λ x apart. record { ids = apart.ids; times = apart.times }) (λ x apart. record { ids = apart.ids; times = apart.times }) high items
+
+pub shorten-nothing : (line : Option ℤ) (standing : List Standing) (id : ℕ) (time : ℤ) → find (has_id id) standing ≡ None → Err NothingToShorten ≡ shorten_answer line standing id time
+shorten-nothing line standing id time is = rw is refl
+
+pub shorten-cancelled : (line : Option ℤ) (standing : List Standing) (id : ℕ) (time : ℤ) (s : Standing) → find (has_id id) standing ≡ Some s → s.cancelled ≡ true
+    → Err BadEnd ≡ shorten_answer line standing id time
+shorten-cancelled line standing id time s is cancelled = rw (is, cancelled) refl
+
+pub shorten-same : (line : Option ℤ) (standing : List Standing) (id : ℕ) (time : ℤ) (s : Standing) → find (has_id id) standing ≡ Some s → s.cancelled ≡ false
+    → int_eq time (end_of s) ≡ true → Ok Same ≡ shorten_answer line standing id time
+shorten-same line standing id time s is cancelled same = rw (is, cancelled, same) refl
+
+pub shorten-bad : (line : Option ℤ) (standing : List Standing) (id : ℕ) (time : ℤ) (s : Standing) → find (has_id id) standing ≡ Some s → s.cancelled ≡ false
+    → int_eq time (end_of s) ≡ false → is_early_end line s time ≡ false → Err BadEnd ≡ shorten_answer line standing id time
+shorten-bad line standing id time s is cancelled same early = rw (is, cancelled, same, early) refl
+
+pub shorten-new : (line : Option ℤ) (standing : List Standing) (id : ℕ) (time : ℤ) (s : Standing) → find (has_id id) standing ≡ Some s → s.cancelled ≡ false
+    → int_eq time (end_of s) ≡ false → is_early_end line s time ≡ true → Ok New ≡ shorten_answer line standing id time
+shorten-new line standing id time s is cancelled same early = rw (is, cancelled, same, early) refl
+
+-- the end that is asked for lies ahead of the high time
+ahead-window : (high : ℤ) (p : ℕ) → IsAhead (ring_of high) p → InWindow high (lift high p)
+ahead-window high p ahead = let above = ahead.above in let below = ahead.below in record { low = omega (arith, ints); top = omega (arith, ints) }
+
+same-end-within : (line : Option ℤ) (p : ℕ) → p < 2 ^ 33 → CanEnd (option_map ring_of line) p → (s : Standing) → IsWithin line s
+    → (p == ring_end (on_ring s)) ≡ int_eq (place_of line p) (end_of s)
+same-end-within None p fits nothing s within = absurd nothing
+same-end-within (Some h) p fits ahead s reach = rw (ring_end-on_ring s) (same-place h p (end_of s) fits (end-window h s reach))
+
+early-within : (line : Option ℤ) (p : ℕ) → p < 2 ^ 33 → CanEnd (option_map ring_of line) p → (s : Standing) → IsWithin line s
+    → ends_early_on_ring (on_ring s) p ≡ is_early_end line s (place_of line p)
+early-within None p fits nothing s within = absurd nothing
+early-within (Some h) p fits ahead s reach =
+    let t : ℤ = lift h p in
+    let window : InWindow h t = ahead-window h p ahead in
+    let past : int_lt h t ≡ true = later-than h (signed p (ring_of h)) ahead.above in
+    let ring : ring_of t ≡ p = ring-lift h p fits in
+    let way : signed (ring_of t) (ring_of s.start) ≡ t -ℤ s.start = signed-near t s.start (near-window h t s.start window (start-window h s reach)) in
+    let way' : signed p (ring_of s.start) ≡ t -ℤ s.start = subst (λ r. signed r (ring_of s.start) ≡ t -ℤ s.start) ring way in
+    let end : is_before_on_ring (ring_of t) (ring_of (end_of s)) ≡ int_lt t (end_of s) = before-window h t (end_of s) window (end-window h s reach) in
+    let end' : is_before_on_ring p (ring_of (end_of s)) ≡ int_lt t (end_of s) = subst (λ r. is_before_on_ring r (ring_of (end_of s)) ≡ int_lt t (end_of s)) ring end in
+    rw (ring_end-on_ring s, end', way', past) (early-by s.start t (int_lt t (end_of s)))
+
+-- what was cut off its end is apart from what it was apart from
+ending-apart : (time : ℤ) (s x : Standing) → int_lt s.start time ≡ true → int_lt time (end_of s) ≡ true → IsApart s x → IsApart (ending_at time s) x
+ending-apart time s x past before apart = record { ids = apart.ids; times = meets-less s.start (end_of s) time x.start (end_of x) past before apart.times }
+
+ending-apart_from : (time : ℤ) (s x : Standing) → int_lt s.start time ≡ true → int_lt time (end_of s) ≡ true → IsApart x s → IsApart x (ending_at time s)
+ending-apart_from time s x past before apart =
+    record { ids = apart.ids; times = meets-comm x (ending_at time s) ∙ meets-less s.start (end_of s) time x.start (end_of x) past before (meets-comm s x ∙ apart.times) }
+
+ending-within : (line : Option ℤ) (s : Standing) (time : ℤ) → IsWithin line s → is_early_end line s time ≡ true → IsWithin line (ending_at time s)
+ending-within None s time nothing early = nothing
+ending-within (Some h) s time reach early =
+    let end : end_of (ending_at time s) ≡ time = ending-end s.start time (early-parts s.start h time (end_of s) early).0 in
+    let parts = early-parts s.start h time (end_of s) early in
+    ending-reach h s time reach parts.0 parts.1 parts.2
+
+both-ends : (a b c : Bool) → (a && b && c) ≡ true → (a ≡ true) × (c ≡ true)
+both-ends true true true is = (refl, refl)
+both-ends true true false is = absurd (let nothing : false ≡ true = is in cc)
+both-ends true false c is = absurd (let nothing : false ≡ true = is in cc)
+both-ends false b c is = absurd (let nothing : false ≡ true = is in cc)
+
+-- the new length on the line is the way on the ring
+length-within : (line : Option ℤ) (p : ℕ) → p < 2 ^ 33 → CanEnd (option_map ring_of line) p → (s : Standing) → IsWithin line s
+    → unsigned_abs (place_of line p -ℤ s.start) ≡ unsigned_abs (signed p (ring_of s.start))
+length-within None p fits nothing s within = absurd nothing
+length-within (Some h) p fits ahead s reach =
+    let near = near-window h (lift h p) s.start (ahead-window h p ahead) (start-window h s reach) in
+    let way : signed p (ring_of s.start) ≡ lift h p -ℤ s.start
+    = subst (λ r. signed r (ring_of s.start) ≡ lift h p -ℤ s.start) (ring-lift h p fits) (signed-near (lift h p) s.start near) in
+    ap unsigned_abs (sym way)
+
+-- the event of the ring with this length
+abbrev lasting : Event → ℕ → Event
+lasting e length = record e { length = length }
+
+pub shortened-stands : (t t' : Table) (line : Option ℤ) (standing : List Standing) (id place : ℕ) (e : Event) (p : ℕ) → p < 2 ^ 33 → CanEnd t.last p → StandsFor t line standing
+    → position (λ e. e.id == id) t.events.items ≡ Some place → e ≡ slice_index_or t.events.items place e
+    → ends_early_on_ring e p ≡ true
+    → t'.last ≡ t.last → t'.events.items ≡ slice_set t.events.items place (ended_on_ring p e) → StandsFor t' line (with_end id (place_of line p) standing)
+shortened-stands t t' line standing id place e p fits can stands is at early high items =
+    let f = found t line standing id place e stands is at in
+    let s : Standing = f.event in
+    let can' : CanEnd (option_map ring_of line) p = subst (λ h. CanEnd h p) stands.high can in
+    let early' : is_early_end line s (place_of line p) ≡ true
+    = sym (early-within line p fits can' s f.within) ∙ subst (λ x. ends_early_on_ring x p ≡ true) (sym f.ring) early in
+    let length : unsigned_abs (place_of line p -ℤ s.start) ≡ unsigned_abs (signed p (ring_of s.start)) = length-within line p fits can' s f.within in
+    let parts = both-ends (int_lt s.start (place_of line p)) (is_past_high line (place_of line p)) (int_lt (place_of line p) (end_of s)) early' in
+    changed-stands t t' line standing id place e (ended_on_ring p e) (ending_at (place_of line p)) f stands is at
+    (ap (lasting (on_ring s)) length ∙ ap (ended_on_ring p) f.ring)
+    (ending-within line s (place_of line p) f.within early')
+    (λ x apart. ending-apart (place_of line p) s x parts.0 parts.1 apart)
+    (λ x apart. ending-apart_from (place_of line p) s x parts.0 parts.1 apart)
+    high items
+
+-- the answers' tests, at the event found
+pub same-end : (t : Table) (line : Option ℤ) (standing : List Standing) (id : ℕ) (e : Event) (p : ℕ) (f : Found line standing id e) → p < 2 ^ 33 → CanEnd t.last p → StandsFor t line standing
+    → (p == ring_end e) ≡ int_eq (place_of line p) (end_of f.event)
+same-end t line standing id e p f fits can stands =
+    subst (λ x. (p == ring_end x) ≡ int_eq (place_of line p) (end_of f.event)) f.ring (same-end-within line p fits (subst (λ h. CanEnd h p) stands.high can) f.event f.within)
+
+pub early-end : (t : Table) (line : Option ℤ) (standing : List Standing) (id : ℕ) (e : Event) (p : ℕ) (f : Found line standing id e) → p < 2 ^ 33 → CanEnd t.last p → StandsFor t line standing
+    → ends_early_on_ring e p ≡ is_early_end line f.event (place_of line p)
+early-end t line standing id e p f fits can stands =
+    subst (λ x. ends_early_on_ring x p ≡ is_early_end line f.event (place_of line p)) f.ring (early-within line p fits (subst (λ h. CanEnd h p) stands.high can) f.event f.within)
+
+-- the next high time stands on the ring where it is said to, and lies in the window
+ring-time : (line : Option ℤ) (p : ℕ) (later : ℤ) → p < 2 ^ 33 → IsTimeAt line p later → ring_of later ≡ p
+ring-time None p later fits is = is
+ring-time (Some h) p later fits is = ap ring_of is ∙ ring-lift h p fits
+
+kept-within : (line : Option ℤ) (p : ℕ) (later : ℤ) → p < 2 ^ 33 → CanAdvance (option_map ring_of line) p → IsTimeAt line p later → (s : Standing) → IsWithin line s
+    → is_before_on_ring p ((ring_end (on_ring s) + 900000) % 2 ^ 33) ≡ int_lt later (forgotten_at s)
+kept-within None p later fits can is s nothing = absurd nothing
+kept-within (Some h) p later fits can is s reach =
+    let window : InWindow h later = next-window h (signed p (ring_of h)) later is can.above can.below in
+    rw (ring_end-on_ring s, ring-plus (end_of s) 900000, sym (ring-time (Some h) p later fits is))
+    (before-window h later (forgotten_at s) window (forgotten-window h s reach))
+
+still-within : (line : Option ℤ) (p : ℕ) (later : ℤ) → CanAdvance (option_map ring_of line) p → IsTimeAt line p later → (s : Standing) → IsWithin line s
+    → int_lt later (forgotten_at s) ≡ true → IsInReach later s
+still-within None p later can is s nothing stands = absurd nothing
+still-within (Some h) p later can is s reach stands = next-reach h (signed p (ring_of h)) later s is can.above reach stands
+
+pub advanced-stands : (t t' : Table) (line : Option ℤ) (standing : List Standing) (p : ℕ) (later : ℤ) → p < 2 ^ 33 → CanAdvance t.last p → StandsFor t line standing → IsTimeAt line p later
+    → t'.last ≡ Some p → t'.events.items ≡ filter (λ e. is_before_on_ring p ((ring_end e + 900000) % 2 ^ 33)) t.events.items
+    → StandsFor t' (Some later) (still_standing later standing)
+advanced-stands t t' line standing p later fits can stands is high items =
+    let can' : CanAdvance (option_map ring_of line) p = subst (λ h. CanAdvance h p) stands.high can in
+    let test : Standing → Bool = λ s. int_lt later (forgotten_at s) in
+    let passes = filter_passes test standing in
+    let within = All-filter test (IsWithin line) standing stands.within in
+    record {
+      high = high ∙ ap Some (sym (ring-time line p later fits is));
+      events = items ∙ ap (filter (λ e. is_before_on_ring p ((ring_end e + 900000) % 2 ^ 33))) stands.events
+          ∙ filter-map on_ring (IsWithin line) (λ e. is_before_on_ring p ((ring_end e + 900000) % 2 ^ 33)) test (kept-within line p later fits can' is) standing stands.within;
+      within = λ k d below. still-within line p later can' is (slice_index_or (filter test standing) k d) (within k d below) (passes k d below);
+      apart = AllPairs-filter IsApart test standing stands.apart;
+    }

@@ -1,0 +1,5 @@
+pub mod Rings
+pub mod Events
+pub mod Standing
+pub mod Tables
+pub mod Laws

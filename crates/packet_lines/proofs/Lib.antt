@@ -1,0 +1,5 @@
+pub mod DigitLemmas
+pub mod HeldLemmas
+pub mod KnownLemmas
+pub mod LineLemmas
+pub mod ReadBackLemmas

@@ -1,0 +1,14 @@
+//! Packets as lines of text: 376 upper case hexadecimal digits each, as a source, as a target, and the cut over them.
+//! It stands on the packets of `ts_packet` and the cut of `unit_cut`.
+//! What a caller uses: a `LineSource` tells the bytes that its lines spell, and a `LineTarget` those that it has written.
+#![tactic(auto)]
+
+mod digits;
+mod line;
+mod line_source;
+mod line_target;
+mod lines;
+
+pub use line_source::LineSource;
+pub use line_target::LineTarget;
+pub use lines::{LinesFault, cut_lines, lines_are_read_back};
