@@ -1,0 +1,14 @@
+use Rattle.std.proofs.Common.{◌≡◌, ℕ, List, length}
+use Rattle.psi_section.specs.Storing.{content}
+use Rattle.psi_section.specs.Assembling.{Gives, left}
+use Rattle.psi_section.proofs.assembler.Assembler.find.Given as goal
+
+-- what is still to be given stays so
+abbrev pub invariant-loop-size : goal.invariant-loop-size
+invariant-loop-size l = record {
+  gives : (pid : ℕ) (past todo : List (List ℕ)) → Gives l.initial.self pid past todo → Gives l.self pid past todo;
+  same : left l.self ≡ left l.initial.self;
+}
+
+abbrev pub decreases-loop-size : goal.decreases-loop-size
+decreases-loop-size l = length (content l.self.store)

@@ -1,0 +1,7 @@
+pub mod Crc
+pub mod Sections
+pub mod Storing
+pub mod Assembling
+pub mod Finding
+pub mod Packetising
+pub mod Laws

@@ -1,0 +1,65 @@
+//! How bytes begin, and whether a section is whole.
+
+ghost use Rattle.std.specs.Prelude.{◌≡◌, ◌+◌, ◌*◌, ◌%◌, ◌≤◌, length};
+ghost use Rattle.psi_section.specs.Sections.{front_of, front_by, has_crc, is_bad};
+
+use crate::checksum::crc;
+use crate::store::SECTION_SIZE;
+
+/// How bytes that follow a section begin.
+#[derive(Clone, Copy, Debug, PartialEq, Eq, Drop)]
+pub enum Front {
+    /// With no section: there are no bytes, or stuffing, or a section over 4,096 bytes.
+    Nothing,
+    /// With a section of so many bytes.
+    Whole(usize),
+    /// With a section that goes on behind them.
+    Part,
+}
+
+/// How the bytes begin.
+pub(crate) fn front_of(bytes: &[u8]) -> Front
+    ensures { result ≡ front_of bytes.now }
+{
+    match bytes {
+        [] | [0xFF, ..] => Front::Nothing,
+        [_, high, low, ..] => front_by(size_of(*high, *low), bytes.len()),
+        _ => Front::Part,
+    }
+}
+
+/// The size of a section, by the two bytes that end with section_length.
+fn size_of(high: u8, low: u8) -> usize
+    ensures { result ≡ high % 16 * 256 + low + 3 }
+{
+    (high % 16) as usize * 256 + low as usize + 3
+}
+
+/// How so many bytes begin, where they are a section of this size and what follows it.
+fn front_by(size: usize, have: usize) -> Front
+    ensures { result ≡ front_by (Some size) have }
+{
+    if size > SECTION_SIZE {
+        Front::Nothing
+    } else if size <= have {
+        Front::Whole(size)
+    } else {
+        Front::Part
+    }
+}
+
+/// The section's CRC_32 fails. One without CRC_32 has none that could.
+pub(crate) fn is_bad(section: &[u8]) -> bool
+    requires { 3 ≤ length section.now }
+    ensures { result ≡ is_bad section.now }
+{
+    has_crc(section) && crc(section) != 0
+}
+
+/// The section ends with CRC_32.
+fn has_crc(section: &[u8]) -> bool
+    requires { 3 ≤ length section.now }
+    ensures { result ≡ has_crc section.now }
+{
+    section[1] / 128 % 2 == 1 || section[0] == 0xFC
+}

@@ -1,0 +1,18 @@
+//! Sections of program specific information (ISO/IEC 13818-1, 2.4.4): read out of packets, written into packets, with their CRC_32.
+//! It stands on ts_packet. The one contract used above: fed the packets of a PID, the assembler gives the `sections` of their
+//! payloads, in order, each in the packet that finishes it.
+#![tactic(auto)]
+
+pub mod assembler;
+pub mod checksum;
+mod front;
+pub mod laws;
+pub mod packetiser;
+mod payload;
+mod store;
+#[cfg(test)]
+mod tests;
+
+pub use assembler::Assembler;
+pub use checksum::{crc, crc_entry};
+pub use packetiser::Packetiser;
