@@ -1,0 +1,8 @@
+pub mod DescriptorLemmas
+pub mod SpellingLemmas
+pub mod CrcLemmas
+pub mod FieldLemmas
+pub mod InsertLemmas
+pub mod LoopLemmas
+pub mod GrammarLemmas
+pub mod WrittenLemmas

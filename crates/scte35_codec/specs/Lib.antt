@@ -1,0 +1,10 @@
+pub mod Numbers
+pub mod Fields
+pub mod Descriptors
+pub mod AvailsLeft
+pub mod Insert
+pub mod Reading
+pub mod Views
+pub mod Grammar
+pub mod Spelling
+pub mod Laws

@@ -1,0 +1,214 @@
+ghost use Rattle.std.specs.Prelude.{◌≡◌, ◌<◌, ◌≤◌, length, option_map};
+ghost use Rattle.scte35_codec.specs.AvailsLeft.{avails_left};
+ghost use Rattle.scte35_codec.specs.Descriptors.{avails_of};
+ghost use Rattle.scte35_codec.specs.Reading.{Reading, section_length, pts_adjustment, splice_command_length, command_part, behind_command, splice_insert_of, cue_of};
+ghost use Rattle.scte35_codec.specs.Grammar.{Spells};
+ghost use Rattle.scte35_codec.specs.Views.{reading_of};
+
+use crate::descriptors::{Avails, descriptor_loop};
+use crate::fields::{is_set, low_33_bits};
+use crate::insert::{Command, SpliceInsert, adjusted, splice_insert};
+use byteorder::{BigEndian, ByteOrder};
+use pes_time::Time33;
+use thiserror::Error;
+
+/// A `splice_info_section` that was read. Its avails lie in the bytes that it was read from.
+#[derive(Clone, Copy, Debug)]
+pub enum Cue<'a> {
+    /// `splice_insert()` of the whole programme.
+    Insert(Insert<'a>),
+    /// `splice_insert()` with `splice_event_cancel_indicator`: the `splice_event_id` of the event that is taken back.
+    Cancel(u32),
+    /// `splice_null()`.
+    Null,
+    /// A command that isn't read: another `splice_command_type`, or a `splice_insert()` with times of single
+    /// components.
+    Other,
+}
+
+/// The fields of a `splice_insert()` (ANSI/SCTE 35, splice_insert).
+#[derive(Clone, Copy, Debug)]
+pub struct Insert<'a> {
+    /// `splice_event_id`.
+    pub event: u32,
+    /// `out_of_network_indicator`: whether the break begins, and not ends.
+    pub out: bool,
+    /// `pts_time` with `pts_adjustment` added, in 90 kHz ticks modulo 2^33. `None` where the splice is immediate, or
+    /// where its time isn't specified.
+    pub time: Option<Time33>,
+    /// `break_duration()`: whether the return is automatic, and the duration in 90 kHz ticks.
+    pub length: Option<(bool, Time33)>,
+    /// `unique_program_id`.
+    pub program: u16,
+    /// `avail_num`.
+    pub avail: u8,
+    /// `avails_expected`.
+    pub expected: u8,
+    /// The `provider_avail_id` of each `avail_descriptor`.
+    pub avails: Avails<'a>,
+}
+
+impl<'a> Insert<'a> {
+    ghost use Rattle.scte35_codec.specs.Views.{reading_of};
+    ghost use Rattle.scte35_codec.specs.Reading.{insert};
+
+    fn new(fields: SpliceInsert, avails: Avails<'a>) -> Insert<'a>
+        ensures { reading_of (Ok (Cue.Insert result)) ≡ insert fields (avails_left avails.entry) }
+    {
+        Insert {
+            event: fields.event,
+            out: fields.out,
+            time: fields.time,
+            length: fields.length,
+            program: fields.program,
+            avail: fields.avail,
+            expected: fields.expected,
+            avails,
+        }
+    }
+}
+
+/// Why bytes are no cue that can be read: the first that applies, in this order.
+#[derive(Clone, Copy, Debug, PartialEq, Eq, Error)]
+pub enum CueFault {
+    /// `table_id` isn't 0xFC, or there are fewer than 20 bytes.
+    #[error("not a splice_info_section")]
+    NotCue,
+    /// `section_length` isn't the number of bytes behind it.
+    #[error("a section_length that isn't the section's")]
+    Length,
+    /// `protocol_version` isn't 0.
+    #[error("a protocol_version other than 0")]
+    Version,
+    /// `encrypted_packet` is set.
+    #[error("an encrypted section")]
+    Encrypted,
+    /// A `splice_insert()` that runs past the section, whose `splice_command_length` is neither its own nor 0xFFF, or
+    /// whose descriptors don't fill their loop.
+    #[error("a malformed splice_insert")]
+    Command,
+}
+
+/// `splice_command_type` of `splice_null()`.
+const SPLICE_NULL: u8 = 0x00;
+
+/// `splice_command_type` of `splice_insert()`.
+const SPLICE_INSERT: u8 = 0x05;
+
+/// A `splice_command_length` that states none.
+const UNSTATED: usize = 0xFFF;
+
+#[tactic(auto, unfolding(crate::specs::Reading::section_length, crate::specs::Numbers::number_of))]
+fn stated_section_length(bytes: &[u8]) -> usize
+    requires { 20 ≤ length bytes.now }
+    ensures value { result ≡ section_length bytes.now }
+    ensures below { result < 4096 }
+{
+    let (_, rest) = bytes.split_at(1);
+    BigEndian::read_u16(rest) as usize % 0x1000
+}
+
+#[tactic(auto, unfolding(crate::specs::Reading::splice_command_length, crate::specs::Numbers::number_of))]
+fn stated_command_length(bytes: &[u8]) -> usize
+    requires { 20 ≤ length bytes.now }
+    ensures value { result ≡ splice_command_length bytes.now }
+    ensures below { result < 4096 }
+{
+    let (_, rest) = bytes.split_at(10);
+    BigEndian::read_uint(rest, 3) as usize % 0x1000
+}
+
+#[tactic(auto, unfolding(crate::specs::Reading::pts_adjustment))]
+fn adjustment_of(bytes: &[u8]) -> Time33
+    requires { 20 ≤ length bytes.now }
+    ensures { result ≡ pts_adjustment bytes.now }
+{
+    let (_, rest) = bytes.split_at(4);
+    low_33_bits(rest)
+}
+
+/// What stands between `splice_command_type` and `CRC_32`.
+#[tactic(auto, unfolding(crate::specs::Reading::command_part))]
+fn command_of(bytes: &[u8]) -> &[u8]
+    requires { 20 ≤ length bytes.now }
+    ensures { result.now ≡ command_part bytes.now }
+{
+    let (_, rest) = bytes.split_at(14);
+    let (part, _) = rest.split_at(rest.len() - 4);
+    part
+}
+
+/// The avails behind a command that has the length that is stated for it.
+#[tactic(auto, unfolding(crate::specs::Reading::behind_command))]
+fn behind(stated: usize, size: usize, rest: &[u8]) -> Option<Avails<'_>>
+    requires { stated < 4096 }
+    ensures { option_map avails_left result ≡ option_map avails_of (behind_command stated size rest.now) }
+{
+    if stated != UNSTATED && stated + rest.len() != size {
+        return None;
+    }
+    descriptor_loop(rest)
+}
+
+#[tactic(auto, unfolding(crate::specs::Reading::splice_insert_of))]
+fn read_splice_insert(bytes: &[u8]) -> Result<Cue<'_>, CueFault>
+    requires { 20 ≤ length bytes.now }
+    ensures { reading_of result ≡ splice_insert_of bytes.now }
+{
+    let stated = stated_command_length(bytes);
+    let part = command_of(bytes);
+    match splice_insert(part) {
+        None => Err(CueFault::Command),
+        Some((Command::Components, _)) => Ok(Cue::Other),
+        Some((Command::Cancelled(event), rest)) => match behind(stated, part.len(), rest) {
+            None => Err(CueFault::Command),
+            Some(_) => Ok(Cue::Cancel(event)),
+        },
+        Some((Command::Inserted(fields), rest)) => match behind(stated, part.len(), rest) {
+            None => Err(CueFault::Command),
+            Some(avails) => {
+                let fields = adjusted(fields, adjustment_of(bytes));
+                Ok(Cue::Insert(Insert::new(fields, avails)))
+            }
+        },
+    }
+}
+
+#[tactic(auto, unfolding(crate::specs::Reading::cue_of))]
+fn read_section(bytes: &[u8]) -> Result<Cue<'_>, CueFault>
+    ensures { reading_of result ≡ cue_of bytes.now }
+{
+    if bytes.len() < 20 || bytes[0] != 0xFC {
+        return Err(CueFault::NotCue);
+    }
+    if stated_section_length(bytes) + 3 != bytes.len() {
+        return Err(CueFault::Length);
+    }
+    if bytes[3] != 0 {
+        return Err(CueFault::Version);
+    }
+    if is_set(bytes[4], 7) {
+        return Err(CueFault::Encrypted);
+    }
+    match bytes[13] {
+        SPLICE_NULL => Ok(Cue::Null),
+        SPLICE_INSERT => read_splice_insert(bytes),
+        _ => Ok(Cue::Other),
+    }
+}
+
+/// Reads a `splice_info_section`, from `table_id` to `CRC_32`, which isn't checked here: whoever assembles sections does.
+///
+/// # Errors
+///
+/// The first fault that applies, in the order of [`CueFault`].
+pub fn read(bytes: &[u8]) -> Result<Cue<'_>, CueFault>
+    // The cue by its fields, or the first fault.
+    ensures exact { reading_of result ≡ cue_of bytes.now }
+
+    // What is read is in the grammar, and nothing else that these bytes spell.
+    ensures spelled { Spells (reading_of result) bytes.now }
+    ensures only { (other : Reading) → Spells other bytes.now → reading_of result ≡ other }
+{
+    read_section(bytes)
+}

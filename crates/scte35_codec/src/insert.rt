@@ -1,0 +1,136 @@
+// The command splice_insert().
+ghost use Rattle.std.specs.Prelude.{◌≡◌, option_map};
+ghost use Rattle.scte35_codec.specs.Insert.{splice_time_at, time_unless_at, duration_if_at, inserted_at, splice_insert_at, later, time_taken, duration_taken, insert_taken, command_taken};
+
+use crate::fields::{byte, is_set, number16, number32, ticks};
+use pes_time::Time33;
+
+/// The fields of a `splice_insert()` of the whole programme that isn't a cancel. The time is `pts_time` as it stands.
+#[derive(Clone, Copy, Debug)]
+pub struct SpliceInsert {
+    pub event: u32,
+    pub out: bool,
+    pub time: Option<Time33>,
+    pub length: Option<(bool, Time33)>,
+    pub program: u16,
+    pub avail: u8,
+    pub expected: u8,
+}
+
+/// What a `splice_insert()` is.
+#[derive(Clone, Copy, Debug)]
+pub enum Command {
+    /// With `splice_event_cancel_indicator`.
+    Cancelled(u32),
+    /// With times of single components, which aren't read.
+    Components,
+    Inserted(SpliceInsert),
+}
+
+#[tactic(auto, unfolding(crate::specs::Insert::splice_time_at))]
+fn splice_time(bytes: &[u8]) -> Option<(Option<Time33>, &[u8])>
+    ensures { option_map time_taken result ≡ splice_time_at bytes.now }
+{
+    let Some((first, rest)) = byte(bytes) else {
+        return None;
+    };
+    if !is_set(first, 7) {
+        return Some((None, rest));
+    }
+    let Some((_, time, rest)) = ticks(bytes) else {
+        return None;
+    };
+    Some((Some(time), rest))
+}
+
+#[tactic(auto, unfolding(crate::specs::Insert::time_unless_at))]
+fn time_unless(immediate: bool, bytes: &[u8]) -> Option<(Option<Time33>, &[u8])>
+    ensures { option_map time_taken result ≡ time_unless_at immediate bytes.now }
+{
+    if immediate {
+        Some((None, bytes))
+    } else {
+        splice_time(bytes)
+    }
+}
+
+#[tactic(auto, unfolding(crate::specs::Insert::duration_if_at))]
+fn duration_if(given: bool, bytes: &[u8]) -> Option<(Option<(bool, Time33)>, &[u8])>
+    ensures { option_map duration_taken result ≡ duration_if_at given bytes.now }
+{
+    if !given {
+        return Some((None, bytes));
+    }
+    let Some((auto_return, duration, rest)) = ticks(bytes) else {
+        return None;
+    };
+    Some((Some((auto_return, duration)), rest))
+}
+
+#[tactic(auto, unfolding(crate::specs::Insert::inserted_at))]
+fn inserted(event: u32, flags: u8, bytes: &[u8]) -> Option<(SpliceInsert, &[u8])>
+    ensures { option_map insert_taken result ≡ inserted_at event flags bytes.now }
+{
+    let Some((time, rest)) = time_unless(is_set(flags, 4), bytes) else {
+        return None;
+    };
+    let Some((length, rest)) = duration_if(is_set(flags, 5), rest) else {
+        return None;
+    };
+    let Some((program, rest)) = number16(rest) else {
+        return None;
+    };
+    let Some((avail, rest)) = byte(rest) else {
+        return None;
+    };
+    let Some((expected, rest)) = byte(rest) else {
+        return None;
+    };
+    let out = is_set(flags, 7);
+    let insert = SpliceInsert {
+        event,
+        out,
+        time,
+        length,
+        program,
+        avail,
+        expected,
+    };
+    Some((insert, rest))
+}
+
+#[tactic(auto, unfolding(crate::specs::Insert::splice_insert_at))]
+pub fn splice_insert(bytes: &[u8]) -> Option<(Command, &[u8])>
+    ensures { option_map command_taken result ≡ splice_insert_at bytes.now }
+{
+    let Some((event, rest)) = number32(bytes) else {
+        return None;
+    };
+    let Some((cancel, rest)) = byte(rest) else {
+        return None;
+    };
+    if is_set(cancel, 7) {
+        return Some((Command::Cancelled(event), rest));
+    }
+    let Some((flags, rest)) = byte(rest) else {
+        return None;
+    };
+    if !is_set(flags, 6) {
+        return Some((Command::Components, rest));
+    }
+    let Some((insert, rest)) = inserted(event, flags, rest) else {
+        return None;
+    };
+    Some((Command::Inserted(insert), rest))
+}
+
+/// The time moved by `pts_adjustment`.
+pub fn adjusted(insert: SpliceInsert, adjustment: Time33) -> SpliceInsert
+    ensures { result ≡ later adjustment insert }
+{
+    let time = match insert.time {
+        None => None,
+        Some(time) => Some(time.plus(adjustment.ticks())),
+    };
+    SpliceInsert { time, ..insert }
+}
