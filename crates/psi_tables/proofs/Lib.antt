@@ -1,0 +1,14 @@
+pub mod Chains
+pub mod Cells
+pub mod RunLemmas
+pub mod DescriptorLemmas
+pub mod EntryLemmas
+pub mod PairLemmas
+pub mod AssociationLemmas
+pub mod MapLemmas
+pub mod SwitchedLemmas
+pub mod MapGrammar
+pub mod CueLemmas
+pub mod AssociationGrammar
+pub mod SealLemmas
+pub mod UndoLemmas

@@ -1,0 +1,153 @@
+-- CRC_32 behind its bytes takes the remainder away, and no other number does: a step of the division can be undone.
+use Rattle.std.proofs.Common.{◌≡◌, ℕ, zero, suc, ◌+◌, ◌-◌, ◌*◌, ◌/◌, ◌%◌, ◌^◌, ◌<◌, ◌≤◌, ◌⊎◌, inl, inr, List, [], ◌∷◌, ◌++◌, length, bit_xor, refl, sym, ap, ◌∙◌, arith, lit<}
+use Rattle.std.specs.Prelude.{◌==◌, if◌then◌else◌}
+use Rattle.std.specs.List.{AllByRecursion}
+use Rattle.std.specs.Int.Bits.{xor_assoc, xor_zero_l, xor_zero_r, xor_self}
+use Rattle.std.proofs.lemmas.Nat.{xor_lt, xor_shr, xor_mod}
+use Rattle.byteorder.specs.Endian.{big_bytes}
+use Rattle.psi_section.specs.Crc.{generator, reduced, with_bit, bits_of, with_bits, remainder_after, crc, crc_remainder}
+use Rattle.psi_section.proofs.CrcLemmas.{byte_step_crc, crc_remainder-nil, crc_remainder-cons}
+
+-- ---- a step can be undone
+
+xor_cancel : (a b g : ℕ) → bit_xor a g ≡ bit_xor b g → a ≡ b
+xor_cancel a b g e =
+    let left : bit_xor (bit_xor a g) g ≡ a = xor_assoc a g g ∙ ap (λ (x : ℕ). bit_xor a x) (xor_self g) ∙ xor_zero_r a in
+    let right : bit_xor (bit_xor b g) g ≡ b = xor_assoc b g g ∙ ap (λ (x : ℕ). bit_xor b x) (xor_self g) ∙ xor_zero_r b in
+    sym left ∙ ap (λ (x : ℕ). bit_xor x g) e ∙ right
+
+-- what v is reduced to: itself, where that is even, or else v less the generator
+record Reduces (v w : ℕ) : Type 0 where
+  below : w < 4294967296
+  choice : ((w % 2 ≡ 0) × (w ≡ v)) ⊎ ((w % 2 ≡ 1) × (w ≡ bit_xor v generator))
+
+reduces_by : (v q : ℕ) → v < 8589934592 → v % 2 ≡ 0 → v / 4294967296 ≡ q → Reduces v (if q == 1 then bit_xor v generator else v)
+reduces_by v zero lt even top = record { below = omega arith; choice = inl (even, refl) }
+reduces_by v (suc zero) lt even top =
+    let high : bit_xor v generator / 2 ^ 32 ≡ 0 = xor_shr v generator 32 ∙ ap (λ (x : ℕ). bit_xor x 1) top in
+    let odd : bit_xor v generator % 2 ^ 1 ≡ 1 = xor_mod v generator 1 ∙ ap (λ (x : ℕ). bit_xor x 1) even in
+    record { below = omega arith; choice = inr (odd, refl) }
+reduces_by v (suc (suc q)) lt even top = absurd (omega arith)
+
+reduced_same : (v v' w : ℕ) → Reduces v w → Reduces v' w → v ≡ v'
+reduced_same v v' w a b =
+    elim a.choice [
+      | inl x ↦ elim b.choice [
+        | inl y ↦ sym x.1 ∙ y.1
+        | inr y ↦ absurd (omega (arith, x.0, y.0))
+      ]
+      | inr x ↦ elim b.choice [
+        | inl y ↦ absurd (omega (arith, x.0, y.0))
+        | inr y ↦ xor_cancel v v' generator (sym x.1 ∙ y.1)
+      ]
+    ]
+
+shifted : ℕ → ℕ → ℕ
+shifted r bit = bit_xor (2 * r) (bit * 4294967296)
+
+bit_reduces : (r bit : ℕ) → r < 4294967296 → bit < 2 → Reduces (shifted r bit) (with_bit r bit)
+unfolding shifted
+bit_reduces r bit lt two =
+    let v = bit_xor (2 * r) (bit * 4294967296) in
+    let wide : v < 2 ^ 33 = xor_lt 33 (2 * r) (bit * 4294967296) (omega arith) (omega arith) in
+    let first : 2 * r % 2 ^ 1 ≡ 0 = omega arith in
+    let second : bit * 4294967296 % 2 ^ 1 ≡ 0 = omega arith in
+    let even : v % 2 ^ 1 ≡ 0 = xor_mod (2 * r) (bit * 4294967296) 1 ∙ ap (λ (x : ℕ). bit_xor x (bit * 4294967296 % 2 ^ 1)) first ∙ ap (λ (x : ℕ). bit_xor 0 x) second in
+    reduces_by v (v / 4294967296) wide even refl
+
+bit_undone : (r s bit : ℕ) → r < 4294967296 → s < 4294967296 → bit < 2 → with_bit r bit ≡ with_bit s bit → r ≡ s
+unfolding shifted
+bit_undone r s bit rl sl two e =
+    let a = bit_reduces r bit rl two in
+    let b = bit_reduces s bit sl two in
+    let b' : Reduces (shifted s bit) (with_bit r bit) = rw e b in
+    let same = reduced_same (shifted r bit) (shifted s bit) (with_bit r bit) a b' in
+    let twice : 2 * r ≡ 2 * s = xor_cancel (2 * r) (2 * s) (bit * 4294967296) same in
+    omega arith
+
+-- ---- bits, bytes
+
+abbrev AreBits : List ℕ → Type 0
+AreBits bits = AllByRecursion (λ b. b < 2) bits
+
+bits_below : (r : ℕ) (bits : List ℕ) → r < 4294967296 → AreBits bits → with_bits r bits < 4294967296
+bits_below r [] lt all = lt
+bits_below r (b ∷ bits) lt all = bits_below (with_bit r b) bits (bit_reduces r b lt all.0).below all.1
+
+bits_undone : (r s : ℕ) (bits : List ℕ) → r < 4294967296 → s < 4294967296 → AreBits bits → with_bits r bits ≡ with_bits s bits → r ≡ s
+bits_undone r s [] rl sl all e = e
+bits_undone r s (b ∷ bits) rl sl all e =
+    bit_undone r s b rl sl all.0 (bits_undone (with_bit r b) (with_bit s b) bits (bit_reduces r b rl all.0).below (bit_reduces s b sl all.0).below all.1 e)
+
+low : (n : ℕ) → n % 2 < 2
+low n = omega arith
+
+of_byte : (b : ℕ) → AreBits (bits_of b)
+of_byte b = (low (b / 128), (low (b / 64), (low (b / 32), (low (b / 16), (low (b / 8), (low (b / 4), (low (b / 2), (low b, tt))))))))
+
+after_below : (r : ℕ) (bs : List ℕ) → r < 4294967296 → remainder_after r bs < 4294967296
+after_below r [] lt = lt
+after_below r (b ∷ bs) lt = after_below (with_bits r (bits_of b)) bs (bits_below r (bits_of b) lt (of_byte b))
+
+after_undone : (r s : ℕ) (bs : List ℕ) → r < 4294967296 → s < 4294967296 → remainder_after r bs ≡ remainder_after s bs → r ≡ s
+after_undone r s [] rl sl e = e
+after_undone r s (b ∷ bs) rl sl e =
+    bits_undone r s (bits_of b) rl sl (of_byte b) (after_undone (with_bits r (bits_of b)) (with_bits s (bits_of b)) bs (bits_below r (bits_of b) rl (of_byte b)) (bits_below s (bits_of b) sl (of_byte b)) e)
+
+remainder_undone : (r s : ℕ) (bs : List ℕ) → r < 4294967296 → s < 4294967296 → crc_remainder r bs ≡ crc_remainder s bs → r ≡ s
+unfolding crc_remainder
+remainder_undone r s bs rl sl e = after_undone r s bs rl sl e
+
+pub crc_below : (bs : List ℕ) → crc bs < 4294967296
+unfolding crc crc_remainder
+crc_below bs = after_below (2 ^ 32 - 1) bs (lit< tt)
+
+-- ---- the remainder's own bytes take it away
+
+remainder-append : (r : ℕ) (xs ys : List ℕ) → crc_remainder r (xs ++ ys) ≡ crc_remainder (crc_remainder r xs) ys
+remainder-append r [] ys = ap (λ (s : ℕ). crc_remainder s ys) (sym (crc_remainder-nil r))
+remainder-append r (x ∷ xs) ys =
+    crc_remainder-cons r x (xs ++ ys) ∙ remainder-append (crc_remainder r (x ∷ [])) xs ys
+    ∙ ap (λ (s : ℕ). crc_remainder s ys) (sym (crc_remainder-cons r x xs))
+
+zero_byte : crc_remainder 0 (0 ∷ []) ≡ 0
+unfolding crc_remainder
+zero_byte = refl
+
+-- the highest byte of a remainder takes itself away
+high_byte : (r b s : ℕ) → r < 4294967296 → b ≡ r / 16777216 → s ≡ r * 256 % 4294967296 → crc_remainder r (b ∷ []) ≡ s
+high_byte r b s lt is next =
+    let rest = r * 256 % 2 ^ 32 in
+    let high = r / 2 ^ 24 in
+    let look = byte_step_crc r high lt (omega arith) in
+    ap (λ (x : ℕ). crc_remainder r (x ∷ [])) is ∙ look ∙ ap (λ (x : ℕ). bit_xor (crc_remainder 0 (x ∷ [])) rest) (xor_self high) ∙ ap (λ (x : ℕ). bit_xor x rest) zero_byte ∙ xor_zero_l rest ∙ sym next
+
+four : (a b c d r : ℕ) → crc_remainder r (a ∷ b ∷ c ∷ d ∷ []) ≡ crc_remainder (crc_remainder (crc_remainder (crc_remainder r (a ∷ [])) (b ∷ [])) (c ∷ [])) (d ∷ [])
+four a b c d r =
+    crc_remainder-cons r a (b ∷ c ∷ d ∷ []) ∙ crc_remainder-cons (crc_remainder r (a ∷ [])) b (c ∷ d ∷ [])
+    ∙ crc_remainder-cons (crc_remainder (crc_remainder r (a ∷ [])) (b ∷ [])) c (d ∷ [])
+
+own_bytes : (r : ℕ) → r < 4294967296 → crc_remainder r (big_bytes 4 r) ≡ 0
+own_bytes r lt =
+    let r1 = r * 256 % 4294967296 in
+    let r2 = r1 * 256 % 4294967296 in
+    let r3 = r2 * 256 % 4294967296 in
+    let a = r / 16777216 % 256 in
+    let b = r / 65536 % 256 in
+    let c = r / 256 % 256 in
+    let d = r % 256 in
+    let s1 : crc_remainder r (a ∷ []) ≡ r1 = high_byte r a r1 lt (omega arith) refl in
+    let s2 : crc_remainder r1 (b ∷ []) ≡ r2 = high_byte r1 b r2 (omega arith) (omega arith) refl in
+    let s3 : crc_remainder r2 (c ∷ []) ≡ r3 = high_byte r2 c r3 (omega arith) (omega arith) refl in
+    let s4 : crc_remainder r3 (d ∷ []) ≡ 0 = high_byte r3 d 0 (omega arith) (omega arith) (omega arith) in
+    four a b c d r ∙ rw (s1, s2, s3) s4
+
+crc-append : (bs cs : List ℕ) → crc (bs ++ cs) ≡ crc_remainder (crc bs) cs
+unfolding crc
+crc-append bs cs = remainder-append (2 ^ 32 - 1) bs cs
+
+pub crc_closes : (bs : List ℕ) → crc (bs ++ big_bytes 4 (crc bs)) ≡ 0
+crc_closes bs = crc-append bs (big_bytes 4 (crc bs)) ∙ own_bytes (crc bs) (crc_below bs)
+
+pub crc_alone_closes : (bs : List ℕ) (n : ℕ) → n < 4294967296 → crc (bs ++ big_bytes 4 n) ≡ 0 → n ≡ crc bs
+crc_alone_closes bs n lt e = remainder_undone n (crc bs) (big_bytes 4 n) lt (crc_below bs) (own_bytes n lt ∙ sym e ∙ crc-append bs (big_bytes 4 n))

@@ -1,0 +1,11 @@
+pub mod Numbers
+pub mod Runs
+pub mod Sections
+pub mod Descriptors
+pub mod Streams
+pub mod StreamsLeft
+pub mod Association
+pub mod ProgramMap
+pub mod Configs
+pub mod Cue
+pub mod Laws

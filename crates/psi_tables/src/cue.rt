@@ -1,0 +1,88 @@
+//! The entry by which a program map lists a stream of cues (SCTE 35).
+
+ghost use Rattle.std.specs.Prelude.{◌≡◌, ◌+◌, ◌++◌, ◌∷◌, [], ◌≤◌, length, is_none, true};
+ghost use Rattle.psi_tables.specs.Descriptors.{cue_registration, descriptor_bytes};
+ghost use Rattle.psi_tables.specs.Streams.{entry_bytes};
+ghost use Rattle.psi_tables.specs.ProgramMap.{pmt_fault, map_of, pmt_section};
+ghost use Rattle.psi_tables.specs.Cue.{cue_entry, with_cue_entry, without_cue_entry, section_or_too_long, seen_section};
+
+use crate::descriptors::{CUE_REGISTRATION, before_registration};
+use crate::pmt::{Pmt, loops};
+use crate::stream::entries_without;
+use crate::writing::{Section, map_with, put};
+use arrayvec::ArrayVec;
+use thiserror::Error;
+use ts_packet::Pid;
+
+/// A program map has no room for the entry: `section_length` would be over 1021.
+#[derive(Clone, Copy, Debug, PartialEq, Eq, Drop, Error)]
+#[error("a program map without room for a cue entry")]
+pub struct TooLong;
+
+/// An entry of `stream_type` 0x86 without descriptors; its reserved bits are ones.
+fn entry_of(pid: Pid) -> [u8; 5]
+    ensures { result ≡ entry_bytes (cue_entry pid) }
+{
+    let number = pid.get();
+    [
+        0x86,
+        (0xE0 + number / 256) as u8,
+        (number % 256) as u8,
+        0xF0,
+        0,
+    ]
+}
+
+fn joined(front: &[u8], behind: &[u8]) -> Section
+    requires { length front.now + length behind.now ≤ 1024 }
+    ensures { result.items ≡ front.now ++ behind.now }
+{
+    let mut both = ArrayVec::new();
+    put(&mut both, front);
+    put(&mut both, behind);
+    both
+}
+
+#[tactic(auto, using(crate::proofs::MapLemmas::map_sixteen, crate::proofs::MapLemmas::map_long, crate::proofs::MapLemmas::info_short, crate::proofs::MapLemmas::entries_short))]
+fn with_entry(map: &[u8], pid: Pid) -> Result<Section, TooLong>
+    requires { is_none (pmt_fault map.now) ≡ true }
+    ensures { seen_section result ≡ section_or_too_long (with_cue_entry pid (map_of map.now)) }
+{
+    let (info, entries) = loops(map);
+    let info = joined(info, &CUE_REGISTRATION);
+    let entries = joined(entries, &entry_of(pid));
+    if 13 + info.len() + entries.len() > 1021 {
+        return Err(TooLong);
+    }
+    Ok(map_with(map, info.as_slice(), entries.as_slice()))
+}
+
+/// The map with an entry for cues on this PID behind its own and the registration descriptor behind the programme's own, and its
+/// `CRC_32` made anew; the version stays. `TooLong` exactly where `section_length`, which grows by 11, would be over 1021.
+pub fn add_cue(pmt: &Pmt<'_>, pid: Pid) -> Result<Section, TooLong>
+    ensures { seen_section result ≡ section_or_too_long (with_cue_entry pid (map_of pmt.now.bytes.now)) }
+{
+    with_entry(pmt.bytes, pid)
+}
+
+#[tactic(auto, using(crate::proofs::MapLemmas::map_sixteen, crate::proofs::MapLemmas::map_long, crate::proofs::MapLemmas::loops_short, crate::proofs::MapLemmas::info_short, crate::proofs::MapLemmas::entries_short, crate::proofs::MapLemmas::map_described, crate::proofs::MapLemmas::map_listed))]
+fn without_entry(map: &[u8], pid: Pid) -> Section
+    requires { is_none (pmt_fault map.now) ≡ true }
+    ensures { result.items ≡ pmt_section (without_cue_entry pid (map_of map.now)) }
+{
+    let (info, entries) = loops(map);
+    let (entries, is_listed) = entries_without(entries, pid);
+    if !is_listed {
+        return map_with(map, info, entries.as_slice());
+    }
+    let info = before_registration(info);
+    map_with(map, info.as_slice(), entries.as_slice())
+}
+
+/// The map without its entries for this PID and, where there was one and the programme's last descriptor is the registration
+/// descriptor, without that; its `CRC_32` is made anew, and the version stays.
+pub fn strip_cue(pmt: &Pmt<'_>, pid: Pid) -> Section
+    ensures { result.items ≡ pmt_section (without_cue_entry pid (map_of pmt.now.bytes.now)) }
+{
+    without_entry(pmt.bytes, pid)
+}
