@@ -31,7 +31,8 @@ The units (PES packets) of the PID whose presentation time (PTS) lies from --fro
 byte for byte, those of the PID with the continuity counter that closes the gap. The clock may wrap inside the stream; the
 start is then taken as the time that lies within 13 hours of the stream's first one.
 
-Without --in and --out, packets are lines of 376 upper case hexadecimal digits on standard input and output.";
+Without --in and --out, packets are lines of 376 upper case hexadecimal digits on standard input and output. The output
+file is made anew before the first packet is read, so --in and --out must not be the same file.";
 
 const CUT_EXAMPLE: &str =
     "Times are ticks of the 90 kHz clock: 90000 are one second, 3600 one picture of 25 a second.
