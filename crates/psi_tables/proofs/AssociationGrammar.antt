@@ -1,20 +1,19 @@
 -- What is read of a program association is what its bytes spell, and nothing else.
-use Rattle.std.proofs.Common.{◌≡◌, ℕ, zero, suc, ◌+◌, ◌-◌, ◌*◌, ◌/◌, ◌%◌, ◌<◌, ◌≤◌, Bool, true, false, List, [], ◌∷◌, ◌++◌, length, take, drop, slice_index, Option, Some, None, Result, Ok, Err, refl, sym, ap, subst, ◌∙◌, arith, append_assoc}
-use Rattle.std.specs.Prelude.{is_none, is_some, not, nat_lt, nat_le, ◌==◌, ◌&&◌, if◌then◌else◌}
-use Rattle.std.specs.List.{flat_map, AllByRecursion}
+use Rattle.std.proofs.Common.{◌≡◌, ℕ, ◌+◌, ◌-◌, ◌*◌, ◌/◌, ◌%◌, ◌≤◌, Bool, true, false, List, [], ◌∷◌, ◌++◌, length, take, drop, slice_index, None, Ok, refl, sym, ap, ◌∙◌, arith}
+use Rattle.std.specs.Prelude.{is_some, not, nat_lt, nat_le, ◌==◌, ◌&&◌}
+use Rattle.std.specs.List.{flat_map}
 use Rattle.std.proofs.lemmas.Bool.{le-ltb, le-leb, eq-eqb, eqb-true}
 use Rattle.std.proofs.lemmas.List.{length-drop, length-take, length-append, take_at, drop_at, take-append-drop, drop-append-le}
 use Rattle.byteorder.specs.Endian.{big_bytes}
-use Rattle.psi_tables.specs.declared.fault.TableFault.{TableFault}
 use Rattle.psi_tables.specs.Numbers.{number16_at, number32_at, AreBytes}
 use Rattle.psi_tables.specs.Sections.{is_table, has_size, section_length, before_crc, is_current}
 use Rattle.psi_tables.specs.Runs.{run_of, things_of}
-use Rattle.psi_tables.specs.Association.{Pair, IsPair, pair_bytes, pair_at, Association, IsAssociation, association_body, pat_section, pairs_in, association_of, pat_fills, pat_fault, pat}
+use Rattle.psi_tables.specs.Association.{IsPair, pair_bytes, pair_at, Association, IsAssociation, pat_section, pairs_in, association_of, pat_fills, pat_fault, pat}
 use Rattle.psi_tables.proofs.Chains.{both_are, unless}
 use Rattle.psi_tables.proofs.Cells.{AreBytes-drop, AreBytes-take, field16, field32, one_at, two_at, four_at, number16_fits, number32_fits}
 use Rattle.psi_tables.proofs.RunLemmas.{Spelled, things_spelled, things_back, fills_back}
 use Rattle.psi_tables.proofs.PairLemmas.{pair_shortens, pair_fits, pair_back}
-use Rattle.psi_tables.proofs.AssociationLemmas.{IsPat, faultless}
+use Rattle.psi_tables.proofs.AssociationLemmas.{IsPat}
 
 -- ---- read, then spelled
 

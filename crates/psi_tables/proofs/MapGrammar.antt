@@ -1,23 +1,22 @@
 -- What is read of a program map is what its bytes spell, and nothing else.
-use Rattle.std.proofs.Common.{◌≡◌, ℕ, zero, suc, ◌+◌, ◌-◌, ◌*◌, ◌/◌, ◌%◌, ◌<◌, ◌≤◌, Bool, true, false, List, [], ◌∷◌, ◌++◌, length, take, drop, slice_index, Option, Some, None, Result, Ok, Err, refl, sym, ap, subst, ◌∙◌, arith, append_assoc}
-use Rattle.std.specs.Prelude.{is_none, is_some, not, nat_lt, nat_le, ◌==◌, ◌&&◌, if◌then◌else◌}
-use Rattle.std.specs.List.{flat_map, AllByRecursion}
+use Rattle.std.proofs.Common.{◌≡◌, ℕ, ◌+◌, ◌-◌, ◌*◌, ◌/◌, ◌%◌, ◌≤◌, true, false, List, [], ◌∷◌, ◌++◌, length, take, drop, slice_index, Option, None, Ok, refl, sym, ap, ◌∙◌, arith}
+use Rattle.std.specs.Prelude.{is_none, is_some, nat_lt, nat_le, ◌==◌, ◌&&◌}
 use Rattle.std.proofs.lemmas.Bool.{le-ltb, le-leb, eq-eqb}
-use Rattle.std.proofs.lemmas.List.{length-drop, length-take, length-append, take_at, drop_at, take-append-drop, drop-drop, drop-append-le}
+use Rattle.std.proofs.lemmas.List.{length-drop, length-take, length-append, take_at, drop_at, take-append-drop, drop-append-le}
 use Rattle.byteorder.specs.Endian.{big_bytes}
 use Rattle.psi_tables.specs.declared.fault.TableFault.{TableFault}
 use Rattle.psi_tables.specs.Numbers.{number16_at, number32_at, AreBytes}
 use Rattle.psi_tables.specs.Sections.{is_table, has_size, section_length, before_crc}
 use Rattle.psi_tables.specs.Runs.{run_of, things_of}
-use Rattle.psi_tables.specs.Descriptors.{Descriptor, IsDescriptor, descriptor_bytes, descriptor_at}
-use Rattle.psi_tables.specs.Streams.{Entry, IsEntry, entry_bytes, entry_at}
+use Rattle.psi_tables.specs.Descriptors.{IsDescriptor, descriptor_bytes, descriptor_at}
+use Rattle.psi_tables.specs.Streams.{IsEntry, entry_bytes, entry_at}
 use Rattle.psi_tables.specs.ProgramMap.{ProgramMap, IsProgramMap, map_length, body_with, map_body, pmt_section, descriptors_bytes, entries_bytes, info_length, info_in, entries_in, map_of, pmt_fills, pmt_fault, pmt}
 use Rattle.psi_tables.proofs.Chains.{both_are}
 use Rattle.psi_tables.proofs.Cells.{AreBytes-drop, AreBytes-take, field16, field32, one_at, two_at, four_at, number16_fits, number32_fits}
 use Rattle.psi_tables.proofs.RunLemmas.{Spelled, things_spelled, things_back, fills_back}
 use Rattle.psi_tables.proofs.DescriptorLemmas.{descriptor_shortens, descriptor_fits, descriptor_back}
 use Rattle.psi_tables.proofs.EntryLemmas.{entry_shortens, entry_fits, entry_back}
-use Rattle.psi_tables.proofs.MapLemmas.{IsPmt, faultless}
+use Rattle.psi_tables.proofs.MapLemmas.{IsPmt}
 
 -- ---- read, then spelled
 

@@ -1,11 +1,11 @@
 -- CRC_32 behind its bytes takes the remainder away, and no other number does: a step of the division can be undone.
-use Rattle.std.proofs.Common.{◌≡◌, ℕ, zero, suc, ◌+◌, ◌-◌, ◌*◌, ◌/◌, ◌%◌, ◌^◌, ◌<◌, ◌≤◌, ◌⊎◌, inl, inr, List, [], ◌∷◌, ◌++◌, length, bit_xor, refl, sym, ap, ◌∙◌, arith, lit<}
+use Rattle.std.proofs.Common.{◌≡◌, ℕ, zero, suc, ◌-◌, ◌*◌, ◌/◌, ◌%◌, ◌^◌, ◌<◌, ◌⊎◌, inl, inr, List, [], ◌∷◌, ◌++◌, bit_xor, refl, sym, ap, ◌∙◌, arith, lit<}
 use Rattle.std.specs.Prelude.{◌==◌, if◌then◌else◌}
 use Rattle.std.specs.List.{AllByRecursion}
 use Rattle.std.specs.Int.Bits.{xor_assoc, xor_zero_l, xor_zero_r, xor_self}
 use Rattle.std.proofs.lemmas.Nat.{xor_lt, xor_shr, xor_mod}
 use Rattle.byteorder.specs.Endian.{big_bytes}
-use Rattle.psi_section.specs.Crc.{generator, reduced, with_bit, bits_of, with_bits, remainder_after, crc, crc_remainder}
+use Rattle.psi_section.specs.Crc.{generator, with_bit, bits_of, with_bits, remainder_after, crc, crc_remainder}
 use Rattle.psi_section.proofs.CrcLemmas.{byte_step_crc, crc_remainder-nil, crc_remainder-cons}
 
 -- ---- a step can be undone

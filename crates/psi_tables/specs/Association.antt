@@ -1,5 +1,5 @@
 -- The program association section, PAT (ISO/IEC 13818-1, 2.4.4.3), in one section.
-use Rattle.std.specs.Prelude.{◌≡◌, ℕ, ◌+◌, ◌-◌, ◌*◌, ◌/◌, ◌%◌, ◌<◌, ◌≤◌, List, [], ◌∷◌, ◌++◌, length, take, drop, map, find, Bool, true, not, slice_index, nat_lt, ◌==◌, ◌&&◌, if◌then◌else◌, is_some, Option, Some, None, option_map, Result, Ok, Err}
+use Rattle.std.specs.Prelude.{◌≡◌, ℕ, ◌+◌, ◌-◌, ◌/◌, ◌<◌, ◌≤◌, List, [], ◌∷◌, ◌++◌, length, drop, find, Bool, true, not, slice_index, nat_lt, ◌==◌, ◌&&◌, if◌then◌else◌, is_some, Option, Some, None, option_map, Result}
 use Rattle.std.specs.List.{flat_map, AllByRecursion}
 use Rattle.std.specs.Borrow.{Bor}
 use Rattle.byteorder.specs.Endian.{big_bytes}

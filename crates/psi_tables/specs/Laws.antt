@@ -1,5 +1,5 @@
 -- What holds of every map.
-use Rattle.std.specs.Prelude.{◌≡◌, ℕ, ◌<◌, Bool, false}
+use Rattle.std.specs.Prelude.{◌≡◌, ℕ, ◌<◌, false}
 use Rattle.std.specs.List.{list_any}
 use Rattle.psi_section.specs.Crc.{crc}
 use Rattle.psi_tables.specs.ProgramMap.{ProgramMap, IsProgramMap, pmt_section}

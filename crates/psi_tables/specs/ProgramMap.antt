@@ -1,5 +1,5 @@
 -- The program map section, PMT (ISO/IEC 13818-1, 2.4.4.8).
-use Rattle.std.specs.Prelude.{◌≡◌, ℕ, ◌+◌, ◌-◌, ◌*◌, ◌/◌, ◌%◌, ◌<◌, ◌≤◌, List, [], ◌∷◌, ◌++◌, length, take, drop, map, Bool, not, slice_index, nat_lt, nat_le, is_some, ◌&&◌, if◌then◌else◌, Option, Some, None, Result, Ok, Err}
+use Rattle.std.specs.Prelude.{ℕ, ◌+◌, ◌-◌, ◌/◌, ◌%◌, ◌<◌, ◌≤◌, List, [], ◌∷◌, ◌++◌, length, take, drop, map, Bool, not, slice_index, nat_lt, nat_le, is_some, ◌&&◌, if◌then◌else◌, Option, Some, None, Result}
 use Rattle.std.specs.List.{flat_map, AllByRecursion}
 use Rattle.byteorder.specs.Endian.{big_bytes}
 use Rattle.psi_tables.specs.declared.fault.TableFault.{TableFault}

@@ -26,8 +26,8 @@ fn first_descriptor(bytes: &[u8]) -> Option<(&[u8], &[u8])>
     Some(bytes.split_at(size))
 }
 
-#[tactic(auto, using(crate::proofs::DescriptorLemmas::descriptor_shorter, crate::proofs::DescriptorLemmas::descriptors_fill_more, crate::proofs::DescriptorLemmas::descriptors_fill_ends, crate::proofs::DescriptorLemmas::descriptors_fill_done))]
 /// Whether descriptors fill the bytes exactly.
+#[tactic(auto, using(crate::proofs::DescriptorLemmas::descriptor_shorter, crate::proofs::DescriptorLemmas::descriptors_fill_more, crate::proofs::DescriptorLemmas::descriptors_fill_ends, crate::proofs::DescriptorLemmas::descriptors_fill_done))]
 pub fn descriptors_fill(bytes: &[u8]) -> bool
     ensures { result ≡ is_some (run_of descriptor_at bytes.now) }
 {
@@ -61,8 +61,8 @@ fn ends_in_registration(front: &[u8], after: &[u8]) -> bool
     after.is_empty() && is_cue_registration(front)
 }
 
-#[tactic(auto, using(crate::proofs::DescriptorLemmas::descriptor_shorter, crate::proofs::DescriptorLemmas::descriptor_kept, crate::proofs::DescriptorLemmas::descriptors_fill_more, crate::proofs::DescriptorLemmas::last_dropped, crate::proofs::DescriptorLemmas::none_kept, crate::proofs::DescriptorLemmas::front_fits))]
 /// The descriptors without the last, where that is the registration descriptor.
+#[tactic(auto, using(crate::proofs::DescriptorLemmas::descriptor_shorter, crate::proofs::DescriptorLemmas::descriptor_kept, crate::proofs::DescriptorLemmas::descriptors_fill_more, crate::proofs::DescriptorLemmas::last_dropped, crate::proofs::DescriptorLemmas::none_kept, crate::proofs::DescriptorLemmas::front_fits))]
 pub fn before_registration(bytes: &[u8]) -> Section
     requires sound { is_some (run_of descriptor_at bytes.now) ≡ true }
     requires size { length bytes.now ≤ 1021 }

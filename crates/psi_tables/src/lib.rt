@@ -1,5 +1,5 @@
 //! Program association and program map sections of ISO/IEC 13818-1 (2.4.4.3, 2.4.4.8): read where they lie, and the entry of a
-//! cue stream (SCTE 35) added and taken out again. It stands on `psi_section`, for `crc` alone, and takes no memory.
+//! cue stream (SCTE 35) added and taken out again. It stands on `psi_section` (`crc`) and `ts_packet` (`Pid`), and takes no memory.
 //! The crates above use one contract of it: a table is read exactly by its grammar, and what is written is one spelling of it.
 #![tactic(auto)]
 

@@ -79,8 +79,8 @@ impl<'a> Pmt<'a> {
         Entries::of(entries)
     }
 
-    #[tactic(auto, using(crate::proofs::SwitchedLemmas::switching_more, crate::proofs::SwitchedLemmas::switching_past, crate::proofs::SwitchedLemmas::switching_done, crate::proofs::SwitchedLemmas::switching_full))]
     /// The switched streams in order: those of the stream types 0x01, 0x02, 0x03, 0x04, 0x0F, 0x11, 0x1B, 0x24 and 0x81.
+    #[tactic(auto, using(crate::proofs::SwitchedLemmas::switching_more, crate::proofs::SwitchedLemmas::switching_past, crate::proofs::SwitchedLemmas::switching_done, crate::proofs::SwitchedLemmas::switching_full))]
     pub fn switched(&self) -> Result<ArrayVec<Stream, 8>, TooManyStreams>
         ensures { seen_switched result ≡ few_switched (streams_of (map_of self.now.bytes.now)) }
     {

@@ -51,8 +51,8 @@ pub fn first_entry(bytes: &[u8]) -> Option<(Stream, &[u8], &[u8])>
     Some((stream, front, after))
 }
 
-#[tactic(auto, using(crate::proofs::EntryLemmas::entry_shorter, crate::proofs::EntryLemmas::entries_fill_more, crate::proofs::EntryLemmas::entries_fill_ends, crate::proofs::EntryLemmas::entries_fill_done))]
 /// Whether entries fill the bytes exactly.
+#[tactic(auto, using(crate::proofs::EntryLemmas::entry_shorter, crate::proofs::EntryLemmas::entries_fill_more, crate::proofs::EntryLemmas::entries_fill_ends, crate::proofs::EntryLemmas::entries_fill_done))]
 pub fn entries_fill(bytes: &[u8]) -> bool
     ensures { result ≡ is_some (run_of entry_at bytes.now) }
 {
@@ -76,8 +76,8 @@ pub fn is_switched_kind(kind: u8) -> bool
     )
 }
 
-#[tactic(auto, using(crate::proofs::EntryLemmas::entry_shorter, crate::proofs::EntryLemmas::entry_kept, crate::proofs::EntryLemmas::entry_dropped, crate::proofs::EntryLemmas::without_done, crate::proofs::EntryLemmas::front_room))]
 /// The entries without those of the PID, and whether there was one.
+#[tactic(auto, using(crate::proofs::EntryLemmas::entry_shorter, crate::proofs::EntryLemmas::entry_kept, crate::proofs::EntryLemmas::entry_dropped, crate::proofs::EntryLemmas::without_done, crate::proofs::EntryLemmas::front_room))]
 pub fn entries_without(bytes: &[u8], pid: Pid) -> (Section, bool)
     requires sound { is_some (run_of entry_at bytes.now) ≡ true }
     requires size { length bytes.now ≤ 1021 }

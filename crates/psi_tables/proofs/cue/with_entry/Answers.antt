@@ -1,4 +1,4 @@
-use Rattle.std.proofs.Common.{◌≡◌, ◌+◌, ◌<◌, ◌≤◌, ◌++◌, List, ℕ, length, sym, ap, ◌∙◌, arith, refl, Ok, Err}
+use Rattle.std.proofs.Common.{◌≡◌, ◌<◌, ◌≤◌, ◌++◌, List, ℕ, ap, ◌∙◌, arith, refl}
 use Rattle.psi_tables.specs.Descriptors.{cue_registration, descriptor_bytes}
 use Rattle.psi_tables.specs.Streams.{entry_bytes}
 use Rattle.psi_tables.specs.ProgramMap.{info_in, entries_in, map_length, map_of, body_with}

@@ -1,4 +1,4 @@
-use Rattle.std.proofs.Common.{◌≡◌, ◌+◌, ◌≤◌, true, false, sym, ap, length, List, ℕ, ◌∙◌, arith, length-append}
+use Rattle.std.proofs.Common.{◌≡◌, ◌+◌, true, false, sym, ap, length, List, ℕ, ◌∙◌, arith, length-append}
 use Rattle.std.specs.Prelude.{◌==◌, ◌&&◌}
 use Rattle.psi_tables.specs.Descriptors.{registers_cues}
 use Rattle.psi_tables.proofs.Chains.{both}

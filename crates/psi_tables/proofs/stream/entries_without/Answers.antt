@@ -1,6 +1,6 @@
-use Rattle.std.proofs.Common.{◌≡◌, ℕ, List, true, false, sym, ◌∙◌}
+use Rattle.std.proofs.Common.{◌≡◌, true, false, sym, ◌∙◌}
 use Rattle.std.specs.Prelude.{◌==◌}
-use Rattle.psi_tables.proofs.EntryLemmas.{Without, entry_dropped, entry_kept, without_done}
+use Rattle.psi_tables.proofs.EntryLemmas.{entry_dropped, entry_kept, without_done}
 use Rattle.psi_tables.proofs.stream.entries_without.Goals as goal
 
 pub loop-stream-preserved-then-eq : goal.loop-stream-preserved-then-eq
