@@ -111,6 +111,8 @@ impl Line {
             ≡ left_of self.new.given self.new.at self.new.high self.new.packet []) }
         ensures bad { OnFalse result (left_of self.old.given self.old.at self.old.high self.old.packet [] ≡ None) }
         ensures ended { OnTrue result (self.new.at ≡ 0) }
+        ensures high { self.new.high ≡ self.old.high }
+        ensures kept { OnFalse result (self.new ≡ self.old) }
     {
         if self.at == 0 {
             return true;
