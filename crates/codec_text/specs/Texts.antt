@@ -1,0 +1,159 @@
+-- What the texts are, where the bytes that are printed are stated.
+use Rattle.std.specs.Prelude.{ℕ, ◌/◌, ◌%◌, Bool, true, List, [], ◌∷◌, ◌++◌, Option, Some, None, codes, drop, if◌then◌else◌}
+use Rattle.std.specs.Fmt.{decimal, digit_glyph}
+use Rattle.std.specs.Int.{w16, w32, to_be_bytes}
+use Rattle.scte35_codec.specs.declared.cue.Insert.{Insert}
+use Rattle.scte35_codec.specs.declared.cue.Cue.{Cue}
+use Rattle.scte35_codec.specs.declared.cue.Cue.TheVariants as cue
+use Rattle.scte35_codec.specs.AvailsLeft.{avails_left}
+use Rattle.scte104_codec.specs.declared.head.Head.{Head}
+use Rattle.scte104_codec.specs.declared.framing.Frame.{Frame}
+use Rattle.scte104_codec.specs.declared.framing.Frame.TheVariants.{NeedMore, Whole, BadSize}
+use Rattle.scte104_codec.specs.declared.message.BadMessage.{BadMessage}
+use Rattle.scte104_codec.specs.declared.message.Multi.{Multi}
+use Rattle.scte104_codec.specs.declared.message.Message.{Message}
+use Rattle.scte104_codec.specs.declared.message.Message.TheVariants as message
+use Rattle.scte104_codec.specs.Operations.{Operation}
+use Rattle.scte104_codec.specs.OperationsLeft.{operations_left}
+use Rattle.psi_tables.specs.declared.stream.Stream.{Stream}
+use Rattle.psi_tables.specs.Sections.{is_current}
+use Rattle.psi_tables.specs.Streams.{pid_in}
+use Rattle.psi_tables.specs.Association.{Association, first_program_of}
+use Rattle.psi_tables.specs.ProgramMap.{ProgramMap, streams_of}
+
+-- two upper case hexadecimal digits for each byte, the high four bits first
+abbrev pub digits_of : List ℕ → List ℕ
+digits_of [] = []
+digits_of (b ∷ rest) = digit_glyph true (b / 16) ∷ digit_glyph true (b % 16) ∷ digits_of rest
+
+-- bytes; `-` where there are none
+abbrev pub bytes_text : List ℕ → List ℕ
+bytes_text [] = codes "-"
+bytes_text (b ∷ rest) = digits_of (b ∷ rest)
+
+-- a time in ticks
+abbrev pub time_text : Option ℕ → List ℕ
+time_text None = codes "none"
+time_text (Some ticks) = decimal ticks
+
+-- how a break ends
+abbrev pub end_text : Bool → List ℕ
+end_text returns = if returns then codes "return" else codes "stay"
+
+-- whether a break ends by itself, and its length in ticks
+abbrev pub length_text : Option (Bool × ℕ) → List ℕ
+length_text None = codes "none"
+length_text (Some length) = decimal length.1 ++ codes "/" ++ end_text length.0
+
+-- a programme's number and the PID of its map
+abbrev pub program_text : Option (ℕ × ℕ) → List ℕ
+program_text None = codes "none"
+program_text (Some program) = decimal program.0 ++ codes ":" ++ decimal program.1
+
+abbrev pub head_text : Head → List ℕ
+head_text h = codes "as_index=" ++ decimal h.as_index ++ codes " number=" ++ decimal h.number ++ codes " index=" ++ decimal h.index
+
+abbrev pub frame_text : Frame → List ℕ
+frame_text (NeedMore count) = codes "NeedMore " ++ decimal count
+frame_text (Whole size) = codes "Whole " ++ decimal size
+frame_text BadSize = codes "BadSize"
+
+-- a message that breaks the syntax, from its bytes
+abbrev pub bad_message_text : BadMessage → List ℕ → List ℕ
+bad_message_text bad bytes =
+    if bad.multi then codes "BadMulti " ++ head_text bad.head
+    else codes "BadAlive " ++ head_text bad.head ++ codes " data=" ++ bytes_text (drop 13 bytes)
+
+-- a flag
+abbrev pub flag_text : Bool → List ℕ
+flag_text flag = if flag then codes "1" else codes "0"
+
+-- ---- cues
+
+-- a number of four bytes in hexadecimal digits
+abbrev pub number32_text : ℕ → List ℕ
+number32_text n = bytes_text (to_be_bytes w32 n)
+
+-- avails behind others
+abbrev pub more_avails_text : List ℕ → List ℕ
+more_avails_text [] = []
+more_avails_text (avail ∷ rest) = codes "," ++ number32_text avail ++ more_avails_text rest
+
+abbrev pub avails_text : List ℕ → List ℕ
+avails_text [] = codes "-"
+avails_text (avail ∷ rest) = number32_text avail ++ more_avails_text rest
+
+-- what is spliced, and when
+abbrev pub splice_text : Insert → List ℕ
+splice_text i =
+    codes "Insert event=" ++ number32_text i.event ++ codes " out=" ++ flag_text i.out ++ codes " time=" ++ time_text i.time
+    ++ codes " length=" ++ length_text i.length
+
+-- which avail of which programme that is
+abbrev pub avail_text : Insert → List ℕ
+avail_text i =
+    codes " program=" ++ decimal i.program ++ codes " avail=" ++ decimal i.avail ++ codes " expected=" ++ decimal i.expected
+    ++ codes " avails=" ++ avails_text (avails_left i.avails)
+
+abbrev pub insert_text : Insert → List ℕ
+insert_text i = splice_text i ++ avail_text i
+
+abbrev pub cue_text : Cue → List ℕ
+cue_text (cue.Insert i) = insert_text i
+cue_text (cue.Cancel event) = codes "Cancel event=" ++ number32_text event
+cue_text cue.Null = codes "Null"
+cue_text cue.Other = codes "Other"
+
+-- ---- messages
+
+abbrev pub operation_text : Operation → List ℕ
+operation_text o = codes " " ++ bytes_text (to_be_bytes w16 o.op) ++ codes ":" ++ bytes_text o.body
+
+abbrev pub more_operations_text : List Operation → List ℕ
+more_operations_text [] = []
+more_operations_text (o ∷ rest) = operation_text o ++ more_operations_text rest
+
+abbrev pub operations_text : List Operation → List ℕ
+operations_text [] = codes " no-operations"
+operations_text (o ∷ rest) = more_operations_text (o ∷ rest)
+
+abbrev pub versions_text : Multi → List ℕ
+versions_text m = codes "version=" ++ decimal m.version ++ codes " cue_version=" ++ decimal m.cue_version ++ codes " time_kind=" ++ decimal m.time_kind
+
+abbrev pub multi_text : Multi → List ℕ
+multi_text m = codes "Multi " ++ head_text m.head ++ codes " " ++ versions_text m ++ operations_text (operations_left m.operations)
+
+abbrev pub message_text : Message → List ℕ
+message_text (message.Init head) = codes "Init " ++ head_text head
+message_text (message.Alive head bytes) = codes "Alive " ++ head_text head ++ codes " data=" ++ bytes_text bytes.now
+message_text (message.Other head) = codes "Other " ++ head_text head
+message_text (message.Multi m) = multi_text m
+
+-- ---- tables
+
+abbrev pub stream_text : Stream → List ℕ
+stream_text s = bytes_text (s.kind ∷ []) ++ codes ":" ++ decimal s.pid
+
+abbrev pub more_streams_text : List Stream → List ℕ
+more_streams_text [] = []
+more_streams_text (s ∷ rest) = codes "," ++ stream_text s ++ more_streams_text rest
+
+abbrev pub streams_text : List Stream → List ℕ
+streams_text [] = codes "-"
+streams_text (s ∷ rest) = stream_text s ++ more_streams_text rest
+
+abbrev pub association_text : Association → List ℕ
+association_text a = codes "Pat current=" ++ flag_text (is_current a.version) ++ codes " first=" ++ program_text (first_program_of a.pairs)
+
+-- which map it is
+abbrev pub numbers_text : ProgramMap → List ℕ
+numbers_text m =
+    codes "Pmt program=" ++ decimal m.program ++ codes " current=" ++ flag_text (is_current m.version)
+    ++ codes " numbers=" ++ decimal m.section_number ++ codes "/" ++ decimal m.last_section_number
+
+-- its streams
+abbrev pub map_streams_text : ProgramMap → List ℕ
+map_streams_text m = codes " pcr=" ++ decimal (pid_in m.pcr_field) ++ codes " entries=" ++ streams_text (streams_of m)
+
+abbrev pub map_text : ProgramMap → List ℕ
+map_text m = numbers_text m ++ map_streams_text m

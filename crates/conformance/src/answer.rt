@@ -1,0 +1,88 @@
+//! The answer to a line.
+
+ghost use Rattle.std.specs.Prelude.{◌≡◌, length};
+ghost use Rattle.scte104_codec.specs.declared.framing.Frame.TheVariants.{Whole};
+ghost use Rattle.scte104_codec.specs.Framing.{frame_of};
+
+use crate::line::{Kind, kind_of, word_bytes};
+use crate::sections::{found_in, packets_of, write_found};
+use crate::table::write_table;
+use codec_text::{BadMessageText, CueFaultText, CueText, FrameText, MessageText};
+use scte104_codec::Frame;
+use std::alloc::Global;
+use std::io::{self, Write};
+
+/// Writes the answer to a line, which is given without its line feed.
+pub fn write_answer<O: Write>(alloc: Global, output: &mut O, line: &[u8]) -> io::Result<()> {
+    match kind_of(line) {
+        None => writeln!(output, "bad line"),
+        Some((Kind::Sections, words)) => write_sections(alloc, output, words),
+        Some((kind, word)) => match word_bytes(alloc, word)? {
+            None => writeln!(output, "bad line"),
+            Some(bytes) => write_reading(output, kind, bytes.as_slice()),
+        },
+    }
+}
+
+/// Writes what the packets of these words finish.
+fn write_sections<O: Write>(alloc: Global, output: &mut O, words: &[u8]) -> io::Result<()> {
+    match packets_of(alloc, words)? {
+        None => writeln!(output, "bad line"),
+        Some(packets) => write_found(output, &found_in(alloc, packets.as_slice())?),
+    }
+}
+
+/// Writes what these bytes are.
+fn write_reading<O: Write>(output: &mut O, kind: Kind, bytes: &[u8]) -> io::Result<()> {
+    match kind {
+        Kind::Cue => write_cue(output, bytes),
+        Kind::Message => write_message(output, bytes),
+        Kind::Table => write_table(output, bytes),
+        Kind::Sections => writeln!(output, "bad line"),
+    }
+}
+
+/// Writes the cue that these bytes are, or why they are none.
+fn write_cue<O: Write>(output: &mut O, bytes: &[u8]) -> io::Result<()> {
+    match scte35_codec::read(bytes) {
+        Ok(cue) => {
+            let text = CueText(cue);
+            writeln!(output, "{text}")
+        }
+        Err(fault) => {
+            let text = CueFaultText(fault);
+            writeln!(output, "{text}")
+        }
+    }
+}
+
+/// Writes the message at the front of these bytes, or what is missing of it.
+#[tactic(auto, using(crate::proofs::FrameLemmas::whole_fits, crate::proofs::FrameLemmas::front_size, crate::proofs::FrameLemmas::front_whole))]
+fn write_message<O: Write>(output: &mut O, bytes: &[u8]) -> io::Result<()> {
+    match scte104_codec::frame(bytes) {
+        Frame::Whole(size) => write_whole(output, &bytes[..size]),
+        frame => {
+            let text = FrameText(frame);
+            writeln!(output, "{text}")
+        }
+    }
+}
+
+/// Writes this message, or how it breaks the syntax.
+fn write_whole<O: Write>(output: &mut O, message: &[u8]) -> io::Result<()>
+    requires { frame_of message.now ≡ Whole (length message.now) }
+{
+    match scte104_codec::read(message) {
+        Ok(read) => {
+            let text = MessageText(read);
+            writeln!(output, "{text}")
+        }
+        Err(bad) => {
+            let text = BadMessageText {
+                bad,
+                bytes: message,
+            };
+            writeln!(output, "{text}")
+        }
+    }
+}
