@@ -1,13 +1,17 @@
 //! The program `dpi_chain`: `program` of `dpi_program`, over the process's words, streams and files.
 #![tactic(auto)]
 
+ghost use Rattle.std.specs.Prelude.{◌≤◌, IfOk};
+
 use dpi_program::program::program;
 use std::alloc::AllocError;
 use std::process::ExitCode;
 use std::{env, io};
 
 /// Runs the program with the words after its name, and answers its exit status.
-fn status(rt: &HostRuntime) -> io::Result<u8> {
+fn status(rt: &HostRuntime) -> io::Result<u8>
+    ensures { IfOk result (λ number. number ≤ 2) }
+{
     let owned: Vec<String> = env::args(rt)?.skip(1).collect(rt.alloc())?;
     let words: Result<Vec<&str>, AllocError> = owned
         .iter()
