@@ -10,7 +10,7 @@ use packet_lines::{LineSource, LineTarget, LinesFault};
 use std::fs;
 use std::io::{BufReader, BufWriter, Read, Write};
 use std::rt::Files;
-use ts_packet::{Device, PutFault, ReadFault, Source};
+use ts_packet::{Buffered, Device, PutFault, ReadFault, Source};
 use unit_cut::{CutFault, cut};
 
 /// The exit status where all is done.
@@ -173,13 +173,13 @@ where
             let Ok(reader) = BufReader::with_capacity(rt.alloc(), BUFFER_SIZE, file) else {
                 return Err(ProgramFault::OutOfMemory);
             };
-            cut_to(rt, options, &mut Device::new(reader), to, output)
+            cut_to(rt, options, &mut Buffered::new(reader), to, output)
         }
         None => {
             let Ok(reader) = BufReader::with_capacity(rt.alloc(), BUFFER_SIZE, input) else {
                 return Err(ProgramFault::OutOfMemory);
             };
-            let mut network = LineSource::new(Device::new(reader));
+            let mut network = LineSource::new(Buffered::new(reader));
             let result = cut_to(rt, options, &mut network, to, output);
             if network.found_bad_line() {
                 return Err(ProgramFault::Lines(LinesFault::BadLine));

@@ -4,6 +4,7 @@ pub mod HistoryLemmas
 pub mod CountLemmas
 pub mod WritingLemmas
 pub mod TransferLemmas
+pub mod BufferedLemmas
 pub mod ReadingLemmas
 pub mod ClockLemmas
 pub mod PacketsLemmas

@@ -1,6 +1,6 @@
 //! What bytes are read from and written to, with the counts that say what it did.
 
-use std::io;
+use std::io::{self, BufRead, BufReader, Read};
 
 /// Why a call of a device gave nothing.
 #[derive(Clone, Copy, Debug, PartialEq, Eq, Drop)]
@@ -99,7 +99,7 @@ impl<T> Device<T> {
     }
 }
 
-impl<R: io::Read> Source for Device<R> {
+impl<R: Read> Source for Device<R> {
     ghost remaining = { λ d. R.remaining d.inner };
 
     ghost calls = { λ d. d.calls };
@@ -119,6 +119,49 @@ impl<R: io::Read> Source for Device<R> {
                 Err(DeviceFault::Failed)
             }
         }
+    }
+}
+
+/// A buffered reader of std, with its counts. A read that the buffer can serve whole copies its bytes, and calls nothing.
+#[derive(Drop)]
+pub struct Buffered<R: Read> {
+    device: Device<BufReader<R>>,
+}
+
+impl<R: Read> Buffered<R> {
+    ghost use Rattle.std.specs.Prelude.{◌≡◌};
+
+    /// The device over this reader, with no call made.
+    pub fn new(reader: BufReader<R>) -> Buffered<R>
+        ensures inner { result.device.inner ≡ reader }
+        ensures calls { result.device.calls ≡ 0 }
+        ensures failures { result.device.failures ≡ 0 }
+    {
+        Buffered {
+            device: Device::new(reader),
+        }
+    }
+}
+
+impl<R: Read> Source for Buffered<R> {
+    ghost use Rattle.std.specs.Io.Buffered.{reader_remaining};
+
+    ghost remaining = { λ b. reader_remaining R.remaining b.device.inner };
+
+    ghost calls = { λ b. b.device.calls };
+
+    ghost failures = { λ b. b.device.failures };
+
+    #[inline(always)]
+    fn read(&mut self, buf: &mut [u8]) -> Result<usize, DeviceFault> {
+        let count = buf.len();
+        if self.device.inner.buffer().len() < count {
+            return self.device.read(buf);
+        }
+        buf.copy_from_slice(&self.device.inner.buffer()[..count]);
+        self.device.inner.consume(count);
+        self.device.calls = self.device.calls.saturating_add(1);
+        Ok(count)
     }
 }
 

@@ -19,7 +19,7 @@ pub mod transfer;
 pub mod writer;
 
 pub use counter::Counter;
-pub use device::{Device, DeviceFault, Source, Target};
+pub use device::{Buffered, Device, DeviceFault, Source, Target};
 pub use follower::{Follower, Last};
 pub use list::PacketList;
 pub use packet::{Packet, PacketFault};

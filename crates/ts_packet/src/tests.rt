@@ -3,7 +3,7 @@
 use crate::pcr_only::pcr_only;
 use crate::*;
 use std::alloc::{AllocError, Global};
-use std::io;
+use std::io::{self, BufReader};
 use std::test::Fail;
 
 /// What a device does at its odd call.
@@ -240,6 +240,38 @@ fn reads_byte_by_byte(rt: HostRuntime) -> Result<(), Fail> {
 }
 
 #[test]
+fn reads_through_a_buffer(rt: HostRuntime) -> Result<(), Fail> {
+    let all = two(rt.alloc())?;
+    for (capacity, step) in [(1, 60), (188, 60), (250, 400), (376, 400), (400, 1)] {
+        let odd = Odd::new(rt.alloc(), &all, step, 10_000, Oddity::Fails);
+        let mut device = Buffered::new(BufReader::with_capacity(rt.alloc(), capacity, odd)?);
+        let mut reader = PacketReader::new(&mut device);
+        assert_eq!(rt;
+            reader.next(),
+            Ok(Some(packet(1, 7, 1)?)),
+            "capacity {capacity}"
+        );
+        assert_eq!(rt;
+            reader.next(),
+            Ok(Some(packet(1, 8, 2)?)),
+            "capacity {capacity}"
+        );
+        assert_eq!(rt; reader.next(), Ok(None), "capacity {capacity}");
+    }
+    for odd_call in 0..2 {
+        let odd = Odd::new(rt.alloc(), &all, 200, odd_call, Oddity::Fails);
+        let mut device = Buffered::new(BufReader::with_capacity(rt.alloc(), 400, odd)?);
+        let failed = Err(ReadFault::Failed);
+        let expected = match odd_call {
+            0 => [Err(ReadFault::Io), failed, failed, failed],
+            _ => [Ok(true), Err(ReadFault::Io), failed, failed],
+        };
+        assert_eq!(rt; four_answers(&mut device), expected, "at {odd_call}");
+    }
+    Ok(())
+}
+
+#[test]
 fn gives_up_on_interruptions(rt: HostRuntime) -> Result<(), Fail> {
     let all = two(rt.alloc())?;
     let mut device = Device::new(Odd::new(rt.alloc(), &all, 60, 0, Oddity::AlwaysInterrupts));
@@ -249,7 +281,7 @@ fn gives_up_on_interruptions(rt: HostRuntime) -> Result<(), Fail> {
     let mut writer = PacketWriter::new(&mut device);
     assert_eq!(rt; writer.put(&Packet::null()), Err(PutFault::Turns));
     assert_eq!(rt; writer.put(&Packet::null()), Err(PutFault::Failed));
-    assert_eq!(rt; device.into_inner().calls, 0x20_0000);
+    assert_eq!(rt; device.into_inner().calls, 0x20_0002);
     Ok(())
 }
 

@@ -8,7 +8,7 @@ ghost use Rattle.ts_packet.specs.Sinks.{Later, Blamed};
 use crate::device::{DeviceFault, Source, Target};
 use crate::sink::PutFault;
 
-/// How many calls of a device one transfer may take.
+/// How many calls of a device one transfer may take behind its first.
 pub const MAX_TURNS: u32 = 0x10_0000;
 
 /// Why a read gave up.
@@ -16,13 +16,38 @@ pub const MAX_TURNS: u32 = 0x10_0000;
 pub enum FillFault {
     /// The device failed.
     Io,
-    /// 2^20 calls did not give enough.
+    /// 2^20 calls and the first did not give enough.
     Turns,
 }
 
 /// Reads until the buffer is full or the source ends, and answers how many bytes there are. An interrupted read is tried again.
+///
+/// The first read stands apart: mostly it gives all, and the size of what it copies is known where this is compiled in.
 #[inline(always)]
 pub fn fill<S: Source>(source: &mut S, buf: &mut [u8]) -> Result<usize, FillFault>
+    requires { 0 < length buf.old }
+    ensures ok { IfOk result (λ n. Filled (S.remaining source.old) (S.remaining source.new) buf.new n) }
+    ensures blamed { IfErr result (λ f. FillBlamed f (S.calls source.old) (S.calls source.new) (S.failures source.old) (S.failures source.new)) }
+    ensures calls { S.calls source.old ≤ S.calls source.new }
+    ensures failures { S.failures source.old ≤ S.failures source.new }
+{
+    match source.read(buf) {
+        Ok(n) => {
+            if n == 0 || n == buf.len() {
+                return Ok(n);
+            }
+            let more = fill_rest(source, &mut buf[n..])?;
+            Ok(n + more)
+        }
+        Err(DeviceFault::Interrupted) => fill_rest(source, buf),
+        Err(DeviceFault::Failed) => Err(FillFault::Io),
+    }
+}
+
+/// The further reads of `fill`.
+#[cold]
+#[inline(never)]
+fn fill_rest<S: Source>(source: &mut S, buf: &mut [u8]) -> Result<usize, FillFault>
     requires { 0 < length buf.old }
     ensures ok { IfOk result (λ n. Filled (S.remaining source.old) (S.remaining source.new) buf.new n) }
     ensures blamed { IfErr result (λ f. FillBlamed f (S.calls source.old) (S.calls source.new) (S.failures source.old) (S.failures source.new)) }
@@ -47,8 +72,36 @@ pub fn fill<S: Source>(source: &mut S, buf: &mut [u8]) -> Result<usize, FillFaul
 }
 
 /// Writes all the bytes. After a fault a front of them is out. An interrupted write is tried again.
+///
+/// The first write stands apart, as the first read of `fill` does.
 #[inline(always)]
 pub fn write_whole<W: Target>(target: &mut W, bytes: &[u8]) -> Result<(), PutFault>
+    requires { 0 < length bytes.now }
+    ensures ok { OnOk result (Appends (W.contents target.old) (W.contents target.new) bytes.now) }
+    ensures err { OnErr result ((n : ℕ) × Appends (W.contents target.old) (W.contents target.new) (take n bytes.now)) }
+    ensures blamed { IfErr result (λ f. Blamed f (W.counts target.old) (W.counts target.new) false) }
+    ensures failed { result ≢ Err PutFault.Failed }
+    ensures later { Later (W.counts target.old) (W.counts target.new) }
+{
+    match target.write(bytes) {
+        Ok(n) => {
+            if n == 0 {
+                return Err(PutFault::Stuck);
+            }
+            if n == bytes.len() {
+                return Ok(());
+            }
+            write_rest(target, &bytes[n..])
+        }
+        Err(DeviceFault::Interrupted) => write_rest(target, bytes),
+        Err(DeviceFault::Failed) => Err(PutFault::Io),
+    }
+}
+
+/// The further writes of `write_whole`.
+#[cold]
+#[inline(never)]
+fn write_rest<W: Target>(target: &mut W, bytes: &[u8]) -> Result<(), PutFault>
     requires { 0 < length bytes.now }
     ensures ok { OnOk result (Appends (W.contents target.old) (W.contents target.new) bytes.now) }
     ensures err { OnErr result ((n : ℕ) × Appends (W.contents target.old) (W.contents target.new) (take n bytes.now)) }

@@ -1,26 +1,14 @@
-use Rattle.std.proofs.Common.{◌++◌, arith, take, sym, ap, ◌∙◌, subst}
+use Rattle.std.proofs.Common.{◌++◌, ◌+◌, take, sym, ap, ◌∙◌, subst}
 use Rattle.std.specs.Io.KnownBytes.{Appends}
-use Rattle.std.proofs.KnownBytes.{Appends-trans, Appends-kept}
+use Rattle.std.proofs.KnownBytes.{Appends-trans}
 use Rattle.std.proofs.lemmas.List.{take_rest}
+use Rattle.std.proofs.lemmas.Result.{on_err_weaker}
 use lib.Seq.{take-add}
-use Rattle.ts_packet.proofs.CountLemmas.{zeros-later}
 use Rattle.ts_packet.proofs.transfer.write_whole.Goals as goal
-use Rattle.ts_packet.proofs.transfer.write_whole.Goals.{in-Ok+else-at-bytes, in-Err-Interrupted}
 
-pub loop-turn-preserved : goal.loop-turn-preserved
-loop-turn-preserved g c =
-    let zeros = zeros-later _ _ _ c.write.ensures.zeros in
-    elim c.match-write.branch [
-      | in-Ok+else-at-bytes w ↦ record {
-        within = grind arith;
-        bytes = subst (Appends _ _) (ap (λ l. take c.loop-turn.at c.args.bytes.now ++ take w.in-Ok.n l) (take_rest c.args.bytes.now c.loop-turn.at) ∙ sym (take-add c.loop-turn.at w.in-Ok.n c.args.bytes.now) ∙ ap (λ k. take k c.args.bytes.now) (sym w.at-is)) (Appends-trans _ _ _ _ _ c.loop-turn.invariant.bytes w.in-Ok.ensures.bytes);
-        turns = grind arith;
-        later = record { calls = grind arith; failed = grind arith; zeros = grind arith };
-      }
-      | in-Err-Interrupted w ↦ record {
-        within = grind arith;
-        bytes = rw w.at-is (Appends-kept _ _ _ _ c.loop-turn.invariant.bytes w.in-Err-Interrupted.ensures.bytes);
-        turns = grind arith;
-        later = record { calls = grind arith; failed = grind arith; zeros = grind arith };
-      }
-    ]
+-- what the first write took, and then what the others took
+pub returns-else-n-bytes-clause-err : goal.returns-else-n-bytes-clause-err
+returns-else-n-bytes-clause-err g c =
+    let n = c.in-Ok.n in
+    let bytes = c.args.bytes.now in
+    on_err_weaker c.write_rest.result (λ p. (n + p.0, subst (Appends _ _) (ap (λ l. take n bytes ++ take p.0 l) (take_rest bytes n) ∙ sym (take-add n p.0 bytes)) (Appends-trans _ _ _ _ _ c.in-Ok.ensures.bytes p.1))) c.write_rest.ensures.err

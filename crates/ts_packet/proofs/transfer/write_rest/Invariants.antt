@@ -2,7 +2,7 @@ use Rattle.std.proofs.Common.{◌<◌, length, take}
 use Rattle.std.specs.Io.KnownBytes.{Appends}
 use Rattle.ts_packet.specs.Transfers.{Rose}
 use Rattle.ts_packet.specs.Sinks.{Later}
-use Rattle.ts_packet.proofs.transfer.write_whole.Given as goal
+use Rattle.ts_packet.proofs.transfer.write_rest.Given as goal
 
 abbrev pub invariant-loop-turn : goal.invariant-loop-turn
 invariant-loop-turn g l = record {
