@@ -148,7 +148,7 @@ unfolding IsBits
 bits-are a b =
     (omega arith, omega arith, (omega arith, omega arith, (omega arith, omega arith, (omega arith, omega arith, (omega arith, omega arith, (omega arith, omega arith, (omega arith, omega arith, (omega arith, omega arith, tt))))))))
 
-byte-xor : (r s a b : ℕ) → r < 2 ^ 32 → s < 2 ^ 32 → with_bits (bit_xor r s) (bits_of (bit_xor a b)) ≡ bit_xor (with_bits r (bits_of a)) (with_bits s (bits_of b))
+pub byte-xor : (r s a b : ℕ) → r < 2 ^ 32 → s < 2 ^ 32 → with_bits (bit_xor r s) (bits_of (bit_xor a b)) ≡ bit_xor (with_bits r (bits_of a)) (with_bits s (bits_of b))
 byte-xor r s a b rb sb =
     ap (with_bits (bit_xor r s)) (bits-xor a b) ∙ steps-xor r s rb sb (bits_of a) (bits_of b) (bits-are a b)
 
@@ -232,9 +232,8 @@ walk_step r i bs h =
     let e : drop i bs ≡ slice_index bs i ∷ drop (i + 1) bs = rw add-one (drop-cons bs i 0 h) in
     sym (ap (crc_remainder r) e ∙ crc_remainder-cons r (slice_index bs i) (drop (i + 1) bs))
 
-pub walk_end : (r i : ℕ) (bs : List ℕ) → length bs ≤ i → crc_remainder r (drop i bs) ≡ crc_remainder (2 ^ 32 - 1) bs → r ≡ crc bs
-unfolding crc
-walk_end r i bs h e = sym (crc_remainder-nil r) ∙ ap (crc_remainder r) (sym (drop_of_length-le bs h)) ∙ e
+pub walk_end : (r s i : ℕ) (bs : List ℕ) → length bs ≤ i → crc_remainder r (drop i bs) ≡ crc_remainder s bs → r ≡ crc_remainder s bs
+walk_end r s i bs h e = sym (crc_remainder-nil r) ∙ ap (crc_remainder r) (sym (drop_of_length-le bs h)) ∙ e
 
 -- ---- the CRC_32 behind its own bytes
 
@@ -245,9 +244,12 @@ bits_below r h [] (y ∷ ys) b = absurd b
 bits_below r h (x ∷ xs) [] b = absurd b
 bits_below r h (x ∷ xs) (y ∷ ys) b = bits_below (with_bit r x) (step-below r h x b.0) xs ys b.2
 
+pub byte_below : (r b : ℕ) → r < 2 ^ 32 → with_bits r (bits_of b) < 2 ^ 32
+byte_below r b h = bits_below r h (bits_of b) (bits_of b) (bits-are b b)
+
 remainder_below : (r : ℕ) → r < 2 ^ 32 → (bs : List ℕ) → remainder_after r bs < 2 ^ 32
 remainder_below r h [] = h
-remainder_below r h (b ∷ bs) = remainder_below (with_bits r (bits_of b)) (bits_below r h (bits_of b) (bits_of b) (bits-are b b)) bs
+remainder_below r h (b ∷ bs) = remainder_below (with_bits r (bits_of b)) (byte_below r b h) bs
 
 pub crc-below : (bs : List ℕ) → crc bs < 2 ^ 32
 unfolding crc crc_remainder
@@ -256,6 +258,10 @@ crc-below bs = remainder_below (2 ^ 32 - 1) (omega arith) bs
 remainder-append : (r : ℕ) (as' bs : List ℕ) → remainder_after r (as' ++ bs) ≡ remainder_after (remainder_after r as') bs
 remainder-append r [] bs = refl
 remainder-append r (a ∷ as') bs = remainder-append (with_bits r (bits_of a)) as' bs
+
+pub crc_remainder-append : (r : ℕ) (as' bs : List ℕ) → crc_remainder r (as' ++ bs) ≡ crc_remainder (crc_remainder r as') bs
+unfolding crc_remainder
+crc_remainder-append r as' bs = remainder-append r as' bs
 
 -- a remainder's first byte behind it moves the others up
 own_byte : (r : ℕ) → r < 2 ^ 32 → with_bits r (bits_of (r / 2 ^ 24)) ≡ r * 256 % 2 ^ 32

@@ -1,4 +1,5 @@
 pub mod CrcLemmas
+pub mod ChunkLemmas
 pub mod TableLemmas
 pub mod StoreLemmas
 pub mod FrontLemmas

@@ -10,6 +10,7 @@ pub mod laws;
 pub mod packetiser;
 mod payload;
 mod store;
+mod tables;
 #[cfg(test)]
 mod tests;
 

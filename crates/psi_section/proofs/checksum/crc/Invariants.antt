@@ -1,7 +1,7 @@
-use Rattle.std.proofs.Common.{◌≡◌, drop, ◌-◌, ◌^◌}
+use Rattle.std.proofs.Common.{◌≡◌, drop, ◌*◌, ◌-◌, ◌^◌}
 use Rattle.psi_section.specs.Crc.{crc_remainder}
 use Rattle.psi_section.proofs.checksum.crc.Given as goal
 
--- the rest divided from here gives the remainder of all
-abbrev pub invariant-loop-byte : goal.invariant-loop-byte
-invariant-loop-byte l = crc_remainder l.remainder (drop l.byte-index l.bytes) ≡ crc_remainder (2 ^ 32 - 1) l.bytes
+-- the bytes behind the chunks so far, divided from here, give the remainder of all
+abbrev pub invariant-loop-chunk : goal.invariant-loop-chunk
+invariant-loop-chunk l = crc_remainder l.remainder (drop (l.chunk-index * 8) l.bytes) ≡ crc_remainder (2 ^ 32 - 1) l.bytes
