@@ -49,12 +49,12 @@ spell_step line bytes start i inside room =
     let cut : drop n line ≡ get_or line n 0 ∷ get_or line (suc n) 0 ∷ drop (suc (suc n)) line =
     drop-cons line n 0 (omega arith) ∙ ap (λ r. get_or line n 0 ∷ r) (drop-cons line (suc n) 0 (omega arith)) in
     let next : suc (suc n) ≡ 2 * (start + (i + 1)) = omega arith in
-    let spelled : take (2 * start) line ++ digits_of (take (i + 1) bytes) ≡ done ++ digit_of (b / 16) ∷ digit_of (b % 16) ∷ [] =
+    let more : take (2 * start) line ++ digits_of (take (i + 1) bytes) ≡ done ++ digit_of (b / 16) ∷ digit_of (b % 16) ∷ [] =
     ap (λ r. take (2 * start) line ++ r) (sym (digits_step bytes i inside))
     ∙ sym (append_assoc (take (2 * start) line) (digits_of (take i bytes)) (digit_of (b / 16) ∷ digit_of (b % 16) ∷ [])) in
     ap (λ r. slice_set (slice_set (done ++ r) n (digit_of (b / 16))) (n + 1) (digit_of (b % 16))) cut
     ∙ set_two done (get_or line n 0) (get_or line (suc n) 0) (drop (suc (suc n)) line) n (digit_of (b / 16)) (digit_of (b % 16)) size
-    ∙ (rw (spelled, next) refl)
+    ∙ (rw (more, next) refl)
 
 -- ---- read out of a text
 

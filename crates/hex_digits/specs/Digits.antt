@@ -6,7 +6,7 @@ use Rattle.std.specs.Fmt.{digit_glyph}
 abbrev pub digit_value : ℕ → Option ℕ
 digit_value c = if nat_le 48 c && nat_le c 57 then Some (c - 48) else (if nat_le 65 c && nat_le c 70 then Some (c - 55) else None)
 
--- the digit of a value below 16
+-- the upper case digit of a value below 16, as std prints it: `0` to `9`, then `A` to `F`
 abbrev pub digit_of : ℕ → ℕ
 digit_of v = digit_glyph true v
 
