@@ -1,7 +1,8 @@
 -- What the texts are, where the bytes that are printed are stated.
-use Rattle.std.specs.Prelude.{ℕ, ◌/◌, ◌%◌, Bool, true, List, [], ◌∷◌, ◌++◌, Option, Some, None, codes, drop, if◌then◌else◌}
-use Rattle.std.specs.Fmt.{decimal, digit_glyph}
+use Rattle.std.specs.Prelude.{ℕ, Bool, List, [], ◌∷◌, ◌++◌, Option, Some, None, codes, drop, if◌then◌else◌}
+use Rattle.std.specs.Fmt.{decimal}
 use Rattle.std.specs.Int.{w16, w32, to_be_bytes}
+use Rattle.hex_digits.specs.Digits.{digits_of}
 use Rattle.scte35_codec.specs.declared.cue.Insert.{Insert}
 use Rattle.scte35_codec.specs.declared.cue.Cue.{Cue}
 use Rattle.scte35_codec.specs.declared.cue.Cue.TheVariants as cue
@@ -21,12 +22,7 @@ use Rattle.psi_tables.specs.Streams.{pid_in}
 use Rattle.psi_tables.specs.Association.{Association, first_program_of}
 use Rattle.psi_tables.specs.ProgramMap.{ProgramMap, streams_of}
 
--- two upper case hexadecimal digits for each byte, the high four bits first
-abbrev pub digits_of : List ℕ → List ℕ
-digits_of [] = []
-digits_of (b ∷ rest) = digit_glyph true (b / 16) ∷ digit_glyph true (b % 16) ∷ digits_of rest
-
--- bytes; `-` where there are none
+-- bytes in digits; `-` where there are none
 abbrev pub bytes_text : List ℕ → List ℕ
 bytes_text [] = codes "-"
 bytes_text (b ∷ rest) = digits_of (b ∷ rest)
@@ -72,7 +68,7 @@ flag_text flag = if flag then codes "1" else codes "0"
 
 -- a number of four bytes in hexadecimal digits
 abbrev pub number32_text : ℕ → List ℕ
-number32_text n = bytes_text (to_be_bytes w32 n)
+number32_text n = digits_of (to_be_bytes w32 n)
 
 -- avails behind others
 abbrev pub more_avails_text : List ℕ → List ℕ
@@ -107,7 +103,7 @@ cue_text cue.Other = codes "Other"
 -- ---- messages
 
 abbrev pub operation_text : Operation → List ℕ
-operation_text o = codes " " ++ bytes_text (to_be_bytes w16 o.op) ++ codes ":" ++ bytes_text o.body
+operation_text o = codes " " ++ digits_of (to_be_bytes w16 o.op) ++ codes ":" ++ bytes_text o.body
 
 abbrev pub more_operations_text : List Operation → List ℕ
 more_operations_text [] = []
@@ -132,7 +128,7 @@ message_text (message.Multi m) = multi_text m
 -- ---- tables
 
 abbrev pub stream_text : Stream → List ℕ
-stream_text s = bytes_text (s.kind ∷ []) ++ codes ":" ++ decimal s.pid
+stream_text s = digits_of (s.kind ∷ []) ++ codes ":" ++ decimal s.pid
 
 abbrev pub more_streams_text : List Stream → List ℕ
 more_streams_text [] = []

@@ -1,7 +1,7 @@
 //! Cues as text.
 
-use crate::digits::Digits;
 use crate::flag::FlagText;
+use hex_digits::Digits;
 use pes_time::Time33;
 use scte35_codec::{Avails, Cue, Insert};
 use std::fmt;

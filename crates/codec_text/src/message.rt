@@ -2,7 +2,8 @@
 
 ghost use Rattle.std.specs.Prelude.{◌≡◌, drop};
 
-use crate::digits::Digits;
+use crate::bytes::BytesText;
+use hex_digits::Digits;
 use scte104_codec::{BadMessage, Frame, Head, Message, Multi, Operations};
 use std::fmt;
 
@@ -63,7 +64,7 @@ impl fmt::Display for MessageText<'_> {
             }
             Message::Alive(head, data) => {
                 let head = HeadText(head);
-                let data = Digits(data);
+                let data = BytesText(data);
                 write!(f, "Alive {head} data={data}")
             }
             Message::Other(head) => {
@@ -153,7 +154,7 @@ impl fmt::Display for MoreOperations<'_> {
         for (op, data) in self.0 {
             let bytes = op.to_be_bytes();
             let op = Digits(&bytes);
-            let data = Digits(data);
+            let data = BytesText(data);
             write!(f, " {op}:{data}")?;
         }
         Ok(())
@@ -178,7 +179,7 @@ impl fmt::Display for BadMessageText<'_> {
         if self.bad.multi {
             return write!(f, "BadMulti {head}");
         }
-        let data = Digits(behind_head(self.bytes));
+        let data = BytesText(behind_head(self.bytes));
         write!(f, "BadAlive {head} data={data}")
     }
 }

@@ -1,7 +1,7 @@
 //! Program association and program map sections as text.
 
-use crate::digits::Digits;
 use crate::flag::FlagText;
+use hex_digits::Digits;
 use psi_tables::{Entries, Pat, Pmt, Stream};
 use std::fmt;
 use ts_packet::Pid;

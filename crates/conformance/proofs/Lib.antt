@@ -1,3 +1,2 @@
 pub mod FrameLemmas
-pub mod DigitLemmas
 pub mod SectionLemmas

@@ -1,10 +1,10 @@
 //! What a line asks for.
 
 ghost use Rattle.std.specs.Prelude.{◌≡◌, ◌≢◌, ◌++◌, [], IfOk, IfSome, None, Some, codes, option_map};
-ghost use Rattle.conformance.specs.Digits.{spelled};
+ghost use Rattle.hex_digits.specs.Digits.{spelled};
 ghost use Rattle.conformance.specs.Lines.{word_of};
 
-use crate::digits::bytes_of;
+use hex_digits::bytes_of;
 use std::alloc::{AllocError, Global};
 
 /// The words before the bytes, which say what these are to be read as.

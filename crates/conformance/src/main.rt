@@ -1,10 +1,9 @@
 //! Shows what the codecs read: each line of standard input names bytes, and one line answers what they mean.
-//! It stands on the codecs and on `codec_text`, whose words it prints.
+//! It stands on the codecs, on `codec_text`, whose words it prints, and on `hex_digits`, which reads the bytes.
 //! It uses one contract of them above all: the bytes that a line spells, and no others, are read.
 #![tactic(auto)]
 
 mod answer;
-mod digits;
 mod line;
 mod program;
 mod sections;

@@ -3,8 +3,8 @@
 ghost use Rattle.std.specs.Prelude.{◌≡◌, length, OnOk};
 ghost use Rattle.psi_section.specs.Assembling.{IsReady};
 
-use crate::digits::bytes_of;
-use codec_text::Digits;
+use codec_text::BytesText;
+use hex_digits::bytes_of;
 use psi_section::Assembler;
 use std::alloc::{AllocError, Global};
 use std::io::{self, Write};
@@ -87,7 +87,7 @@ pub fn write_found<O: Write>(output: &mut O, found: &Found) -> io::Result<()> {
     write!(output, "bad={bad}")?;
     for finished in &found.finished {
         let place = finished.place;
-        let section = Digits(finished.section.as_slice());
+        let section = BytesText(finished.section.as_slice());
         write!(output, " {place}:{section}")?;
     }
     writeln!(output, "")

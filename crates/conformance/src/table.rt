@@ -1,6 +1,6 @@
 //! The answer to a section.
 
-use codec_text::{Digits, PatText, PmtText, TableFaultText, TooLongText};
+use codec_text::{BytesText, PatText, PmtText, TableFaultText, TooLongText};
 use psi_tables::{Pat, Pmt, add_cue, strip_cue};
 use std::io::{self, Write};
 use ts_packet::Pid;
@@ -43,7 +43,7 @@ fn write_map<O: Write>(output: &mut O, pmt: &Pmt<'_>) -> io::Result<()> {
     write!(output, "{text} | add=")?;
     match add_cue(pmt, cue_pid) {
         Ok(section) => {
-            let digits = Digits(section.as_slice());
+            let digits = BytesText(section.as_slice());
             write!(output, "{digits}")?;
         }
         Err(fault) => {
@@ -52,6 +52,6 @@ fn write_map<O: Write>(output: &mut O, pmt: &Pmt<'_>) -> io::Result<()> {
         }
     }
     let section = strip_cue(pmt, cue_pid);
-    let digits = Digits(section.as_slice());
+    let digits = BytesText(section.as_slice());
     write!(output, " | strip={digits}")
 }

@@ -7,10 +7,10 @@ use Rattle.std.proofs.Common.{not, Result, Ok, Err, IfOk, slice_set}
 use Rattle.std.proofs.Math.Seq.{set-append_seam, drop-cons, take-length}
 use Rattle.std.proofs.Math.ListN.{drop_of_length-le}
 use Rattle.std.proofs.lemmas.List.{length-take, take-take, length-drop, take_at, length-take-le}
-use Rattle.packet_lines.proofs.DigitLemmas.{length-digits_of}
+use Rattle.hex_digits.proofs.DigitLemmas.{digit_value-digit_of, length-digits_of}
 use Rattle.std.specs.Io.KnownBytes.{WriteAppends, Appends, Keeps, prepend_known, append_known}
-use Rattle.packet_lines.specs.Digits.{digit_value, digit_of, digits_of, line_of}
-use Rattle.packet_lines.specs.Lines.{is_right, next_place, next_high, ended_byte, closed, before, held_of}
+use Rattle.hex_digits.specs.Digits.{digit_of, digits_of}
+use Rattle.packet_lines.specs.Lines.{line_of, is_right, next_place, next_high, ended_byte, closed, before, held_of}
 
 pub before-append : (front end : List ℕ) → before end (front ++ end) ≡ Some front
 before-append front end =
@@ -79,9 +79,6 @@ closed-append at high (c ∷ xs) ys bytes e =
     let u = unprepend byte (closed (next_place at) (next_high at high c) xs) bytes h.1 in
     rw h.0 (ap (prepend_known byte) (closed-append (next_place at) (next_high at high c) xs ys u.0 u.1.0)
     ∙ prepend-prepend byte u.0 (closed 0 0 ys) ∙ ap (λ l. prepend_known l (closed 0 0 ys)) (sym u.1.1))
-
-digit_value-digit_of : (v : ℕ) → v < 16 → digit_value (digit_of v) ≡ Some v
-digit_value-digit_of v small = grind (arith, small)
 
 not_whole : (at : ℕ) → at < 376 → (at == 376) ≡ false
 not_whole at inside = grind (arith, inside)

@@ -1,4 +1,3 @@
-pub mod DigitLemmas
 pub mod HeldLemmas
 pub mod KnownLemmas
 pub mod LineLemmas

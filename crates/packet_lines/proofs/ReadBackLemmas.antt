@@ -1,8 +1,8 @@
 -- A packet's line is read back.
 use Rattle.std.proofs.Common.{◌≡◌, ℕ, suc, ◌+◌, ◌*◌, ◌/◌, ◌%◌, ◌<◌, List, [], ◌∷◌, ◌++◌, length, get_or, refl, ap, ◌∙◌, arith, append_assoc}
 use Rattle.std.specs.Io.KnownBytes.{prepend_known}
-use Rattle.packet_lines.specs.Digits.{digit_of, digits_of, line_of}
-use Rattle.packet_lines.specs.Lines.{next_high, spelled}
+use Rattle.hex_digits.specs.Digits.{digit_of, digits_of}
+use Rattle.packet_lines.specs.Lines.{line_of, next_high, spelled}
 use Rattle.packet_lines.proofs.LineLemmas.{spelled-right}
 use Rattle.packet_lines.proofs.HeldLemmas.{right_digit, next_digit, high_digit, ended_nothing, ended_digit, prepend-nil, prepend-prepend}
 

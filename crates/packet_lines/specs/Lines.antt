@@ -4,7 +4,11 @@
 use Rattle.std.specs.Prelude.{ℕ, ◌+◌, ◌*◌, ◌/◌, ◌%◌, ◌==◌, ◌&&◌, ◌||◌, ◌-◌, not, nat_eq, length, option_and_then, Bool, true, false, List, [], ◌∷◌, ◌++◌, Option, Some, None, is_some, unwrap_or, if◌then◌else◌, take, drop}
 use lib.Pointwise.{pointwise}
 use Rattle.std.specs.Io.KnownBytes.{prepend_known, append_known}
-use Rattle.packet_lines.specs.Digits.{digit_value}
+use Rattle.hex_digits.specs.Digits.{digit_value, digits_of}
+
+-- the line of a packet: its digits and the line's end
+abbrev pub line_of : List ℕ → List ℕ
+line_of packet = digits_of packet ++ 10 ∷ []
 
 -- the character may stand at this place: a digit, or behind 376 of them the line's end
 abbrev pub is_right : ℕ → ℕ → Bool

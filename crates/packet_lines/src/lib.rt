@@ -1,9 +1,8 @@
 //! Packets as lines of text: 376 upper case hexadecimal digits each, as a source, as a target, and the cut over them.
-//! It stands on the packets of `ts_packet` and the cut of `unit_cut`.
+//! It stands on the packets of `ts_packet`, the cut of `unit_cut` and the digits of `hex_digits`.
 //! What a caller uses: a `LineSource` tells the bytes that its lines spell, and a `LineTarget` those that it has written.
 #![tactic(auto)]
 
-mod digits;
 mod line;
 mod line_source;
 mod line_target;

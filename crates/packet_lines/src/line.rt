@@ -2,7 +2,7 @@
 
 ghost use Rattle.std.specs.Prelude.{◌≡◌, ◌<◌, ◌≤◌, length};
 
-use crate::digits::value_of;
+use hex_digits::value_of;
 
 /// The digits of one line.
 const LINE_DIGITS: usize = 376;

@@ -1,9 +1,9 @@
 //! Packets to lines.
 
 ghost use Rattle.std.specs.Prelude.{◌≡◌, ℕ, ◌+◌, ◌<◌, ◌≤◌, ◌++◌, length, take, slice_index, IfOk};
-ghost use Rattle.packet_lines.specs.Digits.{line_of};
+ghost use Rattle.packet_lines.specs.Lines.{line_of};
 
-use crate::digits::spell;
+use hex_digits::spell;
 use ts_packet::{DeviceFault, Target};
 
 /// The digits of one line.

@@ -2,8 +2,7 @@
 
 ghost use Rattle.std.specs.Prelude.{◌≡◌, ◌<◌, ◌++◌, ℕ, List, length, slice_index, true, false, Ok, Err, IfErr, OnOk};
 ghost use Rattle.std.specs.Io.KnownBytes.{prepend_known};
-ghost use Rattle.packet_lines.specs.Digits.{line_of};
-ghost use Rattle.packet_lines.specs.Lines.{spelled};
+ghost use Rattle.packet_lines.specs.Lines.{line_of, spelled};
 
 use crate::line_source::LineSource;
 use crate::line_target::LineTarget;

@@ -1,5 +1,5 @@
-use Rattle.packet_lines.proofs.DigitLemmas.{spell_step}
-use Rattle.packet_lines.proofs.digits.spell.Goals as goal
+use Rattle.hex_digits.proofs.DigitLemmas.{spell_step}
+use Rattle.hex_digits.proofs.digits.spell.Goals as goal
 
 pub loop-index-preserved : goal.loop-index-preserved
 loop-index-preserved c =

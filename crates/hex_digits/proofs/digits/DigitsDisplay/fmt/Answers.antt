@@ -1,8 +1,8 @@
 use Rattle.std.proofs.Common.{◌<◌, get_or, true, rules}
 use Rattle.std.proofs.Output.{has_written_append, has_written_of_eq}
 use Rattle.std.proofs.lemmas.Fmt.{hex_byte}
-use Rattle.codec_text.proofs.DigitLemmas.{digits_step}
-use Rattle.codec_text.proofs.digits.DigitsDisplay.fmt.Goals as goal
+use Rattle.hex_digits.proofs.DigitLemmas.{digits_step}
+use Rattle.hex_digits.proofs.digits.DigitsDisplay.fmt.Goals as goal
 
 pub loop-byte-preserved : goal.loop-byte-preserved
 loop-byte-preserved g c = λ plain.

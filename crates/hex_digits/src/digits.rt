@@ -1,0 +1,84 @@
+//! Bytes as upper case hexadecimal digits.
+
+ghost use Rattle.std.specs.Prelude.{◌≡◌, ◌+◌, ◌*◌, ◌<◌, ◌≤◌, ◌++◌, length, take, drop, IfOk, IfSome, option_map};
+ghost use Rattle.hex_digits.specs.Digits.{digit_value, digit_of, digits_of, spelled};
+
+use std::alloc::{AllocError, Global};
+use std::fmt;
+
+/// The value of an upper case hexadecimal digit, `0` to `9` and `A` to `F`; `None` for any other byte.
+pub fn value_of(digit: u8) -> Option<u8>
+    ensures value { result ≡ digit_value digit }
+    ensures below { IfSome result (λ v. v < 16) }
+{
+    match digit {
+        b'0'..=b'9' => Some(digit - b'0'),
+        b'A'..=b'F' => Some(digit - b'A' + 10),
+        _ => None,
+    }
+}
+
+/// The upper case hexadecimal digit of a value below 16.
+pub fn digit_of(value: u8) -> u8
+    requires { value < 16 }
+    ensures { result ≡ digit_of value }
+{
+    if value < 10 {
+        b'0' + value
+    } else {
+        b'A' - 10 + value
+    }
+}
+
+/// Spells bytes into a line, as two digits for each, behind those of the `start` bytes before them.
+pub fn spell(line: &mut [u8], start: usize, bytes: &[u8])
+    requires { 2 * (start + length bytes.now) ≤ length line.old }
+    ensures { line.new ≡ take (2 * start) line.old ++ digits_of bytes.now ++ drop (2 * (start + length bytes.now)) line.old }
+{
+    for (index, byte) in bytes.iter().enumerate() {
+        let at = 2 * (start + index);
+        line[at] = digit_of(*byte / 16);
+        line[at + 1] = digit_of(*byte % 16);
+    }
+}
+
+/// The bytes that this text spells by two digits for each; `None` where it spells none.
+#[tactic(auto, using(crate::proofs::DigitLemmas::spelled_more, crate::proofs::DigitLemmas::spelled_not_high, crate::proofs::DigitLemmas::spelled_not_low, crate::proofs::DigitLemmas::spelled_half))]
+pub fn bytes_of(alloc: Global, text: &[u8]) -> Result<Option<Vec<u8>>, AllocError>
+    ensures { IfOk result (λ bytes. option_map (λ b. b.items) bytes ≡ spelled text.now) }
+{
+    let mut bytes = Vec::new(alloc);
+    let mut rest = text;
+    while rest.len() >= 2 {
+        let (Some(high), Some(low)) = (value_of(rest[0]), value_of(rest[1])) else {
+            return Ok(None);
+        };
+        bytes.push(16 * high + low)?;
+        let (_, after) = rest.split_at(2);
+        rest = after;
+    }
+    if rest.is_empty() {
+        Ok(Some(bytes))
+    } else {
+        Ok(None)
+    }
+}
+
+/// Bytes that print as their digits; no bytes print as nothing.
+#[derive(Clone, Copy)]
+pub struct Digits<'a>(pub &'a [u8]);
+
+impl fmt::Display for Digits<'_> {
+    ghost use Rattle.std.specs.Prelude.{Some};
+    ghost use Rattle.hex_digits.specs.Digits.{digits_of};
+
+    ghost output = { λ t. Some (digits_of t.0.now) };
+
+    fn fmt<W: fmt::Write>(&self, f: &mut fmt::Formatter<W>) -> fmt::Result {
+        for byte in self.0 {
+            let byte = *byte;
+            write!(f, "{byte:02X}")?;
+        }
+        Ok(())
+    }
+}
