@@ -10,62 +10,78 @@ use crate::pid::Pid;
 pub struct Last {
     /// The packet.
     pub packet: Packet,
+
     /// It is a duplicate of the payload packet before it.
     pub is_repeat: bool,
 }
 
+/// What is remembered of a payload packet beside what it carries.
+#[derive(Clone, Copy, Debug, PartialEq, Eq, Drop)]
+pub struct Mark {
+    counter: u8,
+    is_repeat: bool,
+}
+
+impl Mark {
+    ghost use Rattle.std.specs.Prelude.{◌==◌, ◌&&◌, not};
+    ghost use Rattle.ts_packet.specs.Fields.{number, carries};
+
+    /// The packet is the duplicate of the one that is remembered, of which `kept` is kept.
+    #[inline(always)]
+    fn is_repeated(&self, packet: &Packet, kept: &Packet) -> bool
+        ensures { result ≡ (((self.now.counter == number packet.now) && carries kept.now packet.now) && not self.now.is_repeat) }
+    {
+        self.counter == packet.counter() && kept.carries_as(packet) && !self.is_repeat
+    }
+}
+
 /// Follows the payload packets of one PID (ISO/IEC 13818-1, 2.4.3.3, continuity_counter: a packet may be sent twice in a row).
+///
+/// It copies no packet. Its caller keeps the PID's last payload packet where it lies, until the next one has been fed, and may
+/// change its continuity_counter.
 #[derive(Clone, Copy, Debug, PartialEq, Eq, Drop)]
 pub struct Follower {
     pid: Pid,
-    last: Option<Last>,
+    last: Option<Mark>,
 }
 
 impl Follower {
-    ghost use Rattle.ts_packet.specs.Following.{Follows};
-    ghost use Rattle.ts_packet.specs.Duplicates.{original, repeats_last};
+    ghost use Rattle.ts_packet.specs.Following.{Follows, kept_after};
+    ghost use Rattle.ts_packet.specs.Duplicates.{original, repeats_last, last_of};
 
     /// A follower of this PID, which has met no packet.
     pub fn new(pid: Pid) -> Follower
-        ensures { Follows result pid [] }
+        ensures { (kept : List ℕ) → Follows result kept pid [] }
     {
         Follower { pid, last: None }
     }
 
     /// Takes the next packet, of whatever PID, and answers whether it is an original: a payload packet of the PID that is no
-    /// duplicate.
-    #[tactic(auto, using(crate::proofs::HistoryLemmas::walk_is_last))]
+    /// duplicate. `kept` is the PID's last payload packet, with whatever counter, and any packet where there was none.
     #[inline(always)]
-    pub fn feed(&mut self, packet: &Packet) -> bool
-        ensures follows { (pid : ℕ) (past : List (List ℕ)) → Follows self.old pid past → Follows self.new pid (packet.now ∷ past) }
-        ensures answer { (pid : ℕ) (past : List (List ℕ)) → Follows self.old pid past → result ≡ original pid packet.now past }
+    pub fn feed(&mut self, packet: &Packet, kept: &Packet) -> bool
+        ensures follows { (pid : ℕ) (past : List (List ℕ)) → Follows self.old kept.now pid past → Follows self.new (kept_after pid packet.now packet.now kept.now) pid (packet.now ∷ past) }
+        ensures answer { (pid : ℕ) (past : List (List ℕ)) → Follows self.old kept.now pid past → result ≡ original pid packet.now past }
     {
         if !packet.has_payload_on(self.pid) {
             return false;
         }
-        let is_repeat = self.is_repeated(packet);
-        match &mut self.last {
-            Some(last) => {
-                last.packet = *packet;
-                last.is_repeat = is_repeat;
-            }
-            None => {
-                self.last = Some(Last {
-                    packet: *packet,
-                    is_repeat,
-                });
-            }
-        }
+        let is_repeat = self.is_repeated(packet, kept);
+        self.last = Some(Mark {
+            counter: packet.counter(),
+            is_repeat,
+        });
         !is_repeat
     }
 
     /// The last payload packet says that this one is its duplicate.
     #[inline(always)]
-    fn is_repeated(&self, packet: &Packet) -> bool
-        ensures { result ≡ repeats_last packet.now self.now.last }
+    #[tactic(auto, using(crate::proofs::HistoryLemmas::said, crate::proofs::HistoryLemmas::unsaid))]
+    fn is_repeated(&self, packet: &Packet, kept: &Packet) -> bool
+        ensures { (pid : ℕ) (past : List (List ℕ)) → Follows self.now kept.now pid past → result ≡ repeats_last packet.now (last_of pid past) }
     {
         match &self.last {
-            Some(last) => last.packet.is_like(packet) && !last.is_repeat,
+            Some(mark) => mark.is_repeated(packet, kept),
             None => false,
         }
     }

@@ -20,7 +20,7 @@ pub mod writer;
 
 pub use counter::Counter;
 pub use device::{Buffered, Device, DeviceFault, Source, Target};
-pub use follower::{Follower, Last};
+pub use follower::{Follower, Last, Mark};
 pub use list::PacketList;
 pub use packet::{Packet, PacketFault};
 pub use pid::Pid;

@@ -1,7 +1,7 @@
 //! One transport packet.
 
 ghost use Rattle.std.specs.Prelude.{◌≡◌, ℕ, List, ◌+◌, ◌*◌, ◌/◌, ◌%◌, ◌<◌, ◌≤◌, slice_index, slice_set, length, Some, None, Ok, Err, option_map, if◌then◌else◌, drop, IsTrue, ◌↔◌, true, false, is_some, IfOk, IfErr};
-ghost use Rattle.ts_packet.specs.Fields.{in_error, unit_start, pid_of, scrambled, number, payload, random_access, pcr, with_number, renumbered, has_adaptation, on, payload_on, alike};
+ghost use Rattle.ts_packet.specs.Fields.{in_error, unit_start, pid_of, scrambled, number, payload, random_access, pcr, with_number, renumbered, has_adaptation, on, payload_on, carries, alike};
 ghost use Rattle.ts_packet.specs.Packets.{packet_fault, or_fault, null_packet};
 ghost use Rattle.ts_packet.specs.Clock.{clock_packet};
 ghost use Rattle.ts_packet.specs.Transfers.{Filled, FillBlamed};
@@ -286,13 +286,19 @@ impl Packet {
         self.is_on(pid) && self.has_payload()
     }
 
+    /// Equal in payload_unit_start_indicator and payload.
+    #[tactic(auto, unfolding(crate::specs::Fields::carries))]
+    pub fn carries_as(&self, packet: &Packet) -> bool
+        ensures { result ≡ carries self.now packet.now }
+    {
+        self.unit_start() == packet.unit_start() && self.payload() == packet.payload()
+    }
+
     /// Equal in continuity_counter, payload_unit_start_indicator and payload.
     #[tactic(auto, unfolding(crate::specs::Fields::alike))]
     pub fn is_like(&self, packet: &Packet) -> bool
         ensures { result ≡ alike self.now packet.now }
     {
-        self.counter() == packet.counter()
-            && self.unit_start() == packet.unit_start()
-            && self.payload() == packet.payload()
+        self.counter() == packet.counter() && self.carries_as(packet)
     }
 }

@@ -330,14 +330,24 @@ fn follows_duplicates(rt: HostRuntime) -> Result<(), Fail> {
     let pid = Pid::new(0x0100).ok_or("a PID")?;
     let mut follower = Follower::new(pid);
     let other = Packet::null();
-    let first = packet(1, 7, 1)?;
-    assert!(rt; follower.feed(&first));
-    assert!(rt; !follower.feed(&other));
-    assert!(rt; !follower.feed(&packet(2, 7, 10)?));
-    assert!(rt; !follower.feed(&first));
-    assert!(rt; follower.feed(&first), "a duplicate has no duplicate");
-    assert!(rt; follower.feed(&packet(1, 7, 2)?), "another payload");
-    assert!(rt; follower.feed(&packet(1, 8, 2)?), "another counter");
+    let (first, second) = (packet(1, 7, 1)?, packet(1, 7, 2)?);
+    let kept = first.with_counter(3);
+    assert!(rt; follower.feed(&first, &other));
+    assert!(rt; !follower.feed(&other, &kept));
+    assert!(rt; !follower.feed(&packet(2, 7, 10)?, &kept));
+    assert!(rt;
+        !follower.feed(&first, &kept),
+        "whatever counter the packet has that is kept"
+    );
+    assert!(rt;
+        follower.feed(&first, &kept),
+        "a duplicate has no duplicate"
+    );
+    assert!(rt; follower.feed(&second, &kept), "another payload");
+    assert!(rt;
+        follower.feed(&packet(1, 8, 2)?, &second),
+        "another counter"
+    );
     Ok(())
 }
 

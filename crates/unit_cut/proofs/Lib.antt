@@ -14,3 +14,4 @@ pub mod GrowLemmas
 pub mod FaultLemmas
 pub mod RunLemmas
 pub mod StopLemmas
+pub mod SlotLemmas

@@ -51,10 +51,10 @@ written_none : (start : Option (List ℕ)) → Written start start []
 written_none None = tt
 written_none (Some bs) = ap Some (sym (append-nil bs))
 
-pub passed_none : (input start : Option (List ℕ)) (broken : Bool) (given : ℕ) (cutter : Cutter) (pid from len : ℕ) → broken ≡ false → given ≡ 0
-    → ((k : Cut) → k.pid ≡ pid → k.from ≡ from → k.length ≡ len → StandsFor cutter k [])
-    → HasPassed input input start start broken given cutter pid from len []
-passed_none input start broken given cutter pid from len w g h = record {
+pub passed_none : (input start : Option (List ℕ)) (broken : Bool) (given : ℕ) (cutter : Cutter) (kept : List ℕ) (pid from len : ℕ) → broken ≡ false → given ≡ 0
+    → ((k : Cut) → k.pid ≡ pid → k.from ≡ from → k.length ≡ len → StandsFor cutter kept k [])
+    → HasPassed input input start start broken given cutter kept pid from len []
+passed_none input start broken given cutter kept pid from len w g h = record {
   read = read_none input;
   count = g;
   sound = All-nil _;
@@ -62,12 +62,12 @@ passed_none input start broken given cutter pid from len w g h = record {
   passed = λ k i. (h k i.pid_is i.from_is i.length_is, written_none start);
 }
 
-module _ (input left left' start out out' : Option (List ℕ)) (broken broken' : Bool) (given given' : ℕ) (cutter cutter' : Cutter) (pid from len : ℕ) (ps : List (List ℕ)) (p : List ℕ)
-    (h : HasPassed input left start out broken given cutter pid from len ps) (r : Given left left' p) where
+module _ (input left left' start out out' : Option (List ℕ)) (broken broken' : Bool) (given given' : ℕ) (cutter cutter' : Cutter) (kept kept' : List ℕ) (pid from len : ℕ) (ps : List (List ℕ)) (p : List ℕ)
+    (h : HasPassed input left start out broken given cutter kept pid from len ps) (r : Given left left' p) where
   pub passed_more : given' ≡ given + 1
-      → ((k : Cut) → Begins k (p ∷ reverse ps) → StandsFor cutter k (reverse ps) → Written out start (cut_by k ps)
-      → (unit_fault (k.pid ∷ []) p (reverse ps) ≡ None) × StandsFor cutter' k (p ∷ reverse ps) × ((broken' ≡ false) × Written out' start (cut_by k (ps ++ p ∷ []))))
-      → HasPassed input left' start out' broken' given' cutter' pid from len (ps ++ p ∷ [])
+      → ((k : Cut) → Begins k (p ∷ reverse ps) → StandsFor cutter kept k (reverse ps) → Written out start (cut_by k ps)
+      → (unit_fault (k.pid ∷ []) p (reverse ps) ≡ None) × StandsFor cutter' kept' k (p ∷ reverse ps) × ((broken' ≡ false) × Written out' start (cut_by k (ps ++ p ∷ []))))
+      → HasPassed input left' start out' broken' given' cutter' kept' pid from len (ps ++ p ∷ [])
   passed_more g pass =
       let k0 = the_cut pid from len (ps ++ p ∷ []) in
       let (b0, i0) = cut_of_fewer k0 pid from len ps p (is_the_cut pid from len (ps ++ p ∷ [])) in
@@ -82,7 +82,7 @@ module _ (input left left' start out out' : Option (List ℕ)) (broken broken' :
             let (b, j) = cut_of_fewer k pid from len ps p i in
             let at = h.passed k j in
             let more = pass k b at.0 at.1 in
-            (subst (StandsFor cutter' k) (sym (reverse-snoc ps p)) more.1, more.2.1);
+            (subst (StandsFor cutter' kept' k) (sym (reverse-snoc ps p)) more.1, more.2.1);
       }
 
 -- ---- the end
@@ -94,10 +94,10 @@ cuts_all bs start out pid from len ps e l a b w =
     let f : first_fault pid bs ≡ or_then (first_of pid (seen_after [] ps)) (fault_behind []) = ap (λ q. or_then (first_of pid (seen_after [] q)) (fault_behind (last_part bs))) e ∙ ap (λ q. or_then (first_of pid (seen_after [] ps)) (fault_behind q)) l in
     (f ∙ ap (λ q. or_then q (fault_behind [])) all.0, subst (λ q. Written out start (cut_between from len pid q)) (sym e) w)
 
-pub ends : (input left start out : Option (List ℕ)) (broken : Bool) (given : ℕ) (cutter : Cutter) (pid from len : ℕ) (ps : List (List ℕ))
-    → HasPassed input left start out broken given cutter pid from len ps → IsAtEnd left → CutsAll pid from len input start out
-ends None left start out broken given cutter pid from len ps h e = tt
-ends (Some bs) left start out broken given cutter pid from len ps h e =
+pub ends : (input left start out : Option (List ℕ)) (broken : Bool) (given : ℕ) (cutter : Cutter) (kept : List ℕ) (pid from len : ℕ) (ps : List (List ℕ))
+    → HasPassed input left start out broken given cutter kept pid from len ps → IsAtEnd left → CutsAll pid from len input start out
+ends None left start out broken given cutter kept pid from len ps h e = tt
+ends (Some bs) left start out broken given cutter kept pid from len ps h e =
     let (all, none) = read_to_end (Some bs) left ps h.read e in
     cuts_all bs start out pid from len ps all none h.read.sound h.sound (h.passed (the_cut pid from len ps) (is_the_cut pid from len ps)).1
 

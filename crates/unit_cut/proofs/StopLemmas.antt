@@ -44,8 +44,8 @@ last_is pid from len bs rest ps start out e l some a b w =
 
 -- ---- the reader stops
 
-module _ (start out : Option (List ℕ)) (broken : Bool) (given : ℕ) (cutter : Cutter) (pid from len : ℕ) (ps : List (List ℕ)) (bs rest : List ℕ)
-    (h : HasPassed (Some bs) (Some rest) start out broken given cutter pid from len ps) where
+module _ (start out : Option (List ℕ)) (broken : Bool) (given : ℕ) (cutter : Cutter) (kept : List ℕ) (pid from len : ℕ) (ps : List (List ℕ)) (bs rest : List ℕ)
+    (h : HasPassed (Some bs) (Some rest) start out broken given cutter kept pid from len ps) where
   out_is : Written out start (cut_between from len pid ps)
   out_is = (h.passed (the_cut pid from len ps) (is_the_cut pid from len ps)).1
 
@@ -69,27 +69,27 @@ module _ (start out : Option (List ℕ)) (broken : Bool) (given : ℕ) (cutter :
   says stopped n read_faults.Turns k = tt
   says stopped n read_faults.Failed k = let e : true ≡ false = sym k ∙ n in absurd (cc)
 
-pub read_stops : (input left start out : Option (List ℕ)) (broken : Bool) (given : ℕ) (cutter : Cutter) (pid from len : ℕ) (ps : List (List ℕ))
-    → HasPassed input left start out broken given cutter pid from len ps → (stopped : Bool) → stopped ≡ false → (fault : ReadFault) → Refuses stopped left fault → Stops (Read fault) pid from len input start out
-read_stops None left start out broken given cutter pid from len ps h stopped n fault k = tt
-read_stops (Some bs) None start out broken given cutter pid from len ps h stopped n fault k = absurd h.read.bytes
-read_stops (Some bs) (Some rest) start out broken given cutter pid from len ps h stopped n fault k =
-    (says start out broken given cutter pid from len ps bs rest h stopped n fault k, in_front start out broken given cutter pid from len ps bs rest h)
+pub read_stops : (input left start out : Option (List ℕ)) (broken : Bool) (given : ℕ) (cutter : Cutter) (kept : List ℕ) (pid from len : ℕ) (ps : List (List ℕ))
+    → HasPassed input left start out broken given cutter kept pid from len ps → (stopped : Bool) → stopped ≡ false → (fault : ReadFault) → Refuses stopped left fault → Stops (Read fault) pid from len input start out
+read_stops None left start out broken given cutter kept pid from len ps h stopped n fault k = tt
+read_stops (Some bs) None start out broken given cutter kept pid from len ps h stopped n fault k = absurd h.read.bytes
+read_stops (Some bs) (Some rest) start out broken given cutter kept pid from len ps h stopped n fault k =
+    (says start out broken given cutter kept pid from len ps bs rest h stopped n fault k, in_front start out broken given cutter kept pid from len ps bs rest h)
 
 rose_later : (n a b c : ℕ) → a ≤ b → Rose n b c → Rose n a c
 rose_later n a b c h (inl r) = inl (omega (arith, h, r))
 rose_later n a b c h (inr r) = inr r
 
-pub read_blamed : (input left start out : Option (List ℕ)) (broken : Bool) (given : ℕ) (cutter : Cutter) (pid from len : ℕ) (ps : List (List ℕ))
-    → HasPassed input left start out broken given cutter pid from len ps → (stopped : Bool) → stopped ≡ false → (fault : ReadFault) (calls calls' calls'' failures failures' failures'' : ℕ) (old new : Tally) → Refuses stopped left fault
+pub read_blamed : (input left start out : Option (List ℕ)) (broken : Bool) (given : ℕ) (cutter : Cutter) (kept : List ℕ) (pid from len : ℕ) (ps : List (List ℕ))
+    → HasPassed input left start out broken given cutter kept pid from len ps → (stopped : Bool) → stopped ≡ false → (fault : ReadFault) (calls calls' calls'' failures failures' failures'' : ℕ) (old new : Tally) → Refuses stopped left fault
     → calls ≤ calls' → failures ≤ failures' → ReadBlamed fault given calls' calls'' failures' failures'' → RunBlamed (Read fault) input calls calls'' failures failures'' old new
-read_blamed input left start out broken given cutter pid from len ps h stopped n read_faults.Io c c' c'' f f' f'' old new k a b r = rose_later 1 f f' f'' b r
-read_blamed input left start out broken given cutter pid from len ps h stopped n read_faults.Turns c c' c'' f f' f'' old new k a b (inl r) = inl (rose_later (2 ^ 20) c c' c'' a r)
-read_blamed input left start out broken given cutter pid from len ps h stopped n read_faults.Turns c c' c'' f f' f'' old new k a b (inr r) = inr (left, (ps, h.read, sym h.count ∙ r))
-read_blamed input left start out broken given cutter pid from len ps h stopped n read_faults.Failed c c' c'' f f' f'' old new k a b r = let e : true ≡ false = sym k ∙ n in absurd (cc)
-read_blamed input left start out broken given cutter pid from len ps h stopped n read_faults.Truncated c c' c'' f f' f'' old new k a b r = tt
-read_blamed input left start out broken given cutter pid from len ps h stopped n read_faults.SyncLost c c' c'' f f' f'' old new k a b r = tt
-read_blamed input left start out broken given cutter pid from len ps h stopped n read_faults.BadAdaptation c c' c'' f f' f'' old new k a b r = tt
+read_blamed input left start out broken given cutter kept pid from len ps h stopped n read_faults.Io c c' c'' f f' f'' old new k a b r = rose_later 1 f f' f'' b r
+read_blamed input left start out broken given cutter kept pid from len ps h stopped n read_faults.Turns c c' c'' f f' f'' old new k a b (inl r) = inl (rose_later (2 ^ 20) c c' c'' a r)
+read_blamed input left start out broken given cutter kept pid from len ps h stopped n read_faults.Turns c c' c'' f f' f'' old new k a b (inr r) = inr (left, (ps, h.read, sym h.count ∙ r))
+read_blamed input left start out broken given cutter kept pid from len ps h stopped n read_faults.Failed c c' c'' f f' f'' old new k a b r = let e : true ≡ false = sym k ∙ n in absurd (cc)
+read_blamed input left start out broken given cutter kept pid from len ps h stopped n read_faults.Truncated c c' c'' f f' f'' old new k a b r = tt
+read_blamed input left start out broken given cutter kept pid from len ps h stopped n read_faults.SyncLost c c' c'' f f' f'' old new k a b r = tt
+read_blamed input left start out broken given cutter kept pid from len ps h stopped n read_faults.BadAdaptation c c' c'' f f' f'' old new k a b r = tt
 
 -- ---- a packet is not passed on
 
@@ -131,11 +131,11 @@ module _ (start out' : Option (List ℕ)) (broken' : Bool) (pid from len : ℕ) 
   fails_so (Sink f) (u, (q, c, w)) =
       (sink_says f w.1, front_of_part pid from len bs (ps ++ p ∷ []) (packets_of rest) (cut_by (the_cut pid from len (ps ++ p ∷ [])) ps) q start out' all c w.2)
 
-pub pass_stops : (input left left' start out out' : Option (List ℕ)) (broken broken' : Bool) (given : ℕ) (cutter : Cutter) (pid from len : ℕ) (ps : List (List ℕ)) (p : List ℕ)
-    → HasPassed input left start out broken given cutter pid from len ps → Given left left' p → (f : CutFault)
+pub pass_stops : (input left left' start out out' : Option (List ℕ)) (broken broken' : Bool) (given : ℕ) (cutter : Cutter) (kept : List ℕ) (pid from len : ℕ) (ps : List (List ℕ)) (p : List ℕ)
+    → HasPassed input left start out broken given cutter kept pid from len ps → Given left left' p → (f : CutFault)
     → PassFails (the_cut pid from len (ps ++ p ∷ [])) p ps f (λ l. (broken' ≡ false) × Written out' start l) (λ l q g. (broken' ≡ true) × (g ≢ put_faults.Failed) × FailsToWrite out' start l q)
     → Stops f pid from len input start out'
-pass_stops None left left' start out out' broken broken' given cutter pid from len ps p h r f k = tt
-pass_stops (Some bs) left None start out out' broken broken' given cutter pid from len ps p h r f k = absurd (read_more (Some bs) left None ps p h.read r).bytes
-pass_stops (Some bs) left (Some rest) start out out' broken broken' given cutter pid from len ps p h r f k =
+pass_stops None left left' start out out' broken broken' given cutter kept pid from len ps p h r f k = tt
+pass_stops (Some bs) left None start out out' broken broken' given cutter kept pid from len ps p h r f k = absurd (read_more (Some bs) left None ps p h.read r).bytes
+pass_stops (Some bs) left (Some rest) start out out' broken broken' given cutter kept pid from len ps p h r f k =
     fails_so start out' broken' pid from len ps p bs rest (one_past bs rest ps p (read_more (Some bs) left (Some rest) ps p h.read r)) h.read.sound h.sound r.sound f k

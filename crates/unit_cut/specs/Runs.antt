@@ -81,12 +81,12 @@ abbrev pub cut_by : Cut → List (List ℕ) → List (List ℕ)
 cut_by k ps = cut (goes_by k) (k.pid ∷ []) k.pid ps
 
 -- these packets were read, and passed on
-pub record HasPassed (input left : Option (List ℕ)) (start out : Option (List ℕ)) (broken : Bool) (given : ℕ) (cutter : Cutter) (pid from length' : ℕ) (ps : List (List ℕ)) : Type 0 where
+pub record HasPassed (input left : Option (List ℕ)) (start out : Option (List ℕ)) (broken : Bool) (given : ℕ) (cutter : Cutter) (kept : List ℕ) (pid from length' : ℕ) (ps : List (List ℕ)) : Type 0 where
   pub read : HasRead input left ps
   pub count : given ≡ length ps
   pub sound : IsSound pid ps
   pub whole : broken ≡ false
-  pub passed : (k : Cut) → IsCutOf k pid from length' ps → StandsFor cutter k (reverse ps) × Written out start (cut_by k ps)
+  pub passed : (k : Cut) → IsCutOf k pid from length' ps → StandsFor cutter kept k (reverse ps) × Written out start (cut_by k ps)
 
 -- what one packet that is not passed on says
 abbrev pub PassFails : Cut → List ℕ → List (List ℕ) → CutFault → (List (List ℕ) → Type 0) → (List (List ℕ) → List ℕ → PutFault → Type 0) → Type 0

@@ -6,12 +6,13 @@ use Rattle.ts_packet.specs.Duplicates.{original}
 use Rattle.ts_packet.specs.Numbering.{Event, Kept, Dropped, Counts}
 use Rattle.unit_stream.specs.Times.{high, unit_time, first_time}
 use Rattle.unit_stream.specs.Faults.{unit_fault}
-use Rattle.unit_stream.specs.Pieces.{Reads}
+use Rattle.unit_stream.specs.Pieces.{FollowsUnits}
 use Rattle.unit_stream.specs.declared.fault.UnitFault.{UnitFault}
 use Rattle.unit_cut.specs.Cutting.{inside, is_cut, kept_as}
 use Rattle.unit_cut.specs.declared.clock.Clock.{Clock}
 use Rattle.unit_cut.specs.declared.timing.Timing.{Timing}
 use Rattle.unit_cut.specs.declared.cutter.Cutter.{Cutter}
+use Rattle.unit_cut.specs.declared.slots.Slots.{Slots}
 
 -- how far h is past `begin`; 2^40 stands for all that is farther
 abbrev pub IsAhead : ℤ → ℤ → ℤ → Type 0
@@ -70,10 +71,10 @@ events goes switched pid (p ∷ past) =
     else Kept p ∷ events goes switched pid past)
     else events goes switched pid past
 
--- the cutter has seen this past, newest first
-pub record StandsFor (cutter : Cutter) (k : Cut) (past : List (List ℕ)) : Type 0 where
+-- the cutter has seen this past, newest first, and its caller keeps the PID's last payload packet
+pub record StandsFor (cutter : Cutter) (kept : List ℕ) (k : Cut) (past : List (List ℕ)) : Type 0 where
   pub same : cutter.pid ≡ k.pid
-  pub units : Reads cutter.units k.pid past
+  pub units : FollowsUnits cutter.units kept k.pid past
   pub timing : TimingFor cutter.timing k (high (k.pid ∷ []) past) (unit_time (k.pid ∷ []) k.pid past)
   pub counter : Counts cutter.counter (events (goes_by k) (k.pid ∷ []) k.pid past)
 
@@ -83,3 +84,13 @@ Answers k p past (Ok true) q = (unit_fault (k.pid ∷ []) p past ≡ None) × (i
     × (q ≡ kept_as (goes_by k) (k.pid ∷ []) k.pid p past)
 Answers k p past (Ok false) q = (unit_fault (k.pid ∷ []) p past ≡ None) × (is_cut (goes_by k) (k.pid ∷ []) k.pid p past ≡ true)
 Answers k p past (Err f) q = unit_fault (k.pid ∷ []) p past ≡ Some f
+
+-- ---- the two packets of a run
+
+-- the one that is read and passed on
+abbrev pub read_of : Slots → List ℕ
+read_of s = if s.is_odd then s.odd else s.even
+
+-- the one that is kept
+abbrev pub kept_of : Slots → List ℕ
+kept_of s = if s.is_odd then s.even else s.odd

@@ -7,29 +7,30 @@ ghost use Rattle.ts_packet.specs.Fields.{on, payload, payload_on, scrambled, wit
 use crate::timing::Timing;
 use pes_time::Time33;
 use ts_packet::{Counter, Packet, Pid};
-use unit_stream::{Piece, UnitFault, UnitReader};
+use unit_stream::{Piece, UnitFault, UnitFollower};
 
 /// Cuts out the units of one PID whose time lies in an interval. No packet is held and no memory is taken: a unit is decided
 /// at the packet that begins it.
 #[derive(Clone, Copy, Debug)]
 pub struct Cutter {
     pid: Pid,
-    units: UnitReader,
+    units: UnitFollower,
     timing: Timing,
     counter: Counter,
 }
 
 impl Cutter {
+    ghost use Rattle.ts_packet.specs.Following.{CarriesAs, kept_after};
     ghost use Rattle.ts_packet.specs.Numbering.{Event, Counts, Kept, Dropped, number_out};
     ghost use Rattle.unit_cut.specs.Standing.{StandsFor, Begins, Answers, Cut};
 
     /// A cutter for the units of `pid` from `from` on, for `length` ticks of 90 kHz.
     pub fn new(pid: Pid, from: Time33, length: u32) -> Cutter
-        ensures { (k : Cut) → k.pid ≡ pid → k.from ≡ from → k.length ≡ length → StandsFor result k [] }
+        ensures { (kept : List ℕ) (k : Cut) → k.pid ≡ pid → k.from ≡ from → k.length ≡ length → StandsFor result kept k [] }
     {
         Cutter {
             pid,
-            units: UnitReader::new(pid),
+            units: UnitFollower::new(pid),
             timing: Timing::new(from, length),
             counter: Counter::new(),
         }
@@ -40,6 +41,7 @@ impl Cutter {
         ensures pid { self.new.pid ≡ self.old.pid }
         ensures units { self.new.units ≡ self.old.units }
         ensures timing { self.new.timing ≡ self.old.timing }
+        ensures carries { CarriesAs packet.new packet.old }
         ensures counts { (events : List Event) → Counts self.old.counter events → Counts self.new.counter (Kept packet.old ∷ events) }
         ensures packet { (events : List Event) → Counts self.old.counter events → packet.new ≡ with_number (number_out packet.old events) packet.old }
     {
@@ -47,15 +49,24 @@ impl Cutter {
         packet.set_counter(number);
     }
 
-    /// The next packet: whether it stays, with its counter moved, or goes.
+    /// A payload packet of the PID.
+    #[inline(always)]
+    pub fn is_payload_on_pid(&self, packet: &Packet) -> bool
+        ensures { result ≡ payload_on self.now.pid packet.now }
+    {
+        packet.has_payload_on(self.pid)
+    }
+
+    /// The next packet: whether it stays, with its counter moved, or goes. `kept` is the PID's last payload packet, as it came out of
+    /// this call, and any packet where there was none: the cutter copies none, so the caller keeps it where it lies.
     ///
     /// # Errors
     ///
     /// What the packet may not be, as [`UnitFault`] says. The cutter is spent then.
     #[inline(always)]
-    pub fn feed(&mut self, packet: &mut Packet) -> Result<bool, UnitFault>
-        ensures answers { (k : Cut) (past : List (List ℕ)) → Begins k (packet.old ∷ past) → StandsFor self.old k past → Answers k packet.old past result packet.new }
-        ensures stands { (k : Cut) (past : List (List ℕ)) → Begins k (packet.old ∷ past) → StandsFor self.old k past → OnOk result (StandsFor self.new k (packet.old ∷ past)) }
+    pub fn feed(&mut self, packet: &mut Packet, kept: &Packet) -> Result<bool, UnitFault>
+        ensures answers { (k : Cut) (past : List (List ℕ)) → Begins k (packet.old ∷ past) → StandsFor self.old kept.now k past → Answers k packet.old past result packet.new }
+        ensures stands { (k : Cut) (past : List (List ℕ)) → Begins k (packet.old ∷ past) → StandsFor self.old kept.now k past → OnOk result (StandsFor self.new (kept_after k.pid packet.old packet.new kept.now) k (packet.old ∷ past)) }
     {
         if !packet.is_on(self.pid) {
             return Ok(true);
@@ -63,7 +74,7 @@ impl Cutter {
         if has_scrambled_payload(packet) {
             return Err(UnitFault::Scrambled);
         }
-        match self.units.feed(packet) {
+        match self.units.feed(packet, kept) {
             Piece::Start { payload } => match self.timing.begin(payload) {
                 Ok(()) => Ok(self.settle(packet)),
                 Err(fault) => Err(fault),
@@ -88,6 +99,7 @@ impl Cutter {
         ensures pid { self.new.pid ≡ self.old.pid }
         ensures units { self.new.units ≡ self.old.units }
         ensures timing { self.new.timing ≡ self.old.timing }
+        ensures carries { CarriesAs packet.new packet.old }
         ensures stays { result ≡ not self.old.timing.is_going }
         ensures counts { (events : List Event) → Counts self.old.counter events → Counts self.new.counter (if result then Kept packet.old ∷ events else Dropped packet.old ∷ events) }
         ensures packet { (events : List Event) → Counts self.old.counter events → result ≡ true → packet.new ≡ with_number (number_out packet.old events) packet.old }
@@ -105,6 +117,7 @@ impl Cutter {
         ensures pid { self.new.pid ≡ self.old.pid }
         ensures units { self.new.units ≡ self.old.units }
         ensures timing { self.new.timing ≡ self.old.timing }
+        ensures carries { CarriesAs packet.new packet.old }
         ensures stays { result ≡ not self.old.timing.is_going }
         ensures counts { (events : List Event) → Counts self.old.counter events → Counts self.new.counter (if result then Kept packet.old ∷ events else events) }
         ensures packet { (events : List Event) → Counts self.old.counter events → result ≡ true → packet.new ≡ with_number (number_out packet.old events) packet.old }

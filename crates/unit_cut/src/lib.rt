@@ -6,6 +6,7 @@ mod clock;
 mod cutter;
 pub mod laws;
 mod run;
+mod slots;
 mod timing;
 
 pub use cutter::Cutter;

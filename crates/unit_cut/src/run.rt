@@ -1,6 +1,8 @@
 //! Cutting an interval of one PID out of a network, from bytes to bytes.
 
-ghost use Rattle.std.specs.Prelude.{◌≡◌, ℕ, ◌≤◌, List, [], ◌∷◌, ◌++◌, Option, Some, None, OnOk, IfErr, reverse, false};
+ghost use Rattle.std.specs.Prelude.{◌≡◌, ℕ, ◌≤◌, List, [], ◌∷◌, ◌++◌, Option, Some, None, OnOk, IfOk, IfErr, reverse, false};
+ghost use Rattle.ts_packet.specs.Fields.{payload_on};
+ghost use Rattle.ts_packet.specs.Following.{kept_after};
 ghost use Rattle.ts_packet.specs.Sinks.{Later, Blamed};
 ghost use Rattle.unit_stream.specs.Faults.{unit_fault};
 ghost use Rattle.unit_cut.specs.FirstFault.{as_cut_fault};
@@ -8,6 +10,7 @@ ghost use Rattle.unit_cut.specs.Standing.{Cut, StandsFor, Begins};
 ghost use Rattle.unit_cut.specs.Runs.{CutsAll, Stops, RunBlamed, cut_by, PassFails, PassBlamed};
 
 use crate::cutter::Cutter;
+use crate::slots::Slots;
 use pes_time::Time33;
 use ts_packet::{
     Packet, PacketReader, PacketSink, PacketWriter, Pid, PutFault, ReadFault, Source, Target,
@@ -39,26 +42,29 @@ fn as_cut_fault(fault: UnitFault) -> CutFault
     }
 }
 
-/// Passes one packet on, where it stays.
+/// Passes one packet on, where it stays, and answers whether it is the PID's last payload packet now. `kept` is the last one before.
 #[inline(always)]
-fn pass<K: PacketSink>(
+pub(crate) fn pass<K: PacketSink>(
     cutter: &mut Cutter,
     packet: &mut Packet,
+    kept: &Packet,
     sink: &mut K,
-) -> Result<(), CutFault>
+) -> Result<bool, CutFault>
     ensures leads { K.leads sink.old sink.new }
-    ensures ok { (k : Cut) (start : Option (List ℕ)) (ps : List (List ℕ)) → Begins k (packet.old ∷ reverse ps) → StandsFor cutter.old k (reverse ps) → K.holds sink.old start (cut_by k ps)
-        → OnOk result ((unit_fault (k.pid ∷ []) packet.old (reverse ps) ≡ None) × StandsFor cutter.new k (packet.old ∷ reverse ps) × K.holds sink.new start (cut_by k (ps ++ packet.old ∷ []))) }
-    ensures err { (k : Cut) (start : Option (List ℕ)) (ps : List (List ℕ)) → Begins k (packet.old ∷ reverse ps) → StandsFor cutter.old k (reverse ps) → K.holds sink.old start (cut_by k ps)
+    ensures ok { (k : Cut) (start : Option (List ℕ)) (ps : List (List ℕ)) → Begins k (packet.old ∷ reverse ps) → StandsFor cutter.old kept.now k (reverse ps) → K.holds sink.old start (cut_by k ps)
+        → OnOk result ((unit_fault (k.pid ∷ []) packet.old (reverse ps) ≡ None) × StandsFor cutter.new (kept_after k.pid packet.old packet.new kept.now) k (packet.old ∷ reverse ps) × K.holds sink.new start (cut_by k (ps ++ packet.old ∷ []))) }
+    ensures err { (k : Cut) (start : Option (List ℕ)) (ps : List (List ℕ)) → Begins k (packet.old ∷ reverse ps) → StandsFor cutter.old kept.now k (reverse ps) → K.holds sink.old start (cut_by k ps)
         → IfErr result (λ f. PassFails k packet.old ps f (K.holds sink.new start) (K.fails sink.new start)) }
+    ensures last { IfOk result (λ is_last. is_last ≡ payload_on cutter.old.pid packet.old) }
     ensures blamed { IfErr result (λ f. PassBlamed f (K.counts sink.old) (K.counts sink.new) (K.is_full sink.new)) }
 {
-    match cutter.feed(packet) {
+    let is_last = cutter.is_payload_on_pid(packet);
+    match cutter.feed(packet, kept) {
         Ok(true) => match sink.put(packet) {
-            Ok(()) => Ok(()),
+            Ok(()) => Ok(is_last),
             Err(fault) => Err(CutFault::Sink(fault)),
         },
-        Ok(false) => Ok(()),
+        Ok(false) => Ok(is_last),
         Err(fault) => Err(as_cut_fault(fault)),
     }
 }
@@ -80,11 +86,11 @@ pub fn cut<S: Source, W: Target>(
     let mut reader = PacketReader::new(network);
     let mut writer = PacketWriter::new(out);
     let mut cutter = Cutter::new(pid, from, length);
-    let mut packet = Packet::null();
+    let mut slots = Slots::new();
     loop {
-        match reader.read_into(&mut packet) {
+        match slots.read(&mut reader) {
             Ok(true) => {
-                if let Err(fault) = pass(&mut cutter, &mut packet, &mut writer) {
+                if let Err(fault) = slots.pass(&mut cutter, &mut writer) {
                     return Err(fault);
                 }
             }

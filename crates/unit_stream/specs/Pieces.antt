@@ -5,15 +5,20 @@ use Rattle.ts_packet.specs.Duplicates.{original, repeats}
 use Rattle.ts_packet.specs.Following.{Follows}
 use Rattle.unit_stream.specs.Times.{begins, in_unit}
 use Rattle.unit_stream.specs.Units.{units, payloads}
+use Rattle.unit_stream.specs.declared.reader.UnitFollower.{UnitFollower}
 use Rattle.unit_stream.specs.declared.reader.UnitReader.{UnitReader}
 use Rattle.unit_stream.specs.declared.reader.Piece.{Piece}
 use Rattle.unit_stream.specs.declared.reader.Piece.TheVariants.{Start, More, Duplicate, NoPayload, Lead, Error}
 
+-- it has followed the PID over this past, newest first, and its caller keeps the last payload packet
+pub record FollowsUnits (units : UnitFollower) (kept : List ℕ) (pid : ℕ) (past : List (List ℕ)) : Type 0 where
+  pub same : units.pid ≡ pid
+  pub follows : Follows units.follower kept pid past
+  pub begun : units.has_begun ≡ in_unit pid past
+
 -- the reader has followed the PID over this past, newest first
-pub record Reads (reader : UnitReader) (pid : ℕ) (past : List (List ℕ)) : Type 0 where
-  pub same : reader.pid ≡ pid
-  pub follows : Follows reader.follower pid past
-  pub begun : reader.has_begun ≡ in_unit pid past
+abbrev pub Reads : UnitReader → ℕ → List (List ℕ) → Type 0
+Reads reader pid past = FollowsUnits reader.units reader.last pid past
 
 -- the piece is the one that this packet brings behind this past
 abbrev pub Brings : Piece → ℕ → List ℕ → List (List ℕ) → Type 0

@@ -6,4 +6,4 @@ pub mod laws;
 mod reader;
 
 pub use fault::UnitFault;
-pub use reader::{Piece, UnitReader};
+pub use reader::{Piece, UnitFollower, UnitReader};

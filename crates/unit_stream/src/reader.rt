@@ -21,33 +21,36 @@ pub enum Piece<'a> {
     Error,
 }
 
-/// Reads the units of one PID, one packet at a time. The joined payloads of a `Start` and the `More`s that follow it are the unit.
+/// Reads the units of one PID, one packet at a time, and copies none: its caller keeps the PID's last payload packet where it lies,
+/// until the next one has been fed, and may change its continuity_counter. [`UnitReader`] keeps a copy of its own.
 #[derive(Clone, Copy, Debug)]
-pub struct UnitReader {
+pub struct UnitFollower {
     pid: Pid,
     follower: Follower,
     has_begun: bool,
 }
 
-impl UnitReader {
-    ghost use Rattle.unit_stream.specs.Pieces.{Reads, Brings, HasPayload};
+impl UnitFollower {
+    ghost use Rattle.ts_packet.specs.Following.{kept_after};
+    ghost use Rattle.unit_stream.specs.Pieces.{FollowsUnits, Brings, HasPayload};
 
-    /// A reader of this PID that has seen no packet.
-    pub fn new(pid: Pid) -> UnitReader
-        ensures { Reads result pid [] }
+    /// A follower of this PID that has seen no packet.
+    pub fn new(pid: Pid) -> UnitFollower
+        ensures { (kept : List ℕ) → FollowsUnits result kept pid [] }
     {
-        UnitReader {
+        UnitFollower {
             pid,
             follower: Follower::new(pid),
             has_begun: false,
         }
     }
 
-    /// What the next packet brings.
+    /// What the next packet brings. `kept` is the PID's last payload packet, with whatever continuity_counter, and any packet where
+    /// there was none.
     #[inline(always)]
-    pub fn feed<'a>(&mut self, packet: &'a Packet) -> Piece<'a>
-        ensures reads { (pid : ℕ) (past : List (List ℕ)) → Reads self.old pid past → Reads self.new pid (packet.now ∷ past) }
-        ensures brings { (pid : ℕ) (past : List (List ℕ)) → Reads self.old pid past → Brings result pid packet.now past }
+    pub fn feed<'a>(&mut self, packet: &'a Packet, kept: &Packet) -> Piece<'a>
+        ensures reads { (pid : ℕ) (past : List (List ℕ)) → FollowsUnits self.old kept.now pid past → FollowsUnits self.new (kept_after pid packet.now packet.now kept.now) pid (packet.now ∷ past) }
+        ensures brings { (pid : ℕ) (past : List (List ℕ)) → FollowsUnits self.old kept.now pid past → Brings result pid packet.now past }
         ensures payload { HasPayload result packet.now }
     {
         if packet.error() {
@@ -59,7 +62,7 @@ impl UnitReader {
         let Some(payload) = packet.payload() else {
             return Piece::NoPayload;
         };
-        if !self.follower.feed(packet) {
+        if !self.follower.feed(packet, kept) {
             return Piece::Duplicate;
         }
         if packet.unit_start() {
@@ -71,5 +74,39 @@ impl UnitReader {
         } else {
             Piece::Lead
         }
+    }
+}
+
+/// Reads the units of one PID, one packet at a time. The joined payloads of a `Start` and the `More`s that follow it are the unit.
+#[derive(Clone, Copy, Debug)]
+pub struct UnitReader {
+    units: UnitFollower,
+    last: Packet,
+}
+
+impl UnitReader {
+    ghost use Rattle.unit_stream.specs.Pieces.{Reads, Brings, HasPayload};
+
+    /// A reader of this PID that has seen no packet.
+    pub fn new(pid: Pid) -> UnitReader
+        ensures { Reads result pid [] }
+    {
+        UnitReader {
+            units: UnitFollower::new(pid),
+            last: Packet::null(),
+        }
+    }
+
+    /// What the next packet brings.
+    pub fn feed<'a>(&mut self, packet: &'a Packet) -> Piece<'a>
+        ensures reads { (pid : ℕ) (past : List (List ℕ)) → Reads self.old pid past → Reads self.new pid (packet.now ∷ past) }
+        ensures brings { (pid : ℕ) (past : List (List ℕ)) → Reads self.old pid past → Brings result pid packet.now past }
+        ensures payload { HasPayload result packet.now }
+    {
+        let piece = self.units.feed(packet, &self.last);
+        if packet.has_payload_on(self.units.pid) {
+            self.last = *packet;
+        }
+        piece
     }
 }

@@ -4,7 +4,7 @@ use Rattle.ts_packet.specs.Numbering.{Counts}
 use Rattle.pes_time.specs.Stamps.{stamp_of}
 use Rattle.unit_stream.specs.Times.{high, unit_time, stamp, splits, raised, timed}
 use Rattle.unit_stream.specs.Faults.{scrambled_one, start_fault}
-use Rattle.unit_stream.proofs.ReadingLemmas.{passes}
+use Rattle.unit_stream.proofs.ReadingLemmas.{passes, kept_became}
 use Rattle.unit_cut.specs.Standing.{BeginsWith, TimingFor, goes_by, events}
 use Rattle.unit_cut.proofs.CutterLemmas.{off, error_off, stamp_is, splits_is, kept_is, scrambled_is, scrambled_off, begins_off, begins_not, begins_repeat, fault_scrambled, fault_none, fault_start, timing_same, timing_start, cut_is, cut_off, begins_with, events_settled, events_repeated, settled, original_is}
 use Rattle.unit_cut.proofs.cutter.Cutter.feed.Goals as goal
@@ -23,7 +23,7 @@ returns-then-not-is_on-clause-stands c = λ k past b h.
     let p = c.args.packet.now in
     let o : on k.pid p ≡ false = ap (λ n. on n p) (sym h.same) ∙ sym c.is_on.ensures ∙ c.if-not-is_on.true in
     let y = off k.pid p o in
-    record { same = h.same; units = passes _ k.pid p past y h.units; timing = timing_same _ k p past (begins_off k.pid p past y) h.timing; counter = simp o h.counter }
+    record { same = h.same; units = passes _ k.pid p _ past y h.units; timing = timing_same _ k p past (begins_off k.pid p past y) h.timing; counter = simp o h.counter }
 
 -- ---- scrambled
 
@@ -77,7 +77,7 @@ returns-in-Ok-clause-stands c = λ k past b h.
     let timing = timing_start c.begin.new.self k p past brings.0 started in
     record {
       same = c.settle.ensures.pid ∙ h.same;
-      units = rw c.settle.ensures.units (c.in-Start.ensures.reads k.pid past h.units);
+      units = rw c.settle.ensures.units (kept_became _ k.pid p _ _ _ c.settle.ensures.carries (c.in-Start.ensures.reads k.pid past h.units));
       timing = rw c.settle.ensures.timing timing;
       counter = subst (Counts _) (events_settled _ _ _ _ p (events (goes_by k) (k.pid ∷ []) k.pid past) o brings.1 (c.settle.ensures.stays ∙ ap not (sym (cut_is k p past c.begin.new.self.is_going brings.2 timing.going)))) (c.settle.ensures.counts (events (goes_by k) (k.pid ∷ []) k.pid past) h.counter);
     }
@@ -102,7 +102,7 @@ returns-in-More-clause-stands c = λ k past b h.
     let timing = timing_same c.args.self.now.timing k p past (begins_not k.pid p past brings.2) h.timing in
     record {
       same = c.settle-in-More.ensures.pid ∙ h.same;
-      units = rw c.settle-in-More.ensures.units (c.in-More.ensures.reads k.pid past h.units);
+      units = rw c.settle-in-More.ensures.units (kept_became _ k.pid p _ _ _ c.settle-in-More.ensures.carries (c.in-More.ensures.reads k.pid past h.units));
       timing = rw c.settle-in-More.ensures.timing timing;
       counter = subst (Counts _) (events_settled _ _ _ _ p (events (goes_by k) (k.pid ∷ []) k.pid past) o brings.0 (c.settle-in-More.ensures.stays ∙ ap not (sym (cut_is k p past _ brings.1 timing.going)))) (c.settle-in-More.ensures.counts (events (goes_by k) (k.pid ∷ []) k.pid past) h.counter);
     }
@@ -127,7 +127,7 @@ returns-in-Lead-clause-stands c = λ k past b h.
     let timing = timing_same c.args.self.now.timing k p past (begins_not k.pid p past brings.2) h.timing in
     record {
       same = c.settle-in-Lead.ensures.pid ∙ h.same;
-      units = rw c.settle-in-Lead.ensures.units (c.in-Lead.ensures.reads k.pid past h.units);
+      units = rw c.settle-in-Lead.ensures.units (kept_became _ k.pid p _ _ _ c.settle-in-Lead.ensures.carries (c.in-Lead.ensures.reads k.pid past h.units));
       timing = rw c.settle-in-Lead.ensures.timing timing;
       counter = subst (Counts _) (events_settled _ _ _ _ p (events (goes_by k) (k.pid ∷ []) k.pid past) o brings.0 (c.settle-in-Lead.ensures.stays ∙ ap not (sym (cut_is k p past _ brings.1 timing.going)))) (c.settle-in-Lead.ensures.counts (events (goes_by k) (k.pid ∷ []) k.pid past) h.counter);
     }
@@ -153,7 +153,7 @@ returns-in-Duplicate-clause-stands c = λ k past b h.
     let timing = timing_same _ k p past (begins_repeat k.pid p past brings.1) h.timing in
     record {
       same = c.settle_duplicate.ensures.pid ∙ h.same;
-      units = rw c.settle_duplicate.ensures.units (c.in-Duplicate.ensures.reads k.pid past h.units);
+      units = rw c.settle_duplicate.ensures.units (kept_became _ k.pid p _ _ _ c.settle_duplicate.ensures.carries (c.in-Duplicate.ensures.reads k.pid past h.units));
       timing = rw c.settle_duplicate.ensures.timing timing;
       counter = subst (Counts _) (events_repeated _ _ _ _ p (events (goes_by k) (k.pid ∷ []) k.pid past) o (original_is k.pid p past brings.0 brings.1) (c.settle_duplicate.ensures.stays ∙ ap not (sym (cut_is k p past _ brings.0 timing.going)))) (c.settle_duplicate.ensures.counts (events (goes_by k) (k.pid ∷ []) k.pid past) h.counter);
     }
@@ -176,7 +176,7 @@ returns-in-NoPayload-clause-stands c = λ k past b h.
     let y = brings.1 in
     record {
       same = c.keep.ensures.pid ∙ h.same;
-      units = rw c.keep.ensures.units (c.in-NoPayload.ensures.reads k.pid past h.units);
+      units = rw c.keep.ensures.units (kept_became _ k.pid p _ _ _ c.keep.ensures.carries (c.in-NoPayload.ensures.reads k.pid past h.units));
       timing = rw c.keep.ensures.timing (timing_same _ k p past (begins_off k.pid p past y) h.timing);
       counter = simp (o, y) (c.keep.ensures.counts (events (goes_by k) (k.pid ∷ []) k.pid past) h.counter);
     }
@@ -199,7 +199,7 @@ returns-in-Error-clause-stands c = λ k past b h.
     let y = error_off k.pid p brings in
     record {
       same = c.keep-in-Error.ensures.pid ∙ h.same;
-      units = rw c.keep-in-Error.ensures.units (c.in-Error.ensures.reads k.pid past h.units);
+      units = rw c.keep-in-Error.ensures.units (kept_became _ k.pid p _ _ _ c.keep-in-Error.ensures.carries (c.in-Error.ensures.reads k.pid past h.units));
       timing = rw c.keep-in-Error.ensures.timing (timing_same _ k p past (begins_off k.pid p past y) h.timing);
       counter = simp (o, y) (c.keep-in-Error.ensures.counts (events (goes_by k) (k.pid ∷ []) k.pid past) h.counter);
     }

@@ -2,19 +2,19 @@ use Rattle.std.proofs.Common.{◌≡◌, sym, ap, ◌∙◌, refl, true, false}
 use Rattle.ts_packet.specs.Fields.{in_error, on, unit_start}
 use Rattle.ts_packet.specs.Duplicates.{original}
 use Rattle.unit_stream.proofs.ReadingLemmas.{error_off, off, without_payload, with_payload, bytes_are, passes, is_repeat}
-use Rattle.unit_stream.proofs.reader.UnitReader.feed.Goals as goal
+use Rattle.unit_stream.proofs.reader.UnitFollower.feed.Goals as goal
 
 pub returns-then-error-clause-reads : goal.returns-then-error-clause-reads
 returns-then-error-clause-reads c = λ pid past h.
     let p = c.args.packet.now in
     let e : in_error p ≡ true = sym c.error.ensures ∙ c.if-error.true in
-    passes _ pid p past (error_off pid p e) h
+    passes _ pid p _ past (error_off pid p e) h
 
 pub returns-then-not-is_on-clause-reads : goal.returns-then-not-is_on-clause-reads
 returns-then-not-is_on-clause-reads c = λ pid past h.
     let p = c.args.packet.now in
     let o : on pid p ≡ false = ap (λ n. on n p) (sym h.same) ∙ sym c.is_on.ensures ∙ c.if-not-is_on.true in
-    passes _ pid p past (off pid p o) h
+    passes _ pid p _ past (off pid p o) h
 
 pub returns-then-not-is_on-clause-brings : goal.returns-then-not-is_on-clause-brings
 returns-then-not-is_on-clause-brings c = λ pid past h.
@@ -24,7 +24,7 @@ returns-then-not-is_on-clause-brings c = λ pid past h.
 
 pub returns-in_default-clause-reads : goal.returns-in_default-clause-reads
 returns-in_default-clause-reads c = λ pid past h.
-    passes _ pid c.args.packet.now past (without_payload pid c.args.packet.now (sym c.in_default.ensures)) h
+    passes _ pid c.args.packet.now _ past (without_payload pid c.args.packet.now (sym c.in_default.ensures)) h
 
 pub returns-in_default-clause-brings : goal.returns-in_default-clause-brings
 returns-in_default-clause-brings c = λ pid past h.
