@@ -5,7 +5,8 @@ ghost use Rattle.std.specs.Int.{int_max};
 ghost use Rattle.pes_time.specs.Line.{lift, signed};
 ghost use Rattle.unit_stream.specs.Faults.{jumps, is_far};
 ghost use Rattle.unit_cut.specs.Cutting.{inside};
-ghost use Rattle.unit_cut.specs.Ways.{is_within, way, raised_ring, raised_ahead};
+ghost use Rattle.std.specs.Prelude.{◌+ℤ◌, ◌&&◌};
+ghost use lib.Signed.{le_z, lt_z};
 
 use pes_time::Time33;
 
@@ -40,20 +41,20 @@ impl Clock {
 
     /// How far a stamp is past the cut's begin.
     fn way(&self, pts: Time33) -> i64
-        ensures { result ≡ way self.now.high self.now.ahead pts }
+        ensures { result ≡ self.now.ahead +ℤ signed pts self.now.high }
     {
         self.ahead + pts.signed_from(self.high)
     }
 
     /// Goes on to a stamp, where it is past the greatest.
+    #[tactic(auto, using(crate::proofs::ClockLemmas::clock_raised, crate::proofs::ClockLemmas::clock_kept))]
     fn raise(&mut self, pts: Time33)
-        ensures ring { self.new.high ≡ raised_ring self.old.high pts }
-        ensures ahead { self.new.ahead ≡ raised_ahead self.old.high self.old.ahead pts }
+        ensures { (begin h : ℤ) → ClockAt self.old begin h → ClockAt self.new begin (int_max h (lift h pts)) }
     {
         let at = self.way(pts);
         if pts.signed_from(self.high) > 0 {
             self.high = pts;
-            self.ahead = if at < FAR { at } else { FAR };
+            self.ahead = at.min(FAR);
         }
     }
 
@@ -66,7 +67,7 @@ impl Clock {
     }
 
     /// Passes the begin of a unit. Whether its time lies inside the cut.
-    #[tactic(auto, using(crate::proofs::ClockLemmas::clock_raised, crate::proofs::ClockLemmas::way_inside))]
+    #[tactic(auto, using(crate::proofs::ClockLemmas::way_inside))]
     pub fn pass(&mut self, pts: Time33, length: u32) -> bool
         ensures clock { (begin h : ℤ) → ClockAt self.old begin h → ClockAt self.new begin (int_max h (lift h pts)) }
         ensures inside { (begin h : ℤ) → ClockAt self.old begin h → result ≡ inside begin length (Some (lift h pts)) }
@@ -79,7 +80,7 @@ impl Clock {
 
 /// Whether a distance is below a length.
 fn is_within(at: i64, length: u32) -> bool
-    ensures { result ≡ is_within at length }
+    ensures { result ≡ (le_z (pos 0) at && lt_z at (pos length)) }
 {
     at >= 0 && at < i64::from(length)
 }
