@@ -1,6 +1,7 @@
 //! The program: a command line, standard streams and files in, an exit status out.
 
-ghost use Rattle.std.specs.Prelude.{◌≡◌, ◌≤◌, IfErr, OnOk, IfOk, Err};
+ghost use Rattle.std.specs.Prelude.{◌≡◌, ◌≢◌, ◌≤◌, ◌⊎◌, IfErr, OnOk, IfOk, Err};
+ghost use Rattle.clap.specs.Values.{kind_of};
 ghost use Rattle.dpi_program.specs.Names.{read_name, put_name, cut_name, fault_name};
 
 use crate::command::{CutOptions, command, cut_options};
@@ -35,6 +36,11 @@ pub enum ProgramFault {
     /// Memory was refused.
     OutOfMemory,
 }
+
+/// The output could not be written.
+const OUTPUT_FAILED: ProgramFault = ProgramFault::Lines(LinesFault::Cut(CutFault::Sink(
+    PutFault::Io,
+)));
 
 /// The name of a fault of a reader.
 fn read_name(fault: ReadFault) -> &'static str
@@ -228,19 +234,29 @@ where
     cut_from(rt, options, from, to, input, output)
 }
 
-/// Answers a command line that is not taken: help and version come here too.
-fn refuse<E: Write>(faults: &mut E, error: &Error) -> u8
-    ensures { result ≤ 2 }
+/// Answers a command line that names no run: help and version are printed on the output, and what is not taken on `faults`.
+fn answer<O: Write, E: Write>(output: &mut O, faults: &mut E, error: &Error) -> u8
+    ensures memory { kind_of error.now ≡ ErrorKind.OutOfMemory → result ≡ 1 }
+    ensures mistake { kind_of error.now ≢ ErrorKind.OutOfMemory → kind_of error.now ≢ ErrorKind.DisplayHelp → kind_of error.now ≢ ErrorKind.DisplayVersion → result ≡ 2 }
+    ensures shown { (kind_of error.now ≡ ErrorKind.DisplayHelp) ⊎ (kind_of error.now ≡ ErrorKind.DisplayVersion) → result ≤ 1 }
+    ensures status { result ≤ 2 }
 {
     if error.kind() == ErrorKind::OutOfMemory {
         return report(faults, ProgramFault::OutOfMemory);
     }
-    let _ = write!(faults, "{error}");
-    USAGE
+    if error.use_stderr() {
+        let _ = write!(faults, "{error}");
+        return USAGE;
+    }
+    if write!(output, "{error}").is_ok() && output.flush().is_ok() {
+        DONE
+    } else {
+        report(faults, OUTPUT_FAILED)
+    }
 }
 
-/// Runs the program with the words after its name, and answers its exit status: 0 where all is done; 1 after a fault, with the
-/// one line `fault: NAME` on `faults`; 2 where the command line is not taken, with a text for the user on `faults`.
+/// Runs the program with the words after its name, and answers its exit status: 0 where all is done, and where
+/// help or the version was asked for, which is printed on `output`; 1 after a fault, with the one line `fault: NAME` on `faults`; 2 where the command line is not taken, with a text for the user on `faults`.
 pub fn program<R, I, O, E>(
     rt: &R,
     words: &[&str],
@@ -260,7 +276,7 @@ where
     };
     let matches = match line.try_get_matches_from(words) {
         Ok(matches) => matches,
-        Err(error) => return refuse(faults, &error),
+        Err(error) => return answer(output, faults, &error),
     };
     let Some(given) = matches.subcommand_matches("cut") else {
         return USAGE;

@@ -243,6 +243,30 @@ fn expect_usage<R: Files + AllocGlobal + Abort>(
     Ok(())
 }
 
+/// The words ask for a text, which has this in it.
+fn expect_help<R: Files + AllocGlobal + Abort>(
+    rt: &R,
+    words: &[&str],
+    text: &str,
+) -> Result<(), Fail> {
+    let run = run(rt, words, &[]);
+    assert_eq!(rt; run.status, 0, "{text}");
+    assert!(rt; run.faults.is_empty());
+    let says = std::str::from_utf8(run.output.as_slice())?;
+    assert!(rt; says.contains(text), "{text} in {says}");
+    Ok(())
+}
+
+#[test]
+fn help_is_printed_on_the_output(rt: HostRuntime) -> Result<(), Fail> {
+    expect_help(&rt, &["--help"], "dpi_chain <COMMAND>")?;
+    expect_help(&rt, &["help", "cut"], "--length <TICKS>")?;
+    expect_help(&rt, &["cut", "-h"], "--from <TICKS>")?;
+    expect_help(&rt, &["cut", "--help"], "ticks of the 90 kHz clock")?;
+    expect_help(&rt, &["--version"], "dpi_chain")?;
+    Ok(())
+}
+
 #[test]
 fn command_lines_are_judged(rt: HostRuntime) -> Result<(), Fail> {
     for pid in ["+5", "-1", "", " 5", "0x5", "8192", "99999999999999999999"] {
@@ -283,7 +307,6 @@ fn command_lines_are_judged(rt: HostRuntime) -> Result<(), Fail> {
         "--speed",
     )?;
     expect_usage(&rt, &["inject"], "inject")?;
-    expect_usage(&rt, &["cut", "--help"], "ticks of the 90 kHz clock")?;
     expect_run(
         &rt,
         &[
