@@ -1,6 +1,7 @@
 //! The packet that is passed on, and the one that its duplicate would repeat.
 
 ghost use Rattle.std.specs.Prelude.{◌≡◌, ℕ, ◌≤◌, ◌<◌, ◌+◌, ◌^◌, cond, List, [], ◌∷◌, ◌++◌, Option, None, OnOk, IfOk, IfErr, reverse, false};
+ghost use Rattle.ts_packet.specs.Packets.{null_packet};
 ghost use Rattle.ts_packet.specs.Reading.{GivesInto, Refuses, ReadBlamed};
 ghost use Rattle.unit_stream.specs.Faults.{unit_fault};
 ghost use Rattle.unit_cut.specs.Standing.{Cut, StandsFor, Begins, read_of, kept_of};
@@ -20,8 +21,11 @@ pub struct Slots {
 }
 
 impl Slots {
-    /// Two packets, of which none has been read.
-    pub fn new() -> Slots {
+    /// Two null packets, of which none has been read.
+    pub fn new() -> Slots
+        ensures read { read_of result ≡ null_packet }
+        ensures kept { kept_of result ≡ null_packet }
+    {
         Slots {
             even: Packet::null(),
             odd: Packet::null(),
