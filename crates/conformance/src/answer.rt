@@ -4,7 +4,7 @@ ghost use Rattle.std.specs.Prelude.{◌≡◌, length};
 ghost use Rattle.scte104_codec.specs.declared.framing.Frame.TheVariants.{Whole};
 ghost use Rattle.scte104_codec.specs.Framing.{frame_of};
 
-use crate::line::{Kind, kind_of, word_bytes};
+use crate::line::{Codec, Kind, kind_of, word_bytes};
 use crate::sections::{found_in, packets_of, write_found};
 use crate::table::write_table;
 use codec_text::{BadMessageText, CueFaultText, CueText, FrameText, MessageText};
@@ -17,9 +17,9 @@ pub fn write_answer<O: Write>(alloc: Global, output: &mut O, line: &[u8]) -> io:
     match kind_of(line) {
         None => writeln!(output, "bad line"),
         Some((Kind::Sections, words)) => write_sections(alloc, output, words),
-        Some((kind, word)) => match word_bytes(alloc, word)? {
+        Some((Kind::Bytes(codec), word)) => match word_bytes(alloc, word)? {
             None => writeln!(output, "bad line"),
-            Some(bytes) => write_reading(output, kind, bytes.as_slice()),
+            Some(bytes) => write_reading(output, codec, bytes.as_slice()),
         },
     }
 }
@@ -33,12 +33,11 @@ fn write_sections<O: Write>(alloc: Global, output: &mut O, words: &[u8]) -> io::
 }
 
 /// Writes what these bytes are.
-fn write_reading<O: Write>(output: &mut O, kind: Kind, bytes: &[u8]) -> io::Result<()> {
-    match kind {
-        Kind::Cue => write_cue(output, bytes),
-        Kind::Message => write_message(output, bytes),
-        Kind::Table => write_table(output, bytes),
-        Kind::Sections => writeln!(output, "bad line"),
+fn write_reading<O: Write>(output: &mut O, codec: Codec, bytes: &[u8]) -> io::Result<()> {
+    match codec {
+        Codec::Cue => write_cue(output, bytes),
+        Codec::Message => write_message(output, bytes),
+        Codec::Table => write_table(output, bytes),
     }
 }
 
