@@ -1,3 +1,4 @@
 pub mod FrameLemmas
 pub mod SectionLemmas
 pub mod WordLemmas
+pub mod WritingLemmas

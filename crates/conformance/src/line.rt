@@ -3,6 +3,7 @@
 ghost use Rattle.std.specs.Prelude.{◌≡◌, ◌≢◌, ◌++◌, [], IfOk, IfSome, None, Some, codes, option_map};
 ghost use Rattle.hex_digits.specs.Digits.{spelled};
 ghost use Rattle.conformance.specs.Lines.{word_of, asked};
+ghost use Rattle.conformance.specs.Answers.{bytes_in};
 
 use hex_digits::bytes_of;
 use std::alloc::{AllocError, Global};
@@ -47,6 +48,7 @@ pub fn kind_of(line: &[u8]) -> Option<(Kind, &[u8])>
 
 /// The bytes of one word: at least one by its digits, or none by `-`.
 pub fn word_bytes(alloc: Global, word: &[u8]) -> Result<Option<Vec<u8>>, AllocError>
+    ensures exact { IfOk result (λ bytes. option_map (λ b. b.items) bytes ≡ bytes_in word.now) }
     ensures empty { word.now ≡ [] → IfOk result (λ bytes. bytes ≡ None) }
     ensures dash { word.now ≡ codes "-" → IfOk result (λ bytes. option_map (λ b. b.items) bytes ≡ Some []) }
     ensures digits { word.now ≢ [] → word.now ≢ codes "-" → IfOk result (λ bytes. option_map (λ b. b.items) bytes ≡ spelled word.now) }

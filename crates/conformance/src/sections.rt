@@ -3,6 +3,8 @@
 ghost use Rattle.std.specs.Prelude.{◌≡◌, ◌∷◌, ◌++◌, ℕ, List, All, IfOk, OnOk, map, option_map};
 ghost use Rattle.psi_section.specs.Sections.{given, sections};
 ghost use Rattle.psi_section.specs.Assembling.{IsOf, IsReady, Waits};
+ghost use Rattle.std.specs.Io.KnownBytes.{Appends};
+ghost use Rattle.conformance.specs.Answers.{ended, found_text};
 ghost use Rattle.conformance.specs.Sections.{packet_of, packets_in, words_of, at_place, placed, words_behind, IsFoundIn};
 
 use codec_text::BytesText;
@@ -111,7 +113,9 @@ pub fn found_in(alloc: Global, packets: &[Packet]) -> Result<Found, AllocError>
 }
 
 /// Writes the number of the failed CRCs and each section behind its packet's place.
-pub fn write_found<O: Write>(output: &mut O, found: &Found) -> io::Result<()> {
+pub fn write_found<O: Write>(output: &mut O, found: &Found) -> io::Result<()>
+    ensures { OnOk result (Appends (O.contents output.old) (O.contents output.new) (ended (found_text found.now))) }
+{
     let bad = found.bad;
     write!(output, "bad={bad}")?;
     for finished in &found.finished {
