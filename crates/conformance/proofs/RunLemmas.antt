@@ -1,8 +1,8 @@
 -- Lines, one after the other.
 use Rattle.std.proofs.Common.{◌≡◌, ℕ, suc, ◌-◌, ◌<◌, List, [], ◌∷◌, ◌++◌, Bool, true, false, nat_eq, nat_lt, length, take, Option, None, Some, IfSome, refl, sym, ap, ◌∙◌, subst, append_assoc, append-nil, eqb-true, lt-ltb, arith}
 use Rattle.std.proofs.KnownBytes.{Appends-nil, Appends-trans}
-use Rattle.std.specs.Prelude.{IsSomeAnd, ⊤, slice_index, ◌==◌, if◌then◌else◌}
-use Rattle.std.specs.Io.BufRead.{take_through, drop_through, ends_with_byte, strip_last, DropsThrough}
+use Rattle.std.specs.Prelude.{IsSomeAnd, slice_index, ◌==◌, if◌then◌else◌}
+use Rattle.std.specs.Io.BufRead.{take_through, drop_through, strip_last, DropsThrough}
 use Rattle.std.specs.Io.KnownBytes.{Appends, IsAtEnd}
 use Rattle.conformance.specs.Sections.{before_word}
 use Rattle.conformance.specs.Answers.{IsAnswer}
@@ -42,7 +42,7 @@ first_by (y ∷ ys) x false e =
     let behind : lines_of (y ∷ ys) ≡ strip_last 10 through ∷ lines_of rest = first_by ys y _ refl in
     let some : 0 < length through = through_by (y == 10) y ys in
     let whole : before_word x (lines_of (y ∷ ys)) ≡ strip_last 10 (x ∷ through) ∷ lines_of rest =
-        ap (before_word x) behind ∙ ap (λ l. l ∷ lines_of rest) (sym (strip_last-some x through some)) in
+    ap (before_word x) behind ∙ ap (λ l. l ∷ lines_of rest) (sym (strip_last-some x through some)) in
     rw e whole
 
 pub first_of_lines : (xs : List ℕ) → 0 < length xs → lines_of xs ≡ strip_last 10 (take_through 10 xs) ∷ lines_of (drop_through 10 xs)
@@ -59,7 +59,7 @@ taken (Some []) new before read line none bytes rest some e =
 taken (Some (x ∷ xs)) new before read line none bytes rest some e =
     let through : read ≡ take_through 10 (x ∷ xs) = bytes ∙ ap (λ l. l ++ take_through 10 (x ∷ xs)) none in
     let first : lines_of (x ∷ xs) ≡ line ∷ lines_of (drop_through 10 (x ∷ xs)) =
-        first_of_lines (x ∷ xs) (omega arith) ∙ ap (λ l. l ∷ lines_of (drop_through 10 (x ∷ xs))) (sym (e ∙ ap (strip_last 10) through)) in
+    first_of_lines (x ∷ xs) (omega arith) ∙ ap (λ l. l ∷ lines_of (drop_through 10 (x ∷ xs))) (sym (e ∙ ap (strip_last 10) through)) in
     subst (λ (o : Option (List ℕ)). TakesLine (Some (x ∷ xs)) o true line) (sym rest) first
 
 pub none_taken : (old new : Option (List ℕ)) (line : List ℕ) → DropsThrough old new 10 → IsAtEnd old → TakesLine old new false line
@@ -82,11 +82,14 @@ pub answered_line : (input left after old mid new : Option (List ℕ)) (line fir
 answered_line None left after old mid new line first so_far takes answer grown = tt
 answered_line (Some bytes) None after old mid new line first so_far takes answer grown = absurd so_far
 answered_line (Some bytes) (Some more) None old mid new line first so_far takes answer grown = absurd takes
-answered_line (Some bytes) (Some more) (Some others) old mid new line first so_far takes answer grown =
-    (so_far.0 ++ first, Appends-trans old mid new so_far.0 first so_far.1 grown, λ rest answers.
-        let here : AreAnswers (line ∷ lines_of others) (first ++ rest) = (first, rest, answer, answers, refl) in
-        subst (AreAnswers (lines_of bytes)) (sym (append_assoc so_far.0 first rest))
-        (so_far.2 (first ++ rest) (subst (λ lines. AreAnswers lines (first ++ rest)) (sym takes) here)))
+answered_line (Some bytes) (Some more) (Some others) old mid new line first so_far takes answer grown = (
+  so_far.0 ++ first,
+  Appends-trans old mid new so_far.0 first so_far.1 grown,
+  λ rest answers.
+      let here : AreAnswers (line ∷ lines_of others) (first ++ rest) = (first, rest, answer, answers, refl) in
+      subst (AreAnswers (lines_of bytes)) (sym (append_assoc so_far.0 first rest))
+      (so_far.2 (first ++ rest) (subst (λ lines. AreAnswers lines (first ++ rest)) (sym takes) here)),
+)
 
 pub answered_all : (input left after old new : Option (List ℕ)) (line : List ℕ) → AnsweredSoFar input left old new → TakesLine left after false line
     → Answered input old new

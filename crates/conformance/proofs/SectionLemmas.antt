@@ -1,9 +1,9 @@
 -- Sections as they are given, packet by packet.
-use Rattle.std.proofs.Common.{◌≡◌, ℕ, ◌+◌, ◌<◌, ◌≤◌, List, [], ◌∷◌, ◌++◌, length, map, reverse, take, drop, get_or, All, Option, Some, None, refl, sym, ap, ◌∙◌, subst, append_assoc, length-take-le, arith}
+use Rattle.std.proofs.Common.{◌≡◌, ℕ, ◌+◌, ◌<◌, ◌≤◌, List, [], ◌∷◌, ◌++◌, length, map, reverse, take, drop, get_or, All, Some, None, refl, sym, ap, ◌∙◌, subst, append_assoc, length-take-le, arith}
 use Rattle.std.proofs.lemmas.List.{map-append, reverse-append, length-reverse, take_more, drop_more, drop_all, append-nil}
 use Rattle.psi_section.specs.declared.assembler.Assembler.{Assembler}
 use Rattle.psi_section.specs.Sections.{given, sections_after}
-use Rattle.psi_section.specs.Assembling.{IsOf, Waits, Gives, GoesOn, first, behind_first, left}
+use Rattle.psi_section.specs.Assembling.{IsOf, Waits, Gives, GoesOn, first, behind_first}
 use Rattle.conformance.specs.declared.sections.Finished.{Finished}
 use Rattle.conformance.specs.Sections.{at_place, finished_after, placed}
 

@@ -6,7 +6,7 @@ ghost use Rattle.conformance.specs.Run.{TakesLine, Answered};
 
 use crate::answer::write_answer;
 use std::alloc::Global;
-use std::io::{self, BufRead, BufReader, BufWriter, Write};
+use std::io::{self, BufRead, BufReader, BufWriter, Read, Write};
 
 /// Takes off the line feed at the end, where there is one.
 fn take_off_feed(line: &mut Vec<u8>)
@@ -47,10 +47,20 @@ pub fn write_answers<I: BufRead, O: Write>(
     Err(io::Error::other("more lines than can be counted"))
 }
 
+/// Answers each line of the input on the output, both behind buffers, and gives the output back once all of it is out.
+fn answer_all<I: Read + Drop, O: Write + Drop>(alloc: Global, input: I, output: O) -> io::Result<O>
+    ensures { IfOk result (λ after. Answered (I.remaining input) (O.contents output) (O.contents after)) }
+{
+    let mut input = BufReader::new(alloc, input)?;
+    let mut output = BufWriter::new(alloc, output)?;
+    write_answers(alloc, &mut input, &mut output)?;
+    output.flush()?;
+    let (output, _) = output.into_parts();
+    Ok(output)
+}
+
 /// Answers each line of standard input on standard output. The error is one of a device, or memory that was refused.
 pub fn program<R: Input + Print + AllocGlobal>(rt: &R) -> io::Result<()> {
-    let mut input = BufReader::new(rt.alloc(), rt.reader())?;
-    let mut output = BufWriter::new(rt.alloc(), io::writer(rt))?;
-    write_answers(rt.alloc(), &mut input, &mut output)?;
-    output.flush()
+    answer_all(rt.alloc(), rt.reader(), io::writer(rt))?;
+    Ok(())
 }

@@ -1,6 +1,5 @@
 use Rattle.std.proofs.Common.{arith}
 use Rattle.std.proofs.lemmas.List.{take_rest}
-use Rattle.conformance.specs.Sections.{words_of}
 use Rattle.conformance.proofs.WordLemmas.{cut_here, cut_nowhere}
 use Rattle.conformance.proofs.sections.cut_word.Goals as goal
 

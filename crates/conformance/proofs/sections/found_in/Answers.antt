@@ -1,6 +1,4 @@
-use Rattle.std.proofs.Common.{◌≡◌, ◌++◌, ap, refl, subst, sym}
-use Rattle.psi_section.specs.Assembling.{Waits}
-use Rattle.conformance.specs.Sections.{finished_after, placed}
+use Rattle.std.proofs.Common.{refl}
 use Rattle.conformance.proofs.SectionLemmas.{past_more, is_of_at, finished_more, finished_at_end, sections_kept}
 use Rattle.conformance.proofs.sections.found_in.Goals as goal
 
@@ -27,6 +25,6 @@ loop-place-preserved c =
     }
 
 pub returns-clause-sections : goal.returns-clause-sections
-returns-clause-sections c = λ pid all. 
+returns-clause-sections c = λ pid all.
     sections_kept pid c.args.packets.now c.loop-place.finished.items
     (finished_at_end pid _ c.args.packets.now c.loop-place.place _ _ c.loop-place-test.false (c.loop-place.invariant.finished pid all))

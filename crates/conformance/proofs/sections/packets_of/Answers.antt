@@ -1,6 +1,6 @@
-use Rattle.std.proofs.Common.{◌≡◌, ◌∷◌, ◌++◌, [], Some, option_map, ap, sym, ◌∙◌}
-use Rattle.conformance.specs.Sections.{packet_of, packet_before, packets_in, words_of, words_behind}
-use Rattle.conformance.proofs.WordLemmas.{behind, packet_more}
+use Rattle.std.proofs.Common.{◌≡◌, Some, option_map, ap, sym, ◌∙◌}
+use Rattle.conformance.specs.Sections.{packet_of, words_of, words_behind}
+use Rattle.conformance.proofs.WordLemmas.{packet_more}
 use Rattle.conformance.proofs.sections.packets_of.Goals as goal
 
 pub loop-rest-preserved : goal.loop-rest-preserved

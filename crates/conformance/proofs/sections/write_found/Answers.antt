@@ -12,8 +12,8 @@ loop-finished-preserved g c =
     let contents = g.O.Write.contents in
     let more = sections_text_more c.deref-finished-items.result.now c.loop-finished.finished-index finished c.loop-finished-test.true c.finished-item.is in
     let joined : Appends (contents c.loop-finished.output) (contents c.write-in-loop-finished.new.self)
-        (codes " " ++ (decimal finished.place ++ (codes ":" ++ bytes_text c.as_slice.result.now))) = c.in_ok-write-2.ensures.bytes in
+    (codes " " ++ (decimal finished.place ++ (codes ":" ++ bytes_text c.as_slice.result.now))) = c.in_ok-write-2.ensures.bytes in
     let here : Appends (contents c.loop-finished.output) (contents c.write-in-loop-finished.new.self) (section_text finished) =
-        subst (Appends (contents c.loop-finished.output) (contents c.write-in-loop-finished.new.self)) (section_text_joined finished) (rw c.as_slice.ensures.value at joined) in
+    subst (Appends (contents c.loop-finished.output) (contents c.write-in-loop-finished.new.self)) (section_text_joined finished) (rw c.as_slice.ensures.value at joined) in
     subst (Appends (contents c.write.new.self) (contents c.write-in-loop-finished.new.self)) (sym more)
     (Appends-trans _ _ _ _ _ c.loop-finished.invariant here)

@@ -1,5 +1,4 @@
-use Rattle.std.proofs.Common.{◌++◌, codes, map, take}
-use Rattle.std.specs.Fmt.{decimal}
+use Rattle.std.proofs.Common.{map, take}
 use Rattle.std.specs.Io.KnownBytes.{Appends}
 use Rattle.conformance.specs.Sections.{placed}
 use Rattle.conformance.specs.Answers.{sections_text}
