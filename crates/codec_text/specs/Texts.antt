@@ -15,7 +15,6 @@ use Rattle.scte104_codec.specs.declared.framing.Frame.TheVariants.{NeedMore, Who
 use Rattle.scte104_codec.specs.declared.message.BadMessage.{BadMessage}
 use Rattle.scte104_codec.specs.declared.message.Multi.{Multi}
 use Rattle.scte104_codec.specs.declared.message.Message.{Message}
-use Rattle.scte104_codec.specs.declared.message.Message.TheVariants as message
 use Rattle.scte104_codec.specs.Operations.{Operation}
 use Rattle.scte104_codec.specs.OperationsLeft.{operations_left}
 use Rattle.scte104_codec.specs.Reading as message_reading
