@@ -1,26 +1,30 @@
 -- What the texts are, where the bytes that are printed are stated.
-use Rattle.std.specs.Prelude.{ℕ, Bool, List, [], ◌∷◌, ◌++◌, Option, Some, None, codes, drop, if◌then◌else◌}
+use Rattle.std.specs.Prelude.{ℕ, Bool, List, [], ◌∷◌, ◌++◌, Option, Some, None, Ok, codes, drop, if◌then◌else◌}
 use Rattle.std.specs.Fmt.{decimal}
 use Rattle.std.specs.Int.{w16, w32, to_be_bytes}
 use Rattle.hex_digits.specs.Digits.{digits_of}
 use Rattle.scte35_codec.specs.declared.cue.Insert.{Insert}
 use Rattle.scte35_codec.specs.declared.cue.Cue.{Cue}
 use Rattle.scte35_codec.specs.declared.cue.Cue.TheVariants as cue
-use Rattle.scte35_codec.specs.AvailsLeft.{avails_left}
+use Rattle.scte35_codec.specs.declared.insert.SpliceInsert.{SpliceInsert}
+use Rattle.scte35_codec.specs.Reading as cue_reading
+use Rattle.scte35_codec.specs.Views as cue_view
 use Rattle.scte104_codec.specs.declared.head.Head.{Head}
 use Rattle.scte104_codec.specs.declared.framing.Frame.{Frame}
 use Rattle.scte104_codec.specs.declared.framing.Frame.TheVariants.{NeedMore, Whole, BadSize}
 use Rattle.scte104_codec.specs.declared.message.BadMessage.{BadMessage}
 use Rattle.scte104_codec.specs.declared.message.Multi.{Multi}
 use Rattle.scte104_codec.specs.declared.message.Message.{Message}
-use Rattle.scte104_codec.specs.declared.message.Message.TheVariants as message
 use Rattle.scte104_codec.specs.Operations.{Operation}
 use Rattle.scte104_codec.specs.OperationsLeft.{operations_left}
+use Rattle.scte104_codec.specs.Reading as message_reading
+use Rattle.scte104_codec.specs.Views as message_view
 use Rattle.psi_tables.specs.declared.stream.Stream.{Stream}
 use Rattle.psi_tables.specs.Sections.{is_current}
 use Rattle.psi_tables.specs.Streams.{pid_in}
 use Rattle.psi_tables.specs.Association.{Association, first_program_of}
 use Rattle.psi_tables.specs.ProgramMap.{ProgramMap, streams_of}
+use Rattle.codec_text.specs.Names.{cue_fault_name}
 
 -- bytes in digits; `-` where there are none
 abbrev pub bytes_text : List ℕ → List ℕ
@@ -80,25 +84,30 @@ avails_text [] = codes "-"
 avails_text (avail ∷ rest) = number32_text avail ++ more_avails_text rest
 
 -- what is spliced, and when
-abbrev pub splice_text : Insert → List ℕ
+abbrev pub splice_text : SpliceInsert → List ℕ
 splice_text i =
     codes "Insert event=" ++ number32_text i.event ++ codes " out=" ++ flag_text i.out ++ codes " time=" ++ time_text i.time
     ++ codes " length=" ++ length_text i.length
 
 -- which avail of which programme that is
-abbrev pub avail_text : Insert → List ℕ
-avail_text i =
+abbrev pub avail_text : SpliceInsert → List ℕ → List ℕ
+avail_text i avails =
     codes " program=" ++ decimal i.program ++ codes " avail=" ++ decimal i.avail ++ codes " expected=" ++ decimal i.expected
-    ++ codes " avails=" ++ avails_text (avails_left i.avails)
+    ++ codes " avails=" ++ avails_text avails
 
-abbrev pub insert_text : Insert → List ℕ
-insert_text i = splice_text i ++ avail_text i
+-- what bytes are as a cue, or why they are none
+abbrev pub cue_reading_text : cue_reading.Reading → List ℕ
+cue_reading_text (cue_reading.insert i avails) = splice_text i ++ avail_text i avails
+cue_reading_text (cue_reading.cancel event) = codes "Cancel event=" ++ number32_text event
+cue_reading_text cue_reading.null = codes "Null"
+cue_reading_text cue_reading.other = codes "Other"
+cue_reading_text (cue_reading.bad fault) = cue_fault_name fault
 
 abbrev pub cue_text : Cue → List ℕ
-cue_text (cue.Insert i) = insert_text i
-cue_text (cue.Cancel event) = codes "Cancel event=" ++ number32_text event
-cue_text cue.Null = codes "Null"
-cue_text cue.Other = codes "Other"
+cue_text c = cue_reading_text (cue_view.reading_of (Ok c))
+
+abbrev pub insert_text : Insert → List ℕ
+insert_text i = cue_text (cue.Insert i)
 
 -- ---- messages
 
@@ -113,17 +122,27 @@ abbrev pub operations_text : List Operation → List ℕ
 operations_text [] = codes " no-operations"
 operations_text (o ∷ rest) = more_operations_text (o ∷ rest)
 
-abbrev pub versions_text : Multi → List ℕ
+abbrev pub versions_text : message_reading.Multiple → List ℕ
 versions_text m = codes "version=" ++ decimal m.version ++ codes " cue_version=" ++ decimal m.cue_version ++ codes " time_kind=" ++ decimal m.time_kind
 
-abbrev pub multi_text : Multi → List ℕ
-multi_text m = codes "Multi " ++ head_text m.head ++ codes " " ++ versions_text m ++ operations_text (operations_left m.operations)
+abbrev pub multiple_text : message_reading.Multiple → List ℕ
+multiple_text m = codes "Multi " ++ head_text m.head ++ codes " " ++ versions_text m ++ operations_text m.operations
 
+-- what a whole message is, from its bytes, or how it breaks the syntax
+abbrev pub message_reading_text : List ℕ → message_reading.Reading → List ℕ
+message_reading_text bytes (message_reading.init head) = codes "Init " ++ head_text head
+message_reading_text bytes (message_reading.alive head body) = codes "Alive " ++ head_text head ++ codes " data=" ++ bytes_text body
+message_reading_text bytes (message_reading.other head) = codes "Other " ++ head_text head
+message_reading_text bytes (message_reading.multiple m) = multiple_text m
+message_reading_text bytes (message_reading.bad multi head) = bad_message_text (record { multi = multi; head = head }) bytes
+
+-- only the text of a message that breaks the syntax is from its bytes
 abbrev pub message_text : Message → List ℕ
-message_text (message.Init head) = codes "Init " ++ head_text head
-message_text (message.Alive head bytes) = codes "Alive " ++ head_text head ++ codes " data=" ++ bytes_text bytes.now
-message_text (message.Other head) = codes "Other " ++ head_text head
-message_text (message.Multi m) = multi_text m
+message_text m = message_reading_text [] (message_view.reading_of (Ok m))
+
+-- what is shown of the fields of a multiple_operation_message
+abbrev pub multiple_of : Multi → message_reading.Multiple
+multiple_of m = record { head = m.head; version = m.version; cue_version = m.cue_version; time_kind = m.time_kind; operations = operations_left m.operations }
 
 -- ---- tables
 

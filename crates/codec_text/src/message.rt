@@ -85,9 +85,9 @@ struct MultiText<'a>(Multi<'a>);
 
 impl fmt::Display for MultiText<'_> {
     ghost use Rattle.std.specs.Prelude.{Some};
-    ghost use Rattle.codec_text.specs.Texts.{multi_text};
+    ghost use Rattle.codec_text.specs.Texts.{multiple_of, multiple_text};
 
-    ghost output = { λ t. Some (multi_text t.0) };
+    ghost output = { λ t. Some (multiple_text (multiple_of t.0)) };
 
     fn fmt<W: fmt::Write>(&self, f: &mut fmt::Formatter<W>) -> fmt::Result {
         let head = HeadText(self.0.head);
@@ -103,9 +103,9 @@ struct VersionsText<'a>(Multi<'a>);
 
 impl fmt::Display for VersionsText<'_> {
     ghost use Rattle.std.specs.Prelude.{Some};
-    ghost use Rattle.codec_text.specs.Texts.{versions_text};
+    ghost use Rattle.codec_text.specs.Texts.{multiple_of, versions_text};
 
-    ghost output = { λ t. Some (versions_text t.0) };
+    ghost output = { λ t. Some (versions_text (multiple_of t.0)) };
 
     fn fmt<W: fmt::Write>(&self, f: &mut fmt::Formatter<W>) -> fmt::Result {
         let version = self.0.version;

@@ -1,1 +1,4 @@
+pub mod Answers
 pub mod Lines
+pub mod Run
+pub mod Sections

@@ -1,7 +1,11 @@
 //! The answer to packets.
 
-ghost use Rattle.std.specs.Prelude.{◌≡◌, length, OnOk};
-ghost use Rattle.psi_section.specs.Assembling.{IsReady};
+ghost use Rattle.std.specs.Prelude.{◌≡◌, ◌∷◌, ◌++◌, ℕ, List, All, IfOk, OnOk, map, option_map};
+ghost use Rattle.psi_section.specs.Sections.{given, sections};
+ghost use Rattle.psi_section.specs.Assembling.{IsOf, IsReady, Waits};
+ghost use Rattle.std.specs.Io.KnownBytes.{Appends};
+ghost use Rattle.conformance.specs.Answers.{ended, found_text};
+ghost use Rattle.conformance.specs.Sections.{packet_of, packets_in, words_of, at_place, placed, words_behind, IsFoundIn};
 
 use codec_text::BytesText;
 use hex_digits::bytes_of;
@@ -27,7 +31,9 @@ pub struct Found {
 }
 
 /// The packet that this word spells.
-fn packet_of(alloc: Global, word: &[u8]) -> Result<Option<Packet>, AllocError> {
+fn packet_of(alloc: Global, word: &[u8]) -> Result<Option<Packet>, AllocError>
+    ensures { IfOk result (λ packet. packet ≡ packet_of word.now) }
+{
     let Some(bytes) = bytes_of(alloc, word)? else {
         return Ok(None);
     };
@@ -37,14 +43,31 @@ fn packet_of(alloc: Global, word: &[u8]) -> Result<Option<Packet>, AllocError> {
     Ok(Packet::from_bytes(bytes).ok())
 }
 
+/// The first of these words, and those behind the space that ends it, where there is one.
+fn cut_word(words: &[u8]) -> (&[u8], Option<&[u8]>)
+    ensures { words_of words.now ≡ result.0.now ∷ words_behind (option_map (λ rest. rest.now) result.1) }
+{
+    for (place, byte) in words.iter().enumerate() {
+        if *byte == b' ' {
+            return (&words[..place], Some(&words[place + 1..]));
+        }
+    }
+    (words, None)
+}
+
 /// The packets that these words spell, one space between two.
-pub fn packets_of(alloc: Global, words: &[u8]) -> Result<Option<Vec<Packet>>, AllocError> {
+pub fn packets_of(alloc: Global, words: &[u8]) -> Result<Option<Vec<Packet>>, AllocError>
+    ensures { IfOk result (λ packets. option_map (λ ps. ps.items) packets ≡ packets_in (words_of words.now)) }
+{
     let mut packets = Vec::new(alloc);
-    for word in words.split(|byte| *byte == b' ') {
+    let mut rest = Some(words);
+    while let Some(left) = rest {
+        let (word, behind) = cut_word(left);
         let Some(packet) = packet_of(alloc, word)? else {
             return Ok(None);
         };
         packets.push(packet)?;
+        rest = behind;
     }
     Ok(Some(packets))
 }
@@ -58,7 +81,11 @@ fn feed(
     finished: &mut Vec<Finished>,
 ) -> Result<(), AllocError>
     requires { IsReady assembler.old }
-    ensures { OnOk result (IsReady assembler.new) }
+    ensures ready { OnOk result (IsReady assembler.new) }
+    ensures waits { (pid : ℕ) (past : List (List ℕ)) → IsOf pid packet.now → Waits assembler.old pid past →
+        OnOk result (Waits assembler.new pid (packet.now ∷ past)) }
+    ensures finished { (pid : ℕ) (past : List (List ℕ)) → IsOf pid packet.now → Waits assembler.old pid past →
+        OnOk result (map placed finished.new.items ≡ map placed finished.old.items ++ at_place place (given pid packet.now past)) }
 {
     assembler.feed(packet);
     while let Some(section) = assembler.next() {
@@ -69,7 +96,11 @@ fn feed(
 }
 
 /// What these packets of one PID give.
-pub fn found_in(alloc: Global, packets: &[Packet]) -> Result<Found, AllocError> {
+pub fn found_in(alloc: Global, packets: &[Packet]) -> Result<Found, AllocError>
+    ensures found { (pid : ℕ) → All (IsOf pid) packets.now → IfOk result (λ found. IsFoundIn pid packets.now found) }
+    ensures sections { (pid : ℕ) → All (IsOf pid) packets.now →
+        IfOk result (λ found. map (λ finished. finished.section.items) found.finished.items ≡ sections pid packets.now) }
+{
     let mut assembler = Assembler::new();
     let mut finished = Vec::new(alloc);
     for (place, packet) in packets.iter().enumerate() {
@@ -82,7 +113,9 @@ pub fn found_in(alloc: Global, packets: &[Packet]) -> Result<Found, AllocError> 
 }
 
 /// Writes the number of the failed CRCs and each section behind its packet's place.
-pub fn write_found<O: Write>(output: &mut O, found: &Found) -> io::Result<()> {
+pub fn write_found<O: Write>(output: &mut O, found: &Found) -> io::Result<()>
+    ensures { OnOk result (Appends (O.contents output.old) (O.contents output.new) (ended (found_text found.now))) }
+{
     let bad = found.bad;
     write!(output, "bad={bad}")?;
     for finished in &found.finished {
