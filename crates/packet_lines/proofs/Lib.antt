@@ -2,3 +2,5 @@ pub mod HeldLemmas
 pub mod KnownLemmas
 pub mod LineLemmas
 pub mod ReadBackLemmas
+pub mod OutLemmas
+pub mod WholeLemmas

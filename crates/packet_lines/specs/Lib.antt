@@ -1,1 +1,3 @@
+pub mod CutLines
+pub mod Lent
 pub mod Lines

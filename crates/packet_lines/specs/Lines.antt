@@ -10,6 +10,11 @@ use Rattle.hex_digits.specs.Digits.{digit_value, digits_of}
 abbrev pub line_of : List ℕ → List ℕ
 line_of packet = digits_of packet ++ 10 ∷ []
 
+-- the lines of packets, one after another
+abbrev pub lines_of : List (List ℕ) → List ℕ
+lines_of [] = []
+lines_of (packet ∷ packets) = line_of packet ++ lines_of packets
+
 -- the character may stand at this place: a digit, or behind 376 of them the line's end
 abbrev pub is_right : ℕ → ℕ → Bool
 is_right at c = if at == 376 then c == 10 else is_some (digit_value c)

@@ -3,6 +3,7 @@
 //! What a caller uses: a `LineSource` tells the bytes that its lines spell, and a `LineTarget` those that it has written.
 #![tactic(auto)]
 
+mod lent;
 mod line;
 mod line_source;
 mod line_target;

@@ -2,12 +2,15 @@
 
 ghost use Rattle.std.specs.Prelude.{◌≡◌, ◌<◌, ◌++◌, ℕ, List, length, slice_index, true, false, Ok, Err, IfErr, OnOk};
 ghost use Rattle.std.specs.Io.KnownBytes.{prepend_known};
+ghost use Rattle.packet_lines.specs.CutLines.{CutsLines};
 ghost use Rattle.packet_lines.specs.Lines.{line_of, spelled};
 
+use crate::lent::{LentRead, LentWrite, Run, RunReader, RunWriter};
 use crate::line_source::LineSource;
 use crate::line_target::LineTarget;
 use pes_time::Time33;
 use std::io;
+use std::marker::Brand;
 use ts_packet::{Device, Pid};
 use unit_cut::{CutFault, cut};
 
@@ -28,11 +31,32 @@ pub fn cut_lines<I: io::Read, O: io::Write>(
     pid: Pid,
     from: Time33,
     length: u32,
-) -> Result<(), LinesFault> {
-    let mut network = LineSource::new(Device::new(input));
-    let mut out = LineTarget::new(Device::new(output));
-    let result = cut(&mut network, &mut out, pid, from, length);
-    line_result(result, network.found_bad_line())
+) -> Result<(), LinesFault>
+    ensures ok { OnOk result (CutsLines pid from length (I.remaining input.old) (O.contents output.old) (O.contents output.new)) }
+{
+    let (result, _) = cut_lent::<&mut I, &mut O, Brand>(input, output, pid, from, length);
+    result
+}
+
+/// `cut_lines` of the reader and the writer that the run is lent, and the writer.
+fn cut_lent<R: LentRead + Drop, W: LentWrite, K: Run>(
+    reader: R,
+    writer: W,
+    pid: Pid,
+    from: Time33,
+    length: u32,
+) -> (Result<(), LinesFault>, W)
+    requires reader { R.name reader ≡ K.reader }
+    requires writer { W.name writer ≡ K.writer }
+    requires output { W.held writer ≡ K.output }
+    ensures writer { W.name result.1 ≡ K.writer }
+    ensures ok { OnOk result.0 (CutsLines pid from length (R.left reader) (W.held writer) (W.held result.1)) }
+{
+    let mut network = LineSource::new(Device::new(RunReader::<R, K>::new(reader)));
+    let mut out = LineTarget::new(Device::new(RunWriter::<W, K>::new(writer)));
+    let outcome = cut(&mut network, &mut out, pid, from, length);
+    let result = line_result(outcome, network.found_bad_line());
+    (result, out.into_inner().into_inner().into_inner())
 }
 
 /// What a cut over lines answers where the cut answered so, and a bad line was met or not: only that failed then.
