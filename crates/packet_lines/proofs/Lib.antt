@@ -1,6 +1,7 @@
 pub mod HeldLemmas
 pub mod KnownLemmas
 pub mod LineLemmas
-pub mod ReadBackLemmas
 pub mod OutLemmas
+pub mod ReadBackLemmas
+pub mod ToldLemmas
 pub mod WholeLemmas

@@ -1,12 +1,11 @@
 -- A text of whole lines is the lines of the packets that it spells.
-use Rattle.std.proofs.Common.{◌≡◌, ℕ, zero, suc, ◌+◌, ◌-◌, ◌*◌, ◌/◌, ◌%◌, ◌<◌, ◌≤◌, ◌==◌, Bool, true, false, List, [], ◌∷◌, ◌++◌, Option, Some, None, All, is_some, length, take, drop, refl, ap, sym, ◌∙◌, arith, append_assoc, append-nil, length-append}
-use Rattle.std.proofs.lemmas.List.Elements.{All-nil, All-cons, All-head, All-tail}
+use Rattle.std.proofs.Common.{◌≡◌, ℕ, zero, suc, ◌+◌, ◌*◌, ◌/◌, ◌%◌, ◌<◌, ◌≤◌, ◌==◌, true, false, List, [], ◌∷◌, ◌++◌, Option, Some, None, All, is_some, length, refl, ap, sym, ◌∙◌, arith, append_assoc, append-nil, length-append}
+use Rattle.std.proofs.lemmas.List.Elements.{All-nil, All-cons}
 use Rattle.std.specs.Io.KnownBytes.{prepend_known}
 use Rattle.hex_digits.specs.Digits.{digit_value, digit_of, digits_of}
-use Rattle.hex_digits.proofs.DigitLemmas.{length-digits_of}
 use Rattle.ts_packet.specs.Packets.{packets_of, bytes_of}
 use Rattle.ts_packet.proofs.PacketsLemmas.{packets_of-whole}
-use Rattle.packet_lines.specs.Lines.{line_of, lines_of, is_right, next_place, next_high, ended_byte, closed}
+use Rattle.packet_lines.specs.Lines.{lines_of, is_right, next_place, next_high, ended_byte, closed}
 use Rattle.packet_lines.proofs.HeldLemmas.{closed-nil, closed-high, chosen, picked, unprepend, next_digit, ended_nothing, prepend-nil}
 
 digit_of-digit_value : (c v : ℕ) → digit_value c ≡ Some v → c ≡ digit_of v

@@ -1,43 +1,17 @@
-//! A reader and a writer that a run is lent: they stay the same ones, whatever code they go through.
+//! What is lent to a run over lines: what it is, whatever code it goes through.
 //!
-//! Code that is generic in its device says nothing of which device it leaves. So a run has a type of its own, `Run`, that says which
-//! reader and writer it is lent, and `Lent` is bound to these by its type.
+//! Code that is generic in its devices says of them what their traits say, and no more: not which writer it leaves, and not whether
+//! a source met a bad line. So a run has a type parameter, whose ghost members say which writer the run is lent and what its devices
+//! told first, and the types of its devices keep to these.
 
-ghost use Rattle.std.specs.Prelude.{◌≡◌};
-ghost use Rattle.packet_lines.specs.Lent.{HasGrown};
+ghost use Rattle.std.specs.Prelude.{◌≡◌, false};
+ghost use Rattle.packet_lines.specs.Lent.{HasGrown, StandsIn};
+ghost use Rattle.packet_lines.specs.Lines.{left_behind};
 
+use crate::line_source::LineSource;
 use std::io;
 use std::marker::{Brand, PhantomData};
-
-/// A reader that stays the same one.
-pub trait LentRead {
-    ghost use Rattle.std.specs.Prelude.{ℕ, List, Option};
-    ghost use Rattle.std.specs.Borrow.{GName};
-    ghost use Rattle.std.specs.Io.KnownBytes.{ReadConsumes};
-    ghost use Rattle.std.specs.Io.{ReadsAtMost};
-
-    /// Which one it is.
-    ghost name: { Self → GName };
-
-    /// What it has left, where that is known.
-    ghost left: { Self → Option (List ℕ) };
-
-    /// Reads as the reader does.
-    fn read_on(&mut self, buf: &mut [u8]) -> io::Result<usize>
-        ensures bound { ReadsAtMost result buf.new }
-        ensures bytes { ReadConsumes (left self.old) (left self.new) result buf.new }
-        ensures name { name self.new ≡ name self.old };
-}
-
-impl<I: io::Read> LentRead for &mut I {
-    ghost name = { λ r. r.ghost_name };
-
-    ghost left = { λ r. I.remaining r.now };
-
-    fn read_on(&mut self, buf: &mut [u8]) -> io::Result<usize> {
-        (**self).read(buf)
-    }
-}
+use ts_packet::{DeviceFault, Source};
 
 /// A writer that stays the same one.
 pub trait LentWrite {
@@ -78,62 +52,75 @@ impl<O: io::Write> LentWrite for &mut O {
     }
 }
 
-/// What stays the same through a run over lines: which reader and which writer it is lent, and what they told before.
+/// What stays the same through a run over lines.
 pub trait Run {
     ghost use Rattle.std.specs.Prelude.{ℕ, List, Option};
     ghost use Rattle.std.specs.Borrow.{GName};
 
-    /// The reader that the run is lent.
-    ghost reader: { GName };
+    /// What the reader had left at its begin, where that is known.
+    ghost input: { Option (List ℕ) };
 
     /// The writer that the run is lent.
     ghost writer: { GName };
 
-    /// What the reader had left.
-    ghost input: { Option (List ℕ) };
-
-    /// What the writer held.
+    /// What the writer held at its begin, where that is known.
     ghost output: { Option (List ℕ) };
 }
 
 impl Run for Brand {
     ghost use Rattle.std.specs.Prelude.{None};
 
-    ghost reader = { 0 };
+    ghost input = { None };
 
     ghost writer = { 0 };
-
-    ghost input = { None };
 
     ghost output = { None };
 }
 
-/// The reader that the run is lent.
+/// The source of lines of the run.
 #[derive(Drop)]
-pub struct RunReader<R: LentRead, K: Run> {
-    reader: R,
+pub struct RunSource<S: Source, K: Run> {
+    lines: LineSource<S>,
     run: PhantomData<K>,
-    ghost same: { R.name reader ≡ K.reader },
+    ghost told: { StandsIn K.input lines.line.given
+        (left_behind lines.is_bad lines.line.given lines.line.at lines.line.high lines.line.packet (S.remaining lines.source)) },
 }
 
-impl<R: LentRead, K: Run> RunReader<R, K> {
-    /// This reader, at the begin of the run.
-    pub fn new(reader: R) -> RunReader<R, K>
-        requires { R.name reader ≡ K.reader }
-        ensures { result.reader ≡ reader }
+impl<S: Source, K: Run> RunSource<S, K> {
+    /// The source over this device, at the begin of the run.
+    pub fn new(source: S) -> RunSource<S, K>
+        requires { S.remaining source ≡ K.input }
+        ensures source { result.lines.source ≡ source }
+        ensures given { result.lines.line.given ≡ 188 }
+        ensures at { result.lines.line.at ≡ 0 }
+        ensures high { result.lines.line.high ≡ 0 }
+        ensures whole { result.lines.is_bad ≡ false }
     {
-        RunReader {
-            reader,
+        RunSource {
+            lines: LineSource::new(source),
             run: PhantomData,
         }
     }
+
+    /// Whether a line was met that is no packet's.
+    pub fn found_bad_line(&self) -> bool
+        ensures { result ≡ self.now.lines.is_bad }
+    {
+        self.lines.found_bad_line()
+    }
 }
 
-impl<R: LentRead, K: Run> io::Read for RunReader<R, K> {
-    ghost remaining = { λ r. R.left r.reader };
+impl<S: Source, K: Run> Source for RunSource<S, K> {
+    ghost use Rattle.packet_lines.specs.Lines.{left_behind};
 
-    fn read(&mut self, buf: &mut [u8]) -> io::Result<usize> {
-        self.reader.read_on(buf)
+    ghost remaining = { λ r. left_behind r.lines.is_bad r.lines.line.given r.lines.line.at r.lines.line.high r.lines.line.packet (S.remaining r.lines.source) };
+
+    ghost calls = { λ r. r.lines.calls };
+
+    ghost failures = { λ r. r.lines.failures };
+
+    fn read(&mut self, buf: &mut [u8]) -> Result<usize, DeviceFault> {
+        self.lines.read(buf)
     }
 }
 

@@ -2,11 +2,10 @@
 
 ghost use Rattle.std.specs.Prelude.{◌≡◌, ◌<◌, ◌++◌, ℕ, List, length, slice_index, true, false, Ok, Err, IfErr, OnOk};
 ghost use Rattle.std.specs.Io.KnownBytes.{prepend_known};
-ghost use Rattle.packet_lines.specs.CutLines.{CutsLines};
+ghost use Rattle.packet_lines.specs.CutLines.{CutsLines, StopsLines};
 ghost use Rattle.packet_lines.specs.Lines.{line_of, spelled};
 
-use crate::lent::{LentRead, LentWrite, Run, RunReader, RunWriter};
-use crate::line_source::LineSource;
+use crate::lent::{LentWrite, Run, RunSource, RunWriter};
 use crate::line_target::LineTarget;
 use pes_time::Time33;
 use std::io;
@@ -33,26 +32,28 @@ pub fn cut_lines<I: io::Read, O: io::Write>(
     length: u32,
 ) -> Result<(), LinesFault>
     ensures ok { OnOk result (CutsLines pid from length (I.remaining input.old) (O.contents output.old) (O.contents output.new)) }
+    ensures err { IfErr result (λ f. StopsLines f pid from length (I.remaining input.old) (O.contents output.old) (O.contents output.new)) }
 {
-    let (result, _) = cut_lent::<&mut I, &mut O, Brand>(input, output, pid, from, length);
+    let (result, _) = cut_lent::<I, &mut O, Brand>(input, output, pid, from, length);
     result
 }
 
-/// `cut_lines` of the reader and the writer that the run is lent, and the writer.
-fn cut_lent<R: LentRead + Drop, W: LentWrite, K: Run>(
-    reader: R,
+/// `cut_lines` with the writer that the run is lent, and that writer.
+fn cut_lent<I: io::Read, W: LentWrite, K: Run>(
+    input: &mut I,
     writer: W,
     pid: Pid,
     from: Time33,
     length: u32,
 ) -> (Result<(), LinesFault>, W)
-    requires reader { R.name reader ≡ K.reader }
+    requires input { I.remaining input.old ≡ K.input }
     requires writer { W.name writer ≡ K.writer }
     requires output { W.held writer ≡ K.output }
     ensures writer { W.name result.1 ≡ K.writer }
-    ensures ok { OnOk result.0 (CutsLines pid from length (R.left reader) (W.held writer) (W.held result.1)) }
+    ensures ok { OnOk result.0 (CutsLines pid from length K.input K.output (W.held result.1)) }
+    ensures err { IfErr result.0 (λ f. StopsLines f pid from length K.input K.output (W.held result.1)) }
 {
-    let mut network = LineSource::new(Device::new(RunReader::<R, K>::new(reader)));
+    let mut network = RunSource::<Device<&mut I>, K>::new(Device::new(input));
     let mut out = LineTarget::new(Device::new(RunWriter::<W, K>::new(writer)));
     let outcome = cut(&mut network, &mut out, pid, from, length);
     let result = line_result(outcome, network.found_bad_line());
