@@ -31,7 +31,7 @@ before-split end text front e =
     let back : drop n text ≡ end = (bytes_decides (drop n text) end).0 h.0 in
     sym (take-append-drop n text) ∙ ap (λ l. l ++ drop n text) h.1 ∙ ap (λ l. front ++ l) back
 
-closed-right : (at high c : ℕ) (rest : List ℕ) → is_right at c ≡ true →
+pub closed-right : (at high c : ℕ) (rest : List ℕ) → is_right at c ≡ true →
     closed at high (c ∷ rest) ≡ prepend_known (ended_byte at high c) (closed (next_place at) (next_high at high c) rest)
 unfolding closed
 closed-right at high c rest e = rw e refl

@@ -1,5 +1,6 @@
 pub mod HeldLemmas
 pub mod KnownLemmas
+pub mod LawLemmas
 pub mod LineLemmas
 pub mod OutLemmas
 pub mod ReadBackLemmas

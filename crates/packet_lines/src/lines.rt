@@ -3,6 +3,7 @@
 ghost use Rattle.std.specs.Prelude.{◌≡◌, ◌<◌, ◌++◌, ℕ, List, length, slice_index, true, false, Ok, Err, IfErr, OnOk};
 ghost use Rattle.std.specs.Io.KnownBytes.{prepend_known};
 ghost use Rattle.packet_lines.specs.CutLines.{CutsLines, StopsLines};
+ghost use Rattle.packet_lines.specs.Laws.{SpelledByTheLines};
 ghost use Rattle.packet_lines.specs.Lines.{line_of, spelled};
 
 use crate::lent::{LentWrite, Run, RunSource, RunWriter};
@@ -80,4 +81,9 @@ pub(crate) fn line_result(
 pub fn lines_are_read_back()
     ensures { (packet rest : List ℕ) → ((i : ℕ) → slice_index packet i < 256) → length packet ≡ 188 →
         spelled 0 0 (line_of packet ++ rest) ≡ prepend_known packet (spelled 0 0 rest) }
+{}
+
+/// What is read was written so: a text that spells bytes is the lines of whole packets, but for the last line's end.
+pub fn spelled_by_the_lines()
+    ensures { SpelledByTheLines }
 {}
