@@ -20,7 +20,7 @@ before-append front end =
     let same : pointwise nat_eq (drop (length (front ++ end) - length end) (front ++ end)) end ≡ true = (bytes_decides (drop (length (front ++ end) - length end) (front ++ end)) end).1 back in
     rw (same, head) refl
 
-picked : (b : Bool) (x front : List ℕ) → (if b then Some x else None) ≡ Some front → (b ≡ true) × (x ≡ front)
+pub picked : (b : Bool) (x front : List ℕ) → (if b then Some x else None) ≡ Some front → (b ≡ true) × (x ≡ front)
 picked true x front e = (refl, grind (arith, e))
 picked false x front e = (grind (arith, e), grind (arith, e))
 
@@ -31,16 +31,16 @@ before-split end text front e =
     let back : drop n text ≡ end = (bytes_decides (drop n text) end).0 h.0 in
     sym (take-append-drop n text) ∙ ap (λ l. l ++ drop n text) h.1 ∙ ap (λ l. front ++ l) back
 
-closed-right : (at high c : ℕ) (rest : List ℕ) → is_right at c ≡ true →
+pub closed-right : (at high c : ℕ) (rest : List ℕ) → is_right at c ≡ true →
     closed at high (c ∷ rest) ≡ prepend_known (ended_byte at high c) (closed (next_place at) (next_high at high c) rest)
 unfolding closed
 closed-right at high c rest e = rw e refl
 
-closed-nil : closed 0 0 [] ≡ Some []
+pub closed-nil : closed 0 0 [] ≡ Some []
 unfolding closed
 closed-nil = refl
 
-closed-high : (high : ℕ) (text : List ℕ) → closed 0 high text ≡ closed 0 0 text
+pub closed-high : (high : ℕ) (text : List ℕ) → closed 0 high text ≡ closed 0 0 text
 unfolding closed
 closed-high high [] = refl
 closed-high high (c ∷ rest) = refl
@@ -53,7 +53,7 @@ pub prepend-prepend : (xs ys : List ℕ) (known : Option (List ℕ)) → prepend
 prepend-prepend xs ys None = refl
 prepend-prepend xs ys (Some zs) = ap Some (sym (append_assoc xs ys zs))
 
-unprepend : (front : List ℕ) (known : Option (List ℕ)) (bytes : List ℕ) → prepend_known front known ≡ Some bytes →
+pub unprepend : (front : List ℕ) (known : Option (List ℕ)) (bytes : List ℕ) → prepend_known front known ≡ Some bytes →
     (rest : List ℕ) × ((known ≡ Some rest) × (bytes ≡ front ++ rest))
 unprepend front None bytes e = absurd (none_some e)
   where
@@ -61,7 +61,7 @@ unprepend front None bytes e = absurd (none_some e)
     none_some h = grind (arith, h)
 unprepend front (Some xs) bytes e = (xs, (refl, grind (arith, e)))
 
-chosen : (b : Bool) (known : Option (List ℕ)) (bytes : List ℕ) → (if b then known else None) ≡ Some bytes → (b ≡ true) × (known ≡ Some bytes)
+pub chosen : (b : Bool) (known : Option (List ℕ)) (bytes : List ℕ) → (if b then known else None) ≡ Some bytes → (b ≡ true) × (known ≡ Some bytes)
 chosen true known bytes e = (refl, e)
 chosen false known bytes e = (grind (arith, e), grind (arith, e))
 
@@ -164,6 +164,27 @@ held_more (Some text) (Some text') sent n filled line packet h = at (before (tak
         h ∙ ap (λ l. l ++ take n (drop sent line)) (before-split (take sent line) text front e) ∙ append_assoc front (take sent line) (take n (drop sent line)) ∙ ap (λ l. front ++ l) more in
         let same : before (take (sent + n) line) text' ≡ Some front = ap (before (take (sent + n) line)) whole ∙ before-append front (take (sent + n) line) in
         Keeps-same _ _ (rw (e, same) refl)
+
+then-Appends : (a b c : Option (List ℕ)) (bytes : List ℕ) → Keeps a b → Appends b c bytes → Appends a c bytes
+then-Appends None b c bytes h k = tt
+then-Appends (Some x) None c bytes h k = absurd h
+then-Appends (Some x) (Some y) None bytes h k = absurd k
+then-Appends (Some x) (Some y) (Some z) bytes h k = k ∙ ap (λ l. l ++ bytes) h
+
+-- and all bytes of its packet but the last are taken
+pub held_most : (known known' : Option (List ℕ)) (sent n filled : ℕ) (line packet bytes : List ℕ) → filled < 188 → length packet ≡ 188 → drop filled packet ≡ bytes →
+    Appends known known' (take n (drop sent line)) →
+    Appends (held_of sent line filled packet known) (held_of (sent + n) line 187 packet known') (take (length bytes - 1) bytes)
+held_most known known' sent n filled line packet bytes inside size last h =
+    let whole : Option (List ℕ) = option_and_then (closed 0 0) (option_and_then (before (take (sent + n) line)) known') in
+    let count : length bytes - 1 ≡ 187 - filled = ap (λ l. length l - 1) (sym last) ∙ ap (λ k. k - 1) (length-drop filled packet) ∙ omega (arith, inside, size) in
+    let most : filled + (187 - filled) ≡ 187 = omega (arith, inside) in
+    let parts : take filled packet ++ take (187 - filled) (drop filled packet) ≡ take 187 packet = sym (take-add filled (187 - filled) packet) ∙ ap (λ k. take k packet) most in
+    let taken : take (length bytes - 1) bytes ≡ take (187 - filled) (drop filled packet) = ap (λ k. take k bytes) count ∙ ap (take (187 - filled)) (sym last) in
+    then-Appends (held_of sent line filled packet known) (held_of (sent + n) line filled packet known') (held_of (sent + n) line 187 packet known') (take (length bytes - 1) bytes)
+    (held_more known known' sent n filled line packet h)
+    (Appends-same (held_of (sent + n) line filled packet known') (held_of (sent + n) line 187 packet known') (take (length bytes - 1) bytes)
+    (append-some (take filled packet) (take (length bytes - 1) bytes) whole ∙ ap (append_known whole) (ap (λ l. take filled packet ++ l) taken ∙ parts)))
 
 -- the whole line is out
 pub held_line : (known known' : Option (List ℕ)) (sent filled : ℕ) (line packet : List ℕ) → line ≡ line_of packet → ((i : ℕ) → get_or packet i 0 < 256) →

@@ -6,7 +6,7 @@ use Rattle.packet_lines.specs.Lines.{line_of, next_high, spelled}
 use Rattle.packet_lines.proofs.LineLemmas.{spelled-right}
 use Rattle.packet_lines.proofs.HeldLemmas.{right_digit, next_digit, high_digit, ended_nothing, ended_digit, prepend-nil, prepend-prepend}
 
-spelled-high : (high : ℕ) (text : List ℕ) → spelled 0 high text ≡ spelled 0 0 text
+pub spelled-high : (high : ℕ) (text : List ℕ) → spelled 0 high text ≡ spelled 0 0 text
 unfolding spelled
 spelled-high high [] = refl
 spelled-high high (c ∷ rest) = refl

@@ -1,1 +1,4 @@
+pub mod CutLines
+pub mod Laws
+pub mod Lent
 pub mod Lines

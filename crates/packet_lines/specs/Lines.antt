@@ -1,7 +1,7 @@
 -- A text of lines, each the 376 upper case hexadecimal digits of a packet's 188 bytes and a line's end; the last line's end may
 -- be missing. A place in such a text is how many digits of its line stand before it, and, where a byte is half read, the value of
 -- its first digit.
-use Rattle.std.specs.Prelude.{ℕ, ◌+◌, ◌*◌, ◌/◌, ◌%◌, ◌==◌, ◌&&◌, ◌||◌, ◌-◌, not, nat_eq, length, option_and_then, Bool, true, false, List, [], ◌∷◌, ◌++◌, Option, Some, None, is_some, unwrap_or, if◌then◌else◌, take, drop}
+use Rattle.std.specs.Prelude.{◌≡◌, ℕ, Result, Ok, Err, ◌+◌, ◌*◌, ◌/◌, ◌%◌, ◌==◌, ◌&&◌, ◌||◌, ◌-◌, not, nat_eq, length, option_and_then, Bool, true, false, List, [], ◌∷◌, ◌++◌, Option, Some, None, is_some, unwrap_or, if◌then◌else◌, take, drop}
 use lib.Pointwise.{pointwise}
 use Rattle.std.specs.Io.KnownBytes.{prepend_known, append_known}
 use Rattle.hex_digits.specs.Digits.{digit_value, digits_of}
@@ -9,6 +9,11 @@ use Rattle.hex_digits.specs.Digits.{digit_value, digits_of}
 -- the line of a packet: its digits and the line's end
 abbrev pub line_of : List ℕ → List ℕ
 line_of packet = digits_of packet ++ 10 ∷ []
+
+-- the lines of packets, one after another
+abbrev pub lines_of : List (List ℕ) → List ℕ
+lines_of [] = []
+lines_of (packet ∷ packets) = line_of packet ++ lines_of packets
 
 -- the character may stand at this place: a digit, or behind 376 of them the line's end
 abbrev pub is_right : ℕ → ℕ → Bool
@@ -31,19 +36,31 @@ unfoldable pub spelled : ℕ → ℕ → List ℕ → Option (List ℕ)
 spelled at high [] = if at == 0 || at == 376 then Some [] else None
 spelled at high (c ∷ rest) = if is_right at c then prepend_known (ended_byte at high c) (spelled (next_place at) (next_high at high c) rest) else None
 
+-- What a reader of lines tells of a text, from a place on: the bytes of its lines, where `part` stands before the place in the
+-- line; and behind the first line that is no packet's none of its bytes, but one byte in its stead, which no read gives.
+unfoldable pub told : List ℕ → ℕ → ℕ → List ℕ → List ℕ
+told part at high [] = if at == 0 then [] else (if at == 376 then part else 0 ∷ [])
+told part at high (c ∷ rest) =
+    if is_right at c then (if at == 376 then part ++ told [] 0 0 rest else told (part ++ ended_byte at high c) (next_place at) (next_high at high c) rest) else 0 ∷ []
+
 -- what a reader has of packets: of the whole one what it has not given, and the front of the one that it reads
 abbrev pub lead : ℕ → ℕ → List ℕ → List ℕ
 lead given at packet = drop given packet ++ take (at / 2) packet
 
--- the bytes that a reader at a place will give
-abbrev pub left_of : ℕ → ℕ → ℕ → List ℕ → List ℕ → Option (List ℕ)
-left_of given at high packet text = prepend_known (lead given at packet) (spelled at high text)
+-- what a reader at a place tells of the text before it
+abbrev pub left_of : ℕ → ℕ → ℕ → List ℕ → List ℕ → List ℕ
+left_of given at high packet text = drop given packet ++ told (take (at / 2) packet) at high text
 
--- the bytes that a reader of lines will give, where the text that its device has left is known; none where it met a bad line
+-- what a reader of lines tells, where the text that its device has left is known; and where it met a line that is no packet's
 abbrev pub left_behind : Bool → ℕ → ℕ → ℕ → List ℕ → Option (List ℕ) → Option (List ℕ)
-left_behind true given at high packet known = None
-left_behind false given at high packet None = None
-left_behind false given at high packet (Some text) = left_of given at high packet text
+left_behind bad given at high packet None = None
+left_behind true given at high packet (Some text) = Some (0 ∷ [])
+left_behind false given at high packet (Some text) = Some (left_of given at high packet text)
+
+-- a read moves the place in the packet that is given by as many bytes as it gave; behind a packet's last byte the next one begins
+abbrev pub MovesBy : {E : Type 0} → ℕ → ℕ → Result ℕ E → Type 0
+MovesBy old new (Ok n) = new % 188 ≡ (old + n) % 188
+MovesBy old new (Err fault) = new % 188 ≡ old % 188
 
 -- the bytes of a text of lines that each have their end, from a place on
 unfoldable pub closed : ℕ → ℕ → List ℕ → Option (List ℕ)

@@ -1,8 +1,10 @@
 //! Packets as lines of text: 376 upper case hexadecimal digits each, as a source, as a target, and the cut over them.
 //! It stands on the packets of `ts_packet`, the cut of `unit_cut` and the digits of `hex_digits`.
-//! What a caller uses: a `LineSource` tells the bytes that its lines spell, and a `LineTarget` those that it has written.
+//! What a caller uses: `cut_lines` says which lines come out and what each fault means; a `LineSource` tells the bytes that its lines
+//! spell, and a `LineTarget` those that it has written.
 #![tactic(auto)]
 
+mod lent;
 mod line;
 mod line_source;
 mod line_target;
@@ -10,4 +12,4 @@ mod lines;
 
 pub use line_source::LineSource;
 pub use line_target::LineTarget;
-pub use lines::{LinesFault, cut_lines, lines_are_read_back};
+pub use lines::{LinesFault, cut_lines, lines_are_read_back, spelled_by_the_lines};

@@ -25,7 +25,7 @@ pub struct Line {
 }
 
 impl Line {
-    ghost use Rattle.std.specs.Prelude.{ℕ, ◌+◌, ◌++◌, [], List, None, take, IsTrue, ◌↔◌};
+    ghost use Rattle.std.specs.Prelude.{ℕ, ◌+◌, ◌%◌, ◌++◌, ◌∷◌, [], List, take, drop, IsTrue, ◌↔◌};
     ghost use Rattle.std.specs.Bool.{OnTrue, OnFalse};
     ghost use Rattle.packet_lines.specs.Lines.{is_right, next_place, next_high, ended_byte, lead, left_of};
 
@@ -66,6 +66,7 @@ impl Line {
         ensures lead { OnTrue result (lead self.new.given self.new.at self.new.packet
             ≡ lead self.old.given self.old.at self.old.packet ++ ended_byte self.old.at self.old.high character) }
         ensures whole { OnTrue result (self.new.given < 188 → self.old.at ≡ 376) }
+        ensures given { self.new.given % 188 ≡ 0 }
     {
         if self.at == LINE_DIGITS {
             if character != LINE_END {
@@ -93,7 +94,8 @@ impl Line {
         requires fits { self.old.at + length text.now ≤ 377 }
         ensures good { OnTrue result ((rest : List ℕ) → left_of self.old.given self.old.at self.old.high self.old.packet (text.now ++ rest)
             ≡ left_of self.new.given self.new.at self.new.high self.new.packet rest) }
-        ensures bad { OnFalse result ((rest : List ℕ) → left_of self.old.given self.old.at self.old.high self.old.packet (text.now ++ rest) ≡ None) }
+        ensures bad { OnFalse result ((rest : List ℕ) → left_of self.old.given self.old.at self.old.high self.old.packet (text.now ++ rest) ≡ 0 ∷ []) }
+        ensures given { self.new.given % 188 ≡ 0 }
     {
         for character in text {
             if !self.take(*character) {
@@ -104,15 +106,16 @@ impl Line {
     }
 
     /// Takes the end of the text; false where it stands inside a line.
-    #[tactic(auto, unfolding(crate::specs::Lines::spelled))]
+    #[tactic(auto, using(crate::proofs::LineLemmas::left_ended, crate::proofs::LineLemmas::left_broken))]
     pub fn take_end(&mut self) -> bool
         requires { self.old.given ≡ 188 }
         ensures good { OnTrue result (left_of self.old.given self.old.at self.old.high self.old.packet []
             ≡ left_of self.new.given self.new.at self.new.high self.new.packet []) }
-        ensures bad { OnFalse result (left_of self.old.given self.old.at self.old.high self.old.packet [] ≡ None) }
+        ensures bad { OnFalse result (left_of self.old.given self.old.at self.old.high self.old.packet [] ≡ 0 ∷ []) }
         ensures ended { OnTrue result (self.new.at ≡ 0) }
         ensures high { self.new.high ≡ self.old.high }
         ensures kept { OnFalse result (self.new ≡ self.old) }
+        ensures given { self.new.given % 188 ≡ 0 }
     {
         if self.at == 0 {
             return true;
@@ -130,7 +133,9 @@ impl Line {
         ensures bound { result ≤ length buf.new }
         ensures at { self.new.at ≡ self.old.at }
         ensures high { self.new.high ≡ self.old.high }
-        ensures bytes { lead self.old.given self.old.at self.old.packet ≡ take result buf.new ++ lead self.new.given self.new.at self.new.packet }
+        ensures packet { self.new.packet ≡ self.old.packet }
+        ensures given { self.new.given ≡ self.old.given + result }
+        ensures bytes { drop self.old.given self.old.packet ≡ take result buf.new ++ drop self.new.given self.new.packet }
         ensures some { self.old.given < 188 → 0 < length buf.old → 0 < result }
     {
         let given = self.given;

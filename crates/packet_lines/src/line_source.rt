@@ -1,6 +1,6 @@
 //! Packets from lines.
 
-ghost use Rattle.std.specs.Prelude.{◌≡◌, ◌<◌, ◌≤◌, length, true, false, IfOk, OnOk};
+ghost use Rattle.std.specs.Prelude.{◌≡◌, ◌%◌, ◌<◌, ◌≤◌, length, true, false, IfOk, OnOk};
 ghost use Rattle.std.specs.Io.KnownBytes.{ReadConsumes};
 
 use crate::line::Line;
@@ -17,7 +17,8 @@ fn read_front<S: Source>(source: &mut S, text: &mut [u8], room: usize) -> Result
 }
 
 /// The packets of a text of lines, as the bytes of a device. A line is 376 upper case hexadecimal digits, two for each byte; the
-/// end of the last line may be missing. At any other line it fails for good, and gives no byte of it.
+/// end of the last line may be missing. At any other line it fails for good, and gives no byte of it; what it tells has one byte
+/// more in its stead.
 ///
 /// One read asks the device below at most once, and for no more than the line still lacks, so that a line of any length is found
 /// bad without being stored.
@@ -29,12 +30,13 @@ pub struct LineSource<S: Source> {
     is_bad: bool,
     calls: u64,
     failures: u64,
+    ghost refused: { is_bad ≡ true → line.given % 188 ≡ 0 },
 }
 
 impl<S: Source> LineSource<S> {
     ghost use Rattle.std.specs.Prelude.{◌⊎◌};
     ghost use Rattle.std.specs.Io.KnownBytes.{Keeps, IsAtEnd};
-    ghost use Rattle.packet_lines.specs.Lines.{left_behind};
+    ghost use Rattle.packet_lines.specs.Lines.{left_behind, MovesBy};
 
     /// The packets of the lines that this device gives.
     pub fn new(source: S) -> LineSource<S>
@@ -63,7 +65,12 @@ impl<S: Source> LineSource<S> {
 
     /// Marks the line as bad.
     fn refuse(&mut self) -> DeviceFault
-        ensures { self.new ≡ record self.old { is_bad = true } }
+        requires { self.old.line.given % 188 ≡ 0 }
+        ensures bad { self.new.is_bad ≡ true }
+        ensures source { self.new.source ≡ self.old.source }
+        ensures line { self.new.line ≡ self.old.line }
+        ensures calls { self.new.calls ≡ self.old.calls }
+        ensures failures { self.new.failures ≡ self.old.failures }
     {
         self.is_bad = true;
         DeviceFault::Failed
@@ -78,6 +85,7 @@ impl<S: Source> LineSource<S> {
         ensures whole { OnOk result ((self.new.line.given < 188)
             ⊎ IsAtEnd (left_behind self.new.is_bad self.new.line.given self.new.line.at self.new.line.high self.new.line.packet (S.remaining self.new.source))) }
         ensures good { OnOk result (self.new.is_bad ≡ false) }
+        ensures given { self.new.line.given % 188 ≡ 0 }
         ensures calls { self.new.calls ≡ self.old.calls }
         ensures failures { self.new.failures ≡ self.old.failures }
     {
@@ -103,6 +111,7 @@ impl<S: Source> LineSource<S> {
         ensures bound { IfOk result (λ n. n ≤ length buf.new) }
         ensures bytes { ReadConsumes (left_behind self.old.is_bad self.old.line.given self.old.line.at self.old.line.high self.old.line.packet (S.remaining self.old.source))
             (left_behind self.new.is_bad self.new.line.given self.new.line.at self.new.line.high self.new.line.packet (S.remaining self.new.source)) result buf.new }
+        ensures moves { MovesBy self.old.line.given self.new.line.given result }
         ensures calls { self.new.calls ≡ self.old.calls }
         ensures failures { self.new.failures ≡ self.old.failures }
     {
@@ -117,7 +126,9 @@ impl<S: Source> LineSource<S> {
 }
 
 impl<S: Source> Source for LineSource<S> {
-    ghost use Rattle.packet_lines.specs.Lines.{left_behind};
+    ghost use Rattle.std.specs.Io.{ReadsAtMost};
+    ghost use Rattle.ts_packet.specs.Transfers.{IsCounted, CountsFailure};
+    ghost use Rattle.packet_lines.specs.Lines.{left_behind, MovesBy};
 
     ghost remaining = { λ s. left_behind s.is_bad s.line.given s.line.at s.line.high s.line.packet (S.remaining s.source) };
 
@@ -125,7 +136,14 @@ impl<S: Source> Source for LineSource<S> {
 
     ghost failures = { λ s. s.failures };
 
-    fn read(&mut self, buf: &mut [u8]) -> Result<usize, DeviceFault> {
+    fn read(&mut self, buf: &mut [u8]) -> Result<usize, DeviceFault>
+        ensures bound { ReadsAtMost result buf.new }
+        ensures bytes { ReadConsumes (left_behind self.old.is_bad self.old.line.given self.old.line.at self.old.line.high self.old.line.packet (S.remaining self.old.source))
+            (left_behind self.new.is_bad self.new.line.given self.new.line.at self.new.line.high self.new.line.packet (S.remaining self.new.source)) result buf.new }
+        ensures calls { IsCounted self.old.calls self.new.calls }
+        ensures failures { CountsFailure result self.old.failures self.new.failures }
+        ensures moves { MovesBy self.old.line.given self.new.line.given result }
+    {
         self.calls = self.calls.saturating_add(1);
         match self.read_line(buf) {
             Ok(count) => Ok(count),

@@ -25,9 +25,13 @@ fn spell_line(line: &mut [u8; 377], packet: &[u8; 188])
     line[LINE_DIGITS] = LINE_END;
 }
 
+/// The place of a packet's last byte.
+const LAST_BYTE: usize = 187;
+
 /// A device that is written packets, and writes each to the device below as a line of 376 upper case hexadecimal digits with its
-/// end. A packet's last byte is taken only when its whole line is out; until then a write is interrupted, and the next one has to
-/// bring the same bytes.
+/// end. A packet's last byte is taken only when its whole line is out: while a part of the line is out, all bytes but that one are
+/// taken, and the writes that go on with the line have to bring it again. So no part of a line is out wherever whole packets were
+/// taken, and the bytes alone tell that.
 #[derive(Drop)]
 pub struct LineTarget<W: Target> {
     target: W,
@@ -42,6 +46,7 @@ pub struct LineTarget<W: Target> {
     ghost line_size: { length line ≡ 377 },
     ghost in_packet: { filled < 188 },
     ghost in_line: { sent < 377 },
+    ghost in_part: { 0 < sent → filled ≡ 187 },
     ghost spelled: { 0 < sent → line ≡ line_of packet },
     ghost bytes: { 0 < sent → (i : ℕ) → slice_index packet i < 256 },
 }
@@ -86,12 +91,13 @@ impl<W: Target> LineTarget<W> {
         target
     }
 
-    /// Writes on in the line of a packet that ends with these bytes, with one call of the device: 0 where that took no byte, and
-    /// the count of the bytes where the line is out.
+    /// Writes on in the line of a packet that ends with these bytes, with one call of the device: 0 where that took no byte, the
+    /// count of the bytes where the line is out, and one less where a part of it is.
     fn send(&mut self, bytes: &[u8]) -> Result<usize, DeviceFault>
         requires last { drop self.old.filled self.old.packet ≡ bytes.now }
         requires spelled { self.old.line ≡ line_of self.old.packet }
         requires bytes { (i : ℕ) → slice_index self.old.packet i < 256 }
+        requires part { 0 < self.old.sent → self.old.filled ≡ 187 }
         ensures bound { IfOk result (λ n. n ≤ length bytes.now) }
         ensures bytes { WriteAppends (held_of self.old.sent self.old.line self.old.filled self.old.packet (W.contents self.old.target))
             (held_of self.new.sent self.new.line self.new.filled self.new.packet (W.contents self.new.target)) result bytes.now }
@@ -106,7 +112,11 @@ impl<W: Target> LineTarget<W> {
         }
         if self.sent + sent < LINE_SIZE {
             self.sent += sent;
-            return Err(DeviceFault::Interrupted);
+            self.filled = LAST_BYTE;
+            if bytes.len() == 1 {
+                return Err(DeviceFault::Interrupted);
+            }
+            return Ok(bytes.len() - 1);
         }
         self.sent = 0;
         self.filled = 0;

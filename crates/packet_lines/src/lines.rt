@@ -2,12 +2,15 @@
 
 ghost use Rattle.std.specs.Prelude.{◌≡◌, ◌<◌, ◌++◌, ℕ, List, length, slice_index, true, false, Ok, Err, IfErr, OnOk};
 ghost use Rattle.std.specs.Io.KnownBytes.{prepend_known};
+ghost use Rattle.packet_lines.specs.CutLines.{CutsLines, StopsLines};
+ghost use Rattle.packet_lines.specs.Laws.{SpelledByTheLines};
 ghost use Rattle.packet_lines.specs.Lines.{line_of, spelled};
 
-use crate::line_source::LineSource;
+use crate::lent::{LentWrite, Run, RunSource, RunWriter};
 use crate::line_target::LineTarget;
 use pes_time::Time33;
 use std::io;
+use std::marker::Brand;
 use ts_packet::{Device, Pid};
 use unit_cut::{CutFault, cut};
 
@@ -28,11 +31,34 @@ pub fn cut_lines<I: io::Read, O: io::Write>(
     pid: Pid,
     from: Time33,
     length: u32,
-) -> Result<(), LinesFault> {
-    let mut network = LineSource::new(Device::new(input));
-    let mut out = LineTarget::new(Device::new(output));
-    let result = cut(&mut network, &mut out, pid, from, length);
-    line_result(result, network.found_bad_line())
+) -> Result<(), LinesFault>
+    ensures ok { OnOk result (CutsLines pid from length (I.remaining input.old) (O.contents output.old) (O.contents output.new)) }
+    ensures err { IfErr result (λ f. StopsLines f pid from length (I.remaining input.old) (O.contents output.old) (O.contents output.new)) }
+{
+    let (result, _) = cut_lent::<I, &mut O, Brand>(input, output, pid, from, length);
+    result
+}
+
+/// `cut_lines` with the writer that the run is lent, and that writer.
+fn cut_lent<I: io::Read, W: LentWrite, K: Run>(
+    input: &mut I,
+    writer: W,
+    pid: Pid,
+    from: Time33,
+    length: u32,
+) -> (Result<(), LinesFault>, W)
+    requires input { I.remaining input.old ≡ K.input }
+    requires writer { W.name writer ≡ K.writer }
+    requires output { W.held writer ≡ K.output }
+    ensures writer { W.name result.1 ≡ K.writer }
+    ensures ok { OnOk result.0 (CutsLines pid from length K.input K.output (W.held result.1)) }
+    ensures err { IfErr result.0 (λ f. StopsLines f pid from length K.input K.output (W.held result.1)) }
+{
+    let mut network = RunSource::<Device<&mut I>, K>::new(Device::new(input));
+    let mut out = LineTarget::new(Device::new(RunWriter::<W, K>::new(writer)));
+    let outcome = cut(&mut network, &mut out, pid, from, length);
+    let result = line_result(outcome, network.found_bad_line());
+    (result, out.into_inner().into_inner().into_inner())
 }
 
 /// What a cut over lines answers where the cut answered so, and a bad line was met or not: only that failed then.
@@ -55,4 +81,9 @@ pub(crate) fn line_result(
 pub fn lines_are_read_back()
     ensures { (packet rest : List ℕ) → ((i : ℕ) → slice_index packet i < 256) → length packet ≡ 188 →
         spelled 0 0 (line_of packet ++ rest) ≡ prepend_known packet (spelled 0 0 rest) }
+{}
+
+/// What is read was written so: a text that spells bytes is the lines of whole packets, but for the last line's end.
+pub fn spelled_by_the_lines()
+    ensures { SpelledByTheLines }
 {}

@@ -11,8 +11,11 @@ returns-then-take_end-clause-whole g c =
 pub returns-then-not-take_all-clause-kept : goal.returns-then-not-take_all-clause-kept
 returns-then-not-take_all-clause-kept g c =
     let line = c.args.self.now.line in
-    kept_bad line.given line.at line.high line.packet (g.S.Source.remaining c.args.self.now.source) (g.S.Source.remaining c.read_front.new.source) _
-    (take c.in_ok-count.count c.read_front.new.text) c.in_ok-count.ensures.bytes.0 c.if-not-take_all.ensures.bad
+    let refused = c.refuse-then-not-take_all in
+    let next = refused.new.self.line in
+    rw (refused.ensures.bad, refused.ensures.source)
+    (kept_bad line.given line.at line.high line.packet next.given next.at next.high next.packet (g.S.Source.remaining c.args.self.now.source) (g.S.Source.remaining c.read_front.new.source)
+    (take c.in_ok-count.count c.read_front.new.text) c.in_ok-count.ensures.bytes.0 c.if-not-take_all.ensures.bad)
 
 pub returns-then-is_given-clause-kept : goal.returns-then-is_given-clause-kept
 returns-then-is_given-clause-kept g c =
