@@ -21,8 +21,8 @@ abbrev pub CutsLines : ℕ → ℕ → ℕ → Option (List ℕ) → Option (Lis
 CutsLines pid from length input start out =
     IfSome input (λ text. (bytes : List ℕ) × (spelled 0 0 text ≡ Some bytes) × (first_fault pid bytes ≡ None) × HasLines out start (cut_between from length pid (packets_of bytes)))
 
--- A front of the lines of these packets, and behind it two characters at most. Those are digits of the packet's last byte, which a
--- sink may have offered to a write that it did not end.
+-- A front of the lines of these packets, and behind it two characters at most. They leave room for the digits of a packet's last
+-- byte: what a sink offers to a write is not known before the write has taken it.
 abbrev pub HasFront : Option (List ℕ) → Option (List ℕ) → List (List ℕ) → Type 0
 HasFront known start packets =
     IfSome start (λ text. (n : ℕ) × (end : List ℕ) × (length end ≤ 2) × (known ≡ Some (text ++ (take n (lines_of packets) ++ end))))
@@ -47,7 +47,8 @@ SaysOfLines (Sink put_faults.Io) pid from length bytes start out = Unit {0}
 SaysOfLines (Sink put_faults.Stuck) pid from length bytes start out = Unit {0}
 SaysOfLines (Sink put_faults.Turns) pid from length bytes start out = Unit {0}
 
--- a line of the text is no packet's; or what the cut's fault says, of the bytes of the lines before such a line
+-- A line of the text is no packet's; or what the cut's fault says of the bytes that are told of the text. Where a line is no
+-- packet's, these end in a byte more, so that nothing here keeps Truncated from such a text.
 abbrev pub Means : LinesFault → ℕ → ℕ → ℕ → List ℕ → Option (List ℕ) → Option (List ℕ) → Type 0
 Means BadLine pid from length text start out = spelled 0 0 text ≡ None
 Means (Cut fault) pid from length text start out = SaysOfLines fault pid from length (told [] 0 0 text) start out
