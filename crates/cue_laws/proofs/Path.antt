@@ -1,0 +1,240 @@
+-- The cue path: what a splicer has behind a packet is what the injector has.
+use Rattle.std.proofs.Common.{◌≡◌, ◌↔◌, ℕ, Bool, true, false, ◌⊎◌, inl, inr, refl, sym, ap, ◌∙◌, subst, List, [], ◌∷◌, ◌++◌, Option, arith, append_assoc}
+use Rattle.std.specs.Prelude.{ℤ, pos, ◌+ℤ◌, int_lt, map, if◌then◌else◌}
+use Rattle.std.proofs.lemmas.Int.{ints}
+use Rattle.cue_laws.specs.Events.{Step, Event, Started, Cancelled, Ended, Passed, high, events, Rises, stands, cancel_by, end_by, In, upon}
+use Rattle.cue_laws.specs.Thinning.{IsSound, KeepsEnough}
+use Rattle.cue_laws.specs.Cueing.{IsRun, Told, Untold, Known, Never, Sender, is_cancel_new, is_news, current, is_due, end_on, told_on, block_on, told_now, tell, change, senders, cued}
+use Rattle.cue_laws.specs.Laws.{KeepsEnoughOf, CuePath, CuePathAtTheEnd}
+use Rattle.cue_laws.proofs.Settling.{by_test, ge-test, lt-test}
+use Rattle.cue_laws.proofs.Lists.{In-map, Distinct}
+use Rattle.cue_laws.proofs.Orders.{Orderly, orderly-tail, before-more}
+use Rattle.cue_laws.proofs.Lost.{lost_cues, lost_cues_at_the_end}
+use Rattle.cue_laws.proofs.Fair.{IsKnown, IsFair, AllTold, Fair, event_of, stand}
+use Rattle.cue_laws.proofs.Block.{Goes, goes-to, Others, In-append}
+use Rattle.cue_laws.proofs.Tell.{About, repeat_never, tell_known, tell_start, tell_cancelled}
+
+-- ---- what was told
+
+abbrev told_by : Told → List Event → List Event
+told_by Untold es = es
+told_by (Known t) es = t ∷ es
+told_by Never es = es
+
+abbrev told_of : List Sender → List Event
+told_of [] = []
+told_of (x ∷ xs) = told_by x.told (told_of xs)
+
+told-parts : (told : Told) (es : List Event) → told_by told [] ++ es ≡ told_by told es
+told-parts Untold es = refl
+told-parts (Known t) es = refl
+told-parts Never es = refl
+
+told-apart : (front : List Event) (told : Told) (es : List Event) → (front ++ told_by told []) ++ es ≡ front ++ told_by told es
+told-apart front told es = append_assoc front (told_by told []) es ∙ ap (λ l. front ++ l) (told-parts told es)
+
+told_of-change : (f : Event → Event) (xs : List Sender) → told_of (map (change f) xs) ≡ told_of xs
+told_of-change f [] = refl
+told_of-change f (x ∷ xs) = ap (told_by x.told) (told_of-change f xs)
+
+module _ (h later : Option ℤ) where
+  -- behind the cues, what was told is the events themselves
+  now_part : (xs : List Sender) (y : Event) → In y (told_of (map (tell h later) xs)) → In y (map event_of xs)
+  now_part [] y i = i
+  now_part (x ∷ xs) y i = which x.event x.told i (λ j. now_part xs y j)
+    where
+      add : (e : Event) → In y (e ∷ told_of (map (tell h later) xs)) → (In y (told_of (map (tell h later) xs)) → In y (map event_of xs)) → In y (e ∷ map event_of xs)
+      add e (inl is) more = inl is
+      add e (inr j) more = inr (more j)
+
+      which : (e : Event) (told : Told) → In y (told_by (told_now e told) (told_of (map (tell h later) xs)))
+          → (In y (told_of (map (tell h later) xs)) → In y (map event_of xs)) → In y (e ∷ map event_of xs)
+      which e Untold i more = by_test e.cancelled (λ c. let j = simp c at i in inr (more j)) (λ c. let j = simp c at i in add e j more)
+      which e (Known t) i more = add e i more
+      which e Never i more = inr (more i)
+
+  now_distinct : (xs : List Sender) → Distinct (map event_of xs) → Distinct (told_of (map (tell h later) xs))
+  now_distinct [] d = tt
+  now_distinct (x ∷ xs) d = which x.event x.told d.0 (now_distinct xs d.1)
+    where
+      which : (e : Event) (told : Told) → ((b : Event) → In b (map event_of xs) → b.start ≡ e.start → ⊥) → Distinct (told_of (map (tell h later) xs))
+          → Distinct (told_by (told_now e told) (told_of (map (tell h later) xs)))
+      which e Untold other rest = by_test e.cancelled (λ c. simp c rest) (λ c. simp c ((λ b i is. other b (now_part xs b i) is), rest))
+      which e (Known t) other rest = ((λ b i is. other b (now_part xs b i) is), rest)
+      which e Never other rest = rest
+
+  now_all : (xs : List Sender) → Fair h xs → (y : Event) → y.cancelled ≡ false → In y (map event_of xs) → In y (told_of (map (tell h later) xs))
+  now_all [] fair y c i = i
+  now_all (x ∷ xs) fair y c (inl is) = which x.event x.told is fair.0
+    where
+      which : (e : Event) (told : Told) → y ≡ e → IsFair h e told (map event_of xs) → In y (told_by (told_now e told) (told_of (map (tell h later) xs)))
+      which e Untold is f = let d : e.cancelled ≡ false = sym (ap (λ (z : Event). z.cancelled) is) ∙ c in simp d (inl is)
+      which e (Known t) is f = inl is
+      which e Never is f = let d : e.cancelled ≡ false = sym (ap (λ (z : Event). z.cancelled) is) ∙ c in absurd (let bad : true ≡ false = sym f ∙ d in cc)
+  now_all (x ∷ xs) fair y c (inr i) = which x.event x.told (now_all xs fair.3 y c i)
+    where
+      which : (e : Event) (told : Told) → In y (told_of (map (tell h later) xs)) → In y (told_by (told_now e told) (told_of (map (tell h later) xs)))
+      which e Untold j = by_test e.cancelled (λ d. simp d j) (λ d. simp d (inr j))
+      which e (Known t) j = inr j
+      which e Never j = j
+
+  -- ---- one event, and all
+
+  step : (e : Event) (last : Option ℤ) (told : Told) (older front back : List Event) (rest : List Step) → About h e older front back → IsFair h e told older
+      → (told ≡ Untold → front ≡ []) → Goes h rest (front ++ told_by told back) → Goes h (told_on h later e last told rest) (front ++ told_by (told_now e told) back)
+  step e last Untold older front back rest about fair none g =
+      by_test e.cancelled
+      (λ c. simp c (tell_cancelled h later e older front back about rest fair g))
+      (λ c. simp c (tell_start h later e older front back about rest (none refl) c fair g))
+  step e last (Known t) older front back rest about fair none g = tell_known h later e older front back about last rest t fair g
+  step e last Never older front back rest about fair none g = repeat_never h later e older front back about last rest fair g
+
+  -- one that is known stands where what was told of it does
+  stands_told : (e t : Event) → IsKnown h e t → stands h t ≡ true → stands h e ≡ true
+  stands_told e t k s =
+      by_test (int_lt e.end t.end)
+      (λ l. before-more h e.end (e.end +ℤ pos 900000) (k.end_new (lt-test e.end t.end l)).0 (omega (arith, ints)))
+      (λ l. let x = ge-test e.end t.end l in before-more h (t.end +ℤ pos 900000) (e.end +ℤ pos 900000) s (omega (arith, ints, x)))
+
+  block : (xs : List Sender) (front : List Event) (rest : List Step) → Fair h xs → Orderly h (map event_of xs) → (front ≡ []) ⊎ AllTold xs
+      → ((x : Sender) → In x xs → stands h x.event ≡ true → Others h x.event.id front)
+      → Goes h rest (front ++ told_of xs) → Goes h (block_on h later xs rest) (front ++ told_of (map (tell h later) xs))
+  block [] front rest fair order ahead newer g = g
+  block (x ∷ xs) front rest fair order ahead newer g =
+      let back = told_of (map (tell h later) xs) in
+      let front' = front ++ told_by x.told [] in
+      let older : Goes h (block_on h later xs rest) (front' ++ back) =
+      block xs front' rest fair.3 (orderly-tail h x.event (map event_of xs) order) (next ahead x.told fair.1 (untold ahead))
+      (λ y i s e j t is. others y i s e (In-append e front (told_by x.told []) j) t is)
+      (goes-to h rest (front ++ told_by x.told (told_of xs)) (front' ++ told_of xs) (sym (told-apart front x.told (told_of xs))) g) in
+      step x.event x.last x.told (map event_of xs) front back (block_on h later xs rest)
+      (record {
+        clock = fair.2;
+        order = order;
+        newer = newer x (inl refl);
+        others = λ s e i t is. let j = now_part xs e i in apart e j t s is;
+        part = now_part xs;
+        distinct = now_distinct xs order.distinct.1;
+      })
+      fair.0 (untold ahead)
+      (goes-to h (block_on h later xs rest) (front' ++ back) (front ++ told_by x.told back) (told-apart front x.told back) older)
+    where
+      untold : (front ≡ []) ⊎ AllTold (x ∷ xs) → x.told ≡ Untold → front ≡ []
+      untold (inl none) u = none
+      untold (inr all) u = absurd (all.0 u)
+
+      next : (front ≡ []) ⊎ AllTold (x ∷ xs) → (told : Told) → ((told ≡ Untold → ⊥) → AllTold xs) → (told ≡ Untold → front ≡ []) → (front ++ told_by told [] ≡ []) ⊎ AllTold xs
+      next a Untold all none = inl (ap (λ f. f ++ []) (none refl))
+      next a (Known t) all none = inr (all (λ is. cc))
+      next a Never all none = inr (all (λ is. cc))
+
+      apart : (e : Event) → In e (map event_of xs) → stands h e ≡ true → stands h x.event ≡ true → e.id ≡ x.event.id → ⊥
+      apart e j t s is = order.distinct.0 e j (order.ids e x.event (inr j) (inl refl) t s is)
+
+      told_stands : (told : Told) → IsFair h x.event told (map event_of xs) → (e : Event) → In e (told_by told []) → stands h e ≡ true → (e.id ≡ x.event.id) × (stands h x.event ≡ true)
+      told_stands Untold f e i t = absurd i
+      told_stands (Known k) f e (inl is) t =
+          (ap (λ (z : Event). z.id) is ∙ f.id, stands_told x.event k f (ap (stands h) (sym is) ∙ t))
+      told_stands (Known k) f e (inr i) t = absurd i
+      told_stands Never f e i t = absurd i
+
+      others : (y : Sender) → In y xs → stands h y.event ≡ true → (e : Event) → In e front ⊎ In e (told_by x.told []) → stands h e ≡ true → e.id ≡ y.event.id → ⊥
+      others y i s e (inl j) t is = newer y (inr i) s e j t is
+      others y i s e (inr j) t is =
+          let k = told_stands x.told fair.0 e j t in
+          apart y.event (In-map event_of y xs i) s k.1 (sym is ∙ k.0)
+
+-- THE STREAM OF A RUN may come, and what was told is what a splicer has
+pub cued_goes : (run : List Step) → IsRun run → Goes (high run) (cued run) (told_of (senders run))
+cued_goes [] r = record { sound = tt; clock = refl; list = refl }
+cued_goes (Started id start end ∷ past) r = cued_goes past r.1
+cued_goes (Cancelled id ∷ past) r = goes-to (high past) (cued past) _ _ (sym (told_of-change (cancel_by (high past) id) (senders past))) (cued_goes past r.1)
+cued_goes (Ended id time ∷ past) r = goes-to (high past) (cued past) _ _ (sym (told_of-change (end_by (high past) id time) (senders past))) (cued_goes past r.1)
+cued_goes (Passed later ∷ past) r =
+    let s = stand past r.1 in
+    let g : Goes (high past) (block_on (high past) later (senders past) (cued past)) (told_of (map (tell (high past) later) (senders past))) =
+    block (high past) later (senders past) [] (cued past) s.fair (subst (λ l. Orderly (high past) l) (sym s.same) s.order) (inl refl) (λ x i t e j. absurd j) (cued_goes past r.1) in
+    record { sound = (subst (λ k. Rises k later) (sym g.clock) r.0, g.sound); clock = refl; list = g.list }
+
+-- with nothing lost, behind a packet
+pub nothing_lost : (h : Option ℤ) (past : List Step) → IsRun (Passed h ∷ past) → (x : Event) → x.cancelled ≡ false → In x (events (cued (Passed h ∷ past))) ↔ In x (events (Passed h ∷ past))
+nothing_lost h past r x c =
+    let s = stand past r.1 in let g = cued_goes (Passed h ∷ past) r in (
+      λ i. subst (In x) s.same (now_part (high past) h (senders past) x (subst (In x) g.list i)),
+      λ i. subst (In x) (sym g.list) (now_all (high past) h (senders past) s.fair x c (subst (In x) (sym s.same) i)),
+    )
+
+pub known_of : (h : Option ℤ) (past : List Step) → IsRun (Passed h ∷ past) → (x : Event) → In x (events (cued (Passed h ∷ past))) → In x (events (Passed h ∷ past))
+known_of h past r x i =
+    let s = stand past r.1 in let g = cued_goes (Passed h ∷ past) r in
+    subst (In x) s.same (now_part (high past) h (senders past) x (subst (In x) g.list i))
+
+-- ---- fronts of a stream
+
+abbrev pub IsFront : List Step → List Step → Type 0
+IsFront front all = (later : List Step) × (all ≡ upon later front)
+
+front_more : (s : Step) (front all : List Step) → IsFront front all → IsFront front (s ∷ all)
+front_more s front all f = (s ∷ f.0, ap (λ l. s ∷ l) f.1)
+
+front_if : (b : Bool) (s : Step) (front all : List Step) → IsFront front all → IsFront front (if b then s ∷ all else all)
+front_if true s front all f = front_more s front all f
+front_if false s front all f = f
+
+front_told : (h later : Option ℤ) (e : Event) (last : Option ℤ) (told : Told) (front all : List Step) → IsFront front all → IsFront front (told_on h later e last told all)
+front_told h later e last Untold front all f =
+    by_test e.cancelled
+    (λ c. simp c (front_more (Cancelled e.id) front all f))
+    (λ c. simp c (front_if (int_lt e.end e.asked) (Ended e.id e.end) front (Started e.id e.start e.asked ∷ all) (front_more (Started e.id e.start e.asked) front all f)))
+front_told h later e last (Known t) front all f =
+    by_test (is_news e t)
+    (λ n. simp n (front_if (is_cancel_new e t) (Cancelled e.id) front (end_on e t.end all) (front_if (int_lt e.end t.end) (Ended e.id e.end) front all f)))
+    (λ n. simp n (front_if (is_due h later e last) (current e) front all f))
+front_told h later e last Never front all f = front_if (is_due h later e last) (current e) front all f
+
+front_block : (h later : Option ℤ) (xs : List Sender) (front all : List Step) → IsFront front all → IsFront front (block_on h later xs all)
+front_block h later [] front all f = f
+front_block h later (x ∷ xs) front all f = front_told h later x.event x.last x.told front (block_on h later xs all) (front_block h later xs front all f)
+
+pub front_cued : (front later : List Step) → IsFront (cued front) (cued (upon later front))
+front_cued front [] = ([], refl)
+front_cued front (Started id start end ∷ later) = front_cued front later
+front_cued front (Cancelled id ∷ later) = front_cued front later
+front_cued front (Ended id time ∷ later) = front_cued front later
+front_cued front (Passed h ∷ later) =
+    front_more (Passed h) (cued front) _ (front_block (high (upon later front)) h (senders (upon later front)) (cued front) (cued (upon later front)) (front_cued front later))
+
+pub run_front : (front later : List Step) → IsRun (upon later front) → IsRun front
+run_front front [] r = r
+run_front front (s ∷ later) r = run_front front later r.1
+
+pub front_whole : (h last : Option ℤ) (past later : List Step) → IsFront (cued (Passed h ∷ past)) (cued (Passed last ∷ upon later (Passed h ∷ past)))
+front_whole h last past later =
+    let run = upon later (Passed h ∷ past) in
+    front_more (Passed last) (cued (Passed h ∷ past)) (block_on (high run) last (senders run) (cued run))
+    (front_block (high run) last (senders run) (cued (Passed h ∷ past)) (cued run) (front_cued (Passed h ∷ past) later))
+
+-- ---- the laws
+
+enough : (copies : List Step → ℕ) (h : Option ℤ) (past : List Step) → IsRun (Passed h ∷ past) → KeepsEnoughOf copies (Passed h ∷ past) → KeepsEnough copies (cued (Passed h ∷ past))
+enough copies h past r k = record {
+  starts = λ x i c. k.starts x (known_of h past r x i) c;
+  cancels = λ x i c. k.cancels x (known_of h past r x i) c;
+  ends = k.ends;
+}
+
+pub cue_path_at_the_end : CuePathAtTheEnd
+cue_path_at_the_end copies h past r k x c =
+    let lost = lost_cues_at_the_end copies (cued (Passed h ∷ past)) (cued_goes (Passed h ∷ past) r).sound (enough copies h past r k) x c in
+    let whole = nothing_lost h past r x c in
+    (λ i. whole.0 (lost.0 i), λ i. lost.1 (whole.1 i))
+
+pub cue_path : CuePath
+cue_path copies h past later last r k x c b =
+    let run = upon later (Passed h ∷ past) in
+    let f = front_whole h last past later in
+    let sound = subst IsSound f.1 (cued_goes (Passed last ∷ run) r).sound in
+    let kept = subst (KeepsEnough copies) f.1 (enough copies last run r k) in
+    let lost = lost_cues copies (cued (Passed h ∷ past)) f.0 sound kept x c b in
+    let whole = nothing_lost h past (run_front (Passed h ∷ past) later r.1) x c in
+    (λ i. whole.0 (lost.0 i), λ i. lost.1 (whole.1 i))

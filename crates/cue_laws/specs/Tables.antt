@@ -1,0 +1,28 @@
+-- The table that code keeps: only the events that stand.
+use Rattle.std.specs.Prelude.{◌≡◌, Bool, not, if◌then◌else◌, List, [], ◌∷◌, filter, int_lt}
+use Rattle.cue_laws.specs.Events.{Step, Event, high, stands, taken, events, NeverFalls}
+
+-- the events that stand, newest first; what is forgotten is left out at each step
+abbrev pub standing : List Step → List Event
+standing [] = []
+standing (s ∷ past) = filter (stands (high (s ∷ past))) (taken (high past) s (standing past))
+
+-- in order of their starts
+abbrev pub put_in : Event → List Event → List Event
+put_in x [] = x ∷ []
+put_in x (e ∷ es) = if int_lt x.start e.start then x ∷ e ∷ es else e ∷ put_in x es
+
+abbrev pub by_start : List Event → List Event
+by_start [] = []
+by_start (e ∷ es) = put_in e (by_start es)
+
+abbrev pub is_uncancelled : Event → Bool
+is_uncancelled e = not e.cancelled
+
+-- THE BREAKS: the events that are not cancelled, in order of their starts
+abbrev pub breaks : List Event → List Event
+breaks es = by_start (filter is_uncancelled es)
+
+-- a table that forgets judges as one that does not
+abbrev pub ForgettingIsSafe : Type 0
+ForgettingIsSafe = (all : List Step) → NeverFalls all → standing all ≡ filter (stands (high all)) (events all)

@@ -1,0 +1,129 @@
+-- Streams whose packets on a PID are the same.
+use Rattle.std.proofs.Common.{◌≡◌, ℕ, List, [], ◌∷◌, ◌++◌, false, refl, sym, ap, ◌∙◌, append_assoc, Option, Some, None, map}
+use Rattle.std.proofs.lemmas.List.{append-nil, map-append}
+use Rattle.ts_packet.specs.Fields.{on}
+use Rattle.psi_section.specs.Sections.{given, sections_after}
+use Rattle.psi_section.proofs.RunLemmas.{Alike}
+use Rattle.program_laws.specs.Programme.{earlier, Listed, lists, first_listed, listed, since_pat, table_of, tables, all_tables}
+use Rattle.program_laws.specs.Writing.{Each, onto, Off}
+use Rattle.program_laws.proofs.PacketLemmas.{off_payload}
+use Rattle.program_laws.proofs.StepLemmas.{earlier-assoc}
+
+-- ---- packets of other PIDs
+
+pub alike_off : (pid : ℕ) (p : List ℕ) (past other : List (List ℕ)) → on pid p ≡ false → Alike pid past other → Alike pid (p ∷ past) other
+alike_off pid p past other h k = let n = off_payload pid p h in record {
+  last = simp n k.last;
+  part = simp n k.part;
+  repeated = λ q. simp n (k.repeated q);
+}
+
+pub given_off : (pid : ℕ) (p : List ℕ) (past : List (List ℕ)) → on pid p ≡ false → given pid p past ≡ []
+given_off pid p past h = let n = off_payload pid p h in simp n
+
+alike_on : (pid : ℕ) (p : List ℕ) (past other : List (List ℕ)) → Alike pid past other → Alike pid (p ∷ past) (p ∷ other)
+alike_on pid p past other k =
+    let r = k.repeated p in
+    record {
+      last = simp (r, k.last);
+      part = simp (r, k.last, k.part);
+      repeated = λ q. let s = k.repeated q in let l = k.repeated p in simp (s, l);
+    }
+
+pub given_on : (pid : ℕ) (p : List ℕ) (past other : List (List ℕ)) → Alike pid past other → given pid p past ≡ given pid p other
+given_on pid p past other k = let r = k.repeated p in simp (r, k.last, k.part)
+
+pub alike_none : (pid : ℕ) (past : List (List ℕ)) → Alike pid past past
+alike_none pid past = record { last = refl; part = refl; repeated = λ p. refl }
+
+pub alike_back : (pid : ℕ) (past other : List (List ℕ)) → Alike pid past other → Alike pid other past
+alike_back pid past other k = record { last = sym k.last; part = sym k.part; repeated = λ p. sym (k.repeated p) }
+
+pub alike_both : (pid : ℕ) (past other third : List (List ℕ)) → Alike pid past other → Alike pid other third → Alike pid past third
+alike_both pid past other third k l = record { last = k.last ∙ l.last; part = k.part ∙ l.part; repeated = λ p. k.repeated p ∙ l.repeated p }
+
+-- packets off the PID finish nothing, and change nothing
+pub others_alike : (pid : ℕ) (qs past other : List (List ℕ)) → Each (Off pid) qs → Alike pid past other → Alike pid (onto past qs) other
+others_alike pid [] past other h k = k
+others_alike pid (q ∷ qs) past other h k = others_alike pid qs (q ∷ past) other h.1 (alike_off pid q past other h.0 k)
+
+pub others_give : (pid : ℕ) (qs past : List (List ℕ)) → Each (Off pid) qs → sections_after past pid qs ≡ []
+others_give pid [] past h = refl
+others_give pid (q ∷ qs) past h = ap (λ l. l ++ sections_after (q ∷ past) pid qs) (given_off pid q past h.0) ∙ others_give pid qs (q ∷ past) h.1
+
+pub one_alike : (pid : ℕ) (p : List ℕ) (past other : List (List ℕ)) → Alike pid past other → Alike pid (p ∷ past) (p ∷ other)
+one_alike pid p past other k = alike_on pid p past other k
+
+pub onto-append : (past ps qs : List (List ℕ)) → onto past (ps ++ qs) ≡ onto (onto past ps) qs
+onto-append past [] qs = refl
+onto-append past (p ∷ ps) qs = onto-append (p ∷ past) ps qs
+
+-- ---- a block of packets behind a stream: the PAT
+
+pub first_listed-append : (wanted : Option ℕ) (ss ts : List (List ℕ)) → first_listed wanted (ss ++ ts) ≡ earlier (first_listed wanted ss) (first_listed wanted ts)
+first_listed-append wanted [] ts = refl
+first_listed-append wanted (s ∷ ss) ts =
+    ap (earlier (lists wanted s)) (first_listed-append wanted ss ts) ∙ sym (earlier-assoc (lists wanted s) (first_listed wanted ss) (first_listed wanted ts))
+
+earlier-none : {A : Type 0} (x : Option A) → earlier x None ≡ x
+earlier-none None = refl
+earlier-none (Some x) = refl
+
+pub listed_onto : (wanted : Option ℕ) (qs out : List (List ℕ)) → listed wanted (onto out qs) ≡ earlier (listed wanted out) (first_listed wanted (sections_after out 0 qs))
+listed_onto wanted [] out = sym (earlier-none (listed wanted out))
+listed_onto wanted (q ∷ qs) out =
+    listed_onto wanted qs (q ∷ out)
+    ∙ earlier-assoc (listed wanted out) (first_listed wanted (given 0 q out)) (first_listed wanted (sections_after (q ∷ out) 0 qs))
+    ∙ ap (earlier (listed wanted out)) (sym (first_listed-append wanted (given 0 q out) (sections_after (q ∷ out) 0 qs)))
+
+-- ---- behind the PAT
+
+pub listed_stays : (wanted : Option ℕ) (q : List ℕ) (out : List (List ℕ)) (l : Listed) → listed wanted out ≡ Some l → listed wanted (q ∷ out) ≡ Some l
+listed_stays wanted q out l h = ap (λ x. earlier x (first_listed wanted (given 0 q out))) h
+
+pub since_stays : (wanted : Option ℕ) (q : List ℕ) (out : List (List ℕ)) (l : Listed) → listed wanted out ≡ Some l → since_pat wanted (q ∷ out) ≡ q ∷ since_pat wanted out
+since_stays wanted q out l h = simp h
+
+pub since_onto : (wanted : Option ℕ) (qs out : List (List ℕ)) (l : Listed) → listed wanted out ≡ Some l → since_pat wanted (onto out qs) ≡ onto (since_pat wanted out) qs
+since_onto wanted [] out l h = refl
+since_onto wanted (q ∷ qs) out l h = since_onto wanted qs (q ∷ out) l (listed_stays wanted q out l h) ∙ ap (λ past. onto past qs) (since_stays wanted q out l h)
+
+pub tables_at : (wanted : Option ℕ) (q : List ℕ) (out : List (List ℕ)) (l : Listed) → listed wanted out ≡ Some l → tables wanted q out ≡ map (table_of l.program) (given l.pid q (since_pat wanted out))
+tables_at wanted q out l h = simp h
+
+pub tables_onto : (wanted : Option ℕ) (qs out : List (List ℕ)) (l : Listed) → listed wanted out ≡ Some l
+    → all_tables wanted (onto out qs) ≡ all_tables wanted out ++ map (table_of l.program) (sections_after (since_pat wanted out) l.pid qs)
+tables_onto wanted [] out l h = sym (append-nil (all_tables wanted out))
+tables_onto wanted (q ∷ qs) out l h =
+    let since = since_pat wanted out in
+    let g = given l.pid q since in
+    let more = sections_after (q ∷ since) l.pid qs in
+    tables_onto wanted qs (q ∷ out) l (listed_stays wanted q out l h)
+    ∙ ap (λ past. (all_tables wanted out ++ tables wanted q out) ++ map (table_of l.program) (sections_after past l.pid qs)) (since_stays wanted q out l h)
+    ∙ ap (λ ts. (all_tables wanted out ++ ts) ++ map (table_of l.program) more) (tables_at wanted q out l h)
+    ∙ append_assoc (all_tables wanted out) (map (table_of l.program) g) (map (table_of l.program) more)
+    ∙ ap (λ ts. all_tables wanted out ++ ts) (sym (map-append (table_of l.program) g more))
+
+-- ---- before the PAT
+
+earlier_first : {A : Type 0} (x y : Option A) → earlier x y ≡ None → x ≡ None
+earlier_first None y h = refl
+earlier_first (Some x) y h = cc
+
+pub none_before : (wanted : Option ℕ) (p : List ℕ) (past : List (List ℕ)) → listed wanted (p ∷ past) ≡ None → listed wanted past ≡ None
+none_before wanted p past h = earlier_first (listed wanted past) (first_listed wanted (given 0 p past)) h
+
+pub no_tables : (wanted : Option ℕ) (past : List (List ℕ)) → listed wanted past ≡ None → all_tables wanted past ≡ []
+no_tables wanted [] h = refl
+no_tables wanted (p ∷ past) h = let k = none_before wanted p past h in let r = no_tables wanted past k in simp (k, r)
+
+-- also at the PAT
+pub none_at_pat : (wanted : Option ℕ) (p : List ℕ) (past : List (List ℕ)) → listed wanted past ≡ None → all_tables wanted (p ∷ past) ≡ []
+none_at_pat wanted p past h = let r = no_tables wanted past h in simp (h, r)
+
+pub no_since : (wanted : Option ℕ) (p : List ℕ) (past : List (List ℕ)) → listed wanted past ≡ None → since_pat wanted (p ∷ past) ≡ []
+no_since wanted p past h = simp h
+
+pub no_since_yet : (wanted : Option ℕ) (past : List (List ℕ)) → listed wanted past ≡ None → since_pat wanted past ≡ []
+no_since_yet wanted [] h = refl
+no_since_yet wanted (p ∷ past) h = no_since wanted p past (none_before wanted p past h)

@@ -1,0 +1,33 @@
+-- One packet more.
+use Rattle.std.proofs.Common.{◌≡◌, List, [], ◌∷◌, ◌++◌, refl, sym, ap, ◌∙◌, Option, Some, None, if◌then◌else◌}
+use Rattle.std.specs.Prelude.{is_some, option_map}
+use Rattle.program_laws.specs.Programme.{earlier, Listed, listed, since_pat, Table, tables, all_tables, first_map, known_map, programme_in, behind_head}
+use Rattle.program_laws.specs.Laws.{TablesGrow, Stays}
+
+pub earlier-assoc : {A : Type 0} (x y z : Option A) → earlier (earlier x y) z ≡ earlier x (earlier y z)
+earlier-assoc None y z = refl
+earlier-assoc (Some x) y z = refl
+
+pub first_map-append : (ts us : List Table) → first_map (ts ++ us) ≡ earlier (first_map ts) (first_map us)
+first_map-append [] us = refl
+first_map-append (t ∷ ts) us = ap (earlier t.program_map) (first_map-append ts us) ∙ sym (earlier-assoc t.program_map (first_map ts) (first_map us))
+
+pub tables_grow : TablesGrow
+tables_grow wanted p past = first_map-append (all_tables wanted past) (tables wanted p past)
+
+-- what was there is what comes first
+pub kept : {A B : Type 0} (f : A → B) (x y : Option A) (b : B) → option_map f x ≡ Some b → option_map f (earlier x y) ≡ Some b
+kept f None y b h = absurd (cc)
+kept f (Some x) y b h = h
+
+pub there : {A B C : Type 0} (f : A → B) (x : Option A) (b : B) (xs ys : C) → option_map f x ≡ Some b → (if is_some x then xs else ys) ≡ xs
+there f None b xs ys h = absurd (cc)
+there f (Some x) b xs ys h = refl
+
+pub stays : Stays
+stays wanted p past = record {
+  pid = λ n h. kept (λ (l : Listed). l.pid) (listed wanted past) _ n h;
+  programme = λ r h. ap (option_map programme_in) (tables_grow wanted p past) ∙ kept programme_in (known_map wanted past) (first_map (tables wanted p past)) r h;
+  since = λ n h. there (λ (l : Listed). l.pid) (listed wanted past) n (p ∷ since_pat wanted past) [] h;
+  behind = λ r h. there programme_in (known_map wanted past) r (p ∷ behind_head wanted past) [] h;
+}

@@ -1,0 +1,69 @@
+//! What holds of a programme and of streams that are written from a network, over the definitions alone.
+
+ghost use Rattle.program_laws.specs.Laws.{TablesGrow, Stays};
+ghost use Rattle.program_laws.specs.Writing.{WrittenReadsAgain};
+ghost use Rattle.program_laws.specs.Behind.{HeadPasses, OthersPass, OthersAreNoUnits};
+ghost use Rattle.program_laws.specs.CueEntry.{EntryGoesOut};
+ghost use Rattle.program_laws.specs.Spliced.{EntryIsNoFault};
+ghost use Rattle.program_laws.specs.Cued.{NothingChanges, NoCuePackets, CuedStreamReads};
+
+/// One packet more adds the tables that it finishes.
+pub fn tables_grow()
+    ensures { TablesGrow }
+{}
+
+/// Once known, the programme's PMT PID, the programme and the end of the head stay.
+pub fn stays()
+    ensures { Stays }
+{}
+
+/// A stream that is written from a network has its PAT, its head and its sections, the programme's
+/// maps changed.
+pub fn written_reads_again()
+    ensures { WrittenReadsAgain }
+{}
+
+/// Behind the head of a written stream the network's packets stand as they did, but for packets put
+/// in and packets on the PMT's PID.
+pub fn head_passes()
+    ensures { HeadPasses }
+{}
+
+/// Packets that are no payload packets of switched PIDs change neither units nor times.
+pub fn others_are_no_units()
+    ensures { OthersAreNoUnits }
+{}
+
+/// A map that has room for an entry for cues, and lists nothing on their PID, goes out with the
+/// entry, is of the same programme, and comes back.
+pub fn entry_goes_out()
+    ensures { EntryGoesOut }
+{}
+
+/// Without fault every later PAT gives the programme the same PID, and every later map of it has
+/// the same switched streams and PCR PID.
+pub fn nothing_changes()
+    ensures { NothingChanges }
+{}
+
+/// A network without fault, whatever packets of the cue PID are put in front of its packets, has its
+/// PAT, programme and units, and stripped again its sections.
+pub fn cued_stream_reads()
+    ensures { CuedStreamReads }
+{}
+
+/// Packets of other PIDs stand in a written stream as they did.
+pub fn others_pass()
+    ensures { OthersPass }
+{}
+
+/// Without fault no packet of a network to which cues are written is on their PID.
+pub fn no_cue_packets()
+    ensures { NoCuePackets }
+{}
+
+/// A map without fault for those who write cues is, with the entry, without fault for those who
+/// read them.
+pub fn entry_is_no_fault()
+    ensures { EntryIsNoFault }
+{}
