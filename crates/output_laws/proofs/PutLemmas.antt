@@ -3,7 +3,7 @@ use Rattle.std.proofs.Common.{◌≡◌, ℕ, ◌+◌, ◌%◌, List, [], ◌∷
 use Rattle.ts_packet.specs.declared.follower.Last.{Last}
 use Rattle.ts_packet.specs.Fields.{number, payload_on, alike}
 use Rattle.ts_packet.specs.Duplicates.{repeats, repeats_last, last_of, original, IsNext, InStep, Gapless}
-use Rattle.ts_packet.specs.Numbering.{Event, Inserted, moved, last_number, one_past}
+use Rattle.ts_packet.specs.Numbering.{Step, Inserted, moved, last_number, one_past}
 use Rattle.ts_packet.proofs.Cases.{by_test}
 use Rattle.ts_packet.proofs.FieldLemmas.{alike-number}
 use Rattle.ts_packet.proofs.HistoryLemmas.{walk_is_last}
@@ -83,6 +83,6 @@ one_put n n' (Some l) le e h = rw h (ap Some (at (number l.packet))) where
   at : (c : ℕ) → ((c + n) % 16 + 1) % 16 ≡ (c + n') % 16
   at c = omega arith
 
-pub put_last : (ol : Option Last) (qs : List (List ℕ)) (es : List Event) → LastIs (moved es) ol (last_number es) → LastIs (moved (put_in qs es)) ol (last_number (put_in qs es))
+pub put_last : (ol : Option Last) (qs : List (List ℕ)) (es : List Step) → LastIs (moved es) ol (last_number es) → LastIs (moved (put_in qs es)) ol (last_number (put_in qs es))
 put_last ol [] es h = h
 put_last ol (q ∷ qs) es h = put_last ol qs (Inserted ∷ es) (one_put (moved es) (moved (Inserted ∷ es)) ol (last_number es) (moved-inserted es) h)

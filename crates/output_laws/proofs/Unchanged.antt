@@ -6,14 +6,14 @@ use Rattle.ts_packet.specs.Fields.{in_error, pid_of, on}
 use Rattle.ts_packet.specs.Numbering.{moved}
 use Rattle.ts_packet.proofs.Cases.{by_test}
 use Rattle.ts_packet.proofs.Renumbered.{renumbered-zero}
-use Rattle.output_laws.specs.Output.{Step, Keep, Packing, events, kept_packet, out_after}
+use Rattle.output_laws.specs.Output.{Act, Keep, Packing, counter_steps, kept_packet, out_after}
 use Rattle.output_laws.specs.Laws.{NothingChanges}
 
 module _ (packed : Packing) where
-  abbrev kept : List (List ℕ) → List Step
+  abbrev kept : List (List ℕ) → List Act
   kept ps = map (λ (p : List ℕ). Keep p) ps
 
-  unmoved : (pid : ℕ) (past : List (List ℕ)) → moved (events packed pid (kept past)) ≡ 0
+  unmoved : (pid : ℕ) (past : List (List ℕ)) → moved (counter_steps packed pid (kept past)) ≡ 0
   unmoved pid [] = refl
   unmoved pid (p ∷ past) = by_test (on pid p) (λ o. simp o (unmoved pid past)) (λ o. simp o (unmoved pid past))
 

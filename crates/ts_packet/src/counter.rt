@@ -17,7 +17,7 @@ pub struct Counter {
 }
 
 impl Counter {
-    ghost use Rattle.ts_packet.specs.Numbering.{Event, Kept, Dropped, Inserted, Counts, number_out, last_number, one_past};
+    ghost use Rattle.ts_packet.specs.Numbering.{Step, Kept, Dropped, Inserted, Counts, number_out, last_number, one_past};
 
     /// The counter of a PID on which nothing happened.
     pub fn new() -> Counter
@@ -31,8 +31,8 @@ impl Counter {
 
     /// The packet goes out: its continuity_counter there. A packet without payload is moved like the others.
     pub fn kept(&mut self, packet: &Packet) -> u8
-        ensures counts { (events : List Event) → Counts self.old events → Counts self.new (Kept packet.now ∷ events) }
-        ensures number { (events : List Event) → Counts self.old events → result ≡ number_out packet.now events }
+        ensures counts { (steps : List Step) → Counts self.old steps → Counts self.new (Kept packet.now ∷ steps) }
+        ensures number { (steps : List Step) → Counts self.old steps → result ≡ number_out packet.now steps }
         ensures below { result < 16 }
     {
         let number = (packet.counter() + self.shift) % 16;
@@ -45,7 +45,7 @@ impl Counter {
     /// The packet, which has a payload, is left out.
     pub fn dropped(&mut self, packet: &Packet)
         requires { is_some (payload packet.now) ≡ true }
-        ensures { (events : List Event) → Counts self.old events → Counts self.new (Dropped packet.now ∷ events) }
+        ensures { (steps : List Step) → Counts self.old steps → Counts self.new (Dropped packet.now ∷ steps) }
     {
         self.shift = (self.shift + 15) % 16;
         self.upcoming = (packet.counter() + self.shift + 1) % 16;
@@ -53,8 +53,8 @@ impl Counter {
 
     /// A payload packet is put in: its continuity_counter, one past that at the last payload packet, or 0 where there was none.
     pub fn fresh(&mut self) -> u8
-        ensures counts { (events : List Event) → Counts self.old events → Counts self.new (Inserted ∷ events) }
-        ensures number { (events : List Event) → Counts self.old events → result ≡ one_past (last_number events) }
+        ensures counts { (steps : List Step) → Counts self.old steps → Counts self.new (Inserted ∷ steps) }
+        ensures number { (steps : List Step) → Counts self.old steps → result ≡ one_past (last_number steps) }
         ensures below { result < 16 }
     {
         let number = self.upcoming;

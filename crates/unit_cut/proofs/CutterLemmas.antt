@@ -7,14 +7,14 @@ use Rattle.pes_time.specs.Line.{lift}
 use Rattle.pes_time.specs.Stamps.{stamp_of, is_split}
 use Rattle.ts_packet.specs.Fields.{in_error, on, number, payload_on, payload, scrambled, unit_start, bytes, renumbered, with_number}
 use Rattle.ts_packet.specs.Duplicates.{original, repeats}
-use Rattle.ts_packet.specs.Numbering.{Event, Kept, Dropped, moved, number_out, is_inserted, is_dropped}
+use Rattle.ts_packet.specs.Numbering.{Step, Kept, Dropped, moved, number_out, is_inserted, is_dropped}
 use Rattle.ts_packet.proofs.Cases.{by_test}
 use Rattle.ts_packet.proofs.FieldLemmas.{payload_on-on}
 use Rattle.unit_stream.specs.Times.{begins, begins_one, high, raised, timed, unit_time, first_time, first_after, stamp, splits}
 use Rattle.unit_stream.specs.Faults.{unit_fault, start_fault, scrambled_one}
 use Rattle.unit_stream.specs.declared.fault.UnitFault.TheVariants.{Scrambled}
 use Rattle.unit_cut.specs.Cutting.{is_cut, gone, kept_as}
-use Rattle.unit_cut.specs.Standing.{Cut, goes_by, TimingFor, Begins, BeginsWith, events, Answers}
+use Rattle.unit_cut.specs.Standing.{Cut, goes_by, TimingFor, Begins, BeginsWith, steps, Answers}
 use Rattle.unit_cut.specs.declared.timing.Timing.{Timing}
 
 -- ---- fields
@@ -41,13 +41,13 @@ renumbered_is n m p h = rw h refl
 
 -- ---- counters
 
-moved-kept : (p : List ℕ) (es : List Event) → moved (Kept p ∷ es) ≡ moved es
+moved-kept : (p : List ℕ) (es : List Step) → moved (Kept p ∷ es) ≡ moved es
 moved-kept p es =
     let a = sum_by-cons (λ e. cond (is_inserted e) 1 0) (Kept p) es in
     let b = sum_by-cons (λ e. cond (is_dropped e) 1 0) (Kept p) es in
     omega (arith, a, b)
 
-moved-dropped : (p : List ℕ) (es : List Event) → moved (Dropped p ∷ es) ≡ moved es + 15
+moved-dropped : (p : List ℕ) (es : List Step) → moved (Dropped p ∷ es) ≡ moved es + 15
 moved-dropped p es =
     let a = sum_by-cons (λ e. cond (is_inserted e) 1 0) (Dropped p) es in
     let b = sum_by-cons (λ e. cond (is_dropped e) 1 0) (Dropped p) es in
@@ -57,7 +57,7 @@ one_more : (m n : ℕ) → m ≡ 15 * n → m + 15 ≡ 15 * (n + 1)
 one_more m n h = omega arith
 
 -- by the three tests on a packet
-moved_by : (o c n : Bool) (p : List ℕ) (es : List Event) (g : ℕ) → (c ≡ true → o ≡ true) → moved es ≡ 15 * g
+moved_by : (o c n : Bool) (p : List ℕ) (es : List Step) (g : ℕ) → (c ≡ true → o ≡ true) → moved es ≡ 15 * g
     → moved (if o then (if c then (if n then Dropped p ∷ es else es) else Kept p ∷ es) else es) ≡ 15 * (if c && n then g + 1 else g)
 moved_by true true true p es g i h = moved-dropped p es ∙ one_more _ _ h
 moved_by true true false p es g i h = h
@@ -73,13 +73,13 @@ module _ (goes : Option ℤ → Bool) (sw : List ℕ) (pid : ℕ) where
   cut_on : (p : List ℕ) (past : List (List ℕ)) → is_cut goes sw pid p past ≡ true → on pid p ≡ true
   cut_on p past h = payload_on-on pid p (and_first (payload_on pid p) _ h)
 
-  pub moved_is : (past : List (List ℕ)) → moved (events goes sw pid past) ≡ 15 * gone goes sw pid past
+  pub moved_is : (past : List (List ℕ)) → moved (steps goes sw pid past) ≡ 15 * gone goes sw pid past
   moved_is [] = refl
-  moved_is (p ∷ past) = moved_by (on pid p) (is_cut goes sw pid p past) (original pid p past) p (events goes sw pid past) (gone goes sw pid past) (cut_on p past) (moved_is past)
+  moved_is (p ∷ past) = moved_by (on pid p) (is_cut goes sw pid p past) (original pid p past) p (steps goes sw pid past) (gone goes sw pid past) (cut_on p past) (moved_is past)
 
   -- the number that the counter gives a packet that stays is the cut's
-  pub kept_is : (p : List ℕ) (past : List (List ℕ)) → on pid p ≡ true → with_number (number_out p (events goes sw pid past)) p ≡ kept_as goes sw pid p past
-  kept_is p past o = simp o (renumbered_is (moved (events goes sw pid past)) (15 * gone goes sw pid past) p (moved_is past))
+  pub kept_is : (p : List ℕ) (past : List (List ℕ)) → on pid p ≡ true → with_number (number_out p (steps goes sw pid past)) p ≡ kept_as goes sw pid p past
+  kept_is p past o = simp o (renumbered_is (moved (steps goes sw pid past)) (15 * gone goes sw pid past) p (moved_is past))
 
 -- ---- faults
 
@@ -186,14 +186,14 @@ begins_before k p past h =
 
 -- ---- what is settled
 
-pub events_settled : (o c n r : Bool) (p : List ℕ) (es : List Event) → o ≡ true → n ≡ true → r ≡ not c
+pub events_settled : (o c n r : Bool) (p : List ℕ) (es : List Step) → o ≡ true → n ≡ true → r ≡ not c
     → (if r then Kept p ∷ es else Dropped p ∷ es) ≡ (if o then (if c then (if n then Dropped p ∷ es else es) else Kept p ∷ es) else es)
 events_settled true true true r p es a b e = rw e refl
 events_settled true false true r p es a b e = rw e refl
 events_settled false c n r p es a b e = cc
 events_settled true c false r p es a b e = cc
 
-pub events_repeated : (o c n r : Bool) (p : List ℕ) (es : List Event) → o ≡ true → n ≡ false → r ≡ not c
+pub events_repeated : (o c n r : Bool) (p : List ℕ) (es : List Step) → o ≡ true → n ≡ false → r ≡ not c
     → (if r then Kept p ∷ es else es) ≡ (if o then (if c then (if n then Dropped p ∷ es else es) else Kept p ∷ es) else es)
 events_repeated true true false r p es a b e = rw e refl
 events_repeated true false false r p es a b e = rw e refl

@@ -3,7 +3,7 @@ use Rattle.std.specs.Prelude.{◌≡◌, ℕ, ◌^◌, ◌⊎◌, List, [], ◌�
 use Rattle.pes_time.specs.Line.{ring_of, lift}
 use Rattle.ts_packet.specs.Fields.{on}
 use Rattle.ts_packet.specs.Duplicates.{original}
-use Rattle.ts_packet.specs.Numbering.{Event, Kept, Dropped, Counts}
+use Rattle.ts_packet.specs.Numbering.{Step, Kept, Dropped, Counts}
 use Rattle.unit_stream.specs.Times.{high, unit_time, first_time}
 use Rattle.unit_stream.specs.Faults.{unit_fault}
 use Rattle.unit_stream.specs.Pieces.{FollowsUnits}
@@ -63,20 +63,20 @@ high_or None p = pos p
 high_or (Some h) p = h
 
 -- what a cut does to the PID's packets, newest first
-abbrev pub events : (Option ℤ → Bool) → List ℕ → ℕ → List (List ℕ) → List Event
-events goes switched pid [] = []
-events goes switched pid (p ∷ past) =
+abbrev pub steps : (Option ℤ → Bool) → List ℕ → ℕ → List (List ℕ) → List Step
+steps goes switched pid [] = []
+steps goes switched pid (p ∷ past) =
     if on pid p
-    then (if is_cut goes switched pid p past then (if original pid p past then Dropped p ∷ events goes switched pid past else events goes switched pid past)
-    else Kept p ∷ events goes switched pid past)
-    else events goes switched pid past
+    then (if is_cut goes switched pid p past then (if original pid p past then Dropped p ∷ steps goes switched pid past else steps goes switched pid past)
+    else Kept p ∷ steps goes switched pid past)
+    else steps goes switched pid past
 
 -- the cutter has seen this past, newest first, and its caller keeps the PID's last payload packet
 pub record StandsFor (cutter : Cutter) (kept : List ℕ) (k : Cut) (past : List (List ℕ)) : Type 0 where
   pub same : cutter.pid ≡ k.pid
   pub units : FollowsUnits cutter.units kept k.pid past
   pub timing : TimingFor cutter.timing k (high (k.pid ∷ []) past) (unit_time (k.pid ∷ []) k.pid past)
-  pub counter : Counts cutter.counter (events (goes_by k) (k.pid ∷ []) k.pid past)
+  pub counter : Counts cutter.counter (steps (goes_by k) (k.pid ∷ []) k.pid past)
 
 -- what it answers to a packet p behind this past, and what becomes of the packet
 abbrev pub Answers : Cut → List ℕ → List (List ℕ) → Result Bool UnitFault → List ℕ → Type 0

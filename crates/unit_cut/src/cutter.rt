@@ -21,7 +21,7 @@ pub struct Cutter {
 
 impl Cutter {
     ghost use Rattle.ts_packet.specs.Following.{CarriesAs, kept_after};
-    ghost use Rattle.ts_packet.specs.Numbering.{Event, Counts, Kept, Dropped, number_out};
+    ghost use Rattle.ts_packet.specs.Numbering.{Step, Counts, Kept, Dropped, number_out};
     ghost use Rattle.unit_cut.specs.Standing.{StandsFor, Begins, Answers, Cut};
 
     /// A cutter for the units of `pid` from `from` on, for `length` ticks of 90 kHz.
@@ -42,8 +42,8 @@ impl Cutter {
         ensures units { self.new.units ≡ self.old.units }
         ensures timing { self.new.timing ≡ self.old.timing }
         ensures carries { CarriesAs packet.new packet.old }
-        ensures counts { (events : List Event) → Counts self.old.counter events → Counts self.new.counter (Kept packet.old ∷ events) }
-        ensures packet { (events : List Event) → Counts self.old.counter events → packet.new ≡ with_number (number_out packet.old events) packet.old }
+        ensures counts { (steps : List Step) → Counts self.old.counter steps → Counts self.new.counter (Kept packet.old ∷ steps) }
+        ensures packet { (steps : List Step) → Counts self.old.counter steps → packet.new ≡ with_number (number_out packet.old steps) packet.old }
     {
         let number = self.counter.kept(packet);
         packet.set_counter(number);
@@ -101,8 +101,8 @@ impl Cutter {
         ensures timing { self.new.timing ≡ self.old.timing }
         ensures carries { CarriesAs packet.new packet.old }
         ensures stays { result ≡ not self.old.timing.is_going }
-        ensures counts { (events : List Event) → Counts self.old.counter events → Counts self.new.counter (if result then Kept packet.old ∷ events else Dropped packet.old ∷ events) }
-        ensures packet { (events : List Event) → Counts self.old.counter events → result ≡ true → packet.new ≡ with_number (number_out packet.old events) packet.old }
+        ensures counts { (steps : List Step) → Counts self.old.counter steps → Counts self.new.counter (if result then Kept packet.old ∷ steps else Dropped packet.old ∷ steps) }
+        ensures packet { (steps : List Step) → Counts self.old.counter steps → result ≡ true → packet.new ≡ with_number (number_out packet.old steps) packet.old }
     {
         if self.timing.is_going() {
             self.counter.dropped(packet);
@@ -119,8 +119,8 @@ impl Cutter {
         ensures timing { self.new.timing ≡ self.old.timing }
         ensures carries { CarriesAs packet.new packet.old }
         ensures stays { result ≡ not self.old.timing.is_going }
-        ensures counts { (events : List Event) → Counts self.old.counter events → Counts self.new.counter (if result then Kept packet.old ∷ events else events) }
-        ensures packet { (events : List Event) → Counts self.old.counter events → result ≡ true → packet.new ≡ with_number (number_out packet.old events) packet.old }
+        ensures counts { (steps : List Step) → Counts self.old.counter steps → Counts self.new.counter (if result then Kept packet.old ∷ steps else steps) }
+        ensures packet { (steps : List Step) → Counts self.old.counter steps → result ≡ true → packet.new ≡ with_number (number_out packet.old steps) packet.old }
     {
         if self.timing.is_going() {
             return false;

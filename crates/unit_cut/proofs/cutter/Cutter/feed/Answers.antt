@@ -5,7 +5,7 @@ use Rattle.pes_time.specs.Stamps.{stamp_of}
 use Rattle.unit_stream.specs.Times.{high, unit_time, stamp, splits, raised, timed}
 use Rattle.unit_stream.specs.Faults.{scrambled_one, start_fault}
 use Rattle.unit_stream.proofs.ReadingLemmas.{passes, kept_became}
-use Rattle.unit_cut.specs.Standing.{BeginsWith, TimingFor, goes_by, events}
+use Rattle.unit_cut.specs.Standing.{BeginsWith, TimingFor, goes_by, steps}
 use Rattle.unit_cut.proofs.CutterLemmas.{off, error_off, stamp_is, splits_is, kept_is, scrambled_is, scrambled_off, begins_off, begins_not, begins_repeat, fault_scrambled, fault_none, fault_start, timing_same, timing_start, cut_is, cut_off, begins_with, events_settled, events_repeated, settled, original_is}
 use Rattle.unit_cut.proofs.cutter.Cutter.feed.Goals as goal
 
@@ -62,7 +62,7 @@ returns-in-Ok-clause-answers c = λ k past b h.
     let sound : start_fault (high (k.pid ∷ []) past) (splits p) (stamp p) ≡ None = rw (← st, ← sp) began.0 in
     let e = fault_start k.pid p past clear brings.0 ∙ sound in
     settled k p past c.settle.result c.begin.new.self.is_going c.settle.new.packet c.settle.ensures.stays e (cut_is k p past c.begin.new.self.is_going brings.2 timing.going)
-    (λ r. c.settle.ensures.packet (events (goes_by k) (k.pid ∷ []) k.pid past) h.counter r ∙ kept_is (goes_by k) (k.pid ∷ []) k.pid p past o)
+    (λ r. c.settle.ensures.packet (steps (goes_by k) (k.pid ∷ []) k.pid past) h.counter r ∙ kept_is (goes_by k) (k.pid ∷ []) k.pid p past o)
 
 pub returns-in-Ok-clause-stands : goal.returns-in-Ok-clause-stands
 returns-in-Ok-clause-stands c = λ k past b h.
@@ -79,7 +79,7 @@ returns-in-Ok-clause-stands c = λ k past b h.
       same = c.settle.ensures.pid ∙ h.same;
       units = rw c.settle.ensures.units (kept_became _ k.pid p _ _ _ c.settle.ensures.carries (c.in-Start.ensures.reads k.pid past h.units));
       timing = rw c.settle.ensures.timing timing;
-      counter = subst (Counts _) (events_settled _ _ _ _ p (events (goes_by k) (k.pid ∷ []) k.pid past) o brings.1 (c.settle.ensures.stays ∙ ap not (sym (cut_is k p past c.begin.new.self.is_going brings.2 timing.going)))) (c.settle.ensures.counts (events (goes_by k) (k.pid ∷ []) k.pid past) h.counter);
+      counter = subst (Counts _) (events_settled _ _ _ _ p (steps (goes_by k) (k.pid ∷ []) k.pid past) o brings.1 (c.settle.ensures.stays ∙ ap not (sym (cut_is k p past c.begin.new.self.is_going brings.2 timing.going)))) (c.settle.ensures.counts (steps (goes_by k) (k.pid ∷ []) k.pid past) h.counter);
     }
 
 -- ---- a unit goes on
@@ -92,7 +92,7 @@ returns-in-More-clause-answers c = λ k past b h.
     let brings = c.in-More.ensures.brings k.pid past h.units in
     let timing = timing_same c.args.self.now.timing k p past (begins_not k.pid p past brings.2) h.timing in
     settled k p past c.settle-in-More.result _ c.settle-in-More.new.packet c.settle-in-More.ensures.stays (fault_none k.pid p past clear (begins_not k.pid p past brings.2)) (cut_is k p past _ brings.1 timing.going)
-    (λ r. c.settle-in-More.ensures.packet (events (goes_by k) (k.pid ∷ []) k.pid past) h.counter r ∙ kept_is (goes_by k) (k.pid ∷ []) k.pid p past o)
+    (λ r. c.settle-in-More.ensures.packet (steps (goes_by k) (k.pid ∷ []) k.pid past) h.counter r ∙ kept_is (goes_by k) (k.pid ∷ []) k.pid p past o)
 
 pub returns-in-More-clause-stands : goal.returns-in-More-clause-stands
 returns-in-More-clause-stands c = λ k past b h.
@@ -104,7 +104,7 @@ returns-in-More-clause-stands c = λ k past b h.
       same = c.settle-in-More.ensures.pid ∙ h.same;
       units = rw c.settle-in-More.ensures.units (kept_became _ k.pid p _ _ _ c.settle-in-More.ensures.carries (c.in-More.ensures.reads k.pid past h.units));
       timing = rw c.settle-in-More.ensures.timing timing;
-      counter = subst (Counts _) (events_settled _ _ _ _ p (events (goes_by k) (k.pid ∷ []) k.pid past) o brings.0 (c.settle-in-More.ensures.stays ∙ ap not (sym (cut_is k p past _ brings.1 timing.going)))) (c.settle-in-More.ensures.counts (events (goes_by k) (k.pid ∷ []) k.pid past) h.counter);
+      counter = subst (Counts _) (events_settled _ _ _ _ p (steps (goes_by k) (k.pid ∷ []) k.pid past) o brings.0 (c.settle-in-More.ensures.stays ∙ ap not (sym (cut_is k p past _ brings.1 timing.going)))) (c.settle-in-More.ensures.counts (steps (goes_by k) (k.pid ∷ []) k.pid past) h.counter);
     }
 
 -- ---- before the first unit
@@ -117,7 +117,7 @@ returns-in-Lead-clause-answers c = λ k past b h.
     let brings = c.in-Lead.ensures.brings k.pid past h.units in
     let timing = timing_same c.args.self.now.timing k p past (begins_not k.pid p past brings.2) h.timing in
     settled k p past c.settle-in-Lead.result _ c.settle-in-Lead.new.packet c.settle-in-Lead.ensures.stays (fault_none k.pid p past clear (begins_not k.pid p past brings.2)) (cut_is k p past _ brings.1 timing.going)
-    (λ r. c.settle-in-Lead.ensures.packet (events (goes_by k) (k.pid ∷ []) k.pid past) h.counter r ∙ kept_is (goes_by k) (k.pid ∷ []) k.pid p past o)
+    (λ r. c.settle-in-Lead.ensures.packet (steps (goes_by k) (k.pid ∷ []) k.pid past) h.counter r ∙ kept_is (goes_by k) (k.pid ∷ []) k.pid p past o)
 
 pub returns-in-Lead-clause-stands : goal.returns-in-Lead-clause-stands
 returns-in-Lead-clause-stands c = λ k past b h.
@@ -129,7 +129,7 @@ returns-in-Lead-clause-stands c = λ k past b h.
       same = c.settle-in-Lead.ensures.pid ∙ h.same;
       units = rw c.settle-in-Lead.ensures.units (kept_became _ k.pid p _ _ _ c.settle-in-Lead.ensures.carries (c.in-Lead.ensures.reads k.pid past h.units));
       timing = rw c.settle-in-Lead.ensures.timing timing;
-      counter = subst (Counts _) (events_settled _ _ _ _ p (events (goes_by k) (k.pid ∷ []) k.pid past) o brings.0 (c.settle-in-Lead.ensures.stays ∙ ap not (sym (cut_is k p past _ brings.1 timing.going)))) (c.settle-in-Lead.ensures.counts (events (goes_by k) (k.pid ∷ []) k.pid past) h.counter);
+      counter = subst (Counts _) (events_settled _ _ _ _ p (steps (goes_by k) (k.pid ∷ []) k.pid past) o brings.0 (c.settle-in-Lead.ensures.stays ∙ ap not (sym (cut_is k p past _ brings.1 timing.going)))) (c.settle-in-Lead.ensures.counts (steps (goes_by k) (k.pid ∷ []) k.pid past) h.counter);
     }
 
 -- ---- a duplicate
@@ -143,7 +143,7 @@ returns-in-Duplicate-clause-answers c = λ k past b h.
     let not = begins_repeat k.pid p past brings.1 in
     let timing = timing_same _ k p past not h.timing in
     settled k p past c.settle_duplicate.result _ c.settle_duplicate.new.packet c.settle_duplicate.ensures.stays (fault_none k.pid p past clear not) (cut_is k p past _ brings.0 timing.going)
-    (λ r. c.settle_duplicate.ensures.packet (events (goes_by k) (k.pid ∷ []) k.pid past) h.counter r ∙ kept_is (goes_by k) (k.pid ∷ []) k.pid p past o)
+    (λ r. c.settle_duplicate.ensures.packet (steps (goes_by k) (k.pid ∷ []) k.pid past) h.counter r ∙ kept_is (goes_by k) (k.pid ∷ []) k.pid p past o)
 
 pub returns-in-Duplicate-clause-stands : goal.returns-in-Duplicate-clause-stands
 returns-in-Duplicate-clause-stands c = λ k past b h.
@@ -155,7 +155,7 @@ returns-in-Duplicate-clause-stands c = λ k past b h.
       same = c.settle_duplicate.ensures.pid ∙ h.same;
       units = rw c.settle_duplicate.ensures.units (kept_became _ k.pid p _ _ _ c.settle_duplicate.ensures.carries (c.in-Duplicate.ensures.reads k.pid past h.units));
       timing = rw c.settle_duplicate.ensures.timing timing;
-      counter = subst (Counts _) (events_repeated _ _ _ _ p (events (goes_by k) (k.pid ∷ []) k.pid past) o (original_is k.pid p past brings.0 brings.1) (c.settle_duplicate.ensures.stays ∙ ap not (sym (cut_is k p past _ brings.0 timing.going)))) (c.settle_duplicate.ensures.counts (events (goes_by k) (k.pid ∷ []) k.pid past) h.counter);
+      counter = subst (Counts _) (events_repeated _ _ _ _ p (steps (goes_by k) (k.pid ∷ []) k.pid past) o (original_is k.pid p past brings.0 brings.1) (c.settle_duplicate.ensures.stays ∙ ap not (sym (cut_is k p past _ brings.0 timing.going)))) (c.settle_duplicate.ensures.counts (steps (goes_by k) (k.pid ∷ []) k.pid past) h.counter);
     }
 
 -- ---- without payload
@@ -166,7 +166,7 @@ returns-in-NoPayload-clause-answers c = λ k past b h.
     let o : on k.pid p ≡ true = ap (λ n. on n p) (sym h.same) ∙ sym c.is_on.ensures ∙ c.if-not-is_on.false in
     let brings = c.in-NoPayload.ensures.brings k.pid past h.units in
     let y = brings.1 in
-    (fault_none k.pid p past (scrambled_off k.pid p y) (begins_off k.pid p past y), cut_off k p past y, c.keep.ensures.packet (events (goes_by k) (k.pid ∷ []) k.pid past) h.counter ∙ kept_is (goes_by k) (k.pid ∷ []) k.pid p past o)
+    (fault_none k.pid p past (scrambled_off k.pid p y) (begins_off k.pid p past y), cut_off k p past y, c.keep.ensures.packet (steps (goes_by k) (k.pid ∷ []) k.pid past) h.counter ∙ kept_is (goes_by k) (k.pid ∷ []) k.pid p past o)
 
 pub returns-in-NoPayload-clause-stands : goal.returns-in-NoPayload-clause-stands
 returns-in-NoPayload-clause-stands c = λ k past b h.
@@ -178,7 +178,7 @@ returns-in-NoPayload-clause-stands c = λ k past b h.
       same = c.keep.ensures.pid ∙ h.same;
       units = rw c.keep.ensures.units (kept_became _ k.pid p _ _ _ c.keep.ensures.carries (c.in-NoPayload.ensures.reads k.pid past h.units));
       timing = rw c.keep.ensures.timing (timing_same _ k p past (begins_off k.pid p past y) h.timing);
-      counter = simp (o, y) (c.keep.ensures.counts (events (goes_by k) (k.pid ∷ []) k.pid past) h.counter);
+      counter = simp (o, y) (c.keep.ensures.counts (steps (goes_by k) (k.pid ∷ []) k.pid past) h.counter);
     }
 
 -- ---- marked, which is of no PID
@@ -189,7 +189,7 @@ returns-in-Error-clause-answers c = λ k past b h.
     let o : on k.pid p ≡ true = ap (λ n. on n p) (sym h.same) ∙ sym c.is_on.ensures ∙ c.if-not-is_on.false in
     let brings = c.in-Error.ensures.brings k.pid past h.units in
     let y = error_off k.pid p brings in
-    (fault_none k.pid p past (scrambled_off k.pid p y) (begins_off k.pid p past y), cut_off k p past y, c.keep-in-Error.ensures.packet (events (goes_by k) (k.pid ∷ []) k.pid past) h.counter ∙ kept_is (goes_by k) (k.pid ∷ []) k.pid p past o)
+    (fault_none k.pid p past (scrambled_off k.pid p y) (begins_off k.pid p past y), cut_off k p past y, c.keep-in-Error.ensures.packet (steps (goes_by k) (k.pid ∷ []) k.pid past) h.counter ∙ kept_is (goes_by k) (k.pid ∷ []) k.pid p past o)
 
 pub returns-in-Error-clause-stands : goal.returns-in-Error-clause-stands
 returns-in-Error-clause-stands c = λ k past b h.
@@ -201,5 +201,5 @@ returns-in-Error-clause-stands c = λ k past b h.
       same = c.keep-in-Error.ensures.pid ∙ h.same;
       units = rw c.keep-in-Error.ensures.units (kept_became _ k.pid p _ _ _ c.keep-in-Error.ensures.carries (c.in-Error.ensures.reads k.pid past h.units));
       timing = rw c.keep-in-Error.ensures.timing (timing_same _ k p past (begins_off k.pid p past y) h.timing);
-      counter = simp (o, y) (c.keep-in-Error.ensures.counts (events (goes_by k) (k.pid ∷ []) k.pid past) h.counter);
+      counter = simp (o, y) (c.keep-in-Error.ensures.counts (steps (goes_by k) (k.pid ∷ []) k.pid past) h.counter);
     }
