@@ -10,7 +10,8 @@ use Rattle.psi_section.specs.declared.front.Front.TheVariants.{Nothing, Whole, P
 use Rattle.psi_section.specs.Sections.{front_of, is_good, Taken, taken_past, taken, continued, started, payload_taken, follows_on, unbroken, packet_taken, held, finished, given}
 use Rattle.psi_section.proofs.FrontLemmas.{by_front, by_front_joined}
 use Rattle.psi_tables.specs.Numbers.{AreBytes}
-use Rattle.program_laws.specs.Programme.{Listed, listed, since_pat, Table, table_of, tables, all_tables}
+use Rattle.program_follower.specs.declared.purpose.Listed.{Listed}
+use Rattle.program_follower.specs.Program.{listed, since_pat, Table, table_of, tables, all_tables}
 use Rattle.program_laws.specs.Writing.{Each, Along}
 use Rattle.program_laws.proofs.GivenLemmas.{Each-append}
 

@@ -13,8 +13,10 @@ use Rattle.psi_tables.specs.Numbers.{AreBytes}
 use Rattle.psi_tables.specs.Streams.{Entry, pid_in, switched_of, is_switched, stream_of}
 use Rattle.psi_tables.specs.ProgramMap.{ProgramMap, pmt, pmt_section, streams_of}
 use Rattle.psi_tables.specs.Cue.{with_cue_entry, without_cue_entry, lists_pid}
-use Rattle.program_laws.specs.Programme.{Config, earlier, Listed, listed, since_pat, Table, table_of, map_read, tables, all_tables, first_map, known_map, Programme, programme_in, programme_of, behind_head, pids_of}
-use Rattle.program_laws.specs.Faults.{is_pid, if_bad, pmt_pid_fault, pids_in, bad_pid, bad_switched, too_long, first_fault}
+use Rattle.program_follower.specs.declared.purpose.Purpose.{Purpose}
+use Rattle.program_follower.specs.declared.purpose.Listed.{Listed}
+use Rattle.program_follower.specs.Program.{earlier, listed, since_pat, Table, table_of, map_read, tables, all_tables, first_map, known_map, Program, program_in, program_of, behind_head, pids_of}
+use Rattle.program_follower.specs.Faults.{is_pid, if_bad, pmt_pid_fault, pids_in, bad_pid, bad_switched, too_long, first_fault}
 use Rattle.program_laws.specs.Writing.{Each, Along, Writing, written, table_out, Off, MapGoesOut, GoesOut, IsClear, ReadsAgain}
 use Rattle.program_laws.specs.Behind.{Passes, TakesAll, SameUnits}
 use Rattle.program_laws.specs.CueEntry.{EntryGoes}
@@ -134,7 +136,7 @@ takes_within (pid ∷ pids) all h = (
 
 -- ---- the law
 
-module _ (c : Config) (cue : ℕ) (past : List (List ℕ)) (is_cue : c.cue_pid ≡ Some cue) (writes : c.writes_cues ≡ true) (no0 : cue ≡ 0 → ⊥) (below : cue < 8192) (ok : first_fault c past ≡ None) where
+module _ (c : Purpose) (cue : ℕ) (past : List (List ℕ)) (is_cue : c.cue_pid ≡ Some cue) (writes : c.writes_cues ≡ true) (no0 : cue ≡ 0 → ⊥) (below : cue < 8192) (ok : first_fault c past ≡ None) where
   module _ (l : Listed) (known : listed c.program past ≡ Some l) where
     pid_parts : (((l.pid == 0) || (l.pid == 8191)) ≡ false) × (is_pid c.cue_pid l.pid ≡ false)
     pid_parts =
@@ -204,14 +206,14 @@ module _ (c : Config) (cue : ℕ) (past : List (List ℕ)) (is_cue : c.cue_pid �
         ∙ ap (λ us. t ∷ us) (sames ts h.1)
 
     -- the programme
-    same_first : (s : List ℕ) (o x : Option ProgramMap) → Entry-goes s o → option_map programme_in (option_map (with_cue_entry cue) x) ≡ option_map programme_in x
-        → option_map programme_in (option_map (with_cue_entry cue) (earlier o x)) ≡ option_map programme_in (earlier o x)
+    same_first : (s : List ℕ) (o x : Option ProgramMap) → Entry-goes s o → option_map program_in (option_map (with_cue_entry cue) x) ≡ option_map program_in x
+        → option_map program_in (option_map (with_cue_entry cue) (earlier o x)) ≡ option_map program_in (earlier o x)
     same_first s None x g k = k
-    same_first s (Some m) x g k = ap (λ r. let y : Option Programme = Some r in y) g.same
+    same_first s (Some m) x g k = ap (λ r. let y : Option Program = Some r in y) g.same
 
-    same_programme : (ts : List Table) → Each Goes ts → option_map programme_in (option_map (with_cue_entry cue) (first_map ts)) ≡ option_map programme_in (first_map ts)
-    same_programme [] h = refl
-    same_programme (t ∷ ts) h = same_first t.section t.program_map (first_map ts) h.0 (same_programme ts h.1)
+    same_program : (ts : List Table) → Each Goes ts → option_map program_in (option_map (with_cue_entry cue) (first_map ts)) ≡ option_map program_in (first_map ts)
+    same_program [] h = refl
+    same_program (t ∷ ts) h = same_first t.section t.program_map (first_map ts) h.0 (same_program ts h.1)
 
   -- ---- PIDs that are apart
 
@@ -219,7 +221,7 @@ module _ (c : Config) (cue : ℕ) (past : List (List ℕ)) (is_cue : c.cue_pid �
   or_true true b h = refl
   or_true false b h = h
 
-  apart_sound : (l : Listed) (o : Option ProgramMap) → MapSound c l.pid o → Apart l.pid (pids_of (option_map programme_in o)) × Apart cue (pids_of (option_map programme_in o))
+  apart_sound : (l : Listed) (o : Option ProgramMap) → MapSound c l.pid o → Apart l.pid (pids_of (option_map program_in o)) × Apart cue (pids_of (option_map program_in o))
   apart_sound l None g = (tt, tt)
   apart_sound l (Some m) g =
       let bad = or_none (list_any (bad_pid l.pid) (pid_in m.pcr_field ∷ pids_in (streams_of m))) (list_any (bad_switched (pids_in (streams_of m))) (pids_in (switched_of (streams_of m)))) g.pids in
@@ -241,7 +243,7 @@ module _ (c : Config) (cue : ℕ) (past : List (List ℕ)) (is_cue : c.cue_pid �
     by_map l (Some m) x g k = g
 
   abbrev pids : List ℕ
-  pids = pids_of (programme_of c.program past)
+  pids = pids_of (program_of c.program past)
 
   aparts : (l : Listed) → listed c.program past ≡ Some l → Apart l.pid pids × Apart cue pids
   aparts l h = apart_sound l (known_map c.program past) (map_sound l (all_tables c.program past) (all_sound c past l ok h))
@@ -294,9 +296,9 @@ module _ (c : Config) (cue : ℕ) (past : List (List ℕ)) (is_cue : c.cue_pid �
       units = Each-map (TakesAll (on_one pids)) (SameUnits pids (behind_head c.program out) (behind_head c.program past))
           (λ pid t. others_are_no_units (on_one pids) pids pid (behind_head c.program out) (behind_head c.program past) every t packets) pids every
 
-      programme_by : (o : Option Listed) → listed c.program past ≡ o → option_map programme_in (option_map (with_cue_entry cue) (known_map c.program past)) ≡ option_map programme_in (known_map c.program past)
-      programme_by None h = let n = no_tables c.program past h in rw n refl
-      programme_by (Some l) h = same_programme l h (all_tables c.program past) (all_go l h bytes)
+      program_by : (o : Option Listed) → listed c.program past ≡ o → option_map program_in (option_map (with_cue_entry cue) (known_map c.program past)) ≡ option_map program_in (known_map c.program past)
+      program_by None h = let n = no_tables c.program past h in rw n refl
+      program_by (Some l) h = same_program l h (all_tables c.program past) (all_go l h bytes)
 
       abbrev v : Writing
       v = stripping cue
@@ -320,7 +322,7 @@ module _ (c : Config) (cue : ℕ) (past : List (List ℕ)) (is_cue : c.cue_pid �
       reads : CuedReads c.program cue out past pids
       reads = record {
         same_pat = again.same_pat;
-        programme = ap (option_map programme_in) again.head ∙ programme_by (listed c.program past) refl;
+        program = ap (option_map program_in) again.head ∙ program_by (listed c.program past) refl;
         tables = again.tables;
         packets = packets;
         units = units;

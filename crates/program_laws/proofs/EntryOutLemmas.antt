@@ -21,8 +21,8 @@ use Rattle.psi_tables.proofs.MapLemmas.{IsPmt, faultless}
 use Rattle.psi_tables.proofs.MapGrammar.{map_back, map_spelled, map_fits}
 use Rattle.psi_tables.proofs.SealLemmas.{crc_below}
 use Rattle.psi_tables.proofs.UndoLemmas.{undone, checks}
-use Rattle.program_laws.specs.Programme.{is_map_of, map_read, programme_in}
-use Rattle.program_laws.specs.Faults.{too_long}
+use Rattle.program_follower.specs.Program.{is_map_of, map_read, program_in}
+use Rattle.program_follower.specs.Faults.{too_long}
 use Rattle.program_laws.specs.Writing.{IsReadable}
 use Rattle.program_laws.specs.CueEntry.{EntryGoesOut}
 
@@ -139,7 +139,7 @@ with_of : (program pid : ℕ) (m : ProgramMap) → is_map_of program (with_cue_e
 unfolding with_cue_entry
 with_of program pid m = refl
 
-pub with_same : (pid : ℕ) (m : ProgramMap) → programme_in (with_cue_entry pid m) ≡ programme_in m
+pub with_same : (pid : ℕ) (m : ProgramMap) → program_in (with_cue_entry pid m) ≡ program_in m
 unfolding with_cue_entry
 with_same pid m =
     let e : switched_of (map stream_of (m.entries ++ cue_entry pid ∷ [])) ≡ switched_of (streams_of m) =

@@ -7,7 +7,8 @@ use Rattle.ts_packet.specs.Numbering.{one_past}
 use Rattle.ts_packet.proofs.Cases.{by_test}
 use Rattle.ts_packet.proofs.FieldLemmas.{payload_on-on}
 use Rattle.psi_tables.specs.ProgramMap.{ProgramMap}
-use Rattle.program_laws.specs.Programme.{earlier, Listed, listed, since_pat, table_of, tables, first_map, known_map, behind_head}
+use Rattle.program_follower.specs.declared.purpose.Listed.{Listed}
+use Rattle.program_follower.specs.Program.{earlier, listed, since_pat, table_of, tables, first_map, known_map, behind_head}
 use Rattle.program_laws.specs.Writing.{Each, onto, number_on, Writing, section_out, packets_out, body, written}
 use Rattle.program_laws.specs.Behind.{Passes, HeadPasses, OthersPass}
 use Rattle.program_laws.proofs.StepLemmas.{tables_grow}

@@ -4,7 +4,8 @@ use Rattle.std.proofs.lemmas.List.{append-nil, map-append}
 use Rattle.ts_packet.specs.Fields.{on}
 use Rattle.psi_section.specs.Sections.{given, sections_after}
 use Rattle.psi_section.proofs.RunLemmas.{Alike}
-use Rattle.program_laws.specs.Programme.{earlier, Listed, lists, first_listed, listed, since_pat, table_of, tables, all_tables}
+use Rattle.program_follower.specs.declared.purpose.Listed.{Listed}
+use Rattle.program_follower.specs.Program.{earlier, lists, first_listed, listed, since_pat, table_of, tables, all_tables}
 use Rattle.program_laws.specs.Writing.{Each, onto, Off}
 use Rattle.program_laws.proofs.PacketLemmas.{off_payload}
 use Rattle.program_laws.proofs.StepLemmas.{earlier-assoc}

@@ -10,8 +10,8 @@ use Rattle.psi_tables.specs.declared.stream.Stream.{Stream}
 use Rattle.psi_tables.specs.Streams.{pid_in, switched_of, is_switched, stream_of}
 use Rattle.psi_tables.specs.ProgramMap.{ProgramMap, streams_of}
 use Rattle.psi_tables.specs.Cue.{cue_entry, with_cue_entry}
-use Rattle.program_laws.specs.Programme.{earlier, Programme}
-use Rattle.program_laws.specs.Faults.{is_pid, if_bad, pids_in, is_in, is_twice, bad_pid, bad_switched, bad_pids, cue_used, changed}
+use Rattle.program_follower.specs.Program.{earlier, Program}
+use Rattle.program_follower.specs.Faults.{is_pid, if_bad, pids_in, is_in, is_twice, bad_pid, bad_switched, bad_pids, cue_used, changed}
 use Rattle.psi_tables.specs.declared.network.NetworkFault.{NetworkFault}
 use Rattle.psi_tables.specs.declared.network.NetworkFault.TheVariants.{TooManyStreams, BadPids, CuePidUsed, ProgramChanged}
 use Rattle.program_laws.specs.Spliced.{writing_cues, reading_cues, EntryIsNoFault}
@@ -63,10 +63,10 @@ pids_more cue m h =
     ∙ ap (λ x. pids_in (streams_of m) ++ x ∷ []) e
 
 same_switched : (cue : ℕ) (m : ProgramMap) → switched_of (streams_of (with_cue_entry cue m)) ≡ switched_of (streams_of m)
-same_switched cue m = ap (λ (r : Programme). r.streams) (with_same cue m)
+same_switched cue m = ap (λ (r : Program). r.streams) (with_same cue m)
 
 same_clock : (cue : ℕ) (m : ProgramMap) → pid_in (with_cue_entry cue m).pcr_field ≡ pid_in m.pcr_field
-same_clock cue m = ap (λ (r : Programme). r.pcr_pid) (with_same cue m)
+same_clock cue m = ap (λ (r : Program). r.pcr_pid) (with_same cue m)
 
 same_change : (cue : ℕ) (first : Option ProgramMap) (m : ProgramMap) → changed (option_map (with_cue_entry cue) first) (with_cue_entry cue m) ≡ changed first m
 same_change cue None m = refl

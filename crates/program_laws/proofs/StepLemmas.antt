@@ -1,7 +1,8 @@
 -- One packet more.
 use Rattle.std.proofs.Common.{◌≡◌, List, [], ◌∷◌, ◌++◌, refl, sym, ap, ◌∙◌, Option, Some, None, if◌then◌else◌}
 use Rattle.std.specs.Prelude.{is_some, option_map}
-use Rattle.program_laws.specs.Programme.{earlier, Listed, listed, since_pat, Table, tables, all_tables, first_map, known_map, programme_in, behind_head}
+use Rattle.program_follower.specs.declared.purpose.Listed.{Listed}
+use Rattle.program_follower.specs.Program.{earlier, listed, since_pat, Table, tables, all_tables, first_map, known_map, program_in, behind_head}
 use Rattle.program_laws.specs.Laws.{TablesGrow, Stays}
 
 pub earlier-assoc : {A : Type 0} (x y z : Option A) → earlier (earlier x y) z ≡ earlier x (earlier y z)
@@ -27,7 +28,7 @@ there f (Some x) b xs ys h = refl
 pub stays : Stays
 stays wanted p past = record {
   pid = λ n h. kept (λ (l : Listed). l.pid) (listed wanted past) _ n h;
-  programme = λ r h. ap (option_map programme_in) (tables_grow wanted p past) ∙ kept programme_in (known_map wanted past) (first_map (tables wanted p past)) r h;
+  program = λ r h. ap (option_map program_in) (tables_grow wanted p past) ∙ kept program_in (known_map wanted past) (first_map (tables wanted p past)) r h;
   since = λ n h. there (λ (l : Listed). l.pid) (listed wanted past) n (p ∷ since_pat wanted past) [] h;
-  behind = λ r h. there programme_in (known_map wanted past) r (p ∷ behind_head wanted past) [] h;
+  behind = λ r h. there program_in (known_map wanted past) r (p ∷ behind_head wanted past) [] h;
 }

@@ -16,7 +16,8 @@ use Rattle.psi_section.proofs.ReadBackLemmas.{read_back_in_turn}
 use Rattle.psi_tables.specs.Association.{Pair, pat}
 use Rattle.psi_tables.specs.Streams.{pid_in}
 use Rattle.psi_tables.specs.ProgramMap.{ProgramMap, pmt, pmt_section}
-use Rattle.program_laws.specs.Programme.{earlier, Listed, listed_as, listed_in, pairs_of, listed_by, lists, first_listed, listed, since_pat, Table, map_read, table_of, tables, all_tables, first_map}
+use Rattle.program_follower.specs.declared.purpose.Listed.{Listed}
+use Rattle.program_follower.specs.Program.{earlier, listed_as, listed_in, pairs_of, listed_by, lists, first_listed, listed, since_pat, Table, map_read, table_of, tables, all_tables, first_map}
 use Rattle.program_laws.specs.Writing.{Each, Along, onto, number_on, Writing, section_by, section_out, table_out, packets_out, body, written, Off, MapGoesOut, GoesOut, IsClearBehind, IsClear, WrittenReadsAgain}
 use Rattle.program_laws.proofs.GivenLemmas.{Each-append, given_can}
 use Rattle.program_laws.proofs.PacketLemmas.{Carries, turn_carry, Meets, one_past-below, fresh, meets_others, meets_own}

@@ -3,7 +3,8 @@ use Rattle.std.specs.Prelude.{◌≡◌, ℕ, List, [], ◌∷◌, Bool, true, f
 use Rattle.ts_packet.specs.Fields.{on, payload_on}
 use Rattle.unit_stream.specs.Times.{high, unit_time}
 use Rattle.unit_stream.specs.Units.{units_back}
-use Rattle.program_laws.specs.Programme.{Listed, listed, behind_head}
+use Rattle.program_follower.specs.declared.purpose.Listed.{Listed}
+use Rattle.program_follower.specs.Program.{listed, behind_head}
 use Rattle.program_laws.specs.Writing.{Each, Along, Writing, written, IsClear}
 
 -- of the packets that a test takes, a writing puts in none, and leaves each where it was; and it takes none on the PMT's PID

@@ -5,8 +5,8 @@ use Rattle.psi_section.specs.Laws.{CanBeGiven}
 use Rattle.psi_tables.specs.Numbers.{AreBytes}
 use Rattle.psi_tables.specs.ProgramMap.{ProgramMap, pmt, pmt_section}
 use Rattle.psi_tables.specs.Cue.{with_cue_entry, without_cue_entry, lists_pid}
-use Rattle.program_laws.specs.Programme.{map_read, programme_in}
-use Rattle.program_laws.specs.Faults.{too_long}
+use Rattle.program_follower.specs.Program.{map_read, program_in}
+use Rattle.program_follower.specs.Faults.{too_long}
 use Rattle.program_laws.specs.Writing.{IsReadable}
 
 -- a map that was read from a section, has room for an entry on this PID, and lists nothing on it
@@ -20,7 +20,7 @@ pub record TakesEntry (program pid : ℕ) (s : List ℕ) (m : ProgramMap) : Type
 -- it goes out with the entry, is of the same programme, and comes back
 pub record EntryGoes (program pid : ℕ) (s : List ℕ) (m : ProgramMap) : Type 0 where
   pub out : IsReadable program (with_cue_entry pid m)
-  pub same : programme_in (with_cue_entry pid m) ≡ programme_in m
+  pub same : program_in (with_cue_entry pid m) ≡ program_in m
   pub undone : without_cue_entry pid (with_cue_entry pid m) ≡ m
   pub back : IsReadable program m
   pub spelled : pmt_section m ≡ s

@@ -6,8 +6,10 @@ use Rattle.psi_tables.specs.Numbers.{AreBytes}
 use Rattle.psi_tables.specs.Association.{Pair, pat, pid_of_program}
 use Rattle.psi_tables.specs.ProgramMap.{ProgramMap}
 use Rattle.psi_tables.specs.Cue.{with_cue_entry, without_cue_entry}
-use Rattle.program_laws.specs.Programme.{Config, Listed, listed, pairs_of, Table, all_tables, known_map, programme_in, programme_of, behind_head, pids_of}
-use Rattle.program_laws.specs.Faults.{first_fault}
+use Rattle.program_follower.specs.declared.purpose.Purpose.{Purpose}
+use Rattle.program_follower.specs.declared.purpose.Listed.{Listed}
+use Rattle.program_follower.specs.Program.{listed, pairs_of, Table, all_tables, known_map, program_in, program_of, behind_head, pids_of}
+use Rattle.program_follower.specs.Faults.{first_fault}
 use Rattle.program_laws.specs.Writing.{Each, Along, Writing, written, table_out}
 use Rattle.program_laws.specs.Behind.{SameUnits}
 
@@ -24,20 +26,20 @@ PatsAgree wanted p past = (l : Listed) → listed wanted past ≡ Some l → Eac
 -- a map of the programme says the same
 abbrev pub MapAgrees : Option ProgramMap → Option ProgramMap → Type 0
 MapAgrees known None = Unit {0}
-MapAgrees known (Some m) = option_map programme_in known ≡ Some (programme_in m)
+MapAgrees known (Some m) = option_map program_in known ≡ Some (program_in m)
 
 -- THE LAW OF STABILITY: without fault every later PAT gives the programme the same PID, and every later map of it has the same
 -- switched streams and PCR PID.
-pub record Agrees (c : Config) (past : List (List ℕ)) : Type 0 where
+pub record Agrees (c : Purpose) (past : List (List ℕ)) : Type 0 where
   pub pats : Along (PatsAgree c.program) past
   pub maps : Each (λ (t : Table). MapAgrees (known_map c.program past) t.program_map) (all_tables c.program past)
 
 abbrev pub NothingChanges : Type 0
-NothingChanges = (c : Config) (past : List (List ℕ)) → first_fault c past ≡ None → Agrees c past
+NothingChanges = (c : Purpose) (past : List (List ℕ)) → first_fault c past ≡ None → Agrees c past
 
 -- without fault no packet of a network to which cues are written is on their PID
 abbrev pub NoCuePackets : Type 0
-NoCuePackets = (c : Config) (cue : ℕ) (past : List (List ℕ)) → c.cue_pid ≡ Some cue → c.writes_cues ≡ true → first_fault c past ≡ None → Along (λ p past. on cue p ≡ false) past
+NoCuePackets = (c : Purpose) (cue : ℕ) (past : List (List ℕ)) → c.cue_pid ≡ Some cue → c.writes_cues ≡ true → first_fault c past ≡ None → Along (λ p past. on cue p ≡ false) past
 
 -- ---- cues put in, and taken out
 
@@ -63,7 +65,7 @@ cued wanted cue cues past = written (cueing cue cues) wanted past
 -- the cued stream, read as the network is, beside the network
 pub record CuedReads (wanted : Option ℕ) (cue : ℕ) (out past : List (List ℕ)) (pids : List ℕ) : Type 0 where
   pub same_pat : listed wanted out ≡ listed wanted past
-  pub programme : programme_of wanted out ≡ programme_of wanted past
+  pub program : program_of wanted out ≡ program_of wanted past
   pub tables : all_tables wanted out ≡ map (table_out (with_cue_entry cue)) (all_tables wanted past)
   pub packets : filter (on_one pids) (behind_head wanted out) ≡ filter (on_one pids) (behind_head wanted past)
   pub units : Each (SameUnits pids (behind_head wanted out) (behind_head wanted past)) pids
@@ -73,7 +75,7 @@ pub record CuedReads (wanted : Option ℕ) (cue : ℕ) (out past : List (List �
 -- THE LAW OF THE CUED STREAM. A network without fault, whatever packets of the cue PID are put in front of its packets, has its PAT,
 -- programme and units, and stripped again its sections.
 abbrev pub CuedStreamReads : Type 0
-CuedStreamReads = (c : Config) (cue : ℕ) (cues : List ℕ → List (List ℕ) → List (List ℕ)) (past : List (List ℕ)) →
+CuedStreamReads = (c : Purpose) (cue : ℕ) (cues : List ℕ → List (List ℕ) → List (List ℕ)) (past : List (List ℕ)) →
     c.cue_pid ≡ Some cue → c.writes_cues ≡ true → (cue ≡ 0 → ⊥) → cue < 8192 → first_fault c past ≡ None →
     Along (λ p past. AreBytes p) past → Along (λ p past. Each (On cue) (cues p past)) past →
-    CuedReads c.program cue (cued c.program cue cues past) past (pids_of (programme_of c.program past))
+    CuedReads c.program cue (cued c.program cue cues past) past (pids_of (program_of c.program past))

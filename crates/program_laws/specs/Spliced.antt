@@ -2,14 +2,14 @@
 use Rattle.std.specs.Prelude.{◌≡◌, ℕ, ◌<◌, true, false, Option, Some, None, option_map}
 use Rattle.psi_tables.specs.ProgramMap.{ProgramMap}
 use Rattle.psi_tables.specs.Cue.{with_cue_entry}
-use Rattle.program_laws.specs.Programme.{Config}
-use Rattle.program_laws.specs.Faults.{map_fault}
+use Rattle.program_follower.specs.declared.purpose.Purpose.{Purpose}
+use Rattle.program_follower.specs.Faults.{map_fault}
 
 -- cues are written on this PID, or read there
-abbrev pub writing_cues : Option ℕ → ℕ → Config
+abbrev pub writing_cues : Option ℕ → ℕ → Purpose
 writing_cues wanted cue = record { program = wanted; cue_pid = Some cue; writes_cues = true }
 
-abbrev pub reading_cues : Option ℕ → ℕ → Config
+abbrev pub reading_cues : Option ℕ → ℕ → Purpose
 reading_cues wanted cue = record { program = wanted; cue_pid = Some cue; writes_cues = false }
 
 abbrev pub EntryIsNoFault : Type 0

@@ -6,7 +6,8 @@ use Rattle.ts_packet.specs.Numbering.{one_past}
 use Rattle.psi_section.specs.Packetising.{packets_in_turn}
 use Rattle.psi_section.specs.Laws.{CanBeGiven}
 use Rattle.psi_tables.specs.ProgramMap.{ProgramMap, pmt, pmt_section}
-use Rattle.program_laws.specs.Programme.{Listed, listed, Table, tables, all_tables, map_read, known_map}
+use Rattle.program_follower.specs.declared.purpose.Listed.{Listed}
+use Rattle.program_follower.specs.Program.{listed, Table, tables, all_tables, map_read, known_map}
 
 -- each of some is so
 abbrev pub Each : {A : Type 0} → (A → Type 0) → List A → Type 0

@@ -16,7 +16,9 @@ use Rattle.psi_tables.specs.Cue.{with_cue_entry}
 use Rattle.unit_stream.specs.declared.fault.UnitFault.{UnitFault}
 use Rattle.unit_stream.specs.declared.fault.UnitFault.TheVariants as unit_faults
 use Rattle.unit_stream.specs.Faults.{unit_fault}
-use Rattle.program_laws.specs.Programme.{Config, earlier, Listed, lists, listed, listed_in, Table, tables, all_tables, first_map, programme_of, behind_head, pids_of}
+use Rattle.program_follower.specs.declared.purpose.Purpose.{Purpose}
+use Rattle.program_follower.specs.declared.purpose.Listed.{Listed}
+use Rattle.program_follower.specs.Program.{earlier, lists, listed, listed_in, Table, tables, all_tables, first_map, program_of, behind_head, pids_of}
 
 -- it is this PID, where there is one
 abbrev pub is_pid : Option ℕ → ℕ → Bool
@@ -32,13 +34,13 @@ abbrev pub on_cue : Option ℕ → List ℕ → Bool
 on_cue None p = false
 on_cue (Some cue) p = on cue p
 
-abbrev pub cue_fault : Config → List ℕ → Option NetworkFault
+abbrev pub cue_fault : Purpose → List ℕ → Option NetworkFault
 cue_fault c p = if_bad (c.writes_cues && on_cue c.cue_pid p) CuePidUsed
 
 -- ---- a PAT
 
 -- what is wrong with the PID of the PMT alone
-abbrev pub pmt_pid_fault : Config → Option Listed → Option NetworkFault
+abbrev pub pmt_pid_fault : Purpose → Option Listed → Option NetworkFault
 pmt_pid_fault c None = None
 pmt_pid_fault c (Some l) = earlier (if_bad ((l.pid == 0) || (l.pid == 8191)) BadPids) (if_bad (is_pid c.cue_pid l.pid) CuePidUsed)
 
@@ -47,22 +49,22 @@ differs pid None = true
 differs pid (Some other) = not (pid == other)
 
 -- what is wrong with a PAT, by what is listed so far
-abbrev pub pairs_fault : Config → Option Listed → List Pair → Option NetworkFault
+abbrev pub pairs_fault : Purpose → Option Listed → List Pair → Option NetworkFault
 pairs_fault c None pairs = pmt_pid_fault c (listed_in c.program pairs)
 pairs_fault c (Some l) pairs = if_bad (differs l.pid (pid_of_program l.program pairs)) ProgramChanged
 
-abbrev pub pat_fault : Config → Option Listed → Result Association TableFault → Option NetworkFault
+abbrev pub pat_fault : Purpose → Option Listed → Result Association TableFault → Option NetworkFault
 pat_fault c known (Ok a) = if is_current a.version then pairs_fault c known a.pairs else None
 pat_fault c known (Err table_faults.Sections) = Some Sections
 pat_fault c known (Err table_faults.WrongTable) = None
 pat_fault c known (Err table_faults.BadLength) = None
 
 -- the first fault of the sections that one packet finishes on PID 0
-abbrev pub pats_fault : Config → Option Listed → List (List ℕ) → Option NetworkFault
+abbrev pub pats_fault : Purpose → Option Listed → List (List ℕ) → Option NetworkFault
 pats_fault c known [] = None
 pats_fault c known (s ∷ ss) = earlier (pat_fault c known (pat s)) (pats_fault c (earlier known (lists c.program s)) ss)
 
--- ---- a PMT of the programme
+-- ---- a PMT of the program
 
 abbrev pub pids_in : List Stream → List ℕ
 pids_in streams = map (λ (s : Stream). s.pid) streams
@@ -88,7 +90,7 @@ bad_pids pmt_pid streams pcr_pid =
     list_any (bad_pid pmt_pid) (pcr_pid ∷ pids_in streams) || list_any (bad_switched (pids_in streams)) (pids_in (switched_of streams))
 
 -- the PIDs on which no cue may stand
-abbrev pub cue_used : Config → List Stream → ℕ → Bool
+abbrev pub cue_used : Purpose → List Stream → ℕ → Bool
 cue_used c streams pcr_pid = list_any (is_pid c.cue_pid) (pcr_pid ∷ pids_in (if c.writes_cues then streams else switched_of streams))
 
 abbrev pub same_streams : List Stream → List Stream → Bool
@@ -107,8 +109,8 @@ abbrev pub too_long : Option ℕ → ProgramMap → Bool
 too_long None m = false
 too_long (Some cue) m = nat_lt 1021 (map_length (descriptors_bytes (with_cue_entry cue m).descriptors) (entries_bytes (with_cue_entry cue m).entries))
 
--- what is wrong with a map, by the PMT's PID and the programme's first map, where this is a later one
-abbrev pub map_fault : Config → ℕ → Option ProgramMap → ProgramMap → Option NetworkFault
+-- what is wrong with a map, by the PMT's PID and the program's first map, where this is a later one
+abbrev pub map_fault : Purpose → ℕ → Option ProgramMap → ProgramMap → Option NetworkFault
 map_fault c pmt_pid first m =
     earlier (if_bad (nat_lt 8 (length (switched_of (streams_of m)))) TooManyStreams)
     (earlier (if_bad (bad_pids pmt_pid (streams_of m) (pid_in m.pcr_field)) BadPids)
@@ -116,16 +118,16 @@ map_fault c pmt_pid first m =
     (earlier (if_bad (changed first m) ProgramChanged)
     (if_bad (c.writes_cues && too_long c.cue_pid m) PmtTooLong))))
 
-abbrev pub table_fault : Config → ℕ → Option ProgramMap → Option ProgramMap → Option NetworkFault
+abbrev pub table_fault : Purpose → ℕ → Option ProgramMap → Option ProgramMap → Option NetworkFault
 table_fault c pmt_pid first None = None
 table_fault c pmt_pid first (Some m) = map_fault c pmt_pid first m
 
 -- the first fault of the sections that one packet finishes on the PMT's PID
-abbrev pub tables_fault : Config → ℕ → Option ProgramMap → List Table → Option NetworkFault
+abbrev pub tables_fault : Purpose → ℕ → Option ProgramMap → List Table → Option NetworkFault
 tables_fault c pmt_pid first [] = None
 tables_fault c pmt_pid first (t ∷ ts) = earlier (table_fault c pmt_pid first t.program_map) (tables_fault c pmt_pid (earlier first t.program_map) ts)
 
-abbrev pub maps_fault : Config → Option Listed → Option ProgramMap → List Table → Option NetworkFault
+abbrev pub maps_fault : Purpose → Option Listed → Option ProgramMap → List Table → Option NetworkFault
 maps_fault c None first ts = None
 maps_fault c (Some l) first ts = tables_fault c l.pid first ts
 
@@ -138,15 +140,15 @@ as_network (Some unit_faults.HeaderSplit) = Some HeaderSplit
 as_network (Some unit_faults.TimeJump) = Some TimeJump
 
 -- What is wrong with a packet, by the packets before it. It is of one PID, so that at most one of these speaks of it where the PIDs
--- of the programme are good.
-abbrev pub network_fault : Config → List ℕ → List (List ℕ) → Option NetworkFault
+-- of the program are good.
+abbrev pub network_fault : Purpose → List ℕ → List (List ℕ) → Option NetworkFault
 network_fault c p past =
     earlier (cue_fault c p)
     (earlier (pats_fault c (listed c.program past) (given 0 p past))
     (earlier (maps_fault c (listed c.program past) (first_map (all_tables c.program past)) (tables c.program p past))
-    (as_network (unit_fault (pids_of (programme_of c.program past)) p (behind_head c.program past)))))
+    (as_network (unit_fault (pids_of (program_of c.program past)) p (behind_head c.program past)))))
 
 -- the first fault of a whole run, newest packet first
-abbrev pub first_fault : Config → List (List ℕ) → Option NetworkFault
+abbrev pub first_fault : Purpose → List (List ℕ) → Option NetworkFault
 first_fault c [] = None
 first_fault c (p ∷ past) = earlier (first_fault c past) (network_fault c p past)
