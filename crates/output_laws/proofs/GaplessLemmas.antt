@@ -13,7 +13,7 @@ use Rattle.ts_packet.proofs.HistoryLemmas.{walk_is_last}
 use Rattle.ts_packet.proofs.RunLemmas.{onto, packet_or, nearest_is_last, gapless_glue, gapless_back}
 use Rattle.unit_stream.specs.Times.{begins}
 use Rattle.splice_laws.specs.Splicing.{SliceUnit}
-use Rattle.output_laws.specs.Output.{Act, Keep, Leave, Put, network, Packing, counter_steps, kept_packet, clock_alone, output, AllOn, BeginsAlone, CountsFrom, Sound, Place, Keeping, Leaving, Between, behind_put, place, IsWhole, has_come, IsFed, Along}
+use Rattle.output_laws.specs.Output.{Move, Keep, Leave, Put, network, Packing, counter_steps, kept_packet, clock_alone, output, AllOn, BeginsAlone, CountsFrom, Sound, Place, Keeping, Leaving, Between, behind_put, place, IsWhole, has_come, IsFed, Along}
 use Rattle.output_laws.specs.Laws.{OutputStaysGapless}
 use Rattle.output_laws.proofs.StepLemmas.{network_onto, out_back, out_onto, test-same, pid_is, payload-some, payload-none, kept_on, on-kept, payload_on-kept, payload_on-clock, on-clock, number-clock, pcr-error, on-same, moved-dropped, moved-put}
 use Rattle.output_laws.proofs.MatchLemmas.{and_left, Matched, repeats_kept, next_kept, next_moved, same_moved, left_moved, next_left, repeat_left, repeats_same}
@@ -38,19 +38,19 @@ one_below None = omega arith
 one_below (Some n) = below_16 (n + 1)
 
 module _ (packed : Packing) (pid : ℕ) where
-  abbrev pub es : List Act → List Step
+  abbrev pub es : List Move → List Step
   es past = counter_steps packed pid past
 
   -- ---- the number out at the last payload packet
 
-  abbrev pub Told : List Act → Type 0
+  abbrev pub Told : List Move → Type 0
   Told past = LastIs (moved (es past)) (last_of pid (network past)) (last_number (es past))
 
   told_again : (n : ℕ) (p : List ℕ) (r : Bool) (ol : Option Last) (le : Option ℕ) → repeats_last p ol ≡ true → LastIs n ol le → LastIs n (Some (record { packet = p; is_repeat = r })) le
   told_again n p r None le k h = cc
   told_again n p r (Some l) le k h = let a = alike-number l.packet p (and_left _ _ k) in rw (← a) h
 
-  told_more : (s : Act) (past : List Act) → Told past → Told (s ∷ past)
+  told_more : (s : Move) (past : List Move) → Told past → Told (s ∷ past)
   told_more (Keep p) past h =
       by_test (payload_on pid p)
       (λ y. let o = payload_on-on pid p y in let v = payload-some pid p y in simp (y, o, v))
@@ -68,7 +68,7 @@ module _ (packed : Packing) (pid : ℕ) where
       (λ e. simp e (put_last (last_of pid (network past)) (packed q u (one_past (last_number (es past)))) (es past) h))
       (λ e. simp e h)
 
-  pub told : (past : List Act) → Told past
+  pub told : (past : List Move) → Told past
   told [] = tt
   told (s ∷ past) = told_more s past (told past)
 
@@ -120,7 +120,7 @@ module _ (pid : ℕ) (b : Option (List ℕ)) (n : ℕ) (st : Place) (O : List (L
   put_new qs (Some l) le s h m a c = put_originals pid b qs ((number l.packet + n) % 16) O a (rw h at c) (numbered_of b n st l (last_of pid O) m)
 
 module _ (packed : Packing) (pid : ℕ) (b : Option (List ℕ)) where
-  abbrev pub Here : List Act → Type 0
+  abbrev pub Here : List Move → Type 0
   Here past = Matched b (moved (es packed pid past)) (place pid past) (last_of pid (network past)) (last_of pid (out_back packed past))
 
   next_of : (p : List ℕ) (past : List (List ℕ)) → IsNext p (nearest b pid past) → IsNext p (packet_or b (last_of pid past))
@@ -130,20 +130,20 @@ module _ (packed : Packing) (pid : ℕ) (b : Option (List ℕ)) where
   same_of p past h = rw (← nearest_is_last b pid past) h
 
   -- in the output a kept packet repeats where it did
-  pub kept_repeats : (p : List ℕ) (past : List Act) → IsWhole pid (Keep p) past → Here past → payload_on pid p ≡ true → repeats pid p (network past) ≡ true →
+  pub kept_repeats : (p : List ℕ) (past : List Move) → IsWhole pid (Keep p) past → Here past → payload_on pid p ≡ true → repeats pid p (network past) ≡ true →
       repeats pid (renumbered (moved (es packed pid past)) p) (out_back packed past) ≡ true
   kept_repeats p past w h y r =
       let g : begins pid p (network past) ≡ false = simp (y, r) in
       walk_is_last pid (renumbered (moved (es packed pid past)) p) (out_back packed past)
       ∙ repeats_kept b (moved (es packed pid past)) (place pid past) p _ _ h (w y g) (sym (walk_is_last pid p (network past)) ∙ r)
 
-  pub kept_new : (p : List ℕ) (past : List Act) → InStep b pid p (network past) → Here past → payload_on pid p ≡ true → repeats pid p (network past) ≡ false →
+  pub kept_new : (p : List ℕ) (past : List Move) → InStep b pid p (network past) → Here past → payload_on pid p ≡ true → repeats pid p (network past) ≡ false →
       repeats pid (renumbered (moved (es packed pid past)) p) (out_back packed past) ≡ false
   kept_new p past k h y r =
       walk_is_last pid (renumbered (moved (es packed pid past)) p) (out_back packed past)
       ∙ next_kept b (moved (es packed pid past)) (place pid past) p _ _ h (next_of p (network past) (k.next (simp (y, r))))
 
-  here_keep : (p : List ℕ) (past : List Act) → IsWhole pid (Keep p) past → InStep b pid p (network past) → Here past → Here (Keep p ∷ past)
+  here_keep : (p : List ℕ) (past : List Move) → IsWhole pid (Keep p) past → InStep b pid p (network past) → Here past → Here (Keep p ∷ past)
   here_keep p past w k h =
       by_test (payload_on pid p)
       (λ y. let o = payload_on-on pid p y in let e = kept_on packed pid p past o in by_test (repeats pid p (network past))
@@ -153,7 +153,7 @@ module _ (packed : Packing) (pid : ℕ) (b : Option (List ℕ)) where
       (λ o. simp (y, o, payload_on-kept) h)
       (λ o. simp (y, o, payload_on-kept) h))
 
-  here_leave : (p : List ℕ) (past : List Act) → InStep b pid p (network past) → Here past → Here (Leave p ∷ past)
+  here_leave : (p : List ℕ) (past : List Move) → InStep b pid p (network past) → Here past → Here (Leave p ∷ past)
   here_leave p past k h =
       let E = es packed pid past in
       let c = last_of-clock packed pid (pid_of p) (number_out p (counter_steps packed (pid_of p) (Leave p ∷ past))) (pcr p) (out_back packed past) (below_16 _) in
@@ -165,10 +165,10 @@ module _ (packed : Packing) (pid : ℕ) (b : Option (List ℕ)) where
       (λ y. simp y h)
       )
 
-  abbrev put_here : SliceUnit → List Act → List (List ℕ)
+  abbrev put_here : SliceUnit → List Move → List (List ℕ)
   put_here u past = packed pid u (one_past (last_number (es packed pid past)))
 
-  here_put_same : (u : SliceUnit) (past : List Act) → Sound packed (Put pid u) → has_come pid (network past) ≡ true → Here past → Here (Put pid u ∷ past)
+  here_put_same : (u : SliceUnit) (past : List Move) → Sound packed (Put pid u) → has_come pid (network past) ≡ true → Here past → Here (Put pid u ∷ past)
   here_put_same u past s f h =
       let E = es packed pid past in
       let qs = put_here u past in
@@ -181,7 +181,7 @@ module _ (packed : Packing) (pid : ℕ) (b : Option (List ℕ)) where
   not_on q [] O e a = refl
   not_on q (p ∷ qs) O e a = let n = other_pid q pid p e a.0 in not_on q qs (p ∷ O) e a.1 ∙ simp n
 
-  here_put : (q : ℕ) (u : SliceUnit) (past : List Act) → Sound packed (Put q u) → IsFed pid (Put q u) past → Here past → Here (Put q u ∷ past)
+  here_put : (q : ℕ) (u : SliceUnit) (past : List Move) → Sound packed (Put q u) → IsFed pid (Put q u) past → Here past → Here (Put q u ∷ past)
   here_put q u past s f h =
       by_test (q == pid)
       (λ e. let i = test-true q pid e in rw i (here_put_same u past (rw i at s) (f e) h))
@@ -192,13 +192,13 @@ module _ (packed : Packing) (pid : ℕ) (b : Option (List ℕ)) where
 
   -- ---- all of it
 
-  pub here : (past : List Act) → Along (λ (s : Act) (before : List Act). Sound packed s) past → Along (IsWhole pid) past → Along (IsFed pid) past → Gapless b pid (network past) → Here past
+  pub here : (past : List Move) → Along (λ (s : Move) (before : List Move). Sound packed s) past → Along (IsWhole pid) past → Along (IsFed pid) past → Gapless b pid (network past) → Here past
   here [] s w f g = refl
   here (Keep p ∷ past) s w f g = here_keep p past w.0 g.0 (here past s.1 w.1 f.1 g.1)
   here (Leave p ∷ past) s w f g = here_leave p past g.0 (here past s.1 w.1 f.1 g.1)
   here (Put q u ∷ past) s w f g = here_put q u past s.0 f.0 (here past s.1 w.1 f.1 g)
 
-  step_keep : (p : List ℕ) (past : List Act) → IsWhole pid (Keep p) past → InStep b pid p (network past) → Here past → InStep b pid (kept_packet packed p past) (out_back packed past)
+  step_keep : (p : List ℕ) (past : List Move) → IsWhole pid (Keep p) past → InStep b pid p (network past) → Here past → InStep b pid (kept_packet packed p past) (out_back packed past)
   step_keep p past w k h =
       let n = moved (es packed pid past) in
       let O = out_back packed past in
@@ -221,7 +221,7 @@ module _ (packed : Packing) (pid : ℕ) (b : Option (List ℕ)) where
       })
 
   -- a clock reference alone
-  clock_number : (p : List ℕ) (past : List Act) → InStep b pid p (network past) → Here past → on pid p ≡ true → (q : List ℕ) → number q ≡ number_out p (es packed pid (Leave p ∷ past)) → IsSame q (packet_or b (last_of pid (out_back packed past)))
+  clock_number : (p : List ℕ) (past : List Move) → InStep b pid p (network past) → Here past → on pid p ≡ true → (q : List ℕ) → number q ≡ number_out p (es packed pid (Leave p ∷ past)) → IsSame q (packet_or b (last_of pid (out_back packed past)))
   clock_number p past k h o q e =
       let E = es packed pid past in
       by_test (payload_on pid p)
@@ -232,7 +232,7 @@ module _ (packed : Packing) (pid : ℕ) (b : Option (List ℕ)) where
       left_moved (moved E) (place pid past) p b q _ _ h (c ∙ ap (λ m. (number p + m) % 16) (moved-dropped p E)) (next_of p (network past) (k.next (simp (y, r))))))
       (λ y. let c = simp y at e in same_moved (moved E) (place pid past) p b q _ _ h c (same_of p (network past) (k.same o y)))
 
-  step_clock : (p : List ℕ) (past : List Act) (o : Option (List ℕ)) → pcr p ≡ o → pid_of p < 8192 → InStep b pid p (network past) → Here past → Gapless b pid (out_back packed past)
+  step_clock : (p : List ℕ) (past : List Move) (o : Option (List ℕ)) → pcr p ≡ o → pid_of p < 8192 → InStep b pid p (network past) → Here past → Gapless b pid (out_back packed past)
       → Gapless b pid (onto (out_back packed past) (clock_alone (pid_of p) (number_out p (counter_steps packed (pid_of p) (Leave p ∷ past))) o))
   step_clock p past None e l k h g = g
   step_clock p past (Some c) e l k h g =
@@ -250,13 +250,13 @@ module _ (packed : Packing) (pid : ℕ) (b : Option (List ℕ)) where
         g,
       )
 
-  step_put_same : (u : SliceUnit) (past : List Act) → Sound packed (Put pid u) → has_come pid (network past) ≡ true → Here past → Gapless b pid (out_back packed past) → Gapless b pid (onto (out_back packed past) (put_here u past))
+  step_put_same : (u : SliceUnit) (past : List Move) → Sound packed (Put pid u) → has_come pid (network past) ≡ true → Here past → Gapless b pid (out_back packed past) → Gapless b pid (onto (out_back packed past) (put_here u past))
   step_put_same u past s f h g =
       let E = es packed pid past in
       let k = s (one_past (last_number E)) (one_below (last_number E)) in
       put_steps pid b (moved E) (place pid past) (out_back packed past) (put_here u past) (last_of pid (network past)) (last_number E) (come packed pid (network past) f) (told packed pid past) h k.on_pid k.counted g
 
-  pub put_originals_here : (u : SliceUnit) (past : List Act) → Sound packed (Put pid u) → has_come pid (network past) ≡ true → Here past → AllOriginal pid (out_back packed past) (put_here u past)
+  pub put_originals_here : (u : SliceUnit) (past : List Move) → Sound packed (Put pid u) → has_come pid (network past) ≡ true → Here past → AllOriginal pid (out_back packed past) (put_here u past)
   put_originals_here u past s f h =
       let E = es packed pid past in
       let k = s (one_past (last_number E)) (one_below (last_number E)) in
@@ -270,7 +270,7 @@ module _ (packed : Packing) (pid : ℕ) (b : Option (List ℕ)) where
       let m = other_on q pid p e a.0 in
       not_steps q qs (p ∷ O) e a.1 (record { next = λ z. let f = simp n at z in cc; same = λ z _. cc }, g)
 
-  gapless_out : (past : List Act) → Along (λ (s : Act) (before : List Act). Sound packed s) past → Along (IsWhole pid) past → Along (IsFed pid) past → Gapless b pid (network past) → Gapless b pid (out_back packed past)
+  gapless_out : (past : List Move) → Along (λ (s : Move) (before : List Move). Sound packed s) past → Along (IsWhole pid) past → Along (IsFed pid) past → Gapless b pid (network past) → Gapless b pid (out_back packed past)
   gapless_out [] s w f g = tt
   gapless_out (Keep p ∷ past) s w f g = (step_keep p past w.0 g.0 (here past s.1 w.1 f.1 g.1), gapless_out past s.1 w.1 f.1 g.1)
   gapless_out (Leave p ∷ past) s w f g = step_clock p past (pcr p) refl s.0 g.0 (here past s.1 w.1 f.1 g.1) (gapless_out past s.1 w.1 f.1 g.1)

@@ -16,7 +16,7 @@ use Rattle.splice_laws.proofs.PidLemmas.{pids_are_streams}
 use Rattle.splice_laws.proofs.HistoryLemmas.{running-inside}
 use Rattle.splice_laws.proofs.PlacedLemmas.{nothing_new, put_in-append, swap, AllAt, AllCounted, counted_head, counted_tail, all_counted, all_joined, left_inside, none_at_first, out_counts_all}
 use Rattle.splice_laws.proofs.StreamLemmas.{of_stream-append, once_on, phases, put_in-flat, dropped_is}
-use Rattle.output_laws.specs.Output.{Act, Keep, Leave, Put, acts, network, Place, Keeping, Leaving, place, IsWhole, Along, units_out}
+use Rattle.output_laws.specs.Output.{Move, Keep, Leave, Put, acts, network, Place, Keeping, Leaving, place, IsWhole, Along, units_out}
 use Rattle.output_laws.specs.Spliced.{puts_on, puts_each, puts_at, fate, steps_after, splice_steps, StepsAreSpliced, inserted_payloads, unit_at, placed_payloads, SplicedCarries, SplicedHasUnits}
 use Rattle.output_laws.specs.Laws.{IsRun}
 use Rattle.output_laws.proofs.StepLemmas.{onto_steps}
@@ -26,13 +26,13 @@ use Rattle.output_laws.proofs.CarryLemmas.{output_carries_units}
 
 -- ---- lists of units put in
 
-abbrev IsPuts : List Act → Type 0
+abbrev IsPuts : List Move → Type 0
 IsPuts [] = Unit {0}
 IsPuts (Keep p ∷ a) = ⊥
 IsPuts (Leave p ∷ a) = ⊥
 IsPuts (Put q u ∷ a) = IsPuts a
 
-puts-append : (a b : List Act) → IsPuts a → IsPuts b → IsPuts (a ++ b)
+puts-append : (a b : List Move) → IsPuts a → IsPuts b → IsPuts (a ++ b)
 puts-append [] b h g = g
 puts-append (Keep p ∷ a) b h g = absurd h
 puts-append (Leave p ∷ a) b h g = absurd h
@@ -46,7 +46,7 @@ puts_each_are : (qs : List ℕ) (f : ℕ → List SliceUnit) → IsPuts (puts_ea
 puts_each_are [] f = tt
 puts_each_are (q ∷ qs) f = puts-append (puts_on q (f q)) (puts_each qs f) (puts_on_are q (f q)) (puts_each_are qs f)
 
-acts-append : (a b : List Act) → acts (a ++ b) ≡ acts a ++ acts b
+acts-append : (a b : List Move) → acts (a ++ b) ≡ acts a ++ acts b
 acts-append [] b = refl
 acts-append (Keep p ∷ a) b = ap (λ l. Through p ∷ l) (acts-append a b)
 acts-append (Leave p ∷ a) b = acts-append a b
@@ -60,26 +60,26 @@ acts_each : (qs : List ℕ) (f : ℕ → List SliceUnit) → acts (puts_each qs 
 acts_each [] f = refl
 acts_each (q ∷ qs) f = acts-append (puts_on q (f q)) (puts_each qs f) ∙ ap (λ l. l ++ acts (puts_each qs f)) (acts_on q (f q)) ∙ ap (λ l. insert_on q (f q) ++ l) (acts_each qs f)
 
-network_more : (a b : List Act) → IsPuts a → network (a ++ b) ≡ network b
+network_more : (a b : List Move) → IsPuts a → network (a ++ b) ≡ network b
 network_more [] b h = refl
 network_more (Keep p ∷ a) b h = absurd h
 network_more (Leave p ∷ a) b h = absurd h
 network_more (Put q u ∷ a) b h = network_more a b h
 
-network_puts : (a S : List Act) → IsPuts a → network (onto_steps S a) ≡ network S
+network_puts : (a S : List Move) → IsPuts a → network (onto_steps S a) ≡ network S
 network_puts [] S h = refl
 network_puts (Keep p ∷ a) S h = absurd h
 network_puts (Leave p ∷ a) S h = absurd h
 network_puts (Put q u ∷ a) S h = network_puts a (Put q u ∷ S) h
 
 module _ (pid : ℕ) where
-  place_left : (a S : List Act) → IsPuts a → place pid S ≡ Leaving → place pid (onto_steps S a) ≡ Leaving
+  place_left : (a S : List Move) → IsPuts a → place pid S ≡ Leaving → place pid (onto_steps S a) ≡ Leaving
   place_left [] S h l = l
   place_left (Keep p ∷ a) S h l = absurd h
   place_left (Leave p ∷ a) S h l = absurd h
   place_left (Put q u ∷ a) S h l = place_left a (Put q u ∷ S) h (by_test (q == pid) (λ e. simp (e, l)) (λ e. simp (e, l)))
 
-  place_none : (a S : List Act) → IsPuts a → of_stream pid (acts a) ≡ [] → place pid (onto_steps S a) ≡ place pid S
+  place_none : (a S : List Move) → IsPuts a → of_stream pid (acts a) ≡ [] → place pid (onto_steps S a) ≡ place pid S
   place_none [] S h n = refl
   place_none (Keep p ∷ a) S h n = absurd h
   place_none (Leave p ∷ a) S h n = absurd h
@@ -88,7 +88,7 @@ module _ (pid : ℕ) where
       (λ e. let f = simp e at n in cc)
       (λ e. let f = simp e at n in place_none a (Put q u ∷ S) h f ∙ simp e)
 
-  units_puts : (a b S : List Act) → IsPuts a → units_out pid S (a ++ b) ≡ inserted_payloads (of_stream pid (acts a)) ++ units_out pid (onto_steps S a) b
+  units_puts : (a b S : List Move) → IsPuts a → units_out pid S (a ++ b) ≡ inserted_payloads (of_stream pid (acts a)) ++ units_out pid (onto_steps S a) b
   units_puts [] b S h = refl
   units_puts (Keep p ∷ a) b S h = absurd h
   units_puts (Leave p ∷ a) b S h = absurd h
@@ -98,13 +98,13 @@ module _ (pid : ℕ) where
       (λ e. simp e (ap (λ l. u.payload ∷ l) i))
       (λ e. simp e i)
 
-  whole_puts : (a S : List Act) → IsPuts a → Along (IsWhole pid) S → Along (IsWhole pid) (onto_steps S a)
+  whole_puts : (a S : List Move) → IsPuts a → Along (IsWhole pid) S → Along (IsWhole pid) (onto_steps S a)
   whole_puts [] S h w = w
   whole_puts (Keep p ∷ a) S h w = absurd h
   whole_puts (Leave p ∷ a) S h w = absurd h
   whole_puts (Put q u ∷ a) S h w = whole_puts a (Put q u ∷ S) h (tt, w)
 
-pub onto_steps-append : (S a b : List Act) → onto_steps S (a ++ b) ≡ onto_steps (onto_steps S a) b
+pub onto_steps-append : (S a b : List Move) → onto_steps S (a ++ b) ≡ onto_steps (onto_steps S a) b
 onto_steps-append S [] b = refl
 onto_steps-append S (s ∷ a) b = onto_steps-append (s ∷ S) a b
 
@@ -149,7 +149,7 @@ module _ (sw : List ℕ) (xs : List Break) (slice : ℕ → Break → List Slice
       let fr : ℕ → List SliceUnit = λ (q : ℕ). all_running (stream sw q) xs (λ (x : Break). inserted (slice q x) (out q x)) p past in
       puts-append (puts_each sw fc) (puts_each sw fr) (puts_each_are sw fc) (puts_each_are sw fr)
 
-  fate_network : (d : Bool) (p : List ℕ) (rest : List Act) → network ((if d then Leave p else Keep p) ∷ rest) ≡ p ∷ network rest
+  fate_network : (d : Bool) (p : List ℕ) (rest : List Move) → network ((if d then Leave p else Keep p) ∷ rest) ≡ p ∷ network rest
   fate_network true p rest = refl
   fate_network false p rest = refl
 
@@ -183,13 +183,13 @@ module _ (sw : List ℕ) (xs : List Break) (slice : ℕ → Break → List Slice
         ∙ ap (λ l. map (λ (u : SliceUnit). Inserted u) l) (phases (stream sw pid) (pids_are_streams sw pid) (slice pid) (out pid) xs o p past n)
         ∙ put_in-flat (λ (x : Break). inserted (slice pid x) (out pid x) p past) xs
 
-    record Inv (S : List Act) (past : List (List ℕ)) : Type 0 where
+    record Inv (S : List Move) (past : List (List ℕ)) : Type 0 where
       pub net : network S ≡ past
       pub at : place pid S ≡ fate_place (outside xs (unit_time sw pid past))
       pub whole : Along (IsWhole pid) S
 
-    module _ (p : List ℕ) (past : List (List ℕ)) (S : List Act) (n : At p past) (i : Inv S past) where
-      abbrev behind : List Act
+    module _ (p : List ℕ) (past : List (List ℕ)) (S : List Move) (n : At p past) (i : Inv S past) where
+      abbrev behind : List Move
       behind = onto_steps S (puts_at sw xs slice out p past)
 
       net_behind : network behind ≡ past
@@ -259,7 +259,7 @@ module _ (sw : List ℕ) (xs : List Break) (slice : ℕ → Break → List Slice
 
     -- ---- all steps
 
-    whole_after : (past ps : List (List ℕ)) (S : List Act) → AllCounted (stream sw pid) (pids_are_streams sw pid) (slice pid) (out pid) xs (seen_after past ps) → Inv S past → Along (IsWhole pid) (onto_steps S (steps_after sw xs slice out past ps))
+    whole_after : (past ps : List (List ℕ)) (S : List Move) → AllCounted (stream sw pid) (pids_are_streams sw pid) (slice pid) (out pid) xs (seen_after past ps) → Inv S past → Along (IsWhole pid) (onto_steps S (steps_after sw xs slice out past ps))
     whole_after past [] S n i =
         let f : ℕ → List SliceUnit = λ (q : ℕ). flat_map (λ (x : Break). rest (stream sw q) x (slice q x) (out q x) past) xs in
         whole_puts pid (puts_each sw f) S (puts_each_are sw f) i.whole
@@ -273,7 +273,7 @@ module _ (sw : List ℕ) (xs : List Break) (slice : ℕ → Break → List Slice
         subst (Along (IsWhole pid)) (sym (onto_steps-append S A (F ∷ steps_after sw xs slice out (p ∷ past) ps))) w
 
     -- what a packet adds
-    keep_units : (p : List ℕ) (past ps : List (List ℕ)) (S rest : List Act) → network S ≡ past → network rest ≡ ps → outside xs (unit_time sw pid (p ∷ past)) ≡ true →
+    keep_units : (p : List ℕ) (past ps : List (List ℕ)) (S rest : List Move) → network S ≡ past → network rest ≡ ps → outside xs (unit_time sw pid (p ∷ past)) ≡ true →
         unit_at sw pid xs past p ps ++ units_out pid (Keep p ∷ S) rest ≡ units_out pid S (Keep p ∷ rest)
     keep_units p past ps S rest n m g =
         ap (λ b. (if b then (bytes p ++ rest_of_unit (filter (is_original pid) (seen_after (p ∷ past) ps))) ∷ [] else []) ++ units_out pid (Keep p ∷ S) rest) (and_true (begins pid p past) _ g)
@@ -299,18 +299,18 @@ module _ (sw : List ℕ) (xs : List Break) (slice : ℕ → Break → List Slice
     and_left true b e = cc
     and_left false b e = refl
 
-    other_units : (d : Bool) (p : List ℕ) (S rest : List Act) → begins pid p (network S) ≡ false → units_out pid ((if d then Leave p else Keep p) ∷ S) rest ≡ units_out pid S ((if d then Leave p else Keep p) ∷ rest)
+    other_units : (d : Bool) (p : List ℕ) (S rest : List Move) → begins pid p (network S) ≡ false → units_out pid ((if d then Leave p else Keep p) ∷ S) rest ≡ units_out pid S ((if d then Leave p else Keep p) ∷ rest)
     other_units true p S rest b = refl
     other_units false p S rest b = skip (begins pid p (network S)) _ _ b where
       skip : (c : Bool) (x : List ℕ) (l : List (List ℕ)) → c ≡ false → l ≡ (if c then x ∷ l else l)
       skip true x l e = cc
       skip false x l e = refl
 
-    step_units : (p : List ℕ) (past ps : List (List ℕ)) (S rest : List Act) (n : At p past) (i : Inv S past) → network rest ≡ ps →
+    step_units : (p : List ℕ) (past ps : List (List ℕ)) (S rest : List Move) (n : At p past) (i : Inv S past) → network rest ≡ ps →
         unit_at sw pid xs past p ps ++ units_out pid (fate sw xs p past ∷ onto_steps S (puts_at sw xs slice out p past)) rest ≡ units_out pid (onto_steps S (puts_at sw xs slice out p past)) (fate sw xs p past ∷ rest)
     step_units p past ps S rest n i m =
         let B = onto_steps S (puts_at sw xs slice out p past) in
-        let P : Act → Type 0 = λ s. unit_at sw pid xs past p ps ++ units_out pid (s ∷ B) rest ≡ units_out pid B (s ∷ rest) in
+        let P : Move → Type 0 = λ s. unit_at sw pid xs past p ps ++ units_out pid (s ∷ B) rest ≡ units_out pid B (s ∷ rest) in
         by_test (payload_on pid p)
         (λ y. by_test (outside xs (unit_time sw pid (p ∷ past)))
         (λ g. subst P (sym (fate_is p past S n i y true g)) (keep_units p past ps B rest (net_behind p past S n i) m g))
@@ -326,7 +326,7 @@ module _ (sw : List ℕ) (xs : List Break) (slice : ℕ → Break → List Slice
         ∙ ap (λ l. I ++ l) (sym (append_assoc T K F) ∙ ap (λ l. l ++ F) g ∙ append_assoc K T F)
 
     -- what is left of the slices that run, and what is placed then, is what goes out
-    placed_after : (past ps : List (List ℕ)) (S : List Act) → AllCounted (stream sw pid) (pids_are_streams sw pid) (slice pid) (out pid) xs (seen_after past ps) → Inv S past →
+    placed_after : (past ps : List (List ℕ)) (S : List Move) → AllCounted (stream sw pid) (pids_are_streams sw pid) (slice pid) (out pid) xs (seen_after past ps) → Inv S past →
         inserted_payloads (all_rest (stream sw pid) xs (slice pid) (out pid) past) ++ placed_payloads sw pid xs (slice pid) past ps ≡ units_out pid S (steps_after sw xs slice out past ps)
     placed_after past [] S n i =
         let f : ℕ → List SliceUnit = λ (q : ℕ). flat_map (λ (x : Break). rest (stream sw q) x (slice q x) (out q x) past) xs in
@@ -396,7 +396,7 @@ spliced_has_units packed sw xs o slice ps pid h s f b g sw' =
 four : {A : Type 0} (a a' t g e l : List A) → a ≡ a' → l ≡ g ++ e → a ++ (t ++ l) ≡ ((a' ++ t) ++ g) ++ e
 four a a' t g e l p q = rw (p, q) (sym (append_assoc a' t (g ++ e)) ∙ sym (append_assoc (a' ++ t) g e))
 
-fate_acts : (d : Bool) (p : List ℕ) (l : List Act) → acts ((if d then Leave p else Keep p) ∷ l) ≡ (if d then [] else Through p ∷ []) ++ acts l
+fate_acts : (d : Bool) (p : List ℕ) (l : List Move) → acts ((if d then Leave p else Keep p) ∷ l) ≡ (if d then [] else Through p ∷ []) ++ acts l
 fate_acts true p l = refl
 fate_acts false p l = refl
 

@@ -6,7 +6,7 @@ use Rattle.ts_packet.proofs.Cases.{by_test}
 use Rattle.ts_packet.proofs.FieldLemmas.{payload_on-on}
 use Rattle.splice_laws.specs.Splicing.{Break, SliceUnit, stream, out_of, inserted, rest}
 use Rattle.splice_laws.specs.Streams.{all_closing, all_running, is_dropped, is_among}
-use Rattle.output_laws.specs.Output.{Act, Keep, Leave, Put, Packing, Along}
+use Rattle.output_laws.specs.Output.{Move, Keep, Leave, Put, Packing, Along}
 use Rattle.output_laws.specs.Others.{is_off, IsWithin}
 use Rattle.output_laws.specs.Spliced.{puts_on, puts_each, puts_at, fate, steps_after, splice_steps, SplicedOthersPass}
 use Rattle.output_laws.proofs.StepLemmas.{onto_steps, test-same}
@@ -34,14 +34,14 @@ sub_self [] = tt
 sub_self (q ∷ sw) = (or_first (q == q) (is_among q sw) (test-same q), sub_more q sw sw (sub_self sw))
 
 module _ (packed : Packing) (sw : List ℕ) where
-  abbrev Here : List Act → Type 0
+  abbrev Here : List Move → Type 0
   Here S = Along (IsWithin sw) S
 
-  on_one : (q : ℕ) (us : List SliceUnit) (S : List Act) → is_among q sw ≡ true → Here S → Here (onto_steps S (puts_on q us))
+  on_one : (q : ℕ) (us : List SliceUnit) (S : List Move) → is_among q sw ≡ true → Here S → Here (onto_steps S (puts_on q us))
   on_one q [] S a h = h
   on_one q (u ∷ us) S a h = on_one q us (Put q u ∷ S) a (a, h)
 
-  on_each_one : (qs : List ℕ) (f : ℕ → List SliceUnit) (S : List Act) → Sub qs sw → Here S → Here (onto_steps S (puts_each qs f))
+  on_each_one : (qs : List ℕ) (f : ℕ → List SliceUnit) (S : List Move) → Sub qs sw → Here S → Here (onto_steps S (puts_each qs f))
   on_each_one [] f S a h = h
   on_each_one (q ∷ qs) f S a h =
       subst Here (sym (onto_steps-append S (puts_on q (f q)) (puts_each qs f))) (on_each_one qs f (onto_steps S (puts_on q (f q))) a.1 (on_one q (f q) S a.0 h))
@@ -54,11 +54,11 @@ module _ (packed : Packing) (sw : List ℕ) where
         (λ y. off_on packed sw q p a.0 (payload_on-on q p y))
         (λ y. let e = simp y at d in dropped_off qs p past a.1 e)
 
-    fate_within : (d : Bool) (p : List ℕ) (S : List Act) → (d ≡ true → is_off sw p ≡ false) → Here S → Here ((if d then Leave p else Keep p) ∷ S)
+    fate_within : (d : Bool) (p : List ℕ) (S : List Move) → (d ≡ true → is_off sw p ≡ false) → Here S → Here ((if d then Leave p else Keep p) ∷ S)
     fate_within true p S f h = (f refl, h)
     fate_within false p S f h = (tt, h)
 
-    within : (past ps : List (List ℕ)) (S : List Act) → Here S → Here (onto_steps S (steps_after sw xs slice out past ps))
+    within : (past ps : List (List ℕ)) (S : List Move) → Here S → Here (onto_steps S (steps_after sw xs slice out past ps))
     within past [] S h = on_each_one sw (λ (q : ℕ). flat_map (λ (x : Break). rest (stream sw q) x (slice q x) (out q x) past) xs) S (sub_self sw) h
     within past (p ∷ ps) S h =
         let fc : ℕ → List SliceUnit = λ (q : ℕ). all_closing (stream sw q) xs (λ (x : Break). inserted (slice q x) (out q x)) p past in

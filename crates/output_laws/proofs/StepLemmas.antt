@@ -9,11 +9,11 @@ use Rattle.std.proofs.lemmas.Bool.Decides.{nat_tests}
 use Rattle.ts_packet.proofs.Cases.{by_test}
 use Rattle.ts_packet.proofs.FieldLemmas.{on-renumbered, payload_on-renumbered}
 use Rattle.ts_packet.proofs.RunLemmas.{onto}
-use Rattle.output_laws.specs.Output.{Act, Keep, Leave, Put, network, Packing, put_in, counter_steps, kept_packet, out_at, out_after, Along}
+use Rattle.output_laws.specs.Output.{Move, Keep, Leave, Put, network, Packing, put_in, counter_steps, kept_packet, out_at, out_after, Along}
 
 -- ---- lists, newest first
 
-abbrev pub onto_steps : List Act → List Act → List Act
+abbrev pub onto_steps : List Move → List Move → List Move
 onto_steps past [] = past
 onto_steps past (s ∷ ss) = onto_steps (s ∷ past) ss
 
@@ -21,23 +21,23 @@ pub onto-append : (past ps qs : List (List ℕ)) → onto past (ps ++ qs) ≡ on
 onto-append past [] qs = refl
 onto-append past (p ∷ ps) qs = onto-append (p ∷ past) ps qs
 
-pub network_onto : (past ss : List Act) → network (onto_steps past ss) ≡ onto (network past) (network ss)
+pub network_onto : (past ss : List Move) → network (onto_steps past ss) ≡ onto (network past) (network ss)
 network_onto past [] = refl
 network_onto past (Keep p ∷ ss) = network_onto (Keep p ∷ past) ss
 network_onto past (Leave p ∷ ss) = network_onto (Leave p ∷ past) ss
 network_onto past (Put q u ∷ ss) = network_onto (Put q u ∷ past) ss
 
 -- what has gone out, newest first
-abbrev pub out_back : Packing → List Act → List (List ℕ)
+abbrev pub out_back : Packing → List Move → List (List ℕ)
 out_back packed [] = []
 out_back packed (s ∷ past) = onto (out_back packed past) (out_at packed s past)
 
-pub out_onto : (packed : Packing) (past ss : List Act) → out_back packed (onto_steps past ss) ≡ onto (out_back packed past) (out_after packed past ss)
+pub out_onto : (packed : Packing) (past ss : List Move) → out_back packed (onto_steps past ss) ≡ onto (out_back packed past) (out_after packed past ss)
 out_onto packed past [] = refl
 out_onto packed past (s ∷ ss) = out_onto packed (s ∷ past) ss ∙ sym (onto-append (out_back packed past) (out_at packed s past) (out_after packed (s ∷ past) ss))
 
 -- what holds along all steps holds along those before
-pub along_past : (f : Act → List Act → Type 0) (past ss : List Act) → Along f (onto_steps past ss) → Along f past
+pub along_past : (f : Move → List Move → Type 0) (past ss : List Move) → Along f (onto_steps past ss) → Along f past
 along_past f past [] h = h
 along_past f past (s ∷ ss) h = (along_past f (s ∷ past) ss h).1
 
@@ -70,14 +70,14 @@ payload-none pid p o h = right (on pid p) _ o h where
 
 -- ---- a kept packet
 
-pub kept_on : (packed : Packing) (pid : ℕ) (p : List ℕ) (past : List Act) → on pid p ≡ true → kept_packet packed p past ≡ renumbered (moved (counter_steps packed pid past)) p
+pub kept_on : (packed : Packing) (pid : ℕ) (p : List ℕ) (past : List Move) → on pid p ≡ true → kept_packet packed p past ≡ renumbered (moved (counter_steps packed pid past)) p
 kept_on packed pid p past h =
     let e = error_is pid p h in simp e (ap (λ n. renumbered (moved (counter_steps packed n past)) p) (pid_is pid p h))
 
-pub on-kept : (packed : Packing) (pid : ℕ) (p : List ℕ) (past : List Act) → on pid (kept_packet packed p past) ≡ on pid p
+pub on-kept : (packed : Packing) (pid : ℕ) (p : List ℕ) (past : List Move) → on pid (kept_packet packed p past) ≡ on pid p
 on-kept packed pid p past = by_test (in_error p) (λ e. simp e) (λ e. simp (e, on-renumbered))
 
-pub payload_on-kept : (packed : Packing) (pid : ℕ) (p : List ℕ) (past : List Act) → payload_on pid (kept_packet packed p past) ≡ payload_on pid p
+pub payload_on-kept : (packed : Packing) (pid : ℕ) (p : List ℕ) (past : List Move) → payload_on pid (kept_packet packed p past) ≡ payload_on pid p
 payload_on-kept packed pid p past = by_test (in_error p) (λ e. simp e) (λ e. simp (e, payload_on-renumbered))
 
 -- ---- a clock reference alone

@@ -6,11 +6,11 @@ use Rattle.ts_packet.specs.Fields.{in_error, pid_of, on}
 use Rattle.ts_packet.specs.Numbering.{moved}
 use Rattle.ts_packet.proofs.Cases.{by_test}
 use Rattle.ts_packet.proofs.Renumbered.{renumbered-zero}
-use Rattle.output_laws.specs.Output.{Act, Keep, Packing, counter_steps, kept_packet, out_after}
+use Rattle.output_laws.specs.Output.{Move, Keep, Packing, counter_steps, kept_packet, out_after}
 use Rattle.output_laws.specs.Laws.{NothingChanges}
 
 module _ (packed : Packing) where
-  abbrev kept : List (List ℕ) → List Act
+  abbrev kept : List (List ℕ) → List Move
   kept ps = map (λ (p : List ℕ). Keep p) ps
 
   unmoved : (pid : ℕ) (past : List (List ℕ)) → moved (counter_steps packed pid (kept past)) ≡ 0

@@ -11,7 +11,7 @@ use Rattle.ts_packet.proofs.FieldLemmas.{payload_on-on, payload_on-renumbered, s
 use Rattle.ts_packet.proofs.RunLemmas.{onto, gapless_glue, gapless_back}
 use Rattle.unit_stream.specs.Units.{is_original, rest_of_unit, units_of, payloads}
 use Rattle.splice_laws.specs.Splicing.{SliceUnit}
-use Rattle.output_laws.specs.Output.{Act, Keep, Leave, Put, network, Packing, counter_steps, clock_alone, out_after, AllOn, GoOn, BeginsAlone, Sound, Place, Keeping, Leaving, Between, behind_put, place, IsWhole, has_come, IsFed, Along, units_out}
+use Rattle.output_laws.specs.Output.{Move, Keep, Leave, Put, network, Packing, counter_steps, clock_alone, out_after, AllOn, GoOn, BeginsAlone, Sound, Place, Keeping, Leaving, Between, behind_put, place, IsWhole, has_come, IsFed, Along, units_out}
 use Rattle.output_laws.specs.Laws.{OutputHasUnits}
 use Rattle.output_laws.proofs.StepLemmas.{onto_steps, network_onto, out_back, along_past, test-same, kept_on, payload_on-kept, payload_on-clock}
 use Rattle.output_laws.proofs.PutLemmas.{AllOriginal}
@@ -50,11 +50,11 @@ between_left st h k = cc
 -- ---- the network's packets of the unit that runs
 
 module _ (pid : ℕ) where
-  abbrev pub rest_of : List Act → List Act → List ℕ
+  abbrev pub rest_of : List Move → List Move → List ℕ
   rest_of past ss = rest_of_unit (filter (is_original pid) (seen_after (network past) (network ss)))
 
   -- behind a unit put in there are none
-  pub no_more : (past ss : List Act) → Along (IsWhole pid) (onto_steps past ss) → place pid past ≡ Between → rest_of past ss ≡ []
+  pub no_more : (past ss : List Move) → Along (IsWhole pid) (onto_steps past ss) → place pid past ≡ Between → rest_of past ss ≡ []
   no_more past [] w h = refl
   no_more past (Keep p ∷ ss) w h =
       let here = (along_past (IsWhole pid) (Keep p ∷ past) ss w).0 in
@@ -122,13 +122,13 @@ module _ (pid : ℕ) where
 -- ---- the output, behind any past
 
 module _ (packed : Packing) (pid : ℕ) (b : Option (List ℕ)) where
-  pub record Good (past : List Act) : Type 0 where
-    pub sound : Along (λ (s : Act) (before : List Act). Sound packed s) past
+  pub record Good (past : List Move) : Type 0 where
+    pub sound : Along (λ (s : Move) (before : List Move). Sound packed s) past
     pub whole : Along (IsWhole pid) past
     pub fed : Along (IsFed pid) past
     pub gapless : Gapless b pid (network past)
 
-  good_past : (past ss : List Act) → Good (onto_steps past ss) → Good past
+  good_past : (past ss : List Move) → Good (onto_steps past ss) → Good past
   good_past past ss g = record {
     sound = along_past _ past ss g.sound;
     whole = along_past _ past ss g.whole;
@@ -136,10 +136,10 @@ module _ (packed : Packing) (pid : ℕ) (b : Option (List ℕ)) where
     gapless = (gapless_back b pid (network past) (network ss) (rw (← network_onto past ss) g.gapless)).0;
   }
 
-  abbrev out_rest : List Act → List Act → List ℕ
+  abbrev out_rest : List Move → List Move → List ℕ
   out_rest past ss = rest_of_unit (filter (is_original pid) (seen_after (out_back packed past) (out_after packed past ss)))
 
-  rest_put_same : (u : SliceUnit) (past ss : List Act) → Sound packed (Put pid u) → has_come pid (network past) ≡ true → Here packed pid b past → Along (IsWhole pid) (onto_steps (Put pid u ∷ past) ss)
+  rest_put_same : (u : SliceUnit) (past ss : List Move) → Sound packed (Put pid u) → has_come pid (network past) ≡ true → Here packed pid b past → Along (IsWhole pid) (onto_steps (Put pid u ∷ past) ss)
       → out_rest past (Put pid u ∷ ss) ≡ rest_at (place pid past) (rest_of pid past (Put pid u ∷ ss))
   rest_put_same u past ss s f h w =
       let E = counter_steps packed pid past in
@@ -150,7 +150,7 @@ module _ (packed : Packing) (pid : ℕ) (b : Option (List ℕ)) where
       starts_put pid qs (out_after packed (Put pid u ∷ past) ss) (out_back packed past) k.starts (put_originals_here packed pid b u past s f h)
       ∙ sym (put_rest (place pid past) (rest_of pid past (Put pid u ∷ ss)) (λ e. n (simp t e)))
 
-  rest_after : (past ss : List Act) → Good (onto_steps past ss) → out_rest past ss ≡ rest_at (place pid past) (rest_of pid past ss)
+  rest_after : (past ss : List Move) → Good (onto_steps past ss) → out_rest past ss ≡ rest_at (place pid past) (rest_of pid past ss)
   rest_after past [] g = sym (rest_none (place pid past))
   rest_after past (Keep p ∷ ss) g =
       let i = rest_after (Keep p ∷ past) ss g in
@@ -189,10 +189,10 @@ module _ (packed : Packing) (pid : ℕ) (b : Option (List ℕ)) where
       ap rest_of_unit (skip_put pid q qs (out_after packed (Put q u ∷ past) ss) (out_back packed past) e k.on_pid) ∙ i ∙ simp e)
 
   module _ (sw : List ℕ) where
-    abbrev out_cut : List Act → List Act → List (List ℕ)
+    abbrev out_cut : List Move → List Move → List (List ℕ)
     out_cut past ss = cut_at pid sw (out_back packed past) (out_after packed past ss)
 
-    units_put_same : (u : SliceUnit) (past ss : List Act) → Sound packed (Put pid u) → has_come pid (network past) ≡ true → Here packed pid b past
+    units_put_same : (u : SliceUnit) (past ss : List Move) → Sound packed (Put pid u) → has_come pid (network past) ≡ true → Here packed pid b past
         → out_rest (Put pid u ∷ past) ss ≡ rest_at (place pid (Put pid u ∷ past)) (rest_of pid (Put pid u ∷ past) ss)
         → out_cut (Put pid u ∷ past) ss ≡ units_out pid (Put pid u ∷ past) ss → out_cut past (Put pid u ∷ ss) ≡ units_out pid past (Put pid u ∷ ss)
     units_put_same u past ss s f h r i =
@@ -204,7 +204,7 @@ module _ (packed : Packing) (pid : ℕ) (b : Option (List ℕ)) where
         unit_put pid sw qs (out_after packed (Put pid u ∷ past) ss) (out_back packed past) u.payload k.starts (put_originals_here packed pid b u past s f h) k.joined (r ∙ z)
         ∙ ap (λ l. u.payload ∷ l) i ∙ sym (simp t)
 
-    units_after : (past ss : List Act) → Good (onto_steps past ss) → out_cut past ss ≡ units_out pid past ss
+    units_after : (past ss : List Move) → Good (onto_steps past ss) → out_cut past ss ≡ units_out pid past ss
     units_after past [] g = refl
     units_after past (Keep p ∷ ss) g =
         let i = units_after (Keep p ∷ past) ss g in

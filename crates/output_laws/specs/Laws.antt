@@ -5,27 +5,27 @@ use Rattle.ts_packet.specs.Runs.{IsGaplessAfter}
 use Rattle.unit_stream.specs.Units.{units, payloads, lead}
 use Rattle.unit_stream.specs.Carrying.{Carries}
 use Rattle.splice_laws.specs.Splicing.{SliceUnit}
-use Rattle.output_laws.specs.Output.{Act, Keep, Put, network, Packing, output, Sound, IsWhole, IsFed, Along, units_out}
+use Rattle.output_laws.specs.Output.{Move, Keep, Put, network, Packing, output, Sound, IsWhole, IsFed, Along, units_out}
 
 -- the steps are sound, and whole units of the PID are kept or left out
-pub record IsRun (packed : Packing) (pid : ℕ) (steps : List Act) : Type 0 where
-  pub sound : Along (λ (s : Act) (past : List Act). Sound packed s) (reverse steps)
+pub record IsRun (packed : Packing) (pid : ℕ) (steps : List Move) : Type 0 where
+  pub sound : Along (λ (s : Move) (past : List Move). Sound packed s) (reverse steps)
   pub whole : Along (IsWhole pid) (reverse steps)
 
 -- GAPLESS IT WAS, GAPLESS IT IS, where the PID has a payload packet before its first unit put in
 abbrev pub OutputStaysGapless : Type 0
-OutputStaysGapless = (packed : Packing) (pid : ℕ) (before : Option (List ℕ)) (steps : List Act) → IsRun packed pid steps → Along (IsFed pid) (reverse steps) →
+OutputStaysGapless = (packed : Packing) (pid : ℕ) (before : Option (List ℕ)) (steps : List Move) → IsRun packed pid steps → Along (IsFed pid) (reverse steps) →
     IsGaplessAfter before pid (network steps) → IsGaplessAfter before pid (output packed steps)
 
 -- THE LAW ON UNITS: then the units read off the output are those kept and those put in, in order
 abbrev pub OutputHasUnits : Type 0
-OutputHasUnits = (packed : Packing) (pid : ℕ) (before : Option (List ℕ)) (switched : List ℕ) (steps : List Act) → IsRun packed pid steps → Along (IsFed pid) (reverse steps) →
+OutputHasUnits = (packed : Packing) (pid : ℕ) (before : Option (List ℕ)) (switched : List ℕ) (steps : List Move) → IsRun packed pid steps → Along (IsFed pid) (reverse steps) →
     IsGaplessAfter before pid (network steps) → payloads (units switched pid (output packed steps)) ≡ units_out pid [] steps
 
 -- THE LAW ON WHAT IS CARRIED: on any network, the PID's payload packets in the output are those before its first unit start, unchanged,
 -- and then packets that carry the units kept and those put in, in order
 abbrev pub OutputCarriesUnits : Type 0
-OutputCarriesUnits = (packed : Packing) (pid : ℕ) (steps : List Act) → IsRun packed pid steps → All (λ (p : List ℕ). length p ≡ 188) (network steps) →
+OutputCarriesUnits = (packed : Packing) (pid : ℕ) (steps : List Move) → IsRun packed pid steps → All (λ (p : List ℕ). length p ≡ 188) (network steps) →
     (carried : List (List ℕ)) × (filter (payload_on pid) (output packed steps) ≡ lead pid (network steps) ++ carried)
     × Carries carried (units_out pid [] steps)
 

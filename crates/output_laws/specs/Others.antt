@@ -2,19 +2,19 @@
 use Rattle.std.specs.Prelude.{◌≡◌, ℕ, List, Bool, true, false, not, ◌||◌, filter, reverse, length, All}
 use Rattle.ts_packet.specs.Fields.{in_error, pid_of}
 use Rattle.splice_laws.specs.Streams.{is_among}
-use Rattle.output_laws.specs.Output.{Act, Keep, Leave, Put, network, Packing, output, Sound, Along}
+use Rattle.output_laws.specs.Output.{Move, Keep, Leave, Put, network, Packing, output, Sound, Along}
 
 -- a packet marked in error, or of none of these PIDs
 abbrev pub is_off : List ℕ → List ℕ → Bool
 is_off pids p = in_error p || not (is_among (pid_of p) pids)
 
 -- packets are left out, and units put in, on these PIDs alone
-abbrev pub IsWithin : List ℕ → Act → List Act → Type 0
+abbrev pub IsWithin : List ℕ → Move → List Move → Type 0
 IsWithin pids (Keep p) past = Unit {0}
 IsWithin pids (Leave p) past = is_off pids p ≡ false
 IsWithin pids (Put q u) past = is_among q pids ≡ true
 
 -- THE PACKETS OF ALL OTHER PIDS, and those marked in error, are the same list, byte for byte
 abbrev pub OthersPass : Type 0
-OthersPass = (packed : Packing) (pids : List ℕ) (steps : List Act) → Along (λ (s : Act) (past : List Act). Sound packed s) (reverse steps) → Along (IsWithin pids) (reverse steps) →
+OthersPass = (packed : Packing) (pids : List ℕ) (steps : List Move) → Along (λ (s : Move) (past : List Move). Sound packed s) (reverse steps) → Along (IsWithin pids) (reverse steps) →
     All (λ (p : List ℕ). length p ≡ 188) (network steps) → filter (is_off pids) (output packed steps) ≡ filter (is_off pids) (network steps)

@@ -11,20 +11,20 @@ use Rattle.splice_laws.specs.Splicing.{SliceUnit}
 use Rattle.splice_laws.specs.Streams.{Act, Through, Insert}
 
 -- a packet of the network is kept, or is left out, or a slice unit is put in on a PID
-pub data Act : Type 0 where
-  Keep : List ℕ → Act
-  Leave : List ℕ → Act
-  Put : ℕ → SliceUnit → Act
+pub data Move : Type 0 where
+  Keep : List ℕ → Move
+  Leave : List ℕ → Move
+  Put : ℕ → SliceUnit → Move
 
 -- the acts of the splice law: those that leave out are none
-abbrev pub acts : List Act → List Act
+abbrev pub acts : List Move → List Act
 acts [] = []
 acts (Keep p ∷ steps) = Through p ∷ acts steps
 acts (Leave p ∷ steps) = acts steps
 acts (Put pid u ∷ steps) = Insert pid u ∷ acts steps
 
 -- the network's packets, in the order of the steps
-abbrev pub network : List Act → List (List ℕ)
+abbrev pub network : List Move → List (List ℕ)
 network [] = []
 network (Keep p ∷ steps) = p ∷ network steps
 network (Leave p ∷ steps) = p ∷ network steps
@@ -40,14 +40,14 @@ put_in [] counter_steps = counter_steps
 put_in (q ∷ qs) counter_steps = put_in qs (Inserted ∷ counter_steps)
 
 -- WHAT HAPPENED ON THE PID, newest first, as the counters see it; the steps are newest first too
-abbrev pub counter_steps : Packing → ℕ → List Act → List Step
+abbrev pub counter_steps : Packing → ℕ → List Move → List Step
 counter_steps packed pid [] = []
 counter_steps packed pid (Keep p ∷ past) = if on pid p then Kept p ∷ counter_steps packed pid past else counter_steps packed pid past
 counter_steps packed pid (Leave p ∷ past) = if original pid p (network past) then Dropped p ∷ counter_steps packed pid past else counter_steps packed pid past
 counter_steps packed pid (Put q u ∷ past) = if q == pid then put_in (packed q u (one_past (last_number (counter_steps packed pid past)))) (counter_steps packed pid past) else counter_steps packed pid past
 
 -- a network packet on its way out: with the counter `number_out`; one marked in error as it is
-abbrev pub kept_packet : Packing → List ℕ → List Act → List ℕ
+abbrev pub kept_packet : Packing → List ℕ → List Move → List ℕ
 kept_packet packed p past = if in_error p then p else renumbered (moved (counter_steps packed (pid_of p) past)) p
 
 -- its clock reference alone, where it has one
@@ -56,17 +56,17 @@ clock_alone pid n None = []
 clock_alone pid n (Some clock) = clock_packet pid n clock ∷ []
 
 -- WHAT GOES OUT AT A STEP, behind others
-abbrev pub out_at : Packing → Act → List Act → List (List ℕ)
+abbrev pub out_at : Packing → Move → List Move → List (List ℕ)
 out_at packed (Keep p) past = kept_packet packed p past ∷ []
 out_at packed (Leave p) past = clock_alone (pid_of p) (number_out p (counter_steps packed (pid_of p) (Leave p ∷ past))) (pcr p)
 out_at packed (Put pid u) past = packed pid u (one_past (last_number (counter_steps packed pid past)))
 
-abbrev pub out_after : Packing → List Act → List Act → List (List ℕ)
+abbrev pub out_after : Packing → List Move → List Move → List (List ℕ)
 out_after packed past [] = []
 out_after packed past (s ∷ ss) = out_at packed s past ++ out_after packed (s ∷ past) ss
 
 -- THE OUTPUT OF A RUN of steps in order
-abbrev pub output : Packing → List Act → List (List ℕ)
+abbrev pub output : Packing → List Move → List (List ℕ)
 output packed steps = out_after packed [] steps
 
 -- ---- what the laws need of the packets put in
@@ -96,7 +96,7 @@ pub record IsPacked (pid : ℕ) (bs : List ℕ) (n : ℕ) (qs : List (List ℕ))
   pub joined : flat_map bytes qs ≡ bs
 
 -- the unit of a step is packed, whatever the first counter; the PID of a packet left out is one of 13 bits
-abbrev pub Sound : Packing → Act → Type 0
+abbrev pub Sound : Packing → Move → Type 0
 Sound packed (Keep p) = Unit {0}
 Sound packed (Leave p) = pid_of p < 8192
 Sound packed (Put pid u) = (n : ℕ) → n < 16 → IsPacked pid u.payload n (packed pid u n)
@@ -114,14 +114,14 @@ behind_put Keeping = Between
 behind_put Leaving = Leaving
 behind_put Between = Between
 
-abbrev pub place : ℕ → List Act → Place
+abbrev pub place : ℕ → List Move → Place
 place pid [] = Keeping
 place pid (Keep p ∷ past) = if payload_on pid p then Keeping else place pid past
 place pid (Leave p ∷ past) = if payload_on pid p then Leaving else place pid past
 place pid (Put q u ∷ past) = if q == pid then behind_put (place pid past) else place pid past
 
 -- A packet that begins no unit shares the fate of the payload packet before it, and nothing is put in between two that are kept.
-abbrev pub IsWhole : ℕ → Act → List Act → Type 0
+abbrev pub IsWhole : ℕ → Move → List Move → Type 0
 IsWhole pid (Keep p) past = payload_on pid p ≡ true → begins pid p (network past) ≡ false → place pid past ≡ Keeping
 IsWhole pid (Leave p) past = payload_on pid p ≡ true → begins pid p (network past) ≡ false → place pid past ≡ Leaving
 IsWhole pid (Put q u) past = Unit {0}
@@ -132,19 +132,19 @@ has_come pid [] = false
 has_come pid (p ∷ past) = payload_on pid p || has_come pid past
 
 -- a unit is put in on the PID only behind a payload packet of it
-abbrev pub IsFed : ℕ → Act → List Act → Type 0
+abbrev pub IsFed : ℕ → Move → List Move → Type 0
 IsFed pid (Keep p) past = Unit {0}
 IsFed pid (Leave p) past = Unit {0}
 IsFed pid (Put q u) past = (q == pid) ≡ true → has_come pid (network past) ≡ true
 
 -- of steps, newest first: each is so, behind those before it
-abbrev pub Along : (Act → List Act → Type 0) → List Act → Type 0
+abbrev pub Along : (Move → List Move → Type 0) → List Move → Type 0
 Along f [] = Unit {0}
 Along f (s ∷ past) = f s past × Along f past
 
 -- ---- the units that go out, in order: those of the network that are kept, and those put in
 
-abbrev pub units_out : ℕ → List Act → List Act → List (List ℕ)
+abbrev pub units_out : ℕ → List Move → List Move → List (List ℕ)
 units_out pid past [] = []
 units_out pid past (Keep p ∷ ss) = if begins pid p (network past)
     then (bytes p ++ rest_of_unit (filter (is_original pid) (seen_after (p ∷ network past) (network ss)))) ∷ units_out pid (Keep p ∷ past) ss

@@ -8,32 +8,32 @@ use Rattle.unit_stream.specs.Carrying.{Carries}
 use Rattle.splice_laws.specs.Splicing.{Break, SliceUnit, Out, Network, Inserted, stream, out_of, inserted, rest, outside, all_slices_at}
 use Rattle.splice_laws.specs.Laws.{AreOrdered}
 use Rattle.splice_laws.specs.Streams.{all_closing, all_running, is_dropped, spliced, IsOnce}
-use Rattle.output_laws.specs.Output.{Act, Keep, Leave, Put, acts, network, Packing, output, Sound, IsFed, Along}
+use Rattle.output_laws.specs.Output.{Move, Keep, Leave, Put, acts, network, Packing, output, Sound, IsFed, Along}
 use Rattle.output_laws.specs.Others.{is_off}
 
-abbrev pub puts_on : ℕ → List SliceUnit → List Act
+abbrev pub puts_on : ℕ → List SliceUnit → List Move
 puts_on pid us = map (λ (u : SliceUnit). Put pid u) us
 
-abbrev pub puts_each : List ℕ → (ℕ → List SliceUnit) → List Act
+abbrev pub puts_each : List ℕ → (ℕ → List SliceUnit) → List Move
 puts_each pids f = flat_map (λ (pid : ℕ). puts_on pid (f pid)) pids
 
 -- before a packet the slices that it closes, then by stream what has come due of those that run
-abbrev pub puts_at : List ℕ → List Break → (ℕ → Break → List SliceUnit) → (ℕ → Break → List (List ℕ) → ℕ) → List ℕ → List (List ℕ) → List Act
+abbrev pub puts_at : List ℕ → List Break → (ℕ → Break → List SliceUnit) → (ℕ → Break → List (List ℕ) → ℕ) → List ℕ → List (List ℕ) → List Move
 puts_at switched xs slice out p past =
     puts_each switched (λ (pid : ℕ). all_closing (stream switched pid) xs (λ (x : Break). inserted (slice pid x) (out pid x)) p past)
     ++ puts_each switched (λ (pid : ℕ). all_running (stream switched pid) xs (λ (x : Break). inserted (slice pid x) (out pid x)) p past)
 
 -- and the packet
-abbrev pub fate : List ℕ → List Break → List ℕ → List (List ℕ) → Act
+abbrev pub fate : List ℕ → List Break → List ℕ → List (List ℕ) → Move
 fate switched xs p past = if is_dropped switched xs p past switched then Leave p else Keep p
 
 -- the steps at packets behind a past, by a count
-abbrev pub steps_after : List ℕ → List Break → (ℕ → Break → List SliceUnit) → (ℕ → Break → List (List ℕ) → ℕ) → List (List ℕ) → List (List ℕ) → List Act
+abbrev pub steps_after : List ℕ → List Break → (ℕ → Break → List SliceUnit) → (ℕ → Break → List (List ℕ) → ℕ) → List (List ℕ) → List (List ℕ) → List Move
 steps_after switched xs slice out past [] = puts_each switched (λ (pid : ℕ). flat_map (λ (x : Break). rest (stream switched pid) x (slice pid x) (out pid x) past) xs)
 steps_after switched xs slice out past (p ∷ ps) = puts_at switched xs slice out p past ++ (fate switched xs p past ∷ steps_after switched xs slice out (p ∷ past) ps)
 
 -- THE STEPS OF THE SPLICE OF A RUN
-abbrev pub splice_steps : List ℕ → List Break → (ℕ → Break → List SliceUnit) → List (List ℕ) → List Act
+abbrev pub splice_steps : List ℕ → List Break → (ℕ → Break → List SliceUnit) → List (List ℕ) → List Move
 splice_steps switched xs slice ps = steps_after switched xs slice (λ (pid : ℕ) (x : Break). out_of (stream switched pid) x (slice pid x)) [] ps
 
 -- they are its acts, and what is left out; and they bring the run's packets
@@ -61,14 +61,14 @@ placed_payloads switched pid xs slice past (p ∷ ps) =
 -- THE OUTPUT OF A SPLICE CARRIES WHAT IS PLACED, on any network
 abbrev pub SplicedCarries : Type 0
 SplicedCarries = (packed : Packing) (switched : List ℕ) (xs : List Break) → AreOrdered xs → (slice : ℕ → Break → List SliceUnit) (ps : List (List ℕ)) (pid : ℕ) → IsOnce pid switched →
-    Along (λ (s : Act) (past : List Act). Sound packed s) (reverse (splice_steps switched xs slice ps)) → All (λ (p : List ℕ). length p ≡ 188) ps →
+    Along (λ (s : Move) (past : List Move). Sound packed s) (reverse (splice_steps switched xs slice ps)) → All (λ (p : List ℕ). length p ≡ 188) ps →
     (carried : List (List ℕ)) × (filter (payload_on pid) (output packed (splice_steps switched xs slice ps)) ≡ lead pid ps ++ carried)
     × Carries carried (placed_payloads switched pid xs (slice pid) [] ps)
 
 -- WHERE THE NETWORK IS GAPLESS on the PID, and it has a payload packet before its first unit put in, so is the output, and its units are what is placed
 abbrev pub SplicedHasUnits : Type 0
 SplicedHasUnits = (packed : Packing) (switched : List ℕ) (xs : List Break) → AreOrdered xs → (slice : ℕ → Break → List SliceUnit) (ps : List (List ℕ)) (pid : ℕ) → IsOnce pid switched →
-    Along (λ (s : Act) (past : List Act). Sound packed s) (reverse (splice_steps switched xs slice ps)) → Along (IsFed pid) (reverse (splice_steps switched xs slice ps)) →
+    Along (λ (s : Move) (past : List Move). Sound packed s) (reverse (splice_steps switched xs slice ps)) → Along (IsFed pid) (reverse (splice_steps switched xs slice ps)) →
     (before : Option (List ℕ)) → IsGaplessAfter before pid ps → (switched' : List ℕ) →
     IsGaplessAfter before pid (output packed (splice_steps switched xs slice ps))
     × (payloads (units switched' pid (output packed (splice_steps switched xs slice ps))) ≡ placed_payloads switched pid xs (slice pid) [] ps)
@@ -76,5 +76,5 @@ SplicedHasUnits = (packed : Packing) (switched : List ℕ) (xs : List Break) →
 -- in the output of a splice the packets of all but the switched PIDs, and those marked in error, are the run's
 abbrev pub SplicedOthersPass : Type 0
 SplicedOthersPass = (packed : Packing) (switched : List ℕ) (xs : List Break) (slice : ℕ → Break → List SliceUnit) (ps : List (List ℕ)) →
-    Along (λ (s : Act) (past : List Act). Sound packed s) (reverse (splice_steps switched xs slice ps)) → All (λ (p : List ℕ). length p ≡ 188) ps →
+    Along (λ (s : Move) (past : List Move). Sound packed s) (reverse (splice_steps switched xs slice ps)) → All (λ (p : List ℕ). length p ≡ 188) ps →
     filter (is_off switched) (output packed (splice_steps switched xs slice ps)) ≡ filter (is_off switched) ps
