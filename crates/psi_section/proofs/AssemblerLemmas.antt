@@ -284,3 +284,27 @@ waits_off a pid p past o h =
 pub fewer_left : (old new : List (List ℕ)) (s : List ℕ) → Some s ≡ first old → new ≡ behind_first old → length new < length old
 fewer_left [] new s e h = absurd (cc)
 fewer_left (x ∷ xs) new s e h = rw h (omega arith)
+
+-- ---- what is passed over
+
+pub gives_left : (a : Assembler) (pid : ℕ) (past todo : List (List ℕ)) → Gives a pid past todo → Gives a pid past (left a)
+gives_left a pid past todo h = record {
+  last = h.last;
+  part = h.part;
+  todo_left = refl;
+  counted = h.counted;
+  all = h.all;
+  bad = h.bad;
+}
+
+pub found_gives : (a : Assembler) (n pid : ℕ) (past todo : List (List ℕ)) → 0 < n → Finds a pid past todo n → Gives a pid past (left a)
+found_gives a n pid past [] z h = absurd (let k = h.0 in omega arith)
+found_gives a n pid past (s ∷ ss) z h = gives_left a pid past ss h.2
+
+pub found_none : (a : Assembler) (n pid : ℕ) (past todo : List (List ℕ)) → n ≡ 0 → Finds a pid past todo n → Waits a pid past
+found_none a n pid past [] z h = h.1
+found_none a n pid past (s ∷ ss) z h = absurd (let k = h.0 in omega arith)
+
+pub picked_fewer : (a : Assembler) (n : ℕ) (todo : List (List ℕ)) → 0 < n → Picks todo a n → length (left a) < length todo
+picked_fewer a n [] z h = absurd (let k = h.0 in omega arith)
+picked_fewer a n (s ∷ ss) z h = rw h.2 (omega arith)

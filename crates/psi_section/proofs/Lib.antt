@@ -7,3 +7,4 @@ pub mod AssemblerLemmas
 pub mod PacketiserLemmas
 pub mod RunLemmas
 pub mod ReadBackLemmas
+pub mod SectionsLeftLemmas

@@ -5,3 +5,4 @@ pub mod Assembling
 pub mod Finding
 pub mod Packetising
 pub mod Laws
+pub mod SectionsLeft

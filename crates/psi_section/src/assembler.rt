@@ -3,6 +3,7 @@
 ghost use Rattle.std.specs.Prelude.{◌≡◌, ◌∷◌, [], ◌≤◌, ◌^◌, ℕ, List, length, Some, None, option_map, is_some, true, false};
 
 use crate::front::{Front, front_of, is_bad};
+use crate::sections::Sections;
 use crate::store::Store;
 use ts_packet::{Last, Packet};
 
@@ -25,6 +26,7 @@ impl Assembler {
     ghost use Rattle.psi_section.specs.Storing.{content};
     ghost use Rattle.psi_section.specs.Assembling.{IsOf, IsReady, Waits, Gives, NextRests, capped, first, left};
     ghost use Rattle.psi_section.specs.Finding.{Finds, Picks};
+    ghost use Rattle.psi_section.specs.SectionsLeft.{sections_left};
 
     /// An assembler that was fed no packet.
     pub fn new() -> Assembler
@@ -103,6 +105,21 @@ impl Assembler {
             return None;
         }
         Some(self.store.skipped(size))
+    }
+
+    /// The sections that `next` would give, lent where they lie: `next` still gives them.
+    pub fn sections(&self) -> Sections<'_>
+        ensures { sections_left result ≡ left self.now }
+    {
+        Sections::of(self.store.content())
+    }
+
+    /// Passes over the sections that `next` has not given.
+    pub fn pass_over(&mut self)
+        ensures waits { (pid : ℕ) (past todo : List (List ℕ)) → Gives self.old pid past todo → Waits self.new pid past }
+        ensures ready { IsReady self.new }
+    {
+        while self.find() != 0 {}
     }
 
     /// Passes over the sections up to the first whose CRC_32 does not fail, that one included, and answers its size; 0 where there

@@ -9,6 +9,7 @@ mod front;
 pub mod laws;
 pub mod packetiser;
 mod payload;
+mod sections;
 mod store;
 mod tables;
 #[cfg(test)]
@@ -17,3 +18,4 @@ mod tests;
 pub use assembler::Assembler;
 pub use checksum::{crc, crc_entry};
 pub use packetiser::Packetiser;
+pub use sections::Sections;
