@@ -1,29 +1,29 @@
 -- The cues before a packet do to a list of what was told what they are to say.
 use Rattle.std.proofs.Common.{◌≡◌, ℕ, true, false, ◌⊎◌, inl, inr, refl, sym, ap, ◌∙◌, subst, List, [], ◌∷◌, ◌++◌, Option}
 use Rattle.std.specs.Prelude.{ℤ, map, is_some, if◌then◌else◌}
-use Rattle.cue_laws.specs.Events.{Step, Event, Started, Cancelled, Ended, high, before, events, stands, is_of, can_start, fresh, can_cancel, cancel_by, can_end, end_by, In}
+use Rattle.cue_laws.specs.Events.{Turn, Event, Started, Cancelled, Ended, high, before, events, stands, is_of, can_start, fresh, can_cancel, cancel_by, can_end, end_by, In}
 use Rattle.cue_laws.specs.Thinning.{IsSound, Repeats}
 use Rattle.cue_laws.proofs.Settling.{by_test, can_start-parts, and_off}
 use Rattle.cue_laws.proofs.Lists.{any-false}
 use Rattle.cue_laws.proofs.Orders.{is_of-parts, is_of-is, or-neither}
 
 -- a stream that may come, with the greatest time and the events after it
-pub record Goes (h : Option ℤ) (stream : List Step) (es : List Event) : Type 0 where
+pub record Goes (h : Option ℤ) (stream : List Turn) (es : List Event) : Type 0 where
   pub sound : IsSound stream
   pub clock : high stream ≡ h
   pub list : events stream ≡ es
 
-pub goes-to : (h : Option ℤ) (stream : List Step) (es es' : List Event) → es ≡ es' → Goes h stream es → Goes h stream es'
+pub goes-to : (h : Option ℤ) (stream : List Turn) (es es' : List Event) → es ≡ es' → Goes h stream es → Goes h stream es'
 goes-to h stream es es' is g = subst (λ l. Goes h stream l) is g
 
-cancel_goes : (h : Option ℤ) (id : ℕ) (rest : List Step) (es es' : List Event) → map (cancel_by h id) es ≡ es' → Goes h rest es → Goes h (Cancelled id ∷ rest) es'
+cancel_goes : (h : Option ℤ) (id : ℕ) (rest : List Turn) (es es' : List Event) → map (cancel_by h id) es ≡ es' → Goes h rest es → Goes h (Cancelled id ∷ rest) es'
 cancel_goes h id rest es es' is g = record {
   sound = (tt, g.sound);
   clock = g.clock;
   list = ap (λ k. map (cancel_by k id) (events rest)) g.clock ∙ ap (map (cancel_by h id)) g.list ∙ is;
 }
 
-end_goes : (h : Option ℤ) (id : ℕ) (time : ℤ) (rest : List Step) (es es' : List Event) → ((e : Event) → In e es → is_of h id e ≡ true → e.cancelled ≡ false)
+end_goes : (h : Option ℤ) (id : ℕ) (time : ℤ) (rest : List Turn) (es es' : List Event) → ((e : Event) → In e es → is_of h id e ≡ true → e.cancelled ≡ false)
     → map (end_by h id time) es ≡ es' → Goes h rest es → Goes h (Ended id time ∷ rest) es'
 end_goes h id time rest es es' un is g = record {
   sound = (λ e i of. un e (subst (In e) g.list i) (ap (λ k. is_of k id e) (sym g.clock) ∙ of), g.sound);
@@ -31,7 +31,7 @@ end_goes h id time rest es es' un is g = record {
   list = ap (λ k. map (end_by k id time) (events rest)) g.clock ∙ ap (map (end_by h id time)) g.list ∙ is;
 }
 
-pub start_goes : (h : Option ℤ) (id : ℕ) (start end : ℤ) (rest : List Step) (es : List Event) → can_start h id start end es ≡ true → Goes h rest es
+pub start_goes : (h : Option ℤ) (id : ℕ) (start end : ℤ) (rest : List Turn) (es : List Event) → can_start h id start end es ≡ true → Goes h rest es
     → Goes h (Started id start end ∷ rest) (fresh id start end ∷ es)
 start_goes h id start end rest es can g =
     let can' : can_start (high rest) id start end (events rest) ≡ true = ap (λ k. can_start k id start end (events rest)) g.clock ∙ ap (can_start h id start end) g.list ∙ can in
@@ -42,7 +42,7 @@ start_goes h id start end rest es can g =
       list = simp can' (ap (λ l. fresh id start end ∷ l) g.list);
     }
 
-pub again_goes : (h : Option ℤ) (id : ℕ) (start end : ℤ) (rest : List Step) (es : List Event) (t : Event) → is_some h ≡ true → before h start ≡ true
+pub again_goes : (h : Option ℤ) (id : ℕ) (start end : ℤ) (rest : List Turn) (es : List Event) (t : Event) → is_some h ≡ true → before h start ≡ true
     → In t es → Repeats id start end t → stands h t ≡ true → Goes h rest es → Goes h (Started id start end ∷ rest) es
 again_goes h id start end rest es t clock ahead i r s g =
     let used : is_of h id t ≡ true = is_of-is h id t s r.same_id in
@@ -92,12 +92,12 @@ In-right e [] ys i = i
 In-right e (x ∷ xs) ys i = inr (In-right e xs ys i)
 
 module _ (h : Option ℤ) (e : Event) (front back : List Event) (here : Others h e.id front) (there : Others h e.id back) where
-  pub cancel_middle : (rest : List Step) (t t' : Event) → cancel_by h e.id t ≡ t' → Goes h rest (front ++ (t ∷ back)) → Goes h (Cancelled e.id ∷ rest) (front ++ (t' ∷ back))
+  pub cancel_middle : (rest : List Turn) (t t' : Event) → cancel_by h e.id t ≡ t' → Goes h rest (front ++ (t ∷ back)) → Goes h (Cancelled e.id ∷ rest) (front ++ (t' ∷ back))
   cancel_middle rest t t' is g =
       cancel_goes h e.id rest (front ++ (t ∷ back)) (front ++ (t' ∷ back))
       (map_middle (cancel_by h e.id) front back t t' (λ x i. cancel-off h e.id x (other-off h e.id front here x i)) (λ x i. cancel-off h e.id x (other-off h e.id back there x i)) is) g
 
-  pub cancel_none : (rest : List Step) → Goes h rest (front ++ back) → Goes h (Cancelled e.id ∷ rest) (front ++ back)
+  pub cancel_none : (rest : List Turn) → Goes h rest (front ++ back) → Goes h (Cancelled e.id ∷ rest) (front ++ back)
   cancel_none rest g =
       cancel_goes h e.id rest (front ++ back) (front ++ back)
       (map_same (cancel_by h e.id) (front ++ back) (λ x i. cancel-off h e.id x (which x (In-append x front back i)))) g
@@ -106,7 +106,7 @@ module _ (h : Option ℤ) (e : Event) (front back : List Event) (here : Others h
       which x (inl i) = other-off h e.id front here x i
       which x (inr i) = other-off h e.id back there x i
 
-  pub end_middle : (rest : List Step) (time : ℤ) (t t' : Event) → t.cancelled ≡ false → end_by h e.id time t ≡ t' → Goes h rest (front ++ (t ∷ back))
+  pub end_middle : (rest : List Turn) (time : ℤ) (t t' : Event) → t.cancelled ≡ false → end_by h e.id time t ≡ t' → Goes h rest (front ++ (t ∷ back))
       → Goes h (Ended e.id time ∷ rest) (front ++ (t' ∷ back))
   end_middle rest time t t' un is g =
       end_goes h e.id time rest (front ++ (t ∷ back)) (front ++ (t' ∷ back))

@@ -2,7 +2,7 @@
 use Rattle.std.proofs.Common.{◌≡◌, ◌↔◌, ℕ, Bool, true, false, not, ◌⊎◌, inl, inr, refl, sym, ap, ◌∙◌, subst, List, [], ◌∷◌, Option, None, Some, arith}
 use Rattle.std.specs.Prelude.{ℤ, ◌<ℤ◌, ◌≤ℤ◌, int_le, int_lt, filter, map}
 use Rattle.std.proofs.lemmas.Int.{ints}
-use Rattle.cue_laws.specs.Events.{Step, Event, Name, Started, Cancelled, Ended, Passed, high, before, events, can_start, fresh, can_cancel, cancel_by, can_end, end_by, or_so, In, upon, covers, name_of, holders}
+use Rattle.cue_laws.specs.Events.{Turn, Event, Name, Started, Cancelled, Ended, Passed, high, before, events, can_start, fresh, can_cancel, cancel_by, can_end, end_by, or_so, In, upon, covers, name_of, holders}
 use Rattle.cue_laws.specs.Thinning.{IsSound, thinned, KeepsStart, KeepsCancel, KeepsEnds}
 use Rattle.cue_laws.specs.Cueing.{IsRun, cued}
 use Rattle.cue_laws.specs.Laws.{CuePathHolders, NothingLostIsEnough, Invariant, NoStartRefused, CuedIsSound}
@@ -16,24 +16,24 @@ use Rattle.cue_laws.proofs.Fair.{stand}
 use Rattle.cue_laws.proofs.Path.{cue_path, cued_goes, known_of, nothing_lost, front_whole, run_front}
 
 -- one of each
-abbrev ones : List Step → ℕ
+abbrev ones : List Turn → ℕ
 ones s = 1
 
-thinned-ones : (all : List Step) → thinned ones all ≡ all
+thinned-ones : (all : List Turn) → thinned ones all ≡ all
 thinned-ones [] = refl
 thinned-ones (Started id start end ∷ past) = ap (λ l. Started id start end ∷ l) (thinned-ones past)
 thinned-ones (Cancelled id ∷ past) = ap (λ l. Cancelled id ∷ l) (thinned-ones past)
 thinned-ones (Ended id time ∷ past) = ap (λ l. Ended id time ∷ l) (thinned-ones past)
 thinned-ones (Passed h ∷ past) = ap (λ l. Passed h ∷ l) (thinned-ones past)
 
-ends-ones : (all : List Step) → KeepsEnds ones all
+ends-ones : (all : List Turn) → KeepsEnds ones all
 ends-ones [] = tt
 ends-ones (Started id start end ∷ past) = ends-ones past
 ends-ones (Cancelled id ∷ past) = ends-ones past
 ends-ones (Ended id time ∷ past) = (inl (omega arith), ends-ones past)
 ends-ones (Passed h ∷ past) = ends-ones past
 
-keeps_named : (copies : List Step → ℕ) (x y : Event) → name_of x ≡ name_of y → (all : List Step) → KeepsCancel copies x all → KeepsCancel copies y all
+keeps_named : (copies : List Turn → ℕ) (x y : Event) → name_of x ≡ name_of y → (all : List Turn) → KeepsCancel copies x all → KeepsCancel copies y all
 keeps_named copies x y name [] k = k
 keeps_named copies x y name (Started id start end ∷ past) k = keeps_named copies x y name past k
 keeps_named copies x y name (Cancelled id ∷ past) (inl k) =
@@ -47,7 +47,7 @@ or-cases a true is = inr refl
 or-cases a false is = inl is
 
 -- an event is cancelled by a cancel
-cancel_origin : (all : List Step) (x : Event) → In x (events all) → x.cancelled ≡ true → KeepsCancel ones x all
+cancel_origin : (all : List Turn) (x : Event) → In x (events all) → x.cancelled ≡ true → KeepsCancel ones x all
 cancel_origin [] x i c = absurd i
 cancel_origin (Started id start end ∷ past) x i c =
     by_test (can_start (high past) id start end (events past))
@@ -83,7 +83,7 @@ nothing_lost_is_enough h past r = record {
   ends = ends-ones all;
 }
   where
-    all : List Step
+    all : List Turn
     all = cued (Passed h ∷ past)
 
     sound : IsSound all
@@ -145,7 +145,7 @@ cue_path_holders copies h past later last r k time b =
     (λ x y i j. let p = In-filtered (covers time) x there i in let q = In-filtered (covers time) y there j in
     one_start x y p.0 q.0 (covers-parts time x p.1) (covers-parts time y q.1) (decide_start x.start y.start)))
   where
-    front : List Step
+    front : List Turn
     front = cued (Passed h ∷ past)
 
     here : List Event

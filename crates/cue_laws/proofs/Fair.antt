@@ -2,7 +2,7 @@
 use Rattle.std.proofs.Common.{◌≡◌, ℕ, Bool, true, false, ◌⊎◌, inl, inr, refl, sym, ap, ◌∙◌, subst, List, [], ◌∷◌, Option, None, Some, arith}
 use Rattle.std.specs.Prelude.{ℤ, ◌<ℤ◌, ◌≤ℤ◌, map, is_some}
 use Rattle.std.proofs.lemmas.Int.{ints}
-use Rattle.cue_laws.specs.Events.{Step, Event, Started, Cancelled, Ended, Passed, high, before, events, Rises, is_of, fresh, can_cancel, cancel_by, can_end, end_by, or_so}
+use Rattle.cue_laws.specs.Events.{Turn, Event, Started, Cancelled, Ended, Passed, high, before, events, Rises, is_of, fresh, can_cancel, cancel_by, can_end, end_by, or_so}
 use Rattle.cue_laws.specs.Cueing.{MayBeAccepted, IsRun, Told, Untold, Known, Never, Sender, told_now, tell, change, senders}
 use Rattle.cue_laws.proofs.Settling.{by_test, both, can_start-parts, can_end-parts}
 use Rattle.cue_laws.proofs.Orders.{Orderly, orderly-none, orderly-map, orderly-fresh, orderly-passed, Clear, clear-can, clear-map, Shrinks, cancel-shrinks, end-shrinks, or-left}
@@ -34,7 +34,7 @@ abbrev pub Fair : Option ℤ → List Sender → Type 0
 Fair h [] = Unit {0}
 Fair h (x ∷ older) = IsFair h x.event x.told (map event_of older) × ((x.told ≡ Untold → ⊥) → AllTold older) × (is_some h ≡ true) × Fair h older
 
--- ---- steps
+-- ---- turns
 
 map-change : (f : Event → Event) (xs : List Sender) → map event_of (map (change f) xs) ≡ map f (map event_of xs)
 map-change f [] = refl
@@ -148,12 +148,12 @@ fair-tell h later r [] a = tt
 fair-tell h later r (x ∷ xs) a =
     (fair-told later x.event h x.told (map event_of xs) a.0 (map event_of (map (tell h later) xs)), λ told. told-tell h later xs, clock-later h later r a.2, fair-tell h later r xs a.3)
 
-pub record Stand (past : List Step) : Type 0 where
+pub record Stand (past : List Turn) : Type 0 where
   pub same : map event_of (senders past) ≡ events past
   pub order : Orderly (high past) (events past)
   pub fair : Fair (high past) (senders past)
 
-pub stand_step : (s : Step) (past : List Step) → MayBeAccepted s past → Stand past → Stand (s ∷ past)
+pub stand_step : (s : Turn) (past : List Turn) → MayBeAccepted s past → Stand past → Stand (s ∷ past)
 stand_step (Started id start end) past m k =
     let can = can_start-parts (high past) id start end (events past) m in
     record {
@@ -177,6 +177,6 @@ stand_step (Passed later) past m k = record {
   fair = fair-tell (high past) later m (senders past) k.fair;
 }
 
-pub stand : (run : List Step) → IsRun run → Stand run
+pub stand : (run : List Turn) → IsRun run → Stand run
 stand [] r = record { same = refl; order = orderly-none; fair = tt }
 stand (s ∷ past) r = stand_step s past r.0 (stand past r.1)

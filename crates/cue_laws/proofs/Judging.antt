@@ -2,7 +2,7 @@
 use Rattle.std.specs.Prelude.{ℤ, pos, ◌+ℤ◌, map}
 use Rattle.std.proofs.Common.{◌≡◌, ℕ, zero, suc, true, sym, ap, ◌∙◌, subst, List, [], ◌∷◌, arith}
 use Rattle.std.proofs.lemmas.Int.{ints}
-use Rattle.cue_laws.specs.Events.{Step, Started, Cancelled, Ended, Passed, high, before, events, Rises, NeverFalls, stands, covers, name_of, holders, upon}
+use Rattle.cue_laws.specs.Events.{Turn, Started, Cancelled, Ended, Passed, high, before, events, Rises, NeverFalls, stands, covers, name_of, holders, upon}
 use Rattle.cue_laws.specs.Thinning.{IsSound, times, thinned}
 use Rattle.cue_laws.specs.Cueing.{IsRun, cued}
 use Rattle.cue_laws.specs.Tables.{standing}
@@ -14,26 +14,26 @@ use Rattle.cue_laws.proofs.Path.{cued_goes, run_front}
 use Rattle.cue_laws.proofs.Enough.{covers-parts, cue_path_holders}
 use Rattle.cue_laws.proofs.Forgetting.{filter-filter, forgetting_is_safe}
 
-falls-starts : (n id : ℕ) (start end : ℤ) (rest : List Step) → NeverFalls rest → NeverFalls (times n (Started id start end) rest)
+falls-starts : (n id : ℕ) (start end : ℤ) (rest : List Turn) → NeverFalls rest → NeverFalls (times n (Started id start end) rest)
 falls-starts zero id start end rest f = f
 falls-starts (suc n) id start end rest f = falls-starts n id start end rest f
 
-falls-cancels : (n id : ℕ) (rest : List Step) → NeverFalls rest → NeverFalls (times n (Cancelled id) rest)
+falls-cancels : (n id : ℕ) (rest : List Turn) → NeverFalls rest → NeverFalls (times n (Cancelled id) rest)
 falls-cancels zero id rest f = f
 falls-cancels (suc n) id rest f = falls-cancels n id rest f
 
-falls-ends : (n id : ℕ) (time : ℤ) (rest : List Step) → NeverFalls rest → NeverFalls (times n (Ended id time) rest)
+falls-ends : (n id : ℕ) (time : ℤ) (rest : List Turn) → NeverFalls rest → NeverFalls (times n (Ended id time) rest)
 falls-ends zero id time rest f = f
 falls-ends (suc n) id time rest f = falls-ends n id time rest f
 
-falls-thinned : (copies : List Step → ℕ) (all : List Step) → IsSound all → NeverFalls (thinned copies all)
+falls-thinned : (copies : List Turn → ℕ) (all : List Turn) → IsSound all → NeverFalls (thinned copies all)
 falls-thinned copies [] s = tt
 falls-thinned copies (Started id start end ∷ past) s = falls-starts (copies (Started id start end ∷ past)) id start end (thinned copies past) (falls-thinned copies past s.1)
 falls-thinned copies (Cancelled id ∷ past) s = falls-cancels (copies (Cancelled id ∷ past)) id (thinned copies past) (falls-thinned copies past s.1)
 falls-thinned copies (Ended id time ∷ past) s = falls-ends (copies (Ended id time ∷ past)) id time (thinned copies past) (falls-thinned copies past s.1)
 falls-thinned copies (Passed h ∷ past) s = (subst (λ k. Rises k h) (sym (high-thinned copies past)) s.0, falls-thinned copies past s.1)
 
-falls-run : (run : List Step) → IsRun run → NeverFalls run
+falls-run : (run : List Turn) → IsRun run → NeverFalls run
 falls-run [] r = tt
 falls-run (Started id start end ∷ past) r = falls-run past r.1
 falls-run (Cancelled id ∷ past) r = falls-run past r.1
@@ -41,7 +41,7 @@ falls-run (Ended id time ∷ past) r = falls-run past r.1
 falls-run (Passed h ∷ past) r = (r.0, falls-run past r.1)
 
 -- what holds a time not ten seconds back is not forgotten
-holders-standing : (all : List Step) → NeverFalls all → (time : ℤ) → before (high all) (time +ℤ pos 900000) ≡ true → holders time (standing all) ≡ holders time (events all)
+holders-standing : (all : List Turn) → NeverFalls all → (time : ℤ) → before (high all) (time +ℤ pos 900000) ≡ true → holders time (standing all) ≡ holders time (events all)
 holders-standing all falls time near =
     ap (holders time) (forgetting_is_safe all falls)
     ∙ ap (map name_of) (filter-filter (covers time) (stands (high all))

@@ -2,7 +2,7 @@
 use Rattle.std.proofs.Common.{◌≡◌, ℕ, ◌<◌, zero, suc, Bool, true, false, ◌&&◌, ◌⊎◌, inl, inr, refl, sym, ap, ◌∙◌, subst, List, [], ◌∷◌, Option, arith}
 use Rattle.std.specs.Prelude.{ℤ, pos, ◌+ℤ◌, ◌<ℤ◌, map}
 use Rattle.std.proofs.lemmas.Int.{ints}
-use Rattle.cue_laws.specs.Events.{Step, Event, Name, Started, Cancelled, Ended, Passed, high, before, events, taken, NeverFalls, stands, is_of, can_start, fresh, can_cancel, cancel_by, end_by, or_so, name_of, In, upon}
+use Rattle.cue_laws.specs.Events.{Turn, Event, Name, Started, Cancelled, Ended, Passed, high, before, events, taken, NeverFalls, stands, is_of, can_start, fresh, can_cancel, cancel_by, end_by, or_so, name_of, In, upon}
 use Rattle.cue_laws.specs.Thinning.{MayCome, IsSound, times, thinned, KeepsEnds, KeepsStart, KeepsCancel, Knows}
 use Rattle.cue_laws.specs.Laws.{LostCues, LostCuesAtTheEnd}
 use Rattle.cue_laws.proofs.Settling.{by_test, reached_upon}
@@ -12,7 +12,7 @@ use Rattle.cue_laws.proofs.Below.{Below, Match, match-can_cancel, start_taken}
 use Rattle.cue_laws.proofs.Thin.{high-starts, high-thinned, there, below_starts, below}
 
 -- an event comes from its start
-pub origin : (all : List Step) (a : Event) → In a (events all) → In (Started a.id a.start a.asked) all
+pub origin : (all : List Turn) (a : Event) → In a (events all) → In (Started a.id a.start a.asked) all
 origin [] a i = absurd i
 origin (Started id start end ∷ past) a i =
     by_test (can_start (high past) id start end (events past))
@@ -35,18 +35,18 @@ origin (Passed h ∷ past) a i = inr (origin past a i)
 abbrev Has : ℤ → List Event → Type 0
 Has start es = (e : Event) × In e es × (e.start ≡ start)
 
-has_more : (h : Option ℤ) (s : Step) (start : ℤ) (es : List Event) → Has start es → Has start (taken h s es)
+has_more : (h : Option ℤ) (s : Turn) (start : ℤ) (es : List Event) → Has start es → Has start (taken h s es)
 has_more h (Started id from to) start es e =
     by_test (can_start h id from to es) (λ can. simp can (e.0, inr e.1, e.2)) (λ can. simp can e)
 has_more h (Cancelled id) start es e = (cancel_by h id e.0, In-map (cancel_by h id) e.0 es e.1, e.2)
 has_more h (Ended id time) start es e = (end_by h id time e.0, In-map (end_by h id time) e.0 es e.1, e.2)
 has_more h (Passed later) start es e = e
 
-has_times : (n : ℕ) (s : Step) (start : ℤ) (rest : List Step) → Has start (events rest) → Has start (events (times n s rest))
+has_times : (n : ℕ) (s : Turn) (start : ℤ) (rest : List Turn) → Has start (events rest) → Has start (events (times n s rest))
 has_times zero s start rest e = e
 has_times (suc n) s start rest e = has_more (high (times n s rest)) s start (events (times n s rest)) (has_times n s start rest e)
 
-In-times : (x s : Step) (n : ℕ) (rest : List Step) → In x (times n s rest) → ((x ≡ s) × (0 < n)) ⊎ In x rest
+In-times : (x s : Turn) (n : ℕ) (rest : List Turn) → In x (times n s rest) → ((x ≡ s) × (0 < n)) ⊎ In x rest
 In-times x s zero rest i = inr i
 In-times x s (suc n) rest (inl is) = inl (is, omega arith)
 In-times x s (suc n) rest (inr i) = again (In-times x s n rest i)
@@ -55,13 +55,13 @@ In-times x s (suc n) rest (inr i) = again (In-times x s n rest i)
     again (inl k) = inl (k.0, omega arith)
     again (inr j) = inr j
 
-In-under : (x s : Step) (n : ℕ) (rest : List Step) → In x rest → In x (times n s rest)
+In-under : (x s : Turn) (n : ℕ) (rest : List Turn) → In x rest → In x (times n s rest)
 In-under x s zero rest i = i
 In-under x s (suc n) rest i = inr (In-under x s n rest i)
 
-module _ (copies : List Step → ℕ) where
+module _ (copies : List Turn → ℕ) where
   -- a start cue that is left arms its event, if it was not armed before
-  armed : (n id : ℕ) (start end : ℤ) (past : List Step) → MayCome (Started id start end) past → Orderly (high past) (events past)
+  armed : (n id : ℕ) (start end : ℤ) (past : List Turn) → MayCome (Started id start end) past → Orderly (high past) (events past)
       → Below (events (thinned copies past)) (events past) → 0 < n → Has start (events (times n (Started id start end) (thinned copies past)))
   armed zero id start end past m o b some = absurd (omega (arith, some))
   armed (suc n) id start end past m o b some =
@@ -76,7 +76,7 @@ module _ (copies : List Step → ℕ) where
           let can = start_taken (high past) id start end es (events (Started id start end ∷ past)) x.0 (orderly_step (Started id start end) past m o) x.1 c none in
           simp can (fresh id start end, inl refl, refl)
 
-  pub kept_armed : (all : List Step) → IsSound all → KeepsEnds copies all → (id : ℕ) (start end : ℤ) → In (Started id start end) (thinned copies all) → Has start (events (thinned copies all))
+  pub kept_armed : (all : List Turn) → IsSound all → KeepsEnds copies all → (id : ℕ) (start end : ℤ) → In (Started id start end) (thinned copies all) → Has start (events (thinned copies all))
   kept_armed [] s k id start end i = absurd i
   kept_armed (Started id' start' end' ∷ past) s k id start end i =
       which (In-times (Started id start end) (Started id' start' end') (copies (Started id' start' end' ∷ past)) (thinned copies past) i)
@@ -121,20 +121,20 @@ cancelled-map f shrinks start es all x i is =
     let old : r.0.start ≡ start = sym s.start ∙ sym (ap (λ (z : Event). z.start) r.2) ∙ is in
     subst (λ (z : Event). z.cancelled ≡ true) (sym r.2) (s.cancelled (all r.0 r.1 old))
 
-cancelled-cancels : (n id : ℕ) (start : ℤ) (rest : List Step) → AllCancelled start (events rest) → AllCancelled start (events (times n (Cancelled id) rest))
+cancelled-cancels : (n id : ℕ) (start : ℤ) (rest : List Turn) → AllCancelled start (events rest) → AllCancelled start (events (times n (Cancelled id) rest))
 cancelled-cancels zero id start rest all = all
 cancelled-cancels (suc n) id start rest all =
     let h = high (times n (Cancelled id) rest) in
     cancelled-map (cancel_by h id) (cancel-shrinks h id) start (events (times n (Cancelled id) rest)) (cancelled-cancels n id start rest all)
 
-cancelled-ends : (n id : ℕ) (time start : ℤ) (rest : List Step) → AllCancelled start (events rest) → AllCancelled start (events (times n (Ended id time) rest))
+cancelled-ends : (n id : ℕ) (time start : ℤ) (rest : List Turn) → AllCancelled start (events rest) → AllCancelled start (events (times n (Ended id time) rest))
 cancelled-ends zero id time start rest all = all
 cancelled-ends (suc n) id time start rest all =
     let h = high (times n (Ended id time) rest) in
     cancelled-map (end_by h id time) (end-shrinks h id time) start (events (times n (Ended id time) rest)) (cancelled-ends n id time start rest all)
 
 -- what start cues add has their start
-added : (n id : ℕ) (start end : ℤ) (rest : List Step) (a : Event) → In a (events (times n (Started id start end) rest)) → (a.start ≡ start) ⊎ In a (events rest)
+added : (n id : ℕ) (start end : ℤ) (rest : List Turn) (a : Event) → In a (events (times n (Started id start end) rest)) → (a.start ≡ start) ⊎ In a (events rest)
 added zero id start end rest a i = inr i
 added (suc n) id start end rest a i =
     let h = high (times n (Started id start end) rest) in
@@ -153,12 +153,12 @@ cancels_it h id e is ahead some =
     let s : stands h e ≡ true = before-more h e.start (e.end +ℤ pos 900000) ahead (omega (arith, ints)) in
     let o = is_of-is h id e s is in simp (o, ahead)
 
-module _ (copies : List Step → ℕ) where
+module _ (copies : List Turn → ℕ) where
   -- a cancel cue that is left has done its work on both sides
-  abbrev Gone : Event → List Step → Type 0
+  abbrev Gone : Event → List Turn → Type 0
   Gone x past = Has x.start (events past) × AllCancelled x.start (events past) × AllCancelled x.start (events (thinned copies past))
 
-  gone_starts : (x : Event) (id : ℕ) (start end : ℤ) (past : List Step) → MayCome (Started id start end) past → Orderly (high past) (events past)
+  gone_starts : (x : Event) (id : ℕ) (start end : ℤ) (past : List Turn) → MayCome (Started id start end) past → Orderly (high past) (events past)
       → Gone x past → Gone x (Started id start end ∷ past)
   gone_starts x id start end past m o g =
       (mine, all, λ a i is. kept a is (added (copies (Started id start end ∷ past)) id start end (thinned copies past) a i))
@@ -185,7 +185,7 @@ module _ (copies : List Step → ℕ) where
       kept a is (inr j) = g.2 a j is
 
   -- at the cancel itself
-  gone_now : (x : Event) (n id : ℕ) (past : List Step) → Orderly (high past) (events past) → Below (events (thinned copies past)) (events past)
+  gone_now : (x : Event) (n id : ℕ) (past : List Turn) → Orderly (high past) (events past) → Below (events (thinned copies past)) (events past)
       → id ≡ x.id → before (high past) x.start ≡ true → Knows x (events past) → 0 < n
       → AllCancelled x.start (map (cancel_by (high past) id) (events past)) × AllCancelled x.start (events (times n (Cancelled id) (thinned copies past)))
   gone_now x n id past o b is ahead knows some = (there_cancelled, here n some)
@@ -219,7 +219,7 @@ module _ (copies : List Step → ℕ) where
           let h = high (times (suc n) (Cancelled id) (thinned copies past)) in
           cancelled-map (cancel_by h id) (cancel-shrinks h id) x.start (events (times (suc n) (Cancelled id) (thinned copies past))) (here (suc n) (omega arith))
 
-  gone : (x : Event) (all : List Step) → IsSound all → KeepsEnds copies all → KeepsCancel copies x all → Gone x all
+  gone : (x : Event) (all : List Turn) → IsSound all → KeepsEnds copies all → KeepsCancel copies x all → Gone x all
   gone x [] s k c = absurd c
   gone x (Started id start end ∷ past) s k c = gone_starts x id start end past s.0 (orderly past s.1) (gone x past s.1 k c)
   gone x (Cancelled id ∷ past) s k (inl c) =
@@ -242,25 +242,25 @@ module _ (copies : List Step → ℕ) where
 
 -- ---- fronts
 
-falls : (all : List Step) → IsSound all → NeverFalls all
+falls : (all : List Turn) → IsSound all → NeverFalls all
 falls [] s = tt
 falls (Started id start end ∷ past) s = falls past s.1
 falls (Cancelled id ∷ past) s = falls past s.1
 falls (Ended id time ∷ past) s = falls past s.1
 falls (Passed h ∷ past) s = (s.0, falls past s.1)
 
-sound_front : (front later : List Step) → IsSound (upon later front) → IsSound front
+sound_front : (front later : List Turn) → IsSound (upon later front) → IsSound front
 sound_front front [] s = s
 sound_front front (x ∷ later) s = sound_front front later s.1
 
-pub ends_front : (copies : List Step → ℕ) (front later : List Step) → KeepsEnds copies (upon later front) → KeepsEnds copies front
+pub ends_front : (copies : List Turn → ℕ) (front later : List Turn) → KeepsEnds copies (upon later front) → KeepsEnds copies front
 ends_front copies front [] k = k
 ends_front copies front (Started id start end ∷ later) k = ends_front copies front later k
 ends_front copies front (Cancelled id ∷ later) k = ends_front copies front later k
 ends_front copies front (Ended id time ∷ later) k = ends_front copies front later k.1
 ends_front copies front (Passed h ∷ later) k = ends_front copies front later k
 
-kept_later : (copies : List Step → ℕ) (x : Step) (front later : List Step) → In x (thinned copies front) → In x (thinned copies (upon later front))
+kept_later : (copies : List Turn → ℕ) (x : Turn) (front later : List Turn) → In x (thinned copies front) → In x (thinned copies (upon later front))
 kept_later copies x front [] i = i
 kept_later copies x front (Started id start end ∷ later) i = In-under x _ (copies (Started id start end ∷ upon later front)) _ (kept_later copies x front later i)
 kept_later copies x front (Cancelled id ∷ later) i = In-under x _ (copies (Cancelled id ∷ upon later front)) _ (kept_later copies x front later i)
@@ -268,7 +268,7 @@ kept_later copies x front (Ended id time ∷ later) i = In-under x _ (copies (En
 kept_later copies x front (Passed h ∷ later) i = inr (kept_later copies x front later i)
 
 -- a start cue of an event that has begun came before
-kept_before : (copies : List Step → ℕ) (id : ℕ) (start end : ℤ) (front later : List Step) → IsSound (upon later front) → before (high front) start ≡ false
+kept_before : (copies : List Turn → ℕ) (id : ℕ) (start end : ℤ) (front later : List Turn) → IsSound (upon later front) → before (high front) start ≡ false
     → In (Started id start end) (thinned copies (upon later front)) → In (Started id start end) (thinned copies front)
 kept_before copies id start end front [] s b i = i
 kept_before copies id start end front (Started id' start' end' ∷ later) s b i =
@@ -303,7 +303,7 @@ kept_before copies id start end front (Passed h ∷ later) s b (inl is) = cc
 kept_before copies id start end front (Passed h ∷ later) s b (inr i) = kept_before copies id start end front later s.1 b i
 
 -- and so did its cancel
-cancel_before : (copies : List Step → ℕ) (x : Event) (front later : List Step) → IsSound (upon later front) → before (high front) x.start ≡ false
+cancel_before : (copies : List Turn → ℕ) (x : Event) (front later : List Turn) → IsSound (upon later front) → before (high front) x.start ≡ false
     → KeepsCancel copies x (upon later front) → KeepsCancel copies x front
 cancel_before copies x front [] s b k = k
 cancel_before copies x front (Started id start end ∷ later) s b k = cancel_before copies x front later s.1 b k
@@ -327,7 +327,7 @@ or_neither : (a b : Bool) → b ≡ false → or_so a b ≡ a
 or_neither a true is = cc
 or_neither a false is = refl
 
-stays_step : (h : Option ℤ) (s : Step) (es : List Event) (x : Event) → before h x.start ≡ false → Stays x es → Stays x (taken h s es)
+stays_step : (h : Option ℤ) (s : Turn) (es : List Event) (x : Event) → before h x.start ≡ false → Stays x es → Stays x (taken h s es)
 stays_step h (Started id start end) es x b y = by_test (can_start h id start end es) (λ can. simp can (y.0, inr y.1, y.2, y.3)) (λ can. simp can y)
 stays_step h (Cancelled id) es x b y =
     let start : y.0.start ≡ x.start = ap (λ (z : Name). z.start) y.2 in
@@ -336,12 +336,12 @@ stays_step h (Cancelled id) es x b y =
 stays_step h (Ended id time) es x b y = (end_by h id time y.0, In-map (end_by h id time) y.0 es y.1, y.2, y.3)
 stays_step h (Passed later) es x b y = y
 
-stays : (front later : List Step) → NeverFalls (upon later front) → (x : Event) → before (high front) x.start ≡ false → In x (events front) → Stays x (events (upon later front))
+stays : (front later : List Turn) → NeverFalls (upon later front) → (x : Event) → before (high front) x.start ≡ false → In x (events front) → Stays x (events (upon later front))
 stays front [] n x b i = (x, i, refl, refl)
 stays front (s ∷ later) n x b i =
     stays_step (high (upon later front)) s (events (upon later front)) x (reached_upon front later x.start (less s n) b) (stays front later (less s n) x b i)
   where
-    less : (s : Step) → NeverFalls (s ∷ upon later front) → NeverFalls (upon later front)
+    less : (s : Turn) → NeverFalls (s ∷ upon later front) → NeverFalls (upon later front)
     less (Started id start end) n = n
     less (Cancelled id) n = n
     less (Ended id time) n = n
@@ -360,7 +360,7 @@ equal_events a t p q r s u =
 matched_equal : (a t : Event) → Match a t → a.cancelled ≡ t.cancelled → a ≡ t
 matched_equal a t m c = equal_events a t m.id m.start m.asked m.end c
 
-module _ (copies : List Step → ℕ) (front : List Step) (sound : IsSound front) (ends : KeepsEnds copies front) where
+module _ (copies : List Turn → ℕ) (front : List Turn) (sound : IsSound front) (ends : KeepsEnds copies front) where
   -- from what is left: `no_cancel` says that the event there is not cancelled
   forth : (x : Event) → x.cancelled ≡ false → ((t : Event) → In t (events front) → name_of t ≡ name_of x → t.cancelled ≡ true → ⊥)
       → In x (events (thinned copies front)) → In x (events front)

@@ -3,7 +3,7 @@ use Rattle.std.proofs.Common.{◌≡◌, ℕ, ◌<◌, ◌≤◌, ◌==◌, Bool
 use Rattle.std.specs.Prelude.{ℤ, pos, ◌+ℤ◌, ◌<ℤ◌, ◌≤ℤ◌, int_lt, map, is_some, if◌then◌else◌}
 use Rattle.std.proofs.lemmas.Int.{ints}
 use Rattle.std.proofs.lemmas.Bool.Decides.{nat_tests}
-use Rattle.cue_laws.specs.Events.{Step, Event, Started, Cancelled, Ended, Passed, high, before, events, Rises, stands, is_of, bars, count, can_start, fresh, can_cancel, cancel_by, can_end, end_by, or_so, In}
+use Rattle.cue_laws.specs.Events.{Turn, Event, Started, Cancelled, Ended, Passed, high, before, events, Rises, stands, is_of, bars, count, can_start, fresh, can_cancel, cancel_by, can_end, end_by, or_so, In}
 use Rattle.cue_laws.specs.Thinning.{MayCome, IsSound}
 use Rattle.cue_laws.proofs.Settling.{by_test, both, ge-test, can_start-parts, CanStart, can_end-parts}
 use Rattle.cue_laws.proofs.Lists.{In-mapped, any-false, Distinct, distinct-map}
@@ -260,7 +260,7 @@ orderly-none = record {
   room = omega arith;
 }
 
-pub orderly_step : (s : Step) (past : List Step) → MayCome s past → Orderly (high past) (events past) → Orderly (high (s ∷ past)) (events (s ∷ past))
+pub orderly_step : (s : Turn) (past : List Turn) → MayCome s past → Orderly (high past) (events past) → Orderly (high (s ∷ past)) (events (s ∷ past))
 orderly_step (Started id start end) past m o =
     by_test (can_start (high past) id start end (events past))
     (λ can. simp can (orderly-fresh (high past) id start end (events past) (can_start-parts _ _ _ _ _ can) o))
@@ -269,6 +269,6 @@ orderly_step (Cancelled id) past m o = orderly-map (high past) (cancel_by (high 
 orderly_step (Ended id time) past m o = orderly-map (high past) (end_by (high past) id time) (end-shrinks (high past) id time) (events past) o
 orderly_step (Passed h) past m o = orderly-passed (high past) h m (events past) o
 
-pub orderly : (all : List Step) → IsSound all → Orderly (high all) (events all)
+pub orderly : (all : List Turn) → IsSound all → Orderly (high all) (events all)
 orderly [] s = orderly-none
 orderly (x ∷ past) s = orderly_step x past s.0 (orderly past s.1)

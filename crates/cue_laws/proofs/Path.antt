@@ -2,7 +2,7 @@
 use Rattle.std.proofs.Common.{◌≡◌, ◌↔◌, ℕ, Bool, true, false, ◌⊎◌, inl, inr, refl, sym, ap, ◌∙◌, subst, List, [], ◌∷◌, ◌++◌, Option, arith, append_assoc}
 use Rattle.std.specs.Prelude.{ℤ, pos, ◌+ℤ◌, int_lt, map, if◌then◌else◌}
 use Rattle.std.proofs.lemmas.Int.{ints}
-use Rattle.cue_laws.specs.Events.{Step, Event, Started, Cancelled, Ended, Passed, high, events, Rises, stands, cancel_by, end_by, In, upon}
+use Rattle.cue_laws.specs.Events.{Turn, Event, Started, Cancelled, Ended, Passed, high, events, Rises, stands, cancel_by, end_by, In, upon}
 use Rattle.cue_laws.specs.Thinning.{IsSound, KeepsEnough}
 use Rattle.cue_laws.specs.Cueing.{IsRun, Told, Untold, Known, Never, Sender, is_cancel_new, is_news, current, is_due, end_on, told_on, block_on, told_now, tell, change, senders, cued}
 use Rattle.cue_laws.specs.Laws.{KeepsEnoughOf, CuePath, CuePathAtTheEnd}
@@ -80,14 +80,14 @@ module _ (h later : Option ℤ) where
 
   -- ---- one event, and all
 
-  step : (e : Event) (last : Option ℤ) (told : Told) (older front back : List Event) (rest : List Step) → About h e older front back → IsFair h e told older
+  turn : (e : Event) (last : Option ℤ) (told : Told) (older front back : List Event) (rest : List Turn) → About h e older front back → IsFair h e told older
       → (told ≡ Untold → front ≡ []) → Goes h rest (front ++ told_by told back) → Goes h (told_on h later e last told rest) (front ++ told_by (told_now e told) back)
-  step e last Untold older front back rest about fair none g =
+  turn e last Untold older front back rest about fair none g =
       by_test e.cancelled
       (λ c. simp c (tell_cancelled h later e older front back about rest fair g))
       (λ c. simp c (tell_start h later e older front back about rest (none refl) c fair g))
-  step e last (Known t) older front back rest about fair none g = tell_known h later e older front back about last rest t fair g
-  step e last Never older front back rest about fair none g = repeat_never h later e older front back about last rest fair g
+  turn e last (Known t) older front back rest about fair none g = tell_known h later e older front back about last rest t fair g
+  turn e last Never older front back rest about fair none g = repeat_never h later e older front back about last rest fair g
 
   -- one that is known stands where what was told of it does
   stands_told : (e t : Event) → IsKnown h e t → stands h t ≡ true → stands h e ≡ true
@@ -96,7 +96,7 @@ module _ (h later : Option ℤ) where
       (λ l. before-more h e.end (e.end +ℤ pos 900000) (k.end_new (lt-test e.end t.end l)).0 (omega (arith, ints)))
       (λ l. let x = ge-test e.end t.end l in before-more h (t.end +ℤ pos 900000) (e.end +ℤ pos 900000) s (omega (arith, ints, x)))
 
-  block : (xs : List Sender) (front : List Event) (rest : List Step) → Fair h xs → Orderly h (map event_of xs) → (front ≡ []) ⊎ AllTold xs
+  block : (xs : List Sender) (front : List Event) (rest : List Turn) → Fair h xs → Orderly h (map event_of xs) → (front ≡ []) ⊎ AllTold xs
       → ((x : Sender) → In x xs → stands h x.event ≡ true → Others h x.event.id front)
       → Goes h rest (front ++ told_of xs) → Goes h (block_on h later xs rest) (front ++ told_of (map (tell h later) xs))
   block [] front rest fair order ahead newer g = g
@@ -107,7 +107,7 @@ module _ (h later : Option ℤ) where
       block xs front' rest fair.3 (orderly-tail h x.event (map event_of xs) order) (next ahead x.told fair.1 (untold ahead))
       (λ y i s e j t is. others y i s e (In-append e front (told_by x.told []) j) t is)
       (goes-to h rest (front ++ told_by x.told (told_of xs)) (front' ++ told_of xs) (sym (told-apart front x.told (told_of xs))) g) in
-      step x.event x.last x.told (map event_of xs) front back (block_on h later xs rest)
+      turn x.event x.last x.told (map event_of xs) front back (block_on h later xs rest)
       (record {
         clock = fair.2;
         order = order;
@@ -145,7 +145,7 @@ module _ (h later : Option ℤ) where
           apart y.event (In-map event_of y xs i) s k.1 (sym is ∙ k.0)
 
 -- THE STREAM OF A RUN may come, and what was told is what a splicer has
-pub cued_goes : (run : List Step) → IsRun run → Goes (high run) (cued run) (told_of (senders run))
+pub cued_goes : (run : List Turn) → IsRun run → Goes (high run) (cued run) (told_of (senders run))
 cued_goes [] r = record { sound = tt; clock = refl; list = refl }
 cued_goes (Started id start end ∷ past) r = cued_goes past r.1
 cued_goes (Cancelled id ∷ past) r = goes-to (high past) (cued past) _ _ (sym (told_of-change (cancel_by (high past) id) (senders past))) (cued_goes past r.1)
@@ -157,31 +157,31 @@ cued_goes (Passed later ∷ past) r =
     record { sound = (subst (λ k. Rises k later) (sym g.clock) r.0, g.sound); clock = refl; list = g.list }
 
 -- with nothing lost, behind a packet
-pub nothing_lost : (h : Option ℤ) (past : List Step) → IsRun (Passed h ∷ past) → (x : Event) → x.cancelled ≡ false → In x (events (cued (Passed h ∷ past))) ↔ In x (events (Passed h ∷ past))
+pub nothing_lost : (h : Option ℤ) (past : List Turn) → IsRun (Passed h ∷ past) → (x : Event) → x.cancelled ≡ false → In x (events (cued (Passed h ∷ past))) ↔ In x (events (Passed h ∷ past))
 nothing_lost h past r x c =
     let s = stand past r.1 in let g = cued_goes (Passed h ∷ past) r in (
       λ i. subst (In x) s.same (now_part (high past) h (senders past) x (subst (In x) g.list i)),
       λ i. subst (In x) (sym g.list) (now_all (high past) h (senders past) s.fair x c (subst (In x) (sym s.same) i)),
     )
 
-pub known_of : (h : Option ℤ) (past : List Step) → IsRun (Passed h ∷ past) → (x : Event) → In x (events (cued (Passed h ∷ past))) → In x (events (Passed h ∷ past))
+pub known_of : (h : Option ℤ) (past : List Turn) → IsRun (Passed h ∷ past) → (x : Event) → In x (events (cued (Passed h ∷ past))) → In x (events (Passed h ∷ past))
 known_of h past r x i =
     let s = stand past r.1 in let g = cued_goes (Passed h ∷ past) r in
     subst (In x) s.same (now_part (high past) h (senders past) x (subst (In x) g.list i))
 
 -- ---- fronts of a stream
 
-abbrev pub IsFront : List Step → List Step → Type 0
-IsFront front all = (later : List Step) × (all ≡ upon later front)
+abbrev pub IsFront : List Turn → List Turn → Type 0
+IsFront front all = (later : List Turn) × (all ≡ upon later front)
 
-front_more : (s : Step) (front all : List Step) → IsFront front all → IsFront front (s ∷ all)
+front_more : (s : Turn) (front all : List Turn) → IsFront front all → IsFront front (s ∷ all)
 front_more s front all f = (s ∷ f.0, ap (λ l. s ∷ l) f.1)
 
-front_if : (b : Bool) (s : Step) (front all : List Step) → IsFront front all → IsFront front (if b then s ∷ all else all)
+front_if : (b : Bool) (s : Turn) (front all : List Turn) → IsFront front all → IsFront front (if b then s ∷ all else all)
 front_if true s front all f = front_more s front all f
 front_if false s front all f = f
 
-front_told : (h later : Option ℤ) (e : Event) (last : Option ℤ) (told : Told) (front all : List Step) → IsFront front all → IsFront front (told_on h later e last told all)
+front_told : (h later : Option ℤ) (e : Event) (last : Option ℤ) (told : Told) (front all : List Turn) → IsFront front all → IsFront front (told_on h later e last told all)
 front_told h later e last Untold front all f =
     by_test e.cancelled
     (λ c. simp c (front_more (Cancelled e.id) front all f))
@@ -192,11 +192,11 @@ front_told h later e last (Known t) front all f =
     (λ n. simp n (front_if (is_due h later e last) (current e) front all f))
 front_told h later e last Never front all f = front_if (is_due h later e last) (current e) front all f
 
-front_block : (h later : Option ℤ) (xs : List Sender) (front all : List Step) → IsFront front all → IsFront front (block_on h later xs all)
+front_block : (h later : Option ℤ) (xs : List Sender) (front all : List Turn) → IsFront front all → IsFront front (block_on h later xs all)
 front_block h later [] front all f = f
 front_block h later (x ∷ xs) front all f = front_told h later x.event x.last x.told front (block_on h later xs all) (front_block h later xs front all f)
 
-pub front_cued : (front later : List Step) → IsFront (cued front) (cued (upon later front))
+pub front_cued : (front later : List Turn) → IsFront (cued front) (cued (upon later front))
 front_cued front [] = ([], refl)
 front_cued front (Started id start end ∷ later) = front_cued front later
 front_cued front (Cancelled id ∷ later) = front_cued front later
@@ -204,11 +204,11 @@ front_cued front (Ended id time ∷ later) = front_cued front later
 front_cued front (Passed h ∷ later) =
     front_more (Passed h) (cued front) _ (front_block (high (upon later front)) h (senders (upon later front)) (cued front) (cued (upon later front)) (front_cued front later))
 
-pub run_front : (front later : List Step) → IsRun (upon later front) → IsRun front
+pub run_front : (front later : List Turn) → IsRun (upon later front) → IsRun front
 run_front front [] r = r
 run_front front (s ∷ later) r = run_front front later r.1
 
-pub front_whole : (h last : Option ℤ) (past later : List Step) → IsFront (cued (Passed h ∷ past)) (cued (Passed last ∷ upon later (Passed h ∷ past)))
+pub front_whole : (h last : Option ℤ) (past later : List Turn) → IsFront (cued (Passed h ∷ past)) (cued (Passed last ∷ upon later (Passed h ∷ past)))
 front_whole h last past later =
     let run = upon later (Passed h ∷ past) in
     front_more (Passed last) (cued (Passed h ∷ past)) (block_on (high run) last (senders run) (cued run))
@@ -216,7 +216,7 @@ front_whole h last past later =
 
 -- ---- the laws
 
-enough : (copies : List Step → ℕ) (h : Option ℤ) (past : List Step) → IsRun (Passed h ∷ past) → KeepsEnoughOf copies (Passed h ∷ past) → KeepsEnough copies (cued (Passed h ∷ past))
+enough : (copies : List Turn → ℕ) (h : Option ℤ) (past : List Turn) → IsRun (Passed h ∷ past) → KeepsEnoughOf copies (Passed h ∷ past) → KeepsEnough copies (cued (Passed h ∷ past))
 enough copies h past r k = record {
   starts = λ x i c. k.starts x (known_of h past r x i) c;
   cancels = λ x i c. k.cancels x (known_of h past r x i) c;

@@ -3,7 +3,7 @@ use Rattle.std.proofs.Common.{◌≡◌, ℕ, Bool, true, false, not, ◌&&◌, 
 use Rattle.std.specs.Prelude.{ℤ, ◌≤ℤ◌, ◌<ℤ◌, int_le, int_lt, map, if◌then◌else◌}
 use Rattle.std.specs.List.{list_any}
 use Rattle.std.proofs.lemmas.Int.{ints}
-use Rattle.cue_laws.specs.Events.{Step, Event, Started, Cancelled, Ended, Passed, high, before, events, taken, Rises, NeverFalls, holders, upon, covers, name_of, can_start, fresh, cancel_by, can_cancel, end_by, can_end, or_so, is_of, bars, count}
+use Rattle.cue_laws.specs.Events.{Turn, Event, Started, Cancelled, Ended, Passed, high, before, events, taken, Rises, NeverFalls, holders, upon, covers, name_of, can_start, fresh, cancel_by, can_cancel, end_by, can_end, or_so, is_of, bars, count}
 use Rattle.cue_laws.specs.Laws.{Settlement}
 
 -- two cases of a test
@@ -110,7 +110,7 @@ can_start-parts h id start end es can =
     let e = both (nat_lt (count h es) 32) _ d.1 in
     record { clock = a.0; some = lt-test _ _ b.0; ahead = c.0; unused = not_true _ d.0; room = e.0; free = not_true _ e.1 }
 
-pub settled_step : (h : Option ℤ) (s : Step) (es : List Event) (time : ℤ) → before h time ≡ false → holders time (taken h s es) ≡ holders time es
+pub settled_step : (h : Option ℤ) (s : Turn) (es : List Event) (time : ℤ) → before h time ≡ false → holders time (taken h s es) ≡ holders time es
 settled_step h (Started id start end) es time b =
     by_test (can_start h id start end es)
     (λ can. let off = covers-fresh h id start end time b (can_start-parts h id start end es can).ahead in simp (can, off))
@@ -119,20 +119,20 @@ settled_step h (Cancelled id) es time b = holders-map time (cancel_by h id) (λ 
 settled_step h (Ended id end) es time b = holders-map time (end_by h id end) (λ e. refl) (covers-ended h id end time b) es
 settled_step h (Passed later) es time b = refl
 
--- of a run, without its last step
-pub falls_not : (s : Step) (past : List Step) → NeverFalls (s ∷ past) → NeverFalls past
+-- of a run, without its last turn
+pub falls_not : (s : Turn) (past : List Turn) → NeverFalls (s ∷ past) → NeverFalls past
 falls_not (Started id start end) past n = n
 falls_not (Cancelled id) past n = n
 falls_not (Ended id end) past n = n
 falls_not (Passed h) past n = n.1
 
-pub reached_step : (s : Step) (past : List Step) (time : ℤ) → NeverFalls (s ∷ past) → before (high past) time ≡ false → before (high (s ∷ past)) time ≡ false
+pub reached_step : (s : Turn) (past : List Turn) (time : ℤ) → NeverFalls (s ∷ past) → before (high past) time ≡ false → before (high (s ∷ past)) time ≡ false
 reached_step (Started id start end) past time n b = b
 reached_step (Cancelled id) past time n b = b
 reached_step (Ended id end) past time n b = b
 reached_step (Passed h) past time n b = reached_later (high past) h time n.0 b
 
-pub reached_upon : (past later : List Step) (time : ℤ) → NeverFalls (upon later past) → before (high past) time ≡ false → before (high (upon later past)) time ≡ false
+pub reached_upon : (past later : List Turn) (time : ℤ) → NeverFalls (upon later past) → before (high past) time ≡ false → before (high (upon later past)) time ≡ false
 reached_upon past [] time n b = b
 reached_upon past (s ∷ later) time n b = let m = falls_not s (upon later past) n in reached_step s (upon later past) time n (reached_upon past later time m b)
 

@@ -2,7 +2,7 @@
 use Rattle.std.proofs.Common.{◌≡◌, Bool, true, false, not, ◌&&◌, ◌⊎◌, inl, inr, refl, sym, ap, ◌∙◌, subst, List, [], ◌∷◌, ◌++◌, Option, arith}
 use Rattle.std.specs.Prelude.{ℤ, pos, ◌+ℤ◌, ◌<ℤ◌, ◌≤ℤ◌, int_lt, is_some, if◌then◌else◌}
 use Rattle.std.proofs.lemmas.Int.{ints}
-use Rattle.cue_laws.specs.Events.{Step, Event, Started, Cancelled, Ended, before, stands, is_of, can_start, fresh, can_cancel, cancel_by, can_end, end_by, In}
+use Rattle.cue_laws.specs.Events.{Turn, Event, Started, Cancelled, Ended, before, stands, is_of, can_start, fresh, can_cancel, cancel_by, can_end, end_by, In}
 use Rattle.cue_laws.specs.Cueing.{Known, is_cancel_new, or_else, is_news, current, limit, is_due, is_second, end_on, cancel_on, repeat_on, told_on}
 use Rattle.cue_laws.proofs.Settling.{by_test, both, lt-test, ge-test, lt-is, can_end-parts, not_true}
 use Rattle.cue_laws.proofs.Lists.{Distinct}
@@ -35,7 +35,7 @@ same_flag true false is k = absurd (let bad : true ≡ false = is in cc)
 same_flag false true is k = let bad = k refl in cc
 same_flag false false is k = refl
 
-if_goes : (h : Option ℤ) (b : Bool) (s : Step) (rest : List Step) (es : List Event) → (b ≡ true → Goes h (s ∷ rest) es) → (b ≡ false → Goes h rest es) → Goes h (if b then s ∷ rest else rest) es
+if_goes : (h : Option ℤ) (b : Bool) (s : Turn) (rest : List Turn) (es : List Event) → (b ≡ true → Goes h (s ∷ rest) es) → (b ≡ false → Goes h rest es) → Goes h (if b then s ∷ rest else rest) es
 if_goes h true s rest es a z = a refl
 if_goes h false s rest es a z = z refl
 
@@ -71,7 +71,7 @@ module _ (h later : Option ℤ) (e : Event) (older front back : List Event) (abo
   stands_end b = before-more h e.end (e.end +ℤ pos 900000) b (omega (arith, ints))
 
   -- a repeat of an event of which only the cancel was told
-  pub repeat_never : (last : Option ℤ) (rest : List Step) → e.cancelled ≡ true → Goes h rest (front ++ back) → Goes h (repeat_on h later e last rest) (front ++ back)
+  pub repeat_never : (last : Option ℤ) (rest : List Turn) → e.cancelled ≡ true → Goes h rest (front ++ back) → Goes h (repeat_on h later e last rest) (front ++ back)
   repeat_never last rest c g =
       let l = limit-cancelled e c in
       if_goes h (is_due h later e last) (current e) rest (front ++ back)
@@ -82,7 +82,7 @@ module _ (h later : Option ℤ) (e : Event) (older front back : List Event) (abo
       (λ due. g)
 
   -- a repeat of one that is known as it is
-  repeat_known : (last : Option ℤ) (rest : List Step) → Goes h rest (front ++ (e ∷ back)) → Goes h (repeat_on h later e last rest) (front ++ (e ∷ back))
+  repeat_known : (last : Option ℤ) (rest : List Turn) → Goes h rest (front ++ (e ∷ back)) → Goes h (repeat_on h later e last rest) (front ++ (e ∷ back))
   repeat_known last rest g =
       if_goes h (is_due h later e last) (current e) rest (front ++ (e ∷ back))
       (λ due. let b = (both (before h (limit e)) (is_second last later) due).0 in
@@ -106,7 +106,7 @@ module _ (h later : Option ℤ) (e : Event) (older front back : List Event) (abo
       (λ due. g)
 
   -- the end that is new
-  end_known : (rest : List Step) (t : Event) → IsKnown h e t → Goes h rest (front ++ (t ∷ back))
+  end_known : (rest : List Turn) (t : Event) → IsKnown h e t → Goes h rest (front ++ (t ∷ back))
       → Goes h (end_on e t.end rest) (front ++ (record { id = t.id; start = t.start; asked = t.asked; end = e.end; cancelled = t.cancelled } ∷ back))
   end_known rest t k g =
       if_goes h (int_lt e.end t.end) (Ended e.id e.end) rest _
@@ -125,7 +125,7 @@ module _ (h later : Option ℤ) (e : Event) (older front back : List Event) (abo
       goes-to h rest _ _ (ap (λ v. front ++ (record { id = t.id; start = t.start; asked = t.asked; end = v; cancelled = t.cancelled } ∷ back)) same) g)
 
   -- then the cancel that is new
-  cancel_known : (rest : List Step) (t : Event) → IsKnown h e t
+  cancel_known : (rest : List Turn) (t : Event) → IsKnown h e t
       → Goes h rest (front ++ (record { id = t.id; start = t.start; asked = t.asked; end = e.end; cancelled = t.cancelled } ∷ back))
       → Goes h (cancel_on e t rest) (front ++ (e ∷ back))
   cancel_known rest t k g =
@@ -146,14 +146,14 @@ module _ (h later : Option ℤ) (e : Event) (older front back : List Event) (abo
       let x = ge-test e.end t.end p.0 in let y = k.earlier in
       equal_events t e k.id k.start k.asked (omega (arith, ints, x, y)) (same_flag e.cancelled t.cancelled p.1 k.cancelled)
 
-  pub tell_known : (last : Option ℤ) (rest : List Step) (t : Event) → IsKnown h e t → Goes h rest (front ++ (t ∷ back)) → Goes h (told_on h later e last (Known t) rest) (front ++ (e ∷ back))
+  pub tell_known : (last : Option ℤ) (rest : List Turn) (t : Event) → IsKnown h e t → Goes h rest (front ++ (t ∷ back)) → Goes h (told_on h later e last (Known t) rest) (front ++ (e ∷ back))
   tell_known last rest t k g =
       by_test (is_news e t)
       (λ n. simp n (cancel_known (end_on e t.end rest) t k (end_known rest t k g)))
       (λ n. simp n (repeat_known last rest (goes-to h rest _ _ (ap (λ z. front ++ (z ∷ back)) (known_as_it_is t k n)) g)))
 
   -- the first cue: nothing was told of newer ones
-  pub tell_start : (rest : List Step) → front ≡ [] → e.cancelled ≡ false → Clear h e.id e.start e.asked older → Goes h rest (front ++ back)
+  pub tell_start : (rest : List Turn) → front ≡ [] → e.cancelled ≡ false → Clear h e.id e.start e.asked older → Goes h rest (front ++ back)
       → Goes h (end_on e e.asked (Started e.id e.start e.asked ∷ rest)) (front ++ (e ∷ back))
   tell_start rest none c clear g =
       subst (λ f. Goes h (end_on e e.asked (Started e.id e.start e.asked ∷ rest)) (f ++ (e ∷ back))) (sym none)
@@ -197,5 +197,5 @@ module _ (h later : Option ℤ) (e : Event) (older front back : List Event) (abo
       started : Goes h (Started e.id e.start e.asked ∷ rest) (fresh e.id e.start e.asked ∷ back)
       started = start_goes h e.id e.start e.asked rest back can bare
 
-  pub tell_cancelled : (rest : List Step) → Clear h e.id e.start e.asked older → Goes h rest (front ++ back) → Goes h (Cancelled e.id ∷ rest) (front ++ back)
+  pub tell_cancelled : (rest : List Turn) → Clear h e.id e.start e.asked older → Goes h rest (front ++ back) → Goes h (Cancelled e.id ∷ rest) (front ++ back)
   tell_cancelled rest clear g = let s = stands_start clear.ahead in cancel_none h e front back (about.newer s) (about.others s) rest g

@@ -2,7 +2,7 @@
 use Rattle.std.proofs.Common.{◌≡◌, ℕ, ◌<◌, zero, suc, true, false, ◌⊎◌, inl, inr, refl, sym, ap, ◌∙◌, subst, List, [], ◌∷◌, Option, arith}
 use Rattle.std.specs.Prelude.{ℤ, map, if◌then◌else◌}
 use Rattle.std.proofs.lemmas.Int.{ints}
-use Rattle.cue_laws.specs.Events.{Step, Event, Started, Cancelled, Ended, Passed, high, events, taken, is_of, can_start, fresh, can_cancel, cancel_by, can_end, end_by, In}
+use Rattle.cue_laws.specs.Events.{Turn, Event, Started, Cancelled, Ended, Passed, high, events, taken, is_of, can_start, fresh, can_cancel, cancel_by, can_end, end_by, In}
 use Rattle.cue_laws.specs.Thinning.{MayCome, IsSound, Repeats, times, thinned, KeepsEnds}
 use Rattle.cue_laws.proofs.Settling.{by_test, can_end-parts}
 use Rattle.cue_laws.proofs.Lists.{In-mapped}
@@ -11,19 +11,19 @@ use Rattle.cue_laws.proofs.Below.{Below, below-none, IsThere, skip_start, skip_c
 
 -- ---- cues leave the greatest time
 
-pub high-starts : (n id : ℕ) (start end : ℤ) (rest : List Step) → high (times n (Started id start end) rest) ≡ high rest
+pub high-starts : (n id : ℕ) (start end : ℤ) (rest : List Turn) → high (times n (Started id start end) rest) ≡ high rest
 high-starts zero id start end rest = refl
 high-starts (suc n) id start end rest = high-starts n id start end rest
 
-pub high-cancels : (n id : ℕ) (rest : List Step) → high (times n (Cancelled id) rest) ≡ high rest
+pub high-cancels : (n id : ℕ) (rest : List Turn) → high (times n (Cancelled id) rest) ≡ high rest
 high-cancels zero id rest = refl
 high-cancels (suc n) id rest = high-cancels n id rest
 
-pub high-ends : (n id : ℕ) (time : ℤ) (rest : List Step) → high (times n (Ended id time) rest) ≡ high rest
+pub high-ends : (n id : ℕ) (time : ℤ) (rest : List Turn) → high (times n (Ended id time) rest) ≡ high rest
 high-ends zero id time rest = refl
 high-ends (suc n) id time rest = high-ends n id time rest
 
-pub high-thinned : (copies : List Step → ℕ) (all : List Step) → high (thinned copies all) ≡ high all
+pub high-thinned : (copies : List Turn → ℕ) (all : List Turn) → high (thinned copies all) ≡ high all
 high-thinned copies [] = refl
 high-thinned copies (Started id start end ∷ past) = high-starts (copies (Started id start end ∷ past)) id start end (thinned copies past) ∙ high-thinned copies past
 high-thinned copies (Cancelled id ∷ past) = high-cancels (copies (Cancelled id ∷ past)) id (thinned copies past) ∙ high-thinned copies past
@@ -31,7 +31,7 @@ high-thinned copies (Ended id time ∷ past) = high-ends (copies (Ended id time 
 high-thinned copies (Passed h ∷ past) = refl
 
 -- the event of a start cue that may come is there once it has come
-pub there : (id : ℕ) (start end : ℤ) (past : List Step) → MayCome (Started id start end) past
+pub there : (id : ℕ) (start end : ℤ) (past : List Turn) → MayCome (Started id start end) past
     → (x : Event) × IsThere (high past) id start end (events (Started id start end ∷ past)) x
 there id start end past m =
     by_test (can_start (high past) id start end (events past))
@@ -61,8 +61,8 @@ map_twice : (f : Event → Event) → ((e : Event) → f (f e) ≡ f e) → (es 
 map_twice f twice [] = refl
 map_twice f twice (e ∷ es) = simp (twice e, map_twice f twice es)
 
-module _ (copies : List Step → ℕ) where
-  pub below_starts : (n id : ℕ) (start end : ℤ) (past : List Step) → MayCome (Started id start end) past → Orderly (high past) (events past)
+module _ (copies : List Turn → ℕ) where
+  pub below_starts : (n id : ℕ) (start end : ℤ) (past : List Turn) → MayCome (Started id start end) past → Orderly (high past) (events past)
       → Below (events (thinned copies past)) (events past)
       → Below (events (times n (Started id start end) (thinned copies past))) (events (Started id start end ∷ past))
   below_starts zero id start end past m o b = skip_start (high past) id start end (events (thinned copies past)) (events past) b
@@ -73,7 +73,7 @@ module _ (copies : List Step → ℕ) where
       (sym (high-starts n id start end (thinned copies past) ∙ high-thinned copies past))
       (take_start (high past) id start end _ _ x.0 (orderly_step (Started id start end) past m o) x.1 rest)
 
-  below_cancels : (n id : ℕ) (past : List Step) → Below (events (thinned copies past)) (events past)
+  below_cancels : (n id : ℕ) (past : List Turn) → Below (events (thinned copies past)) (events past)
       → Below (events (times n (Cancelled id) (thinned copies past))) (events (Cancelled id ∷ past))
   below_cancels zero id past b = skip_cancel (high past) id (events (thinned copies past)) (events past) b
   below_cancels (suc n) id past b =
@@ -88,7 +88,7 @@ module _ (copies : List Step → ℕ) where
           let d : can_cancel (high past) id (cancel_by (high past) id r.0) ≡ true = subst (λ z. can_cancel (high past) id z ≡ true) r.2 c in
           subst (λ (z : Event). z.cancelled ≡ true) (sym r.2) (or-right r.0.cancelled (can_cancel (high past) id r.0) d)
 
-  below_ends : (n id : ℕ) (time : ℤ) (past : List Step) → MayCome (Ended id time) past → Below (events (thinned copies past)) (events past)
+  below_ends : (n id : ℕ) (time : ℤ) (past : List Turn) → MayCome (Ended id time) past → Below (events (thinned copies past)) (events past)
       → Below (events (times (suc n) (Ended id time) (thinned copies past))) (events (Ended id time ∷ past))
   below_ends zero id time past m b =
       subst (λ h. Below (taken h (Ended id time) (events (thinned copies past))) (events (Ended id time ∷ past)))
@@ -110,14 +110,14 @@ module _ (copies : List Step → ℕ) where
           let e : is_of (high past) id r.0 ≡ true = is_of-is (high past) id r.0 (stands-back (high past) r.0 (end_by (high past) id time r.0) (end-shrinks (high past) id time r.0) p.0) p.1 in
           subst (λ (z : Event). z.cancelled ≡ false) (sym r.2) (m r.0 r.1 e)
 
-  below_end : (n id : ℕ) (time : ℤ) (past : List Step) → MayCome (Ended id time) past → (0 < n) ⊎ (events (Ended id time ∷ past) ≡ events past)
+  below_end : (n id : ℕ) (time : ℤ) (past : List Turn) → MayCome (Ended id time) past → (0 < n) ⊎ (events (Ended id time ∷ past) ≡ events past)
       → Below (events (thinned copies past)) (events past)
       → Below (events (times n (Ended id time) (thinned copies past))) (events (Ended id time ∷ past))
   below_end zero id time past m (inl some) b = absurd (omega (arith, some))
   below_end zero id time past m (inr same) b = subst (λ all. Below (events (thinned copies past)) all) (sym same) b
   below_end (suc n) id time past m keeps b = below_ends n id time past m b
 
-  pub below : (all : List Step) → IsSound all → KeepsEnds copies all → Below (events (thinned copies all)) (events all)
+  pub below : (all : List Turn) → IsSound all → KeepsEnds copies all → Below (events (thinned copies all)) (events all)
   below [] s k = below-none
   below (Started id start end ∷ past) s k =
       below_starts (copies (Started id start end ∷ past)) id start end past s.0 (orderly past s.1) (below past s.1 k)

@@ -1,16 +1,16 @@
 -- What the injector sends: its events with what was told of each, and the stream of cues of a run of accepted requests.
 use Rattle.std.specs.Prelude.{◌≡◌, Bool, true, false, not, ◌&&◌, if◌then◌else◌, List, [], ◌∷◌, map, ℤ, pos, ◌+ℤ◌, int_le, int_lt, Option, None, Some}
-use Rattle.cue_laws.specs.Events.{Step, Started, Cancelled, Ended, Passed, Event, high, before, events, can_start, can_cancel, can_end, fresh, cancel_by, end_by, Rises, In}
+use Rattle.cue_laws.specs.Events.{Turn, Started, Cancelled, Ended, Passed, Event, high, before, events, can_start, can_cancel, can_end, fresh, cancel_by, end_by, Rises, In}
 
--- the request may be accepted behind these steps
-abbrev pub MayBeAccepted : Step → List Step → Type 0
+-- the request may be accepted behind these turns
+abbrev pub MayBeAccepted : Turn → List Turn → Type 0
 MayBeAccepted (Started id start end) past = can_start (high past) id start end (events past) ≡ true
 MayBeAccepted (Cancelled id) past = (e : Event) × In e (events past) × (can_cancel (high past) id e ≡ true)
 MayBeAccepted (Ended id time) past = (e : Event) × In e (events past) × (can_end (high past) id time e ≡ true)
 MayBeAccepted (Passed h) past = Rises (high past) h
 
 -- A RUN: all its requests are accepted
-abbrev pub IsRun : List Step → Type 0
+abbrev pub IsRun : List Turn → Type 0
 IsRun [] = Unit {0}
 IsRun (s ∷ past) = MayBeAccepted s past × IsRun past
 
@@ -38,7 +38,7 @@ abbrev pub is_news : Event → Event → Bool
 is_news e t = or_else (int_lt e.end t.end) (is_cancel_new e t)
 
 -- the cue that is repeated
-abbrev pub current : Event → Step
+abbrev pub current : Event → Turn
 current e = if e.cancelled then Cancelled e.id else (if int_lt e.end e.asked then Ended e.id e.end else Started e.id e.start e.asked)
 
 -- and the time below which it is
@@ -55,24 +55,24 @@ abbrev pub is_due : Option ℤ → Option ℤ → Event → Option ℤ → Bool
 is_due h later e last = before h (limit e) && is_second last later
 
 -- cues in front of what was sent before
-abbrev pub end_on : Event → ℤ → List Step → List Step
+abbrev pub end_on : Event → ℤ → List Turn → List Turn
 end_on e told rest = if int_lt e.end told then Ended e.id e.end ∷ rest else rest
 
-abbrev pub cancel_on : Event → Event → List Step → List Step
+abbrev pub cancel_on : Event → Event → List Turn → List Turn
 cancel_on e t rest = if is_cancel_new e t then Cancelled e.id ∷ rest else rest
 
-abbrev pub repeat_on : Option ℤ → Option ℤ → Event → Option ℤ → List Step → List Step
+abbrev pub repeat_on : Option ℤ → Option ℤ → Event → Option ℤ → List Turn → List Turn
 repeat_on h later e last rest = if is_due h later e last then current e ∷ rest else rest
 
 -- One event's cues before a packet that lifts the greatest time from h to `later`: what is new as start, end, cancel, else its current cue
 -- where that is due. A start that is cancelled before its first sending sends the cancel alone; of several ends the last goes out.
-abbrev pub told_on : Option ℤ → Option ℤ → Event → Option ℤ → Told → List Step → List Step
+abbrev pub told_on : Option ℤ → Option ℤ → Event → Option ℤ → Told → List Turn → List Turn
 told_on h later e last Untold rest = if e.cancelled then Cancelled e.id ∷ rest else end_on e e.asked (Started e.id e.start e.asked ∷ rest)
 told_on h later e last (Known t) rest = if is_news e t then cancel_on e t (end_on e t.end rest) else repeat_on h later e last rest
 told_on h later e last Never rest = repeat_on h later e last rest
 
 -- all events' cues before a packet, in order of acceptance
-abbrev pub block_on : Option ℤ → Option ℤ → List Sender → List Step → List Step
+abbrev pub block_on : Option ℤ → Option ℤ → List Sender → List Turn → List Turn
 block_on h later [] rest = rest
 block_on h later (x ∷ older) rest = told_on h later x.event x.last x.told (block_on h later older rest)
 
@@ -94,7 +94,7 @@ abbrev pub change : (Event → Event) → Sender → Sender
 change f x = record { event = f x.event; told = x.told; last = x.last }
 
 -- the injector's events with what was told of them
-abbrev pub senders : List Step → List Sender
+abbrev pub senders : List Turn → List Sender
 senders [] = []
 senders (Started id start end ∷ past) = record { event = fresh id start end; told = Untold; last = None } ∷ senders past
 senders (Cancelled id ∷ past) = map (change (cancel_by (high past) id)) (senders past)
@@ -102,7 +102,7 @@ senders (Ended id time ∷ past) = map (change (end_by (high past) id time)) (se
 senders (Passed later ∷ past) = map (tell (high past) later) (senders past)
 
 -- THE CUE PATH of a run: before each packet the cues that are due
-abbrev pub cued : List Step → List Step
+abbrev pub cued : List Turn → List Turn
 cued [] = []
 cued (Started id start end ∷ past) = cued past
 cued (Cancelled id ∷ past) = cued past

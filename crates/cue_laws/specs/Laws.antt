@@ -1,66 +1,66 @@
 -- The laws, over the definitions alone.
 use Rattle.std.specs.Prelude.{◌≡◌, ◌↔◌, ◌⊎◌, ℕ, true, false, List, ◌∷◌, ℤ, Option, pos, ◌+ℤ◌}
-use Rattle.cue_laws.specs.Events.{Step, Started, Passed, Event, high, before, events, NeverFalls, holders, upon, In}
+use Rattle.cue_laws.specs.Events.{Turn, Started, Passed, Event, high, before, events, NeverFalls, holders, upon, In}
 use Rattle.cue_laws.specs.Thinning.{IsSound, thinned, IsThinned, KeepsEnough, KeepsStart, KeepsCancel, KeepsEnds}
 use Rattle.cue_laws.specs.Cueing.{IsRun, cued}
-use Rattle.cue_laws.specs.Tables.{standing, breaks}
+use Rattle.cue_laws.specs.Tables.{standing, uncancelled_events}
 
 -- SETTLEMENT: of a time that the greatest one has reached, whatever comes later does not change which uncancelled events hold it
 abbrev pub Settlement : Type 0
-Settlement = (past later : List Step) (time : ℤ) → NeverFalls (upon later past) → before (high past) time ≡ false →
+Settlement = (past later : List Turn) (time : ℤ) → NeverFalls (upon later past) → before (high past) time ≡ false →
     holders time (events (upon later past)) ≡ holders time (events past)
 
 -- LOST CUES, at every front: the uncancelled events whose start is reached are the same, in all fields, with cues lost as without
 abbrev pub LostCues : Type 0
-LostCues = (copies : List Step → ℕ) (front later : List Step) → IsSound (upon later front) → KeepsEnough copies (upon later front) →
+LostCues = (copies : List Turn → ℕ) (front later : List Turn) → IsSound (upon later front) → KeepsEnough copies (upon later front) →
     (x : Event) → x.cancelled ≡ false → before (high front) x.start ≡ false → In x (events (thinned copies front)) ↔ In x (events front)
 
 -- and at the end all uncancelled events are
 abbrev pub LostCuesAtTheEnd : Type 0
-LostCuesAtTheEnd = (copies : List Step → ℕ) (all : List Step) → IsSound all → KeepsEnough copies all →
+LostCuesAtTheEnd = (copies : List Turn → ℕ) (all : List Turn) → IsSound all → KeepsEnough copies all →
     (x : Event) → x.cancelled ≡ false → In x (events (thinned copies all)) ↔ In x (events all)
 
 -- THE PREMISE OF THINNING, in the injector's words: each event never cancelled keeps a start cue, each cancelled one a cancel cue or none of
 -- its start cues, and the first sending of each early end is kept
-pub record KeepsEnoughOf (copies : List Step → ℕ) (run : List Step) : Type 0 where
+pub record KeepsEnoughOf (copies : List Turn → ℕ) (run : List Turn) : Type 0 where
   pub starts : (x : Event) → In x (events run) → x.cancelled ≡ false → KeepsStart copies x (cued run)
   pub cancels : (x : Event) → In x (events run) → x.cancelled ≡ true → KeepsCancel copies x (cued run) ⊎ (KeepsStart copies x (cued run) → ⊥)
   pub ends : KeepsEnds copies (cued run)
 
 -- WITH NOTHING LOST: every cue of a run may come, so a splicer refuses none
 abbrev pub CuedIsSound : Type 0
-CuedIsSound = (run : List Step) → IsRun run → IsSound (cued run)
+CuedIsSound = (run : List Turn) → IsRun run → IsSound (cued run)
 
 -- THE CUE PATH: behind each packet of a run, the uncancelled events whose start is reached are the same on both sides, in all fields,
 -- whatever cues were lost
 abbrev pub CuePath : Type 0
-CuePath = (copies : List Step → ℕ) (h : Option ℤ) (past later : List Step) (last : Option ℤ) →
+CuePath = (copies : List Turn → ℕ) (h : Option ℤ) (past later : List Turn) (last : Option ℤ) →
     IsRun (Passed last ∷ upon later (Passed h ∷ past)) → KeepsEnoughOf copies (Passed last ∷ upon later (Passed h ∷ past)) →
     (x : Event) → x.cancelled ≡ false → before h x.start ≡ false →
     In x (events (thinned copies (cued (Passed h ∷ past)))) ↔ In x (events (Passed h ∷ past))
 
 -- and behind the last packet all uncancelled events are
 abbrev pub CuePathAtTheEnd : Type 0
-CuePathAtTheEnd = (copies : List Step → ℕ) (h : Option ℤ) (past : List Step) → IsRun (Passed h ∷ past) → KeepsEnoughOf copies (Passed h ∷ past) →
+CuePathAtTheEnd = (copies : List Turn → ℕ) (h : Option ℤ) (past : List Turn) → IsRun (Passed h ∷ past) → KeepsEnoughOf copies (Passed h ∷ past) →
     (x : Event) → x.cancelled ≡ false → In x (events (thinned copies (cued (Passed h ∷ past)))) ↔ In x (events (Passed h ∷ past))
 
 -- so of each time that is reached, behind each packet, the same events hold it on both sides
 abbrev pub CuePathHolders : Type 0
-CuePathHolders = (copies : List Step → ℕ) (h : Option ℤ) (past later : List Step) (last : Option ℤ) →
+CuePathHolders = (copies : List Turn → ℕ) (h : Option ℤ) (past later : List Turn) (last : Option ℤ) →
     IsRun (Passed last ∷ upon later (Passed h ∷ past)) → KeepsEnoughOf copies (Passed last ∷ upon later (Passed h ∷ past)) →
     (time : ℤ) → before h time ≡ false → holders time (events (thinned copies (cued (Passed h ∷ past)))) ≡ holders time (events (Passed h ∷ past))
 
 -- the premise of thinning asks for no more than there is: all cues are enough, in every run
 abbrev pub NothingLostIsEnough : Type 0
-NothingLostIsEnough = (h : Option ℤ) (past : List Step) → IsRun (Passed h ∷ past) → KeepsEnoughOf (λ s. 1) (Passed h ∷ past)
+NothingLostIsEnough = (h : Option ℤ) (past : List Turn) → IsRun (Passed h ∷ past) → KeepsEnoughOf (λ s. 1) (Passed h ∷ past)
 
 -- every thinned stream is one that some choice leaves, and none else is
 abbrev pub ThinnedIsChosen : Type 0
-ThinnedIsChosen = (all left : List Step) → IsThinned all left ↔ ((copies : List Step → ℕ) × (thinned copies all ≡ left))
+ThinnedIsChosen = (all left : List Turn) → IsThinned all left ↔ ((copies : List Turn → ℕ) × (thinned copies all ≡ left))
 
 -- what went over the cue path stays: a front of the run sends a front
 abbrev pub CuedGrows : Type 0
-CuedGrows = (front later : List Step) → (more : List Step) × (cued (upon later front) ≡ upon more (cued front))
+CuedGrows = (front later : List Turn) → (more : List Turn) × (cued (upon later front) ≡ upon more (cued front))
 
 -- the same event; where it is cancelled in the one list, it is in the other
 pub record IsPartOf (a t : Event) : Type 0 where
@@ -72,24 +72,24 @@ pub record IsPartOf (a t : Event) : Type 0 where
 
 -- THE INVARIANT, behind each packet: each event of the splicer's is one of the injector's. Of what is lost only the ends count.
 abbrev pub Invariant : Type 0
-Invariant = (copies : List Step → ℕ) (h : Option ℤ) (past : List Step) → IsRun (Passed h ∷ past) → KeepsEnds copies (cued (Passed h ∷ past)) →
+Invariant = (copies : List Turn → ℕ) (h : Option ℤ) (past : List Turn) → IsRun (Passed h ∷ past) → KeepsEnds copies (cued (Passed h ∷ past)) →
     (a : Event) → In a (events (thinned copies (cued (Passed h ∷ past)))) → (t : Event) × In t (events (Passed h ∷ past)) × IsPartOf a t
 
 -- so no start cue is refused: of each that is left the splicer has the event
 abbrev pub NoStartRefused : Type 0
-NoStartRefused = (copies : List Step → ℕ) (run : List Step) → IsRun run → KeepsEnds copies (cued run) →
+NoStartRefused = (copies : List Turn → ℕ) (run : List Turn) → IsRun run → KeepsEnds copies (cued run) →
     (id : ℕ) (start end : ℤ) → In (Started id start end) (thinned copies (cued run)) →
     (e : Event) × In e (events (thinned copies (cued run))) × (e.start ≡ start)
 
 -- THE TABLE IS JUDGED BY THE WHOLE RUN: behind each packet, the table of a splicer that lost cues and forgets what is ten seconds past
 -- answers for each time reached, not ten seconds back, what the injector's list answers at the end of the run
 abbrev pub TableIsJudged : Type 0
-TableIsJudged = (copies : List Step → ℕ) (h : Option ℤ) (past later : List Step) (last : Option ℤ) →
+TableIsJudged = (copies : List Turn → ℕ) (h : Option ℤ) (past later : List Turn) (last : Option ℤ) →
     IsRun (Passed last ∷ upon later (Passed h ∷ past)) → KeepsEnoughOf copies (Passed last ∷ upon later (Passed h ∷ past)) →
     (time : ℤ) → before h time ≡ false → before h (time +ℤ pos 900000) ≡ true →
     holders time (standing (thinned copies (cued (Passed h ∷ past)))) ≡ holders time (events (Passed last ∷ upon later (Passed h ∷ past)))
 
--- THE BREAKS ARE THE SAME: behind the last packet, the two lists of breaks are one
-abbrev pub BreaksAreTheSame : Type 0
-BreaksAreTheSame = (copies : List Step → ℕ) (h : Option ℤ) (past : List Step) → IsRun (Passed h ∷ past) → KeepsEnoughOf copies (Passed h ∷ past) →
-    breaks (events (thinned copies (cued (Passed h ∷ past)))) ≡ breaks (events (Passed h ∷ past))
+-- THE UNCANCELLED EVENTS AGREE: behind the last packet, the two lists are one
+abbrev pub UncancelledEventsAgree : Type 0
+UncancelledEventsAgree = (copies : List Turn → ℕ) (h : Option ℤ) (past : List Turn) → IsRun (Passed h ∷ past) → KeepsEnoughOf copies (Passed h ∷ past) →
+    uncancelled_events (events (thinned copies (cued (Passed h ∷ past)))) ≡ uncancelled_events (events (Passed h ∷ past))

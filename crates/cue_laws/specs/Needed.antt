@@ -1,11 +1,11 @@
 -- Why the premises of thinning stand there: runs that lack one of them alone.
 use Rattle.std.specs.Prelude.{◌≡◌, ℕ, true, false, List, [], ◌∷◌, pos, Some}
-use Rattle.cue_laws.specs.Events.{Step, Started, Cancelled, Ended, Passed, Event, events, In}
+use Rattle.cue_laws.specs.Events.{Turn, Started, Cancelled, Ended, Passed, Event, events, In}
 use Rattle.cue_laws.specs.Thinning.{thinned, KeepsStart, KeepsCancel, KeepsEnds}
 use Rattle.cue_laws.specs.Cueing.{IsRun, cued}
 
 -- An event is sent, ended early, cancelled; then another one is accepted where the first one would have gone on.
-abbrev pub ended_then_cancelled : List Step
+abbrev pub ended_then_cancelled : List Turn
 ended_then_cancelled =
     Passed (Some (pos 0)) ∷ Started 2 (pos 150) (pos 250) ∷ Passed (Some (pos 0)) ∷ Cancelled 1 ∷ Passed (Some (pos 0)) ∷ Ended 1 (pos 150)
     ∷ Passed (Some (pos 0)) ∷ Started 1 (pos 100) (pos 200) ∷ Passed (Some (pos 0)) ∷ []
@@ -14,7 +14,7 @@ abbrev pub second : Event
 second = record { id = 2; start = pos 150; asked = pos 250; end = pos 250; cancelled = false }
 
 -- all early ends are lost, and nothing else
-abbrev pub without_ends : List Step → ℕ
+abbrev pub without_ends : List Turn → ℕ
 without_ends [] = 1
 without_ends (Started id start end ∷ past) = 1
 without_ends (Cancelled id ∷ past) = 1
@@ -30,10 +30,10 @@ EndsAreNeeded = IsRun ended_then_cancelled
     × (In second (events (thinned without_ends (cued ended_then_cancelled))) → ⊥)
 
 -- An event is sent and cancelled.
-abbrev pub started_then_cancelled : List Step
+abbrev pub started_then_cancelled : List Turn
 started_then_cancelled = Passed (Some (pos 0)) ∷ Cancelled 1 ∷ Passed (Some (pos 0)) ∷ Started 1 (pos 100) (pos 200) ∷ Passed (Some (pos 0)) ∷ []
 
-abbrev pub without_cancels : List Step → ℕ
+abbrev pub without_cancels : List Turn → ℕ
 without_cancels [] = 1
 without_cancels (Started id start end ∷ past) = 1
 without_cancels (Cancelled id ∷ past) = 0
@@ -52,11 +52,11 @@ CancelsAreNeeded = IsRun started_then_cancelled
     × (In first (events started_then_cancelled) → ⊥)
 
 -- In one piece an event is asked for, then its early end, then another event where the first one would have gone on.
-abbrev pub one_piece : List Step
+abbrev pub one_piece : List Turn
 one_piece = Passed (Some (pos 0)) ∷ Started 2 (pos 150) (pos 250) ∷ Ended 1 (pos 150) ∷ Started 1 (pos 100) (pos 200) ∷ Passed (Some (pos 0)) ∷ []
 
 -- its cues, but the later event's before the earlier one's
-abbrev pub later_first : List Step
+abbrev pub later_first : List Turn
 later_first = Passed (Some (pos 0)) ∷ Ended 1 (pos 150) ∷ Started 1 (pos 100) (pos 200) ∷ Started 2 (pos 150) (pos 250) ∷ Passed (Some (pos 0)) ∷ []
 
 abbrev pub shortened : Event

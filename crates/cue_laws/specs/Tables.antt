@@ -1,9 +1,9 @@
 -- The table that code keeps: only the events that stand.
 use Rattle.std.specs.Prelude.{◌≡◌, Bool, not, if◌then◌else◌, List, [], ◌∷◌, filter, int_lt}
-use Rattle.cue_laws.specs.Events.{Step, Event, high, stands, taken, events, NeverFalls}
+use Rattle.cue_laws.specs.Events.{Turn, Event, high, stands, taken, events, NeverFalls}
 
--- the events that stand, newest first; what is forgotten is left out at each step
-abbrev pub standing : List Step → List Event
+-- the events that stand, newest first; what is forgotten is left out at each turn
+abbrev pub standing : List Turn → List Event
 standing [] = []
 standing (s ∷ past) = filter (stands (high (s ∷ past))) (taken (high past) s (standing past))
 
@@ -19,10 +19,10 @@ by_start (e ∷ es) = put_in e (by_start es)
 abbrev pub is_uncancelled : Event → Bool
 is_uncancelled e = not e.cancelled
 
--- THE BREAKS: the events that are not cancelled, in order of their starts
-abbrev pub breaks : List Event → List Event
-breaks es = by_start (filter is_uncancelled es)
+-- the events that are not cancelled, in order of their starts
+abbrev pub uncancelled_events : List Event → List Event
+uncancelled_events es = by_start (filter is_uncancelled es)
 
 -- a table that forgets judges as one that does not
 abbrev pub ForgettingIsSafe : Type 0
-ForgettingIsSafe = (all : List Step) → NeverFalls all → standing all ≡ filter (stands (high all)) (events all)
+ForgettingIsSafe = (all : List Turn) → NeverFalls all → standing all ≡ filter (stands (high all)) (events all)

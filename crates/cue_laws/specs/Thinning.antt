@@ -1,6 +1,6 @@
 -- Streams of cues: those that a splicer which misses nothing can obey, and what is left of one on the way.
 use Rattle.std.specs.Prelude.{◌≡◌, ℕ, ◌<◌, zero, suc, true, false, ◌⊎◌, List, [], ◌∷◌, ℤ, is_some}
-use Rattle.cue_laws.specs.Events.{Step, Started, Cancelled, Ended, Passed, Event, high, before, events, is_of, can_start, Rises, name_of, In}
+use Rattle.cue_laws.specs.Events.{Turn, Started, Cancelled, Ended, Passed, Event, high, before, events, is_of, can_start, Rises, name_of, In}
 
 -- the event is there as it was first asked for
 pub record Repeats (id : ℕ) (from to : ℤ) (e : Event) : Type 0 where
@@ -10,9 +10,9 @@ pub record Repeats (id : ℕ) (from to : ℤ) (e : Event) : Type 0 where
   pub unshortened : e.end ≡ to
   pub uncancelled : e.cancelled ≡ false
 
--- Behind these steps the cue may come. A start comes before its event begins, and either may be armed, or repeats an event that is neither
+-- Behind these turns the cue may come. A start comes before its event begins, and either may be armed, or repeats an event that is neither
 -- cancelled nor shortened. A cancel may come at any time. An early end comes for no cancelled event. The greatest time never falls.
-abbrev pub MayCome : Step → List Step → Type 0
+abbrev pub MayCome : Turn → List Turn → Type 0
 MayCome (Started id start end) past =
     (is_some (high past) ≡ true) × (before (high past) start ≡ true)
     × ((can_start (high past) id start end (events past) ≡ true) ⊎ ((e : Event) × In e (events past) × Repeats id start end e))
@@ -21,7 +21,7 @@ MayCome (Ended id time) past = (e : Event) → In e (events past) → is_of (hig
 MayCome (Passed h) past = Rises (high past) h
 
 -- so all of them
-abbrev pub IsSound : List Step → Type 0
+abbrev pub IsSound : List Turn → Type 0
 IsSound [] = Unit {0}
 IsSound (s ∷ past) = MayCome s past × IsSound past
 
@@ -31,7 +31,7 @@ times zero s rest = rest
 times (suc n) s rest = s ∷ times n s rest
 
 -- WHAT IS LEFT of a stream of cues: of each cue so many copies as the choice says, which knows all that came before; all packets stay
-abbrev pub thinned : (List Step → ℕ) → List Step → List Step
+abbrev pub thinned : (List Turn → ℕ) → List Turn → List Turn
 thinned copies [] = []
 thinned copies (Started id start end ∷ past) = times (copies (Started id start end ∷ past)) (Started id start end) (thinned copies past)
 thinned copies (Cancelled id ∷ past) = times (copies (Cancelled id ∷ past)) (Cancelled id) (thinned copies past)
@@ -39,15 +39,15 @@ thinned copies (Ended id time ∷ past) = times (copies (Ended id time ∷ past)
 thinned copies (Passed h ∷ past) = Passed h ∷ thinned copies past
 
 -- the same as a relation: the packets all, and of each cue some copies on the spot, or none
-abbrev pub IsThinned : List Step → List Step → Type 0
+abbrev pub IsThinned : List Turn → List Turn → Type 0
 IsThinned [] left = left ≡ []
-IsThinned (Started id start end ∷ past) left = (n : ℕ) × (rest : List Step) × (left ≡ times n (Started id start end) rest) × IsThinned past rest
-IsThinned (Cancelled id ∷ past) left = (n : ℕ) × (rest : List Step) × (left ≡ times n (Cancelled id) rest) × IsThinned past rest
-IsThinned (Ended id time ∷ past) left = (n : ℕ) × (rest : List Step) × (left ≡ times n (Ended id time) rest) × IsThinned past rest
-IsThinned (Passed h ∷ past) left = (rest : List Step) × (left ≡ Passed h ∷ rest) × IsThinned past rest
+IsThinned (Started id start end ∷ past) left = (n : ℕ) × (rest : List Turn) × (left ≡ times n (Started id start end) rest) × IsThinned past rest
+IsThinned (Cancelled id ∷ past) left = (n : ℕ) × (rest : List Turn) × (left ≡ times n (Cancelled id) rest) × IsThinned past rest
+IsThinned (Ended id time ∷ past) left = (n : ℕ) × (rest : List Turn) × (left ≡ times n (Ended id time) rest) × IsThinned past rest
+IsThinned (Passed h ∷ past) left = (rest : List Turn) × (left ≡ Passed h ∷ rest) × IsThinned past rest
 
 -- an early end that is left out changes nothing where nothing is left out: the first sending of each is kept
-abbrev pub KeepsEnds : (List Step → ℕ) → List Step → Type 0
+abbrev pub KeepsEnds : (List Turn → ℕ) → List Turn → Type 0
 KeepsEnds copies [] = Unit {0}
 KeepsEnds copies (Started id start end ∷ past) = KeepsEnds copies past
 KeepsEnds copies (Cancelled id ∷ past) = KeepsEnds copies past
@@ -55,7 +55,7 @@ KeepsEnds copies (Ended id time ∷ past) = ((0 < copies (Ended id time ∷ past
 KeepsEnds copies (Passed h ∷ past) = KeepsEnds copies past
 
 -- a start cue of the event is left
-abbrev pub KeepsStart : (List Step → ℕ) → Event → List Step → Type 0
+abbrev pub KeepsStart : (List Turn → ℕ) → Event → List Turn → Type 0
 KeepsStart copies x past = In (Started x.id x.start x.asked) (thinned copies past)
 
 -- the event is known here
@@ -63,7 +63,7 @@ abbrev pub Knows : Event → List Event → Type 0
 Knows x es = (e : Event) × In e es × (name_of e ≡ name_of x)
 
 -- a cancel cue of the event is left, one with its id between its arming and its begin
-abbrev pub KeepsCancel : (List Step → ℕ) → Event → List Step → Type 0
+abbrev pub KeepsCancel : (List Turn → ℕ) → Event → List Turn → Type 0
 KeepsCancel copies x [] = ⊥
 KeepsCancel copies x (Started id start end ∷ past) = KeepsCancel copies x past
 KeepsCancel copies x (Cancelled id ∷ past) =
@@ -73,7 +73,7 @@ KeepsCancel copies x (Passed h ∷ past) = KeepsCancel copies x past
 
 -- THE PREMISE OF THINNING: each event never cancelled keeps a start cue, each cancelled one a cancel cue or none of its start cues, and
 -- the first sending of each early end is kept
-pub record KeepsEnough (copies : List Step → ℕ) (all : List Step) : Type 0 where
+pub record KeepsEnough (copies : List Turn → ℕ) (all : List Turn) : Type 0 where
   pub starts : (x : Event) → In x (events all) → x.cancelled ≡ false → KeepsStart copies x all
   pub cancels : (x : Event) → In x (events all) → x.cancelled ≡ true → KeepsCancel copies x all ⊎ (KeepsStart copies x all → ⊥)
   pub ends : KeepsEnds copies all

@@ -1,6 +1,6 @@
 //! Laws, each the contract of a function that does nothing.
 
-ghost use Rattle.cue_laws.specs.Laws.{BreaksAreTheSame, CuedIsSound, TableIsJudged, Settlement, LostCues, LostCuesAtTheEnd, CuePath, CuePathAtTheEnd, CuePathHolders, NothingLostIsEnough, Invariant, NoStartRefused, ThinnedIsChosen, CuedGrows};
+ghost use Rattle.cue_laws.specs.Laws.{UncancelledEventsAgree, CuedIsSound, TableIsJudged, Settlement, LostCues, LostCuesAtTheEnd, CuePath, CuePathAtTheEnd, CuePathHolders, NothingLostIsEnough, Invariant, NoStartRefused, ThinnedIsChosen, CuedGrows};
 ghost use Rattle.cue_laws.specs.Tables.{ForgettingIsSafe};
 ghost use Rattle.cue_laws.specs.Needed.{OrderIsNeeded, EndsAreNeeded, CancelsAreNeeded};
 
@@ -69,7 +69,7 @@ pub fn no_start_refused()
     ensures { NoStartRefused }
 {}
 
-/// A table that forgets judges every step as one that does not.
+/// A table that forgets judges every turn as one that does not.
 pub fn forgetting_is_safe()
     ensures { ForgettingIsSafe }
 {}
@@ -84,9 +84,9 @@ pub fn cued_is_sound()
     ensures { CuedIsSound }
 {}
 
-/// Behind the last packet of a run, the breaks of injector and splicer, in order of their starts, are one list.
-pub fn breaks_are_the_same()
-    ensures { BreaksAreTheSame }
+/// Behind the last packet of a run, the uncancelled events of injector and splicer, in order of their starts, are one list.
+pub fn uncancelled_events_agree()
+    ensures { UncancelledEventsAgree }
 {}
 
 /// Cues of one piece go out in order of acceptance: in another order a splicer refuses a start, though nothing is lost.

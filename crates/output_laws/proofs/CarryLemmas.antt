@@ -15,7 +15,7 @@ use Rattle.unit_cut.proofs.CutCarries.{row_joins}
 use Rattle.splice_laws.specs.Splicing.{SliceUnit}
 use Rattle.output_laws.specs.Output.{Move, Keep, Leave, Put, network, Packing, counter_steps, clock_alone, out_after, AllOn, GoOn, BeginsAlone, Sound, Place, Keeping, Leaving, Between, behind_put, place, IsWhole, Along, units_out}
 use Rattle.output_laws.specs.Laws.{OutputCarriesUnits}
-use Rattle.output_laws.proofs.StepLemmas.{onto_steps, along_past, test-same, kept_on, payload_on-kept, payload_on-clock}
+use Rattle.output_laws.proofs.StepLemmas.{onto_moves, along_past, test-same, kept_on, payload_on-kept, payload_on-clock}
 use Rattle.output_laws.proofs.GaplessLemmas.{test-true, below_16, one_below, other_pid, es}
 use Rattle.output_laws.proofs.UnitLemmas.{between, between_left, rest_of}
 
@@ -57,7 +57,7 @@ module _ (pid : ℕ) where
   abbrev pub row_of : List Move → List Move → List (List ℕ)
   row_of past ss = rest_of_row pid (filter (has_payload pid) (seen_after (network past) (network ss)))
 
-  no_more_row : (past ss : List Move) → Along (IsWhole pid) (onto_steps past ss) → place pid past ≡ Between → row_of past ss ≡ []
+  no_more_row : (past ss : List Move) → Along (IsWhole pid) (onto_moves past ss) → place pid past ≡ Between → row_of past ss ≡ []
   no_more_row past [] w h = refl
   no_more_row past (Keep p ∷ ss) w h =
       let here = (along_past (IsWhole pid) (Keep p ∷ past) ss w).0 in
@@ -134,7 +134,7 @@ module _ (packed : Packing) (pid : ℕ) where
       (λ s. let st = w y (simp (y, r, s)) in let f = simp y at h in simp st (f.0, c ∙ f.1, f.2))))
       (λ y. let f = simp y at h in simp y (f.0, c ∙ f.1, f.2))
 
-  carried_put_same : (u : SliceUnit) (past ss : List Move) → Sound packed (Put pid u) → Along (IsWhole pid) (onto_steps (Put pid u ∷ past) ss) → CarriedAfter (Put pid u ∷ past) ss → CarriedAfter past (Put pid u ∷ ss)
+  carried_put_same : (u : SliceUnit) (past ss : List Move) → Sound packed (Put pid u) → Along (IsWhole pid) (onto_moves (Put pid u ∷ past) ss) → CarriedAfter (Put pid u ∷ past) ss → CarriedAfter past (Put pid u ∷ ss)
   carried_put_same u past ss s w h =
       let E = es packed pid past in
       let qs = packed pid u (one_past (last_number E)) in
@@ -145,7 +145,7 @@ module _ (packed : Packing) (pid : ℕ) where
       let f = simp (t, row_behind) at h in
       (qs ++ f.0, filter_on pid qs (out_after packed (Put pid u ∷ past) ss) k.on_pid ∙ ap (λ l. qs ++ l) f.1 ∙ sym (ap (λ l. l ++ (qs ++ f.0)) z), simp t (qs, f.0, refl, put_unit qs u.payload k.starts k.joined, f.2))
 
-  carried_after : (past ss : List Move) → Along (λ (s : Move) (before : List Move). Sound packed s) (onto_steps past ss) → Along (IsWhole pid) (onto_steps past ss) → CarriedAfter past ss
+  carried_after : (past ss : List Move) → Along (λ (s : Move) (before : List Move). Sound packed s) (onto_moves past ss) → Along (IsWhole pid) (onto_moves past ss) → CarriedAfter past ss
   carried_after past [] s w = ([], sym (ap (λ l. l ++ []) (row_none (place pid past))), refl)
   carried_after past (Keep p ∷ ss) s w = carried_keep p past ss (along_past (IsWhole pid) (Keep p ∷ past) ss w).0 (carried_after (Keep p ∷ past) ss s w)
   carried_after past (Leave p ∷ ss) s w = carried_leave p past ss (along_past (IsWhole pid) (Leave p ∷ past) ss w).0 (carried_after (Leave p ∷ past) ss s w)
@@ -181,6 +181,6 @@ module _ (pid : ℕ) where
       unmoved_more p past ps (renumbered-zero p (All-head f p ps k)) (unmoved (p ∷ past) ps (All-tail f p ps k))
 
 pub output_carries_units : OutputCarriesUnits
-output_carries_units packed pid steps r k =
-    let h = carried_after packed pid [] steps r.sound r.whole in
-    (h.0, h.1 ∙ ap (λ l. l ++ h.0) (unmoved pid [] (network steps) k), h.2)
+output_carries_units packed pid moves r k =
+    let h = carried_after packed pid [] moves r.sound r.whole in
+    (h.0, h.1 ∙ ap (λ l. l ++ h.0) (unmoved pid [] (network moves) k), h.2)

@@ -283,7 +283,7 @@ module _ (packed : Packing) (pid : ℕ) (b : Option (List ℕ)) where
       not_steps q (packed q u (one_past (last_number (es packed q past)))) (out_back packed past) e k.on_pid i)
 
 pub output_stays_gapless : OutputStaysGapless
-output_stays_gapless packed pid b steps r f k =
-    let g = gapless_glue b pid [] (network steps) tt k in
-    let h = gapless_out packed pid b (reverse steps) r.sound r.whole f (rw (network_onto [] steps) g) in
-    (gapless_back b pid [] (output packed steps) (rw (← out_onto packed [] steps) h)).1
+output_stays_gapless packed pid b moves r f k =
+    let g = gapless_glue b pid [] (network moves) tt k in
+    let h = gapless_out packed pid b (reverse moves) r.sound r.whole f (rw (network_onto [] moves) g) in
+    (gapless_back b pid [] (output packed moves) (rw (← out_onto packed [] moves) h)).1

@@ -11,7 +11,7 @@ use Rattle.ts_packet.proofs.Renumbered.{renumbered-zero}
 use Rattle.splice_laws.specs.Streams.{is_among}
 use Rattle.output_laws.specs.Output.{Move, Keep, Leave, Put, network, Packing, counter_steps, kept_packet, clock_alone, out_after, AllOn, Sound, Along}
 use Rattle.output_laws.specs.Others.{is_off, IsWithin, OthersPass}
-use Rattle.output_laws.proofs.StepLemmas.{onto_steps, along_past, pid_is, error_is, error-clock, pid-clock}
+use Rattle.output_laws.proofs.StepLemmas.{onto_moves, along_past, pid_is, error_is, error-clock, pid-clock}
 use Rattle.output_laws.proofs.GaplessLemmas.{test-true, one_below}
 
 off-renumbered : (pids : List ℕ) (n : ℕ) (p : List ℕ) → is_off pids (renumbered n p) ≡ is_off pids p
@@ -89,7 +89,7 @@ module _ (packed : Packing) (pids : List ℕ) where
     both true f = let g = f refl in rw (g, h) refl
     both false f = h
 
-  others_after : (past ss : List Move) → Along (λ (s : Move) (before : List Move). Sound packed s) (onto_steps past ss) → Along (IsWithin pids) (onto_steps past ss) →
+  others_after : (past ss : List Move) → Along (λ (s : Move) (before : List Move). Sound packed s) (onto_moves past ss) → Along (IsWithin pids) (onto_moves past ss) →
       All (λ (p : List ℕ). length p ≡ 188) (network ss) → filter (is_off pids) (out_after packed past ss) ≡ filter (is_off pids) (network ss)
   others_after past [] s w l = refl
   others_after past (Keep p ∷ ss) s w l =
@@ -116,4 +116,4 @@ module _ (packed : Packing) (pids : List ℕ) where
       ∙ others_after (Put q u ∷ past) ss s w l
 
 pub others_pass : OthersPass
-others_pass packed pids steps s w l = others_after packed pids [] steps s w l
+others_pass packed pids moves s w l = others_after packed pids [] moves s w l

@@ -1,4 +1,4 @@
--- The steps of a splice keep whole units, and put slices in their places.
+-- The moves of a splice keep whole units, and put slices in their places.
 use Rattle.std.specs.Prelude.{All, ℤ, ◌==◌, if◌then◌else◌, filter, flat_map, map}
 use Rattle.std.proofs.Common.{◌≡◌, ℕ, List, [], ◌∷◌, ◌++◌, Bool, true, false, not, ◌&&◌, ◌⊎◌, inl, inr, refl, sym, ap, ◌∙◌, Option, None, append_assoc, length, subst}
 use Rattle.std.proofs.lemmas.List.{append-nil}
@@ -9,7 +9,7 @@ use Rattle.ts_packet.proofs.RunLemmas.{onto}
 use Rattle.unit_stream.specs.Times.{begins, unit_time}
 use Rattle.unit_stream.specs.Carrying.{Carries}
 use Rattle.unit_stream.specs.Units.{is_original, rest_of_unit, lead}
-use Rattle.splice_laws.specs.Splicing.{Break, SliceUnit, Out, Network, Inserted, Stream, stream, begun, closed, out_of, inserted, rest, holds, outside, all_inserted, all_rest, all_slices_at}
+use Rattle.splice_laws.specs.Splicing.{PlayedEvent, SliceUnit, Out, Network, Inserted, Stream, stream, begun, closed, out_of, inserted, rest, holds, outside, all_inserted, all_rest, all_slices_at}
 use Rattle.splice_laws.specs.Laws.{AreOrdered, IsStream, Counts}
 use Rattle.splice_laws.specs.Streams.{Act, Through, Insert, all_closing, all_running, insert_on, on_each, is_dropped, spliced_at, of_stream, IsOnce}
 use Rattle.splice_laws.proofs.PidLemmas.{pids_are_streams}
@@ -17,9 +17,9 @@ use Rattle.splice_laws.proofs.HistoryLemmas.{running-inside}
 use Rattle.splice_laws.proofs.PlacedLemmas.{nothing_new, put_in-append, swap, AllAt, AllCounted, counted_head, counted_tail, all_counted, all_joined, left_inside, none_at_first, out_counts_all}
 use Rattle.splice_laws.proofs.StreamLemmas.{of_stream-append, once_on, phases, put_in-flat, dropped_is}
 use Rattle.output_laws.specs.Output.{Move, Keep, Leave, Put, acts, network, Place, Keeping, Leaving, place, IsWhole, Along, units_out}
-use Rattle.output_laws.specs.Spliced.{puts_on, puts_each, puts_at, fate, steps_after, splice_steps, StepsAreSpliced, inserted_payloads, unit_at, placed_payloads, SplicedCarries, SplicedHasUnits}
+use Rattle.output_laws.specs.Spliced.{puts_on, puts_each, puts_at, fate, moves_after, splice_moves, MovesAreSpliced, inserted_payloads, unit_at, placed_payloads, SplicedCarries, SplicedHasUnits}
 use Rattle.output_laws.specs.Laws.{IsRun}
-use Rattle.output_laws.proofs.StepLemmas.{onto_steps}
+use Rattle.output_laws.proofs.StepLemmas.{onto_moves}
 use Rattle.output_laws.proofs.GaplessLemmas.{output_stays_gapless}
 use Rattle.output_laws.proofs.UnitLemmas.{output_has_units}
 use Rattle.output_laws.proofs.CarryLemmas.{output_carries_units}
@@ -66,20 +66,20 @@ network_more (Keep p ∷ a) b h = absurd h
 network_more (Leave p ∷ a) b h = absurd h
 network_more (Put q u ∷ a) b h = network_more a b h
 
-network_puts : (a S : List Move) → IsPuts a → network (onto_steps S a) ≡ network S
+network_puts : (a S : List Move) → IsPuts a → network (onto_moves S a) ≡ network S
 network_puts [] S h = refl
 network_puts (Keep p ∷ a) S h = absurd h
 network_puts (Leave p ∷ a) S h = absurd h
 network_puts (Put q u ∷ a) S h = network_puts a (Put q u ∷ S) h
 
 module _ (pid : ℕ) where
-  place_left : (a S : List Move) → IsPuts a → place pid S ≡ Leaving → place pid (onto_steps S a) ≡ Leaving
+  place_left : (a S : List Move) → IsPuts a → place pid S ≡ Leaving → place pid (onto_moves S a) ≡ Leaving
   place_left [] S h l = l
   place_left (Keep p ∷ a) S h l = absurd h
   place_left (Leave p ∷ a) S h l = absurd h
   place_left (Put q u ∷ a) S h l = place_left a (Put q u ∷ S) h (by_test (q == pid) (λ e. simp (e, l)) (λ e. simp (e, l)))
 
-  place_none : (a S : List Move) → IsPuts a → of_stream pid (acts a) ≡ [] → place pid (onto_steps S a) ≡ place pid S
+  place_none : (a S : List Move) → IsPuts a → of_stream pid (acts a) ≡ [] → place pid (onto_moves S a) ≡ place pid S
   place_none [] S h n = refl
   place_none (Keep p ∷ a) S h n = absurd h
   place_none (Leave p ∷ a) S h n = absurd h
@@ -88,7 +88,7 @@ module _ (pid : ℕ) where
       (λ e. let f = simp e at n in cc)
       (λ e. let f = simp e at n in place_none a (Put q u ∷ S) h f ∙ simp e)
 
-  units_puts : (a b S : List Move) → IsPuts a → units_out pid S (a ++ b) ≡ inserted_payloads (of_stream pid (acts a)) ++ units_out pid (onto_steps S a) b
+  units_puts : (a b S : List Move) → IsPuts a → units_out pid S (a ++ b) ≡ inserted_payloads (of_stream pid (acts a)) ++ units_out pid (onto_moves S a) b
   units_puts [] b S h = refl
   units_puts (Keep p ∷ a) b S h = absurd h
   units_puts (Leave p ∷ a) b S h = absurd h
@@ -98,25 +98,25 @@ module _ (pid : ℕ) where
       (λ e. simp e (ap (λ l. u.payload ∷ l) i))
       (λ e. simp e i)
 
-  whole_puts : (a S : List Move) → IsPuts a → Along (IsWhole pid) S → Along (IsWhole pid) (onto_steps S a)
+  whole_puts : (a S : List Move) → IsPuts a → Along (IsWhole pid) S → Along (IsWhole pid) (onto_moves S a)
   whole_puts [] S h w = w
   whole_puts (Keep p ∷ a) S h w = absurd h
   whole_puts (Leave p ∷ a) S h w = absurd h
   whole_puts (Put q u ∷ a) S h w = whole_puts a (Put q u ∷ S) h (tt, w)
 
-pub onto_steps-append : (S a b : List Move) → onto_steps S (a ++ b) ≡ onto_steps (onto_steps S a) b
-onto_steps-append S [] b = refl
-onto_steps-append S (s ∷ a) b = onto_steps-append (s ∷ S) a b
+pub onto_moves-append : (S a b : List Move) → onto_moves S (a ++ b) ≡ onto_moves (onto_moves S a) b
+onto_moves-append S [] b = refl
+onto_moves-append S (s ∷ a) b = onto_moves-append (s ∷ S) a b
 
 payloads-append : (a b : List Out) → inserted_payloads (a ++ b) ≡ inserted_payloads a ++ inserted_payloads b
 payloads-append [] b = refl
 payloads-append (Network p ∷ a) b = payloads-append a b
 payloads-append (Inserted u ∷ a) b = ap (λ l. u.payload ∷ l) (payloads-append a b)
 
--- ---- where a unit outside all breaks goes on, nothing is put in
+-- ---- where a unit outside all events goes on, nothing is put in
 
-module _ (r : Stream) (k : IsStream r) (slice : Break → List SliceUnit) (out : Break → List (List ℕ) → ℕ) where
-  none_put_one : (x : Break) (p : List ℕ) (past : List (List ℕ)) → Counts r x (slice x) (out x) (record { packet = p; past = past }) → r.begins p past ≡ false → holds x (r.time past) ≡ false → inserted (slice x) (out x) p past ≡ []
+module _ (r : Stream) (k : IsStream r) (slice : PlayedEvent → List SliceUnit) (out : PlayedEvent → List (List ℕ) → ℕ) where
+  none_put_one : (x : PlayedEvent) (p : List ℕ) (past : List (List ℕ)) → Counts r x (slice x) (out x) (record { packet = p; past = past }) → r.begins p past ≡ false → holds x (r.time past) ≡ false → inserted (slice x) (out x) p past ≡ []
   none_put_one x p past n b h =
       nothing_new (slice x) (out x past) (out x (p ∷ past)) (
       by_test (begun r x past)
@@ -126,14 +126,14 @@ module _ (r : Stream) (k : IsStream r) (slice : Break → List SliceUnit) (out :
       (λ g. let g' : begun r x (p ∷ past) ≡ false = simp (g, b) in n.before.starts g ∙ sym (n.after.starts g'))
       )
 
-  none_put : (xs : List Break) (p : List ℕ) (past : List (List ℕ)) → AllAt r k slice out xs (record { packet = p; past = past }) → r.begins p past ≡ false → outside xs (r.time past) ≡ true → all_inserted xs slice out p past ≡ []
+  none_put : (xs : List PlayedEvent) (p : List ℕ) (past : List (List ℕ)) → AllAt r k slice out xs (record { packet = p; past = past }) → r.begins p past ≡ false → outside xs (r.time past) ≡ true → all_inserted xs slice out p past ≡ []
   none_put [] p past n b h = refl
   none_put (x ∷ xs) p past n b h =
       by_test (holds x (r.time past))
       (λ g. let f = simp g at h in cc)
       (λ g. let f = simp g at h in let e = none_put_one x p past n.0 b g in rw e (none_put xs p past n.1 b f))
 
--- ---- the steps
+-- ---- the moves
 
 abbrev fate_place : Bool → Place
 fate_place true = Keeping
@@ -142,24 +142,24 @@ fate_place false = Leaving
 begins-payload : (pid : ℕ) (p : List ℕ) (past : List (List ℕ)) → payload_on pid p ≡ false → begins pid p past ≡ false
 begins-payload pid p past y = simp y
 
-module _ (sw : List ℕ) (xs : List Break) (slice : ℕ → Break → List SliceUnit) (out : ℕ → Break → List (List ℕ) → ℕ) where
+module _ (sw : List ℕ) (xs : List PlayedEvent) (slice : ℕ → PlayedEvent → List SliceUnit) (out : ℕ → PlayedEvent → List (List ℕ) → ℕ) where
   puts_are : (p : List ℕ) (past : List (List ℕ)) → IsPuts (puts_at sw xs slice out p past)
   puts_are p past =
-      let fc : ℕ → List SliceUnit = λ (q : ℕ). all_closing (stream sw q) xs (λ (x : Break). inserted (slice q x) (out q x)) p past in
-      let fr : ℕ → List SliceUnit = λ (q : ℕ). all_running (stream sw q) xs (λ (x : Break). inserted (slice q x) (out q x)) p past in
+      let fc : ℕ → List SliceUnit = λ (q : ℕ). all_closing (stream sw q) xs (λ (x : PlayedEvent). inserted (slice q x) (out q x)) p past in
+      let fr : ℕ → List SliceUnit = λ (q : ℕ). all_running (stream sw q) xs (λ (x : PlayedEvent). inserted (slice q x) (out q x)) p past in
       puts-append (puts_each sw fc) (puts_each sw fr) (puts_each_are sw fc) (puts_each_are sw fr)
 
   fate_network : (d : Bool) (p : List ℕ) (rest : List Move) → network ((if d then Leave p else Keep p) ∷ rest) ≡ p ∷ network rest
   fate_network true p rest = refl
   fate_network false p rest = refl
 
-  network_steps : (past ps : List (List ℕ)) → network (steps_after sw xs slice out past ps) ≡ ps
-  network_steps past [] =
-      let E = puts_each sw (λ (q : ℕ). flat_map (λ (x : Break). rest (stream sw q) x (slice q x) (out q x) past) xs) in
-      ap network (sym (append-nil E)) ∙ network_more E [] (puts_each_are sw (λ (q : ℕ). flat_map (λ (x : Break). rest (stream sw q) x (slice q x) (out q x) past) xs))
-  network_steps past (p ∷ ps) =
-      network_more (puts_at sw xs slice out p past) (fate sw xs p past ∷ steps_after sw xs slice out (p ∷ past) ps) (puts_are p past)
-      ∙ fate_network (is_dropped sw xs p past sw) p (steps_after sw xs slice out (p ∷ past) ps) ∙ ap (λ l. p ∷ l) (network_steps (p ∷ past) ps)
+  network_moves : (past ps : List (List ℕ)) → network (moves_after sw xs slice out past ps) ≡ ps
+  network_moves past [] =
+      let E = puts_each sw (λ (q : ℕ). flat_map (λ (x : PlayedEvent). rest (stream sw q) x (slice q x) (out q x) past) xs) in
+      ap network (sym (append-nil E)) ∙ network_more E [] (puts_each_are sw (λ (q : ℕ). flat_map (λ (x : PlayedEvent). rest (stream sw q) x (slice q x) (out q x) past) xs))
+  network_moves past (p ∷ ps) =
+      network_more (puts_at sw xs slice out p past) (fate sw xs p past ∷ moves_after sw xs slice out (p ∷ past) ps) (puts_are p past)
+      ∙ fate_network (is_dropped sw xs p past sw) p (moves_after sw xs slice out (p ∷ past) ps) ∙ ap (λ l. p ∷ l) (network_moves (p ∷ past) ps)
 
   module _ (o : AreOrdered xs) (pid : ℕ) (h : IsOnce pid sw) where
     abbrev r : Stream
@@ -173,15 +173,15 @@ module _ (sw : List ℕ) (xs : List Break) (slice : ℕ → Break → List Slice
 
     read_puts : (p : List ℕ) (past : List (List ℕ)) → At p past → of_stream pid (acts (puts_at sw xs slice out p past)) ≡ all_inserted xs (slice pid) (out pid) p past
     read_puts p past n =
-        let fc : ℕ → List SliceUnit = λ (q : ℕ). all_closing (stream sw q) xs (λ (x : Break). inserted (slice q x) (out q x)) p past in
-        let fr : ℕ → List SliceUnit = λ (q : ℕ). all_running (stream sw q) xs (λ (x : Break). inserted (slice q x) (out q x)) p past in
+        let fc : ℕ → List SliceUnit = λ (q : ℕ). all_closing (stream sw q) xs (λ (x : PlayedEvent). inserted (slice q x) (out q x)) p past in
+        let fr : ℕ → List SliceUnit = λ (q : ℕ). all_running (stream sw q) xs (λ (x : PlayedEvent). inserted (slice q x) (out q x)) p past in
         ap (of_stream pid) (acts-append (puts_each sw fc) (puts_each sw fr) ∙ ap (λ l. l ++ acts (puts_each sw fr)) (acts_each sw fc) ∙ ap (λ l. on_each sw fc ++ l) (acts_each sw fr))
         ∙ of_stream-append pid (on_each sw fc) (on_each sw fr)
         ∙ ap (λ l. l ++ of_stream pid (on_each sw fr)) (once_on pid sw fc h)
         ∙ ap (λ l. map (λ (u : SliceUnit). Inserted u) (fc pid) ++ l) (once_on pid sw fr h)
         ∙ sym (put_in-append (fc pid) (fr pid))
         ∙ ap (λ l. map (λ (u : SliceUnit). Inserted u) l) (phases (stream sw pid) (pids_are_streams sw pid) (slice pid) (out pid) xs o p past n)
-        ∙ put_in-flat (λ (x : Break). inserted (slice pid x) (out pid x) p past) xs
+        ∙ put_in-flat (λ (x : PlayedEvent). inserted (slice pid x) (out pid x) p past) xs
 
     record Inv (S : List Move) (past : List (List ℕ)) : Type 0 where
       pub net : network S ≡ past
@@ -190,7 +190,7 @@ module _ (sw : List ℕ) (xs : List Break) (slice : ℕ → Break → List Slice
 
     module _ (p : List ℕ) (past : List (List ℕ)) (S : List Move) (n : At p past) (i : Inv S past) where
       abbrev behind : List Move
-      behind = onto_steps S (puts_at sw xs slice out p past)
+      behind = onto_moves S (puts_at sw xs slice out p past)
 
       net_behind : network behind ≡ past
       net_behind = network_puts (puts_at sw xs slice out p past) S (puts_are p past) ∙ i.net
@@ -257,11 +257,11 @@ module _ (sw : List ℕ) (xs : List Break) (slice : ℕ → Break → List Slice
           (λ g. subst (λ s. Inv (s ∷ behind) (p ∷ past)) (sym (fate_is y false g)) (inv_leave y g)))
           (λ y. inv_other (is_dropped sw xs p past sw) y)
 
-    -- ---- all steps
+    -- ---- all moves
 
-    whole_after : (past ps : List (List ℕ)) (S : List Move) → AllCounted (stream sw pid) (pids_are_streams sw pid) (slice pid) (out pid) xs (seen_after past ps) → Inv S past → Along (IsWhole pid) (onto_steps S (steps_after sw xs slice out past ps))
+    whole_after : (past ps : List (List ℕ)) (S : List Move) → AllCounted (stream sw pid) (pids_are_streams sw pid) (slice pid) (out pid) xs (seen_after past ps) → Inv S past → Along (IsWhole pid) (onto_moves S (moves_after sw xs slice out past ps))
     whole_after past [] S n i =
-        let f : ℕ → List SliceUnit = λ (q : ℕ). flat_map (λ (x : Break). rest (stream sw q) x (slice q x) (out q x) past) xs in
+        let f : ℕ → List SliceUnit = λ (q : ℕ). flat_map (λ (x : PlayedEvent). rest (stream sw q) x (slice q x) (out q x) past) xs in
         whole_puts pid (puts_each sw f) S (puts_each_are sw f) i.whole
     whole_after past (p ∷ ps) S n i =
         let s : Seen = record { packet = p; past = past } in
@@ -269,8 +269,8 @@ module _ (sw : List ℕ) (xs : List Break) (slice : ℕ → Break → List Slice
         let t = counted_tail (stream sw pid) (pids_are_streams sw pid) (slice pid) (out pid) xs s (seen_after (p ∷ past) ps) n in
         let A = puts_at sw xs slice out p past in
         let F = fate sw xs p past in
-        let w = whole_after (p ∷ past) ps (F ∷ onto_steps S A) t (inv_more p past S a i) in
-        subst (Along (IsWhole pid)) (sym (onto_steps-append S A (F ∷ steps_after sw xs slice out (p ∷ past) ps))) w
+        let w = whole_after (p ∷ past) ps (F ∷ onto_moves S A) t (inv_more p past S a i) in
+        subst (Along (IsWhole pid)) (sym (onto_moves-append S A (F ∷ moves_after sw xs slice out (p ∷ past) ps))) w
 
     -- what a packet adds
     keep_units : (p : List ℕ) (past ps : List (List ℕ)) (S rest : List Move) → network S ≡ past → network rest ≡ ps → outside xs (unit_time sw pid (p ∷ past)) ≡ true →
@@ -307,9 +307,9 @@ module _ (sw : List ℕ) (xs : List Break) (slice : ℕ → Break → List Slice
       skip false x l e = refl
 
     step_units : (p : List ℕ) (past ps : List (List ℕ)) (S rest : List Move) (n : At p past) (i : Inv S past) → network rest ≡ ps →
-        unit_at sw pid xs past p ps ++ units_out pid (fate sw xs p past ∷ onto_steps S (puts_at sw xs slice out p past)) rest ≡ units_out pid (onto_steps S (puts_at sw xs slice out p past)) (fate sw xs p past ∷ rest)
+        unit_at sw pid xs past p ps ++ units_out pid (fate sw xs p past ∷ onto_moves S (puts_at sw xs slice out p past)) rest ≡ units_out pid (onto_moves S (puts_at sw xs slice out p past)) (fate sw xs p past ∷ rest)
     step_units p past ps S rest n i m =
-        let B = onto_steps S (puts_at sw xs slice out p past) in
+        let B = onto_moves S (puts_at sw xs slice out p past) in
         let P : Move → Type 0 = λ s. unit_at sw pid xs past p ps ++ units_out pid (s ∷ B) rest ≡ units_out pid B (s ∷ rest) in
         by_test (payload_on pid p)
         (λ y. by_test (outside xs (unit_time sw pid (p ∷ past)))
@@ -327,13 +327,13 @@ module _ (sw : List ℕ) (xs : List Break) (slice : ℕ → Break → List Slice
 
     -- what is left of the slices that run, and what is placed then, is what goes out
     placed_after : (past ps : List (List ℕ)) (S : List Move) → AllCounted (stream sw pid) (pids_are_streams sw pid) (slice pid) (out pid) xs (seen_after past ps) → Inv S past →
-        inserted_payloads (all_rest (stream sw pid) xs (slice pid) (out pid) past) ++ placed_payloads sw pid xs (slice pid) past ps ≡ units_out pid S (steps_after sw xs slice out past ps)
+        inserted_payloads (all_rest (stream sw pid) xs (slice pid) (out pid) past) ++ placed_payloads sw pid xs (slice pid) past ps ≡ units_out pid S (moves_after sw xs slice out past ps)
     placed_after past [] S n i =
-        let f : ℕ → List SliceUnit = λ (q : ℕ). flat_map (λ (x : Break). rest (stream sw q) x (slice q x) (out q x) past) xs in
+        let f : ℕ → List SliceUnit = λ (q : ℕ). flat_map (λ (x : PlayedEvent). rest (stream sw q) x (slice q x) (out q x) past) xs in
         let E = puts_each sw f in
         sym (
         ap (units_out pid S) (sym (append-nil E)) ∙ units_puts pid E [] S (puts_each_are sw f)
-        ∙ ap (λ l. inserted_payloads l ++ []) (ap (of_stream pid) (acts_each sw f) ∙ once_on pid sw f h ∙ put_in-flat (λ (x : Break). rest (stream sw pid) x (slice pid x) (out pid x) past) xs)
+        ∙ ap (λ l. inserted_payloads l ++ []) (ap (of_stream pid) (acts_each sw f) ∙ once_on pid sw f h ∙ put_in-flat (λ (x : PlayedEvent). rest (stream sw pid) x (slice pid x) (out pid x) past) xs)
         )
     placed_after past (p ∷ ps) S n i =
         let s : Seen = record { packet = p; past = past } in
@@ -341,7 +341,7 @@ module _ (sw : List ℕ) (xs : List Break) (slice : ℕ → Break → List Slice
         let t = counted_tail (stream sw pid) (pids_are_streams sw pid) (slice pid) (out pid) xs s (seen_after (p ∷ past) ps) n in
         let A = puts_at sw xs slice out p past in
         let F = fate sw xs p past in
-        let L = steps_after sw xs slice out (p ∷ past) ps in
+        let L = moves_after sw xs slice out (p ∷ past) ps in
         let R = all_rest (stream sw pid) xs (slice pid) (out pid) past in
         let Sl = all_slices_at (stream sw pid) xs (slice pid) p past in
         let I = all_inserted xs (slice pid) (out pid) p past in
@@ -351,15 +351,15 @@ module _ (sw : List ℕ) (xs : List Break) (slice : ℕ → Break → List Slice
         turn (inserted_payloads R) (inserted_payloads Sl) (inserted_payloads I) (inserted_payloads T) K V
         (sym (payloads-append R Sl) ∙ ap inserted_payloads (all_joined (stream sw pid) (pids_are_streams sw pid) (slice pid) (out pid) xs o p past a) ∙ payloads-append I T)
         (apart T K (λ g. no_unit p past ps (and_right (begins pid p past) _ g)) (left_inside (stream sw pid) (pids_are_streams sw pid) (slice pid) (out pid) xs p past a))
-        ∙ ap (λ l. inserted_payloads I ++ (K ++ l)) (placed_after (p ∷ past) ps (F ∷ onto_steps S A) t (inv_more p past S a i))
-        ∙ ap (λ l. inserted_payloads I ++ l) (step_units p past ps S L a i (network_steps (p ∷ past) ps))
-        ∙ ap (λ l. inserted_payloads l ++ units_out pid (onto_steps S A) (F ∷ L)) (sym (read_puts p past a))
+        ∙ ap (λ l. inserted_payloads I ++ (K ++ l)) (placed_after (p ∷ past) ps (F ∷ onto_moves S A) t (inv_more p past S a i))
+        ∙ ap (λ l. inserted_payloads I ++ l) (step_units p past ps S L a i (network_moves (p ∷ past) ps))
+        ∙ ap (λ l. inserted_payloads l ++ units_out pid (onto_moves S A) (F ∷ L)) (sym (read_puts p past a))
         ∙ sym (units_puts pid A (F ∷ L) S (puts_are p past)) where
           apart : (T : List Out) (K : List (List ℕ)) {o : Bool} → (o ≡ false → K ≡ []) → (T ≡ []) ⊎ (o ≡ false) → inserted_payloads T ++ K ≡ K ++ inserted_payloads T
           apart T K f (inl e) = swap (inserted_payloads T) K (inl (ap inserted_payloads e))
           apart T K f (inr e) = swap (inserted_payloads T) K (inr (f e))
 
-outside-none : (xs : List Break) → outside xs None ≡ true
+outside-none : (xs : List PlayedEvent) → outside xs None ≡ true
 outside-none [] = refl
 outside-none (x ∷ xs) = outside-none xs
 
@@ -367,13 +367,13 @@ pub spliced_carries : SplicedCarries
 spliced_carries packed sw xs o slice ps pid h s l =
     let r = stream sw pid in
     let k = pids_are_streams sw pid in
-    let out : ℕ → Break → List (List ℕ) → ℕ = λ (q : ℕ) (x : Break). out_of (stream sw q) x (slice q x) in
+    let out : ℕ → PlayedEvent → List (List ℕ) → ℕ = λ (q : ℕ) (x : PlayedEvent). out_of (stream sw q) x (slice q x) in
     let n = all_counted r k (slice pid) (out pid) xs (seen_after [] ps) (out_counts_all r k xs (slice pid) ps) in
-    let steps = splice_steps sw xs slice ps in
+    let moves = splice_moves sw xs slice ps in
     let i : Inv sw xs slice out o pid h [] [] = record { net = refl; at = sym (ap fate_place (outside-none xs)); whole = tt } in
     let w = whole_after sw xs slice out o pid h [] ps [] n i in
-    let e = network_steps sw xs slice out [] ps in
-    let c = output_carries_units packed pid steps (record { sound = s; whole = w }) (subst (λ q. All (λ (p : List ℕ). length p ≡ 188) q) (sym e) l) in
+    let e = network_moves sw xs slice out [] ps in
+    let c = output_carries_units packed pid moves (record { sound = s; whole = w }) (subst (λ q. All (λ (p : List ℕ). length p ≡ 188) q) (sym e) l) in
     let v = ap (λ q. inserted_payloads q ++ placed_payloads sw pid xs (slice pid) [] ps) (sym (none_at_first r xs (slice pid) (out pid))) ∙ placed_after sw xs slice out o pid h [] ps [] n i in
     (c.0, c.1 ∙ ap (λ q. lead pid q ++ c.0) e, subst (Carries c.0) (sym v) c.2)
 
@@ -381,15 +381,15 @@ pub spliced_has_units : SplicedHasUnits
 spliced_has_units packed sw xs o slice ps pid h s f b g sw' =
     let r = stream sw pid in
     let k = pids_are_streams sw pid in
-    let out : ℕ → Break → List (List ℕ) → ℕ = λ (q : ℕ) (x : Break). out_of (stream sw q) x (slice q x) in
+    let out : ℕ → PlayedEvent → List (List ℕ) → ℕ = λ (q : ℕ) (x : PlayedEvent). out_of (stream sw q) x (slice q x) in
     let n = all_counted r k (slice pid) (out pid) xs (seen_after [] ps) (out_counts_all r k xs (slice pid) ps) in
-    let steps = splice_steps sw xs slice ps in
+    let moves = splice_moves sw xs slice ps in
     let i : Inv sw xs slice out o pid h [] [] = record { net = refl; at = sym (ap fate_place (outside-none xs)); whole = tt } in
-    let w : IsRun packed pid steps = record { sound = s; whole = whole_after sw xs slice out o pid h [] ps [] n i } in
-    let e = network_steps sw xs slice out [] ps in
+    let w : IsRun packed pid moves = record { sound = s; whole = whole_after sw xs slice out o pid h [] ps [] n i } in
+    let e = network_moves sw xs slice out [] ps in
     let v = ap (λ q. inserted_payloads q ++ placed_payloads sw pid xs (slice pid) [] ps) (sym (none_at_first r xs (slice pid) (out pid))) ∙ placed_after sw xs slice out o pid h [] ps [] n i in
-    let g' : IsGaplessAfter b pid (network steps) = subst (IsGaplessAfter b pid) (sym e) g in
-    (output_stays_gapless packed pid b steps w f g', output_has_units packed pid b sw' steps w f g' ∙ sym v)
+    let g' : IsGaplessAfter b pid (network moves) = subst (IsGaplessAfter b pid) (sym e) g in
+    (output_stays_gapless packed pid b moves w f g', output_has_units packed pid b sw' moves w f g' ∙ sym v)
 
 -- ---- they are the acts of the splice law
 
@@ -400,30 +400,30 @@ fate_acts : (d : Bool) (p : List ℕ) (l : List Move) → acts ((if d then Leave
 fate_acts true p l = refl
 fate_acts false p l = refl
 
-module _ (sw : List ℕ) (xs : List Break) (slice : ℕ → Break → List SliceUnit) (out : ℕ → Break → List (List ℕ) → ℕ) where
-  abbrev piece : ℕ → Break → List ℕ → List (List ℕ) → List SliceUnit
+module _ (sw : List ℕ) (xs : List PlayedEvent) (slice : ℕ → PlayedEvent → List SliceUnit) (out : ℕ → PlayedEvent → List (List ℕ) → ℕ) where
+  abbrev piece : ℕ → PlayedEvent → List ℕ → List (List ℕ) → List SliceUnit
   piece q x = inserted (slice q x) (out q x)
 
-  abbrev left : ℕ → Break → List (List ℕ) → List SliceUnit
+  abbrev left : ℕ → PlayedEvent → List (List ℕ) → List SliceUnit
   left q x = rest (stream sw q) x (slice q x) (out q x)
 
-  acts_after : (past ps : List (List ℕ)) → acts (steps_after sw xs slice out past ps)
-      ≡ flat_map (spliced_at sw xs piece) (seen_after past ps) ++ on_each sw (λ (q : ℕ). flat_map (λ (x : Break). left q x (onto past ps)) xs)
-  acts_after past [] = acts_each sw (λ (q : ℕ). flat_map (λ (x : Break). left q x past) xs)
+  acts_after : (past ps : List (List ℕ)) → acts (moves_after sw xs slice out past ps)
+      ≡ flat_map (spliced_at sw xs piece) (seen_after past ps) ++ on_each sw (λ (q : ℕ). flat_map (λ (x : PlayedEvent). left q x (onto past ps)) xs)
+  acts_after past [] = acts_each sw (λ (q : ℕ). flat_map (λ (x : PlayedEvent). left q x past) xs)
   acts_after past (p ∷ ps) =
       let fc : ℕ → List SliceUnit = λ (q : ℕ). all_closing (stream sw q) xs (piece q) p past in
       let fr : ℕ → List SliceUnit = λ (q : ℕ). all_running (stream sw q) xs (piece q) p past in
-      let L = steps_after sw xs slice out (p ∷ past) ps in
+      let L = moves_after sw xs slice out (p ∷ past) ps in
       let A = puts_at sw xs slice out p past in
       let d = is_dropped sw xs p past sw in
       let T : List Act = if d then [] else Through p ∷ [] in
       acts-append A (fate sw xs p past ∷ L)
       ∙ ap (λ l. acts A ++ l) (fate_acts d p L)
-      ∙ four (acts A) (on_each sw fc ++ on_each sw fr) T (flat_map (spliced_at sw xs piece) (seen_after (p ∷ past) ps)) (on_each sw (λ (q : ℕ). flat_map (λ (x : Break). left q x (onto (p ∷ past) ps)) xs)) (acts L)
+      ∙ four (acts A) (on_each sw fc ++ on_each sw fr) T (flat_map (spliced_at sw xs piece) (seen_after (p ∷ past) ps)) (on_each sw (λ (q : ℕ). flat_map (λ (x : PlayedEvent). left q x (onto (p ∷ past) ps)) xs)) (acts L)
       (acts-append (puts_each sw fc) (puts_each sw fr) ∙ ap (λ l. l ++ acts (puts_each sw fr)) (acts_each sw fc) ∙ ap (λ l. on_each sw fc ++ l) (acts_each sw fr))
       (acts_after (p ∷ past) ps)
 
-pub steps_are_spliced : StepsAreSpliced
-steps_are_spliced sw xs slice ps =
-    let out : ℕ → Break → List (List ℕ) → ℕ = λ (q : ℕ) (x : Break). out_of (stream sw q) x (slice q x) in
-    (acts_after sw xs slice out [] ps, network_steps sw xs slice out [] ps)
+pub moves_are_spliced : MovesAreSpliced
+moves_are_spliced sw xs slice ps =
+    let out : ℕ → PlayedEvent → List (List ℕ) → ℕ = λ (q : ℕ) (x : PlayedEvent). out_of (stream sw q) x (slice q x) in
+    (acts_after sw xs slice out [] ps, network_moves sw xs slice out [] ps)

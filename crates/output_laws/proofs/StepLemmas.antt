@@ -1,4 +1,4 @@
--- One step more: what the network has brought, what goes out, and the counters.
+-- One move more: what the network has brought, what goes out, and the counters.
 use Rattle.std.specs.Prelude.{if◌then◌else◌, ◌==◌, count_by, is_some, cond}
 use Rattle.std.proofs.Common.{◌≡◌, ℕ, ◌+◌, ◌%◌, ◌/◌, ◌<◌, List, [], ◌∷◌, ◌++◌, Bool, true, false, ◌&&◌, refl, sym, ap, ◌∙◌, Option, None, Some, arith, length}
 use Rattle.std.proofs.lemmas.List.Sums.{sum_by-cons}
@@ -13,15 +13,15 @@ use Rattle.output_laws.specs.Output.{Move, Keep, Leave, Put, network, Packing, p
 
 -- ---- lists, newest first
 
-abbrev pub onto_steps : List Move → List Move → List Move
-onto_steps past [] = past
-onto_steps past (s ∷ ss) = onto_steps (s ∷ past) ss
+abbrev pub onto_moves : List Move → List Move → List Move
+onto_moves past [] = past
+onto_moves past (s ∷ ss) = onto_moves (s ∷ past) ss
 
 pub onto-append : (past ps qs : List (List ℕ)) → onto past (ps ++ qs) ≡ onto (onto past ps) qs
 onto-append past [] qs = refl
 onto-append past (p ∷ ps) qs = onto-append (p ∷ past) ps qs
 
-pub network_onto : (past ss : List Move) → network (onto_steps past ss) ≡ onto (network past) (network ss)
+pub network_onto : (past ss : List Move) → network (onto_moves past ss) ≡ onto (network past) (network ss)
 network_onto past [] = refl
 network_onto past (Keep p ∷ ss) = network_onto (Keep p ∷ past) ss
 network_onto past (Leave p ∷ ss) = network_onto (Leave p ∷ past) ss
@@ -32,12 +32,12 @@ abbrev pub out_back : Packing → List Move → List (List ℕ)
 out_back packed [] = []
 out_back packed (s ∷ past) = onto (out_back packed past) (out_at packed s past)
 
-pub out_onto : (packed : Packing) (past ss : List Move) → out_back packed (onto_steps past ss) ≡ onto (out_back packed past) (out_after packed past ss)
+pub out_onto : (packed : Packing) (past ss : List Move) → out_back packed (onto_moves past ss) ≡ onto (out_back packed past) (out_after packed past ss)
 out_onto packed past [] = refl
 out_onto packed past (s ∷ ss) = out_onto packed (s ∷ past) ss ∙ sym (onto-append (out_back packed past) (out_at packed s past) (out_after packed (s ∷ past) ss))
 
--- what holds along all steps holds along those before
-pub along_past : (f : Move → List Move → Type 0) (past ss : List Move) → Along f (onto_steps past ss) → Along f past
+-- what holds along all moves holds along those before
+pub along_past : (f : Move → List Move → Type 0) (past ss : List Move) → Along f (onto_moves past ss) → Along f past
 along_past f past [] h = h
 along_past f past (s ∷ ss) h = (along_past f (s ∷ past) ss h).1
 

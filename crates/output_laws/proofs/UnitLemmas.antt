@@ -13,7 +13,7 @@ use Rattle.unit_stream.specs.Units.{is_original, rest_of_unit, units_of, payload
 use Rattle.splice_laws.specs.Splicing.{SliceUnit}
 use Rattle.output_laws.specs.Output.{Move, Keep, Leave, Put, network, Packing, counter_steps, clock_alone, out_after, AllOn, GoOn, BeginsAlone, Sound, Place, Keeping, Leaving, Between, behind_put, place, IsWhole, has_come, IsFed, Along, units_out}
 use Rattle.output_laws.specs.Laws.{OutputHasUnits}
-use Rattle.output_laws.proofs.StepLemmas.{onto_steps, network_onto, out_back, along_past, test-same, kept_on, payload_on-kept, payload_on-clock}
+use Rattle.output_laws.proofs.StepLemmas.{onto_moves, network_onto, out_back, along_past, test-same, kept_on, payload_on-kept, payload_on-clock}
 use Rattle.output_laws.proofs.PutLemmas.{AllOriginal}
 use Rattle.output_laws.proofs.GaplessLemmas.{test-true, below_16, one_below, other_pid, Here, here, kept_repeats, kept_new, put_originals_here}
 
@@ -54,7 +54,7 @@ module _ (pid : ℕ) where
   rest_of past ss = rest_of_unit (filter (is_original pid) (seen_after (network past) (network ss)))
 
   -- behind a unit put in there are none
-  pub no_more : (past ss : List Move) → Along (IsWhole pid) (onto_steps past ss) → place pid past ≡ Between → rest_of past ss ≡ []
+  pub no_more : (past ss : List Move) → Along (IsWhole pid) (onto_moves past ss) → place pid past ≡ Between → rest_of past ss ≡ []
   no_more past [] w h = refl
   no_more past (Keep p ∷ ss) w h =
       let here = (along_past (IsWhole pid) (Keep p ∷ past) ss w).0 in
@@ -128,7 +128,7 @@ module _ (packed : Packing) (pid : ℕ) (b : Option (List ℕ)) where
     pub fed : Along (IsFed pid) past
     pub gapless : Gapless b pid (network past)
 
-  good_past : (past ss : List Move) → Good (onto_steps past ss) → Good past
+  good_past : (past ss : List Move) → Good (onto_moves past ss) → Good past
   good_past past ss g = record {
     sound = along_past _ past ss g.sound;
     whole = along_past _ past ss g.whole;
@@ -139,7 +139,7 @@ module _ (packed : Packing) (pid : ℕ) (b : Option (List ℕ)) where
   abbrev out_rest : List Move → List Move → List ℕ
   out_rest past ss = rest_of_unit (filter (is_original pid) (seen_after (out_back packed past) (out_after packed past ss)))
 
-  rest_put_same : (u : SliceUnit) (past ss : List Move) → Sound packed (Put pid u) → has_come pid (network past) ≡ true → Here packed pid b past → Along (IsWhole pid) (onto_steps (Put pid u ∷ past) ss)
+  rest_put_same : (u : SliceUnit) (past ss : List Move) → Sound packed (Put pid u) → has_come pid (network past) ≡ true → Here packed pid b past → Along (IsWhole pid) (onto_moves (Put pid u ∷ past) ss)
       → out_rest past (Put pid u ∷ ss) ≡ rest_at (place pid past) (rest_of pid past (Put pid u ∷ ss))
   rest_put_same u past ss s f h w =
       let E = counter_steps packed pid past in
@@ -150,7 +150,7 @@ module _ (packed : Packing) (pid : ℕ) (b : Option (List ℕ)) where
       starts_put pid qs (out_after packed (Put pid u ∷ past) ss) (out_back packed past) k.starts (put_originals_here packed pid b u past s f h)
       ∙ sym (put_rest (place pid past) (rest_of pid past (Put pid u ∷ ss)) (λ e. n (simp t e)))
 
-  rest_after : (past ss : List Move) → Good (onto_steps past ss) → out_rest past ss ≡ rest_at (place pid past) (rest_of pid past ss)
+  rest_after : (past ss : List Move) → Good (onto_moves past ss) → out_rest past ss ≡ rest_at (place pid past) (rest_of pid past ss)
   rest_after past [] g = sym (rest_none (place pid past))
   rest_after past (Keep p ∷ ss) g =
       let i = rest_after (Keep p ∷ past) ss g in
@@ -204,7 +204,7 @@ module _ (packed : Packing) (pid : ℕ) (b : Option (List ℕ)) where
         unit_put pid sw qs (out_after packed (Put pid u ∷ past) ss) (out_back packed past) u.payload k.starts (put_originals_here packed pid b u past s f h) k.joined (r ∙ z)
         ∙ ap (λ l. u.payload ∷ l) i ∙ sym (simp t)
 
-    units_after : (past ss : List Move) → Good (onto_steps past ss) → out_cut past ss ≡ units_out pid past ss
+    units_after : (past ss : List Move) → Good (onto_moves past ss) → out_cut past ss ≡ units_out pid past ss
     units_after past [] g = refl
     units_after past (Keep p ∷ ss) g =
         let i = units_after (Keep p ∷ past) ss g in
@@ -235,10 +235,10 @@ module _ (packed : Packing) (pid : ℕ) (b : Option (List ℕ)) where
         ap (λ l. payloads (units_of sw pid l)) (skip_put pid q qs (out_after packed (Put q u ∷ past) ss) (out_back packed past) e k.on_pid) ∙ i ∙ sym (simp e))
 
 pub output_has_units : OutputHasUnits
-output_has_units packed pid b sw steps r f k =
-    units_after packed pid b sw [] steps (record {
+output_has_units packed pid b sw moves r f k =
+    units_after packed pid b sw [] moves (record {
       sound = r.sound;
       whole = r.whole;
       fed = f;
-      gapless = rw (network_onto [] steps) (gapless_glue b pid [] (network steps) tt k);
+      gapless = rw (network_onto [] moves) (gapless_glue b pid [] (network moves) tt k);
     })

@@ -16,5 +16,5 @@ IsWithin pids (Put q u) past = is_among q pids ≡ true
 
 -- THE PACKETS OF ALL OTHER PIDS, and those marked in error, are the same list, byte for byte
 abbrev pub OthersPass : Type 0
-OthersPass = (packed : Packing) (pids : List ℕ) (steps : List Move) → Along (λ (s : Move) (past : List Move). Sound packed s) (reverse steps) → Along (IsWithin pids) (reverse steps) →
-    All (λ (p : List ℕ). length p ≡ 188) (network steps) → filter (is_off pids) (output packed steps) ≡ filter (is_off pids) (network steps)
+OthersPass = (packed : Packing) (pids : List ℕ) (moves : List Move) → Along (λ (s : Move) (past : List Move). Sound packed s) (reverse moves) → Along (IsWithin pids) (reverse moves) →
+    All (λ (p : List ℕ). length p ≡ 188) (network moves) → filter (is_off pids) (output packed moves) ≡ filter (is_off pids) (network moves)

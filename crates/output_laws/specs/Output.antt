@@ -19,27 +19,27 @@ pub data Move : Type 0 where
 -- the acts of the splice law: those that leave out are none
 abbrev pub acts : List Move → List Act
 acts [] = []
-acts (Keep p ∷ steps) = Through p ∷ acts steps
-acts (Leave p ∷ steps) = acts steps
-acts (Put pid u ∷ steps) = Insert pid u ∷ acts steps
+acts (Keep p ∷ moves) = Through p ∷ acts moves
+acts (Leave p ∷ moves) = acts moves
+acts (Put pid u ∷ moves) = Insert pid u ∷ acts moves
 
--- the network's packets, in the order of the steps
+-- the network's packets, in the order of the moves
 abbrev pub network : List Move → List (List ℕ)
 network [] = []
-network (Keep p ∷ steps) = p ∷ network steps
-network (Leave p ∷ steps) = p ∷ network steps
-network (Put pid u ∷ steps) = network steps
+network (Keep p ∷ moves) = p ∷ network moves
+network (Leave p ∷ moves) = p ∷ network moves
+network (Put pid u ∷ moves) = network moves
 
 -- the packets of a slice unit on a PID, where the first has this counter
 abbrev pub Packing : Type 0
 Packing = ℕ → SliceUnit → ℕ → List (List ℕ)
 
--- one event for each packet put in
+-- one step for each packet put in
 abbrev pub put_in : List (List ℕ) → List Step → List Step
 put_in [] counter_steps = counter_steps
 put_in (q ∷ qs) counter_steps = put_in qs (Inserted ∷ counter_steps)
 
--- WHAT HAPPENED ON THE PID, newest first, as the counters see it; the steps are newest first too
+-- WHAT HAPPENED ON THE PID, newest first, as the counters see it; the moves are newest first too
 abbrev pub counter_steps : Packing → ℕ → List Move → List Step
 counter_steps packed pid [] = []
 counter_steps packed pid (Keep p ∷ past) = if on pid p then Kept p ∷ counter_steps packed pid past else counter_steps packed pid past
@@ -55,7 +55,7 @@ abbrev pub clock_alone : ℕ → ℕ → Option (List ℕ) → List (List ℕ)
 clock_alone pid n None = []
 clock_alone pid n (Some clock) = clock_packet pid n clock ∷ []
 
--- WHAT GOES OUT AT A STEP, behind others
+-- WHAT GOES OUT AT A MOVE, behind others
 abbrev pub out_at : Packing → Move → List Move → List (List ℕ)
 out_at packed (Keep p) past = kept_packet packed p past ∷ []
 out_at packed (Leave p) past = clock_alone (pid_of p) (number_out p (counter_steps packed (pid_of p) (Leave p ∷ past))) (pcr p)
@@ -65,9 +65,9 @@ abbrev pub out_after : Packing → List Move → List Move → List (List ℕ)
 out_after packed past [] = []
 out_after packed past (s ∷ ss) = out_at packed s past ++ out_after packed (s ∷ past) ss
 
--- THE OUTPUT OF A RUN of steps in order
+-- THE OUTPUT OF A RUN of moves in order
 abbrev pub output : Packing → List Move → List (List ℕ)
-output packed steps = out_after packed [] steps
+output packed moves = out_after packed [] moves
 
 -- ---- what the laws need of the packets put in
 
@@ -95,7 +95,7 @@ pub record IsPacked (pid : ℕ) (bs : List ℕ) (n : ℕ) (qs : List (List ℕ))
   pub counted : CountsFrom n qs
   pub joined : flat_map bytes qs ≡ bs
 
--- the unit of a step is packed, whatever the first counter; the PID of a packet left out is one of 13 bits
+-- the unit of a move is packed, whatever the first counter; the PID of a packet left out is one of 13 bits
 abbrev pub Sound : Packing → Move → Type 0
 Sound packed (Keep p) = Unit {0}
 Sound packed (Leave p) = pid_of p < 8192
@@ -137,7 +137,7 @@ IsFed pid (Keep p) past = Unit {0}
 IsFed pid (Leave p) past = Unit {0}
 IsFed pid (Put q u) past = (q == pid) ≡ true → has_come pid (network past) ≡ true
 
--- of steps, newest first: each is so, behind those before it
+-- of moves, newest first: each is so, behind those before it
 abbrev pub Along : (Move → List Move → Type 0) → List Move → Type 0
 Along f [] = Unit {0}
 Along f (s ∷ past) = f s past × Along f past

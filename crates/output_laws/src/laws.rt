@@ -1,7 +1,7 @@
 //! What holds of every output of a splice, over the definitions alone.
 
 ghost use Rattle.output_laws.specs.Laws.{OutputStaysGapless, OutputHasUnits, OutputCarriesUnits, NothingChanges, FedIsNeeded};
-ghost use Rattle.output_laws.specs.Spliced.{SplicedCarries, SplicedHasUnits, StepsAreSpliced, SplicedOthersPass};
+ghost use Rattle.output_laws.specs.Spliced.{SplicedCarries, SplicedHasUnits, MovesAreSpliced, SplicedOthersPass};
 ghost use Rattle.output_laws.specs.Others.{OthersPass};
 
 /// Where the network is gapless on a PID, the output is, if the PID has a payload packet before the
@@ -32,7 +32,7 @@ pub fn fed_is_needed()
 {}
 
 /// On any network, each switched PID of a spliced run carries, behind its packets before the first
-/// unit start, its units outside all breaks with each slice in its place.
+/// unit start, its units outside all events with each slice in its place.
 pub fn spliced_carries()
     ensures { SplicedCarries }
 {}
@@ -42,9 +42,9 @@ pub fn spliced_has_units()
     ensures { SplicedHasUnits }
 {}
 
-/// The steps of a splice are its acts, and what it leaves out.
-pub fn steps_are_spliced()
-    ensures { StepsAreSpliced }
+/// The moves of a splice are its acts, and what it leaves out.
+pub fn moves_are_spliced()
+    ensures { MovesAreSpliced }
 {}
 
 /// The packets of all other PIDs, and those marked in error, are the same list, byte for byte.

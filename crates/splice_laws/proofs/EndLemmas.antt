@@ -8,7 +8,7 @@ use lib.Signed.{lt_z}
 use Rattle.ts_packet.specs.Runs.{Seen, seen_after}
 use Rattle.ts_packet.proofs.Cases.{by_test}
 use Rattle.ts_packet.proofs.RunLemmas.{onto}
-use Rattle.splice_laws.specs.Splicing.{Break, SliceUnit, Out, Stream, at_or_past, begun, closed, due, put_in, kept, inserted, rest, all_inserted, all_rest}
+use Rattle.splice_laws.specs.Splicing.{PlayedEvent, SliceUnit, Out, Stream, at_or_past, begun, closed, due, put_in, kept, inserted, rest, all_inserted, all_rest}
 use Rattle.splice_laws.specs.Laws.{Risen, IsStream, CountsAt, Counts}
 use Rattle.splice_laws.specs.Settled.{IsAhead, IsSettled}
 use Rattle.splice_laws.specs.Ends.{up_to_end, longest_front, sent, sent_at, unsent, sent_whole, EndsAt, EndSoon, SentIsPlaced}
@@ -74,7 +74,7 @@ front-earlier (u ∷ us) a b h h' g l s =
       skipped d c (inl e) i = true_or_false (lt_z u.time a) d (ap (lt_z u.time) e ∙ c)
       skipped d c (inr k) i = let n = not-due u.time b h k c in simp (c, d, n) (run_of (up_to_end b us) h', refl)
 
--- ---- one break
+-- ---- one event
 
 same-risen : (h : Option ℤ) → Risen h h
 same-risen None = tt
@@ -88,13 +88,13 @@ not-ahead edge None h w a k = true_or_false false a refl
 not-ahead edge (Some t) None w a k = absurd w
 not-ahead edge (Some t) (Some h) w a k = grind (arith, ints)
 
-settled-low : (x : Break) (stop : ℤ) (h : Option ℤ) → IsSettled x (Some stop) h → x.stop ≤ℤ stop
+settled-low : (x : PlayedEvent) (stop : ℤ) (h : Option ℤ) → IsSettled x (Some stop) h → x.stop ≤ℤ stop
 settled-low x stop h (inl e) = rw e (at x.stop) where
   at : (a : ℤ) → a ≤ℤ a
   at a = grind (arith, ints)
 settled-low x stop h (inr k) = k.1
 
-pub settled-or : (x : Break) (stop : ℤ) (h : Option ℤ) → IsSettled x (Some stop) h → (stop ≡ x.stop) ⊎ (IsAhead h x.stop)
+pub settled-or : (x : PlayedEvent) (stop : ℤ) (h : Option ℤ) → IsSettled x (Some stop) h → (stop ≡ x.stop) ⊎ (IsAhead h x.stop)
 settled-or x stop h (inl e) = inl e
 settled-or x stop h (inr k) = inr k.0
 
@@ -106,7 +106,7 @@ meet : (a b : ℤ) → a ≤ℤ b → b ≤ℤ a → a ≡ b
 meet a b h k = omega (arith, ints)
 
 -- of two ends in force the later one is the same, or still to come
-step-or : (x : Break) (a b : ℤ) (h h' : Option ℤ) → IsSettled x (Some a) h → IsSettled x (Some b) h' → b ≤ℤ a → (a ≡ b) ⊎ (IsAhead h b)
+step-or : (x : PlayedEvent) (a b : ℤ) (h h' : Option ℤ) → IsSettled x (Some a) h → IsSettled x (Some b) h' → b ≤ℤ a → (a ≡ b) ⊎ (IsAhead h b)
 step-or x a b h h' (inl e) s l = inl (let low = settled-low x b h' s in meet a b (rw e low) l)
 step-or x a b h h' (inr k) s l = inr (ahead-more h x.stop b k.0 (settled-low x b h' s))
 
@@ -120,7 +120,7 @@ pub drop-front : {A : Type 0} (a b : List A) → drop (length a) (a ++ b) ≡ b
 drop-front [] b = refl
 drop-front (u ∷ a) b = drop-front a b
 
-module _ (r : Stream) (k : IsStream r) (x : Break) (units : List SliceUnit) (stop : List (List ℕ) → ℤ) where
+module _ (r : Stream) (k : IsStream r) (x : PlayedEvent) (units : List SliceUnit) (stop : List (List ℕ) → ℤ) where
   abbrev pub Since : List (List ℕ) → Type 0
   Since [] = Unit {0}
   Since (p ∷ past) = EndsAt r x stop (record { packet = p; past = past }) × Since past
@@ -213,24 +213,24 @@ module _ (r : Stream) (k : IsStream r) (x : Break) (units : List SliceUnit) (sto
         taken true e = refl
         taken false e = cc
 
--- ---- all breaks
+-- ---- all events
 
-module _ (r : Stream) (k : IsStream r) (units : Break → List SliceUnit) (stop : Break → List (List ℕ) → ℤ) where
-  abbrev pub slice : List (List ℕ) → Break → List SliceUnit
+module _ (r : Stream) (k : IsStream r) (units : PlayedEvent → List SliceUnit) (stop : PlayedEvent → List (List ℕ) → ℤ) where
+  abbrev pub slice : List (List ℕ) → PlayedEvent → List SliceUnit
   slice end x = sent_whole r x (units x) (stop x) end
 
-  abbrev pub count : Break → List (List ℕ) → ℕ
+  abbrev pub count : PlayedEvent → List (List ℕ) → ℕ
   count x past = length (sent r x (units x) (stop x) past)
 
-  abbrev pub AllSince : List Break → List (List ℕ) → Type 0
+  abbrev pub AllSince : List PlayedEvent → List (List ℕ) → Type 0
   AllSince [] past = Unit {0}
   AllSince (x ∷ xs) past = Since r k x (units x) (stop x) past × AllSince xs past
 
-  abbrev pub AllEnds : List Break → List Seen → Type 0
+  abbrev pub AllEnds : List PlayedEvent → List Seen → Type 0
   AllEnds [] ss = Unit {0}
   AllEnds (x ∷ xs) ss = All (EndsAt r x (stop x)) ss × AllEnds xs ss
 
-  pub since_more : (xs : List Break) (p : List ℕ) (past ps : List (List ℕ)) → AllSince xs past → AllEnds xs (seen_after past (p ∷ ps)) → AllSince xs (p ∷ past) × AllEnds xs (seen_after (p ∷ past) ps)
+  pub since_more : (xs : List PlayedEvent) (p : List ℕ) (past ps : List (List ℕ)) → AllSince xs past → AllEnds xs (seen_after past (p ∷ ps)) → AllSince xs (p ∷ past) × AllEnds xs (seen_after (p ∷ past) ps)
   since_more [] p past ps s n = (tt, tt)
   since_more (x ∷ xs) p past ps s n =
       let t : Seen = record { packet = p; past = past } in
@@ -240,49 +240,49 @@ module _ (r : Stream) (k : IsStream r) (units : Break → List SliceUnit) (stop 
   both_append : (a b c d : List Out) → a ≡ b → c ≡ d → a ++ c ≡ b ++ d
   both_append a b c d e f = rw (e, f) refl
 
-  at_now : (xs : List Break) (p : List ℕ) (past ps : List (List ℕ)) → AllSince xs (p ∷ past) → AllEnds xs (seen_after (p ∷ past) ps) →
-      flat_map (λ (x : Break). put_in (sent_at r x (units x) (stop x) p past)) xs ≡ all_inserted xs (slice (onto (p ∷ past) ps)) count p past
+  at_now : (xs : List PlayedEvent) (p : List ℕ) (past ps : List (List ℕ)) → AllSince xs (p ∷ past) → AllEnds xs (seen_after (p ∷ past) ps) →
+      flat_map (λ (x : PlayedEvent). put_in (sent_at r x (units x) (stop x) p past)) xs ≡ all_inserted xs (slice (onto (p ∷ past) ps)) count p past
   at_now [] p past ps s n = refl
   at_now (x ∷ xs) p past ps s n = both_append _ _ _ _ (ap put_in (same-at r k x (units x) (stop x) p past ps s.0 n.0)) (at_now xs p past ps s.1 n.1)
 
-  rest_now : (xs : List Break) (past : List (List ℕ)) → flat_map (λ (x : Break). put_in (unsent r x (units x) (stop x) past)) xs ≡ all_rest r xs (slice past) count past
+  rest_now : (xs : List PlayedEvent) (past : List (List ℕ)) → flat_map (λ (x : PlayedEvent). put_in (unsent r x (units x) (stop x) past)) xs ≡ all_rest r xs (slice past) count past
   rest_now [] past = refl
   rest_now (x ∷ xs) past = both_append _ _ _ _ (ap put_in (same-rest r k x (units x) (stop x) past)) (rest_now xs past)
 
-  module _ (xs : List Break) where
+  module _ (xs : List PlayedEvent) where
     abbrev puts_now : Seen → List Out
-    puts_now s = flat_map (λ (x : Break). put_in (sent_at r x (units x) (stop x) s.packet s.past)) xs ++ kept r xs s.packet s.past
+    puts_now s = flat_map (λ (x : PlayedEvent). put_in (sent_at r x (units x) (stop x) s.packet s.past)) xs ++ kept r xs s.packet s.past
 
     abbrev puts : List (List ℕ) → Seen → List Out
     puts end s = all_inserted xs (slice end) count s.packet s.past ++ kept r xs s.packet s.past
 
     now_is_counted : (past ps : List (List ℕ)) → AllSince xs past → AllEnds xs (seen_after past ps) →
-        flat_map puts_now (seen_after past ps) ++ flat_map (λ (x : Break). put_in (unsent r x (units x) (stop x) (onto past ps))) xs
+        flat_map puts_now (seen_after past ps) ++ flat_map (λ (x : PlayedEvent). put_in (unsent r x (units x) (stop x) (onto past ps))) xs
         ≡ flat_map (puts (onto past ps)) (seen_after past ps) ++ all_rest r xs (slice (onto past ps)) count (onto past ps)
     now_is_counted past [] s n = rest_now xs past
     now_is_counted past (p ∷ ps) s n =
         let t : Seen = record { packet = p; past = past } in
         let E = onto (p ∷ past) ps in
         let m = since_more xs p past ps s n in
-        let U = flat_map (λ (x : Break). put_in (unsent r x (units x) (stop x) E)) xs in
+        let U = flat_map (λ (x : PlayedEvent). put_in (unsent r x (units x) (stop x) E)) xs in
         append_assoc (puts_now t) (flat_map puts_now (seen_after (p ∷ past) ps)) U
         ∙ ap (λ a. (a ++ kept r xs p past) ++ (flat_map puts_now (seen_after (p ∷ past) ps) ++ U)) (at_now xs p past ps m.0 m.1)
         ∙ ap (λ a. puts E t ++ a) (now_is_counted (p ∷ past) ps m.0 m.1)
         ∙ sym (append_assoc (puts E t) (flat_map (puts E) (seen_after (p ∷ past) ps)) (all_rest r xs (slice E) count E))
 
-  pub all_ends : (xs : List Break) (ps : List (List ℕ)) → EndSoon r xs stop ps → AllEnds xs (seen_after [] ps) × AllSince xs []
+  pub all_ends : (xs : List PlayedEvent) (ps : List (List ℕ)) → EndSoon r xs stop ps → AllEnds xs (seen_after [] ps) × AllSince xs []
   all_ends [] ps n = (tt, tt)
   all_ends (x ∷ xs) ps n =
-      let f = λ (x : Break). All (EndsAt r x (stop x)) (seen_after [] ps) in
+      let f = λ (x : PlayedEvent). All (EndsAt r x (stop x)) (seen_after [] ps) in
       let m = all_ends xs ps (All-tail f x xs n) in
       ((All-head f x xs n, m.0), (tt, m.1))
 
-  pub ends_counted : (xs : List Break) (ps : List (List ℕ)) → AllEnds xs (seen_after [] ps) → All (λ (x : Break). All (Counts r x (slice (reverse ps) x) (count x)) (seen_after [] ps)) xs
-  ends_counted [] ps n = All-nil (λ (x : Break). All (Counts r x (slice (reverse ps) x) (count x)) (seen_after [] ps))
-  ends_counted (x ∷ xs) ps n = All-cons (λ (x : Break). All (Counts r x (slice (reverse ps) x) (count x)) (seen_after [] ps)) x xs (counted_on r k x (units x) (stop x) [] ps tt n.0) (ends_counted xs ps n.1)
+  pub ends_counted : (xs : List PlayedEvent) (ps : List (List ℕ)) → AllEnds xs (seen_after [] ps) → All (λ (x : PlayedEvent). All (Counts r x (slice (reverse ps) x) (count x)) (seen_after [] ps)) xs
+  ends_counted [] ps n = All-nil (λ (x : PlayedEvent). All (Counts r x (slice (reverse ps) x) (count x)) (seen_after [] ps))
+  ends_counted (x ∷ xs) ps n = All-cons (λ (x : PlayedEvent). All (Counts r x (slice (reverse ps) x) (count x)) (seen_after [] ps)) x xs (counted_on r k x (units x) (stop x) [] ps tt n.0) (ends_counted xs ps n.1)
 
 pub sent_is_placed : SentIsPlaced
 sent_is_placed r k xs o units stop ps n =
     let m = all_ends r k units stop xs ps n in
     now_is_counted r k units stop xs [] ps m.1 m.0
-    ∙ counted_is_placed r k xs o (λ (x : Break). sent_whole r x (units x) (stop x) (reverse ps)) (λ (x : Break) (past : List (List ℕ)). length (sent r x (units x) (stop x) past)) ps (ends_counted r k units stop xs ps m.0)
+    ∙ counted_is_placed r k xs o (λ (x : PlayedEvent). sent_whole r x (units x) (stop x) (reverse ps)) (λ (x : PlayedEvent) (past : List (List ℕ)). length (sent r x (units x) (stop x) past)) ps (ends_counted r k units stop xs ps m.0)

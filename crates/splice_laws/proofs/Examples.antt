@@ -3,7 +3,7 @@ use Rattle.std.specs.Prelude.{ℤ, pos}
 use Rattle.std.specs.Int.{int_max}
 use Rattle.std.proofs.Common.{◌≡◌, ℕ, zero, suc, List, [], ◌∷◌, Bool, true, false, refl, Option, None, Some}
 use Rattle.splice_laws.specs.Ends.{carried_now}
-use Rattle.splice_laws.specs.Splicing.{Break, SliceUnit, Out, Network, Inserted, Stream, carried, splice}
+use Rattle.splice_laws.specs.Splicing.{PlayedEvent, SliceUnit, Out, Network, Inserted, Stream, carried, splice}
 
 abbrev is_own : List ℕ → Bool
 is_own [] = false
@@ -29,16 +29,16 @@ high_of (p ∷ past) = more (high_of past) (told p)
 abbrev toy : Stream
 toy = record { begins = λ p past. is_own p; time = time_of; high = high_of; carries = is_own }
 
-abbrev x1 : Break
+abbrev x1 : PlayedEvent
 x1 = record { start = pos 10; stop = pos 20; name = 1 }
 
-abbrev x2 : Break
+abbrev x2 : PlayedEvent
 x2 = record { start = pos 20; stop = pos 30; name = 2 }
 
 abbrev u : ℕ → SliceUnit
 u t = record { time = pos t; payload = [] }
 
-abbrev slices : Break → List SliceUnit
+abbrev slices : PlayedEvent → List SliceUnit
 slices x = elim x.name as (λ _. List SliceUnit) [ zero ↦ [] | suc n ↦ elim n as (λ _. List SliceUnit) [ zero ↦ u 10 ∷ u 16 ∷ u 13 ∷ [] | suc m ↦ u 20 ∷ u 25 ∷ [] ] ]
 
 abbrev one : ℕ → List ℕ
@@ -53,7 +53,7 @@ n t = Network (t ∷ [])
 abbrev i : ℕ → Out
 i t = Inserted (u t)
 
--- in pieces, two breaks that touch
+-- in pieces, two events that touch
 two : carried toy (x1 ∷ x2 ∷ []) slices (one 5 ∷ one 10 ∷ one 14 ∷ one 20 ∷ one 31 ∷ []) ≡ (n 5 ∷ i 10 ∷ i 16 ∷ i 13 ∷ i 20 ∷ i 25 ∷ n 31 ∷ [])
 two = refl
 
@@ -67,7 +67,7 @@ inside = refl
 forgotten : carried toy (x1 ∷ x2 ∷ []) slices (one 5 ∷ other 900025 ∷ one 31 ∷ []) ≡ (n 5 ∷ i 20 ∷ i 25 ∷ n 31 ∷ [])
 forgotten = refl
 
--- not conditioned: the break is closed by a unit below it, and not begun anew
+-- not conditioned: the event is closed by a unit below it, and not begun anew
 back : carried toy (x1 ∷ []) slices (one 5 ∷ one 10 ∷ one 7 ∷ one 13 ∷ one 8 ∷ one 20 ∷ []) ≡ (n 5 ∷ i 10 ∷ i 16 ∷ i 13 ∷ n 7 ∷ n 8 ∷ n 20 ∷ [])
 back = refl
 
@@ -75,11 +75,11 @@ back_sorted : splice toy (x1 ∷ []) slices (one 5 ∷ one 10 ∷ one 7 ∷ one 
 back_sorted = refl
 
 -- an end that comes earlier while the slice runs: another stream's packet tells of it
-abbrev told_end : Break → List (List ℕ) → ℤ
+abbrev told_end : PlayedEvent → List (List ℕ) → ℤ
 told_end x [] = pos 20
 told_end x (p ∷ past) = elim (is_own p) as (λ _. ℤ) [ true ↦ told_end x past | false ↦ pos 14 ]
 
-abbrev shortened : Break
+abbrev shortened : PlayedEvent
 shortened = record { start = pos 10; stop = pos 14; name = 1 }
 
 earlier : carried_now toy (shortened ∷ []) slices told_end (one 5 ∷ one 10 ∷ other 10 ∷ one 12 ∷ one 14 ∷ []) ≡ (n 5 ∷ i 10 ∷ i 13 ∷ n 14 ∷ [])

@@ -1,8 +1,8 @@
--- What holds of breaks at every past.
+-- What holds of events at every past.
 use Rattle.std.specs.Prelude.{ℤ, ◌≤ℤ◌}
 use Rattle.std.proofs.Common.{◌≡◌, ℕ, ◌≤◌, List, [], ◌∷◌, length, true, false, not, ◌&&◌, ap, Option, arith}
 use Rattle.ts_packet.proofs.Cases.{by_test}
-use Rattle.splice_laws.specs.Splicing.{Break, SliceUnit, Stream, at_or_past, holds, stands, comes, passed, opens, begun, closed, due, front, out_of}
+use Rattle.splice_laws.specs.Splicing.{PlayedEvent, SliceUnit, Stream, at_or_past, holds, stands, comes, passed, opens, begun, closed, due, front, out_of}
 use Rattle.splice_laws.specs.Laws.{Risen, IsStream, OutGrows}
 use Rattle.splice_laws.proofs.TimeLemmas.{stands-later, past_lower, holds-past, holds-below, due-later}
 use Rattle.splice_laws.proofs.StepLemmas.{true_or_false, step_passed, step_lower, step_dead, step_begun, step_inside, count-grows}
@@ -32,38 +32,38 @@ module _ (r : Stream) (k : IsStream r) where
             (λ s. let e = simp s at h in simp s (past_lower a b (r.time (p ∷ past)) l e))
             (λ s. let e = simp s at h in cc)
 
-  -- a break that has begun is passed
-  pub begun-passed : (x : Break) (past : List (List ℕ)) → begun r x past ≡ true → passed r x.start past ≡ true
+  -- an event that has begun is passed
+  pub begun-passed : (x : PlayedEvent) (past : List (List ℕ)) → begun r x past ≡ true → passed r x.start past ≡ true
   begun-passed x [] h = h
   begun-passed x (p ∷ past) h = step_passed (begun r x past) (passed r x.start past) (comes r x.start p past) (stands x (r.high past)) (begun-passed x past) h
 
   -- one that is passed and has not begun will not
-  pub passed-dead : (x : Break) (past : List (List ℕ)) → passed r x.start past ≡ true → begun r x past ≡ false → stands x (r.high past) ≡ false
+  pub passed-dead : (x : PlayedEvent) (past : List (List ℕ)) → passed r x.start past ≡ true → begun r x past ≡ false → stands x (r.high past) ≡ false
   passed-dead x [] h g = cc
   passed-dead x (p ∷ past) h g =
       step_dead (passed r x.start past) (comes r x.start p past) (begun r x past) (stands x (r.high past)) (stands x (r.high (p ∷ past)))
       (passed-dead x past) (stands-later x (r.high past) (r.high (p ∷ past)) (k.rises p past)) h g
 
-  pub closed-begun : (x : Break) (past : List (List ℕ)) → closed r x past ≡ true → begun r x past ≡ true
+  pub closed-begun : (x : PlayedEvent) (past : List (List ℕ)) → closed r x past ≡ true → begun r x past ≡ true
   closed-begun x [] h = h
   closed-begun x (p ∷ past) h =
       step_begun (closed r x past) (begun r x past) (opens r x p past) (r.begins p past && not (holds x (r.time (p ∷ past)))) (closed-begun x past) h
 
   -- from its begin until it is closed, the stream's unit lies inside it
-  pub running-inside : (x : Break) (past : List (List ℕ)) → begun r x past ≡ true → closed r x past ≡ false → holds x (r.time past) ≡ true
+  pub running-inside : (x : PlayedEvent) (past : List (List ℕ)) → begun r x past ≡ true → closed r x past ≡ false → holds x (r.time past) ≡ true
   running-inside x [] h g = cc
   running-inside x (p ∷ past) h g =
       step_inside (r.begins p past) (begun r x past) (at_or_past x.start (r.time (p ∷ past))) (stands x (r.high past)) (closed r x past) (holds x (r.time past)) (holds x (r.time (p ∷ past)))
       (running-inside x past) (λ s. ap (holds x) (k.steady p past s)) h g
 
   -- THE LAW OF GROWTH
-  pub out-grows : (x : Break) (units : List SliceUnit) (p : List ℕ) (past : List (List ℕ)) → out_of r x units past ≤ out_of r x units (p ∷ past)
+  pub out-grows : (x : PlayedEvent) (units : List SliceUnit) (p : List ℕ) (past : List (List ℕ)) → out_of r x units past ≤ out_of r x units (p ∷ past)
   out-grows x units p past =
       count-grows (closed r x past) (begun r x past) (opens r x p past) (r.begins p past && not (holds x (r.time (p ∷ past)))) (length units) (front units (r.high past)) (front units (r.high (p ∷ past)))
       (front-within units (r.high past)) (front-later units (r.high past) (r.high (p ∷ past)) (k.rises p past)) (front-within units (r.high (p ∷ past))) (closed-begun x past)
 
-  -- two breaks never run together
-  pub alone : (x y : Break) → x.stop ≤ℤ y.start → (past : List (List ℕ)) → begun r x past ≡ true → closed r x past ≡ false → begun r y past ≡ true → closed r y past ≡ false → ⊥
+  -- two events never run together
+  pub alone : (x y : PlayedEvent) → x.stop ≤ℤ y.start → (past : List (List ℕ)) → begun r x past ≡ true → closed r x past ≡ false → begun r y past ≡ true → closed r y past ≡ false → ⊥
   alone x y l past b c b' c' =
       true_or_false (at_or_past y.start (r.time past)) (holds-past y (r.time past) (running-inside y past b' c')) (holds-below x (r.time past) y.start (running-inside x past b c) l)
 

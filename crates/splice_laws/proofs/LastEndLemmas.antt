@@ -6,7 +6,7 @@ use Rattle.std.proofs.lemmas.List.Elements.{All-head, All-tail}
 use Rattle.ts_packet.specs.Runs.{Seen, seen_after}
 use Rattle.ts_packet.proofs.Cases.{by_test}
 use Rattle.ts_packet.proofs.RunLemmas.{onto}
-use Rattle.splice_laws.specs.Splicing.{Break, SliceUnit, Out, Stream, at_or_past, holds, passed, opens, begun, closed, put_in, kept, slice_at, all_slices_at}
+use Rattle.splice_laws.specs.Splicing.{PlayedEvent, SliceUnit, Out, Stream, at_or_past, holds, passed, opens, begun, closed, put_in, kept, slice_at, all_slices_at}
 use Rattle.splice_laws.specs.Laws.{IsStream, IsCrossedOnce, IsConditioned}
 use Rattle.splice_laws.specs.Settled.{IsAhead, IsWithin}
 use Rattle.splice_laws.specs.Ends.{up_to_end, sent, unsent, sent_whole, EndsAt, EndSoon, EndsMayComeEarlier}
@@ -16,7 +16,7 @@ use Rattle.splice_laws.proofs.HistoryLemmas.{begun-passed, running-inside}
 use Rattle.splice_laws.proofs.SpliceLemmas.{Crossed, begun-stays}
 use Rattle.splice_laws.proofs.EndLemmas.{not-ahead, settled-or, run_of, run-front, drop-front, Since, sent-running, sent-closing, sent_is_placed}
 
-module _ (r : Stream) (k : IsStream r) (w : IsWithin r) (x : Break) (units : List SliceUnit) (stop : List (List ℕ) → ℤ) where
+module _ (r : Stream) (k : IsStream r) (w : IsWithin r) (x : PlayedEvent) (units : List SliceUnit) (stop : List (List ℕ) → ℤ) where
   abbrev CrossedSince : List (List ℕ) → Type 0
   CrossedSince [] = Unit {0}
   CrossedSince (p ∷ past) = Crossed r k x.start (record { packet = p; past = past }) × CrossedSince past
@@ -90,14 +90,14 @@ module _ (r : Stream) (k : IsStream r) (w : IsWithin r) (x : Break) (units : Lis
       let S = seen_after (p ∷ past) ps in
       since (p ∷ past) ps (All-head (EndsAt r x stop) t S n, s) (All-head (Crossed r k x.start) t S c, g) (All-tail (EndsAt r x stop) t S n) (All-tail (Crossed r k x.start) t S c)
 
--- ---- slices that agree where their break begins stand in place alike
+-- ---- slices that agree where their event begins stand in place alike
 
-module _ (r : Stream) (k : IsStream r) (one other : Break → List SliceUnit) where
-  abbrev pub Agree : List Break → List (List ℕ) → Type 0
+module _ (r : Stream) (k : IsStream r) (one other : PlayedEvent → List SliceUnit) where
+  abbrev pub Agree : List PlayedEvent → List (List ℕ) → Type 0
   Agree [] past = Unit {0}
   Agree (x ∷ xs) past = (begun r x past ≡ true → one x ≡ other x) × Agree xs past
 
-  agree_at : (x : Break) (p : List ℕ) (past ps : List (List ℕ)) → (begun r x (onto (p ∷ past) ps) ≡ true → one x ≡ other x) → slice_at r x (one x) p past ≡ slice_at r x (other x) p past
+  agree_at : (x : PlayedEvent) (p : List ℕ) (past ps : List (List ℕ)) → (begun r x (onto (p ∷ past) ps) ≡ true → one x ≡ other x) → slice_at r x (one x) p past ≡ slice_at r x (other x) p past
   agree_at x p past ps h = pick (opens r x p past) (passed r x.start past) (λ o. h (begun-stays r k x (p ∷ past) ps (later (begun r x past) (opens r x p past) o))) where
     later : (a b : Bool) → b ≡ true → a || b ≡ true
     later true b e = refl
@@ -108,14 +108,14 @@ module _ (r : Stream) (k : IsStream r) (one other : Break → List SliceUnit) wh
     pick true false g = g refl
     pick false e g = refl
 
-  agree_all : (xs : List Break) (p : List ℕ) (past ps : List (List ℕ)) → Agree xs (onto (p ∷ past) ps) → all_slices_at r xs one p past ≡ all_slices_at r xs other p past
+  agree_all : (xs : List PlayedEvent) (p : List ℕ) (past ps : List (List ℕ)) → Agree xs (onto (p ∷ past) ps) → all_slices_at r xs one p past ≡ all_slices_at r xs other p past
   agree_all [] p past ps h = refl
   agree_all (x ∷ xs) p past ps h = both_append _ _ _ _ (ap put_in (agree_at x p past ps h.0)) (agree_all xs p past ps h.1) where
     both_append : (a b c d : List Out) → a ≡ b → c ≡ d → a ++ c ≡ b ++ d
     both_append a b c d e f = rw (e, f) refl
 
-  module _ (xs : List Break) where
-    abbrev places : (Break → List SliceUnit) → Seen → List Out
+  module _ (xs : List PlayedEvent) where
+    abbrev places : (PlayedEvent → List SliceUnit) → Seen → List Out
     places slice s = all_slices_at r xs slice s.packet s.past ++ kept r xs s.packet s.past
 
     pub placed-same : (past ps : List (List ℕ)) → Agree xs (onto past ps) → flat_map (places one) (seen_after past ps) ≡ flat_map (places other) (seen_after past ps)
@@ -124,18 +124,18 @@ module _ (r : Stream) (k : IsStream r) (one other : Break → List SliceUnit) wh
         ap (λ l. (l ++ kept r xs p past) ++ flat_map (places one) (seen_after (p ∷ past) ps)) (agree_all xs p past ps h)
         ∙ ap (λ l. places other (record { packet = p; past = past }) ++ l) (placed-same (p ∷ past) ps h)
 
-agree_last : (r : Stream) (k : IsStream r) (w : IsWithin r) (units : Break → List SliceUnit) (stop : Break → List (List ℕ) → ℤ) (ps : List (List ℕ)) (xs : List Break) →
-    EndSoon r xs stop ps → All (λ (x : Break). stop x (reverse ps) ≡ x.stop) xs → IsConditioned r xs ps →
-    Agree r k (λ (x : Break). sent_whole r x (units x) (stop x) (reverse ps)) (λ (x : Break). up_to_end x.stop (units x)) xs (reverse ps)
+agree_last : (r : Stream) (k : IsStream r) (w : IsWithin r) (units : PlayedEvent → List SliceUnit) (stop : PlayedEvent → List (List ℕ) → ℤ) (ps : List (List ℕ)) (xs : List PlayedEvent) →
+    EndSoon r xs stop ps → All (λ (x : PlayedEvent). stop x (reverse ps) ≡ x.stop) xs → IsConditioned r xs ps →
+    Agree r k (λ (x : PlayedEvent). sent_whole r x (units x) (stop x) (reverse ps)) (λ (x : PlayedEvent). up_to_end x.stop (units x)) xs (reverse ps)
 agree_last r k w units stop ps [] n l d = tt
 agree_last r k w units stop ps (x ∷ xs) n l d =
-    let fn = λ (x : Break). All (EndsAt r x (stop x)) (seen_after [] ps) in
-    let fl = λ (x : Break). stop x (reverse ps) ≡ x.stop in
-    let fd = λ (x : Break). IsCrossedOnce r x.start ps in
+    let fn = λ (x : PlayedEvent). All (EndsAt r x (stop x)) (seen_after [] ps) in
+    let fl = λ (x : PlayedEvent). stop x (reverse ps) ≡ x.stop in
+    let fd = λ (x : PlayedEvent). IsCrossedOnce r x.start ps in
     let s = since r k w x (units x) (stop x) [] ps tt tt (All-head fn x xs n) (All-head fd x xs d) in
     (λ b. whole-last r k w x (units x) (stop x) (reverse ps) s.0 s.1 (All-head fl x xs l) b, agree_last r k w units stop ps xs (All-tail fn x xs n) (All-tail fl x xs l) (All-tail fd x xs d))
 
 pub ends_may_come_earlier : EndsMayComeEarlier
 ends_may_come_earlier r k w xs o units stop ps n l d =
     sent_is_placed r k xs o units stop ps n
-    ∙ placed-same r k (λ (x : Break). sent_whole r x (units x) (stop x) (reverse ps)) (λ (x : Break). up_to_end x.stop (units x)) xs [] ps (agree_last r k w units stop ps xs n l d)
+    ∙ placed-same r k (λ (x : PlayedEvent). sent_whole r x (units x) (stop x) (reverse ps)) (λ (x : PlayedEvent). up_to_end x.stop (units x)) xs [] ps (agree_last r k w units stop ps xs n l d)

@@ -6,7 +6,7 @@ use Rattle.std.proofs.lemmas.List.Elements.{All-head, All-tail, All-cons, All-ni
 use Rattle.ts_packet.specs.Runs.{Seen, seen_after}
 use Rattle.ts_packet.proofs.Cases.{by_test}
 use Rattle.ts_packet.proofs.RunLemmas.{onto}
-use Rattle.splice_laws.specs.Splicing.{Break, SliceUnit, Out, Stream, Network, Inserted, holds, outside, comes, passed, opens, begun, closed, out_of, inserted, rest, put_in, kept, all_inserted, all_rest, slice_at, all_slices_at, placed}
+use Rattle.splice_laws.specs.Splicing.{PlayedEvent, SliceUnit, Out, Stream, Network, Inserted, holds, outside, comes, passed, opens, begun, closed, out_of, inserted, rest, put_in, kept, all_inserted, all_rest, slice_at, all_slices_at, placed}
 use Rattle.splice_laws.specs.Laws.{IsStream, IsBefore, AreOrdered, CountsAt, Counts, CountedIsPlaced, CarriedIsPlaced}
 use Rattle.splice_laws.proofs.TimeLemmas.{starts_ordered, holds-below}
 use Rattle.splice_laws.proofs.StepLemmas.{true_or_false, or_left, both, drop-all, drop-take, joined_one}
@@ -14,13 +14,13 @@ use Rattle.splice_laws.proofs.HistoryLemmas.{passed-lower, begun-passed, passed-
 
 module _ (r : Stream) (k : IsStream r) where
   -- where it opens, and had not begun, no unit had passed its start
-  pub opens-first : (x : Break) (p : List ℕ) (past : List (List ℕ)) → begun r x past ≡ false → opens r x p past ≡ true → passed r x.start past ≡ false
+  pub opens-first : (x : PlayedEvent) (p : List ℕ) (past : List (List ℕ)) → begun r x past ≡ false → opens r x p past ≡ true → passed r x.start past ≡ false
   opens-first x p past b o = by_test (passed r x.start past)
       (λ e. let d = passed-dead r k x past e b in by_test (comes r x.start p past) (λ c. let f = simp (c, d) at o in cc) (λ c. let f = simp c at o in cc))
       (λ e. e)
 
   -- running after the packet, and passed before it: it ran before it
-  ran : (x : Break) (p : List ℕ) (past : List (List ℕ)) → begun r x (p ∷ past) ≡ true → closed r x (p ∷ past) ≡ false → passed r x.start past ≡ true → begun r x past ≡ true
+  ran : (x : PlayedEvent) (p : List ℕ) (past : List (List ℕ)) → begun r x (p ∷ past) ≡ true → closed r x (p ∷ past) ≡ false → passed r x.start past ≡ true → begun r x past ≡ true
   ran x p past b c e = by_test (begun r x past) (λ g. g)
       (λ g. let d = passed-dead r k x past e g in by_test (comes r x.start p past) (λ s. let f = simp (g, s, d) at b in cc) (λ s. let f = simp (g, s) at b in cc))
 
@@ -47,22 +47,22 @@ put_nil a b (inr e) = rw e (append-nil (put_in a))
 pub nothing_new : (units : List SliceUnit) (m n : ℕ) → m ≡ n → drop m (take n units) ≡ []
 nothing_new units m n e = rw e (drop-take n units)
 
-module _ (r : Stream) (k : IsStream r) (slice : Break → List SliceUnit) (out : Break → List (List ℕ) → ℕ) where
-  abbrev pub CountedAt : Break → Seen → Type 0
+module _ (r : Stream) (k : IsStream r) (slice : PlayedEvent → List SliceUnit) (out : PlayedEvent → List (List ℕ) → ℕ) where
+  abbrev pub CountedAt : PlayedEvent → Seen → Type 0
   CountedAt x s = Counts r x (slice x) (out x) s
 
-  -- ---- one break
+  -- ---- one event
 
-  joined : (x : Break) (p : List ℕ) (past : List (List ℕ)) → CountedAt x (record { packet = p; past = past }) →
+  joined : (x : PlayedEvent) (p : List ℕ) (past : List (List ℕ)) → CountedAt x (record { packet = p; past = past }) →
       rest r x (slice x) (out x) past ++ slice_at r x (slice x) p past ≡ inserted (slice x) (out x) p past ++ rest r x (slice x) (out x) (p ∷ past)
   joined x p past n =
       joined_one (slice x) (begun r x past) (closed r x past) (opens r x p past) (passed r x.start past) false (out x past) (out x (p ∷ past))
       n.grows n.before.starts n.after.starts (begun-passed r k x past) (opens-first r k x p past)
 
-  -- ---- a break and those behind it
+  -- ---- an event and those behind it
 
   -- no unit has passed its start: none of those behind it has begun
-  none_begun : (x : Break) (xs : List Break) → x.start ≤ℤ x.stop → IsBefore x xs → (past : List (List ℕ)) → passed r x.start past ≡ false → all_rest r xs slice out past ≡ []
+  none_begun : (x : PlayedEvent) (xs : List PlayedEvent) → x.start ≤ℤ x.stop → IsBefore x xs → (past : List (List ℕ)) → passed r x.start past ≡ false → all_rest r xs slice out past ≡ []
   none_begun x [] l b past e = refl
   none_begun x (y ∷ ys) l b past e =
       let n : begun r y past ≡ false = by_test (begun r y past)
@@ -70,8 +70,8 @@ module _ (r : Stream) (k : IsStream r) (slice : Break → List SliceUnit) (out :
       (λ g. g) in
       simp n (none_begun x ys l b.1 past e)
 
-  -- a break behind one that runs after the packet puts nothing
-  pub silent : (x y : Break) → x.start ≤ℤ x.stop → x.stop ≤ℤ y.start → (p : List ℕ) (past : List (List ℕ)) → CountedAt y (record { packet = p; past = past }) → begun r x (p ∷ past) ≡ true → closed r x (p ∷ past) ≡ false →
+  -- an event behind one that runs after the packet puts nothing
+  pub silent : (x y : PlayedEvent) → x.start ≤ℤ x.stop → x.stop ≤ℤ y.start → (p : List ℕ) (past : List (List ℕ)) → CountedAt y (record { packet = p; past = past }) → begun r x (p ∷ past) ≡ true → closed r x (p ∷ past) ≡ false →
       inserted (slice y) (out y) p past ≡ []
   silent x y l m p past n b c =
       let inside = running-inside r k x (p ∷ past) b c in
@@ -87,40 +87,40 @@ module _ (r : Stream) (k : IsStream r) (slice : Break → List SliceUnit) (out :
       let o : begun r y (p ∷ past) ≡ false = by_test (r.begins p past) (λ s. simp (g, s, far)) (λ s. simp (g, s)) in
       n.before.starts g ∙ sym (n.after.starts o)))
 
-  -- the counts of these breaks at a packet
-  abbrev pub AllAt : List Break → Seen → Type 0
+  -- the counts of these events at a packet
+  abbrev pub AllAt : List PlayedEvent → Seen → Type 0
   AllAt [] s = Unit {0}
   AllAt (x ∷ xs) s = CountedAt x s × AllAt xs s
 
-  silent_all : (x : Break) (xs : List Break) → x.start ≤ℤ x.stop → IsBefore x xs → (p : List ℕ) (past : List (List ℕ)) → AllAt xs (record { packet = p; past = past }) → begun r x (p ∷ past) ≡ true → closed r x (p ∷ past) ≡ false →
+  silent_all : (x : PlayedEvent) (xs : List PlayedEvent) → x.start ≤ℤ x.stop → IsBefore x xs → (p : List ℕ) (past : List (List ℕ)) → AllAt xs (record { packet = p; past = past }) → begun r x (p ∷ past) ≡ true → closed r x (p ∷ past) ≡ false →
       all_inserted xs slice out p past ≡ []
   silent_all x [] l b p past n g h = refl
   silent_all x (y ∷ ys) l b p past n g h =
       ap (λ l. put_in l ++ all_inserted ys slice out p past) (silent x y l b.0 p past n.0 g h) ∙ silent_all x ys l b.1 p past n.1 g h
 
-  -- a break that does not run has no rest
-  no_rest : (x : Break) (past : List (List ℕ)) → CountsAt r x (slice x) (out x) past → (begun r x past && not (closed r x past)) ≡ false → rest r x (slice x) (out x) past ≡ []
+  -- an event that does not run has no rest
+  no_rest : (x : PlayedEvent) (past : List (List ℕ)) → CountsAt r x (slice x) (out x) past → (begun r x past && not (closed r x past)) ≡ false → rest r x (slice x) (out x) past ≡ []
   no_rest x past a n = by_test (begun r x past)
       (λ b. by_test (closed r x past) (λ c. let e = a.ends c in simp (b, e) (drop-all (slice x))) (λ c. let f = simp (b, c) at n in cc))
       (λ b. simp b)
 
   -- either nothing is left of it, or none behind it puts anything
-  one_puts : (x : Break) (xs : List Break) → x.start ≤ℤ x.stop → IsBefore x xs → (p : List ℕ) (past : List (List ℕ)) → AllAt (x ∷ xs) (record { packet = p; past = past }) →
+  one_puts : (x : PlayedEvent) (xs : List PlayedEvent) → x.start ≤ℤ x.stop → IsBefore x xs → (p : List ℕ) (past : List (List ℕ)) → AllAt (x ∷ xs) (record { packet = p; past = past }) →
       (rest r x (slice x) (out x) (p ∷ past) ≡ []) ⊎ (all_inserted xs slice out p past ≡ [])
   one_puts x xs l b p past n = by_test (begun r x (p ∷ past) && not (closed r x (p ∷ past)))
       (λ g. let h = both _ _ g in inr (silent_all x xs l b p past n.1 h.0 h.1))
       (λ g. inl (no_rest x (p ∷ past) n.0.after g))
 
   -- either it does not begin, or nothing is left of those behind it
-  one_begins : (x : Break) (xs : List Break) → x.start ≤ℤ x.stop → IsBefore x xs → (p : List ℕ) (past : List (List ℕ)) →
+  one_begins : (x : PlayedEvent) (xs : List PlayedEvent) → x.start ≤ℤ x.stop → IsBefore x xs → (p : List ℕ) (past : List (List ℕ)) →
       (slice_at r x (slice x) p past ≡ []) ⊎ (all_rest r xs slice out past ≡ [])
   one_begins x xs l b p past = by_test (passed r x.start past)
       (λ e. inl (by_test (opens r x p past) (λ o. simp (o, e)) (λ o. simp (o, e))))
       (λ e. inr (none_begun x xs l b past e))
 
-  -- ---- all breaks
+  -- ---- all events
 
-  pub all_joined : (xs : List Break) → AreOrdered xs → (p : List ℕ) (past : List (List ℕ)) → AllAt xs (record { packet = p; past = past }) →
+  pub all_joined : (xs : List PlayedEvent) → AreOrdered xs → (p : List ℕ) (past : List (List ℕ)) → AllAt xs (record { packet = p; past = past }) →
       all_rest r xs slice out past ++ all_slices_at r xs slice p past ≡ all_inserted xs slice out p past ++ all_rest r xs slice out (p ∷ past)
   all_joined [] o p past n = refl
   all_joined (x ∷ xs) o p past n =
@@ -134,8 +134,8 @@ module _ (r : Stream) (k : IsStream r) (slice : Break → List SliceUnit) (out :
       (put_nil S (all_rest r xs slice out past) (one_begins x xs o.0 o.1 p past))
       (put_nil T (all_inserted xs slice out p past) (one_puts x xs o.0 o.1 p past n))
 
-  -- where something is left to go out, the stream's unit lies in a break
-  pub left_inside : (xs : List Break) (p : List ℕ) (past : List (List ℕ)) → AllAt xs (record { packet = p; past = past }) → (all_rest r xs slice out (p ∷ past) ≡ []) ⊎ (outside xs (r.time (p ∷ past)) ≡ false)
+  -- where something is left to go out, the stream's unit lies in an event
+  pub left_inside : (xs : List PlayedEvent) (p : List ℕ) (past : List (List ℕ)) → AllAt xs (record { packet = p; past = past }) → (all_rest r xs slice out (p ∷ past) ≡ []) ⊎ (outside xs (r.time (p ∷ past)) ≡ false)
   left_inside [] p past n = inl refl
   left_inside (x ∷ xs) p past n = by_test (begun r x (p ∷ past) && not (closed r x (p ∷ past)))
       (λ g. let h = both _ _ g in let i = running-inside r k x (p ∷ past) h.0 h.1 in inr (simp i))
@@ -146,7 +146,7 @@ module _ (r : Stream) (k : IsStream r) (slice : Break → List SliceUnit) (out :
         more a l false c (inr e) h = inr refl
 
   -- no packet stands between two pieces of one slice
-  kept_alone : (xs : List Break) (p : List ℕ) (past : List (List ℕ)) → AllAt xs (record { packet = p; past = past }) → all_rest r xs slice out (p ∷ past) ++ kept r xs p past ≡ kept r xs p past ++ all_rest r xs slice out (p ∷ past)
+  kept_alone : (xs : List PlayedEvent) (p : List ℕ) (past : List (List ℕ)) → AllAt xs (record { packet = p; past = past }) → all_rest r xs slice out (p ∷ past) ++ kept r xs p past ≡ kept r xs p past ++ all_rest r xs slice out (p ∷ past)
   kept_alone xs p past n = swap (all_rest r xs slice out (p ∷ past)) (kept r xs p past) (none (all_rest r xs slice out (p ∷ past)) (r.carries p) (outside xs (r.time (p ∷ past))) (Network p ∷ []) (left_inside xs p past n)) where
     none : (a : List Out) (c o : Bool) (l : List Out) → (a ≡ []) ⊎ (o ≡ false) → (a ≡ []) ⊎ ((if c && o then l else []) ≡ [])
     none a c o l (inl e) = inl e
@@ -155,24 +155,24 @@ module _ (r : Stream) (k : IsStream r) (slice : Break → List SliceUnit) (out :
 
   -- ---- all packets
 
-  -- the counts of these breaks at these packets
-  abbrev pub AllCounted : List Break → List Seen → Type 0
+  -- the counts of these events at these packets
+  abbrev pub AllCounted : List PlayedEvent → List Seen → Type 0
   AllCounted [] ss = Unit {0}
   AllCounted (x ∷ xs) ss = All (CountedAt x) ss × AllCounted xs ss
 
-  pub counted_head : (xs : List Break) (s : Seen) (ss : List Seen) → AllCounted xs (s ∷ ss) → AllAt xs s
+  pub counted_head : (xs : List PlayedEvent) (s : Seen) (ss : List Seen) → AllCounted xs (s ∷ ss) → AllAt xs s
   counted_head [] s ss n = tt
   counted_head (x ∷ xs) s ss n = (All-head (CountedAt x) s ss n.0, counted_head xs s ss n.1)
 
-  pub counted_tail : (xs : List Break) (s : Seen) (ss : List Seen) → AllCounted xs (s ∷ ss) → AllCounted xs ss
+  pub counted_tail : (xs : List PlayedEvent) (s : Seen) (ss : List Seen) → AllCounted xs (s ∷ ss) → AllCounted xs ss
   counted_tail [] s ss n = tt
   counted_tail (x ∷ xs) s ss n = (All-tail (CountedAt x) s ss n.0, counted_tail xs s ss n.1)
 
-  pub all_counted : (xs : List Break) (ss : List Seen) → All (λ (x : Break). All (CountedAt x) ss) xs → AllCounted xs ss
+  pub all_counted : (xs : List PlayedEvent) (ss : List Seen) → All (λ (x : PlayedEvent). All (CountedAt x) ss) xs → AllCounted xs ss
   all_counted [] ss n = tt
-  all_counted (x ∷ xs) ss n = (All-head (λ (x : Break). All (CountedAt x) ss) x xs n, all_counted xs ss (All-tail (λ (x : Break). All (CountedAt x) ss) x xs n))
+  all_counted (x ∷ xs) ss n = (All-head (λ (x : PlayedEvent). All (CountedAt x) ss) x xs n, all_counted xs ss (All-tail (λ (x : PlayedEvent). All (CountedAt x) ss) x xs n))
 
-  module _ (xs : List Break) (o : AreOrdered xs) where
+  module _ (xs : List PlayedEvent) (o : AreOrdered xs) where
     abbrev puts : Seen → List Out
     puts s = all_inserted xs slice out s.packet s.past ++ kept r xs s.packet s.past
 
@@ -196,7 +196,7 @@ module _ (r : Stream) (k : IsStream r) (slice : Break → List SliceUnit) (out :
         ∙ ap (λ l. puts s ++ l) (placed_after (p ∷ past) ps (counted_tail xs s (seen_after (p ∷ past) ps) n))
         ∙ sym (append_assoc (puts s) (flat_map puts (seen_after (p ∷ past) ps)) (all_rest r xs slice out (onto (p ∷ past) ps)))
 
-pub none_at_first : (r : Stream) (xs : List Break) (slice : Break → List SliceUnit) (out : Break → List (List ℕ) → ℕ) → all_rest r xs slice out [] ≡ []
+pub none_at_first : (r : Stream) (xs : List PlayedEvent) (slice : PlayedEvent → List SliceUnit) (out : PlayedEvent → List (List ℕ) → ℕ) → all_rest r xs slice out [] ≡ []
 none_at_first r [] slice out = refl
 none_at_first r (x ∷ xs) slice out = none_at_first r xs slice out
 
@@ -207,13 +207,13 @@ counted_is_placed r k xs o slice out ps n =
 -- ---- the count by the greatest time
 
 module _ (r : Stream) (k : IsStream r) where
-  out_counts : (x : Break) (units : List SliceUnit) (past : List (List ℕ)) → CountsAt r x units (out_of r x units) past
+  out_counts : (x : PlayedEvent) (units : List SliceUnit) (past : List (List ℕ)) → CountsAt r x units (out_of r x units) past
   out_counts x units past = record {
     starts = λ b. by_test (closed r x past) (λ c. true_or_false (begun r x past) (closed-begun r k x past c) b) (λ c. simp (c, b));
     ends = λ c. simp c;
   }
 
-  pub out_is_count : (x : Break) (units : List SliceUnit) (s : Seen) → Counts r x units (out_of r x units) s
+  pub out_is_count : (x : PlayedEvent) (units : List SliceUnit) (s : Seen) → Counts r x units (out_of r x units) s
   out_is_count x units s = record {
     before = out_counts x units s.past;
     grows = out-grows r k x units s.packet s.past;
@@ -224,10 +224,10 @@ all_of : {A : Type 0} (P : A → Type 0) → ((x : A) → P x) → (xs : List A)
 all_of P h [] = All-nil P
 all_of P h (x ∷ xs) = All-cons P x xs (h x) (all_of P h xs)
 
-pub out_counts_all : (r : Stream) → IsStream r → (xs : List Break) (slice : Break → List SliceUnit) (ps : List (List ℕ)) →
-    All (λ (x : Break). All (Counts r x (slice x) (out_of r x (slice x))) (seen_after [] ps)) xs
+pub out_counts_all : (r : Stream) → IsStream r → (xs : List PlayedEvent) (slice : PlayedEvent → List SliceUnit) (ps : List (List ℕ)) →
+    All (λ (x : PlayedEvent). All (Counts r x (slice x) (out_of r x (slice x))) (seen_after [] ps)) xs
 out_counts_all r k xs slice ps =
-    all_of (λ (x : Break). All (Counts r x (slice x) (out_of r x (slice x))) (seen_after [] ps)) (λ (x : Break). all_of (Counts r x (slice x) (out_of r x (slice x))) (out_is_count r k x (slice x)) (seen_after [] ps)) xs
+    all_of (λ (x : PlayedEvent). All (Counts r x (slice x) (out_of r x (slice x))) (seen_after [] ps)) (λ (x : PlayedEvent). all_of (Counts r x (slice x) (out_of r x (slice x))) (out_is_count r k x (slice x)) (seen_after [] ps)) xs
 
 pub carried_is_placed : CarriedIsPlaced
-carried_is_placed r k xs o slice ps = counted_is_placed r k xs o slice (λ (x : Break). out_of r x (slice x)) ps (out_counts_all r k xs slice ps)
+carried_is_placed r k xs o slice ps = counted_is_placed r k xs o slice (λ (x : PlayedEvent). out_of r x (slice x)) ps (out_counts_all r k xs slice ps)

@@ -8,7 +8,7 @@ use Rattle.ts_packet.specs.Runs.{Seen, seen_after}
 use Rattle.ts_packet.proofs.Cases.{by_test}
 use Rattle.unit_stream.specs.Times.{begins, unit_time}
 use Rattle.unit_stream.specs.Units.{Row, has_payload, rest_of_row, rows_of, rows, lead}
-use Rattle.splice_laws.specs.Splicing.{Break, SliceUnit, Out, Network, Inserted, Stream, stream, slice_at, all_slices_at, put_in, kept, outside, parts, placed}
+use Rattle.splice_laws.specs.Splicing.{PlayedEvent, SliceUnit, Out, Network, Inserted, Stream, stream, slice_at, all_slices_at, put_in, kept, outside, parts, placed}
 use Rattle.splice_laws.proofs.PidLemmas.{pids_are_streams}
 use Rattle.splice_laws.specs.Rows.{Item, Own, Played, out_items, own_items, slice_items, slices_before, placed_units_of, is_between, units_between, unit_parts, led}
 
@@ -64,16 +64,16 @@ slice_if : (b : Bool) (us : List SliceUnit) → (if b then put_in us else []) �
 slice_if true us = sym (out_items-slice us)
 slice_if false us = refl
 
-module _ (sw : List ℕ) (pid : ℕ) (slice : Break → List SliceUnit) (reached : Break → Bool) where
+module _ (sw : List ℕ) (pid : ℕ) (slice : PlayedEvent → List SliceUnit) (reached : PlayedEvent → Bool) where
   -- behind an edge the packets before the first unit do not count
-  parts_rows : (low : ℤ) (xs : List Break) (ps : List (List ℕ)) →
+  parts_rows : (low : ℤ) (xs : List PlayedEvent) (ps : List (List ℕ)) →
       parts (stream sw pid) (Some low) xs reached slice (seen_after [] ps) ≡ out_items (unit_parts (Some low) xs reached slice (rows sw pid ps))
   parts_rows low [] ps = picked_rows (is_between (Some low) None) sw pid [] ps
   parts_rows low (x ∷ xs) ps =
       three (own_items (units_between (Some low) (Some x.start) (rows sw pid ps))) (if reached x then slice_items (slice x) else []) (unit_parts (Some x.stop) xs reached slice (rows sw pid ps)) _ _ _
       (picked_rows (is_between (Some low) (Some x.start)) sw pid [] ps) (slice_if (reached x) (slice x)) (parts_rows x.stop xs ps)
 
-  pub first_rows : (xs : List Break) (ps : List (List ℕ)) →
+  pub first_rows : (xs : List PlayedEvent) (ps : List (List ℕ)) →
       parts (stream sw pid) None xs reached slice (seen_after [] ps) ≡ led pid ps (unit_parts None xs reached slice (rows sw pid ps))
   first_rows [] ps = picked_rows (is_between None None) sw pid [] ps
   first_rows (x ∷ xs) ps =
@@ -86,7 +86,7 @@ module _ (sw : List ℕ) (pid : ℕ) (slice : Break → List SliceUnit) (reached
 
 -- ---- placed
 
-none_placed : (r : Stream) (xs : List Break) (slice : Break → List SliceUnit) (p : List ℕ) (past : List (List ℕ)) → r.begins p past ≡ false → all_slices_at r xs slice p past ≡ []
+none_placed : (r : Stream) (xs : List PlayedEvent) (slice : PlayedEvent → List SliceUnit) (p : List ℕ) (past : List (List ℕ)) → r.begins p past ≡ false → all_slices_at r xs slice p past ≡ []
 none_placed r [] slice p past b = refl
 none_placed r (x ∷ xs) slice p past b = let e : slice_at r x (slice x) p past ≡ [] = simp b in ap (λ l. put_in l ++ all_slices_at r xs slice p past) e ∙ none_placed r xs slice p past b
 
@@ -118,8 +118,8 @@ row_goes_on : (b o : Bool) (R : List (List ℕ)) (X Y : List Item) → b ≡ fal
 row_goes_on true o R X Y h = cc
 row_goes_on false o R X Y h = refl
 
-module _ (sw : List ℕ) (pid : ℕ) (xs : List Break) (slice : Break → List SliceUnit) where
-  slices_out : (ys : List Break) (s : Seen) → all_slices_at (stream sw pid) ys slice s.packet s.past ≡ out_items (slices_before sw pid ys slice s)
+module _ (sw : List ℕ) (pid : ℕ) (xs : List PlayedEvent) (slice : PlayedEvent → List SliceUnit) where
+  slices_out : (ys : List PlayedEvent) (s : Seen) → all_slices_at (stream sw pid) ys slice s.packet s.past ≡ out_items (slices_before sw pid ys slice s)
   slices_out [] s = refl
   slices_out (y ∷ ys) s =
       let us = slice_at (stream sw pid) y (slice y) s.packet s.past in
@@ -178,10 +178,10 @@ module _ (sw : List ℕ) (pid : ℕ) (xs : List Break) (slice : Break → List S
   placed_rows past [] = by_test (outside xs (unit_time sw pid past)) (λ g. simp g) (λ g. simp g)
   placed_rows past (p ∷ ps) = placed_more p past ps (placed_rows (p ∷ past) ps)
 
-pub outside-none : (xs : List Break) → outside xs None ≡ true
+pub outside-none : (xs : List PlayedEvent) → outside xs None ≡ true
 outside-none [] = refl
 outside-none (x ∷ xs) = outside-none xs
 
-pub placed_units_are : (sw : List ℕ) (pid : ℕ) (xs : List Break) (slice : Break → List SliceUnit) (ps : List (List ℕ)) →
+pub placed_units_are : (sw : List ℕ) (pid : ℕ) (xs : List PlayedEvent) (slice : PlayedEvent → List SliceUnit) (ps : List (List ℕ)) →
     placed (stream sw pid) xs slice ps ≡ led pid ps (placed_units_of sw pid xs slice (filter (has_payload pid) (seen_after [] ps)))
 placed_units_are sw pid xs slice ps = let h = placed_rows sw pid xs slice [] ps in let e = outside-none xs in simp e at h

@@ -5,39 +5,39 @@ use Rattle.std.proofs.Common.{◌≡◌, ℕ, List, [], ◌∷◌, Bool, true, f
 use Rattle.std.proofs.lemmas.Int.{ints}
 use Rattle.ts_packet.proofs.Cases.{by_test}
 use Rattle.unit_stream.specs.Times.{begins, begins_one, stamp, timed, raised, high, unit_time}
-use Rattle.splice_laws.specs.Splicing.{Break, at_or_past, holds, stands, begun, Stream, opens, comes}
+use Rattle.splice_laws.specs.Splicing.{PlayedEvent, at_or_past, holds, stands, begun, Stream, opens, comes}
 use Rattle.splice_laws.specs.Laws.{Risen, IsStream}
 use Rattle.splice_laws.specs.Settled.{ending, holds_now, stands_now, begun_now, IsAhead, IsSettled, FlagsSettle, HoldsSettle, SwitchedPidsAreWithin, IsWithin, IsForgotten}
 use Rattle.splice_laws.proofs.PidLemmas.{raised-risen}
 
 -- a time below the start
-pub early : (x : Break) (t h : Option ℤ) → Risen t h → IsAhead h x.start → at_or_past x.start t ≡ false
+pub early : (x : PlayedEvent) (t h : Option ℤ) → Risen t h → IsAhead h x.start → at_or_past x.start t ≡ false
 early x None h w a = refl
 early x (Some t) None w a = absurd w
 early x (Some t) (Some h) w a = grind (arith, ints)
 
-pub early-out : (x : Break) (t : Option ℤ) → at_or_past x.start t ≡ false → holds x t ≡ false
+pub early-out : (x : PlayedEvent) (t : Option ℤ) → at_or_past x.start t ≡ false → holds x t ≡ false
 early-out x None a = refl
 early-out x (Some t) a = grind (arith, ints)
 
 -- a time below both ends
-held : (x : Break) (stop : ℤ) (t h : Option ℤ) → Risen t h → IsAhead h x.stop → x.stop ≤ℤ stop → holds (ending x stop) t ≡ holds x t
+held : (x : PlayedEvent) (stop : ℤ) (t h : Option ℤ) → Risen t h → IsAhead h x.stop → x.stop ≤ℤ stop → holds (ending x stop) t ≡ holds x t
 held x stop None h w a l = refl
 held x stop (Some t) None w a l = absurd w
 held x stop (Some t) (Some h) w a l = grind (arith, ints)
 
-pub holds-settled : (x : Break) (known t h : Option ℤ) → Risen t h → IsSettled x known h → holds_now x known t ≡ holds x t
+pub holds-settled : (x : PlayedEvent) (known t h : Option ℤ) → Risen t h → IsSettled x known h → holds_now x known t ≡ holds x t
 holds-settled x None t h w k = sym (early-out x t (early x t h w k))
 holds-settled x (Some stop) t h w (inl e) = rw e refl
 holds-settled x (Some stop) t h w (inr k) = held x stop t h w k.0 k.1
 
-stood : (x : Break) (stop : ℤ) (h h' : Option ℤ) → Risen h h' → IsAhead h' x.stop → x.stop ≤ℤ stop → stands (ending x stop) h ≡ stands x h
+stood : (x : PlayedEvent) (stop : ℤ) (h h' : Option ℤ) → Risen h h' → IsAhead h' x.stop → x.stop ≤ℤ stop → stands (ending x stop) h ≡ stands x h
 stood x stop None h' w a l = refl
 stood x stop (Some h) None w a l = absurd w
 stood x stop (Some h) (Some h') w a l = grind (arith, ints)
 
--- where the unit comes, whether the break stands
-stands-settled : (x : Break) (known t h h' : Option ℤ) (b : Bool) → Risen t h' → Risen h h' → IsSettled x known h' → (b && at_or_past x.start t) && stands_now x known h ≡ (b && at_or_past x.start t) && stands x h
+-- where the unit comes, whether the event stands
+stands-settled : (x : PlayedEvent) (known t h h' : Option ℤ) (b : Bool) → Risen t h' → Risen h h' → IsSettled x known h' → (b && at_or_past x.start t) && stands_now x known h ≡ (b && at_or_past x.start t) && stands x h
 stands-settled x None t h h' b w g k = let e = early x t h' w k in none b _ _ e where
   none : (b a s : Bool) → a ≡ false → (b && a) && false ≡ (b && a) && s
   none true a s e = rw e refl
@@ -45,13 +45,13 @@ stands-settled x None t h h' b w g k = let e = early x t h' w k in none b _ _ e 
 stands-settled x (Some stop) t h h' b w g (inl e) = rw e refl
 stands-settled x (Some stop) t h h' b w g (inr k) = ap (λ s. (b && at_or_past x.start t) && s) (stood x stop h h' g k.0 k.1)
 
--- whether the packet begins the break, and whether it begins a unit outside it
-opens-now : (r : Stream) → IsStream r → IsWithin r → (x : Break) (known : Option ℤ) (p : List ℕ) (past : List (List ℕ)) → IsSettled x known (r.high (p ∷ past)) ⊎ IsForgotten r x known p past →
+-- whether the packet begins the event, and whether it begins a unit outside it
+opens-now : (r : Stream) → IsStream r → IsWithin r → (x : PlayedEvent) (known : Option ℤ) (p : List ℕ) (past : List (List ℕ)) → IsSettled x known (r.high (p ∷ past)) ⊎ IsForgotten r x known p past →
     comes r x.start p past && stands_now x known (r.high past) ≡ opens r x p past
 opens-now r k w x known p past (inl s) = stands-settled x known (r.time (p ∷ past)) (r.high past) (r.high (p ∷ past)) (r.begins p past) (w (p ∷ past)) (k.rises p past) s
 opens-now r k w x known p past (inr f) = ap (λ (a : Option ℤ). comes r x.start p past && stands_now x a (r.high past)) f.unknown ∙ ap (λ b. comes r x.start p past && b) (sym f.stands_not)
 
-leaves-now : (r : Stream) → IsWithin r → (x : Break) (known : Option ℤ) (p : List ℕ) (past : List (List ℕ)) → IsSettled x known (r.high (p ∷ past)) ⊎ IsForgotten r x known p past →
+leaves-now : (r : Stream) → IsWithin r → (x : PlayedEvent) (known : Option ℤ) (p : List ℕ) (past : List (List ℕ)) → IsSettled x known (r.high (p ∷ past)) ⊎ IsForgotten r x known p past →
     r.begins p past && not (holds_now x known (r.time (p ∷ past))) ≡ r.begins p past && not (holds x (r.time (p ∷ past)))
 leaves-now r w x known p past (inl s) = ap (λ b. r.begins p past && not b) (holds-settled x known (r.time (p ∷ past)) (r.high (p ∷ past)) (w (p ∷ past)) s)
 leaves-now r w x known p past (inr f) =

@@ -6,7 +6,7 @@ use Rattle.std.proofs.lemmas.List.Elements.{All-head, All-tail}
 use Rattle.ts_packet.specs.Runs.{Seen, seen_after}
 use Rattle.ts_packet.proofs.Cases.{by_test}
 use Rattle.ts_packet.proofs.RunLemmas.{onto}
-use Rattle.splice_laws.specs.Splicing.{Break, SliceUnit, Out, Stream, Network, at_or_past, below, holds, outside, comes, passed, opens, begun, put_in, kept, slice_at, all_slices_at, from, between, part, parts}
+use Rattle.splice_laws.specs.Splicing.{PlayedEvent, SliceUnit, Out, Stream, Network, at_or_past, below, holds, outside, comes, passed, opens, begun, put_in, kept, slice_at, all_slices_at, from, between, part, parts}
 use Rattle.splice_laws.specs.Laws.{IsStream, IsBefore, AreOrdered, IsCrossedOnce, IsConditioned, PlacedIsSplice}
 use Rattle.splice_laws.proofs.TimeLemmas.{starts_ordered, past_lower, holds-or_past, holds-past, not-below, timed_past}
 use Rattle.splice_laws.proofs.StepLemmas.{true_or_false}
@@ -33,7 +33,7 @@ own_past c f h false o e g = simp (e, g)
 own_below : (c f h o a : Bool) → h ≡ false → o ≡ true → a ≡ false → c && (f && (not h && o)) ≡ c && (f && not a)
 own_below c f h o a e g d = simp (e, g, d)
 
--- F G the parts up to the break, U W the break where it is reached, P Z those behind it: with the packet and without; D C E the packet, S T the slices at it
+-- F G the parts up to the event, U W the event where it is reached, P Z those behind it: with the packet and without; D C E the packet, S T the slices at it
 glue_past : {A : Type 0} (F G D U W S P T C E Z : List A) → F ≡ D ++ G → U ≡ S ++ W → P ≡ T ++ (E ++ Z) → D ≡ [] → G ≡ [] → W ≡ [] → C ≡ E →
     F ++ (U ++ P) ≡ (S ++ T) ++ (C ++ (G ++ (W ++ Z)))
 glue_past F G D U W S P T C E Z f u p d g w c = simp (f, u, p, d, g, w, c, append_assoc)
@@ -75,23 +75,23 @@ module _ (r : Stream) (k : IsStream r) where
       part r low high (seen_after past (p ∷ ps)) ≡ (if between r low high (record { packet = p; past = past }) then Network p ∷ [] else []) ++ part r low high (seen_after (p ∷ past) ps)
   part-cons low high p past ps = by_test (between r low high (record { packet = p; past = past })) (λ b. simp b) (λ b. simp b)
 
-  -- ---- breaks that are reached
+  -- ---- events that are reached
 
-  pub begun-stays : (x : Break) (past ps : List (List ℕ)) → begun r x past ≡ true → begun r x (onto past ps) ≡ true
+  pub begun-stays : (x : PlayedEvent) (past ps : List (List ℕ)) → begun r x past ≡ true → begun r x (onto past ps) ≡ true
   begun-stays x past [] b = b
   begun-stays x past (p ∷ ps) b = begun-stays x (p ∷ past) ps (simp b)
 
-  never-begun : (x : Break) (past ps : List (List ℕ)) → passed r x.start past ≡ true → begun r x past ≡ false → begun r x (onto past ps) ≡ false
+  never-begun : (x : PlayedEvent) (past ps : List (List ℕ)) → passed r x.start past ≡ true → begun r x past ≡ false → begun r x (onto past ps) ≡ false
   never-begun x past [] e b = b
   never-begun x past (p ∷ ps) e b =
       let d = passed-dead r k x past e b in
       never-begun x (p ∷ past) ps (simp e) (by_test (comes r x.start p past) (λ c. simp (b, c, d)) (λ c. simp (b, c)))
 
   -- it begins in these packets behind that past
-  abbrev newly : List (List ℕ) → List (List ℕ) → Break → Bool
+  abbrev newly : List (List ℕ) → List (List ℕ) → PlayedEvent → Bool
   newly past ps x = not (begun r x past) && begun r x (onto past ps)
 
-  reached_here : (x : Break) (units : List SliceUnit) (p : List ℕ) (past ps : List (List ℕ)) →
+  reached_here : (x : PlayedEvent) (units : List SliceUnit) (p : List ℕ) (past ps : List (List ℕ)) →
       (if newly past (p ∷ ps) x then put_in units else []) ≡ put_in (slice_at r x units p past) ++ (if newly (p ∷ past) ps x then put_in units else [])
   reached_here x units p past ps = one (begun r x past) (opens r x p past) (passed r x.start past) (begun r x (onto (p ∷ past) ps)) (begun-passed r k x past) (opens-first r k x p past) (begun-stays x (p ∷ past) ps) where
     one : (b o e z : Bool) → (b ≡ true → e ≡ true) → (b ≡ false → o ≡ true → e ≡ false) → (b || o ≡ true → z ≡ true) →
@@ -106,54 +106,54 @@ module _ (r : Stream) (k : IsStream r) where
 
   -- ---- one packet more
 
-  outside-below : (x : Break) (xs : List Break) (t : Option ℤ) → x.start ≤ℤ x.stop → IsBefore x xs → at_or_past x.start t ≡ false → outside xs t ≡ true
+  outside-below : (x : PlayedEvent) (xs : List PlayedEvent) (t : Option ℤ) → x.start ≤ℤ x.stop → IsBefore x xs → at_or_past x.start t ≡ false → outside xs t ≡ true
   outside-below x [] t l b a = refl
   outside-below x (y ∷ ys) t l b a = by_test (holds y t)
       (λ h. true_or_false (at_or_past x.start t) (past_lower x.start y.start t (starts_ordered x y l b.0) (holds-past y t h)) a)
       (λ h. simp h (outside-below x ys t l b.1 a))
 
-  no_slices : (x : Break) (slice : Break → List SliceUnit) (xs : List Break) (p : List ℕ) (past : List (List ℕ)) → x.start ≤ℤ x.stop → IsBefore x xs → at_or_past x.start (r.time (p ∷ past)) ≡ false → all_slices_at r xs slice p past ≡ []
+  no_slices : (x : PlayedEvent) (slice : PlayedEvent → List SliceUnit) (xs : List PlayedEvent) (p : List ℕ) (past : List (List ℕ)) → x.start ≤ℤ x.stop → IsBefore x xs → at_or_past x.start (r.time (p ∷ past)) ≡ false → all_slices_at r xs slice p past ≡ []
   no_slices x slice [] p past l b a = refl
   no_slices x slice (y ∷ ys) p past l b a = by_test (at_or_past y.start (r.time (p ∷ past)))
       (λ h. true_or_false (at_or_past x.start (r.time (p ∷ past))) (past_lower x.start y.start (r.time (p ∷ past)) (starts_ordered x y l b.0) h) a)
       (λ h. by_test (r.begins p past) (λ s. simp (s, h) (no_slices x slice ys p past l b.1 a)) (λ s. simp s (no_slices x slice ys p past l b.1 a)))
 
-  none_here : (x : Break) (units : List SliceUnit) (p : List ℕ) (past : List (List ℕ)) → at_or_past x.start (r.time (p ∷ past)) ≡ false → slice_at r x units p past ≡ []
+  none_here : (x : PlayedEvent) (units : List SliceUnit) (p : List ℕ) (past : List (List ℕ)) → at_or_past x.start (r.time (p ∷ past)) ≡ false → slice_at r x units p past ≡ []
   none_here x units p past a = by_test (r.begins p past) (λ s. simp (s, a)) (λ s. simp s)
 
-  not_later : (x : Break) (t : Option ℤ) → x.start ≤ℤ x.stop → at_or_past x.start t ≡ false → at_or_past x.stop t ≡ false
+  not_later : (x : PlayedEvent) (t : Option ℤ) → x.start ≤ℤ x.stop → at_or_past x.start t ≡ false → at_or_past x.stop t ≡ false
   not_later x t l a = by_test (at_or_past x.stop t) (λ b. true_or_false (at_or_past x.start t) (past_lower x.start x.stop t l b) a) (λ b. b)
 
-  not_held : (x : Break) (t : Option ℤ) → at_or_past x.start t ≡ false → holds x t ≡ false
+  not_held : (x : PlayedEvent) (t : Option ℤ) → at_or_past x.start t ≡ false → holds x t ≡ false
   not_held x t a = by_test (holds x t) (λ b. true_or_false (at_or_past x.start t) (holds-past x t b) a) (λ b. b)
 
-  -- the edge is not past the first of the breaks
-  abbrev IsLow : Option ℤ → List Break → Type 0
+  -- the edge is not past the first of the events
+  abbrev IsLow : Option ℤ → List PlayedEvent → Type 0
   IsLow None xs = Unit {0}
   IsLow (Some low) [] = Unit {0}
   IsLow (Some low) (x ∷ xs) = low ≤ℤ x.start
 
-  abbrev Sides : List Break → List (List ℕ) → Type 0
+  abbrev Sides : List PlayedEvent → List (List ℕ) → Type 0
   Sides [] past = Unit {0}
   Sides (x ∷ xs) past = Side x.start past × Sides xs past
 
-  abbrev AllCrossed : List Break → List Seen → Type 0
+  abbrev AllCrossed : List PlayedEvent → List Seen → Type 0
   AllCrossed [] ss = Unit {0}
   AllCrossed (x ∷ xs) ss = All (Crossed x.start) ss × AllCrossed xs ss
 
-  low_of : (x : Break) (xs : List Break) → IsBefore x xs → IsLow (Some x.stop) xs
+  low_of : (x : PlayedEvent) (xs : List PlayedEvent) → IsBefore x xs → IsLow (Some x.stop) xs
   low_of x [] b = tt
   low_of x (y ∷ ys) b = b.0
 
-  from-past : (low : Option ℤ) (x : Break) (xs : List Break) (t : Option ℤ) → IsLow low (x ∷ xs) → at_or_past x.start t ≡ true → from low t ≡ true
+  from-past : (low : Option ℤ) (x : PlayedEvent) (xs : List PlayedEvent) (t : Option ℤ) → IsLow low (x ∷ xs) → at_or_past x.start t ≡ true → from low t ≡ true
   from-past None x xs t l a = refl
   from-past (Some low) x xs t l a = past_lower low x.start t l a
 
-  abbrev own : Option ℤ → List Break → List ℕ → List (List ℕ) → List Out
+  abbrev own : Option ℤ → List PlayedEvent → List ℕ → List (List ℕ) → List Out
   own low xs p past = if r.carries p && (from low (r.time (p ∷ past)) && outside xs (r.time (p ∷ past))) then Network p ∷ [] else []
 
-  module _ (slice : Break → List SliceUnit) where
-    pub parts-cons : (low : Option ℤ) (xs : List Break) → AreOrdered xs → IsLow low xs → (p : List ℕ) (past ps : List (List ℕ)) → Sides xs past → AllCrossed xs (seen_after past (p ∷ ps)) →
+  module _ (slice : PlayedEvent → List SliceUnit) where
+    pub parts-cons : (low : Option ℤ) (xs : List PlayedEvent) → AreOrdered xs → IsLow low xs → (p : List ℕ) (past ps : List (List ℕ)) → Sides xs past → AllCrossed xs (seen_after past (p ∷ ps)) →
         parts r low xs (newly past (p ∷ ps)) slice (seen_after past (p ∷ ps))
         ≡ all_slices_at r xs slice p past ++ (own low xs p past ++ parts r low xs (newly (p ∷ past) ps) slice (seen_after (p ∷ past) ps))
     parts-cons low [] o l p past ps h c = part-cons low None p past ps
@@ -195,7 +195,7 @@ module _ (r : Stream) (k : IsStream r) where
 
     -- ---- all packets
 
-    parts-nil : (low : Option ℤ) (xs : List Break) (past : List (List ℕ)) → parts r low xs (newly past []) slice [] ≡ []
+    parts-nil : (low : Option ℤ) (xs : List PlayedEvent) (past : List (List ℕ)) → parts r low xs (newly past []) slice [] ≡ []
     parts-nil low [] past = refl
     parts-nil low (x ∷ xs) past =
         let e : newly past [] x ≡ false = neither (begun r x past) in simp e (parts-nil (Some x.stop) xs past) where
@@ -203,14 +203,14 @@ module _ (r : Stream) (k : IsStream r) where
           neither true = refl
           neither false = refl
 
-    sides_more : (xs : List Break) (p : List ℕ) (past ps : List (List ℕ)) → Sides xs past → AllCrossed xs (seen_after past (p ∷ ps)) → Sides xs (p ∷ past) × AllCrossed xs (seen_after (p ∷ past) ps)
+    sides_more : (xs : List PlayedEvent) (p : List ℕ) (past ps : List (List ℕ)) → Sides xs past → AllCrossed xs (seen_after past (p ∷ ps)) → Sides xs (p ∷ past) × AllCrossed xs (seen_after (p ∷ past) ps)
     sides_more [] p past ps h c = (tt, tt)
     sides_more (x ∷ xs) p past ps h c =
         let s : Seen = record { packet = p; past = past } in
         let m = sides_more xs p past ps h.1 c.1 in
         ((side_more x.start p past (All-head (Crossed x.start) s (seen_after (p ∷ past) ps) c.0) h.0, m.0), (All-tail (Crossed x.start) s (seen_after (p ∷ past) ps) c.0, m.1))
 
-    splice_after : (xs : List Break) → AreOrdered xs → (past ps : List (List ℕ)) → Sides xs past → AllCrossed xs (seen_after past ps) →
+    splice_after : (xs : List PlayedEvent) → AreOrdered xs → (past ps : List (List ℕ)) → Sides xs past → AllCrossed xs (seen_after past ps) →
         flat_map (λ (s : Seen). all_slices_at r xs slice s.packet s.past ++ kept r xs s.packet s.past) (seen_after past ps) ≡ parts r None xs (newly past ps) slice (seen_after past ps)
     splice_after xs o past [] h c = sym (parts-nil None xs past)
     splice_after xs o past (p ∷ ps) h c =
@@ -219,13 +219,13 @@ module _ (r : Stream) (k : IsStream r) where
         ∙ ap (λ l. all_slices_at r xs slice p past ++ (kept r xs p past ++ l)) (splice_after xs o (p ∷ past) ps m.0 m.1)
         ∙ sym (parts-cons None xs o tt p past ps h c)
 
-    sides_at_first : (xs : List Break) → Sides xs []
+    sides_at_first : (xs : List PlayedEvent) → Sides xs []
     sides_at_first [] = tt
     sides_at_first (x ∷ xs) = (ap (at_or_past x.start) k.fresh, sides_at_first xs)
 
-    all_crossed : (xs : List Break) (ps : List (List ℕ)) → IsConditioned r xs ps → AllCrossed xs (seen_after [] ps)
+    all_crossed : (xs : List PlayedEvent) (ps : List (List ℕ)) → IsConditioned r xs ps → AllCrossed xs (seen_after [] ps)
     all_crossed [] ps d = tt
-    all_crossed (x ∷ xs) ps d = (All-head (λ (x : Break). IsCrossedOnce r x.start ps) x xs d, all_crossed xs ps (All-tail (λ (x : Break). IsCrossedOnce r x.start ps) x xs d))
+    all_crossed (x ∷ xs) ps d = (All-head (λ (x : PlayedEvent). IsCrossedOnce r x.start ps) x xs d, all_crossed xs ps (All-tail (λ (x : PlayedEvent). IsCrossedOnce r x.start ps) x xs d))
 
 pub placed_is_splice : PlacedIsSplice
 placed_is_splice r k xs o slice ps d = splice_after r k slice xs o [] ps (sides_at_first r k slice xs) (all_crossed r k slice xs ps d)

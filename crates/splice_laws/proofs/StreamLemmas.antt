@@ -10,7 +10,7 @@ use Rattle.ts_packet.proofs.Cases.{by_test}
 use Rattle.ts_packet.proofs.FieldLemmas.{payload_on-on}
 use Rattle.ts_packet.proofs.RunLemmas.{onto}
 use Rattle.unit_stream.specs.Times.{unit_time}
-use Rattle.splice_laws.specs.Splicing.{Break, SliceUnit, Out, Network, Inserted, Stream, stream, begun, closed, out_of, inserted, rest, put_in, kept, outside}
+use Rattle.splice_laws.specs.Splicing.{PlayedEvent, SliceUnit, Out, Network, Inserted, Stream, stream, begun, closed, out_of, inserted, rest, put_in, kept, outside}
 use Rattle.splice_laws.specs.Laws.{IsStream, IsBefore, AreOrdered, Counts}
 use Rattle.splice_laws.specs.Streams.{Act, Through, Insert, closing, running, insert_on, all_closing, all_running, on_each, is_dropped, spliced_at, of_stream, is_among, IsOnce, StreamsCarryByCount, StreamsCarry, StreamsAreSpliced, StreamsCarryNow}
 use Rattle.splice_laws.proofs.StepLemmas.{true_or_false, or_left}
@@ -36,17 +36,17 @@ same-pid q pid p h g = let a = payload_on-on q p h in let b = payload_on-on pid 
 
 -- ---- before one packet
 
-module _ (r : Stream) (k : IsStream r) (slice : Break → List SliceUnit) (out : Break → List (List ℕ) → ℕ) where
-  abbrev all_units : List Break → List ℕ → List (List ℕ) → List SliceUnit
-  all_units xs p past = flat_map (λ (x : Break). inserted (slice x) (out x) p past) xs
+module _ (r : Stream) (k : IsStream r) (slice : PlayedEvent → List SliceUnit) (out : PlayedEvent → List (List ℕ) → ℕ) where
+  abbrev all_units : List PlayedEvent → List ℕ → List (List ℕ) → List SliceUnit
+  all_units xs p past = flat_map (λ (x : PlayedEvent). inserted (slice x) (out x) p past) xs
 
-  none_behind : (x : Break) (xs : List Break) → x.start ≤ℤ x.stop → IsBefore x xs → (p : List ℕ) (past : List (List ℕ)) → AllAt r k slice out xs (record { packet = p; past = past }) →
+  none_behind : (x : PlayedEvent) (xs : List PlayedEvent) → x.start ≤ℤ x.stop → IsBefore x xs → (p : List ℕ) (past : List (List ℕ)) → AllAt r k slice out xs (record { packet = p; past = past }) →
       begun r x (p ∷ past) ≡ true → closed r x (p ∷ past) ≡ false → all_units xs p past ≡ []
   none_behind x [] l b p past n g h = refl
   none_behind x (y ∷ ys) l b p past n g h =
       ap (λ a. a ++ all_units ys p past) (silent r k slice out x y l b.0 p past n.0 g h) ∙ none_behind x ys l b.1 p past n.1 g h
 
-  none_yet : (x : Break) (p : List ℕ) (past : List (List ℕ)) → Counts r x (slice x) (out x) (record { packet = p; past = past }) → begun r x (p ∷ past) ≡ false → inserted (slice x) (out x) p past ≡ []
+  none_yet : (x : PlayedEvent) (p : List ℕ) (past : List (List ℕ)) → Counts r x (slice x) (out x) (record { packet = p; past = past }) → begun r x (p ∷ past) ≡ false → inserted (slice x) (out x) p past ≡ []
   none_yet x p past n b = nothing_new (slice x) (out x past) (out x (p ∷ past)) (n.before.starts (or_left (begun r x past) _ b) ∙ sym (n.after.starts b))
 
   nil-left : (a b : List SliceUnit) → a ++ b ≡ [] → a ≡ []
@@ -58,31 +58,31 @@ module _ (r : Stream) (k : IsStream r) (slice : Break → List SliceUnit) (out :
       append_assoc c C (d ++ D) ∙ ap (λ l. c ++ l) (sym (append_assoc C d D) ∙ ap (λ l. l ++ D) h ∙ append_assoc d C D) ∙ sym (append_assoc c d (C ++ D))
 
   -- first what is closed, then what runs on
-  pub phases : (xs : List Break) → AreOrdered xs → (p : List ℕ) (past : List (List ℕ)) → AllAt r k slice out xs (record { packet = p; past = past }) →
-      all_closing r xs (λ (y : Break). inserted (slice y) (out y)) p past ++ all_running r xs (λ (y : Break). inserted (slice y) (out y)) p past ≡ all_units xs p past
+  pub phases : (xs : List PlayedEvent) → AreOrdered xs → (p : List ℕ) (past : List (List ℕ)) → AllAt r k slice out xs (record { packet = p; past = past }) →
+      all_closing r xs (λ (y : PlayedEvent). inserted (slice y) (out y)) p past ++ all_running r xs (λ (y : PlayedEvent). inserted (slice y) (out y)) p past ≡ all_units xs p past
   phases [] o p past n = refl
   phases (x ∷ xs) o p past n =
       let i = phases xs o.2 p past n.1 in
       let c = closing r x (inserted (slice x) (out x)) p past in
       let d = running r x (inserted (slice x) (out x)) p past in
-      mix c (all_closing r xs (λ (y : Break). inserted (slice y) (out y)) p past) d (all_running r xs (λ (y : Break). inserted (slice y) (out y)) p past) (swap (all_closing r xs (λ (y : Break). inserted (slice y) (out y)) p past) d (either i))
-      ∙ ap (λ l. l ++ (all_closing r xs (λ (y : Break). inserted (slice y) (out y)) p past ++ all_running r xs (λ (y : Break). inserted (slice y) (out y)) p past)) (one (closed r x (p ∷ past)) (inserted (slice x) (out x) p past))
+      mix c (all_closing r xs (λ (y : PlayedEvent). inserted (slice y) (out y)) p past) d (all_running r xs (λ (y : PlayedEvent). inserted (slice y) (out y)) p past) (swap (all_closing r xs (λ (y : PlayedEvent). inserted (slice y) (out y)) p past) d (either i))
+      ∙ ap (λ l. l ++ (all_closing r xs (λ (y : PlayedEvent). inserted (slice y) (out y)) p past ++ all_running r xs (λ (y : PlayedEvent). inserted (slice y) (out y)) p past)) (one (closed r x (p ∷ past)) (inserted (slice x) (out x) p past))
       ∙ ap (λ l. inserted (slice x) (out x) p past ++ l) i where
         one : (b : Bool) (l : List SliceUnit) → (if b then l else []) ++ (if b then [] else l) ≡ l
         one true l = append-nil l
         one false l = refl
 
-        either : all_closing r xs (λ (y : Break). inserted (slice y) (out y)) p past ++ all_running r xs (λ (y : Break). inserted (slice y) (out y)) p past ≡ all_units xs p past → (all_closing r xs (λ (y : Break). inserted (slice y) (out y)) p past ≡ []) ⊎ (running r x (inserted (slice x) (out x)) p past ≡ [])
+        either : all_closing r xs (λ (y : PlayedEvent). inserted (slice y) (out y)) p past ++ all_running r xs (λ (y : PlayedEvent). inserted (slice y) (out y)) p past ≡ all_units xs p past → (all_closing r xs (λ (y : PlayedEvent). inserted (slice y) (out y)) p past ≡ []) ⊎ (running r x (inserted (slice x) (out x)) p past ≡ [])
         either i = by_test (closed r x (p ∷ past))
             (λ h. inr (simp h))
             (λ h. by_test (begun r x (p ∷ past))
-            (λ g. inl (nil-left (all_closing r xs (λ (y : Break). inserted (slice y) (out y)) p past) (all_running r xs (λ (y : Break). inserted (slice y) (out y)) p past) (i ∙ none_behind x xs o.0 o.1 p past n.1 g h)))
+            (λ g. inl (nil-left (all_closing r xs (λ (y : PlayedEvent). inserted (slice y) (out y)) p past) (all_running r xs (λ (y : PlayedEvent). inserted (slice y) (out y)) p past) (i ∙ none_behind x xs o.0 o.1 p past n.1 g h)))
             (λ g. inr (none_if (closed r x (p ∷ past)) (none_yet x p past n.0 g)))) where
               none_if : (b : Bool) {l : List SliceUnit} → l ≡ [] → (if b then [] else l) ≡ []
               none_if true e = refl
               none_if false e = e
 
-pub put_in-flat : (f : Break → List SliceUnit) (xs : List Break) → put_in (flat_map f xs) ≡ flat_map (λ (x : Break). put_in (f x)) xs
+pub put_in-flat : (f : PlayedEvent → List SliceUnit) (xs : List PlayedEvent) → put_in (flat_map f xs) ≡ flat_map (λ (x : PlayedEvent). put_in (f x)) xs
 put_in-flat f [] = refl
 put_in-flat f (x ∷ xs) = put_in-append (f x) (flat_map f xs) ∙ ap (λ l. put_in (f x) ++ l) (put_in-flat f xs)
 
@@ -121,7 +121,7 @@ once_on pid (q ∷ qs) f (inr h) =
 
 -- ---- the packet itself
 
-module _ (sw : List ℕ) (xs : List Break) (p : List ℕ) (past : List (List ℕ)) where
+module _ (sw : List ℕ) (xs : List PlayedEvent) (p : List ℕ) (past : List (List ℕ)) where
   not_other : (pid q : ℕ) → payload_on pid p ≡ true → (q == pid) ≡ false → payload_on q p ≡ false
   not_other pid q y h = by_test (payload_on q p)
       (λ g. true_or_false (q == pid) (ap (λ n. n == pid) (same-pid q pid p g y) ∙ test-same pid) h)
@@ -158,16 +158,16 @@ module _ (sw : List ℕ) (xs : List Break) (p : List ℕ) (past : List (List ℕ
 
 -- ---- all packets
 
-module _ (sw : List ℕ) (xs : List Break) (piece : ℕ → Break → List ℕ → List (List ℕ) → List SliceUnit) (left : ℕ → Break → List (List ℕ) → List SliceUnit) (pid : ℕ) (h : IsOnce pid sw) where
+module _ (sw : List ℕ) (xs : List PlayedEvent) (piece : ℕ → PlayedEvent → List ℕ → List (List ℕ) → List SliceUnit) (left : ℕ → PlayedEvent → List (List ℕ) → List SliceUnit) (pid : ℕ) (h : IsOnce pid sw) where
   abbrev r : Stream
   r = stream sw pid
 
   -- what is closed and what runs on is all that goes out
   abbrev pub Phased : Seen → Type 0
-  Phased s = all_closing r xs (piece pid) s.packet s.past ++ all_running r xs (piece pid) s.packet s.past ≡ flat_map (λ (x : Break). piece pid x s.packet s.past) xs
+  Phased s = all_closing r xs (piece pid) s.packet s.past ++ all_running r xs (piece pid) s.packet s.past ≡ flat_map (λ (x : PlayedEvent). piece pid x s.packet s.past) xs
 
   abbrev puts : Seen → List Out
-  puts s = flat_map (λ (x : Break). put_in (piece pid x s.packet s.past)) xs ++ kept r xs s.packet s.past
+  puts s = flat_map (λ (x : PlayedEvent). put_in (piece pid x s.packet s.past)) xs ++ kept r xs s.packet s.past
 
   at_packet : (p : List ℕ) (past : List (List ℕ)) → Phased (record { packet = p; past = past }) →
       of_stream pid (spliced_at sw xs piece (record { packet = p; past = past })) ≡ puts (record { packet = p; past = past })
@@ -181,28 +181,28 @@ module _ (sw : List ℕ) (xs : List Break) (piece : ℕ → Break → List ℕ �
       ∙ ap (λ l. l ++ of_stream pid T) (of_stream-append pid C R)
       ∙ ap (λ l. (l ++ of_stream pid R) ++ of_stream pid T) (once_on pid sw (λ (q : ℕ). all_closing (stream sw q) xs (piece q) p past) h)
       ∙ ap (λ l. (put_in c ++ l) ++ of_stream pid T) (once_on pid sw (λ (q : ℕ). all_running (stream sw q) xs (piece q) p past) h)
-      ∙ ap (λ l. l ++ of_stream pid T) (sym (put_in-append c d) ∙ ap put_in n ∙ put_in-flat (λ (x : Break). piece pid x p past) xs)
-      ∙ ap (λ l. flat_map (λ (x : Break). put_in (piece pid x p past)) xs ++ l) (through sw xs p past pid h)
+      ∙ ap (λ l. l ++ of_stream pid T) (sym (put_in-append c d) ∙ ap put_in n ∙ put_in-flat (λ (x : PlayedEvent). piece pid x p past) xs)
+      ∙ ap (λ l. flat_map (λ (x : PlayedEvent). put_in (piece pid x p past)) xs ++ l) (through sw xs p past pid h)
 
   pub read_after : (past ps : List (List ℕ)) → All Phased (seen_after past ps) →
-      of_stream pid (flat_map (spliced_at sw xs piece) (seen_after past ps) ++ on_each sw (λ (q : ℕ). flat_map (λ (x : Break). left q x (onto past ps)) xs))
-      ≡ flat_map puts (seen_after past ps) ++ flat_map (λ (x : Break). put_in (left pid x (onto past ps))) xs
-  read_after past [] n = once_on pid sw (λ (q : ℕ). flat_map (λ (x : Break). left q x past) xs) h ∙ put_in-flat (λ (x : Break). left pid x past) xs
+      of_stream pid (flat_map (spliced_at sw xs piece) (seen_after past ps) ++ on_each sw (λ (q : ℕ). flat_map (λ (x : PlayedEvent). left q x (onto past ps)) xs))
+      ≡ flat_map puts (seen_after past ps) ++ flat_map (λ (x : PlayedEvent). put_in (left pid x (onto past ps))) xs
+  read_after past [] n = once_on pid sw (λ (q : ℕ). flat_map (λ (x : PlayedEvent). left q x past) xs) h ∙ put_in-flat (λ (x : PlayedEvent). left pid x past) xs
   read_after past (p ∷ ps) n =
       let s : Seen = record { packet = p; past = past } in
       let A = spliced_at sw xs piece s in
       let F = flat_map (spliced_at sw xs piece) (seen_after (p ∷ past) ps) in
-      let L = on_each sw (λ (q : ℕ). flat_map (λ (x : Break). left q x (onto (p ∷ past) ps)) xs) in
+      let L = on_each sw (λ (q : ℕ). flat_map (λ (x : PlayedEvent). left q x (onto (p ∷ past) ps)) xs) in
       ap (of_stream pid) (append_assoc A F L) ∙ of_stream-append pid A (F ++ L)
       ∙ ap (λ l. l ++ of_stream pid (F ++ L)) (at_packet p past (All-head Phased s (seen_after (p ∷ past) ps) n))
       ∙ ap (λ l. puts s ++ l) (read_after (p ∷ past) ps (All-tail Phased s (seen_after (p ∷ past) ps) n))
-      ∙ sym (append_assoc (puts s) (flat_map puts (seen_after (p ∷ past) ps)) (flat_map (λ (x : Break). put_in (left pid x (onto (p ∷ past) ps))) xs))
+      ∙ sym (append_assoc (puts s) (flat_map puts (seen_after (p ∷ past) ps)) (flat_map (λ (x : PlayedEvent). put_in (left pid x (onto (p ∷ past) ps))) xs))
 
 -- ---- by a count
 
-module _ (r : Stream) (k : IsStream r) (xs : List Break) (o : AreOrdered xs) (slice : Break → List SliceUnit) (out : Break → List (List ℕ) → ℕ) where
+module _ (r : Stream) (k : IsStream r) (xs : List PlayedEvent) (o : AreOrdered xs) (slice : PlayedEvent → List SliceUnit) (out : PlayedEvent → List (List ℕ) → ℕ) where
   abbrev PhasedBy : Seen → Type 0
-  PhasedBy s = all_closing r xs (λ (y : Break). inserted (slice y) (out y)) s.packet s.past ++ all_running r xs (λ (y : Break). inserted (slice y) (out y)) s.packet s.past ≡ flat_map (λ (x : Break). inserted (slice x) (out x) s.packet s.past) xs
+  PhasedBy s = all_closing r xs (λ (y : PlayedEvent). inserted (slice y) (out y)) s.packet s.past ++ all_running r xs (λ (y : PlayedEvent). inserted (slice y) (out y)) s.packet s.past ≡ flat_map (λ (x : PlayedEvent). inserted (slice x) (out x) s.packet s.past) xs
 
   phased_by : (past ps : List (List ℕ)) → AllCounted r k slice out xs (seen_after past ps) → All PhasedBy (seen_after past ps)
   phased_by past [] n = All-nil PhasedBy
@@ -215,37 +215,37 @@ pub streams_carry_by_count : StreamsCarryByCount
 streams_carry_by_count sw xs o slice out ps pid h n =
     let r = stream sw pid in
     let k = pids_are_streams sw pid in
-    read_after sw xs (λ (q : ℕ) (x : Break). inserted (slice q x) (out q x)) (λ (q : ℕ) (x : Break). rest (stream sw q) x (slice q x) (out q x)) pid h [] ps
+    read_after sw xs (λ (q : ℕ) (x : PlayedEvent). inserted (slice q x) (out q x)) (λ (q : ℕ) (x : PlayedEvent). rest (stream sw q) x (slice q x) (out q x)) pid h [] ps
     (phased_by r k xs o (slice pid) (out pid) [] ps (all_counted r k (slice pid) (out pid) xs (seen_after [] ps) n))
 
 pub streams_carry : StreamsCarry
 streams_carry sw xs o slice ps pid h =
-    streams_carry_by_count sw xs o slice (λ (q : ℕ) (x : Break). out_of (stream sw q) x (slice q x)) ps pid h (out_counts_all (stream sw pid) (pids_are_streams sw pid) xs (slice pid) ps)
+    streams_carry_by_count sw xs o slice (λ (q : ℕ) (x : PlayedEvent). out_of (stream sw q) x (slice q x)) ps pid h (out_counts_all (stream sw pid) (pids_are_streams sw pid) xs (slice pid) ps)
 
 pub streams_are_spliced : StreamsAreSpliced
 streams_are_spliced sw xs o slice ps pid h d = streams_carry sw xs o slice ps pid h ∙ carries_splice_units sw pid xs o (slice pid) ps d
 
 -- ---- by the ends in force
 
-module _ (r : Stream) (k : IsStream r) (units : Break → List SliceUnit) (stop : Break → List (List ℕ) → ℤ) where
-  abbrev now : Break → List ℕ → List (List ℕ) → List SliceUnit
+module _ (r : Stream) (k : IsStream r) (units : PlayedEvent → List SliceUnit) (stop : PlayedEvent → List (List ℕ) → ℤ) where
+  abbrev now : PlayedEvent → List ℕ → List (List ℕ) → List SliceUnit
   now x = sent_at r x (units x) (stop x)
 
-  abbrev counted : List (List ℕ) → Break → List ℕ → List (List ℕ) → List SliceUnit
+  abbrev counted : List (List ℕ) → PlayedEvent → List ℕ → List (List ℕ) → List SliceUnit
   counted end x = inserted (slice r k units stop end x) (count r k units stop x)
 
   both_append : (a b c d : List SliceUnit) → a ≡ b → c ≡ d → a ++ c ≡ b ++ d
   both_append a b c d e f = rw (e, f) refl
 
   -- three lists of parts, whose parts agree
-  now_same : (g : Break → List SliceUnit → List SliceUnit) (xs : List Break) (p : List ℕ) (past ps : List (List ℕ)) → AllSince r k units stop xs (p ∷ past) → AllEnds r k units stop xs (seen_after (p ∷ past) ps) →
-      flat_map (λ (x : Break). g x (now x p past)) xs ≡ flat_map (λ (x : Break). g x (counted (onto (p ∷ past) ps) x p past)) xs
+  now_same : (g : PlayedEvent → List SliceUnit → List SliceUnit) (xs : List PlayedEvent) (p : List ℕ) (past ps : List (List ℕ)) → AllSince r k units stop xs (p ∷ past) → AllEnds r k units stop xs (seen_after (p ∷ past) ps) →
+      flat_map (λ (x : PlayedEvent). g x (now x p past)) xs ≡ flat_map (λ (x : PlayedEvent). g x (counted (onto (p ∷ past) ps) x p past)) xs
   now_same g [] p past ps s n = refl
   now_same g (x ∷ xs) p past ps s n = both_append _ _ _ _ (ap (g x) (same-at r k x (units x) (stop x) p past ps s.0 n.0)) (now_same g xs p past ps s.1 n.1)
 
-  module _ (xs : List Break) (o : AreOrdered xs) where
+  module _ (xs : List PlayedEvent) (o : AreOrdered xs) where
     abbrev PhasedNow : Seen → Type 0
-    PhasedNow s = all_closing r xs now s.packet s.past ++ all_running r xs now s.packet s.past ≡ flat_map (λ (x : Break). now x s.packet s.past) xs
+    PhasedNow s = all_closing r xs now s.packet s.past ++ all_running r xs now s.packet s.past ≡ flat_map (λ (x : PlayedEvent). now x s.packet s.past) xs
 
     phased_now : (past ps : List (List ℕ)) → AllSince r k units stop xs past → AllEnds r k units stop xs (seen_after past ps) →
         AllCounted r k (slice r k units stop (onto past ps)) (count r k units stop) xs (seen_after past ps) → All PhasedNow (seen_after past ps)
@@ -269,5 +269,5 @@ streams_carry_now sw xs o units stop ps pid h n =
     let k = pids_are_streams sw pid in
     let m = all_ends r k (units pid) stop xs ps n in
     let c = all_counted r k (slice r k (units pid) stop (reverse ps)) (count r k (units pid) stop) xs (seen_after [] ps) (ends_counted r k (units pid) stop xs ps m.0) in
-    read_after sw xs (λ (q : ℕ) (x : Break). sent_at (stream sw q) x (units q x) (stop x)) (λ (q : ℕ) (x : Break). unsent (stream sw q) x (units q x) (stop x)) pid h [] ps
+    read_after sw xs (λ (q : ℕ) (x : PlayedEvent). sent_at (stream sw q) x (units q x) (stop x)) (λ (q : ℕ) (x : PlayedEvent). unsent (stream sw q) x (units q x) (stop x)) pid h [] ps
     (phased_now r k (units pid) stop xs o [] ps m.1 m.0 c)

@@ -4,7 +4,7 @@ use Rattle.std.proofs.Common.{◌≡◌, ℕ, suc, List, [], ◌∷◌, Bool, tr
 use Rattle.std.proofs.lemmas.Int.{ints}
 use Rattle.std.proofs.lemmas.List.Elements.{All-head, All-tail}
 use Rattle.ts_packet.proofs.Cases.{by_test}
-use Rattle.splice_laws.specs.Splicing.{Break, SliceUnit, Stream, holds, stands, comes, opens, begun, closed, due, front}
+use Rattle.splice_laws.specs.Splicing.{PlayedEvent, SliceUnit, Stream, holds, stands, comes, opens, begun, closed, due, front}
 use Rattle.splice_laws.specs.Laws.{Risen, IsStream}
 use Rattle.splice_laws.specs.Settled.{IsAhead, IsWithin, NothingEarly, NothingLate, NearIsPastForgotten}
 use Rattle.splice_laws.proofs.TimeLemmas.{stands-later}
@@ -16,7 +16,7 @@ ahead-before None h' edge g a = tt
 ahead-before (Some h) None edge g a = absurd g
 ahead-before (Some h) (Some h') edge g a = grind (arith, ints)
 
-not_begun : (r : Stream) → IsStream r → IsWithin r → (x : Break) (past : List (List ℕ)) → IsAhead (r.high past) x.start → begun r x past ≡ false
+not_begun : (r : Stream) → IsStream r → IsWithin r → (x : PlayedEvent) (past : List (List ℕ)) → IsAhead (r.high past) x.start → begun r x past ≡ false
 not_begun r k w x [] a = refl
 not_begun r k w x (p ∷ past) a =
     let i = not_begun r k w x past (ahead-before (r.high past) (r.high (p ∷ past)) x.start (k.rises p past) a) in
@@ -26,12 +26,12 @@ not_begun r k w x (p ∷ past) a =
 pub nothing_early : NothingEarly
 nothing_early r k w x past a = (not_begun r k w x past a, early-out x (r.time past) (early x (r.time past) (r.high past) (w past) a))
 
--- a unit below the end is due once the break stands no more
-due-late : (x : Break) (t : ℤ) (h : Option ℤ) → t <ℤ x.stop → stands x h ≡ false → due t h ≡ true
+-- a unit below the end is due once the event stands no more
+due-late : (x : PlayedEvent) (t : ℤ) (h : Option ℤ) → t <ℤ x.stop → stands x h ≡ false → due t h ≡ true
 due-late x t None l s = sym s
 due-late x t (Some h) l s = grind (arith, ints)
 
-front-late : (x : Break) (us : List SliceUnit) (h : Option ℤ) → All (λ (u : SliceUnit). u.time <ℤ x.stop) us → stands x h ≡ false → front us h ≡ length us
+front-late : (x : PlayedEvent) (us : List SliceUnit) (h : Option ℤ) → All (λ (u : SliceUnit). u.time <ℤ x.stop) us → stands x h ≡ false → front us h ≡ length us
 front-late x [] h n s = refl
 front-late x (u ∷ us) h n s =
     let f = λ (u : SliceUnit). u.time <ℤ x.stop in

@@ -17,13 +17,13 @@ pub fn out_grows()
 {}
 
 /// Whenever the pieces of a slice go out, from its begin to its close, they join to the whole
-/// slice, before the first unit at or past the break's start.
+/// slice, before the first unit at or past the event's start.
 pub fn counted_is_placed()
     ensures { CountedIsPlaced }
 {}
 
 /// The pieces of each slice join to the whole slice, before the first unit at or past the
-/// break's start.
+/// event's start.
 pub fn carried_is_placed()
     ensures { CarriedIsPlaced }
 {}
@@ -33,8 +33,8 @@ pub fn placed_is_splice()
     ensures { PlacedIsSplice }
 {}
 
-/// A PID of a run carries the packets before its first unit, and then its units outside all breaks
-/// with each slice whole before the first unit at or past its break's start.
+/// A PID of a run carries the packets before its first unit, and then its units outside all events
+/// with each slice whole before the first unit at or past its event's start.
 pub fn carries_placed_units()
     ensures { CarriesPlacedUnits }
 {}
@@ -45,7 +45,7 @@ pub fn carries_splice_units()
     ensures { CarriesSpliceUnits }
 {}
 
-/// Whether a break has begun and is closed does not change by what becomes known later: each end
+/// Whether an event has begun and is closed does not change by what becomes known later: each end
 /// that comes to be known lies past the greatest time, and so does each start.
 pub fn flags_settle()
     ensures { FlagsSettle }
@@ -62,7 +62,7 @@ pub fn switched_pids_are_within()
 {}
 
 /// Where ends come to be earlier while their slices run, what has gone out of each slice stands
-/// whole before the first unit at or past its break's start.
+/// whole before the first unit at or past its event's start.
 pub fn sent_is_placed()
     ensures { SentIsPlaced }
 {}
@@ -89,12 +89,12 @@ pub fn streams_are_spliced()
     ensures { StreamsAreSpliced }
 {}
 
-/// A break whose start is still to come holds no unit and has not begun.
+/// An event whose start is still to come holds no unit and has not begun.
 pub fn nothing_early()
     ensures { NothingEarly }
 {}
 
-/// Of a break that stands no more nothing goes out.
+/// Of an event that stands no more nothing goes out.
 pub fn nothing_late()
     ensures { NothingLate }
 {}
@@ -104,7 +104,7 @@ pub fn streams_carry_now()
     ensures { StreamsCarryNow }
 {}
 
-/// A time at most ten seconds below the greatest does not lie in a break that stands no more.
+/// A time at most ten seconds below the greatest does not lie in an event that stands no more.
 pub fn near_is_past_forgotten()
     ensures { NearIsPastForgotten }
 {}

@@ -1,12 +1,12 @@
--- Lists of breaks in order of their starts.
+-- Lists of uncancelled events in order of their starts.
 use Rattle.std.specs.Prelude.{◌<ℤ◌, ◌≤ℤ◌, int_lt, filter}
 use Rattle.std.proofs.Common.{◌≡◌, ◌⊎◌, inl, inr, refl, sym, ap, ◌∙◌, subst, List, [], ◌∷◌, arith}
 use Rattle.std.proofs.lemmas.Int.{ints}
 use Rattle.cue_laws.specs.Events.{Event, Passed, events, In}
 use Rattle.cue_laws.specs.Thinning.{thinned}
 use Rattle.cue_laws.specs.Cueing.{cued}
-use Rattle.cue_laws.specs.Tables.{put_in, by_start, is_uncancelled, breaks}
-use Rattle.cue_laws.specs.Laws.{BreaksAreTheSame}
+use Rattle.cue_laws.specs.Tables.{put_in, by_start, is_uncancelled, uncancelled_events}
+use Rattle.cue_laws.specs.Laws.{UncancelledEventsAgree}
 use Rattle.cue_laws.proofs.Settling.{by_test, lt-test, ge-test, not_true}
 use Rattle.cue_laws.proofs.Lists.{In-filter, In-filtered, Distinct, distinct-filter}
 use Rattle.cue_laws.proofs.Orders.{Orderly}
@@ -111,9 +111,9 @@ one_order (x ∷ xs) (y ∷ ys) r s to back =
     rest' z i (inl is) = absurd (let m = s.0 z i in bad y z (is ∙ same) m)
     rest' z i (inr j) = j
 
-pub breaks_are_the_same : BreaksAreTheSame
-breaks_are_the_same copies h past r k =
-    one_order (breaks here) (breaks there)
+pub uncancelled_events_agree : UncancelledEventsAgree
+uncancelled_events_agree copies h past r k =
+    one_order (uncancelled_events here) (uncancelled_events there)
     (rising-sorted (filter is_uncancelled here) (distinct-filter is_uncancelled here part.distinct))
     (rising-sorted (filter is_uncancelled there) (distinct-filter is_uncancelled there order.distinct))
     (λ x i. let p = In-filtered is_uncancelled x here (by_start-from (filter is_uncancelled here) x i) in
