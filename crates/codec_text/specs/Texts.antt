@@ -13,7 +13,7 @@ use Rattle.scte104_codec.specs.declared.head.Head.{Head}
 use Rattle.scte104_codec.specs.declared.framing.Frame.{Frame}
 use Rattle.scte104_codec.specs.declared.framing.Frame.TheVariants.{NeedMore, Whole, BadSize}
 use Rattle.scte104_codec.specs.declared.message.BadMessage.{BadMessage}
-use Rattle.scte104_codec.specs.declared.message.Multi.{Multi}
+use Rattle.scte104_codec.specs.declared.multi.Multi.{Multi}
 use Rattle.scte104_codec.specs.declared.message.Message.{Message}
 use Rattle.scte104_codec.specs.Operations.{Operation}
 use Rattle.scte104_codec.specs.OperationsLeft.{operations_left}

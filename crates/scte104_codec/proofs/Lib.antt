@@ -1,6 +1,7 @@
 pub mod FrameLemmas
 pub mod OperationLemmas
 pub mod RequestLemmas
+pub mod AskedLemmas
 pub mod Cells
 pub mod SingleLemmas
 pub mod SeveralLemmas

@@ -1,9 +1,8 @@
 -- What is left of operations, and one operation after another.
 use Rattle.std.proofs.Common.{◌≡◌, ℕ, zero, suc, ◌-◌, ◌<◌, List, [], ◌∷◌, length, Bool, true, false, Option, Some, None, refl, ap, ◌∙◌, arith, sub-one}
-use Rattle.std.specs.Prelude.{option_map, is_some, ◌==◌, if◌then◌else◌}
+use Rattle.std.specs.Prelude.{option_map, is_some, ◌&&◌, ◌==◌, if◌then◌else◌}
 use Rattle.std.specs.Option.{option_map_or, option_and_then}
-use Rattle.scte104_codec.specs.Operations.{Operation, operation_at, operations_in, is_well_formed}
-use Rattle.scte104_codec.specs.OperationsLeft.{operations_from}
+use Rattle.scte104_codec.specs.Operations.{Operation, operation_at, operations_in, operations_from, is_well_formed, are_well_formed}
 
 pub left_ended : (n : ℕ) (bytes : List ℕ) → operation_at bytes ≡ None → operations_from n bytes ≡ []
 unfolding operations_from
@@ -74,3 +73,42 @@ fill_done n (b ∷ bytes) h = rw h (grind arith)
 pub left_none : (n : ℕ) (bytes : List ℕ) → n ≡ 0 → operations_from n bytes ≡ []
 unfolding operations_from
 left_none n bytes h = rw h refl
+
+-- ---- what was read is well formed
+
+formed_first : (o : Operation) (b : Bool) (xs : List Operation) → is_well_formed o ≡ b → (b && are_well_formed xs) ≡ true → (is_well_formed o ≡ true) × (are_well_formed xs ≡ true)
+formed_first o true xs e h = (e, h)
+formed_first o false xs e h = absurd cc
+
+pub formed_more : (o : Operation) (xs : List Operation) → are_well_formed (o ∷ xs) ≡ true → (is_well_formed o ≡ true) × (are_well_formed xs ≡ true)
+formed_more o xs h = formed_first o (is_well_formed o) xs refl h
+
+module _ (n : ℕ) (fewer : (bytes : List ℕ) (os : List Operation) → operations_in n bytes ≡ Some os → are_well_formed os ≡ true) where
+  formed_then : (o : Operation × List ℕ) (b : Bool) (r : Option (List Operation)) (os : List Operation) → is_well_formed o.0 ≡ b → operations_in n o.1 ≡ r
+      → (if b then option_map (λ (xs : List Operation). o.0 ∷ xs) r else None) ≡ Some os → are_well_formed os ≡ true
+  formed_then o false r os t e h = absurd cc
+  formed_then o true None os t e h = absurd cc
+  formed_then o true (Some xs) os t e h =
+      let same : os ≡ o.0 ∷ xs = cc in
+      let more = fewer o.1 xs e in
+      rw (same, t, more) refl
+
+  formed_by : (r : Option (Operation × List ℕ)) (os : List Operation)
+      → option_and_then (λ (o : Operation × List ℕ). if is_well_formed o.0 then option_map (λ (xs : List Operation). o.0 ∷ xs) (operations_in n o.1) else None) r ≡ Some os
+      → are_well_formed os ≡ true
+  formed_by None os h = absurd cc
+  formed_by (Some o) os h = formed_then o (is_well_formed o.0) (operations_in n o.1) os refl refl h
+
+pub formed_of_read : (n : ℕ) (bytes : List ℕ) (os : List Operation) → operations_in n bytes ≡ Some os → are_well_formed os ≡ true
+unfolding operations_in
+formed_of_read zero [] os h = let same : os ≡ [] = cc in rw same refl
+formed_of_read zero (b ∷ bytes) os h = absurd cc
+formed_of_read (suc n) bytes os h = formed_by n (formed_of_read n) (operation_at bytes) os h
+
+formed_some : (n : ℕ) (bytes : List ℕ) (r : Option (List Operation)) → operations_in n bytes ≡ r → is_some r ≡ true → are_well_formed (operations_from n bytes) ≡ true
+formed_some n bytes None e h = absurd cc
+formed_some n bytes (Some os) e h = rw (left_of_read n bytes os e) (formed_of_read n bytes os e)
+
+-- what an iterator over what was read has left is well formed
+pub formed_left : (n : ℕ) (bytes : List ℕ) → is_some (operations_in n bytes) ≡ true → are_well_formed (operations_from n bytes) ≡ true
+formed_left n bytes h = formed_some n bytes (operations_in n bytes) refl h

@@ -6,7 +6,7 @@ use Rattle.scte104_codec.specs.Numbers.{number16_at}
 
 -- the least size of a message: a multiple_operation_message begins with 0xFFFF
 abbrev pub least_size : List ℕ → ℕ
-least_size bytes = if number16_at bytes 0 == 65535 then 12 else 13
+least_size bytes = if number16_at bytes 0 == 0xFFFF then 12 else 13
 
 -- messageSize, where it is no less than the least
 unfoldable pub size_in : List ℕ → Option ℕ

@@ -1,7 +1,6 @@
 -- The grammar: which bytes spell what, apart from how they are read.
 use Rattle.std.specs.Prelude.{◌≡◌, ◌≢◌, ℕ, ◌<◌, ◌≤◌, List, [], length, true, false}
 use Rattle.scte104_codec.specs.declared.head.Head.{Head}
-use Rattle.scte104_codec.specs.declared.operation_ids.TheConstants.{INIT_REQUEST, ALIVE_REQUEST}
 use Rattle.scte104_codec.specs.Operations.{Operation, AreOperations, operations_bytes}
 use Rattle.scte104_codec.specs.Spelling.{SingleOperation, IsSingleOperation, single_operation_message, MultipleOperation, IsMultipleOperation, multiple_operation_message}
 use Rattle.scte104_codec.specs.Reading.{Reading, init, alive, other, multiple, bad, Multiple}
@@ -27,11 +26,11 @@ pub record Holds (read : Multiple) (m : MultipleOperation) : Type 0 where
   pub timed : m.time_type ≢ 0 → read.operations ≡ []
 
 abbrev pub Spells : Reading → List ℕ → Type 0
-Spells (init head) bytes = (m : SingleOperation) × Single bytes head m × (m.op ≡ INIT_REQUEST)
-Spells (alive head body) bytes = (m : SingleOperation) × Single bytes head m × (m.op ≡ ALIVE_REQUEST) × (body ≡ m.body) × (length body ≤ 8)
-Spells (other head) bytes = (m : SingleOperation) × Single bytes head m × (m.op ≢ INIT_REQUEST) × (m.op ≢ ALIVE_REQUEST)
+Spells (init head) bytes = (m : SingleOperation) × Single bytes head m × (m.op ≡ 0x0001)
+Spells (alive head body) bytes = (m : SingleOperation) × Single bytes head m × (m.op ≡ 0x0003) × (body ≡ m.body) × (length body ≤ 8)
+Spells (other head) bytes = (m : SingleOperation) × Single bytes head m × (m.op ≢ 0x0001) × (m.op ≢ 0x0003)
 Spells (multiple read) bytes = (m : MultipleOperation) × Several bytes read.head m × Holds read m
 -- an alive_request with too many data
-Spells (bad false head) bytes = (m : SingleOperation) × Single bytes head m × (m.op ≡ ALIVE_REQUEST) × (8 < length m.body)
+Spells (bad false head) bytes = (m : SingleOperation) × Single bytes head m × (m.op ≡ 0x0003) × (8 < length m.body)
 -- no operations without a time are the contents
 Spells (bad true head) bytes = (m : MultipleOperation) × Several bytes head m × (m.time_type ≡ 0) × ((os : List Operation) → AreOperations os → m.contents ≢ operations_bytes os)

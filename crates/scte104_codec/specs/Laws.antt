@@ -2,7 +2,6 @@
 use Rattle.std.specs.Prelude.{◌≡◌, ◌≢◌, ℕ, ◌<◌, ◌^◌, not, ◌==◌, List, ◌++◌, length, Some}
 use Rattle.std.specs.List.{AllByRecursion}
 use Rattle.scte104_codec.specs.declared.framing.Frame.TheVariants.{Whole}
-use Rattle.scte104_codec.specs.declared.operation_ids.TheConstants.{INIT_REQUEST, ALIVE_REQUEST}
 use Rattle.scte104_codec.specs.declared.reply.Reply.{Reply}
 use Rattle.scte104_codec.specs.declared.requests.SpliceRequest.{SpliceRequest}
 use Rattle.scte104_codec.specs.Numbers.{AreBytes}
@@ -25,7 +24,7 @@ pub record IsReadBack (r : Reply) : Type 0 where
   pub whole : frame_of (reply_bytes r) ≡ Whole (length (reply_bytes r))
   pub fields : single_fields_of (reply_bytes r) ≡ reply_message r
   pub only : (m : SingleOperation) → IsSingleOperation m → single_operation_message m ≡ reply_bytes r → m ≡ reply_message r
-  pub response : r.op ≢ INIT_REQUEST → r.op ≢ ALIVE_REQUEST → message_of (reply_bytes r) ≡ other r.head
+  pub response : r.op ≢ 0x0001 → r.op ≢ 0x0003 → message_of (reply_bytes r) ≡ other r.head
 
 abbrev pub RepliesReadBack : Type 0
 RepliesReadBack = (r : Reply) → IsSingleOperation (reply_message r) → IsReadBack r

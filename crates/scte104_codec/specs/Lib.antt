@@ -10,4 +10,6 @@ pub mod Grammar
 pub mod Replies
 pub mod Requests
 pub mod AvailIdsLeft
+pub mod Asked
+pub mod RequestsLeft
 pub mod Laws

@@ -1,10 +1,9 @@
 -- The operations of a multiple_operation_message: of each opID, data_length and the data.
 use Rattle.std.specs.Prelude.{◌≡◌, ℕ, zero, suc, ◌+◌, ◌*◌, ◌<◌, Bool, true, List, [], ◌∷◌, ◌++◌, length, take, drop, slice_index, Option, Some, None, option_map, nat_lt, ◌==◌, if◌then◌else◌}
-use Rattle.std.specs.Option.{option_and_then}
-use Rattle.std.specs.List.{flat_map, AllByRecursion}
+use Rattle.std.specs.Option.{option_and_then, option_map_or}
+use Rattle.std.specs.List.{flat_map, list_all, AllByRecursion}
 use Rattle.std.specs.Borrow.{Bor}
 use Rattle.byteorder.specs.Endian.{big_bytes}
-use Rattle.scte104_codec.specs.declared.operation_ids.TheConstants.{SPLICE_REQUEST, INSERT_AVAIL_DESCRIPTOR}
 use Rattle.scte104_codec.specs.Numbers.{number16_at}
 
 pub record Operation : Type 0 where
@@ -20,11 +19,12 @@ operation_bytes o = (big_bytes 2 o.op ++ big_bytes 2 (length o.body)) ++ o.body
 abbrev pub operations_bytes : List Operation → List ℕ
 operations_bytes os = length os ∷ flat_map operation_bytes os
 
--- the data have the size of their kind: 14 bytes, or a count and as many avail ids of four bytes
+-- the data have the size of their kind: of a splice_request 14 bytes, and of an insert_avail_descriptor a count and as
+-- many avail ids of four bytes
 unfoldable pub is_well_formed : Operation → Bool
 is_well_formed o =
-    if o.op == SPLICE_REQUEST then length o.body == 14
-    else (if o.op == INSERT_AVAIL_DESCRIPTOR then length o.body == 1 + 4 * slice_index o.body 0 else true)
+    if o.op == 0x0101 then length o.body == 14
+    else (if o.op == 0x010A then length o.body == 1 + 4 * slice_index o.body 0 else true)
 
 -- what is spelled, and has the size of its kind
 pub record IsOperation (o : Operation) : Type 0 where
@@ -49,6 +49,15 @@ operations_in zero [] = Some []
 operations_in zero (b ∷ bytes) = None
 operations_in (suc n) bytes =
     option_and_then (λ o. if is_well_formed o.0 then option_map (λ os. o.0 ∷ os) (operations_in n o.1) else None) (operation_at bytes)
+
+-- so many operations, as far as the bytes have them
+unfoldable pub operations_from : ℕ → List ℕ → List Operation
+operations_from zero bytes = []
+operations_from (suc n) bytes = option_map_or (λ o. o.0 ∷ operations_from n o.1) (operation_at bytes) []
+
+-- each of them has the size of its kind
+abbrev pub are_well_formed : List Operation → Bool
+are_well_formed os = list_all is_well_formed os
 
 -- what the code takes from the front
 abbrev pub taken : ℕ × Bor (List ℕ) × Bor (List ℕ) → Operation × List ℕ

@@ -1,14 +1,8 @@
 -- What an iterator over operations has left.
-use Rattle.std.specs.Prelude.{ℕ, zero, suc, List, [], ◌∷◌}
-use Rattle.std.specs.Option.{option_map_or}
+use Rattle.std.specs.Prelude.{ℕ, List}
 use Rattle.std.specs.Borrow.{Bor}
 use Rattle.scte104_codec.specs.declared.operations.Operations.{Operations}
-use Rattle.scte104_codec.specs.Operations.{Operation, operation_at}
-
--- so many operations, as far as the bytes have them
-unfoldable pub operations_from : ℕ → List ℕ → List Operation
-operations_from zero bytes = []
-operations_from (suc n) bytes = option_map_or (λ o. o.0 ∷ operations_from n o.1) (operation_at bytes) []
+use Rattle.scte104_codec.specs.Operations.{Operation, operations_from}
 
 -- the operations that are still to come
 unfoldable pub operations_left : Operations → List Operation

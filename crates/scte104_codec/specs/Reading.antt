@@ -1,7 +1,6 @@
 -- What a whole message is read as, by the places of its fields.
 use Rattle.std.specs.Prelude.{ℕ, List, [], length, drop, Option, Some, None, Bool, true, false, slice_index, nat_le, ◌==◌, if◌then◌else◌}
 use Rattle.scte104_codec.specs.declared.head.Head.{Head}
-use Rattle.scte104_codec.specs.declared.operation_ids.TheConstants.{INIT_REQUEST, ALIVE_REQUEST, MULTIPLE_OPERATION}
 use Rattle.scte104_codec.specs.Numbers.{number16_at}
 use Rattle.scte104_codec.specs.Head.{head_at}
 use Rattle.scte104_codec.specs.Operations.{Operation, operations_in}
@@ -38,8 +37,8 @@ single_fields_of bytes =
 -- a single_operation_message: its head stands at place 9, its data at 13
 unfoldable pub single_operation_of : List ℕ → Reading
 single_operation_of bytes =
-    if number16_at bytes 0 == INIT_REQUEST then init (head_at bytes 9)
-    else (if number16_at bytes 0 == ALIVE_REQUEST
+    if number16_at bytes 0 == 0x0001 then init (head_at bytes 9)
+    else (if number16_at bytes 0 == 0x0003
     then (if nat_le (length (drop 13 bytes)) 8 then alive (head_at bytes 9) (drop 13 bytes) else bad false (head_at bytes 9))
     else other (head_at bytes 9))
 
@@ -52,4 +51,4 @@ unfoldable pub multiple_operation_of : List ℕ → Reading
 multiple_operation_of bytes = multiple_with bytes (if slice_index bytes 10 == 0 then operations_in (slice_index bytes 11) (drop 12 bytes) else Some [])
 
 unfoldable pub message_of : List ℕ → Reading
-message_of bytes = if number16_at bytes 0 == MULTIPLE_OPERATION then multiple_operation_of bytes else single_operation_of bytes
+message_of bytes = if number16_at bytes 0 == 0xFFFF then multiple_operation_of bytes else single_operation_of bytes

@@ -9,6 +9,7 @@ ghost use Rattle.scte104_codec.specs.Views.{reading_of};
 
 use crate::fields::{from, number16};
 use crate::head::{Head, head_of};
+use crate::multi::Multi;
 use crate::operation_ids::{ALIVE_REQUEST, INIT_REQUEST, MULTIPLE_OPERATION};
 use crate::operations::Operations;
 use thiserror::Error;
@@ -24,22 +25,6 @@ pub enum Message<'a> {
     Other(Head),
     /// A `multiple_operation_message`.
     Multi(Multi<'a>),
-}
-
-/// The fields of a `multiple_operation_message`.
-#[derive(Clone, Copy, Debug)]
-pub struct Multi<'a> {
-    /// `AS_index`, `message_number` and `DPI_PID_index`.
-    pub head: Head,
-    /// `protocol_version`.
-    pub version: u8,
-    /// `SCTE35_protocol_version`.
-    pub cue_version: u8,
-    /// `time_type` of `timestamp()`: 0 where the message has no time. A message with another isn't read past this
-    /// field.
-    pub time_kind: u8,
-    /// The operations in order. None where the message has a time.
-    pub operations: Operations<'a>,
 }
 
 /// A message that breaks the syntax: a `multiple_operation_message` without a time whose operations don't fill it

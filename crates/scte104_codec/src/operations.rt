@@ -1,7 +1,7 @@
 //! The operations of a `multiple_operation_message`: of each `opID`, `data_length` and the data.
 
-ghost use Rattle.std.specs.Prelude.{◌≡◌, option_map, is_some};
-ghost use Rattle.scte104_codec.specs.Operations.{taken, operation_at, operations_in, is_well_formed};
+ghost use Rattle.std.specs.Prelude.{◌≡◌, IsTrue, option_map, is_some};
+ghost use Rattle.scte104_codec.specs.Operations.{taken, operation_at, operations_in, operations_from, is_well_formed, are_well_formed};
 
 use crate::fields::number16;
 use crate::operation_ids::{INSERT_AVAIL_DESCRIPTOR, SPLICE_REQUEST};
@@ -12,6 +12,7 @@ use crate::operation_ids::{INSERT_AVAIL_DESCRIPTOR, SPLICE_REQUEST};
 pub struct Operations<'a> {
     count: u8,
     bytes: &'a [u8],
+    pub ghost well_formed: { IsTrue (are_well_formed (operations_from count bytes.now)) },
 }
 
 #[tactic(auto, unfolding(crate::specs::Operations::operation_at))]
@@ -62,7 +63,7 @@ impl<'a> Operations<'a> {
     ghost use Rattle.std.specs.Prelude.{[]};
     ghost use Rattle.scte104_codec.specs.OperationsLeft.{operations_left};
 
-    #[tactic(auto, unfolding(crate::specs::OperationsLeft::operations_left, crate::specs::OperationsLeft::operations_from))]
+    #[tactic(auto, unfolding(crate::specs::OperationsLeft::operations_left, crate::specs::Operations::operations_from))]
     pub(crate) fn none(bytes: &'a [u8]) -> Operations<'a>
         ensures { operations_left result ≡ [] }
     {

@@ -1,6 +1,6 @@
 //! The data of the operations that ask for a break.
 
-ghost use Rattle.std.specs.Prelude.{◌≡◌, option_map};
+ghost use Rattle.std.specs.Prelude.{◌≡◌, ◌+◌, ◌*◌, Some, length, slice_index};
 ghost use Rattle.scte104_codec.specs.Requests.{splice_request_of, avail_ids_of};
 
 use crate::fields::{from, number16, number32};
@@ -27,16 +27,13 @@ pub struct SpliceRequest {
 }
 
 impl SpliceRequest {
+    /// Reads the data of a `splice_request`, 14 bytes.
     #[tactic(auto, unfolding(crate::specs::Requests::splice_request_of))]
-    /// Reads the data of an operation with the `opID` `SPLICE_REQUEST`. `None` where they aren't 14 bytes, which
-    /// `read` lets no message through with.
-    pub fn read(bytes: &[u8]) -> Option<SpliceRequest>
-        ensures { result ≡ splice_request_of bytes.now }
+    pub(crate) fn of_data(bytes: &[u8]) -> SpliceRequest
+        requires { length bytes.now ≡ 14 }
+        ensures { splice_request_of bytes.now ≡ Some result }
     {
-        if bytes.len() != 14 {
-            return None;
-        }
-        Some(SpliceRequest {
+        SpliceRequest {
             splice_insert_type: bytes[0],
             splice_event_id: number32(bytes, 1),
             unique_program_id: number16(bytes, 5),
@@ -45,7 +42,7 @@ impl SpliceRequest {
             avail_num: bytes[11],
             avails_expected: bytes[12],
             auto_return: bytes[13] != 0,
-        })
+        }
     }
 }
 
@@ -59,19 +56,16 @@ pub struct AvailIds<'a> {
 impl<'a> AvailIds<'a> {
     ghost use Rattle.scte104_codec.specs.AvailIdsLeft.{avail_ids_left};
 
+    /// Reads the data of an `insert_avail_descriptor`: a count and as many ids of four bytes.
     #[tactic(auto, unfolding(crate::specs::Requests::avail_ids_of, crate::specs::AvailIdsLeft::avail_ids_left))]
-    /// Reads the data of an operation with the `opID` `INSERT_AVAIL_DESCRIPTOR`: a count and as many ids of four
-    /// bytes. `None` where they have another size, which `read` lets no message through with.
-    pub fn read(bytes: &'a [u8]) -> Option<AvailIds<'a>>
-        ensures { option_map avail_ids_left result ≡ avail_ids_of bytes.now }
+    pub(crate) fn of_data(bytes: &'a [u8]) -> AvailIds<'a>
+        requires { length bytes.now ≡ 1 + 4 * slice_index bytes.now 0 }
+        ensures { avail_ids_of bytes.now ≡ Some (avail_ids_left result) }
     {
-        if bytes.is_empty() || bytes.len() != 1 + 4 * bytes[0] as usize {
-            return None;
-        }
-        Some(AvailIds {
+        AvailIds {
             count: bytes[0],
             bytes: from(bytes, 1),
-        })
+        }
     }
 }
 

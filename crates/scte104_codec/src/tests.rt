@@ -220,22 +220,46 @@ const REQUEST: [u8; 30] = [
     0x2C, 0, 0, 1,
 ];
 
+fn multiple(bytes: &[u8]) -> Option<Multi<'_>> {
+    match frame(bytes) {
+        Frame::Whole(size) if size == bytes.len() => match read(bytes) {
+            Ok(Message::Multi(multi)) => Some(multi),
+            _ => None,
+        },
+        _ => None,
+    }
+}
+
 #[test]
 fn reads_requests(rt: HostRuntime) -> Result<(), Fail> {
-    let request = SpliceRequest::read(&REQUEST[16..]).ok_or("14 bytes are a request")?;
+    let multi = multiple(&REQUEST).ok_or("a message with one request")?;
+    assert!(rt; multi.is_known());
+    let mut requests = multi.splice_requests();
+    let request = requests.next().ok_or("one request")?;
     assert_eq!(rt; request.splice_insert_type, 1);
     assert_eq!(rt; request.splice_event_id, 1);
     assert_eq!(rt; request.unique_program_id, 7);
     assert_eq!(rt; request.pre_roll_time, 4000);
     assert_eq!(rt; request.break_duration, 300);
     assert!(rt; request.auto_return);
-    assert!(rt; SpliceRequest::read(&REQUEST[17..]).is_none());
-    let mut ids = AvailIds::read(&[2, 0, 0, 1, 0x35, 0xFF, 0, 0, 1]).ok_or("two ids")?;
-    assert_eq!(rt; ids.next(), Some(0x135));
-    assert_eq!(rt; ids.next(), Some(0xFF00_0001));
-    assert_eq!(rt; ids.next(), None);
-    assert!(rt; AvailIds::read(&[2, 0, 0, 1, 0x35]).is_none());
-    assert!(rt; AvailIds::read(&[]).is_none());
+    assert!(rt; requests.next().is_none());
+    Ok(())
+}
+
+/// Two `insert_avail_descriptor`s with three ids, and between them a `splice_null_request`.
+const AVAILS: [u8; 38] = [
+    0xFF, 0xFF, 0, 0x26, 0, 0, 5, 0, 1, 0, 0, 3, 1, 0x0A, 0, 9, 2, 0, 0, 1, 0x35, 0xFF, 0, 0, 1, 1,
+    2, 0, 0, 1, 0x0A, 0, 5, 1, 0, 0, 0, 9,
+];
+
+#[test]
+fn reads_avail_ids(rt: HostRuntime) -> Result<(), Fail> {
+    let multi = multiple(&AVAILS).ok_or("a message with avail ids")?;
+    assert!(rt; !multi.is_known());
+    assert!(rt; multi.splice_requests().next().is_none());
+    let ids = multi.avail_ids::<3>().ok_or("three ids")?;
+    assert_eq!(rt; ids.as_slice(), [0x135, 0xFF00_0001, 9].as_slice());
+    assert!(rt; multi.avail_ids::<2>().is_none());
     Ok(())
 }
 
