@@ -4,36 +4,23 @@ use Rattle.std.proofs.Common.{◌≡◌, ℕ, ◌+◌, ◌*◌, ◌%◌, List, [
 use Rattle.std.proofs.lemmas.List.Sums.{sum_by-cons}
 use Rattle.std.specs.Prelude.{cond}
 use Rattle.pes_time.specs.Line.{lift}
-use Rattle.pes_time.specs.Stamps.{stamp_of, is_split}
-use Rattle.ts_packet.specs.Fields.{in_error, on, number, payload_on, payload, scrambled, unit_start, bytes, renumbered, with_number}
+use Rattle.ts_packet.specs.Fields.{on, number, payload_on, payload, scrambled, renumbered, with_number}
 use Rattle.ts_packet.specs.Duplicates.{original, repeats}
 use Rattle.ts_packet.specs.Numbering.{Step, Kept, Dropped, moved, number_out, is_inserted, is_dropped}
 use Rattle.ts_packet.proofs.Cases.{by_test}
 use Rattle.ts_packet.proofs.FieldLemmas.{payload_on-on}
 use Rattle.unit_stream.specs.Times.{begins, begins_one, high, raised, timed, unit_time, first_time, first_after, stamp, splits}
 use Rattle.unit_stream.specs.Faults.{unit_fault, start_fault, scrambled_one}
-use Rattle.unit_stream.specs.declared.fault.UnitFault.TheVariants.{Scrambled}
+use Rattle.unit_stream.proofs.ClockLemmas.{fault_none, fault_begun}
 use Rattle.unit_cut.specs.Cutting.{is_cut, gone, kept_as}
 use Rattle.unit_cut.specs.Standing.{Cut, goes_by, TimingFor, Begins, BeginsWith, steps, Answers}
 use Rattle.unit_cut.specs.declared.timing.Timing.{Timing}
 
 -- ---- fields
 
-pub off : (pid : ℕ) (p : List ℕ) → on pid p ≡ false → payload_on pid p ≡ false
-unfolding payload_on
-off pid p h = rw h refl
-
 pub has_payload : (pid : ℕ) (p : List ℕ) → payload_on pid p ≡ true → is_some (payload p) ≡ true
 unfolding payload_on
 has_payload pid p h = by_test (on pid p) (λ o. simp o at h) (λ o. let e = simp o at h in cc)
-
-pub stamp_is : (p bs : List ℕ) → bs ≡ bytes p → stamp_of bs ≡ stamp p
-unfolding stamp
-stamp_is p bs h = ap stamp_of h
-
-pub splits_is : (p bs : List ℕ) → bs ≡ bytes p → is_split bs ≡ splits p
-unfolding splits
-splits_is p bs h = ap is_split h
 
 pub renumbered_is : (n m : ℕ) (p : List ℕ) → n ≡ m → with_number ((number p + n) % 16) p ≡ renumbered m p
 unfolding renumbered
@@ -83,10 +70,6 @@ module _ (goes : Option ℤ → Bool) (sw : List ℕ) (pid : ℕ) where
 
 -- ---- faults
 
-pub error_off : (pid : ℕ) (p : List ℕ) → in_error p ≡ true → payload_on pid p ≡ false
-unfolding payload_on on
-error_off pid p h = rw h refl
-
 or_false : (b : Bool) → b || false ≡ b
 or_false true = refl
 or_false false = refl
@@ -98,28 +81,12 @@ scrambled_is pid p b o h = or_false _ ∙ simp o h
 pub scrambled_off : (pid : ℕ) (p : List ℕ) → payload_on pid p ≡ false → scrambled_one (pid ∷ []) p ≡ false
 scrambled_off pid p y = simp y
 
-pub begins_off : (pid : ℕ) (p : List ℕ) (past : List (List ℕ)) → payload_on pid p ≡ false → begins pid p past ≡ false
-begins_off pid p past y = simp y
-
-pub begins_not : (pid : ℕ) (p : List ℕ) (past : List (List ℕ)) → unit_start p ≡ false → begins pid p past ≡ false
-begins_not pid p past s = by_test (original pid p past) (λ o. simp (o, s)) (λ o. simp o)
-
-pub begins_repeat : (pid : ℕ) (p : List ℕ) (past : List (List ℕ)) → repeats pid p past ≡ true → begins pid p past ≡ false
-begins_repeat pid p past r = by_test (payload_on pid p) (λ y. simp (y, r)) (λ y. simp y)
-
-pub fault_scrambled : (pid : ℕ) (p : List ℕ) (past : List (List ℕ)) → scrambled_one (pid ∷ []) p ≡ true → unit_fault (pid ∷ []) p past ≡ Some Scrambled
-fault_scrambled pid p past h = ap (λ b. if b then Some Scrambled else (if begins_one (pid ∷ []) p past then start_fault (high (pid ∷ []) past) (splits p) (stamp p) else None)) h
-
-pub fault_none : (pid : ℕ) (p : List ℕ) (past : List (List ℕ)) → scrambled_one (pid ∷ []) p ≡ false → begins pid p past ≡ false → unit_fault (pid ∷ []) p past ≡ None
-fault_none pid p past h b =
-    ap (λ v. if v then Some Scrambled else (if begins_one (pid ∷ []) p past then start_fault (high (pid ∷ []) past) (splits p) (stamp p) else None)) h
-    ∙ ap (λ v. if v then start_fault (high (pid ∷ []) past) (splits p) (stamp p) else None) (or_false (begins pid p past) ∙ b)
+pub fault_still : (pid : ℕ) (p : List ℕ) (past : List (List ℕ)) → scrambled_one (pid ∷ []) p ≡ false → begins pid p past ≡ false → unit_fault (pid ∷ []) p past ≡ None
+fault_still pid p past h b = fault_none (pid ∷ []) p past h (or_false (begins pid p past) ∙ b)
 
 pub fault_start : (pid : ℕ) (p : List ℕ) (past : List (List ℕ)) → scrambled_one (pid ∷ []) p ≡ false → begins pid p past ≡ true
     → unit_fault (pid ∷ []) p past ≡ start_fault (high (pid ∷ []) past) (splits p) (stamp p)
-fault_start pid p past h b =
-    ap (λ v. if v then Some Scrambled else (if begins_one (pid ∷ []) p past then start_fault (high (pid ∷ []) past) (splits p) (stamp p) else None)) h
-    ∙ ap (λ v. if v then start_fault (high (pid ∷ []) past) (splits p) (stamp p) else None) (or_false (begins pid p past) ∙ b)
+fault_start pid p past h b = fault_begun (pid ∷ []) p past h (or_false (begins pid p past) ∙ b)
 
 -- ---- the clock and the running unit
 

@@ -6,8 +6,7 @@ pub mod CutOthers
 pub mod CutRows
 pub mod CutCarries
 pub mod GaplessNeeded
-pub mod ClockLemmas
-pub mod TimingLemmas
+pub mod DistanceLemmas
 pub mod CutterLemmas
 pub mod PassLemmas
 pub mod GrowLemmas

@@ -1,33 +1,29 @@
 -- What a cutter stands for after the packets that it has seen.
 use Rattle.std.specs.Prelude.{◌≡◌, ℕ, ◌^◌, ◌⊎◌, List, [], ◌∷◌, Bool, true, false, if◌then◌else◌, Option, Some, None, Result, Ok, Err, ℤ, pos, ◌+ℤ◌, ◌-ℤ◌, ◌≤ℤ◌, IfSome}
-use Rattle.pes_time.specs.Line.{ring_of, lift}
+use Rattle.pes_time.specs.Line.{lift}
 use Rattle.ts_packet.specs.Fields.{on}
 use Rattle.ts_packet.specs.Duplicates.{original}
 use Rattle.ts_packet.specs.Numbering.{Step, Kept, Dropped, Counts}
 use Rattle.unit_stream.specs.Times.{high, unit_time, first_time}
+use Rattle.unit_stream.specs.Clocks.{ClockAt}
 use Rattle.unit_stream.specs.Faults.{unit_fault}
 use Rattle.unit_stream.specs.Pieces.{FollowsUnits}
 use Rattle.unit_stream.specs.declared.fault.UnitFault.{UnitFault}
 use Rattle.unit_cut.specs.Cutting.{inside, is_cut, kept_as}
-use Rattle.unit_cut.specs.declared.clock.Clock.{Clock}
+use Rattle.unit_cut.specs.declared.distance.Distance.{Distance}
 use Rattle.unit_cut.specs.declared.timing.Timing.{Timing}
 use Rattle.unit_cut.specs.declared.cutter.Cutter.{Cutter}
 use Rattle.unit_cut.specs.declared.slots.Slots.{Slots}
 
--- how far h is past `begin`; 2^40 stands for all that is farther
-abbrev pub IsAhead : ℤ → ℤ → ℤ → Type 0
-IsAhead a begin h = (a ≡ h -ℤ begin) ⊎ ((a ≡ pos (2 ^ 40)) × ((begin +ℤ pos (2 ^ 40)) ≤ℤ h))
+-- the greatest time is so far past the begin; 2^40 stands for all that is farther
+abbrev pub IsDistance : ℤ → ℤ → ℤ → Type 0
+IsDistance ticks begin high = (ticks ≡ high -ℤ begin) ⊎ ((ticks ≡ pos (2 ^ 40)) × ((begin +ℤ pos (2 ^ 40)) ≤ℤ high))
 
--- the clock stands at the line time h, for a cut that begins at `begin`
-pub record ClockAt (clock : Clock) (begin h : ℤ) : Type 0 where
-  pub ring : clock.high ≡ ring_of h
-  pub way : IsAhead clock.ahead begin h
-
-abbrev pub ClockFor : Option Clock → ℤ → Option ℤ → Type 0
-ClockFor None begin None = Unit {0}
-ClockFor (Some c) begin (Some h) = ClockAt c begin h
-ClockFor None begin (Some h) = ⊥
-ClockFor (Some c) begin None = ⊥
+abbrev pub DistanceFor : Option Distance → ℤ → Option ℤ → Type 0
+DistanceFor None begin None = Unit {0}
+DistanceFor (Some d) begin (Some high) = IsDistance d.ticks begin high
+DistanceFor None begin (Some high) = ⊥
+DistanceFor (Some d) begin None = ⊥
 
 -- a cut: its PID, its begin on the ring and on the line, its length
 pub record Cut : Type 0 where
@@ -44,7 +40,8 @@ goes_by k = inside k.begin k.length
 pub record TimingFor (timing : Timing) (k : Cut) (greatest time : Option ℤ) : Type 0 where
   pub from : timing.from ≡ k.from
   pub length : timing.length ≡ k.length
-  pub clock : ClockFor timing.clock k.begin greatest
+  pub clock : ClockAt timing.clock greatest
+  pub distance : DistanceFor timing.distance k.begin greatest
   pub going : timing.is_going ≡ goes_by k time
 
 -- the first stamp is what places the begin on the line

@@ -2,8 +2,8 @@
 //! It stands on the units of `unit_stream`. The crate above uses that `Cutter::feed` answers by the definition of the cut.
 #![tactic(auto)]
 
-mod clock;
 mod cutter;
+mod distance;
 pub mod laws;
 mod run;
 mod slots;

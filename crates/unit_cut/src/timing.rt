@@ -1,25 +1,27 @@
 //! Whether the running unit goes.
 
-ghost use Rattle.std.specs.Prelude.{◌≡◌, ℕ, ℤ, Option, Some, None, Result, Ok, Err, OnOk, IfErr};
+ghost use Rattle.std.specs.Prelude.{◌≡◌, ℕ, ℤ, Option, Some, None, OnOk, IfErr};
 ghost use Rattle.pes_time.specs.Stamps.{stamp_of, is_split};
-ghost use Rattle.unit_stream.specs.Faults.{start_fault, jumps};
+ghost use Rattle.unit_stream.specs.Faults.{start_fault};
 
-use crate::clock::Clock;
-use pes_time::{PesHead, Time33};
-use unit_stream::UnitFault;
+use crate::distance::Distance;
+use pes_time::Time33;
+use unit_stream::{Clock, UnitFault};
 
 /// The cut, and where the run stands to it.
 #[derive(Clone, Copy, Debug, PartialEq, Eq)]
 pub struct Timing {
     from: Time33,
     length: u32,
-    clock: Option<Clock>,
+    clock: Clock,
+    distance: Option<Distance>,
     is_going: bool,
 }
 
 impl Timing {
-    ghost use Rattle.std.specs.Prelude.{false, true, if◌then◌else◌};
-    ghost use Rattle.unit_cut.specs.Standing.{TimingFor, BeginsWith, ClockAt, high_or, Cut, goes_by};
+    ghost use Rattle.std.specs.Prelude.{◌<◌, ◌^◌, ◌+ℤ◌, negsuc, pos, ◌≤ℤ◌};
+    ghost use Rattle.unit_cut.specs.Standing.{TimingFor, DistanceFor, IsDistance, BeginsWith, Cut, goes_by, high_or};
+    ghost use Rattle.unit_stream.specs.Clocks.{way_from};
     ghost use Rattle.pes_time.specs.Line.{place, raise};
     ghost use Rattle.unit_stream.specs.Times.{timed, raised};
 
@@ -30,7 +32,8 @@ impl Timing {
         Timing {
             from,
             length,
-            clock: None,
+            clock: Clock::new(),
+            distance: None,
             is_going: false,
         }
     }
@@ -42,54 +45,53 @@ impl Timing {
         self.is_going
     }
 
-    /// The clock before a stamp; the first stamp starts it.
-    fn clock_at(&self, pts: Time33) -> Clock
-        ensures { (k : Cut) (high time : Option ℤ) → BeginsWith k high (Some pts) → TimingFor self.now k high time → ClockAt result k.begin (high_or high pts) }
-    {
-        match self.clock {
-            Some(clock) => clock,
-            None => Clock::start(pts, self.from),
-        }
-    }
-
-    /// Passes the begin of a timed unit.
-    ///
-    /// # Errors
-    ///
-    /// `TimeJump` where its time lies too far from the greatest so far; then nothing has changed.
-    #[tactic(auto, using(crate::proofs::TimingLemmas::place_is, crate::proofs::TimingLemmas::raise_is, crate::proofs::TimingLemmas::jumps_is))]
-    fn pass(&mut self, pts: Time33) -> Result<(), UnitFault>
-        ensures ok { (k : Cut) (high time : Option ℤ) → BeginsWith k high (Some pts) → TimingFor self.old k high time
-            → OnOk result ((jumps high (Some pts) ≡ false) × TimingFor self.new k (raise high (place high pts)) (Some (place high pts))) }
-        ensures err { (k : Cut) (high time : Option ℤ) → BeginsWith k high (Some pts) → TimingFor self.old k high time
-            → IfErr result (λ f. (f ≡ UnitFault.TimeJump) × (jumps high (Some pts) ≡ true)) }
-    {
-        let mut clock = self.clock_at(pts);
-        if clock.jumps(pts) {
-            return Err(UnitFault::TimeJump);
-        }
-        self.is_going = clock.pass(pts, self.length);
-        self.clock = Some(clock);
-        Ok(())
-    }
-
     /// Passes the payload of a packet that begins a unit. A unit without a PTS goes or stays as the one before it in its stream.
     ///
     /// # Errors
     ///
-    /// `HeaderSplit`, then `TimeJump`.
+    /// `HeaderSplit`, then `TimeJump`. Then nothing has changed.
     pub fn begin(&mut self, payload: &[u8]) -> Result<(), UnitFault>
         ensures ok { (k : Cut) (high before : Option ℤ) → BeginsWith k high (stamp_of payload.now) → TimingFor self.old k high before
-            → OnOk result ((start_fault high (is_split payload.now) (stamp_of payload.now) ≡ None) × TimingFor self.new k (raised high (stamp_of payload.now)) (timed high (stamp_of payload.now) before)) }
-        ensures err { (k : Cut) (high before : Option ℤ) → BeginsWith k high (stamp_of payload.now) → TimingFor self.old k high before
-            → IfErr result (λ f. start_fault high (is_split payload.now) (stamp_of payload.now) ≡ Some f) }
+            → OnOk result (TimingFor self.new k (raised high (stamp_of payload.now)) (timed high (stamp_of payload.now) before)) }
+        ensures sound { (k : Cut) (high before : Option ℤ) → TimingFor self.old k high before → OnOk result (start_fault high (is_split payload.now) (stamp_of payload.now) ≡ None) }
+        ensures err { (k : Cut) (high before : Option ℤ) → TimingFor self.old k high before → IfErr result (λ f. start_fault high (is_split payload.now) (stamp_of payload.now) ≡ Some f) }
+        ensures unchanged { IfErr result (λ _. self.new ≡ self.old) }
     {
-        match PesHead::read(payload) {
-            Err(_) => Err(UnitFault::HeaderSplit),
-            Ok(head) => match head.pts() {
-                None => Ok(()),
-                Some(pts) => self.pass(pts),
-            },
+        match self.clock.begin(payload) {
+            Ok(Some(begun)) => {
+                self.pass(begun.pts, begun.way);
+                Ok(())
+            }
+            Ok(None) => Ok(()),
+            Err(fault) => Err(fault),
         }
+    }
+
+    /// The distance before a stamp; the first stamp starts it.
+    fn distance_at(&self, pts: Time33) -> Distance
+        ensures { (k : Cut) (high : Option ℤ) → BeginsWith k high (Some pts) → k.from ≡ self.now.from → DistanceFor self.now.distance k.begin high
+            → IsDistance result.ticks k.begin (high_or high pts) }
+    {
+        match self.distance {
+            Some(distance) => distance,
+            None => Distance::start(pts, self.from),
+        }
+    }
+
+    /// Passes a unit with this PTS, whose time lies so far past the greatest before it, or before that one.
+    fn pass(&mut self, pts: Time33, way: i64)
+        requires low { negsuc 899999 ≤ℤ way }
+        requires top { way ≤ℤ pos 900000 }
+        ensures from { self.new.from ≡ self.old.from }
+        ensures length { self.new.length ≡ self.old.length }
+        ensures clock { self.new.clock ≡ self.old.clock }
+        ensures distance { (k : Cut) (high : Option ℤ) → BeginsWith k high (Some pts) → k.from ≡ self.old.from → DistanceFor self.old.distance k.begin high
+            → way ≡ way_from high pts → DistanceFor self.new.distance k.begin (raise high (place high pts)) }
+        ensures going { (k : Cut) (high : Option ℤ) → BeginsWith k high (Some pts) → k.from ≡ self.old.from → k.length ≡ self.old.length
+            → DistanceFor self.old.distance k.begin high → way ≡ way_from high pts → self.new.is_going ≡ goes_by k (Some (place high pts)) }
+    {
+        let mut distance = self.distance_at(pts);
+        self.is_going = distance.pass(way, self.length);
+        self.distance = Some(distance);
     }
 }

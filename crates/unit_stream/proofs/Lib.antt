@@ -1,3 +1,4 @@
+pub mod ClockLemmas
 pub mod UnitLemmas
 pub mod ReadingLemmas
 pub mod PieceLemmas

@@ -3,3 +3,4 @@ pub mod Faults
 pub mod Units
 pub mod Carrying
 pub mod Pieces
+pub mod Clocks

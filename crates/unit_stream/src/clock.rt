@@ -1,0 +1,102 @@
+//! The greatest time of the units that have begun, on the ring of 33-bit stamps.
+
+ghost use Rattle.std.specs.Prelude.{◌≡◌, ℤ, pos, negsuc, ◌≤ℤ◌, Option, Some, None, true, false, IfOk, OnOk, IfErr};
+ghost use Rattle.pes_time.specs.Stamps.{stamp_of, is_split};
+ghost use Rattle.unit_stream.specs.Faults.{start_fault, jumps, is_far};
+ghost use Rattle.unit_stream.specs.Times.{raised};
+
+use crate::fault::UnitFault;
+use pes_time::{PesHead, Time33};
+
+/// How far a unit may lie from the greatest time so far, before or after it, in ticks of 90 kHz: 10 seconds.
+const MAX_JUMP: i64 = 900_000;
+
+/// The time at which a unit begins, as a [`Clock`] met it.
+#[derive(Clone, Copy, Debug, PartialEq, Eq)]
+pub struct Begun {
+    /// The unit's PTS.
+    pub pts: Time33,
+    /// How many ticks of 90 kHz its time lies past the greatest one before it, -900,000 to 900,000: below 0 it lies before that one.
+    /// 0 where no time was before it.
+    pub way: i64,
+}
+
+/// The greatest time of the units that have begun on any number of PIDs, on the ring. It holds for a run of any length, also where the
+/// ring has wrapped.
+#[derive(Clone, Copy, Debug, PartialEq, Eq)]
+pub struct Clock {
+    high: Option<Time33>,
+}
+
+impl Clock {
+    ghost use Rattle.std.specs.Prelude.{option_map};
+    ghost use Rattle.pes_time.specs.Line.{ring_of};
+    ghost use Rattle.unit_stream.specs.Clocks.{ClockAt, Tells, IsNear};
+
+    /// The clock before any unit.
+    pub fn new() -> Clock
+        ensures { ClockAt result None }
+    {
+        Clock { high: None }
+    }
+
+    /// The greatest time so far, or `None` where no unit with a PTS has begun.
+    pub fn high(&self) -> Option<Time33>
+        ensures { (high : Option ℤ) → ClockAt self.now high → result ≡ option_map ring_of high }
+    {
+        self.high
+    }
+
+    /// Passes the begin of a unit of one of the PIDs: the payload of its first packet. It takes the unit's time for the greatest, where it
+    /// is past that, and answers when it begins: `None` where it has no PTS, so that its time is that of the unit before it in its stream.
+    ///
+    /// # Errors
+    ///
+    /// `HeaderSplit`, then `TimeJump` where the time lies more than 900,000 ticks from the greatest one, before or after it. Then the clock
+    /// is as it was.
+    pub fn begin(&mut self, payload: &[u8]) -> Result<Option<Begun>, UnitFault>
+        ensures ok { (high : Option ℤ) → ClockAt self.old high → OnOk result (ClockAt self.new (raised high (stamp_of payload.now))) }
+        ensures sound { (high : Option ℤ) → ClockAt self.old high → OnOk result (start_fault high (is_split payload.now) (stamp_of payload.now) ≡ None) }
+        ensures tells { (high : Option ℤ) → ClockAt self.old high → IfOk result (λ begun. Tells begun high (stamp_of payload.now)) }
+        ensures near { IfOk result IsNear }
+        ensures err { (high : Option ℤ) → ClockAt self.old high → IfErr result (λ f. start_fault high (is_split payload.now) (stamp_of payload.now) ≡ Some f) }
+        ensures unchanged { IfErr result (λ _. self.new ≡ self.old) }
+    {
+        match PesHead::read(payload) {
+            Err(_) => Err(UnitFault::HeaderSplit),
+            Ok(head) => match head.pts() {
+                None => Ok(None),
+                Some(pts) => self.pass(pts),
+            },
+        }
+    }
+
+    /// Passes the time of a unit.
+    fn pass(&mut self, pts: Time33) -> Result<Option<Begun>, UnitFault>
+        ensures ok { (high : Option ℤ) → ClockAt self.old high → OnOk result (ClockAt self.new (raised high (Some pts))) }
+        ensures sound { (high : Option ℤ) → ClockAt self.old high → OnOk result (jumps high (Some pts) ≡ false) }
+        ensures tells { (high : Option ℤ) → ClockAt self.old high → IfOk result (λ begun. Tells begun high (Some pts)) }
+        ensures near { IfOk result IsNear }
+        ensures err { (high : Option ℤ) → ClockAt self.old high → IfErr result (λ f. (f ≡ UnitFault.TimeJump) × (jumps high (Some pts) ≡ true)) }
+        ensures unchanged { IfErr result (λ _. self.new ≡ self.old) }
+    {
+        let way = match self.high {
+            Some(high) => pts.signed_from(high),
+            None => 0,
+        };
+        if is_far(way) {
+            return Err(UnitFault::TimeJump);
+        }
+        if way > 0 || self.high.is_none() {
+            self.high = Some(pts);
+        }
+        Ok(Some(Begun { pts, way }))
+    }
+}
+
+/// Whether a distance is too far, either way.
+fn is_far(way: i64) -> bool
+    ensures { result ≡ is_far way }
+{
+    way > MAX_JUMP || way < -MAX_JUMP
+}
