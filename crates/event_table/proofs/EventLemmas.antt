@@ -10,7 +10,7 @@ use Rattle.event_table.specs.Rings.{is_before_on_ring}
 use Rattle.event_table.specs.Events.{covers_on_ring, meets_on_ring, repeats_on_ring, ring_end, IsArmable}
 use Rattle.event_table.specs.Standing.{Standing, on_ring, on_line, ending_at, end_of, forgotten_at, covers, meets, repeats, IsApart, IsInReach}
 use Rattle.event_table.specs.Laws.{HaveNoTimeInCommon, IsCompared}
-use Rattle.event_table.specs.Laws.IsCompared.{is_next, is_start, is_end, is_forgetting, is_asked}
+use Rattle.event_table.specs.Laws.IsCompared.{is_unit, is_start, is_end, is_forgetting, is_asked}
 use Rattle.event_table.proofs.TimeLemmas.{InWindow, before-window, ring-plus, same-place, way-within, way-cases}
 
 pub apart-common : (a b : Standing) → IsApart a b → HaveNoTimeInCommon a b
@@ -22,12 +22,12 @@ apart-common a b apart time in_a in_b =
 pub not-lt : (a b : ℤ) → not (int_lt a b) ≡ int_le b a
 not-lt a b = grind (arith, ints)
 
-pub later-than : (high way : ℤ) → pos 0 <ℤ way → int_lt high (high +ℤ way) ≡ true
-later-than high way above = grind (arith, ints)
-
-pub early-by : (start time : ℤ) (b : Bool) → (int_lt (pos 0) (time -ℤ start) && b) ≡ (int_lt start time && true && b)
+pub early-by : (start time : ℤ) (b : Bool) → (int_lt (pos 0) (time -ℤ start) && b) ≡ (int_lt start time && b)
 early-by start time true = grind (arith, ints)
 early-by start time false = grind (arith, ints)
+
+pub ahead-of : (high time : ℤ) → (int_lt high time && int_le time (high +ℤ pos (2 ^ 29))) ≡ true → high <ℤ time
+ahead-of high time is = grind (arith, ints)
 
 lt-true : (a b : ℤ) → int_lt a b ≡ true → a <ℤ b
 lt-true a b is = grind (arith, ints)
@@ -57,8 +57,8 @@ pub meets-less : (start end time other_start other_end : ℤ) → int_lt start t
 meets-less start end time other_start other_end past before apart =
     rw (ending-end start time (lt-true start time past)) (meets-least (int_lt start other_end) end time other_start (lt-true time end before) apart)
 
-pub early-parts : (start high time end : ℤ) → (int_lt start time && int_lt high time && int_lt time end) ≡ true → (start <ℤ time) × (high <ℤ time) × (time <ℤ end)
-early-parts start high time end early = (grind (arith, ints), grind (arith, ints), grind (arith, ints))
+pub early-parts : (start time end : ℤ) → (int_lt start time && int_lt time end) ≡ true → (start <ℤ time) × (time <ℤ end)
+early-parts start time end early = (grind (arith, ints), grind (arith, ints))
 
 pub ending-reach : (high : ℤ) (s : Standing) (time : ℤ) → IsInReach high s → s.start <ℤ time → high <ℤ time → time <ℤ end_of s → IsInReach high (ending_at time s)
 ending-reach high s time reach past ahead before =
@@ -90,7 +90,7 @@ pub All-at : {X : Type 0} (P : X → Type 0) (xs : List X) (x : X) → All P xs 
 All-at P xs x all (k, below, is) = subst P is (all k x below)
 
 pub compared-window : (high : ℤ) (standing : List Standing) (time : ℤ) → All (IsInReach high) standing → IsCompared high standing time → InWindow high time
-compared-window high standing time all (is_next low top) = record { low = omega (arith, ints); top = omega (arith, ints) }
+compared-window high standing time all (is_unit low top) = record { low = omega (arith, ints); top = omega (arith, ints) }
 compared-window high standing time all (is_start s in_list is) = rw is (start-window high s (All-at (IsInReach high) standing s all in_list))
 compared-window high standing time all (is_end s in_list is) = rw is (end-window high s (All-at (IsInReach high) standing s all in_list))
 compared-window high standing time all (is_forgetting s in_list is) = rw is (forgotten-window high s (All-at (IsInReach high) standing s all in_list))

@@ -1,9 +1,10 @@
 -- Lists seen through a map, and their first element that passes a test.
-use Rattle.std.proofs.Common.{◌≡◌, ℕ, ◌+◌, ◌<◌, Bool, true, false, not, cond, suc, List, [], ◌∷◌, length, refl, ap, sym, subst, nat_lt, arith}
+use Rattle.std.proofs.Common.{◌≡◌, ℕ, ◌+◌, ◌<◌, Bool, true, false, not, cond, suc, List, [], ◌∷◌, length, refl, ap, sym, ◌∙◌, subst, nat_lt, arith}
 use Rattle.std.specs.Prelude.{map, filter, find, None, Some, option_map, All, AllPairs, slice_set, slice_index_or}
 use Rattle.std.specs.List.{list_any, position, position_or_len}
 use Rattle.std.proofs.lemmas.List.Elements.{All-head, All-tail, All-cons, All-nil}
 use Rattle.std.proofs.lemmas.Bool.Decides.{nat_tests}
+use Rattle.std.proofs.lemmas.List.{length-map}
 use Rattle.std.proofs.lemmas.List.Kept.{AllPairs-cons}
 use Rattle.event_table.specs.Standing.{with_first}
 
@@ -20,12 +21,38 @@ module _ {X Y : Type 0} (f : X → Y) (P : X → Type 0) (p : Y → Bool) (q : X
   find-map [] all = refl
   find-map (x ∷ xs) all = rw (same x (All-head P x xs all), find-map xs (All-tail P x xs all)) (elim (q x) as (λ b. cond b (Some (f x)) (option_map f (find q xs)) ≡ option_map f (cond b (Some x) (find q xs))) [ true ↦ refl | false ↦ refl ])
 
+  position-or_len-map : (xs : List X) → All P xs → position_or_len p (map f xs) ≡ position_or_len q xs
+  position-or_len-map [] all = refl
+  position-or_len-map (x ∷ xs) all = rw (same x (All-head P x xs all), position-or_len-map xs (All-tail P x xs all)) refl
+
+  pub position-map : (xs : List X) → All P xs → position p (map f xs) ≡ position q xs
+  position-map xs all = rw (position-or_len-map xs all, length-map xs f) refl
+
   -- the first element replaced, under the map
   pub with_first-map : (x' : X) (xs : List X) → All P xs → with_first p (λ _. f x') (map f xs) ≡ map f (with_first q (λ _. x') xs)
   with_first-map x' [] all = refl
   with_first-map x' (x ∷ xs) all =
       rw (same x (All-head P x xs all), with_first-map x' xs (All-tail P x xs all))
       (elim (q x) as (λ b. cond b (f x' ∷ map f xs) (f x ∷ map f (with_first q (λ _. x') xs)) ≡ map f (cond b (x' ∷ xs) (x ∷ with_first q (λ _. x') xs))) [ true ↦ refl | false ↦ refl ])
+
+pub map-map : {X Y Z : Type 0} (f : X → Y) (g : Y → Z) (xs : List X) → map g (map f xs) ≡ map (λ x. g (f x)) xs
+map-map f g [] = refl
+map-map f g (x ∷ xs) = ap (λ zs. g (f x) ∷ zs) (map-map f g xs)
+
+-- elements whose two parts are those of another list are made of that one
+pub map-joined : {X A B S : Type 0} (a : X → A) (b : X → B) (f : S → A) (g : S → B) (make : S → X) → ((x : X) (s : S) → a x ≡ f s → b x ≡ g s → x ≡ make s)
+    → (xs : List X) (ss : List S) → map a xs ≡ map f ss → map b xs ≡ map g ss → xs ≡ map make ss
+map-joined a b f g make made [] [] first second = refl
+map-joined a b f g make made [] (s ∷ ss) first second = absurd (let no : [] ≡ f s ∷ map f ss = first in cc)
+map-joined a b f g make made (x ∷ xs) [] first second = absurd (let no : a x ∷ map a xs ≡ [] = first in cc)
+map-joined a b f g make made (x ∷ xs) (s ∷ ss) first second =
+    let head_a : a x ≡ f s = cc in
+    let tail_a : map a xs ≡ map f ss = cc in
+    let head_b : b x ≡ g s = cc in
+    let tail_b : map b xs ≡ map g ss = cc in
+    let head : x ≡ make s = made x s head_a head_b in
+    let tail : xs ≡ map make ss = map-joined a b f g make made xs ss tail_a tail_b in
+    ap (λ y. y ∷ xs) head ∙ ap (λ ys. make s ∷ ys) tail
 
 module _ {X : Type 0} (p : X → Bool) where
   -- what is found is what is changed

@@ -1,33 +1,52 @@
 -- A table and the list that it stands for: each test of the one is that of the other, and each change keeps the relation.
-use Rattle.std.proofs.Common.{◌≡◌, ℕ, ◌+◌, ◌%◌, ◌^◌, ◌<◌, ◌==◌, Bool, true, false, ◌&&◌, List, [], ◌∷◌, ◌++◌, length, refl, ap, sym, ◌∙◌, subst, arith}
-use Rattle.std.specs.Prelude.{ℤ, ◌-ℤ◌, int_lt, unsigned_abs, map, find, filter, All, slice_set, slice_index_or, Option, None, Some, option_map, Ok, Err}
+use Rattle.std.proofs.Common.{◌≡◌, ◌↔◌, IsTrue, ℕ, ◌+◌, ◌%◌, ◌^◌, ◌<◌, ◌==◌, Bool, true, false, ◌&&◌, List, [], ◌∷◌, ◌++◌, length, refl, ap, sym, ◌∙◌, subst, arith}
+use Rattle.std.specs.Prelude.{ℤ, pos, ◌+ℤ◌, ◌-ℤ◌, ◌<ℤ◌, ◌≤ℤ◌, int_lt, int_le, unsigned_abs, map, find, filter, All, slice_set, slice_index_or, Option, None, Some, option_map, Ok, Err}
 use Rattle.std.specs.List.{list_any, position}
 use Rattle.std.specs.Ordering.{int_eq}
 use Rattle.std.proofs.lemmas.Int.{ints}
 use Rattle.std.proofs.lemmas.Bool.{or_parts}
 use Rattle.std.proofs.lemmas.List.Elements.{All-append, All-cons, All-nil, All-filter, filter_passes}
-use Rattle.std.proofs.lemmas.List.{length-map, map-append}
+use Rattle.std.proofs.lemmas.List.{length-map, map-append, map-set}
+use Rattle.std.proofs.Math.Seq.{map-set_same}
+use Rattle.std.proofs.Math.ListN.{get_or-map}
 use Rattle.std.proofs.lemmas.List.Kept.{AllPairs-filter}
 use Rattle.std.proofs.lemmas.List.Quantifiers.{all_pairs_push}
 use Rattle.pes_time.specs.Line.{signed, ring_of, lift, place as place_of}
 use Rattle.pes_time.proofs.LineLemmas.{signed-near, ring-lift}
 use Rattle.event_table.specs.declared.event.Event.{Event}
+use Rattle.event_table.specs.declared.table.Entry.{Entry}
 use Rattle.event_table.specs.declared.table.Table.{Table}
 use Rattle.event_table.specs.declared.table.Armed.TheVariants.{New, Same}
 use Rattle.event_table.specs.declared.table.ArmRefusal.TheVariants.{InUse, Full, Overlap}
 use Rattle.event_table.specs.declared.table.CancelRefusal.TheVariants.{NoSuchEvent, TooLate}
 use Rattle.event_table.specs.declared.table.ShortenRefusal.TheVariants.{NoSuchEvent as NothingToShorten, BadEnd}
-use Rattle.event_table.specs.Rings.{is_before_on_ring, has_reached_on_ring, CanEnd, CanAdvance, IsAhead}
+use Rattle.event_table.specs.Rings.{is_before_on_ring, has_reached_on_ring, IsAheadOf, CanAdvance, IsAhead}
 use Rattle.event_table.specs.Events.{ring_end, covers_on_ring, meets_on_ring, repeats_on_ring, ends_early_on_ring, cancelled_event, ended_on_ring, CanArm}
-use Rattle.event_table.specs.Standing.{Standing, on_ring, on_line, end_of, forgotten_at, has_id, covers, meets, repeats, is_full, arm_answer, has_begun, cancel_answer, is_early_end, is_past_high, shorten_answer, with_first, cancelled_one, ending_at, with_cancelled, with_end, still_standing, IsTimeAt, IsApart, IsInReach, IsWithin}
-use Rattle.event_table.specs.Tables.{StandsFor}
+use Rattle.event_table.specs.Standing.{Standing, on_ring, on_line, end_of, forgotten_at, has_id, covers, meets, repeats, is_full, arm_answer, has_begun, cancel_answer, is_early_end, is_ahead_of, shorten_answer, with_first, cancelled_one, ending_at, with_cancelled, with_end, still_standing, IsTimeAt, IsApart, IsInReach, IsWithin}
+use Rattle.event_table.specs.Tables.{StandsFor, events_of, values_of}
 use Rattle.event_table.proofs.TimeLemmas.{InWindow, near-window, before-window, ring-plus, same-place}
-use Rattle.event_table.proofs.EventLemmas.{covers-near, repeats-near, meets-near, meets-comm, armable-reach, on_ring-on_line, high-window, not-lt, later-than, early-by, meets-less, early-parts, ending-end, ending-reach, next-window, next-reach, start-window, end-window, forgotten-window, ring_end-on_ring}
-use Rattle.event_table.proofs.ListLemmas.{list_any-map, filter-map, find-map, with_first-map, with_first-found, All-find, All-with_first, AllPairs-with_first, found-at, not_found}
+use Rattle.event_table.proofs.EventLemmas.{covers-near, repeats-near, meets-near, meets-comm, armable-reach, on_ring-on_line, high-window, not-lt, early-by, meets-less, early-parts, ahead-of, ending-end, ending-reach, next-window, next-reach, start-window, end-window, forgotten-window, ring_end-on_ring}
+use Rattle.event_table.proofs.ListLemmas.{list_any-map, position-map, filter-map, find-map, map-joined, map-map, with_first-map, with_first-found, All-find, All-with_first, AllPairs-with_first, found-at, not_found}
 
 any-none : {X : Type 0} (p : X → Bool) (xs : List X) → list_any p xs ≡ false → All (λ x. p x ≡ false) xs
 any-none p [] none = All-nil (λ x. p x ≡ false)
 any-none p (x ∷ xs) none = All-cons (λ y. p y ≡ false) x xs (or_parts (p x) (list_any p xs) none).0 (any-none p xs (or_parts (p x) (list_any p xs) none).1)
+
+-- tests of the entries are those of their events
+any-entry : {T : Type 0} (p : Event → Bool) (t : Table T) → list_any (λ entry. p entry.event) t.entries.items ≡ list_any p (events_of t)
+any-entry p t = sym (list_any-map (λ entry. entry.event) (λ _. Unit {0}) p (λ entry. p entry.event) (λ _ _. refl) t.entries.items (λ k d below. tt))
+
+pub place-entry : {T : Type 0} (p : Event → Bool) (t : Table T) → position (λ entry. p entry.event) t.entries.items ≡ position p (events_of t)
+place-entry p t = sym (position-map (λ entry. entry.event) (λ _. Unit {0}) p (λ entry. p entry.event) (λ _ _. refl) t.entries.items (λ k d below. tt))
+
+pub place-id : {T : Type 0} (t : Table T) (line : Option ℤ) (standing : List Standing) (id : ℕ) → StandsFor t line standing
+    → position (λ entry. entry.event.id == id) t.entries.items ≡ position (has_id id) standing
+place-id t line standing id stands =
+    place-entry (λ e. e.id == id) t ∙ rw stands.events (position-map on_ring (IsWithin line) (λ e. e.id == id) (has_id id) (λ s _. refl) standing stands.within)
+
+pub length-entries : {T : Type 0} (t : Table T) (line : Option ℤ) (standing : List Standing) → StandsFor t line standing → length t.entries.items ≡ length standing
+length-entries t line standing stands =
+    sym (length-map t.entries.items (λ entry. entry.event)) ∙ ap length stands.events ∙ length-map standing on_ring
 
 repeats-within : (line : Option ℤ) (e : Event) → e.start < 2 ^ 33 → (s : Standing) → IsWithin line s → repeats_on_ring e (on_ring s) ≡ repeats (on_line line e) s
 repeats-within None e fits s nothing = absurd nothing
@@ -37,28 +56,28 @@ covers-within : (line : Option ℤ) (p : ℕ) → p < 2 ^ 33 → (s : Standing) 
 covers-within None p fits s nothing = absurd nothing
 covers-within (Some high) p fits s reach = covers-near high p fits s reach
 
-pub any-repeats : (t : Table) (line : Option ℤ) (standing : List Standing) (e : Event) → e.start < 2 ^ 33 → StandsFor t line standing
-    → list_any (λ other. repeats_on_ring e other) t.events.items ≡ list_any (repeats (on_line line e)) standing
-any-repeats t line standing e fits stands = rw stands.events (list_any-map on_ring (IsWithin line) _ _ (repeats-within line e fits) standing stands.within)
+pub any-repeats : {T : Type 0} (t : Table T) (line : Option ℤ) (standing : List Standing) (e : Event) → e.start < 2 ^ 33 → StandsFor t line standing
+    → list_any (λ entry. repeats_on_ring e entry.event) t.entries.items ≡ list_any (repeats (on_line line e)) standing
+any-repeats t line standing e fits stands = any-entry (repeats_on_ring e) t ∙ rw stands.events (list_any-map on_ring (IsWithin line) _ _ (repeats-within line e fits) standing stands.within)
 
-pub find-covers : (t : Table) (line : Option ℤ) (standing : List Standing) (p : ℕ) → p < 2 ^ 33 → StandsFor t line standing
-    → find (λ e. covers_on_ring e p) t.events.items ≡ option_map on_ring (find (covers (place_of line p)) standing)
-find-covers t line standing p fits stands = rw stands.events (find-map on_ring (IsWithin line) _ _ (covers-within line p fits) standing stands.within)
+pub find-covers : {T : Type 0} (t : Table T) (line : Option ℤ) (standing : List Standing) (p : ℕ) → p < 2 ^ 33 → StandsFor t line standing
+    → position (λ entry. covers_on_ring entry.event p) t.entries.items ≡ position (covers (place_of line p)) standing
+find-covers t line standing p fits stands = place-entry (λ e. covers_on_ring e p) t ∙ rw stands.events (position-map on_ring (IsWithin line) _ _ (covers-within line p fits) standing stands.within)
 
-pub any-has_id : (t : Table) (line : Option ℤ) (standing : List Standing) (id : ℕ) → StandsFor t line standing
-    → list_any (λ e. e.id == id) t.events.items ≡ list_any (has_id id) standing
-any-has_id t line standing id stands = rw stands.events (list_any-map on_ring (IsWithin line) (λ e. e.id == id) (has_id id) (λ s _. refl) standing stands.within)
+pub any-has_id : {T : Type 0} (t : Table T) (line : Option ℤ) (standing : List Standing) (id : ℕ) → StandsFor t line standing
+    → list_any (λ entry. entry.event.id == id) t.entries.items ≡ list_any (has_id id) standing
+any-has_id t line standing id stands = any-entry (λ e. e.id == id) t ∙ rw stands.events (list_any-map on_ring (IsWithin line) (λ e. e.id == id) (has_id id) (λ s _. refl) standing stands.within)
 
 meets-within : (high : ℤ) (e : Event) → e.start < 2 ^ 33 → CanArm (Some (ring_of high)) e → (s : Standing) → IsInReach high s
     → meets_on_ring e (on_ring s) ≡ meets (on_line (Some high) e) s
 meets-within high e fits can s reach =
     ap (λ a. meets_on_ring a (on_ring s)) (sym (on_ring-on_line high e fits)) ∙ meets-near high (on_line (Some high) e) s (armable-reach high e fits can) reach
 
-pub any-meets : (t : Table) (line : Option ℤ) (standing : List Standing) (e : Event) → e.start < 2 ^ 33 → CanArm t.last e → StandsFor t line standing
-    → list_any (meets_on_ring e) t.events.items ≡ list_any (meets (on_line line e)) standing
+pub any-meets : {T : Type 0} (t : Table T) (line : Option ℤ) (standing : List Standing) (e : Event) → e.start < 2 ^ 33 → CanArm t.last e → StandsFor t line standing
+    → list_any (λ entry. meets_on_ring e entry.event) t.entries.items ≡ list_any (meets (on_line line e)) standing
 any-meets t None standing e fits can stands = absurd (subst (λ h. CanArm h e) stands.high can)
 any-meets t (Some high) standing e fits can stands =
-    rw stands.events (list_any-map on_ring (IsInReach high) _ _ (meets-within high e fits (subst (λ h. CanArm h e) stands.high can)) standing stands.within)
+    any-entry (meets_on_ring e) t ∙ rw stands.events (list_any-map on_ring (IsInReach high) _ _ (meets-within high e fits (subst (λ h. CanArm h e) stands.high can)) standing stands.within)
 
 pub arm-in_use : (standing : List Standing) (n : Standing) → list_any (repeats n) standing ≡ false → list_any (has_id n.id) standing ≡ true → Err InUse ≡ arm_answer standing n
 arm-in_use standing n r i = rw (r, i) refl
@@ -75,17 +94,49 @@ pub arm-new : (standing : List Standing) (n : Standing) → list_any (repeats n)
     → list_any (meets n) standing ≡ false → Ok New ≡ arm_answer standing n
 arm-new standing n r i f m = rw (r, i, f, m) refl
 
-pub is_full-items : (t : Table) (line : Option ℤ) (standing : List Standing) → StandsFor t line standing → (length t.events.items == 32) ≡ is_full standing
-is_full-items t line standing stands = rw stands.events (ap (λ n. n == 32) (length-map standing on_ring))
+pub is_full-items : {T : Type 0} (t : Table T) (line : Option ℤ) (standing : List Standing) → StandsFor t line standing → (length t.entries.items == 32) ≡ is_full standing
+is_full-items t line standing stands = ap (λ n. n == 32) (length-entries t line standing stands)
+
+-- one entry more
+pub pushed-events : {T : Type 0} (entries entries' : List (Entry T)) (entry : Entry T) → entries' ≡ entries ++ entry ∷ []
+    → map (λ x. x.event) entries' ≡ map (λ x. x.event) entries ++ entry.event ∷ []
+pushed-events entries entries' entry items = ap (map (λ x. x.event)) items ∙ map-append (λ x. x.event) entries (entry ∷ [])
+
+pub pushed-values : {T : Type 0} (entries entries' : List (Entry T)) (entry : Entry T) → entries' ≡ entries ++ entry ∷ []
+    → map (λ x. x.value) entries' ≡ map (λ x. x.value) entries ++ entry.value ∷ []
+pushed-values entries entries' entry items = ap (map (λ x. x.value)) items ∙ map-append (λ x. x.value) entries (entry ∷ [])
+
+-- one entry put in the place of another
+pub put-events : {T : Type 0} (entries entries' : List (Entry T)) (place : ℕ) (entry : Entry T) → entries' ≡ slice_set entries place entry
+    → map (λ x. x.event) entries' ≡ slice_set (map (λ x. x.event) entries) place entry.event
+put-events entries entries' place entry items = ap (map (λ x. x.event)) items ∙ map-set (λ x. x.event) entries place entry
+
+pub put-values : {T : Type 0} (entries entries' : List (Entry T)) (place : ℕ) (entry : Entry T) → entries' ≡ slice_set entries place entry
+    → map (λ x. x.value) entries' ≡ slice_set (map (λ x. x.value) entries) place entry.value
+put-values entries entries' place entry items = ap (map (λ x. x.value)) items ∙ map-set (λ x. x.value) entries place entry
+
+pub put-same_events : {T : Type 0} (entries entries' : List (Entry T)) (place : ℕ) (old entry : Entry T) → entries' ≡ slice_set entries place entry
+    → old ≡ slice_index_or entries place old → entry.event ≡ old.event → map (λ x. x.event) entries' ≡ map (λ x. x.event) entries
+put-same_events entries entries' place old entry items at same =
+    ap (map (λ x. x.event)) items ∙ map-set_same (λ x. x.event) entries place entry old (same ∙ ap (λ x. x.event) at)
+
+pub put-same_values : {T : Type 0} (entries entries' : List (Entry T)) (place : ℕ) (old entry : Entry T) → entries' ≡ slice_set entries place entry
+    → old ≡ slice_index_or entries place old → entry.value ≡ old.value → map (λ x. x.value) entries' ≡ map (λ x. x.value) entries
+put-same_values entries entries' place old entry items at same =
+    ap (map (λ x. x.value)) items ∙ map-set_same (λ x. x.value) entries place entry old (same ∙ ap (λ x. x.value) at)
+
+-- a table with the events and the high time of another stands for what that one does
+pub same-stands : {T : Type 0} (t t' : Table T) (line : Option ℤ) (standing : List Standing) → t'.last ≡ t.last → events_of t' ≡ events_of t → StandsFor t line standing → StandsFor t' line standing
+same-stands t t' line standing high events stands = record { high = high ∙ stands.high; events = events ∙ stands.events; within = stands.within; apart = stands.apart }
 
 -- with no high time nothing may be armed
-pub arm-line : {X : Type 0} (t : Table) (standing : List Standing) (e : Event) → CanArm t.last e → StandsFor t None standing → X
+pub arm-line : {X T : Type 0} (t : Table T) (standing : List Standing) (e : Event) → CanArm t.last e → StandsFor t None standing → X
 arm-line t standing e can stands = absurd (subst (λ h. CanArm h e) stands.high can)
 
 -- the list with the event added behind all others
-pub arm-stands : (t t' : Table) (line : Option ℤ) (standing : List Standing) (e : Event) → e.start < 2 ^ 33 → CanArm t.last e → StandsFor t line standing
+pub arm-stands : {T : Type 0} (t t' : Table T) (line : Option ℤ) (standing : List Standing) (e : Event) → e.start < 2 ^ 33 → CanArm t.last e → StandsFor t line standing
     → list_any (has_id e.id) standing ≡ false → list_any (meets (on_line line e)) standing ≡ false
-    → t'.last ≡ t.last → t'.events.items ≡ t.events.items ++ e ∷ [] → StandsFor t' line (standing ++ on_line line e ∷ [])
+    → t'.last ≡ t.last → events_of t' ≡ events_of t ++ e ∷ [] → StandsFor t' line (standing ++ on_line line e ∷ [])
 arm-stands t t' None standing e fits can stands new_id apart high items = arm-line t standing e can stands
 arm-stands t t' (Some h) standing e fits can stands new_id apart high items =
     let n : Standing = on_line (Some h) e in
@@ -106,39 +157,46 @@ pub record Found (line : Option ℤ) (standing : List Standing) (id : ℕ) (e : 
   pub ring : on_ring event ≡ e
   pub within : IsWithin line event
 
-find-id : (t : Table) (line : Option ℤ) (standing : List Standing) (id : ℕ) → StandsFor t line standing
-    → find (λ e. e.id == id) t.events.items ≡ option_map on_ring (find (has_id id) standing)
+find-id : {T : Type 0} (t : Table T) (line : Option ℤ) (standing : List Standing) (id : ℕ) → StandsFor t line standing
+    → find (λ e. e.id == id) (events_of t) ≡ option_map on_ring (find (has_id id) standing)
 find-id t line standing id stands = rw stands.events (find-map on_ring (IsWithin line) (λ e. e.id == id) (has_id id) (λ s _. refl) standing stands.within)
 
-pub found : (t : Table) (line : Option ℤ) (standing : List Standing) (id place : ℕ) (e : Event) → StandsFor t line standing
-    → position (λ e. e.id == id) t.events.items ≡ Some place → e ≡ slice_index_or t.events.items place e → Found line standing id e
+pub found : {T : Type 0} (t : Table T) (line : Option ℤ) (standing : List Standing) (id place : ℕ) (e : Event) → StandsFor t line standing
+    → position (λ e. e.id == id) (events_of t) ≡ Some place → e ≡ slice_index_or (events_of t) place e → Found line standing id e
 found t line standing id place e stands is at =
-    from (find (has_id id) standing) refl (sym (find-id t line standing id stands) ∙ (found-at (λ e. e.id == id) e e t.events.items place is at).0)
+    from (find (has_id id) standing) refl (sym (find-id t line standing id stands) ∙ (found-at (λ e. e.id == id) e e (events_of t) place is at).0)
   where
     from : (o : Option Standing) → find (has_id id) standing ≡ o → option_map on_ring o ≡ Some e → Found line standing id e
     from None here is = absurd (let nothing : None ≡ Some e = is in cc)
     from (Some s) here is = record { event = s; is = here; ring = cc; within = All-find (has_id id) (IsWithin line) s standing here stands.within }
 
-pub nothing-found : (t : Table) (line : Option ℤ) (standing : List Standing) (id : ℕ) → StandsFor t line standing
-    → position (λ e. e.id == id) t.events.items ≡ None → find (has_id id) standing ≡ None
+-- the same of the place in the list of entries
+pub event-place : {T : Type 0} (t : Table T) (id : ℕ) {o : Option ℕ} → position (λ entry. entry.event.id == id) t.entries.items ≡ o → position (λ e. e.id == id) (events_of t) ≡ o
+event-place t id is = sym (place-entry (λ e. e.id == id) t) ∙ is
+
+pub event-at : {T : Type 0} (t : Table T) (place : ℕ) (entry : Entry T) → entry ≡ slice_index_or t.entries.items place entry → entry.event ≡ slice_index_or (events_of t) place entry.event
+event-at t place entry at = ap (λ x. x.event) at ∙ sym (get_or-map (λ x. x.event) t.entries.items place entry)
+
+pub nothing-found : {T : Type 0} (t : Table T) (line : Option ℤ) (standing : List Standing) (id : ℕ) → StandsFor t line standing
+    → position (λ e. e.id == id) (events_of t) ≡ None → find (has_id id) standing ≡ None
 nothing-found t line standing id stands is =
-    from (find (has_id id) standing) refl (sym (find-id t line standing id stands) ∙ not_found (λ e. e.id == id) t.events.items is)
+    from (find (has_id id) standing) refl (sym (find-id t line standing id stands) ∙ not_found (λ e. e.id == id) (events_of t) is)
   where
     from : (o : Option Standing) → find (has_id id) standing ≡ o → option_map on_ring o ≡ None → find (has_id id) standing ≡ None
     from None here is = here
     from (Some s) here is = absurd (let nothing : Some (on_ring s) ≡ None = is in cc)
 
 -- the event found, changed on the ring and on the line
-pub changed-stands : (t t' : Table) (line : Option ℤ) (standing : List Standing) (id place : ℕ) (e e' : Event) (change : Standing → Standing) (f : Found line standing id e)
-    → StandsFor t line standing → position (λ e. e.id == id) t.events.items ≡ Some place → e ≡ slice_index_or t.events.items place e
+pub changed-stands : {T : Type 0} (t t' : Table T) (line : Option ℤ) (standing : List Standing) (id place : ℕ) (e e' : Event) (change : Standing → Standing) (f : Found line standing id e)
+    → StandsFor t line standing → position (λ e. e.id == id) (events_of t) ≡ Some place → e ≡ slice_index_or (events_of t) place e
     → on_ring (change f.event) ≡ e' → IsWithin line (change f.event)
     → ((x : Standing) → IsApart f.event x → IsApart (change f.event) x) → ((x : Standing) → IsApart x f.event → IsApart x (change f.event))
-    → t'.last ≡ t.last → t'.events.items ≡ slice_set t.events.items place e' → StandsFor t' line (with_first (has_id id) change standing)
+    → t'.last ≡ t.last → events_of t' ≡ slice_set (events_of t) place e' → StandsFor t' line (with_first (has_id id) change standing)
 changed-stands t t' line standing id place e e' change f stands is at ring within after before high items =
     let one : with_first (has_id id) change standing ≡ with_first (has_id id) (λ _. change f.event) standing = with_first-found (has_id id) change f.event standing f.is in
     rw one (record {
       high = high ∙ stands.high;
-      events = items ∙ (found-at (λ e. e.id == id) e' e t.events.items place is at).1
+      events = items ∙ (found-at (λ e. e.id == id) e' e (events_of t) place is at).1
           ∙ ap (λ xs. with_first (λ e. e.id == id) (λ _. e') xs) stands.events
           ∙ ap (λ y. with_first (λ e. e.id == id) (λ _. y) (map on_ring standing)) (sym ring)
           ∙ with_first-map on_ring (IsWithin line) (λ e. e.id == id) (has_id id) (λ s _. refl) (change f.event) standing stands.within;
@@ -151,7 +209,7 @@ has_begun-within None s nothing = absurd nothing
 has_begun-within (Some h) s reach =
     rw (before-window h h s.start (high-window h) (start-window h s reach)) (not-lt h s.start)
 
-pub reached : (t : Table) (line : Option ℤ) (standing : List Standing) (id : ℕ) (e : Event) (f : Found line standing id e) → StandsFor t line standing
+pub reached : {T : Type 0} (t : Table T) (line : Option ℤ) (standing : List Standing) (id : ℕ) (e : Event) (f : Found line standing id e) → StandsFor t line standing
     → has_reached_on_ring t.last e.start ≡ has_begun line f.event
 reached t line standing id e f stands =
     let start : e.start ≡ ring_of f.event.start = sym (ap (λ x. x.start) f.ring) in
@@ -170,9 +228,9 @@ cancelled-within : (line : Option ℤ) (s : Standing) → IsWithin line s → Is
 cancelled-within None s nothing = nothing
 cancelled-within (Some h) s reach = record { some = reach.some; shortened = reach.shortened; most = reach.most; start = reach.start; stands = reach.stands }
 
-pub cancelled-stands : (t t' : Table) (line : Option ℤ) (standing : List Standing) (id place : ℕ) (e : Event) → StandsFor t line standing
-    → position (λ e. e.id == id) t.events.items ≡ Some place → e ≡ slice_index_or t.events.items place e
-    → t'.last ≡ t.last → t'.events.items ≡ slice_set t.events.items place (cancelled_event e) → StandsFor t' line (with_cancelled id standing)
+pub cancelled-stands : {T : Type 0} (t t' : Table T) (line : Option ℤ) (standing : List Standing) (id place : ℕ) (e : Event) → StandsFor t line standing
+    → position (λ e. e.id == id) (events_of t) ≡ Some place → e ≡ slice_index_or (events_of t) place e
+    → t'.last ≡ t.last → events_of t' ≡ slice_set (events_of t) place (cancelled_event e) → StandsFor t' line (with_cancelled id standing)
 cancelled-stands t t' line standing id place e stands is at high items =
     let f = found t line standing id place e stands is at in
     changed-stands t t' line standing id place e (cancelled_event e) cancelled_one f stands is at
@@ -182,44 +240,74 @@ cancelled-stands t t' line standing id place e stands is at high items =
 pub shorten-nothing : (line : Option ℤ) (standing : List Standing) (id : ℕ) (time : ℤ) → find (has_id id) standing ≡ None → Err NothingToShorten ≡ shorten_answer line standing id time
 shorten-nothing line standing id time is = rw is refl
 
-pub shorten-cancelled : (line : Option ℤ) (standing : List Standing) (id : ℕ) (time : ℤ) (s : Standing) → find (has_id id) standing ≡ Some s → s.cancelled ≡ true
+pub shorten-far : (line : Option ℤ) (standing : List Standing) (id : ℕ) (time : ℤ) (s : Standing) → find (has_id id) standing ≡ Some s → is_ahead_of line time ≡ false
     → Err BadEnd ≡ shorten_answer line standing id time
-shorten-cancelled line standing id time s is cancelled = rw (is, cancelled) refl
+shorten-far line standing id time s is far = rw (is, far) refl
 
-pub shorten-same : (line : Option ℤ) (standing : List Standing) (id : ℕ) (time : ℤ) (s : Standing) → find (has_id id) standing ≡ Some s → s.cancelled ≡ false
-    → int_eq time (end_of s) ≡ true → Ok Same ≡ shorten_answer line standing id time
-shorten-same line standing id time s is cancelled same = rw (is, cancelled, same) refl
+pub shorten-cancelled : (line : Option ℤ) (standing : List Standing) (id : ℕ) (time : ℤ) (s : Standing) → find (has_id id) standing ≡ Some s → is_ahead_of line time ≡ true
+    → s.cancelled ≡ true → Err BadEnd ≡ shorten_answer line standing id time
+shorten-cancelled line standing id time s is ahead cancelled = rw (is, ahead, cancelled) refl
 
-pub shorten-bad : (line : Option ℤ) (standing : List Standing) (id : ℕ) (time : ℤ) (s : Standing) → find (has_id id) standing ≡ Some s → s.cancelled ≡ false
-    → int_eq time (end_of s) ≡ false → is_early_end line s time ≡ false → Err BadEnd ≡ shorten_answer line standing id time
-shorten-bad line standing id time s is cancelled same early = rw (is, cancelled, same, early) refl
+pub shorten-same : (line : Option ℤ) (standing : List Standing) (id : ℕ) (time : ℤ) (s : Standing) → find (has_id id) standing ≡ Some s → is_ahead_of line time ≡ true
+    → s.cancelled ≡ false → int_eq time (end_of s) ≡ true → Ok Same ≡ shorten_answer line standing id time
+shorten-same line standing id time s is ahead cancelled same = rw (is, ahead, cancelled, same) refl
 
-pub shorten-new : (line : Option ℤ) (standing : List Standing) (id : ℕ) (time : ℤ) (s : Standing) → find (has_id id) standing ≡ Some s → s.cancelled ≡ false
-    → int_eq time (end_of s) ≡ false → is_early_end line s time ≡ true → Ok New ≡ shorten_answer line standing id time
-shorten-new line standing id time s is cancelled same early = rw (is, cancelled, same, early) refl
+pub shorten-bad : (line : Option ℤ) (standing : List Standing) (id : ℕ) (time : ℤ) (s : Standing) → find (has_id id) standing ≡ Some s → is_ahead_of line time ≡ true
+    → s.cancelled ≡ false → int_eq time (end_of s) ≡ false → is_early_end s time ≡ false → Err BadEnd ≡ shorten_answer line standing id time
+shorten-bad line standing id time s is ahead cancelled same early = rw (is, ahead, cancelled, same, early) refl
+
+pub shorten-new : (line : Option ℤ) (standing : List Standing) (id : ℕ) (time : ℤ) (s : Standing) → find (has_id id) standing ≡ Some s → is_ahead_of line time ≡ true
+    → s.cancelled ≡ false → int_eq time (end_of s) ≡ false → is_early_end s time ≡ true → Ok New ≡ shorten_answer line standing id time
+shorten-new line standing id time s is ahead cancelled same early = rw (is, ahead, cancelled, same, early) refl
+
+-- whether a time lies ahead of the high time, on the ring and on the line
+is_ahead-is : (h w : ℤ) → pos 0 <ℤ w → w ≤ℤ pos (2 ^ 29) → (int_lt h (h +ℤ w) && int_le (h +ℤ w) (h +ℤ pos (2 ^ 29))) ≡ true
+is_ahead-is h w above below = grind (arith, ints)
+
+is_ahead-from : (h w : ℤ) → (int_lt h (h +ℤ w) && int_le (h +ℤ w) (h +ℤ pos (2 ^ 29))) ≡ true → (pos 0 <ℤ w) × (w ≤ℤ pos (2 ^ 29))
+is_ahead-from h w is = (grind (arith, ints), grind (arith, ints))
+
+pub is_ahead-line : (line : Option ℤ) (p : ℕ) → IsAheadOf (option_map ring_of line) p → is_ahead_of line (place_of line p) ≡ true
+is_ahead-line None p nothing = absurd nothing
+is_ahead-line (Some h) p ahead = is_ahead-is h (signed p (ring_of h)) ahead.above ahead.below
+
+pub is_ahead-line_from : (line : Option ℤ) (p : ℕ) → is_ahead_of line (place_of line p) ≡ true → IsAheadOf (option_map ring_of line) p
+is_ahead-line_from None p is = absurd (let no : false ≡ true = is in cc)
+is_ahead-line_from (Some h) p is = let parts = is_ahead-from h (signed p (ring_of h)) is in record { above = parts.0; below = parts.1 }
+
+is_ahead-told : (line : Option ℤ) (p : ℕ) (b : Bool) → (IsTrue b ↔ IsAheadOf (option_map ring_of line) p) → is_ahead_of line (place_of line p) ≡ b
+is_ahead-told line p true tells = is_ahead-line line p (tells.0 refl)
+is_ahead-told line p false tells = told (is_ahead_of line (place_of line p)) refl
+  where
+    told : (b : Bool) → is_ahead_of line (place_of line p) ≡ b → b ≡ false
+    told true is = let no : false ≡ true = tells.1 (is_ahead-line_from line p is) in cc
+    told false is = refl
+
+pub ahead-told : {T : Type 0} (t : Table T) (line : Option ℤ) (standing : List Standing) (p : ℕ) (b : Bool) → (IsTrue b ↔ IsAheadOf t.last p) → StandsFor t line standing
+    → is_ahead_of line (place_of line p) ≡ b
+ahead-told t line standing p b tells stands = is_ahead-told line p b (subst (λ h. IsTrue b ↔ IsAheadOf h p) stands.high tells)
 
 -- the end that is asked for lies ahead of the high time
 ahead-window : (high : ℤ) (p : ℕ) → IsAhead (ring_of high) p → InWindow high (lift high p)
 ahead-window high p ahead = let above = ahead.above in let below = ahead.below in record { low = omega (arith, ints); top = omega (arith, ints) }
 
-same-end-within : (line : Option ℤ) (p : ℕ) → p < 2 ^ 33 → CanEnd (option_map ring_of line) p → (s : Standing) → IsWithin line s
+same-end-within : (line : Option ℤ) (p : ℕ) → p < 2 ^ 33 → IsAheadOf (option_map ring_of line) p → (s : Standing) → IsWithin line s
     → (p == ring_end (on_ring s)) ≡ int_eq (place_of line p) (end_of s)
 same-end-within None p fits nothing s within = absurd nothing
 same-end-within (Some h) p fits ahead s reach = rw (ring_end-on_ring s) (same-place h p (end_of s) fits (end-window h s reach))
 
-early-within : (line : Option ℤ) (p : ℕ) → p < 2 ^ 33 → CanEnd (option_map ring_of line) p → (s : Standing) → IsWithin line s
-    → ends_early_on_ring (on_ring s) p ≡ is_early_end line s (place_of line p)
+early-within : (line : Option ℤ) (p : ℕ) → p < 2 ^ 33 → IsAheadOf (option_map ring_of line) p → (s : Standing) → IsWithin line s
+    → ends_early_on_ring (on_ring s) p ≡ is_early_end s (place_of line p)
 early-within None p fits nothing s within = absurd nothing
 early-within (Some h) p fits ahead s reach =
     let t : ℤ = lift h p in
     let window : InWindow h t = ahead-window h p ahead in
-    let past : int_lt h t ≡ true = later-than h (signed p (ring_of h)) ahead.above in
     let ring : ring_of t ≡ p = ring-lift h p fits in
     let way : signed (ring_of t) (ring_of s.start) ≡ t -ℤ s.start = signed-near t s.start (near-window h t s.start window (start-window h s reach)) in
     let way' : signed p (ring_of s.start) ≡ t -ℤ s.start = subst (λ r. signed r (ring_of s.start) ≡ t -ℤ s.start) ring way in
     let end : is_before_on_ring (ring_of t) (ring_of (end_of s)) ≡ int_lt t (end_of s) = before-window h t (end_of s) window (end-window h s reach) in
     let end' : is_before_on_ring p (ring_of (end_of s)) ≡ int_lt t (end_of s) = subst (λ r. is_before_on_ring r (ring_of (end_of s)) ≡ int_lt t (end_of s)) ring end in
-    rw (ring_end-on_ring s, end', way', past) (early-by s.start t (int_lt t (end_of s)))
+    rw (ring_end-on_ring s, end', way') (early-by s.start t (int_lt t (end_of s)))
 
 -- what was cut off its end is apart from what it was apart from
 ending-apart : (time : ℤ) (s x : Standing) → int_lt s.start time ≡ true → int_lt time (end_of s) ≡ true → IsApart s x → IsApart (ending_at time s) x
@@ -229,21 +317,20 @@ ending-apart_from : (time : ℤ) (s x : Standing) → int_lt s.start time ≡ tr
 ending-apart_from time s x past before apart =
     record { ids = apart.ids; times = meets-comm x (ending_at time s) ∙ meets-less s.start (end_of s) time x.start (end_of x) past before (meets-comm s x ∙ apart.times) }
 
-ending-within : (line : Option ℤ) (s : Standing) (time : ℤ) → IsWithin line s → is_early_end line s time ≡ true → IsWithin line (ending_at time s)
-ending-within None s time nothing early = nothing
-ending-within (Some h) s time reach early =
-    let end : end_of (ending_at time s) ≡ time = ending-end s.start time (early-parts s.start h time (end_of s) early).0 in
-    let parts = early-parts s.start h time (end_of s) early in
-    ending-reach h s time reach parts.0 parts.1 parts.2
+ending-within : (line : Option ℤ) (s : Standing) (time : ℤ) → IsWithin line s → is_ahead_of line time ≡ true → is_early_end s time ≡ true → IsWithin line (ending_at time s)
+ending-within None s time nothing ahead early = nothing
+ending-within (Some h) s time reach ahead early =
+    let end : end_of (ending_at time s) ≡ time = ending-end s.start time (early-parts s.start time (end_of s) early).0 in
+    let parts = early-parts s.start time (end_of s) early in
+    ending-reach h s time reach parts.0 (ahead-of h time ahead) parts.1
 
-both-ends : (a b c : Bool) → (a && b && c) ≡ true → (a ≡ true) × (c ≡ true)
-both-ends true true true is = (refl, refl)
-both-ends true true false is = absurd (let nothing : false ≡ true = is in cc)
-both-ends true false c is = absurd (let nothing : false ≡ true = is in cc)
-both-ends false b c is = absurd (let nothing : false ≡ true = is in cc)
+both-ends : (a b : Bool) → (a && b) ≡ true → (a ≡ true) × (b ≡ true)
+both-ends true true is = (refl, refl)
+both-ends true false is = absurd (let nothing : false ≡ true = is in cc)
+both-ends false b is = absurd (let nothing : false ≡ true = is in cc)
 
 -- the new length on the line is the way on the ring
-length-within : (line : Option ℤ) (p : ℕ) → p < 2 ^ 33 → CanEnd (option_map ring_of line) p → (s : Standing) → IsWithin line s
+length-within : (line : Option ℤ) (p : ℕ) → p < 2 ^ 33 → IsAheadOf (option_map ring_of line) p → (s : Standing) → IsWithin line s
     → unsigned_abs (place_of line p -ℤ s.start) ≡ unsigned_abs (signed p (ring_of s.start))
 length-within None p fits nothing s within = absurd nothing
 length-within (Some h) p fits ahead s reach =
@@ -256,35 +343,35 @@ length-within (Some h) p fits ahead s reach =
 abbrev lasting : Event → ℕ → Event
 lasting e length = record e { length = length }
 
-pub shortened-stands : (t t' : Table) (line : Option ℤ) (standing : List Standing) (id place : ℕ) (e : Event) (p : ℕ) → p < 2 ^ 33 → CanEnd t.last p → StandsFor t line standing
-    → position (λ e. e.id == id) t.events.items ≡ Some place → e ≡ slice_index_or t.events.items place e
+pub shortened-stands : {T : Type 0} (t t' : Table T) (line : Option ℤ) (standing : List Standing) (id place : ℕ) (e : Event) (p : ℕ) → p < 2 ^ 33 → is_ahead_of line (place_of line p) ≡ true → StandsFor t line standing
+    → position (λ e. e.id == id) (events_of t) ≡ Some place → e ≡ slice_index_or (events_of t) place e
     → ends_early_on_ring e p ≡ true
-    → t'.last ≡ t.last → t'.events.items ≡ slice_set t.events.items place (ended_on_ring p e) → StandsFor t' line (with_end id (place_of line p) standing)
+    → t'.last ≡ t.last → events_of t' ≡ slice_set (events_of t) place (ended_on_ring p e) → StandsFor t' line (with_end id (place_of line p) standing)
 shortened-stands t t' line standing id place e p fits can stands is at early high items =
     let f = found t line standing id place e stands is at in
     let s : Standing = f.event in
-    let can' : CanEnd (option_map ring_of line) p = subst (λ h. CanEnd h p) stands.high can in
-    let early' : is_early_end line s (place_of line p) ≡ true
+    let can' : IsAheadOf (option_map ring_of line) p = is_ahead-line_from line p can in
+    let early' : is_early_end s (place_of line p) ≡ true
     = sym (early-within line p fits can' s f.within) ∙ subst (λ x. ends_early_on_ring x p ≡ true) (sym f.ring) early in
     let length : unsigned_abs (place_of line p -ℤ s.start) ≡ unsigned_abs (signed p (ring_of s.start)) = length-within line p fits can' s f.within in
-    let parts = both-ends (int_lt s.start (place_of line p)) (is_past_high line (place_of line p)) (int_lt (place_of line p) (end_of s)) early' in
+    let parts = both-ends (int_lt s.start (place_of line p)) (int_lt (place_of line p) (end_of s)) early' in
     changed-stands t t' line standing id place e (ended_on_ring p e) (ending_at (place_of line p)) f stands is at
     (ap (lasting (on_ring s)) length ∙ ap (ended_on_ring p) f.ring)
-    (ending-within line s (place_of line p) f.within early')
+    (ending-within line s (place_of line p) f.within can early')
     (λ x apart. ending-apart (place_of line p) s x parts.0 parts.1 apart)
     (λ x apart. ending-apart_from (place_of line p) s x parts.0 parts.1 apart)
     high items
 
 -- the answers' tests, at the event found
-pub same-end : (t : Table) (line : Option ℤ) (standing : List Standing) (id : ℕ) (e : Event) (p : ℕ) (f : Found line standing id e) → p < 2 ^ 33 → CanEnd t.last p → StandsFor t line standing
+pub same-end : {T : Type 0} (t : Table T) (line : Option ℤ) (standing : List Standing) (id : ℕ) (e : Event) (p : ℕ) (f : Found line standing id e) → p < 2 ^ 33 → is_ahead_of line (place_of line p) ≡ true → StandsFor t line standing
     → (p == ring_end e) ≡ int_eq (place_of line p) (end_of f.event)
 same-end t line standing id e p f fits can stands =
-    subst (λ x. (p == ring_end x) ≡ int_eq (place_of line p) (end_of f.event)) f.ring (same-end-within line p fits (subst (λ h. CanEnd h p) stands.high can) f.event f.within)
+    subst (λ x. (p == ring_end x) ≡ int_eq (place_of line p) (end_of f.event)) f.ring (same-end-within line p fits (is_ahead-line_from line p can) f.event f.within)
 
-pub early-end : (t : Table) (line : Option ℤ) (standing : List Standing) (id : ℕ) (e : Event) (p : ℕ) (f : Found line standing id e) → p < 2 ^ 33 → CanEnd t.last p → StandsFor t line standing
-    → ends_early_on_ring e p ≡ is_early_end line f.event (place_of line p)
+pub early-end : {T : Type 0} (t : Table T) (line : Option ℤ) (standing : List Standing) (id : ℕ) (e : Event) (p : ℕ) (f : Found line standing id e) → p < 2 ^ 33 → is_ahead_of line (place_of line p) ≡ true → StandsFor t line standing
+    → ends_early_on_ring e p ≡ is_early_end f.event (place_of line p)
 early-end t line standing id e p f fits can stands =
-    subst (λ x. ends_early_on_ring x p ≡ is_early_end line f.event (place_of line p)) f.ring (early-within line p fits (subst (λ h. CanEnd h p) stands.high can) f.event f.within)
+    subst (λ x. ends_early_on_ring x p ≡ is_early_end f.event (place_of line p)) f.ring (early-within line p fits (is_ahead-line_from line p can) f.event f.within)
 
 -- the next high time stands on the ring where it is said to, and lies in the window
 ring-time : (line : Option ℤ) (p : ℕ) (later : ℤ) → p < 2 ^ 33 → IsTimeAt line p later → ring_of later ≡ p
@@ -304,8 +391,8 @@ still-within : (line : Option ℤ) (p : ℕ) (later : ℤ) → CanAdvance (optio
 still-within None p later can is s nothing stands = absurd nothing
 still-within (Some h) p later can is s reach stands = next-reach h (signed p (ring_of h)) later s is can.above reach stands
 
-pub advanced-stands : (t t' : Table) (line : Option ℤ) (standing : List Standing) (p : ℕ) (later : ℤ) → p < 2 ^ 33 → CanAdvance t.last p → StandsFor t line standing → IsTimeAt line p later
-    → t'.last ≡ Some p → t'.events.items ≡ filter (λ e. is_before_on_ring p ((ring_end e + 900000) % 2 ^ 33)) t.events.items
+pub advanced-stands : {T : Type 0} (t t' : Table T) (line : Option ℤ) (standing : List Standing) (p : ℕ) (later : ℤ) → p < 2 ^ 33 → CanAdvance t.last p → StandsFor t line standing → IsTimeAt line p later
+    → t'.last ≡ Some p → events_of t' ≡ filter (λ e. is_before_on_ring p ((ring_end e + 900000) % 2 ^ 33)) (events_of t)
     → StandsFor t' (Some later) (still_standing later standing)
 advanced-stands t t' line standing p later fits can stands is high items =
     let can' : CanAdvance (option_map ring_of line) p = subst (λ h. CanAdvance h p) stands.high can in
@@ -319,3 +406,24 @@ advanced-stands t t' line standing p later fits can stands is high items =
       within = λ k d below. still-within line p later can' is (slice_index_or (filter test standing) k d) (within k d below) (passes k d below);
       apart = AllPairs-filter IsApart test standing stands.apart;
     }
+
+-- the events of the entries that are kept are those of the events that are
+pub events-kept : {T : Type 0} (p : Event → Bool) (entries : List (Entry T)) → map (λ entry. entry.event) (filter (λ entry. p entry.event) entries) ≡ filter p (map (λ entry. entry.event) entries)
+events-kept p entries = sym (filter-map (λ entry. entry.event) (λ _. Unit {0}) p (λ entry. p entry.event) (λ _ _. refl) entries (λ k d below. tt))
+
+-- the values that are kept are those of the events that still stand
+pub values-kept : {T : Type 0} (t : Table T) (entries' : List (Entry T)) (line : Option ℤ) (standing : List Standing) (p : ℕ) (later : ℤ) (value : Standing → T) → p < 2 ^ 33 → CanAdvance t.last p
+    → StandsFor t line standing → IsTimeAt line p later → values_of t ≡ map value standing
+    → entries' ≡ filter (λ entry. is_before_on_ring p ((ring_end entry.event + 900000) % 2 ^ 33)) t.entries.items
+    → map (λ entry. entry.value) entries' ≡ map value (still_standing later standing)
+values-kept {T} t entries' line standing p later value fits can stands is values items =
+    let can' : CanAdvance (option_map ring_of line) p = subst (λ h. CanAdvance h p) stands.high can in
+    let entry_of : Standing → Entry T = λ s. record { event = on_ring s; value = value s } in
+    let all : t.entries.items ≡ map entry_of standing
+    = map-joined (λ entry. entry.event) (λ entry. entry.value) on_ring value entry_of (λ entry s event value. record-of entry s event value) t.entries.items standing stands.events values in
+    ap (map (λ entry. entry.value)) (items ∙ ap (filter (λ entry. is_before_on_ring p ((ring_end entry.event + 900000) % 2 ^ 33))) all
+    ∙ filter-map entry_of (IsWithin line) (λ entry. is_before_on_ring p ((ring_end entry.event + 900000) % 2 ^ 33)) (λ s. int_lt later (forgotten_at s)) (kept-within line p later fits can' is) standing stands.within)
+    ∙ map-map entry_of (λ entry. entry.value) (still_standing later standing)
+  where
+    record-of : (entry : Entry T) (s : Standing) → entry.event ≡ on_ring s → entry.value ≡ value s → entry ≡ record { event = on_ring s; value = value s }
+    record-of entry s event_is value_is = let build : Event → T → Entry T = λ e v. record { event = e; value = v } in ap (λ e. build e entry.value) event_is ∙ ap (build (on_ring s)) value_is

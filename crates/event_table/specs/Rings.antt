@@ -11,10 +11,10 @@ pub record IsAhead (high time : ℕ) : Type 0 where
   pub above : pos 0 <ℤ signed time high
   pub below : signed time high ≤ℤ pos (2 ^ 29)
 
--- a time may be an early end: there is a high time, and it lies ahead of that
-abbrev pub CanEnd : Option ℕ → ℕ → Type 0
-CanEnd None time = ⊥
-CanEnd (Some high) time = IsAhead high time
+-- there is a high time, and the time lies ahead of it
+abbrev pub IsAheadOf : Option ℕ → ℕ → Type 0
+IsAheadOf None time = ⊥
+IsAheadOf (Some high) time = IsAhead high time
 
 -- the next high time is not below the last one, and at most 900,000 ticks (ten seconds) past it
 pub record IsNext (high next : ℕ) : Type 0 where

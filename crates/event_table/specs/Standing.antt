@@ -90,20 +90,22 @@ cancel_answer_of line (Some s) = if has_begun line s then Err TooLate else Ok tt
 abbrev pub cancel_answer : Option ℤ → List Standing → ℕ → Result (Unit {0}) CancelRefusal
 cancel_answer line standing id = cancel_answer_of line (find (has_id id) standing)
 
-abbrev pub is_past_high : Option ℤ → ℤ → Bool
-is_past_high None time = false
-is_past_high (Some high) time = int_lt high time
+-- the time lies 1 to 2^29 ticks past the high time
+abbrev pub is_ahead_of : Option ℤ → ℤ → Bool
+is_ahead_of None time = false
+is_ahead_of (Some high) time = int_lt high time && int_le time (high +ℤ pos (2 ^ 29))
 
--- a new end lies above both the start and the high time, and below the present end
-abbrev pub is_early_end : Option ℤ → Standing → ℤ → Bool
-is_early_end line s time = int_lt s.start time && is_past_high line time && int_lt time (end_of s)
+-- a new end lies above the start, and below the present end
+abbrev pub is_early_end : Standing → ℤ → Bool
+is_early_end s time = int_lt s.start time && int_lt time (end_of s)
 
 abbrev pub shorten_answer_of : Option ℤ → ℤ → Option Standing → Result Armed ShortenRefusal
 shorten_answer_of line time None = Err NothingToShorten
 shorten_answer_of line time (Some s) =
-    if s.cancelled then Err BadEnd
+    if not (is_ahead_of line time) then Err BadEnd
+    else if s.cancelled then Err BadEnd
     else if int_eq time (end_of s) then Ok Same
-    else if is_early_end line s time then Ok New
+    else if is_early_end s time then Ok New
     else Err BadEnd
 
 -- the answer to an early end

@@ -58,7 +58,7 @@ fn zero() -> Time33
 }
 
 /// Whether `a` comes before `b`, by the sign of the way between them on the ring.
-pub(crate) fn is_before(a: Time33, b: Time33) -> bool
+pub fn is_before(a: Time33, b: Time33) -> bool
     ensures { result ≡ is_before_on_ring a b }
 {
     a.signed_from(b) < 0

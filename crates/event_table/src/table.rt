@@ -1,8 +1,7 @@
 //! The table of standing events, and its answers.
 
-ghost use Rattle.std.specs.Prelude.{◌≡◌, ◌≢◌, ◌↔◌, ◌^◌, ◌<◌, ◌≤◌, ◌==◌, ℤ, List, [], ◌∷◌, ◌++◌, map, find, position, length, slice_set, IsTrue, OnErr, Option, option_map};
+ghost use Rattle.std.specs.Prelude.{◌≡◌, ◌↔◌, ◌^◌, ◌<◌, ◌≤◌, ◌==◌, ℤ, List, [], ◌∷◌, ◌++◌, map, position, length, slice_set, slice_index_or, IsTrue, IfSome, OnErr, Option, option_map};
 ghost use Rattle.std.specs.List.{list_any};
-ghost use Rattle.std.specs.Option.{option_copied};
 ghost use Rattle.pes_time.specs.Line.{ring_of, place};
 
 use crate::event::{Event, is_ahead, is_before};
@@ -59,34 +58,55 @@ pub enum ShortenRefusal {
     /// No event of this id stands.
     #[error("no event of this id stands")]
     NoSuchEvent,
-    /// The event is cancelled, or the end does not lie past its start and before its present end.
+    /// The event is cancelled, or the end does not lie 1 to 2^29 ticks past the high time, or not past the event's start and before its
+    /// present end.
     #[error("the end lies outside the event")]
     BadEnd,
 }
 
-/// The events that stand, at most 32, and the last high time: the greatest time of a unit so far.
+/// An event that stands, with the value that the caller keeps beside it.
+#[derive(Clone, Copy, Debug, PartialEq, Eq)]
+pub struct Entry<T> {
+    /// The event.
+    pub event: Event,
+    /// The caller's own value.
+    pub value: T,
+}
+
+impl<T: Default> Default for Entry<T> {
+    /// What fills an unused place of a table.
+    fn default() -> Entry<T> {
+        Entry {
+            event: Event::default(),
+            value: T::default(),
+        }
+    }
+}
+
+/// The events that stand, at most 32, each with a value of the caller's, and the last high time: the greatest time of a unit so far.
 ///
-/// Contracts speak of the list of integer intervals that a table stands for, with an integer high time that the ring's one stands for.
-/// Times wrap on the ring every 26.5 hours; the integers do not.
+/// Contracts speak of the list of integer intervals that a table stands for, with an integer high time that the ring's one stands for,
+/// and beside it of the list of values. Times wrap on the ring every 26.5 hours; the integers do not.
 #[derive(Drop)]
-pub struct Table {
-    events: ArrayVec<Event, MOST>,
+pub struct Table<T = ()> {
+    entries: ArrayVec<Entry<T>, MOST>,
     last: Option<Time33>,
 }
 
-impl Table {
-    ghost use Rattle.event_table.specs.Rings.{CanEnd, CanAdvance, has_reached_on_ring};
+impl<T: Copy + Default> Table<T> {
+    ghost use Rattle.event_table.specs.Rings.{CanAdvance, has_reached_on_ring, IsAheadOf};
     ghost use Rattle.event_table.specs.Events.{CanArm, meets_on_ring, repeats_on_ring, covers_on_ring};
-    ghost use Rattle.event_table.specs.Standing.{Standing, on_ring, on_line, covers, repeats, arm_answer, cancel_answer, shorten_answer, with_cancelled, with_end, still_standing, IsTimeAt};
-    ghost use Rattle.event_table.specs.Tables.{StandsFor, high_of};
+    ghost use Rattle.event_table.specs.Standing.{Standing, on_ring, on_line, covers, repeats, has_id, arm_answer, cancel_answer, shorten_answer, with_cancelled, with_end, still_standing, IsTimeAt};
+    ghost use Rattle.event_table.specs.Tables.{StandsFor, high_of, events_of, values_of};
 
     /// A table with no event and no high time.
-    pub fn new() -> Table
+    pub fn new() -> Table<T>
         ensures stands { StandsFor result None [] }
         ensures high { high_of result ≡ None }
+        ensures values { values_of result ≡ [] }
     {
         Table {
-            events: ArrayVec::new(),
+            entries: ArrayVec::new(),
             last: None,
         }
     }
@@ -100,13 +120,46 @@ impl Table {
         self.last
     }
 
-    /// The events that stand, in order of arming, those that are cancelled among them.
-    pub fn standing(&self) -> &[Event]
+    /// The events that stand, in order of arming, those that are cancelled among them, each with its value.
+    pub fn standing(&self) -> &[Entry<T>]
+        ensures entries { result.now ≡ self.now.entries.items }
         ensures list { (line : Option ℤ) (standing : List Standing) → StandsFor self.now line standing →
-            result.now ≡ map on_ring standing }
+            map (λ entry. entry.event) result.now ≡ map on_ring standing }
+        ensures values { map (λ entry. entry.value) result.now ≡ values_of self.now }
         ensures most { length result.now ≤ 32 }
     {
-        self.events.as_slice()
+        self.entries.as_slice()
+    }
+
+    /// Where in [`Table::standing`] the event of this id stands, cancelled or not, or `None`.
+    pub fn find(&self, id: u32) -> Option<usize>
+        ensures place { (line : Option ℤ) (standing : List Standing) → StandsFor self.now line standing →
+            result ≡ position (has_id id) standing }
+        ensures below { IfSome result (λ place. place < length self.now.entries.items) }
+    {
+        self.place_of(id)
+    }
+
+    /// Whether an event of this id stands, cancelled or not.
+    pub fn has_id(&self, id: u32) -> bool
+        ensures { (line : Option ℤ) (standing : List Standing) → StandsFor self.now line standing →
+            result ≡ list_any (has_id id) standing }
+    {
+        self.has_entry_of(id)
+    }
+
+    /// Puts the value beside the event that stands at this place of [`Table::standing`]. All else stays as it is.
+    pub fn set_value(&mut self, place: usize, value: T)
+        requires { place < length self.old.entries.items }
+        ensures values { values_of self.new ≡ slice_set (values_of self.old) place value }
+        ensures events { events_of self.new ≡ events_of self.old }
+        ensures stands { (line : Option ℤ) (standing : List Standing) → StandsFor self.old line standing →
+            StandsFor self.new line standing }
+        ensures high { high_of self.new ≡ high_of self.old }
+    {
+        let entry = self.entry_at(place);
+        let event = entry.event;
+        self.put(place, Entry { event, value });
     }
 
     /// Whether the event may be given to [`Table::arm`]: there is a high time, the start lies 1 to 2^29 ticks past it, the length is the
@@ -129,14 +182,16 @@ impl Table {
         self.has_repeat_of(*event)
     }
 
-    /// Arms an event: it stands from now on, after all others. A repeat of an event that stands is `Same` and changes nothing.
-    pub fn arm(&mut self, event: Event) -> Result<Armed, ArmRefusal>
+    /// Arms an event: it stands from now on, after all others, with the value beside it. A repeat of an event that stands is `Same` and
+    /// changes nothing.
+    pub fn arm(&mut self, event: Event, value: T) -> Result<Armed, ArmRefusal>
         requires { CanArm (high_of self.old) event }
         ensures answer { (line : Option ℤ) (standing : List Standing) → StandsFor self.old line standing →
             result ≡ arm_answer standing (on_line line event) }
         ensures new { result ≡ Ok Armed.New →
             (line : Option ℤ) (standing : List Standing) → StandsFor self.old line standing →
             StandsFor self.new line (standing ++ on_line line event ∷ []) }
+        ensures value { result ≡ Ok Armed.New → values_of self.new ≡ values_of self.old ++ value ∷ [] }
         ensures same { result ≡ Ok Armed.Same → self.new ≡ self.old }
         ensures refused { OnErr result (self.new ≡ self.old) }
         ensures high { high_of self.new ≡ high_of self.old }
@@ -147,56 +202,48 @@ impl Table {
         if self.has_id(event.id) {
             return Err(ArmRefusal::InUse);
         }
-        if self.events.is_full() {
+        if self.entries.is_full() {
             return Err(ArmRefusal::Full);
         }
         if self.meets(&event) {
             return Err(ArmRefusal::Overlap);
         }
-        self.events.push(event);
+        self.entries.push(Entry { event, value });
         Ok(Armed::New)
     }
 
-    /// Cancels the event of this id, where the high time is below its start. It keeps its id and interval until it is forgotten; a
-    /// second cancel changes nothing.
+    /// Cancels the event of this id, where the high time is below its start. It keeps its id, its interval and its value until it is
+    /// forgotten; a second cancel changes nothing.
     pub fn cancel(&mut self, id: u32) -> Result<(), CancelRefusal>
         ensures answer { (line : Option ℤ) (standing : List Standing) → StandsFor self.old line standing →
             result ≡ cancel_answer line standing id }
         ensures cancelled { result ≡ Ok tt →
             (line : Option ℤ) (standing : List Standing) → StandsFor self.old line standing →
             StandsFor self.new line (with_cancelled id standing) }
+        ensures values { values_of self.new ≡ values_of self.old }
         ensures refused { OnErr result (self.new ≡ self.old) }
         ensures high { high_of self.new ≡ high_of self.old }
     {
         let Some(place) = self.place_of(id) else {
             return Err(CancelRefusal::NoSuchEvent);
         };
-        let event = self.events[place];
+        let event = self.entry_at(place).event;
         if self.has_reached(event.start) {
             return Err(CancelRefusal::TooLate);
         }
-        self.put(place, event.into_cancelled());
+        self.put_event(place, event.into_cancelled());
         Ok(())
     }
 
-    /// Whether the time may be given to [`Table::shorten`] as an end: there is a high time, and it lies 1 to 2^29 ticks past it.
-    pub fn can_shorten(&self, end: Time33) -> bool
-        ensures { IsTrue result ↔ CanEnd (high_of self.now) end }
-    {
-        match self.high() {
-            Some(high) => is_ahead(end, high),
-            None => false,
-        }
-    }
-
-    /// Gives the event of this id an early end, above its start and below its present end. Its present end again is `Same`.
+    /// Gives the event of this id an early end, 1 to 2^29 ticks past the high time, above the event's start and below its present end.
+    /// Its present end again is `Same`.
     pub fn shorten(&mut self, id: u32, end: Time33) -> Result<Armed, ShortenRefusal>
-        requires { CanEnd (high_of self.old) end }
         ensures answer { (line : Option ℤ) (standing : List Standing) → StandsFor self.old line standing →
             result ≡ shorten_answer line standing id (place line end) }
         ensures new { result ≡ Ok Armed.New →
             (line : Option ℤ) (standing : List Standing) → StandsFor self.old line standing →
             StandsFor self.new line (with_end id (place line end) standing) }
+        ensures values { values_of self.new ≡ values_of self.old }
         ensures same { result ≡ Ok Armed.Same → self.new ≡ self.old }
         ensures refused { OnErr result (self.new ≡ self.old) }
         ensures high { high_of self.new ≡ high_of self.old }
@@ -204,7 +251,10 @@ impl Table {
         let Some(place) = self.place_of(id) else {
             return Err(ShortenRefusal::NoSuchEvent);
         };
-        let event = self.events[place];
+        let event = self.entry_at(place).event;
+        if !self.is_ahead_of_high(end) {
+            return Err(ShortenRefusal::BadEnd);
+        }
         if event.cancelled {
             return Err(ShortenRefusal::BadEnd);
         }
@@ -214,14 +264,16 @@ impl Table {
         if !event.ends_early_at(end) {
             return Err(ShortenRefusal::BadEnd);
         }
-        self.put(place, event.ended_at(end));
+        self.put_event(place, event.ended_at(end));
         Ok(Armed::New)
     }
 
-    /// The uncancelled event that holds the integer nearest the high time that stands at this time, or `None`.
-    pub fn at(&self, time: Time33) -> Option<&Event>
-        ensures { (line : Option ℤ) (standing : List Standing) → StandsFor self.now line standing →
-            option_copied result ≡ option_map on_ring (find (covers (place line time)) standing) }
+    /// Where in [`Table::standing`] the uncancelled event stands that holds the integer nearest the high time that stands at this time,
+    /// or `None`.
+    pub fn at(&self, time: Time33) -> Option<usize>
+        ensures place { (line : Option ℤ) (standing : List Standing) → StandsFor self.now line standing →
+            result ≡ position (covers (place line time)) standing }
+        ensures below { IfSome result (λ place. place < length self.now.entries.items) }
     {
         self.first_over(time)
     }
@@ -240,61 +292,96 @@ impl Table {
         }
     }
 
-    /// Takes this time as the high time, and forgets each event whose end lies 900,000 ticks or more before it.
+    /// Takes this time as the high time, and forgets each event whose end lies 900,000 ticks or more before it, with its value.
     pub fn advance(&mut self, high: Time33)
         requires { CanAdvance (high_of self.old) high }
         ensures stands { (line : Option ℤ) (standing : List Standing) (later : ℤ) → StandsFor self.old line standing → IsTimeAt line high later →
             StandsFor self.new (Some later) (still_standing later standing) }
+        ensures values { (line : Option ℤ) (standing : List Standing) (later : ℤ) (value : Standing → T) →
+            StandsFor self.old line standing → IsTimeAt line high later → values_of self.old ≡ map value standing →
+            values_of self.new ≡ map value (still_standing later standing) }
         ensures high { high_of self.new ≡ Some high }
     {
-        let Table { events, last } = self;
-        events.retain(|event| is_before(high, event.end().plus(KEPT)));
+        let Table { entries, last } = self;
+        entries.retain(|entry| is_before(high, entry.event.end().plus(KEPT)));
         *last = Some(high);
     }
 
     /// Where the event of this id stands in the list, or `None`.
     fn place_of(&self, id: u32) -> Option<usize>
-        ensures { result ≡ position (λ event. event.id == id) self.now.events.items }
+        ensures { result ≡ position (λ entry. entry.event.id == id) self.now.entries.items }
     {
-        self.events.iter().position(|event| event.id == id)
+        self.entries.iter().position(|entry| entry.event.id == id)
     }
 
     /// Whether the event repeats one in the list.
     fn has_repeat_of(&self, event: Event) -> bool
-        ensures found { result ≡ list_any (repeats_on_ring event) self.now.events.items }
+        ensures found { result ≡ list_any (λ entry. repeats_on_ring event entry.event) self.now.entries.items }
         ensures start { event.start < 2 ^ 33 }
     {
-        self.events.iter().any(|other| event.repeats(other))
+        self.entries.iter().any(|entry| event.repeats(&entry.event))
     }
 
-    /// The first uncancelled event in the list that holds the time.
-    fn first_over(&self, time: Time33) -> Option<&Event>
-        ensures { option_copied result ≡ find (λ event. covers_on_ring event time) self.now.events.items }
+    /// Where in the list the first uncancelled event that holds the time stands.
+    fn first_over(&self, time: Time33) -> Option<usize>
+        ensures { result ≡ position (λ entry. covers_on_ring entry.event time) self.now.entries.items }
     {
-        self.events.iter().find(|event| event.covers(time))
+        self.entries
+            .iter()
+            .position(|entry| entry.event.covers(time))
     }
 
-    /// Whether an event of this id stands.
-    fn has_id(&self, id: u32) -> bool
-        ensures { result ≡ list_any (λ event. event.id == id) self.now.events.items }
+    /// Whether an event of this id is in the list.
+    fn has_entry_of(&self, id: u32) -> bool
+        ensures { result ≡ list_any (λ entry. entry.event.id == id) self.now.entries.items }
     {
-        self.events.iter().any(|event| event.id == id)
+        self.entries.iter().any(|entry| entry.event.id == id)
     }
 
     /// Whether the interval of the event meets that of one that stands.
     fn meets(&self, event: &Event) -> bool
-        ensures { result ≡ list_any (meets_on_ring event.now) self.now.events.items }
+        ensures { result ≡ list_any (λ entry. meets_on_ring event.now entry.event) self.now.entries.items }
     {
-        self.events.iter().any(|other| event.meets(other))
+        self.entries.iter().any(|entry| event.meets(&entry.event))
     }
 
-    /// Puts the event in the place of one that stands.
-    fn put(&mut self, place: usize, event: Event)
-        requires { place < length self.old.events.items }
-        ensures items { self.new.events.items ≡ slice_set self.old.events.items place event }
+    /// The entry at this place.
+    fn entry_at(&self, place: usize) -> Entry<T>
+        requires { place < length self.now.entries.items }
+        ensures { result ≡ slice_index_or self.now.entries.items place result }
+    {
+        self.entries[place]
+    }
+
+    /// Puts the event in the place of one that stands, with the value of that one.
+    fn put_event(&mut self, place: usize, event: Event)
+        requires { place < length self.old.entries.items }
+        ensures events { events_of self.new ≡ slice_set (events_of self.old) place event }
+        ensures values { values_of self.new ≡ values_of self.old }
         ensures high { high_of self.new ≡ high_of self.old }
     {
-        self.events[place] = event;
+        let entry = self.entry_at(place);
+        let value = entry.value;
+        self.put(place, Entry { event, value });
+    }
+
+    /// Puts the entry in the place of one that stands.
+    fn put(&mut self, place: usize, entry: Entry<T>)
+        requires { place < length self.old.entries.items }
+        ensures items { self.new.entries.items ≡ slice_set self.old.entries.items place entry }
+        ensures high { high_of self.new ≡ high_of self.old }
+    {
+        self.entries[place] = entry;
+    }
+
+    /// Whether there is a high time and this time lies 1 to 2^29 ticks past it.
+    fn is_ahead_of_high(&self, time: Time33) -> bool
+        ensures { IsTrue result ↔ IsAheadOf (high_of self.now) time }
+    {
+        match self.high() {
+            Some(high) => is_ahead(time, high),
+            None => false,
+        }
     }
 
     /// Whether the high time is at or past this time.

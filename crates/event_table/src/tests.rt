@@ -41,8 +41,14 @@ fn event(id: u32, start: u64, length: u64) -> Result<Event, Fail> {
     })
 }
 
+/// The id of the event there.
+fn id_at(table: &Table<u64>, time: Time33) -> Option<u32> {
+    let place = table.at(time)?;
+    Some(table.standing().get(place)?.event.id)
+}
+
 /// Makes a call on the table, where its condition holds. Answers whether that is so, and the table's answer the one that is wanted.
-fn play(table: &mut Table, step: &Step) -> Result<bool, Fail> {
+fn play(table: &mut Table<u64>, step: &Step) -> Result<bool, Fail> {
     match step {
         Advance(ticks) => {
             let high = time(*ticks)?;
@@ -54,20 +60,20 @@ fn play(table: &mut Table, step: &Step) -> Result<bool, Fail> {
         }
         Arm(id, start, length, wanted) => {
             let event = event(*id, *start, *length)?;
-            Ok(table.can_arm(&event) && table.arm(event) == *wanted)
+            Ok(table.can_arm(&event) && table.arm(event, u64::from(*id)) == *wanted)
         }
         Cancel(id, wanted) => Ok(table.cancel(*id) == *wanted),
         Shorten(id, ticks, wanted) => {
             let end = time(*ticks)?;
-            Ok(table.can_shorten(end) && table.shorten(*id, end) == *wanted)
+            Ok(table.shorten(*id, end) == *wanted)
         }
-        At(ticks, wanted) => Ok(table.at(time(*ticks)?).map(|event| event.id) == *wanted),
+        At(ticks, wanted) => Ok(id_at(table, time(*ticks)?) == *wanted),
         Standing(count) => Ok(table.standing().len() == *count),
     }
 }
 
 /// Makes the calls in turn, and answers how many went as wanted before the first that did not.
-fn play_all(table: &mut Table, steps: &[Step]) -> Result<usize, Fail> {
+fn play_all(table: &mut Table<u64>, steps: &[Step]) -> Result<usize, Fail> {
     for (k, step) in steps.iter().enumerate() {
         if !play(table, step)? {
             return Ok(k);
@@ -142,11 +148,14 @@ const WRAPS: [Step; 17] = [
     Standing(1),
 ];
 
-const EARLY_ENDS: [Step; 17] = [
+const EARLY_ENDS: [Step; 20] = [
+    Shorten(1, 2_400_000, Err(ShortenRefusal::NoSuchEvent)),
     Advance(900_000),
     Arm(1, 1_260_000, 2_700_000, Ok(Armed::New)),
     Shorten(9, 2_400_000, Err(ShortenRefusal::NoSuchEvent)),
     Shorten(1, 1_260_000, Err(ShortenRefusal::BadEnd)),
+    Shorten(1, 900_000, Err(ShortenRefusal::BadEnd)),
+    Shorten(1, 900_000 + (1 << 29) + 1, Err(ShortenRefusal::BadEnd)),
     Shorten(1, 3_960_000, Ok(Armed::Same)),
     Shorten(1, 3_960_001, Err(ShortenRefusal::BadEnd)),
     Shorten(1, 2_400_000, Ok(Armed::New)),
@@ -172,7 +181,28 @@ fn as_many_as_may(rt: HostRuntime) -> Result<(), Fail> {
         assert_eq!(rt; play(&mut table, &arm)?, true);
     }
     assert_eq!(rt; play_all(&mut table, &FULL)?, FULL.len());
-    laws::no_two_standing_events_meet();
+    laws::no_two_standing_events_meet(&table);
+    let place = table.find(17).ok_or("an event")?;
+    table.set_value(place, 99);
+    assert_eq!(rt; table.has_id(32), false);
+    assert_eq!(rt; table.find(32), None);
+    assert_eq!(rt; play(&mut table, &Advance(1_800_000))?, true);
+    assert_eq!(rt; play(&mut table, &Advance(1_998_000))?, true);
+    assert_eq!(rt; table.standing().len(), 20);
+    assert_eq!(rt;
+        table
+            .standing()
+            .get(5)
+            .map(|entry| (entry.event.id, entry.value)),
+        Some((17, 99))
+    );
+    assert_eq!(rt;
+        table
+            .standing()
+            .get(6)
+            .map(|entry| (entry.event.id, entry.value)),
+        Some((18, 18))
+    );
     Ok(())
 }
 
@@ -191,7 +221,9 @@ fn one_after_another(rt: HostRuntime) -> Result<(), Fail> {
 fn over_the_wrap(rt: HostRuntime) -> Result<(), Fail> {
     let mut table = Table::new();
     assert_eq!(rt; play_all(&mut table, &WRAPS)?, WRAPS.len());
-    laws::ring_order_is_line_order_in_a_table();
+    laws::ring_order_is_line_order_in_a_table(&table);
+    laws::no_fault_lets_a_table_advance();
+    assert_eq!(rt; is_before(time(TURN - 1)?, time(0)?), true);
     Ok(())
 }
 
@@ -199,7 +231,7 @@ fn over_the_wrap(rt: HostRuntime) -> Result<(), Fail> {
 fn shortened(rt: HostRuntime) -> Result<(), Fail> {
     let mut table = Table::new();
     assert_eq!(rt; play_all(&mut table, &EARLY_ENDS)?, EARLY_ENDS.len());
-    let first = table.standing().first().ok_or("an event")?;
+    let first = table.standing().first().ok_or("an event")?.event;
     assert_eq!(rt; (first.length, first.asked), (90, 2_700_000));
     assert_eq!(rt; first.end(), time(1_260_090)?);
     Ok(())

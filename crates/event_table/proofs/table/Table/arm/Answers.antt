@@ -1,40 +1,43 @@
 use Rattle.std.proofs.Common.{sym, ◌∙◌, rules}
 use Rattle.event_table.specs.Standing.{on_line}
-use Rattle.event_table.proofs.TableLemmas.{any-has_id, any-meets, is_full-items, arm-in_use, arm-full, arm-overlap, arm-new, arm-stands}
+use Rattle.event_table.proofs.TableLemmas.{pushed-events, pushed-values, any-meets, is_full-items, arm-in_use, arm-full, arm-overlap, arm-new, arm-stands}
 use Rattle.event_table.proofs.table.Table.arm.Goals as goal
 
 pub returns-then-has_id-clause-answer : goal.returns-then-has_id-clause-answer
-returns-then-has_id-clause-answer c = λ line standing stands.
+returns-then-has_id-clause-answer g c = λ line standing stands.
     arm-in_use standing (on_line line c.args.event)
     (sym (c.is_repeat.ensures line standing stands) ∙ c.if-is_repeat.false)
-    (sym (any-has_id _ line standing c.args.event.id stands) ∙ sym c.has_id.ensures ∙ c.if-has_id.true)
+    (sym (c.has_id.ensures line standing stands) ∙ c.if-has_id.true)
 
 pub returns-then-is_full-clause-answer : goal.returns-then-is_full-clause-answer
-returns-then-is_full-clause-answer c = λ line standing stands.
+returns-then-is_full-clause-answer g c = λ line standing stands.
     arm-full standing (on_line line c.args.event)
     (sym (c.is_repeat.ensures line standing stands) ∙ c.if-is_repeat.false)
-    (sym (any-has_id _ line standing c.args.event.id stands) ∙ sym c.has_id.ensures ∙ c.if-has_id.false)
+    (sym (c.has_id.ensures line standing stands) ∙ c.if-has_id.false)
     (sym (is_full-items _ line standing stands) ∙ sym c.is_full.ensures.value ∙ c.if-is_full.true)
 
 pub returns-then-meets-clause-answer : goal.returns-then-meets-clause-answer
-returns-then-meets-clause-answer c = λ line standing stands.
+returns-then-meets-clause-answer g c = λ line standing stands.
     arm-overlap standing (on_line line c.args.event)
     (sym (c.is_repeat.ensures line standing stands) ∙ c.if-is_repeat.false)
-    (sym (any-has_id _ line standing c.args.event.id stands) ∙ sym c.has_id.ensures ∙ c.if-has_id.false)
+    (sym (c.has_id.ensures line standing stands) ∙ c.if-has_id.false)
     (sym (is_full-items _ line standing stands) ∙ sym c.is_full.ensures.value ∙ c.if-is_full.false)
     (sym (any-meets _ line standing c.args.event (search rules) c.requires stands) ∙ sym c.meets.ensures ∙ c.if-meets.true)
 
 pub returns-clause-answer : goal.returns-clause-answer
-returns-clause-answer c = λ line standing stands.
+returns-clause-answer g c = λ line standing stands.
     arm-new standing (on_line line c.args.event)
     (sym (c.is_repeat.ensures line standing stands) ∙ c.if-is_repeat.false)
-    (sym (any-has_id _ line standing c.args.event.id stands) ∙ sym c.has_id.ensures ∙ c.if-has_id.false)
+    (sym (c.has_id.ensures line standing stands) ∙ c.if-has_id.false)
     (sym (is_full-items _ line standing stands) ∙ sym c.is_full.ensures.value ∙ c.if-is_full.false)
     (sym (any-meets _ line standing c.args.event (search rules) c.requires stands) ∙ sym c.meets.ensures ∙ c.if-meets.false)
 
 pub returns-clause-new : goal.returns-clause-new
-returns-clause-new c = λ _ line standing stands.
+returns-clause-new g c = λ _ line standing stands.
     arm-stands _ _ line standing c.args.event (search rules) c.requires stands
-    (sym (any-has_id _ line standing c.args.event.id stands) ∙ sym c.has_id.ensures ∙ c.if-has_id.false)
+    (sym (c.has_id.ensures line standing stands) ∙ c.if-has_id.false)
     (sym (any-meets _ line standing c.args.event (search rules) c.requires stands) ∙ sym c.meets.ensures ∙ c.if-meets.false)
-    (search rules) (search rules)
+    (search rules) (pushed-events _ _ _ c.push.ensures.items)
+
+pub returns-clause-value : goal.returns-clause-value
+returns-clause-value g c = λ _. pushed-values _ _ _ c.push.ensures.items

@@ -2,5 +2,5 @@ use Rattle.std.proofs.Common.{◌∙◌, rules}
 use Rattle.event_table.proofs.TableLemmas.{find-covers}
 use Rattle.event_table.proofs.table.Table.at.Goals as goal
 
-pub returns : goal.returns
-returns c = λ line standing stands. c.first_over.ensures ∙ find-covers _ line standing c.args.time (search rules) stands
+pub returns-clause-place : goal.returns-clause-place
+returns-clause-place g c = λ line standing stands. c.first_over.ensures ∙ find-covers c.args.self.now line standing c.args.time (search rules) stands

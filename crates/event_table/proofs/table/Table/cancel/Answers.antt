@@ -1,24 +1,24 @@
 use Rattle.std.proofs.Common.{sym, ◌∙◌, rules}
-use Rattle.event_table.proofs.TableLemmas.{found, nothing-found, reached, cancel-nothing, cancel-late, cancel-done, cancelled-stands}
+use Rattle.event_table.proofs.TableLemmas.{event-place, event-at, found, nothing-found, reached, cancel-nothing, cancel-late, cancel-done, cancelled-stands}
 use Rattle.event_table.proofs.table.Table.cancel.Goals as goal
 
 pub returns-in_default-clause-answer : goal.returns-in_default-clause-answer
-returns-in_default-clause-answer c = λ line standing stands.
-    cancel-nothing line standing c.args.id (nothing-found _ line standing c.args.id stands (sym c.place_of.ensures ∙ c.in_default.is))
+returns-in_default-clause-answer g c = λ line standing stands.
+    cancel-nothing line standing c.args.id (nothing-found c.args.self.now line standing c.args.id stands (event-place c.args.self.now c.args.id (sym c.place_of.ensures ∙ c.in_default.is)))
 
 pub returns-then-has_reached-clause-answer : goal.returns-then-has_reached-clause-answer
-returns-then-has_reached-clause-answer c = λ line standing stands.
-    let f = found c.args.self.now line standing c.args.id c.in-Some.place c.index-deref-place.result stands
-    (sym c.place_of.ensures ∙ c.in-Some.is) (rw c.deref.ensures.0 at c.index-deref-place.is) in
+returns-then-has_reached-clause-answer g c = λ line standing stands.
+    let f = found c.args.self.now line standing c.args.id c.in-Some.place c.entry_at.result.event stands
+    (event-place c.args.self.now c.args.id (sym c.place_of.ensures ∙ c.in-Some.is)) (event-at c.args.self.now c.in-Some.place c.entry_at.result c.entry_at.ensures) in
     cancel-late line standing c.args.id f.event f.is (sym (reached _ line standing c.args.id _ f stands) ∙ sym c.has_reached.ensures ∙ c.if-has_reached.true)
 
 pub returns-clause-answer : goal.returns-clause-answer
-returns-clause-answer c = λ line standing stands.
-    let f = found c.args.self.now line standing c.args.id c.in-Some.place c.index-deref-place.result stands
-    (sym c.place_of.ensures ∙ c.in-Some.is) (rw c.deref.ensures.0 at c.index-deref-place.is) in
+returns-clause-answer g c = λ line standing stands.
+    let f = found c.args.self.now line standing c.args.id c.in-Some.place c.entry_at.result.event stands
+    (event-place c.args.self.now c.args.id (sym c.place_of.ensures ∙ c.in-Some.is)) (event-at c.args.self.now c.in-Some.place c.entry_at.result c.entry_at.ensures) in
     cancel-done line standing c.args.id f.event f.is (sym (reached _ line standing c.args.id _ f stands) ∙ sym c.has_reached.ensures ∙ c.if-has_reached.false)
 
 pub returns-clause-cancelled : goal.returns-clause-cancelled
-returns-clause-cancelled c = λ done line standing stands.
-    cancelled-stands c.args.self.now _ line standing c.args.id c.in-Some.place c.index-deref-place.result stands
-    (sym c.place_of.ensures ∙ c.in-Some.is) (rw c.deref.ensures.0 at c.index-deref-place.is) (search rules) (search rules)
+returns-clause-cancelled g c = λ done line standing stands.
+    cancelled-stands c.args.self.now _ line standing c.args.id c.in-Some.place c.entry_at.result.event stands
+    (event-place c.args.self.now c.args.id (sym c.place_of.ensures ∙ c.in-Some.is)) (event-at c.args.self.now c.in-Some.place c.entry_at.result c.entry_at.ensures) (search rules) (search rules)
