@@ -2,7 +2,8 @@
 use Rattle.std.specs.Prelude.{◌≡◌, ℕ, List, [], ◌∷◌, ◌++◌, Option, None, Some, option_and_then, is_none, length, map, reverse, ◌==◌, ◌&&◌, if◌then◌else◌}
 use Rattle.hex_digits.specs.Digits.{spelled}
 use Rattle.ts_packet.specs.Packets.{packet_fault}
-use Rattle.psi_section.specs.Sections.{given, failed}
+use Rattle.ts_packet.specs.Runs.{Seen, seen_after}
+use Rattle.psi_section.specs.Sections.{failed, sections_with}
 use Rattle.psi_section.specs.Assembling.{capped}
 use Rattle.conformance.specs.declared.sections.Finished.{Finished}
 use Rattle.conformance.specs.declared.sections.Found.{Found}
@@ -45,14 +46,17 @@ packets_in (word ∷ words) = packet_before (packet_of word) (packets_in words)
 
 -- ---- sections
 
--- sections behind the place of the packet that finishes them
+-- the sections of one packet, behind its place
 abbrev pub at_place : ℕ → List (List ℕ) → List (ℕ × List ℕ)
 at_place place sections = map (λ section. (place, section)) sections
 
--- the sections that packets finish that come in this order behind a past, newest first; a packet's place is how many came before it
+-- a section behind the place of the packet that finishes it: how many came before that
+abbrev pub place_of : Seen × List ℕ → ℕ × List ℕ
+place_of x = (length x.0.past, x.1)
+
+-- the sections that packets finish that come in this order behind a past, newest first
 abbrev pub finished_after : ℕ → List (List ℕ) → List (List ℕ) → List (ℕ × List ℕ)
-finished_after pid past [] = []
-finished_after pid past (packet ∷ packets) = at_place (length past) (given pid packet past) ++ finished_after pid (packet ∷ past) packets
+finished_after pid past packets = map place_of (sections_with pid (seen_after past packets))
 
 -- what the code keeps of a section: its packet's place and its bytes
 abbrev pub placed : Finished → ℕ × List ℕ

@@ -44,7 +44,7 @@ whole_says (x ∷ y ∷ z ∷ bs) n h =
     let k = front_whole x y z n bs h in
     record { at_least = omega arith; at_most = omega arith; there = omega arith }
 
-front_from : (x y z : ℕ) (bs : List ℕ) → (x == 0xFF) ≡ false → y % 16 * 256 + z + 3 ≤ 4096 → y % 16 * 256 + z + 3 ≤ length (x ∷ y ∷ z ∷ bs)
+pub front_from : (x y z : ℕ) (bs : List ℕ) → (x == 0xFF) ≡ false → y % 16 * 256 + z + 3 ≤ 4096 → y % 16 * 256 + z + 3 ≤ length (x ∷ y ∷ z ∷ bs)
     → front_of (x ∷ y ∷ z ∷ bs) ≡ Whole (y % 16 * 256 + z + 3)
 front_from x y z bs s h k =
     let a : nat_lt 4096 (y % 16 * 256 + z + 3) ≡ false = le-ltb 4096 (y % 16 * 256 + z + 3) h in

@@ -8,3 +8,6 @@ pub mod PacketiserLemmas
 pub mod RunLemmas
 pub mod ReadBackLemmas
 pub mod SectionsLeftLemmas
+pub mod DrainLemmas
+pub mod GivenLemmas
+pub mod ByteLemmas

@@ -63,6 +63,12 @@ count-more size h = omega arith
 pub rest-none : (pid n : ℕ) (bs : List ℕ) → length bs ≡ 0 → rest_packets pid n bs ≡ []
 rest-none pid n bs h = ap (λ k. later_packets (packets_for k) pid n bs) h
 
+pub fits_one : (pid n : ℕ) (s : List ℕ) → length s ≤ 183 → section_packets pid n s ≡ first_packet pid n s ∷ []
+fits_one pid n s h =
+    let d : length (drop 183 s) ≡ length s - 183 = length-drop 183 s in
+    let z : length (drop 183 s) ≡ 0 = omega arith in
+    ap (λ l. first_packet pid n s ∷ l) (rest-none pid ((n + 1) % 16) (drop 183 s) z)
+
 pub rest-more : (pid n : ℕ) (bs : List ℕ) → 0 < length bs → rest_packets pid n bs ≡ next_packet pid n bs ∷ rest_packets pid ((n + 1) % 16) (drop 184 bs)
 rest-more pid n bs h =
     ap (λ k. later_packets k pid n bs) (count-more (length bs) h)

@@ -1,5 +1,5 @@
 -- What an assembler stands for.
-use Rattle.std.specs.Prelude.{◌≡◌, ℕ, ◌+◌, ◌-◌, ◌^◌, ◌⊎◌, List, [], ◌∷◌, Bool, false, Option, None, Some, min, filter, count_by}
+use Rattle.std.specs.Prelude.{◌≡◌, ℕ, ◌+◌, ◌-◌, ◌^◌, ◌⊎◌, List, [], ◌∷◌, ◌++◌, Bool, false, Option, None, Some, min, filter, count_by}
 use Rattle.std.specs.Borrow.{MutBor, Fml}
 use Rattle.std.specs.Io.BufRead.{Rests}
 use Rattle.ts_packet.specs.Fields.{in_error, pid_of}
@@ -30,6 +30,10 @@ capped n = min n (2 ^ 64 - 1)
 abbrev pub left : Assembler → List (List ℕ)
 left a = filter is_good (taken (content a.store)).finished
 
+-- how many of the sections that are not passed over yet have a CRC_32 that fails
+abbrev pub bad_left : Assembler → ℕ
+bad_left a = count_by is_bad (taken (content a.store)).finished
+
 -- The assembler has been fed this past, newest first, and has given its sections.
 pub record Waits (a : Assembler) (pid : ℕ) (past : List (List ℕ)) : Type 0 where
   pub last : a.last ≡ last_of pid past
@@ -43,8 +47,14 @@ pub record Gives (a : Assembler) (pid : ℕ) (past todo : List (List ℕ)) : Typ
   pub part : (taken (content a.store)).part ≡ held pid past
   pub todo_left : left a ≡ todo
   pub counted : ℕ
-  pub all : count_by is_bad (taken (content a.store)).finished + counted ≡ failed pid past
+  pub all : bad_left a + counted ≡ failed pid past
   pub bad : a.bad ≡ capped counted
+
+-- Of the sections that the last packet of a past finishes, these have been given, and the others are still to be given: what holds
+-- in a loop over `next`.
+pub record Draining (a : Assembler) (pid : ℕ) (past all done : List (List ℕ)) : Type 0 where
+  pub gives : Gives a pid past (left a)
+  pub split : all ≡ done ++ left a
 
 -- the first of the sections
 abbrev pub first : List (List ℕ) → Option (List ℕ)

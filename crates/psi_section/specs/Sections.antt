@@ -1,6 +1,6 @@
 -- The sections in the payloads of the packets of one PID (ISO/IEC 13818-1, 2.4.4.1 and 2.4.4.2), by the packets that came before,
 -- newest first: what is held of a section that is not finished, and which sections one packet more finishes.
-use Rattle.std.specs.Prelude.{ℕ, zero, suc, ◌+◌, ◌-◌, ◌*◌, ◌/◌, ◌%◌, List, [], ◌∷◌, ◌++◌, Bool, true, not, ◌&&◌, ◌||◌, ◌==◌, if◌then◌else◌, Option, None, Some, nat_le, nat_lt, length, take, drop, filter, count_by, slice_index}
+use Rattle.std.specs.Prelude.{ℕ, zero, suc, ◌+◌, ◌-◌, ◌*◌, ◌/◌, ◌%◌, List, [], ◌∷◌, ◌++◌, Bool, true, not, ◌&&◌, ◌||◌, ◌==◌, if◌then◌else◌, Option, None, Some, nat_le, nat_lt, length, take, drop, filter, map, count_by, slice_index}
 use Rattle.ts_packet.specs.declared.follower.Last.{Last}
 use Rattle.ts_packet.specs.Fields.{unit_start, number, bytes}
 use Rattle.ts_packet.specs.Duplicates.{original, last_of}
@@ -11,17 +11,25 @@ use Rattle.psi_section.specs.Crc.{crc}
 
 -- ---- one section
 
+-- section_length: how many bytes stand behind it
+abbrev pub section_length : List ℕ → ℕ
+section_length s = slice_index s 1 % 16 * 256 + slice_index s 2
+
+-- section_syntax_indicator is 1: the section has the fields that all tables have, and ends with CRC_32
+abbrev pub has_syntax : List ℕ → Bool
+has_syntax s = slice_index s 1 / 128 % 2 == 1
+
 -- The size of the section that begins so: the three bytes up to section_length, and as many as that says. It is known from the
 -- third byte on.
 abbrev pub section_size : List ℕ → Option ℕ
 section_size [] = None
 section_size (a ∷ []) = None
 section_size (a ∷ b ∷ []) = None
-section_size (a ∷ b ∷ c ∷ rest) = Some (b % 16 * 256 + c + 3)
+section_size (a ∷ b ∷ c ∷ rest) = Some (section_length (a ∷ b ∷ c ∷ rest) + 3)
 
 -- it ends with CRC_32: section_syntax_indicator is 1, or table_id is 0xFC
 abbrev pub has_crc : List ℕ → Bool
-has_crc s = (slice_index s 1 / 128 % 2 == 1) || (slice_index s 0 == 0xFC)
+has_crc s = has_syntax s || (slice_index s 0 == 0xFC)
 
 -- its CRC_32 fails
 abbrev pub is_bad : List ℕ → Bool
@@ -133,6 +141,11 @@ failed pid (p ∷ past) = count_by is_bad (finished pid p past) + failed pid pas
 abbrev pub given_by : ℕ → List Seen → List (List ℕ)
 given_by pid [] = []
 given_by pid (s ∷ ss) = given pid s.packet s.past ++ given_by pid ss
+
+-- the sections of packets with their pasts, each behind the packet that finishes it
+abbrev pub sections_with : ℕ → List Seen → List (Seen × List ℕ)
+sections_with pid [] = []
+sections_with pid (s ∷ ss) = map (λ section. (s, section)) (given pid s.packet s.past) ++ sections_with pid ss
 
 -- the sections of packets that come in this order behind a past
 abbrev pub sections_after : List (List ℕ) → ℕ → List (List ℕ) → List (List ℕ)

@@ -1,6 +1,6 @@
 //! Sections out of packets.
 
-ghost use Rattle.std.specs.Prelude.{◌≡◌, ◌∷◌, [], ◌≤◌, ◌^◌, ℕ, List, length, Some, None, option_map, is_some, true, false};
+ghost use Rattle.std.specs.Prelude.{◌≡◌, ◌∷◌, [], ◌≤◌, ◌-◌, ◌^◌, ℕ, List, length, Some, None, option_map, is_some, IfSome, true, false};
 
 use crate::front::{Front, front_of, is_bad};
 use crate::sections::Sections;
@@ -24,9 +24,10 @@ impl Assembler {
     ghost use Rattle.ts_packet.specs.Duplicates.{repeats_last};
     ghost use Rattle.psi_section.specs.Sections.{given, taken, failed, follows_on, packet_taken};
     ghost use Rattle.psi_section.specs.Storing.{content};
-    ghost use Rattle.psi_section.specs.Assembling.{IsOf, IsReady, Waits, Gives, NextRests, capped, first, left};
+    ghost use Rattle.psi_section.specs.Assembling.{IsOf, IsReady, Waits, Gives, NextRests, capped, bad_left, first, left};
     ghost use Rattle.psi_section.specs.Finding.{Finds, Picks};
     ghost use Rattle.psi_section.specs.SectionsLeft.{sections_left};
+    ghost use Rattle.psi_section.specs.Laws.{CanBeGiven};
 
     /// An assembler that was fed no packet.
     pub fn new() -> Assembler
@@ -99,6 +100,7 @@ impl Assembler {
     pub fn next(&mut self) -> Option<&[u8]>
         ensures* after { sem 𝓛 (NextRests self.entry (is_some result)) }
         ensures value { option_map (λ x. x.now) result ≡ first (left self.old) }
+        ensures can { IfSome result (λ section. CanBeGiven section.now) }
     {
         let size = self.find();
         if size == 0 {
@@ -149,9 +151,10 @@ impl Assembler {
         }
     }
 
-    /// The number of sections whose CRC_32 failed; it stops at the greatest.
+    /// The number of sections whose CRC_32 failed, up to where `next` has come; it stops at the greatest.
     pub fn bad(&self) -> u64
-        ensures { (pid : ℕ) (past : List (List ℕ)) → Waits self.now pid past → result ≡ capped (failed pid past) }
+        ensures waits { (pid : ℕ) (past : List (List ℕ)) → Waits self.now pid past → result ≡ capped (failed pid past) }
+        ensures gives { (pid : ℕ) (past todo : List (List ℕ)) → Gives self.now pid past todo → result ≡ capped (failed pid past - bad_left self.now) }
     {
         self.bad
     }

@@ -1,6 +1,6 @@
 //! Laws over the definitions of sections, each a function that does nothing and whose contract is the law.
 
-ghost use Rattle.psi_section.specs.Laws.{SectionsGrow, SectionsOfPid, ReadsBack, ReadBackInTurn, CrcCloses};
+ghost use Rattle.psi_section.specs.Laws.{SectionsGrow, SectionsOfPid, OthersChangeNothing, OthersGiveNothing, SectionsHavePackets, GivenWhereSound, GivenCanBeGiven, GivenAreBytes, FitsOnePacket, ReadsBack, ReadBackInTurn, CrcCloses};
 
 /// A packet behind others adds the sections that it finishes.
 pub fn sections_grow()
@@ -10,6 +10,42 @@ pub fn sections_grow()
 /// Packets of other PIDs, and those marked in error, change nothing.
 pub fn sections_of_pid()
     ensures { SectionsOfPid }
+{}
+
+/// What an assembler holds, the number of sections that failed, and what it gives next come from the packets of its PID alone.
+pub fn others_change_nothing()
+    ensures { OthersChangeNothing }
+{}
+
+/// A packet of another PID, or one marked in error, finishes no section.
+pub fn others_give_nothing()
+    ensures { OthersGiveNothing }
+{}
+
+/// The sections that are told with the packets that finish them are the sections.
+pub fn sections_have_packets()
+    ensures { SectionsHavePackets }
+{}
+
+/// A section can be given exactly where it has 3 to 4,096 bytes, as many as its section_length says, its table_id is not 0xFF, and
+/// its CRC_32, where it ends with one, is 0 over the whole.
+pub fn given_where_sound()
+    ensures { GivenWhereSound }
+{}
+
+/// What an assembler gives can be given.
+pub fn given_can_be_given()
+    ensures { GivenCanBeGiven }
+{}
+
+/// What an assembler gives is bytes, where the packets are.
+pub fn given_are_bytes()
+    ensures { GivenAreBytes }
+{}
+
+/// A section of 183 bytes at most goes out in one packet.
+pub fn fits_one_packet()
+    ensures { FitsOnePacket }
 {}
 
 /// The packets of a section that can be given read back as that one section, through any state of an assembler in which the first
