@@ -1,7 +1,7 @@
 //! How bytes begin, and whether a section is whole.
 
-ghost use Rattle.std.specs.Prelude.{◌≡◌, ◌+◌, ◌*◌, ◌%◌, ◌≤◌, length};
-ghost use Rattle.psi_section.specs.Sections.{front_of, front_by, has_crc, is_bad};
+ghost use Rattle.std.specs.Prelude.{◌≡◌, ◌≤◌, Some, length};
+ghost use Rattle.psi_section.specs.Sections.{section_length, front_of, front_by, has_crc, is_bad};
 
 use crate::checksum::crc;
 use crate::store::SECTION_SIZE;
@@ -23,16 +23,17 @@ pub(crate) fn front_of(bytes: &[u8]) -> Front
 {
     match bytes {
         [] | [0xFF, ..] => Front::Nothing,
-        [_, high, low, ..] => front_by(size_of(*high, *low), bytes.len()),
+        [_, _, _, ..] => front_by(section_length(bytes) + 3, bytes.len()),
         _ => Front::Part,
     }
 }
 
-/// The size of a section, by the two bytes that end with section_length.
-fn size_of(high: u8, low: u8) -> usize
-    ensures { result ≡ high % 16 * 256 + low + 3 }
+/// section_length: how many bytes of a section stand behind its third.
+pub fn section_length(section: &[u8]) -> usize
+    requires { 3 ≤ length section.now }
+    ensures { result ≡ section_length section.now }
 {
-    (high % 16) as usize * 256 + low as usize + 3
+    (section[1] % 16) as usize * 256 + section[2] as usize
 }
 
 /// How so many bytes begin, where they are a section of this size and what follows it.

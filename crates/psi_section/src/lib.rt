@@ -17,5 +17,6 @@ mod tests;
 
 pub use assembler::Assembler;
 pub use checksum::{crc, crc_entry};
+pub use front::section_length;
 pub use packetiser::Packetiser;
 pub use sections::Sections;

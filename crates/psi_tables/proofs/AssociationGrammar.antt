@@ -5,12 +5,13 @@ use Rattle.std.specs.List.{flat_map}
 use Rattle.std.proofs.lemmas.Bool.{le-ltb, le-leb, eq-eqb, eqb-true}
 use Rattle.std.proofs.lemmas.List.{length-drop, length-take, length-append, take_at, drop_at, take-append-drop, drop-append-le}
 use Rattle.byteorder.specs.Endian.{big_bytes}
+use Rattle.psi_section.specs.Sections.{section_length, has_syntax}
 use Rattle.psi_tables.specs.Numbers.{number16_at, number32_at, AreBytes}
-use Rattle.psi_tables.specs.Sections.{is_table, has_size, section_length, before_crc, is_current}
+use Rattle.psi_tables.specs.Sections.{is_table, has_size, before_crc, is_current}
 use Rattle.psi_tables.specs.Runs.{run_of, things_of}
 use Rattle.psi_tables.specs.Association.{IsPair, pair_bytes, pair_at, Association, IsAssociation, pat_section, pairs_in, association_of, pat_fills, pat_fault, pat}
 use Rattle.psi_tables.proofs.Chains.{both_are, unless}
-use Rattle.psi_tables.proofs.Cells.{AreBytes-drop, AreBytes-take, field16, field32, one_at, two_at, four_at, number16_fits, number32_fits}
+use Rattle.psi_tables.proofs.Cells.{AreBytes-drop, AreBytes-take, field16, field32, one_at, two_at, four_at, number16_fits, number32_fits, length_is, syntax_is}
 use Rattle.psi_tables.proofs.RunLemmas.{Spelled, things_spelled, things_back, fills_back}
 use Rattle.psi_tables.proofs.PairLemmas.{pair_shortens, pair_fits, pair_back}
 use Rattle.psi_tables.proofs.AssociationLemmas.{IsPat}
@@ -50,7 +51,7 @@ association_spelled bytes are is =
     let spelled : pairs_in bytes ≡ pairs = (pairs_spelled bytes are is).parts in
     let same-size = ap (λ (xs : List ℕ). 9 + length xs) spelled in
     let own = size_of_pairs bytes is in
-    let field = field_of (number16_at bytes 1) (9 + length pairs) (sym own ∙ same-size) in
+    let field = field_of (number16_at bytes 1) (9 + length pairs) (sym (length_is bytes (omega arith) are) ∙ sym own ∙ same-size) in
     let crc = big_bytes 4 (number32_at bytes (length bytes - 4)) in
     let id = one_at bytes 0 (omega arith) ∙ ap (λ (b : ℕ). b ∷ drop 1 bytes) is.id in
     let size = two_at bytes 1 (omega arith) are ∙ ap (λ (n : ℕ). big_bytes 2 n ++ drop 3 bytes) field in
@@ -75,7 +76,9 @@ pub association_fits : (bytes : List ℕ) → AreBytes bytes → IsPat bytes →
 unfolding association_of
 association_fits bytes are is =
     let pairs = pairs_spelled bytes are is in
-    let syntax = is.syntax in
+    let long = is.long in
+    let own-length = length_is bytes (omega arith) are in
+    let syntax = syntax_is bytes (omega arith) are is.syntax in
     let most = is.most in
     let wide = number16_fits bytes 1 are in
     let long-pairs = ap (λ (xs : List ℕ). length xs) pairs.parts in
@@ -112,7 +115,7 @@ no_fault : (bytes : List ℕ) → IsPat bytes → pat_fault bytes ≡ None
 unfolding pat_fault pat_fills
 no_fault bytes is =
     let long = is.long in
-    let table : is_table 0 bytes ≡ true = both_are (slice_index bytes 0 == 0) (number16_at bytes 1 / 32768 == 1) (eq-eqb _ _ is.id) (eq-eqb _ _ is.syntax) in
+    let table : is_table 0 bytes ≡ true = both_are (slice_index bytes 0 == 0) (has_syntax bytes) (eq-eqb _ _ is.id) (eq-eqb _ _ is.syntax) in
     let sized : has_size 12 bytes ≡ true =
     both_are (nat_le (section_length bytes) 1021 && (section_length bytes + 3 == length bytes)) (nat_le 12 (length bytes))
     (both_are (nat_le (section_length bytes) 1021) (section_length bytes + 3 == length bytes) (le-leb _ _ is.most) (eq-eqb _ _ is.size)) (le-leb _ _ long) in
@@ -143,7 +146,7 @@ back_of a pairs fits pairs-is =
     let field = field16 bytes 1 (a.flags * 4096 + size) (drop 3 bytes) refl (omega arith) in
     let stream = field16 bytes 3 a.stream_id (drop 5 bytes) refl fits.stream_id in
     let flags : number16_at bytes 1 / 4096 ≡ a.flags = ap (λ (n : ℕ). n / 4096) field ∙ omega arith in
-    let own : section_length bytes ≡ size = ap (λ (n : ℕ). n % 4096) field ∙ omega arith in
+    let own : section_length bytes ≡ size = omega arith in
     let body-long : length body ≡ 8 + length pairs = omega arith in
     let all = length-append body (big_bytes 4 a.crc) in
     let long : length bytes ≡ size + 3 = omega arith in
@@ -156,7 +159,7 @@ back_of a pairs fits pairs-is =
     record {
       is = record {
         id = refl;
-        syntax = ap (λ (n : ℕ). n / 32768) field ∙ omega arith;
+        syntax = omega arith;
         most = rw own most;
         size = rw own (sym long);
         long = omega arith;

@@ -4,8 +4,8 @@ use Rattle.std.specs.Prelude.{is_none, is_some, not, nat_lt, nat_le, ◌==◌, �
 use Rattle.std.proofs.lemmas.Bool.{leb-true, eqb-true}
 use Rattle.std.proofs.lemmas.List.{length-drop, length-take}
 use Rattle.psi_tables.specs.declared.fault.TableFault.TheVariants.{WrongTable, BadLength, Sections}
-use Rattle.psi_tables.specs.Numbers.{number16_at}
-use Rattle.psi_tables.specs.Sections.{is_table, has_size, section_length, before_crc, is_current}
+use Rattle.psi_section.specs.Sections.{section_length, has_syntax}
+use Rattle.psi_tables.specs.Sections.{is_table, has_size, before_crc, is_current}
 use Rattle.psi_tables.specs.Runs.{run_of}
 use Rattle.psi_tables.specs.Association.{pair_at, pairs_in, pat_fills, pat_fault}
 use Rattle.psi_tables.proofs.Chains.{guarded, unless, both, none_is}
@@ -13,7 +13,7 @@ use Rattle.psi_tables.proofs.PairLemmas.{pairs_fill}
 
 pub record IsPat (bytes : List ℕ) : Type 0 where
   pub id : slice_index bytes 0 ≡ 0
-  pub syntax : number16_at bytes 1 / 32768 ≡ 1
+  pub syntax : slice_index bytes 1 / 128 % 2 ≡ 1
   pub most : section_length bytes ≤ 1021
   pub size : section_length bytes + 3 ≡ length bytes
   pub long : 12 ≤ length bytes
@@ -27,7 +27,7 @@ faultless bytes h =
     let second = guarded (not (is_table 0 bytes)) WrongTable _ first.1 in
     let third = guarded (not (has_size 12 bytes && is_some (run_of pair_at (pairs_in bytes)))) BadLength _ second.1 in
     let fourth = guarded (is_current (slice_index bytes 5) && not (slice_index bytes 7 == 0)) Sections None third.1 in
-    let table = both (slice_index bytes 0 == 0) (number16_at bytes 1 / 32768 == 1) (unless (is_table 0 bytes) second.0) in
+    let table = both (slice_index bytes 0 == 0) (has_syntax bytes) (unless (is_table 0 bytes) second.0) in
     let fills = both (has_size 12 bytes) (is_some (run_of pair_at (pairs_in bytes))) (unless _ third.0) in
     let sized = both (nat_le (section_length bytes) 1021 && (section_length bytes + 3 == length bytes)) (nat_le 12 (length bytes)) fills.0 in
     let parts = both (nat_le (section_length bytes) 1021) (section_length bytes + 3 == length bytes) sized.0 in

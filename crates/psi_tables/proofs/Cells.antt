@@ -3,6 +3,7 @@ use Rattle.std.proofs.Common.{◌≡◌, ℕ, suc, ◌+◌, ◌*◌, ◌/◌, �
 use Rattle.std.proofs.lemmas.List.{get_or-drop, drop_more, drop-drop, length-drop, length-take, get_or-take, get_or_past}
 use Rattle.std.proofs.lemmas.Bool.{cases_lt}
 use Rattle.byteorder.specs.Endian.{big_number, big_bytes}
+use Rattle.psi_section.specs.Sections.{section_length}
 use Rattle.psi_tables.specs.Numbers.{number16_at, number32_at, AreBytes}
 
 pub AreBytes-drop : (n : ℕ) (bytes : List ℕ) → AreBytes bytes → AreBytes (drop n bytes)
@@ -95,3 +96,20 @@ four_front (a ∷ b ∷ c ∷ d ∷ f ∷ xs) e h = absurd (omega arith)
 pub four_at : (bytes : List ℕ) (place : ℕ) → place + 4 ≡ length bytes → AreBytes bytes → drop place bytes ≡ big_bytes 4 (number32_at bytes place)
 unfolding number32_at
 four_at bytes place e h = four_front (drop place bytes) (omega (arith, length-drop place bytes)) (AreBytes-drop place bytes h)
+
+-- ---- what the two bytes before the third say
+
+-- section_length and section_syntax_indicator, in the number that these bytes are
+pub length_is : (bytes : List ℕ) → 3 ≤ length bytes → AreBytes bytes → section_length bytes ≡ number16_at bytes 1 % 4096
+unfolding number16_at
+length_is [] le h = absurd (omega arith)
+length_is (a ∷ []) le h = absurd (omega arith)
+length_is (a ∷ b ∷ []) le h = absurd (omega arith)
+length_is (a ∷ b ∷ c ∷ bytes) le h = let low : c < 256 = h 2 in omega arith
+
+pub syntax_is : (bytes : List ℕ) → 3 ≤ length bytes → AreBytes bytes → slice_index bytes 1 / 128 % 2 ≡ 1 → number16_at bytes 1 / 32768 ≡ 1
+unfolding number16_at
+syntax_is [] le h s = absurd (omega arith)
+syntax_is (a ∷ []) le h s = absurd (omega arith)
+syntax_is (a ∷ b ∷ []) le h s = absurd (omega arith)
+syntax_is (a ∷ b ∷ c ∷ bytes) le h s = let high : b < 256 = h 1 in let low : c < 256 = h 2 in let t : b / 128 % 2 ≡ 1 = s in omega arith

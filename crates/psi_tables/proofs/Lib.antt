@@ -12,3 +12,4 @@ pub mod CueLemmas
 pub mod AssociationGrammar
 pub mod SealLemmas
 pub mod UndoLemmas
+pub mod ReadBackLemmas

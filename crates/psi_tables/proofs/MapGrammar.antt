@@ -5,14 +5,15 @@ use Rattle.std.proofs.lemmas.Bool.{le-ltb, le-leb, eq-eqb}
 use Rattle.std.proofs.lemmas.List.{length-drop, length-take, length-append, take_at, drop_at, take-append-drop, drop-append-le}
 use Rattle.byteorder.specs.Endian.{big_bytes}
 use Rattle.psi_tables.specs.declared.fault.TableFault.{TableFault}
+use Rattle.psi_section.specs.Sections.{section_length, has_syntax}
 use Rattle.psi_tables.specs.Numbers.{number16_at, number32_at, AreBytes}
-use Rattle.psi_tables.specs.Sections.{is_table, has_size, section_length, before_crc}
+use Rattle.psi_tables.specs.Sections.{is_table, has_size, before_crc}
 use Rattle.psi_tables.specs.Runs.{run_of, things_of}
 use Rattle.psi_tables.specs.Descriptors.{IsDescriptor, descriptor_bytes, descriptor_at}
 use Rattle.psi_tables.specs.Streams.{IsEntry, entry_bytes, entry_at}
 use Rattle.psi_tables.specs.ProgramMap.{ProgramMap, IsProgramMap, map_length, body_with, map_body, pmt_section, descriptors_bytes, entries_bytes, info_length, info_in, entries_in, map_of, pmt_fills, pmt_fault, pmt}
 use Rattle.psi_tables.proofs.Chains.{both_are}
-use Rattle.psi_tables.proofs.Cells.{AreBytes-drop, AreBytes-take, field16, field32, one_at, two_at, four_at, number16_fits, number32_fits}
+use Rattle.psi_tables.proofs.Cells.{AreBytes-drop, AreBytes-take, field16, field32, one_at, two_at, four_at, number16_fits, number32_fits, length_is, syntax_is}
 use Rattle.psi_tables.proofs.RunLemmas.{Spelled, things_spelled, things_back, fills_back}
 use Rattle.psi_tables.proofs.DescriptorLemmas.{descriptor_shortens, descriptor_fits, descriptor_back}
 use Rattle.psi_tables.proofs.EntryLemmas.{entry_shortens, entry_fits, entry_back}
@@ -66,7 +67,7 @@ map_is bytes are is =
     let entries = entries_in bytes in
     let crc = big_bytes 4 (number32_at bytes (length bytes - 4)) in
     let s = sizes bytes is in
-    let first-field = field_of (number16_at bytes 1) (map_length info entries) (sym s.1) in
+    let first-field = field_of (number16_at bytes 1) (map_length info entries) (sym (s.1 ∙ length_is bytes (omega arith) are)) in
     let second-field = field_of (number16_at bytes 10) (length info) (sym s.0) in
     let id = one_at bytes 0 (omega arith) ∙ ap (λ (b : ℕ). b ∷ drop 1 bytes) is.id in
     let size = two_at bytes 1 (omega arith) are ∙ ap (λ (n : ℕ). big_bytes 2 n ++ drop 3 bytes) first-field in
@@ -108,7 +109,9 @@ map_fits bytes are is =
     let info = info_spelled bytes are is in
     let entries = entries_spelled bytes are is in
     let s = sizes bytes is in
-    let syntax = is.syntax in
+    let long = is.long in
+    let own = length_is bytes (omega arith) are in
+    let syntax = syntax_is bytes (omega arith) are is.syntax in
     let most = is.most in
     let wide = number16_fits bytes 1 are in
     let info-wide = number16_fits bytes 10 are in
@@ -155,7 +158,7 @@ unfolding pmt_fault pmt_fills
 no_fault bytes is =
     let long = is.long in
     let size = is.size in
-    let table : is_table 2 bytes ≡ true = both_are (slice_index bytes 0 == 2) (number16_at bytes 1 / 32768 == 1) (eq-eqb _ _ is.id) (eq-eqb _ _ is.syntax) in
+    let table : is_table 2 bytes ≡ true = both_are (slice_index bytes 0 == 2) (has_syntax bytes) (eq-eqb _ _ is.id) (eq-eqb _ _ is.syntax) in
     let sized : has_size 16 bytes ≡ true =
     both_are (nat_le (section_length bytes) 1021 && (section_length bytes + 3 == length bytes)) (nat_le 16 (length bytes))
     (both_are (nat_le (section_length bytes) 1021) (section_length bytes + 3 == length bytes) (le-leb _ _ is.most) (eq-eqb _ _ is.size)) (le-leb _ _ (omega arith)) in
@@ -191,7 +194,7 @@ back_of m info entries fits info-is entries-is =
     let pcr = field16 bytes 8 m.pcr_field (drop 10 bytes) refl fits.pcr_field in
     let flags : number16_at bytes 1 / 4096 ≡ m.flags = ap (λ (n : ℕ). n / 4096) field ∙ omega arith in
     let info-flags : number16_at bytes 10 / 4096 ≡ m.info_flags = ap (λ (n : ℕ). n / 4096) info-field ∙ omega arith in
-    let own : section_length bytes ≡ size = ap (λ (n : ℕ). n % 4096) field ∙ omega arith in
+    let own : section_length bytes ≡ size = omega arith in
     let info-own : info_length bytes ≡ length info = ap (λ (n : ℕ). n % 4096) info-field ∙ omega arith in
     let two = length-append info entries in
     let body-long : length body ≡ 12 + length info + length entries = omega arith in
@@ -209,7 +212,7 @@ back_of m info entries fits info-is entries-is =
     record {
       is = record {
         id = refl;
-        syntax = ap (λ (n : ℕ). n / 32768) field ∙ omega arith;
+        syntax = omega arith;
         most = rw own most;
         size = rw own (sym long);
         long = rw info-own (omega arith);

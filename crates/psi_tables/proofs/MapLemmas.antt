@@ -1,11 +1,11 @@
 -- A program map section that has no fault.
-use Rattle.std.proofs.Common.{◌≡◌, ℕ, ◌+◌, ◌-◌, ◌/◌, ◌≤◌, List, length, drop, slice_index, true, None, arith}
+use Rattle.std.proofs.Common.{◌≡◌, ℕ, ◌+◌, ◌-◌, ◌/◌, ◌%◌, ◌≤◌, List, length, drop, slice_index, true, None, arith}
 use Rattle.std.specs.Prelude.{is_none, is_some, not, nat_lt, nat_le, ◌==◌, ◌&&◌}
 use Rattle.std.proofs.lemmas.Bool.{leb-true, eqb-true}
 use Rattle.std.proofs.lemmas.List.{length-drop, length-take}
 use Rattle.psi_tables.specs.declared.fault.TableFault.TheVariants.{WrongTable, BadLength}
-use Rattle.psi_tables.specs.Numbers.{number16_at}
-use Rattle.psi_tables.specs.Sections.{is_table, has_size, section_length, before_crc}
+use Rattle.psi_section.specs.Sections.{section_length, has_syntax}
+use Rattle.psi_tables.specs.Sections.{is_table, has_size, before_crc}
 use Rattle.psi_tables.specs.Runs.{run_of}
 use Rattle.psi_tables.specs.Descriptors.{descriptor_at}
 use Rattle.psi_tables.specs.Streams.{entry_at}
@@ -14,7 +14,7 @@ use Rattle.psi_tables.proofs.Chains.{guarded, unless, both, none_is}
 
 pub record IsPmt (bytes : List ℕ) : Type 0 where
   pub id : slice_index bytes 0 ≡ 2
-  pub syntax : number16_at bytes 1 / 32768 ≡ 1
+  pub syntax : slice_index bytes 1 / 128 % 2 ≡ 1
   pub most : section_length bytes ≤ 1021
   pub size : section_length bytes + 3 ≡ length bytes
   pub long : 16 + info_length bytes ≤ length bytes
@@ -30,7 +30,7 @@ faultless bytes h =
     let first = guarded (nat_lt (length bytes) 3) BadLength _ h in
     let second = guarded (not (is_table 2 bytes)) WrongTable _ first.1 in
     let third = guarded (not (has_size 16 bytes && long && described && listed)) BadLength None second.1 in
-    let table = both (slice_index bytes 0 == 2) (number16_at bytes 1 / 32768 == 1) (unless (is_table 2 bytes) second.0) in
+    let table = both (slice_index bytes 0 == 2) (has_syntax bytes) (unless (is_table 2 bytes) second.0) in
     let fills = both (has_size 16 bytes && long && described) listed (unless _ third.0) in
     let fills' = both (has_size 16 bytes && long) described fills.0 in
     let fills'' = both (has_size 16 bytes) long fills'.0 in

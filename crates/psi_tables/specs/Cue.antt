@@ -1,14 +1,15 @@
 -- The entry by which a program map lists a stream of cues (SCTE 35): stream_type 0x86, and in the programme's descriptors the
 -- registration descriptor of `CUEI`.
-use Rattle.std.specs.Prelude.{ℕ, ◌+◌, List, [], ◌∷◌, ◌++◌, Bool, not, ◌==◌, nat_lt, if◌then◌else◌, Result, Ok, Err}
+use Rattle.std.specs.Prelude.{◌≡◌, ℕ, ◌+◌, List, [], ◌∷◌, ◌++◌, Bool, not, ◌==◌, nat_lt, if◌then◌else◌, Result, Ok, Err}
 use Rattle.std.specs.List.{filter, list_any}
 use Rattle.arrayvec.specs.ArrayVec.{ArrayVec}
 use Rattle.byteorder.specs.Endian.{big_bytes}
 use Rattle.psi_section.specs.Crc.{crc}
+use Rattle.psi_section.specs.Laws.{CanBeGiven}
 use Rattle.psi_tables.specs.declared.cue.TooLong.{TooLong}
 use Rattle.psi_tables.specs.Descriptors.{cue_registration, without_registration}
 use Rattle.psi_tables.specs.Streams.{Entry, pid_in}
-use Rattle.psi_tables.specs.ProgramMap.{ProgramMap, map_body, map_length, descriptors_bytes, entries_bytes, pmt_section}
+use Rattle.psi_tables.specs.ProgramMap.{ProgramMap, map_body, size_of, pmt, pmt_section}
 
 -- a stream of cues on this PID, without descriptors; reserved bits are ones
 abbrev pub cue_entry : ℕ → Entry
@@ -42,9 +43,14 @@ without_cue_entry pid m =
 
 -- the bytes of a map, where section_length can say their number
 abbrev pub section_or_too_long : ProgramMap → Result (List ℕ) TooLong
-section_or_too_long m = if nat_lt 1021 (map_length (descriptors_bytes m.descriptors) (entries_bytes m.entries)) then Err (record {}) else Ok (pmt_section m)
+section_or_too_long m = if nat_lt 1021 (size_of m) then Err (record {}) else Ok (pmt_section m)
 
 -- what the code answers, by the section's bytes
 abbrev pub seen_section : Result (ArrayVec ℕ) TooLong → Result (List ℕ) TooLong
 seen_section (Ok section) = Ok section.items
 seen_section (Err e) = Err e
+
+-- these bytes are read as the map, and an assembler can give them
+pub record ReadsAs (m : ProgramMap) (s : List ℕ) : Type 0 where
+  pub reads : pmt s ≡ Ok m
+  pub can : CanBeGiven s

@@ -42,6 +42,10 @@ descriptors_bytes ds = flat_map descriptor_bytes ds
 abbrev pub entries_bytes : List Entry → List ℕ
 entries_bytes es = flat_map entry_bytes es
 
+-- section_length of a map
+abbrev pub size_of : ProgramMap → ℕ
+size_of m = map_length (descriptors_bytes m.descriptors) (entries_bytes m.entries)
+
 abbrev pub map_body : ProgramMap → List ℕ
 map_body m = body_with m (descriptors_bytes m.descriptors) (entries_bytes m.entries)
 
@@ -61,7 +65,7 @@ pub record IsProgramMap (m : ProgramMap) : Type 0 where
   pub descriptors : AllByRecursion IsDescriptor m.descriptors
   pub entries : AllByRecursion IsEntry m.entries
   pub crc : m.crc < 4294967296
-  pub size : map_length (descriptors_bytes m.descriptors) (entries_bytes m.entries) ≤ 1021
+  pub size : size_of m ≤ 1021
 
 -- ---- how it is read
 

@@ -1,15 +1,11 @@
 -- What the sections of all tables have in common (ISO/IEC 13818-1, 2.4.4.3, 2.4.4.8).
-use Rattle.std.specs.Prelude.{ℕ, ◌+◌, ◌-◌, ◌/◌, ◌%◌, List, length, take, Bool, slice_index, nat_le, ◌==◌, ◌&&◌, Option, Some, None, Result, Ok, Err}
+use Rattle.std.specs.Prelude.{ℕ, ◌+◌, ◌-◌, ◌%◌, List, length, take, Bool, slice_index, nat_le, ◌==◌, ◌&&◌, Option, Some, None, Result, Ok, Err}
 use Rattle.psi_tables.specs.declared.fault.TableFault.{TableFault}
-use Rattle.psi_tables.specs.Numbers.{number16_at}
+use Rattle.psi_section.specs.Sections.{section_length, has_syntax}
 
 -- table_id, and section_syntax_indicator 1
 abbrev pub is_table : ℕ → List ℕ → Bool
-is_table id bytes = (slice_index bytes 0 == id) && (number16_at bytes 1 / 32768 == 1)
-
--- section_length, of 12 bits: how many bytes follow it
-abbrev pub section_length : List ℕ → ℕ
-section_length bytes = number16_at bytes 1 % 4096
+is_table id bytes = (slice_index bytes 0 == id) && has_syntax bytes
 
 -- section_length is 1021 at most and that of these bytes, and these are no fewer than the fixed fields and CRC_32
 abbrev pub has_size : ℕ → List ℕ → Bool

@@ -1,10 +1,10 @@
 //! The entry by which a program map lists a stream of cues (SCTE 35).
 
-ghost use Rattle.std.specs.Prelude.{◌≡◌, ◌+◌, ◌++◌, ◌∷◌, [], ◌≤◌, length, is_none, true};
+ghost use Rattle.std.specs.Prelude.{◌≡◌, ◌+◌, ◌++◌, ◌∷◌, [], ◌<◌, ◌≤◌, length, is_none, true, IfOk};
 ghost use Rattle.psi_tables.specs.Descriptors.{cue_registration, descriptor_bytes};
 ghost use Rattle.psi_tables.specs.Streams.{entry_bytes};
 ghost use Rattle.psi_tables.specs.ProgramMap.{pmt_fault, map_of, pmt_section};
-ghost use Rattle.psi_tables.specs.Cue.{cue_entry, with_cue_entry, without_cue_entry, section_or_too_long, seen_section};
+ghost use Rattle.psi_tables.specs.Cue.{ReadsAs, cue_entry, with_cue_entry, without_cue_entry, section_or_too_long, seen_section};
 
 use crate::descriptors::{CUE_REGISTRATION, before_registration};
 use crate::pmt::{Pmt, loops};
@@ -21,7 +21,8 @@ pub struct TooLong;
 
 /// An entry of `stream_type` 0x86 without descriptors; its reserved bits are ones.
 fn entry_of(pid: Pid) -> [u8; 5]
-    ensures { result ≡ entry_bytes (cue_entry pid) }
+    ensures value { result ≡ entry_bytes (cue_entry pid) }
+    ensures below { pid < 8192 }
 {
     let number = pid.get();
     [
@@ -46,7 +47,8 @@ fn joined(front: &[u8], behind: &[u8]) -> Section
 #[tactic(auto, using(crate::proofs::MapLemmas::map_sixteen, crate::proofs::MapLemmas::map_long, crate::proofs::MapLemmas::info_short, crate::proofs::MapLemmas::entries_short))]
 fn with_entry(map: &[u8], pid: Pid) -> Result<Section, TooLong>
     requires { is_none (pmt_fault map.now) ≡ true }
-    ensures { seen_section result ≡ section_or_too_long (with_cue_entry pid (map_of map.now)) }
+    ensures exact { seen_section result ≡ section_or_too_long (with_cue_entry pid (map_of map.now)) }
+    ensures reads { IfOk result (λ section. ReadsAs (with_cue_entry pid (map_of map.now)) section.items) }
 {
     let (info, entries) = loops(map);
     let info = joined(info, &CUE_REGISTRATION);
@@ -60,7 +62,10 @@ fn with_entry(map: &[u8], pid: Pid) -> Result<Section, TooLong>
 /// The map with an entry for cues on this PID behind its own and the registration descriptor behind the programme's own, and its
 /// `CRC_32` made anew; the version stays. `TooLong` exactly where `section_length`, which grows by 11, would be over 1021.
 pub fn add_cue(pmt: &Pmt<'_>, pid: Pid) -> Result<Section, TooLong>
-    ensures { seen_section result ≡ section_or_too_long (with_cue_entry pid (map_of pmt.now.bytes.now)) }
+    ensures exact { seen_section result ≡ section_or_too_long (with_cue_entry pid (map_of pmt.now.bytes.now)) }
+
+    // What is written is read as that map, and an assembler can give it.
+    ensures reads { IfOk result (λ section. ReadsAs (with_cue_entry pid (map_of pmt.now.bytes.now)) section.items) }
 {
     with_entry(pmt.bytes, pid)
 }
@@ -68,7 +73,8 @@ pub fn add_cue(pmt: &Pmt<'_>, pid: Pid) -> Result<Section, TooLong>
 #[tactic(auto, using(crate::proofs::MapLemmas::map_sixteen, crate::proofs::MapLemmas::map_long, crate::proofs::MapLemmas::loops_short, crate::proofs::MapLemmas::info_short, crate::proofs::MapLemmas::entries_short, crate::proofs::MapLemmas::map_described, crate::proofs::MapLemmas::map_listed))]
 fn without_entry(map: &[u8], pid: Pid) -> Section
     requires { is_none (pmt_fault map.now) ≡ true }
-    ensures { result.items ≡ pmt_section (without_cue_entry pid (map_of map.now)) }
+    ensures exact { result.items ≡ pmt_section (without_cue_entry pid (map_of map.now)) }
+    ensures reads { ReadsAs (without_cue_entry pid (map_of map.now)) result.items }
 {
     let (info, entries) = loops(map);
     let (entries, is_listed) = entries_without(entries, pid);
@@ -82,7 +88,8 @@ fn without_entry(map: &[u8], pid: Pid) -> Section
 /// The map without its entries for this PID and, where there was one and the programme's last descriptor is the registration
 /// descriptor, without that; its `CRC_32` is made anew, and the version stays.
 pub fn strip_cue(pmt: &Pmt<'_>, pid: Pid) -> Section
-    ensures { result.items ≡ pmt_section (without_cue_entry pid (map_of pmt.now.bytes.now)) }
+    ensures exact { result.items ≡ pmt_section (without_cue_entry pid (map_of pmt.now.bytes.now)) }
+    ensures reads { ReadsAs (without_cue_entry pid (map_of pmt.now.bytes.now)) result.items }
 {
     without_entry(pmt.bytes, pid)
 }

@@ -4,6 +4,7 @@ ghost use Rattle.psi_tables.specs.Numbers.{number16_at};
 ghost use Rattle.psi_tables.specs.Sections.{is_table, has_size, before_crc};
 
 use byteorder::{BigEndian, ByteOrder};
+use psi_section::section_length;
 use ts_packet::Pid;
 
 #[tactic(auto, unfolding(crate::specs::Numbers::number16_at))]
@@ -54,7 +55,7 @@ pub fn is_of_table(id: u8, bytes: &[u8]) -> bool
     requires { 3 ≤ length bytes.now }
     ensures { result ≡ is_table id bytes.now }
 {
-    bytes[0] == id && number16(bytes, 1) / 32768 == 1
+    bytes[0] == id && bytes[1] / 128 % 2 == 1
 }
 
 /// Whether `section_length` is 1021 at most and that of the bytes, and these are at least so many.
@@ -62,6 +63,6 @@ pub fn fits_its_size(least: usize, bytes: &[u8]) -> bool
     requires { 3 ≤ length bytes.now }
     ensures { result ≡ has_size least bytes.now }
 {
-    let size = length12(bytes, 1);
+    let size = section_length(bytes);
     size <= 1021 && size + 3 == bytes.len() && least <= bytes.len()
 }

@@ -6,6 +6,7 @@ use Rattle.psi_tables.specs.Runs.{things_of}
 use Rattle.psi_tables.specs.ProgramMap.{map_of, body_with, descriptors_bytes, entries_bytes}
 use Rattle.psi_tables.specs.Cue.{closed, lists_pid, without_pid}
 use Rattle.psi_tables.proofs.CueLemmas.{stripped, unstripped}
+use Rattle.psi_tables.proofs.ReadBackLemmas.{stripped_reads}
 use Rattle.psi_tables.proofs.cue.without_entry.Goals as goal
 
 pub returns-then-not-is_listed : goal.returns-then-not-is_listed
@@ -17,7 +18,8 @@ returns-then-not-is_listed c =
     let none : list_any (lists_pid c.args.pid) (map_of c.args.map.now).entries ≡ false =
     sym (ap (λ (xs : List ℕ). list_any (lists_pid c.args.pid) (things_of entry_at xs)) c.loops.ensures.entries) ∙ sym c.entries_without-entries.ensures.listed ∙ c.if-not-is_listed.true in
     let made = unstripped c.args.map.now c.args.pid c.requires (λ i. omega (arith, c.type_inv.map i)) c.loops.result.0.now out kept none c.loops.ensures.info in
-    c.map_with.ensures ∙ ap (λ (xs : List ℕ). closed (body_with (map_of c.args.map.now) c.loops.result.0.now xs)) c.as_slice.ensures.value ∙ made
+    let exact = c.map_with.ensures ∙ ap (λ (xs : List ℕ). closed (body_with (map_of c.args.map.now) c.loops.result.0.now xs)) c.as_slice.ensures.value ∙ made in
+    record { exact = exact; reads = stripped_reads c.args.map.now c.args.pid c.requires (λ i. omega (arith, c.type_inv.map i)) _ exact }
 
 pub returns : goal.returns
 unfolding map_of
@@ -32,4 +34,4 @@ returns c =
     c.before_registration-info.ensures.value ∙ ap (λ (xs : List ℕ). descriptors_bytes (without_registration (things_of descriptor_at xs))) c.loops.ensures.info in
     let made = stripped c.args.map.now c.args.pid c.requires (λ i. omega (arith, c.type_inv.map i)) info out kept any described in
     let written : c.map_with-2.result.items ≡ closed (body_with (map_of c.args.map.now) info out) = c.map_with-2.ensures ∙ rw (c.as_slice-2.ensures.value, c.as_slice-3.ensures.value) refl in
-    written ∙ made
+    record { exact = written ∙ made; reads = stripped_reads c.args.map.now c.args.pid c.requires (λ i. omega (arith, c.type_inv.map i)) _ (written ∙ made) }
