@@ -14,7 +14,7 @@ returns g c =
     let added = added_text (section_or_too_long (with_cue_entry 0x1F0 m)) in
     let stripped = codes " | strip=" ++ bytes_text (pmt_section (without_cue_entry 0x1F0 m)) in
     let same : c.as_slice.result.now ≡ pmt_section (without_cue_entry 0x1F0 m) =
-    c.as_slice.ensures.value ∙ rw c.of_bits-cue_pid.ensures at c.strip_cue-section.ensures in
+    c.as_slice.ensures.value ∙ rw c.of_bits-cue_pid.ensures at c.strip_cue-section.ensures.exact in
     let first : Appends (contents c.args.output.now) (contents c.write.new.self) (map_text m ++ codes " | add=") = c.in_ok-write.ensures.bytes in
     let second : Appends (contents c.write.new.self) (contents c.write_added.new.output) added =
     rw c.of_bits-cue_pid.ensures at c.in_ok-write_added.ensures in
