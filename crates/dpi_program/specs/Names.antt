@@ -7,8 +7,8 @@ use Rattle.ts_packet.specs.declared.sink.PutFault.TheVariants as put
 use Rattle.unit_cut.specs.declared.run.CutFault.{CutFault}
 use Rattle.unit_cut.specs.declared.run.CutFault.TheVariants.{Read, Scrambled, HeaderSplit, TimeJump, Sink}
 use Rattle.packet_lines.specs.declared.lines.LinesFault.TheVariants.{BadLine, Cut}
-use Rattle.dpi_program.specs.declared.program.ProgramFault.{ProgramFault}
-use Rattle.dpi_program.specs.declared.program.ProgramFault.TheVariants.{Lines, File, OutOfMemory}
+use Rattle.dpi_program.specs.declared.fault.ProgramFault.{ProgramFault}
+use Rattle.dpi_program.specs.declared.fault.ProgramFault.TheVariants.{Lines, File, OutOfMemory}
 
 abbrev pub read_name : ReadFault → List ℕ
 read_name read.Truncated = codes "Truncated"

@@ -4,6 +4,7 @@ ghost use Rattle.std.specs.Prelude.{◌≡◌, ◌^◌, IfOk, IfErr, Some};
 ghost use Rattle.dpi_program.specs.Numbers.{number_below};
 ghost use Rattle.dpi_program.specs.Command.{IsRefused};
 
+use crate::ends::End;
 use crate::numbers::number_below;
 use clap::{Arg, ArgAction, ArgMatches, Command};
 use pes_time::Time33;
@@ -31,20 +32,30 @@ The units (PES packets) of the PID whose presentation time (PTS) lies from --fro
 byte for byte, those of the PID with the continuity counter that closes the gap. The clock may wrap inside the stream; the
 start is then taken as the time that lies within 13 hours of the stream's first one.
 
-Without --in and --out, packets are lines of 376 upper case hexadecimal digits on standard input and output. The output
-file is made anew before the first packet is read, so --in and --out must not be the same file.";
+A packet that is left out goes whole, with the clock reference (PCR) in it, where the PID carries one: cut PIDs that carry none,
+or the receiver loses its clock for as long.
+
+FILE may be a pipe, and - is standard input or output in bytes. What came in before a pause of the input goes out before it.
+Without --in and --out, packets are lines of 376 upper case hexadecimal digits on standard input and output. The output file is
+written from the begin, once the input file is open: a stream that turns out not to hold packets leaves an empty file. --in and
+--out may not be the same file.";
 
 const CUT_EXAMPLE: &str =
-    "Times are ticks of the 90 kHz clock: 90000 are one second, 3600 one picture of 25 a second.
+    "Numbers are decimal digits: PID 256 is what other tools may show as 0x100 (0x100 is not taken).
+Times are ticks of the 90 kHz clock: 90000 are one second, 3600 one picture of 25 a second.
 
-Example, the ten seconds of PID 256 from the time stamp 1800000 (20 seconds) on:
-  dpi_chain cut --pid 256 --from 1800000 --length 900000 --in network.ts --out cut.ts
+Example, the ten seconds of PID 257 from the time stamp 1800000 (20 seconds) on:
+  dpi_chain cut --pid 257 --from 1800000 --length 900000 --in network.ts --out cut.ts
+
+The same in a pipe:
+  dpi_chain cut --pid 257 --from 1800000 --length 900000 --in - --out - < network.ts > cut.ts
 
 Exit status: 0 where the whole stream went through; 1 at a fault, which is named on standard error as `fault: NAME`, and
-what went out before it stands; 2 where the command line is not taken.";
+what went out before it stands (a reader that closes the output's pipe is `fault: Io`); 2 where the command line is not taken,
+or asks for help or the version.";
 
 const CUT_USAGE: &str =
-    "dpi_chain cut --pid <PID> --from <TICKS> --length <TICKS> [--in <FILE>] [--out <FILE>]";
+    "dpi_chain cut --pid <PID> --from <TICKS> --length <TICKS> [--in <FILE>] [--out <FILE>] [--verbose]";
 
 /// What `cut` is to do.
 #[derive(Clone, Copy, Debug, Drop)]
@@ -55,10 +66,12 @@ pub struct CutOptions<'a> {
     pub from: Time33,
     /// The length of the interval, in ticks of 90 kHz.
     pub length: u32,
-    /// The file that is read, or lines on standard input.
-    pub input: Option<&'a str>,
-    /// The file that is written, or lines on standard output.
-    pub output: Option<&'a str>,
+    /// What is read.
+    pub input: End<'a>,
+    /// What is written.
+    pub output: End<'a>,
+    /// Whether more is told than the fault's line.
+    pub is_verbose: bool,
 }
 
 /// The options that are numbers.
@@ -99,11 +112,21 @@ impl fmt::Display for BadNumber<'_> {
     fn fmt<W: fmt::Write>(&self, f: &mut fmt::Formatter<W>) -> fmt::Result {
         let option = self.option;
         let text = self.text;
+        write!(f, "error: invalid value '{text}' for {option}")?;
+        if let Some(number) = hexadecimal(text) {
+            write!(f, "; {text} is {number}")?;
+        }
         write!(
             f,
-            "error: invalid value '{text}' for {option}\n\nUsage: {CUT_USAGE}\n\nFor more information, try '--help'.\n"
+            "\n\nUsage: {CUT_USAGE}\n\nFor more information, try '--help'.\n"
         )
     }
+}
+
+/// The number that a text writes in hexadecimal digits behind `0x`, as other tools show PIDs.
+fn hexadecimal(text: &str) -> Option<u64> {
+    let digits = text.strip_prefix("0x")?;
+    u64::from_str_radix(digits, 16).ok()
 }
 
 /// An option that takes one value.
@@ -122,7 +145,7 @@ fn cut_command<'a>(alloc: Global) -> Result<Command<'a>, AllocError> {
         alloc,
         "pid",
         "PID",
-        "The PID to cut in, a decimal number from 0 to 8191",
+        "The PID to cut in, a decimal number from 0 to 8191, as 256 (0x100)",
     )
     .required(true);
     let from = option(
@@ -143,14 +166,18 @@ fn cut_command<'a>(alloc: Global) -> Result<Command<'a>, AllocError> {
         alloc,
         "in",
         "FILE",
-        "The transport stream to read, a file or a pipe of 188-byte packets [default: lines of digits on standard input]",
+        "The transport stream to read, a file or a pipe of 188-byte packets; - is standard input [default: lines of digits on standard input]",
     );
     let output = option(
         alloc,
         "out",
         "FILE",
-        "The file to write, which is made anew [default: lines of digits on standard output]",
+        "The file to write, which is made anew; - is standard output [default: lines of digits on standard output]",
     );
+    let verbose = Arg::new(alloc, "verbose")
+        .long("verbose")
+        .action(ArgAction::SetTrue)
+        .help("Tell more on standard error: where a fault stands, or what was cut");
     Command::new(alloc, "cut")
         .about(CUT_ABOUT)
         .long_about(CUT_LONG_ABOUT)
@@ -160,7 +187,8 @@ fn cut_command<'a>(alloc: Global) -> Result<Command<'a>, AllocError> {
         .arg(from)?
         .arg(length)?
         .arg(input)?
-        .arg(output)
+        .arg(output)?
+        .arg(verbose)
 }
 
 /// The command line of the program, whose words come without the program's name.
@@ -215,7 +243,8 @@ pub fn cut_options<'a>(matches: &ArgMatches<'a>) -> Result<CutOptions<'a>, BadNu
         pid,
         from,
         length,
-        input: matches.get_str("in"),
-        output: matches.get_str("out"),
+        input: End::named(matches.get_str("in")),
+        output: End::named(matches.get_str("out")),
+        is_verbose: matches.get_flag("verbose"),
     })
 }

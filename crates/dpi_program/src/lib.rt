@@ -3,12 +3,18 @@
 //! What a caller uses: `cut` says which bytes come out, `cut_lines` is it over lines, and `program` answers 0, 1 or 2.
 #![tactic(auto)]
 
+mod attended;
 pub mod command;
+mod cutting;
+mod ends;
+pub mod fault;
 pub mod numbers;
 pub mod program;
+mod tell;
+mod watch;
 
+pub use fault::ProgramFault;
 pub use packet_lines::{LinesFault, cut_lines};
-pub use program::ProgramFault;
 pub use unit_cut::{CutFault, cut};
 
 #[cfg(test)]

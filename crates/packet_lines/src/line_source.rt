@@ -56,6 +56,21 @@ impl<S: Source> LineSource<S> {
         }
     }
 
+    /// The device below, as the reads left it.
+    pub fn into_inner(self) -> S
+        ensures { result ≡ self.source }
+    {
+        let LineSource {
+            source,
+            text: _,
+            line: _,
+            is_bad: _,
+            calls: _,
+            failures: _,
+        } = self;
+        source
+    }
+
     /// Whether a line was met that is no packet's.
     pub fn found_bad_line(&self) -> bool
         ensures { result ≡ self.now.is_bad }

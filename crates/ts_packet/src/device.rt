@@ -141,6 +141,14 @@ impl<R: Read> Buffered<R> {
             device: Device::new(reader),
         }
     }
+
+    /// The buffered reader, as the calls left it.
+    pub fn into_inner(self) -> BufReader<R>
+        ensures { result ≡ self.device.inner }
+    {
+        let Buffered { device } = self;
+        device.into_inner()
+    }
 }
 
 impl<R: Read> Source for Buffered<R> {

@@ -1,0 +1,114 @@
+//! Where the streams of a run come from and go to: files, the standard streams in bytes, or lines of digits on them.
+
+use std::fs::{self, Metadata, OpenFile};
+use std::io;
+use std::os::unix::fs::MetadataExt;
+use std::rt::Files;
+
+/// One end of a run, as an option names it.
+#[derive(Clone, Copy, Debug, PartialEq, Eq, Drop)]
+pub enum End<'a> {
+    /// Lines of digits on the standard stream: the option is not given.
+    Lines,
+    /// Bytes on the standard stream: the option is `-`.
+    Standard,
+    /// Bytes of this file.
+    File(&'a str),
+}
+
+impl<'a> End<'a> {
+    /// The end that an option's text names.
+    pub fn named(text: Option<&'a str>) -> End<'a> {
+        match text {
+            None => End::Lines,
+            Some("-") => End::Standard,
+            Some(path) => End::File(path),
+        }
+    }
+
+    /// What an input is called.
+    pub fn input_name(&self) -> &'a str {
+        self.path().unwrap_or("standard input")
+    }
+
+    /// What an output is called.
+    pub fn output_name(&self) -> &'a str {
+        self.path().unwrap_or("standard output")
+    }
+
+    /// The path, where the end is a file.
+    pub fn path(&self) -> Option<&'a str> {
+        match *self {
+            End::File(path) => Some(path),
+            End::Lines => None,
+            End::Standard => None,
+        }
+    }
+}
+
+/// A file that could not be opened, and the system's reason.
+#[derive(Drop)]
+pub enum Unopened {
+    Input(io::Error),
+    Output(io::Error),
+}
+
+/// The files of a run, where its ends are files.
+#[derive(Drop)]
+pub struct OpenedEnds<F> {
+    /// The file that is read.
+    pub input: Option<F>,
+    /// The file that is written, made anew.
+    pub output: Option<F>,
+    /// Whether the input may pause, as a pipe does: it is no ordinary file.
+    pub is_live: bool,
+}
+
+/// Whether the two are one ordinary file, by whatever names: then writing the one would destroy the other.
+fn is_same_file(one: &Metadata, other: &Metadata) -> bool {
+    one.is_file() && one.dev() == other.dev() && one.ino() == other.ino()
+}
+
+/// Opens a file to read, with what the system says of it. A directory is refused.
+fn open_input<R: Files>(rt: &R, path: &str) -> io::Result<(R::File, Metadata)> {
+    let file = fs::open(rt, path)?;
+    let about = file.metadata()?;
+    if about.is_dir() {
+        return Err(io::Error::from(io::ErrorKind::IsADirectory));
+    }
+    Ok((file, about))
+}
+
+/// Makes a file to write anew, unless it is the one that is read.
+fn create_output<R: Files>(rt: &R, path: &str, input: Option<&Metadata>) -> io::Result<R::File> {
+    if let Some(input) = input
+        && let Ok(standing) = fs::metadata(rt, path)
+        && is_same_file(input, &standing)
+    {
+        return Err(io::Error::other("it is the input file"));
+    }
+    fs::create(rt, path)
+}
+
+/// Opens the files of a run. Nothing is opened for writing before the input is found good, and not where both are the same file.
+pub fn open_ends<R: Files>(
+    rt: &R,
+    input: End<'_>,
+    output: End<'_>,
+) -> Result<OpenedEnds<R::File>, Unopened> {
+    let opened = match input.path() {
+        Some(path) => Some(open_input(rt, path).map_err(Unopened::Input)?),
+        None => None,
+    };
+    let about = opened.as_ref().map(|(_, about)| about);
+    let is_live = !about.is_some_and(|about| about.is_file());
+    let output = match output.path() {
+        Some(path) => Some(create_output(rt, path, about).map_err(Unopened::Output)?),
+        None => None,
+    };
+    Ok(OpenedEnds {
+        input: opened.map(|(file, _)| file),
+        output,
+        is_live,
+    })
+}

@@ -1,0 +1,134 @@
+//! What `--verbose` adds: a line behind the fault's line, and a line at the end of a run that went through.
+
+use crate::fault::ProgramFault;
+use crate::watch::Watch;
+use packet_lines::LinesFault;
+use std::{fmt, io};
+use ts_packet::{Pid, ReadFault};
+use unit_cut::CutFault;
+
+/// What a run did to one of its ends when it stopped.
+#[derive(Clone, Copy, Debug, PartialEq, Eq)]
+pub enum Side {
+    Reading,
+    Writing,
+}
+
+/// Why a run stopped, and what is known of it.
+#[derive(Drop)]
+pub struct Stopped {
+    pub fault: ProgramFault,
+    /// What was done when it stopped.
+    pub side: Side,
+    /// The system's reason, where a file or a device failed.
+    pub reason: Option<io::Error>,
+    /// What was read until then, where that was watched.
+    pub read: Option<Watch>,
+}
+
+/// A PID in decimal and hexadecimal digits.
+#[derive(Clone, Copy, Debug, PartialEq, Eq)]
+struct BothWays {
+    pid: Pid,
+}
+
+impl fmt::Display for BothWays {
+    fn fmt<W: fmt::Write>(&self, f: &mut fmt::Formatter<W>) -> fmt::Result {
+        let number = self.pid.get();
+        write!(f, "PID {number} (0x{number:04X})")
+    }
+}
+
+/// Whether the fault is one of the network's bytes, so that the packet in which it stands is known.
+fn is_of_the_stream(fault: ProgramFault) -> bool {
+    match fault {
+        ProgramFault::Lines(LinesFault::Cut(CutFault::Read(ReadFault::Truncated)))
+        | ProgramFault::Lines(LinesFault::Cut(CutFault::Read(ReadFault::SyncLost)))
+        | ProgramFault::Lines(LinesFault::Cut(CutFault::Read(ReadFault::BadAdaptation)))
+        | ProgramFault::Lines(LinesFault::Cut(CutFault::Scrambled))
+        | ProgramFault::Lines(LinesFault::Cut(CutFault::HeaderSplit))
+        | ProgramFault::Lines(LinesFault::Cut(CutFault::TimeJump)) => true,
+        _ => false,
+    }
+}
+
+/// The line behind a fault's: what was done to which end, and where or why it stopped.
+pub struct Trouble<'a> {
+    pub stopped: &'a Stopped,
+    /// The name of the end.
+    pub name: &'a str,
+}
+
+impl Trouble<'_> {
+    /// Writes the packet in which the fault stands: its number from 0, the place of its first byte, and its PID.
+    fn write_packet<W: fmt::Write>(read: &Watch, f: &mut fmt::Formatter<W>) -> fmt::Result {
+        let number = read.last_packet();
+        let byte = number.saturating_mul(188);
+        write!(f, ": packet {number}, byte {byte}")?;
+        match read.last_pid() {
+            Some(pid) => {
+                let pid = BothWays { pid };
+                write!(f, ", {pid}")
+            }
+            None => Ok(()),
+        }
+    }
+
+    /// Writes where the run stopped.
+    fn write_place<W: fmt::Write>(&self, f: &mut fmt::Formatter<W>) -> fmt::Result {
+        if let Some(reason) = &self.stopped.reason {
+            return write!(f, ": {reason}");
+        }
+        let Some(read) = &self.stopped.read else {
+            return Ok(());
+        };
+        if self.stopped.fault == ProgramFault::Lines(LinesFault::BadLine) {
+            let line = read.packets().saturating_add(1);
+            return write!(f, ": line {line}");
+        }
+        if is_of_the_stream(self.stopped.fault) {
+            return Trouble::write_packet(read, f);
+        }
+        Ok(())
+    }
+}
+
+impl fmt::Display for Trouble<'_> {
+    fn fmt<W: fmt::Write>(&self, f: &mut fmt::Formatter<W>) -> fmt::Result {
+        let name = self.name;
+        match self.stopped.side {
+            Side::Reading => write!(f, "reading {name}")?,
+            Side::Writing => write!(f, "writing {name}")?,
+        }
+        self.write_place(f)?;
+        writeln!(f)
+    }
+}
+
+/// What a cut that went through has done.
+#[derive(Clone, Copy, Debug)]
+pub struct Account {
+    /// The PID that was cut.
+    pub pid: Pid,
+    /// What was read.
+    pub read: Watch,
+    /// What was written.
+    pub written: Watch,
+}
+
+impl fmt::Display for Account {
+    fn fmt<W: fmt::Write>(&self, f: &mut fmt::Formatter<W>) -> fmt::Result {
+        let (packets, units) = (self.read.packets(), self.read.units());
+        let packets_out = packets.saturating_sub(self.written.packets());
+        let units_out = units.saturating_sub(self.written.units());
+        let pid = BothWays { pid: self.pid };
+        write!(
+            f,
+            "cut: {units_out} of {units} units of {pid}, {packets_out} of {packets} packets left out"
+        )?;
+        match self.read.stamps() {
+            Some(stamps) => writeln!(f, "; its time stamps go from {stamps}"),
+            None => writeln!(f, "; it has no time stamps"),
+        }
+    }
+}
