@@ -1,8 +1,9 @@
-//! What `dpi_chain cut` is measured against: the same work in plain Rust, one packet at a time through a buffered reader and a
-//! buffered writer of 256 KiB. Only files; the command line is `cut --pid P --from T --length D --in FILE --out FILE`.
+//! What `dpi_chain cut` is measured against: the same work in plain Rust, one packet at a time out of the buffer of a reader and
+//! through a buffered writer of 256 KiB each. The PID's last payload packet stays where it was read: two packets change places, and
+//! neither is copied. Only files; the command line is `cut --pid P --from T --length D --in FILE --out FILE`.
 
 use std::fs::File;
-use std::io::{BufReader, BufWriter, ErrorKind, Read, Write};
+use std::io::{BufRead, BufReader, BufWriter, ErrorKind, Read, Write};
 
 const BUFFER_SIZE: usize = 262_144;
 const TURN: i64 = 1 << 33;
@@ -106,9 +107,16 @@ struct Cut {
     start: i64,
     is_inside: bool,
     dropped: u8,
-    last: [u8; 188],
-    has_last: bool,
+    /// The counter with which the PID's last payload packet came.
+    last_counter: Option<u8>,
     is_repeat: bool,
+}
+
+/// What becomes of a packet.
+struct Fate {
+    is_kept: bool,
+    /// Whether it is the PID's last payload packet now.
+    is_last: bool,
 }
 
 impl Cut {
@@ -136,46 +144,46 @@ impl Cut {
         Ok(())
     }
 
-    /// Whether the packet repeats the payload packet before it on its PID.
-    fn repeats(&self, packet: &Packet, payload: &[u8]) -> bool {
-        let last = Packet { bytes: self.last };
-        self.has_last
-            && !self.is_repeat
-            && last.counter() == packet.counter()
+    /// Whether the packet repeats the payload packet before it on its PID, which `last` holds, with whatever counter.
+    fn repeats(&self, packet: &Packet, payload: &[u8], last: &Packet) -> bool {
+        !self.is_repeat
+            && self.last_counter == Some(packet.counter())
             && last.unit_start() == packet.unit_start()
             && last.payload() == Some(payload)
     }
 
-    /// Whether the packet goes out, with its counter changed where that is due.
-    fn keeps(&mut self, packet: &mut Packet) -> Result<bool, &'static str> {
+    /// What becomes of the packet, with its counter changed where that is due.
+    fn judge(&mut self, packet: &mut Packet, last: &Packet) -> Result<Fate, &'static str> {
         if packet.error() || packet.pid() != self.pid {
-            return Ok(true);
+            return Ok(Fate { is_kept: true, is_last: false });
         }
+        let mut is_last = false;
         if let Some(payload) = packet.payload() {
             if packet.scrambled() {
                 return Err("Scrambled");
             }
-            let repeats = self.repeats(packet, payload);
+            let repeats = self.repeats(packet, payload, last);
             if packet.unit_start() && !repeats {
                 self.start_unit(payload)?;
             }
-            self.last = packet.bytes;
-            self.has_last = true;
+            self.last_counter = Some(packet.counter());
             self.is_repeat = repeats;
+            is_last = true;
             if self.is_inside {
                 if !repeats {
                     self.dropped = self.dropped.wrapping_add(1);
                 }
-                return Ok(false);
+                return Ok(Fate { is_kept: false, is_last });
             }
         }
         packet.bytes[3] = packet.bytes[3] & 0xF0 | packet.counter().wrapping_sub(self.dropped) & 15;
-        Ok(true)
+        Ok(Fate { is_kept: true, is_last })
     }
 }
 
-/// Reads the next packet; false at the end.
-fn read(reader: &mut impl Read, packet: &mut Packet) -> Result<bool, &'static str> {
+/// Reads a packet of which the buffer holds a part at most; false at the end.
+#[cold]
+fn read_on(reader: &mut impl Read, packet: &mut Packet) -> Result<bool, &'static str> {
     let mut at = 0;
     while at < 188 {
         match reader.read(&mut packet.bytes[at..]) {
@@ -185,17 +193,33 @@ fn read(reader: &mut impl Read, packet: &mut Packet) -> Result<bool, &'static st
             Err(_) => return Err("Io"),
         }
     }
+    Ok(true)
+}
+
+/// Reads the next packet, out of the buffer where it stands there whole; false at the end.
+fn read(reader: &mut BufReader<File>, packet: &mut Packet) -> Result<bool, &'static str> {
+    if reader.buffer().len() >= 188 {
+        packet.bytes.copy_from_slice(&reader.buffer()[..188]);
+        reader.consume(188);
+    } else if !read_on(reader, packet)? {
+        return Ok(false);
+    }
     match packet.fault() {
         None => Ok(true),
         Some(fault) => Err(fault),
     }
 }
 
-fn run(cut: &mut Cut, reader: &mut impl Read, writer: &mut impl Write) -> Result<(), &'static str> {
-    let mut packet = Packet { bytes: [0; 188] };
-    while read(reader, &mut packet)? {
-        if cut.keeps(&mut packet)? {
+fn run(cut: &mut Cut, reader: &mut BufReader<File>, writer: &mut impl Write) -> Result<(), &'static str> {
+    let (mut first, mut second) = (Packet { bytes: [0; 188] }, Packet { bytes: [0; 188] });
+    let (mut packet, mut last) = (&mut first, &mut second);
+    while read(reader, packet)? {
+        let fate = cut.judge(packet, last)?;
+        if fate.is_kept {
             writer.write_all(&packet.bytes).map_err(|_| "Io")?;
+        }
+        if fate.is_last {
+            std::mem::swap(&mut packet, &mut last);
         }
     }
     Ok(())
@@ -215,8 +239,7 @@ fn main() {
         start: 0,
         is_inside: false,
         dropped: 0,
-        last: [0; 188],
-        has_last: false,
+        last_counter: None,
         is_repeat: false,
     };
     let mut reader = BufReader::with_capacity(BUFFER_SIZE, File::open(value("--in")).expect("--in"));

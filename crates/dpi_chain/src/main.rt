@@ -1,10 +1,12 @@
 //! The program `dpi_chain`: `program` of `dpi_program`, over the process's words, streams and files.
 #![tactic(auto)]
 
-ghost use Rattle.std.specs.Prelude.{◌≤◌, IfOk};
+ghost use Rattle.std.specs.Prelude.{◌≡◌, ◌≢◌, ◌≤◌, IfOk};
+ghost use Rattle.std_io.specs.IoError.{error_kind};
 
 use dpi_program::program::program;
 use std::alloc::AllocError;
+use std::io::{ErrorKind, Write};
 use std::process::ExitCode;
 use std::{env, io};
 
@@ -26,9 +28,22 @@ fn status(rt: &HostRuntime) -> io::Result<u8>
     ))
 }
 
+/// Says why the words were not read, and answers the status: 2 where one is not UTF-8, 1 where memory was refused.
+fn refused<E: Write>(faults: &mut E, error: &io::Error) -> u8
+    ensures words { error_kind error.now ≡ ErrorKind.InvalidData → result ≡ 2 }
+    ensures memory { error_kind error.now ≢ ErrorKind.InvalidData → result ≡ 1 }
+{
+    if error.kind() == ErrorKind::InvalidData {
+        let _ = writeln!(faults, "error: an argument is not UTF-8 text");
+        return 2;
+    }
+    let _ = writeln!(faults, "fault: OutOfMemory");
+    1
+}
+
 fn main(rt: HostRuntime) -> ExitCode {
     match status(&rt) {
         Ok(number) => ExitCode::from(number),
-        Err(_) => ExitCode::from(1),
+        Err(error) => ExitCode::from(refused(&mut rt.stderr(), &error)),
     }
 }

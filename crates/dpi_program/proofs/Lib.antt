@@ -1,1 +1,2 @@
+pub mod CuttingLemmas
 pub mod NumberLemmas

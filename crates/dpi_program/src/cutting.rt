@@ -1,6 +1,9 @@
 //! The subcommand `cut`: a cut between the ends that its options name, and what it tells.
 
-ghost use Rattle.std.specs.Prelude.{◌≡◌, IfErr, OnOk, IsOk, IsErrAnd};
+ghost use Rattle.std.specs.Prelude.{◌≡◌, IfErr, IfOk, OnOk, IsOk, IsErrAnd};
+ghost use Rattle.std.specs.Io.KnownBytes.{Keeps};
+ghost use Rattle.std.specs.Io.Buffered.{writer_contents};
+ghost use Rattle.unit_cut.specs.Runs.{CutsAll};
 
 use crate::attended::Attended;
 use crate::command::CutOptions;
@@ -32,16 +35,14 @@ fn cut_by_options<S: Source + Drop, T: Target>(
     options: &CutOptions<'_>,
     network: S,
     out: T,
-) -> Passed<S, T> {
+) -> Passed<S, T>
+    ensures done { OnOk result.outcome (CutsAll options.now.pid options.now.from options.now.length (S.remaining network) (T.contents out) (T.contents result.out)) }
+{
+    let (pid, from) = (options.pid, options.from);
+    let length = options.length;
     if !options.is_verbose {
         let (mut network, mut out) = (network, out);
-        let outcome = cut(
-            &mut network,
-            &mut out,
-            options.pid,
-            options.from,
-            options.length,
-        );
+        let outcome = cut(&mut network, &mut out, pid, from, length);
         return Passed {
             outcome,
             network,
@@ -49,15 +50,9 @@ fn cut_by_options<S: Source + Drop, T: Target>(
             seen: None,
         };
     }
-    let mut network = Watched::new(network, options.pid);
-    let mut out = Watched::new(out, options.pid);
-    let outcome = cut(
-        &mut network,
-        &mut out,
-        options.pid,
-        options.from,
-        options.length,
-    );
+    let mut network = Watched::new(network, pid);
+    let mut out = Watched::new(out, pid);
+    let outcome = cut(&mut network, &mut out, pid, from, length);
     let (network, read) = network.into_parts();
     let (out, written) = out.into_parts();
     Passed {
@@ -72,10 +67,29 @@ fn cut_by_options<S: Source + Drop, T: Target>(
 fn finish<W: Write>(outcome: Result<(), CutFault>, writer: &mut W) -> Result<(), CutFault>
     ensures first { IfErr outcome (λ fault. result ≡ Err fault) }
     ensures flushed { OnOk outcome (IfErr result (λ fault. fault ≡ CutFault.Sink PutFault.Io)) }
+    ensures kept { Keeps (W.contents writer.old) (W.contents writer.new) }
 {
     let flushed = writer.flush();
     outcome?;
     flushed.map_err(|_| CutFault::Sink(PutFault::Io))
+}
+
+/// Flushes a buffer at the end of a cut, likewise, and gives the writer below it.
+fn finish_buffer<W: Write + Drop>(
+    outcome: Result<(), CutFault>,
+    writer: BufWriter<W>,
+) -> (Result<(), CutFault>, W)
+    ensures first { IfErr outcome (λ fault. result.0 ≡ Err fault) }
+    ensures flushed { OnOk outcome (IfErr result.0 (λ fault. fault ≡ CutFault.Sink PutFault.Io)) }
+    ensures kept { OnOk result.0 (Keeps (writer_contents W.contents writer) (W.contents result.1)) }
+{
+    let mut writer = writer;
+    let emptied = writer.flush();
+    let (below, _) = writer.into_parts();
+    match outcome {
+        Ok(()) => (emptied.map_err(|_| CutFault::Sink(PutFault::Io)), below),
+        Err(fault) => (Err(fault), below),
+    }
 }
 
 /// A cut whose output has been flushed.
@@ -88,12 +102,16 @@ struct Finished<S, W> {
 }
 
 /// Cuts to bytes, many packets a write.
+#[tactic(auto, using(crate::proofs::CuttingLemmas::cut_finished))]
 fn cut_to_blocks<S: Source + Drop, W: Write + Drop>(
     alloc: Global,
     options: &CutOptions<'_>,
     network: S,
     output: W,
-) -> Result<Finished<S, W>, AllocError> {
+) -> Result<Finished<S, W>, AllocError>
+    ensures done { IfOk result (λ f. OnOk f.outcome (CutsAll options.now.pid options.now.from options.now.length
+        (S.remaining network) (W.contents output) (W.contents f.output.inner))) }
+{
     let Ok(writer) = BufWriter::with_capacity(alloc, BUFFER_SIZE, Attended::new(output)) else {
         return Err(AllocError);
     };
@@ -103,9 +121,7 @@ fn cut_to_blocks<S: Source + Drop, W: Write + Drop>(
         out,
         seen,
     } = cut_by_options(options, network, Device::new(writer));
-    let mut writer = out.into_inner();
-    let outcome = finish(outcome, &mut writer);
-    let (output, _) = writer.into_parts();
+    let (outcome, output) = finish_buffer(outcome, out.into_inner());
     Ok(Finished {
         outcome,
         network,
@@ -115,11 +131,15 @@ fn cut_to_blocks<S: Source + Drop, W: Write + Drop>(
 }
 
 /// Cuts to bytes, each packet as it comes: what came in before a pause goes out before it.
+#[tactic(auto, using(crate::proofs::CuttingLemmas::cut_finished))]
 fn cut_to_packets<S: Source + Drop, W: Write + Drop>(
     options: &CutOptions<'_>,
     network: S,
     output: W,
-) -> Finished<S, W> {
+) -> Finished<S, W>
+    ensures done { OnOk result.outcome (CutsAll options.now.pid options.now.from options.now.length
+        (S.remaining network) (W.contents output) (W.contents result.output.inner)) }
+{
     let out = Device::new(Attended::new(output));
     let Passed {
         outcome,
@@ -154,9 +174,7 @@ fn cut_to_lines<S: Source + Drop, W: Write + Drop>(
         out,
         seen,
     } = cut_by_options(options, network, out);
-    let mut writer = out.into_inner().into_inner();
-    let outcome = finish(outcome, &mut writer);
-    let (output, _) = writer.into_parts();
+    let (outcome, output) = finish_buffer(outcome, out.into_inner().into_inner());
     Ok(Finished {
         outcome,
         network,

@@ -53,6 +53,7 @@ fn is_of_the_stream(fault: ProgramFault) -> bool {
 }
 
 /// The line behind a fault's: what was done to which end, and where or why it stopped.
+#[derive(Clone, Copy, Drop)]
 pub struct Trouble<'a> {
     pub stopped: &'a Stopped,
     /// The name of the end.

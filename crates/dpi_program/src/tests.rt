@@ -243,27 +243,13 @@ fn expect_usage<R: Files + AllocGlobal + Abort>(
     Ok(())
 }
 
-/// The words ask for a text, which has this in it.
-fn expect_help<R: Files + AllocGlobal + Abort>(
-    rt: &R,
-    words: &[&str],
-    text: &str,
-) -> Result<(), Fail> {
-    let run = run(rt, words, &[]);
-    assert_eq!(rt; run.status, 0, "{text}");
-    assert!(rt; run.faults.is_empty());
-    let says = std::str::from_utf8(run.output.as_slice())?;
-    assert!(rt; says.contains(text), "{text} in {says}");
-    Ok(())
-}
-
 #[test]
-fn help_is_printed_on_the_output(rt: HostRuntime) -> Result<(), Fail> {
-    expect_help(&rt, &["--help"], "dpi_chain <COMMAND>")?;
-    expect_help(&rt, &["help", "cut"], "--length <TICKS>")?;
-    expect_help(&rt, &["cut", "-h"], "--from <TICKS>")?;
-    expect_help(&rt, &["cut", "--help"], "ticks of the 90 kHz clock")?;
-    expect_help(&rt, &["--version"], "dpi_chain")?;
+fn help_is_no_run(rt: HostRuntime) -> Result<(), Fail> {
+    expect_usage(&rt, &["--help"], "dpi_chain <COMMAND>")?;
+    expect_usage(&rt, &["help", "cut"], "--length <TICKS>")?;
+    expect_usage(&rt, &["cut", "-h"], "--from <TICKS>")?;
+    expect_usage(&rt, &["cut", "--help"], "ticks of the 90 kHz clock")?;
+    expect_usage(&rt, &["--version"], "dpi_chain")?;
     Ok(())
 }
 
@@ -276,6 +262,11 @@ fn command_lines_are_judged(rt: HostRuntime) -> Result<(), Fail> {
             "--pid <PID>': a PID is a decimal number from 0 to 8191",
         )?;
     }
+    expect_usage(
+        &rt,
+        &["cut", "--pid", "0x100", "--from", "0", "--length", "0"],
+        "0x100 is 256",
+    )?;
     for from in ["+5", "-1", "", "8589934592"] {
         expect_usage(
             &rt,
@@ -404,6 +395,100 @@ fn files_hold_bytes(rt: HostRuntime) -> Result<(), Fail> {
         &[],
         "fault: File\n",
     );
+    Ok(())
+}
+
+/// A command line that cuts PID 256 from file to file.
+fn cut_files<'a>(input: &'a str, output: &'a str, last: &'a str) -> [&'a str; 12] {
+    [
+        "cut", "--pid", "256", "--from", "90000", "--length", "1", "--in", input, "--out", output,
+        last,
+    ]
+}
+
+#[test]
+fn the_input_is_never_destroyed(rt: HostRuntime) -> Result<(), Fail> {
+    let folder = env::temp_dir(&rt)?;
+    let input = folder.join(rt.alloc(), "dpi_program_same_in.ts")?;
+    let link = folder.join(rt.alloc(), "dpi_program_same_link.ts")?;
+    let (input, link) = (
+        input.to_str().ok_or("a name")?,
+        link.to_str().ok_or("a name")?,
+    );
+    let _ = fs::remove_file(&rt, link);
+    let bytes = packet(0, [0x21, 0x00, 0x05, 0xBF, 0x21]);
+    fs::write(&rt, input, bytes.as_slice())?;
+    fs::hard_link(&rt, input, link)?;
+    for output in [input, link] {
+        let run = run(&rt, &cut_files(input, output, "--verbose"), &[]);
+        assert_eq!(rt; run.status, 1, "{output}");
+        let says = std::str::from_utf8(run.faults.as_slice())?;
+        assert!(rt; says.starts_with("fault: File\nwriting "), "{says}");
+        assert!(rt; says.ends_with("it is the input file\n"), "{says}");
+        assert!(rt; fs::read(&rt, input)?.as_slice() == bytes.as_slice());
+    }
+    for bad in [folder.to_str().ok_or("a name")?, "no/such/file"] {
+        let words = cut_files(bad, link, "--verbose");
+        expect_run(&rt, &words[..11], &[], &[], "fault: File\n");
+        assert!(rt; fs::read(&rt, link)?.as_slice() == bytes.as_slice());
+    }
+    fs::remove_file(&rt, input)?;
+    fs::remove_file(&rt, link)?;
+    Ok(())
+}
+
+/// Cuts PID 256 from standard input to standard output in bytes, and tells more.
+const STANDARD_WORDS: [&str; 12] = [
+    "cut",
+    "--pid",
+    "256",
+    "--from",
+    "93000",
+    "--length",
+    "1",
+    "--in",
+    "-",
+    "--out",
+    "-",
+    "--verbose",
+];
+
+#[test]
+fn more_is_told_where_it_is_asked_for(rt: HostRuntime) -> Result<(), Fail> {
+    let mut stream = Vec::new(rt.alloc());
+    stream.extend_from_slice(&packet(0, [0x21, 0x00, 0x05, 0xBF, 0x21]))?;
+    stream.extend_from_slice(&packet(1, [0x21, 0x00, 0x05, 0xD6, 0x91]))?;
+    let good = run(&rt, &STANDARD_WORDS, stream.as_slice());
+    assert_eq!(rt; good.status, 0);
+    assert!(rt; good.output.as_slice() == packet(0, [0x21, 0x00, 0x05, 0xBF, 0x21]).as_slice());
+    let says = std::str::from_utf8(good.faults.as_slice())?;
+    assert_eq!(rt;
+        says,
+        "cut: 1 of 2 units of PID 256 (0x0100), 1 of 2 packets left out; its time stamps go from 90000 to 93000\n"
+    );
+    stream.extend_from_slice(&packet(2, [0x21, 0x00, 0x7B, 0x09, 0x01]))?;
+    let jump = run(&rt, &STANDARD_WORDS, stream.as_slice());
+    assert_eq!(rt; jump.status, 1);
+    let says = std::str::from_utf8(jump.faults.as_slice())?;
+    assert_eq!(rt;
+        says,
+        "fault: TimeJump\nreading standard input: packet 2, byte 376, PID 256 (0x0100)\n"
+    );
+    let mut text = lines(rt.alloc(), &[FIRST])?;
+    text.push(b'\n')?;
+    let words = [
+        "cut",
+        "--pid",
+        "256",
+        "--from",
+        "0",
+        "--length",
+        "1",
+        "--verbose",
+    ];
+    let bad = run(&rt, &words, text.as_slice());
+    let says = std::str::from_utf8(bad.faults.as_slice())?;
+    assert_eq!(rt; says, "fault: BadLine\nreading standard input: line 2\n");
     Ok(())
 }
 
