@@ -2,7 +2,6 @@
 #![tactic(auto)]
 
 ghost use Rattle.std.specs.Prelude.{◌≡◌, ◌≢◌, ◌≤◌, IfOk};
-ghost use Rattle.std_io.specs.IoError.{error_kind};
 
 use dpi_program::program::program;
 use std::alloc::AllocError;
@@ -29,11 +28,11 @@ fn status(rt: &HostRuntime) -> io::Result<u8>
 }
 
 /// Says why the words were not read, and answers the status: 2 where one is not UTF-8, 1 where memory was refused.
-fn refused<E: Write>(faults: &mut E, error: &io::Error) -> u8
-    ensures words { error_kind error.now ≡ ErrorKind.InvalidData → result ≡ 2 }
-    ensures memory { error_kind error.now ≢ ErrorKind.InvalidData → result ≡ 1 }
+fn refused<E: Write>(faults: &mut E, kind: ErrorKind) -> u8
+    ensures words { kind ≡ ErrorKind.InvalidData → result ≡ 2 }
+    ensures memory { kind ≢ ErrorKind.InvalidData → result ≡ 1 }
 {
-    if error.kind() == ErrorKind::InvalidData {
+    if kind == ErrorKind::InvalidData {
         let _ = writeln!(faults, "error: an argument is not UTF-8 text");
         return 2;
     }
@@ -44,6 +43,6 @@ fn refused<E: Write>(faults: &mut E, error: &io::Error) -> u8
 fn main(rt: HostRuntime) -> ExitCode {
     match status(&rt) {
         Ok(number) => ExitCode::from(number),
-        Err(error) => ExitCode::from(refused(&mut rt.stderr(), &error)),
+        Err(error) => ExitCode::from(refused(&mut rt.stderr(), error.kind())),
     }
 }
