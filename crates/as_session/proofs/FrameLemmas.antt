@@ -3,7 +3,7 @@ use Rattle.std.proofs.Common.{◌≡◌, ℕ, ◌-◌, ◌<◌, ◌≤◌, true,
 use Rattle.std.specs.Prelude.{nat_lt}
 use Rattle.std.proofs.lemmas.Bool.{cases_lt, lt-ltb, le-ltb}
 use Rattle.scte104_codec.specs.declared.framing.Frame.TheVariants.{NeedMore, Whole, BadSize}
-use Rattle.scte104_codec.specs.Numbers.{number16_at}
+use Rattle.wire_fields.specs.Numbers.{number16_at}
 use Rattle.scte104_codec.specs.Framing.{size_in, frame_by, frame_of}
 use Rattle.as_session.specs.Pending.{is_partial, needs_more}
 

@@ -3,7 +3,7 @@ use Rattle.std.specs.Prelude.{ℕ, zero, suc, List, [], ◌∷◌, ◌++◌, len
 use Rattle.as_session.specs.Feeding.{State, Given, nothing, message, closed, Fed, feed_of}
 
 -- the messages that came out, and the session then
-pub record Taken : Type 0 where
+pub record Received : Type 0 where
   pub messages : List (List ℕ)
   pub after : State
 
@@ -14,22 +14,22 @@ messages_in closed = []
 
 -- ---- a piece that is fed to its end: what a call leaves of it is fed again
 
-abbrev pub taken_by : (State → List ℕ → Taken) → List ℕ → Fed → Given → Taken
+abbrev pub taken_by : (State → List ℕ → Received) → List ℕ → Fed → Given → Received
 taken_by again piece fed nothing = record { messages = []; after = fed.after }
 taken_by again piece fed (message m) = let others = again fed.after (drop fed.used piece) in record { messages = m ∷ others.messages; after = others.after }
 taken_by again piece fed closed = record { messages = []; after = fed.after }
 
 -- in at most so many calls
-unfoldable pub take_within : ℕ → State → List ℕ → Taken
+unfoldable pub take_within : ℕ → State → List ℕ → Received
 take_within zero s piece = record { messages = []; after = s }
 take_within (suc n) s piece = taken_by (take_within n) piece (feed_of s piece) (feed_of s piece).gives
 
 -- each message uses a byte of the piece at least
-abbrev pub take_piece : State → List ℕ → Taken
+abbrev pub take_piece : State → List ℕ → Received
 take_piece s piece = take_within (suc (length piece)) s piece
 
 -- one piece after another
-abbrev pub take_pieces : State → List (List ℕ) → Taken
+abbrev pub take_pieces : State → List (List ℕ) → Received
 take_pieces s [] = record { messages = []; after = s }
 take_pieces s (piece ∷ pieces) =
     record {

@@ -3,10 +3,10 @@ use Rattle.std.specs.Prelude.{ℕ, Bool, List, [], ◌∷◌, ◌++◌, Option, 
 use Rattle.std.specs.Fmt.{decimal}
 use Rattle.std.specs.Int.{w16, w32, to_be_bytes}
 use Rattle.hex_digits.specs.Digits.{digits_of}
-use Rattle.scte35_codec.specs.declared.cue.Insert.{Insert}
+use Rattle.scte35_codec.specs.declared.insert.Insert.{Insert}
 use Rattle.scte35_codec.specs.declared.cue.Cue.{Cue}
 use Rattle.scte35_codec.specs.declared.cue.Cue.TheVariants as cue
-use Rattle.scte35_codec.specs.declared.insert.SpliceInsert.{SpliceInsert}
+use Rattle.scte35_codec.specs.Insert.{SpliceInsert}
 use Rattle.scte35_codec.specs.Reading as cue_reading
 use Rattle.scte35_codec.specs.Views as cue_view
 use Rattle.scte104_codec.specs.declared.head.Head.{Head}
@@ -96,7 +96,7 @@ avail_text i avails =
     ++ codes " avails=" ++ avails_text avails
 
 -- what bytes are as a cue, or why they are none
-abbrev pub cue_reading_text : cue_reading.Reading → List ℕ
+abbrev pub cue_reading_text : cue_reading.CueReading → List ℕ
 cue_reading_text (cue_reading.insert i avails) = splice_text i ++ avail_text i avails
 cue_reading_text (cue_reading.cancel event) = codes "Cancel event=" ++ number32_text event
 cue_reading_text cue_reading.null = codes "Null"
@@ -129,7 +129,7 @@ abbrev pub multiple_text : message_reading.Multiple → List ℕ
 multiple_text m = codes "Multi " ++ head_text m.head ++ codes " " ++ versions_text m ++ operations_text m.operations
 
 -- what a whole message is, from its bytes, or how it breaks the syntax
-abbrev pub message_reading_text : List ℕ → message_reading.Reading → List ℕ
+abbrev pub message_reading_text : List ℕ → message_reading.MessageReading → List ℕ
 message_reading_text bytes (message_reading.init head) = codes "Init " ++ head_text head
 message_reading_text bytes (message_reading.alive head body) = codes "Alive " ++ head_text head ++ codes " data=" ++ bytes_text body
 message_reading_text bytes (message_reading.other head) = codes "Other " ++ head_text head

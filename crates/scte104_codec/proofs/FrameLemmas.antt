@@ -3,7 +3,7 @@ use Rattle.std.proofs.Common.{◌≡◌, ◌≢◌, ℕ, ◌-◌, ◌≤◌, Lis
 use Rattle.std.specs.Prelude.{nat_lt, if◌then◌else◌}
 use Rattle.std.proofs.lemmas.Bool.{ltb-false, le-ltb}
 use Rattle.scte104_codec.specs.declared.framing.Frame.TheVariants.{NeedMore, Whole}
-use Rattle.scte104_codec.specs.Numbers.{number16_at}
+use Rattle.wire_fields.specs.Numbers.{number16_at}
 use Rattle.scte104_codec.specs.Framing.{least_size, size_in, frame_by, frame_of}
 
 -- a size that stands there is the field, and no less than the least

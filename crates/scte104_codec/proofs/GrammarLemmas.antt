@@ -5,15 +5,15 @@ use Rattle.std.proofs.lemmas.List.{append-nil}
 use Rattle.std.proofs.lemmas.Bool.{cases_eq, cases_lt}
 use Rattle.scte104_codec.specs.declared.head.Head.{Head}
 use Rattle.scte104_codec.specs.declared.framing.Frame.TheVariants.{Whole}
-use Rattle.scte104_codec.specs.Numbers.{number16_at, AreBytes}
+use Rattle.wire_fields.specs.Numbers.{number16_at, AreBytes}
 use Rattle.scte104_codec.specs.Framing.{frame_of}
 use Rattle.scte104_codec.specs.Head.{head_at}
 use Rattle.scte104_codec.specs.Operations.{Operation, AreOperations, operation_bytes, operations_bytes, operations_in}
 use Rattle.scte104_codec.specs.Spelling.{SingleOperation, single_operation_message, MultipleOperation, multiple_operation_message}
-use Rattle.scte104_codec.specs.Reading.{Reading, single_fields_of, init, alive, other, multiple, bad, Multiple, multiple_with, multiple_operation_of, message_of}
+use Rattle.scte104_codec.specs.Reading.{MessageReading, single_fields_of, init, alive, other, multiple, bad, Multiple, multiple_with, multiple_operation_of, message_of}
 use Rattle.scte104_codec.specs.Grammar.{Single, Several, Holds, Spells}
 use Rattle.scte104_codec.proofs.FrameLemmas.{is_whole, is_size, whole_single, whole_multiple}
-use Rattle.scte104_codec.proofs.Cells.{AreBytes-drop}
+use Rattle.wire_fields.proofs.Cells.{AreBytes-drop}
 use Rattle.scte104_codec.proofs.SingleLemmas.{SingleFields, single_fields, single_is, single_fits, single_reading, single_read}
 use Rattle.scte104_codec.proofs.SeveralLemmas.{SeveralFields, several_fields, several_from, several_is, several_fits, several_read}
 use Rattle.scte104_codec.proofs.OperationsBack.{operations_back, operations_filled}
@@ -114,7 +114,7 @@ bad_read bytes head m fits s z spells =
     several_read bytes t.1 ∙ timeless bytes None (t.0.time_type ∙ z) here ∙ ap (λ (h : Head). bad true h) t.2
 
 -- what is spelled is read
-pub reads_back : (read : Reading) (bytes : List ℕ) → AreBytes bytes → Spells read bytes → message_of bytes ≡ read
+pub reads_back : (read : MessageReading) (bytes : List ℕ) → AreBytes bytes → Spells read bytes → message_of bytes ≡ read
 reads_back (init head) bytes fits s = single_told bytes head s.0 s.1 ∙ init_read s.0.op head s.0.body s.2
 reads_back (alive head body) bytes fits s =
     let short : length s.0.body ≤ 8 = subst (λ (xs : List ℕ). length xs ≤ 8) s.3 s.4 in
@@ -145,7 +145,7 @@ single_spelled bytes s =
     let head = head_at bytes 9 in
     let op = number16_at bytes 0 in
     let body = drop 13 bytes in
-    let P : Reading → Type 0 = λ r. Spells r bytes in
+    let P : MessageReading → Type 0 = λ r. Spells r bytes in
     elim (cases_eq op 1) [
       | inl e ↦ subst P (sym (init_read op head body e)) (single_fields_of bytes, s, e)
       | inr n ↦ elim (cases_eq op 3) [
@@ -173,7 +173,7 @@ timeless_spelled bytes (Some os) fits s z e =
 
 several_spelled : (bytes : List ℕ) → AreBytes bytes → Several bytes (head_at bytes 5) (several_from bytes) → Spells (multiple_operation_of bytes) bytes
 several_spelled bytes fits s =
-    let P : Reading → Type 0 = λ r. Spells r bytes in
+    let P : MessageReading → Type 0 = λ r. Spells r bytes in
     elim (cases_eq (slice_index bytes 10) 0) [
       | inl z ↦
           let count = contents_count bytes (several_from bytes) s.whole in
@@ -186,7 +186,7 @@ several_spelled bytes fits s =
 -- what is read is spelled
 pub is_spelled : (bytes : List ℕ) → frame_of bytes ≡ Whole (length bytes) → AreBytes bytes → Spells (message_of bytes) bytes
 is_spelled bytes whole fits =
-    let P : Reading → Type 0 = λ r. Spells r bytes in
+    let P : MessageReading → Type 0 = λ r. Spells r bytes in
     elim (cases_eq (number16_at bytes 0) 65535) [
       | inl mark ↦ subst P (sym (several_read bytes mark)) (several_spelled bytes fits (several_found bytes whole mark fits))
       | inr op ↦ subst P (sym (single_read bytes op)) (single_spelled bytes (single_found bytes whole op fits))

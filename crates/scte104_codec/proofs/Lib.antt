@@ -2,7 +2,7 @@ pub mod FrameLemmas
 pub mod OperationLemmas
 pub mod RequestLemmas
 pub mod AskedLemmas
-pub mod Cells
+pub mod HeadLemmas
 pub mod SingleLemmas
 pub mod SeveralLemmas
 pub mod OperationsBack

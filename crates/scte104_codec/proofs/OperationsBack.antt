@@ -8,9 +8,9 @@ use Rattle.std.proofs.lemmas.List.{length-append, length-drop, length-take, take
 use Rattle.std.proofs.lemmas.List.Concat.{flat_map-cons}
 use Rattle.std.proofs.lemmas.Option.{some_pair_parts}
 use Rattle.byteorder.specs.Endian.{big_bytes}
-use Rattle.scte104_codec.specs.Numbers.{number16_at, AreBytes}
+use Rattle.wire_fields.specs.Numbers.{number16_at, AreBytes}
 use Rattle.scte104_codec.specs.Operations.{Operation, IsOperation, operation_bytes, is_well_formed, operation_at, operations_in}
-use Rattle.scte104_codec.proofs.Cells.{field16, two_at, number16_fits, AreBytes-drop}
+use Rattle.wire_fields.proofs.Cells.{field16, two_at, number16_fits, AreBytes-drop}
 
 some_same : (a b : List Operation) → ◌≡◌ {A = Option (List Operation)} (Some a) (Some b) → a ≡ b
 some_same a b e = cc

@@ -7,9 +7,9 @@ use Rattle.std.proofs.lemmas.List.{length-append}
 use Rattle.std.proofs.lemmas.List.Concat.{flat_map-cons}
 use Rattle.byteorder.specs.Endian.{big_bytes}
 use Rattle.scte104_codec.specs.declared.requests.SpliceRequest.{SpliceRequest}
-use Rattle.scte104_codec.specs.Numbers.{number32_at}
+use Rattle.wire_fields.specs.Numbers.{number32_at}
 use Rattle.scte104_codec.specs.Requests.{splice_request_of, splice_request_bytes, SpliceRequestFits, avail_ids_from, avail_ids_of, avail_ids_bytes}
-use Rattle.scte104_codec.proofs.Cells.{field16, field32}
+use Rattle.wire_fields.proofs.Cells.{field16, field32}
 
 pub ids_ended : (n : ℕ) (bytes : List ℕ) → n ≡ 0 → avail_ids_from n bytes ≡ []
 unfolding avail_ids_from

@@ -4,14 +4,15 @@ use Rattle.std.specs.Prelude.{◌==◌, if◌then◌else◌}
 use Rattle.std.proofs.lemmas.List.{length-drop, length-append}
 use Rattle.byteorder.specs.Endian.{big_bytes}
 use Rattle.scte104_codec.specs.declared.framing.Frame.TheVariants.{Whole}
-use Rattle.scte104_codec.specs.Numbers.{number16_at, AreBytes}
+use Rattle.wire_fields.specs.Numbers.{number16_at, AreBytes}
 use Rattle.scte104_codec.specs.Framing.{frame_of}
 use Rattle.scte104_codec.specs.Head.{head_at, head_bytes}
 use Rattle.scte104_codec.specs.Operations.{Operation, operations_in}
 use Rattle.scte104_codec.specs.Spelling.{MultipleOperation, IsMultipleOperation, multiple_operation_message}
 use Rattle.scte104_codec.specs.Reading.{multiple_operation_of, message_of}
 use Rattle.scte104_codec.proofs.FrameLemmas.{framed, least_several}
-use Rattle.scte104_codec.proofs.Cells.{field16, two_at, one_at, number16_fits, head_back, head_fits, head_is}
+use Rattle.wire_fields.proofs.Cells.{field16, two_at, one_at, number16_fits}
+use Rattle.scte104_codec.proofs.HeadLemmas.{head_back, head_fits, head_is}
 
 -- ---- the fields of a message that is spelled, whatever follows it
 

@@ -4,14 +4,15 @@ use Rattle.std.specs.Prelude.{nat_le, ◌==◌, if◌then◌else◌}
 use Rattle.std.proofs.lemmas.List.{length-drop, length-append, append-nil}
 use Rattle.byteorder.specs.Endian.{big_bytes}
 use Rattle.scte104_codec.specs.declared.head.Head.{Head}
-use Rattle.scte104_codec.specs.Numbers.{number16_at, AreBytes}
+use Rattle.wire_fields.specs.Numbers.{number16_at, AreBytes}
 use Rattle.scte104_codec.specs.Head.{head_at}
 use Rattle.scte104_codec.specs.Spelling.{SingleOperation, IsSingleOperation, single_operation_message}
-use Rattle.scte104_codec.specs.Reading.{Reading, single_fields_of, init, alive, other, bad, single_operation_of, message_of}
+use Rattle.scte104_codec.specs.Reading.{MessageReading, single_fields_of, init, alive, other, bad, single_operation_of, message_of}
 use Rattle.scte104_codec.specs.declared.framing.Frame.TheVariants.{Whole}
 use Rattle.scte104_codec.specs.Framing.{frame_of}
 use Rattle.scte104_codec.proofs.FrameLemmas.{framed, least_at_most}
-use Rattle.scte104_codec.proofs.Cells.{field16, two_at, one_at, number16_fits, head_back, head_fits, head_is}
+use Rattle.wire_fields.proofs.Cells.{field16, two_at, one_at, number16_fits}
+use Rattle.scte104_codec.proofs.HeadLemmas.{head_back, head_fits, head_is}
 
 -- ---- the fields of a message that is spelled, whatever follows it
 
@@ -71,7 +72,7 @@ single_fits bytes le size op h =
 
 -- ---- how it is read
 
-abbrev pub single_reading : ℕ → Head → List ℕ → Reading
+abbrev pub single_reading : ℕ → Head → List ℕ → MessageReading
 single_reading op head body =
     if op == 1 then init head
     else (if op == 3 then (if nat_le (length body) 8 then alive head body else bad false head) else other head)

@@ -2,7 +2,7 @@
 use Rattle.std.specs.Prelude.{ℕ, ◌-◌, List, length, Option, Some, None, nat_lt, ◌==◌, if◌then◌else◌}
 use Rattle.scte104_codec.specs.declared.framing.Frame.{Frame}
 use Rattle.scte104_codec.specs.declared.framing.Frame.TheVariants.{NeedMore, Whole, BadSize}
-use Rattle.scte104_codec.specs.Numbers.{number16_at}
+use Rattle.wire_fields.specs.Numbers.{number16_at}
 
 -- the least size of a message: a multiple_operation_message begins with 0xFFFF
 abbrev pub least_size : List ℕ → ℕ

@@ -3,7 +3,7 @@ use Rattle.std.specs.Prelude.{◌≡◌, ◌≢◌, ℕ, ◌<◌, ◌≤◌, Lis
 use Rattle.scte104_codec.specs.declared.head.Head.{Head}
 use Rattle.scte104_codec.specs.Operations.{Operation, AreOperations, operations_bytes}
 use Rattle.scte104_codec.specs.Spelling.{SingleOperation, IsSingleOperation, single_operation_message, MultipleOperation, IsMultipleOperation, multiple_operation_message}
-use Rattle.scte104_codec.specs.Reading.{Reading, init, alive, other, multiple, bad, Multiple}
+use Rattle.scte104_codec.specs.Reading.{MessageReading, init, alive, other, multiple, bad, Multiple}
 
 -- the bytes are this single_operation_message
 pub record Single (bytes : List ℕ) (head : Head) (m : SingleOperation) : Type 0 where
@@ -25,7 +25,7 @@ pub record Holds (read : Multiple) (m : MultipleOperation) : Type 0 where
   pub timeless : m.time_type ≡ 0 → AreOperations read.operations × (m.contents ≡ operations_bytes read.operations)
   pub timed : m.time_type ≢ 0 → read.operations ≡ []
 
-abbrev pub Spells : Reading → List ℕ → Type 0
+abbrev pub Spells : MessageReading → List ℕ → Type 0
 Spells (init head) bytes = (m : SingleOperation) × Single bytes head m × (m.op ≡ 0x0001)
 Spells (alive head body) bytes = (m : SingleOperation) × Single bytes head m × (m.op ≡ 0x0003) × (body ≡ m.body) × (length body ≤ 8)
 Spells (other head) bytes = (m : SingleOperation) × Single bytes head m × (m.op ≢ 0x0001) × (m.op ≢ 0x0003)

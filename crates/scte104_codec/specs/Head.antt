@@ -2,7 +2,7 @@
 use Rattle.std.specs.Prelude.{ℕ, ◌+◌, ◌<◌, List, ◌∷◌, slice_index}
 use Rattle.byteorder.specs.Endian.{big_bytes}
 use Rattle.scte104_codec.specs.declared.head.Head.{Head}
-use Rattle.scte104_codec.specs.Numbers.{number16_at}
+use Rattle.wire_fields.specs.Numbers.{number16_at}
 
 unfoldable pub head_at : List ℕ → ℕ → Head
 head_at bytes place = record { as_index = slice_index bytes place; number = slice_index bytes (place + 1); index = number16_at bytes (place + 2) }

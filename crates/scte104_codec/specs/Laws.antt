@@ -4,10 +4,10 @@ use Rattle.std.specs.List.{AllByRecursion}
 use Rattle.scte104_codec.specs.declared.framing.Frame.TheVariants.{Whole}
 use Rattle.scte104_codec.specs.declared.reply.Reply.{Reply}
 use Rattle.scte104_codec.specs.declared.requests.SpliceRequest.{SpliceRequest}
-use Rattle.scte104_codec.specs.Numbers.{AreBytes}
+use Rattle.wire_fields.specs.Numbers.{AreBytes}
 use Rattle.scte104_codec.specs.Framing.{frame_of}
 use Rattle.scte104_codec.specs.Spelling.{SingleOperation, IsSingleOperation, single_operation_message, MultipleOperation, IsMultipleOperation, multiple_operation_message}
-use Rattle.scte104_codec.specs.Reading.{Reading, other, single_fields_of, message_of}
+use Rattle.scte104_codec.specs.Reading.{MessageReading, other, single_fields_of, message_of}
 use Rattle.scte104_codec.specs.Grammar.{Spells}
 use Rattle.scte104_codec.specs.Replies.{reply_message, reply_bytes}
 use Rattle.scte104_codec.specs.Requests.{splice_request_of, splice_request_bytes, SpliceRequestFits, avail_ids_of, avail_ids_bytes}
@@ -17,7 +17,7 @@ pub record MessagesAreFramed : Type 0 where
   pub several : (m : MultipleOperation) → IsMultipleOperation m → (more : List ℕ) → frame_of (multiple_operation_message m ++ more) ≡ Whole (length (multiple_operation_message m))
 
 abbrev pub MessagesReadBack : Type 0
-MessagesReadBack = (read : Reading) (bytes : List ℕ) → AreBytes bytes → Spells read bytes → message_of bytes ≡ read
+MessagesReadBack = (read : MessageReading) (bytes : List ℕ) → AreBytes bytes → Spells read bytes → message_of bytes ≡ read
 
 -- the bytes of a reply are one whole message; its fields are the reply's, and no others have these bytes
 pub record IsReadBack (r : Reply) : Type 0 where

@@ -1,4 +1,3 @@
-pub mod Numbers
 pub mod Framing
 pub mod Head
 pub mod Operations

@@ -4,7 +4,7 @@ use Rattle.std.specs.Option.{option_and_then, option_map_or}
 use Rattle.std.specs.List.{flat_map, list_all, AllByRecursion}
 use Rattle.std.specs.Borrow.{Bor}
 use Rattle.byteorder.specs.Endian.{big_bytes}
-use Rattle.scte104_codec.specs.Numbers.{number16_at}
+use Rattle.wire_fields.specs.Numbers.{number16_at}
 
 pub record Operation : Type 0 where
   pub op : ℕ

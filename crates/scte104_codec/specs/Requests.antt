@@ -3,7 +3,7 @@ use Rattle.std.specs.Prelude.{ℕ, zero, suc, ◌+◌, ◌*◌, ◌<◌, ◌^◌
 use Rattle.std.specs.List.{flat_map}
 use Rattle.byteorder.specs.Endian.{big_bytes}
 use Rattle.scte104_codec.specs.declared.requests.SpliceRequest.{SpliceRequest}
-use Rattle.scte104_codec.specs.Numbers.{number16_at, number32_at}
+use Rattle.wire_fields.specs.Numbers.{number16_at, number32_at}
 
 -- splice_request_data, by the places of its fields
 unfoldable pub splice_request_of : List ℕ → Option SpliceRequest

@@ -4,9 +4,9 @@ use Rattle.scte104_codec.specs.declared.message.Message.{Message}
 use Rattle.scte104_codec.specs.declared.message.Message.TheVariants.{Init, Alive, Other, Multi}
 use Rattle.scte104_codec.specs.declared.message.BadMessage.{BadMessage}
 use Rattle.scte104_codec.specs.OperationsLeft.{operations_left}
-use Rattle.scte104_codec.specs.Reading.{Reading, init, alive, other, multiple, bad}
+use Rattle.scte104_codec.specs.Reading.{MessageReading, init, alive, other, multiple, bad}
 
-abbrev pub reading_of : Result Message BadMessage → Reading
+abbrev pub reading_of : Result Message BadMessage → MessageReading
 reading_of (Ok (Init head)) = init head
 reading_of (Ok (Alive head body)) = alive head body.now
 reading_of (Ok (Other head)) = other head

@@ -3,8 +3,8 @@
 ghost use Rattle.std.specs.Prelude.{◌≡◌, ◌<◌, ◌≤◌, length, IfSome};
 ghost use Rattle.scte104_codec.specs.Framing.{size_in};
 
-use crate::fields::number16;
 use crate::operation_ids::MULTIPLE_OPERATION;
+use wire_fields::number16;
 
 /// How far the message at the front of some bytes has come.
 #[derive(Clone, Copy, Debug, PartialEq, Eq)]

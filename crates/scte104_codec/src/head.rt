@@ -3,7 +3,7 @@
 ghost use Rattle.std.specs.Prelude.{◌≡◌, ◌+◌, ◌≤◌, length};
 ghost use Rattle.scte104_codec.specs.Head.{head_at};
 
-use crate::fields::number16;
+use wire_fields::number16;
 
 /// What the messages of both kinds have in common.
 #[derive(Clone, Copy, Debug, PartialEq, Eq)]

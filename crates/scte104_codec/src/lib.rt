@@ -1,10 +1,9 @@
 //! Messages of ANSI/SCTE 104, by which an automation system asks for breaks: where one ends, what its fields say,
-//! and the bytes of a reply. It stands on `byteorder` and `arrayvec`, and takes no memory.
+//! and the bytes of a reply. It stands on `wire_fields` and `arrayvec`, and takes no memory.
 //! The crates above use one contract of it: `read` gives exactly what the grammar of `specs/Grammar.antt` says.
 #![tactic(auto)]
 
 mod cutting;
-mod fields;
 mod framing;
 mod head;
 mod laws;

@@ -3,16 +3,16 @@
 ghost use Rattle.std.specs.Prelude.{◌≡◌, ◌≤◌, length};
 ghost use Rattle.scte104_codec.specs.declared.framing.Frame.TheVariants.{Whole};
 ghost use Rattle.scte104_codec.specs.Framing.{frame_of};
-ghost use Rattle.scte104_codec.specs.Reading.{Reading, message_of, single_operation_of, multiple_operation_of};
+ghost use Rattle.scte104_codec.specs.Reading.{MessageReading, message_of, single_operation_of, multiple_operation_of};
 ghost use Rattle.scte104_codec.specs.Grammar.{Spells};
 ghost use Rattle.scte104_codec.specs.Views.{reading_of};
 
-use crate::fields::{from, number16};
 use crate::head::{Head, head_of};
 use crate::multi::Multi;
 use crate::operation_ids::{ALIVE_REQUEST, INIT_REQUEST, MULTIPLE_OPERATION};
 use crate::operations::Operations;
 use thiserror::Error;
+use wire_fields::{behind, number16};
 
 /// A message that was read. Its data lie in the bytes that it was read from.
 #[derive(Clone, Copy, Debug)]
@@ -45,7 +45,7 @@ fn single_operation(bytes: &[u8]) -> Result<Message<'_>, BadMessage>
     ensures { reading_of result ≡ single_operation_of bytes.now }
 {
     let head = head_of(bytes, 9);
-    let data = from(bytes, 13);
+    let data = behind(bytes, 13);
     match number16(bytes, 0) {
         INIT_REQUEST => Ok(Message::Init(head)),
         ALIVE_REQUEST if data.len() <= 8 => Ok(Message::Alive(head, data)),
@@ -63,7 +63,7 @@ fn multiple_operation(bytes: &[u8]) -> Result<Message<'_>, BadMessage>
 {
     let head = head_of(bytes, 5);
     let time_kind = bytes[10];
-    let rest = from(bytes, 12);
+    let rest = behind(bytes, 12);
     let operations = if time_kind == 0 {
         Operations::all(bytes[11], rest)
     } else {
@@ -103,7 +103,7 @@ pub fn read(bytes: &[u8]) -> Result<Message<'_>, BadMessage>
 
     // What is read is in the grammar, and nothing else that these bytes spell.
     ensures spelled { Spells (reading_of result) bytes.now }
-    ensures only { (other : Reading) → Spells other bytes.now → reading_of result ≡ other }
+    ensures only { (other : MessageReading) → Spells other bytes.now → reading_of result ≡ other }
 {
     read_whole(bytes)
 }

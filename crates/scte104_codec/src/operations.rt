@@ -3,8 +3,8 @@
 ghost use Rattle.std.specs.Prelude.{◌≡◌, IsTrue, option_map, is_some};
 ghost use Rattle.scte104_codec.specs.Operations.{taken, operation_at, operations_in, operations_from, is_well_formed, are_well_formed};
 
-use crate::fields::number16;
 use crate::operation_ids::{INSERT_AVAIL_DESCRIPTOR, SPLICE_REQUEST};
+use wire_fields::number16;
 
 /// The operations of a `multiple_operation_message`, in order: an iterator over the `opID` and the data of each. The
 /// data lie in the message.

@@ -2,14 +2,12 @@
 use Rattle.std.proofs.Common.{◌≡◌, ℕ, Bool, true, false, List, [], ◌∷◌, ◌++◌, length, slice_index, Option, Some, None, refl, sym, ap, subst, ◌∙◌, arith, append_assoc}
 use Rattle.std.specs.Prelude.{not, if◌then◌else◌}
 use Rattle.std.proofs.lemmas.Option.{some_pair_parts}
-use Rattle.scte35_codec.specs.declared.insert.SpliceInsert.{SpliceInsert}
-use Rattle.scte35_codec.specs.declared.insert.Command.{Command}
-use Rattle.scte35_codec.specs.declared.insert.Command.TheVariants.{Cancelled, Components, Inserted}
-use Rattle.scte35_codec.specs.Numbers.{number_of, bit_of}
+use Rattle.wire_fields.specs.Numbers.{number_of}
+use Rattle.scte35_codec.specs.Bits.{bit_of}
 use Rattle.scte35_codec.specs.Fields.{◌>>=◌, byte_at, number_at, ticks_at}
-use Rattle.scte35_codec.specs.Insert.{splice_time_at, time_unless_at, duration_if_at, inserted_at, splice_insert_at}
+use Rattle.scte35_codec.specs.Insert.{SpliceInsert, SpliceCommand, cancelled, components, inserted, splice_time_at, time_unless_at, duration_if_at, inserted_at, splice_insert_at}
 use Rattle.scte35_codec.specs.Grammar.{IsNumber, IsTicks, IsSpliceTime, IsTime, IsDuration, IsInsert, IsCancel, BeginsComponents}
-use Rattle.scte35_codec.proofs.FieldLemmas.{bind_some, Taken, number_sound, number_back, IsTicksOf, ticks_sound, ticks_back, byte_sound}
+use Rattle.scte35_codec.proofs.FieldLemmas.{bind_some, BeginsWith, number_sound, number_back, IsTicksOf, ticks_sound, ticks_back, byte_sound}
 
 -- ---- splice_time()
 
@@ -20,7 +18,7 @@ abbrev no_time : List ℕ → Option ℕ × List ℕ
 no_time rest = (None, rest)
 
 -- a time's flag is the first bit of its bytes
-flag_is : (p : Bool × ℕ) (bytes rest : List ℕ) (first : ℕ) (others : List ℕ) → bytes ≡ first ∷ others → (t : Taken (IsTicksOf p) bytes rest) → bit_of 7 first ≡ p.0
+flag_is : (p : Bool × ℕ) (bytes rest : List ℕ) (first : ℕ) (others : List ℕ) → bytes ≡ first ∷ others → (t : BeginsWith (IsTicksOf p) bytes rest) → bit_of 7 first ≡ p.0
 flag_is p bytes rest first others e t =
     flag_in t.text rest first others (sym t.whole ∙ e) t.is.size ∙ t.is.flagged where
       flag_in : (text rest : List ℕ) (first : ℕ) (others : List ℕ) → text ++ rest ≡ first ∷ others → length text ≡ 5 → bit_of 7 first ≡ bit_of 7 (slice_index text 0)
@@ -28,21 +26,21 @@ flag_is p bytes rest first others e t =
       flag_in (x ∷ text) rest first others e size = let same : x ≡ first = cc in ap (bit_of 7) (sym same)
 
 time_sound_by : (b : Bool) (bytes : List ℕ) (first : ℕ) (others : List ℕ) (time : Option ℕ) (rest : List ℕ) → bytes ≡ first ∷ others → bit_of 7 first ≡ b
-    → (if not b then Some (no_time others) else (ticks_at bytes >>= λ t. Some (time_with t))) ≡ Some (time, rest) → Taken (IsSpliceTime time) bytes rest
+    → (if not b then Some (no_time others) else (ticks_at bytes >>= λ t. Some (time_with t))) ≡ Some (time, rest) → BeginsWith (IsSpliceTime time) bytes rest
 time_sound_by false bytes first others time rest e f h =
     let parts = some_pair_parts (no_time others).0 time others rest h in
-    let made : Taken (IsSpliceTime None) bytes others = record { text = first ∷ []; whole = e; is = (first, refl, f) } in
-    subst (λ (o : Option ℕ). Taken (IsSpliceTime o) bytes rest) parts.0 (subst (λ (r : List ℕ). Taken (IsSpliceTime None) bytes r) parts.1 made)
+    let made : BeginsWith (IsSpliceTime None) bytes others = record { text = first ∷ []; whole = e; is = (first, refl, f) } in
+    subst (λ (o : Option ℕ). BeginsWith (IsSpliceTime o) bytes rest) parts.0 (subst (λ (r : List ℕ). BeginsWith (IsSpliceTime None) bytes r) parts.1 made)
 time_sound_by true bytes first others time rest e f h =
     let step = bind_some (ticks_at bytes) (λ (t : (Bool × ℕ) × List ℕ). Some (time_with t)) (time, rest) h in
     let parts = some_pair_parts (time_with step.0).0 time (time_with step.0).1 rest step.2 in
     let taken = ticks_sound step.0.0 bytes step.0.1 step.1 in
     let set : step.0.0.0 ≡ true = sym (flag_is step.0.0 bytes step.0.1 first others e taken) ∙ f in
     let is : IsTicks true step.0.0.1 taken.text = subst (λ (b : Bool). IsTicks b step.0.0.1 taken.text) set taken.is in
-    let made : Taken (IsSpliceTime (Some step.0.0.1)) bytes step.0.1 = record { text = taken.text; whole = taken.whole; is = is } in
-    subst (λ (o : Option ℕ). Taken (IsSpliceTime o) bytes rest) parts.0 (subst (λ (r : List ℕ). Taken (IsSpliceTime (Some step.0.0.1)) bytes r) parts.1 made)
+    let made : BeginsWith (IsSpliceTime (Some step.0.0.1)) bytes step.0.1 = record { text = taken.text; whole = taken.whole; is = is } in
+    subst (λ (o : Option ℕ). BeginsWith (IsSpliceTime o) bytes rest) parts.0 (subst (λ (r : List ℕ). BeginsWith (IsSpliceTime (Some step.0.0.1)) bytes r) parts.1 made)
 
-pub time_sound : (time : Option ℕ) (bytes rest : List ℕ) → splice_time_at bytes ≡ Some (time, rest) → Taken (IsSpliceTime time) bytes rest
+pub time_sound : (time : Option ℕ) (bytes rest : List ℕ) → splice_time_at bytes ≡ Some (time, rest) → BeginsWith (IsSpliceTime time) bytes rest
 unfolding splice_time_at
 time_sound time [] rest h = absurd cc
 time_sound time (first ∷ others) rest h = time_sound_by (bit_of 7 first) (first ∷ others) first others time rest refl refl h
@@ -65,12 +63,12 @@ time_back None text rest is = ap (λ (xs : List ℕ). splice_time_at (xs ++ rest
 
 -- ---- where there is one
 
-unless_sound : (immediate : Bool) (time : Option ℕ) (bytes rest : List ℕ) → time_unless_at immediate bytes ≡ Some (time, rest) → Taken (IsTime immediate time) bytes rest
+unless_sound : (immediate : Bool) (time : Option ℕ) (bytes rest : List ℕ) → time_unless_at immediate bytes ≡ Some (time, rest) → BeginsWith (IsTime immediate time) bytes rest
 unfolding time_unless_at
 unless_sound true time bytes rest h =
     let parts = some_pair_parts (no_time bytes).0 time bytes rest h in
-    let made : Taken (IsTime true None) bytes bytes = record { text = []; whole = refl; is = refl } in
-    subst (λ (o : Option ℕ). Taken (IsTime true o) bytes rest) parts.0 (subst (λ (r : List ℕ). Taken (IsTime true None) bytes r) parts.1 made)
+    let made : BeginsWith (IsTime true None) bytes bytes = record { text = []; whole = refl; is = refl } in
+    subst (λ (o : Option ℕ). BeginsWith (IsTime true o) bytes rest) parts.0 (subst (λ (r : List ℕ). BeginsWith (IsTime true None) bytes r) parts.1 made)
 unless_sound false time bytes rest h = time_sound time bytes rest h
 
 unless_back : (immediate : Bool) (time : Option ℕ) (text rest : List ℕ) → IsTime immediate time text → time_unless_at immediate (text ++ rest) ≡ Some (time, rest)
@@ -87,18 +85,18 @@ duration_with t = (Some (t.0.0, t.0.1), t.1)
 abbrev no_duration : List ℕ → Option (Bool × ℕ) × List ℕ
 no_duration rest = (None, rest)
 
-if_sound : (given : Bool) (duration : Option (Bool × ℕ)) (bytes rest : List ℕ) → duration_if_at given bytes ≡ Some (duration, rest) → Taken (IsDuration given duration) bytes rest
+if_sound : (given : Bool) (duration : Option (Bool × ℕ)) (bytes rest : List ℕ) → duration_if_at given bytes ≡ Some (duration, rest) → BeginsWith (IsDuration given duration) bytes rest
 unfolding duration_if_at
 if_sound false duration bytes rest h =
     let parts = some_pair_parts (no_duration bytes).0 duration bytes rest h in
-    let made : Taken (IsDuration false None) bytes bytes = record { text = []; whole = refl; is = refl } in
-    subst (λ (o : Option (Bool × ℕ)). Taken (IsDuration false o) bytes rest) parts.0 (subst (λ (r : List ℕ). Taken (IsDuration false None) bytes r) parts.1 made)
+    let made : BeginsWith (IsDuration false None) bytes bytes = record { text = []; whole = refl; is = refl } in
+    subst (λ (o : Option (Bool × ℕ)). BeginsWith (IsDuration false o) bytes rest) parts.0 (subst (λ (r : List ℕ). BeginsWith (IsDuration false None) bytes r) parts.1 made)
 if_sound true duration bytes rest h =
     let step = bind_some (ticks_at bytes) (λ (t : (Bool × ℕ) × List ℕ). Some (duration_with t)) (duration, rest) h in
     let parts = some_pair_parts (duration_with step.0).0 duration (duration_with step.0).1 rest step.2 in
     let taken = ticks_sound step.0.0 bytes step.0.1 step.1 in
-    let made : Taken (IsDuration true (Some (step.0.0.0, step.0.0.1))) bytes step.0.1 = record { text = taken.text; whole = taken.whole; is = taken.is } in
-    subst (λ (o : Option (Bool × ℕ)). Taken (IsDuration true o) bytes rest) parts.0 (subst (λ (r : List ℕ). Taken (IsDuration true (Some (step.0.0.0, step.0.0.1))) bytes r) parts.1 made)
+    let made : BeginsWith (IsDuration true (Some (step.0.0.0, step.0.0.1))) bytes step.0.1 = record { text = taken.text; whole = taken.whole; is = taken.is } in
+    subst (λ (o : Option (Bool × ℕ)). BeginsWith (IsDuration true o) bytes rest) parts.0 (subst (λ (r : List ℕ). BeginsWith (IsDuration true (Some (step.0.0.0, step.0.0.1))) bytes r) parts.1 made)
 
 if_back : (given : Bool) (duration : Option (Bool × ℕ)) (text rest : List ℕ) → IsDuration given duration text → duration_if_at given (text ++ rest) ≡ Some (duration, rest)
 unfolding duration_if_at
@@ -182,19 +180,19 @@ inserted_back flags i time duration program rest out t d p =
 
 -- ---- the whole command
 
-abbrev pub IsRead : Command → List ℕ → List ℕ → Type 0
-IsRead (Cancelled event) bytes rest = Taken (IsCancel event) bytes rest
-IsRead Components bytes rest = BeginsComponents bytes
-IsRead (Inserted i) bytes rest = Taken (IsInsert i) bytes rest
+abbrev pub IsRead : SpliceCommand → List ℕ → List ℕ → Type 0
+IsRead (cancelled event) bytes rest = BeginsWith (IsCancel event) bytes rest
+IsRead components bytes rest = BeginsComponents bytes
+IsRead (inserted i) bytes rest = BeginsWith (IsInsert i) bytes rest
 
-abbrev cancelled : ℕ → List ℕ → Command × List ℕ
-cancelled event rest = (Cancelled event, rest)
+abbrev cancelled_with : ℕ → List ℕ → SpliceCommand × List ℕ
+cancelled_with event rest = (cancelled event, rest)
 
-abbrev components : List ℕ → Command × List ℕ
-components rest = (Components, rest)
+abbrev components_with : List ℕ → SpliceCommand × List ℕ
+components_with rest = (components, rest)
 
-abbrev inserted_with : SpliceInsert × List ℕ → Command × List ℕ
-inserted_with x = (Inserted x.0, x.1)
+abbrev inserted_with : SpliceInsert × List ℕ → SpliceCommand × List ℕ
+inserted_with x = (inserted x.0, x.1)
 
 record Before (event indicator flags : ℕ) (bytes behind : List ℕ) : Type 0 where
   pub id : List ℕ
@@ -202,7 +200,7 @@ record Before (event indicator flags : ℕ) (bytes behind : List ℕ) : Type 0 w
   pub is : IsNumber 4 event id
   pub standing : bit_of 7 indicator ≡ false
 
-whole_insert : (event indicator flags : ℕ) (i : SpliceInsert) (bytes behind rest : List ℕ) → Before event indicator flags bytes behind → bit_of 6 flags ≡ true → Parts event flags i behind rest → Taken (IsInsert i) bytes rest
+whole_insert : (event indicator flags : ℕ) (i : SpliceInsert) (bytes behind rest : List ℕ) → Before event indicator flags bytes behind → bit_of 6 flags ≡ true → Parts event flags i behind rest → BeginsWith (IsInsert i) bytes rest
 whole_insert event indicator flags i bytes behind rest before program parts =
     let text = before.id ++ indicator ∷ flags ∷ behind_flags parts.time parts.duration parts.program i in
     let whole : bytes ≡ text ++ rest = before.whole ∙ ap (λ (xs : List ℕ). before.id ++ indicator ∷ flags ∷ xs) parts.whole ∙ sym (append_assoc before.id (indicator ∷ flags ∷ behind_flags parts.time parts.duration parts.program i) rest) in
@@ -227,11 +225,11 @@ whole_insert event indicator flags i bytes behind rest before program parts =
       };
     }
 
-flags_sound : (b : Bool) (event indicator flags : ℕ) (c : Command) (bytes behind rest : List ℕ) → Before event indicator flags bytes behind → bit_of 6 flags ≡ b
-    → (if not b then Some (components behind) else (inserted_at event flags behind >>= λ x. Some (inserted_with x))) ≡ Some (c, rest) → IsRead c bytes rest
+flags_sound : (b : Bool) (event indicator flags : ℕ) (c : SpliceCommand) (bytes behind rest : List ℕ) → Before event indicator flags bytes behind → bit_of 6 flags ≡ b
+    → (if not b then Some (components_with behind) else (inserted_at event flags behind >>= λ x. Some (inserted_with x))) ≡ Some (c, rest) → IsRead c bytes rest
 flags_sound false event indicator flags c bytes behind rest before f h =
-    let parts = some_pair_parts (components behind).0 c behind rest h in
-    let made : IsRead Components bytes rest = record {
+    let parts = some_pair_parts (components_with behind).0 c behind rest h in
+    let made : IsRead components bytes rest = record {
       id = before.id;
       rest = behind;
       indicator = indicator;
@@ -241,39 +239,39 @@ flags_sound false event indicator flags c bytes behind rest before f h =
       splice_event_cancel_indicator = before.standing;
       program_splice_flag = f;
     } in
-    subst (λ (d : Command). IsRead d bytes rest) parts.0 made
+    subst (λ (d : SpliceCommand). IsRead d bytes rest) parts.0 made
 flags_sound true event indicator flags c bytes behind rest before f h =
     let step = bind_some (inserted_at event flags behind) (λ (x : SpliceInsert × List ℕ). Some (inserted_with x)) (c, rest) h in
     let parts = some_pair_parts (inserted_with step.0).0 c step.0.1 rest step.2 in
     let read = inserted_sound event flags step.0.0 behind step.0.1 step.1 in
-    let made : IsRead (Inserted step.0.0) bytes step.0.1 = whole_insert event indicator flags step.0.0 bytes behind step.0.1 before f read in
-    subst (λ (d : Command). IsRead d bytes rest) parts.0 (subst (λ (r : List ℕ). IsRead (Inserted step.0.0) bytes r) parts.1 made)
+    let made : IsRead (inserted step.0.0) bytes step.0.1 = whole_insert event indicator flags step.0.0 bytes behind step.0.1 before f read in
+    subst (λ (d : SpliceCommand). IsRead d bytes rest) parts.0 (subst (λ (r : List ℕ). IsRead (inserted step.0.0) bytes r) parts.1 made)
 
-abbrev behind_indicator : ℕ → List ℕ → Option (Command × List ℕ)
-behind_indicator event rest = byte_at rest >>= λ (flags : ℕ × List ℕ). if not (bit_of 6 flags.0) then Some (components flags.1) else (inserted_at event flags.0 flags.1 >>= λ x. Some (inserted_with x))
+abbrev behind_indicator : ℕ → List ℕ → Option (SpliceCommand × List ℕ)
+behind_indicator event rest = byte_at rest >>= λ (flags : ℕ × List ℕ). if not (bit_of 6 flags.0) then Some (components_with flags.1) else (inserted_at event flags.0 flags.1 >>= λ x. Some (inserted_with x))
 
-indicator_sound : (b : Bool) (event indicator : ℕ) (c : Command) (bytes id behind rest : List ℕ) → bytes ≡ id ++ indicator ∷ behind → IsNumber 4 event id → bit_of 7 indicator ≡ b
-    → (if b then Some (cancelled event behind) else behind_indicator event behind) ≡ Some (c, rest) → IsRead c bytes rest
+indicator_sound : (b : Bool) (event indicator : ℕ) (c : SpliceCommand) (bytes id behind rest : List ℕ) → bytes ≡ id ++ indicator ∷ behind → IsNumber 4 event id → bit_of 7 indicator ≡ b
+    → (if b then Some (cancelled_with event behind) else behind_indicator event behind) ≡ Some (c, rest) → IsRead c bytes rest
 indicator_sound true event indicator c bytes id behind rest e is f h =
-    let parts = some_pair_parts (cancelled event behind).0 c behind rest h in
+    let parts = some_pair_parts (cancelled_with event behind).0 c behind rest h in
     let whole : bytes ≡ (id ++ indicator ∷ []) ++ behind = e ∙ sym (append_assoc id (indicator ∷ []) behind) in
-    let made : IsRead (Cancelled event) bytes behind = record {
+    let made : IsRead (cancelled event) bytes behind = record {
       text = id ++ indicator ∷ [];
       whole = whole;
       is = record { id = id; indicator = indicator; whole = refl; splice_event_id = is; splice_event_cancel_indicator = f };
     } in
-    subst (λ (d : Command). IsRead d bytes rest) parts.0 (subst (λ (r : List ℕ). IsRead (Cancelled event) bytes r) parts.1 made)
+    subst (λ (d : SpliceCommand). IsRead d bytes rest) parts.0 (subst (λ (r : List ℕ). IsRead (cancelled event) bytes r) parts.1 made)
 indicator_sound false event indicator c bytes id behind rest e is f h =
-    let step = bind_some (byte_at behind) (λ (flags : ℕ × List ℕ). if not (bit_of 6 flags.0) then Some (components flags.1) else (inserted_at event flags.0 flags.1 >>= λ x. Some (inserted_with x))) (c, rest) h in
+    let step = bind_some (byte_at behind) (λ (flags : ℕ × List ℕ). if not (bit_of 6 flags.0) then Some (components_with flags.1) else (inserted_at event flags.0 flags.1 >>= λ x. Some (inserted_with x))) (c, rest) h in
     let next = byte_sound step.0.0 behind step.0.1 step.1 in
     let before : Before event indicator step.0.0 bytes step.0.1 = record { id = id; whole = e ∙ ap (λ (xs : List ℕ). id ++ indicator ∷ xs) next; is = is; standing = f } in
     flags_sound (bit_of 6 step.0.0) event indicator step.0.0 c bytes step.0.1 rest before refl step.2
 
-pub insert_sound : (c : Command) (bytes rest : List ℕ) → splice_insert_at bytes ≡ Some (c, rest) → IsRead c bytes rest
+pub insert_sound : (c : SpliceCommand) (bytes rest : List ℕ) → splice_insert_at bytes ≡ Some (c, rest) → IsRead c bytes rest
 unfolding splice_insert_at
 insert_sound c bytes rest h =
-    let s1 = bind_some (number_at 4 bytes) (λ (event : ℕ × List ℕ). byte_at event.1 >>= λ (cancel : ℕ × List ℕ). if bit_of 7 cancel.0 then Some (cancelled event.0 cancel.1) else behind_indicator event.0 cancel.1) (c, rest) h in
-    let s2 = bind_some (byte_at s1.0.1) (λ (cancel : ℕ × List ℕ). if bit_of 7 cancel.0 then Some (cancelled s1.0.0 cancel.1) else behind_indicator s1.0.0 cancel.1) (c, rest) s1.2 in
+    let s1 = bind_some (number_at 4 bytes) (λ (event : ℕ × List ℕ). byte_at event.1 >>= λ (cancel : ℕ × List ℕ). if bit_of 7 cancel.0 then Some (cancelled_with event.0 cancel.1) else behind_indicator event.0 cancel.1) (c, rest) h in
+    let s2 = bind_some (byte_at s1.0.1) (λ (cancel : ℕ × List ℕ). if bit_of 7 cancel.0 then Some (cancelled_with s1.0.0 cancel.1) else behind_indicator s1.0.0 cancel.1) (c, rest) s1.2 in
     let id = number_sound 4 s1.0.0 bytes s1.0.1 s1.1 in
     let next = byte_sound s2.0.0 s1.0.1 s2.0.1 s2.1 in
     let whole : bytes ≡ id.text ++ s2.0.0 ∷ s2.0.1 = id.whole ∙ ap (λ (xs : List ℕ). id.text ++ xs) next in
@@ -281,14 +279,14 @@ insert_sound c bytes rest h =
 
 -- ---- spelled, then read
 
-pub cancel_back : (event : ℕ) (text rest : List ℕ) → IsCancel event text → splice_insert_at (text ++ rest) ≡ Some (Cancelled event, rest)
+pub cancel_back : (event : ℕ) (text rest : List ℕ) → IsCancel event text → splice_insert_at (text ++ rest) ≡ Some (cancelled event, rest)
 unfolding splice_insert_at
 cancel_back event text rest is =
     let grouped : text ++ rest ≡ is.id ++ is.indicator ∷ rest = ap (λ (xs : List ℕ). xs ++ rest) is.whole ∙ append_assoc is.id (is.indicator ∷ []) rest in
     let id = number_back 4 event is.id (is.indicator ∷ rest) is.splice_event_id in
     ap splice_insert_at grouped ∙ rw (id, is.splice_event_cancel_indicator) refl
 
-pub insert_back : (i : SpliceInsert) (text rest : List ℕ) → IsInsert i text → splice_insert_at (text ++ rest) ≡ Some (Inserted i, rest)
+pub insert_back : (i : SpliceInsert) (text rest : List ℕ) → IsInsert i text → splice_insert_at (text ++ rest) ≡ Some (inserted i, rest)
 unfolding splice_insert_at
 insert_back i text rest is =
     let behind = behind_flags is.time is.duration is.program i in
@@ -297,7 +295,7 @@ insert_back i text rest is =
     let others = inserted_back is.flags i is.time is.duration is.program rest is.out_of_network_indicator is.splice_time is.break_duration is.unique_program_id in
     ap splice_insert_at grouped ∙ rw (id, is.splice_event_cancel_indicator, is.program_splice_flag, others) refl
 
-pub components_back : (bytes : List ℕ) → BeginsComponents bytes → (rest : List ℕ) × (splice_insert_at bytes ≡ Some (Components, rest))
+pub components_back : (bytes : List ℕ) → BeginsComponents bytes → (rest : List ℕ) × (splice_insert_at bytes ≡ Some (components, rest))
 unfolding splice_insert_at
 components_back bytes is =
     let numbered : IsNumber 4 (number_of 4 is.id) is.id = record { size = is.splice_event_id; worth = refl } in

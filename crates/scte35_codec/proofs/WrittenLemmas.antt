@@ -7,13 +7,13 @@ use Rattle.std.proofs.lemmas.List.Concat.{flat_map-cons}
 use Rattle.byteorder.specs.Endian.{big_bytes}
 use Rattle.byteorder.specs.Numbers.{big_number-reads_back}
 use Rattle.psi_section.specs.Crc.{crc}
-use Rattle.scte35_codec.specs.declared.insert.SpliceInsert.{SpliceInsert}
+use Rattle.scte35_codec.specs.Insert.{SpliceInsert}
 use Rattle.scte35_codec.specs.declared.cue_out.CueOut.{CueOut}
 use Rattle.scte35_codec.specs.declared.cue_out.CueOut.TheVariants.{Start, Cancel, End}
-use Rattle.scte35_codec.specs.Numbers.{number_of}
-use Rattle.scte35_codec.specs.Descriptors.{Descriptor, descriptor_bytes, avail_id, avails_of}
+use Rattle.wire_fields.specs.Numbers.{number_of}
+use Rattle.scte35_codec.specs.Descriptors.{SpliceDescriptor, descriptor_bytes, avail_id, avails_of}
 use Rattle.scte35_codec.specs.Insert.{later}
-use Rattle.scte35_codec.specs.Reading.{Reading, insert, cancel, cue_of, section_length, pts_adjustment, splice_command_length, command_part}
+use Rattle.scte35_codec.specs.Reading.{CueReading, insert, cancel, cue_of, section_length, pts_adjustment, splice_command_length, command_part}
 use Rattle.scte35_codec.specs.Grammar.{IsNumber, IsTicks, IsInsert, IsCancel, HasLoop, HasCommand, SpellsInsert, SpellsInsertIn, IsCue, IsWhole, IsVersioned, IsClear, Spells}
 use Rattle.scte35_codec.specs.Spelling.{head_bytes, ticks_bytes, avail_descriptor_bytes, loop_bytes, start_bytes, end_bytes, unchecked_bytes, cue_bytes, told_of, Fits}
 use Rattle.scte35_codec.proofs.DescriptorLemmas.{avail_is}
@@ -82,7 +82,7 @@ part_written command descriptors part check four =
 abbrev section : ℕ → ℕ → List ℕ → List ℕ → List ℕ → List ℕ
 section command descriptors text loop check = head_bytes command descriptors ++ text ++ loop ++ check
 
-pub section_spelled : (read : Reading) (command descriptors : ℕ) (text loop check : List ℕ) → command ≤ 20 → descriptors ≤ 140 → length text ≡ command → length loop ≡ 2 + descriptors → length check ≡ 4
+pub section_spelled : (read : CueReading) (command descriptors : ℕ) (text loop check : List ℕ) → command ≤ 20 → descriptors ≤ 140 → length text ≡ command → length loop ≡ 2 + descriptors → length check ≡ 4
     → SpellsInsert read 0 command (text ++ loop) → IsClear 5 (section command descriptors text loop check) × SpellsInsertIn (section command descriptors text loop check) read
 section_spelled read command descriptors text loop check c d t l four s =
     let rest = (text ++ loop) ++ check in
@@ -101,7 +101,7 @@ section_spelled read command descriptors text loop check c d t l four s =
 
 -- ---- the loop
 
-abbrev avail_descriptor : ℕ → Descriptor
+abbrev avail_descriptor : ℕ → SpliceDescriptor
 avail_descriptor id = record { tag = 0; body = 0x43 ∷ 0x55 ∷ 0x45 ∷ 0x49 ∷ big_bytes 4 id }
 
 mark_written : (id : ℕ) → number_of 4 (0x43 ∷ 0x55 ∷ 0x45 ∷ 0x49 ∷ big_bytes 4 id) ≡ 0x43554549

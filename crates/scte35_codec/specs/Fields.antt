@@ -1,7 +1,8 @@
 -- Fields at the front of some bytes, each with the bytes behind it. None is where the bytes end before the field does.
 use Rattle.std.specs.Prelude.{ℕ, ◌%◌, ◌^◌, Bool, List, [], ◌∷◌, length, drop, slice_index, Option, Some, None, nat_lt, if◌then◌else◌}
 use Rattle.std.specs.Borrow.{Bor}
-use Rattle.scte35_codec.specs.Numbers.{number_of, bit_of}
+use Rattle.wire_fields.specs.Numbers.{number_of}
+use Rattle.scte35_codec.specs.Bits.{bit_of}
 
 infixl 10 ◌>>=◌
 abbrev pub ◌>>=◌ : {A B : Type 0} → Option A → (A → Option B) → Option B

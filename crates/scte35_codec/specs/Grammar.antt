@@ -2,12 +2,13 @@
 -- break_duration). Bits that no line names are reserved, or are not looked at, and have any value.
 use Rattle.std.specs.Prelude.{◌≡◌, ◌≢◌, ℕ, ◌+◌, ◌%◌, ◌^◌, ◌≤◌, Bool, true, false, List, [], ◌∷◌, ◌++◌, length, slice_index, Option, Some, None, ◌⊎◌}
 use Rattle.std.specs.List.{flat_map}
-use Rattle.scte35_codec.specs.declared.insert.SpliceInsert.{SpliceInsert}
+use Rattle.scte35_codec.specs.Insert.{SpliceInsert}
 use Rattle.scte35_codec.specs.declared.cue.CueFault.TheVariants as faults
-use Rattle.scte35_codec.specs.Numbers.{number_of, bit_of}
-use Rattle.scte35_codec.specs.Descriptors.{Descriptor, descriptor_bytes, avails_of}
+use Rattle.wire_fields.specs.Numbers.{number_of}
+use Rattle.scte35_codec.specs.Bits.{bit_of}
+use Rattle.scte35_codec.specs.Descriptors.{SpliceDescriptor, descriptor_bytes, avails_of}
 use Rattle.scte35_codec.specs.Insert.{later}
-use Rattle.scte35_codec.specs.Reading.{Reading, insert, cancel, null, other, bad, section_length, pts_adjustment, splice_command_length, command_part}
+use Rattle.scte35_codec.specs.Reading.{CueReading, insert, cancel, null, other, bad, section_length, pts_adjustment, splice_command_length, command_part}
 
 -- n bytes that make this number
 pub record IsNumber (n value : ℕ) (text : List ℕ) : Type 0 where
@@ -75,14 +76,14 @@ pub record BeginsComponents (text : List ℕ) : Type 0 where
   pub program_splice_flag : bit_of 6 flags ≡ false
 
 -- descriptor_loop_length, the descriptors, and bytes that are passed over
-pub record HasLoop (ds : List Descriptor) (text : List ℕ) : Type 0 where
+pub record HasLoop (ds : List SpliceDescriptor) (text : List ℕ) : Type 0 where
   pub size : List ℕ
   pub passed : List ℕ
   pub whole : text ≡ size ++ (flat_map descriptor_bytes ds ++ passed)
   pub descriptor_loop_length : IsNumber 2 (length (flat_map descriptor_bytes ds)) size
 
 -- a command of the length that is stated for it, 0xFFF stating none, and the loop
-pub record HasCommand (stated : ℕ) (Is : List ℕ → Type 0) (ds : List Descriptor) (text : List ℕ) : Type 0 where
+pub record HasCommand (stated : ℕ) (Is : List ℕ → Type 0) (ds : List SpliceDescriptor) (text : List ℕ) : Type 0 where
   pub command : List ℕ
   pub rest : List ℕ
   pub whole : text ≡ command ++ rest
@@ -91,15 +92,15 @@ pub record HasCommand (stated : ℕ) (Is : List ℕ → Type 0) (ds : List Descr
   pub loop : HasLoop ds rest
 
 -- what a splice_insert() and what follows it spell
-abbrev pub SpellsInsert : Reading → ℕ → ℕ → List ℕ → Type 0
+abbrev pub SpellsInsert : CueReading → ℕ → ℕ → List ℕ → Type 0
 SpellsInsert (insert i avails) adjustment stated text =
-    (raw : SpliceInsert) × (ds : List Descriptor) × HasCommand stated (IsInsert raw) ds text × (i ≡ later adjustment raw) × (avails ≡ avails_of ds)
-SpellsInsert (cancel event) adjustment stated text = (ds : List Descriptor) × HasCommand stated (IsCancel event) ds text
+    (raw : SpliceInsert) × (ds : List SpliceDescriptor) × HasCommand stated (IsInsert raw) ds text × (i ≡ later adjustment raw) × (avails ≡ avails_of ds)
+SpellsInsert (cancel event) adjustment stated text = (ds : List SpliceDescriptor) × HasCommand stated (IsCancel event) ds text
 SpellsInsert other adjustment stated text = BeginsComponents text
 SpellsInsert null adjustment stated text = ⊥
 SpellsInsert (bad fault) adjustment stated text = ⊥
 
-abbrev pub SpellsInsertIn : List ℕ → Reading → Type 0
+abbrev pub SpellsInsertIn : List ℕ → CueReading → Type 0
 SpellsInsertIn bytes read = SpellsInsert read (pts_adjustment bytes) (splice_command_length bytes) (command_part bytes)
 
 -- ---- sections
@@ -124,7 +125,7 @@ pub record IsClear (kind : ℕ) (bytes : List ℕ) : Type 0 where
   pub encrypted_packet : bit_of 7 (slice_index bytes 4) ≡ false
   pub splice_command_type : slice_index bytes 13 ≡ kind
 
-abbrev pub Spells : Reading → List ℕ → Type 0
+abbrev pub Spells : CueReading → List ℕ → Type 0
 Spells (insert i avails) bytes = IsClear 5 bytes × SpellsInsertIn bytes (insert i avails)
 Spells (cancel event) bytes = IsClear 5 bytes × SpellsInsertIn bytes (cancel event)
 Spells null bytes = IsClear 0 bytes
@@ -134,4 +135,4 @@ Spells (bad faults.Length) bytes = IsCue bytes × (¬ IsWhole bytes)
 Spells (bad faults.Version) bytes = IsWhole bytes × (¬ IsVersioned bytes)
 Spells (bad faults.Encrypted) bytes = IsVersioned bytes × (bit_of 7 (slice_index bytes 4) ≡ true)
 -- a splice_insert() that spells nothing
-Spells (bad faults.Command) bytes = IsClear 5 bytes × ((read : Reading) → ¬ SpellsInsertIn bytes read)
+Spells (bad faults.Command) bytes = IsClear 5 bytes × ((read : CueReading) → ¬ SpellsInsertIn bytes read)

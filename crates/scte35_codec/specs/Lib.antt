@@ -1,8 +1,9 @@
-pub mod Numbers
+pub mod Bits
 pub mod Fields
 pub mod Descriptors
 pub mod AvailsLeft
 pub mod Insert
+pub mod InsertTaken
 pub mod Reading
 pub mod Views
 pub mod Grammar

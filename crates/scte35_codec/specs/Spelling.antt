@@ -6,7 +6,7 @@ use Rattle.byteorder.specs.Endian.{big_bytes}
 use Rattle.psi_section.specs.Crc.{crc}
 use Rattle.scte35_codec.specs.declared.cue_out.CueOut.{CueOut}
 use Rattle.scte35_codec.specs.declared.cue_out.CueOut.TheVariants.{Start, Cancel, End}
-use Rattle.scte35_codec.specs.Reading.{Reading, insert, cancel}
+use Rattle.scte35_codec.specs.Reading.{CueReading, insert, cancel}
 
 -- from table_id to splice_command_type, by splice_command_length and descriptor_loop_length: the four bits beside section_length
 -- are 0011, and between section_length and cw_index all bits are 0
@@ -47,7 +47,7 @@ unfoldable pub cue_bytes : CueOut → List ℕ
 cue_bytes cue = let bytes = unchecked_bytes cue in bytes ++ big_bytes 4 (crc bytes)
 
 -- what such a cue says
-abbrev pub told_of : CueOut → Reading
+abbrev pub told_of : CueOut → CueReading
 told_of (Start event time duration program avail expected avails) =
     insert (record { event = event; out = true; time = Some time; length = Some (true, duration); program = program; avail = avail; expected = expected }) avails.items
 told_of (Cancel event) = cancel event

@@ -1,13 +1,13 @@
 ghost use Rattle.std.specs.Prelude.{◌≡◌, ◌<◌, ◌≤◌, length, option_map};
 ghost use Rattle.scte35_codec.specs.AvailsLeft.{avails_left};
 ghost use Rattle.scte35_codec.specs.Descriptors.{avails_of};
-ghost use Rattle.scte35_codec.specs.Reading.{Reading, section_length, pts_adjustment, splice_command_length, command_part, behind_command, splice_insert_of, cue_of};
+ghost use Rattle.scte35_codec.specs.Reading.{CueReading, section_length, pts_adjustment, splice_command_length, command_part, behind_command, splice_insert_of, cue_of};
 ghost use Rattle.scte35_codec.specs.Grammar.{Spells};
 ghost use Rattle.scte35_codec.specs.Views.{reading_of};
 
 use crate::descriptors::{Avails, descriptor_loop};
 use crate::fields::{is_set, low_33_bits};
-use crate::insert::{Command, SpliceInsert, adjusted, splice_insert};
+use crate::insert::{Command, Insert, adjusted, splice_insert};
 use byteorder::{BigEndian, ByteOrder};
 use pes_time::Time33;
 use thiserror::Error;
@@ -24,48 +24,6 @@ pub enum Cue<'a> {
     /// A command that isn't read: another `splice_command_type`, or a `splice_insert()` with times of single
     /// components.
     Other,
-}
-
-/// The fields of a `splice_insert()` (ANSI/SCTE 35, splice_insert).
-#[derive(Clone, Copy, Debug)]
-pub struct Insert<'a> {
-    /// `splice_event_id`.
-    pub event: u32,
-    /// `out_of_network_indicator`: whether the break begins, and not ends.
-    pub out: bool,
-    /// `pts_time` with `pts_adjustment` added, in 90 kHz ticks modulo 2^33. `None` where the splice is immediate, or
-    /// where its time isn't specified.
-    pub time: Option<Time33>,
-    /// `break_duration()`: whether the return is automatic, and the duration in 90 kHz ticks.
-    pub length: Option<(bool, Time33)>,
-    /// `unique_program_id`.
-    pub program: u16,
-    /// `avail_num`.
-    pub avail: u8,
-    /// `avails_expected`.
-    pub expected: u8,
-    /// The `provider_avail_id` of each `avail_descriptor`.
-    pub avails: Avails<'a>,
-}
-
-impl<'a> Insert<'a> {
-    ghost use Rattle.scte35_codec.specs.Views.{reading_of};
-    ghost use Rattle.scte35_codec.specs.Reading.{insert};
-
-    fn new(fields: SpliceInsert, avails: Avails<'a>) -> Insert<'a>
-        ensures { reading_of (Ok (Cue.Insert result)) ≡ insert fields (avails_left avails.entry) }
-    {
-        Insert {
-            event: fields.event,
-            out: fields.out,
-            time: fields.time,
-            length: fields.length,
-            program: fields.program,
-            avail: fields.avail,
-            expected: fields.expected,
-            avails,
-        }
-    }
 }
 
 /// Why bytes are no cue that can be read: the first that applies, in this order.
@@ -98,7 +56,7 @@ const SPLICE_INSERT: u8 = 0x05;
 /// A `splice_command_length` that states none.
 const UNSTATED: usize = 0xFFF;
 
-#[tactic(auto, unfolding(crate::specs::Reading::section_length, crate::specs::Numbers::number_of))]
+#[tactic(auto, unfolding(crate::specs::Reading::section_length, wire_fields::specs::Numbers::number_of))]
 fn stated_section_length(bytes: &[u8]) -> usize
     requires { 20 ≤ length bytes.now }
     ensures value { result ≡ section_length bytes.now }
@@ -108,7 +66,7 @@ fn stated_section_length(bytes: &[u8]) -> usize
     BigEndian::read_u16(rest) as usize % 0x1000
 }
 
-#[tactic(auto, unfolding(crate::specs::Reading::splice_command_length, crate::specs::Numbers::number_of))]
+#[tactic(auto, unfolding(crate::specs::Reading::splice_command_length, wire_fields::specs::Numbers::number_of))]
 fn stated_command_length(bytes: &[u8]) -> usize
     requires { 20 ≤ length bytes.now }
     ensures value { result ≡ splice_command_length bytes.now }
@@ -157,18 +115,24 @@ fn read_splice_insert(bytes: &[u8]) -> Result<Cue<'_>, CueFault>
 {
     let stated = stated_command_length(bytes);
     let part = command_of(bytes);
-    match splice_insert(part) {
-        None => Err(CueFault::Command),
-        Some((Command::Components, _)) => Ok(Cue::Other),
-        Some((Command::Cancelled(event), rest)) => match behind(stated, part.len(), rest) {
+    let Some((command, rest)) = splice_insert(part) else {
+        return Err(CueFault::Command);
+    };
+    match command {
+        Command::Components => Ok(Cue::Other),
+        Command::Cancelled(event) => match behind(stated, part.len(), rest) {
             None => Err(CueFault::Command),
             Some(_) => Ok(Cue::Cancel(event)),
         },
-        Some((Command::Inserted(fields), rest)) => match behind(stated, part.len(), rest) {
+        Command::Inserted(insert) => match behind(stated, part.len(), rest) {
             None => Err(CueFault::Command),
             Some(avails) => {
-                let fields = adjusted(fields, adjustment_of(bytes));
-                Ok(Cue::Insert(Insert::new(fields, avails)))
+                let time = adjusted(insert.time, adjustment_of(bytes));
+                Ok(Cue::Insert(Insert {
+                    time,
+                    avails,
+                    ..insert
+                }))
             }
         },
     }
@@ -208,7 +172,7 @@ pub fn read(bytes: &[u8]) -> Result<Cue<'_>, CueFault>
 
     // What is read is in the grammar, and nothing else that these bytes spell.
     ensures spelled { Spells (reading_of result) bytes.now }
-    ensures only { (other : Reading) → Spells other bytes.now → reading_of result ≡ other }
+    ensures only { (other : CueReading) → Spells other bytes.now → reading_of result ≡ other }
 {
     read_section(bytes)
 }

@@ -1,9 +1,8 @@
 //! The cues of our own.
 
-ghost use Rattle.std.specs.Prelude.{◌≡◌, ◌+◌, ◌*◌, ◌<◌, ◌≤◌, ◌^◌, ◌++◌, length};
+ghost use Rattle.std.specs.Prelude.{◌≡◌, ◌+◌, ◌*◌, ◌≤◌, ◌++◌, length};
 ghost use Rattle.std.specs.List.{flat_map};
 ghost use Rattle.arrayvec.specs.ArrayVec.{array_vec_len};
-ghost use Rattle.byteorder.specs.Endian.{big_bytes};
 ghost use Rattle.psi_section.specs.Crc.{crc};
 ghost use Rattle.scte35_codec.specs.Spelling.{head_bytes, ticks_bytes, avail_descriptor_bytes, unchecked_bytes, cue_bytes};
 
@@ -11,6 +10,7 @@ use arrayvec::ArrayVec;
 use byteorder::{BigEndian, ByteOrder};
 use pes_time::Time33;
 use psi_section::crc;
+use wire_fields::{put, put_number16, put_number32};
 
 /// A cue to be written, as a `splice_insert()` of the whole programme.
 #[derive(Debug, Drop)]
@@ -44,31 +44,6 @@ pub enum CueOut {
         /// `pts_time`, in 90 kHz ticks modulo 2^33.
         time: Time33,
     },
-}
-
-fn put(out: &mut ArrayVec<u8, 180>, bytes: &[u8])
-    requires { array_vec_len out.old + length bytes.now ≤ 180 }
-    ensures { out.new.items ≡ out.old.items ++ bytes.now }
-{
-    out.try_extend_from_slice(bytes).unwrap();
-}
-
-fn put_number16(out: &mut ArrayVec<u8, 180>, number: u16)
-    requires { array_vec_len out.old + 2 ≤ 180 }
-    ensures { out.new.items ≡ out.old.items ++ big_bytes 2 number }
-{
-    let mut bytes = [0; 2];
-    BigEndian::write_u16(&mut bytes, number);
-    put(out, &bytes);
-}
-
-fn put_number32(out: &mut ArrayVec<u8, 180>, number: u32)
-    requires { array_vec_len out.old + 4 ≤ 180 }
-    ensures { out.new.items ≡ out.old.items ++ big_bytes 4 number }
-{
-    let mut bytes = [0; 4];
-    BigEndian::write_u32(&mut bytes, number);
-    put(out, &bytes);
 }
 
 /// A flag that is set, six reserved bits and 33 bits of ticks.

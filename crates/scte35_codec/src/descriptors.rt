@@ -70,6 +70,13 @@ pub fn descriptor_loop(bytes: &[u8]) -> Option<Avails<'_>>
     Some(Avails { bytes })
 }
 
+impl<'a> Avails<'a> {
+    /// No avails.
+    pub(crate) fn none() -> Avails<'a> {
+        Avails { bytes: &[] }
+    }
+}
+
 impl<'a> Iterator for Avails<'a> {
     ghost use Rattle.std.specs.Iterator.{YieldsFirst, item_count};
     ghost use Rattle.scte35_codec.specs.AvailsLeft.{avails_left};

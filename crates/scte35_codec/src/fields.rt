@@ -1,6 +1,7 @@
 // Fields at the front of some bytes, each with the bytes behind it.
 ghost use Rattle.std.specs.Prelude.{◌≡◌, ◌<◌, ◌≤◌, ◌%◌, ◌^◌, length, option_map};
-ghost use Rattle.scte35_codec.specs.Numbers.{bit_of, number_of};
+ghost use Rattle.wire_fields.specs.Numbers.{number_of};
+ghost use Rattle.scte35_codec.specs.Bits.{bit_of};
 ghost use Rattle.scte35_codec.specs.Fields.{front, byte_at, number_at, ticks_at};
 
 use byteorder::{BigEndian, ByteOrder};
@@ -23,7 +24,7 @@ pub fn byte(bytes: &[u8]) -> Option<(u8, &[u8])>
     }
 }
 
-#[tactic(auto, unfolding(crate::specs::Fields::number_at, crate::specs::Numbers::number_of))]
+#[tactic(auto, unfolding(crate::specs::Fields::number_at, wire_fields::specs::Numbers::number_of))]
 pub fn number16(bytes: &[u8]) -> Option<(u16, &[u8])>
     ensures { option_map front result ≡ number_at 2 bytes.now }
 {
@@ -35,7 +36,7 @@ pub fn number16(bytes: &[u8]) -> Option<(u16, &[u8])>
 }
 
 /// The number that the four bytes at the front make.
-#[tactic(auto, unfolding(crate::specs::Numbers::number_of))]
+#[tactic(auto, unfolding(wire_fields::specs::Numbers::number_of))]
 pub fn leading32(bytes: &[u8]) -> u32
     requires { 4 ≤ length bytes.now }
     ensures { result ≡ number_of 4 bytes.now }
@@ -55,7 +56,7 @@ pub fn number32(bytes: &[u8]) -> Option<(u32, &[u8])>
 }
 
 /// The lowest 33 bits of the five bytes at the front.
-#[tactic(auto, unfolding(crate::specs::Numbers::number_of))]
+#[tactic(auto, unfolding(wire_fields::specs::Numbers::number_of))]
 pub fn low_33_bits(bytes: &[u8]) -> Time33
     requires { 5 ≤ length bytes.now }
     ensures { result ≡ number_of 5 bytes.now % 2 ^ 33 }

@@ -1,30 +1,43 @@
 // The command splice_insert().
 ghost use Rattle.std.specs.Prelude.{◌≡◌, option_map};
-ghost use Rattle.scte35_codec.specs.Insert.{splice_time_at, time_unless_at, duration_if_at, inserted_at, splice_insert_at, later, time_taken, duration_taken, insert_taken, command_taken};
+ghost use Rattle.scte35_codec.specs.Insert.{splice_time_at, time_unless_at, duration_if_at, inserted_at, splice_insert_at, time_later, time_taken, duration_taken};
+ghost use Rattle.scte35_codec.specs.InsertTaken.{insert_taken, command_taken};
 
+use crate::descriptors::Avails;
 use crate::fields::{byte, is_set, number16, number32, ticks};
 use pes_time::Time33;
 
-/// The fields of a `splice_insert()` of the whole programme that isn't a cancel. The time is `pts_time` as it stands.
+/// The fields of a `splice_insert()` (ANSI/SCTE 35, splice_insert).
 #[derive(Clone, Copy, Debug)]
-pub struct SpliceInsert {
+pub struct Insert<'a> {
+    /// `splice_event_id`.
     pub event: u32,
+    /// `out_of_network_indicator`: whether the break begins, and not ends.
     pub out: bool,
+    /// `pts_time` with `pts_adjustment` added, in 90 kHz ticks modulo 2^33. `None` where the splice is immediate, or
+    /// where its time isn't specified.
     pub time: Option<Time33>,
+    /// `break_duration()`: whether the return is automatic, and the duration in 90 kHz ticks.
     pub length: Option<(bool, Time33)>,
+    /// `unique_program_id`.
     pub program: u16,
+    /// `avail_num`.
     pub avail: u8,
+    /// `avails_expected`.
     pub expected: u8,
+    /// The `provider_avail_id` of each `avail_descriptor`.
+    pub avails: Avails<'a>,
 }
 
 /// What a `splice_insert()` is.
 #[derive(Clone, Copy, Debug)]
-pub enum Command {
+pub enum Command<'a> {
     /// With `splice_event_cancel_indicator`.
     Cancelled(u32),
     /// With times of single components, which aren't read.
     Components,
-    Inserted(SpliceInsert),
+    /// Of the whole programme: without its avails, which stand behind the command, and with `pts_time` as it stands.
+    Inserted(Insert<'a>),
 }
 
 #[tactic(auto, unfolding(crate::specs::Insert::splice_time_at))]
@@ -68,7 +81,7 @@ fn duration_if(given: bool, bytes: &[u8]) -> Option<(Option<(bool, Time33)>, &[u
 }
 
 #[tactic(auto, unfolding(crate::specs::Insert::inserted_at))]
-fn inserted(event: u32, flags: u8, bytes: &[u8]) -> Option<(SpliceInsert, &[u8])>
+fn inserted(event: u32, flags: u8, bytes: &[u8]) -> Option<(Insert<'_>, &[u8])>
     ensures { option_map insert_taken result ≡ inserted_at event flags bytes.now }
 {
     let Some((time, rest)) = time_unless(is_set(flags, 4), bytes) else {
@@ -87,7 +100,7 @@ fn inserted(event: u32, flags: u8, bytes: &[u8]) -> Option<(SpliceInsert, &[u8])
         return None;
     };
     let out = is_set(flags, 7);
-    let insert = SpliceInsert {
+    let insert = Insert {
         event,
         out,
         time,
@@ -95,12 +108,13 @@ fn inserted(event: u32, flags: u8, bytes: &[u8]) -> Option<(SpliceInsert, &[u8])
         program,
         avail,
         expected,
+        avails: Avails::none(),
     };
     Some((insert, rest))
 }
 
 #[tactic(auto, unfolding(crate::specs::Insert::splice_insert_at))]
-pub fn splice_insert(bytes: &[u8]) -> Option<(Command, &[u8])>
+pub fn splice_insert(bytes: &[u8]) -> Option<(Command<'_>, &[u8])>
     ensures { option_map command_taken result ≡ splice_insert_at bytes.now }
 {
     let Some((event, rest)) = number32(bytes) else {
@@ -125,12 +139,11 @@ pub fn splice_insert(bytes: &[u8]) -> Option<(Command, &[u8])>
 }
 
 /// The time moved by `pts_adjustment`.
-pub fn adjusted(insert: SpliceInsert, adjustment: Time33) -> SpliceInsert
-    ensures { result ≡ later adjustment insert }
+pub fn adjusted(time: Option<Time33>, adjustment: Time33) -> Option<Time33>
+    ensures { result ≡ time_later adjustment time }
 {
-    let time = match insert.time {
+    match time {
         None => None,
         Some(time) => Some(time.plus(adjustment.ticks())),
-    };
-    SpliceInsert { time, ..insert }
+    }
 }

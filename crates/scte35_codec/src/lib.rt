@@ -10,9 +10,10 @@ mod fields;
 mod insert;
 pub mod laws;
 
-pub use cue::{Cue, CueFault, Insert, read};
+pub use cue::{Cue, CueFault, read};
 pub use cue_out::{CueOut, write};
 pub use descriptors::Avails;
+pub use insert::Insert;
 
 #[cfg(test)]
 mod tests;

@@ -1,10 +1,9 @@
 -- Bytes and numbers at a place.
-use Rattle.std.proofs.Common.{◌≡◌, ℕ, suc, ◌+◌, ◌*◌, ◌/◌, ◌%◌, ◌^◌, ◌<◌, ◌≤◌, List, [], ◌∷◌, ◌++◌, length, drop, slice_index, refl, ap, ◌∙◌, arith}
-use Rattle.std.proofs.lemmas.List.{get_or-drop, drop_more, drop-drop, length-drop}
+use Rattle.std.proofs.Common.{◌≡◌, ℕ, suc, ◌+◌, ◌*◌, ◌/◌, ◌%◌, ◌^◌, ◌<◌, ◌≤◌, List, [], ◌∷◌, ◌++◌, length, take, drop, slice_index, ap, ◌∙◌, arith, inl, inr}
+use Rattle.std.proofs.lemmas.List.{get_or-drop, drop_more, drop-drop, length-drop, length-take, get_or-take, get_or_past}
+use Rattle.std.proofs.lemmas.Bool.{cases_lt}
 use Rattle.byteorder.specs.Endian.{big_number, big_bytes}
-use Rattle.scte104_codec.specs.declared.head.Head.{Head}
-use Rattle.scte104_codec.specs.Numbers.{number16_at, number32_at, AreBytes}
-use Rattle.scte104_codec.specs.Head.{head_at, head_bytes, HeadFits}
+use Rattle.wire_fields.specs.Numbers.{number16_at, number32_at, AreBytes}
 
 pub AreBytes-drop : (n : ℕ) (bytes : List ℕ) → AreBytes bytes → AreBytes (drop n bytes)
 AreBytes-drop n bytes h i = rw get_or-drop (h (n + i))
@@ -58,26 +57,41 @@ number16_fits bytes place h =
     let second = AreBytes-drop place bytes h 1 in
     omega (arith, first, second)
 
--- ---- the head
+pub number32_fits : (bytes : List ℕ) (place : ℕ) → AreBytes bytes → number32_at bytes place < 2 ^ 32
+unfolding number32_at
+number32_fits bytes place h =
+    let first = AreBytes-drop place bytes h 0 in
+    let second = AreBytes-drop place bytes h 1 in
+    let third = AreBytes-drop place bytes h 2 in
+    let fourth = AreBytes-drop place bytes h 3 in
+    omega (arith, first, second, third, fourth)
 
-pub head_back : (bytes : List ℕ) (place : ℕ) (h : Head) (rest : List ℕ) → slice_index bytes place ≡ h.as_index → slice_index bytes (place + 1) ≡ h.number → drop (place + 2) bytes ≡ big_bytes 2 h.index ++ rest → HeadFits h → head_at bytes place ≡ h
-unfolding head_at
-head_back bytes place h rest a b e fits =
-    let c = field16 bytes (place + 2) h.index rest e fits.index in
-    rw (a, b, c) refl
+pub AreBytes-take : (n : ℕ) (bytes : List ℕ) → AreBytes bytes → AreBytes (take n bytes)
+AreBytes-take n bytes h i =
+    elim (cases_lt i n) [
+      | inl lt ↦ rw (get_or-take n bytes i 0 lt) (h i)
+      | inr le ↦ rw (get_or_past (take n bytes) i 0 (omega (arith, length-take n bytes))) (omega arith)
+    ]
 
-pub head_fits : (bytes : List ℕ) (place : ℕ) → AreBytes bytes → HeadFits (head_at bytes place)
-unfolding head_at
-head_fits bytes place h = record { as_index = h place; number = h (place + 1); index = number16_fits bytes (place + 2) h }
+four_front : (xs : List ℕ) → length xs ≡ 4 → AreBytes xs → xs ≡ big_bytes 4 (big_number 4 xs)
+four_front [] e h = absurd (omega arith)
+four_front (a ∷ []) e h = absurd (omega arith)
+four_front (a ∷ b ∷ []) e h = absurd (omega arith)
+four_front (a ∷ b ∷ c ∷ []) e h = absurd (omega arith)
+four_front (a ∷ b ∷ c ∷ d ∷ []) e h =
+    let ha : a < 256 = h 0 in
+    let hb : b < 256 = h 1 in
+    let hc : c < 256 = h 2 in
+    let hd : d < 256 = h 3 in
+    let n = big_number 4 (a ∷ b ∷ c ∷ d ∷ []) in
+    let first : a ≡ n / 16777216 % 256 = omega arith in
+    let second : b ≡ n / 65536 % 256 = omega arith in
+    let third : c ≡ n / 256 % 256 = omega arith in
+    let fourth : d ≡ n % 256 = omega arith in
+    let all : a ∷ b ∷ c ∷ d ∷ [] ≡ n / 16777216 % 256 ∷ n / 65536 % 256 ∷ n / 256 % 256 ∷ n % 256 ∷ [] = cc in
+    all
+four_front (a ∷ b ∷ c ∷ d ∷ f ∷ xs) e h = absurd (omega arith)
 
-pub head_is : (bytes : List ℕ) (place : ℕ) → place + 4 ≤ length bytes → AreBytes bytes → drop place bytes ≡ head_bytes (head_at bytes place) ++ drop (place + 4) bytes
-unfolding head_at
-head_is bytes place le h =
-    let a = one_at bytes place (omega arith) in
-    let b = one_at bytes (place + 1) (omega arith) in
-    let c = two_at bytes (place + 2) (omega arith) h in
-    let b-place : place + 1 + 1 ≡ place + 2 = omega arith in
-    let c-place : place + 2 + 2 ≡ place + 4 = omega arith in
-    let b' : drop (place + 1) bytes ≡ slice_index bytes (place + 1) ∷ drop (place + 2) bytes = b ∙ ap (λ (n : ℕ). slice_index bytes (place + 1) ∷ drop n bytes) b-place in
-    let c' : drop (place + 2) bytes ≡ big_bytes 2 (number16_at bytes (place + 2)) ++ drop (place + 4) bytes = c ∙ ap (λ (n : ℕ). big_bytes 2 (number16_at bytes (place + 2)) ++ drop n bytes) c-place in
-    a ∙ ap (λ (xs : List ℕ). slice_index bytes place ∷ xs) (b' ∙ ap (λ (xs : List ℕ). slice_index bytes (place + 1) ∷ xs) c')
+pub four_at : (bytes : List ℕ) (place : ℕ) → place + 4 ≡ length bytes → AreBytes bytes → drop place bytes ≡ big_bytes 4 (number32_at bytes place)
+unfolding number32_at
+four_at bytes place e h = four_front (drop place bytes) (omega (arith, length-drop place bytes)) (AreBytes-drop place bytes h)

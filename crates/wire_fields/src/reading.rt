@@ -1,28 +1,30 @@
-// Fields at a place of a message: the byte of the highest worth comes first.
+//! Fields at a place of some bytes.
+
 ghost use Rattle.std.specs.Prelude.{◌≡◌, ◌+◌, ◌≤◌, length, drop};
-ghost use Rattle.scte104_codec.specs.Numbers.{number16_at, number32_at};
+ghost use Rattle.wire_fields.specs.Numbers.{number16_at, number32_at};
 
 use byteorder::{BigEndian, ByteOrder};
 
+/// The number that the two bytes at this place make.
 #[tactic(auto, unfolding(crate::specs::Numbers::number16_at))]
 pub fn number16(bytes: &[u8], place: usize) -> u16
     requires { place + 2 ≤ length bytes.now }
     ensures { result ≡ number16_at bytes.now place }
 {
-    let (_, rest) = bytes.split_at(place);
-    BigEndian::read_u16(rest)
+    BigEndian::read_u16(behind(bytes, place))
 }
 
+/// The number that the four bytes at this place make.
 #[tactic(auto, unfolding(crate::specs::Numbers::number32_at))]
 pub fn number32(bytes: &[u8], place: usize) -> u32
     requires { place + 4 ≤ length bytes.now }
     ensures { result ≡ number32_at bytes.now place }
 {
-    let (_, rest) = bytes.split_at(place);
-    BigEndian::read_u32(rest)
+    BigEndian::read_u32(behind(bytes, place))
 }
 
-pub fn from(bytes: &[u8], place: usize) -> &[u8]
+/// The bytes from this place on.
+pub fn behind(bytes: &[u8], place: usize) -> &[u8]
     requires { place ≤ length bytes.now }
     ensures { result.now ≡ drop place bytes.now }
 {

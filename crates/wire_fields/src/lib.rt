@@ -1,0 +1,12 @@
+//! Big-endian fields, as all the standards here have them: the byte of the highest worth comes first.
+//! It stands on `byteorder` and `arrayvec`, and takes no memory.
+#![tactic(auto)]
+
+mod reading;
+mod writing;
+
+pub use reading::{behind, number16, number32};
+pub use writing::{put, put_number16, put_number32};
+
+#[cfg(test)]
+mod tests;
