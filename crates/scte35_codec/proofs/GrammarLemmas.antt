@@ -9,7 +9,8 @@ use Rattle.scte35_codec.specs.declared.cue.CueFault.TheVariants as faults
 use Rattle.scte35_codec.specs.Bits.{bit_of}
 use Rattle.scte35_codec.specs.Descriptors.{SpliceDescriptor, descriptor_loop_at, avails_of}
 use Rattle.scte35_codec.specs.Insert.{splice_insert_at, later}
-use Rattle.scte35_codec.specs.Reading.{CueReading, insert, cancel, null, other, bad, section_length, pts_adjustment, splice_command_length, command_part, behind_command, with_loop, told_by, splice_insert_of, cue_of}
+use Rattle.psi_section.specs.Sections.{section_length}
+use Rattle.scte35_codec.specs.Reading.{CueReading, insert, cancel, null, other, bad, pts_adjustment, splice_command_length, command_part, behind_command, with_loop, told_by, splice_insert_of, cue_of}
 use Rattle.scte35_codec.specs.Grammar.{IsInsert, IsCancel, HasLoop, HasCommand, SpellsInsert, SpellsInsertIn, IsCue, IsWhole, IsVersioned, IsClear, Spells}
 use Rattle.scte35_codec.proofs.FieldLemmas.{BeginsWith}
 use Rattle.scte35_codec.proofs.InsertLemmas.{insert_sound, cancel_back, insert_back, components_back}

@@ -6,3 +6,4 @@ pub mod InsertLemmas
 pub mod LoopLemmas
 pub mod GrammarLemmas
 pub mod WrittenLemmas
+pub mod GivenLemmas

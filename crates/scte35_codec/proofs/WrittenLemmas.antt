@@ -13,7 +13,8 @@ use Rattle.scte35_codec.specs.declared.cue_out.CueOut.TheVariants.{Start, Cancel
 use Rattle.wire_fields.specs.Numbers.{number_of}
 use Rattle.scte35_codec.specs.Descriptors.{SpliceDescriptor, descriptor_bytes, avail_id, avails_of}
 use Rattle.scte35_codec.specs.Insert.{later}
-use Rattle.scte35_codec.specs.Reading.{CueReading, insert, cancel, cue_of, section_length, pts_adjustment, splice_command_length, command_part}
+use Rattle.psi_section.specs.Sections.{section_length}
+use Rattle.scte35_codec.specs.Reading.{CueReading, insert, cancel, cue_of, pts_adjustment, splice_command_length, command_part}
 use Rattle.scte35_codec.specs.Grammar.{IsNumber, IsTicks, IsInsert, IsCancel, HasLoop, HasCommand, SpellsInsert, SpellsInsertIn, IsCue, IsWhole, IsVersioned, IsClear, Spells}
 use Rattle.scte35_codec.specs.Spelling.{head_bytes, ticks_bytes, avail_descriptor_bytes, loop_bytes, start_bytes, end_bytes, unchecked_bytes, cue_bytes, told_of, Fits}
 use Rattle.scte35_codec.proofs.DescriptorLemmas.{avail_is}
@@ -46,11 +47,10 @@ ticks t lt =
 
 module _ (command descriptors : ℕ) (rest : List ℕ) (c : command ≤ 20) (d : descriptors ≤ 140) (size : length rest ≡ command + descriptors + 6) where
   length_written : section_length (head_bytes command descriptors ++ rest) ≡ 17 + command + descriptors
-  unfolding section_length
   length_written =
       let n = 0x3000 + (17 + command + descriptors) in
-      let read = number_written 2 n (drop 3 (head_bytes command descriptors ++ rest)) (omega arith) in
-      ap (λ (x : ℕ). x % 4096) read ∙ omega arith
+      let stated : n / 256 % 256 % 16 * 256 + n % 256 ≡ 17 + command + descriptors = omega arith in
+      stated
 
   stated_written : splice_command_length (head_bytes command descriptors ++ rest) ≡ command
   unfolding splice_command_length
@@ -79,15 +79,18 @@ part_written command descriptors part check four =
     take_at part check (length (part ++ check) - 4) n
 
 -- a section of our own, by what its command spells
-abbrev section : ℕ → ℕ → List ℕ → List ℕ → List ℕ → List ℕ
+abbrev pub section : ℕ → ℕ → List ℕ → List ℕ → List ℕ → List ℕ
 section command descriptors text loop check = head_bytes command descriptors ++ text ++ loop ++ check
+
+pub section_grouped : (command descriptors : ℕ) (text loop check : List ℕ) → head_bytes command descriptors ++ ((text ++ loop) ++ check) ≡ section command descriptors text loop check
+section_grouped command descriptors text loop check =
+    sym (append_assoc (head_bytes command descriptors) (text ++ loop) check) ∙ ap (λ (xs : List ℕ). xs ++ check) (sym (append_assoc (head_bytes command descriptors) text loop))
 
 pub section_spelled : (read : CueReading) (command descriptors : ℕ) (text loop check : List ℕ) → command ≤ 20 → descriptors ≤ 140 → length text ≡ command → length loop ≡ 2 + descriptors → length check ≡ 4
     → SpellsInsert read 0 command (text ++ loop) → IsClear 5 (section command descriptors text loop check) × SpellsInsertIn (section command descriptors text loop check) read
 section_spelled read command descriptors text loop check c d t l four s =
     let rest = (text ++ loop) ++ check in
-    let grouped : head_bytes command descriptors ++ rest ≡ section command descriptors text loop check =
-    sym (append_assoc (head_bytes command descriptors) (text ++ loop) check) ∙ ap (λ (xs : List ℕ). xs ++ check) (sym (append_assoc (head_bytes command descriptors) text loop)) in
+    let grouped = section_grouped command descriptors text loop check in
     let size : length rest ≡ command + descriptors + 6 = omega (arith, length-append (text ++ loop) check, length-append text loop) in
     let clear = clear_written command descriptors rest c d size in
     let stated = stated_written command descriptors rest c d size in
@@ -137,7 +140,7 @@ loop_written ids few =
       descriptor_loop_length = subst (λ (n : ℕ). IsNumber 2 n (big_bytes 2 (10 * length ids))) (sym long) (number2 (10 * length ids) (omega arith));
     }
 
-loop_length : (ids : List ℕ) → length (loop_bytes ids) ≡ 2 + 10 * length ids
+pub loop_length : (ids : List ℕ) → length (loop_bytes ids) ≡ 2 + 10 * length ids
 loop_length ids = omega (arith, avails_length ids)
 
 -- ---- the commands

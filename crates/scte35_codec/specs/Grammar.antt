@@ -8,7 +8,8 @@ use Rattle.wire_fields.specs.Numbers.{number_of}
 use Rattle.scte35_codec.specs.Bits.{bit_of}
 use Rattle.scte35_codec.specs.Descriptors.{SpliceDescriptor, descriptor_bytes, avails_of}
 use Rattle.scte35_codec.specs.Insert.{later}
-use Rattle.scte35_codec.specs.Reading.{CueReading, insert, cancel, null, other, bad, section_length, pts_adjustment, splice_command_length, command_part}
+use Rattle.psi_section.specs.Sections.{section_length}
+use Rattle.scte35_codec.specs.Reading.{CueReading, insert, cancel, null, other, bad, pts_adjustment, splice_command_length, command_part}
 
 -- n bytes that make this number
 pub record IsNumber (n value : ℕ) (text : List ℕ) : Type 0 where

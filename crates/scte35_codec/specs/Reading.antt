@@ -3,6 +3,7 @@ use Rattle.std.specs.Prelude.{ℕ, ◌+◌, ◌-◌, ◌%◌, ◌^◌, not, ◌|
 use Rattle.std.specs.Option.{option_map_or}
 use Rattle.scte35_codec.specs.declared.cue.CueFault.{CueFault}
 use Rattle.scte35_codec.specs.declared.cue.CueFault.TheVariants as faults
+use Rattle.psi_section.specs.Sections.{section_length}
 use Rattle.wire_fields.specs.Numbers.{number_of}
 use Rattle.scte35_codec.specs.Bits.{bit_of}
 use Rattle.scte35_codec.specs.Descriptors.{SpliceDescriptor, descriptor_loop_at, avails_of}
@@ -17,10 +18,6 @@ pub data CueReading : Type 0 where
   bad : CueFault → CueReading
 
 -- ---- the fields at fixed places
-
--- 12 bits, behind 4 that aren't looked at
-unfoldable pub section_length : List ℕ → ℕ
-section_length bytes = number_of 2 (drop 1 bytes) % 4096
 
 -- 33 bits, behind encrypted_packet and encryption_algorithm
 unfoldable pub pts_adjustment : List ℕ → ℕ

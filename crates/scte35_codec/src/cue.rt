@@ -1,7 +1,7 @@
 ghost use Rattle.std.specs.Prelude.{◌≡◌, ◌<◌, ◌≤◌, length, option_map};
 ghost use Rattle.scte35_codec.specs.AvailsLeft.{avails_left};
 ghost use Rattle.scte35_codec.specs.Descriptors.{avails_of};
-ghost use Rattle.scte35_codec.specs.Reading.{CueReading, section_length, pts_adjustment, splice_command_length, command_part, behind_command, splice_insert_of, cue_of};
+ghost use Rattle.scte35_codec.specs.Reading.{CueReading, pts_adjustment, splice_command_length, command_part, behind_command, splice_insert_of, cue_of};
 ghost use Rattle.scte35_codec.specs.Grammar.{Spells};
 ghost use Rattle.scte35_codec.specs.Views.{reading_of};
 
@@ -10,6 +10,7 @@ use crate::fields::{is_set, low_33_bits};
 use crate::insert::{Command, Insert, adjusted, splice_insert};
 use byteorder::{BigEndian, ByteOrder};
 use pes_time::Time33;
+use psi_section::section_length;
 use thiserror::Error;
 
 /// A `splice_info_section` that was read. Its avails lie in the bytes that it was read from.
@@ -55,16 +56,6 @@ const SPLICE_INSERT: u8 = 0x05;
 
 /// A `splice_command_length` that states none.
 const UNSTATED: usize = 0xFFF;
-
-#[tactic(auto, unfolding(crate::specs::Reading::section_length, wire_fields::specs::Numbers::number_of))]
-fn stated_section_length(bytes: &[u8]) -> usize
-    requires { 20 ≤ length bytes.now }
-    ensures value { result ≡ section_length bytes.now }
-    ensures below { result < 4096 }
-{
-    let (_, rest) = bytes.split_at(1);
-    BigEndian::read_u16(rest) as usize % 0x1000
-}
 
 #[tactic(auto, unfolding(crate::specs::Reading::splice_command_length, wire_fields::specs::Numbers::number_of))]
 fn stated_command_length(bytes: &[u8]) -> usize
@@ -145,7 +136,7 @@ fn read_section(bytes: &[u8]) -> Result<Cue<'_>, CueFault>
     if bytes.len() < 20 || bytes[0] != 0xFC {
         return Err(CueFault::NotCue);
     }
-    if stated_section_length(bytes) + 3 != bytes.len() {
+    if section_length(bytes) + 3 != bytes.len() {
         return Err(CueFault::Length);
     }
     if bytes[3] != 0 {
