@@ -1,5 +1,5 @@
 -- What a session stands for, and what it gives.
-use Rattle.std.specs.Prelude.{◌≡◌, ◌<◌, ◌≤◌, ℕ, length, take, if◌then◌else◌}
+use Rattle.std.specs.Prelude.{◌≡◌, ◌<◌, ◌≤◌, ℕ, List, length, take, if◌then◌else◌}
 use Rattle.scte104_codec.specs.declared.framing.Frame.TheVariants.{Whole}
 use Rattle.scte104_codec.specs.Framing.{frame_of}
 use Rattle.as_session.specs.declared.session.Session.{Session}
@@ -7,10 +7,14 @@ use Rattle.as_session.specs.declared.session.Got.{Got}
 use Rattle.as_session.specs.declared.session.Got.TheVariants as got
 use Rattle.as_session.specs.declared.session.Step.{Step}
 use Rattle.as_session.specs.declared.session.Step.TheVariants as step
-use Rattle.as_session.specs.Feeding.{State, opened, shut, Given, nothing, message, closed}
+use Rattle.as_session.specs.Feeding.{State, opened, shut, Given, nothing, message, closed, feed_of}
 
 abbrev pub state_of : {A : Type 0} → Session A → State
 state_of s = if s.is_closed then shut else opened s.pending.items
+
+-- a session that was fed a piece is left as the piece leaves it
+abbrev pub IsFed : {A : Type 0} → Session A → List ℕ → Session A → Type 0
+IsFed old piece new = state_of new ≡ (feed_of (state_of old) piece).after
 
 abbrev pub given : Got → Given
 given got.None = nothing

@@ -43,7 +43,11 @@ impl Session {
     ghost use Rattle.as_session.specs.Session.{state_of};
     ghost use Rattle.as_session.specs.Feeding.{opened};
 
-    /// An open session with no byte pending. The error is that memory ran out.
+    /// An open session with no byte pending.
+    ///
+    /// # Errors
+    ///
+    /// Where the allocator refused memory. That it comes only then no contract can say: a test shows it.
     pub fn new(alloc: Global) -> Result<Session, AllocError>
         ensures { IfOk result (λ session. state_of session ≡ opened []) }
     {
@@ -55,7 +59,11 @@ impl<A: Allocator + Copy> Session<A> {
     ghost use Rattle.as_session.specs.Session.{state_of};
     ghost use Rattle.as_session.specs.Feeding.{opened};
 
-    /// An open session with no byte pending, whose memory is this allocator's. The error is that memory ran out.
+    /// An open session with no byte pending, whose memory is this allocator's.
+    ///
+    /// # Errors
+    ///
+    /// As for [`Session::new`].
     pub fn new_in(alloc: A) -> Result<Session<A>, AllocError>
         ensures { IfOk result (λ session. state_of session ≡ opened []) }
     {
@@ -71,7 +79,7 @@ impl<A: Allocator> Session<A> {
     ghost use Rattle.std.specs.Borrow.{sem};
     ghost use Rattle.std.specs.Io.BufRead.{Rests};
     ghost use Rattle.as_session.specs.contracts.session.Session.{the_row};
-    ghost use Rattle.as_session.specs.Session.{state_of, step_given, given, IsWithin, LendsWhole};
+    ghost use Rattle.as_session.specs.Session.{state_of, step_given, given, IsFed, IsWithin, LendsWhole};
     ghost use Rattle.as_session.specs.Feeding.{feed_of, end_of, shut};
 
     /// Takes the bytes in. A message that is whole is moved to its place.
@@ -108,7 +116,7 @@ impl<A: Allocator> Session<A> {
         ensures gives { given result.1 ≡ (feed_of (state_of self.old) piece.now).gives }
         ensures within { result.0 ≤ length piece.now }
         ensures whole { LendsWhole result.0 result.1 }
-        ensures* after { sem 𝓛 (Rests (the_row A.row A.Allocator) self.entry (λ new. state_of new ≡ (feed_of (state_of self.old) piece.now).after)) }
+        ensures* after { sem 𝓛 (Rests (the_row A.row A.Allocator) self.entry (IsFed self.old piece.now)) }
     {
         let (used, step) = self.step(piece);
         match step {
