@@ -1,0 +1,3 @@
+pub mod TestLemmas
+pub mod ChangeLemmas
+pub mod PastLemmas

@@ -1,0 +1,12 @@
+use Rattle.std.proofs.Common.{subst, sym, ap}
+use Rattle.event_table.specs.Standing.{cancel_answer}
+use Rattle.event_table.specs.Tables.{StandsFor}
+use Rattle.armed_events.specs.Arming.{by_cancel_answer}
+use Rattle.armed_events.specs.Obeying.{after_change}
+use Rattle.armed_events.proofs.ChangeLemmas.{cancel-after}
+use Rattle.armed_events.proofs.obeying.Obeyed.cancel.Goals as goal
+
+pub returns-clause-stands : goal.returns-clause-stands
+returns-clause-stands c = λ line standing s.
+    subst (λ a. StandsFor c.cancel.new.self line (after_change (by_cancel_answer c.args.id a) standing)) (c.cancel.ensures.answer line standing s)
+    (cancel-after c.args.self.now.table c.cancel.new.self line standing c.args.id c.cancel.result s (λ is. c.cancel.ensures.cancelled is line standing s) c.cancel.ensures.refused)

@@ -1,0 +1,14 @@
+use Rattle.std.proofs.Common.{◌≡◌, ℤ, Option}
+use Rattle.event_table.specs.Tables.{high_of}
+use Rattle.psi_section.specs.SectionsLeft.{sections_left}
+use Rattle.armed_events.specs.Arming.{Heard, with_sections}
+use Rattle.armed_events.specs.Obeying.{ObeyedFor}
+use Rattle.armed_events.proofs.obeying.Obeyed.take_all.Given as goal
+
+-- what is still to come brings it to the same
+abbrev pub invariant-loop-section : goal.invariant-loop-section
+invariant-loop-section l = record {
+  obeyed : (line : Option ℤ) (heard : Heard) → ObeyedFor l.initial.self line heard →
+      (now : Heard) × ObeyedFor l.self line now × (with_sections line (sections_left l.section-iterator) now ≡ with_sections line (sections_left l.fn.sections) heard);
+  high : high_of l.self.table ≡ high_of l.initial.self.table;
+}

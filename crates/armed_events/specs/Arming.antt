@@ -1,0 +1,130 @@
+-- THE EVENTS THAT CUES ARM, on the line of integers, in order of arming: none is ever left out, and one that is forgotten stands no more.
+-- All is said by the packets that came before, newest first; `high` says of a past the greatest time of a unit in it.
+use Rattle.std.specs.Prelude.{ℕ, ◌+◌, ◌^◌, ◌==◌, nat_le, nat_lt, Bool, true, false, not, ◌&&◌, List, [], ◌∷◌, ◌++◌, filter, ℤ, pos, ◌+ℤ◌, int_le, int_lt, Option, None, Some, Result, Ok, Err, if◌then◌else◌}
+use Rattle.std.specs.List.{list_any}
+use Rattle.pes_time.specs.Line.{place}
+use Rattle.event_table.specs.Standing.{Standing, on_line, forgotten_at, has_id, is_ahead_of, repeats, arm_answer, cancel_answer, shorten_answer, with_first, cancelled_one, ending_at, with_cancelled, with_end}
+use Rattle.event_table.specs.declared.table.Armed.{Armed}
+use Rattle.event_table.specs.declared.table.Armed.TheVariants.{New, Same}
+use Rattle.event_table.specs.declared.table.ArmRefusal.{ArmRefusal}
+use Rattle.event_table.specs.declared.table.CancelRefusal.{CancelRefusal}
+use Rattle.event_table.specs.declared.table.ShortenRefusal.{ShortenRefusal}
+use Rattle.psi_section.specs.Sections.{given}
+use Rattle.scte35_codec.specs.Reading.{cue_of}
+use Rattle.armed_events.specs.declared.asked.Asked.{Asked}
+use Rattle.armed_events.specs.declared.asked.Asked.TheVariants.{Start, End, Cancel, Unfit, Nothing}
+use Rattle.armed_events.specs.Asking.{asked_of}
+
+-- ---- what is taken
+
+-- never armed before: not cancelled, its length the one asked for, of 1 to 2^30 ticks
+abbrev pub is_fresh : Standing → Bool
+is_fresh e = not e.cancelled && (e.length == e.asked && (nat_lt 0 e.length && nat_le e.length (2 ^ 30)))
+
+-- ---- what one cue changes
+
+-- an event is armed, ended early or cancelled; nothing is to change, as with a repeat; or the cue is ignored
+pub data Change : Type 0 where
+  Arm : Standing → Change
+  Shorten : ℕ → ℤ → Change
+  TakeBack : ℕ → Change
+  Keep : Change
+  Ignore : Change
+
+abbrev pub by_arm_answer : Standing → Result Armed ArmRefusal → Change
+by_arm_answer e (Ok New) = Arm e
+by_arm_answer e (Ok Same) = Keep
+by_arm_answer e (Err refusal) = Ignore
+
+abbrev pub by_shorten_answer : ℕ → ℤ → Result Armed ShortenRefusal → Change
+by_shorten_answer id time (Ok New) = Shorten id time
+by_shorten_answer id time (Ok Same) = Keep
+by_shorten_answer id time (Err refusal) = Ignore
+
+abbrev pub by_cancel_answer : ℕ → Result (Unit {0}) CancelRefusal → Change
+by_cancel_answer id (Ok done) = TakeBack id
+by_cancel_answer id (Err refusal) = Ignore
+
+-- a repeat of an event that stands changes nothing, however late it comes
+abbrev pub start_change : Option ℤ → List Standing → Standing → Change
+start_change line standing e =
+    if list_any (repeats e) standing then Keep
+    else (if is_fresh e && is_ahead_of line e.start then by_arm_answer e (arm_answer standing e) else Ignore)
+
+abbrev pub end_change : Option ℤ → List Standing → ℕ → ℤ → Change
+end_change line standing id time = by_shorten_answer id time (shorten_answer line standing id time)
+
+abbrev pub cancel_change : Option ℤ → List Standing → ℕ → Change
+cancel_change line standing id = by_cancel_answer id (cancel_answer line standing id)
+
+-- what a cue changes where these events stand
+abbrev pub change : Option ℤ → List Standing → Asked → Change
+change line standing (Start e) = start_change line standing (on_line line e)
+change line standing (End id time) = end_change line standing id (place line time)
+change line standing (Cancel id) = cancel_change line standing id
+change line standing Unfit = Ignore
+change line standing Nothing = Keep
+
+-- ---- what stands
+
+-- the event is not yet forgotten: that it is at 900,000 ticks (ten seconds) past its end
+abbrev pub stands : Option ℤ → Standing → Bool
+stands None e = true
+stands (Some high) e = int_lt high (forgotten_at e)
+
+abbrev pub standing_at : Option ℤ → List Standing → List Standing
+standing_at line events = filter (stands line) events
+
+-- ---- all events
+
+-- the event of this id that stands; those that are forgotten may have had the same
+abbrev pub is_of : Option ℤ → ℕ → Standing → Bool
+is_of line id e = stands line e && has_id id e
+
+-- the events after a change
+abbrev pub changed : Option ℤ → Change → List Standing → List Standing
+changed line (Arm e) events = events ++ e ∷ []
+changed line (Shorten id time) events = with_first (is_of line id) (ending_at time) events
+changed line (TakeBack id) events = with_first (is_of line id) cancelled_one events
+changed line Keep events = events
+changed line Ignore events = events
+
+abbrev pub is_ignored : Change → ℕ
+is_ignored (Arm e) = 0
+is_ignored (Shorten id time) = 0
+is_ignored (TakeBack id) = 0
+is_ignored Keep = 0
+is_ignored Ignore = 1
+
+-- what cues have come to: the events that they armed, and how many were ignored
+pub record Heard : Type 0 where
+  pub events : List Standing
+  pub ignored : ℕ
+
+abbrev pub with_change : Option ℤ → Change → Heard → Heard
+with_change line c heard = record { events = changed line c heard.events; ignored = is_ignored c + heard.ignored }
+
+-- after one section more
+abbrev pub with_section : Option ℤ → List ℕ → Heard → Heard
+with_section line s heard = with_change line (change line (standing_at line heard.events) (asked_of (cue_of s))) heard
+
+abbrev pub with_sections : Option ℤ → List (List ℕ) → Heard → Heard
+with_sections line [] heard = heard
+with_sections line (s ∷ ss) heard = with_sections line ss (with_section line s heard)
+
+-- The cues of a PID are taken as they end, each by the greatest time before its last packet.
+abbrev pub heard : ℕ → (List (List ℕ) → Option ℤ) → List (List ℕ) → Heard
+heard pid high [] = record { events = []; ignored = 0 }
+heard pid high (p ∷ past) = with_sections (high past) (given pid p past) (heard pid high past)
+
+-- THE ARMED EVENTS of a past
+abbrev pub armed : ℕ → (List (List ℕ) → Option ℤ) → List (List ℕ) → List Standing
+armed pid high past = (heard pid high past).events
+
+-- those of them that stand
+abbrev pub standing : ℕ → (List (List ℕ) → Option ℤ) → List (List ℕ) → List Standing
+standing pid high past = standing_at (high past) (armed pid high past)
+
+-- how many cues were ignored
+abbrev pub ignored : ℕ → (List (List ℕ) → Option ℤ) → List (List ℕ) → ℕ
+ignored pid high past = (heard pid high past).ignored

@@ -1,0 +1,187 @@
+//! The cues of a PID, obeyed as they come.
+
+ghost use Rattle.std.specs.Prelude.{◌≡◌, ◌∷◌, [], ℕ, ℤ, List, Option, Some, None, option_map, false};
+ghost use Rattle.std.specs.List.{list_any};
+ghost use Rattle.pes_time.specs.Line.{ring_of, place};
+
+use crate::asked::{Asked, asked_of};
+use event_table::{Event, Table};
+use pes_time::Time33;
+use psi_section::{Assembler, Sections};
+use scte35_codec::read;
+use ts_packet::Packet;
+
+/// The events that stand, and how many cues were ignored.
+#[derive(Drop)]
+pub(crate) struct Obeyed {
+    table: Table,
+    /// The count stops at the greatest.
+    ignored: u64,
+}
+
+impl Obeyed {
+    ghost use Rattle.event_table.specs.Standing.{Standing, on_line};
+    ghost use Rattle.event_table.specs.Tables.{StandsFor, high_of};
+    ghost use Rattle.armed_events.specs.Arming.{change, start_change, end_change, cancel_change, Heard, with_section, with_sections};
+    ghost use Rattle.armed_events.specs.Obeying.{after_change, is_obeyed, ObeyedFor};
+    ghost use Rattle.psi_section.specs.SectionsLeft.{sections_left};
+
+    /// Arms the event, where it is no repeat of one that stands. Answers whether the cue is obeyed, as a repeat is.
+    fn start(&mut self, event: Event) -> bool
+        ensures answer { (line : Option ℤ) (standing : List Standing) → StandsFor self.old.table line standing →
+            result ≡ is_obeyed (start_change line standing (on_line line event)) }
+        ensures stands { (line : Option ℤ) (standing : List Standing) → StandsFor self.old.table line standing →
+            StandsFor self.new.table line (after_change (start_change line standing (on_line line event)) standing) }
+        ensures ignored { self.new.ignored ≡ self.old.ignored }
+        ensures high { high_of self.new.table ≡ high_of self.old.table }
+    {
+        if self.table.is_repeat(&event) {
+            return true;
+        }
+        if !self.table.can_arm(&event) {
+            return false;
+        }
+        self.table.arm(event, ()).is_ok()
+    }
+
+    /// Ends the event of this id early. Answers whether the cue is obeyed.
+    fn end(&mut self, id: u32, time: Time33) -> bool
+        ensures answer { (line : Option ℤ) (standing : List Standing) → StandsFor self.old.table line standing →
+            result ≡ is_obeyed (end_change line standing id (place line time)) }
+        ensures stands { (line : Option ℤ) (standing : List Standing) → StandsFor self.old.table line standing →
+            StandsFor self.new.table line (after_change (end_change line standing id (place line time)) standing) }
+        ensures ignored { self.new.ignored ≡ self.old.ignored }
+        ensures high { high_of self.new.table ≡ high_of self.old.table }
+    {
+        self.table.shorten(id, time).is_ok()
+    }
+
+    /// Cancels the event of this id. Answers whether the cue is obeyed.
+    fn cancel(&mut self, id: u32) -> bool
+        ensures answer { (line : Option ℤ) (standing : List Standing) → StandsFor self.old.table line standing →
+            result ≡ is_obeyed (cancel_change line standing id) }
+        ensures stands { (line : Option ℤ) (standing : List Standing) → StandsFor self.old.table line standing →
+            StandsFor self.new.table line (after_change (cancel_change line standing id) standing) }
+        ensures ignored { self.new.ignored ≡ self.old.ignored }
+        ensures high { high_of self.new.table ≡ high_of self.old.table }
+    {
+        self.table.cancel(id).is_ok()
+    }
+
+    /// Does what a cue asks for. Answers whether it is obeyed, as one that asks for nothing is.
+    fn obey(&mut self, asked: Asked) -> bool
+        ensures answer { (line : Option ℤ) (standing : List Standing) → StandsFor self.old.table line standing →
+            result ≡ is_obeyed (change line standing asked) }
+        ensures stands { (line : Option ℤ) (standing : List Standing) → StandsFor self.old.table line standing →
+            StandsFor self.new.table line (after_change (change line standing asked) standing) }
+        ensures ignored { self.new.ignored ≡ self.old.ignored }
+        ensures high { high_of self.new.table ≡ high_of self.old.table }
+    {
+        match asked {
+            Asked::Start(event) => self.start(event),
+            Asked::End(id, time) => self.end(id, time),
+            Asked::Cancel(id) => self.cancel(id),
+            Asked::Unfit => false,
+            Asked::Nothing => true,
+        }
+    }
+
+    /// Takes a section: a cue is obeyed, or counts as ignored.
+    fn take(&mut self, section: &[u8])
+        ensures obeyed { (line : Option ℤ) (heard : Heard) → ObeyedFor self.old line heard → ObeyedFor self.new line (with_section line section.now heard) }
+        ensures high { high_of self.new.table ≡ high_of self.old.table }
+    {
+        let is_obeyed = self.obey(asked_of(&read(section)));
+        if !is_obeyed {
+            self.ignored = self.ignored.saturating_add(1);
+        }
+    }
+
+    /// Takes sections in order.
+    fn take_all(&mut self, sections: Sections<'_>)
+        ensures obeyed { (line : Option ℤ) (heard : Heard) → ObeyedFor self.old line heard →
+            ObeyedFor self.new line (with_sections line (sections_left sections.entry) heard) }
+        ensures high { high_of self.new.table ≡ high_of self.old.table }
+    {
+        for section in sections {
+            self.take(section);
+        }
+    }
+}
+
+/// The events that the cues on one PID have armed. It takes no memory.
+///
+/// Every packet of the PID is given to [`ArmedEvents::feed`], and every new high time, the greatest time of a unit so far, to
+/// [`ArmedEvents::advance`].
+#[derive(Drop)]
+pub struct ArmedEvents {
+    assembler: Assembler,
+    obeyed: Obeyed,
+}
+
+impl ArmedEvents {
+    ghost use Rattle.ts_packet.specs.Fields.{on};
+    ghost use Rattle.event_table.specs.Rings.{CanAdvance};
+    ghost use Rattle.event_table.specs.Standing.{Standing, IsTimeAt};
+    ghost use Rattle.event_table.specs.Tables.{StandsFor, high_of};
+    ghost use Rattle.psi_section.specs.Assembling.{IsOf, IsReady, capped};
+    ghost use Rattle.armed_events.specs.Arming.{standing, ignored};
+    ghost use Rattle.armed_events.specs.Obeying.{Obeys};
+
+    /// No event, no high time, and no cue ignored.
+    pub fn new() -> ArmedEvents
+        ensures obeys { (pid : ℕ) (high : List (List ℕ) → Option ℤ) → high [] ≡ None → Obeys result pid high [] }
+        ensures ready { IsReady result.assembler }
+        ensures high { high_of result.obeyed.table ≡ None }
+    {
+        ArmedEvents {
+            assembler: Assembler::new(),
+            obeyed: Obeyed {
+                table: Table::new(),
+                ignored: 0,
+            },
+        }
+    }
+
+    /// Obeys the cues that the next packet of the PID finishes, in order. A packet marked in error is left out.
+    pub fn feed(&mut self, packet: &Packet)
+        requires { IsReady self.old.assembler }
+        ensures obeys { (pid : ℕ) (high : List (List ℕ) → Option ℤ) (past : List (List ℕ)) → IsOf pid packet.now →
+            high (packet.now ∷ past) ≡ high past → Obeys self.old pid high past → Obeys self.new pid high (packet.now ∷ past) }
+        ensures ready { IsReady self.new.assembler }
+        ensures high { high_of self.new.obeyed.table ≡ high_of self.old.obeyed.table }
+    {
+        self.assembler.feed(packet);
+        self.obeyed.take_all(self.assembler.sections());
+        self.assembler.pass_over();
+    }
+
+    /// Takes this time as the high time, where a packet of another PID raises it.
+    pub fn advance(&mut self, high: Time33)
+        requires { CanAdvance (high_of self.old.obeyed.table) high }
+        ensures obeys { (pid : ℕ) (high_in : List (List ℕ) → Option ℤ) (p : List ℕ) (past : List (List ℕ)) (later : ℤ) → on pid p ≡ false →
+            IsTimeAt (high_in past) high later → high_in (p ∷ past) ≡ Some later → Obeys self.old pid high_in past → Obeys self.new pid high_in (p ∷ past) }
+        ensures assembler { self.new.assembler ≡ self.old.assembler }
+        ensures high { high_of self.new.obeyed.table ≡ Some high }
+    {
+        self.obeyed.table.advance(high);
+    }
+
+    /// The events that stand.
+    pub fn table(&self) -> &Table
+        ensures same { result.now ≡ self.now.obeyed.table }
+        ensures stands { (pid : ℕ) (high : List (List ℕ) → Option ℤ) (past : List (List ℕ)) → Obeys self.now pid high past →
+            StandsFor result.now (high past) (standing pid high past) }
+    {
+        &self.obeyed.table
+    }
+
+    /// How many cues were ignored: those that asked for what was refused. A repeat of an event that stands is not ignored. The count
+    /// stops at the greatest.
+    pub fn ignored(&self) -> u64
+        ensures { (pid : ℕ) (high : List (List ℕ) → Option ℤ) (past : List (List ℕ)) → Obeys self.now pid high past →
+            result ≡ capped (ignored pid high past) }
+    {
+        self.obeyed.ignored
+    }
+}
