@@ -162,14 +162,16 @@ impl<D> Watched<D> {
 impl<S: Source> Source for Watched<S> {
     ghost remaining = { λ w. S.remaining w.inner };
 
-    ghost calls = { λ w. S.calls w.inner };
-
-    ghost failures = { λ w. S.failures w.inner };
+    ghost counts = { λ w. S.counts w.inner };
 
     fn read(&mut self, buf: &mut [u8]) -> Result<usize, DeviceFault> {
-        let count = self.inner.read(buf)?;
-        self.watch.see(&buf[..count]);
-        Ok(count)
+        match self.inner.read(buf) {
+            Ok(count) => {
+                self.watch.see(&buf[..count]);
+                Ok(count)
+            }
+            Err(fault) => Err(fault),
+        }
     }
 }
 
@@ -179,8 +181,12 @@ impl<T: Target> Target for Watched<T> {
     ghost counts = { λ w. T.counts w.inner };
 
     fn write(&mut self, buf: &[u8]) -> Result<usize, DeviceFault> {
-        let count = self.inner.write(buf)?;
-        self.watch.see(&buf[..count]);
-        Ok(count)
+        match self.inner.write(buf) {
+            Ok(count) => {
+                self.watch.see(&buf[..count]);
+                Ok(count)
+            }
+            Err(fault) => Err(fault),
+        }
     }
 }

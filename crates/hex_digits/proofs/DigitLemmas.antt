@@ -62,6 +62,10 @@ spell_step line bytes start i inside room =
 abbrev pub behind : List ℕ → Option (List ℕ) → Option (List ℕ)
 behind done bytes = option_map (λ more. done ++ more) bytes
 
+pub behind_none : (bytes : Option (List ℕ)) → behind [] bytes ≡ bytes
+behind_none None = refl
+behind_none (Some more) = refl
+
 one_more : (done : List ℕ) (byte : ℕ) (bytes : Option (List ℕ)) → behind (done ++ byte ∷ []) bytes ≡ behind done (option_map (λ more. byte ∷ more) bytes)
 one_more done byte None = refl
 one_more done byte (Some more) = ap (λ (l : List ℕ). Some l) (append_assoc done (byte ∷ []) more)

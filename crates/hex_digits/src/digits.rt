@@ -1,6 +1,7 @@
 //! Bytes as upper case hexadecimal digits.
 
-ghost use Rattle.std.specs.Prelude.{◌≡◌, ◌+◌, ◌*◌, ◌<◌, ◌≤◌, ◌++◌, length, take, drop, IfOk, IfSome, option_map};
+ghost use Rattle.std.specs.Prelude.{◌≡◌, ◌+◌, ◌*◌, ◌<◌, ◌≤◌, ◌++◌, length, take, drop, IfOk, IfSome, Some, None, option_map};
+ghost use Rattle.std.specs.Bool.{OnTrue, OnFalse};
 ghost use Rattle.hex_digits.specs.Digits.{digit_value, digit_of, digits_of, spelled};
 
 use std::alloc::{AllocError, Global};
@@ -62,6 +63,26 @@ pub fn bytes_of(alloc: Global, text: &[u8]) -> Result<Option<Vec<u8>>, AllocErro
     } else {
         Ok(None)
     }
+}
+
+/// Reads the bytes that the text spells, two digits for each, into the slice that they fill; false where it spells none.
+#[tactic(auto, using(crate::proofs::DigitLemmas::spelled_not_high, crate::proofs::DigitLemmas::spelled_not_low))]
+pub fn bytes_into(text: &[u8], bytes: &mut [u8]) -> bool
+    requires { length text.now ≡ 2 * length bytes.old }
+    ensures read { OnTrue result (spelled text.now ≡ Some bytes.new) }
+    ensures none { OnFalse result (spelled text.now ≡ None) }
+    ensures size { length bytes.new ≡ length bytes.old }
+{
+    let mut rest = text;
+    for index in 0..bytes.len() {
+        let (Some(high), Some(low)) = (value_of(rest[0]), value_of(rest[1])) else {
+            return false;
+        };
+        bytes[index] = 16 * high + low;
+        let (_, after) = rest.split_at(2);
+        rest = after;
+    }
+    true
 }
 
 /// Bytes that print as their digits; no bytes print as nothing.

@@ -9,4 +9,4 @@ pub mod laws;
 #[cfg(test)]
 mod tests;
 
-pub use digits::{Digits, bytes_of, digit_of, spell, value_of};
+pub use digits::{Digits, bytes_into, bytes_of, digit_of, spell, value_of};

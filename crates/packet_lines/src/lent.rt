@@ -115,9 +115,7 @@ impl<S: Source, K: Run> Source for RunSource<S, K> {
 
     ghost remaining = { λ r. left_behind r.lines.is_bad r.lines.line.given r.lines.line.at r.lines.line.high r.lines.line.packet (S.remaining r.lines.source) };
 
-    ghost calls = { λ r. r.lines.calls };
-
-    ghost failures = { λ r. r.lines.failures };
+    ghost counts = { λ r. r.lines.tally };
 
     fn read(&mut self, buf: &mut [u8]) -> Result<usize, DeviceFault> {
         self.lines.read(buf)

@@ -4,7 +4,7 @@ ghost use Rattle.std.specs.Prelude.{◌≡◌, ◌%◌, ◌<◌, ◌≤◌, leng
 ghost use Rattle.std.specs.Io.KnownBytes.{ReadConsumes};
 
 use crate::line::Line;
-use ts_packet::{DeviceFault, Source};
+use ts_packet::{DeviceFault, Source, Tally};
 
 /// Reads into the front of the text, with one call of the device, and answers how many characters there are.
 fn read_front<S: Source>(source: &mut S, text: &mut [u8], room: usize) -> Result<usize, DeviceFault>
@@ -28,8 +28,7 @@ pub struct LineSource<S: Source> {
     text: [u8; 377],
     line: Line,
     is_bad: bool,
-    calls: u64,
-    failures: u64,
+    tally: Tally,
     ghost refused: { is_bad ≡ true → line.given % 188 ≡ 0 },
 }
 
@@ -51,8 +50,7 @@ impl<S: Source> LineSource<S> {
             text: [0; 377],
             line: Line::new(),
             is_bad: false,
-            calls: 0,
-            failures: 0,
+            tally: Tally::new(),
         }
     }
 
@@ -65,8 +63,7 @@ impl<S: Source> LineSource<S> {
             text: _,
             line: _,
             is_bad: _,
-            calls: _,
-            failures: _,
+            tally: _,
         } = self;
         source
     }
@@ -84,8 +81,7 @@ impl<S: Source> LineSource<S> {
         ensures bad { self.new.is_bad ≡ true }
         ensures source { self.new.source ≡ self.old.source }
         ensures line { self.new.line ≡ self.old.line }
-        ensures calls { self.new.calls ≡ self.old.calls }
-        ensures failures { self.new.failures ≡ self.old.failures }
+        ensures tally { self.new.tally ≡ self.old.tally }
     {
         self.is_bad = true;
         DeviceFault::Failed
@@ -101,8 +97,7 @@ impl<S: Source> LineSource<S> {
             ⊎ IsAtEnd (left_behind self.new.is_bad self.new.line.given self.new.line.at self.new.line.high self.new.line.packet (S.remaining self.new.source))) }
         ensures good { OnOk result (self.new.is_bad ≡ false) }
         ensures given { self.new.line.given % 188 ≡ 0 }
-        ensures calls { self.new.calls ≡ self.old.calls }
-        ensures failures { self.new.failures ≡ self.old.failures }
+        ensures tally { self.new.tally ≡ self.old.tally }
     {
         let lacking = self.line.lacking();
         let count = read_front(&mut self.source, &mut self.text, lacking)?;
@@ -127,8 +122,7 @@ impl<S: Source> LineSource<S> {
         ensures bytes { ReadConsumes (left_behind self.old.is_bad self.old.line.given self.old.line.at self.old.line.high self.old.line.packet (S.remaining self.old.source))
             (left_behind self.new.is_bad self.new.line.given self.new.line.at self.new.line.high self.new.line.packet (S.remaining self.new.source)) result buf.new }
         ensures moves { MovesBy self.old.line.given self.new.line.given result }
-        ensures calls { self.new.calls ≡ self.old.calls }
-        ensures failures { self.new.failures ≡ self.old.failures }
+        ensures tally { self.new.tally ≡ self.old.tally }
     {
         if self.is_bad {
             return Err(DeviceFault::Failed);
@@ -142,31 +136,25 @@ impl<S: Source> LineSource<S> {
 
 impl<S: Source> Source for LineSource<S> {
     ghost use Rattle.std.specs.Io.{ReadsAtMost};
-    ghost use Rattle.ts_packet.specs.Transfers.{IsCounted, CountsFailure};
+    ghost use Rattle.ts_packet.specs.Transfers.{IsCounted, CountsFailure, CountsZero, halts};
     ghost use Rattle.packet_lines.specs.Lines.{left_behind, MovesBy};
 
     ghost remaining = { λ s. left_behind s.is_bad s.line.given s.line.at s.line.high s.line.packet (S.remaining s.source) };
 
-    ghost calls = { λ s. s.calls };
-
-    ghost failures = { λ s. s.failures };
+    ghost counts = { λ s. s.tally };
 
     fn read(&mut self, buf: &mut [u8]) -> Result<usize, DeviceFault>
         ensures bound { ReadsAtMost result buf.new }
         ensures bytes { ReadConsumes (left_behind self.old.is_bad self.old.line.given self.old.line.at self.old.line.high self.old.line.packet (S.remaining self.old.source))
             (left_behind self.new.is_bad self.new.line.given self.new.line.at self.new.line.high self.new.line.packet (S.remaining self.new.source)) result buf.new }
-        ensures calls { IsCounted self.old.calls self.new.calls }
-        ensures failures { CountsFailure result self.old.failures self.new.failures }
+        ensures calls { IsCounted self.old.tally.calls self.new.tally.calls }
+        ensures failures { CountsFailure result self.old.tally.failed self.new.tally.failed }
+        ensures zeros { CountsZero result self.old.tally.zeros self.new.tally.zeros }
+        ensures halted { self.new.tally.halted ≡ halts result }
         ensures moves { MovesBy self.old.line.given self.new.line.given result }
     {
-        self.calls = self.calls.saturating_add(1);
-        match self.read_line(buf) {
-            Ok(count) => Ok(count),
-            Err(DeviceFault::Interrupted) => Err(DeviceFault::Interrupted),
-            Err(DeviceFault::Failed) => {
-                self.failures = self.failures.saturating_add(1);
-                Err(DeviceFault::Failed)
-            }
-        }
+        let answer = self.read_line(buf);
+        self.tally.count(&answer);
+        answer
     }
 }

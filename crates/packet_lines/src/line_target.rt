@@ -4,7 +4,7 @@ ghost use Rattle.std.specs.Prelude.{◌≡◌, ℕ, ◌+◌, ◌<◌, ◌≤◌,
 ghost use Rattle.packet_lines.specs.Lines.{line_of};
 
 use hex_digits::spell;
-use ts_packet::{DeviceFault, Target};
+use ts_packet::{DeviceFault, Tally, Target};
 
 /// The digits of one line.
 const LINE_DIGITS: usize = 376;
@@ -39,9 +39,7 @@ pub struct LineTarget<W: Target> {
     line: [u8; 377],
     filled: usize,
     sent: usize,
-    calls: u64,
-    failures: u64,
-    zeros: u64,
+    tally: Tally,
     ghost size: { length packet ≡ 188 },
     ghost line_size: { length line ≡ 377 },
     ghost in_packet: { filled < 188 },
@@ -68,9 +66,7 @@ impl<W: Target> LineTarget<W> {
             line: [LINE_END; 377],
             filled: 0,
             sent: 0,
-            calls: 0,
-            failures: 0,
-            zeros: 0,
+            tally: Tally::new(),
         }
     }
 
@@ -84,9 +80,7 @@ impl<W: Target> LineTarget<W> {
             line: _,
             filled: _,
             sent: _,
-            calls: _,
-            failures: _,
-            zeros: _,
+            tally: _,
         } = self;
         target
     }
@@ -94,6 +88,7 @@ impl<W: Target> LineTarget<W> {
     /// Writes on in the line of a packet that ends with these bytes, with one call of the device: 0 where that took no byte, the
     /// count of the bytes where the line is out, and one less where a part of it is.
     fn send(&mut self, bytes: &[u8]) -> Result<usize, DeviceFault>
+        requires some { 0 < length bytes.now }
         requires last { drop self.old.filled self.old.packet ≡ bytes.now }
         requires spelled { self.old.line ≡ line_of self.old.packet }
         requires bytes { (i : ℕ) → slice_index self.old.packet i < 256 }
@@ -101,9 +96,7 @@ impl<W: Target> LineTarget<W> {
         ensures bound { IfOk result (λ n. n ≤ length bytes.now) }
         ensures bytes { WriteAppends (held_of self.old.sent self.old.line self.old.filled self.old.packet (W.contents self.old.target))
             (held_of self.new.sent self.new.line self.new.filled self.new.packet (W.contents self.new.target)) result bytes.now }
-        ensures calls { self.new.calls ≡ self.old.calls }
-        ensures failures { self.new.failures ≡ self.old.failures }
-        ensures zeros { self.new.zeros ≡ self.old.zeros }
+        ensures tally { self.new.tally ≡ self.old.tally }
     {
         let line = &self.line[..];
         let sent = self.target.write(&line[self.sent..])?;
@@ -132,9 +125,7 @@ impl<W: Target> LineTarget<W> {
         ensures line { self.new.line ≡ self.old.line }
         ensures filled { self.new.filled ≡ self.old.filled }
         ensures sent { self.new.sent ≡ self.old.sent }
-        ensures calls { self.new.calls ≡ self.old.calls }
-        ensures failures { self.new.failures ≡ self.old.failures }
-        ensures zeros { self.new.zeros ≡ self.old.zeros }
+        ensures tally { self.new.tally ≡ self.old.tally }
     {
         let filled = self.filled;
         let packet = &mut self.packet[..];
@@ -143,13 +134,12 @@ impl<W: Target> LineTarget<W> {
 
     /// Writes on in a line that is out in part. The bytes have to be those that the packet ends with.
     fn send_again(&mut self, bytes: &[u8]) -> Result<usize, DeviceFault>
-        requires { 0 < self.old.sent }
+        requires some { 0 < length bytes.now }
+        requires sent { 0 < self.old.sent }
         ensures bound { IfOk result (λ n. n ≤ length bytes.now) }
         ensures bytes { WriteAppends (held_of self.old.sent self.old.line self.old.filled self.old.packet (W.contents self.old.target))
             (held_of self.new.sent self.new.line self.new.filled self.new.packet (W.contents self.new.target)) result bytes.now }
-        ensures calls { self.new.calls ≡ self.old.calls }
-        ensures failures { self.new.failures ≡ self.old.failures }
-        ensures zeros { self.new.zeros ≡ self.old.zeros }
+        ensures tally { self.new.tally ≡ self.old.tally }
     {
         let packet = &self.packet[..];
         if &packet[self.filled..] != bytes {
@@ -160,14 +150,13 @@ impl<W: Target> LineTarget<W> {
 
     /// Takes bytes of a packet, no line of which is out, and writes its line where it is whole.
     fn send_new(&mut self, bytes: &[u8]) -> Result<usize, DeviceFault>
+        requires some { 0 < length bytes.now }
         requires fits { self.old.filled + length bytes.now ≤ 188 }
         requires unsent { self.old.sent ≡ 0 }
         ensures bound { IfOk result (λ n. n ≤ length bytes.now) }
         ensures bytes { WriteAppends (held_of self.old.sent self.old.line self.old.filled self.old.packet (W.contents self.old.target))
             (held_of self.new.sent self.new.line self.new.filled self.new.packet (W.contents self.new.target)) result bytes.now }
-        ensures calls { self.new.calls ≡ self.old.calls }
-        ensures failures { self.new.failures ≡ self.old.failures }
-        ensures zeros { self.new.zeros ≡ self.old.zeros }
+        ensures tally { self.new.tally ≡ self.old.tally }
     {
         self.stage(bytes);
         let count = bytes.len();
@@ -181,12 +170,11 @@ impl<W: Target> LineTarget<W> {
 
     /// What a write takes, but for its count.
     fn write_line(&mut self, buf: &[u8]) -> Result<usize, DeviceFault>
+        requires some { 0 < length buf.now }
         ensures bound { IfOk result (λ n. n ≤ length buf.now) }
         ensures bytes { WriteAppends (held_of self.old.sent self.old.line self.old.filled self.old.packet (W.contents self.old.target))
             (held_of self.new.sent self.new.line self.new.filled self.new.packet (W.contents self.new.target)) result buf.now }
-        ensures calls { self.new.calls ≡ self.old.calls }
-        ensures failures { self.new.failures ≡ self.old.failures }
-        ensures zeros { self.new.zeros ≡ self.old.zeros }
+        ensures tally { self.new.tally ≡ self.old.tally }
     {
         let count = buf.len().min(188 - self.filled);
         if self.sent != 0 {
@@ -201,21 +189,11 @@ impl<W: Target> Target for LineTarget<W> {
 
     ghost contents = { λ t. held_of t.sent t.line t.filled t.packet (W.contents t.target) };
 
-    ghost counts = { λ t. record { calls = t.calls; failed = t.failures; zeros = t.zeros } };
+    ghost counts = { λ t. t.tally };
 
     fn write(&mut self, buf: &[u8]) -> Result<usize, DeviceFault> {
-        self.calls = self.calls.saturating_add(1);
-        match self.write_line(buf) {
-            Ok(0) => {
-                self.zeros = self.zeros.saturating_add(1);
-                Ok(0)
-            }
-            Ok(count) => Ok(count),
-            Err(DeviceFault::Interrupted) => Err(DeviceFault::Interrupted),
-            Err(DeviceFault::Failed) => {
-                self.failures = self.failures.saturating_add(1);
-                Err(DeviceFault::Failed)
-            }
-        }
+        let answer = self.write_line(buf);
+        self.tally.count(&answer);
+        answer
     }
 }

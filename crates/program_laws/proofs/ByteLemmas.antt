@@ -3,11 +3,11 @@ use Rattle.std.proofs.Common.{◌≡◌, ℕ, zero, suc, ◌+◌, ◌-◌, ◌<�
 use Rattle.std.specs.Prelude.{filter, is_some}
 use Rattle.ts_packet.specs.declared.follower.Last.{Last}
 use Rattle.ts_packet.specs.Fields.{in_error, adaptation_control, adaptation_length, payload, or_none, unit_start, bytes}
-use Rattle.ts_packet.specs.Duplicates.{original, last_of}
+use Rattle.ts_packet.specs.Duplicates.{original, last_of, follows_on}
 use Rattle.ts_packet.proofs.Cases.{by_test}
 use Rattle.psi_section.specs.declared.front.Front.{Front}
 use Rattle.psi_section.specs.declared.front.Front.TheVariants.{Nothing, Whole, Part}
-use Rattle.psi_section.specs.Sections.{front_of, is_good, Taken, taken_past, taken, continued, started, payload_taken, follows_on, unbroken, packet_taken, held, finished, given}
+use Rattle.psi_section.specs.Sections.{front_of, is_good, Taken, taken_past, taken, continued, started, payload_taken, unbroken, packet_taken, held, finished, given}
 use Rattle.psi_section.proofs.FrontLemmas.{by_front, by_front_joined}
 use Rattle.psi_tables.specs.Numbers.{AreBytes}
 use Rattle.program_follower.specs.declared.purpose.Listed.{Listed}

@@ -5,11 +5,11 @@ use Rattle.std.specs.List.{AllByRecursion}
 use Rattle.std.proofs.lemmas.List.Elements.{All-from_recursion, recursion_from_All}
 use Rattle.ts_packet.specs.declared.follower.Last.{Last}
 use Rattle.ts_packet.specs.Fields.{in_error, adaptation_control, adaptation_length, payload, or_none, unit_start, bytes}
-use Rattle.ts_packet.specs.Duplicates.{original, last_of}
+use Rattle.ts_packet.specs.Duplicates.{original, last_of, follows_on}
 use Rattle.ts_packet.proofs.Cases.{by_test}
 use Rattle.psi_section.specs.declared.front.Front.{Front}
 use Rattle.psi_section.specs.declared.front.Front.TheVariants.{Nothing, Whole, Part}
-use Rattle.psi_section.specs.Sections.{front_of, is_good, Taken, taken_past, taken, continued, started, payload_taken, follows_on, unbroken, packet_taken, held, finished, given}
+use Rattle.psi_section.specs.Sections.{front_of, is_good, Taken, taken_past, taken, continued, started, payload_taken, unbroken, packet_taken, held, finished, given}
 use Rattle.psi_section.specs.Laws.{AreBytes}
 use Rattle.psi_section.proofs.FrontLemmas.{by_front, by_front_joined}
 use Rattle.psi_section.proofs.GivenLemmas.{All-both}

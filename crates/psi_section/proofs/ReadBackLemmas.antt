@@ -6,13 +6,13 @@ use Rattle.std.proofs.lemmas.List.{append-nil, length-take-le, length-drop, take
 use Rattle.std.proofs.Math.Seq.{take-length, take-add}
 use Rattle.ts_packet.specs.declared.follower.Last.{Last}
 use Rattle.ts_packet.specs.Fields.{in_error, unit_start, pid_of, number, payload, on, payload_on, bytes, or_none, alike}
-use Rattle.ts_packet.specs.Duplicates.{original, repeats, last_of, repeats_last}
+use Rattle.ts_packet.specs.Duplicates.{original, repeats, last_of, repeats_last, follows_on}
 use Rattle.ts_packet.proofs.Cases.{by_test}
 use Rattle.ts_packet.proofs.FieldLemmas.{number-below}
 use Rattle.ts_packet.proofs.HistoryLemmas.{walk_is_last}
 use Rattle.psi_section.specs.declared.front.Front.{Front}
 use Rattle.psi_section.specs.declared.front.Front.TheVariants.{Nothing, Whole, Part}
-use Rattle.psi_section.specs.Sections.{front_of, Taken, nothing, behind, taken_past, taken, continued, started, payload_taken, follows_on, unbroken, packet_taken, held, given, is_good, sections_after}
+use Rattle.psi_section.specs.Sections.{front_of, Taken, nothing, behind, taken_past, taken, continued, started, payload_taken, unbroken, packet_taken, held, given, is_good, sections_after}
 use Rattle.psi_section.specs.Packetising.{padded, first_packet, next_packet, packets_for, later_packets, rest_packets, section_packets}
 use Rattle.psi_section.specs.Assembling.{IsPart}
 use Rattle.psi_section.specs.Laws.{CanBeGiven}

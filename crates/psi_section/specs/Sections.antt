@@ -3,7 +3,7 @@
 use Rattle.std.specs.Prelude.{ℕ, zero, suc, ◌+◌, ◌-◌, ◌*◌, ◌/◌, ◌%◌, List, [], ◌∷◌, ◌++◌, Bool, true, not, ◌&&◌, ◌||◌, ◌==◌, if◌then◌else◌, Option, None, Some, nat_le, nat_lt, length, take, drop, filter, map, count_by, slice_index}
 use Rattle.ts_packet.specs.declared.follower.Last.{Last}
 use Rattle.ts_packet.specs.Fields.{unit_start, number, bytes}
-use Rattle.ts_packet.specs.Duplicates.{original, last_of}
+use Rattle.ts_packet.specs.Duplicates.{original, last_of, follows_on}
 use Rattle.ts_packet.specs.Runs.{Seen, seen_after}
 use Rattle.psi_section.specs.declared.front.Front.{Front}
 use Rattle.psi_section.specs.declared.front.Front.TheVariants.{Nothing, Whole, Part}
@@ -102,11 +102,6 @@ abbrev pub payload_taken : Bool → List ℕ → List ℕ → Taken
 payload_taken start part bs = if start then started part bs else continued part bs
 
 -- ---- packets
-
--- the counter is one past that of the payload packet before it
-abbrev pub follows_on : List ℕ → Option Last → Bool
-follows_on p None = true
-follows_on p (Some l) = number p == (number l.packet + 1) % 16
 
 -- the part, unless the counter shows a gap
 abbrev pub unbroken : List ℕ → Option Last → List ℕ → List ℕ

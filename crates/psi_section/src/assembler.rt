@@ -21,8 +21,8 @@ pub struct Assembler {
 impl Assembler {
     ghost use Rattle.std.specs.Borrow.{sem};
     ghost use Rattle.ts_packet.specs.Fields.{payload, bytes};
-    ghost use Rattle.ts_packet.specs.Duplicates.{repeats_last};
-    ghost use Rattle.psi_section.specs.Sections.{given, taken, failed, follows_on, packet_taken};
+    ghost use Rattle.ts_packet.specs.Duplicates.{repeats_last, follows_on};
+    ghost use Rattle.psi_section.specs.Sections.{given, taken, failed, packet_taken};
     ghost use Rattle.psi_section.specs.Storing.{content};
     ghost use Rattle.psi_section.specs.Assembling.{IsOf, IsReady, Waits, Gives, NextRests, capped, bad_left, first, left};
     ghost use Rattle.psi_section.specs.Finding.{Finds, Picks};

@@ -15,6 +15,7 @@ pub struct Packetiser {
 }
 
 impl Packetiser {
+    ghost use Rattle.ts_packet.specs.Transfers.{WentWell};
     ghost use Rattle.ts_packet.specs.Sinks.{Blamed};
     ghost use Rattle.psi_section.specs.Packetising.{Puts, PutsAfter, PutFails, first_packet, next_packet, rest_packets, section_packets};
 
@@ -36,6 +37,7 @@ impl Packetiser {
         ensures counter { OnOk result (PutsAfter self.new self.old (length (section_packets self.old.pid self.old.counter section.now))) }
         ensures err { (start : Option (List ℕ)) (ps : List (List ℕ)) → S.holds sink.old start ps →
             IfErr result (λ f. PutFails self.old self.new (section_packets self.old.pid self.old.counter section.now) (λ put p. S.fails sink.new start (ps ++ put) p f)) }
+        ensures well { OnOk result (WentWell (S.counts sink.old) (S.counts sink.new)) }
         ensures blamed { IfErr result (λ f. Blamed f (S.counts sink.old) (S.counts sink.new) (S.is_full sink.new)) }
     {
         let packet = self.first_packet(section);
@@ -54,6 +56,7 @@ impl Packetiser {
         ensures counter { OnOk result (PutsAfter self.new self.old (length (rest_packets self.old.pid self.old.counter bytes.now))) }
         ensures err { (start : Option (List ℕ)) (ps : List (List ℕ)) → S.holds sink.old start ps →
             IfErr result (λ f. PutFails self.old self.new (rest_packets self.old.pid self.old.counter bytes.now) (λ put p. S.fails sink.new start (ps ++ put) p f)) }
+        ensures well { OnOk result (WentWell (S.counts sink.old) (S.counts sink.new)) }
         ensures blamed { IfErr result (λ f. Blamed f (S.counts sink.old) (S.counts sink.new) (S.is_full sink.new)) }
     {
         let mut at = 0;
@@ -75,6 +78,7 @@ impl Packetiser {
         ensures counted { OnOk result (Puts self.new self.old.pid ((self.old.counter + 1) % 16)) }
         ensures err { (start : Option (List ℕ)) (ps : List (List ℕ)) → S.holds sink.old start ps → IfErr result (λ f. S.fails sink.new start ps packet.now f) }
         ensures same { IfErr result (λ _. Puts self.new self.old.pid self.old.counter) }
+        ensures well { OnOk result (WentWell (S.counts sink.old) (S.counts sink.new)) }
         ensures blamed { IfErr result (λ f. Blamed f (S.counts sink.old) (S.counts sink.new) (S.is_full sink.new)) }
     {
         match sink.put(packet) {

@@ -1,8 +1,8 @@
-use Rattle.std.proofs.Common.{◌≡◌, ◌==◌, ℕ, List, [], ◌∷◌, Bool, true, false, not, ◌&&◌, refl, if◌then◌else◌, Option, Some, None}
+use Rattle.std.proofs.Common.{◌≡◌, ◌==◌, ℕ, ◌+◌, ◌%◌, List, [], ◌∷◌, Bool, true, false, not, ◌&&◌, refl, if◌then◌else◌, Option, Some, None}
 use Rattle.ts_packet.specs.declared.follower.Last.{Last}
 use Rattle.ts_packet.specs.declared.follower.Mark.{Mark}
 use Rattle.ts_packet.specs.Fields.{number, payload_on, carries, alike}
-use Rattle.ts_packet.specs.Duplicates.{repeats, repeats_last, last_of}
+use Rattle.ts_packet.specs.Duplicates.{repeats, repeats_last, last_of, follows_on, is_gap}
 use Rattle.ts_packet.specs.Following.{Marks}
 
 -- what a test decides for both
@@ -25,3 +25,20 @@ said m kept p (Some l) h = rw (h.0, h.1, h.2 p) refl
 pub unsaid : (kept p : List ℕ) (last : Option Last) → Marks None kept last → false ≡ repeats_last p last
 unsaid kept p None h = refl
 unsaid kept p (Some l) h = absurd h
+
+-- and whether it is one past it
+pub goes_on : (m : Mark) (kept p : List ℕ) (last : Option Last) → Marks (Some m) kept last → (number p == (m.counter + 1) % 16) ≡ follows_on p last
+goes_on m kept p None h = absurd h
+goes_on m kept p (Some l) h = rw h.0 refl
+
+pub begins : (kept p : List ℕ) (last : Option Last) → Marks None kept last → true ≡ follows_on p last
+begins kept p None h = refl
+begins kept p (Some l) h = absurd h
+
+-- ---- gaps
+
+pub no_gap : (pid : ℕ) (p : List ℕ) (past : List (List ℕ)) → payload_on pid p ≡ true → repeats pid p past ≡ true → false ≡ is_gap pid p past
+no_gap pid p past y r = rw (y, r) refl
+
+pub gap_is : (pid : ℕ) (p : List ℕ) (past : List (List ℕ)) (f : Bool) → payload_on pid p ≡ true → repeats pid p past ≡ false → f ≡ follows_on p (last_of pid past) → not f ≡ is_gap pid p past
+gap_is pid p past f y r e = rw (y, r, ← e) refl

@@ -5,7 +5,7 @@ use Rattle.std.specs.Io.KnownBytes.{Consumes, IsAtEnd}
 use Rattle.ts_packet.specs.declared.packet.PacketFault.TheVariants as packet_faults
 use Rattle.ts_packet.specs.declared.reader.ReadFault.{ReadFault}
 use Rattle.ts_packet.specs.declared.reader.ReadFault.TheVariants.{Truncated, SyncLost, BadAdaptation, Io, Turns, Failed}
-use Rattle.ts_packet.specs.Reading.{Given, GivesInto, Refuses, answer_to, answer_over, Answers}
+use Rattle.ts_packet.specs.Reading.{Given, GivesInto, Refuses, answer_to, answer_over, ReadAnswers}
 use lib.Seq.{take_all, take-append-le}
 use Rattle.ts_packet.specs.declared.packet.PacketFault.{PacketFault}
 use Rattle.ts_packet.specs.Packets.{packet_fault}
@@ -44,7 +44,7 @@ over_whole bs o h e = sized (length bs) (Ok false) (Err Truncated) (answer_to (p
 over_part : (bs : List ℕ) → 0 < length bs → length bs < 188 → answer_over bs ≡ Err Truncated
 over_part bs h k = short (length bs) (Ok false) (Err Truncated) (answer_to (packet_fault (take 188 bs))) h k
 
-pub given : (left left' : Option (List ℕ)) (slot : List ℕ) → Given left left' slot → IfSome left (λ bs. Answers bs (Ok true))
+pub given : (left left' : Option (List ℕ)) (slot : List ℕ) → Given left left' slot → IfSome left (λ bs. ReadAnswers bs (Ok true))
 given None left' slot h = tt
 given (Some bs) None slot h = absurd h.bytes
 given (Some bs) (Some ys) slot h =
@@ -60,11 +60,11 @@ filled old new buf n size at h e = record {
   sound = e;
 }
 
-ended : (left : Option (List ℕ)) → IsAtEnd left → IfSome left (λ bs. Answers bs (Ok false))
+ended : (left : Option (List ℕ)) → IsAtEnd left → IfSome left (λ bs. ReadAnswers bs (Ok false))
 ended None h = tt
 ended (Some bs) h = inl (sym (over_none bs (ap length h)))
 
-pub refuses : (left : Option (List ℕ)) (fault : ReadFault) → Refuses false left fault → IfSome left (λ bs. Answers bs (Err fault))
+pub refuses : (left : Option (List ℕ)) (fault : ReadFault) → Refuses false left fault → IfSome left (λ bs. ReadAnswers bs (Err fault))
 refuses None fault h = tt
 refuses (Some bs) Truncated h = inl (sym (over_part bs h.0 h.1))
 refuses (Some bs) SyncLost h = inl (sym (over_whole bs (Some packet_faults.SyncLost) h.0 h.1))
@@ -75,7 +75,7 @@ refuses (Some bs) Failed h = absurd (cc)
 
 -- by the bytes left
 pub answers_exactly : (left left' : Option (List ℕ)) (slot : List ℕ) (answer : Result Bool ReadFault) → IfOk answer (λ more. GivesInto left left' more slot)
-    → IfErr answer (λ fault. Refuses false left fault) → IfSome left (λ bs. Answers bs answer)
+    → IfErr answer (λ fault. Refuses false left fault) → IfSome left (λ bs. ReadAnswers bs answer)
 answers_exactly left left' slot (Ok true) h k = given left left' slot h
 answers_exactly left left' slot (Ok false) h k = ended left h.0
 answers_exactly left left' slot (Err fault) h k = refuses left fault k

@@ -1,6 +1,6 @@
 -- Duplicate packets and continuous counters (ISO/IEC 13818-1, 2.4.3.3, continuity_counter), by the packets that came before,
 -- newest first. Where a stream has a head that these rules pass over, the past begins after it.
-use Rattle.std.specs.Prelude.{◌≡◌, ℕ, ◌+◌, ◌%◌, ◌∷◌, List, [], Bool, true, false, not, ◌&&◌, if◌then◌else◌, Option, None, Some}
+use Rattle.std.specs.Prelude.{◌≡◌, ℕ, ◌+◌, ◌%◌, ◌∷◌, List, [], Bool, true, false, not, ◌&&◌, ◌==◌, if◌then◌else◌, Option, None, Some}
 use Rattle.ts_packet.specs.declared.follower.Last.{Last}
 use Rattle.ts_packet.specs.Fields.{on, payload_on, number, alike}
 
@@ -22,6 +22,15 @@ last_of pid (p ∷ past) = if payload_on pid p then Some (record { packet = p; i
 abbrev pub repeats_last : List ℕ → Option Last → Bool
 repeats_last p None = false
 repeats_last p (Some l) = alike l.packet p && not l.is_repeat
+
+-- its counter is one past that of the payload packet before it; so it is where there is none
+abbrev pub follows_on : List ℕ → Option Last → Bool
+follows_on p None = true
+follows_on p (Some l) = number p == (number l.packet + 1) % 16
+
+-- a gap: a payload packet that is no duplicate, and not one past the payload packet before it on the PID
+abbrev pub is_gap : ℕ → List ℕ → List (List ℕ) → Bool
+is_gap pid p past = original pid p past && not (follows_on p (last_of pid past))
 
 -- the nearest payload packet, in the past or, where there is none in it, the one given: the last of the head
 abbrev pub nearest : Option (List ℕ) → ℕ → List (List ℕ) → Option (List ℕ)

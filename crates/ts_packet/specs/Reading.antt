@@ -2,7 +2,8 @@
 use Rattle.std.specs.Prelude.{◌≡◌, ℕ, ◌-◌, ◌^◌, ◌<◌, ◌≤◌, Bool, true, false, ◌⊎◌, if◌then◌else◌, nat_eq, nat_lt, List, length, take, Option, None, Some, IfSome, Result, Ok, Err, All}
 use Rattle.std.specs.Io.KnownBytes.{Consumes, IsAtEnd}
 use Rattle.ts_packet.specs.Packets.{bytes_of, packet_fault}
-use Rattle.ts_packet.specs.Transfers.{Rose}
+use Rattle.ts_packet.specs.declared.tally.Tally.{Tally}
+use Rattle.ts_packet.specs.Transfers.{WentWell, LastMovedNone, LastFailed, TookTurns, FallsShort}
 use Rattle.ts_packet.specs.declared.packet.PacketFault.{PacketFault}
 use Rattle.ts_packet.specs.declared.packet.PacketFault.TheVariants as packet_faults
 use Rattle.ts_packet.specs.declared.reader.ReadFault.{ReadFault}
@@ -33,14 +34,54 @@ Refuses broken left Io = broken ≡ false
 Refuses broken left Turns = broken ≡ false
 Refuses broken left Failed = broken ≡ true
 
--- what the device must have done in that call, or how many packets were given before it
-abbrev pub ReadBlamed : ReadFault → ℕ → ℕ → ℕ → ℕ → ℕ → Type 0
-ReadBlamed Io given calls calls' failures failures' = Rose 1 failures failures'
-ReadBlamed Turns given calls calls' failures failures' = Rose (2 ^ 20) calls calls' ⊎ (given ≡ 2 ^ 64 - 1)
-ReadBlamed Truncated given calls calls' failures failures' = Unit {0}
-ReadBlamed SyncLost given calls calls' failures failures' = Unit {0}
-ReadBlamed BadAdaptation given calls calls' failures failures' = Unit {0}
-ReadBlamed Failed given calls calls' failures failures' = Unit {0}
+-- what the reads of a call came to that gave a packet, or found the end: then the last one, and no other, gave nothing
+abbrev pub ReadCounts : Bool → Tally → Tally → Type 0
+ReadCounts true old new = WentWell old new
+ReadCounts false old new = LastMovedNone old new
+
+-- what the reads of a source came to, by whether the end was told
+abbrev pub ReadSo : Bool → Tally → Tally → Type 0
+ReadSo false old new = WentWell old new
+ReadSo true old new = LastMovedNone old new
+
+-- What those of one call came to, by whether the end was told before it, and is now: then nothing is read any more.
+abbrev pub SourceCounts : Bool → Bool → Bool → Tally → Tally → Type 0
+SourceCounts true before now old new = (before ≡ false) × ReadSo now old new
+SourceCounts false false now old new = LastMovedNone old new
+SourceCounts false true now old new = new ≡ old
+
+-- what they came to where it answered a fault, after so many packets were given
+abbrev pub ReadBlamed : ReadFault → ℕ → Tally → Tally → Type 0
+ReadBlamed Truncated given old new = LastMovedNone old new
+ReadBlamed SyncLost given old new = WentWell old new
+ReadBlamed BadAdaptation given old new = WentWell old new
+ReadBlamed Io given old new = LastFailed old new
+ReadBlamed Turns given old new = TookTurns (2 ^ 20) old new ⊎ ((given ≡ 2 ^ 64 - 1) × (new ≡ old))
+ReadBlamed Failed given old new = new ≡ old
+
+-- The reads for one packet took all their turns: from some state of the device on, up to which all went well, they gave fewer bytes
+-- than a packet has. The functions are a device's bytes and counts.
+abbrev pub Stalls : {X : Type 0} → (X → Option (List ℕ)) → (X → Tally) → X → X → Type 0
+Stalls {X} remaining counts first now =
+    (at : X) × WentWell (counts first) (counts at) × TookTurns (2 ^ 20) (counts at) (counts now) × FallsShort 188 (remaining at) (remaining now)
+
+-- the same of any source: a fault of what was read says only that no call failed
+abbrev pub SourceBlamed : ReadFault → ℕ → Tally → Tally → Type 0
+SourceBlamed Truncated given old new = WentWell old new ⊎ LastMovedNone old new
+SourceBlamed SyncLost given old new = WentWell old new ⊎ LastMovedNone old new
+SourceBlamed BadAdaptation given old new = WentWell old new ⊎ LastMovedNone old new
+SourceBlamed Io given old new = LastFailed old new
+SourceBlamed Turns given old new = TookTurns (2 ^ 20) old new ⊎ ((given ≡ 2 ^ 64 - 1) × (new ≡ old))
+SourceBlamed Failed given old new = new ≡ old
+
+-- what was read of the bytes left where a reader answers so
+abbrev pub Spends : ReadFault → Option (List ℕ) → Option (List ℕ) → Type 0
+Spends SyncLost old new = (bs : List ℕ) × Consumes old new bs × (length bs ≡ 188)
+Spends BadAdaptation old new = (bs : List ℕ) × Consumes old new bs × (length bs ≡ 188)
+Spends Truncated old new = FallsShort 188 old new
+Spends Io old new = FallsShort 188 old new
+Spends Turns old new = FallsShort 188 old new
+Spends Failed old new = new ≡ old
 
 -- what a reader makes of 188 bytes
 abbrev pub answer_to : Option PacketFault → Result Bool ReadFault
@@ -53,8 +94,8 @@ abbrev pub answer_over : List ℕ → Result Bool ReadFault
 answer_over bs = if nat_eq (length bs) 0 then Ok false else (if nat_lt (length bs) 188 then Err Truncated else answer_to (packet_fault (take 188 bs)))
 
 -- it answers so
-abbrev pub Answers : List ℕ → Result Bool ReadFault → Type 0
-Answers bs answer = (answer ≡ answer_over bs) ⊎ ((answer ≡ Err Io) ⊎ (answer ≡ Err Turns))
+abbrev pub ReadAnswers : List ℕ → Result Bool ReadFault → Type 0
+ReadAnswers bs answer = (answer ≡ answer_over bs) ⊎ ((answer ≡ Err Io) ⊎ (answer ≡ Err Turns))
 
 -- what was read so far is these packets: a loop over a reader keeps this
 pub record HasRead (start left : Option (List ℕ)) (ps : List (List ℕ)) : Type 0 where

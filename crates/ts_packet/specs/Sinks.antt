@@ -1,20 +1,11 @@
 -- What a sink of packets stands for, what its device counts, and why a put may fail.
-use Rattle.std.specs.Prelude.{◌≡◌, ℕ, ◌^◌, ◌≤◌, Bool, true, ◌⊎◌, List, ◌++◌, take, Option, Some, IfSome}
+use Rattle.std.specs.Prelude.{◌≡◌, ℕ, ◌^◌, ◌≤◌, Bool, true, false, ◌⊎◌, List, ◌++◌, take, Option, Some, IfSome}
 use Rattle.std.proofs.Math.Nat.{le_refl, le_trans}
 use Rattle.ts_packet.specs.Packets.{bytes_of}
-use Rattle.ts_packet.specs.Transfers.{Rose}
+use Rattle.ts_packet.specs.declared.tally.Tally.{Tally}
+use Rattle.ts_packet.specs.Transfers.{WentWell, LastMovedNone, LastFailed, TookTurns}
 use Rattle.ts_packet.specs.declared.sink.PutFault.{PutFault}
 use Rattle.ts_packet.specs.declared.sink.PutFault.TheVariants.{Io, Stuck, Turns, Failed}
-
--- what a device that is written counts: its calls, those that failed, and its writes that took no byte
-pub record Tally : Type 0 where
-  pub calls : ℕ
-  pub failed : ℕ
-  pub zeros : ℕ
-
--- the counts of a sink with no device
-abbrev pub no_tally : Tally
-no_tally = record { calls = 0; failed = 0; zeros = 0 }
 
 -- counts never fall
 pub record Later (old new : Tally) : Type 0 where
@@ -30,12 +21,16 @@ Later-refl a = record { calls = le_refl a.calls; failed = le_refl a.failed; zero
 pub Later-trans : (a b c : Tally) → Later a b → Later b c → Later a c
 Later-trans a b c h k = record { calls = le_trans h.calls k.calls; failed = le_trans h.failed k.failed; zeros = le_trans h.zeros k.zeros }
 
--- what must have happened where a put fails so; the last is whether the sink is full afterwards
+-- What the calls of the device came to where a put failed so, each packet in so many turns at most; the last is whether the sink is
+-- full afterwards.
+abbrev pub BlamedIn : ℕ → PutFault → Tally → Tally → Bool → Type 0
+BlamedIn turns Io old new full = LastFailed old new
+BlamedIn turns Stuck old new full = LastMovedNone old new ⊎ ((full ≡ true) × WentWell old new)
+BlamedIn turns Turns old new full = TookTurns turns old new
+BlamedIn turns Failed old new full = Unit {0}
+
 abbrev pub Blamed : PutFault → Tally → Tally → Bool → Type 0
-Blamed Io old new full = Rose 1 old.failed new.failed
-Blamed Stuck old new full = Rose 1 old.zeros new.zeros ⊎ (full ≡ true)
-Blamed Turns old new full = Rose (2 ^ 20) old.calls new.calls
-Blamed Failed old new full = Unit {0}
+Blamed = BlamedIn (2 ^ 20)
 
 -- where bytes were known first, those are known, and then the packets
 abbrev pub Written : Option (List ℕ) → Option (List ℕ) → List (List ℕ) → Type 0

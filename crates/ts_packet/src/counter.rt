@@ -1,6 +1,6 @@
 //! The continuity counters of a PID whose packets are partly left out, with others put in.
 
-ghost use Rattle.std.specs.Prelude.{◌≡◌, ◌<◌, List, [], ◌∷◌, true, is_some};
+ghost use Rattle.std.specs.Prelude.{◌≡◌, ◌<◌, ◌+◌, ◌%◌, List, [], ◌∷◌, true, is_some};
 ghost use Rattle.ts_packet.specs.Fields.{number, payload};
 
 use crate::packet::Packet;
@@ -35,20 +35,32 @@ impl Counter {
         ensures number { (steps : List Step) → Counts self.old steps → result ≡ number_out packet.now steps }
         ensures below { result < 16 }
     {
-        let number = (packet.counter() + self.shift) % 16;
+        let number = self.moved(packet);
         if packet.has_payload() {
             self.upcoming = (number + 1) % 16;
         }
         number
     }
 
-    /// The packet, which has a payload, is left out.
-    pub fn dropped(&mut self, packet: &Packet)
+    /// The packet, which has a payload, is left out: the continuity_counter of a packet without payload that goes out in its place,
+    /// as one that carries its program clock reference.
+    pub fn dropped(&mut self, packet: &Packet) -> u8
         requires { is_some (payload packet.now) ≡ true }
-        ensures { (steps : List Step) → Counts self.old steps → Counts self.new (Dropped packet.now ∷ steps) }
+        ensures counts { (steps : List Step) → Counts self.old steps → Counts self.new (Dropped packet.now ∷ steps) }
+        ensures number { (steps : List Step) → Counts self.old steps → result ≡ number_out packet.now (Dropped packet.now ∷ steps) }
+        ensures below { result < 16 }
     {
         self.shift = (self.shift + 15) % 16;
-        self.upcoming = (packet.counter() + self.shift + 1) % 16;
+        let replacement = self.moved(packet);
+        self.upcoming = (replacement + 1) % 16;
+        replacement
+    }
+
+    /// The packet's counter, moved up.
+    fn moved(&self, packet: &Packet) -> u8
+        ensures { result ≡ (number packet.now + self.now.shift) % 16 }
+    {
+        (packet.counter() + self.shift) % 16
     }
 
     /// A payload packet is put in: its continuity_counter, one past that at the last payload packet, or 0 where there was none.

@@ -1,87 +1,89 @@
 //! What bytes are read from and written to, with the counts that say what it did.
 
+use crate::tally::Tally;
 use std::io::{self, BufRead, BufReader, Read};
+use thiserror::Error;
 
 /// Why a call of a device gave nothing.
-#[derive(Clone, Copy, Debug, PartialEq, Eq, Drop)]
+#[derive(Clone, Copy, Debug, PartialEq, Eq, Drop, Error)]
 pub enum DeviceFault {
     /// The call was interrupted, and may be made again.
+    #[error("the call was interrupted")]
     Interrupted,
     /// The device failed.
+    #[error("the device failed")]
     Failed,
 }
 
-/// What bytes are read from.
+/// What bytes are read from. It is never asked for no bytes, so that a read of none tells the end.
 pub trait Source {
-    ghost use Rattle.std.specs.Prelude.{◌≡◌, ℕ, List, Option};
+    ghost use Rattle.std.specs.Prelude.{◌≡◌, ℕ, ◌<◌, List, Option, length};
     ghost use Rattle.std.specs.Io.KnownBytes.{ReadConsumes};
     ghost use Rattle.std.specs.Io.{ReadsAtMost};
-    ghost use Rattle.ts_packet.specs.Transfers.{IsCounted, CountsFailure};
+    ghost use Rattle.ts_packet.specs.declared.tally.Tally.{Tally};
+    ghost use Rattle.ts_packet.specs.Transfers.{IsCounted, CountsFailure, CountsZero, halts};
 
     /// The bytes that reads will give from here on, where they are known.
     ghost remaining: { Self → Option (List ℕ) };
 
-    /// How many reads were made, up to the greatest u64.
-    ghost calls: { Self → ℕ };
+    /// What it counts of its reads. A read that moved no byte was at the end.
+    ghost counts: { Self → Tally };
 
-    /// How many of them failed, up to the greatest u64.
-    ghost failures: { Self → ℕ };
-
-    /// Reads into the front of the buffer, and answers how many bytes; 0 only at the end, or where the buffer is empty.
+    /// Reads into the front of the buffer, which is not empty, and answers how many bytes; 0 only at the end.
     fn read(&mut self, buf: &mut [u8]) -> Result<usize, DeviceFault>
+        requires some { 0 < length buf.old }
         ensures bound { ReadsAtMost result buf.new }
         ensures bytes { ReadConsumes (remaining self.old) (remaining self.new) result buf.new }
-        ensures calls { IsCounted (calls self.old) (calls self.new) }
-        ensures failures { CountsFailure result (failures self.old) (failures self.new) };
+        ensures calls { IsCounted (counts self.old).calls (counts self.new).calls }
+        ensures failures { CountsFailure result (counts self.old).failed (counts self.new).failed }
+        ensures zeros { CountsZero result (counts self.old).zeros (counts self.new).zeros }
+        ensures halted { (counts self.new).halted ≡ halts result };
 }
 
-/// What bytes are written to.
+/// What bytes are written to. It is never given none, so that a write of none tells that it is stuck.
 pub trait Target {
-    ghost use Rattle.std.specs.Prelude.{◌≡◌, ℕ, List, Option};
+    ghost use Rattle.std.specs.Prelude.{◌≡◌, ℕ, ◌<◌, List, Option, length};
     ghost use Rattle.std.specs.Io.KnownBytes.{WriteAppends};
     ghost use Rattle.std.specs.Io.{WritesAtMost};
-    ghost use Rattle.ts_packet.specs.Transfers.{IsCounted, CountsFailure, CountsZero};
-    ghost use Rattle.ts_packet.specs.Sinks.{Tally};
+    ghost use Rattle.ts_packet.specs.declared.tally.Tally.{Tally};
+    ghost use Rattle.ts_packet.specs.Transfers.{IsCounted, CountsFailure, CountsZero, halts};
 
     /// The bytes that it holds, where they are known.
     ghost contents: { Self → Option (List ℕ) };
 
-    /// How many writes were made, how many of them failed, and how many took no byte, each up to the greatest u64.
+    /// What it counts of its writes.
     ghost counts: { Self → Tally };
 
-    /// Writes a front of the buffer, and answers how many bytes it took.
+    /// Writes a front of the buffer, which is not empty, and answers how many bytes it took.
     fn write(&mut self, buf: &[u8]) -> Result<usize, DeviceFault>
+        requires some { 0 < length buf.now }
         ensures bound { WritesAtMost result buf.now }
         ensures bytes { WriteAppends (contents self.old) (contents self.new) result buf.now }
         ensures calls { IsCounted (counts self.old).calls (counts self.new).calls }
         ensures failures { CountsFailure result (counts self.old).failed (counts self.new).failed }
-        ensures zeros { CountsZero result (counts self.old).zeros (counts self.new).zeros };
+        ensures zeros { CountsZero result (counts self.old).zeros (counts self.new).zeros }
+        ensures halted { (counts self.new).halted ≡ halts result };
 }
 
 /// A reader or a writer of std, with its counts.
 #[derive(Drop)]
 pub struct Device<T> {
     inner: T,
-    calls: u64,
-    failures: u64,
-    zeros: u64,
+    tally: Tally,
 }
 
 impl<T> Device<T> {
     ghost use Rattle.std.specs.Prelude.{◌≡◌};
+    ghost use Rattle.ts_packet.specs.Transfers.{no_tally};
 
     /// The device over this reader or writer, with no call made.
     pub fn new(inner: T) -> Device<T>
         ensures inner { result.inner ≡ inner }
-        ensures calls { result.calls ≡ 0 }
-        ensures failures { result.failures ≡ 0 }
-        ensures zeros { result.zeros ≡ 0 }
+        ensures tally { result.tally ≡ no_tally }
     {
         Device {
             inner,
-            calls: 0,
-            failures: 0,
-            zeros: 0,
+            tally: Tally::new(),
         }
     }
 
@@ -89,36 +91,33 @@ impl<T> Device<T> {
     pub fn into_inner(self) -> T
         ensures { result ≡ self.inner }
     {
-        let Device {
-            inner,
-            calls: _,
-            failures: _,
-            zeros: _,
-        } = self;
+        let Device { inner, tally: _ } = self;
         inner
+    }
+}
+
+/// Why a call gave nothing, by the error of std that it answered.
+fn fault_of(error: &io::Error) -> DeviceFault {
+    if error.kind() == io::ErrorKind::Interrupted {
+        DeviceFault::Interrupted
+    } else {
+        DeviceFault::Failed
     }
 }
 
 impl<R: Read> Source for Device<R> {
     ghost remaining = { λ d. R.remaining d.inner };
 
-    ghost calls = { λ d. d.calls };
-
-    ghost failures = { λ d. d.failures };
+    ghost counts = { λ d. d.tally };
 
     #[inline(always)]
     fn read(&mut self, buf: &mut [u8]) -> Result<usize, DeviceFault> {
-        self.calls = self.calls.saturating_add(1);
-        match self.inner.read(buf) {
+        let answer = match self.inner.read(buf) {
             Ok(n) => Ok(n),
-            Err(e) => {
-                if e.kind() == io::ErrorKind::Interrupted {
-                    return Err(DeviceFault::Interrupted);
-                }
-                self.failures = self.failures.saturating_add(1);
-                Err(DeviceFault::Failed)
-            }
-        }
+            Err(e) => Err(fault_of(&e)),
+        };
+        self.tally.count(&answer);
+        answer
     }
 }
 
@@ -130,12 +129,12 @@ pub struct Buffered<R: Read> {
 
 impl<R: Read> Buffered<R> {
     ghost use Rattle.std.specs.Prelude.{◌≡◌};
+    ghost use Rattle.ts_packet.specs.Transfers.{no_tally};
 
     /// The device over this reader, with no call made.
     pub fn new(reader: BufReader<R>) -> Buffered<R>
         ensures inner { result.device.inner ≡ reader }
-        ensures calls { result.device.calls ≡ 0 }
-        ensures failures { result.device.failures ≡ 0 }
+        ensures tally { result.device.tally ≡ no_tally }
     {
         Buffered {
             device: Device::new(reader),
@@ -156,9 +155,7 @@ impl<R: Read> Source for Buffered<R> {
 
     ghost remaining = { λ b. reader_remaining R.remaining b.device.inner };
 
-    ghost calls = { λ b. b.device.calls };
-
-    ghost failures = { λ b. b.device.failures };
+    ghost counts = { λ b. b.device.tally };
 
     #[inline(always)]
     fn read(&mut self, buf: &mut [u8]) -> Result<usize, DeviceFault> {
@@ -168,7 +165,7 @@ impl<R: Read> Source for Buffered<R> {
         }
         buf.copy_from_slice(&self.device.inner.buffer()[..count]);
         self.device.inner.consume(count);
-        self.device.calls = self.device.calls.saturating_add(1);
+        self.device.tally.count(&Ok(count));
         Ok(count)
     }
 }
@@ -176,25 +173,15 @@ impl<R: Read> Source for Buffered<R> {
 impl<W: io::Write> Target for Device<W> {
     ghost contents = { λ d. W.contents d.inner };
 
-    ghost counts = { λ d. record { calls = d.calls; failed = d.failures; zeros = d.zeros } };
+    ghost counts = { λ d. d.tally };
 
     #[inline(always)]
     fn write(&mut self, buf: &[u8]) -> Result<usize, DeviceFault> {
-        self.calls = self.calls.saturating_add(1);
-        match self.inner.write(buf) {
-            Ok(n) => {
-                if n == 0 {
-                    self.zeros = self.zeros.saturating_add(1);
-                }
-                Ok(n)
-            }
-            Err(e) => {
-                if e.kind() == io::ErrorKind::Interrupted {
-                    return Err(DeviceFault::Interrupted);
-                }
-                self.failures = self.failures.saturating_add(1);
-                Err(DeviceFault::Failed)
-            }
-        }
+        let answer = match self.inner.write(buf) {
+            Ok(n) => Ok(n),
+            Err(e) => Err(fault_of(&e)),
+        };
+        self.tally.count(&answer);
+        answer
     }
 }

@@ -1,6 +1,6 @@
 //! Which payload packets of a PID are originals, and which are duplicates.
 
-ghost use Rattle.std.specs.Prelude.{◌≡◌, ℕ, List, [], ◌∷◌};
+ghost use Rattle.std.specs.Prelude.{◌≡◌, ℕ, ◌<◌, List, [], ◌∷◌};
 
 use crate::packet::Packet;
 use crate::pid::Pid;
@@ -20,6 +20,7 @@ pub struct Last {
 pub struct Mark {
     counter: u8,
     is_repeat: bool,
+    ghost below: { counter < 16 },
 }
 
 impl Mark {
@@ -47,7 +48,7 @@ pub struct Follower {
 
 impl Follower {
     ghost use Rattle.ts_packet.specs.Following.{Follows, kept_after};
-    ghost use Rattle.ts_packet.specs.Duplicates.{original, repeats_last, last_of};
+    ghost use Rattle.ts_packet.specs.Duplicates.{original, repeats_last, last_of, follows_on, is_gap};
 
     /// A follower of this PID, which has met no packet.
     pub fn new(pid: Pid) -> Follower
@@ -72,6 +73,34 @@ impl Follower {
             is_repeat,
         });
         !is_repeat
+    }
+
+    /// Whether packets of the PID are missing before this one, which is to be fed next: it is an original, and its counter is not
+    /// one past that of the payload packet before it. `kept` is as for `feed`.
+    #[inline(always)]
+    pub fn has_gap(&self, packet: &Packet, kept: &Packet) -> bool
+        ensures { (pid : ℕ) (past : List (List ℕ)) → Follows self.now kept.now pid past → result ≡ is_gap pid packet.now past }
+    {
+        if !packet.has_payload_on(self.pid) {
+            return false;
+        }
+        let is_duplicate = self.is_repeated(packet, kept);
+        if is_duplicate {
+            return false;
+        }
+        !self.follows_on(packet)
+    }
+
+    /// The packet's counter is one past that of the last payload packet.
+    #[inline(always)]
+    #[tactic(auto, using(crate::proofs::HistoryLemmas::goes_on, crate::proofs::HistoryLemmas::begins))]
+    fn follows_on(&self, packet: &Packet) -> bool
+        ensures { (kept : List ℕ) (pid : ℕ) (past : List (List ℕ)) → Follows self.now kept pid past → result ≡ follows_on packet.now (last_of pid past) }
+    {
+        match &self.last {
+            Some(mark) => packet.counter() == (mark.counter + 1) % 16,
+            None => true,
+        }
     }
 
     /// The last payload packet says that this one is its duplicate.

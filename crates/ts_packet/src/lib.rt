@@ -13,6 +13,8 @@ pub mod pcr_only;
 pub mod pid;
 pub mod reader;
 pub mod sink;
+pub mod source;
+pub mod tally;
 #[cfg(test)]
 mod tests;
 pub mod transfer;
@@ -26,4 +28,6 @@ pub use packet::{Packet, PacketFault};
 pub use pid::Pid;
 pub use reader::{PacketReader, ReadFault};
 pub use sink::{PacketSink, PutFault};
+pub use source::PacketSource;
+pub use tally::Tally;
 pub use writer::PacketWriter;

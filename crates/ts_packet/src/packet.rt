@@ -1,15 +1,17 @@
 //! One transport packet.
 
-ghost use Rattle.std.specs.Prelude.{◌≡◌, ℕ, List, ◌+◌, ◌*◌, ◌/◌, ◌%◌, ◌<◌, ◌≤◌, slice_index, slice_set, length, Some, None, Ok, Err, option_map, if◌then◌else◌, drop, IsTrue, ◌↔◌, true, false, is_some, IfOk, IfErr};
+ghost use Rattle.std.specs.Prelude.{◌≡◌, ℕ, List, ◌+◌, ◌*◌, ◌/◌, ◌%◌, ◌<◌, ◌≤◌, slice_index, slice_set, length, Some, None, Ok, Err, option_map, if◌then◌else◌, drop, IsTrue, ◌↔◌, true, false, is_some, IfOk, OnErr, ◌^◌};
 ghost use Rattle.ts_packet.specs.Fields.{in_error, unit_start, pid_of, scrambled, number, payload, random_access, pcr, with_number, renumbered, has_adaptation, on, payload_on, carries, alike};
 ghost use Rattle.ts_packet.specs.Packets.{packet_fault, or_fault, null_packet};
 ghost use Rattle.ts_packet.specs.Clock.{clock_packet};
-ghost use Rattle.ts_packet.specs.Transfers.{Filled, FillBlamed};
+ghost use Rattle.ts_packet.specs.Transfers.{Filled, FallsShort, FillCounts};
+ghost use Rattle.ts_packet.specs.Sinks.{Later};
 
 use crate::device::Source;
 use crate::pid::Pid;
 use crate::transfer::{FillFault, fill};
 use std::marker::Model;
+use thiserror::Error;
 
 /// The bytes of a transport packet.
 pub const PACKET_SIZE: usize = 188;
@@ -18,11 +20,13 @@ pub const PACKET_SIZE: usize = 188;
 pub const SYNC_BYTE: u8 = 0x47;
 
 /// Why 188 bytes are no packet.
-#[derive(Clone, Copy, Debug, PartialEq, Eq, Drop)]
+#[derive(Clone, Copy, Debug, PartialEq, Eq, Drop, Error)]
 pub enum PacketFault {
     /// The first byte is not 0x47.
+    #[error("a packet that does not begin with the sync byte")]
     SyncLost,
     /// adaptation_field_length is over 183 for a packet without payload, or over 182 for one with a payload.
+    #[error("an adaptation field that does not fit its packet")]
     BadAdaptation,
 }
 
@@ -97,9 +101,10 @@ impl Packet {
     pub(crate) fn fill_from<S: Source>(&mut self, source: &mut S) -> Result<usize, FillFault>
         ensures size { length self.new ≡ 188 }
         ensures ok { IfOk result (λ n. Filled (S.remaining source.old) (S.remaining source.new) self.new n) }
-        ensures blamed { IfErr result (λ f. FillBlamed f (S.calls source.old) (S.calls source.new) (S.failures source.old) (S.failures source.new)) }
-        ensures calls { S.calls source.old ≤ S.calls source.new }
-        ensures failures { S.failures source.old ≤ S.failures source.new }
+        ensures err { OnErr result (FallsShort 188 (S.remaining source.old) (S.remaining source.new)) }
+        ensures counts { FillCounts (2 ^ 20) 188 result (S.counts source.old) (S.counts source.new) }
+        ensures few { (S.counts source.new).calls ≤ (S.counts source.old).calls + 2 ^ 20 }
+        ensures later { Later (S.counts source.old) (S.counts source.new) }
     {
         fill(source, &mut self.bytes)
     }

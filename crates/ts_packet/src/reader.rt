@@ -1,30 +1,40 @@
 //! Packets from a device.
 
-ghost use Rattle.std.specs.Prelude.{◌≡◌, ℕ, ◌+◌, ◌^◌, ◌<◌, ◌≤◌, cond, length, IfOk, IfErr, IfSome, false, true, option_to_list};
-ghost use Rattle.ts_packet.specs.Reading.{GivesInto, Gives, Refuses, ReadBlamed, Answers};
+ghost use Rattle.std.specs.Prelude.{◌≡◌, ℕ, ◌+◌, ◌^◌, ◌<◌, ◌≤◌, cond, length, is_some, IfOk, IfErr, IfSome, false, true, option_to_list};
+ghost use Rattle.ts_packet.specs.Reading.{GivesInto, Gives, Refuses, ReadCounts, ReadBlamed, Spends, ReadAnswers};
+ghost use Rattle.ts_packet.specs.Sinks.{Later};
 
 use crate::device::Source;
 use crate::packet::{Packet, PacketFault};
+use crate::source::PacketSource;
 use crate::transfer::FillFault;
+use thiserror::Error;
 
 /// Why a reader gave no packet.
-#[derive(Clone, Copy, Debug, PartialEq, Eq, Drop)]
+#[derive(Clone, Copy, Debug, PartialEq, Eq, Drop, Error)]
 pub enum ReadFault {
     /// The bytes end with 1 to 187 that are no whole packet.
+    #[error("the input ends in the middle of a packet")]
     Truncated,
     /// The next packet's first byte is not 0x47 (ISO/IEC 13818-1, 2.4.3.3, sync_byte).
+    #[error("a packet that does not begin with the sync byte")]
     SyncLost,
     /// The next packet's adaptation field does not fit into it (ISO/IEC 13818-1, 2.4.3.5).
+    #[error("an adaptation field that does not fit its packet")]
     BadAdaptation,
     /// The device failed in this call.
+    #[error("the input failed")]
     Io,
     /// 2^20 reads gave no whole packet, or 2^64 - 1 packets were given.
+    #[error("too many reads for one packet")]
     Turns,
     /// The reader has answered a fault before.
+    #[error("the input has failed before")]
     Failed,
 }
 
-/// Reads packets. After a fault it answers `Failed`, and leaves its device alone; at the end of the bytes it may be asked again.
+/// Reads packets. After a fault it answers `Failed`, and leaves its device alone. A call that finds the end of the bytes reads no
+/// more behind it; the next call asks again.
 #[derive(Drop)]
 pub struct PacketReader<'a, S: Source> {
     source: &'a mut S,
@@ -51,18 +61,19 @@ impl<'a, S: Source> PacketReader<'a, S> {
     /// the slot is open.
     #[inline(always)]
     pub fn read_into(&mut self, packet: &mut Packet) -> Result<bool, ReadFault>
-        ensures exact { self.old.is_broken ≡ false → IfSome (S.remaining self.old.source.now) (λ bs. Answers bs result) }
+        ensures exact { self.old.is_broken ≡ false → IfSome (S.remaining self.old.source.now) (λ bs. ReadAnswers bs result) }
         ensures same { self.new.source.ghost_name ≡ self.old.source.ghost_name }
         ensures ok { IfOk result (λ more. GivesInto (S.remaining self.old.source.now) (S.remaining self.new.source.now) more packet.new) }
         ensures err { IfErr result (λ f. Refuses self.old.is_broken (S.remaining self.old.source.now) f) }
-        ensures blamed { IfErr result (λ f. ReadBlamed f self.old.given (S.calls self.old.source.now) (S.calls self.new.source.now)
-            (S.failures self.old.source.now) (S.failures self.new.source.now)) }
-        ensures calls { S.calls self.old.source.now ≤ S.calls self.new.source.now }
-        ensures failures { S.failures self.old.source.now ≤ S.failures self.new.source.now }
+        ensures spends { IfErr result (λ f. Spends f (S.remaining self.old.source.now) (S.remaining self.new.source.now)) }
+        ensures counts { IfOk result (λ more. ReadCounts more (S.counts self.old.source.now) (S.counts self.new.source.now)) }
+        ensures blamed { IfErr result (λ f. ReadBlamed f self.old.given (S.counts self.old.source.now) (S.counts self.new.source.now)) }
+        ensures few { (S.counts self.new.source.now).calls ≤ (S.counts self.old.source.now).calls + 2 ^ 20 }
+        ensures later { Later (S.counts self.old.source.now) (S.counts self.new.source.now) }
         ensures given { IfOk result (λ more. (self.old.is_broken ≡ false) × (self.new.is_broken ≡ false) × (self.new.given ≡ self.old.given + cond more 1 0)) }
         ensures counted { IfOk result (λ _. self.new.given < 2 ^ 64) }
         ensures broken { IfErr result (λ _. self.new.is_broken ≡ true) }
-        ensures failed { self.old.is_broken ≡ true → (result ≡ Err ReadFault.Failed) × (self.new.source.now ≡ self.old.source.now) }
+        ensures failed { self.old.is_broken ≡ true → (result ≡ Err ReadFault.Failed) × (self.new ≡ self.old) }
     {
         if self.is_broken {
             return Err(ReadFault::Failed);
@@ -96,14 +107,15 @@ impl<'a, S: Source> PacketReader<'a, S> {
         ensures same { self.new.source.ghost_name ≡ self.old.source.ghost_name }
         ensures ok { IfOk result (λ o. Gives (S.remaining self.old.source.now) (S.remaining self.new.source.now) o) }
         ensures err { IfErr result (λ f. Refuses self.old.is_broken (S.remaining self.old.source.now) f) }
-        ensures blamed { IfErr result (λ f. ReadBlamed f self.old.given (S.calls self.old.source.now) (S.calls self.new.source.now)
-            (S.failures self.old.source.now) (S.failures self.new.source.now)) }
-        ensures calls { S.calls self.old.source.now ≤ S.calls self.new.source.now }
-        ensures failures { S.failures self.old.source.now ≤ S.failures self.new.source.now }
+        ensures spends { IfErr result (λ f. Spends f (S.remaining self.old.source.now) (S.remaining self.new.source.now)) }
+        ensures counts { IfOk result (λ o. ReadCounts (is_some o) (S.counts self.old.source.now) (S.counts self.new.source.now)) }
+        ensures blamed { IfErr result (λ f. ReadBlamed f self.old.given (S.counts self.old.source.now) (S.counts self.new.source.now)) }
+        ensures few { (S.counts self.new.source.now).calls ≤ (S.counts self.old.source.now).calls + 2 ^ 20 }
+        ensures later { Later (S.counts self.old.source.now) (S.counts self.new.source.now) }
         ensures given { IfOk result (λ o. (self.old.is_broken ≡ false) × (self.new.is_broken ≡ false) × (self.new.given ≡ self.old.given + length (option_to_list o))) }
         ensures counted { IfOk result (λ _. self.new.given < 2 ^ 64) }
         ensures broken { IfErr result (λ _. self.new.is_broken ≡ true) }
-        ensures failed { self.old.is_broken ≡ true → (result ≡ Err ReadFault.Failed) × (self.new.source.now ≡ self.old.source.now) }
+        ensures failed { self.old.is_broken ≡ true → (result ≡ Err ReadFault.Failed) × (self.new ≡ self.old) }
     {
         let mut packet = Packet::null();
         match self.read_into(&mut packet) {
@@ -111,5 +123,35 @@ impl<'a, S: Source> PacketReader<'a, S> {
             Ok(false) => Ok(None),
             Err(fault) => Err(fault),
         }
+    }
+}
+
+impl<S: Source> PacketSource for PacketReader<'_, S> {
+    ghost use Rattle.std.specs.Prelude.{◌≡◌, false};
+    ghost use Rattle.ts_packet.specs.Transfers.{FallsShort};
+    ghost use Rattle.std.proofs.Common.{refl, ◌∙◌};
+
+    ghost left = { λ r. S.remaining r.source.now };
+
+    ghost counts = { λ r. S.counts r.source.now };
+
+    ghost given = { λ r. r.given };
+
+    ghost is_broken = { λ r. r.is_broken };
+
+    ghost has_ended = { λ r. false };
+
+    ghost leads = { λ r s. s.source.ghost_name ≡ r.source.ghost_name };
+
+    ghost falls_short = { λ r s. FallsShort 188 (S.remaining r.source.now) (S.remaining s.source.now) };
+
+    ghost leads_refl = { λ s. refl };
+
+    ghost leads_trans = { λ s t u h k. k ∙ h };
+
+    #[inline(always)]
+    #[tactic(auto, using(crate::proofs::CountLemmas::source_counts, crate::proofs::CountLemmas::source_blamed))]
+    fn read_packet(&mut self, packet: &mut Packet) -> Result<bool, ReadFault> {
+        self.read_into(packet)
     }
 }

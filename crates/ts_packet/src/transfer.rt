@@ -1,43 +1,53 @@
 //! A buffer's worth of bytes from or to a device, in as many calls as it takes.
 
-ghost use Rattle.std.specs.Prelude.{◌≡◌, ◌≢◌, ℕ, ◌<◌, ◌≤◌, length, take, IfOk, IfErr, OnOk, OnErr, false};
+ghost use Rattle.std.specs.Prelude.{◌≡◌, ◌≢◌, ℕ, ◌+◌, ◌-◌, ◌^◌, ◌<◌, ◌≤◌, length, take, IfOk, IfErr, OnOk, OnErr, false};
 ghost use Rattle.std.specs.Io.KnownBytes.{Appends};
-ghost use Rattle.ts_packet.specs.Transfers.{FillBlamed, Filled};
-ghost use Rattle.ts_packet.specs.Sinks.{Later, Blamed};
+ghost use Rattle.ts_packet.specs.Transfers.{FillCounts, Filled, FallsShort, WentWell};
+ghost use Rattle.ts_packet.specs.Sinks.{Later, Blamed, BlamedIn};
 
 use crate::device::{DeviceFault, Source, Target};
 use crate::sink::PutFault;
+use thiserror::Error;
 
-/// How many calls of a device one transfer may take behind its first.
+/// How many calls of a device one transfer may take: 2^20.
 pub const MAX_TURNS: u32 = 0x10_0000;
 
+/// How many it may take behind its first.
+const MORE_TURNS: u32 = MAX_TURNS - 1;
+
 /// Why a read gave up.
-#[derive(Clone, Copy, Debug, PartialEq, Eq, Drop)]
+#[derive(Clone, Copy, Debug, PartialEq, Eq, Drop, Error)]
 pub enum FillFault {
     /// The device failed.
+    #[error("the device failed")]
     Io,
-    /// 2^20 calls and the first did not give enough.
+    /// 2^20 calls did not give enough.
+    #[error("too many calls gave too few bytes")]
     Turns,
 }
 
 /// Reads until the buffer is full or the source ends, and answers how many bytes there are. An interrupted read is tried again.
+/// Behind a failure or the end nothing more is read.
 ///
 /// The first read stands apart: mostly it gives all, and the size of what it copies is known where this is compiled in.
 #[inline(always)]
 pub fn fill<S: Source>(source: &mut S, buf: &mut [u8]) -> Result<usize, FillFault>
     requires { 0 < length buf.old }
     ensures ok { IfOk result (λ n. Filled (S.remaining source.old) (S.remaining source.new) buf.new n) }
-    ensures blamed { IfErr result (λ f. FillBlamed f (S.calls source.old) (S.calls source.new) (S.failures source.old) (S.failures source.new)) }
-    ensures calls { S.calls source.old ≤ S.calls source.new }
-    ensures failures { S.failures source.old ≤ S.failures source.new }
+    ensures err { OnErr result (FallsShort (length buf.new) (S.remaining source.old) (S.remaining source.new)) }
+    ensures counts { FillCounts (2 ^ 20) (length buf.new) result (S.counts source.old) (S.counts source.new) }
+    ensures few { (S.counts source.new).calls ≤ (S.counts source.old).calls + 2 ^ 20 }
+    ensures later { Later (S.counts source.old) (S.counts source.new) }
 {
     match source.read(buf) {
         Ok(n) => {
             if n == 0 || n == buf.len() {
                 return Ok(n);
             }
-            let more = fill_rest(source, &mut buf[n..])?;
-            Ok(n + more)
+            match fill_rest(source, &mut buf[n..]) {
+                Ok(more) => Ok(n + more),
+                Err(fault) => Err(fault),
+            }
         }
         Err(DeviceFault::Interrupted) => fill_rest(source, buf),
         Err(DeviceFault::Failed) => Err(FillFault::Io),
@@ -50,12 +60,13 @@ pub fn fill<S: Source>(source: &mut S, buf: &mut [u8]) -> Result<usize, FillFaul
 fn fill_rest<S: Source>(source: &mut S, buf: &mut [u8]) -> Result<usize, FillFault>
     requires { 0 < length buf.old }
     ensures ok { IfOk result (λ n. Filled (S.remaining source.old) (S.remaining source.new) buf.new n) }
-    ensures blamed { IfErr result (λ f. FillBlamed f (S.calls source.old) (S.calls source.new) (S.failures source.old) (S.failures source.new)) }
-    ensures calls { S.calls source.old ≤ S.calls source.new }
-    ensures failures { S.failures source.old ≤ S.failures source.new }
+    ensures err { OnErr result (FallsShort (length buf.new) (S.remaining source.old) (S.remaining source.new)) }
+    ensures counts { FillCounts (2 ^ 20 - 1) (length buf.new) result (S.counts source.old) (S.counts source.new) }
+    ensures few { (S.counts source.new).calls ≤ (S.counts source.old).calls + (2 ^ 20 - 1) }
+    ensures later { Later (S.counts source.old) (S.counts source.new) }
 {
     let mut at = 0;
-    for _turn in 0..MAX_TURNS {
+    for _turn in 0..MORE_TURNS {
         match source.read(&mut buf[at..]) {
             Ok(0) => return Ok(at),
             Ok(n) => {
@@ -71,7 +82,8 @@ fn fill_rest<S: Source>(source: &mut S, buf: &mut [u8]) -> Result<usize, FillFau
     Err(FillFault::Turns)
 }
 
-/// Writes all the bytes. After a fault a front of them is out. An interrupted write is tried again.
+/// Writes all the bytes. After a fault a front of them is out. An interrupted write is tried again. Behind a failure, or a write
+/// that took no byte, nothing more is written.
 ///
 /// The first write stands apart, as the first read of `fill` does.
 #[inline(always)]
@@ -79,8 +91,10 @@ pub fn write_whole<W: Target>(target: &mut W, bytes: &[u8]) -> Result<(), PutFau
     requires { 0 < length bytes.now }
     ensures ok { OnOk result (Appends (W.contents target.old) (W.contents target.new) bytes.now) }
     ensures err { OnErr result ((n : ℕ) × Appends (W.contents target.old) (W.contents target.new) (take n bytes.now)) }
+    ensures well { OnOk result (WentWell (W.counts target.old) (W.counts target.new)) }
     ensures blamed { IfErr result (λ f. Blamed f (W.counts target.old) (W.counts target.new) false) }
     ensures failed { result ≢ Err PutFault.Failed }
+    ensures few { (W.counts target.new).calls ≤ (W.counts target.old).calls + 2 ^ 20 }
     ensures later { Later (W.counts target.old) (W.counts target.new) }
 {
     match target.write(bytes) {
@@ -105,12 +119,14 @@ fn write_rest<W: Target>(target: &mut W, bytes: &[u8]) -> Result<(), PutFault>
     requires { 0 < length bytes.now }
     ensures ok { OnOk result (Appends (W.contents target.old) (W.contents target.new) bytes.now) }
     ensures err { OnErr result ((n : ℕ) × Appends (W.contents target.old) (W.contents target.new) (take n bytes.now)) }
-    ensures blamed { IfErr result (λ f. Blamed f (W.counts target.old) (W.counts target.new) false) }
+    ensures well { OnOk result (WentWell (W.counts target.old) (W.counts target.new)) }
+    ensures blamed { IfErr result (λ f. BlamedIn (2 ^ 20 - 1) f (W.counts target.old) (W.counts target.new) false) }
     ensures failed { result ≢ Err PutFault.Failed }
+    ensures few { (W.counts target.new).calls ≤ (W.counts target.old).calls + (2 ^ 20 - 1) }
     ensures later { Later (W.counts target.old) (W.counts target.new) }
 {
     let mut at = 0;
-    for _turn in 0..MAX_TURNS {
+    for _turn in 0..MORE_TURNS {
         match target.write(&bytes[at..]) {
             Ok(0) => return Err(PutFault::Stuck),
             Ok(n) => {

@@ -2,10 +2,12 @@
 use Rattle.std.specs.Prelude.{All}
 use Rattle.std.proofs.Common.{◌≡◌, ◌≢◌, ℕ, ◌^◌, ◌<◌, ◌≤◌, List, [], ◌∷◌, ◌++◌, Bool, true, false, refl, sym, ap, ◌∙◌, subst, Option, None, Some, reverse, length, take, drop, arith, append_assoc, inl, inr}
 use Rattle.ts_packet.specs.Packets.{packets_of, last_part, packet_fault}
-use Rattle.ts_packet.specs.Reading.{Given, HasRead, Refuses, ReadBlamed}
+use Rattle.ts_packet.specs.Reading.{Given, HasRead, Refuses, ReadBlamed, Spends}
 use Rattle.ts_packet.specs.Runs.{seen_after}
-use Rattle.ts_packet.specs.Sinks.{Written, FailsToWrite, Tally}
-use Rattle.ts_packet.specs.Transfers.{Rose}
+use Rattle.ts_packet.specs.Sinks.{Written, FailsToWrite}
+use Rattle.ts_packet.specs.declared.tally.Tally.{Tally}
+use Rattle.ts_packet.specs.Transfers.{WentWell}
+use Rattle.ts_packet.proofs.CountLemmas.{well-trans, none-after, failed-after, blamed-after}
 use Rattle.ts_packet.specs.declared.reader.ReadFault.{ReadFault}
 use Rattle.ts_packet.specs.declared.reader.ReadFault.TheVariants as read_faults
 use Rattle.ts_packet.specs.declared.sink.PutFault.{PutFault}
@@ -14,7 +16,7 @@ use Rattle.ts_packet.proofs.PacketsLemmas.{read_more, read_all, read_before, pac
 use Rattle.unit_stream.specs.Faults.{unit_fault}
 use Rattle.unit_cut.specs.Cutting.{cut_between}
 use Rattle.unit_cut.specs.FirstFault.{or_then, as_read_fault, as_unit_fault, fault_at, first_of, fault_behind, sound_front}
-use Rattle.unit_cut.specs.Runs.{IsFirst, IsFront, Says, Stops, RunBlamed, IsSound, cut_by, HasPassed, PassFails}
+use Rattle.unit_cut.specs.Runs.{IsFirst, IsFront, Says, Stops, RunBlamed, IsSound, cut_by, HasPassed, PassFails, PassBlamed}
 use Rattle.unit_cut.specs.declared.cutter.Cutter.{Cutter}
 use Rattle.unit_cut.specs.declared.run.CutFault.{CutFault}
 use Rattle.unit_cut.specs.declared.run.CutFault.TheVariants.{Read, Scrambled, HeaderSplit, TimeJump, Sink}
@@ -76,20 +78,28 @@ read_stops (Some bs) None start out broken given cutter kept pid from len ps h s
 read_stops (Some bs) (Some rest) start out broken given cutter kept pid from len ps h stopped n fault k =
     (says start out broken given cutter kept pid from len ps bs rest h stopped n fault k, in_front start out broken given cutter kept pid from len ps bs rest h)
 
-rose_later : (n a b c : ℕ) → a ≤ b → Rose n b c → Rose n a c
-rose_later n a b c h (inl r) = inl (omega (arith, h, r))
-rose_later n a b c h (inr r) = inr r
+module _ {X : Type 0} (remaining : X → Option (List ℕ)) (counts : X → Tally) (first before now : X) (start out : Option (List ℕ)) (broken : Bool) (given : ℕ) (cutter : Cutter) (kept : List ℕ)
+    (pid from len : ℕ) (ps : List (List ℕ)) (h : HasPassed (remaining first) (remaining before) start out broken given cutter kept pid from len ps) (old new : Tally)
+    (well : WentWell (counts first) (counts before)) (wrote : WentWell old new) where
+  -- the reader stops
+  pub read_blamed : (stopped : Bool) → stopped ≡ false → (fault : ReadFault) → Refuses stopped (remaining before) fault → Spends fault (remaining before) (remaining now)
+      → ReadBlamed fault given (counts before) (counts now) → RunBlamed (Read fault) remaining counts first now old new
+  read_blamed stopped n read_faults.Io k s r = (failed-after _ _ _ well r, wrote)
+  read_blamed stopped n read_faults.Turns k s (inl r) = (inl (before, well, r, s), wrote)
+  read_blamed stopped n read_faults.Turns k s (inr r) = (inr (remaining before, ps, h.read, sym h.count ∙ r.0), wrote)
+  read_blamed stopped n read_faults.Failed k s r = let e : true ≡ false = sym k ∙ n in absurd (cc)
+  read_blamed stopped n read_faults.Truncated k s r = (none-after _ _ _ well r, wrote)
+  read_blamed stopped n read_faults.SyncLost k s r = (well-trans _ _ _ well r, wrote)
+  read_blamed stopped n read_faults.BadAdaptation k s r = (well-trans _ _ _ well r, wrote)
 
-pub read_blamed : (input left start out : Option (List ℕ)) (broken : Bool) (given : ℕ) (cutter : Cutter) (kept : List ℕ) (pid from len : ℕ) (ps : List (List ℕ))
-    → HasPassed input left start out broken given cutter kept pid from len ps → (stopped : Bool) → stopped ≡ false → (fault : ReadFault) (calls calls' calls'' failures failures' failures'' : ℕ) (old new : Tally) → Refuses stopped left fault
-    → calls ≤ calls' → failures ≤ failures' → ReadBlamed fault given calls' calls'' failures' failures'' → RunBlamed (Read fault) input calls calls'' failures failures'' old new
-read_blamed input left start out broken given cutter kept pid from len ps h stopped n read_faults.Io c c' c'' f f' f'' old new k a b r = rose_later 1 f f' f'' b r
-read_blamed input left start out broken given cutter kept pid from len ps h stopped n read_faults.Turns c c' c'' f f' f'' old new k a b (inl r) = inl (rose_later (2 ^ 20) c c' c'' a r)
-read_blamed input left start out broken given cutter kept pid from len ps h stopped n read_faults.Turns c c' c'' f f' f'' old new k a b (inr r) = inr (left, (ps, h.read, sym h.count ∙ r))
-read_blamed input left start out broken given cutter kept pid from len ps h stopped n read_faults.Failed c c' c'' f f' f'' old new k a b r = let e : true ≡ false = sym k ∙ n in absurd (cc)
-read_blamed input left start out broken given cutter kept pid from len ps h stopped n read_faults.Truncated c c' c'' f f' f'' old new k a b r = tt
-read_blamed input left start out broken given cutter kept pid from len ps h stopped n read_faults.SyncLost c c' c'' f f' f'' old new k a b r = tt
-read_blamed input left start out broken given cutter kept pid from len ps h stopped n read_faults.BadAdaptation c c' c'' f f' f'' old new k a b r = tt
+-- a packet is not passed on
+pub pass_blamed : {X : Type 0} (remaining : X → Option (List ℕ)) (counts : X → Tally) (first now : X) (old before new : Tally) (f : CutFault)
+    → WentWell (counts first) (counts now) → WentWell old before → PassBlamed f before new false → RunBlamed f remaining counts first now old new
+pass_blamed remaining counts first now old before new (Read fault) h w k = absurd k
+pass_blamed remaining counts first now old before new (Sink fault) h w k = (h, blamed-after fault old before new false w k)
+pass_blamed remaining counts first now old before new Scrambled h w k = (h, rw k w)
+pass_blamed remaining counts first now old before new HeaderSplit h w k = (h, rw k w)
+pass_blamed remaining counts first now old before new TimeJump h w k = (h, rw k w)
 
 -- ---- a packet is not passed on
 

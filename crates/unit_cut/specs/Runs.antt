@@ -1,9 +1,10 @@
 -- What a run of `cut` writes, where its devices tell their bytes, and what its faults say.
 use Rattle.std.specs.Prelude.{◌≡◌, ℕ, ◌^◌, ◌-◌, ◌⊎◌, List, [], ◌∷◌, ◌++◌, Bool, false, Option, None, Some, IfSome, All, length, take, reverse}
 use Rattle.ts_packet.specs.Packets.{packets_of, bytes_of}
-use Rattle.ts_packet.specs.Reading.{HasRead}
-use Rattle.ts_packet.specs.Sinks.{Tally, Blamed, Written}
-use Rattle.ts_packet.specs.Transfers.{Rose}
+use Rattle.ts_packet.specs.Reading.{HasRead, Stalls}
+use Rattle.ts_packet.specs.Sinks.{Blamed, Written}
+use Rattle.ts_packet.specs.declared.tally.Tally.{Tally}
+use Rattle.ts_packet.specs.Transfers.{WentWell, LastMovedNone, LastFailed}
 use Rattle.ts_packet.specs.Runs.{Seen, seen_after}
 use Rattle.ts_packet.specs.declared.reader.ReadFault.TheVariants as read_faults
 use Rattle.ts_packet.specs.declared.sink.PutFault.{PutFault}
@@ -49,19 +50,20 @@ Says (Sink put_faults.Turns) pid from length bs start out = Unit {0}
 abbrev pub Stops : CutFault → ℕ → ℕ → ℕ → Option (List ℕ) → Option (List ℕ) → Option (List ℕ) → Type 0
 Stops fault pid from length input start out = IfSome input (λ bs. Says fault pid from length bs start out × IsFront pid from length bs start out)
 
--- what a device must have done where a run stops so: the reader's calls and failures, and the writer's counts
-abbrev pub RunBlamed : CutFault → Option (List ℕ) → ℕ → ℕ → ℕ → ℕ → Tally → Tally → Type 0
-RunBlamed (Read read_faults.Io) input calls calls' failures failures' old new = Rose 1 failures failures'
-RunBlamed (Read read_faults.Turns) input calls calls' failures failures' old new =
-    Rose (2 ^ 20) calls calls' ⊎ ((left : Option (List ℕ)) × ((ps : List (List ℕ)) × HasRead input left ps × (length ps ≡ 2 ^ 64 - 1)))
-RunBlamed (Read read_faults.Failed) input calls calls' failures failures' old new = ⊥
-RunBlamed (Read read_faults.Truncated) input calls calls' failures failures' old new = Unit {0}
-RunBlamed (Read read_faults.SyncLost) input calls calls' failures failures' old new = Unit {0}
-RunBlamed (Read read_faults.BadAdaptation) input calls calls' failures failures' old new = Unit {0}
-RunBlamed Scrambled input calls calls' failures failures' old new = Unit {0}
-RunBlamed HeaderSplit input calls calls' failures failures' old new = Unit {0}
-RunBlamed TimeJump input calls calls' failures failures' old new = Unit {0}
-RunBlamed (Sink fault) input calls calls' failures failures' old new = Blamed fault old new false
+-- What the devices must have done where a run stops so. The functions are the reader's bytes and counts, and the last two what the
+-- writer counted.
+abbrev pub RunBlamed : {X : Type 0} → CutFault → (X → Option (List ℕ)) → (X → Tally) → X → X → Tally → Tally → Type 0
+RunBlamed (Read read_faults.Io) remaining counts first now old new = LastFailed (counts first) (counts now) × WentWell old new
+RunBlamed (Read read_faults.Turns) remaining counts first now old new =
+    (Stalls remaining counts first now ⊎ ((left : Option (List ℕ)) × (ps : List (List ℕ)) × HasRead (remaining first) left ps × (length ps ≡ 2 ^ 64 - 1))) × WentWell old new
+RunBlamed (Read read_faults.Failed) remaining counts first now old new = ⊥
+RunBlamed (Read read_faults.Truncated) remaining counts first now old new = LastMovedNone (counts first) (counts now) × WentWell old new
+RunBlamed (Read read_faults.SyncLost) remaining counts first now old new = WentWell (counts first) (counts now) × WentWell old new
+RunBlamed (Read read_faults.BadAdaptation) remaining counts first now old new = WentWell (counts first) (counts now) × WentWell old new
+RunBlamed Scrambled remaining counts first now old new = WentWell (counts first) (counts now) × WentWell old new
+RunBlamed HeaderSplit remaining counts first now old new = WentWell (counts first) (counts now) × WentWell old new
+RunBlamed TimeJump remaining counts first now old new = WentWell (counts first) (counts now) × WentWell old new
+RunBlamed (Sink fault) remaining counts first now old new = WentWell (counts first) (counts now) × Blamed fault old new false
 
 -- ---- on the way
 
@@ -97,9 +99,10 @@ PassFails k p ps Scrambled holds fails = (as_unit_fault (unit_fault (k.pid ∷ [
 PassFails k p ps HeaderSplit holds fails = (as_unit_fault (unit_fault (k.pid ∷ []) p (reverse ps)) ≡ Some HeaderSplit) × holds (cut_by k ps)
 PassFails k p ps TimeJump holds fails = (as_unit_fault (unit_fault (k.pid ∷ []) p (reverse ps)) ≡ Some TimeJump) × holds (cut_by k ps)
 
+-- what became of the sink's device there
 abbrev pub PassBlamed : CutFault → Tally → Tally → Bool → Type 0
 PassBlamed (Read fault) old new full = ⊥
 PassBlamed (Sink fault) old new full = Blamed fault old new full
-PassBlamed Scrambled old new full = Unit {0}
-PassBlamed HeaderSplit old new full = Unit {0}
-PassBlamed TimeJump old new full = Unit {0}
+PassBlamed Scrambled old new full = new ≡ old
+PassBlamed HeaderSplit old new full = new ≡ old
+PassBlamed TimeJump old new full = new ≡ old

@@ -3,7 +3,8 @@
 ghost use Rattle.std.specs.Prelude.{◌≡◌, ℕ, ◌≤◌, List, [], ◌∷◌, ◌++◌, Option, Some, None, OnOk, IfOk, IfErr, reverse, false};
 ghost use Rattle.ts_packet.specs.Fields.{payload_on};
 ghost use Rattle.ts_packet.specs.Following.{kept_after};
-ghost use Rattle.ts_packet.specs.Sinks.{Later, Blamed};
+ghost use Rattle.ts_packet.specs.Transfers.{WentWell, LastMovedNone};
+ghost use Rattle.ts_packet.specs.Sinks.{Blamed};
 ghost use Rattle.unit_stream.specs.Faults.{unit_fault};
 ghost use Rattle.unit_cut.specs.FirstFault.{as_cut_fault};
 ghost use Rattle.unit_cut.specs.Standing.{Cut, StandsFor, Begins};
@@ -56,6 +57,7 @@ pub(crate) fn pass<K: PacketSink>(
     ensures err { (k : Cut) (start : Option (List ℕ)) (ps : List (List ℕ)) → Begins k (packet.old ∷ reverse ps) → StandsFor cutter.old kept.now k (reverse ps) → K.holds sink.old start (cut_by k ps)
         → IfErr result (λ f. PassFails k packet.old ps f (K.holds sink.new start) (K.fails sink.new start)) }
     ensures last { IfOk result (λ is_last. is_last ≡ payload_on cutter.old.pid packet.old) }
+    ensures well { OnOk result (WentWell (K.counts sink.old) (K.counts sink.new)) }
     ensures blamed { IfErr result (λ f. PassBlamed f (K.counts sink.old) (K.counts sink.new) (K.is_full sink.new)) }
 {
     let is_last = cutter.is_payload_on_pid(packet);
@@ -80,8 +82,8 @@ pub fn cut<S: Source, W: Target>(
 ) -> Result<(), CutFault>
     ensures ok { OnOk result (CutsAll pid from length (S.remaining network.old) (W.contents out.old) (W.contents out.new)) }
     ensures err { IfErr result (λ f. Stops f pid from length (S.remaining network.old) (W.contents out.old) (W.contents out.new)) }
-    ensures blamed { IfErr result (λ f. RunBlamed f (S.remaining network.old) (S.calls network.old) (S.calls network.new)
-        (S.failures network.old) (S.failures network.new) (W.counts out.old) (W.counts out.new)) }
+    ensures counts { OnOk result (LastMovedNone (S.counts network.old) (S.counts network.new) × WentWell (W.counts out.old) (W.counts out.new)) }
+    ensures blamed { IfErr result (λ f. RunBlamed f S.remaining S.counts network.old network.new (W.counts out.old) (W.counts out.new)) }
 {
     let mut reader = PacketReader::new(network);
     let mut writer = PacketWriter::new(out);

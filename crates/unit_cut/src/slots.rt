@@ -2,7 +2,8 @@
 
 ghost use Rattle.std.specs.Prelude.{◌≡◌, ℕ, ◌≤◌, ◌<◌, ◌+◌, ◌^◌, cond, List, [], ◌∷◌, ◌++◌, Option, None, OnOk, IfOk, IfErr, reverse, false};
 ghost use Rattle.ts_packet.specs.Packets.{null_packet};
-ghost use Rattle.ts_packet.specs.Reading.{GivesInto, Refuses, ReadBlamed};
+ghost use Rattle.ts_packet.specs.Reading.{GivesInto, Refuses, ReadCounts, ReadBlamed, Spends};
+ghost use Rattle.ts_packet.specs.Transfers.{WentWell};
 ghost use Rattle.unit_stream.specs.Faults.{unit_fault};
 ghost use Rattle.unit_cut.specs.Standing.{Cut, StandsFor, Begins, read_of, kept_of};
 ghost use Rattle.unit_cut.specs.Runs.{cut_by, PassFails, PassBlamed};
@@ -40,10 +41,9 @@ impl Slots {
         ensures same { reader.new.source.ghost_name ≡ reader.old.source.ghost_name }
         ensures ok { IfOk result (λ more. GivesInto (S.remaining reader.old.source.now) (S.remaining reader.new.source.now) more (read_of self.new)) }
         ensures err { IfErr result (λ f. Refuses reader.old.is_broken (S.remaining reader.old.source.now) f) }
-        ensures blamed { IfErr result (λ f. ReadBlamed f reader.old.given (S.calls reader.old.source.now) (S.calls reader.new.source.now)
-            (S.failures reader.old.source.now) (S.failures reader.new.source.now)) }
-        ensures calls { S.calls reader.old.source.now ≤ S.calls reader.new.source.now }
-        ensures failures { S.failures reader.old.source.now ≤ S.failures reader.new.source.now }
+        ensures spends { IfErr result (λ f. Spends f (S.remaining reader.old.source.now) (S.remaining reader.new.source.now)) }
+        ensures counts { IfOk result (λ more. ReadCounts more (S.counts reader.old.source.now) (S.counts reader.new.source.now)) }
+        ensures blamed { IfErr result (λ f. ReadBlamed f reader.old.given (S.counts reader.old.source.now) (S.counts reader.new.source.now)) }
         ensures given { IfOk result (λ more. (reader.old.is_broken ≡ false) × (reader.new.is_broken ≡ false) × (reader.new.given ≡ reader.old.given + cond more 1 0)) }
         ensures counted { IfOk result (λ _. reader.new.given < 2 ^ 64) }
     {
@@ -62,6 +62,7 @@ impl Slots {
             → OnOk result ((unit_fault (k.pid ∷ []) (read_of self.old) (reverse ps) ≡ None) × StandsFor cutter.new (kept_of self.new) k (read_of self.old ∷ reverse ps) × K.holds sink.new start (cut_by k (ps ++ read_of self.old ∷ []))) }
         ensures err { (k : Cut) (start : Option (List ℕ)) (ps : List (List ℕ)) → Begins k (read_of self.old ∷ reverse ps) → StandsFor cutter.old (kept_of self.old) k (reverse ps) → K.holds sink.old start (cut_by k ps)
             → IfErr result (λ f. PassFails k (read_of self.old) ps f (K.holds sink.new start) (K.fails sink.new start)) }
+        ensures well { OnOk result (WentWell (K.counts sink.old) (K.counts sink.new)) }
         ensures blamed { IfErr result (λ f. PassBlamed f (K.counts sink.old) (K.counts sink.new) (K.is_full sink.new)) }
     {
         if self.is_odd {

@@ -20,15 +20,15 @@ loop-turn-preserved g c =
         within = grind arith;
         bytes = subst (Consumes _ _) (sym (take-filled from room w.in-Ok.n c.loop-turn.buf c.read.new.buf within w.in-Ok.ensures.bound.0) ∙ ap (λ k. take k (put_mid from room c.loop-turn.buf c.read.new.buf)) (sym w.at-is)) (Consumes-trans _ _ _ _ _ c.loop-turn.invariant.bytes w.in-Ok.ensures.bytes.0);
         turns = grind arith;
-        calls = grind arith;
-        failures = grind arith;
+        few = grind arith;
+        well = record { calls = grind arith; failed = grind arith; zeros = grind arith };
       }
       | in-Err-Interrupted w ↦ record {
         same = grind arith;
         within = grind arith;
         bytes = rw w.at-is (subst (Consumes _ _) (sym (take-put_mid_below from room c.loop-turn.buf c.read.new.buf from (le_refl _) within)) (Consumes-kept _ _ _ _ c.loop-turn.invariant.bytes w.in-Err-Interrupted.ensures.bytes));
         turns = grind arith;
-        calls = grind arith;
-        failures = grind arith;
+        few = grind arith;
+        well = record { calls = grind arith; failed = grind arith; zeros = grind arith };
       }
     ]

@@ -3,24 +3,24 @@ use Rattle.std.specs.Io.KnownBytes.{Appends}
 use Rattle.std.proofs.KnownBytes.{Appends-trans, Appends-kept}
 use Rattle.std.proofs.lemmas.List.{take_rest}
 use lib.Seq.{take-add}
-use Rattle.ts_packet.proofs.CountLemmas.{zeros-later}
 use Rattle.ts_packet.proofs.transfer.write_rest.Goals as goal
 use Rattle.ts_packet.proofs.transfer.write_rest.Goals.{in-Ok+else-at-bytes, in-Err-Interrupted}
 
 pub loop-turn-preserved : goal.loop-turn-preserved
 loop-turn-preserved g c =
-    let zeros = zeros-later _ _ _ c.write.ensures.zeros in
     elim c.match-write.branch [
       | in-Ok+else-at-bytes w ↦ record {
         within = grind arith;
         bytes = subst (Appends _ _) (ap (λ l. take c.loop-turn.at c.args.bytes.now ++ take w.in-Ok.n l) (take_rest c.args.bytes.now c.loop-turn.at) ∙ sym (take-add c.loop-turn.at w.in-Ok.n c.args.bytes.now) ∙ ap (λ k. take k c.args.bytes.now) (sym w.at-is)) (Appends-trans _ _ _ _ _ c.loop-turn.invariant.bytes w.in-Ok.ensures.bytes);
         turns = grind arith;
-        later = record { calls = grind arith; failed = grind arith; zeros = grind arith };
+        few = grind arith;
+        well = record { calls = grind arith; failed = grind arith; zeros = grind arith };
       }
       | in-Err-Interrupted w ↦ record {
         within = grind arith;
         bytes = rw w.at-is (Appends-kept _ _ _ _ c.loop-turn.invariant.bytes w.in-Err-Interrupted.ensures.bytes);
         turns = grind arith;
-        later = record { calls = grind arith; failed = grind arith; zeros = grind arith };
+        few = grind arith;
+        well = record { calls = grind arith; failed = grind arith; zeros = grind arith };
       }
     ]

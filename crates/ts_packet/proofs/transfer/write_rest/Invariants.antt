@@ -1,7 +1,6 @@
-use Rattle.std.proofs.Common.{◌<◌, length, take}
+use Rattle.std.proofs.Common.{◌+◌, ◌≤◌, ◌<◌, length, take}
 use Rattle.std.specs.Io.KnownBytes.{Appends}
-use Rattle.ts_packet.specs.Transfers.{Rose}
-use Rattle.ts_packet.specs.Sinks.{Later}
+use Rattle.ts_packet.specs.Transfers.{Rose, WentWell}
 use Rattle.ts_packet.proofs.transfer.write_rest.Given as goal
 
 abbrev pub invariant-loop-turn : goal.invariant-loop-turn
@@ -9,5 +8,6 @@ invariant-loop-turn g l = record {
   within : l.at < length l.bytes;
   bytes : Appends (g.W.Target.contents l.initial.target) (g.W.Target.contents l.target) (take l.at l.bytes);
   turns : Rose l._turn (g.W.Target.counts l.initial.target).calls (g.W.Target.counts l.target).calls;
-  later : Later (g.W.Target.counts l.initial.target) (g.W.Target.counts l.target);
+  few : (g.W.Target.counts l.target).calls ≤ (g.W.Target.counts l.initial.target).calls + l._turn;
+  well : WentWell (g.W.Target.counts l.initial.target) (g.W.Target.counts l.target);
 }

@@ -1,9 +1,9 @@
-use Rattle.std.proofs.Common.{rules, [], ◌∷◌, ◌++◌, ◌∙◌, refl, sym, subst, reverse, arith}
-use Rattle.ts_packet.specs.Sinks.{Later-refl, Later-trans}
+use Rattle.std.proofs.Common.{rules, [], ◌∷◌, ◌++◌, ◌∙◌, refl, sym, subst, reverse}
+use Rattle.ts_packet.proofs.CountLemmas.{well-refl, well-trans, none-after}
 use Rattle.unit_cut.specs.Standing.{StandsFor, read_of}
 use Rattle.unit_cut.specs.Runs.{Stops, CutsAll}
 use Rattle.unit_cut.proofs.RunLemmas.{passed_none, passed_more, ends, the_cut, is_the_cut, cut_of_fewer}
-use Rattle.unit_cut.proofs.StopLemmas.{read_stops, read_blamed, pass_stops}
+use Rattle.unit_cut.proofs.StopLemmas.{read_stops, read_blamed, pass_stops, pass_blamed}
 use Rattle.unit_cut.specs.declared.run.CutFault.TheVariants.{Read}
 use Rattle.unit_cut.proofs.run.cut.Goals as goal
 
@@ -12,9 +12,8 @@ loop-slots-init g c = record {
   source = refl;
   target = refl;
   whole = c.new-reader.ensures.whole;
-  calls = omega arith;
-  failures = omega arith;
-  later = Later-refl _;
+  well = well-refl _;
+  wrote = well-refl _;
   passed = ([], passed_none _ _ _ _ _ _ _ _ _ c.new-writer.ensures.whole c.new-reader.ensures.given (c.new-cutter.ensures _));
 }
 
@@ -28,9 +27,8 @@ loop-slots-preserved g c =
       source = c.in-Ok-true.ensures.same ∙ c.loop-slots.invariant.source;
       target = c.in_default.ensures.leads.0 ∙ c.loop-slots.invariant.target;
       whole = n.1;
-      calls = omega arith;
-      failures = omega arith;
-      later = Later-trans _ _ _ c.loop-slots.invariant.later c.in_default.ensures.leads.1;
+      well = well-trans _ _ _ c.loop-slots.invariant.well (rw c.in-Ok-true.field-0-test at c.in-Ok-true.ensures.counts);
+      wrote = well-trans _ _ _ c.loop-slots.invariant.wrote c.in_default.ensures.well;
       passed = (
         ps ++ p ∷ [],
         passed_more _ _ _ _ _ _ _ _ _ _ _ _ _ _ _ _ _ ps p h r n.2
@@ -70,12 +68,34 @@ returns-in-Err-clause-err g c =
     let named = c.loop-slots.invariant.target ∙ c.new-writer.ensures.same in
     search (rules, done, named)
 
+pub returns-in-Ok-false-clause-counts : goal.returns-in-Ok-false-clause-counts
+returns-in-Ok-false-clause-counts g c =
+    let read = none-after _ _ _ c.loop-slots.invariant.well (rw c.in-Ok-false.field-0-test at c.in-Ok-false.ensures.counts) in
+    let wrote = c.loop-slots.invariant.wrote in
+    let starts = c.new-reader.ensures.source in
+    let begins = c.new-writer.ensures.target in
+    let reader = c.in-Ok-false.ensures.same ∙ c.loop-slots.invariant.source ∙ c.new-reader.ensures.same in
+    let writer = c.loop-slots.invariant.target ∙ c.new-writer.ensures.same in
+    search (rules, read, wrote, starts, begins, reader, writer)
+
 pub returns-in-Err-clause-blamed : goal.returns-in-Err-clause-blamed
 returns-in-Err-clause-blamed g c =
     let (ps, h) = c.loop-slots.invariant.passed in
-    let done = read_blamed _ _ _ _ _ _ _ _ _ _ _ ps h c.loop-slots.reader.is_broken c.loop-slots.invariant.whole c.in-Err.fault _ _ _ _ _ _ (g.W.Target.counts c.args.out.now) (g.W.Target.counts c.loop-slots.writer.target.now)
-    c.in-Err.ensures.err c.loop-slots.invariant.calls c.loop-slots.invariant.failures c.in-Err.ensures.blamed in
-    let start = c.new-reader.ensures.source in
+    let done = read_blamed g.S.Source.remaining g.S.Source.counts _ _ c.read.new.reader.source.now _ _ _ _ _ _ _ _ _ ps h (g.W.Target.counts c.new-writer.result.target.now) (g.W.Target.counts c.loop-slots.writer.target.now)
+    c.loop-slots.invariant.well c.loop-slots.invariant.wrote c.loop-slots.reader.is_broken c.loop-slots.invariant.whole c.in-Err.fault c.in-Err.ensures.err c.in-Err.ensures.spends c.in-Err.ensures.blamed in
+    let starts = c.new-reader.ensures.source in
+    let begins = c.new-writer.ensures.target in
     let reader = c.in-Err.ensures.same ∙ c.loop-slots.invariant.source ∙ c.new-reader.ensures.same in
     let writer = c.loop-slots.invariant.target ∙ c.new-writer.ensures.same in
-    search (rules, done, start, reader, writer)
+    search (rules, done, starts, begins, reader, writer)
+
+pub returns-in-Err-pass-clause-blamed : goal.returns-in-Err-pass-clause-blamed
+returns-in-Err-pass-clause-blamed g c =
+    let read = well-trans _ _ _ c.loop-slots.invariant.well (rw c.in-Ok-true.field-0-test at c.in-Ok-true.ensures.counts) in
+    let done = pass_blamed g.S.Source.remaining g.S.Source.counts _ c.read.new.reader.source.now (g.W.Target.counts c.new-writer.result.target.now) _ (g.W.Target.counts c.pass.new.sink.target.now)
+    c.in-Err-pass.fault read c.loop-slots.invariant.wrote c.in-Err-pass.ensures.blamed in
+    let starts = c.new-reader.ensures.source in
+    let begins = c.new-writer.ensures.target in
+    let reader = c.in-Ok-true.ensures.same ∙ c.loop-slots.invariant.source ∙ c.new-reader.ensures.same in
+    let writer = c.in-Err-pass.ensures.leads.0 ∙ c.loop-slots.invariant.target ∙ c.new-writer.ensures.same in
+    search (rules, done, starts, begins, reader, writer)

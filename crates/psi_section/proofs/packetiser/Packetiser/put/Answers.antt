@@ -1,6 +1,7 @@
 use Rattle.std.proofs.Common.{subst, ℕ, ◌+◌, ◌%◌, List, [], ◌∷◌, ◌++◌, sym, ap, ◌∙◌, arith, drop, append_assoc}
 use Rattle.std.proofs.lemmas.List.{append-nil}
 use Rattle.psi_section.proofs.PacketiserLemmas.{whole_put, whole_behind, puts_more, fails_more, on_ok_more, if_err_more}
+use Rattle.ts_packet.proofs.CountLemmas.{well-trans, blamed-after}
 use Rattle.psi_section.specs.Packetising.{rest_packets}
 use Rattle.psi_section.proofs.packetiser.Packetiser.put.Goals as goal
 
@@ -46,3 +47,9 @@ returns-clause-err g c = λ start ps h.
     if_err_more c.put_rest.result
     (λ f x. fails_more a b c.put_rest.new.self first _ _ _ _ e.counted w
     (λ put p y. let P : List (List ℕ) → Type 0 = λ l. g.S.PacketSink.fails c.put_rest.new.sink start l p f in subst P (append_assoc ps (first ∷ []) put) y) x) k
+
+pub returns-clause-well : goal.returns-clause-well
+returns-clause-well g c = on_ok_more c.put_rest.result (λ x. well-trans _ _ _ c.in-Ok.ensures.well x) c.put_rest.ensures.well
+
+pub returns-clause-blamed : goal.returns-clause-blamed
+returns-clause-blamed g c = if_err_more c.put_rest.result (λ f x. blamed-after f _ _ _ _ c.in-Ok.ensures.well x) c.put_rest.ensures.blamed

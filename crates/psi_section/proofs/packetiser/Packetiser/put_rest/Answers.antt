@@ -1,4 +1,5 @@
 use Rattle.std.proofs.Common.{◌+◌, ◌%◌, [], ◌∷◌, ◌++◌, ◌∙◌, arith, drop, append_assoc}
+use Rattle.ts_packet.proofs.CountLemmas.{well-refl, well-trans, blamed-after}
 use Rattle.psi_section.specs.Packetising.{rest_packets}
 use Rattle.psi_section.proofs.PacketiserLemmas.{one_put, one_more_put, counted_more}
 use Rattle.psi_section.proofs.packetiser.Packetiser.put_rest.Goals as goal
@@ -28,6 +29,7 @@ loop-at-preserved g c =
     let m = c.min-at.ensures in
     record {
       leads = g.met.S.PacketSink.leads_trans c.args.sink.now c.loop-at.sink c.send.new.sink i.leads c.send.ensures.leads;
+      well = well-trans _ _ _ i.well e.well;
       within = omega arith;
       same_pid = e.counted.same_pid ∙ i.same_pid;
       put = (
@@ -38,3 +40,6 @@ loop-at-preserved g c =
         λ start ps h. rw (← append_assoc ps i.put.0 (p ∷ [])) (e.ok start (ps ++ i.put.0) (i.put.3 start ps h)),
       );
     }
+
+pub returns-in-Err-clause-blamed : goal.returns-in-Err-clause-blamed
+returns-in-Err-clause-blamed g c = blamed-after _ _ _ _ _ c.loop-at.invariant.well c.in-Err.ensures.blamed

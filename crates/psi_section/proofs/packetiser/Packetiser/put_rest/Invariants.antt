@@ -1,4 +1,5 @@
 use Rattle.std.proofs.Common.{◌≡◌, ℕ, ◌+◌, ◌-◌, ◌%◌, ◌≤◌, List, ◌++◌, Option, length, drop}
+use Rattle.ts_packet.specs.Transfers.{WentWell}
 use Rattle.psi_section.specs.Packetising.{rest_packets}
 use Rattle.psi_section.proofs.packetiser.Packetiser.put_rest.Given as goal
 
@@ -6,6 +7,7 @@ use Rattle.psi_section.proofs.packetiser.Packetiser.put_rest.Given as goal
 abbrev pub invariant-loop-at : goal.invariant-loop-at
 invariant-loop-at g l = record {
   leads : g.S.PacketSink.leads l.initial.sink l.sink;
+  well : WentWell (g.S.PacketSink.counts l.initial.sink) (g.S.PacketSink.counts l.sink);
   within : l.at ≤ length l.bytes;
   same_pid : l.self.pid ≡ l.initial.self.pid;
   put : (put : List (List ℕ))
