@@ -1,7 +1,7 @@
 -- What a cue asks of the events that stand (ANSI/SCTE 35, splice_insert).
 use Rattle.std.specs.Prelude.{ℕ, Bool, true, false, Option, None, Some, if◌then◌else◌}
 use Rattle.event_table.specs.declared.event.Event.{Event}
-use Rattle.scte35_codec.specs.Reading.{Reading, insert, cancel, null, other, bad}
+use Rattle.scte35_codec.specs.Reading.{CueReading, insert, cancel, null, other, bad}
 use Rattle.armed_events.specs.declared.asked.Asked.{Asked}
 use Rattle.armed_events.specs.declared.asked.Asked.TheVariants.{Start, End, Cancel, Unfit, Nothing}
 
@@ -20,7 +20,7 @@ insert_asks id out None duration program = Unfit
 insert_asks id out (Some time) duration program = if out then start_asks id time duration program else End id time
 
 -- what a section asks for, as it is read
-abbrev pub asked_of : Reading → Asked
+abbrev pub asked_of : CueReading → Asked
 asked_of (insert i avails) = insert_asks i.event i.out i.time i.length i.program
 asked_of (cancel id) = Cancel id
 asked_of null = Nothing
