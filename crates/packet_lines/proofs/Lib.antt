@@ -6,3 +6,4 @@ pub mod OutLemmas
 pub mod ReadBackLemmas
 pub mod ToldLemmas
 pub mod WholeLemmas
+pub mod TextLemmas
