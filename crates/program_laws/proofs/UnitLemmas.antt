@@ -1,7 +1,7 @@
 -- Packets that are no payload packets of switched PIDs change neither units nor times.
 use Rattle.std.proofs.Common.{◌≡◌, ℕ, ℤ, List, [], ◌∷◌, Bool, true, false, not, ◌&&◌, ◌||◌, refl, sym, ap, ◌∙◌, Option, if◌then◌else◌}
 use Rattle.std.specs.Prelude.{filter}
-use Rattle.ts_packet.specs.Fields.{payload_on, bytes, unit_start}
+use Rattle.ts_packet.specs.Fields.{payload_on, bytes, unit_start, random_access}
 use Rattle.ts_packet.specs.Duplicates.{repeats, original}
 use Rattle.ts_packet.proofs.Cases.{by_test}
 use Rattle.unit_stream.specs.Times.{begins, begins_one, high, unit_time, stamp, raised, timed}
@@ -73,7 +73,7 @@ module _ (takes : List ℕ → Bool) where
           ap (λ x. if x then timed (high switched past) (stamp p) (unit_time switched pid past) else unit_time switched pid past) (begins_not pid all p past n) ∙ i))
 
       abbrev unit_of : List ℕ → Option ℤ → TimedUnit
-      unit_of p t = record { time = t; payload = bytes p }
+      unit_of p t = record { time = t; payload = bytes p; random_access = random_access p }
 
       units_taken : (past : List (List ℕ)) → units_back switched pid past ≡ units_back switched pid (filter takes past)
       units_taken [] = refl

@@ -2,3 +2,4 @@ pub mod ClockLemmas
 pub mod UnitLemmas
 pub mod ReadingLemmas
 pub mod PieceLemmas
+pub mod RowLemmas

@@ -1,7 +1,7 @@
 -- The pieces of a reader join to units.
 use Rattle.std.proofs.Common.{◌≡◌, ℕ, List, [], ◌∷◌, ◌++◌, reverse, Bool, true, false, not, ◌&&◌, ◌||◌, refl, sym, ap, ◌∙◌, if◌then◌else◌}
 use Rattle.std.proofs.lemmas.List.{map-append}
-use Rattle.ts_packet.specs.Fields.{payload_on, bytes, unit_start}
+use Rattle.ts_packet.specs.Fields.{payload_on, bytes, unit_start, random_access}
 use Rattle.ts_packet.specs.Duplicates.{original, repeats}
 use Rattle.ts_packet.proofs.Cases.{by_test}
 use Rattle.ts_packet.proofs.RunLemmas.{map-reverse}
@@ -39,11 +39,11 @@ last_longer us bs =
 -- the units after one packet more, by the two tests
 with_by : (sw : List ℕ) (pid : ℕ) (p : List ℕ) (past : List (List ℕ)) (us : List TimedUnit) (b o : Bool) → begins pid p past ≡ b → original pid p past ≡ o
     → payloads (units_with sw pid p past us) ≡ (if b then payloads us ++ bytes p ∷ [] else (if o then reverse (first_longer (reverse (payloads us)) (bytes p)) else payloads us))
-with_by sw pid p past us true o e f = ap payloads (ap (λ t. if t then us ++ (record { time = unit_time sw pid (p ∷ past); payload = bytes p }) ∷ [] else (if original pid p past then with_last_longer us (bytes p) else us)) e)
-    ∙ map-append (λ (u : TimedUnit). u.payload) us (record { time = unit_time sw pid (p ∷ past); payload = bytes p } ∷ [])
-with_by sw pid p past us false true e f = ap payloads (ap (λ t. if t then us ++ (record { time = unit_time sw pid (p ∷ past); payload = bytes p }) ∷ [] else (if original pid p past then with_last_longer us (bytes p) else us)) e
+with_by sw pid p past us true o e f = ap payloads (ap (λ t. if t then us ++ (record { time = unit_time sw pid (p ∷ past); payload = bytes p; random_access = random_access p }) ∷ [] else (if original pid p past then with_last_longer us (bytes p) else us)) e)
+    ∙ map-append (λ (u : TimedUnit). u.payload) us (record { time = unit_time sw pid (p ∷ past); payload = bytes p; random_access = random_access p } ∷ [])
+with_by sw pid p past us false true e f = ap payloads (ap (λ t. if t then us ++ (record { time = unit_time sw pid (p ∷ past); payload = bytes p; random_access = random_access p }) ∷ [] else (if original pid p past then with_last_longer us (bytes p) else us)) e
     ∙ ap (λ t. if t then with_last_longer us (bytes p) else us) f) ∙ last_longer us (bytes p)
-with_by sw pid p past us false false e f = ap payloads (ap (λ t. if t then us ++ (record { time = unit_time sw pid (p ∷ past); payload = bytes p }) ∷ [] else (if original pid p past then with_last_longer us (bytes p) else us)) e
+with_by sw pid p past us false false e f = ap payloads (ap (λ t. if t then us ++ (record { time = unit_time sw pid (p ∷ past); payload = bytes p; random_access = random_access p }) ∷ [] else (if original pid p past then with_last_longer us (bytes p) else us)) e
     ∙ ap (λ t. if t then with_last_longer us (bytes p) else us) f)
 
 begins_by : (pid : ℕ) (p : List ℕ) (past : List (List ℕ)) (o s : Bool) → original pid p past ≡ o → unit_start p ≡ s → begins pid p past ≡ (o && s)

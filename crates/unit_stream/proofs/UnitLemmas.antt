@@ -2,7 +2,7 @@
 use Rattle.std.specs.Prelude.{ℤ, filter}
 use Rattle.std.proofs.Common.{◌≡◌, ℕ, List, [], ◌∷◌, ◌++◌, reverse, refl, sym, ap, ◌∙◌, Option, None, append_assoc}
 use Rattle.std.proofs.lemmas.List.{append-nil, reverse-append, reverse-reverse}
-use Rattle.ts_packet.specs.Fields.{unit_start, bytes}
+use Rattle.ts_packet.specs.Fields.{unit_start, bytes, random_access}
 use Rattle.ts_packet.specs.Duplicates.{original}
 use Rattle.ts_packet.specs.Runs.{seen_after}
 use Rattle.ts_packet.proofs.Cases.{by_test}
@@ -12,11 +12,11 @@ use Rattle.unit_stream.specs.Units.{TimedUnit, rest_of_unit, units_of, is_origin
 
 pub longer-longer : (us : List TimedUnit) (a b : List ℕ) → longer (longer us a) b ≡ longer us (a ++ b)
 longer-longer [] a b = refl
-longer-longer (u ∷ us) a b = ap (λ l. record { time = u.time; payload = l } ∷ us) (append_assoc u.payload a b)
+longer-longer (u ∷ us) a b = ap (λ l. record { time = u.time; payload = l; random_access = u.random_access } ∷ us) (append_assoc u.payload a b)
 
 pub longer-nil : (us : List TimedUnit) → longer us [] ≡ us
 longer-nil [] = refl
-longer-nil (u ∷ us) = ap (λ l. record { time = u.time; payload = l } ∷ us) (append-nil u.payload)
+longer-nil (u ∷ us) = ap (λ l. record { time = u.time; payload = l; random_access = u.random_access } ∷ us) (append-nil u.payload)
 
 -- the units of a past and of packets behind it: those of the past, the last one longer, and those that begin
 abbrev Glued : List ℕ → ℕ → List (List ℕ) → List (List ℕ) → Type 0
@@ -32,7 +32,7 @@ glued-more sw pid p past ps h =
     let t = timed (high sw past) (stamp p) (unit_time sw pid past) in
     by_test (original pid p past)
     (λ o. by_test (unit_start p)
-    (λ st. let e = simp (o, st) at h in simp (o, st, longer-nil) (e ∙ reverse-more (record { time = t; payload = bytes p ++ rest_of_unit S }) (units_back sw pid past) (units_of sw pid S)))
+    (λ st. let e = simp (o, st) at h in simp (o, st, longer-nil) (e ∙ reverse-more (record { time = t; payload = bytes p ++ rest_of_unit S; random_access = random_access p }) (units_back sw pid past) (units_of sw pid S)))
     (λ st. let e = simp (o, st, longer-longer) at h in simp (o, st) e))
     (λ o. let e = simp o at h in simp o e)
 
@@ -49,7 +49,7 @@ grow : (sw : List ℕ) (pid : ℕ) (p : List ℕ) (past : List (List ℕ)) → r
 grow sw pid p past =
     by_test (original pid p past)
     (λ o. by_test (unit_start p)
-    (λ s. simp (o, s) (reverse-append (record { time = timed (high sw past) (stamp p) (unit_time sw pid past); payload = bytes p } ∷ []) (units_back sw pid past)))
+    (λ s. simp (o, s) (reverse-append (record { time = timed (high sw past) (stamp p) (unit_time sw pid past); payload = bytes p; random_access = random_access p } ∷ []) (units_back sw pid past)))
     (λ s. simp (o, s, reverse-reverse)))
     (λ o. simp o)
 

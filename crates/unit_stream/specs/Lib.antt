@@ -3,4 +3,5 @@ pub mod Faults
 pub mod Units
 pub mod Carrying
 pub mod Pieces
+pub mod Rows
 pub mod Clocks

@@ -1,13 +1,15 @@
 -- The units of a run (ISO/IEC 13818-1, 2.4.3.6), as filters and maps over the packets with their pasts. The run begins after the head.
 use Rattle.std.specs.Prelude.{◌≡◌, ℕ, ℤ, ◌++◌, ◌∷◌, List, [], Bool, if◌then◌else◌, Option, filter, map, reverse, drop}
-use Rattle.ts_packet.specs.Fields.{payload_on, unit_start, bytes}
+use Rattle.ts_packet.specs.Fields.{payload_on, unit_start, bytes, random_access}
 use Rattle.ts_packet.specs.Duplicates.{original}
 use Rattle.ts_packet.specs.Runs.{Seen, seen_after}
 use Rattle.unit_stream.specs.Times.{begins, unit_time, high}
 
+-- a unit: its time, its bytes, and the random_access_indicator of its first packet
 pub record TimedUnit : Type 0 where
   pub time : Option ℤ
   pub payload : List ℕ
+  pub random_access : Bool
 
 -- the payloads up to the next start
 abbrev pub rest_of_unit : List Seen → List ℕ
@@ -18,7 +20,7 @@ rest_of_unit (s ∷ ss) = if unit_start s.packet then [] else bytes s.packet ++ 
 abbrev pub units_of : List ℕ → ℕ → List Seen → List TimedUnit
 units_of switched pid [] = []
 units_of switched pid (s ∷ ss) = if unit_start s.packet
-    then record { time = unit_time switched pid (s.packet ∷ s.past); payload = bytes s.packet ++ rest_of_unit ss } ∷ units_of switched pid ss
+    then record { time = unit_time switched pid (s.packet ∷ s.past); payload = bytes s.packet ++ rest_of_unit ss; random_access = random_access s.packet } ∷ units_of switched pid ss
     else units_of switched pid ss
 
 abbrev pub is_original : ℕ → Seen → Bool
@@ -50,12 +52,12 @@ high_behind head switched ps = high switched (reverse (behind head ps))
 
 abbrev pub longer : List TimedUnit → List ℕ → List TimedUnit
 longer [] bs = []
-longer (u ∷ us) bs = record { time = u.time; payload = u.payload ++ bs } ∷ us
+longer (u ∷ us) bs = record { time = u.time; payload = u.payload ++ bs; random_access = u.random_access } ∷ us
 
 abbrev pub units_back : List ℕ → ℕ → List (List ℕ) → List TimedUnit
 units_back switched pid [] = []
 units_back switched pid (p ∷ past) =
-    if begins pid p past then record { time = unit_time switched pid (p ∷ past); payload = bytes p } ∷ units_back switched pid past
+    if begins pid p past then record { time = unit_time switched pid (p ∷ past); payload = bytes p; random_access = random_access p } ∷ units_back switched pid past
     else (if original pid p past then longer (units_back switched pid past) (bytes p) else units_back switched pid past)
 
 -- a run's units after one more packet
@@ -64,7 +66,7 @@ with_last_longer us bs = reverse (longer (reverse us) bs)
 
 abbrev pub units_with : List ℕ → ℕ → List ℕ → List (List ℕ) → List TimedUnit → List TimedUnit
 units_with switched pid p past us =
-    if begins pid p past then us ++ record { time = unit_time switched pid (p ∷ past); payload = bytes p } ∷ []
+    if begins pid p past then us ++ record { time = unit_time switched pid (p ∷ past); payload = bytes p; random_access = random_access p } ∷ []
     else (if original pid p past then with_last_longer us (bytes p) else us)
 
 -- THE LAW OF GROWTH: one packet more begins a unit, extends the last one, or leaves the units as they are
