@@ -1,11 +1,11 @@
 -- What goes out of a splice, as packets: each network packet kept or left out, each slice unit put in, with their counters.
 use Rattle.std.specs.Prelude.{◌≡◌, ℕ, ◌+◌, ◌%◌, ◌<◌, ◌==◌, ◌++◌, ◌∷◌, List, [], Bool, true, false, ◌||◌, if◌then◌else◌, Option, None, Some, flat_map, filter}
-use Rattle.ts_packet.specs.Fields.{in_error, pid_of, number, payload_on, on, pcr, unit_start, bytes, renumbered}
-use Rattle.ts_packet.specs.Numbering.{Step, Kept, Dropped, Inserted, moved, number_out, one_past, last_number}
-use Rattle.ts_packet.specs.Duplicates.{original}
+use Rattle.ts_packet.specs.Fields.{in_error, pid_of, number, payload_on, pcr, unit_start, bytes, renumbered}
+use Rattle.ts_packet.specs.Numbering.{Step, Inserted, moved, number_out, one_past, last_number}
 use Rattle.ts_packet.specs.Clock.{clock_packet}
 use Rattle.ts_packet.specs.Runs.{seen_after}
 use Rattle.unit_stream.specs.Times.{begins}
+use Rattle.unit_stream.specs.Fates.{steps_after}
 use Rattle.unit_stream.specs.Units.{is_original, rest_of_unit}
 use Rattle.splice_laws.specs.Splicing.{SliceUnit}
 use Rattle.splice_laws.specs.Streams.{Act, Through, Insert}
@@ -42,8 +42,8 @@ put_in (q ∷ qs) counter_steps = put_in qs (Inserted ∷ counter_steps)
 -- WHAT HAPPENED ON THE PID, newest first, as the counters see it; the moves are newest first too
 abbrev pub counter_steps : Packing → ℕ → List Move → List Step
 counter_steps packed pid [] = []
-counter_steps packed pid (Keep p ∷ past) = if on pid p then Kept p ∷ counter_steps packed pid past else counter_steps packed pid past
-counter_steps packed pid (Leave p ∷ past) = if original pid p (network past) then Dropped p ∷ counter_steps packed pid past else counter_steps packed pid past
+counter_steps packed pid (Keep p ∷ past) = steps_after false pid p (network past) (counter_steps packed pid past)
+counter_steps packed pid (Leave p ∷ past) = steps_after true pid p (network past) (counter_steps packed pid past)
 counter_steps packed pid (Put q u ∷ past) = if q == pid then put_in (packed q u (one_past (last_number (counter_steps packed pid past)))) (counter_steps packed pid past) else counter_steps packed pid past
 
 -- a network packet on its way out: with the counter `number_out`; one marked in error as it is

@@ -12,13 +12,14 @@ use Rattle.ts_packet.proofs.PacketsLemmas.{packets_of-append, packets_of-cons}
 use Rattle.hex_digits.specs.Digits.{digits_of}
 use Rattle.hex_digits.proofs.DigitLemmas.{length-digits_of, digits_of-append}
 use Rattle.std.proofs.lemmas.List.{take_at}
-use Rattle.unit_cut.specs.Cutting.{cut, cut_between, gone, is_cut, kept_as, inside}
-use Rattle.ts_packet.specs.declared.reader.ReadFault.TheVariants as read_faults
-use Rattle.ts_packet.specs.declared.sink.PutFault.TheVariants as put_faults
-use Rattle.unit_cut.specs.FirstFault.{fault_at, sound_front, before_fault}
+use Rattle.ts_packet.specs.Numbering.{moved}
+use Rattle.unit_stream.specs.Fates.{is_cut, steps, numbered}
+use Rattle.unit_cut.specs.Cutting.{cut, cut_between, inside}
+use Rattle.ts_packet.specs.FirstFault.{sound_front}
+use Rattle.ts_packet.proofs.FirstFaultLemmas.{says_so}
+use Rattle.unit_cut.specs.FirstFault.{fault_at, before_fault, cut_cause}
 use Rattle.unit_cut.specs.Runs.{CutsAll, IsFront, IsFirst, Says, Stops}
 use Rattle.unit_cut.specs.declared.run.CutFault.{CutFault}
-use Rattle.unit_cut.specs.declared.run.CutFault.TheVariants.{Read, Scrambled, HeaderSplit, TimeJump, Sink}
 use Rattle.packet_lines.specs.declared.lines.LinesFault.{LinesFault}
 use Rattle.packet_lines.specs.declared.lines.LinesFault.TheVariants.{BadLine, Cut}
 use Rattle.packet_lines.specs.CutLines.{HasLines, HasFront, CutsLines, IsFirstOfLines, SaysOfLines, StopsLines}
@@ -46,11 +47,11 @@ renumbered_sized : (n : ℕ) (p : List ℕ) → length p ≡ 188 → length (ren
 unfolding renumbered with_number
 renumbered_sized n p size = omega (arith, size, length-drop 4 p)
 
-kept_sized : (goes : Option ℤ → Bool) (switched : List ℕ) (pid : ℕ) (p : List ℕ) (past : List (List ℕ)) → length p ≡ 188 → length (kept_as goes switched pid p past) ≡ 188
+kept_sized : (goes : Option ℤ → Bool) (switched : List ℕ) (pid : ℕ) (p : List ℕ) (past : List (List ℕ)) → length p ≡ 188 → length (numbered pid p (steps goes switched pid past)) ≡ 188
 kept_sized goes switched pid p past size = by_case (on pid p)
   where
-    by_case : (b : Bool) → length (if b then renumbered (15 * gone goes switched pid past) p else p) ≡ 188
-    by_case true = renumbered_sized (15 * gone goes switched pid past) p size
+    by_case : (b : Bool) → length (if b then renumbered (moved (steps goes switched pid past)) p else p) ≡ 188
+    by_case true = renumbered_sized (moved (steps goes switched pid past)) p size
     by_case false = size
 
 seen_sized : (past ps : List (List ℕ)) → All (λ p. length p ≡ 188) ps → All (λ (s : Seen). length s.packet ≡ 188) (seen_after past ps)
@@ -60,10 +61,10 @@ seen_sized past (p ∷ ps) sizes =
     (All-head (λ q. length q ≡ 188) p ps sizes) (seen_sized (p ∷ past) ps (All-tail (λ q. length q ≡ 188) p ps sizes))
 
 kept_all : (goes : Option ℤ → Bool) (switched : List ℕ) (pid : ℕ) (ss : List Seen) → All (λ (s : Seen). length s.packet ≡ 188) ss →
-    All (λ p. length p ≡ 188) (map (λ (s : Seen). kept_as goes switched pid s.packet s.past) ss)
+    All (λ p. length p ≡ 188) (map (λ (s : Seen). numbered pid s.packet (steps goes switched pid s.past)) ss)
 kept_all goes switched pid [] sizes = All-nil (λ p. length p ≡ 188)
 kept_all goes switched pid (s ∷ ss) sizes =
-    All-cons (λ p. length p ≡ 188) (kept_as goes switched pid s.packet s.past) (map (λ (s : Seen). kept_as goes switched pid s.packet s.past) ss)
+    All-cons (λ p. length p ≡ 188) (numbered pid s.packet (steps goes switched pid s.past)) (map (λ (s : Seen). numbered pid s.packet (steps goes switched pid s.past)) ss)
     (kept_sized goes switched pid s.packet s.past (All-head (λ (s : Seen). length s.packet ≡ 188) s ss sizes))
     (kept_all goes switched pid ss (All-tail (λ (s : Seen). length s.packet ≡ 188) s ss sizes))
 
@@ -316,14 +317,14 @@ pub record Ran (input left start begin known : Option (List ℕ)) (sent : ℕ) (
   pub grown : HasGrown begin known
   pub first : (s : List ℕ) → begin ≡ Some s → start ≡ Some []
 
-sound_sized : (pid : ℕ) (ss : List Seen) → All (λ (s : Seen). length s.packet ≡ 188) ss → All (λ p. length p ≡ 188) (sound_front pid ss)
+sound_sized : (pid : ℕ) (ss : List Seen) → All (λ (s : Seen). length s.packet ≡ 188) ss → All (λ p. length p ≡ 188) (sound_front (fault_at pid) ss)
 sound_sized pid [] sizes = All-nil (λ p. length p ≡ 188)
 sound_sized pid (s ∷ ss) sizes =
     by_fault (fault_at pid s) (All-head (λ (t : Seen). length t.packet ≡ 188) s ss sizes) (sound_sized pid ss (All-tail (λ (t : Seen). length t.packet ≡ 188) s ss sizes))
   where
-    by_fault : (o : Option CutFault) → length s.packet ≡ 188 → All (λ p. length p ≡ 188) (sound_front pid ss) →
-        All (λ p. length p ≡ 188) (elim o [ None ↦ s.packet ∷ sound_front pid ss | Some fault ↦ [] ])
-    by_fault None size rest = All-cons (λ p. length p ≡ 188) s.packet (sound_front pid ss) size rest
+    by_fault : (o : Option CutFault) → length s.packet ≡ 188 → All (λ p. length p ≡ 188) (sound_front (fault_at pid) ss) →
+        All (λ p. length p ≡ 188) (elim o [ None ↦ s.packet ∷ sound_front (fault_at pid) ss | Some fault ↦ [] ])
+    by_fault None size rest = All-cons (λ p. length p ≡ 188) s.packet (sound_front (fault_at pid) ss) size rest
     by_fault (Some fault) size rest = All-nil (λ p. length p ≡ 188)
 
 before_sized : (pid : ℕ) (bytes : List ℕ) → All (λ p. length p ≡ 188) (before_fault pid bytes)
@@ -339,22 +340,11 @@ module _ (pid from len : ℕ) (input left start begin known : Option (List ℕ))
       (between_sized from len pid (packets_of bytes) (packets_sized bytes)) r.grown r.first w
 
   first_is_out : (fault : CutFault) (bytes : List ℕ) → IsFirst fault pid from len bytes start (held_of sent line filled packet (behind begin known)) → IsFirstOfLines fault pid from len bytes begin known
-  first_is_out fault bytes (e, w) = (e, lines_are_out (cut_between from len pid (before_fault pid bytes)) (between_sized from len pid (before_fault pid bytes) (before_sized pid bytes)) w)
+  first_is_out fault bytes h =
+      record { first = h.first; before = lines_are_out (cut_between from len pid (before_fault pid bytes)) (between_sized from len pid (before_fault pid bytes) (before_sized pid bytes)) h.before }
 
   says_of_lines : (fault : CutFault) (bytes : List ℕ) → Says fault pid from len bytes start (held_of sent line filled packet (behind begin known)) → SaysOfLines fault pid from len bytes begin known
-  says_of_lines (Read read_faults.Io) bytes h = tt
-  says_of_lines (Read read_faults.Turns) bytes h = tt
-  says_of_lines (Read read_faults.Failed) bytes h = absurd h
-  says_of_lines (Read read_faults.Truncated) bytes h = first_is_out (Read read_faults.Truncated) bytes h
-  says_of_lines (Read read_faults.SyncLost) bytes h = first_is_out (Read read_faults.SyncLost) bytes h
-  says_of_lines (Read read_faults.BadAdaptation) bytes h = first_is_out (Read read_faults.BadAdaptation) bytes h
-  says_of_lines Scrambled bytes h = first_is_out Scrambled bytes h
-  says_of_lines HeaderSplit bytes h = first_is_out HeaderSplit bytes h
-  says_of_lines TimeJump bytes h = first_is_out TimeJump bytes h
-  says_of_lines (Sink put_faults.Failed) bytes h = absurd h
-  says_of_lines (Sink put_faults.Io) bytes h = tt
-  says_of_lines (Sink put_faults.Stuck) bytes h = tt
-  says_of_lines (Sink put_faults.Turns) bytes h = tt
+  says_of_lines fault bytes h = says_so (cut_cause fault) (first_is_out fault bytes) h
 
   -- the run went through
   pub ok_lines : CutsAll pid from len left start (held_of sent line filled packet (behind begin known)) → CutsLines pid from len input begin known

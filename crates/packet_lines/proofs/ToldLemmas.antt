@@ -2,9 +2,11 @@
 use Rattle.std.proofs.Common.{◌≡◌, ℕ, ◌+◌, ◌*◌, ◌/◌, ◌%◌, ◌<◌, ◌≤◌, ◌==◌, ◌⊎◌, inl, inr, Bool, true, false, List, [], ◌∷◌, ◌++◌, Option, Some, None, length, refl, ap, sym, ◌∙◌, arith, append_assoc, append-nil, length-append, length-drop}
 use Rattle.std.specs.Io.KnownBytes.{prepend_known}
 use Rattle.ts_packet.specs.Packets.{last_part}
-use Rattle.unit_cut.specs.FirstFault.{first_fault, or_then}
+use Rattle.ts_packet.specs.FirstFault.{or_then}
+use Rattle.ts_packet.proofs.FirstFaultLemmas.{behind_some}
+use Rattle.unit_cut.specs.FirstFault.{first_fault, cut_test}
+use Rattle.unit_cut.specs.declared.run.CutFault.TheVariants.{Read}
 use Rattle.unit_cut.specs.declared.run.CutFault.{CutFault}
-use Rattle.unit_cut.proofs.FaultLemmas.{behind_some}
 use Rattle.packet_lines.specs.Lines.{is_right, next_place, next_high, ended_byte, spelled, told}
 use Rattle.packet_lines.proofs.HeldLemmas.{prepend-nil, next_digit}
 use Rattle.packet_lines.proofs.LineLemmas.{spelled-wrong, spelled-right, told-wrong, told-end, told-digit}
@@ -119,7 +121,7 @@ told_spelled pid text none = by_text (told_either [] 0 0 text (omega arith) refl
     by_text (inr h) =
         let bytes : List ℕ = told [] 0 0 text in
         let behind : 0 < length (last_part bytes) = omega (arith, length-drop (length bytes / 188 * 188) bytes, h.size) in
-        absurd (no_fault _ _ (sym (ap (or_then _) (behind_some (last_part bytes) behind)) ∙ none))
+        absurd (no_fault _ _ (sym (ap (or_then _) (behind_some Read (cut_test pid) (last_part bytes) behind)) ∙ none))
 
 -- where it is a byte too long, a line is not
 pub told_bad : (text : List ℕ) → length (told [] 0 0 text) % 188 ≡ 1 → spelled 0 0 text ≡ None

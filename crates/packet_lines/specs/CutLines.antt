@@ -1,12 +1,10 @@
 -- What a run of `cut_lines` writes, where its reader and its writer tell their bytes, and what its faults say.
 use Rattle.std.specs.Prelude.{◌≡◌, ℕ, ◌≤◌, List, [], ◌++◌, Option, None, Some, IfSome, length, take}
 use Rattle.ts_packet.specs.Packets.{packets_of}
-use Rattle.ts_packet.specs.declared.reader.ReadFault.TheVariants as read_faults
-use Rattle.ts_packet.specs.declared.sink.PutFault.TheVariants as put_faults
 use Rattle.unit_cut.specs.Cutting.{cut_between}
-use Rattle.unit_cut.specs.FirstFault.{first_fault, before_fault}
+use Rattle.ts_packet.specs.FirstFault.{IsFirstFault, SaysBy}
+use Rattle.unit_cut.specs.FirstFault.{first_fault, before_fault, cut_cause}
 use Rattle.unit_cut.specs.declared.run.CutFault.{CutFault}
-use Rattle.unit_cut.specs.declared.run.CutFault.TheVariants.{Read, Scrambled, HeaderSplit, TimeJump, Sink}
 use Rattle.packet_lines.specs.Lines.{lines_of, spelled, told}
 use Rattle.packet_lines.specs.declared.lines.LinesFault.{LinesFault}
 use Rattle.packet_lines.specs.declared.lines.LinesFault.TheVariants.{BadLine, Cut}
@@ -29,23 +27,11 @@ HasFront known start packets =
 
 -- the fault is the first one of the bytes, and the lines of all that stood before it are out
 abbrev pub IsFirstOfLines : CutFault → ℕ → ℕ → ℕ → List ℕ → Option (List ℕ) → Option (List ℕ) → Type 0
-IsFirstOfLines fault pid from length bytes start out = (first_fault pid bytes ≡ Some fault) × HasLines out start (cut_between from length pid (before_fault pid bytes))
+IsFirstOfLines fault pid from length bytes start out = IsFirstFault (first_fault pid bytes) (HasLines out start) (cut_between from length pid (before_fault pid bytes)) fault
 
 -- a fault of the bytes is the first one; a fault of a device says nothing of them
 abbrev pub SaysOfLines : CutFault → ℕ → ℕ → ℕ → List ℕ → Option (List ℕ) → Option (List ℕ) → Type 0
-SaysOfLines (Read read_faults.Io) pid from length bytes start out = Unit {0}
-SaysOfLines (Read read_faults.Turns) pid from length bytes start out = Unit {0}
-SaysOfLines (Read read_faults.Failed) pid from length bytes start out = ⊥
-SaysOfLines (Read read_faults.Truncated) pid from length bytes start out = IsFirstOfLines (Read read_faults.Truncated) pid from length bytes start out
-SaysOfLines (Read read_faults.SyncLost) pid from length bytes start out = IsFirstOfLines (Read read_faults.SyncLost) pid from length bytes start out
-SaysOfLines (Read read_faults.BadAdaptation) pid from length bytes start out = IsFirstOfLines (Read read_faults.BadAdaptation) pid from length bytes start out
-SaysOfLines Scrambled pid from length bytes start out = IsFirstOfLines Scrambled pid from length bytes start out
-SaysOfLines HeaderSplit pid from length bytes start out = IsFirstOfLines HeaderSplit pid from length bytes start out
-SaysOfLines TimeJump pid from length bytes start out = IsFirstOfLines TimeJump pid from length bytes start out
-SaysOfLines (Sink put_faults.Failed) pid from length bytes start out = ⊥
-SaysOfLines (Sink put_faults.Io) pid from length bytes start out = Unit {0}
-SaysOfLines (Sink put_faults.Stuck) pid from length bytes start out = Unit {0}
-SaysOfLines (Sink put_faults.Turns) pid from length bytes start out = Unit {0}
+SaysOfLines fault pid from length bytes start out = SaysBy (cut_cause fault) (IsFirstOfLines fault pid from length bytes start out)
 
 -- A line of the text is no packet's; or what the cut's fault says of the bytes that are told of the text. Where a line is no
 -- packet's, these end in a byte more, so that nothing here keeps Truncated from such a text.

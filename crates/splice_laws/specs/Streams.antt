@@ -1,8 +1,8 @@
 -- All switched streams of a run at once: what goes out before each packet, and whether it passes.
-use Rattle.std.specs.Prelude.{◌≡◌, ℕ, ◌==◌, ◌++◌, ◌∷◌, ◌⊎◌, List, [], Bool, false, not, ◌&&◌, ◌||◌, if◌then◌else◌, map, flat_map, reverse, All, ℤ}
+use Rattle.std.specs.Prelude.{◌≡◌, ℕ, ◌==◌, ◌++◌, ◌∷◌, ◌⊎◌, List, [], Bool, false, not, ◌||◌, if◌then◌else◌, map, flat_map, reverse, All, ℤ, Option}
 use Rattle.ts_packet.specs.Fields.{payload_on}
 use Rattle.ts_packet.specs.Runs.{Seen, seen_after}
-use Rattle.unit_stream.specs.Times.{unit_time}
+use Rattle.unit_stream.specs.Fates.{is_left_out}
 use Rattle.splice_laws.specs.Splicing.{PlayedEvent, SliceUnit, Out, Network, Inserted, Stream, stream, closed, out_of, inserted, rest, outside, carried, carried_by}
 use Rattle.splice_laws.specs.Laws.{AreOrdered, IsConditioned, Counts}
 use Rattle.splice_laws.specs.Ends.{sent_at, unsent, carried_now, EndSoon}
@@ -36,8 +36,7 @@ on_each pids f = flat_map (λ (pid : ℕ). insert_on pid (f pid)) pids
 
 -- the packet is of a unit in an event
 abbrev pub is_dropped : List ℕ → List PlayedEvent → List ℕ → List (List ℕ) → List ℕ → Bool
-is_dropped switched xs p past [] = false
-is_dropped switched xs p past (pid ∷ pids) = (payload_on pid p && not (outside xs (unit_time switched pid (p ∷ past)))) || is_dropped switched xs p past pids
+is_dropped switched xs p past pids = is_left_out (λ (pid : ℕ) (t : Option ℤ). not (outside xs t)) switched p past pids
 
 -- before each packet the slices that it closes, then by stream what has come due of those that run; at the end by stream what is left
 abbrev pub spliced_at : List ℕ → List PlayedEvent → (ℕ → PlayedEvent → List ℕ → List (List ℕ) → List SliceUnit) → Seen → List Act

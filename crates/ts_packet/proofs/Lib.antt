@@ -10,3 +10,4 @@ pub mod ClockLemmas
 pub mod PacketsLemmas
 pub mod RunLemmas
 pub mod Renumbered
+pub mod FirstFaultLemmas

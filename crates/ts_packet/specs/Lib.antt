@@ -8,3 +8,4 @@ pub mod Sinks
 pub mod Following
 pub mod Numbering
 pub mod Clock
+pub mod FirstFault

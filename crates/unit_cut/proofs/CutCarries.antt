@@ -1,59 +1,27 @@
 -- What the kept packets carry, with no premise on counters: within a row all packets are moved by the same number, so doubles stay doubles.
 use Rattle.std.specs.Prelude.{ℤ, filter, All}
-use Rattle.std.proofs.Common.{◌≡◌, ℕ, ◌*◌, List, [], ◌∷◌, ◌++◌, Bool, true, false, not, ◌&&◌, refl, sym, ap, ◌∙◌, if◌then◌else◌, Option, None, Some, map, length, inl, inr}
+use Rattle.std.proofs.Common.{◌≡◌, ℕ, ◌*◌, List, [], ◌∷◌, ◌++◌, Bool, true, false, refl, sym, ap, ◌∙◌, if◌then◌else◌, Option, Some, map, length}
 use Rattle.std.proofs.lemmas.List.Elements.{All-head, All-tail}
-use Rattle.ts_packet.specs.declared.follower.Last.{Last}
-use Rattle.ts_packet.specs.Fields.{payload_on, unit_start, bytes, alike, renumbered}
-use Rattle.ts_packet.specs.Duplicates.{repeats, repeats_last, last_of}
+use Rattle.ts_packet.specs.Fields.{payload_on, unit_start, bytes, renumbered}
+use Rattle.ts_packet.specs.Duplicates.{repeats}
 use Rattle.ts_packet.specs.Runs.{seen_after}
 use Rattle.ts_packet.proofs.Cases.{by_test}
 use Rattle.ts_packet.proofs.FieldLemmas.{start-renumbered, payload_on-renumbered, payload_on-on, bytes-renumbered, alike-renumbered}
-use Rattle.ts_packet.proofs.HistoryLemmas.{walk_is_last}
 use Rattle.ts_packet.proofs.Renumbered.{renumbered-zero}
 use Rattle.unit_stream.specs.Times.{unit_time}
 use Rattle.unit_stream.specs.Units.{is_original, rest_of_unit, units_of, payloads, has_payload, rest_of_row}
-use Rattle.unit_stream.specs.Carrying.{IsDouble, Joins, Carries}
-use Rattle.unit_cut.specs.Cutting.{gone, staying}
+use Rattle.unit_stream.specs.Carrying.{Joins, Carries}
+use Rattle.unit_stream.proofs.RowLemmas as rows
+use Rattle.unit_stream.proofs.RowLemmas.{RowJoins}
+use Rattle.unit_cut.specs.Cutting.{staying}
+use Rattle.unit_cut.proofs.Counted.{gone, cut_is}
 use Rattle.unit_cut.specs.Laws.{CutCarriesUnits}
 use Rattle.unit_cut.proofs.InOrder.{cut_after}
 use Rattle.unit_cut.proofs.CutLemmas.{payload_on-kept}
 
--- the packet that the next one may double: the last payload packet, moved up by n, unless it is a duplicate
-abbrev pub doubled : ℕ → Option Last → Option (List ℕ)
-doubled n None = None
-doubled n (Some l) = if l.is_repeat then None else Some (renumbered n l.packet)
-
-double_both : (b : Bool) (n : ℕ) (p q : List ℕ) → alike q p && not b ≡ true → IsDouble (if b then None else Some (renumbered n q)) (renumbered n p)
-double_both true n p q h = by_test (alike q p) (λ a. let f = simp a at h in cc) (λ a. let f = simp a at h in cc)
-double_both false n p q h = rw (alike-renumbered n q p) (by_test (alike q p) (λ a. a) (λ a. let f = simp a at h in cc))
-
--- moved by the same number, a duplicate is a double
-double_kept : (n : ℕ) (p : List ℕ) (ol : Option Last) → repeats_last p ol ≡ true → IsDouble (doubled n ol) (renumbered n p)
-double_kept n p None h = cc
-double_kept n p (Some l) h = double_both l.is_repeat n p l.packet h
-
-module _ (n pid : ℕ) where
-  -- the rest of a row, moved up by n, joins to the rest of the unit
-  abbrev pub RowJoins : List (List ℕ) → List (List ℕ) → Type 0
-  RowJoins past ps = Joins (doubled n (last_of pid past)) (map (renumbered n) (rest_of_row pid (filter (has_payload pid) (seen_after past ps))))
-      (rest_of_unit (filter (is_original pid) (seen_after past ps)))
-
-  row_more : (p : List ℕ) (past ps : List (List ℕ)) → RowJoins (p ∷ past) ps → RowJoins past (p ∷ ps)
-  row_more p past ps h =
-      by_test (payload_on pid p)
-      (λ y. by_test (repeats pid p past)
-      (λ r.
-      let again = sym (walk_is_last pid p past) ∙ r in
-      let e = simp (y, r) at h in simp (y, r) (inl (double_kept n p (last_of pid past) again, e)))
-      (λ r. by_test (unit_start p)
-      (λ s. simp (y, r, s))
-      (λ s. let e = simp (y, r) at h in
-      simp (y, r, s) (inr (start-renumbered n p ∙ s, (rest_of_unit (filter (is_original pid) (seen_after (p ∷ past) ps)), ap (λ l. l ++ rest_of_unit (filter (is_original pid) (seen_after (p ∷ past) ps))) (sym (bytes-renumbered n p)), e))))))
-      (λ y. let e = simp y at h in simp y e)
-
-  pub row_joins : (past ps : List (List ℕ)) → RowJoins past ps
-  row_joins past [] = refl
-  row_joins past (p ∷ ps) = row_more p past ps (row_joins (p ∷ past) ps)
+-- the rest of a row, moved up by n, joins to the rest of the unit
+pub row_joins : (n pid : ℕ) (past ps : List (List ℕ)) → RowJoins (renumbered n) (alike-renumbered n) (start-renumbered n) (bytes-renumbered n) pid past ps
+row_joins n pid past ps = rows.row_joins (renumbered n) (alike-renumbered n) (start-renumbered n) (bytes-renumbered n) pid past ps
 
 -- a row's first packet, kept, in front of the rest
 first_kept : (q : List ℕ) (bs rest : List ℕ) (qs row left us : List (List ℕ)) → unit_start q ≡ true → bytes q ≡ bs → qs ≡ row ++ left → Joins (Some q) row rest → Carries left us
@@ -128,4 +96,4 @@ pub cut_carries_units : CutCarriesUnits
 cut_carries_units goes none sw pid ps k =
     let h = carried_after goes sw pid [] ps in
     let e = simp none at h in
-    (e.0, e.1 ∙ ap (λ l. l ++ e.0) (unmoved pid [] ps k), e.2)
+    (e.0, ap (filter (payload_on pid)) (cut_is goes sw pid ps) ∙ e.1 ∙ ap (λ l. l ++ e.0) (unmoved pid [] ps k), e.2)

@@ -1,6 +1,6 @@
 -- The kept packets of a gapless run are gapless.
 use Rattle.std.specs.Prelude.{ℤ}
-use Rattle.std.proofs.Common.{◌≡◌, ℕ, ◌*◌, List, [], ◌∷◌, Bool, false, sym, ap, ◌∙◌, Option, reverse}
+use Rattle.std.proofs.Common.{◌≡◌, ℕ, ◌*◌, List, [], ◌∷◌, Bool, false, sym, ap, ◌∙◌, subst, Option, reverse}
 use Rattle.std.proofs.lemmas.List.{reverse-reverse}
 use Rattle.ts_packet.specs.Fields.{on, payload_on, renumbered}
 use Rattle.ts_packet.specs.Duplicates.{repeats, nearest, Gapless, IsNext, IsSame, InStep}
@@ -9,7 +9,8 @@ use Rattle.ts_packet.proofs.Cases.{by_test}
 use Rattle.ts_packet.proofs.FieldLemmas.{payload_on-renumbered, payload_on-on}
 use Rattle.ts_packet.proofs.HistoryLemmas.{walk_is_last}
 use Rattle.ts_packet.proofs.RunLemmas.{nearest_is_last, gapless_glue, gapless_back}
-use Rattle.unit_cut.specs.Cutting.{is_cut, gone, kept_as, cut, cut_back}
+use Rattle.unit_stream.specs.Fates.{is_cut}
+use Rattle.unit_cut.proofs.Counted.{gone, kept_as, counted_cut, cut_back, cut_is}
 use Rattle.unit_cut.specs.Laws.{CutStaysGapless}
 use Rattle.unit_cut.proofs.InOrder.{cut_in_order}
 use Rattle.unit_cut.proofs.CutLemmas.{repeats_kept, Here, matched, next_lowered, same_lowered}
@@ -52,12 +53,12 @@ module _ (b : Option (List ℕ)) (goes : Option ℤ → Bool) (sw : List ℕ) (p
   gapless_kept [] k = tt
   gapless_kept (p ∷ past) k = gapless_more p past k (gapless_kept past k.1)
 
-  pub cut_gapless : (ps : List (List ℕ)) → IsGaplessAfter b pid ps → IsGaplessAfter b pid (cut goes sw pid ps)
+  pub cut_gapless : (ps : List (List ℕ)) → IsGaplessAfter b pid ps → IsGaplessAfter b pid (counted_cut goes sw pid ps)
   cut_gapless ps k =
       let g : Gapless b pid (reverse ps) = gapless_glue b pid [] ps tt k in
       let h = gapless_kept (reverse ps) g in
-      let e : reverse (cut goes sw pid ps) ≡ cut_back goes sw pid (reverse ps) = ap reverse (cut_in_order goes sw pid ps) ∙ reverse-reverse (cut_back goes sw pid (reverse ps)) in
-      (gapless_back b pid [] (cut goes sw pid ps) (rw e h)).1
+      let e : reverse (counted_cut goes sw pid ps) ≡ cut_back goes sw pid (reverse ps) = ap reverse (cut_in_order goes sw pid ps) ∙ reverse-reverse (cut_back goes sw pid (reverse ps)) in
+      (gapless_back b pid [] (counted_cut goes sw pid ps) (rw e h)).1
 
 pub cut_stays_gapless : CutStaysGapless
-cut_stays_gapless before goes sw pid ps k = cut_gapless before goes sw pid ps k
+cut_stays_gapless before goes sw pid ps k = subst (IsGaplessAfter before pid) (sym (cut_is goes sw pid ps)) (cut_gapless before goes sw pid ps k)

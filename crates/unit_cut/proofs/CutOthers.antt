@@ -1,11 +1,12 @@
 -- What the cut leaves as it was: the packets that are not the PID's.
 use Rattle.std.specs.Prelude.{ℤ}
-use Rattle.std.proofs.Common.{◌≡◌, ℕ, List, [], ◌∷◌, Bool, false, refl, ap, Option}
+use Rattle.std.proofs.Common.{◌≡◌, ℕ, List, [], ◌∷◌, Bool, false, refl, ap, ◌∙◌, Option}
 use Rattle.ts_packet.specs.Fields.{on, payload_on}
 use Rattle.ts_packet.specs.Runs.{others}
 use Rattle.ts_packet.proofs.Cases.{by_test}
 use Rattle.ts_packet.proofs.FieldLemmas.{on-renumbered, payload_on-on}
-use Rattle.unit_cut.specs.Cutting.{is_cut}
+use Rattle.unit_stream.specs.Fates.{is_cut}
+use Rattle.unit_cut.proofs.Counted.{cut_is}
 use Rattle.unit_cut.specs.Laws.{CutLeavesOthers}
 use Rattle.unit_cut.proofs.InOrder.{cut_after}
 
@@ -25,4 +26,4 @@ module _ (goes : Option ℤ → Bool) (sw : List ℕ) (pid : ℕ) where
   others_after past (p ∷ ps) = others_more p past ps (others_after (p ∷ past) ps)
 
 pub cut_leaves_others : CutLeavesOthers
-cut_leaves_others goes sw pid ps = others_after goes sw pid [] ps
+cut_leaves_others goes sw pid ps = ap (others pid) (cut_is goes sw pid ps) ∙ others_after goes sw pid [] ps

@@ -1,6 +1,6 @@
 -- Row by row, with no premise on counters.
 use Rattle.std.specs.Prelude.{ℤ, filter}
-use Rattle.std.proofs.Common.{◌≡◌, ℕ, List, [], ◌∷◌, ◌++◌, Bool, false, ap, if◌then◌else◌, Option, None}
+use Rattle.std.proofs.Common.{◌≡◌, ℕ, List, [], ◌∷◌, ◌++◌, Bool, false, ap, ◌∙◌, if◌then◌else◌, Option, None}
 use Rattle.ts_packet.specs.Fields.{payload_on, unit_start, renumbered, without_number}
 use Rattle.ts_packet.specs.Duplicates.{repeats}
 use Rattle.ts_packet.specs.Runs.{seen_after, uncounted}
@@ -10,6 +10,7 @@ use Rattle.unit_stream.specs.Times.{unit_time}
 use Rattle.unit_stream.specs.Units.{has_payload, rest_of_row, rows_of}
 use Rattle.unit_cut.specs.Cutting.{packets_staying}
 use Rattle.unit_cut.specs.Laws.{CutLeavesRows}
+use Rattle.unit_cut.proofs.Counted.{cut_is}
 use Rattle.unit_cut.proofs.InOrder.{cut_after}
 use Rattle.unit_cut.proofs.CutLemmas.{payload_on-kept}
 
@@ -48,4 +49,7 @@ module _ (goes : Option ℤ → Bool) (none : goes None ≡ false) (sw : List �
   rows_stay past (p ∷ ps) = rows_more p past ps (rows_stay (p ∷ past) ps)
 
 pub cut_leaves_rows : CutLeavesRows
-cut_leaves_rows goes none sw pid ps = let h = rows_stay goes none sw pid [] ps in simp none at h
+cut_leaves_rows goes none sw pid ps =
+    let h = rows_stay goes none sw pid [] ps in
+    let e = simp none at h in
+    ap (λ l. uncounted (filter (payload_on pid) l)) (cut_is goes sw pid ps) ∙ e

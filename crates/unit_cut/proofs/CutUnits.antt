@@ -12,7 +12,8 @@ use Rattle.ts_packet.proofs.RunLemmas.{map-reverse, filter-reverse, gapless_glue
 use Rattle.unit_stream.specs.Times.{unit_time}
 use Rattle.unit_stream.specs.Units.{TimedUnit, longer, units, units_back, payloads}
 use Rattle.unit_stream.proofs.UnitLemmas.{HeadTime, head_time, units_in_order}
-use Rattle.unit_cut.specs.Cutting.{gone, cut, cut_back, staying}
+use Rattle.unit_cut.specs.Cutting.{staying}
+use Rattle.unit_cut.proofs.Counted.{gone, counted_cut, cut_back, cut_is}
 use Rattle.unit_cut.specs.Laws.{CutLeavesUnits}
 use Rattle.unit_cut.proofs.InOrder.{cut_in_order}
 use Rattle.unit_cut.proofs.CutLemmas.{repeats_kept, next_kept, matched, next_of, payload_on-kept}
@@ -73,12 +74,12 @@ module _ (b : Option (List ℕ)) (goes : Option ℤ → Bool) (sw sw' : List ℕ
   units_stay (p ∷ past) k = stay_more p past k (units_stay past k.1)
 
   -- THE LAW ON UNITS, behind a head
-  pub cut_units : (ps : List (List ℕ)) → IsGaplessAfter b pid ps → payloads (units sw' pid (cut goes sw pid ps)) ≡ payloads (staying goes (units sw pid ps))
+  pub cut_units : (ps : List (List ℕ)) → IsGaplessAfter b pid ps → payloads (units sw' pid (counted_cut goes sw pid ps)) ≡ payloads (staying goes (units sw pid ps))
   cut_units ps k =
       let g : Gapless b pid (reverse ps) = gapless_glue b pid [] ps tt k in
       let back = cut_back goes sw pid (reverse ps) in
-      let left : payloads (units sw' pid (cut goes sw pid ps)) ≡ reverse (payloads (units_back sw' pid back)) =
-      ap payloads (units_in_order sw' pid (cut goes sw pid ps) ∙ ap (λ l. reverse (units_back sw' pid l)) (ap reverse (cut_in_order goes sw pid ps) ∙ reverse-reverse back))
+      let left : payloads (units sw' pid (counted_cut goes sw pid ps)) ≡ reverse (payloads (units_back sw' pid back)) =
+      ap payloads (units_in_order sw' pid (counted_cut goes sw pid ps) ∙ ap (λ l. reverse (units_back sw' pid l)) (ap reverse (cut_in_order goes sw pid ps) ∙ reverse-reverse back))
       ∙ map-reverse (λ (u : TimedUnit). u.payload) (units_back sw' pid back) in
       let right : payloads (staying goes (units sw pid ps)) ≡ reverse (payloads (staying goes (units_back sw pid (reverse ps)))) =
       ap (λ l. payloads (staying goes l)) (units_in_order sw pid ps)
@@ -87,4 +88,4 @@ module _ (b : Option (List ℕ)) (goes : Option ℤ → Bool) (sw sw' : List ℕ
       left ∙ ap reverse (units_stay (reverse ps) g) ∙ sym right
 
 pub cut_leaves_units : CutLeavesUnits
-cut_leaves_units goes sw sw' pid ps k = cut_units None goes sw sw' pid ps k
+cut_leaves_units goes sw sw' pid ps k = ap (λ l. payloads (units sw' pid l)) (cut_is goes sw pid ps) ∙ cut_units None goes sw sw' pid ps k

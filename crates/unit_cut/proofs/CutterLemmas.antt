@@ -1,19 +1,16 @@
 -- One packet through the cutter, case by case.
 use Rattle.std.specs.Prelude.{ℤ, IfSome}
-use Rattle.std.proofs.Common.{◌≡◌, ℕ, ◌+◌, ◌*◌, ◌%◌, List, [], ◌∷◌, Bool, true, false, not, refl, sym, ap, ◌∙◌, Option, None, Some, arith, ◌||◌, ◌&&◌, if◌then◌else◌, Ok, is_some}
-use Rattle.std.proofs.lemmas.List.Sums.{sum_by-cons}
-use Rattle.std.specs.Prelude.{cond}
+use Rattle.std.proofs.Common.{◌≡◌, ℕ, List, [], ◌∷◌, Bool, true, false, not, refl, sym, ap, ◌∙◌, Option, None, Some, ◌||◌, ◌&&◌, if◌then◌else◌, Ok, is_some}
 use Rattle.pes_time.specs.Line.{lift}
-use Rattle.ts_packet.specs.Fields.{on, number, payload_on, payload, scrambled, renumbered, with_number}
+use Rattle.ts_packet.specs.Fields.{on, payload_on, payload, scrambled}
 use Rattle.ts_packet.specs.Duplicates.{original, repeats}
-use Rattle.ts_packet.specs.Numbering.{Step, Kept, Dropped, moved, number_out, is_inserted, is_dropped}
+use Rattle.ts_packet.specs.Numbering.{Step, Kept, Dropped}
 use Rattle.ts_packet.proofs.Cases.{by_test}
-use Rattle.ts_packet.proofs.FieldLemmas.{payload_on-on}
 use Rattle.unit_stream.specs.Times.{begins, begins_one, high, raised, timed, unit_time, first_time, first_after, stamp, splits}
 use Rattle.unit_stream.specs.Faults.{unit_fault, start_fault, scrambled_one}
 use Rattle.unit_stream.proofs.ClockLemmas.{fault_none, fault_begun}
-use Rattle.unit_cut.specs.Cutting.{is_cut, gone, kept_as}
-use Rattle.unit_cut.specs.Standing.{Cut, goes_by, TimingFor, Begins, BeginsWith, steps, Answers}
+use Rattle.unit_stream.specs.Fates.{is_cut, steps, numbered}
+use Rattle.unit_cut.specs.Standing.{Cut, goes_by, TimingFor, Begins, BeginsWith, Answers}
 use Rattle.unit_cut.specs.declared.timing.Timing.{Timing}
 
 -- ---- fields
@@ -21,52 +18,6 @@ use Rattle.unit_cut.specs.declared.timing.Timing.{Timing}
 pub has_payload : (pid : ℕ) (p : List ℕ) → payload_on pid p ≡ true → is_some (payload p) ≡ true
 unfolding payload_on
 has_payload pid p h = by_test (on pid p) (λ o. simp o at h) (λ o. let e = simp o at h in cc)
-
-pub renumbered_is : (n m : ℕ) (p : List ℕ) → n ≡ m → with_number ((number p + n) % 16) p ≡ renumbered m p
-unfolding renumbered
-renumbered_is n m p h = rw h refl
-
--- ---- counters
-
-moved-kept : (p : List ℕ) (es : List Step) → moved (Kept p ∷ es) ≡ moved es
-moved-kept p es =
-    let a = sum_by-cons (λ e. cond (is_inserted e) 1 0) (Kept p) es in
-    let b = sum_by-cons (λ e. cond (is_dropped e) 1 0) (Kept p) es in
-    omega (arith, a, b)
-
-moved-dropped : (p : List ℕ) (es : List Step) → moved (Dropped p ∷ es) ≡ moved es + 15
-moved-dropped p es =
-    let a = sum_by-cons (λ e. cond (is_inserted e) 1 0) (Dropped p) es in
-    let b = sum_by-cons (λ e. cond (is_dropped e) 1 0) (Dropped p) es in
-    omega (arith, a, b)
-
-one_more : (m n : ℕ) → m ≡ 15 * n → m + 15 ≡ 15 * (n + 1)
-one_more m n h = omega arith
-
--- by the three tests on a packet
-moved_by : (o c n : Bool) (p : List ℕ) (es : List Step) (g : ℕ) → (c ≡ true → o ≡ true) → moved es ≡ 15 * g
-    → moved (if o then (if c then (if n then Dropped p ∷ es else es) else Kept p ∷ es) else es) ≡ 15 * (if c && n then g + 1 else g)
-moved_by true true true p es g i h = moved-dropped p es ∙ one_more _ _ h
-moved_by true true false p es g i h = h
-moved_by true false n p es g i h = moved-kept p es ∙ h
-moved_by false true n p es g i h = let e : false ≡ true = i refl in cc
-moved_by false false n p es g i h = h
-
-and_first : (a b : Bool) → a && b ≡ true → a ≡ true
-and_first true b h = refl
-and_first false b h = h
-
-module _ (goes : Option ℤ → Bool) (sw : List ℕ) (pid : ℕ) where
-  cut_on : (p : List ℕ) (past : List (List ℕ)) → is_cut goes sw pid p past ≡ true → on pid p ≡ true
-  cut_on p past h = payload_on-on pid p (and_first (payload_on pid p) _ h)
-
-  pub moved_is : (past : List (List ℕ)) → moved (steps goes sw pid past) ≡ 15 * gone goes sw pid past
-  moved_is [] = refl
-  moved_is (p ∷ past) = moved_by (on pid p) (is_cut goes sw pid p past) (original pid p past) p (steps goes sw pid past) (gone goes sw pid past) (cut_on p past) (moved_is past)
-
-  -- the number that the counter gives a packet that stays is the cut's
-  pub kept_is : (p : List ℕ) (past : List (List ℕ)) → on pid p ≡ true → with_number (number_out p (steps goes sw pid past)) p ≡ kept_as goes sw pid p past
-  kept_is p past o = simp o (renumbered_is (moved (steps goes sw pid past)) (15 * gone goes sw pid past) p (moved_is past))
 
 -- ---- faults
 
@@ -154,21 +105,21 @@ begins_before k p past h =
 -- ---- what is settled
 
 pub events_settled : (o c n r : Bool) (p : List ℕ) (es : List Step) → o ≡ true → n ≡ true → r ≡ not c
-    → (if r then Kept p ∷ es else Dropped p ∷ es) ≡ (if o then (if c then (if n then Dropped p ∷ es else es) else Kept p ∷ es) else es)
+    → (if r then Kept p ∷ es else Dropped p ∷ es) ≡ (if c then (if n then Dropped p ∷ es else es) else (if o then Kept p ∷ es else es))
 events_settled true true true r p es a b e = rw e refl
 events_settled true false true r p es a b e = rw e refl
 events_settled false c n r p es a b e = cc
 events_settled true c false r p es a b e = cc
 
 pub events_repeated : (o c n r : Bool) (p : List ℕ) (es : List Step) → o ≡ true → n ≡ false → r ≡ not c
-    → (if r then Kept p ∷ es else es) ≡ (if o then (if c then (if n then Dropped p ∷ es else es) else Kept p ∷ es) else es)
+    → (if r then Kept p ∷ es else es) ≡ (if c then (if n then Dropped p ∷ es else es) else (if o then Kept p ∷ es else es))
 events_repeated true true false r p es a b e = rw e refl
 events_repeated true false false r p es a b e = rw e refl
 events_repeated false c n r p es a b e = cc
 events_repeated true c true r p es a b e = cc
 
 pub settled : (k : Cut) (p : List ℕ) (past : List (List ℕ)) (r g : Bool) (q : List ℕ) → r ≡ not g → unit_fault (k.pid ∷ []) p past ≡ None
-    → is_cut (goes_by k) (k.pid ∷ []) k.pid p past ≡ g → (r ≡ true → q ≡ kept_as (goes_by k) (k.pid ∷ []) k.pid p past) → Answers k p past (Ok r) q
+    → is_cut (goes_by k) (k.pid ∷ []) k.pid p past ≡ g → (r ≡ true → q ≡ numbered k.pid p (steps (goes_by k) (k.pid ∷ []) k.pid past)) → Answers k p past (Ok r) q
 settled k p past true true q e f c w = cc
 settled k p past true false q e f c w = (f, c, w refl)
 settled k p past false true q e f c w = (f, c)

@@ -12,7 +12,9 @@ use Rattle.ts_packet.proofs.Cases.{by_test}
 use Rattle.ts_packet.proofs.FieldLemmas.{number-below, number-renumbered, start-renumbered, payload_on-renumbered, payload_on-on, payload-renumbered, bytes-renumbered, alike-number}
 use Rattle.unit_stream.specs.Times.{unit_time}
 use Rattle.unit_stream.specs.Units.{units, payloads}
-use Rattle.unit_cut.specs.Cutting.{is_cut, gone, kept_as, cut, staying}
+use Rattle.unit_stream.specs.Fates.{is_cut}
+use Rattle.unit_cut.specs.Cutting.{staying}
+use Rattle.unit_cut.proofs.Counted.{gone, kept_as, counted_cut, cut_is}
 use Rattle.unit_cut.specs.Laws.{GaplessIsNeeded}
 use Rattle.unit_cut.proofs.InOrder.{cut_after, cut_after-cons}
 
@@ -83,7 +85,7 @@ one_gone x k l l' e g = rw (e, g) refl
 module _ (goes : Option ℤ → Bool) (sw : List ℕ) (pid : ℕ) (a b c : List ℕ) where
   -- the first and the third stay, and one has gone between them
   two_kept : payload_on pid a ≡ true → payload_on pid c ≡ true → is_cut goes sw pid a [] ≡ false → is_cut goes sw pid b (a ∷ []) ≡ true → original pid b (a ∷ []) ≡ true → is_cut goes sw pid c (b ∷ a ∷ []) ≡ false
-      → cut goes sw pid (a ∷ b ∷ c ∷ []) ≡ renumbered 0 a ∷ renumbered 15 c ∷ []
+      → counted_cut goes sw pid (a ∷ b ∷ c ∷ []) ≡ renumbered 0 a ∷ renumbered 15 c ∷ []
   two_kept ya yc ca cb ob cg =
       let oa = payload_on-on pid a ya in
       let oc = payload_on-on pid c yc in
@@ -115,6 +117,6 @@ gapless_is_needed goes sw sw' pid p q yp sp yq sq next stays goes_q stays_again 
     let cg : is_cut goes sw pid c (q ∷ p ∷ []) ≡ false = both_are (payload_on pid c) (goes (unit_time sw pid (c ∷ q ∷ p ∷ []))) false yc stays_again in
     let left = one_unit sw' pid (renumbered 0 p) (renumbered 15 c) (payload_on-renumbered pid 0 p ∙ yp) (start-renumbered 0 p ∙ sp) (payload_on-renumbered pid 15 c ∙ yc) (around p) in
     let right = three_units goes sw pid p q c op oq oc sp sq sc stays goes_q stays_again in (
-      ap (λ l. payloads (units sw' pid l)) (two_kept goes sw pid p q c yp yc ca cb oq cg) ∙ left ∙ ap (λ x. x ∷ []) (bytes-renumbered 0 p),
+      ap (λ l. payloads (units sw' pid l)) (cut_is goes sw pid (p ∷ q ∷ c ∷ []) ∙ two_kept goes sw pid p q c yp yc ca cb oq cg) ∙ left ∙ ap (λ x. x ∷ []) (bytes-renumbered 0 p),
       right ∙ ap (λ x. bytes p ∷ x ∷ []) (bytes-renumbered 1 p),
     )

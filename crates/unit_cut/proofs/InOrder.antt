@@ -9,7 +9,9 @@ use Rattle.ts_packet.specs.Runs.{Seen, seen_after}
 use Rattle.ts_packet.proofs.Cases.{by_test}
 use Rattle.ts_packet.proofs.RunLemmas.{onto, seen_after-append, reverse-more}
 use Rattle.unit_stream.specs.Times.{unit_time}
-use Rattle.unit_cut.specs.Cutting.{is_cut, gone, kept_as, cut, cut_back}
+use Rattle.unit_stream.specs.Fates.{is_cut}
+use Rattle.unit_cut.specs.Cutting.{cut}
+use Rattle.unit_cut.proofs.Counted.{gone, kept_as, counted_cut, cut_back, cut_is}
 use Rattle.unit_cut.specs.Laws.{CutGrows}
 
 module _ (goes : Option ℤ → Bool) (sw : List ℕ) (pid : ℕ) where
@@ -31,11 +33,11 @@ module _ (goes : Option ℤ → Bool) (sw : List ℕ) (pid : ℕ) where
   cut_after-cons p past ps = by_test (is_cut goes sw pid p past) (λ c. simp c) (λ c. simp c)
 
   -- one more packet goes, or stays behind what the cut leaves of those before it
-  pub cut_snoc : (ps : List (List ℕ)) (p : List ℕ) → cut goes sw pid (ps ++ p ∷ [])
-      ≡ cut goes sw pid ps ++ (if is_cut goes sw pid p (reverse ps) then [] else kept_as goes sw pid p (reverse ps) ∷ [])
+  pub cut_snoc : (ps : List (List ℕ)) (p : List ℕ) → counted_cut goes sw pid (ps ++ p ∷ [])
+      ≡ counted_cut goes sw pid ps ++ (if is_cut goes sw pid p (reverse ps) then [] else kept_as goes sw pid p (reverse ps) ∷ [])
   cut_snoc ps p =
       cut_after-append [] ps (p ∷ [])
-      ∙ ap (λ l. cut goes sw pid ps ++ l) (cut_after-cons p (reverse ps) [] ∙ append-nil (if is_cut goes sw pid p (reverse ps) then [] else kept_as goes sw pid p (reverse ps) ∷ []))
+      ∙ ap (λ l. counted_cut goes sw pid ps ++ l) (cut_after-cons p (reverse ps) [] ∙ append-nil (if is_cut goes sw pid p (reverse ps) then [] else kept_as goes sw pid p (reverse ps) ∷ []))
 
   -- ---- newest first
 
@@ -53,11 +55,13 @@ module _ (goes : Option ℤ → Bool) (sw : List ℕ) (pid : ℕ) where
   cut_glue past (p ∷ ps) = cut_more p past ps (cut_glue (p ∷ past) ps)
 
   -- the cut of a run is the one found packet by packet
-  pub cut_in_order : (ps : List (List ℕ)) → cut goes sw pid ps ≡ reverse (cut_back goes sw pid (reverse ps))
+  pub cut_in_order : (ps : List (List ℕ)) → counted_cut goes sw pid ps ≡ reverse (cut_back goes sw pid (reverse ps))
   cut_in_order ps = sym (cut_glue [] ps)
 
 pub cut_grows : CutGrows
-cut_grows goes sw pid ps qs = (cut_after goes sw pid (reverse ps) qs, cut_after-append goes sw pid [] ps qs)
+cut_grows goes sw pid ps qs =
+    let more = cut_after goes sw pid (reverse ps) qs in
+    (more, cut_is goes sw pid (ps ++ qs) ∙ cut_after-append goes sw pid [] ps qs ∙ ap (λ l. l ++ more) (sym (cut_is goes sw pid ps)))
 
 -- ---- Two tests that agree on the times that occur cut alike.
 
@@ -96,4 +100,4 @@ module _ (goes goes' : Option ℤ → Bool) (sw : List ℕ) (pid : ℕ) where
 
   pub cut-same : (ps : List (List ℕ)) → All (λ (s : Seen). goes (unit_time sw pid (s.packet ∷ s.past)) ≡ goes' (unit_time sw pid (s.packet ∷ s.past))) (seen_after [] ps)
       → cut goes sw pid ps ≡ cut goes' sw pid ps
-  cut-same ps k = cut_same_after [] ps refl k
+  cut-same ps k = cut_is goes sw pid ps ∙ cut_same_after [] ps refl k ∙ sym (cut_is goes' sw pid ps)

@@ -1,3 +1,4 @@
+pub mod Counted
 pub mod InOrder
 pub mod CutLemmas
 pub mod CutUnits
@@ -10,7 +11,6 @@ pub mod DistanceLemmas
 pub mod CutterLemmas
 pub mod PassLemmas
 pub mod GrowLemmas
-pub mod FaultLemmas
 pub mod RunLemmas
 pub mod StopLemmas
 pub mod SlotLemmas

@@ -16,10 +16,12 @@ use Rattle.unit_stream.specs.Times.{first_time}
 use Rattle.unit_stream.specs.Faults.{unit_fault}
 use Rattle.unit_cut.specs.Cutting.{cut_between, begin_of}
 use Rattle.unit_cut.specs.Standing.{Cut, StandsFor, Begins}
-use Rattle.unit_cut.specs.FirstFault.{first_fault, or_then, first_of, fault_behind}
+use Rattle.ts_packet.specs.FirstFault.{or_then, first_of, fault_behind}
+use Rattle.ts_packet.proofs.FirstFaultLemmas.{sound_all, sound_more}
+use Rattle.unit_cut.specs.FirstFault.{first_fault, fault_at, cut_test, as_unit_fault}
+use Rattle.unit_cut.specs.declared.run.CutFault.TheVariants.{Read}
 use Rattle.unit_cut.specs.Runs.{CutsAll, IsFront, IsSound, IsCutOf, cut_by, HasPassed}
 use Rattle.unit_cut.specs.declared.cutter.Cutter.{Cutter}
-use Rattle.unit_cut.proofs.FaultLemmas.{sound_all, sound_more}
 use Rattle.unit_cut.proofs.GrowLemmas.{between_grows}
 use Rattle.unit_cut.proofs.CutterLemmas.{begins_before}
 
@@ -76,7 +78,7 @@ module _ (input left left' start out out' : Option (List ℕ)) (broken broken' :
       record {
         read = read_more input left left' ps p h.read r;
         count = g ∙ ap (λ n. n + 1) h.count ∙ sym (length-append ps (p ∷ []));
-        sound = sound_more pid ps p h.sound one.0;
+        sound = sound_more (cut_test pid) ps p h.sound (ap as_unit_fault one.0);
         whole = one.2.0;
         passed = λ k i.
             let (b, j) = cut_of_fewer k pid from len ps p i in
@@ -90,9 +92,9 @@ module _ (input left left' start out out' : Option (List ℕ)) (broken broken' :
 cuts_all : (bs : List ℕ) (start out : Option (List ℕ)) (pid from len : ℕ) (ps : List (List ℕ)) → packets_of bs ≡ ps → last_part bs ≡ [] → All (λ p. packet_fault p ≡ None) ps → IsSound pid ps
     → Written out start (cut_between from len pid ps) → (first_fault pid bs ≡ None) × Written out start (cut_between from len pid (packets_of bs))
 cuts_all bs start out pid from len ps e l a b w =
-    let all = sound_all pid ps a b in
-    let f : first_fault pid bs ≡ or_then (first_of pid (seen_after [] ps)) (fault_behind []) = ap (λ q. or_then (first_of pid (seen_after [] q)) (fault_behind (last_part bs))) e ∙ ap (λ q. or_then (first_of pid (seen_after [] ps)) (fault_behind q)) l in
-    (f ∙ ap (λ q. or_then q (fault_behind [])) all.0, subst (λ q. Written out start (cut_between from len pid q)) (sym e) w)
+    let all = sound_all Read (cut_test pid) ps a b in
+    let f : first_fault pid bs ≡ or_then (first_of (fault_at pid) (seen_after [] ps)) (fault_behind Read []) = ap (λ q. or_then (first_of (fault_at pid) (seen_after [] q)) (fault_behind Read (last_part bs))) e ∙ ap (λ q. or_then (first_of (fault_at pid) (seen_after [] ps)) (fault_behind Read q)) l in
+    (f ∙ ap (λ q. or_then q (fault_behind Read [])) all.0, subst (λ q. Written out start (cut_between from len pid q)) (sym e) w)
 
 pub ends : (input left start out : Option (List ℕ)) (broken : Bool) (given : ℕ) (cutter : Cutter) (kept : List ℕ) (pid from len : ℕ) (ps : List (List ℕ))
     → HasPassed input left start out broken given cutter kept pid from len ps → IsAtEnd left → CutsAll pid from len input start out

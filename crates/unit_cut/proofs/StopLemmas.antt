@@ -15,12 +15,13 @@ use Rattle.ts_packet.specs.declared.sink.PutFault.TheVariants as put_faults
 use Rattle.ts_packet.proofs.PacketsLemmas.{read_more, read_all, read_before, packets_of-append}
 use Rattle.unit_stream.specs.Faults.{unit_fault}
 use Rattle.unit_cut.specs.Cutting.{cut_between}
-use Rattle.unit_cut.specs.FirstFault.{or_then, as_read_fault, as_unit_fault, fault_at, first_of, fault_behind, sound_front}
+use Rattle.ts_packet.specs.FirstFault.{or_then, named, first_of, fault_behind, sound_front}
+use Rattle.ts_packet.proofs.FirstFaultLemmas.{sound_all, fault_behind_sound, behind_some}
+use Rattle.unit_cut.specs.FirstFault.{as_unit_fault, fault_at, cut_test}
 use Rattle.unit_cut.specs.Runs.{IsFirst, IsFront, Says, Stops, RunBlamed, IsSound, cut_by, HasPassed, PassFails, PassBlamed}
 use Rattle.unit_cut.specs.declared.cutter.Cutter.{Cutter}
 use Rattle.unit_cut.specs.declared.run.CutFault.{CutFault}
 use Rattle.unit_cut.specs.declared.run.CutFault.TheVariants.{Read, Scrambled, HeaderSplit, TimeJump, Sink}
-use Rattle.unit_cut.proofs.FaultLemmas.{sound_all, fault_behind_sound, behind_some}
 use Rattle.unit_cut.proofs.GrowLemmas.{same_front}
 use Rattle.unit_cut.proofs.RunLemmas.{the_cut, is_the_cut, front_of, front_of_part}
 use Rattle.unit_stream.specs.Times.{first_time}
@@ -31,18 +32,18 @@ first_is : (pid from len : ℕ) (bs : List ℕ) (ps : List (List ℕ)) (p : List
     → All (λ q. packet_fault q ≡ None) ps → IsSound pid ps → fault_at pid (record { packet = p; past = reverse ps }) ≡ Some f
     → Written out start (cut_between from len pid ps) → IsFirst f pid from len bs start out
 first_is pid from len bs ps p qs start out f e a b at w =
-    let (first, front) = fault_behind_sound pid ps p qs f a b at in (
-      ap (λ l. or_then (first_of pid (seen_after [] l)) (fault_behind (last_part bs))) e ∙ ap (λ g. or_then g (fault_behind (last_part bs))) first,
-      subst (λ l. Written out start (cut_between from len pid l)) (sym (ap (λ l. sound_front pid (seen_after [] l)) e ∙ front)) w,
-    )
+    let (first, front) = fault_behind_sound Read (cut_test pid) ps p qs f a b at in record {
+      first = ap (λ l. or_then (first_of (fault_at pid) (seen_after [] l)) (fault_behind Read (last_part bs))) e ∙ ap (λ g. or_then g (fault_behind Read (last_part bs))) first;
+      before = subst (λ l. Written out start (cut_between from len pid l)) (sym (ap (λ l. sound_front (fault_at pid) (seen_after [] l)) e ∙ front)) w;
+    }
 
 last_is : (pid from len : ℕ) (bs rest : List ℕ) (ps : List (List ℕ)) (start out : Option (List ℕ)) → packets_of bs ≡ ps → last_part bs ≡ rest → 0 < length rest
     → All (λ q. packet_fault q ≡ None) ps → IsSound pid ps → Written out start (cut_between from len pid ps) → IsFirst (Read read_faults.Truncated) pid from len bs start out
 last_is pid from len bs rest ps start out e l some a b w =
-    let (none, front) = sound_all pid ps a b in (
-      ap (λ q. or_then (first_of pid (seen_after [] q)) (fault_behind (last_part bs))) e ∙ ap (λ g. or_then g (fault_behind (last_part bs))) none ∙ ap fault_behind l ∙ behind_some rest some,
-      subst (λ q. Written out start (cut_between from len pid q)) (sym (ap (λ q. sound_front pid (seen_after [] q)) e ∙ front)) w,
-    )
+    let (none, front) = sound_all Read (cut_test pid) ps a b in record {
+      first = ap (λ q. or_then (first_of (fault_at pid) (seen_after [] q)) (fault_behind Read (last_part bs))) e ∙ ap (λ g. or_then g (fault_behind Read (last_part bs))) none ∙ ap (fault_behind Read) l ∙ behind_some Read (cut_test pid) rest some;
+      before = subst (λ q. Written out start (cut_between from len pid q)) (sym (ap (λ q. sound_front (fault_at pid) (seen_after [] q)) e ∙ front)) w;
+    }
 
 -- ---- the reader stops
 
@@ -65,8 +66,8 @@ module _ (start out : Option (List ℕ)) (broken : Bool) (given : ℕ) (cutter :
   says stopped n read_faults.Truncated k =
       let all = read_all (Some bs) (Some rest) ps h.read k.1 in
       last_is pid from len bs rest ps start out all.0 all.1 k.0 h.read.sound h.sound out_is
-  says stopped n read_faults.SyncLost k = refused_packet (Read read_faults.SyncLost) k.0 (by_packet _ _ (ap as_read_fault k.1))
-  says stopped n read_faults.BadAdaptation k = refused_packet (Read read_faults.BadAdaptation) k.0 (by_packet _ _ (ap as_read_fault k.1))
+  says stopped n read_faults.SyncLost k = refused_packet (Read read_faults.SyncLost) k.0 (by_packet _ _ (ap (named Read) k.1))
+  says stopped n read_faults.BadAdaptation k = refused_packet (Read read_faults.BadAdaptation) k.0 (by_packet _ _ (ap (named Read) k.1))
   says stopped n read_faults.Io k = tt
   says stopped n read_faults.Turns k = tt
   says stopped n read_faults.Failed k = let e : true ≡ false = sym k ∙ n in absurd (cc)
@@ -122,7 +123,7 @@ module _ (start out' : Option (List ℕ)) (broken' : Bool) (pid from len : ℕ) 
       → IsFirst f pid from len bs start out' × IsFront pid from len bs start out'
   unit_stops f e w =
       let here : packets_of bs ≡ ps ++ p ∷ packets_of rest = all ∙ append_assoc ps (p ∷ []) (packets_of rest) in
-      let at : fault_at pid (record { packet = p; past = reverse ps }) ≡ Some f = ap (λ g. or_then (as_read_fault g) (as_unit_fault (unit_fault (pid ∷ []) p (reverse ps)))) whole ∙ e in (
+      let at : fault_at pid (record { packet = p; past = reverse ps }) ≡ Some f = ap (λ g. or_then (named Read g) (as_unit_fault (unit_fault (pid ∷ []) p (reverse ps)))) whole ∙ e in (
         first_is pid from len bs ps p (packets_of rest) start out' f here sounds sound at (written_by w),
         front_of pid from len bs ps (p ∷ packets_of rest) start out' here (written_by w),
       )

@@ -1,25 +1,13 @@
--- The first fault of a network, in the order of its packets: what the bytes are not, and what the PID's units may not be.
-use Rattle.std.specs.Prelude.{ℕ, ◌==◌, List, [], ◌∷◌, if◌then◌else◌, Option, None, Some, length}
-use Rattle.ts_packet.specs.Packets.{packets_of, last_part, packet_fault}
-use Rattle.ts_packet.specs.Runs.{Seen, seen_after}
-use Rattle.ts_packet.specs.declared.packet.PacketFault.{PacketFault}
-use Rattle.ts_packet.specs.declared.packet.PacketFault.TheVariants as packet_faults
-use Rattle.ts_packet.specs.declared.reader.ReadFault.TheVariants as read_faults
+-- What the first fault of a network is for a cut: what the bytes are not, and what the PID's units may not be.
+use Rattle.std.specs.Prelude.{ℕ, List, [], ◌∷◌, Option, None, Some}
+use Rattle.ts_packet.specs.Runs.{Seen}
+use Rattle.ts_packet.specs.FirstFault as firsts
+use Rattle.ts_packet.specs.FirstFault.{fault_of, Cause, OfInput, read_cause, put_cause}
 use Rattle.unit_stream.specs.Faults.{unit_fault}
 use Rattle.unit_stream.specs.declared.fault.UnitFault.{UnitFault}
 use Rattle.unit_stream.specs.declared.fault.UnitFault.TheVariants as unit_faults
 use Rattle.unit_cut.specs.declared.run.CutFault.{CutFault}
-use Rattle.unit_cut.specs.declared.run.CutFault.TheVariants.{Read, Scrambled, HeaderSplit, TimeJump}
-
--- the first of two faults
-abbrev pub or_then : Option CutFault → Option CutFault → Option CutFault
-or_then None later = later
-or_then (Some fault) later = Some fault
-
-abbrev pub as_read_fault : Option PacketFault → Option CutFault
-as_read_fault None = None
-as_read_fault (Some packet_faults.SyncLost) = Some (Read read_faults.SyncLost)
-as_read_fault (Some packet_faults.BadAdaptation) = Some (Read read_faults.BadAdaptation)
+use Rattle.unit_cut.specs.declared.run.CutFault.TheVariants.{Read, Scrambled, HeaderSplit, TimeJump, Sink}
 
 abbrev pub as_cut_fault : UnitFault → CutFault
 as_cut_fault unit_faults.Scrambled = Scrambled
@@ -30,26 +18,26 @@ abbrev pub as_unit_fault : Option UnitFault → Option CutFault
 as_unit_fault None = None
 as_unit_fault (Some fault) = Some (as_cut_fault fault)
 
--- what is wrong with a packet, behind those before it
+-- what is wrong with a packet for the PID's units, behind those before it
+abbrev pub cut_test : ℕ → Seen → Option CutFault
+cut_test pid s = as_unit_fault (unit_fault (pid ∷ []) s.packet s.past)
+
+-- what is wrong with 188 bytes, as a packet and then for the units
 abbrev pub fault_at : ℕ → Seen → Option CutFault
-fault_at pid s = or_then (as_read_fault (packet_fault s.packet)) (as_unit_fault (unit_fault (pid ∷ []) s.packet s.past))
-
-abbrev pub first_of : ℕ → List Seen → Option CutFault
-first_of pid [] = None
-first_of pid (s ∷ ss) = or_then (fault_at pid s) (first_of pid ss)
-
--- what is left behind the last whole packet
-abbrev pub fault_behind : List ℕ → Option CutFault
-fault_behind rest = if length rest == 0 then None else Some (Read read_faults.Truncated)
+fault_at pid = fault_of Read (cut_test pid)
 
 -- THE FIRST FAULT of these bytes
 abbrev pub first_fault : ℕ → List ℕ → Option CutFault
-first_fault pid bs = or_then (first_of pid (seen_after [] (packets_of bs))) (fault_behind (last_part bs))
+first_fault pid bs = firsts.first_fault Read (cut_test pid) bs
 
--- the packets before the first faulty one
-abbrev pub sound_front : ℕ → List Seen → List (List ℕ)
-sound_front pid [] = []
-sound_front pid (s ∷ ss) = elim (fault_at pid s) [ None ↦ s.packet ∷ sound_front pid ss | Some fault ↦ [] ]
-
+-- the packets before it
 abbrev pub before_fault : ℕ → List ℕ → List (List ℕ)
-before_fault pid bs = sound_front pid (seen_after [] (packets_of bs))
+before_fault pid bs = firsts.before_fault Read (cut_test pid) bs
+
+-- where a fault comes from
+abbrev pub cut_cause : CutFault → Cause
+cut_cause (Read fault) = read_cause fault
+cut_cause Scrambled = OfInput
+cut_cause HeaderSplit = OfInput
+cut_cause TimeJump = OfInput
+cut_cause (Sink fault) = put_cause fault

@@ -1,5 +1,5 @@
 -- What a run of `cut` writes, where its devices tell their bytes, and what its faults say.
-use Rattle.std.specs.Prelude.{◌≡◌, ℕ, ◌^◌, ◌-◌, ◌⊎◌, List, [], ◌∷◌, ◌++◌, Bool, false, Option, None, Some, IfSome, All, length, take, reverse}
+use Rattle.std.specs.Prelude.{◌≡◌, ℕ, ◌^◌, ◌-◌, ◌⊎◌, List, [], ◌∷◌, ◌++◌, Bool, false, Option, None, Some, IfSome, All, length, reverse}
 use Rattle.ts_packet.specs.Packets.{packets_of, bytes_of}
 use Rattle.ts_packet.specs.Reading.{HasRead, Stalls}
 use Rattle.ts_packet.specs.Sinks.{Blamed, Written}
@@ -8,11 +8,11 @@ use Rattle.ts_packet.specs.Transfers.{WentWell, LastMovedNone, LastFailed}
 use Rattle.ts_packet.specs.Runs.{Seen, seen_after}
 use Rattle.ts_packet.specs.declared.reader.ReadFault.TheVariants as read_faults
 use Rattle.ts_packet.specs.declared.sink.PutFault.{PutFault}
-use Rattle.ts_packet.specs.declared.sink.PutFault.TheVariants as put_faults
 use Rattle.unit_stream.specs.Faults.{unit_fault}
 use Rattle.unit_cut.specs.Cutting.{cut, cut_between}
 use Rattle.unit_cut.specs.Standing.{Cut, goes_by, Begins, StandsFor}
-use Rattle.unit_cut.specs.FirstFault.{first_fault, before_fault, as_unit_fault}
+use Rattle.ts_packet.specs.FirstFault.{IsFirstFault, IsFrontOf, SaysBy}
+use Rattle.unit_cut.specs.FirstFault.{first_fault, before_fault, as_unit_fault, cut_test, cut_cause}
 use Rattle.unit_cut.specs.declared.cutter.Cutter.{Cutter}
 use Rattle.unit_cut.specs.declared.run.CutFault.{CutFault}
 use Rattle.unit_cut.specs.declared.run.CutFault.TheVariants.{Read, Scrambled, HeaderSplit, TimeJump, Sink}
@@ -24,27 +24,15 @@ CutsAll pid from length input start out =
 
 -- a front of the cut is out
 abbrev pub IsFront : ℕ → ℕ → ℕ → List ℕ → Option (List ℕ) → Option (List ℕ) → Type 0
-IsFront pid from length bs start out = (n : ℕ) × IfSome start (λ known. out ≡ Some (known ++ take n (bytes_of (cut_between from length pid (packets_of bs)))))
+IsFront pid from length bs start out = IsFrontOf (bytes_of (cut_between from length pid (packets_of bs))) start out
 
 -- the fault is the first one of the bytes, and all that stood before it is out
 abbrev pub IsFirst : CutFault → ℕ → ℕ → ℕ → List ℕ → Option (List ℕ) → Option (List ℕ) → Type 0
-IsFirst fault pid from length bs start out = (first_fault pid bs ≡ Some fault) × Written out start (cut_between from length pid (before_fault pid bs))
+IsFirst fault pid from length bs start out = IsFirstFault (first_fault pid bs) (Written out start) (cut_between from length pid (before_fault pid bs)) fault
 
 -- a fault of the bytes is the first one; a fault of a device says nothing of them
 abbrev pub Says : CutFault → ℕ → ℕ → ℕ → List ℕ → Option (List ℕ) → Option (List ℕ) → Type 0
-Says (Read read_faults.Io) pid from length bs start out = Unit {0}
-Says (Read read_faults.Turns) pid from length bs start out = Unit {0}
-Says (Read read_faults.Failed) pid from length bs start out = ⊥
-Says (Read read_faults.Truncated) pid from length bs start out = IsFirst (Read read_faults.Truncated) pid from length bs start out
-Says (Read read_faults.SyncLost) pid from length bs start out = IsFirst (Read read_faults.SyncLost) pid from length bs start out
-Says (Read read_faults.BadAdaptation) pid from length bs start out = IsFirst (Read read_faults.BadAdaptation) pid from length bs start out
-Says Scrambled pid from length bs start out = IsFirst Scrambled pid from length bs start out
-Says HeaderSplit pid from length bs start out = IsFirst HeaderSplit pid from length bs start out
-Says TimeJump pid from length bs start out = IsFirst TimeJump pid from length bs start out
-Says (Sink put_faults.Failed) pid from length bs start out = ⊥
-Says (Sink put_faults.Io) pid from length bs start out = Unit {0}
-Says (Sink put_faults.Stuck) pid from length bs start out = Unit {0}
-Says (Sink put_faults.Turns) pid from length bs start out = Unit {0}
+Says fault pid from length bs start out = SaysBy (cut_cause fault) (IsFirst fault pid from length bs start out)
 
 -- THE THEOREM FOR FAULTS: what the fault says, and what is out
 abbrev pub Stops : CutFault → ℕ → ℕ → ℕ → Option (List ℕ) → Option (List ℕ) → Option (List ℕ) → Type 0
@@ -69,7 +57,7 @@ RunBlamed (Sink fault) remaining counts first now old new = WentWell (counts fir
 
 -- every packet was sound for the PID
 abbrev pub IsSound : ℕ → List (List ℕ) → Type 0
-IsSound pid ps = All (λ (s : Seen). unit_fault (pid ∷ []) s.packet s.past ≡ None) (seen_after [] ps)
+IsSound pid ps = All (λ (s : Seen). cut_test pid s ≡ None) (seen_after [] ps)
 
 -- the cut that the run makes, whose begin the packets so far place
 pub record IsCutOf (k : Cut) (pid from length : ℕ) (ps : List (List ℕ)) : Type 0 where

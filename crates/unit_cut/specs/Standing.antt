@@ -1,15 +1,14 @@
 -- What a cutter stands for after the packets that it has seen.
 use Rattle.std.specs.Prelude.{◌≡◌, ℕ, ◌^◌, ◌⊎◌, List, [], ◌∷◌, Bool, true, false, if◌then◌else◌, Option, Some, None, Result, Ok, Err, ℤ, pos, ◌+ℤ◌, ◌-ℤ◌, ◌≤ℤ◌, IfSome}
 use Rattle.pes_time.specs.Line.{lift}
-use Rattle.ts_packet.specs.Fields.{on}
-use Rattle.ts_packet.specs.Duplicates.{original}
-use Rattle.ts_packet.specs.Numbering.{Step, Kept, Dropped, Counts}
+use Rattle.ts_packet.specs.Numbering.{Counts}
 use Rattle.unit_stream.specs.Times.{high, unit_time, first_time}
 use Rattle.unit_stream.specs.Clocks.{ClockAt}
 use Rattle.unit_stream.specs.Faults.{unit_fault}
 use Rattle.unit_stream.specs.Pieces.{FollowsUnits}
 use Rattle.unit_stream.specs.declared.fault.UnitFault.{UnitFault}
-use Rattle.unit_cut.specs.Cutting.{inside, is_cut, kept_as}
+use Rattle.unit_stream.specs.Fates.{is_cut, steps, numbered}
+use Rattle.unit_cut.specs.Cutting.{inside}
 use Rattle.unit_cut.specs.declared.distance.Distance.{Distance}
 use Rattle.unit_cut.specs.declared.timing.Timing.{Timing}
 use Rattle.unit_cut.specs.declared.cutter.Cutter.{Cutter}
@@ -59,15 +58,6 @@ abbrev pub high_or : Option ℤ → ℕ → ℤ
 high_or None p = pos p
 high_or (Some h) p = h
 
--- what a cut does to the PID's packets, newest first
-abbrev pub steps : (Option ℤ → Bool) → List ℕ → ℕ → List (List ℕ) → List Step
-steps goes switched pid [] = []
-steps goes switched pid (p ∷ past) =
-    if on pid p
-    then (if is_cut goes switched pid p past then (if original pid p past then Dropped p ∷ steps goes switched pid past else steps goes switched pid past)
-    else Kept p ∷ steps goes switched pid past)
-    else steps goes switched pid past
-
 -- the cutter has seen this past, newest first, and its caller keeps the PID's last payload packet
 pub record StandsFor (cutter : Cutter) (kept : List ℕ) (k : Cut) (past : List (List ℕ)) : Type 0 where
   pub same : cutter.pid ≡ k.pid
@@ -78,7 +68,7 @@ pub record StandsFor (cutter : Cutter) (kept : List ℕ) (k : Cut) (past : List 
 -- what it answers to a packet p behind this past, and what becomes of the packet
 abbrev pub Answers : Cut → List ℕ → List (List ℕ) → Result Bool UnitFault → List ℕ → Type 0
 Answers k p past (Ok true) q = (unit_fault (k.pid ∷ []) p past ≡ None) × (is_cut (goes_by k) (k.pid ∷ []) k.pid p past ≡ false)
-    × (q ≡ kept_as (goes_by k) (k.pid ∷ []) k.pid p past)
+    × (q ≡ numbered k.pid p (steps (goes_by k) (k.pid ∷ []) k.pid past))
 Answers k p past (Ok false) q = (unit_fault (k.pid ∷ []) p past ≡ None) × (is_cut (goes_by k) (k.pid ∷ []) k.pid p past ≡ true)
 Answers k p past (Err f) q = unit_fault (k.pid ∷ []) p past ≡ Some f
 

@@ -4,4 +4,5 @@ pub mod Units
 pub mod Carrying
 pub mod Pieces
 pub mod Rows
+pub mod Fates
 pub mod Clocks

@@ -1,5 +1,5 @@
 use Rattle.std.proofs.Common.{[], ◌∷◌, reverse}
-use Rattle.unit_cut.specs.Cutting.{kept_as}
+use Rattle.unit_stream.specs.Fates.{steps, numbered}
 use Rattle.unit_cut.specs.Standing.{goes_by}
 use Rattle.unit_cut.specs.Runs.{cut_by}
 use Rattle.unit_cut.proofs.PassLemmas.{cut_kept, cut_dropped}
@@ -19,7 +19,7 @@ returns-in-Err-put-clause-err g c = λ k start ps b h held.
     let a = rw c.in-Ok-true.field-0-test at (c.in-Ok-true.ensures.answers k (reverse ps) b h) in
     let more = cut_kept (goes_by k) (k.pid ∷ []) k.pid ps p a.1 in
     let put = c.in-Err-put.ensures.err start (cut_by k ps) held in
-    (a.0, (kept_as (goes_by k) (k.pid ∷ []) k.pid p (reverse ps), more, rw (← a.2) put))
+    (a.0, (numbered k.pid p (steps (goes_by k) (k.pid ∷ []) k.pid (reverse ps)), more, rw (← a.2) put))
 
 pub returns-in-Ok-false-clause-ok : goal.returns-in-Ok-false-clause-ok
 returns-in-Ok-false-clause-ok g c = λ k start ps b h held.

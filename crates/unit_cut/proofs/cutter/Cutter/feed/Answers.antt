@@ -4,10 +4,12 @@ use Rattle.ts_packet.specs.Numbering.{Counts}
 use Rattle.pes_time.specs.Stamps.{stamp_of}
 use Rattle.unit_stream.specs.Times.{high, unit_time, stamp, splits, raised, timed}
 use Rattle.unit_stream.specs.Faults.{scrambled_one, start_fault}
-use Rattle.unit_cut.specs.Standing.{BeginsWith, TimingFor, goes_by, steps}
+use Rattle.unit_stream.specs.Fates.{steps}
+use Rattle.unit_cut.specs.Standing.{BeginsWith, TimingFor, goes_by}
+use Rattle.unit_cut.proofs.Counted.{numbered_is}
 use Rattle.unit_stream.proofs.ReadingLemmas.{off, error_off, passes, kept_became}
 use Rattle.unit_stream.proofs.ClockLemmas.{stamp_is, splits_is, begins_off, begins_not, begins_repeat, fault_scrambled}
-use Rattle.unit_cut.proofs.CutterLemmas.{kept_is, scrambled_is, scrambled_off, fault_still, fault_start, timing_same, timing_start, cut_is, cut_off, begins_with, events_settled, events_repeated, settled, original_is}
+use Rattle.unit_cut.proofs.CutterLemmas.{scrambled_is, scrambled_off, fault_still, fault_start, timing_same, timing_start, cut_is, cut_off, begins_with, events_settled, events_repeated, settled, original_is}
 use Rattle.unit_cut.proofs.cutter.Cutter.feed.Goals as goal
 
 -- ---- of another PID, or marked
@@ -24,7 +26,7 @@ returns-then-not-is_on-clause-stands c = λ k past b h.
     let p = c.args.packet.now in
     let o : on k.pid p ≡ false = ap (λ n. on n p) (sym h.same) ∙ sym c.is_on.ensures ∙ c.if-not-is_on.true in
     let y = off k.pid p o in
-    record { same = h.same; units = passes _ k.pid p _ past y h.units; timing = timing_same _ k p past (begins_off k.pid p past y) h.timing; counter = simp o h.counter }
+    record { same = h.same; units = passes _ k.pid p _ past y h.units; timing = timing_same _ k p past (begins_off k.pid p past y) h.timing; counter = simp (y, o) h.counter }
 
 -- ---- scrambled
 
@@ -63,7 +65,7 @@ returns-in-Ok-clause-answers c = λ k past b h.
     let sound : start_fault (high (k.pid ∷ []) past) (splits p) (stamp p) ≡ None = rw (← st, ← sp) (c.in-Ok.ensures.sound k (high (k.pid ∷ []) past) (unit_time (k.pid ∷ []) k.pid past) h.timing) in
     let e = fault_start k.pid p past clear brings.0 ∙ sound in
     settled k p past c.settle.result c.begin.new.self.is_going c.settle.new.packet c.settle.ensures.stays e (cut_is k p past c.begin.new.self.is_going brings.2 timing.going)
-    (λ r. c.settle.ensures.packet (steps (goes_by k) (k.pid ∷ []) k.pid past) h.counter r ∙ kept_is (goes_by k) (k.pid ∷ []) k.pid p past o)
+    (λ r. c.settle.ensures.packet (steps (goes_by k) (k.pid ∷ []) k.pid past) h.counter r ∙ numbered_is k.pid p (steps (goes_by k) (k.pid ∷ []) k.pid past) o)
 
 pub returns-in-Ok-clause-stands : goal.returns-in-Ok-clause-stands
 returns-in-Ok-clause-stands c = λ k past b h.
@@ -93,7 +95,7 @@ returns-in-More-clause-answers c = λ k past b h.
     let brings = c.in-More.ensures.brings k.pid past h.units in
     let timing = timing_same c.args.self.now.timing k p past (begins_not k.pid p past brings.2) h.timing in
     settled k p past c.settle-in-More.result _ c.settle-in-More.new.packet c.settle-in-More.ensures.stays (fault_still k.pid p past clear (begins_not k.pid p past brings.2)) (cut_is k p past _ brings.1 timing.going)
-    (λ r. c.settle-in-More.ensures.packet (steps (goes_by k) (k.pid ∷ []) k.pid past) h.counter r ∙ kept_is (goes_by k) (k.pid ∷ []) k.pid p past o)
+    (λ r. c.settle-in-More.ensures.packet (steps (goes_by k) (k.pid ∷ []) k.pid past) h.counter r ∙ numbered_is k.pid p (steps (goes_by k) (k.pid ∷ []) k.pid past) o)
 
 pub returns-in-More-clause-stands : goal.returns-in-More-clause-stands
 returns-in-More-clause-stands c = λ k past b h.
@@ -118,7 +120,7 @@ returns-in-Lead-clause-answers c = λ k past b h.
     let brings = c.in-Lead.ensures.brings k.pid past h.units in
     let timing = timing_same c.args.self.now.timing k p past (begins_not k.pid p past brings.2) h.timing in
     settled k p past c.settle-in-Lead.result _ c.settle-in-Lead.new.packet c.settle-in-Lead.ensures.stays (fault_still k.pid p past clear (begins_not k.pid p past brings.2)) (cut_is k p past _ brings.1 timing.going)
-    (λ r. c.settle-in-Lead.ensures.packet (steps (goes_by k) (k.pid ∷ []) k.pid past) h.counter r ∙ kept_is (goes_by k) (k.pid ∷ []) k.pid p past o)
+    (λ r. c.settle-in-Lead.ensures.packet (steps (goes_by k) (k.pid ∷ []) k.pid past) h.counter r ∙ numbered_is k.pid p (steps (goes_by k) (k.pid ∷ []) k.pid past) o)
 
 pub returns-in-Lead-clause-stands : goal.returns-in-Lead-clause-stands
 returns-in-Lead-clause-stands c = λ k past b h.
@@ -144,7 +146,7 @@ returns-in-Duplicate-clause-answers c = λ k past b h.
     let not = begins_repeat k.pid p past brings.1 in
     let timing = timing_same _ k p past not h.timing in
     settled k p past c.settle_duplicate.result _ c.settle_duplicate.new.packet c.settle_duplicate.ensures.stays (fault_still k.pid p past clear not) (cut_is k p past _ brings.0 timing.going)
-    (λ r. c.settle_duplicate.ensures.packet (steps (goes_by k) (k.pid ∷ []) k.pid past) h.counter r ∙ kept_is (goes_by k) (k.pid ∷ []) k.pid p past o)
+    (λ r. c.settle_duplicate.ensures.packet (steps (goes_by k) (k.pid ∷ []) k.pid past) h.counter r ∙ numbered_is k.pid p (steps (goes_by k) (k.pid ∷ []) k.pid past) o)
 
 pub returns-in-Duplicate-clause-stands : goal.returns-in-Duplicate-clause-stands
 returns-in-Duplicate-clause-stands c = λ k past b h.
@@ -167,7 +169,7 @@ returns-in-NoPayload-clause-answers c = λ k past b h.
     let o : on k.pid p ≡ true = ap (λ n. on n p) (sym h.same) ∙ sym c.is_on.ensures ∙ c.if-not-is_on.false in
     let brings = c.in-NoPayload.ensures.brings k.pid past h.units in
     let y = brings.1 in
-    (fault_still k.pid p past (scrambled_off k.pid p y) (begins_off k.pid p past y), cut_off k p past y, c.keep.ensures.packet (steps (goes_by k) (k.pid ∷ []) k.pid past) h.counter ∙ kept_is (goes_by k) (k.pid ∷ []) k.pid p past o)
+    (fault_still k.pid p past (scrambled_off k.pid p y) (begins_off k.pid p past y), cut_off k p past y, c.keep.ensures.packet (steps (goes_by k) (k.pid ∷ []) k.pid past) h.counter ∙ numbered_is k.pid p (steps (goes_by k) (k.pid ∷ []) k.pid past) o)
 
 pub returns-in-NoPayload-clause-stands : goal.returns-in-NoPayload-clause-stands
 returns-in-NoPayload-clause-stands c = λ k past b h.
@@ -190,7 +192,7 @@ returns-in-Error-clause-answers c = λ k past b h.
     let o : on k.pid p ≡ true = ap (λ n. on n p) (sym h.same) ∙ sym c.is_on.ensures ∙ c.if-not-is_on.false in
     let brings = c.in-Error.ensures.brings k.pid past h.units in
     let y = error_off k.pid p brings in
-    (fault_still k.pid p past (scrambled_off k.pid p y) (begins_off k.pid p past y), cut_off k p past y, c.keep-in-Error.ensures.packet (steps (goes_by k) (k.pid ∷ []) k.pid past) h.counter ∙ kept_is (goes_by k) (k.pid ∷ []) k.pid p past o)
+    (fault_still k.pid p past (scrambled_off k.pid p y) (begins_off k.pid p past y), cut_off k p past y, c.keep-in-Error.ensures.packet (steps (goes_by k) (k.pid ∷ []) k.pid past) h.counter ∙ numbered_is k.pid p (steps (goes_by k) (k.pid ∷ []) k.pid past) o)
 
 pub returns-in-Error-clause-stands : goal.returns-in-Error-clause-stands
 returns-in-Error-clause-stands c = λ k past b h.
