@@ -1,5 +1,6 @@
 -- The cued stream of a network without fault.
 use Rattle.std.proofs.Common.{◌≡◌, ℕ, ◌<◌, List, [], ◌∷◌, Bool, true, false, ◌&&◌, ◌||◌, ◌==◌, refl, sym, ap, ◌∙◌, Option, Some, None, map, if◌then◌else◌}
+use Rattle.std.specs.List.{AllByRecursion}
 use Rattle.std.specs.Prelude.{filter, option_map}
 use Rattle.std.specs.List.{list_any}
 use Rattle.std.proofs.lemmas.Bool.{eq-eqb}
@@ -17,12 +18,12 @@ use Rattle.program_follower.specs.declared.purpose.Purpose.{Purpose}
 use Rattle.program_follower.specs.declared.purpose.Listed.{Listed}
 use Rattle.program_follower.specs.Program.{earlier, listed, since_pat, Table, table_of, map_read, tables, all_tables, first_map, known_map, Program, program_in, program_of, behind_head, pids_of}
 use Rattle.program_follower.specs.Faults.{is_pid, if_bad, pmt_pid_fault, pids_in, bad_pid, bad_switched, too_long, first_fault}
-use Rattle.program_laws.specs.Writing.{Each, Along, Writing, written, table_out, Off, MapGoesOut, GoesOut, IsClear, ReadsAgain}
+use Rattle.program_laws.specs.Writing.{Along, Writing, written, table_out, Off, MapGoesOut, GoesOut, IsClear, ReadsAgain}
 use Rattle.program_laws.specs.Behind.{Passes, TakesAll, SameUnits}
 use Rattle.program_laws.specs.CueEntry.{EntryGoes}
 use Rattle.program_laws.specs.Cued.{on_one, On, cueing, stripping, CuedReads, CuedStreamReads}
-use Rattle.program_laws.proofs.GivenLemmas.{Each-append, given_can}
-use Rattle.program_laws.proofs.PacketLemmas.{off_payload}
+use Rattle.psi_section.proofs.GivenLemmas.{All-both, given_can_each}
+use Rattle.ts_packet.proofs.FieldLemmas.{off_payload}
 use Rattle.program_laws.proofs.ReadingLemmas.{listed_stays, none_at_pat, tables_at, no_tables}
 use Rattle.program_laws.proofs.WritingLemmas.{off_other, written_reads_again}
 use Rattle.program_laws.proofs.UnitLemmas.{others_are_no_units}
@@ -35,7 +36,7 @@ or_none : (a b : Bool) → a || b ≡ false → (a ≡ false) × (b ≡ false)
 or_none true b h = cc
 or_none false b h = (refl, h)
 
-pub ons_off : (a b : ℕ) (qs : List (List ℕ)) → (a ≡ b → ⊥) → Each (On a) qs → Each (Off b) qs
+pub ons_off : (a b : ℕ) (qs : List (List ℕ)) → (a ≡ b → ⊥) → AllByRecursion (On a) qs → AllByRecursion (Off b) qs
 ons_off a b [] ne h = tt
 ons_off a b (q ∷ qs) ne h = (off_other a b q ne h.0, ons_off a b qs ne h.1)
 
@@ -43,19 +44,19 @@ ons_off a b (q ∷ qs) ne h = (off_other a b q ne h.0, ons_off a b qs ne h.1)
 
 pub record OnOnePid (w : Writing) (cue : ℕ) : Type 0 where
   pub stays : (p : List ℕ) (past : List (List ℕ)) → on cue p ≡ false → w.place p past ≡ p ∷ []
-  pub gone : (p : List ℕ) (past : List (List ℕ)) → on cue p ≡ true → Each (On cue) (w.place p past)
+  pub gone : (p : List ℕ) (past : List (List ℕ)) → on cue p ≡ true → AllByRecursion (On cue) (w.place p past)
 
 -- what must hold of the tables of a whole past
 pub record Fits (w : Writing) (wanted : Option ℕ) (cue : ℕ) (past : List (List ℕ)) (l : Listed) : Type 0 where
   pub zero : l.pid ≡ 0 → ⊥
   pub clear : cue ≡ l.pid → ⊥
-  pub maps : Each (GoesOut w.change l.program) (all_tables wanted past)
+  pub maps : AllByRecursion (GoesOut w.change l.program) (all_tables wanted past)
 
 module _ (w : Writing) (wanted : Option ℕ) (cue : ℕ) (no : cue ≡ 0 → ⊥) (one : OnOnePid w cue) where
   abbrev Front : List ℕ → List (List ℕ) → Type 0
-  Front p past = Each (On cue) (w.front p past)
+  Front p past = AllByRecursion (On cue) (w.front p past)
 
-  place_off : (b : ℕ) (p : List ℕ) (past : List (List ℕ)) → (cue ≡ b → ⊥) → on b p ≡ false → Each (Off b) (w.place p past)
+  place_off : (b : ℕ) (p : List ℕ) (past : List (List ℕ)) → (cue ≡ b → ⊥) → on b p ≡ false → AllByRecursion (Off b) (w.place p past)
   place_off b p past ne off =
       by_test (on cue p)
       (λ y. ons_off cue b (w.place p past) ne (one.gone p past y))
@@ -87,22 +88,22 @@ module _ (w : Writing) (wanted : Option ℕ) (cue : ℕ) (no : cue ≡ 0 → ⊥
 abbrev pub IsRead : ℕ → Table → Type 0
 IsRead program t = (map_read program (pmt t.section) ≡ t.program_map) × CanBeGiven t.section
 
-read_each : (program : ℕ) (ss : List (List ℕ)) → Each CanBeGiven ss → Each (IsRead program) (map (table_of program) ss)
+read_each : (program : ℕ) (ss : List (List ℕ)) → AllByRecursion CanBeGiven ss → AllByRecursion (IsRead program) (map (table_of program) ss)
 read_each program [] h = tt
 read_each program (s ∷ ss) h = ((refl, h.0), read_each program ss h.1)
 
-read_at : (wanted : Option ℕ) (p : List ℕ) (past : List (List ℕ)) (l : Listed) → listed wanted past ≡ Some l → Each (IsRead l.program) (tables wanted p past)
-read_at wanted p past l h = let e = tables_at wanted p past l h in rw e (read_each l.program (given l.pid p (since_pat wanted past)) (given_can l.pid p (since_pat wanted past)))
+read_at : (wanted : Option ℕ) (p : List ℕ) (past : List (List ℕ)) (l : Listed) → listed wanted past ≡ Some l → AllByRecursion (IsRead l.program) (tables wanted p past)
+read_at wanted p past l h = let e = tables_at wanted p past l h in rw e (read_each l.program (given l.pid p (since_pat wanted past)) (given_can_each l.pid p (since_pat wanted past)))
 
-pub all_read : (wanted : Option ℕ) (past : List (List ℕ)) (l : Listed) → listed wanted past ≡ Some l → Each (IsRead l.program) (all_tables wanted past)
+pub all_read : (wanted : Option ℕ) (past : List (List ℕ)) (l : Listed) → listed wanted past ≡ Some l → AllByRecursion (IsRead l.program) (all_tables wanted past)
 all_read wanted [] l e = tt
 all_read wanted (p ∷ past) l e = by_known (listed wanted past) refl (λ f. all_read wanted past l f) where
-  by_known : (o : Option Listed) → listed wanted past ≡ o → (listed wanted past ≡ Some l → Each (IsRead l.program) (all_tables wanted past)) → Each (IsRead l.program) (all_tables wanted (p ∷ past))
+  by_known : (o : Option Listed) → listed wanted past ≡ o → (listed wanted past ≡ Some l → AllByRecursion (IsRead l.program) (all_tables wanted past)) → AllByRecursion (IsRead l.program) (all_tables wanted (p ∷ past))
   by_known None g ih = let n = none_at_pat wanted p past g in rw n tt
   by_known (Some k) g ih =
       let same : k ≡ l = same_listed k l (sym (listed_stays wanted p past k g) ∙ e) in
       let here : listed wanted past ≡ Some l = g ∙ ap (λ x. let y : Option Listed = Some x in y) same in
-      Each-append (IsRead l.program) (all_tables wanted past) (tables wanted p past) (ih here) (read_at wanted p past l here)
+      All-both (IsRead l.program) (all_tables wanted past) (tables wanted p past) (ih here) (read_at wanted p past l here)
 
 -- ---- what no fault says of PIDs
 
@@ -112,7 +113,7 @@ any_entries cue (e ∷ es) = ap (λ b. lists_pid cue e || b) (any_entries cue es
 
 -- one PID is none of some
 abbrev Apart : ℕ → List ℕ → Type 0
-Apart a pids = Each (λ pid. a ≡ pid → ⊥) pids
+Apart a pids = AllByRecursion (λ pid. a ≡ pid → ⊥) pids
 
 apart_by : (a : ℕ) (f : ℕ → Bool) → f a ≡ true → (ss : List Stream) → list_any f (pids_in ss) ≡ false → Apart a (pids_in (switched_of ss))
 apart_by a f h [] k = tt
@@ -127,7 +128,7 @@ apart_on : (a : ℕ) (pids : List ℕ) → Apart a pids → (q : List ℕ) → o
 apart_on a [] h q y = refl
 apart_on a (pid ∷ pids) h q y = let n = off_other a pid q h.0 y in ap (λ b. b || on_one pids q) n ∙ apart_on a pids h.1 q y
 
-takes_within : (pids all : List ℕ) → ((q : List ℕ) → on_one all q ≡ false → on_one pids q ≡ false) → Each (TakesAll (on_one all)) pids
+takes_within : (pids all : List ℕ) → ((q : List ℕ) → on_one all q ≡ false → on_one pids q ≡ false) → AllByRecursion (TakesAll (on_one all)) pids
 takes_within [] all h = tt
 takes_within (pid ∷ pids) all h = (
   λ q n. off_payload pid q (or_none (on pid q) (on_one pids q) (h q n)).0,
@@ -171,7 +172,7 @@ module _ (c : Purpose) (cue : ℕ) (past : List (List ℕ)) (is_cue : c.cue_pid 
     abbrev Goes : Table → Type 0
     Goes t = Entry-goes t.section t.program_map
 
-    all_go : Each (λ (t : Table). AreBytes t.section) (all_tables c.program past) → Each Goes (all_tables c.program past)
+    all_go : AllByRecursion (λ (t : Table). AreBytes t.section) (all_tables c.program past) → AllByRecursion Goes (all_tables c.program past)
     all_go bytes =
         let ts = all_tables c.program past in
         let P = IsRead l.program in
@@ -188,7 +189,7 @@ module _ (c : Purpose) (cue : ℕ) (past : List (List ℕ)) (is_cue : c.cue_pid 
     back_by s None h = tt
     back_by s (Some m) h = let e = h.undone in rw e h.back
 
-    backs : (ts : List Table) → Each Goes ts → Each (GoesOut (without_cue_entry cue) l.program) (map (table_out (with_cue_entry cue)) ts)
+    backs : (ts : List Table) → AllByRecursion Goes ts → AllByRecursion (GoesOut (without_cue_entry cue) l.program) (map (table_out (with_cue_entry cue)) ts)
     backs [] h = tt
     backs (t ∷ ts) h = (back_by t.section t.program_map h.0, backs ts h.1)
 
@@ -199,7 +200,7 @@ module _ (c : Purpose) (cue : ℕ) (past : List (List ℕ)) (is_cue : c.cue_pid 
     same_by s None h = refl
     same_by s (Some m) h = ap (λ x. made (pmt_section x) (Some x)) h.undone ∙ ap (λ x. made x (Some m)) h.spelled
 
-    sames : (ts : List Table) → Each Goes ts → map (table_out (without_cue_entry cue)) (map (table_out (with_cue_entry cue)) ts) ≡ ts
+    sames : (ts : List Table) → AllByRecursion Goes ts → map (table_out (without_cue_entry cue)) (map (table_out (with_cue_entry cue)) ts) ≡ ts
     sames [] h = refl
     sames (t ∷ ts) h =
         ap (λ u. u ∷ map (table_out (without_cue_entry cue)) (map (table_out (with_cue_entry cue)) ts)) (same_by t.section t.program_map h.0)
@@ -211,7 +212,7 @@ module _ (c : Purpose) (cue : ℕ) (past : List (List ℕ)) (is_cue : c.cue_pid 
     same_first s None x g k = k
     same_first s (Some m) x g k = ap (λ r. let y : Option Program = Some r in y) g.same
 
-    same_program : (ts : List Table) → Each Goes ts → option_map program_in (option_map (with_cue_entry cue) (first_map ts)) ≡ option_map program_in (first_map ts)
+    same_program : (ts : List Table) → AllByRecursion Goes ts → option_map program_in (option_map (with_cue_entry cue) (first_map ts)) ≡ option_map program_in (first_map ts)
     same_program [] h = refl
     same_program (t ∷ ts) h = same_first t.section t.program_map (first_map ts) h.0 (same_program ts h.1)
 
@@ -235,7 +236,7 @@ module _ (c : Purpose) (cue : ℕ) (past : List (List ℕ)) (is_cue : c.cue_pid 
         apart_by cue (is_pid (Some cue)) (eq-eqb cue cue refl) (streams_of m) free.1,
       )
 
-  map_sound : (l : Listed) (ts : List Table) → Each (λ (t : Table). MapSound c l.pid t.program_map) ts → MapSound c l.pid (first_map ts)
+  map_sound : (l : Listed) (ts : List Table) → AllByRecursion (λ (t : Table). MapSound c l.pid t.program_map) ts → MapSound c l.pid (first_map ts)
   map_sound l [] h = tt
   map_sound l (t ∷ ts) h = by_map l t.program_map (first_map ts) h.0 (map_sound l ts h.1) where
     by_map : (l : Listed) (o x : Option ProgramMap) → MapSound c l.pid o → MapSound c l.pid x → MapSound c l.pid (earlier o x)
@@ -252,11 +253,11 @@ module _ (c : Purpose) (cue : ℕ) (past : List (List ℕ)) (is_cue : c.cue_pid 
   apart_cue None h = let n = no_tables c.program past h in rw n tt
   apart_cue (Some l) h = (aparts l h).1
 
-  all_left : (qs : List (List ℕ)) → Each (On cue) qs → Each (λ q. on_one pids q ≡ false) qs
+  all_left : (qs : List (List ℕ)) → AllByRecursion (On cue) qs → AllByRecursion (λ q. on_one pids q ≡ false) qs
   all_left qs h = Each-map (On cue) (λ q. on_one pids q ≡ false) (λ q y. apart_on cue pids (apart_cue (listed c.program past) refl) q y) qs h
 
   module _ (cues : List ℕ → List (List ℕ) → List (List ℕ)) where
-    pass_along : (back : List (List ℕ)) → Along (λ p past. Each (On cue) (cues p past)) back → ((l : Listed) → listed c.program back ≡ Some l → listed c.program past ≡ Some l)
+    pass_along : (back : List (List ℕ)) → Along (λ p past. AllByRecursion (On cue) (cues p past)) back → ((l : Listed) → listed c.program back ≡ Some l → listed c.program past ≡ Some l)
         → Along (Passes (on_one pids) (cueing cue cues) c.program) back
     pass_along [] f h = tt
     pass_along (p ∷ back) f h = (
@@ -268,7 +269,7 @@ module _ (c : Purpose) (cue : ℕ) (past : List (List ℕ)) (is_cue : c.cue_pid 
       pass_along back f.1 (λ l known. h l (listed_stays c.program p back l known)),
     )
 
-    module _ (fronts : Along (λ p past. Each (On cue) (cues p past)) past) (bytes : Each (λ (t : Table). AreBytes t.section) (all_tables c.program past)) where
+    module _ (fronts : Along (λ p past. AllByRecursion (On cue) (cues p past)) past) (bytes : AllByRecursion (λ (t : Table). AreBytes t.section) (all_tables c.program past)) where
       abbrev w : Writing
       w = cueing cue cues
 
@@ -289,10 +290,10 @@ module _ (c : Purpose) (cue : ℕ) (past : List (List ℕ)) (is_cue : c.cue_pid 
       packets : filter (on_one pids) (behind_head c.program out) ≡ filter (on_one pids) (behind_head c.program past)
       packets = head_passes (on_one pids) w c.program past clear (pass_along past fronts (λ l known. known))
 
-      every : Each (TakesAll (on_one pids)) pids
+      every : AllByRecursion (TakesAll (on_one pids)) pids
       every = takes_within pids pids (λ q n. n)
 
-      units : Each (SameUnits pids (behind_head c.program out) (behind_head c.program past)) pids
+      units : AllByRecursion (SameUnits pids (behind_head c.program out) (behind_head c.program past)) pids
       units = Each-map (TakesAll (on_one pids)) (SameUnits pids (behind_head c.program out) (behind_head c.program past))
           (λ pid t. others_are_no_units (on_one pids) pids pid (behind_head c.program out) (behind_head c.program past) every t packets) pids every
 
@@ -303,7 +304,7 @@ module _ (c : Purpose) (cue : ℕ) (past : List (List ℕ)) (is_cue : c.cue_pid 
       abbrev v : Writing
       v = stripping cue
 
-      on_none : (back : List (List ℕ)) → Along (λ p past. Each (On cue) (v.front p past)) back
+      on_none : (back : List (List ℕ)) → Along (λ p past. AllByRecursion (On cue) (v.front p past)) back
       on_none [] = tt
       on_none (p ∷ back) = (tt, on_none back)
 

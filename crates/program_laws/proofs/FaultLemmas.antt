@@ -1,5 +1,6 @@
 -- What a run without fault says.
 use Rattle.std.proofs.Common.{◌≡◌, ℕ, List, [], ◌∷◌, ◌++◌, Bool, true, false, not, ◌&&◌, ◌==◌, refl, sym, ap, ◌∙◌, length, Option, Some, None, Result, Ok, Err, if◌then◌else◌}
+use Rattle.std.specs.List.{AllByRecursion}
 use Rattle.std.specs.Prelude.{nat_lt, option_map}
 use Rattle.std.proofs.lemmas.Bool.{eqb-true}
 use Rattle.ts_packet.proofs.Cases.{by_test}
@@ -18,10 +19,10 @@ use Rattle.program_follower.specs.declared.purpose.Listed.{Listed}
 use Rattle.program_follower.specs.Program.{earlier, pairs_of, listed_by, lists, first_listed, listed, Table, tables, all_tables, first_map, known_map, Program, program_in, program_of, behind_head, pids_of}
 use Rattle.program_follower.specs.Faults.{on_cue, if_bad, pmt_pid_fault, differs, pairs_fault, pat_fault, pats_fault, bad_pids, cue_used, same_streams, changed, too_long, map_fault, table_fault, tables_fault, maps_fault, cue_fault, as_network, network_fault, first_fault}
 use Rattle.unit_stream.specs.Faults.{unit_fault}
-use Rattle.program_laws.specs.Writing.{Each, Along}
+use Rattle.program_laws.specs.Writing.{Along}
 use Rattle.program_laws.specs.Cued.{PairsAgree, PatsAgree, MapAgrees, NothingChanges, NoCuePackets}
 use Rattle.program_laws.proofs.StepLemmas.{earlier-assoc, tables_grow, kept}
-use Rattle.program_laws.proofs.GivenLemmas.{Each-append}
+use Rattle.psi_section.proofs.GivenLemmas.{All-both}
 use Rattle.program_laws.proofs.ReadingLemmas.{listed_stays, none_at_pat}
 
 pub none_both : {A : Type 0} (x y : Option A) → earlier x y ≡ None → (x ≡ None) × (y ≡ None)
@@ -32,15 +33,15 @@ pub not_if_bad : (b : Bool) (f : NetworkFault) → if_bad b f ≡ None → b ≡
 not_if_bad true f h = absurd (cc)
 not_if_bad false f h = refl
 
-pub Each-map : {A : Type 0} (P Q : A → Type 0) → ((x : A) → P x → Q x) → (xs : List A) → Each P xs → Each Q xs
+pub Each-map : {A : Type 0} (P Q : A → Type 0) → ((x : A) → P x → Q x) → (xs : List A) → AllByRecursion P xs → AllByRecursion Q xs
 Each-map P Q f [] h = tt
 Each-map P Q f (x ∷ xs) h = (f x h.0, Each-map P Q f xs h.1)
 
-pub Each-both : {A : Type 0} (P Q : A → Type 0) (xs : List A) → Each P xs → Each Q xs → Each (λ x. P x × Q x) xs
+pub Each-both : {A : Type 0} (P Q : A → Type 0) (xs : List A) → AllByRecursion P xs → AllByRecursion Q xs → AllByRecursion (λ x. P x × Q x) xs
 Each-both P Q [] h k = tt
 Each-both P Q (x ∷ xs) h k = ((h.0, k.0), Each-both P Q xs h.1 k.1)
 
-pub Each-parts : {A : Type 0} (P : A → Type 0) (xs ys : List A) → Each P (xs ++ ys) → Each P xs × Each P ys
+pub Each-parts : {A : Type 0} (P : A → Type 0) (xs ys : List A) → AllByRecursion P (xs ++ ys) → AllByRecursion P xs × AllByRecursion P ys
 Each-parts P [] ys h = (tt, h)
 Each-parts P (x ∷ xs) ys h = let r = Each-parts P xs ys h.1 in ((h.0, r.0), r.1)
 
@@ -79,7 +80,7 @@ pat_agrees : (c : Purpose) (l : Listed) (r : Result Association TableFault) → 
 pat_agrees c l (Ok a) h = pairs_agree c l (is_current a.version) a.pairs h
 pat_agrees c l (Err e) h = tt
 
-pats_agree : (c : Purpose) (l : Listed) (ss : List (List ℕ)) → pats_fault c (Some l) ss ≡ None → Each (λ s. PairsAgree l (pairs_of (pat s))) ss
+pats_agree : (c : Purpose) (l : Listed) (ss : List (List ℕ)) → pats_fault c (Some l) ss ≡ None → AllByRecursion (λ s. PairsAgree l (pairs_of (pat s))) ss
 pats_agree c l [] h = tt
 pats_agree c l (s ∷ ss) h =
     let r = none_both (pat_fault c (Some l) (pat s)) (pats_fault c (Some l) ss) h in
@@ -149,7 +150,7 @@ sound_table : (c : Purpose) (pid : ℕ) (first o : Option ProgramMap) → table_
 sound_table c pid first None h = tt
 sound_table c pid first (Some m) h = (sound_map c pid first m h).0
 
-sound_tables : (c : Purpose) (pid : ℕ) (first : Option ProgramMap) (ts : List Table) → tables_fault c pid first ts ≡ None → Each (λ (t : Table). MapSound c pid t.program_map) ts
+sound_tables : (c : Purpose) (pid : ℕ) (first : Option ProgramMap) (ts : List Table) → tables_fault c pid first ts ≡ None → AllByRecursion (λ (t : Table). MapSound c pid t.program_map) ts
 sound_tables c pid first [] h = tt
 sound_tables c pid first (t ∷ ts) h =
     let r = none_both (table_fault c pid first t.program_map) (tables_fault c pid (earlier first t.program_map) ts) h in
@@ -192,7 +193,7 @@ agree_moved : (a b o : Option ProgramMap) → a ≡ b → MapAgrees a o → MapA
 agree_moved a b None e h = tt
 agree_moved a b (Some m) e h = ap (option_map program_in) (sym e) ∙ h
 
-maps_agree : (c : Purpose) (pid : ℕ) (first : Option ProgramMap) (ts : List Table) → tables_fault c pid first ts ≡ None → Each (λ (t : Table). MapAgrees (earlier first (first_map ts)) t.program_map) ts
+maps_agree : (c : Purpose) (pid : ℕ) (first : Option ProgramMap) (ts : List Table) → tables_fault c pid first ts ≡ None → AllByRecursion (λ (t : Table). MapAgrees (earlier first (first_map ts)) t.program_map) ts
 maps_agree c pid first [] h = tt
 maps_agree c pid first (t ∷ ts) h =
     let r = none_both (table_fault c pid first t.program_map) (tables_fault c pid (earlier first t.program_map) ts) h in
@@ -208,18 +209,18 @@ still known rest None h = tt
 still known rest (Some m) h = kept program_in known rest (program_in m) h
 
 new_agree : (c : Purpose) (o : Option Listed) (known : Option ProgramMap) (p : List ℕ) (past : List (List ℕ)) → listed c.program past ≡ o → maps_fault c o known (tables c.program p past) ≡ None
-    → Each (λ (t : Table). MapAgrees (earlier known (first_map (tables c.program p past))) t.program_map) (tables c.program p past)
+    → AllByRecursion (λ (t : Table). MapAgrees (earlier known (first_map (tables c.program p past))) t.program_map) (tables c.program p past)
 new_agree c None known p past e h = let n : tables c.program p past ≡ [] = simp e refl in rw n tt
 new_agree c (Some l) known p past e h = maps_agree c l.pid known (tables c.program p past) h
 
-all_agree : (c : Purpose) (past : List (List ℕ)) → first_fault c past ≡ None → Each (λ (t : Table). MapAgrees (known_map c.program past) t.program_map) (all_tables c.program past)
+all_agree : (c : Purpose) (past : List (List ℕ)) → first_fault c past ≡ None → AllByRecursion (λ (t : Table). MapAgrees (known_map c.program past) t.program_map) (all_tables c.program past)
 all_agree c [] h = tt
 all_agree c (p ∷ past) h =
     let r = clean_run c p past h in
     let known = known_map c.program past in
     let ts = tables c.program p past in
     let rest = first_map ts in
-    let both = Each-append (λ (t : Table). MapAgrees (earlier known rest) t.program_map) (all_tables c.program past) ts
+    let both = All-both (λ (t : Table). MapAgrees (earlier known rest) t.program_map) (all_tables c.program past) ts
     (Each-map (λ (t : Table). MapAgrees known t.program_map) (λ (t : Table). MapAgrees (earlier known rest) t.program_map) (λ t g. still known rest t.program_map g) (all_tables c.program past) (all_agree c past r.0))
     (new_agree c (listed c.program past) known p past refl r.1.maps) in
     let e = tables_grow c.program p past in
@@ -233,24 +234,24 @@ pub same_listed : (k l : Listed) → Some k ≡ Some l → k ≡ l
 same_listed k l e = cc
 
 new_sound : (c : Purpose) (l : Listed) (p : List ℕ) (past : List (List ℕ)) → listed c.program past ≡ Some l → maps_fault c (listed c.program past) (known_map c.program past) (tables c.program p past) ≡ None
-    → Each (λ (t : Table). MapSound c l.pid t.program_map) (tables c.program p past)
+    → AllByRecursion (λ (t : Table). MapSound c l.pid t.program_map) (tables c.program p past)
 new_sound c l p past e h =
     let known = known_map c.program past in
     let ts = tables c.program p past in
     sound_tables c l.pid known ts (ap (λ o. maps_fault c o known ts) (sym e) ∙ h)
 
-pub all_sound : (c : Purpose) (past : List (List ℕ)) (l : Listed) → first_fault c past ≡ None → listed c.program past ≡ Some l → Each (λ (t : Table). MapSound c l.pid t.program_map) (all_tables c.program past)
+pub all_sound : (c : Purpose) (past : List (List ℕ)) (l : Listed) → first_fault c past ≡ None → listed c.program past ≡ Some l → AllByRecursion (λ (t : Table). MapSound c l.pid t.program_map) (all_tables c.program past)
 all_sound c [] l h e = tt
 all_sound c (p ∷ past) l h e =
     let r = clean_run c p past h in
     by_known (listed c.program past) refl r.1.maps (λ f. all_sound c past l r.0 f) where
       by_known : (o : Option Listed) → listed c.program past ≡ o → maps_fault c (listed c.program past) (known_map c.program past) (tables c.program p past) ≡ None
-          → (listed c.program past ≡ Some l → Each (λ (t : Table). MapSound c l.pid t.program_map) (all_tables c.program past)) → Each (λ (t : Table). MapSound c l.pid t.program_map) (all_tables c.program (p ∷ past))
+          → (listed c.program past ≡ Some l → AllByRecursion (λ (t : Table). MapSound c l.pid t.program_map) (all_tables c.program past)) → AllByRecursion (λ (t : Table). MapSound c l.pid t.program_map) (all_tables c.program (p ∷ past))
       by_known None g m ih = let n = none_at_pat c.program p past g in rw n tt
       by_known (Some k) g m ih =
           let same : k ≡ l = same_listed k l (sym (listed_stays c.program p past k g) ∙ e) in
           let here : listed c.program past ≡ Some l = g ∙ ap (λ x. let y : Option Listed = Some x in y) same in
-          Each-append (λ (t : Table). MapSound c l.pid t.program_map) (all_tables c.program past) (tables c.program p past) (ih here) (new_sound c l p past here m)
+          All-both (λ (t : Table). MapSound c l.pid t.program_map) (all_tables c.program past) (tables c.program p past) (ih here) (new_sound c l p past here m)
 
 -- ---- the cue PID
 

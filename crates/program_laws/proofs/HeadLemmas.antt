@@ -1,5 +1,6 @@
 -- What stands behind the head of a written stream.
 use Rattle.std.proofs.Common.{◌≡◌, ℕ, List, [], ◌∷◌, ◌++◌, Bool, true, false, refl, sym, ap, ◌∙◌, Option, Some, None, map, if◌then◌else◌}
+use Rattle.std.specs.List.{AllByRecursion}
 use Rattle.std.specs.Prelude.{filter, is_some, option_map}
 use Rattle.std.proofs.lemmas.List.Elements.{filter-append}
 use Rattle.ts_packet.specs.Fields.{on}
@@ -9,12 +10,15 @@ use Rattle.ts_packet.proofs.FieldLemmas.{payload_on-on}
 use Rattle.psi_tables.specs.ProgramMap.{ProgramMap}
 use Rattle.program_follower.specs.declared.purpose.Listed.{Listed}
 use Rattle.program_follower.specs.Program.{earlier, listed, since_pat, table_of, tables, first_map, known_map, behind_head}
-use Rattle.program_laws.specs.Writing.{Each, onto, number_on, Writing, section_out, packets_out, body, written}
+use Rattle.program_laws.specs.Writing.{number_on, Writing, section_out, packets_out, body, written}
+use Rattle.ts_packet.specs.Runs.{onto}
 use Rattle.program_laws.specs.Behind.{Passes, HeadPasses, OthersPass}
 use Rattle.program_laws.proofs.StepLemmas.{tables_grow}
-use Rattle.program_laws.proofs.GivenLemmas.{Each-append}
-use Rattle.program_laws.proofs.PacketLemmas.{Carries, turn_carry, one_past-below}
-use Rattle.program_laws.proofs.ReadingLemmas.{given_off, tables_at, none_at_pat}
+use Rattle.psi_section.proofs.GivenLemmas.{All-both}
+use Rattle.program_laws.proofs.PacketLemmas.{one_past-below}
+use Rattle.psi_section.proofs.ReadBackLemmas.{Carries, turn_carry}
+use Rattle.program_laws.proofs.ReadingLemmas.{tables_at, none_at_pat}
+use Rattle.psi_section.proofs.RunLemmas.{given_off}
 use Rattle.program_laws.proofs.WritingLemmas.{listed_below, written_reads_again}
 
 -- ---- a block of packets
@@ -42,7 +46,7 @@ module _ (takes : List ℕ → Bool) where
   abbrev Left : List ℕ → Type 0
   Left q = takes q ≡ false
 
-  left_out : (qs : List (List ℕ)) → Each Left qs → filter takes qs ≡ []
+  left_out : (qs : List (List ℕ)) → AllByRecursion Left qs → filter takes qs ≡ []
   left_out [] h = refl
   left_out (q ∷ qs) h = let k = h.0 in simp k (left_out qs h.1)
 
@@ -57,16 +61,16 @@ module _ (takes : List ℕ → Bool) where
   one_behind wanted q out None n h = ap (filter takes) (sym (nothing_behind wanted out h))
   one_behind wanted q out (Some m) n h = simp n refl
 
-  left_behind : (wanted : Option ℕ) (qs out : List (List ℕ)) → Each Left qs → filter takes (behind_head wanted (onto out qs)) ≡ filter takes (behind_head wanted out)
+  left_behind : (wanted : Option ℕ) (qs out : List (List ℕ)) → AllByRecursion Left qs → filter takes (behind_head wanted (onto out qs)) ≡ filter takes (behind_head wanted out)
   left_behind wanted [] out h = refl
   left_behind wanted (q ∷ qs) out h = left_behind wanted qs (q ∷ out) h.1 ∙ one_behind wanted q out (known_map wanted out) h.0 refl
 
-  own_left : (pid : ℕ) → ((q : List ℕ) → on pid q ≡ true → takes q ≡ false) → (qs : List (List ℕ)) → Each (Carries pid) qs → Each Left qs
+  own_left : (pid : ℕ) → ((q : List ℕ) → on pid q ≡ true → takes q ≡ false) → (qs : List (List ℕ)) → AllByRecursion (Carries pid) qs → AllByRecursion Left qs
   own_left pid own [] h = tt
   own_left pid own (q ∷ qs) h = (own q (payload_on-on pid q h.0), own_left pid own qs h.1)
 
   module _ (w : Writing) (wanted : Option ℕ) (p : List ℕ) (past out : List (List ℕ)) (s : Passes takes w wanted p past) where
-    packets_left : (l : Listed) → listed wanted past ≡ Some l → Each Left (packets_out l.pid out (map (section_out w.change) (tables wanted p past)))
+    packets_left : (l : Listed) → listed wanted past ≡ Some l → AllByRecursion Left (packets_out l.pid out (map (section_out w.change) (tables wanted p past)))
     packets_left l h =
         let n = one_past (number_on l.pid out) in
         let ss = map (section_out w.change) (tables wanted p past) in
@@ -110,7 +114,7 @@ module _ (takes : List ℕ → Bool) where
     head_step (Some l) h none k again =
         by_test (on l.pid p)
         (λ y. let e : whole (Some l) ≡ w.front p past ++ packets_out l.pid out (map (section_out w.change) (tables wanted p past)) = simp y refl in
-        let all = Each-append Left (w.front p past) (packets_out l.pid out (map (section_out w.change) (tables wanted p past))) s.front (packets_left l h) in
+        let all = All-both Left (w.front p past) (packets_out l.pid out (map (section_out w.change) (tables wanted p past))) s.front (packets_left l h) in
         ap (λ qs. filter takes (behind_head wanted (onto out qs))) e
         ∙ left_behind wanted (w.front p past ++ packets_out l.pid out (map (section_out w.change) (tables wanted p past))) out all
         ∙ ap (filter takes) (nothing_behind wanted out k))

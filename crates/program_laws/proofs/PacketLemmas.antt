@@ -1,70 +1,19 @@
 -- The packets of sections: each has payload and the PID, and the next counter is not the last one's.
 use Rattle.std.proofs.Common.{◌≡◌, ℕ, zero, suc, ◌+◌, ◌/◌, ◌%◌, ◌<◌, List, [], ◌∷◌, true, false, not, ◌&&◌, ◌==◌, Option, Some, None, refl, ap, ◌∙◌, arith, length, drop}
+use Rattle.std.specs.List.{AllByRecursion}
 use Rattle.std.proofs.lemmas.Bool.{eq-eqb, ne_eqb}
 use Rattle.ts_packet.specs.declared.follower.Last.{Last}
 use Rattle.ts_packet.specs.Fields.{in_error, pid_of, number, payload, on, payload_on, alike}
 use Rattle.ts_packet.specs.Duplicates.{repeats, last_of, repeats_last}
 use Rattle.ts_packet.specs.Numbering.{one_past}
 use Rattle.ts_packet.proofs.Cases.{by_test}
-use Rattle.ts_packet.proofs.FieldLemmas.{number-below, payload_on-on}
+use Rattle.ts_packet.proofs.FieldLemmas.{number-below, payload_on-on, off_payload}
+use Rattle.psi_section.proofs.ReadBackLemmas.{Carries, first_number, different}
 use Rattle.ts_packet.proofs.HistoryLemmas.{walk_is_last}
 use Rattle.psi_section.specs.Packetising.{padded, first_packet, next_packet, later_packets, section_packets, packets_in_turn}
-use Rattle.program_laws.specs.Writing.{Each, onto, number_on, Off}
-use Rattle.program_laws.proofs.GivenLemmas.{Each-append}
-
-module _ (pid n : ℕ) (s : List ℕ) (pb : pid < 8192) (nb : n < 16) where
-  first_error : in_error (first_packet pid n s) ≡ false
-  unfolding in_error
-  first_error = ne_eqb ((pid / 256 + 64) / 128 % 2) 1 (λ e. omega arith)
-
-  first_pid : pid_of (first_packet pid n s) ≡ pid
-  unfolding pid_of
-  first_pid = omega arith
-
-  first_number : number (first_packet pid n s) ≡ n
-  unfolding number
-  first_number = omega arith
-
-  first_payload : payload (first_packet pid n s) ≡ Some (0 ∷ padded 183 s)
-  unfolding payload
-  first_payload = let e = first_error in let c : (16 + n) / 16 % 4 ≡ 1 = omega arith in simp (e, c)
-
-  first_on : payload_on pid (first_packet pid n s) ≡ true
-  unfolding payload_on on
-  first_on = let e = first_error in let q : (pid_of (first_packet pid n s) == pid) ≡ true = eq-eqb _ _ first_pid in let p = first_payload in simp (e, q, p)
-
-  next_error : in_error (next_packet pid n s) ≡ false
-  unfolding in_error
-  next_error = ne_eqb (pid / 256 / 128 % 2) 1 (λ e. omega arith)
-
-  next_pid : pid_of (next_packet pid n s) ≡ pid
-  unfolding pid_of
-  next_pid = omega arith
-
-  next_payload : payload (next_packet pid n s) ≡ Some (padded 184 s)
-  unfolding payload
-  next_payload = let e = next_error in let c : (16 + n) / 16 % 4 ≡ 1 = omega arith in simp (e, c)
-
-  next_on : payload_on pid (next_packet pid n s) ≡ true
-  unfolding payload_on on
-  next_on = let e = next_error in let q : (pid_of (next_packet pid n s) == pid) ≡ true = eq-eqb _ _ next_pid in let p = next_payload in simp (e, q, p)
-
--- a payload packet of the PID
-abbrev pub Carries : ℕ → List ℕ → Type 0
-Carries pid p = payload_on pid p ≡ true
-
-later_carry : (count pid n : ℕ) (bs : List ℕ) → pid < 8192 → n < 16 → Each (Carries pid) (later_packets count pid n bs)
-later_carry zero pid n bs pb nb = tt
-later_carry (suc count) pid n bs pb nb = (next_on pid n bs pb nb, later_carry count pid ((n + 1) % 16) (drop 184 bs) pb (omega arith))
-
-section_carry : (pid n : ℕ) (s : List ℕ) → pid < 8192 → n < 16 → Each (Carries pid) (section_packets pid n s)
-section_carry pid n s pb nb = (first_on pid n s pb nb, later_carry _ pid ((n + 1) % 16) (drop 183 s) pb (omega arith))
-
-pub turn_carry : (pid n : ℕ) (ss : List (List ℕ)) → pid < 8192 → n < 16 → Each (Carries pid) (packets_in_turn pid n ss)
-turn_carry pid n [] pb nb = tt
-turn_carry pid n (s ∷ ss) pb nb =
-    Each-append (Carries pid) (section_packets pid n s) (packets_in_turn pid ((n + length (section_packets pid n s)) % 16) ss) (section_carry pid n s pb nb)
-    (turn_carry pid ((n + length (section_packets pid n s)) % 16) ss pb (omega arith))
+use Rattle.program_laws.specs.Writing.{number_on, Off}
+use Rattle.ts_packet.specs.Runs.{onto}
+use Rattle.psi_section.proofs.GivenLemmas.{All-both}
 
 -- ---- the last counter
 
@@ -76,10 +25,6 @@ Meets pid out (Some l) = number_on pid out ≡ Some (number l.packet)
 pub one_past-below : (o : Option ℕ) → one_past o < 16
 one_past-below None = omega arith
 one_past-below (Some n) = omega arith
-
-different : (q p : List ℕ) → (number q ≡ number p → ⊥) → alike q p ≡ false
-unfolding alike
-different q p h = let e : (number q == number p) ≡ false = ne_eqb (number q) (number p) h in simp e
 
 no_step : (a : ℕ) → a < 16 → a ≡ (a + 1) % 16 → ⊥
 no_step a h e = omega arith
@@ -95,9 +40,6 @@ fresh_by pid out s (Some l) pb h =
 
 pub fresh : (pid : ℕ) (out since : List (List ℕ)) → pid < 8192 → Meets pid out (last_of pid since) → (s : List ℕ) → repeats pid (first_packet pid (one_past (number_on pid out)) s) since ≡ false
 fresh pid out since pb h s = walk_is_last pid (first_packet pid (one_past (number_on pid out)) s) since ∙ fresh_by pid out s (last_of pid since) pb h
-
-pub off_payload : (pid : ℕ) (p : List ℕ) → on pid p ≡ false → payload_on pid p ≡ false
-off_payload pid p h = by_test (payload_on pid p) (λ y. let k = payload_on-on pid p y in cc) (λ n. n)
 
 moved : (pid : ℕ) (q : List ℕ) (out : List (List ℕ)) (last : Option Last) → number_on pid (q ∷ out) ≡ number_on pid out → Meets pid out last → Meets pid (q ∷ out) last
 moved pid q out None f m = tt
@@ -116,10 +58,10 @@ meets_on pid q out since h =
     let e : last_of pid (q ∷ since) ≡ Some (record { packet = q; is_repeat = repeats pid q since }) = simp h in
     rw e (let f : number_on pid (q ∷ out) ≡ Some (number q) = simp k in f)
 
-pub meets_others : (pid : ℕ) (qs out since : List (List ℕ)) → Each (Off pid) qs → Meets pid out (last_of pid since) → Meets pid (onto out qs) (last_of pid (onto since qs))
+pub meets_others : (pid : ℕ) (qs out since : List (List ℕ)) → AllByRecursion (Off pid) qs → Meets pid out (last_of pid since) → Meets pid (onto out qs) (last_of pid (onto since qs))
 meets_others pid [] out since h m = m
 meets_others pid (q ∷ qs) out since h m = meets_others pid qs (q ∷ out) (q ∷ since) h.1 (meets_off pid q out since h.0 m)
 
-pub meets_own : (pid : ℕ) (qs out since : List (List ℕ)) → Each (Carries pid) qs → Meets pid out (last_of pid since) → Meets pid (onto out qs) (last_of pid (onto since qs))
+pub meets_own : (pid : ℕ) (qs out since : List (List ℕ)) → AllByRecursion (Carries pid) qs → Meets pid out (last_of pid since) → Meets pid (onto out qs) (last_of pid (onto since qs))
 meets_own pid [] out since h m = m
 meets_own pid (q ∷ qs) out since h m = meets_own pid qs (q ∷ out) (q ∷ since) h.1 (meets_on pid q out since h.0)

@@ -1,63 +1,15 @@
 -- Streams whose packets on a PID are the same.
 use Rattle.std.proofs.Common.{◌≡◌, ℕ, List, [], ◌∷◌, ◌++◌, false, refl, sym, ap, ◌∙◌, append_assoc, Option, Some, None, map}
+use Rattle.std.specs.List.{AllByRecursion}
 use Rattle.std.proofs.lemmas.List.{append-nil, map-append}
 use Rattle.ts_packet.specs.Fields.{on}
 use Rattle.psi_section.specs.Sections.{given, sections_after}
-use Rattle.psi_section.proofs.RunLemmas.{Alike}
 use Rattle.program_follower.specs.declared.purpose.Listed.{Listed}
 use Rattle.program_follower.specs.Program.{earlier, lists, first_listed, listed, since_pat, table_of, tables, all_tables}
-use Rattle.program_laws.specs.Writing.{Each, onto, Off}
-use Rattle.program_laws.proofs.PacketLemmas.{off_payload}
+use Rattle.program_laws.specs.Writing.{Off}
+use Rattle.ts_packet.specs.Runs.{onto}
+use Rattle.ts_packet.proofs.FieldLemmas.{off_payload}
 use Rattle.program_laws.proofs.StepLemmas.{earlier-assoc}
-
--- ---- packets of other PIDs
-
-pub alike_off : (pid : ℕ) (p : List ℕ) (past other : List (List ℕ)) → on pid p ≡ false → Alike pid past other → Alike pid (p ∷ past) other
-alike_off pid p past other h k = let n = off_payload pid p h in record {
-  last = simp n k.last;
-  part = simp n k.part;
-  repeated = λ q. simp n (k.repeated q);
-}
-
-pub given_off : (pid : ℕ) (p : List ℕ) (past : List (List ℕ)) → on pid p ≡ false → given pid p past ≡ []
-given_off pid p past h = let n = off_payload pid p h in simp n
-
-alike_on : (pid : ℕ) (p : List ℕ) (past other : List (List ℕ)) → Alike pid past other → Alike pid (p ∷ past) (p ∷ other)
-alike_on pid p past other k =
-    let r = k.repeated p in
-    record {
-      last = simp (r, k.last);
-      part = simp (r, k.last, k.part);
-      repeated = λ q. let s = k.repeated q in let l = k.repeated p in simp (s, l);
-    }
-
-pub given_on : (pid : ℕ) (p : List ℕ) (past other : List (List ℕ)) → Alike pid past other → given pid p past ≡ given pid p other
-given_on pid p past other k = let r = k.repeated p in simp (r, k.last, k.part)
-
-pub alike_none : (pid : ℕ) (past : List (List ℕ)) → Alike pid past past
-alike_none pid past = record { last = refl; part = refl; repeated = λ p. refl }
-
-pub alike_back : (pid : ℕ) (past other : List (List ℕ)) → Alike pid past other → Alike pid other past
-alike_back pid past other k = record { last = sym k.last; part = sym k.part; repeated = λ p. sym (k.repeated p) }
-
-pub alike_both : (pid : ℕ) (past other third : List (List ℕ)) → Alike pid past other → Alike pid other third → Alike pid past third
-alike_both pid past other third k l = record { last = k.last ∙ l.last; part = k.part ∙ l.part; repeated = λ p. k.repeated p ∙ l.repeated p }
-
--- packets off the PID finish nothing, and change nothing
-pub others_alike : (pid : ℕ) (qs past other : List (List ℕ)) → Each (Off pid) qs → Alike pid past other → Alike pid (onto past qs) other
-others_alike pid [] past other h k = k
-others_alike pid (q ∷ qs) past other h k = others_alike pid qs (q ∷ past) other h.1 (alike_off pid q past other h.0 k)
-
-pub others_give : (pid : ℕ) (qs past : List (List ℕ)) → Each (Off pid) qs → sections_after past pid qs ≡ []
-others_give pid [] past h = refl
-others_give pid (q ∷ qs) past h = ap (λ l. l ++ sections_after (q ∷ past) pid qs) (given_off pid q past h.0) ∙ others_give pid qs (q ∷ past) h.1
-
-pub one_alike : (pid : ℕ) (p : List ℕ) (past other : List (List ℕ)) → Alike pid past other → Alike pid (p ∷ past) (p ∷ other)
-one_alike pid p past other k = alike_on pid p past other k
-
-pub onto-append : (past ps qs : List (List ℕ)) → onto past (ps ++ qs) ≡ onto (onto past ps) qs
-onto-append past [] qs = refl
-onto-append past (p ∷ ps) qs = onto-append (p ∷ past) ps qs
 
 -- ---- a block of packets behind a stream: the PAT
 

@@ -1,12 +1,12 @@
 -- Packets that are no payload packets of switched PIDs change neither units nor times.
 use Rattle.std.proofs.Common.{◌≡◌, ℕ, ℤ, List, [], ◌∷◌, Bool, true, false, not, ◌&&◌, ◌||◌, refl, sym, ap, ◌∙◌, Option, if◌then◌else◌}
+use Rattle.std.specs.List.{AllByRecursion}
 use Rattle.std.specs.Prelude.{filter}
 use Rattle.ts_packet.specs.Fields.{payload_on, bytes, unit_start, random_access}
 use Rattle.ts_packet.specs.Duplicates.{repeats, original}
 use Rattle.ts_packet.proofs.Cases.{by_test}
 use Rattle.unit_stream.specs.Times.{begins, begins_one, high, unit_time, stamp, raised, timed}
 use Rattle.unit_stream.specs.Units.{TimedUnit, units_back, longer}
-use Rattle.program_laws.specs.Writing.{Each}
 use Rattle.program_laws.specs.Behind.{TakesAll, OthersAreNoUnits}
 
 module _ (takes : List ℕ → Bool) where
@@ -39,15 +39,15 @@ module _ (takes : List ℕ → Bool) where
     begins_not : (p : List ℕ) (past : List (List ℕ)) → takes p ≡ false → begins pid p past ≡ false
     begins_not p past n = let k = all p n in simp k
 
-  one_taken : (switched : List ℕ) → Each (TakesAll takes) switched → (p : List ℕ) (past : List (List ℕ)) → begins_one switched p past ≡ begins_one switched p (filter takes past)
+  one_taken : (switched : List ℕ) → AllByRecursion (TakesAll takes) switched → (p : List ℕ) (past : List (List ℕ)) → begins_one switched p past ≡ begins_one switched p (filter takes past)
   one_taken [] h p past = refl
   one_taken (pid ∷ pids) h p past = let i = begins_taken pid h.0 p past in let j = one_taken pids h.1 p past in ap (λ x. x || begins_one pids p past) i ∙ ap (λ x. begins pid p (filter takes past) || x) j
 
-  one_not : (switched : List ℕ) → Each (TakesAll takes) switched → (p : List ℕ) (past : List (List ℕ)) → takes p ≡ false → begins_one switched p past ≡ false
+  one_not : (switched : List ℕ) → AllByRecursion (TakesAll takes) switched → (p : List ℕ) (past : List (List ℕ)) → takes p ≡ false → begins_one switched p past ≡ false
   one_not [] h p past n = refl
   one_not (pid ∷ pids) h p past n = let i = begins_not pid h.0 p past n in let j = one_not pids h.1 p past n in ap (λ x. x || begins_one pids p past) i ∙ j
 
-  module _ (switched : List ℕ) (every : Each (TakesAll takes) switched) where
+  module _ (switched : List ℕ) (every : AllByRecursion (TakesAll takes) switched) where
     high_taken : (past : List (List ℕ)) → high switched past ≡ high switched (filter takes past)
     high_taken [] = refl
     high_taken (p ∷ past) =

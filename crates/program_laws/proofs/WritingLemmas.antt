@@ -1,5 +1,6 @@
 -- What is written is read again.
 use Rattle.std.proofs.Common.{◌≡◌, ℕ, ◌<◌, List, [], ◌∷◌, ◌++◌, Bool, true, false, refl, sym, ap, ◌∙◌, arith, Option, Some, None, map}
+use Rattle.std.specs.List.{AllByRecursion}
 use Rattle.std.specs.Prelude.{option_map, find, All, not, ◌==◌, ◌&&◌}
 use Rattle.std.proofs.lemmas.Bool.{eqb-true}
 use Rattle.std.proofs.lemmas.List.{map-append}
@@ -18,10 +19,14 @@ use Rattle.psi_tables.specs.Streams.{pid_in}
 use Rattle.psi_tables.specs.ProgramMap.{ProgramMap, pmt, pmt_section}
 use Rattle.program_follower.specs.declared.purpose.Listed.{Listed}
 use Rattle.program_follower.specs.Program.{earlier, listed_as, listed_in, pairs_of, listed_by, lists, first_listed, listed, since_pat, Table, map_read, table_of, tables, all_tables, first_map}
-use Rattle.program_laws.specs.Writing.{Each, Along, onto, number_on, Writing, section_by, section_out, table_out, packets_out, body, written, Off, MapGoesOut, GoesOut, IsClearBehind, IsClear, WrittenReadsAgain}
-use Rattle.program_laws.proofs.GivenLemmas.{Each-append, given_can}
-use Rattle.program_laws.proofs.PacketLemmas.{Carries, turn_carry, Meets, one_past-below, fresh, meets_others, meets_own}
-use Rattle.program_laws.proofs.ReadingLemmas.{given_off, given_on, alike_off, alike_none, alike_back, others_alike, others_give, one_alike, onto-append, listed_onto, listed_stays, since_onto, tables_at, tables_onto, no_tables, none_at_pat, no_since}
+use Rattle.program_laws.specs.Writing.{Along, number_on, Writing, section_by, section_out, table_out, packets_out, body, written, Off, MapGoesOut, GoesOut, IsClearBehind, IsClear, WrittenReadsAgain}
+use Rattle.ts_packet.specs.Runs.{onto}
+use Rattle.psi_section.proofs.GivenLemmas.{All-both, given_can_each}
+use Rattle.program_laws.proofs.PacketLemmas.{Meets, one_past-below, fresh, meets_others, meets_own}
+use Rattle.psi_section.proofs.ReadBackLemmas.{Carries, turn_carry}
+use Rattle.program_laws.proofs.ReadingLemmas.{listed_onto, listed_stays, since_onto, tables_at, tables_onto, no_tables, none_at_pat, no_since}
+use Rattle.psi_section.proofs.RunLemmas.{given_off, given_on, alike_off, alike_none, alike_back, others_alike, others_give, alike_on}
+use Rattle.ts_packet.proofs.RunLemmas.{onto-append}
 
 -- ---- the PID of a PMT has 13 bits
 
@@ -75,7 +80,7 @@ one_pid a b p h k = let x = both_of (not (in_error p)) (pid_of p == a) h in let 
 pub off_other : (a b : ℕ) (p : List ℕ) → (a ≡ b → ⊥) → on a p ≡ true → Off b p
 off_other a b p ne h = by_test (on b p) (λ y. absurd (ne (one_pid a b p h y))) (λ n. n)
 
-pub carry_off : (a b : ℕ) (qs : List (List ℕ)) → (a ≡ b → ⊥) → Each (Carries a) qs → Each (Off b) qs
+pub carry_off : (a b : ℕ) (qs : List (List ℕ)) → (a ≡ b → ⊥) → AllByRecursion (Carries a) qs → AllByRecursion (Off b) qs
 carry_off a b [] ne h = tt
 carry_off a b (q ∷ qs) ne h = (off_other a b q ne (payload_on-on a q h.0), carry_off a b qs ne h.1)
 
@@ -87,7 +92,7 @@ module _ (change : ProgramMap → ProgramMap) (program : ℕ) where
   one_out s None h g = ap (λ o. let t : Table = record { section = s; program_map = o } in t) h
   one_out s (Some m) h g = ap (λ o. let t : Table = record { section = pmt_section (change m); program_map = o } in t) g.reads
 
-  all_out : (ss : List (List ℕ)) → Each (GoesOut change program) (map (table_of program) ss)
+  all_out : (ss : List (List ℕ)) → AllByRecursion (GoesOut change program) (map (table_of program) ss)
       → map (table_of program) (map (section_out change) (map (table_of program) ss)) ≡ map (table_out change) (map (table_of program) ss)
   all_out [] h = refl
   all_out (s ∷ ss) h =
@@ -98,7 +103,7 @@ module _ (change : ProgramMap → ProgramMap) (program : ℕ) where
   one_can s None g k = k
   one_can s (Some m) g k = g.given
 
-  all_can : (ss : List (List ℕ)) → Each (GoesOut change program) (map (table_of program) ss) → Each CanBeGiven ss → All CanBeGiven (map (section_out change) (map (table_of program) ss))
+  all_can : (ss : List (List ℕ)) → AllByRecursion (GoesOut change program) (map (table_of program) ss) → AllByRecursion CanBeGiven ss → All CanBeGiven (map (section_out change) (map (table_of program) ss))
   all_can [] h k = All-nil CanBeGiven
   all_can (s ∷ ss) h k =
       All-cons CanBeGiven (section_out change (table_of program s)) (map (section_out change) (map (table_of program) ss))
@@ -115,27 +120,27 @@ record Reads (w : Writing) (wanted : Option ℕ) (past out : List (List ℕ)) : 
 
 module _ (w : Writing) (wanted : Option ℕ) (p : List ℕ) (past out : List (List ℕ)) (r : Reads w wanted past out) where
   -- packets off PID 0 list nothing
-  quiet : (qs : List (List ℕ)) → Each (Off 0) qs → listed wanted (onto out qs) ≡ listed wanted past
+  quiet : (qs : List (List ℕ)) → AllByRecursion (Off 0) qs → listed wanted (onto out qs) ≡ listed wanted past
   quiet qs h = listed_onto wanted qs out ∙ ap (λ ss. earlier (listed wanted out) (first_listed wanted ss)) (others_give 0 qs out h) ∙ no_more (listed wanted out) ∙ r.same where
     no_more : (x : Option Listed) → earlier x None ≡ x
     no_more None = refl
     no_more (Some x) = refl
 
   -- before the PAT, and at it
-  at_zero : (front : List (List ℕ)) → Each (Off 0) front → listed wanted past ≡ None → Reads w wanted (p ∷ past) (p ∷ onto out front)
+  at_zero : (front : List (List ℕ)) → AllByRecursion (Off 0) front → listed wanted past ≡ None → Reads w wanted (p ∷ past) (p ∷ onto out front)
   at_zero front h none =
       let mid = onto out front in
       let z = others_alike 0 front out past h r.zero in
       let k : listed wanted mid ≡ None = quiet front h ∙ none in
       let since = no_since wanted p mid k in
       record {
-        zero = one_alike 0 p mid past z;
+        zero = alike_on 0 p mid past z;
         same = ap (λ x. earlier x (first_listed wanted (given 0 p mid))) (quiet front h) ∙ ap (λ ss. earlier (listed wanted past) (first_listed wanted ss)) (given_on 0 p mid past z);
         tables = none_at_pat wanted p mid k ∙ ap (map (table_out w.change)) (sym (none_at_pat wanted p past none));
         counters = λ l e. rw since tt;
       }
 
-  before : (qs : List (List ℕ)) → Each (Off 0) qs → on 0 p ≡ false → listed wanted past ≡ None → Reads w wanted (p ∷ past) (onto out qs)
+  before : (qs : List (List ℕ)) → AllByRecursion (Off 0) qs → on 0 p ≡ false → listed wanted past ≡ None → Reads w wanted (p ∷ past) (onto out qs)
   before qs h off none =
       let mid = onto out qs in
       let z = others_alike 0 qs out past h r.zero in
@@ -175,7 +180,7 @@ module _ (w : Writing) (wanted : Option ℕ) (p : List ℕ) (past out : List (Li
           pid_same l k e = let f : l ≡ k = cc in ap (λ (x : Listed). x.pid) f
 
     -- packets off the PMT's PID finish nothing, and nor does this one
-    passing : (qs : List (List ℕ)) → Each (Off l.pid) qs → on l.pid p ≡ false → Alike 0 (onto out qs) (p ∷ past) → Reads w wanted (p ∷ past) (onto out qs)
+    passing : (qs : List (List ℕ)) → AllByRecursion (Off l.pid) qs → on l.pid p ≡ false → Alike 0 (onto out qs) (p ∷ past) → Reads w wanted (p ∷ past) (onto out qs)
     passing qs h off z =
         let none : tables wanted p past ≡ [] = tables_at wanted p past l known ∙ ap (map (table_of l.program)) (given_off l.pid p (since_pat wanted past) off) in
         behind qs z
@@ -196,13 +201,13 @@ module _ (w : Writing) (wanted : Option ℕ) (p : List ℕ) (past out : List (Li
         let nb = one_past-below (number_on pid out) in
         let carry = turn_carry pid n ss pb nb in
         let none = carry_off pid 0 qs b.pid carry in
-        let both = Each-append (Off 0) front qs clear.front none in
+        let both = All-both (Off 0) front qs clear.front none in
         let z = others_alike 0 (front ++ qs) out past both r.zero in
         let off = off_other pid 0 p b.pid is in
         let g = given pid p (since_pat wanted past) in
         let here : tables wanted p past ≡ map (table_of l.program) g = tables_at wanted p past l known in
-        let maps : Each (GoesOut w.change l.program) (map (table_of l.program) g) = rw here at b.maps in
-        let can : All CanBeGiven ss = rw here (all_can w.change l.program g maps (given_can pid p (since_pat wanted past))) in
+        let maps : AllByRecursion (GoesOut w.change l.program) (map (table_of l.program) g) = rw here at b.maps in
+        let can : All CanBeGiven ss = rw here (all_can w.change l.program g maps (given_can_each pid p (since_pat wanted past))) in
         let m : Meets pid out (last_of pid (onto since front)) = rw (others_alike pid front since since b.front (alike_none pid since)).last (r.counters l known) in
         let back : sections_after (onto since front) pid qs ≡ ss = read_back_in_turn pid n ss (onto since front) pb nb can (fresh pid out (onto since front) pb m) in
         let all : sections_after since pid (front ++ qs) ≡ ss =
@@ -219,20 +224,20 @@ module _ (w : Writing) (wanted : Option ℕ) (p : List ℕ) (past out : List (Li
       by_test (on 0 p)
       (λ y. let e : onto out (w.front p past ++ w.place p past) ≡ p ∷ onto out (w.front p past) = ap (λ qs. onto out (w.front p past ++ qs)) (clear.keeps y) ∙ onto-append out (w.front p past) (p ∷ []) in
       rw e (at_zero (w.front p past) clear.front none))
-      (λ n. before (w.front p past ++ w.place p past) (Each-append (Off 0) (w.front p past) (w.place p past) clear.front (clear.place n)) n none)
+      (λ n. before (w.front p past ++ w.place p past) (All-both (Off 0) (w.front p past) (w.place p past) clear.front (clear.place n)) n none)
 
   step_off : IsClear w wanted p past → (l : Listed) → listed wanted past ≡ Some l → on l.pid p ≡ false → Reads w wanted (p ∷ past) (onto out (w.front p past ++ w.place p past))
   step_off clear l known off =
       let b = clear.behind l known in
       let front = w.front p past in
       let qs = front ++ w.place p past in
-      let offs = Each-append (Off l.pid) front (w.place p past) b.front (b.place off) in
+      let offs = All-both (Off l.pid) front (w.place p past) b.front (b.place off) in
       passing l known qs offs off
       (by_test (on 0 p)
       (λ y. let e : onto out qs ≡ p ∷ onto out front = ap (λ xs. onto out (front ++ xs)) (clear.keeps y) ∙ onto-append out front (p ∷ []) in
-      rw e (one_alike 0 p (onto out front) past (others_alike 0 front out past clear.front r.zero)))
+      rw e (alike_on 0 p (onto out front) past (others_alike 0 front out past clear.front r.zero)))
       (λ n. alike_back 0 (p ∷ past) (onto out qs) (alike_off 0 p past (onto out qs) n (alike_back 0 (onto out qs) past
-      (others_alike 0 qs out past (Each-append (Off 0) front (w.place p past) clear.front (clear.place n)) r.zero)))))
+      (others_alike 0 qs out past (All-both (Off 0) front (w.place p past) clear.front (clear.place n)) r.zero)))))
 
   step : IsClear w wanted p past → (o : Option Listed) → listed wanted past ≡ o → Reads w wanted (p ∷ past) (onto out (w.front p past ++ body w o p past (tables wanted p past) out))
   step clear None h = step_none clear h

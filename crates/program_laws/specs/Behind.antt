@@ -1,15 +1,16 @@
 -- What stands behind the head of a written stream, and what its units are.
 use Rattle.std.specs.Prelude.{◌≡◌, ℕ, List, [], ◌∷◌, Bool, true, false, filter, Option, Some}
+use Rattle.std.specs.List.{AllByRecursion}
 use Rattle.ts_packet.specs.Fields.{on, payload_on}
 use Rattle.unit_stream.specs.Times.{high, unit_time}
 use Rattle.unit_stream.specs.Units.{units_back}
 use Rattle.program_follower.specs.declared.purpose.Listed.{Listed}
 use Rattle.program_follower.specs.Program.{listed, behind_head}
-use Rattle.program_laws.specs.Writing.{Each, Along, Writing, written, IsClear}
+use Rattle.program_laws.specs.Writing.{Along, Writing, written, IsClear}
 
 -- of the packets that a test takes, a writing puts in none, and leaves each where it was; and it takes none on the PMT's PID
 pub record Passes (takes : List ℕ → Bool) (w : Writing) (wanted : Option ℕ) (p : List ℕ) (past : List (List ℕ)) : Type 0 where
-  pub front : Each (λ q. takes q ≡ false) (w.front p past)
+  pub front : AllByRecursion (λ q. takes q ≡ false) (w.front p past)
   pub place : filter takes (w.place p past) ≡ filter takes (p ∷ [])
   pub own : (l : Listed) → listed wanted past ≡ Some l → (q : List ℕ) → on l.pid q ≡ true → takes q ≡ false
 
@@ -35,5 +36,5 @@ pub record SameUnits (switched : List ℕ) (past other : List (List ℕ)) (pid :
 
 -- THE LAW OF OTHER PACKETS: packets that are no payload packets of switched PIDs change neither units nor times
 abbrev pub OthersAreNoUnits : Type 0
-OthersAreNoUnits = (takes : List ℕ → Bool) (switched : List ℕ) (pid : ℕ) (past other : List (List ℕ)) → Each (TakesAll takes) switched → TakesAll takes pid
+OthersAreNoUnits = (takes : List ℕ → Bool) (switched : List ℕ) (pid : ℕ) (past other : List (List ℕ)) → AllByRecursion (TakesAll takes) switched → TakesAll takes pid
     → filter takes past ≡ filter takes other → SameUnits switched past other pid

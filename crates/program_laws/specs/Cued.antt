@@ -1,5 +1,6 @@
 -- A network without fault, with cues put in, and the same stripped again.
 use Rattle.std.specs.Prelude.{◌≡◌, ℕ, ◌<◌, List, [], ◌∷◌, Bool, true, false, ◌||◌, filter, map, if◌then◌else◌, Option, Some, None, option_map}
+use Rattle.std.specs.List.{AllByRecursion}
 use Rattle.ts_packet.specs.Fields.{on}
 use Rattle.psi_section.specs.Sections.{given}
 use Rattle.psi_tables.specs.Numbers.{AreBytes}
@@ -10,7 +11,7 @@ use Rattle.program_follower.specs.declared.purpose.Purpose.{Purpose}
 use Rattle.program_follower.specs.declared.purpose.Listed.{Listed}
 use Rattle.program_follower.specs.Program.{listed, pairs_of, Table, all_tables, known_map, program_in, program_of, behind_head, pids_of}
 use Rattle.program_follower.specs.Faults.{first_fault}
-use Rattle.program_laws.specs.Writing.{Each, Along, Writing, written, table_out}
+use Rattle.program_laws.specs.Writing.{Along, Writing, written, table_out}
 use Rattle.program_laws.specs.Behind.{SameUnits}
 
 -- ---- a run without fault
@@ -21,7 +22,7 @@ PairsAgree l None = Unit {0}
 PairsAgree l (Some pairs) = pid_of_program l.program pairs ≡ Some l.pid
 
 abbrev pub PatsAgree : Option ℕ → List ℕ → List (List ℕ) → Type 0
-PatsAgree wanted p past = (l : Listed) → listed wanted past ≡ Some l → Each (λ s. PairsAgree l (pairs_of (pat s))) (given 0 p past)
+PatsAgree wanted p past = (l : Listed) → listed wanted past ≡ Some l → AllByRecursion (λ s. PairsAgree l (pairs_of (pat s))) (given 0 p past)
 
 -- a map of the programme says the same
 abbrev pub MapAgrees : Option ProgramMap → Option ProgramMap → Type 0
@@ -32,7 +33,7 @@ MapAgrees known (Some m) = option_map program_in known ≡ Some (program_in m)
 -- switched streams and PCR PID.
 pub record Agrees (c : Purpose) (past : List (List ℕ)) : Type 0 where
   pub pats : Along (PatsAgree c.program) past
-  pub maps : Each (λ (t : Table). MapAgrees (known_map c.program past) t.program_map) (all_tables c.program past)
+  pub maps : AllByRecursion (λ (t : Table). MapAgrees (known_map c.program past) t.program_map) (all_tables c.program past)
 
 abbrev pub NothingChanges : Type 0
 NothingChanges = (c : Purpose) (past : List (List ℕ)) → first_fault c past ≡ None → Agrees c past
@@ -68,7 +69,7 @@ pub record CuedReads (wanted : Option ℕ) (cue : ℕ) (out past : List (List �
   pub program : program_of wanted out ≡ program_of wanted past
   pub tables : all_tables wanted out ≡ map (table_out (with_cue_entry cue)) (all_tables wanted past)
   pub packets : filter (on_one pids) (behind_head wanted out) ≡ filter (on_one pids) (behind_head wanted past)
-  pub units : Each (SameUnits pids (behind_head wanted out) (behind_head wanted past)) pids
+  pub units : AllByRecursion (SameUnits pids (behind_head wanted out) (behind_head wanted past)) pids
   pub stripped_pat : listed wanted (written (stripping cue) wanted out) ≡ listed wanted past
   pub stripped : all_tables wanted (written (stripping cue) wanted out) ≡ all_tables wanted past
 
@@ -77,5 +78,5 @@ pub record CuedReads (wanted : Option ℕ) (cue : ℕ) (out past : List (List �
 abbrev pub CuedStreamReads : Type 0
 CuedStreamReads = (c : Purpose) (cue : ℕ) (cues : List ℕ → List (List ℕ) → List (List ℕ)) (past : List (List ℕ)) →
     c.cue_pid ≡ Some cue → c.writes_cues ≡ true → (cue ≡ 0 → ⊥) → cue < 8192 → first_fault c past ≡ None →
-    Along (λ p past. AreBytes p) past → Along (λ p past. Each (On cue) (cues p past)) past →
+    Along (λ p past. AreBytes p) past → Along (λ p past. AllByRecursion (On cue) (cues p past)) past →
     CuedReads c.program cue (cued c.program cue cues past) past (pids_of (program_of c.program past))

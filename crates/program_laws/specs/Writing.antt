@@ -1,28 +1,20 @@
 -- Streams that are written from a network: packets are put in, packets are left out or changed, and on the PID of the PMT the
 -- sections go out in packets of their own, the programme's maps changed.
 use Rattle.std.specs.Prelude.{◌≡◌, ℕ, List, [], ◌∷◌, ◌++◌, map, true, false, if◌then◌else◌, Option, Some, None, option_map}
+use Rattle.std.specs.List.{AllByRecursion}
 use Rattle.ts_packet.specs.Fields.{on, number}
 use Rattle.ts_packet.specs.Numbering.{one_past}
+use Rattle.ts_packet.specs.Runs.{onto}
 use Rattle.psi_section.specs.Packetising.{packets_in_turn}
 use Rattle.psi_section.specs.Laws.{CanBeGiven}
 use Rattle.psi_tables.specs.ProgramMap.{ProgramMap, pmt, pmt_section}
 use Rattle.program_follower.specs.declared.purpose.Listed.{Listed}
 use Rattle.program_follower.specs.Program.{listed, Table, tables, all_tables, map_read, known_map}
 
--- each of some is so
-abbrev pub Each : {A : Type 0} → (A → Type 0) → List A → Type 0
-Each P [] = Unit {0}
-Each P (x ∷ xs) = P x × Each P xs
-
 -- each packet of a past, with the packets before it, is so
 abbrev pub Along : (List ℕ → List (List ℕ) → Type 0) → List (List ℕ) → Type 0
 Along P [] = Unit {0}
 Along P (p ∷ past) = P p past × Along P past
-
--- a past, with packets added in their order
-abbrev pub onto : List (List ℕ) → List (List ℕ) → List (List ℕ)
-onto past [] = past
-onto past (p ∷ ps) = onto (p ∷ past) ps
 
 -- the counter of the last packet of a PID that is not marked in error, with payload or without
 abbrev pub number_on : ℕ → List (List ℕ) → Option ℕ
@@ -85,15 +77,15 @@ GoesOut change program t = MapGoesOut change program t.program_map
 -- Behind the PAT: the PID of the PMT is not that of the PAT, nothing else is put on it, and its changed maps can be read.
 pub record IsClearBehind (w : Writing) (wanted : Option ℕ) (p : List ℕ) (past : List (List ℕ)) (l : Listed) : Type 0 where
   pub pid : l.pid ≡ 0 → ⊥
-  pub front : Each (Off l.pid) (w.front p past)
-  pub place : on l.pid p ≡ false → Each (Off l.pid) (w.place p past)
-  pub maps : Each (GoesOut w.change l.program) (tables wanted p past)
+  pub front : AllByRecursion (Off l.pid) (w.front p past)
+  pub place : on l.pid p ≡ false → AllByRecursion (Off l.pid) (w.place p past)
+  pub maps : AllByRecursion (GoesOut w.change l.program) (tables wanted p past)
 
 -- Nothing is put on PID 0, whose packets pass.
 pub record IsClear (w : Writing) (wanted : Option ℕ) (p : List ℕ) (past : List (List ℕ)) : Type 0 where
-  pub front : Each (Off 0) (w.front p past)
+  pub front : AllByRecursion (Off 0) (w.front p past)
   pub keeps : on 0 p ≡ true → w.place p past ≡ p ∷ []
-  pub place : on 0 p ≡ false → Each (Off 0) (w.place p past)
+  pub place : on 0 p ≡ false → AllByRecursion (Off 0) (w.place p past)
   pub behind : (l : Listed) → listed wanted past ≡ Some l → IsClearBehind w wanted p past l
 
 -- ---- the law

@@ -7,7 +7,7 @@ use Rattle.std.proofs.lemmas.List.Recursion.{is_count_by}
 use Rattle.ts_packet.specs.Fields.{in_error, pid_of, payload, payload_on, on, bytes, or_none, adaptation_control, adaptation_length}
 use Rattle.ts_packet.specs.Duplicates.{repeats, last_of, repeats_last}
 use Rattle.ts_packet.proofs.Cases.{by_test}
-use Rattle.ts_packet.proofs.FieldLemmas.{payload_on-on}
+use Rattle.ts_packet.proofs.FieldLemmas.{off_payload}
 use Rattle.ts_packet.proofs.HistoryLemmas.{walk_is_last}
 use Rattle.psi_section.specs.declared.front.Front.TheVariants.{Nothing, Whole, Part}
 use Rattle.psi_section.specs.declared.assembler.Assembler.{Assembler}
@@ -272,7 +272,7 @@ waits_gives a pid past h =
 -- a packet of another PID, or one marked in error, need not be fed
 pub waits_off : (a : Assembler) (pid : ℕ) (p : List ℕ) (past : List (List ℕ)) → on pid p ≡ false → Waits a pid past → Waits a pid (p ∷ past)
 waits_off a pid p past o h =
-    let y : payload_on pid p ≡ false = by_test (payload_on pid p) (λ k. let m = payload_on-on pid p k in cc) (λ k. k) in
+    let y = off_payload pid p o in
     record {
       last = simp y h.last;
       part = simp y h.part;

@@ -79,8 +79,11 @@ good_can (s ∷ ss) h =
     (λ y. simp y (record { whole = h.0; good = not_bad (is_bad s) y }, good_can ss h.1))
     (λ n. simp n (good_can ss h.1))
 
+pub given_can_each : (pid : ℕ) (p : List ℕ) (past : List (List ℕ)) → AllByRecursion CanBeGiven (given pid p past)
+given_can_each pid p past = good_can (finished pid p past) (finished_whole pid p past)
+
 pub given_can : (pid : ℕ) (p : List ℕ) (past : List (List ℕ)) → All CanBeGiven (given pid p past)
-given_can pid p past = All-from_recursion CanBeGiven (given pid p past) (good_can (finished pid p past) (finished_whole pid p past))
+given_can pid p past = All-from_recursion CanBeGiven (given pid p past) (given_can_each pid p past)
 
 -- what an assembler has left can be given
 pub left_can : (a : Assembler) → AllByRecursion CanBeGiven (left a)

@@ -22,6 +22,8 @@ use Rattle.std.specs.Prelude.{All}
 use Rattle.std.proofs.lemmas.List.Elements.{All-head, All-tail}
 use Rattle.psi_section.specs.Packetising.{packets_in_turn}
 use Rattle.psi_section.proofs.RunLemmas.{original_gives, original_holds, sections_after-append}
+use Rattle.std.specs.List.{AllByRecursion}
+use Rattle.psi_section.proofs.GivenLemmas.{All-both}
 use Rattle.psi_section.proofs.PacketiserLemmas.{rest-none}
 
 -- ---- the packets' fields
@@ -39,7 +41,7 @@ module _ (pid n : ℕ) (s : List ℕ) (pb : pid < 8192) (nb : n < 16) where
   unfolding pid_of
   first_pid = omega arith
 
-  first_number : number (first_packet pid n s) ≡ n
+  pub first_number : number (first_packet pid n s) ≡ n
   unfolding number
   first_number = omega arith
 
@@ -51,7 +53,7 @@ module _ (pid n : ℕ) (s : List ℕ) (pb : pid < 8192) (nb : n < 16) where
   unfolding bytes
   first_bytes = ap or_none first_payload
 
-  first_on : payload_on pid (first_packet pid n s) ≡ true
+  pub first_on : payload_on pid (first_packet pid n s) ≡ true
   unfolding payload_on on
   first_on = let e = first_error in let q : (pid_of (first_packet pid n s) == pid) ≡ true = eq-eqb _ _ first_pid in let p = first_payload in simp (e, q, p)
 
@@ -67,7 +69,7 @@ module _ (pid n : ℕ) (s : List ℕ) (pb : pid < 8192) (nb : n < 16) where
   unfolding pid_of
   next_pid = omega arith
 
-  next_number : number (next_packet pid n s) ≡ n
+  pub next_number : number (next_packet pid n s) ≡ n
   unfolding number
   next_number = omega arith
 
@@ -79,7 +81,7 @@ module _ (pid n : ℕ) (s : List ℕ) (pb : pid < 8192) (nb : n < 16) where
   unfolding bytes
   next_bytes = ap or_none next_payload
 
-  next_on : payload_on pid (next_packet pid n s) ≡ true
+  pub next_on : payload_on pid (next_packet pid n s) ≡ true
   unfolding payload_on on
   next_on = let e = next_error in let q : (pid_of (next_packet pid n s) == pid) ≡ true = eq-eqb _ _ next_pid in let p = next_payload in simp (e, q, p)
 
@@ -201,7 +203,7 @@ module _ (s : List ℕ) (w : front_of s ≡ Whole (length s)) where
 
 -- ---- the packets behind the first
 
-different : (q p : List ℕ) → (number q ≡ number p → ⊥) → alike q p ≡ false
+pub different : (q p : List ℕ) → (number q ≡ number p → ⊥) → alike q p ≡ false
 unfolding alike
 different q p h = let e : (number q == number p) ≡ false = ne_eqb (number q) (number p) h in simp e
 
@@ -283,6 +285,25 @@ module _ (s : List ℕ) (can : CanBeGiven s) where
       let z : length (drop 183 s) ≡ 0 = omega arith in
       ap (λ x. x ++ sections_after (p ∷ past) pid more) i ∙ ap (λ x. (s ∷ []) ++ sections_after (p ∷ past) pid x) (rest-none pid ((n + 1) % 16) (drop 183 s) z))
       (cases_lt 183 (length s))
+
+-- ---- all of them are payload packets of the PID
+
+-- a payload packet of the PID
+abbrev pub Carries : ℕ → List ℕ → Type 0
+Carries pid p = payload_on pid p ≡ true
+
+later_carry : (count pid n : ℕ) (bs : List ℕ) → pid < 8192 → n < 16 → AllByRecursion (Carries pid) (later_packets count pid n bs)
+later_carry zero pid n bs pb nb = tt
+later_carry (suc count) pid n bs pb nb = (next_on pid n bs pb nb, later_carry count pid ((n + 1) % 16) (drop 184 bs) pb (omega arith))
+
+section_carry : (pid n : ℕ) (s : List ℕ) → pid < 8192 → n < 16 → AllByRecursion (Carries pid) (section_packets pid n s)
+section_carry pid n s pb nb = (first_on pid n s pb nb, later_carry _ pid ((n + 1) % 16) (drop 183 s) pb (omega arith))
+
+pub turn_carry : (pid n : ℕ) (ss : List (List ℕ)) → pid < 8192 → n < 16 → AllByRecursion (Carries pid) (packets_in_turn pid n ss)
+turn_carry pid n [] pb nb = tt
+turn_carry pid n (s ∷ ss) pb nb =
+    All-both (Carries pid) (section_packets pid n s) (packets_in_turn pid ((n + length (section_packets pid n s)) % 16) ss) (section_carry pid n s pb nb)
+    (turn_carry pid ((n + length (section_packets pid n s)) % 16) ss pb (omega arith))
 
 -- ---- one section after another
 

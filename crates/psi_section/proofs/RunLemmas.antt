@@ -7,7 +7,7 @@ use Rattle.ts_packet.specs.Fields.{on, payload_on}
 use Rattle.ts_packet.specs.Duplicates.{repeats, last_of}
 use Rattle.ts_packet.specs.Runs.{Seen, seen_after}
 use Rattle.ts_packet.proofs.Cases.{by_test}
-use Rattle.ts_packet.proofs.FieldLemmas.{payload_on-on}
+use Rattle.ts_packet.proofs.FieldLemmas.{off_payload}
 use Rattle.ts_packet.proofs.RunLemmas.{onto, seen_after-append}
 use Rattle.psi_section.specs.Laws.{SameHistory}
 use Rattle.psi_section.specs.Sections.{Taken, packet_taken, is_good, is_bad, held, given, failed, given_by, sections_with, sections_after, sections}
@@ -36,9 +36,6 @@ original_holds pid p past t y w e = simp (y, w) (ap (λ (x : Taken). x.part) e)
 
 -- ---- packets of other PIDs
 
-pub off : (pid : ℕ) (p : List ℕ) → on pid p ≡ false → payload_on pid p ≡ false
-off pid p h = by_test (payload_on pid p) (λ y. let k = payload_on-on pid p y in cc) (λ n. n)
-
 -- two pasts that come to the same
 pub record Alike (pid : ℕ) (past other : List (List ℕ)) : Type 0 where
   pub last : last_of pid past ≡ last_of pid other
@@ -46,14 +43,14 @@ pub record Alike (pid : ℕ) (past other : List (List ℕ)) : Type 0 where
   pub repeated : (p : List ℕ) → repeats pid p past ≡ repeats pid p other
 
 pub alike_off : (pid : ℕ) (p : List ℕ) (past other : List (List ℕ)) → on pid p ≡ false → Alike pid past other → Alike pid (p ∷ past) other
-alike_off pid p past other h k = let n = off pid p h in record {
+alike_off pid p past other h k = let n = off_payload pid p h in record {
   last = simp n k.last;
   part = simp n k.part;
   repeated = λ q. simp n (k.repeated q);
 }
 
 pub given_off : (pid : ℕ) (p : List ℕ) (past : List (List ℕ)) → on pid p ≡ false → given pid p past ≡ []
-given_off pid p past h = let n = off pid p h in simp n
+given_off pid p past h = let n = off_payload pid p h in simp n
 
 pub alike_on : (pid : ℕ) (p : List ℕ) (past other : List (List ℕ)) → Alike pid past other → Alike pid (p ∷ past) (p ∷ other)
 alike_on pid p past other k =
@@ -116,7 +113,7 @@ filtered_alike pid (p ∷ past) =
     (λ n. simp n (alike_off pid p past (filter (on pid) past) n k))
 
 failed_off : (pid : ℕ) (p : List ℕ) (past : List (List ℕ)) → on pid p ≡ false → failed pid (p ∷ past) ≡ failed pid past
-failed_off pid p past h = let n = off pid p h in simp n (zero-add (failed pid past))
+failed_off pid p past h = let n = off_payload pid p h in simp n (zero-add (failed pid past))
 
 failed_on : (pid : ℕ) (p : List ℕ) (past other : List (List ℕ)) → Alike pid past other → failed pid past ≡ failed pid other → failed pid (p ∷ past) ≡ failed pid (p ∷ other)
 failed_on pid p past other k h = let r = k.repeated p in simp (r, k.last, k.part, h)

@@ -1,8 +1,9 @@
 -- What another counter leaves as it was.
-use Rattle.std.proofs.Common.{◌≡◌, ℕ, ◌+◌, ◌*◌, ◌/◌, ◌%◌, ◌<◌, List, [], ◌∷◌, true, refl, sym, ap, ◌∙◌, arith, length, slice_index, slice_set, drop}
+use Rattle.std.proofs.Common.{◌≡◌, ℕ, ◌+◌, ◌*◌, ◌/◌, ◌%◌, ◌<◌, List, [], ◌∷◌, true, false, refl, sym, ap, ◌∙◌, arith, length, slice_index, slice_set, drop}
 use Rattle.std.specs.Prelude.{nat_eq}
 use Rattle.std.proofs.lemmas.Grind.{common_steps}
 use Rattle.std.proofs.lemmas.List.{drop-drop, get_or-drop}
+use Rattle.ts_packet.proofs.Cases.{by_test}
 use Rattle.ts_packet.specs.Fields.{in_error, unit_start, pid_of, scrambled, number, payload, with_number, on, payload_on, bytes, or_none, carries, alike, renumbered, without_number}
 
 -- the code's write is the definition
@@ -92,6 +93,9 @@ payload_on-renumbered pid n p = let b = below_16 (number p + n) in rw (error-wit
 pub payload_on-on : (pid : ℕ) (p : List ℕ) → payload_on pid p ≡ true → on pid p ≡ true
 unfolding payload_on
 payload_on-on pid p h = grind arith
+
+pub off_payload : (pid : ℕ) (p : List ℕ) → on pid p ≡ false → payload_on pid p ≡ false
+off_payload pid p h = by_test (payload_on pid p) (λ y. let k = payload_on-on pid p y in cc) (λ n. n)
 
 pub payload-renumbered : (n : ℕ) (p : List ℕ) → payload (renumbered n p) ≡ payload p
 unfolding renumbered

@@ -7,12 +7,10 @@ use Rattle.ts_packet.specs.declared.follower.Last.{Last}
 use Rattle.ts_packet.specs.Fields.{payload_on}
 use Rattle.ts_packet.specs.Duplicates.{repeats, last_of, nearest, InStep, IsNext, IsSame, Gapless}
 use Rattle.ts_packet.specs.Runs.{Seen, seen_after, IsGapless, IsGaplessAfter}
+pub use Rattle.ts_packet.specs.Runs.{onto}
 use Rattle.ts_packet.proofs.Cases.{by_test}
 
--- a past, with packets added in their order; `reverse ps` computes to `onto [] ps`
-abbrev pub onto : List (List ℕ) → List (List ℕ) → List (List ℕ)
-onto past [] = past
-onto past (p ∷ ps) = onto (p ∷ past) ps
+-- `reverse ps` computes to `onto [] ps`
 
 -- the packets of a run of two parts: those of the second have the first in their past
 pub seen_after-append : (past ps qs : List (List ℕ)) → seen_after past (ps ++ qs) ≡ seen_after past ps ++ seen_after (onto past ps) qs
@@ -96,3 +94,8 @@ gapless_past before pid (p ∷ past) h = (in_step_alone before pid p past h.0, g
 
 pub gapless_alone : (before : Option (List ℕ)) (pid : ℕ) (ps : List (List ℕ)) → IsGaplessAfter before pid ps → IsGapless pid ps
 gapless_alone before pid ps h = (gapless_back None pid [] ps (gapless_past before pid (reverse ps) (gapless_glue before pid [] ps tt h))).1
+
+-- a past with two runs added in turn
+pub onto-append : (past ps qs : List (List ℕ)) → onto past (ps ++ qs) ≡ onto (onto past ps) qs
+onto-append past [] qs = refl
+onto-append past (p ∷ ps) qs = onto-append (p ∷ past) ps qs

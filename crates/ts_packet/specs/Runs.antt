@@ -32,3 +32,8 @@ others pid ps = filter (λ p. not (on pid p)) ps
 -- packets but for their counters
 abbrev pub uncounted : List (List ℕ) → List (List ℕ)
 uncounted ps = map without_number ps
+
+-- a past, newest first, with packets added in their order
+abbrev pub onto : List (List ℕ) → List (List ℕ) → List (List ℕ)
+onto past [] = past
+onto past (p ∷ ps) = onto (p ∷ past) ps
