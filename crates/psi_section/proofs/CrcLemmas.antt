@@ -278,7 +278,7 @@ own_word r h =
     let a = r * 256 % 2 ^ 32 in
     let b = a * 256 % 2 ^ 32 in
     let c = b * 256 % 2 ^ 32 in
-    let e1 : with_bits r (bits_of (r / 2 ^ 24)) ≡ a = own_next r (r / 2 ^ 24) h refl in
+    let e1 : with_bits r (bits_of (r / 2 ^ 24 % 256)) ≡ a = own_next r (r / 2 ^ 24 % 256) h (omega arith) in
     let e2 : with_bits a (bits_of (r / 2 ^ 16 % 256)) ≡ b = own_next a (r / 2 ^ 16 % 256) (omega arith) (omega arith) in
     let e3 : with_bits b (bits_of (r / 2 ^ 8 % 256)) ≡ c = own_next b (r / 2 ^ 8 % 256) (omega arith) (omega arith) in
     let e4 : with_bits c (bits_of (r % 256)) ≡ c * 256 % 2 ^ 32 = own_next c (r % 256) (omega arith) (omega arith) in
@@ -287,6 +287,10 @@ own_word r h =
     ∙ ap (λ x. with_bits x (bits_of (r % 256))) e3
     ∙ e4
     ∙ omega arith
+
+pub word_closes : (r : ℕ) → r < 2 ^ 32 → crc_remainder r (word_bytes r) ≡ 0
+unfolding crc_remainder
+word_closes r h = own_word r h
 
 pub crc_closed : (bs : List ℕ) → crc (bs ++ word_bytes (crc bs)) ≡ 0
 unfolding crc crc_remainder

@@ -37,6 +37,6 @@ crc_remainder start bs = remainder_after start bs
 unfoldable pub crc : List ℕ → ℕ
 crc bs = crc_remainder (2 ^ 32 - 1) bs
 
--- the four bytes of a word, most significant first
+-- the four bytes of a word of 32 bits, most significant first
 abbrev pub word_bytes : ℕ → List ℕ
-word_bytes w = w / 2 ^ 24 ∷ w / 2 ^ 16 % 256 ∷ w / 2 ^ 8 % 256 ∷ w % 256 ∷ []
+word_bytes w = w / 2 ^ 24 % 256 ∷ w / 2 ^ 16 % 256 ∷ w / 2 ^ 8 % 256 ∷ w % 256 ∷ []

@@ -37,6 +37,14 @@ abbrev pub packets_in_turn : ℕ → ℕ → List (List ℕ) → List (List ℕ)
 packets_in_turn pid n [] = []
 packets_in_turn pid n (s ∷ ss) = section_packets pid n s ++ packets_in_turn pid ((n + length (section_packets pid n s)) % 16) ss
 
+-- the packets of a section, by the packetiser that writes them
+abbrev pub packets_of : Packetiser → List ℕ → List (List ℕ)
+packets_of p s = section_packets p.pid p.counter s
+
+-- the packets in which a section goes on with these bytes
+abbrev pub rest_of : Packetiser → List ℕ → List (List ℕ)
+rest_of p bs = rest_packets p.pid p.counter bs
+
 -- its packets have this PID, and the next this counter
 pub record Puts (p : Packetiser) (pid n : ℕ) : Type 0 where
   pub same_pid : p.pid ≡ pid

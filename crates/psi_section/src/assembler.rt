@@ -45,7 +45,8 @@ impl Assembler {
     /// out, and so is one without payload.
     pub fn feed(&mut self, packet: &Packet)
         requires { IsReady self.old }
-        ensures { (pid : ℕ) (past : List (List ℕ)) → IsOf pid packet.now → Waits self.old pid past → Gives self.new pid (packet.now ∷ past) (given pid packet.now past) }
+        ensures { (pid : ℕ) (past : List (List ℕ)) → IsOf pid packet.now → Waits self.old pid past →
+            Gives self.new pid (packet.now ∷ past) (given pid packet.now past) }
     {
         let Some(payload) = packet.payload() else {
             return;
@@ -127,7 +128,8 @@ impl Assembler {
     /// Passes over the sections up to the first whose CRC_32 does not fail, that one included, and answers its size; 0 where there
     /// is none.
     fn find(&mut self) -> usize
-        ensures finds { (pid : ℕ) (past todo : List (List ℕ)) → Gives self.old pid past todo → Finds self.new pid past todo result }
+        ensures finds { (pid : ℕ) (past todo : List (List ℕ)) → Gives self.old pid past todo →
+            Finds self.new pid past todo result }
         ensures picks { Picks (left self.old) self.new result }
         ensures ready { result ≡ 0 → IsReady self.new }
         ensures room { result ≤ self.new.store.at }
@@ -154,7 +156,8 @@ impl Assembler {
     /// The number of sections whose CRC_32 failed, up to where `next` has come; it stops at the greatest.
     pub fn bad(&self) -> u64
         ensures waits { (pid : ℕ) (past : List (List ℕ)) → Waits self.now pid past → result ≡ capped (failed pid past) }
-        ensures gives { (pid : ℕ) (past todo : List (List ℕ)) → Gives self.now pid past todo → result ≡ capped (failed pid past - bad_left self.now) }
+        ensures gives { (pid : ℕ) (past todo : List (List ℕ)) → Gives self.now pid past todo →
+            result ≡ capped (failed pid past - bad_left self.now) }
     {
         self.bad
     }

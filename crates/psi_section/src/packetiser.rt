@@ -17,7 +17,7 @@ pub struct Packetiser {
 impl Packetiser {
     ghost use Rattle.ts_packet.specs.Transfers.{WentWell};
     ghost use Rattle.ts_packet.specs.Sinks.{Blamed};
-    ghost use Rattle.psi_section.specs.Packetising.{Puts, PutsAfter, PutFails, first_packet, next_packet, rest_packets, section_packets};
+    ghost use Rattle.psi_section.specs.Packetising.{Puts, PutsAfter, PutFails, first_packet, next_packet, rest_of, packets_of};
 
     /// A packetiser whose packets have this PID, and whose first has this continuity_counter, below 16.
     pub fn new(pid: Pid, counter: u8) -> Packetiser
@@ -33,10 +33,10 @@ impl Packetiser {
         requires { 0 < length section.now }
         ensures leads { S.leads sink.old sink.new }
         ensures ok { (start : Option (List ℕ)) (ps : List (List ℕ)) → S.holds sink.old start ps →
-            OnOk result (S.holds sink.new start (ps ++ section_packets self.old.pid self.old.counter section.now)) }
-        ensures counter { OnOk result (PutsAfter self.new self.old (length (section_packets self.old.pid self.old.counter section.now))) }
+            OnOk result (S.holds sink.new start (ps ++ packets_of self.old section.now)) }
+        ensures counter { OnOk result (PutsAfter self.new self.old (length (packets_of self.old section.now))) }
         ensures err { (start : Option (List ℕ)) (ps : List (List ℕ)) → S.holds sink.old start ps →
-            IfErr result (λ f. PutFails self.old self.new (section_packets self.old.pid self.old.counter section.now) (λ put p. S.fails sink.new start (ps ++ put) p f)) }
+            IfErr result (λ f. PutFails self.old self.new (packets_of self.old section.now) (λ put p. S.fails sink.new start (ps ++ put) p f)) }
         ensures well { OnOk result (WentWell (S.counts sink.old) (S.counts sink.new)) }
         ensures blamed { IfErr result (λ f. Blamed f (S.counts sink.old) (S.counts sink.new) (S.is_full sink.new)) }
     {
@@ -52,10 +52,10 @@ impl Packetiser {
     fn put_rest<S: PacketSink>(&mut self, bytes: &[u8], sink: &mut S) -> Result<(), PutFault>
         ensures leads { S.leads sink.old sink.new }
         ensures ok { (start : Option (List ℕ)) (ps : List (List ℕ)) → S.holds sink.old start ps →
-            OnOk result (S.holds sink.new start (ps ++ rest_packets self.old.pid self.old.counter bytes.now)) }
-        ensures counter { OnOk result (PutsAfter self.new self.old (length (rest_packets self.old.pid self.old.counter bytes.now))) }
+            OnOk result (S.holds sink.new start (ps ++ rest_of self.old bytes.now)) }
+        ensures counter { OnOk result (PutsAfter self.new self.old (length (rest_of self.old bytes.now))) }
         ensures err { (start : Option (List ℕ)) (ps : List (List ℕ)) → S.holds sink.old start ps →
-            IfErr result (λ f. PutFails self.old self.new (rest_packets self.old.pid self.old.counter bytes.now) (λ put p. S.fails sink.new start (ps ++ put) p f)) }
+            IfErr result (λ f. PutFails self.old self.new (rest_of self.old bytes.now) (λ put p. S.fails sink.new start (ps ++ put) p f)) }
         ensures well { OnOk result (WentWell (S.counts sink.old) (S.counts sink.new)) }
         ensures blamed { IfErr result (λ f. Blamed f (S.counts sink.old) (S.counts sink.new) (S.is_full sink.new)) }
     {
@@ -74,9 +74,11 @@ impl Packetiser {
     /// Puts a packet, and counts it where it is taken.
     fn send<S: PacketSink>(&mut self, packet: &Packet, sink: &mut S) -> Result<(), PutFault>
         ensures leads { S.leads sink.old sink.new }
-        ensures ok { (start : Option (List ℕ)) (ps : List (List ℕ)) → S.holds sink.old start ps → OnOk result (S.holds sink.new start (ps ++ packet.now ∷ [])) }
+        ensures ok { (start : Option (List ℕ)) (ps : List (List ℕ)) → S.holds sink.old start ps →
+            OnOk result (S.holds sink.new start (ps ++ packet.now ∷ [])) }
         ensures counted { OnOk result (Puts self.new self.old.pid ((self.old.counter + 1) % 16)) }
-        ensures err { (start : Option (List ℕ)) (ps : List (List ℕ)) → S.holds sink.old start ps → IfErr result (λ f. S.fails sink.new start ps packet.now f) }
+        ensures err { (start : Option (List ℕ)) (ps : List (List ℕ)) → S.holds sink.old start ps →
+            IfErr result (λ f. S.fails sink.new start ps packet.now f) }
         ensures same { IfErr result (λ _. Puts self.new self.old.pid self.old.counter) }
         ensures well { OnOk result (WentWell (S.counts sink.old) (S.counts sink.new)) }
         ensures blamed { IfErr result (λ f. Blamed f (S.counts sink.old) (S.counts sink.new) (S.is_full sink.new)) }
@@ -114,7 +116,8 @@ impl Packetiser {
 
     /// The four bytes before the payload, and 0xFF in its place.
     fn header(&self) -> [u8; 188]
-        ensures value { result ≡ 0x47 ∷ (self.now.pid / 256) ∷ self.now.pid % 256 ∷ (16 + self.now.counter) ∷ replicate 184 0xFF }
+        ensures value { result ≡ 0x47 ∷ (self.now.pid / 256) ∷ self.now.pid % 256 ∷ (16 + self.now.counter)
+            ∷ replicate 184 0xFF }
         ensures below { self.now.pid < 8192 }
     {
         let number = self.pid.get();

@@ -56,7 +56,8 @@ impl Store {
     fn finish(&mut self, bytes: &[u8])
         requires room { length (content self.old) ≤ 4096 }
         requires size { length bytes.now ≤ 184 }
-        ensures taken { (more : List ℕ) → taken (content self.new ++ more) ≡ after (continued (content self.old) bytes.now).finished (taken more) }
+        ensures taken { (more : List ℕ) →
+            taken (content self.new ++ more) ≡ after (continued (content self.old) bytes.now).finished (taken more) }
         ensures room { length (content self.new) ≤ 4096 }
     {
         if self.len() == 0 {

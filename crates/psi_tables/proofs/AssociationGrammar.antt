@@ -6,7 +6,8 @@ use Rattle.std.proofs.lemmas.Bool.{le-ltb, le-leb, eq-eqb, eqb-true}
 use Rattle.std.proofs.lemmas.List.{length-drop, length-take, length-append, take_at, drop_at, take-append-drop, drop-append-le}
 use Rattle.byteorder.specs.Endian.{big_bytes}
 use Rattle.psi_section.specs.Sections.{section_length, has_syntax}
-use Rattle.psi_tables.specs.Numbers.{number16_at, number32_at, AreBytes}
+use Rattle.psi_section.specs.Laws.{AreBytes}
+use Rattle.psi_tables.specs.Numbers.{number16_at, number32_at}
 use Rattle.psi_tables.specs.Sections.{is_table, has_size, before_crc, is_current}
 use Rattle.psi_tables.specs.Runs.{run_of, things_of}
 use Rattle.psi_tables.specs.Association.{IsPair, pair_bytes, pair_at, Association, IsAssociation, pat_section, pairs_in, association_of, pat_fills, pat_fault, pat}

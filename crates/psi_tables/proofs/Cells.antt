@@ -4,7 +4,8 @@ use Rattle.std.proofs.lemmas.List.{get_or-drop, drop_more, drop-drop, length-dro
 use Rattle.std.proofs.lemmas.Bool.{cases_lt}
 use Rattle.byteorder.specs.Endian.{big_number, big_bytes}
 use Rattle.psi_section.specs.Sections.{section_length}
-use Rattle.psi_tables.specs.Numbers.{number16_at, number32_at, AreBytes}
+use Rattle.psi_section.specs.Laws.{AreBytes}
+use Rattle.psi_tables.specs.Numbers.{number16_at, number32_at}
 
 pub AreBytes-drop : (n : ℕ) (bytes : List ℕ) → AreBytes bytes → AreBytes (drop n bytes)
 AreBytes-drop n bytes h i = rw get_or-drop (h (n + i))

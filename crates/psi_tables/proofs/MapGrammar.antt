@@ -6,7 +6,8 @@ use Rattle.std.proofs.lemmas.List.{length-drop, length-take, length-append, take
 use Rattle.byteorder.specs.Endian.{big_bytes}
 use Rattle.psi_tables.specs.declared.fault.TableFault.{TableFault}
 use Rattle.psi_section.specs.Sections.{section_length, has_syntax}
-use Rattle.psi_tables.specs.Numbers.{number16_at, number32_at, AreBytes}
+use Rattle.psi_section.specs.Laws.{AreBytes}
+use Rattle.psi_tables.specs.Numbers.{number16_at, number32_at}
 use Rattle.psi_tables.specs.Sections.{is_table, has_size, before_crc}
 use Rattle.psi_tables.specs.Runs.{run_of, things_of}
 use Rattle.psi_tables.specs.Descriptors.{IsDescriptor, descriptor_bytes, descriptor_at}

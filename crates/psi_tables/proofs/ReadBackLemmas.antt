@@ -24,7 +24,7 @@ use Rattle.psi_tables.proofs.MapLemmas.{IsPmt, faultless}
 use Rattle.psi_tables.proofs.MapGrammar.{map_back, map_spelled, map_fits}
 use Rattle.psi_tables.proofs.AssociationLemmas as pats
 use Rattle.psi_tables.proofs.AssociationGrammar.{association_spelled, association_fits}
-use Rattle.psi_tables.proofs.SealLemmas.{crc_below}
+use Rattle.psi_section.proofs.CrcLemmas.{crc-below}
 use Rattle.psi_tables.proofs.UndoLemmas.{checks}
 
 -- ---- what was read
@@ -104,7 +104,7 @@ with_fits pid m h fits room = record {
   info_flags = fits.info_flags;
   descriptors = All-more IsDescriptor m.descriptors cue_registration fits.descriptors registration_fits;
   entries = All-more IsEntry m.entries (cue_entry pid) fits.entries (entry_fits pid h);
-  crc = crc_below _;
+  crc = crc-below _;
   size = room;
 }
 
@@ -165,7 +165,7 @@ module _ (pid : ℕ) where
         info_flags = fits.info_flags;
         descriptors = if_fits b m.descriptors fits.descriptors;
         entries = others_fit m.entries fits.entries;
-        crc = crc_below _;
+        crc = crc-below _;
         size = omega arith;
       }
 

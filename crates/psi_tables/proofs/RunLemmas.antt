@@ -5,7 +5,7 @@ use Rattle.std.specs.Option.{option_map_or, option_and_then}
 use Rattle.std.specs.List.{flat_map, AllByRecursion}
 use Rattle.std.proofs.lemmas.List.{drop_at}
 use Rattle.std.proofs.lemmas.List.Concat.{flat_map-cons}
-use Rattle.psi_tables.specs.Numbers.{AreBytes}
+use Rattle.psi_section.specs.Laws.{AreBytes}
 use Rattle.psi_tables.proofs.Cells.{AreBytes-drop}
 use Rattle.psi_tables.specs.Runs.{run_within, run_of, things_within, things_of}
 

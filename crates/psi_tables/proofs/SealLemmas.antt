@@ -1,12 +1,12 @@
 -- CRC_32 behind its bytes takes the remainder away, and no other number does: a step of the division can be undone.
-use Rattle.std.proofs.Common.{◌≡◌, ℕ, zero, suc, ◌-◌, ◌*◌, ◌/◌, ◌%◌, ◌^◌, ◌<◌, ◌⊎◌, inl, inr, List, [], ◌∷◌, ◌++◌, bit_xor, refl, sym, ap, ◌∙◌, arith, lit<}
+use Rattle.std.proofs.Common.{◌≡◌, ℕ, zero, suc, ◌-◌, ◌*◌, ◌/◌, ◌%◌, ◌^◌, ◌<◌, ◌⊎◌, inl, inr, List, [], ◌∷◌, ◌++◌, bit_xor, refl, sym, ap, ◌∙◌, arith}
 use Rattle.std.specs.Prelude.{◌==◌, if◌then◌else◌}
 use Rattle.std.specs.List.{AllByRecursion}
-use Rattle.std.specs.Int.Bits.{xor_assoc, xor_zero_l, xor_zero_r, xor_self}
+use Rattle.std.specs.Int.Bits.{xor_assoc, xor_zero_r, xor_self}
 use Rattle.std.proofs.lemmas.Nat.{xor_lt, xor_shr, xor_mod}
 use Rattle.byteorder.specs.Endian.{big_bytes}
 use Rattle.psi_section.specs.Crc.{generator, with_bit, bits_of, with_bits, remainder_after, crc, crc_remainder}
-use Rattle.psi_section.proofs.CrcLemmas.{byte_step_crc, crc_remainder-nil, crc_remainder-cons}
+use Rattle.psi_section.proofs.CrcLemmas.{crc-below, crc_remainder-append, word_closes, crc_closed}
 
 -- ---- a step can be undone
 
@@ -85,10 +85,6 @@ low n = omega arith
 of_byte : (b : ℕ) → AreBits (bits_of b)
 of_byte b = (low (b / 128), (low (b / 64), (low (b / 32), (low (b / 16), (low (b / 8), (low (b / 4), (low (b / 2), (low b, tt))))))))
 
-after_below : (r : ℕ) (bs : List ℕ) → r < 4294967296 → remainder_after r bs < 4294967296
-after_below r [] lt = lt
-after_below r (b ∷ bs) lt = after_below (with_bits r (bits_of b)) bs (bits_below r (bits_of b) lt (of_byte b))
-
 after_undone : (r s : ℕ) (bs : List ℕ) → r < 4294967296 → s < 4294967296 → remainder_after r bs ≡ remainder_after s bs → r ≡ s
 after_undone r s [] rl sl e = e
 after_undone r s (b ∷ bs) rl sl e =
@@ -98,56 +94,14 @@ remainder_undone : (r s : ℕ) (bs : List ℕ) → r < 4294967296 → s < 429496
 unfolding crc_remainder
 remainder_undone r s bs rl sl e = after_undone r s bs rl sl e
 
-pub crc_below : (bs : List ℕ) → crc bs < 4294967296
-unfolding crc crc_remainder
-crc_below bs = after_below (2 ^ 32 - 1) bs (lit< tt)
-
 -- ---- the remainder's own bytes take it away
-
-remainder-append : (r : ℕ) (xs ys : List ℕ) → crc_remainder r (xs ++ ys) ≡ crc_remainder (crc_remainder r xs) ys
-remainder-append r [] ys = ap (λ (s : ℕ). crc_remainder s ys) (sym (crc_remainder-nil r))
-remainder-append r (x ∷ xs) ys =
-    crc_remainder-cons r x (xs ++ ys) ∙ remainder-append (crc_remainder r (x ∷ [])) xs ys
-    ∙ ap (λ (s : ℕ). crc_remainder s ys) (sym (crc_remainder-cons r x xs))
-
-zero_byte : crc_remainder 0 (0 ∷ []) ≡ 0
-unfolding crc_remainder
-zero_byte = refl
-
--- the highest byte of a remainder takes itself away
-high_byte : (r b s : ℕ) → r < 4294967296 → b ≡ r / 16777216 → s ≡ r * 256 % 4294967296 → crc_remainder r (b ∷ []) ≡ s
-high_byte r b s lt is next =
-    let rest = r * 256 % 2 ^ 32 in
-    let high = r / 2 ^ 24 in
-    let look = byte_step_crc r high lt (omega arith) in
-    ap (λ (x : ℕ). crc_remainder r (x ∷ [])) is ∙ look ∙ ap (λ (x : ℕ). bit_xor (crc_remainder 0 (x ∷ [])) rest) (xor_self high) ∙ ap (λ (x : ℕ). bit_xor x rest) zero_byte ∙ xor_zero_l rest ∙ sym next
-
-four : (a b c d r : ℕ) → crc_remainder r (a ∷ b ∷ c ∷ d ∷ []) ≡ crc_remainder (crc_remainder (crc_remainder (crc_remainder r (a ∷ [])) (b ∷ [])) (c ∷ [])) (d ∷ [])
-four a b c d r =
-    crc_remainder-cons r a (b ∷ c ∷ d ∷ []) ∙ crc_remainder-cons (crc_remainder r (a ∷ [])) b (c ∷ d ∷ [])
-    ∙ crc_remainder-cons (crc_remainder (crc_remainder r (a ∷ [])) (b ∷ [])) c (d ∷ [])
-
-own_bytes : (r : ℕ) → r < 4294967296 → crc_remainder r (big_bytes 4 r) ≡ 0
-own_bytes r lt =
-    let r1 = r * 256 % 4294967296 in
-    let r2 = r1 * 256 % 4294967296 in
-    let r3 = r2 * 256 % 4294967296 in
-    let a = r / 16777216 % 256 in
-    let b = r / 65536 % 256 in
-    let c = r / 256 % 256 in
-    let d = r % 256 in
-    let s1 : crc_remainder r (a ∷ []) ≡ r1 = high_byte r a r1 lt (omega arith) refl in
-    let s2 : crc_remainder r1 (b ∷ []) ≡ r2 = high_byte r1 b r2 (omega arith) (omega arith) refl in
-    let s3 : crc_remainder r2 (c ∷ []) ≡ r3 = high_byte r2 c r3 (omega arith) (omega arith) refl in
-    let s4 : crc_remainder r3 (d ∷ []) ≡ 0 = high_byte r3 d 0 (omega arith) (omega arith) (omega arith) in
-    four a b c d r ∙ rw (s1, s2, s3) s4
 
 crc-append : (bs cs : List ℕ) → crc (bs ++ cs) ≡ crc_remainder (crc bs) cs
 unfolding crc
-crc-append bs cs = remainder-append (2 ^ 32 - 1) bs cs
+crc-append bs cs = crc_remainder-append (2 ^ 32 - 1) bs cs
 
 pub crc_closes : (bs : List ℕ) → crc (bs ++ big_bytes 4 (crc bs)) ≡ 0
-crc_closes bs = crc-append bs (big_bytes 4 (crc bs)) ∙ own_bytes (crc bs) (crc_below bs)
+crc_closes bs = crc_closed bs
 
 pub crc_alone_closes : (bs : List ℕ) (n : ℕ) → n < 4294967296 → crc (bs ++ big_bytes 4 n) ≡ 0 → n ≡ crc bs
-crc_alone_closes bs n lt e = remainder_undone n (crc bs) (big_bytes 4 n) lt (crc_below bs) (own_bytes n lt ∙ sym e ∙ crc-append bs (big_bytes 4 n))
+crc_alone_closes bs n lt e = remainder_undone n (crc bs) (big_bytes 4 n) lt (crc-below bs) (word_closes n lt ∙ sym e ∙ crc-append bs (big_bytes 4 n))

@@ -1,5 +1,5 @@
 -- Numbers at a place of some bytes: the byte of the highest worth comes first.
-use Rattle.std.specs.Prelude.{ℕ, ◌*◌, ◌+◌, ◌<◌, List, drop, slice_index}
+use Rattle.std.specs.Prelude.{ℕ, ◌*◌, ◌+◌, List, drop}
 use Rattle.byteorder.specs.Endian.{big_number, big_bytes}
 
 unfoldable pub number16_at : List ℕ → ℕ → ℕ
@@ -11,7 +11,3 @@ number32_at bytes place = big_number 4 (drop place bytes)
 -- a length of 12 bits behind four others
 abbrev pub length_field : ℕ → ℕ → List ℕ
 length_field flags size = big_bytes 2 (flags * 4096 + size)
-
--- each of them is a byte
-abbrev pub AreBytes : List ℕ → Type 0
-AreBytes bytes = (place : ℕ) → slice_index bytes place < 256

@@ -34,7 +34,8 @@ pub struct Config {
 impl Config {
     /// A configuration, of this programme, this PID for the cues and this index. Where both are wrong, `Program` is told.
     pub fn new(program: u16, cue_pid: Pid, index: u16) -> Result<Config, BadConfig>
-        ensures ok { IfOk result (λ c. (config_fault program cue_pid ≡ None) × (c.program ≡ program) × (c.cue_pid ≡ cue_pid) × (c.index ≡ index)) }
+        ensures ok { IfOk result (λ c. (config_fault program cue_pid ≡ None)
+            × (c.program ≡ program) × (c.cue_pid ≡ cue_pid) × (c.index ≡ index)) }
         ensures err { IfErr result (λ f. config_fault program cue_pid ≡ Some f) }
     {
         if program == 0 {

@@ -27,7 +27,8 @@ impl<'a> Pat<'a> {
         ensures exact { seen_by (λ p. association_of p.bytes.now) result ≡ pat bytes.now }
 
         // What is read is spelled so, and what is spelled so is read.
-        ensures spelled { IfOk result (λ p. IsAssociation (association_of p.bytes.now) × (bytes.now ≡ pat_section (association_of p.bytes.now))) }
+        ensures spelled { IfOk result (λ p. IsAssociation (association_of p.bytes.now)
+            × (bytes.now ≡ pat_section (association_of p.bytes.now))) }
         ensures only { (a : Association) → IsAssociation a → bytes.now ≡ pat_section a → pat bytes.now ≡ Ok a }
     {
         match fault_of(bytes) {

@@ -34,7 +34,8 @@ impl<'a> Pmt<'a> {
         ensures exact { seen_by (λ p. map_of p.bytes.now) result ≡ pmt bytes.now }
 
         // What is read is spelled so, and what is spelled so is read.
-        ensures spelled { IfOk result (λ p. IsProgramMap (map_of p.bytes.now) × (bytes.now ≡ pmt_section (map_of p.bytes.now))) }
+        ensures spelled { IfOk result (λ p. IsProgramMap (map_of p.bytes.now)
+            × (bytes.now ≡ pmt_section (map_of p.bytes.now))) }
         ensures only { (m : ProgramMap) → IsProgramMap m → bytes.now ≡ pmt_section m → pmt bytes.now ≡ Ok m }
     {
         match fault_of(bytes) {

@@ -23,7 +23,9 @@ pub struct Stream {
 
 impl Default for Stream {
     /// `stream_type` 0, which is reserved, on PID 0.
-    fn default() -> Stream {
+    fn default() -> Stream
+        ensures { result ≡ record { kind = 0; pid = 0 } }
+    {
         Stream {
             kind: 0,
             pid: Pid::of_bits(0, 0),
