@@ -11,10 +11,9 @@ use Rattle.ts_packet.proofs.FieldLemmas.{payload_on-on, payload_on-renumbered, s
 use Rattle.ts_packet.proofs.Renumbered.{renumbered-zero}
 use Rattle.unit_stream.specs.Units.{has_payload, rest_of_row}
 use Rattle.unit_stream.specs.Carrying.{IsUnit, Joins, Carries}
-use Rattle.unit_stream.specs.UnitPackets.{AllOn, GoOn, BeginsAlone}
 use Rattle.unit_cut.proofs.CutCarries.{row_joins}
 use Rattle.splice_laws.specs.Splicing.{SliceUnit}
-use Rattle.output_laws.specs.Output.{Move, Keep, Leave, Put, network, Packing, counter_steps, clock_alone, out_after, Sound, Place, Keeping, Leaving, Between, behind_put, place, IsWhole, Along, units_out}
+use Rattle.output_laws.specs.Output.{Move, Keep, Leave, Put, network, Packing, counter_steps, clock_alone, out_after, AllOn, GoOn, BeginsAlone, Sound, Place, Keeping, Leaving, Between, behind_put, place, IsWhole, Along, units_out}
 use Rattle.output_laws.specs.Laws.{OutputCarriesUnits}
 use Rattle.output_laws.proofs.StepLemmas.{onto_moves, along_past, test-same, kept_on, payload_on-kept, payload_on-clock}
 use Rattle.output_laws.proofs.GaplessLemmas.{test-true, below_16, one_below, other_pid, es}

@@ -8,7 +8,7 @@ use Rattle.ts_packet.proofs.Cases.{by_test}
 use Rattle.ts_packet.proofs.FieldLemmas.{alike-number}
 use Rattle.ts_packet.proofs.HistoryLemmas.{walk_is_last}
 use Rattle.ts_packet.proofs.RunLemmas.{onto, packet_or, nearest_is_last}
-use Rattle.unit_stream.specs.UnitPackets.{AllOn, CountsFrom, put_in}
+use Rattle.output_laws.specs.Output.{AllOn, CountsFrom, put_in}
 use Rattle.output_laws.proofs.StepLemmas.{moved-inserted}
 
 -- the counter of a packet, where there is one

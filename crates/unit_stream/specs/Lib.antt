@@ -6,4 +6,3 @@ pub mod Pieces
 pub mod Rows
 pub mod Fates
 pub mod Clocks
-pub mod UnitPackets
