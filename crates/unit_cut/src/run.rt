@@ -13,23 +13,29 @@ ghost use Rattle.unit_cut.specs.Runs.{CutsAll, Stops, RunBlamed, cut_by, PassFai
 use crate::cutter::Cutter;
 use crate::slots::Slots;
 use pes_time::Time33;
+use thiserror::Error;
 use ts_packet::{
     Packet, PacketReader, PacketSink, PacketWriter, Pid, PutFault, ReadFault, Source, Target,
 };
 use unit_stream::UnitFault;
 
 /// Why a cut stopped.
-#[derive(Clone, Copy, Debug, PartialEq, Eq, Drop)]
+#[derive(Clone, Copy, Debug, PartialEq, Eq, Drop, Error)]
 pub enum CutFault {
     /// The network could not be read on.
+    #[error("reading the network: {0}")]
     Read(ReadFault),
     /// A payload packet of the PID has scrambling bits.
+    #[error("a payload packet of the PID is scrambled")]
     Scrambled,
     /// The payload of the first packet of one of the PID's units ends before the unit's time stamps.
+    #[error("the first packet of a unit ends before the unit's time stamps")]
     HeaderSplit,
     /// The time of one of the PID's units lies more than 900,000 ticks of 90 kHz (10 seconds) from the greatest before it.
+    #[error("a unit lies more than 10 seconds from the greatest time before it")]
     TimeJump,
     /// The output could not be written on.
+    #[error("writing the output: {0}")]
     Sink(PutFault),
 }
 
