@@ -1,0 +1,4 @@
+pub mod Playing
+pub mod Switching
+pub mod Reporting
+pub mod Laws
