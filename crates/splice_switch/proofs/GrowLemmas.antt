@@ -1,8 +1,9 @@
 -- What is out stays out.
 use Rattle.std.proofs.Common.{◌≡◌, ℕ, ◌∷◌, ◌++◌, [], List, refl, sym, ap, ◌∙◌, append_assoc, rules}
 use Rattle.std.specs.Prelude.{Option, Some}
+use Rattle.ts_packet.specs.Runs.{onto}
 use Rattle.program_follower.specs.Program.{listed, tables}
-use Rattle.program_laws.specs.Writing.{Writing, onto, block, written}
+use Rattle.program_laws.specs.Writing.{Writing, block, written}
 use Rattle.splice_switch.specs.Switching.{switching, switched_past}
 use Rattle.splice_switch.specs.Laws.{SwitchGrows}
 

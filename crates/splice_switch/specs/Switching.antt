@@ -1,12 +1,13 @@
 -- THE SWITCH: what goes out for each packet of a network with cues, by the packets that came before, newest first.
 use Rattle.std.specs.Prelude.{ℕ, ◌∷◌, ◌++◌, List, [], Bool, true, false, not, ◌&&◌, ◌||◌, if◌then◌else◌, is_some, Option, None, Some, ℤ, length, drop, reverse, map, flat_map}
 use Rattle.ts_packet.specs.Fields.{on, payload_on}
-use Rattle.unit_stream.specs.Times.{begins_one, high, unit_time}
+use Rattle.unit_stream.specs.Times.{begins_one, high}
+use Rattle.unit_stream.specs.Fates.{is_left_out}
 use Rattle.event_table.specs.Standing.{Standing}
 use Rattle.armed_events.specs.Arming.{armed}
 use Rattle.psi_tables.specs.Cue.{without_cue_entry}
 use Rattle.program_follower.specs.Program.{program_of, behind_head, pids_of}
-use Rattle.program_laws.specs.Writing.{Writing, onto, written}
+use Rattle.program_laws.specs.Writing.{Writing, written}
 use Rattle.splice_laws.specs.Splicing.{PlayedEvent, SliceUnit, Stream, stream}
 use Rattle.output_laws.specs.Output.{Move, Keep, Leave, Put, Packing, out_at, out_after}
 use Rattle.splice_switch.specs.Playing.{Adverts, History, played, as_played, end_known, is_inside, closing_at, running_at, left_at_end}
@@ -29,14 +30,9 @@ module _ (switched : List ℕ) (ads : Adverts) (events : History) where
   abbrev pub puts_at_end : List (List ℕ) → List Move
   puts_at_end past = puts_by switched (played ads (events past)) (λ pid e. left_at_end (begins_one switched) (stream switched pid) (as_played e) (end_known ads events e.start) (ads.units e pid) past)
 
-  -- the packet is of a unit of one of the PIDs that lies in a played event
-  abbrev pub is_left_out : List ℕ → List (List ℕ) → List ℕ → Bool
-  is_left_out p past [] = false
-  is_left_out p past (pid ∷ pids) = (payload_on pid p && is_inside ads (events (p ∷ past)) (unit_time switched pid (p ∷ past))) || is_left_out p past pids
-
-  -- the packet itself
+  -- the packet itself is left out where its unit lies in a played event
   abbrev pub fate : List ℕ → List (List ℕ) → Move
-  fate p past = if is_left_out p past switched then Leave p else Keep p
+  fate p past = if is_left_out (λ pid time. is_inside ads (events (p ∷ past)) time) switched p past switched then Leave p else Keep p
 
   -- all that was done, newest first
   abbrev pub moves : List (List ℕ) → List Move
