@@ -1,0 +1,5 @@
+pub mod Asking
+pub mod Verdicts
+pub mod Turns
+pub mod Replies
+pub mod Requests

@@ -1,0 +1,48 @@
+-- The history of an injector: messages judged and packets passed, newest first. All is said by whole lists: no event is ever left out of
+-- `events`, and those that stand are a filter of it.
+use Rattle.std.specs.Prelude.{ℕ, ℤ, ◌&&◌, Bool, true, List, [], ◌∷◌, Option, None, Some, Result, Ok, Err, int_lt, filter}
+use Rattle.scte104_codec.specs.Reading.{Reading, Multiple}
+use Rattle.event_table.specs.Standing.{Standing, has_id, forgotten_at}
+use Rattle.injector.specs.declared.asked.Asked.{Asked}
+use Rattle.injector.specs.declared.refusal.Refusal.{Refusal}
+use Rattle.injector.specs.Asking.{asked_of, asked_of_multiple}
+use Rattle.injector.specs.Verdicts.{verdict_of, verdict_by, changed}
+
+-- a message was judged; a packet passed, behind which this is the greatest time of the units so far
+pub data Turn : Type 0 where
+  Judged : Reading → Turn
+  Passed : Option ℤ → Turn
+
+-- the greatest time
+abbrev pub high : List Turn → Option ℤ
+high [] = None
+high (Judged m ∷ past) = high past
+high (Passed h ∷ past) = h
+
+-- the event stands: the greatest time is not yet ten seconds past its end
+abbrev pub stands : Option ℤ → Standing → Bool
+stands None s = true
+stands (Some h) s = int_lt h (forgotten_at s)
+
+-- it stands, with this id
+abbrev pub stands_as : Option ℤ → ℕ → Standing → Bool
+stands_as h id s = stands h s && has_id id s
+
+-- the events, with one request more
+abbrev pub with_asked : Option ℤ → List Standing → Result Asked Refusal → List Standing
+with_asked h events (Err e) = events
+with_asked h events (Ok a) = changed h (stands_as h a.request.splice_event_id) events a.request (verdict_of h (filter (stands h) events) a.request)
+
+-- THE EVENTS that were accepted, in order of acceptance, each with its present end, the cancelled ones among them
+abbrev pub events : ℕ → List Turn → List Standing
+events index [] = []
+events index (Judged m ∷ past) = with_asked (high past) (events index past) (asked_of index m)
+events index (Passed h ∷ past) = events index past
+
+-- those that stand
+abbrev pub standing : ℕ → List Turn → List Standing
+standing index past = filter (stands (high past)) (events index past)
+
+-- THE VERDICT on a multiple operation
+abbrev pub verdict : ℕ → Multiple → List Turn → Result (Unit {0}) Refusal
+verdict index m past = verdict_by (high past) (standing index past) (asked_of_multiple index m)

@@ -1,0 +1,220 @@
+//! Requests, judged.
+
+ghost use Rattle.std.specs.Prelude.{◌≡◌, ◌↔◌, ◌+◌, ◌*◌, ◌%◌, ◌^◌, ◌<◌, ◌∷◌, [], ℕ, ℤ, List, Option, OnErr, IsTrue};
+ghost use Rattle.scte104_codec.specs.Views.{reading_of};
+ghost use Rattle.event_table.specs.Rings.{CanAdvance};
+ghost use Rattle.event_table.specs.Standing.{Standing, IsTimeAt, has_id, with_cancelled};
+ghost use Rattle.event_table.specs.Tables.{StandsFor, high_of};
+ghost use Rattle.injector.specs.Asking.{fields_of, asked_of_multiple, IsStartable};
+ghost use Rattle.injector.specs.Verdicts.{start_verdict, end_verdict, cancel_verdict, verdict_of, verdict_by, started, ended, after, after_by, event_on_ring};
+ghost use Rattle.injector.specs.Turns.{Turn, Judged, Passed, high};
+ghost use Rattle.injector.specs.Replies.{reply_to};
+ghost use Rattle.injector.specs.Requests.{RequestsStandFor};
+
+use crate::asked::{Asked, END_NORMAL, START_NORMAL, request_in};
+use crate::refusal::Refusal;
+use crate::reply::{SUCCESS, UNSERVED, alive_reply, bad_reply, reply, verdict_reply};
+use event_table::{ArmRefusal, Armed, CancelRefusal, Event, ShortenRefusal, Table};
+use pes_time::Time33;
+use scte104_codec::operation_ids::{GENERAL_RESPONSE, INIT_RESPONSE};
+use scte104_codec::{BadMessage, Message, Multi, Reply, SpliceRequest};
+
+/// Ticks of 90 kHz in a millisecond, the unit of `pre_roll_time`.
+const MILLISECOND: u64 = 90;
+
+/// Ticks of 90 kHz in a tenth of a second, the unit of `break_duration`.
+const TENTH: u64 = 9_000;
+
+/// The requests of one programme: they are judged by the greatest time of the network, of which they are told, and the events that stand.
+#[derive(Drop)]
+pub struct Requests {
+    index: u16,
+    table: Table,
+}
+
+impl Requests {
+    /// No request yet, and no time. Messages with another `DPI_PID_index` than this are refused.
+    pub fn new(index: u16) -> Requests
+        ensures stands { RequestsStandFor result index [] }
+    {
+        Requests {
+            index,
+            table: Table::new(),
+        }
+    }
+
+    /// The greatest time that was told, or `None` before the first.
+    pub fn high(&self) -> Option<Time33>
+        ensures { result ≡ high_of self.now.table }
+    {
+        self.table.high()
+    }
+
+    /// Whether the time may be given to [`Requests::advance`].
+    pub fn can_advance(&self, high: Time33) -> bool
+        ensures { IsTrue result ↔ CanAdvance (high_of self.now.table) high }
+    {
+        self.table.can_advance(high)
+    }
+
+    /// Takes this time as the greatest one, which a packet brought.
+    pub fn advance(&mut self, time: Time33)
+        requires { CanAdvance (high_of self.old.table) time }
+        ensures stands { (index : ℕ) (past : List Turn) (later : ℤ) → RequestsStandFor self.old index past → IsTimeAt (high past) time later →
+            RequestsStandFor self.new index (Passed (Some later) ∷ past) }
+        ensures high { high_of self.new.table ≡ Some time }
+    {
+        self.table.advance(time);
+    }
+
+    /// Judges a message, and answers it. A request that is refused changes nothing; one that is accepted adds one event or changes one.
+    pub fn ask(&mut self, message: Result<Message<'_>, BadMessage>) -> Reply
+        ensures answer { (index : ℕ) (past : List Turn) → RequestsStandFor self.old index past →
+            result ≡ reply_to index (reading_of message.entry) past }
+        ensures turn { (index : ℕ) (past : List Turn) → RequestsStandFor self.old index past →
+            RequestsStandFor self.new index (Judged (reading_of message.entry) ∷ past) }
+        ensures high { high_of self.new.table ≡ high_of self.old.table }
+    {
+        match message {
+            Ok(message) => self.answer(message),
+            Err(bad) => bad_reply(bad),
+        }
+    }
+
+    /// Answers a message that was read.
+    fn answer(&mut self, message: Message<'_>) -> Reply
+        ensures answer { (index : ℕ) (past : List Turn) → RequestsStandFor self.old index past →
+            result ≡ reply_to index (reading_of (Ok message.entry)) past }
+        ensures turn { (index : ℕ) (past : List Turn) → RequestsStandFor self.old index past →
+            RequestsStandFor self.new index (Judged (reading_of (Ok message.entry)) ∷ past) }
+        ensures high { high_of self.new.table ≡ high_of self.old.table }
+    {
+        match message {
+            Message::Init(head) => reply(INIT_RESPONSE, SUCCESS, head, &[]),
+            Message::Alive(head, body) => alive_reply(head, body),
+            Message::Other(head) => reply(GENERAL_RESPONSE, UNSERVED, head, &[]),
+            Message::Multi(multi) => {
+                let verdict = self.judge(&multi);
+                verdict_reply(multi.head, verdict)
+            }
+        }
+    }
+
+    /// Judges what a message asks for.
+    fn judge(&mut self, message: &Multi<'_>) -> Result<(), Refusal>
+        ensures answer { (line : Option ℤ) (standing : List Standing) → StandsFor self.old.table line standing →
+            result ≡ verdict_by line standing (asked_of_multiple self.old.index (fields_of message.now)) }
+        ensures after { (line : Option ℤ) (standing : List Standing) → StandsFor self.old.table line standing →
+            StandsFor self.new.table line (after_by line standing (asked_of_multiple self.old.index (fields_of message.now))) }
+        ensures index { self.new.index ≡ self.old.index }
+        ensures high { high_of self.new.table ≡ high_of self.old.table }
+    {
+        match request_in(message, self.index) {
+            Ok(asked) => self.take(&asked),
+            Err(refusal) => Err(refusal),
+        }
+    }
+
+    /// Judges a request by the events that stand.
+    fn take(&mut self, asked: &Asked) -> Result<(), Refusal>
+        requires { IsStartable asked.now }
+        ensures answer { (line : Option ℤ) (standing : List Standing) → StandsFor self.old.table line standing →
+            result ≡ verdict_of line standing asked.now.request }
+        ensures after { (line : Option ℤ) (standing : List Standing) → StandsFor self.old.table line standing →
+            StandsFor self.new.table line (after line standing asked.now.request (verdict_of line standing asked.now.request)) }
+        ensures index { self.new.index ≡ self.old.index }
+        ensures high { high_of self.new.table ≡ high_of self.old.table }
+    {
+        let request = asked.request;
+        match request.splice_insert_type {
+            START_NORMAL => self.start(request),
+            END_NORMAL => self.end(request),
+            _ => self.cancel(request),
+        }
+    }
+
+    /// Takes a start.
+    fn start(&mut self, request: SpliceRequest) -> Result<(), Refusal>
+        requires duration { 0 < request.break_duration }
+        requires pre_roll { 0 < request.pre_roll_time }
+        ensures answer { (line : Option ℤ) (standing : List Standing) → StandsFor self.old.table line standing →
+            result ≡ start_verdict line standing request }
+        ensures started { result ≡ Ok tt → (line : Option ℤ) (standing : List Standing) → StandsFor self.old.table line standing →
+            StandsFor self.new.table line (started line standing request) }
+        ensures refused { OnErr result (self.new ≡ self.old) }
+        ensures index { self.new.index ≡ self.old.index }
+        ensures high { high_of self.new.table ≡ high_of self.old.table }
+    {
+        let Some(high) = self.table.high() else {
+            return Err(Refusal::NoClock);
+        };
+        match self.table.arm(event_at(high, request), ()) {
+            Ok(Armed::New) => Ok(()),
+            Ok(Armed::Same) => Err(Refusal::InUse),
+            Err(ArmRefusal::InUse) => Err(Refusal::InUse),
+            Err(ArmRefusal::Full) => Err(Refusal::Full),
+            Err(ArmRefusal::Overlap) => Err(Refusal::Overlap),
+        }
+    }
+
+    /// Takes an end.
+    fn end(&mut self, request: SpliceRequest) -> Result<(), Refusal>
+        ensures answer { (line : Option ℤ) (standing : List Standing) → StandsFor self.old.table line standing →
+            result ≡ end_verdict line standing request }
+        ensures ended { result ≡ Ok tt → (line : Option ℤ) (standing : List Standing) → StandsFor self.old.table line standing →
+            StandsFor self.new.table line (ended line (has_id request.splice_event_id) standing request) }
+        ensures refused { OnErr result (self.new ≡ self.old) }
+        ensures index { self.new.index ≡ self.old.index }
+        ensures high { high_of self.new.table ≡ high_of self.old.table }
+    {
+        let Some(high) = self.table.high() else {
+            return Err(Refusal::NoSuchEvent);
+        };
+        let end = time_of(high, request);
+        match self.table.shorten(request.splice_event_id, end) {
+            Ok(Armed::New) => Ok(()),
+            Ok(Armed::Same) => Err(Refusal::BadEnd),
+            Err(ShortenRefusal::BadEnd) => Err(Refusal::BadEnd),
+            Err(ShortenRefusal::NoSuchEvent) => Err(Refusal::NoSuchEvent),
+        }
+    }
+
+    /// Takes a cancel.
+    fn cancel(&mut self, request: SpliceRequest) -> Result<(), Refusal>
+        ensures answer { (line : Option ℤ) (standing : List Standing) → StandsFor self.old.table line standing →
+            result ≡ cancel_verdict line standing request }
+        ensures cancelled { result ≡ Ok tt → (line : Option ℤ) (standing : List Standing) → StandsFor self.old.table line standing →
+            StandsFor self.new.table line (with_cancelled request.splice_event_id standing) }
+        ensures refused { OnErr result (self.new ≡ self.old) }
+        ensures index { self.new.index ≡ self.old.index }
+        ensures high { high_of self.new.table ≡ high_of self.old.table }
+    {
+        match self.table.cancel(request.splice_event_id) {
+            Ok(()) => Ok(()),
+            Err(CancelRefusal::NoSuchEvent) => Err(Refusal::NoSuchEvent),
+            Err(CancelRefusal::TooLate) => Err(Refusal::TooLate),
+        }
+    }
+}
+
+/// The time that a request names, at this greatest time.
+fn time_of(high: Time33, request: SpliceRequest) -> Time33
+    ensures { result ≡ (high + 90 * request.pre_roll_time) % 2 ^ 33 }
+{
+    high.plus(MILLISECOND * u64::from(request.pre_roll_time))
+}
+
+/// The event that a start asks for, at this greatest time.
+fn event_at(high: Time33, request: SpliceRequest) -> Event
+    ensures { result ≡ event_on_ring high request }
+{
+    let length = TENTH * u64::from(request.break_duration);
+    Event {
+        id: request.splice_event_id,
+        start: time_of(high, request),
+        length,
+        asked: length,
+        program: request.unique_program_id,
+        cancelled: false,
+    }
+}
