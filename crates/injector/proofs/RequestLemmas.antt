@@ -24,7 +24,7 @@ use Rattle.event_table.proofs.TimeLemmas.{ring-plus, signed-range}
 use Rattle.injector.specs.declared.asked.Asked.{Asked}
 use Rattle.injector.specs.declared.refusal.Refusal.{Refusal}
 use Rattle.injector.specs.declared.refusal.Refusal.TheVariants.{NoClock, InUse, Full, Overlap, NoSuchEvent, TooLate, BadEnd}
-use Rattle.scte104_codec.specs.Reading.{Reading, multiple, Multiple}
+use Rattle.scte104_codec.specs.Reading.{MessageReading, multiple, Multiple}
 use Rattle.injector.specs.Asking.{is_start, asked_of_multiple, asked_of}
 use Rattle.injector.specs.Verdicts.{time_at, start_event, event_on_ring, start_verdict, end_verdict, end_verdict_at, cancel_verdict, cancel_verdict_at, verdict_of, started, ended, changed, after, after_by}
 use Rattle.injector.specs.Turns.{stands, stands_as, with_asked}
@@ -260,7 +260,7 @@ pub asked-stands : {T : Type 0} (t' : Table T) (line : Option ℤ) (events : Lis
     → StandsFor t' line (filter (stands line) (with_asked line events a))
 asked-stands t' line events a after_stands = restated t' line _ _ (sym (filter-asked line events a)) after_stands
 
-pub judged-stands : {T : Type 0} (t' : Table T) (line : Option ℤ) (events : List Standing) (own index : ℕ) (m : Multiple) (reading : Reading) → reading ≡ multiple m → own ≡ index
+pub judged-stands : {T : Type 0} (t' : Table T) (line : Option ℤ) (events : List Standing) (own index : ℕ) (m : Multiple) (reading : MessageReading) → reading ≡ multiple m → own ≡ index
     → StandsFor t' line (after_by line (filter (stands line) events) (asked_of_multiple own m)) → StandsFor t' line (filter (stands line) (with_asked line events (asked_of index reading)))
 judged-stands t' line events own index m reading is same after_stands =
     subst (λ x. StandsFor t' line (filter (stands line) (with_asked line events (asked_of index x)))) (sym is)

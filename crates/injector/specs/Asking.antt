@@ -6,7 +6,7 @@ use Rattle.scte104_codec.specs.declared.requests.SpliceRequest.{SpliceRequest}
 use Rattle.scte104_codec.specs.Operations.{Operation}
 use Rattle.scte104_codec.specs.OperationsLeft.{operations_left}
 use Rattle.scte104_codec.specs.Asked.{all_known, splice_requests, avail_ids}
-use Rattle.scte104_codec.specs.Reading.{Reading, init, alive, other, multiple, bad, Multiple}
+use Rattle.scte104_codec.specs.Reading.{MessageReading, init, alive, other, multiple, bad, Multiple}
 use Rattle.injector.specs.declared.asked.Asked.{Asked}
 use Rattle.injector.specs.declared.refusal.Refusal.{Refusal}
 use Rattle.injector.specs.declared.refusal.Refusal.TheVariants.{BadSyntax, WrongVersion, WrongIndex, TimeType, UnknownOp, NoRequest, TwoRequests, BadType, Unsupported, TooManyAvails, NoDuration, NoReturn, NoPreRoll}
@@ -51,7 +51,7 @@ asked_of_multiple index m =
     else served_if m.operations (only_of (splice_requests m.operations)))))
 
 -- of any message: only a multiple operation asks for something
-abbrev pub asked_of : ℕ → Reading → Result Asked Refusal
+abbrev pub asked_of : ℕ → MessageReading → Result Asked Refusal
 asked_of index (init head) = Err BadSyntax
 asked_of index (alive head body) = Err BadSyntax
 asked_of index (other head) = Err BadSyntax

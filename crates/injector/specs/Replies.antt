@@ -3,7 +3,7 @@
 use Rattle.std.specs.Prelude.{ℕ, Bool, true, false, nat_lt, if◌then◌else◌, List, [], ◌∷◌, length, Result, Ok, Err}
 use Rattle.scte104_codec.specs.declared.head.Head.{Head}
 use Rattle.scte104_codec.specs.declared.reply.Reply.{Reply}
-use Rattle.scte104_codec.specs.Reading.{Reading, init, alive, other, multiple, bad}
+use Rattle.scte104_codec.specs.Reading.{MessageReading, init, alive, other, multiple, bad}
 use Rattle.injector.specs.declared.refusal.Refusal.{Refusal}
 use Rattle.injector.specs.Verdicts.{number_of}
 use Rattle.injector.specs.Turns.{Turn, verdict}
@@ -29,7 +29,7 @@ abbrev pub verdict_reply_of : Head → Result (Unit {0}) Refusal → Reply
 verdict_reply_of head verdict = reply_with 0x0007 (result_of verdict) head (head.number ∷ [])
 
 -- THE REPLY: init_response, alive_response, general_response to any other single operation, inject_response to a multiple operation
-abbrev pub reply_to : ℕ → Reading → List Turn → Reply
+abbrev pub reply_to : ℕ → MessageReading → List Turn → Reply
 reply_to index (init head) past = reply_with 0x0002 100 head []
 reply_to index (alive head body) past = alive_reply_of head body
 reply_to index (other head) past = reply_with 0x0000 0x8005 head []

@@ -1,7 +1,7 @@
 -- The history of an injector: messages judged and packets passed, newest first. All is said by whole lists: no event is ever left out of
 -- `events`, and those that stand are a filter of it.
 use Rattle.std.specs.Prelude.{ℕ, ℤ, ◌&&◌, Bool, true, List, [], ◌∷◌, Option, None, Some, Result, Ok, Err, int_lt, filter}
-use Rattle.scte104_codec.specs.Reading.{Reading, Multiple}
+use Rattle.scte104_codec.specs.Reading.{MessageReading, Multiple}
 use Rattle.event_table.specs.Standing.{Standing, has_id, forgotten_at}
 use Rattle.injector.specs.declared.asked.Asked.{Asked}
 use Rattle.injector.specs.declared.refusal.Refusal.{Refusal}
@@ -10,7 +10,7 @@ use Rattle.injector.specs.Verdicts.{verdict_of, verdict_by, changed}
 
 -- a message was judged; a packet passed, behind which this is the greatest time of the units so far
 pub data Turn : Type 0 where
-  Judged : Reading → Turn
+  Judged : MessageReading → Turn
   Passed : Option ℤ → Turn
 
 -- the greatest time
