@@ -1,5 +1,5 @@
 -- What a network's tables may not say, and which packets may not come, by the packets that came before, newest first.
-use Rattle.std.specs.Prelude.{ℕ, List, [], ◌∷◌, map, length, Bool, true, false, not, ◌&&◌, ◌||◌, ◌==◌, nat_lt, if◌then◌else◌, Option, Some, None, Result, Ok, Err}
+use Rattle.std.specs.Prelude.{ℕ, List, [], ◌∷◌, map, length, Bool, true, false, not, ◌&&◌, ◌||◌, ◌==◌, nat_lt, if◌then◌else◌, Option, Some, None, option_map, Result, Ok, Err}
 use Rattle.std.specs.List.{list_any}
 use Rattle.ts_packet.specs.Fields.{on}
 use Rattle.psi_section.specs.Sections.{given}
@@ -18,7 +18,7 @@ use Rattle.unit_stream.specs.declared.fault.UnitFault.TheVariants as unit_faults
 use Rattle.unit_stream.specs.Faults.{unit_fault}
 use Rattle.program_follower.specs.declared.purpose.Purpose.{Purpose}
 use Rattle.program_follower.specs.declared.purpose.Listed.{Listed}
-use Rattle.program_follower.specs.Program.{earlier, lists, listed, listed_in, Table, tables, all_tables, first_map, program_of, behind_head, pids_of}
+use Rattle.program_follower.specs.Program.{earlier, lists, listed, listed_in, Table, tables, all_tables, first_map, Program, program_in, program_of, behind_head, pids_of}
 
 -- it is this PID, where there is one
 abbrev pub is_pid : Option ℕ → ℕ → Bool
@@ -99,24 +99,35 @@ same_streams [] (t ∷ ts) = false
 same_streams (s ∷ ss) [] = false
 same_streams (s ∷ ss) (t ∷ ts) = ((s.kind == t.kind) && (s.pid == t.pid)) && same_streams ss ts
 
--- another list of switched streams than the first map's, or another PCR PID
+-- another list of switched streams than the program's, or another PCR PID
+abbrev pub changed_by : Option Program → List Stream → ℕ → Bool
+changed_by None streams pcr_pid = false
+changed_by (Some r) streams pcr_pid = not (same_streams streams r.streams && (pcr_pid == r.pcr_pid))
+
+abbrev pub changed_from : Option Program → ProgramMap → Bool
+changed_from known m = changed_by known (switched_of (streams_of m)) (pid_in m.pcr_field)
+
+-- than the first map's
 abbrev pub changed : Option ProgramMap → ProgramMap → Bool
-changed None m = false
-changed (Some first) m = not (same_streams (switched_of (streams_of m)) (switched_of (streams_of first)) && (pid_in m.pcr_field == pid_in first.pcr_field))
+changed first m = changed_from (option_map program_in first) m
 
 -- the entry for cues has no room
 abbrev pub too_long : Option ℕ → ProgramMap → Bool
 too_long None m = false
 too_long (Some cue) m = nat_lt 1021 (map_length (descriptors_bytes (with_cue_entry cue m).descriptors) (entries_bytes (with_cue_entry cue m).entries))
 
--- what is wrong with a map, by the PMT's PID and the program's first map, where this is a later one
-abbrev pub map_fault : Purpose → ℕ → Option ProgramMap → ProgramMap → Option NetworkFault
-map_fault c pmt_pid first m =
+-- what is wrong with a map, by the PMT's PID and what is known of the program, where this is a later map
+abbrev pub map_fault_from : Purpose → ℕ → Option Program → ProgramMap → Option NetworkFault
+map_fault_from c pmt_pid known m =
     earlier (if_bad (nat_lt 8 (length (switched_of (streams_of m)))) TooManyStreams)
     (earlier (if_bad (bad_pids pmt_pid (streams_of m) (pid_in m.pcr_field)) BadPids)
     (earlier (if_bad (cue_used c (streams_of m) (pid_in m.pcr_field)) CuePidUsed)
-    (earlier (if_bad (changed first m) ProgramChanged)
+    (earlier (if_bad (changed_from known m) ProgramChanged)
     (if_bad (c.writes_cues && too_long c.cue_pid m) PmtTooLong))))
+
+-- by the program's first map
+abbrev pub map_fault : Purpose → ℕ → Option ProgramMap → ProgramMap → Option NetworkFault
+map_fault c pmt_pid first m = map_fault_from c pmt_pid (option_map program_in first) m
 
 abbrev pub table_fault : Purpose → ℕ → Option ProgramMap → Option ProgramMap → Option NetworkFault
 table_fault c pmt_pid first None = None

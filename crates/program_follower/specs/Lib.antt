@@ -1,2 +1,6 @@
 pub mod Program
 pub mod Faults
+pub mod Standing
+pub mod Judging
+pub mod Streaming
+pub mod Following

@@ -2,6 +2,19 @@
 //! first PMT, the units of its switched streams behind that, their times, and the first thing that is wrong. It takes no memory.
 #![tactic(auto)]
 
+mod follower;
+mod judging;
+mod known;
+mod map_reader;
+mod pat_reader;
 mod purpose;
+mod streams;
+mod tables;
 
+pub use follower::{FollowFault, Place, ProgramFollower};
+pub use known::KnownProgram;
+pub use map_reader::MapReader;
+pub use pat_reader::PatReader;
 pub use purpose::{Listed, Purpose};
+pub use streams::{StreamPacket, Streams};
+pub use tables::{LentTable, Tables};

@@ -1,6 +1,6 @@
 -- An assembler's steps.
 use Rattle.std.proofs.Common.{◌≡◌, ℕ, ◌+◌, ◌*◌, ◌<◌, ◌≤◌, inl, inr, List, [], ◌∷◌, Bool, true, false, not, ◌&&◌, if◌then◌else◌, None, Some, refl, sym, ap, subst, ◌∙◌, arith, length, take, drop, is_some, zero-add, ◌==◌, ◌%◌, nat_le, nat_lt}
-use Rattle.std.proofs.lemmas.Bool.{eq-eqb, ltb-false, leb-false}
+use Rattle.std.proofs.lemmas.Bool.{eq-eqb, eqb-true, ltb-false, leb-false}
 use Rattle.std.specs.Prelude.{filter, count_by}
 use Rattle.std.proofs.lemmas.List.{length-drop}
 use Rattle.std.proofs.lemmas.List.Recursion.{is_count_by}
@@ -308,3 +308,25 @@ found_none a n pid past (s ∷ ss) z h = absurd (let k = h.0 in omega arith)
 pub picked_fewer : (a : Assembler) (n : ℕ) (todo : List (List ℕ)) → 0 < n → Picks todo a n → length (left a) < length todo
 picked_fewer a n [] z h = absurd (let k = h.0 in omega arith)
 picked_fewer a n (s ∷ ss) z h = rw h.2 (omega arith)
+
+-- ---- packets of other PIDs
+
+pub gives_off : (a : Assembler) (pid : ℕ) (p : List ℕ) (past todo : List (List ℕ)) → on pid p ≡ false → Gives a pid past todo → Gives a pid (p ∷ past) todo
+gives_off a pid p past todo o h =
+    let y = off_payload pid p o in
+    record {
+      last = simp y h.last;
+      part = simp y h.part;
+      todo_left = h.todo_left;
+      counted = h.counted;
+      all = simp y (h.all ∙ sym (zero-add (failed pid past)));
+      bad = h.bad;
+    }
+
+both_so : (a b : Bool) → a && b ≡ true → b ≡ true
+both_so true b h = h
+both_so false b h = absurd (cc)
+
+pub on-of : (pid : ℕ) (p : List ℕ) → on pid p ≡ true → IsOf pid p
+unfolding on
+on-of pid p h e = eqb-true (pid_of p) pid (both_so (not (in_error p)) (pid_of p == pid) h)

@@ -9,9 +9,17 @@ pub struct Sections<'a> {
 }
 
 impl<'a> Sections<'a> {
-    ghost use Rattle.std.specs.Prelude.{◌≡◌, filter};
+    ghost use Rattle.std.specs.Prelude.{◌≡◌, [], filter};
     ghost use Rattle.psi_section.specs.Sections.{taken, is_good};
     ghost use Rattle.psi_section.specs.SectionsLeft.{sections_left};
+
+    /// No section.
+    #[tactic(auto, unfolding(crate::specs::SectionsLeft::sections_left))]
+    pub fn none() -> Sections<'a>
+        ensures { sections_left result ≡ [] }
+    {
+        Sections { bytes: &[] }
+    }
 
     #[tactic(auto, unfolding(crate::specs::SectionsLeft::sections_left))]
     pub(crate) fn of(bytes: &'a [u8]) -> Sections<'a>

@@ -23,7 +23,7 @@ pub use fault::{TableFault, TooManyStreams};
 pub use network::{FeedFault, NetworkFault};
 pub use pat::Pat;
 pub use pmt::Pmt;
-pub use stream::Stream;
+pub use stream::{Stream, is_switched_kind};
 pub use writing::Section;
 
 #[cfg(test)]

@@ -1,0 +1,8 @@
+pub mod EarlierLemmas
+pub mod StepLemmas
+pub mod PatLemmas
+pub mod JudgingLemmas
+pub mod MapsLemmas
+pub mod StreamLemmas
+pub mod FollowLemmas
+pub mod PieceLemmas

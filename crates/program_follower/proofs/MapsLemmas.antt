@@ -1,0 +1,119 @@
+-- The sections on the PID of the map, one after another.
+use Rattle.std.proofs.Common.{◌≡◌, ℕ, List, [], ◌∷◌, Bool, true, false, map, Option, Some, None, refl, sym, ap, subst, ◌∙◌}
+use Rattle.std.specs.Prelude.{option_map}
+use Rattle.ts_packet.specs.Fields.{on}
+use Rattle.psi_section.specs.declared.assembler.Assembler.{Assembler}
+use Rattle.psi_section.specs.Sections.{given}
+use Rattle.psi_section.specs.Assembling.{Gives, left}
+use Rattle.psi_section.proofs.AssemblerLemmas.{gives_off}
+use Rattle.psi_section.proofs.RunLemmas.{given_off}
+use Rattle.psi_tables.specs.declared.network.NetworkFault.{NetworkFault}
+use Rattle.psi_tables.specs.ProgramMap.{ProgramMap, pmt}
+use Rattle.program_follower.specs.declared.purpose.Purpose.{Purpose}
+use Rattle.program_follower.specs.declared.purpose.Listed.{Listed}
+use Rattle.program_follower.specs.declared.known.KnownProgram.{KnownProgram}
+use Rattle.program_follower.specs.declared.map_reader.MapReader.{MapReader}
+use Rattle.program_follower.specs.Program.{earlier, listed, since_pat, Table, table_of, tables, known_map, map_read, first_map, Program, program_in}
+use Rattle.program_follower.specs.Faults.{table_fault, tables_fault, maps_fault}
+use Rattle.program_follower.specs.Standing.{known_seen, GivesSince, sections_on, newest, MapsRead}
+use Rattle.program_follower.specs.Judging.{section_fault}
+use Rattle.program_follower.proofs.EarlierLemmas.{earlier-assoc, earlier-none}
+use Rattle.program_follower.proofs.StepLemmas.{known_grows, listed_stays, since_stays, tables_at, tables_off, known_off}
+
+abbrev pub tables_of : Listed → List (List ℕ) → List Table
+tables_of l ss = map (table_of l.program) ss
+
+-- some are judged, and the rest is to come
+pub record JudgingMaps (c : Purpose) (l : Listed) (before : Option ProgramMap) (all : List (List ℕ)) (known : Option Program) (rest : List (List ℕ)) : Type 0 where
+  pub first : Option ProgramMap
+  pub known_is : known ≡ option_map program_in first
+  pub fault : tables_fault c l.pid before (tables_of l all) ≡ tables_fault c l.pid first (tables_of l rest)
+  pub first_so : earlier before (first_map (tables_of l all)) ≡ earlier first (first_map (tables_of l rest))
+
+pub maps_begin : (c : Purpose) (l : Listed) (before : Option ProgramMap) (all : List (List ℕ)) (known : Option Program) → known ≡ option_map program_in before → JudgingMaps c l before all known all
+maps_begin c l before all known h = record { first = before; known_is = h; fault = refl; first_so = refl }
+
+-- the fault of a section is that of its table
+pub section_is_table : (c : Purpose) (pid : ℕ) (first o : Option ProgramMap) → section_fault c pid (option_map program_in first) o ≡ table_fault c pid first o
+section_is_table c pid first None = refl
+section_is_table c pid first (Some m) = refl
+
+earlier_program : (x y : Option ProgramMap) → earlier (option_map program_in x) (option_map program_in y) ≡ option_map program_in (earlier x y)
+earlier_program None y = refl
+earlier_program (Some m) y = refl
+
+module _ (c : Purpose) (l : Listed) (before : Option ProgramMap) (all : List (List ℕ)) (known : Option Program) (rest : List (List ℕ)) (j : JudgingMaps c l before all known rest) where
+  fault_here : (s : List ℕ) (f : Option NetworkFault) → section_fault c l.pid known (map_read l.program (pmt s)) ≡ f → table_fault c l.pid j.first (map_read l.program (pmt s)) ≡ f
+  fault_here s f h = sym (ap (λ k. section_fault c l.pid k (map_read l.program (pmt s))) j.known_is ∙ section_is_table c l.pid j.first (map_read l.program (pmt s))) ∙ h
+
+  pub maps_more : (s : List ℕ) (rest' : List (List ℕ)) (next : Option Program) → rest ≡ s ∷ rest' → section_fault c l.pid known (map_read l.program (pmt s)) ≡ None
+      → next ≡ earlier known (option_map program_in (map_read l.program (pmt s))) → JudgingMaps c l before all next rest'
+  maps_more s rest' next e h n =
+      let m = map_read l.program (pmt s) in
+      record {
+        first = earlier j.first m;
+        known_is = n ∙ ap (λ k. earlier k (option_map program_in m)) j.known_is ∙ earlier_program j.first m;
+        fault = j.fault ∙ ap (λ ss. tables_fault c l.pid j.first (tables_of l ss)) e ∙ ap (λ x. earlier x (tables_fault c l.pid (earlier j.first m) (tables_of l rest'))) (fault_here s None h);
+        first_so = j.first_so ∙ ap (λ ss. earlier j.first (first_map (tables_of l ss))) e ∙ sym (earlier-assoc j.first m (first_map (tables_of l rest')));
+      }
+
+  pub maps_done : rest ≡ [] → (tables_fault c l.pid before (tables_of l all) ≡ None) × (known ≡ option_map program_in (earlier before (first_map (tables_of l all))))
+  maps_done e = (
+    j.fault ∙ ap (λ ss. tables_fault c l.pid j.first (tables_of l ss)) e,
+    j.known_is ∙ ap (option_map program_in) (sym (j.first_so ∙ ap (λ ss. earlier j.first (first_map (tables_of l ss))) e ∙ earlier-none j.first)),
+  )
+
+  pub maps_fail : (s : List ℕ) (rest' : List (List ℕ)) (f : NetworkFault) → rest ≡ s ∷ rest' → section_fault c l.pid known (map_read l.program (pmt s)) ≡ Some f → tables_fault c l.pid before (tables_of l all) ≡ Some f
+  maps_fail s rest' f e h =
+      let m = map_read l.program (pmt s) in
+      j.fault ∙ ap (λ ss. tables_fault c l.pid j.first (tables_of l ss)) e ∙ ap (λ x. earlier x (tables_fault c l.pid (earlier j.first m) (tables_of l rest'))) (fault_here s (Some f) h)
+
+-- ---- one packet more
+
+module _ (c : Purpose) (r : MapReader) (l : Listed) (p : List ℕ) (past : List (List ℕ)) (at : Some l ≡ listed c.program past) (h : MapsRead r c.program past) where
+  abbrev since : List (List ℕ)
+  since = since_pat c.program past
+
+  pub gives_at : Gives r.assembler l.pid since h.todo
+  gives_at = let P : Option Listed → Type 0 = λ x. GivesSince r.assembler x since h.todo in subst P (sym at) h.assembler
+
+  gives_next : (a : Assembler) (todo : List (List ℕ)) → Gives a l.pid (p ∷ since) todo → GivesSince a (listed c.program (p ∷ past)) (since_pat c.program (p ∷ past)) todo
+  gives_next a todo g =
+      let P : List (List ℕ) → Type 0 = λ ps. Gives a l.pid ps todo in
+      let Q : Option Listed → Type 0 = λ x. GivesSince a x (since_pat c.program (p ∷ past)) todo in
+      subst Q (sym (listed_stays c.program p past l (sym at))) (subst P (sym (since_stays c.program p past l (sym at))) g)
+
+  newest_at : newest c.program (p ∷ past) ≡ given l.pid p since
+  newest_at = ap (λ x. sections_on x p since) (sym at)
+
+  pub maps_off : on l.pid p ≡ false → MapsRead (record { assembler = r.assembler; known = r.known; is_on_map = false }) c.program (p ∷ past)
+  maps_off o = record {
+    todo = h.todo;
+    assembler = gives_next r.assembler h.todo (gives_off r.assembler l.pid p since h.todo o gives_at);
+    program = h.program ∙ ap (option_map program_in) (sym (known_off c.program p past l (sym at) o));
+    newest_is = sym (newest_at ∙ given_off l.pid p since o);
+  }
+
+  pub maps_clean_off : on l.pid p ≡ false → maps_fault c (listed c.program past) (known_map c.program past) (tables c.program p past) ≡ None
+  maps_clean_off o =
+      ap (maps_fault c (listed c.program past) (known_map c.program past)) (tables_off c.program p past l (sym at) o)
+      ∙ ap (λ x. maps_fault c x (known_map c.program past) []) (sym at)
+
+  module _ (a : Assembler) (g : Gives a l.pid (p ∷ since) (given l.pid p since)) (ss : List (List ℕ)) (ss_is : ss ≡ left a) where
+    tables_are : tables_of l ss ≡ tables c.program p past
+    tables_are = ap (tables_of l) (ss_is ∙ g.todo_left) ∙ sym (tables_at c.program p past l (sym at))
+
+    pub maps_on : (k : Option KnownProgram) → known_seen k ≡ option_map program_in (earlier (known_map c.program past) (first_map (tables_of l ss)))
+        → MapsRead (record { assembler = a; known = k; is_on_map = true }) c.program (p ∷ past)
+    maps_on k e = record {
+      todo = given l.pid p since;
+      assembler = gives_next a (given l.pid p since) g;
+      program = e ∙ ap (λ ts. option_map program_in (earlier (known_map c.program past) (first_map ts))) tables_are ∙ ap (option_map program_in) (sym (known_grows c.program p past));
+      newest_is = g.todo_left ∙ sym newest_at;
+    }
+
+    pub maps_fault_on : (o : Option NetworkFault) → tables_fault c l.pid (known_map c.program past) (tables_of l ss) ≡ o
+        → maps_fault c (listed c.program past) (known_map c.program past) (tables c.program p past) ≡ o
+    maps_fault_on o e =
+        ap (λ x. maps_fault c x (known_map c.program past) (tables c.program p past)) (sym at)
+        ∙ ap (tables_fault c l.pid (known_map c.program past)) (sym tables_are) ∙ e

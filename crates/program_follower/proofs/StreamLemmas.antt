@@ -1,0 +1,294 @@
+-- The stream that a packet is of.
+use Rattle.std.proofs.Common.{◌≡◌, ℕ, suc, ◌+◌, ◌<◌, ◌≤◌, List, [], ◌∷◌, Bool, true, false, not, ◌&&◌, ◌||◌, ◌==◌, refl, sym, ap, subst, ◌∙◌, arith, length, if◌then◌else◌, Option, Some, None}
+use Rattle.std.specs.Prelude.{is_some, option_map, ◌≢◌, slice_index_or}
+use Rattle.std.proofs.lemmas.Bool.{eqb-true, eq-eqb}
+use Rattle.std.proofs.Math.ListN.{set}
+use Rattle.std.proofs.lemmas.List.{get_or-set_same, get_or-set_other}
+use Rattle.ts_packet.specs.Fields.{in_error, pid_of, on, payload, payload_on, scrambled, unit_start}
+use Rattle.ts_packet.specs.Duplicates.{original, repeats}
+use Rattle.ts_packet.proofs.Cases.{by_test}
+use Rattle.ts_packet.proofs.FieldLemmas.{payload_on-on}
+use Rattle.psi_tables.specs.declared.stream.Stream.{Stream}
+use Rattle.unit_stream.specs.declared.reader.UnitReader.{UnitReader}
+use Rattle.unit_stream.specs.declared.fault.UnitFault.{UnitFault}
+use Rattle.unit_stream.specs.declared.fault.UnitFault.TheVariants.{Scrambled}
+use Rattle.unit_stream.specs.Times.{begins, begins_one, high, stamp, splits}
+use Rattle.unit_stream.specs.Faults.{scrambled_one, start_fault, unit_fault}
+use Rattle.unit_stream.specs.Pieces.{Reads}
+use Rattle.program_follower.specs.Faults.{pids_in}
+use Rattle.program_follower.specs.Streaming.{next_place, first_on, AllRead, IsOne, begin_fault}
+
+-- ---- of one PID
+
+both_true : (a b : Bool) → a && b ≡ true → (a ≡ true) × (b ≡ true)
+both_true true b h = (refl, h)
+both_true false b h = absurd (cc)
+
+-- two packets that are of one PID are of the same PIDs
+on_parts : (pid : ℕ) (p : List ℕ) → on pid p ≡ true → (not (in_error p) ≡ true) × (pid_of p ≡ pid)
+unfolding on
+on_parts pid p h = let r = both_true (not (in_error p)) (pid_of p == pid) h in (r.0, eqb-true (pid_of p) pid r.1)
+
+pub one_pid : (a b : ℕ) (p : List ℕ) → on a p ≡ true → on b p ≡ true → a ≡ b
+one_pid a b p h k = sym (on_parts a p h).1 ∙ (on_parts b p k).1
+
+on_alike : (pid x : ℕ) (p q : List ℕ) → on pid p ≡ true → on pid q ≡ true → on x p ≡ on x q
+unfolding on
+on_alike pid x p q h k =
+    let a = on_parts pid p h in
+    let b = on_parts pid q k in
+    ap (λ e. e && (pid_of p == x)) (a.0 ∙ sym b.0) ∙ ap (λ n. not (in_error q) && (n == x)) (a.1 ∙ sym b.1)
+
+first_alike : (pids : List ℕ) (pid : ℕ) (p q : List ℕ) → on pid p ≡ true → on pid q ≡ true → first_on pids p ≡ first_on pids q
+first_alike [] pid p q h k = refl
+first_alike (x ∷ xs) pid p q h k =
+    ap (λ b. if b then Some (0, x) else option_map next_place (first_on xs p)) (on_alike pid x p q h k)
+    ∙ ap (λ o. if on x q then Some (0, x) else option_map next_place o) (first_alike xs pid p q h k)
+
+-- ---- the first
+
+record Moved (o : Option (ℕ × ℕ)) (x : ℕ × ℕ) : Type 0 where
+  place : ℕ × ℕ
+  is : o ≡ Some place
+  next : next_place place ≡ x
+
+moved_some : (o : Option (ℕ × ℕ)) (x : ℕ × ℕ) → option_map next_place o ≡ Some x → Moved o x
+moved_some None x h = absurd (cc)
+moved_some (Some y) x h = record { place = y; is = refl; next = cc }
+
+some_is : (a b : ℕ × ℕ) → Some a ≡ Some b → a ≡ b
+some_is a b h = cc
+
+pub first_is_on : (pids : List ℕ) (p : List ℕ) (x : ℕ × ℕ) → first_on pids p ≡ Some x → on x.1 p ≡ true
+first_is_on [] p x h = absurd (cc)
+first_is_on (pid ∷ pids) p x h =
+    by_test (on pid p)
+    (λ y. let e : Some (0, pid) ≡ Some x = simp y at h in ap (λ n. on n p) (sym (ap (λ (z : ℕ × ℕ). z.1) (some_is (0, pid) x e))) ∙ y)
+    (λ n. let r = moved_some (first_on pids p) x (simp n at h) in ap (λ m. on m p) (sym (ap (λ (z : ℕ × ℕ). z.1) r.next)) ∙ first_is_on pids p r.place r.is)
+
+pub first_within : (pids : List ℕ) (p : List ℕ) (x : ℕ × ℕ) → first_on pids p ≡ Some x → x.0 < length pids
+first_within [] p x h = absurd (cc)
+first_within (pid ∷ pids) p x h =
+    by_test (on pid p)
+    (λ y. let e : Some (0, pid) ≡ Some x = simp y at h in let z : 0 ≡ x.0 = ap (λ (z : ℕ × ℕ). z.0) (some_is (0, pid) x e) in omega arith)
+    (λ n. let r = moved_some (first_on pids p) x (simp n at h) in let z : r.place.0 + 1 ≡ x.0 = ap (λ (z : ℕ × ℕ). z.0) r.next in let w = first_within pids p r.place r.is in omega arith)
+
+same_place : (pids : List ℕ) (p q : List ℕ) (x y : ℕ × ℕ) → first_on pids p ≡ Some x → first_on pids q ≡ Some y → x.0 ≡ y.0 → x.1 ≡ y.1
+same_place [] p q x y h k e = absurd (cc)
+same_place (pid ∷ pids) p q x y h k e =
+    by_test (on pid p)
+    (λ a. let f = some_is (0, pid) x (simp a at h) in let f0 : 0 ≡ x.0 = ap (λ (z : ℕ × ℕ). z.0) f in
+    by_test (on pid q)
+    (λ b. sym (ap (λ (z : ℕ × ℕ). z.1) f) ∙ ap (λ (z : ℕ × ℕ). z.1) (some_is (0, pid) y (simp b at k)))
+    (λ b. let s = moved_some (first_on pids q) y (simp b at k) in let s0 : s.place.0 + 1 ≡ y.0 = ap (λ (z : ℕ × ℕ). z.0) s.next in absurd (omega arith)))
+    (λ a. let r = moved_some (first_on pids p) x (simp a at h) in let r0 : r.place.0 + 1 ≡ x.0 = ap (λ (z : ℕ × ℕ). z.0) r.next in
+    by_test (on pid q)
+    (λ b. let g = some_is (0, pid) y (simp b at k) in let g0 : 0 ≡ y.0 = ap (λ (z : ℕ × ℕ). z.0) g in absurd (omega arith))
+    (λ b. let s = moved_some (first_on pids q) y (simp b at k) in let s0 : s.place.0 + 1 ≡ y.0 = ap (λ (z : ℕ × ℕ). z.0) s.next in
+    sym (ap (λ (z : ℕ × ℕ). z.1) r.next) ∙ same_place pids p q r.place s.place r.is s.is (omega arith) ∙ ap (λ (z : ℕ × ℕ). z.1) s.next))
+
+-- ---- what holds of one of the PIDs
+
+abbrev pub one_of : (ℕ → Bool) → List ℕ → Bool
+one_of f [] = false
+one_of f (pid ∷ pids) = f pid || one_of f pids
+
+abbrev pub NeedsOn : (ℕ → Bool) → List ℕ → Type 0
+NeedsOn f p = (pid : ℕ) → on pid p ≡ false → f pid ≡ false
+
+or_false : (a b : Bool) → a ≡ false → b ≡ false → a || b ≡ false
+or_false true b h k = absurd (cc)
+or_false false b h k = k
+
+or_same : (a b : Bool) → (a ≡ false → b ≡ false) → a || b ≡ a
+or_same true b h = refl
+or_same false b h = h refl
+
+or_right : (a b : Bool) → a ≡ false → a || b ≡ b
+or_right true b h = absurd (cc)
+or_right false b h = refl
+
+module _ (f : ℕ → Bool) (p : List ℕ) (needs : NeedsOn f p) where
+  none_but : (pid : ℕ) (pids : List ℕ) → on pid p ≡ true → f pid ≡ false → one_of f pids ≡ false
+  none_but pid [] h k = refl
+  none_but pid (x ∷ xs) h k = or_false (f x) (one_of f xs) (by_test (on x p) (λ y. ap f (one_pid x pid p y h) ∙ k) (needs x)) (none_but pid xs h k)
+
+  pub first_of : (pids : List ℕ) (x : ℕ × ℕ) → first_on pids p ≡ Some x → one_of f pids ≡ f x.1
+  first_of [] x h = absurd (cc)
+  first_of (pid ∷ pids) x h =
+      by_test (on pid p)
+      (λ y. or_same (f pid) (one_of f pids) (none_but pid pids y) ∙ ap f (ap (λ (z : ℕ × ℕ). z.1) (some_is (0, pid) x (simp y at h))))
+      (λ n. let r = moved_some (first_on pids p) x (simp n at h) in or_right (f pid) (one_of f pids) (needs pid n) ∙ first_of pids r.place r.is ∙ ap f (ap (λ (z : ℕ × ℕ). z.1) r.next))
+
+  pub none_of : (pids : List ℕ) → first_on pids p ≡ None → one_of f pids ≡ false
+  none_of [] h = refl
+  none_of (pid ∷ pids) h =
+      by_test (on pid p)
+      (λ y. absurd (let e : Some (0, pid) ≡ None = simp y at h in cc))
+      (λ n. or_false (f pid) (one_of f pids) (needs pid n) (none_of pids (moved_none (first_on pids p) (simp n at h)))) where
+        moved_none : (o : Option (ℕ × ℕ)) → option_map next_place o ≡ None → o ≡ None
+        moved_none None h = refl
+        moved_none (Some y) h = absurd (cc)
+
+pub off_payload : (pid : ℕ) (p : List ℕ) → on pid p ≡ false → payload_on pid p ≡ false
+off_payload pid p o = by_test (payload_on pid p) (λ k. let m = payload_on-on pid p k in cc) (λ k. k)
+
+abbrev pub scrambled_on : List ℕ → ℕ → Bool
+scrambled_on p pid = payload_on pid p && scrambled p
+
+abbrev pub begins_on : List ℕ → List (List ℕ) → ℕ → Bool
+begins_on p past pid = begins pid p past
+
+pub scrambled_needs : (p : List ℕ) → NeedsOn (scrambled_on p) p
+scrambled_needs p pid o = ap (λ b. b && scrambled p) (off_payload pid p o)
+
+pub begins_needs : (p : List ℕ) (past : List (List ℕ)) → NeedsOn (begins_on p past) p
+begins_needs p past pid o = ap (λ b. (b && not (repeats pid p past)) && unit_start p) (off_payload pid p o)
+
+pub scrambled_is : (p : List ℕ) (pids : List ℕ) → scrambled_one pids p ≡ one_of (scrambled_on p) pids
+scrambled_is p [] = refl
+scrambled_is p (pid ∷ pids) = ap (λ b. scrambled_on p pid || b) (scrambled_is p pids)
+
+pub begins_is : (p : List ℕ) (past : List (List ℕ)) (pids : List ℕ) → begins_one pids p past ≡ one_of (begins_on p past) pids
+begins_is p past [] = refl
+begins_is p past (pid ∷ pids) = ap (λ b. begins_on p past pid || b) (begins_is p past pids)
+
+-- ---- the readers
+
+pub reads_off : (r : UnitReader) (pid : ℕ) (p : List ℕ) (past : List (List ℕ)) → on pid p ≡ false → Reads r pid past → Reads r pid (p ∷ past)
+reads_off r pid p past o h =
+    let y = off_payload pid p o in
+    record {
+      same = h.same;
+      follows = record { same = h.follows.same; last = simp y h.follows.last };
+      begun = h.begun ∙ sym (simp y refl);
+    }
+
+-- a packet of none of the PIDs
+pub all_off : (rs : List UnitReader) (pids : List ℕ) (p : List ℕ) (past : List (List ℕ)) → first_on pids p ≡ None → AllRead rs pids past → AllRead rs pids (p ∷ past)
+all_off rs pids p past n h q x d k =
+    let o : on x.1 p ≡ false = by_test (on x.1 p) (λ y. absurd (let e = first_alike pids x.1 p q y (first_is_on pids q x k) in cc)) (λ z. z) in
+    reads_off (slice_index_or rs x.0 d) x.1 p past o (h q x d k)
+
+-- a packet of one of them
+pub all_on : (rs new : List UnitReader) (pids : List ℕ) (p : List ℕ) (past : List (List ℕ)) (x : ℕ × ℕ) → first_on pids p ≡ Some x → AllRead rs pids past
+    → ((i : ℕ) (d : UnitReader) → i ≢ x.0 → slice_index_or new i d ≡ slice_index_or rs i d)
+    → ((d : UnitReader) (pid : ℕ) (ps : List (List ℕ)) → Reads (slice_index_or rs x.0 d) pid ps → Reads (slice_index_or new x.0 d) pid (p ∷ ps)) → AllRead new pids (p ∷ past)
+all_on rs new pids p past x f h others reads q y d k =
+    by_test (on y.1 p)
+    (λ o. let e : x ≡ y = some_is x y (sym f ∙ first_alike pids y.1 p q o (first_is_on pids q y k) ∙ k) in
+    let P : ℕ × ℕ → Type 0 = λ z. Reads (slice_index_or new z.0 d) z.1 (p ∷ past) in
+    subst P e (reads d x.1 past (h p x d f)))
+    (λ o. let apart : y.0 ≢ x.0 = (λ e. let same = same_place pids p q x y f k (sym e) in let z : on y.1 p ≡ true = ap (λ n. on n p) (sym same) ∙ first_is_on pids p x f in absurd (cc)) in
+    let P : UnitReader → Type 0 = λ r. Reads r y.1 (p ∷ past) in
+    subst P (sym (others y.0 d apart)) (reads_off (slice_index_or rs y.0 d) y.1 p past o (h q y d k)))
+
+-- ---- looked for one after another
+
+abbrev pub shifted : ℕ → Option (ℕ × ℕ) → Option (ℕ × ℕ)
+shifted n o = option_map (λ (x : ℕ × ℕ). (n + x.0, x.1)) o
+
+pub not_shifted : (o : Option (ℕ × ℕ)) → o ≡ shifted 0 o
+not_shifted None = refl
+not_shifted (Some x) = ap (λ (n : ℕ). let y : Option (ℕ × ℕ) = Some (n, x.1) in y) (let e : x.0 ≡ 0 + x.0 = omega arith in e)
+
+shifted_more : (n : ℕ) (o : Option (ℕ × ℕ)) → shifted n (option_map next_place o) ≡ shifted (n + 1) o
+shifted_more n None = refl
+shifted_more n (Some x) = ap (λ (k : ℕ). let y : Option (ℕ × ℕ) = Some (k, x.1) in y) (let e : n + (x.0 + 1) ≡ (n + 1) + x.0 = omega arith in e)
+
+module _ (p : List ℕ) (all rest rest' : List Stream) (s : Stream) (n : ℕ) (e : rest ≡ s ∷ rest') (h : first_on (pids_in all) p ≡ shifted n (first_on (pids_in rest) p)) where
+  pub first_here : on s.pid p ≡ true → Some (n, s.pid) ≡ first_on (pids_in all) p
+  first_here y =
+      let a : first_on (pids_in (s ∷ rest')) p ≡ Some (0, s.pid) = simp y refl in
+      let k : n + 0 ≡ n = omega arith in
+      sym (h ∙ ap (λ ss. shifted n (first_on (pids_in ss) p)) e ∙ ap (shifted n) a ∙ ap (λ (k : ℕ). let y : Option (ℕ × ℕ) = Some (k, s.pid) in y) k)
+
+  pub first_later : on s.pid p ≡ false → first_on (pids_in all) p ≡ shifted (n + 1) (first_on (pids_in rest') p)
+  first_later y =
+      let a : first_on (pids_in (s ∷ rest')) p ≡ option_map next_place (first_on (pids_in rest') p) = simp y refl in
+      h ∙ ap (λ ss. shifted n (first_on (pids_in ss) p)) e ∙ ap (shifted n) a ∙ shifted_more n (first_on (pids_in rest') p)
+
+pub first_never : (p : List ℕ) (all rest : List Stream) (n : ℕ) → rest ≡ [] → first_on (pids_in all) p ≡ shifted n (first_on (pids_in rest) p) → None ≡ first_on (pids_in all) p
+first_never p all rest n e h = sym (h ∙ ap (λ ss. shifted n (first_on (pids_in ss) p)) e)
+
+behind_one : (s : Stream) (ss : List Stream) (n : ℕ) (d : Stream) → slice_index_or (s ∷ ss) (n + 1) d ≡ slice_index_or ss n d
+behind_one s ss n d = let e : n + 1 ≡ suc n = omega arith in ap (λ (k : ℕ). slice_index_or (s ∷ ss) k d) e
+
+-- the PID at its place
+pub first_pid : (ss : List Stream) (q : List ℕ) (x : ℕ × ℕ) (d : Stream) → first_on (pids_in ss) q ≡ Some x → x.1 ≡ (slice_index_or ss x.0 d).pid
+first_pid [] q x d h = absurd (cc)
+first_pid (s ∷ ss) q x d h =
+    by_test (on s.pid q)
+    (λ y. let e = some_is (0, s.pid) x (simp y at h) in
+    sym (ap (λ (z : ℕ × ℕ). z.1) e) ∙ ap (λ (n : ℕ). (slice_index_or (s ∷ ss) n d).pid) (ap (λ (z : ℕ × ℕ). z.0) e))
+    (λ n. let r = moved_some (first_on (pids_in ss) q) x (simp n at h) in
+    sym (ap (λ (z : ℕ × ℕ). z.1) r.next) ∙ first_pid ss q r.place d r.is ∙ sym (ap (λ (t : Stream). t.pid) (behind_one s ss r.place.0 d)) ∙ ap (λ (n : ℕ). (slice_index_or (s ∷ ss) n d).pid) (ap (λ (z : ℕ × ℕ). z.0) r.next))
+
+-- ---- one packet more
+
+module _ (pids : List ℕ) (p : List ℕ) (past : List (List ℕ)) where
+  pub none_fault : first_on pids p ≡ None → unit_fault pids p past ≡ None
+  none_fault h =
+      let a = scrambled_is p pids ∙ none_of (scrambled_on p) p (scrambled_needs p) pids h in
+      let b = begins_is p past pids ∙ none_of (begins_on p past) p (begins_needs p past) pids h in
+      simp (a, b) refl
+
+  pub none_high : first_on pids p ≡ None → high pids (p ∷ past) ≡ high pids past
+  none_high h = let b = begins_is p past pids ∙ none_of (begins_on p past) p (begins_needs p past) pids h in simp b refl
+
+  module _ (x : ℕ × ℕ) (h : first_on pids p ≡ Some x) where
+    pub of_begins : begins_one pids p past ≡ begins x.1 p past
+    of_begins = begins_is p past pids ∙ first_of (begins_on p past) p (begins_needs p past) pids x h
+
+    of_scrambled : scrambled_one pids p ≡ payload_on x.1 p && scrambled p
+    of_scrambled = scrambled_is p pids ∙ first_of (scrambled_on p) p (scrambled_needs p) pids x h
+
+    pub is_one : IsOne pids x.1 p past
+    is_one = record { good = not_true (in_error p) (on_parts x.1 p (first_is_on pids p x h)).0; begins_it = of_begins } where
+      not_true : (b : Bool) → not b ≡ true → b ≡ false
+      not_true true e = absurd (cc)
+      not_true false e = refl
+
+    pub fault_scrambled : payload_on x.1 p && scrambled p ≡ true → unit_fault pids p past ≡ Some Scrambled
+    fault_scrambled y = let e = of_scrambled ∙ y in simp e refl
+
+    pub fault_begin : (o : Option UnitFault) → payload_on x.1 p && scrambled p ≡ false → begin_fault pids x.1 p past ≡ o → unit_fault pids p past ≡ o
+    fault_begin o n e =
+        let a = of_scrambled ∙ n in
+        let b = of_begins in
+        ap (λ s. if s then Some Scrambled else (if begins_one pids p past then start_fault (high pids past) (splits p) (stamp p) else None)) a
+        ∙ ap (λ s. if s then start_fault (high pids past) (splits p) (stamp p) else None) b ∙ e
+
+-- a packet of the PID has a payload where it has one
+pub payload_of : (pid : ℕ) (p : List ℕ) → on pid p ≡ true → payload_on pid p ≡ is_some (payload p)
+unfolding payload_on
+payload_of pid p h = ap (λ b. b && is_some (payload p)) h
+
+-- ---- the readers at the end of the head
+
+pids_length : (ss : List Stream) → length (pids_in ss) ≡ length ss
+pids_length [] = refl
+pids_length (s ∷ ss) = let i = pids_length ss in omega arith
+
+pub first_within_streams : (ss : List Stream) (q : List ℕ) (x : ℕ × ℕ) (n : ℕ) → first_on (pids_in ss) q ≡ Some x → length ss ≤ n → x.0 < n
+first_within_streams ss q x n h le = let a = first_within (pids_in ss) q x h in let b = pids_length ss in omega arith
+
+abbrev pub ReadBelow : List UnitReader → List Stream → ℕ → Type 0
+ReadBelow rs ss n = (q : List ℕ) (x : ℕ × ℕ) (d : UnitReader) → first_on (pids_in ss) q ≡ Some x → x.0 < n → Reads (slice_index_or rs x.0 d) x.1 []
+
+pub read_on : (ss : List Stream) (rs : List UnitReader) (n : ℕ) (v : UnitReader) (s : Stream) → n < length rs → Reads v (slice_index_or ss n s).pid [] → ReadBelow rs ss n → ReadBelow (set rs n v) ss (n + 1)
+read_on ss rs n v s lt r below q x d h le =
+    by_test (x.0 == n)
+    (λ y. let e : x.0 ≡ n = eqb-true x.0 n y in
+    let pid : (slice_index_or ss n s).pid ≡ x.1 = ap (λ (k : ℕ). (slice_index_or ss k s).pid) (sym e) ∙ sym (first_pid ss q x s h) in
+    let at : v ≡ slice_index_or (set rs n v) x.0 d = sym (get_or-set_same rs n v d lt) ∙ ap (λ (k : ℕ). slice_index_or (set rs n v) k d) (sym e) in
+    let P : UnitReader → Type 0 = λ u. Reads u x.1 [] in
+    let Q : ℕ → Type 0 = λ k. Reads v k [] in
+    subst P at (subst Q pid r))
+    (λ z. let apart : x.0 ≢ n = (λ e. let k = eq-eqb x.0 n e in absurd (cc)) in
+    let P : UnitReader → Type 0 = λ u. Reads u x.1 [] in
+    subst P (sym (get_or-set_other rs n x.0 v d apart)) (below q x d h (omega arith)))
+
+-- any reader
+pub some_reader : UnitReader
+some_reader = record { units = record { pid = 0; follower = record { pid = 0; last = None }; has_begun = false }; last = [] }

@@ -1,0 +1,63 @@
+-- What the parts of a follower stand for after the packets that they have seen, newest first.
+use Rattle.std.specs.Prelude.{◌≡◌, ℕ, ◌<◌, List, [], ◌∷◌, length, Bool, if◌then◌else◌, map, slice_index_or, Option, Some, None, option_map}
+use Rattle.ts_packet.specs.Fields.{on}
+use Rattle.psi_section.specs.declared.assembler.Assembler.{Assembler}
+use Rattle.psi_section.specs.Sections.{given}
+use Rattle.psi_section.specs.Assembling.{Gives, left}
+use Rattle.psi_section.specs.SectionsLeft.{sections_left}
+use Rattle.psi_tables.specs.ProgramMap.{map_of}
+use Rattle.program_follower.specs.declared.purpose.Listed.{Listed}
+use Rattle.program_follower.specs.declared.pat_reader.PatReader.{PatReader}
+use Rattle.program_follower.specs.declared.map_reader.MapReader.{MapReader}
+use Rattle.program_follower.specs.declared.known.KnownProgram.{KnownProgram}
+use Rattle.program_follower.specs.declared.tables.LentTable.{LentTable}
+use Rattle.program_follower.specs.declared.tables.Tables.{Tables}
+use Rattle.program_follower.specs.Program.{listed, since_pat, Table, table_of, Program, program_of}
+
+-- The reader of PATs has been fed this past; its assembler may still give what was judged.
+pub record PatsRead (r : PatReader) (wanted : Option ℕ) (past : List (List ℕ)) : Type 0 where
+  pub todo : List (List ℕ)
+  pub assembler : Gives r.assembler 0 past todo
+  pub listed_is : r.listed ≡ listed wanted past
+
+-- ---- maps
+
+-- what the code knows of the program
+abbrev pub program_seen : KnownProgram → Program
+program_seen k = record { streams = k.streams.items; pcr_pid = k.pcr_pid }
+
+abbrev pub known_seen : Option KnownProgram → Option Program
+known_seen known = option_map program_seen known
+
+-- a table that is lent, by its bytes
+abbrev pub table_seen : LentTable → Table
+table_seen t = record { section = t.section.now; program_map = option_map (λ p. map_of p.bytes.now) t.map }
+
+-- the tables that are still to come
+unfoldable pub tables_left : Tables → List Table
+tables_left t = map (table_of t.program) (sections_left t.sections)
+
+-- the assembler has been fed the packets since the PAT, of the PID that it lists
+abbrev pub GivesSince : Assembler → Option Listed → List (List ℕ) → List (List ℕ) → Type 0
+GivesSince a None since todo = (pid : ℕ) → Gives a pid [] todo
+GivesSince a (Some l) since todo = Gives a l.pid since todo
+
+-- the sections that the newest packet finishes on the PMT's PID
+abbrev pub sections_on : Option Listed → List ℕ → List (List ℕ) → List (List ℕ)
+sections_on None p since = []
+sections_on (Some l) p since = given l.pid p since
+
+abbrev pub newest : Option ℕ → List (List ℕ) → List (List ℕ)
+newest wanted [] = []
+newest wanted (p ∷ past) = sections_on (listed wanted past) p (since_pat wanted past)
+
+-- those that are shown
+abbrev pub shown : MapReader → List (List ℕ)
+shown r = if r.is_on_map then left r.assembler else []
+
+-- The reader of maps has been fed this past, and shows what the newest packet finishes.
+pub record MapsRead (r : MapReader) (wanted : Option ℕ) (past : List (List ℕ)) : Type 0 where
+  pub todo : List (List ℕ)
+  pub assembler : GivesSince r.assembler (listed wanted past) (since_pat wanted past) todo
+  pub program : known_seen r.known ≡ program_of wanted past
+  pub newest_is : shown r ≡ newest wanted past

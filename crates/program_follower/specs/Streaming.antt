@@ -1,0 +1,52 @@
+-- What the followers of the switched streams stand for, and what a packet is to them.
+use Rattle.std.specs.Prelude.{◌≡◌, ℕ, ◌+◌, List, [], ◌∷◌, true, false, if◌then◌else◌, slice_index_or, Option, Some, None, option_map}
+use Rattle.ts_packet.specs.Fields.{in_error, on, payload_on, unit_start}
+use Rattle.ts_packet.specs.Duplicates.{original, repeats}
+use Rattle.unit_stream.specs.declared.reader.UnitReader.{UnitReader}
+use Rattle.unit_stream.specs.Times.{begins, begins_one, in_unit, high, stamp, splits}
+use Rattle.unit_stream.specs.Faults.{start_fault}
+use Rattle.unit_stream.specs.declared.fault.UnitFault.{UnitFault}
+use Rattle.unit_stream.specs.Clocks.{ClockAt, Tells}
+use Rattle.unit_stream.specs.Pieces.{Reads}
+use Rattle.program_follower.specs.declared.streams.Streams.{Streams}
+use Rattle.program_follower.specs.declared.streams.StreamPacket.{StreamPacket}
+use Rattle.program_follower.specs.declared.streams.StreamPacket.TheVariants.{Start, More, Repeat, Lead, NoPayload}
+
+-- one place farther
+abbrev pub next_place : ℕ × ℕ → ℕ × ℕ
+next_place x = (x.0 + 1, x.1)
+
+-- the first of these PIDs on which the packet is, behind its number
+abbrev pub first_on : List ℕ → List ℕ → Option (ℕ × ℕ)
+first_on [] p = None
+first_on (pid ∷ pids) p = if on pid p then Some (0, pid) else option_map next_place (first_on pids p)
+
+-- each PID's first reader has read this past
+abbrev pub AllRead : List UnitReader → List ℕ → List (List ℕ) → Type 0
+AllRead readers pids past = (q : List ℕ) (x : ℕ × ℕ) (d : UnitReader) → first_on pids q ≡ Some x → Reads (slice_index_or readers x.0 d) x.1 past
+
+pub record StreamsRead (s : Streams) (pids : List ℕ) (past : List (List ℕ)) : Type 0 where
+  pub clock : ClockAt s.clock (high pids past)
+  pub readers : AllRead s.readers pids past
+
+-- the packet is of this one of the PIDs
+pub record IsOne (pids : List ℕ) (pid : ℕ) (p : List ℕ) (past : List (List ℕ)) : Type 0 where
+  pub good : in_error p ≡ false
+  pub begins_it : begins_one pids p past ≡ begins pid p past
+
+-- what is wrong with the begin of a unit, if the packet is one
+abbrev pub begin_fault : List ℕ → ℕ → List ℕ → List (List ℕ) → Option UnitFault
+begin_fault pids pid p past = if begins pid p past then start_fault (high pids past) (splits p) (stamp p) else None
+
+-- what a packet of the PID is
+abbrev pub IsStreamPacket : StreamPacket → List ℕ → ℕ → List ℕ → List (List ℕ) → Type 0
+IsStreamPacket (Start begun) pids pid p past = (begins pid p past ≡ true) × Tells begun (high pids past) (stamp p)
+IsStreamPacket More pids pid p past = (original pid p past ≡ true) × (unit_start p ≡ false) × (in_unit pid past ≡ true)
+IsStreamPacket Repeat pids pid p past = (payload_on pid p ≡ true) × (repeats pid p past ≡ true)
+IsStreamPacket Lead pids pid p past = (original pid p past ≡ true) × (unit_start p ≡ false) × (in_unit pid past ≡ false)
+IsStreamPacket NoPayload pids pid p past = payload_on pid p ≡ false
+
+-- of which stream it is, and what it is there
+abbrev pub IsOfStream : Option (ℕ × StreamPacket) → List ℕ → List ℕ → List (List ℕ) → Type 0
+IsOfStream None pids p past = first_on pids p ≡ None
+IsOfStream (Some x) pids p past = (pid : ℕ) × ((first_on pids p ≡ Some (x.0, pid)) × IsStreamPacket x.1 pids pid p past)

@@ -1,0 +1,274 @@
+//! One program of a network, packet by packet.
+
+ghost use Rattle.std.specs.Prelude.{◌≡◌, ◌&&◌, ◌∷◌, [], ℕ, List, map, Option, Some, None, option_map, is_some, true, OnOk, IfOk, IfErr};
+ghost use Rattle.pes_time.specs.Line.{ring_of};
+ghost use Rattle.unit_stream.specs.Times.{high};
+ghost use Rattle.unit_stream.specs.Faults.{unit_fault};
+ghost use Rattle.program_follower.specs.Program.{listed, tables, Program, program_of, known_map, behind_head, pids_of, pmt_pid_of};
+ghost use Rattle.program_follower.specs.Faults.{network_fault, on_cue, as_network};
+ghost use Rattle.program_follower.specs.Standing.{tables_left};
+ghost use Rattle.program_follower.specs.Streaming.{IsOfStream};
+ghost use Rattle.program_follower.specs.Following.{FollowerStandsFor, StreamsSince, GoesTo, grown, lent_program, IsPlace, IsNetwork, streams_of_program, on_map};
+
+use crate::known::KnownProgram;
+use crate::map_reader::MapReader;
+use crate::pat_reader::PatReader;
+use crate::purpose::{Listed, Purpose};
+use crate::streams::{StreamPacket, Streams};
+use crate::tables::Tables;
+use pes_time::Time33;
+use psi_tables::{NetworkFault, Stream};
+use thiserror::Error;
+use ts_packet::{Packet, Pid};
+use unit_stream::UnitFault;
+
+/// What a packet is to the program that is followed.
+#[derive(Clone, Copy, Debug, PartialEq, Eq)]
+pub enum Place {
+    /// It is marked in error.
+    Marked,
+    /// It is on the PID of the cues.
+    Cue,
+    /// It is on the PID of the map, behind the PAT: [`ProgramFollower::tables`] lends the sections that it finishes.
+    Map,
+    /// It is of the switched stream of this number in the order of the map, counted from 0, behind the head.
+    Stream(usize, StreamPacket),
+    /// It is none of these: of another PID, or of the head.
+    Other,
+}
+
+/// Why a follower answers no place.
+#[derive(Clone, Copy, Debug, PartialEq, Eq, Drop, Error)]
+pub enum FollowFault {
+    /// The network is not one that can be worked on.
+    #[error("{0}")]
+    Network(NetworkFault),
+    /// A fault was answered before.
+    #[error("a fault was answered before")]
+    Failed,
+}
+
+/// Follows one program of a network. It takes no memory.
+#[derive(Drop)]
+pub struct ProgramFollower {
+    purpose: Purpose,
+    pats: PatReader,
+    maps: MapReader,
+    /// The switched streams, behind the head.
+    streams: Option<Streams>,
+    is_spent: bool,
+}
+
+impl ProgramFollower {
+    /// A follower that was fed no packet.
+    pub fn new(purpose: Purpose) -> ProgramFollower
+        ensures { FollowerStandsFor result purpose [] }
+    {
+        ProgramFollower {
+            purpose,
+            pats: PatReader::new(),
+            maps: MapReader::new(),
+            streams: None,
+            is_spent: false,
+        }
+    }
+
+    /// Takes the next packet of the network, and answers what it is.
+    ///
+    /// # Errors
+    ///
+    /// `Network` with what is wrong with the packet behind those before it; `Failed` once a fault was answered.
+    pub fn feed(&mut self, packet: &Packet) -> Result<Place, FollowFault>
+        ensures stands { (c : Purpose) (past : List (List ℕ)) → FollowerStandsFor self.old c past → OnOk result (FollowerStandsFor self.new c (packet.now ∷ past)) }
+        ensures sound { (c : Purpose) (past : List (List ℕ)) → FollowerStandsFor self.old c past → OnOk result (network_fault c packet.now past ≡ None) }
+        ensures place { (c : Purpose) (past : List (List ℕ)) → FollowerStandsFor self.old c past → IfOk result (λ x. IsPlace x c packet.now past) }
+        ensures err { (c : Purpose) (past : List (List ℕ)) → FollowerStandsFor self.old c past → IfErr result (λ f. IsNetwork f (network_fault c packet.now past)) }
+        ensures spent { IfErr result (λ _. self.new.is_spent ≡ true) }
+        ensures failed { self.old.is_spent ≡ true → result ≡ Err FollowFault.Failed }
+    {
+        if self.is_spent {
+            return Err(FollowFault::Failed);
+        }
+        match self.take(packet) {
+            Ok(place) => Ok(place),
+            Err(fault) => {
+                self.is_spent = true;
+                Err(FollowFault::Network(fault))
+            }
+        }
+    }
+
+    /// The sections that the last packet finished on the PID of the map, behind the PAT, in order; none where it was of another PID.
+    pub fn tables(&self) -> Tables<'_>
+        ensures { (c : Purpose) (p : List ℕ) (past : List (List ℕ)) → FollowerStandsFor self.now c (p ∷ past) → tables_left result ≡ tables c.program p past }
+    {
+        match self.pats.listed() {
+            Some(listed) => self.maps.tables(listed.program),
+            None => self.maps.tables(0),
+        }
+    }
+
+    /// The greatest time of the units that have begun behind the head, on the ring.
+    pub fn high(&self) -> Option<Time33>
+        ensures { (c : Purpose) (past : List (List ℕ)) → FollowerStandsFor self.now c past
+            → result ≡ option_map ring_of (high (pids_of (program_of c.program past)) (behind_head c.program past)) }
+    {
+        match &self.streams {
+            None => None,
+            Some(streams) => streams.high(),
+        }
+    }
+
+    /// The switched streams in the order of the map; none in the head.
+    pub fn streams(&self) -> &[Stream]
+        ensures { (c : Purpose) (past : List (List ℕ)) → FollowerStandsFor self.now c past → result.now ≡ streams_of_program (program_of c.program past) }
+    {
+        match self.maps.known() {
+            None => &[],
+            Some(known) => known.streams.as_slice(),
+        }
+    }
+
+    /// The PID of the program's clock references; `None` in the head.
+    pub fn pcr_pid(&self) -> Option<Pid>
+        ensures { (c : Purpose) (past : List (List ℕ)) → FollowerStandsFor self.now c past → result ≡ option_map (λ (r : Program). r.pcr_pid) (program_of c.program past) }
+    {
+        match self.maps.known() {
+            None => None,
+            Some(known) => Some(known.pcr_pid),
+        }
+    }
+
+    /// The program and the PID of its map; `None` before the PAT.
+    pub fn listed(&self) -> Option<Listed>
+        ensures { (c : Purpose) (past : List (List ℕ)) → FollowerStandsFor self.now c past → result ≡ listed c.program past }
+    {
+        self.pats.listed()
+    }
+
+    /// The head is over: a packet has finished the first map of the program.
+    pub fn is_behind_head(&self) -> bool
+        ensures { (c : Purpose) (past : List (List ℕ)) → FollowerStandsFor self.now c past → result ≡ is_some (known_map c.program past) }
+    {
+        self.maps.known().is_some()
+    }
+
+    /// Takes a packet, and answers what it is, or the first thing that is wrong with it.
+    fn take(&mut self, packet: &Packet) -> Result<Place, NetworkFault>
+        ensures stands { (past : List (List ℕ)) → FollowerStandsFor self.old self.old.purpose past → OnOk result (FollowerStandsFor self.new self.old.purpose (packet.now ∷ past)) }
+        ensures sound { (past : List (List ℕ)) → FollowerStandsFor self.old self.old.purpose past → OnOk result (network_fault self.old.purpose packet.now past ≡ None) }
+        ensures place { (past : List (List ℕ)) → FollowerStandsFor self.old self.old.purpose past → IfOk result (λ x. IsPlace x self.old.purpose packet.now past) }
+        ensures err { (past : List (List ℕ)) → FollowerStandsFor self.old self.old.purpose past → IfErr result (λ f. network_fault self.old.purpose packet.now past ≡ Some f) }
+    {
+        if is_refused(&self.purpose, packet) {
+            return Err(NetworkFault::CuePidUsed);
+        }
+        let listed = self.pats.listed();
+        let is_map = is_on_map(&listed, packet);
+        match self.pats.feed(&self.purpose, packet) {
+            Ok(()) => {}
+            Err(fault) => return Err(fault),
+        }
+        match self.maps.feed(&self.purpose, listed, packet) {
+            Ok(()) => {}
+            Err(fault) => return Err(fault),
+        }
+        match follow_streams(&mut self.streams, self.maps.known(), packet) {
+            Ok(of_stream) => Ok(place_of(self.purpose.cue_pid, is_map, of_stream, packet)),
+            Err(fault) => Err(of_unit(fault)),
+        }
+    }
+}
+
+/// Takes a packet behind the head, and begins to follow the streams at the end of the head. `known` is what is known behind the packet.
+fn follow_streams(
+    streams: &mut Option<Streams>,
+    known: Option<&KnownProgram>,
+    packet: &Packet,
+) -> Result<Option<(usize, StreamPacket)>, UnitFault>
+    ensures reads { (r : Option Program) (past : List (List ℕ)) → GoesTo r (lent_program known.entry) → StreamsSince streams.old r past
+        → OnOk result (StreamsSince streams.new (lent_program known.entry) (grown r packet.now past)) }
+    ensures sound { (r : Option Program) (past : List (List ℕ)) → GoesTo r (lent_program known.entry) → StreamsSince streams.old r past
+        → OnOk result (unit_fault (pids_of r) packet.now past ≡ None) }
+    ensures is { (r : Option Program) (past : List (List ℕ)) → GoesTo r (lent_program known.entry) → StreamsSince streams.old r past
+        → IfOk result (λ x. IsOfStream x (pids_of r) packet.now past) }
+    ensures err { (r : Option Program) (past : List (List ℕ)) → GoesTo r (lent_program known.entry) → StreamsSince streams.old r past
+        → IfErr result (λ f. unit_fault (pids_of r) packet.now past ≡ Some f) }
+{
+    let Some(known) = known else {
+        return Ok(None);
+    };
+    match streams {
+        Some(streams) => match streams.feed(known.streams.as_slice(), packet) {
+            Ok(of_stream) => Ok(of_stream),
+            Err(fault) => Err(fault),
+        },
+        None => {
+            *streams = Some(Streams::new(known.streams.as_slice()));
+            Ok(None)
+        }
+    }
+}
+
+/// The packet is on the PID of cues that are to be written.
+fn is_refused(purpose: &Purpose, packet: &Packet) -> bool
+    ensures { result ≡ (purpose.now.writes_cues && on_cue purpose.now.cue_pid packet.now) }
+{
+    purpose.writes_cues && is_on_pid(purpose.cue_pid, packet)
+}
+
+/// The packet is on this PID, where there is one.
+fn is_on_pid(pid: Option<Pid>, packet: &Packet) -> bool
+    ensures { result ≡ on_cue pid packet.now }
+{
+    match pid {
+        None => false,
+        Some(pid) => packet.is_on(pid),
+    }
+}
+
+/// The packet is on the PID of the map.
+fn is_on_map(listed: &Option<Listed>, packet: &Packet) -> bool
+    ensures { result ≡ on_map listed.now packet.now }
+{
+    match listed {
+        None => false,
+        Some(listed) => packet.is_on(listed.pid),
+    }
+}
+
+/// What a packet is, by the stream that it is of.
+fn place_of(
+    cue_pid: Option<Pid>,
+    is_map: bool,
+    of_stream: Option<(usize, StreamPacket)>,
+    packet: &Packet,
+) -> Place
+    ensures { (c : Purpose) (past : List (List ℕ)) → c.cue_pid ≡ cue_pid → is_map ≡ on_map (listed c.program past) packet.now
+        → IsOfStream of_stream (pids_of (program_of c.program past)) packet.now (behind_head c.program past) → IsPlace result c packet.now past }
+{
+    if packet.error() {
+        return Place::Marked;
+    }
+    if is_on_pid(cue_pid, packet) {
+        return Place::Cue;
+    }
+    if is_map {
+        return Place::Map;
+    }
+    match of_stream {
+        Some((index, part)) => Place::Stream(index, part),
+        None => Place::Other,
+    }
+}
+
+/// A fault of a unit, as one of the network.
+fn of_unit(fault: UnitFault) -> NetworkFault
+    ensures { as_network (Some fault) ≡ Some result }
+{
+    match fault {
+        UnitFault::Scrambled => NetworkFault::Scrambled,
+        UnitFault::HeaderSplit => NetworkFault::HeaderSplit,
+        UnitFault::TimeJump => NetworkFault::TimeJump,
+    }
+}

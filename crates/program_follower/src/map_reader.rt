@@ -1,0 +1,131 @@
+//! The maps of the program: which streams it has (ISO/IEC 13818-1, 2.4.4.8).
+
+ghost use Rattle.std.specs.Prelude.{◌≡◌, ℕ, List, [], ◌∷◌, map, Option, Some, None, option_map, OnOk, IfOk, IfErr};
+ghost use Rattle.psi_section.specs.SectionsLeft.{sections_left};
+ghost use Rattle.psi_tables.specs.ProgramMap.{ProgramMap, pmt};
+ghost use Rattle.program_follower.specs.Program.{earlier, listed, Table, table_of, tables, all_tables, first_map, known_map, map_read, program_in, program_of};
+ghost use Rattle.program_follower.specs.Faults.{tables_fault, maps_fault};
+ghost use Rattle.program_follower.specs.Judging.{section_fault};
+ghost use Rattle.program_follower.specs.Standing.{known_seen};
+
+use crate::judging::judge_map;
+use crate::known::KnownProgram;
+use crate::purpose::{Listed, Purpose};
+use crate::tables::{Tables, map_of_program};
+use psi_section::{Assembler, Sections};
+use psi_tables::NetworkFault;
+use ts_packet::Packet;
+
+/// Reads the sections on the PID of the map, behind the PAT.
+#[derive(Drop)]
+pub struct MapReader {
+    assembler: Assembler,
+    known: Option<KnownProgram>,
+    /// The last packet was on that PID.
+    is_on_map: bool,
+}
+
+impl MapReader {
+    ghost use Rattle.program_follower.specs.Standing.{MapsRead, shown, tables_left};
+
+    /// A reader that was fed no packet.
+    pub fn new() -> MapReader
+        ensures { (wanted : Option ℕ) → MapsRead result wanted [] }
+    {
+        MapReader {
+            assembler: Assembler::new(),
+            known: None,
+            is_on_map: false,
+        }
+    }
+
+    /// What is known of the program; `None` in the head.
+    pub fn known(&self) -> Option<&KnownProgram>
+        ensures { (wanted : Option ℕ) (past : List (List ℕ)) → MapsRead self.now wanted past → option_map (λ k. Rattle.program_follower.specs.Standing.program_seen k.now) result ≡ program_of wanted past }
+    {
+        self.known.as_ref()
+    }
+
+    /// The sections that the last packet finished on the PID of the map, as tables of a program.
+    pub fn tables(&self, program: u16) -> Tables<'_>
+        ensures { tables_left result ≡ map (table_of program) (shown self.now) }
+    {
+        if self.is_on_map {
+            Tables::of(self.assembler.sections(), program)
+        } else {
+            Tables::of(Sections::none(), program)
+        }
+    }
+
+    /// Takes the next packet of the network, of whatever PID. `at` is what the PAT lists before it.
+    ///
+    /// # Errors
+    ///
+    /// The first fault of the maps that the packet finishes.
+    pub fn feed(
+        &mut self,
+        purpose: &Purpose,
+        at: Option<Listed>,
+        packet: &Packet,
+    ) -> Result<(), NetworkFault>
+        ensures reads { (past : List (List ℕ)) → at ≡ listed purpose.now.program past → MapsRead self.old purpose.now.program past → OnOk result (MapsRead self.new purpose.now.program (packet.now ∷ past)) }
+        ensures ok { (past : List (List ℕ)) → at ≡ listed purpose.now.program past → MapsRead self.old purpose.now.program past
+            → OnOk result (maps_fault purpose.now (listed purpose.now.program past) (known_map purpose.now.program past) (tables purpose.now.program packet.now past) ≡ None) }
+        ensures err { (past : List (List ℕ)) → at ≡ listed purpose.now.program past → MapsRead self.old purpose.now.program past
+            → IfErr result (λ f. maps_fault purpose.now (listed purpose.now.program past) (known_map purpose.now.program past) (tables purpose.now.program packet.now past) ≡ Some f) }
+    {
+        self.is_on_map = false;
+        let Some(listed) = at else {
+            return Ok(());
+        };
+        if !packet.is_on(listed.pid) {
+            return Ok(());
+        }
+        self.is_on_map = true;
+        self.assembler.pass_over();
+        self.assembler.feed(packet);
+        match judge_sections(&mut self.known, purpose, &listed, self.assembler.sections()) {
+            Ok(()) => Ok(()),
+            Err(fault) => Err(fault),
+        }
+    }
+}
+
+/// Judges sections on the PID of the map, and takes the program of the first map where none is known.
+fn judge_sections(
+    known: &mut Option<KnownProgram>,
+    purpose: &Purpose,
+    listed: &Listed,
+    sections: Sections<'_>,
+) -> Result<(), NetworkFault>
+    ensures ok { (first : Option ProgramMap) → known_seen known.old ≡ option_map program_in first
+        → OnOk result ((tables_fault purpose.now listed.now.pid first (map (table_of listed.now.program) (sections_left sections.entry)) ≡ None)
+        × (known_seen known.new ≡ option_map program_in (earlier first (first_map (map (table_of listed.now.program) (sections_left sections.entry)))))) }
+    ensures err { (first : Option ProgramMap) → known_seen known.old ≡ option_map program_in first
+        → IfErr result (λ f. tables_fault purpose.now listed.now.pid first (map (table_of listed.now.program) (sections_left sections.entry)) ≡ Some f) }
+{
+    for section in sections {
+        match judge_section(known, purpose, listed, section) {
+            Ok(()) => {}
+            Err(fault) => return Err(fault),
+        }
+    }
+    Ok(())
+}
+
+/// Judges a section on the PID of the map.
+fn judge_section(
+    known: &mut Option<KnownProgram>,
+    purpose: &Purpose,
+    listed: &Listed,
+    section: &[u8],
+) -> Result<(), NetworkFault>
+    ensures ok { OnOk result ((section_fault purpose.now listed.now.pid (known_seen known.old) (map_read listed.now.program (pmt section.now)) ≡ None)
+        × (known_seen known.new ≡ earlier (known_seen known.old) (option_map program_in (map_read listed.now.program (pmt section.now))))) }
+    ensures err { IfErr result (λ f. section_fault purpose.now listed.now.pid (known_seen known.old) (map_read listed.now.program (pmt section.now)) ≡ Some f) }
+{
+    match map_of_program(listed.program, section) {
+        None => Ok(()),
+        Some(pmt) => judge_map(known, purpose, listed.pid, &pmt),
+    }
+}

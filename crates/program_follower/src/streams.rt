@@ -1,0 +1,162 @@
+//! The switched streams behind the head: where their units begin, and the greatest time of these.
+
+ghost use Rattle.std.specs.Prelude.{◌≡◌, ◌<◌, ◌≤◌, ◌≢◌, ◌&&◌, ◌∷◌, [], ℕ, List, length, Option, Some, None, option_map, OnOk, IfOk, IfErr, is_some, slice_index_or, true};
+ghost use Rattle.pes_time.specs.Line.{ring_of};
+ghost use Rattle.ts_packet.specs.Fields.{payload, scrambled, payload_on};
+ghost use Rattle.unit_stream.specs.Faults.{unit_fault};
+ghost use Rattle.unit_stream.specs.Times.{high};
+ghost use Rattle.unit_stream.specs.Pieces.{Reads, Brings};
+ghost use Rattle.unit_stream.specs.Clocks.{ClockAt};
+ghost use Rattle.program_follower.specs.Faults.{pids_in};
+ghost use Rattle.program_follower.specs.Streaming.{first_on, AllRead, StreamsRead, IsOne, begin_fault, IsStreamPacket, IsOfStream};
+
+use pes_time::Time33;
+use psi_tables::Stream;
+use ts_packet::{Packet, Pid};
+use unit_stream::{Begun, Clock, Piece, UnitFault, UnitReader};
+
+/// What a packet of a switched stream is, behind the head.
+#[derive(Clone, Copy, Debug, PartialEq, Eq)]
+pub enum StreamPacket {
+    /// A unit begins. Its PTS, and how far that lies past the greatest time before it; `None` where it has no PTS.
+    Start(Option<Begun>),
+    /// The unit that has begun last in the stream goes on.
+    More,
+    /// A duplicate of the stream's payload packet before it. It shares the fate of that one, and belongs to no unit.
+    Repeat,
+    /// A payload packet before the stream's first unit. It belongs to none.
+    Lead,
+    /// A packet without payload.
+    NoPayload,
+}
+
+/// Follows the units of up to eight switched streams.
+#[derive(Clone, Copy, Debug)]
+pub struct Streams {
+    clock: Clock,
+    readers: [UnitReader; 8],
+}
+
+impl Streams {
+    /// The streams at the end of the head.
+    pub fn new(streams: &[Stream]) -> Streams
+        requires { length streams.now ≤ 8 }
+        ensures { StreamsRead result (pids_in streams.now) [] }
+    {
+        Streams {
+            clock: Clock::new(),
+            readers: readers_of(streams),
+        }
+    }
+
+    /// The greatest time of the units that have begun; `None` where none with a PTS has.
+    pub fn high(&self) -> Option<Time33>
+        ensures { (pids : List ℕ) (past : List (List ℕ)) → StreamsRead self.now pids past → result ≡ option_map ring_of (high pids past) }
+    {
+        self.clock.high()
+    }
+
+    /// Takes the next packet behind the head, of whatever PID: the number of its stream among these and what it is there, or `None`
+    /// where it is of none.
+    ///
+    /// # Errors
+    ///
+    /// The first of `Scrambled`, `HeaderSplit` and `TimeJump` that applies.
+    pub fn feed(
+        &mut self,
+        streams: &[Stream],
+        packet: &Packet,
+    ) -> Result<Option<(usize, StreamPacket)>, UnitFault>
+        requires { length streams.now ≤ 8 }
+        ensures reads { (past : List (List ℕ)) → StreamsRead self.old (pids_in streams.now) past → OnOk result (StreamsRead self.new (pids_in streams.now) (packet.now ∷ past)) }
+        ensures ok { (past : List (List ℕ)) → StreamsRead self.old (pids_in streams.now) past → OnOk result (unit_fault (pids_in streams.now) packet.now past ≡ None) }
+        ensures is { (past : List (List ℕ)) → StreamsRead self.old (pids_in streams.now) past → IfOk result (λ x. IsOfStream x (pids_in streams.now) packet.now past) }
+        ensures err { (past : List (List ℕ)) → StreamsRead self.old (pids_in streams.now) past → IfErr result (λ f. unit_fault (pids_in streams.now) packet.now past ≡ Some f) }
+    {
+        let Some((index, _)) = first_on(streams, packet) else {
+            return Ok(None);
+        };
+        if has_scrambled_payload(packet) {
+            return Err(UnitFault::Scrambled);
+        }
+        let piece = feed_at(&mut self.readers, index, packet);
+        match pass(&mut self.clock, piece) {
+            Ok(part) => Ok(Some((index, part))),
+            Err(fault) => Err(fault),
+        }
+    }
+}
+
+/// What a packet of a stream is, by what it brings to the stream's units. The clock passes the begin of a unit.
+#[tactic(auto, using(crate::proofs::PieceLemmas::high_start, crate::proofs::PieceLemmas::high_other, crate::proofs::PieceLemmas::no_begin, crate::proofs::PieceLemmas::repeat_begins_none, crate::proofs::PieceLemmas::empty_begins_none, crate::proofs::PieceLemmas::stamp_in, crate::proofs::PieceLemmas::splits_in))]
+fn pass(clock: &mut Clock, piece: Piece<'_>) -> Result<StreamPacket, UnitFault>
+    ensures clock { (pids : List ℕ) (pid : ℕ) (p : List ℕ) (past : List (List ℕ)) → IsOne pids pid p past → ClockAt clock.old (high pids past) → Brings piece.entry pid p past
+        → OnOk result (ClockAt clock.new (high pids (p ∷ past))) }
+    ensures sound { (pids : List ℕ) (pid : ℕ) (p : List ℕ) (past : List (List ℕ)) → IsOne pids pid p past → ClockAt clock.old (high pids past) → Brings piece.entry pid p past
+        → OnOk result (begin_fault pids pid p past ≡ None) }
+    ensures is { (pids : List ℕ) (pid : ℕ) (p : List ℕ) (past : List (List ℕ)) → IsOne pids pid p past → ClockAt clock.old (high pids past) → Brings piece.entry pid p past
+        → IfOk result (λ x. IsStreamPacket x pids pid p past) }
+    ensures err { (pids : List ℕ) (pid : ℕ) (p : List ℕ) (past : List (List ℕ)) → IsOne pids pid p past → ClockAt clock.old (high pids past) → Brings piece.entry pid p past
+        → IfErr result (λ f. begin_fault pids pid p past ≡ Some f) }
+{
+    match piece {
+        Piece::Start { payload } => match clock.begin(payload) {
+            Ok(begun) => Ok(StreamPacket::Start(begun)),
+            Err(fault) => Err(fault),
+        },
+        Piece::More { .. } => Ok(StreamPacket::More),
+        Piece::Duplicate => Ok(StreamPacket::Repeat),
+        Piece::Lead => Ok(StreamPacket::Lead),
+        Piece::NoPayload => Ok(StreamPacket::NoPayload),
+        Piece::Error => Ok(StreamPacket::NoPayload),
+    }
+}
+
+/// The first stream on whose PID the packet is: its number and that PID.
+#[tactic(auto, using(crate::proofs::StreamLemmas::not_shifted, crate::proofs::StreamLemmas::first_here, crate::proofs::StreamLemmas::first_later, crate::proofs::StreamLemmas::first_never))]
+fn first_on(streams: &[Stream], packet: &Packet) -> Option<(usize, Pid)>
+    requires { length streams.now ≤ 8 }
+    ensures { result ≡ first_on (pids_in streams.now) packet.now }
+{
+    let mut index = 0;
+    let mut rest = streams;
+    while let Some((stream, behind)) = rest.split_first() {
+        if packet.is_on(stream.pid) {
+            return Some((index, stream.pid));
+        }
+        index += 1;
+        rest = behind;
+    }
+    None
+}
+
+/// Whether there is a payload, and it is scrambled.
+fn has_scrambled_payload(packet: &Packet) -> bool
+    ensures { result ≡ (is_some (payload packet.now) && scrambled packet.now) }
+{
+    packet.has_payload() && packet.scrambled()
+}
+
+/// Feeds the reader of one stream.
+fn feed_at<'a>(readers: &mut [UnitReader; 8], index: usize, packet: &'a Packet) -> Piece<'a>
+    requires { index < 8 }
+    ensures others { (i : ℕ) (d : UnitReader) → i ≢ index → slice_index_or readers.new i d ≡ slice_index_or readers.old i d }
+    ensures reads { (d : UnitReader) (pid : ℕ) (past : List (List ℕ)) → Reads (slice_index_or readers.old index d) pid past → Reads (slice_index_or readers.new index d) pid (packet.now ∷ past) }
+    ensures brings { (d : UnitReader) (pid : ℕ) (past : List (List ℕ)) → Reads (slice_index_or readers.old index d) pid past → Brings result pid packet.now past }
+{
+    readers[index].feed(packet)
+}
+
+/// A reader for each stream.
+fn readers_of(streams: &[Stream]) -> [UnitReader; 8]
+    requires { length streams.now ≤ 8 }
+    ensures { AllRead result (pids_in streams.now) [] }
+{
+    let mut readers = [UnitReader::new(Pid::of_bits(0, 0)); 8];
+    let mut index = 0;
+    while index < streams.len() {
+        readers[index] = UnitReader::new(streams[index].pid);
+        index += 1;
+    }
+    readers
+}
