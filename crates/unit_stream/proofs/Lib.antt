@@ -3,3 +3,4 @@ pub mod UnitLemmas
 pub mod ReadingLemmas
 pub mod PieceLemmas
 pub mod RowLemmas
+pub mod PackedLemmas

@@ -6,3 +6,4 @@ pub mod Pieces
 pub mod Rows
 pub mod Fates
 pub mod Clocks
+pub mod UnitPackets
