@@ -1,6 +1,6 @@
 -- What the output carries, with no premise on counters.
-use Rattle.std.specs.Prelude.{◌==◌, filter, flat_map, map, All}
-use Rattle.std.proofs.Common.{◌≡◌, ℕ, ◌<◌, List, [], ◌∷◌, ◌++◌, true, false, refl, sym, ap, ◌∙◌, Option, None, Some, length, inr}
+use Rattle.std.specs.Prelude.{◌==◌, filter, map, All}
+use Rattle.std.proofs.Common.{◌≡◌, ℕ, ◌<◌, List, [], ◌∷◌, ◌++◌, true, false, refl, sym, ap, ◌∙◌, Option, None, Some, length}
 use Rattle.std.proofs.lemmas.List.Elements.{All-head, All-tail}
 use Rattle.ts_packet.specs.Fields.{on, pid_of, pcr, payload_on, unit_start, bytes, renumbered}
 use Rattle.ts_packet.specs.Duplicates.{repeats}
@@ -10,10 +10,12 @@ use Rattle.ts_packet.proofs.Cases.{by_test}
 use Rattle.ts_packet.proofs.FieldLemmas.{payload_on-on, payload_on-renumbered, start-renumbered, bytes-renumbered}
 use Rattle.ts_packet.proofs.Renumbered.{renumbered-zero}
 use Rattle.unit_stream.specs.Units.{has_payload, rest_of_row}
-use Rattle.unit_stream.specs.Carrying.{IsUnit, Joins, Carries}
+use Rattle.unit_stream.specs.Carrying.{Joins, Carries}
+use Rattle.unit_stream.specs.UnitPackets.{AllOn}
+use Rattle.unit_stream.proofs.PackedLemmas.{carries_one}
 use Rattle.unit_cut.proofs.CutCarries.{row_joins}
 use Rattle.splice_laws.specs.Splicing.{SliceUnit}
-use Rattle.output_laws.specs.Output.{Move, Keep, Leave, Put, network, Packing, counter_steps, clock_alone, out_after, AllOn, GoOn, BeginsAlone, Sound, Place, Keeping, Leaving, Between, behind_put, place, IsWhole, Along, units_out}
+use Rattle.output_laws.specs.Output.{Move, Keep, Leave, Put, network, Packing, counter_steps, clock_alone, out_after, Sound, Place, Keeping, Leaving, Between, behind_put, place, IsWhole, Along, units_out}
 use Rattle.output_laws.specs.Laws.{OutputCarriesUnits}
 use Rattle.output_laws.proofs.StepLemmas.{onto_moves, along_past, test-same, kept_on, payload_on-kept, payload_on-clock}
 use Rattle.output_laws.proofs.GaplessLemmas.{test-true, below_16, one_below, other_pid, es}
@@ -43,15 +45,6 @@ row_behind Between l = refl
 first_kept : (q : List ℕ) (bs rest : List ℕ) (qs row left us : List (List ℕ)) → unit_start q ≡ true → bytes q ≡ bs → qs ≡ row ++ left → Joins (Some q) row rest → Carries left us
     → Carries (q ∷ qs) ((bs ++ rest) ∷ us)
 first_kept q bs rest qs row left us s e f j c = (q ∷ row, left, ap (λ l. q ∷ l) f, (s, (rest, ap (λ l. l ++ rest) (sym e), j)), c)
-
--- packets without start bits join to their bytes
-put_joins : (p : List ℕ) (qs : List (List ℕ)) → GoOn qs → Joins (Some p) qs (flat_map bytes qs)
-put_joins p [] g = refl
-put_joins p (q ∷ qs) g = inr (g.0, (flat_map bytes qs, refl, put_joins q qs g.1))
-
-put_unit : (qs : List (List ℕ)) (bs : List ℕ) → BeginsAlone qs → flat_map bytes qs ≡ bs → IsUnit qs bs
-put_unit [] bs s j = absurd s
-put_unit (q ∷ qs) bs s j = (s.0, (flat_map bytes qs, sym j, put_joins q qs s.1))
 
 module _ (pid : ℕ) where
   abbrev pub row_of : List Move → List Move → List (List ℕ)
@@ -143,7 +136,7 @@ module _ (packed : Packing) (pid : ℕ) where
       let n = no_more_row pid (Put pid u ∷ past) ss w in
       let z = put_row (place pid past) (moved E) (row_of pid past (Put pid u ∷ ss)) (λ e. n (simp t e)) in
       let f = simp (t, row_behind) at h in
-      (qs ++ f.0, filter_on pid qs (out_after packed (Put pid u ∷ past) ss) k.on_pid ∙ ap (λ l. qs ++ l) f.1 ∙ sym (ap (λ l. l ++ (qs ++ f.0)) z), simp t (qs, f.0, refl, put_unit qs u.payload k.starts k.joined, f.2))
+      (qs ++ f.0, filter_on pid qs (out_after packed (Put pid u ∷ past) ss) k.on_pid ∙ ap (λ l. qs ++ l) f.1 ∙ sym (ap (λ l. l ++ (qs ++ f.0)) z), simp t (qs, f.0, refl, carries_one qs u.payload k.starts k.joined, f.2))
 
   carried_after : (past ss : List Move) → Along (λ (s : Move) (before : List Move). Sound packed s) (onto_moves past ss) → Along (IsWhole pid) (onto_moves past ss) → CarriedAfter past ss
   carried_after past [] s w = ([], sym (ap (λ l. l ++ []) (row_none (place pid past))), refl)

@@ -12,12 +12,14 @@ use Rattle.ts_packet.proofs.FieldLemmas.{alike-number, number-renumbered, payloa
 use Rattle.ts_packet.proofs.HistoryLemmas.{walk_is_last}
 use Rattle.ts_packet.proofs.RunLemmas.{onto, packet_or, nearest_is_last, gapless_glue, gapless_back}
 use Rattle.unit_stream.specs.Times.{begins}
+use Rattle.unit_stream.specs.UnitPackets.{AllOn, BeginsAlone, CountsFrom}
 use Rattle.splice_laws.specs.Splicing.{SliceUnit}
-use Rattle.output_laws.specs.Output.{Move, Keep, Leave, Put, network, Packing, counter_steps, kept_packet, clock_alone, output, AllOn, BeginsAlone, CountsFrom, Sound, Place, Keeping, Leaving, Between, behind_put, place, IsWhole, has_come, IsFed, Along}
+use Rattle.output_laws.specs.Output.{Move, Keep, Leave, Put, network, Packing, counter_steps, kept_packet, clock_alone, output, Sound, Place, Keeping, Leaving, Between, behind_put, place, IsWhole, has_come, IsFed, Along}
 use Rattle.output_laws.specs.Laws.{OutputStaysGapless}
 use Rattle.output_laws.proofs.StepLemmas.{network_onto, out_back, out_onto, test-same, pid_is, payload-some, payload-none, kept_on, on-kept, payload_on-kept, payload_on-clock, on-clock, number-clock, pcr-error, on-same, moved-dropped, moved-put}
 use Rattle.output_laws.proofs.MatchLemmas.{and_left, Matched, repeats_kept, next_kept, next_moved, same_moved, left_moved, next_left, repeat_left, repeats_same}
-use Rattle.output_laws.proofs.PutLemmas.{Numbered, AllOriginal, Ends, put_gapless, put_originals, put_ends, LastIs, put_last}
+use Rattle.unit_stream.proofs.PackedLemmas.{Numbered, AllOriginal, Ends, put_gapless, put_originals, put_ends}
+use Rattle.output_laws.proofs.PutLemmas.{LastIs, put_last}
 
 pub test-true : (q pid : ℕ) → (q == pid) ≡ true → q ≡ pid
 test-true q pid h = grind (arith, nat_tests)

@@ -8,8 +8,9 @@ use Rattle.ts_packet.specs.Numbering.{moved, number_out, last_number, one_past}
 use Rattle.ts_packet.proofs.Cases.{by_test}
 use Rattle.ts_packet.proofs.FieldLemmas.{error-with, pid-with, payload_on-on}
 use Rattle.ts_packet.proofs.Renumbered.{renumbered-zero}
+use Rattle.unit_stream.specs.UnitPackets.{AllOn}
 use Rattle.splice_laws.specs.Streams.{is_among}
-use Rattle.output_laws.specs.Output.{Move, Keep, Leave, Put, network, Packing, counter_steps, kept_packet, clock_alone, out_after, AllOn, Sound, Along}
+use Rattle.output_laws.specs.Output.{Move, Keep, Leave, Put, network, Packing, counter_steps, kept_packet, clock_alone, out_after, Sound, Along}
 use Rattle.output_laws.specs.Others.{is_off, IsWithin, OthersPass}
 use Rattle.output_laws.proofs.StepLemmas.{onto_moves, along_past, pid_is, error_is, error-clock, pid-clock}
 use Rattle.output_laws.proofs.GaplessLemmas.{test-true, one_below}

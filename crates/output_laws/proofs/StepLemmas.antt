@@ -9,7 +9,8 @@ use Rattle.std.proofs.lemmas.Bool.Decides.{nat_tests}
 use Rattle.ts_packet.proofs.Cases.{by_test}
 use Rattle.ts_packet.proofs.FieldLemmas.{on-renumbered, payload_on-renumbered}
 use Rattle.ts_packet.proofs.RunLemmas.{onto}
-use Rattle.output_laws.specs.Output.{Move, Keep, Leave, Put, network, Packing, put_in, counter_steps, kept_packet, out_at, out_after, Along}
+use Rattle.unit_stream.specs.UnitPackets.{put_in}
+use Rattle.output_laws.specs.Output.{Move, Keep, Leave, Put, network, Packing, counter_steps, kept_packet, out_at, out_after, Along}
 
 -- ---- lists, newest first
 

@@ -1,12 +1,13 @@
 -- What goes out of a splice, as packets: each network packet kept or left out, each slice unit put in, with their counters.
-use Rattle.std.specs.Prelude.{◌≡◌, ℕ, ◌+◌, ◌%◌, ◌<◌, ◌==◌, ◌++◌, ◌∷◌, List, [], Bool, true, false, ◌||◌, if◌then◌else◌, Option, None, Some, flat_map, filter}
-use Rattle.ts_packet.specs.Fields.{in_error, pid_of, number, payload_on, pcr, unit_start, bytes, renumbered}
-use Rattle.ts_packet.specs.Numbering.{Step, Inserted, moved, number_out, one_past, last_number}
+use Rattle.std.specs.Prelude.{◌≡◌, ℕ, ◌<◌, ◌==◌, ◌++◌, ◌∷◌, List, [], Bool, true, false, ◌||◌, if◌then◌else◌, Option, None, Some, filter}
+use Rattle.ts_packet.specs.Fields.{in_error, pid_of, payload_on, pcr, bytes, renumbered}
+use Rattle.ts_packet.specs.Numbering.{Step, moved, number_out, one_past, last_number}
 use Rattle.ts_packet.specs.Clock.{clock_packet}
 use Rattle.ts_packet.specs.Runs.{seen_after}
 use Rattle.unit_stream.specs.Times.{begins}
 use Rattle.unit_stream.specs.Fates.{steps_after}
 use Rattle.unit_stream.specs.Units.{is_original, rest_of_unit}
+use Rattle.unit_stream.specs.UnitPackets.{IsPacked, put_in}
 use Rattle.splice_laws.specs.Splicing.{SliceUnit}
 use Rattle.splice_laws.specs.Streams.{Act, Through, Insert}
 
@@ -33,11 +34,6 @@ network (Put pid u ∷ moves) = network moves
 -- the packets of a slice unit on a PID, where the first has this counter
 abbrev pub Packing : Type 0
 Packing = ℕ → SliceUnit → ℕ → List (List ℕ)
-
--- one step for each packet put in
-abbrev pub put_in : List (List ℕ) → List Step → List Step
-put_in [] counter_steps = counter_steps
-put_in (q ∷ qs) counter_steps = put_in qs (Inserted ∷ counter_steps)
 
 -- WHAT HAPPENED ON THE PID, newest first, as the counters see it; the moves are newest first too
 abbrev pub counter_steps : Packing → ℕ → List Move → List Step
@@ -68,32 +64,6 @@ out_after packed past (s ∷ ss) = out_at packed s past ++ out_after packed (s �
 -- THE OUTPUT OF A RUN of moves in order
 abbrev pub output : Packing → List Move → List (List ℕ)
 output packed moves = out_after packed [] moves
-
--- ---- what the laws need of the packets put in
-
-abbrev pub AllOn : ℕ → List (List ℕ) → Type 0
-AllOn pid [] = Unit {0}
-AllOn pid (q ∷ qs) = (payload_on pid q ≡ true) × AllOn pid qs
-
-abbrev pub GoOn : List (List ℕ) → Type 0
-GoOn [] = Unit {0}
-GoOn (q ∷ qs) = (unit_start q ≡ false) × GoOn qs
-
--- the first alone has the start bit, and there is one
-abbrev pub BeginsAlone : List (List ℕ) → Type 0
-BeginsAlone [] = ⊥
-BeginsAlone (q ∷ qs) = (unit_start q ≡ true) × GoOn qs
-
--- the counters go up by one, modulo 16
-abbrev pub CountsFrom : ℕ → List (List ℕ) → Type 0
-CountsFrom n [] = Unit {0}
-CountsFrom n (q ∷ qs) = (number q ≡ n) × CountsFrom ((n + 1) % 16) qs
-
-pub record IsPacked (pid : ℕ) (bs : List ℕ) (n : ℕ) (qs : List (List ℕ)) : Type 0 where
-  pub on_pid : AllOn pid qs
-  pub starts : BeginsAlone qs
-  pub counted : CountsFrom n qs
-  pub joined : flat_map bytes qs ≡ bs
 
 -- the unit of a move is packed, whatever the first counter; the PID of a packet left out is one of 13 bits
 abbrev pub Sound : Packing → Move → Type 0
