@@ -172,7 +172,7 @@ fn cut_command<'a>(alloc: Global) -> Result<Command<'a>, AllocError> {
         alloc,
         "out",
         "FILE",
-        "The file to write, which is made anew; - is standard output [default: lines of digits on standard output]",
+        "The file to write, whose contents are replaced; - is standard output [default: lines of digits on standard output]",
     );
     let verbose = Arg::new(alloc, "verbose")
         .long("verbose")

@@ -58,7 +58,7 @@ pub enum Unopened {
 pub struct OpenedEnds<F> {
     /// The file that is read.
     pub input: Option<F>,
-    /// The file that is written, made anew.
+    /// The file that is written; what it held is gone.
     pub output: Option<F>,
     /// Whether the input may pause, as a pipe does: it is no ordinary file.
     pub is_live: bool,

@@ -268,8 +268,8 @@ impl<T: Copy + Default> Table<T> {
         Ok(Armed::New)
     }
 
-    /// Where in [`Table::standing`] the uncancelled event stands that holds the integer nearest the high time that stands at this time,
-    /// or `None`.
+    /// The place in [`Table::standing`] of the uncancelled event that holds this time, or `None`. The time is the one nearest to the high
+    /// time among those that the ring shows so.
     pub fn at(&self, time: Time33) -> Option<usize>
         ensures place { (line : Option ℤ) (standing : List Standing) → StandsFor self.now line standing →
             result ≡ position (covers (place line time)) standing }

@@ -60,7 +60,7 @@ fn with_entry(map: &[u8], pid: Pid) -> Result<Section, TooLong>
 }
 
 /// The map with an entry for cues on this PID behind its own and the registration descriptor behind the programme's own, and its
-/// `CRC_32` made anew; the version stays. `TooLong` exactly where `section_length`, which grows by 11, would be over 1021.
+/// `CRC_32` computed again; the version stays. `TooLong` exactly where `section_length`, which grows by 11, would be over 1021.
 pub fn add_cue(pmt: &Pmt<'_>, pid: Pid) -> Result<Section, TooLong>
     ensures exact { seen_section result ≡ section_or_too_long (with_cue_entry pid (map_of pmt.now.bytes.now)) }
 
@@ -86,7 +86,7 @@ fn without_entry(map: &[u8], pid: Pid) -> Section
 }
 
 /// The map without its entries for this PID and, where there was one and the programme's last descriptor is the registration
-/// descriptor, without that; its `CRC_32` is made anew, and the version stays.
+/// descriptor, without that; its `CRC_32` is computed again, and the version stays.
 pub fn strip_cue(pmt: &Pmt<'_>, pid: Pid) -> Section
     ensures exact { result.items ≡ pmt_section (without_cue_entry pid (map_of pmt.now.bytes.now)) }
     ensures reads { ReadsAs (without_cue_entry pid (map_of pmt.now.bytes.now)) result.items }

@@ -66,7 +66,7 @@ fn body_of(map: &[u8], info: &[u8], entries: &[u8]) -> Section
     out
 }
 
-/// A map's section with these descriptors and entries in place of its own, and its `CRC_32` made anew.
+/// A map's section with these descriptors and entries in place of its own, and its `CRC_32` computed again.
 pub fn map_with(map: &[u8], info: &[u8], entries: &[u8]) -> Section
     requires long { 16 ≤ length map.now }
     requires size { map_length info.now entries.now ≤ 1021 }

@@ -62,7 +62,7 @@ impl Cutter {
     ///
     /// # Errors
     ///
-    /// What the packet may not be, as [`UnitFault`] says. The cutter is spent then.
+    /// What the packet may not be, as [`UnitFault`] says. Give the cutter no packet after that.
     #[inline(always)]
     pub fn feed(&mut self, packet: &mut Packet, kept: &Packet) -> Result<bool, UnitFault>
         ensures answers { (k : Cut) (past : List (List ℕ)) → Begins k (packet.old ∷ past) → StandsFor self.old kept.now k past → Answers k packet.old past result packet.new }
