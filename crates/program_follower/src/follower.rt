@@ -79,10 +79,13 @@ impl ProgramFollower {
     ///
     /// `Network` with what is wrong with the packet behind those before it; `Failed` once a fault was answered.
     pub fn feed(&mut self, packet: &Packet) -> Result<Place, FollowFault>
-        ensures stands { (c : Purpose) (past : List (List ℕ)) → FollowerStandsFor self.old c past → OnOk result (FollowerStandsFor self.new c (packet.now ∷ past)) }
-        ensures sound { (c : Purpose) (past : List (List ℕ)) → FollowerStandsFor self.old c past → OnOk result (network_fault c packet.now past ≡ None) }
+        ensures stands { (c : Purpose) (past : List (List ℕ)) → FollowerStandsFor self.old c past
+            → OnOk result (FollowerStandsFor self.new c (packet.now ∷ past)) }
+        ensures sound { (c : Purpose) (past : List (List ℕ)) → FollowerStandsFor self.old c past
+            → OnOk result (network_fault c packet.now past ≡ None) }
         ensures place { (c : Purpose) (past : List (List ℕ)) → FollowerStandsFor self.old c past → IfOk result (λ x. IsPlace x c packet.now past) }
-        ensures err { (c : Purpose) (past : List (List ℕ)) → FollowerStandsFor self.old c past → IfErr result (λ f. IsNetwork f (network_fault c packet.now past)) }
+        ensures err { (c : Purpose) (past : List (List ℕ)) → FollowerStandsFor self.old c past
+            → IfErr result (λ f. IsNetwork f (network_fault c packet.now past)) }
         ensures spent { IfErr result (λ _. self.new.is_spent ≡ true) }
         ensures failed { self.old.is_spent ≡ true → result ≡ Err FollowFault.Failed }
     {
@@ -100,7 +103,8 @@ impl ProgramFollower {
 
     /// The sections that the last packet finished on the PID of the map, behind the PAT, in order; none where it was of another PID.
     pub fn tables(&self) -> Tables<'_>
-        ensures { (c : Purpose) (p : List ℕ) (past : List (List ℕ)) → FollowerStandsFor self.now c (p ∷ past) → tables_left result ≡ tables c.program p past }
+        ensures { (c : Purpose) (p : List ℕ) (past : List (List ℕ)) → FollowerStandsFor self.now c (p ∷ past)
+            → tables_left result ≡ tables c.program p past }
     {
         match self.pats.listed() {
             Some(listed) => self.maps.tables(listed.program),
@@ -121,7 +125,8 @@ impl ProgramFollower {
 
     /// The switched streams in the order of the map; none in the head.
     pub fn streams(&self) -> &[Stream]
-        ensures { (c : Purpose) (past : List (List ℕ)) → FollowerStandsFor self.now c past → result.now ≡ streams_of_program (program_of c.program past) }
+        ensures { (c : Purpose) (past : List (List ℕ)) → FollowerStandsFor self.now c past
+            → result.now ≡ streams_of_program (program_of c.program past) }
     {
         match self.maps.known() {
             None => &[],
@@ -131,7 +136,8 @@ impl ProgramFollower {
 
     /// The PID of the program's clock references; `None` in the head.
     pub fn pcr_pid(&self) -> Option<Pid>
-        ensures { (c : Purpose) (past : List (List ℕ)) → FollowerStandsFor self.now c past → result ≡ option_map (λ (r : Program). r.pcr_pid) (program_of c.program past) }
+        ensures { (c : Purpose) (past : List (List ℕ)) → FollowerStandsFor self.now c past
+            → result ≡ option_map (λ (r : Program). r.pcr_pid) (program_of c.program past) }
     {
         match self.maps.known() {
             None => None,
@@ -155,10 +161,14 @@ impl ProgramFollower {
 
     /// Takes a packet, and answers what it is, or the first thing that is wrong with it.
     fn take(&mut self, packet: &Packet) -> Result<Place, NetworkFault>
-        ensures stands { (past : List (List ℕ)) → FollowerStandsFor self.old self.old.purpose past → OnOk result (FollowerStandsFor self.new self.old.purpose (packet.now ∷ past)) }
-        ensures sound { (past : List (List ℕ)) → FollowerStandsFor self.old self.old.purpose past → OnOk result (network_fault self.old.purpose packet.now past ≡ None) }
-        ensures place { (past : List (List ℕ)) → FollowerStandsFor self.old self.old.purpose past → IfOk result (λ x. IsPlace x self.old.purpose packet.now past) }
-        ensures err { (past : List (List ℕ)) → FollowerStandsFor self.old self.old.purpose past → IfErr result (λ f. network_fault self.old.purpose packet.now past ≡ Some f) }
+        ensures stands { (past : List (List ℕ)) → FollowerStandsFor self.old self.old.purpose past
+            → OnOk result (FollowerStandsFor self.new self.old.purpose (packet.now ∷ past)) }
+        ensures sound { (past : List (List ℕ)) → FollowerStandsFor self.old self.old.purpose past
+            → OnOk result (network_fault self.old.purpose packet.now past ≡ None) }
+        ensures place { (past : List (List ℕ)) → FollowerStandsFor self.old self.old.purpose past
+            → IfOk result (λ x. IsPlace x self.old.purpose packet.now past) }
+        ensures err { (past : List (List ℕ)) → FollowerStandsFor self.old self.old.purpose past
+            → IfErr result (λ f. network_fault self.old.purpose packet.now past ≡ Some f) }
     {
         if is_refused(&self.purpose, packet) {
             return Err(NetworkFault::CuePidUsed);

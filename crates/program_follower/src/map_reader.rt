@@ -41,7 +41,8 @@ impl MapReader {
 
     /// What is known of the program; `None` in the head.
     pub fn known(&self) -> Option<&KnownProgram>
-        ensures { (wanted : Option ℕ) (past : List (List ℕ)) → MapsRead self.now wanted past → option_map (λ k. Rattle.program_follower.specs.Standing.program_seen k.now) result ≡ program_of wanted past }
+        ensures { (wanted : Option ℕ) (past : List (List ℕ)) → MapsRead self.now wanted past
+            → option_map (λ k. Rattle.program_follower.specs.Standing.program_seen k.now) result ≡ program_of wanted past }
     {
         self.known.as_ref()
     }
@@ -68,7 +69,9 @@ impl MapReader {
         at: Option<Listed>,
         packet: &Packet,
     ) -> Result<(), NetworkFault>
-        ensures reads { (past : List (List ℕ)) → at ≡ listed purpose.now.program past → MapsRead self.old purpose.now.program past → OnOk result (MapsRead self.new purpose.now.program (packet.now ∷ past)) }
+        ensures reads { (past : List (List ℕ)) → at ≡ listed purpose.now.program past
+            → MapsRead self.old purpose.now.program past
+            → OnOk result (MapsRead self.new purpose.now.program (packet.now ∷ past)) }
         ensures ok { (past : List (List ℕ)) → at ≡ listed purpose.now.program past → MapsRead self.old purpose.now.program past
             → OnOk result (maps_fault purpose.now (listed purpose.now.program past) (known_map purpose.now.program past) (tables purpose.now.program packet.now past) ≡ None) }
         ensures err { (past : List (List ℕ)) → at ≡ listed purpose.now.program past → MapsRead self.old purpose.now.program past

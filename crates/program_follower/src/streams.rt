@@ -68,10 +68,14 @@ impl Streams {
         packet: &Packet,
     ) -> Result<Option<(usize, StreamPacket)>, UnitFault>
         requires { length streams.now ≤ 8 }
-        ensures reads { (past : List (List ℕ)) → StreamsRead self.old (pids_in streams.now) past → OnOk result (StreamsRead self.new (pids_in streams.now) (packet.now ∷ past)) }
-        ensures ok { (past : List (List ℕ)) → StreamsRead self.old (pids_in streams.now) past → OnOk result (unit_fault (pids_in streams.now) packet.now past ≡ None) }
-        ensures is { (past : List (List ℕ)) → StreamsRead self.old (pids_in streams.now) past → IfOk result (λ x. IsOfStream x (pids_in streams.now) packet.now past) }
-        ensures err { (past : List (List ℕ)) → StreamsRead self.old (pids_in streams.now) past → IfErr result (λ f. unit_fault (pids_in streams.now) packet.now past ≡ Some f) }
+        ensures reads { (past : List (List ℕ)) → StreamsRead self.old (pids_in streams.now) past
+            → OnOk result (StreamsRead self.new (pids_in streams.now) (packet.now ∷ past)) }
+        ensures ok { (past : List (List ℕ)) → StreamsRead self.old (pids_in streams.now) past
+            → OnOk result (unit_fault (pids_in streams.now) packet.now past ≡ None) }
+        ensures is { (past : List (List ℕ)) → StreamsRead self.old (pids_in streams.now) past
+            → IfOk result (λ x. IsOfStream x (pids_in streams.now) packet.now past) }
+        ensures err { (past : List (List ℕ)) → StreamsRead self.old (pids_in streams.now) past
+            → IfErr result (λ f. unit_fault (pids_in streams.now) packet.now past ≡ Some f) }
     {
         let Some((index, _)) = first_on(streams, packet) else {
             return Ok(None);
@@ -90,13 +94,17 @@ impl Streams {
 /// What a packet of a stream is, by what it brings to the stream's units. The clock passes the begin of a unit.
 #[tactic(auto, using(crate::proofs::PieceLemmas::high_start, crate::proofs::PieceLemmas::high_other, crate::proofs::PieceLemmas::no_begin, crate::proofs::PieceLemmas::repeat_begins_none, crate::proofs::PieceLemmas::empty_begins_none, crate::proofs::PieceLemmas::stamp_in, crate::proofs::PieceLemmas::splits_in))]
 fn pass(clock: &mut Clock, piece: Piece<'_>) -> Result<StreamPacket, UnitFault>
-    ensures clock { (pids : List ℕ) (pid : ℕ) (p : List ℕ) (past : List (List ℕ)) → IsOne pids pid p past → ClockAt clock.old (high pids past) → Brings piece.entry pid p past
+    ensures clock { (pids : List ℕ) (pid : ℕ) (p : List ℕ) (past : List (List ℕ)) → IsOne pids pid p past
+        → ClockAt clock.old (high pids past) → Brings piece.entry pid p past
         → OnOk result (ClockAt clock.new (high pids (p ∷ past))) }
-    ensures sound { (pids : List ℕ) (pid : ℕ) (p : List ℕ) (past : List (List ℕ)) → IsOne pids pid p past → ClockAt clock.old (high pids past) → Brings piece.entry pid p past
+    ensures sound { (pids : List ℕ) (pid : ℕ) (p : List ℕ) (past : List (List ℕ)) → IsOne pids pid p past
+        → ClockAt clock.old (high pids past) → Brings piece.entry pid p past
         → OnOk result (begin_fault pids pid p past ≡ None) }
-    ensures is { (pids : List ℕ) (pid : ℕ) (p : List ℕ) (past : List (List ℕ)) → IsOne pids pid p past → ClockAt clock.old (high pids past) → Brings piece.entry pid p past
+    ensures is { (pids : List ℕ) (pid : ℕ) (p : List ℕ) (past : List (List ℕ)) → IsOne pids pid p past
+        → ClockAt clock.old (high pids past) → Brings piece.entry pid p past
         → IfOk result (λ x. IsStreamPacket x pids pid p past) }
-    ensures err { (pids : List ℕ) (pid : ℕ) (p : List ℕ) (past : List (List ℕ)) → IsOne pids pid p past → ClockAt clock.old (high pids past) → Brings piece.entry pid p past
+    ensures err { (pids : List ℕ) (pid : ℕ) (p : List ℕ) (past : List (List ℕ)) → IsOne pids pid p past
+        → ClockAt clock.old (high pids past) → Brings piece.entry pid p past
         → IfErr result (λ f. begin_fault pids pid p past ≡ Some f) }
 {
     match piece {
@@ -141,8 +149,10 @@ fn has_scrambled_payload(packet: &Packet) -> bool
 fn feed_at<'a>(readers: &mut [UnitReader; 8], index: usize, packet: &'a Packet) -> Piece<'a>
     requires { index < 8 }
     ensures others { (i : ℕ) (d : UnitReader) → i ≢ index → slice_index_or readers.new i d ≡ slice_index_or readers.old i d }
-    ensures reads { (d : UnitReader) (pid : ℕ) (past : List (List ℕ)) → Reads (slice_index_or readers.old index d) pid past → Reads (slice_index_or readers.new index d) pid (packet.now ∷ past) }
-    ensures brings { (d : UnitReader) (pid : ℕ) (past : List (List ℕ)) → Reads (slice_index_or readers.old index d) pid past → Brings result pid packet.now past }
+    ensures reads { (d : UnitReader) (pid : ℕ) (past : List (List ℕ)) → Reads (slice_index_or readers.old index d) pid past
+        → Reads (slice_index_or readers.new index d) pid (packet.now ∷ past) }
+    ensures brings { (d : UnitReader) (pid : ℕ) (past : List (List ℕ))
+        → Reads (slice_index_or readers.old index d) pid past → Brings result pid packet.now past }
 {
     readers[index].feed(packet)
 }

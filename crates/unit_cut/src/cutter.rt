@@ -65,8 +65,11 @@ impl Cutter {
     /// What the packet may not be, as [`UnitFault`] says. Give the cutter no packet after that.
     #[inline(always)]
     pub fn feed(&mut self, packet: &mut Packet, kept: &Packet) -> Result<bool, UnitFault>
-        ensures answers { (k : Cut) (past : List (List ℕ)) → Begins k (packet.old ∷ past) → StandsFor self.old kept.now k past → Answers k packet.old past result packet.new }
-        ensures stands { (k : Cut) (past : List (List ℕ)) → Begins k (packet.old ∷ past) → StandsFor self.old kept.now k past → OnOk result (StandsFor self.new (kept_after k.pid packet.old packet.new kept.now) k (packet.old ∷ past)) }
+        ensures answers { (k : Cut) (past : List (List ℕ)) → Begins k (packet.old ∷ past)
+            → StandsFor self.old kept.now k past → Answers k packet.old past result packet.new }
+        ensures stands { (k : Cut) (past : List (List ℕ)) → Begins k (packet.old ∷ past)
+            → StandsFor self.old kept.now k past
+            → OnOk result (StandsFor self.new (kept_after k.pid packet.old packet.new kept.now) k (packet.old ∷ past)) }
     {
         if !packet.is_on(self.pid) {
             return Ok(true);
@@ -101,8 +104,10 @@ impl Cutter {
         ensures timing { self.new.timing ≡ self.old.timing }
         ensures carries { CarriesAs packet.new packet.old }
         ensures stays { result ≡ not self.old.timing.is_going }
-        ensures counts { (steps : List Step) → Counts self.old.counter steps → Counts self.new.counter (if result then Kept packet.old ∷ steps else Dropped packet.old ∷ steps) }
-        ensures packet { (steps : List Step) → Counts self.old.counter steps → result ≡ true → packet.new ≡ with_number (number_out packet.old steps) packet.old }
+        ensures counts { (steps : List Step) → Counts self.old.counter steps
+            → Counts self.new.counter (if result then Kept packet.old ∷ steps else Dropped packet.old ∷ steps) }
+        ensures packet { (steps : List Step) → Counts self.old.counter steps → result ≡ true
+            → packet.new ≡ with_number (number_out packet.old steps) packet.old }
     {
         if self.timing.is_going() {
             self.counter.dropped(packet);
@@ -119,8 +124,10 @@ impl Cutter {
         ensures timing { self.new.timing ≡ self.old.timing }
         ensures carries { CarriesAs packet.new packet.old }
         ensures stays { result ≡ not self.old.timing.is_going }
-        ensures counts { (steps : List Step) → Counts self.old.counter steps → Counts self.new.counter (if result then Kept packet.old ∷ steps else steps) }
-        ensures packet { (steps : List Step) → Counts self.old.counter steps → result ≡ true → packet.new ≡ with_number (number_out packet.old steps) packet.old }
+        ensures counts { (steps : List Step) → Counts self.old.counter steps
+            → Counts self.new.counter (if result then Kept packet.old ∷ steps else steps) }
+        ensures packet { (steps : List Step) → Counts self.old.counter steps → result ≡ true
+            → packet.new ≡ with_number (number_out packet.old steps) packet.old }
     {
         if self.timing.is_going() {
             return false;
