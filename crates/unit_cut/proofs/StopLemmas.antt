@@ -11,9 +11,9 @@ use Rattle.ts_packet.proofs.PacketsLemmas.{read_more, read_all, read_before, pac
 use Rattle.unit_stream.specs.Faults.{unit_fault}
 use Rattle.unit_cut.specs.Cutting.{cut_between}
 use Rattle.ts_packet.specs.FirstFault.{or_then, named, first_of, fault_behind, sound_front}
-use Rattle.ts_packet.proofs.FirstFaultLemmas.{sound_all, fault_behind_sound, behind_some}
-use Rattle.unit_cut.specs.FirstFault.{as_unit_fault, fault_at, cut_test}
-use Rattle.unit_cut.specs.Runs.{IsFirst, FrontIsOut, Leaves, Says, Stops, IsSound, cut_by, HasPassed, PassFails}
+use Rattle.ts_packet.proofs.FirstFaultLemmas.{sound_all, fault_behind_sound, behind_some, says_so}
+use Rattle.unit_cut.specs.FirstFault.{as_unit_fault, fault_at, cut_test, cut_cause}
+use Rattle.unit_cut.specs.Runs.{CutsAll, IsFirst, FrontIsOut, Leaves, Says, Stops, IsSound, cut_by, HasPassed, PassFails}
 use Rattle.unit_cut.specs.declared.cutter.Cutter.{Cutter}
 use Rattle.unit_cut.specs.declared.run.CutFault.{CutFault}
 use Rattle.unit_cut.specs.declared.run.CutFault.TheVariants.{Read, Scrambled, HeaderSplit, TimeJump, Sink}
@@ -111,3 +111,26 @@ pass_stops None left left' is_out is_out' fails cutter kept pid from len ps p re
 pass_stops (Some bs) left None is_out is_out' fails cutter kept pid from len ps p read h r f k = absurd (read_more (Some bs) left None ps p read r).bytes
 pass_stops (Some bs) left (Some rest) is_out is_out' fails cutter kept pid from len ps p read h r f k =
     fails_so is_out' fails pid from len ps p bs rest (one_past bs rest ps p (read_more (Some bs) left (Some rest) ps p read r)) read.sound h.sound r.sound f k
+
+-- ---- what follows from what is out
+
+module _ (is_out is_out' : List (List ℕ) → Type 0) (fails fails' : List (List ℕ) → List ℕ → PutFault → Type 0) (out_so : (ps : List (List ℕ)) → is_out ps → is_out' ps)
+    (fails_on : (ps : List (List ℕ)) (p : List ℕ) (f : PutFault) → fails ps p f → fails' ps p f) where
+  front_so : (whole : List (List ℕ)) → FrontIsOut whole is_out → FrontIsOut whole is_out'
+  front_so whole (front, more, e, h) = (front, more, e, out_so front h)
+
+  leaves_so : (fault : CutFault) (whole : List (List ℕ)) → Leaves fault whole is_out fails → Leaves fault whole is_out' fails'
+  leaves_so (Read f) whole h = front_so whole h
+  leaves_so Scrambled whole h = front_so whole h
+  leaves_so HeaderSplit whole h = front_so whole h
+  leaves_so TimeJump whole h = front_so whole h
+  leaves_so (Sink f) whole (front, p, more, e, h) = (front, p, more, e, fails_on front p f h)
+
+  pub stops_so : (fault : CutFault) (pid from len : ℕ) (input : Option (List ℕ)) → Stops fault pid from len input is_out fails → Stops fault pid from len input is_out' fails'
+  stops_so fault pid from len None h = tt
+  stops_so fault pid from len (Some bs) h =
+      (says_so (cut_cause fault) (λ i. record { first = i.first; before = out_so _ i.before }) h.0, leaves_so fault (cut_between from len pid (packets_of bs)) h.1)
+
+pub cuts_so : (is_out is_out' : List (List ℕ) → Type 0) → ((ps : List (List ℕ)) → is_out ps → is_out' ps) → (pid from len : ℕ) (input : Option (List ℕ)) → CutsAll pid from len input is_out → CutsAll pid from len input is_out'
+cuts_so is_out is_out' f pid from len None h = tt
+cuts_so is_out is_out' f pid from len (Some bs) h = (h.0, f _ h.1)
