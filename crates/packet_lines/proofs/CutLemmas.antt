@@ -1,6 +1,6 @@
 -- The cut of packets, said of lines.
-use Rattle.std.proofs.Common.{◌≡◌, ◌≢◌, ℕ, ◌+◌, List, [], ◌++◌, Option, None, Some, Bool, true, false, ◌⊎◌, inl, inr, refl, sym, ap, ◌∙◌, length, subst, arith}
-use Rattle.std.specs.Prelude.{option_map, Err}
+use Rattle.std.proofs.Common.{◌≡◌, ◌≢◌, ℕ, List, [], Option, None, Some, Bool, true, false, ◌⊎◌, inl, inr, refl, sym, ap, subst, arith}
+use Rattle.std.specs.Prelude.{option_map}
 use Rattle.std.proofs.lemmas.List.{append-nil}
 use Rattle.unit_cut.specs.declared.run.CutFault.{CutFault}
 use Rattle.unit_cut.specs.Runs.{CutsAll, Stops, NetworkBlamed, Stalled, Exhausted}

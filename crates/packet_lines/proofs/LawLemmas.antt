@@ -1,8 +1,7 @@
 -- A text is the lines of the packets that it tells, up to a line that is no packet's.
-use Rattle.std.proofs.Common.{◌≡◌, ℕ, zero, suc, ◌+◌, ◌<◌, ◌≤◌, ◌==◌, ◌||◌, ◌&&◌, ◌⊎◌, inl, inr, Bool, true, false, List, [], ◌∷◌, ◌++◌, Option, Some, None, All, arith, length, take, drop, refl, sym, ap, ◌∙◌, append_assoc, nat_eq, slice_index, get_or, if◌then◌else◌, length-take, length-drop, take-append-drop}
-use Rattle.std.proofs.lemmas.List.{append-nil, take-take, drop_all}
+use Rattle.std.proofs.Common.{◌≡◌, ℕ, zero, suc, ◌<◌, ◌≤◌, ◌||◌, ◌&&◌, ◌⊎◌, inl, inr, Bool, true, false, List, [], ◌∷◌, ◌++◌, Option, Some, None, All, arith, length, take, drop, refl, sym, ap, ◌∙◌, append_assoc, nat_eq, slice_index, if◌then◌else◌, length-take, length-drop, take-append-drop}
+use Rattle.std.proofs.lemmas.List.{append-nil, drop_all}
 use Rattle.std.proofs.lemmas.List.Elements.{All-nil, All-cons}
-use Rattle.std.proofs.lemmas.Grind.{common_steps}
 use lib.Seq.{take_all}
 use Rattle.hex_digits.specs.Digits.{spelled, digits_of}
 use Rattle.hex_digits.proofs.ReadBackLemmas.{spelled_by}
@@ -52,8 +51,8 @@ line_is line p e =
       is = elim (sized_so (nat_eq (length line) 376) (nat_eq (length line) 377) (nat_eq (slice_index line 376) 10) s.0) [
         | inl a ↦ inr (sym (take_all 376 line (omega (arith, same_number _ _ a))) ∙ by.0, same_number _ _ a)
         | inr b ↦
-          let last : drop 376 line ≡ 10 ∷ [] = one_left line (same_number _ _ b.0) ∙ ap (λ c. c ∷ []) (same_number _ _ b.1) in
-          inl (sym (take-append-drop 376 line) ∙ ap (λ l. take 376 line ++ l) last ∙ ap (λ l. l ++ 10 ∷ []) by.0)
+            let last : drop 376 line ≡ 10 ∷ [] = one_left line (same_number _ _ b.0) ∙ ap (λ c. c ∷ []) (same_number _ _ b.1) in
+            inl (sym (take-append-drop 376 line) ∙ ap (λ l. take 376 line ++ l) last ∙ ap (λ l. l ++ 10 ∷ []) by.0)
       ];
       size = packet_in_size line p e;
       small = by.1;
@@ -94,15 +93,15 @@ told_more text p t line rest = elim line.is [
     is = more_is text (drop 377 text) p rest.packets (sym (take-append-drop 377 text) ∙ ap (λ l. l ++ drop 377 text) whole) t rest.is;
   }
   | inr part ↦
-    let n : length text ≤ 376 = omega (arith, part.1, length-take 377 text) in
-    let all : take 377 text ≡ text = take_all 377 text (omega (arith, n)) in
-    let none : drop 377 text ≡ [] = drop_all 377 text (omega (arith, n)) in
-    record {
-      packets = p ∷ [];
-      sizes = All-cons (λ q. length q ≡ 188) p [] line.size (All-nil (λ q. length q ≡ 188));
-      small = All-cons (λ q. All (λ b. b < 256) q) p [] line.small (All-nil (λ q. All (λ b. b < 256) q));
-      is = inl (inr (ap (λ l. l ++ 10 ∷ []) (sym all ∙ part.0) ∙ sym (append-nil (line_of p))), t ∙ ap (λ l. p ++ bytes_told l) none ∙ ap (λ l. p ++ l) told_nothing);
-    }
+      let n : length text ≤ 376 = omega (arith, part.1, length-take 377 text) in
+      let all : take 377 text ≡ text = take_all 377 text (omega (arith, n)) in
+      let none : drop 377 text ≡ [] = drop_all 377 text (omega (arith, n)) in
+      record {
+        packets = p ∷ [];
+        sizes = All-cons (λ q. length q ≡ 188) p [] line.size (All-nil (λ q. length q ≡ 188));
+        small = All-cons (λ q. All (λ b. b < 256) q) p [] line.small (All-nil (λ q. All (λ b. b < 256) q));
+        is = inl (inr (ap (λ l. l ++ 10 ∷ []) (sym all ∙ part.0) ∙ sym (append-nil (line_of p))), t ∙ ap (λ l. p ++ bytes_told l) none ∙ ap (λ l. p ++ l) told_nothing);
+      }
 ]
 
 told_by : (text : List ℕ) → 0 < length text → Told (drop 377 text) → (o : Option (List ℕ)) → packet_in (take 377 text) ≡ o → Told text

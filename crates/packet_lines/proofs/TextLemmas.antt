@@ -1,5 +1,5 @@
 -- A text of lines, of which a line was read, or to which one was written.
-use Rattle.std.proofs.Common.{◌≡◌, ℕ, zero, suc, ◌+◌, ◌*◌, ◌/◌, ◌-◌, ◌<◌, ◌≤◌, ◌||◌, ◌&&◌, inl, inr, List, [], ◌∷◌, ◌++◌, Option, None, Some, IfSome, Bool, true, false, arith, length, take, drop, refl, sym, ap, ◌∙◌, subst, append_assoc, nat_eq, slice_index, slice_set, get_or, if◌then◌else◌, length-take-le, drop_at, length-append, length-drop}
+use Rattle.std.proofs.Common.{◌≡◌, ℕ, suc, ◌+◌, ◌*◌, ◌/◌, ◌-◌, ◌<◌, ◌≤◌, ◌||◌, ◌&&◌, inl, inr, List, [], ◌∷◌, ◌++◌, Option, None, Some, IfSome, Bool, true, false, arith, length, take, drop, refl, sym, ap, ◌∙◌, subst, append_assoc, nat_eq, slice_index, slice_set, get_or, if◌then◌else◌, length-take-le, drop_at, length-append, length-drop}
 use Rattle.std.proofs.lemmas.List.{append-nil, drop_all}
 use Rattle.std.proofs.Math.Nat.{eq-or-lt_of_le}
 use Rattle.std.proofs.Math.Seq.{drop-cons, set-append_seam}

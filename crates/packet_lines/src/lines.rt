@@ -23,18 +23,20 @@ pub enum LinesFault {
     Cut(CutFault),
 }
 
-/// What a cut over lines answers where the cut stopped so.
-fn of_lines(fault: CutFault) -> LinesFault
-    ensures fault { cut_fault_of result ≡ fault }
-    ensures named { result ≢ LinesFault.Cut (CutFault.Read ReadFault.Truncated) }
-{
-    match fault {
-        CutFault::Read(ReadFault::Truncated) => LinesFault::BadLine,
-        CutFault::Read(_)
-        | CutFault::Scrambled
-        | CutFault::HeaderSplit
-        | CutFault::TimeJump
-        | CutFault::Sink(_) => LinesFault::Cut(fault),
+impl LinesFault {
+    /// What a cut over a [`LineReader`] answers where [`cut`] stopped so.
+    pub fn of_cut(fault: CutFault) -> LinesFault
+        ensures fault { cut_fault_of result ≡ fault }
+        ensures named { result ≢ LinesFault.Cut (CutFault.Read ReadFault.Truncated) }
+    {
+        match fault {
+            CutFault::Read(ReadFault::Truncated) => LinesFault::BadLine,
+            CutFault::Read(_)
+            | CutFault::Scrambled
+            | CutFault::HeaderSplit
+            | CutFault::TimeJump
+            | CutFault::Sink(_) => LinesFault::Cut(fault),
+        }
     }
 }
 
@@ -63,6 +65,6 @@ pub fn cut_lines<S: Source, W: Target>(
     let mut writer = LineWriter::new(output);
     match cut(&mut reader, &mut writer, pid, from, length) {
         Ok(()) => Ok(()),
-        Err(fault) => Err(of_lines(fault)),
+        Err(fault) => Err(LinesFault::of_cut(fault)),
     }
 }

@@ -1,6 +1,6 @@
 -- What the devices of a run did, packet by packet.
-use Rattle.std.proofs.Common.{◌≡◌, ℕ, ◌^◌, ◌-◌, List, Bool, true, false, ◌⊎◌, inl, inr, refl, sym, ap, ◌∙◌, Option, length, arith}
-use Rattle.ts_packet.specs.Reading.{HasRead, ReadSo, SourceCounts, SourceBlamed, Refuses}
+use Rattle.std.proofs.Common.{◌≡◌, ℕ, List, Bool, true, false, ◌⊎◌, inl, inr, refl, sym, ◌∙◌, Option}
+use Rattle.ts_packet.specs.Reading.{ReadSo, SourceCounts, SourceBlamed, Refuses}
 use Rattle.ts_packet.specs.declared.tally.Tally.{Tally}
 use Rattle.ts_packet.specs.Transfers.{WentWell}
 use Rattle.ts_packet.specs.declared.reader.ReadFault.{ReadFault}

@@ -1,10 +1,10 @@
-use Rattle.std.proofs.Common.{[], ◌∷◌, ◌++◌, refl, sym, subst, reverse}
+use Rattle.std.proofs.Common.{[], ◌∷◌, ◌++◌, sym, subst, reverse}
 use Rattle.std.proofs.lemmas.List.{append-nil}
 use Rattle.ts_packet.proofs.CountLemmas.{well-refl, well-trans}
 use Rattle.unit_cut.specs.Standing.{StandsFor, read_of}
 use Rattle.unit_cut.proofs.RunLemmas.{given_none, given_more, passed_none, passed_more, ends, the_cut, is_the_cut, cut_of_fewer}
 use Rattle.unit_cut.proofs.StopLemmas.{read_stops, pass_stops}
-use Rattle.unit_cut.proofs.BlameLemmas.{on-refl, on-more, on-told, on-end, read_blamed, read_turns, pass_read, pass_wrote}
+use Rattle.unit_cut.proofs.BlameLemmas.{on-refl, on-more}
 use Rattle.unit_cut.proofs.run.cut.Goals as goal
 
 pub loop-slots-init : goal.loop-slots-init
