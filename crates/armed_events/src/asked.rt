@@ -5,7 +5,7 @@ ghost use Rattle.scte35_codec.specs.Views.{reading_of};
 
 use event_table::Event;
 use pes_time::Time33;
-use scte35_codec::{Cue, CueFault, Insert};
+use scte35_codec::{Cue, CueFault, SpliceInsert};
 
 /// What a cue asks of the events that stand. Times are on the ring.
 #[derive(Clone, Copy, Debug, PartialEq, Eq)]
@@ -25,7 +25,7 @@ pub enum Asked {
 ghost use Rattle.armed_events.specs.Asking.{asked_of, insert_asks};
 
 /// What a `splice_insert()` of the whole programme asks for.
-fn insert_asks(insert: &Insert<'_>) -> Asked
+fn insert_asks(insert: &SpliceInsert) -> Asked
     ensures { result ≡ insert_asks insert.now.event insert.now.out insert.now.time insert.now.length insert.now.program }
 {
     let Some(time) = insert.time else {
@@ -52,7 +52,7 @@ pub(crate) fn asked_of(cue: &Result<Cue<'_>, CueFault>) -> Asked
     ensures { result ≡ asked_of (reading_of cue.now) }
 {
     match cue {
-        Ok(Cue::Insert(insert)) => insert_asks(insert),
+        Ok(Cue::Insert(insert, _)) => insert_asks(insert),
         Ok(Cue::Cancel(id)) => Asked::Cancel(*id),
         Ok(Cue::Null | Cue::Other) | Err(_) => Asked::Nothing,
     }

@@ -9,7 +9,7 @@ use circular_buffer::HeapCircularBuffer;
 use scte104_codec::{Frame, frame_size};
 use std::alloc::Allocator;
 
-/// The most bytes of a message, whose size has two bytes.
+/// The size of the longest message in bytes: its field has two bytes.
 pub const MESSAGE_ROOM: usize = 65_535;
 
 /// Moves bytes into the ring until it has as many as wanted, or the piece ends. Answers how many.

@@ -2,7 +2,7 @@
 
 ghost use Rattle.as_session.specs.Laws.{AnyPiecesGiveTheMessages, CallsGiveTheMessages, MessagesAreTheOnlyOnes};
 
-/// Up to a rest with no whole message at its front, a byte string is these messages and no others.
+/// A byte string is these messages and no others, up to a rest with no whole message at its front.
 pub fn messages_are_the_only_ones()
     ensures { MessagesAreTheOnlyOnes }
 {}

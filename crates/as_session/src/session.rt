@@ -25,7 +25,7 @@ enum Step {
     Closed,
 }
 
-/// The session of one automation system: of the bytes that it was fed, those of the message that isn't whole yet.
+/// The session of one automation system: it keeps the bytes of the message that isn't whole yet.
 ///
 /// It takes all its memory when it is made, two times 65,535 bytes, and each byte that it is fed is copied twice: into
 /// the ring in which a message gathers, and with the whole message out of it.
@@ -47,7 +47,7 @@ impl Session {
     ///
     /// # Errors
     ///
-    /// Where the allocator refused memory. That it comes only then no contract can say: a test shows it.
+    /// Where the allocator refused memory. No contract can say that the error comes only then: a test shows it.
     pub fn new(alloc: Global) -> Result<Session, AllocError>
         ensures { IfOk result (λ session. state_of session ≡ opened []) }
     {
@@ -82,7 +82,7 @@ impl<A: Allocator> Session<A> {
     ghost use Rattle.as_session.specs.Session.{state_of, step_given, given, IsFed, IsWithin, LendsWhole};
     ghost use Rattle.as_session.specs.Feeding.{feed_of, end_of, shut};
 
-    /// Takes the bytes in. A message that is whole is moved to its place.
+    /// Takes the bytes in, and moves a whole message to the place that it is lent from.
     fn step(&mut self, piece: &[u8]) -> (usize, Step)
         ensures used { result.0 ≡ (feed_of (state_of self.old) piece.now).used }
         ensures given { step_given self.new result.1 ≡ (feed_of (state_of self.old) piece.now).gives }
@@ -107,9 +107,9 @@ impl<A: Allocator> Session<A> {
         }
     }
 
-    /// Takes bytes of the next piece: how many were used, and what the session gives. It uses bytes up to the end of
-    /// the message at the front, or all where they end before it, or up to the fourth byte of a bad size, which
-    /// closes the session. The bytes that it didn't use are to be fed again. A closed session uses none.
+    /// Takes bytes of the next piece, and answers how many it used and what the session gives. It uses the bytes up to the end
+    /// of the message at the front, or all where they end before it, or those up to the fourth byte of a bad size, which closes
+    /// the session. The bytes that it didn't use are to be fed again. A closed session uses none.
     #[tactic(auto, using(crate::proofs::FeedLemmas::used_within))]
     pub fn feed(&mut self, piece: &[u8]) -> (usize, Got<'_>)
         ensures used { result.0 ≡ (feed_of (state_of self.old) piece.now).used }

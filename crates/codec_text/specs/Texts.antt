@@ -3,10 +3,8 @@ use Rattle.std.specs.Prelude.{ℕ, Bool, List, [], ◌∷◌, ◌++◌, Option, 
 use Rattle.std.specs.Fmt.{decimal}
 use Rattle.std.specs.Int.{w16, w32, to_be_bytes}
 use Rattle.hex_digits.specs.Digits.{digits_of}
-use Rattle.scte35_codec.specs.declared.insert.Insert.{Insert}
+use Rattle.scte35_codec.specs.declared.insert.SpliceInsert.{SpliceInsert}
 use Rattle.scte35_codec.specs.declared.cue.Cue.{Cue}
-use Rattle.scte35_codec.specs.declared.cue.Cue.TheVariants as cue
-use Rattle.scte35_codec.specs.Insert.{SpliceInsert}
 use Rattle.scte35_codec.specs.Reading as cue_reading
 use Rattle.scte35_codec.specs.Views as cue_view
 use Rattle.scte104_codec.specs.declared.head.Head.{Head}
@@ -45,7 +43,7 @@ abbrev pub length_text : Option (Bool × ℕ) → List ℕ
 length_text None = codes "none"
 length_text (Some length) = decimal length.1 ++ codes "/" ++ end_text length.0
 
--- a programme's number and the PID of its map
+-- a program's number and the PID of its map
 abbrev pub program_text : Option (ℕ × ℕ) → List ℕ
 program_text None = codes "none"
 program_text (Some program) = decimal program.0 ++ codes ":" ++ decimal program.1
@@ -89,15 +87,18 @@ splice_text i =
     codes "Insert event=" ++ number32_text i.event ++ codes " out=" ++ flag_text i.out ++ codes " time=" ++ time_text i.time
     ++ codes " length=" ++ length_text i.length
 
--- which avail of which programme that is
+-- which avail of which program that is
 abbrev pub avail_text : SpliceInsert → List ℕ → List ℕ
 avail_text i avails =
     codes " program=" ++ decimal i.program ++ codes " avail=" ++ decimal i.avail ++ codes " expected=" ++ decimal i.expected
     ++ codes " avails=" ++ avails_text avails
 
+abbrev pub insert_text : SpliceInsert → List ℕ → List ℕ
+insert_text i avails = splice_text i ++ avail_text i avails
+
 -- what bytes are as a cue, or why they are none
 abbrev pub cue_reading_text : cue_reading.CueReading → List ℕ
-cue_reading_text (cue_reading.insert i avails) = splice_text i ++ avail_text i avails
+cue_reading_text (cue_reading.insert i avails) = insert_text i avails
 cue_reading_text (cue_reading.cancel event) = codes "Cancel event=" ++ number32_text event
 cue_reading_text cue_reading.null = codes "Null"
 cue_reading_text cue_reading.other = codes "Other"
@@ -105,9 +106,6 @@ cue_reading_text (cue_reading.bad fault) = cue_fault_name fault
 
 abbrev pub cue_text : Cue → List ℕ
 cue_text c = cue_reading_text (cue_view.reading_of (Ok c))
-
-abbrev pub insert_text : Insert → List ℕ
-insert_text i = cue_text (cue.Insert i)
 
 -- ---- messages
 

@@ -3,7 +3,7 @@
 use crate::flag::FlagText;
 use hex_digits::Digits;
 use pes_time::Time33;
-use scte35_codec::{Avails, Cue, Insert};
+use scte35_codec::{Avails, Cue, SpliceInsert};
 use std::fmt;
 
 /// A cue: its kind, and its fields in the order of the section.
@@ -18,8 +18,8 @@ impl fmt::Display for CueText<'_> {
 
     fn fmt<W: fmt::Write>(&self, f: &mut fmt::Formatter<W>) -> fmt::Result {
         match &self.0 {
-            Cue::Insert(insert) => {
-                let text = InsertText(insert);
+            Cue::Insert(insert, avails) => {
+                let text = InsertText(*insert, *avails);
                 write!(f, "{text}")
             }
             Cue::Cancel(event) => {
@@ -33,15 +33,16 @@ impl fmt::Display for CueText<'_> {
     }
 }
 
-/// The fields of a `splice_insert()`: the event in hexadecimal digits, flags as 0 or 1, times in 90 kHz ticks.
+/// The fields of a `splice_insert()` and its avails: the event in hexadecimal digits, flags as 0 or 1, times in 90 kHz ticks.
 #[derive(Clone, Copy)]
-pub struct InsertText<'b, 'a>(pub &'b Insert<'a>);
+pub struct InsertText<'a>(pub SpliceInsert, pub Avails<'a>);
 
-impl fmt::Display for InsertText<'_, '_> {
+impl fmt::Display for InsertText<'_> {
     ghost use Rattle.std.specs.Prelude.{Some};
+    ghost use Rattle.scte35_codec.specs.AvailsLeft.{avails_left};
     ghost use Rattle.codec_text.specs.Texts.{insert_text};
 
-    ghost output = { λ t. Some (insert_text t.0.now) };
+    ghost output = { λ t. Some (insert_text t.0 (avails_left t.1)) };
 
     fn fmt<W: fmt::Write>(&self, f: &mut fmt::Formatter<W>) -> fmt::Result {
         let insert = self.0;
@@ -57,7 +58,7 @@ impl fmt::Display for InsertText<'_, '_> {
         let program = insert.program;
         let avail = insert.avail;
         let expected = insert.expected;
-        let avails = AvailsText(insert.avails);
+        let avails = AvailsText(self.1);
         write!(
             f,
             " program={program} avail={avail} expected={expected} avails={avails}"

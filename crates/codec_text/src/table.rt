@@ -6,7 +6,7 @@ use psi_tables::{Entries, Pat, Pmt, Stream};
 use std::fmt;
 use ts_packet::Pid;
 
-/// A program association section: whether it applies now, and its first programme with the PID of its map.
+/// A program association section: whether it applies now, and its first program with the PID of its map.
 #[derive(Clone, Copy)]
 pub struct PatText<'a>(pub Pat<'a>);
 
@@ -24,7 +24,7 @@ impl fmt::Display for PatText<'_> {
     }
 }
 
-/// A programme's number and the PID of its map; `none` where there is no programme.
+/// A program's number and the PID of its map; `none` where there is no program.
 #[derive(Clone, Copy)]
 struct ProgramText(Option<(u16, Pid)>);
 
@@ -45,7 +45,7 @@ impl fmt::Display for ProgramText {
     }
 }
 
-/// A program map section: its programme, whether it applies now, its section numbers, its PCR PID and its streams.
+/// A program map section: its program, whether it applies now, its section numbers, its PCR PID and its streams.
 #[derive(Clone, Copy)]
 pub struct PmtText<'a>(pub Pmt<'a>);
 

@@ -10,16 +10,15 @@ use Rattle.conformance.specs.Sections.{at_place, place_of, finished_after, place
 
 -- ---- one section of a packet
 
--- a section that is kept stands behind those that were kept
-pub kept_more : (place : ℕ) (s : List ℕ) (initial old new : List Finished) (f : Finished) (done : List (List ℕ)) → placed f ≡ (place, s) → new ≡ old ++ f ∷ []
-    → map placed old ≡ map placed initial ++ at_place place done → map placed new ≡ map placed initial ++ at_place place (done ++ s ∷ [])
-kept_more place s initial old new f done e grown so_far =
-    ap (map placed) grown
-    ∙ map-append placed old (f ∷ [])
-    ∙ ap (λ x. map placed old ++ x ∷ []) e
-    ∙ ap (λ l. l ++ (place, s) ∷ []) so_far
-    ∙ append_assoc (map placed initial) (at_place place done) ((place, s) ∷ [])
-    ∙ ap (λ l. map placed initial ++ l) (sym (map-append (λ section. (place, section)) done (s ∷ [])))
+-- a section that is kept stands behind those that were kept, and before those that are still to come
+pub kept_more : (place : ℕ) (s : List ℕ) (rest : List (List ℕ)) (old new : List Finished) (f : Finished) (all : List (ℕ × List ℕ)) → placed f ≡ (place, s) → new ≡ old ++ f ∷ []
+    → map placed old ++ at_place place (s ∷ rest) ≡ all → map placed new ++ at_place place rest ≡ all
+kept_more place s rest old new f all e grown so_far =
+    ap (λ l. map placed l ++ at_place place rest) grown
+    ∙ ap (λ l. l ++ at_place place rest) (map-append placed old (f ∷ []))
+    ∙ append_assoc (map placed old) (placed f ∷ []) (at_place place rest)
+    ∙ ap (λ x. map placed old ++ x ∷ at_place place rest) e
+    ∙ so_far
 
 -- ---- one packet of a run
 

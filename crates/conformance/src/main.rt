@@ -3,7 +3,7 @@
 //! It uses one contract of them above all: the bytes that a line spells, and no others, are read.
 #![tactic(auto)]
 
-ghost use Rattle.std.specs.Prelude.{◌≡◌, ◌⊎◌, IfOk};
+ghost use Rattle.std.specs.Prelude.{◌≡◌, ◌<◌, length, IfOk};
 
 mod answer;
 mod line;
@@ -16,10 +16,10 @@ use std::process::ExitCode;
 use std::{env, io};
 
 /// Answers standard input where no word stands behind the program's name, and else says how it is used; answers the exit status.
-fn status(rt: &HostRuntime) -> io::Result<u8>
-    ensures { IfOk result (λ number. (number ≡ 0) ⊎ (number ≡ 2)) }
+fn status(rt: &HostRuntime, words: &[String]) -> io::Result<u8>
+    ensures answers { length words.now ≡ 0 → IfOk result (λ number. number ≡ 0) }
+    ensures help { 0 < length words.now → IfOk result (λ number. number ≡ 2) }
 {
-    let words: Vec<String> = env::args(rt)?.skip(1).collect(rt.alloc())?;
     if !words.is_empty() {
         usage::write_usage(&mut rt.stderr())?;
         return Ok(2);
@@ -28,8 +28,14 @@ fn status(rt: &HostRuntime) -> io::Result<u8>
     Ok(0)
 }
 
+/// Runs the program with the words behind its name, and answers the exit status.
+fn run(rt: &HostRuntime) -> io::Result<u8> {
+    let words: Vec<String> = env::args(rt)?.skip(1).collect(rt.alloc())?;
+    status(rt, words.as_slice())
+}
+
 fn main(rt: HostRuntime) -> ExitCode {
-    match status(&rt) {
+    match run(&rt) {
         Ok(number) => ExitCode::from(number),
         Err(error) => {
             let _ = usage::write_fault(&mut rt.stderr(), &error);

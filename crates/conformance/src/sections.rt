@@ -3,13 +3,14 @@
 ghost use Rattle.std.specs.Prelude.{◌≡◌, ◌∷◌, ◌++◌, ℕ, List, All, IfOk, OnOk, map, option_map};
 ghost use Rattle.psi_section.specs.Sections.{given, sections};
 ghost use Rattle.psi_section.specs.Assembling.{IsOf, IsReady, Waits};
+ghost use Rattle.psi_section.specs.SectionsLeft.{sections_left};
 ghost use Rattle.std.specs.Io.KnownBytes.{Appends};
 ghost use Rattle.conformance.specs.Answers.{ended, found_text};
 ghost use Rattle.conformance.specs.Sections.{packet_of, packets_in, words_of, at_place, placed, words_behind, IsFoundIn};
 
 use codec_text::BytesText;
 use hex_digits::bytes_of;
-use psi_section::Assembler;
+use psi_section::{Assembler, Sections};
 use std::alloc::{AllocError, Global};
 use std::io::{self, Write};
 use ts_packet::Packet;
@@ -72,6 +73,22 @@ pub fn packets_of(alloc: Global, words: &[u8]) -> Result<Option<Vec<Packet>>, Al
     Ok(Some(packets))
 }
 
+/// Keeps these sections, which the packet of this place finishes.
+fn keep(
+    alloc: Global,
+    sections: Sections<'_>,
+    place: usize,
+    finished: &mut Vec<Finished>,
+) -> Result<(), AllocError>
+    ensures { OnOk result (map placed finished.new.items ≡ map placed finished.old.items ++ at_place place (sections_left sections.entry)) }
+{
+    for section in sections {
+        let section = Vec::from_slice(alloc, section)?;
+        finished.push(Finished { place, section })?;
+    }
+    Ok(())
+}
+
 /// Feeds the packet of this place, and keeps the sections that it finishes.
 fn feed(
     alloc: Global,
@@ -88,10 +105,8 @@ fn feed(
         OnOk result (map placed finished.new.items ≡ map placed finished.old.items ++ at_place place (given pid packet.now past)) }
 {
     assembler.feed(packet);
-    while let Some(section) = assembler.next() {
-        let section = Vec::from_slice(alloc, section)?;
-        finished.push(Finished { place, section })?;
-    }
+    keep(alloc, assembler.sections(), place, finished)?;
+    assembler.pass_over();
     Ok(())
 }
 

@@ -4,7 +4,7 @@ use Rattle.std.specs.Prelude.{is_some}
 use Rattle.std.specs.List.{AllByRecursion}
 use Rattle.std.proofs.lemmas.List.Elements.{All-from_recursion, recursion_from_All}
 use Rattle.psi_section.specs.Sections.{given}
-use Rattle.psi_section.specs.Laws.{AreBytes}
+use Rattle.wire_fields.specs.Numbers.{AreBytes}
 use Rattle.psi_section.proofs.ByteLemmas.{given_bytes}
 use Rattle.psi_section.proofs.GivenLemmas.{All-both}
 use Rattle.program_follower.specs.declared.purpose.Listed.{Listed}

@@ -10,7 +10,7 @@ use Rattle.psi_section.specs.Sections.{given}
 use Rattle.psi_section.specs.Laws.{CanBeGiven}
 use Rattle.psi_tables.specs.declared.network.NetworkFault.TheVariants.{BadPids, CuePidUsed}
 use Rattle.psi_tables.specs.declared.stream.Stream.{Stream}
-use Rattle.psi_section.specs.Laws.{AreBytes}
+use Rattle.wire_fields.specs.Numbers.{AreBytes}
 use Rattle.psi_tables.specs.Streams.{Entry, pid_in, switched_of, is_switched, stream_of}
 use Rattle.psi_tables.specs.ProgramMap.{ProgramMap, pmt, pmt_section, streams_of}
 use Rattle.psi_tables.specs.Cue.{with_cue_entry, without_cue_entry, lists_pid}

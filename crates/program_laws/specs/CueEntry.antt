@@ -2,7 +2,7 @@
 use Rattle.std.specs.Prelude.{◌≡◌, ℕ, ◌<◌, List, false, Some}
 use Rattle.std.specs.List.{list_any}
 use Rattle.psi_section.specs.Laws.{CanBeGiven}
-use Rattle.psi_section.specs.Laws.{AreBytes}
+use Rattle.wire_fields.specs.Numbers.{AreBytes}
 use Rattle.psi_tables.specs.ProgramMap.{ProgramMap, pmt, pmt_section}
 use Rattle.psi_tables.specs.Cue.{with_cue_entry, without_cue_entry, lists_pid}
 use Rattle.program_follower.specs.Program.{map_read, program_in}

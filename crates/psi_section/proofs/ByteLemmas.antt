@@ -1,5 +1,5 @@
 -- Sections of packets of bytes are bytes.
-use Rattle.std.proofs.Common.{◌≡◌, ℕ, zero, suc, ◌+◌, ◌-◌, ◌<◌, List, [], ◌∷◌, ◌++◌, Bool, true, false, ◌&&◌, ◌==◌, refl, arith, length, take, drop, if◌then◌else◌, nat_le, Option, Some, None}
+use Rattle.std.proofs.Common.{ℕ, zero, suc, ◌+◌, ◌-◌, ◌<◌, List, [], ◌∷◌, ◌++◌, Bool, true, false, ◌&&◌, ◌==◌, arith, length, take, drop, if◌then◌else◌, nat_le, Option}
 use Rattle.std.specs.Prelude.{filter, All}
 use Rattle.std.specs.List.{AllByRecursion}
 use Rattle.std.proofs.lemmas.List.Elements.{All-from_recursion, recursion_from_All}
@@ -9,8 +9,8 @@ use Rattle.ts_packet.specs.Duplicates.{original, last_of, follows_on}
 use Rattle.ts_packet.proofs.Cases.{by_test}
 use Rattle.psi_section.specs.declared.front.Front.{Front}
 use Rattle.psi_section.specs.declared.front.Front.TheVariants.{Nothing, Whole, Part}
-use Rattle.psi_section.specs.Sections.{front_of, is_good, Taken, taken_past, taken, continued, started, payload_taken, unbroken, packet_taken, held, finished, given}
-use Rattle.psi_section.specs.Laws.{AreBytes}
+use Rattle.psi_section.specs.Sections.{front_of, is_good, Assembled, taken_past, taken, continued, started, payload_taken, unbroken, packet_taken, held, finished, given}
+use Rattle.wire_fields.specs.Numbers.{AreBytes}
 use Rattle.psi_section.proofs.FrontLemmas.{by_front, by_front_joined}
 use Rattle.psi_section.proofs.GivenLemmas.{All-both}
 
@@ -58,7 +58,7 @@ bytes_bytes : (p : List ℕ) → Bytes p → Bytes (bytes p)
 unfolding bytes
 bytes_bytes p h = payload_bytes p h
 
-record BothBytes (t : Taken) : Type 0 where
+record BothBytes (t : Assembled) : Type 0 where
   finished : AllByRecursion Bytes t.finished
   part : Bytes t.part
 
@@ -103,7 +103,7 @@ held_bytes pid (p ∷ past) h =
     let k = held_bytes pid past h.1 in
     if_bytes (original pid p past) (packet_taken p (last_of pid past) (held pid past)).part (held pid past) (packet_both p (last_of pid past) (held pid past) h.0 k).part k
 
-if_finished : (b : Bool) (t : Taken) → AllByRecursion Bytes t.finished → AllByRecursion Bytes (if b then t.finished else [])
+if_finished : (b : Bool) (t : Assembled) → AllByRecursion Bytes t.finished → AllByRecursion Bytes (if b then t.finished else [])
 if_finished true t h = h
 if_finished false t h = tt
 

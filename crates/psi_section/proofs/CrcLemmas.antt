@@ -8,7 +8,8 @@ use Rattle.std.specs.Prelude.{bit_xor}
 use Rattle.std.specs.Int.Bits.{xor_assoc, xor_zero_l, xor_zero_r, xor_self}
 use Rattle.std.proofs.Math.Nat.{mul_comm}
 use Rattle.std.proofs.lemmas.Nat.{pow_pos, xor_comm, xor_lt, xor_shr, xor_mod, xor_block}
-use Rattle.psi_section.specs.Crc.{generator, reduced, with_bit, bits_of, with_bits, remainder_after, crc_remainder, crc, word_bytes}
+use Rattle.psi_section.specs.Crc.{generator, reduced, with_bit, bits_of, with_bits, remainder_after, crc_remainder, crc, closed}
+use Rattle.byteorder.specs.Endian.{big_bytes}
 
 -- ---- sums
 
@@ -273,7 +274,7 @@ own_byte r h =
 own_next : (r b : ℕ) → r < 2 ^ 32 → b ≡ r / 2 ^ 24 → with_bits r (bits_of b) ≡ r * 256 % 2 ^ 32
 own_next r b h e = ap (λ x. with_bits r (bits_of x)) e ∙ own_byte r h
 
-own_word : (r : ℕ) → r < 2 ^ 32 → remainder_after r (word_bytes r) ≡ 0
+own_word : (r : ℕ) → r < 2 ^ 32 → remainder_after r (big_bytes 4 r) ≡ 0
 own_word r h =
     let a = r * 256 % 2 ^ 32 in
     let b = a * 256 % 2 ^ 32 in
@@ -288,10 +289,10 @@ own_word r h =
     ∙ e4
     ∙ omega arith
 
-pub word_closes : (r : ℕ) → r < 2 ^ 32 → crc_remainder r (word_bytes r) ≡ 0
+pub word_closes : (r : ℕ) → r < 2 ^ 32 → crc_remainder r (big_bytes 4 r) ≡ 0
 unfolding crc_remainder
 word_closes r h = own_word r h
 
-pub crc_closed : (bs : List ℕ) → crc (bs ++ word_bytes (crc bs)) ≡ 0
+pub crc_closed : (bs : List ℕ) → crc (closed bs) ≡ 0
 unfolding crc crc_remainder
-crc_closed bs = remainder-append (2 ^ 32 - 1) bs (word_bytes (crc bs)) ∙ own_word (remainder_after (2 ^ 32 - 1) bs) (remainder_below (2 ^ 32 - 1) (omega arith) bs)
+crc_closed bs = remainder-append (2 ^ 32 - 1) bs (big_bytes 4 (crc bs)) ∙ own_word (remainder_after (2 ^ 32 - 1) bs) (remainder_below (2 ^ 32 - 1) (omega arith) bs)

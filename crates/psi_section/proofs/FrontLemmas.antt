@@ -6,7 +6,7 @@ use Rattle.std.proofs.Math.Seq.{drop-nil}
 use Rattle.ts_packet.proofs.Cases.{by_test}
 use Rattle.psi_section.specs.declared.front.Front.{Front}
 use Rattle.psi_section.specs.declared.front.Front.TheVariants.{Nothing, Whole, Part}
-use Rattle.psi_section.specs.Sections.{front_by, front_of, Taken, nothing, behind, taken_past, taken, after, continued}
+use Rattle.psi_section.specs.Sections.{front_by, front_of, Assembled, nothing, with_section, taken_past, taken, after, continued}
 
 -- ---- what a front says
 
@@ -90,20 +90,20 @@ past_drops k [] = ap taken (sym (drop-nil k))
 past_drops zero (x ∷ xs) = refl
 past_drops (suc k) (x ∷ xs) = past_drops k xs
 
-abbrev pub by_front : ℕ → List ℕ → Front → Taken
+abbrev pub by_front : ℕ → List ℕ → Front → Assembled
 by_front x xs Nothing = nothing
 by_front x xs Part = record { finished = []; part = x ∷ xs }
-by_front x xs (Whole size) = behind (take size (x ∷ xs)) (taken_past (size - 1) xs)
+by_front x xs (Whole size) = with_section (take size (x ∷ xs)) (taken_past (size - 1) xs)
 
 front_taken : (x : ℕ) (xs : List ℕ) (f : Front) → front_of (x ∷ xs) ≡ f → taken (x ∷ xs) ≡ by_front x xs f
 front_taken x xs f h = ap (by_front x xs) h
 
-pub whole_first : (bs : List ℕ) (n : ℕ) → front_of bs ≡ Whole n → taken bs ≡ behind (take n bs) (taken (drop n bs))
+pub whole_first : (bs : List ℕ) (n : ℕ) → front_of bs ≡ Whole n → taken bs ≡ with_section (take n bs) (taken (drop n bs))
 whole_first [] n h = absurd (cc)
 whole_first (x ∷ xs) zero h = absurd (let k = whole_says (x ∷ xs) zero h in let l = k.at_least in omega arith)
 whole_first (x ∷ xs) (suc m) h =
     let e : suc m - 1 ≡ m = omega arith in
-    front_taken x xs (Whole (suc m)) h ∙ ap (λ k. behind (take (suc m) (x ∷ xs)) (taken_past k xs)) e ∙ ap (behind (take (suc m) (x ∷ xs))) (past_drops m xs)
+    front_taken x xs (Whole (suc m)) h ∙ ap (λ k. with_section (take (suc m) (x ∷ xs)) (taken_past k xs)) e ∙ ap (with_section (take (suc m) (x ∷ xs))) (past_drops m xs)
 
 pub part_alone : (bs : List ℕ) → front_of bs ≡ Part → taken bs ≡ record { finished = []; part = bs }
 part_alone [] h = absurd (cc)
@@ -114,17 +114,17 @@ nothing_alone [] h = refl
 nothing_alone (x ∷ xs) h = front_taken x xs Nothing h
 
 -- a whole section, and what stands behind it
-pub whole_and : (bs more : List ℕ) (n : ℕ) → front_of bs ≡ Whole n → taken (take n bs ++ more) ≡ behind (take n bs) (taken more)
+pub whole_and : (bs more : List ℕ) (n : ℕ) → front_of bs ≡ Whole n → taken (take n bs ++ more) ≡ with_section (take n bs) (taken more)
 whole_and bs more n h =
     let k = whole_says bs n h in
     let l : length (take n bs) ≡ n = length-take-le n bs k.there in
     let a : take n (take n bs ++ more) ≡ take n bs = take_at (take n bs) more n l in
     let b : drop n (take n bs ++ more) ≡ more = drop_at (take n bs) more n l in
-    whole_first (take n bs ++ more) n (whole_stays bs more n h) ∙ ap (λ s. behind s (taken (drop n (take n bs ++ more)))) a ∙ ap (λ r. behind (take n bs) (taken r)) b
+    whole_first (take n bs ++ more) n (whole_stays bs more n h) ∙ ap (λ s. with_section s (taken (drop n (take n bs ++ more)))) a ∙ ap (λ r. with_section (take n bs) (taken r)) b
 
 -- ---- bytes behind a part
 
-abbrev pub by_front_joined : List ℕ → Front → Taken
+abbrev pub by_front_joined : List ℕ → Front → Assembled
 by_front_joined bs Nothing = nothing
 by_front_joined bs Part = record { finished = []; part = bs }
 by_front_joined bs (Whole size) = record { finished = take size bs ∷ []; part = [] }

@@ -1,5 +1,5 @@
 -- What is given can be given again, and is bytes where packets are.
-use Rattle.std.proofs.Common.{◌≡◌, ℕ, zero, suc, ◌-◌, List, [], ◌∷◌, ◌++◌, Bool, true, false, not, ◌&&◌, ◌==◌, Option, Some, None, arith, subst, refl, sym, ap, ◌∙◌, length, take, drop, if◌then◌else◌, nat_le}
+use Rattle.std.proofs.Common.{◌≡◌, ℕ, zero, suc, ◌-◌, List, [], ◌∷◌, ◌++◌, Bool, true, false, not, ◌==◌, arith, refl, sym, ap, ◌∙◌, length, take, drop, if◌then◌else◌, nat_le}
 use Rattle.std.specs.Prelude.{filter, All}
 use Rattle.std.specs.List.{AllByRecursion}
 use Rattle.std.proofs.lemmas.List.Elements.{All-from_recursion}
@@ -10,11 +10,11 @@ use Rattle.ts_packet.specs.Duplicates.{original, last_of}
 use Rattle.ts_packet.proofs.Cases.{by_test}
 use Rattle.psi_section.specs.declared.front.Front.{Front}
 use Rattle.psi_section.specs.declared.front.Front.TheVariants.{Nothing, Whole, Part}
-use Rattle.psi_section.specs.Sections.{front_of, has_crc, is_good, is_bad, Taken, taken_past, taken, continued, started, payload_taken, unbroken, packet_taken, held, finished, given}
+use Rattle.psi_section.specs.Sections.{front_of, has_crc, is_good, is_bad, Assembled, taken_past, taken, continued, started, payload_taken, unbroken, packet_taken, held, finished, given}
 use Rattle.psi_section.specs.Crc.{crc}
 use Rattle.psi_section.specs.declared.assembler.Assembler.{Assembler}
 use Rattle.psi_section.specs.Storing.{content}
-use Rattle.psi_section.specs.Assembling.{left, first}
+use Rattle.psi_section.specs.Assembling.{left}
 use Rattle.psi_section.specs.Laws.{CanBeGiven, IsSound}
 use Rattle.psi_section.proofs.FrontLemmas.{whole_stays, whole_says, front_whole, front_from, not_yet, by_front, by_front_joined}
 
@@ -60,7 +60,7 @@ payload_whole : (b : Bool) (part bs : List ℕ) → AllByRecursion IsWhole (payl
 payload_whole true part bs = started_whole part bs
 payload_whole false part bs = continued_whole part bs
 
-finished_if : (b : Bool) (t : Taken) → AllByRecursion IsWhole t.finished → AllByRecursion IsWhole (if b then t.finished else [])
+finished_if : (b : Bool) (t : Assembled) → AllByRecursion IsWhole t.finished → AllByRecursion IsWhole (if b then t.finished else [])
 finished_if true t h = h
 finished_if false t h = tt
 
@@ -84,14 +84,6 @@ given_can_each pid p past = good_can (finished pid p past) (finished_whole pid p
 
 pub given_can : (pid : ℕ) (p : List ℕ) (past : List (List ℕ)) → All CanBeGiven (given pid p past)
 given_can pid p past = All-from_recursion CanBeGiven (given pid p past) (given_can_each pid p past)
-
--- what an assembler has left can be given
-pub left_can : (a : Assembler) → AllByRecursion CanBeGiven (left a)
-left_can a = good_can (taken (content a.store)).finished (taken_whole (content a.store) 0)
-
-pub first_can : (ss : List (List ℕ)) (s : List ℕ) → AllByRecursion CanBeGiven ss → Some s ≡ first ss → CanBeGiven s
-first_can [] s h e = absurd (cc)
-first_can (t ∷ ts) s h e = let f : t ≡ s = cc in subst CanBeGiven f h.0
 
 -- ---- the same in the standard's terms
 

@@ -1,4 +1,5 @@
 pub mod CrcLemmas
+pub mod SealLemmas
 pub mod ChunkLemmas
 pub mod TableLemmas
 pub mod StoreLemmas
@@ -8,6 +9,5 @@ pub mod PacketiserLemmas
 pub mod RunLemmas
 pub mod ReadBackLemmas
 pub mod SectionsLeftLemmas
-pub mod DrainLemmas
 pub mod GivenLemmas
 pub mod ByteLemmas

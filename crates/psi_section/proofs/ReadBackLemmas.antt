@@ -12,7 +12,7 @@ use Rattle.ts_packet.proofs.FieldLemmas.{number-below}
 use Rattle.ts_packet.proofs.HistoryLemmas.{walk_is_last}
 use Rattle.psi_section.specs.declared.front.Front.{Front}
 use Rattle.psi_section.specs.declared.front.Front.TheVariants.{Nothing, Whole, Part}
-use Rattle.psi_section.specs.Sections.{front_of, Taken, nothing, behind, taken_past, taken, continued, started, payload_taken, unbroken, packet_taken, held, given, is_good, sections_after}
+use Rattle.psi_section.specs.Sections.{front_of, Assembled, nothing, with_section, taken_past, taken, continued, started, payload_taken, unbroken, packet_taken, held, given, is_good, sections_after}
 use Rattle.psi_section.specs.Packetising.{padded, first_packet, next_packet, packets_for, later_packets, rest_packets, section_packets}
 use Rattle.psi_section.specs.Assembling.{IsPart}
 use Rattle.psi_section.specs.Laws.{CanBeGiven}
@@ -135,7 +135,7 @@ unbroken_part p last part h = part_if (follows_on p last) part [] h (inl refl)
 no_end : (part : List ℕ) → IsPart part → (continued part []).finished ≡ []
 no_end [] h = refl
 no_end (x ∷ xs) (inl e) = absurd (cc)
-no_end (x ∷ xs) (inr h) = ap (λ (t : Taken). t.finished) (joined_front (x ∷ xs) [] Part (omega arith) (ap front_of (append-nil (x ∷ xs)) ∙ h))
+no_end (x ∷ xs) (inr h) = ap (λ (t : Assembled). t.finished) (joined_front (x ∷ xs) [] Part (omega arith) (ap front_of (append-nil (x ∷ xs)) ∙ h))
 
 -- where the pointer is 0, sections begin at once
 started_first : (part bs : List ℕ) → IsPart part → started part (0 ∷ bs) ≡ taken bs
@@ -164,8 +164,8 @@ module _ (s : List ℕ) (w : front_of s ≡ Whole (length s)) where
   filled_taken n =
       ap (λ l. taken (l ++ replicate n 0xFF)) (sym (take-length s))
       ∙ whole_and s (replicate n 0xFF) (length s) w
-      ∙ ap (λ l. behind l (taken (replicate n 0xFF))) (take-length s)
-      ∙ ap (behind s) (stuffing n)
+      ∙ ap (λ l. with_section l (taken (replicate n 0xFF))) (take-length s)
+      ∙ ap (with_section s) (stuffing n)
 
   cut_taken : (k : ℕ) → 3 ≤ k → k < length s → taken (take k s) ≡ record { finished = []; part = take k s }
   cut_taken k a b = part_alone (take k s) (part_of s (length s) k w a b)
@@ -191,7 +191,7 @@ module _ (s : List ℕ) (w : front_of s ≡ Whole (length s)) where
         let f : front_of (take k s ++ padded 184 (drop k s)) ≡ Whole (length s) = ap front_of e ∙ filled_front (replicate n 0xFF) in
         joined_front (take k s) (padded 184 (drop k s)) (Whole (length s)) some_bytes f
         ∙ ap (λ l. by_front_joined l (Whole (length s))) e
-        ∙ ap (λ l. let t : Taken = record { finished = l ∷ []; part = [] } in t) (take_at s (replicate n 0xFF) (length s) refl)
+        ∙ ap (λ l. let t : Assembled = record { finished = l ∷ []; part = [] } in t) (take_at s (replicate n 0xFF) (length s) refl)
 
     later_large : 184 < length (drop k s) → continued (take k s) (padded 184 (drop k s)) ≡ record { finished = []; part = take (k + 184) s }
     later_large h =

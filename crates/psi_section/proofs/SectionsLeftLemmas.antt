@@ -3,7 +3,7 @@ use Rattle.std.proofs.Common.{◌≡◌, ℕ, ◌<◌, ◌≤◌, List, [], ◌�
 use Rattle.std.specs.Prelude.{filter}
 use Rattle.std.proofs.lemmas.List.{length-drop}
 use Rattle.psi_section.specs.declared.front.Front.TheVariants.{Nothing, Whole, Part}
-use Rattle.psi_section.specs.Sections.{front_of, Taken, taken, is_good, is_bad}
+use Rattle.psi_section.specs.Sections.{front_of, Assembled, taken, is_good, is_bad}
 use Rattle.psi_section.proofs.FrontLemmas.{whole_says, whole_first, part_alone, nothing_alone}
 
 -- those that do not fail
@@ -17,16 +17,16 @@ good_no : (s : List ℕ) (ss : List (List ℕ)) → is_bad s ≡ true → filter
 good_no s ss h = simp h
 
 pub left_good : (bs : List ℕ) (n : ℕ) → front_of bs ≡ Whole n → is_bad (take n bs) ≡ false → good_of bs ≡ take n bs ∷ good_of (drop n bs)
-left_good bs n f y = ap (λ (x : Taken). filter is_good x.finished) (whole_first bs n f) ∙ good_yes (take n bs) (taken (drop n bs)).finished y
+left_good bs n f y = ap (λ (x : Assembled). filter is_good x.finished) (whole_first bs n f) ∙ good_yes (take n bs) (taken (drop n bs)).finished y
 
 pub left_failed : (bs : List ℕ) (n : ℕ) → front_of bs ≡ Whole n → is_bad (take n bs) ≡ true → good_of bs ≡ good_of (drop n bs)
-left_failed bs n f y = ap (λ (x : Taken). filter is_good x.finished) (whole_first bs n f) ∙ good_no (take n bs) (taken (drop n bs)).finished y
+left_failed bs n f y = ap (λ (x : Assembled). filter is_good x.finished) (whole_first bs n f) ∙ good_no (take n bs) (taken (drop n bs)).finished y
 
 pub left_part : (bs : List ℕ) → front_of bs ≡ Part → good_of bs ≡ []
-left_part bs f = ap (λ (x : Taken). filter is_good x.finished) (part_alone bs f)
+left_part bs f = ap (λ (x : Assembled). filter is_good x.finished) (part_alone bs f)
 
 pub left_nothing : (bs : List ℕ) → front_of bs ≡ Nothing → good_of bs ≡ []
-left_nothing bs f = ap (λ (x : Taken). filter is_good x.finished) (nothing_alone bs f)
+left_nothing bs f = ap (λ (x : Assembled). filter is_good x.finished) (nothing_alone bs f)
 
 pub whole_fits : (bs : List ℕ) (n : ℕ) → front_of bs ≡ Whole n → (3 ≤ n) × (n ≤ length bs)
 whole_fits bs n f = let w = whole_says bs n f in (w.at_least, w.there)

@@ -1,6 +1,7 @@
 -- CRC_32 (ISO/IEC 13818-1, Annex A): the remainder of a polynomial division over bits, most significant bit first. A polynomial
 -- over bits is the number whose bits are its coefficients, and its sum and its difference are the exclusive or.
-use Rattle.std.specs.Prelude.{ℕ, ◌-◌, ◌*◌, ◌/◌, ◌%◌, ◌^◌, List, [], ◌∷◌, ◌==◌, if◌then◌else◌, bit_xor}
+use Rattle.std.specs.Prelude.{ℕ, ◌-◌, ◌*◌, ◌/◌, ◌%◌, ◌^◌, List, [], ◌∷◌, ◌++◌, ◌==◌, if◌then◌else◌, bit_xor}
+use Rattle.byteorder.specs.Endian.{big_bytes}
 
 -- the generator: x^32 + x^26 + x^23 + x^22 + x^16 + x^12 + x^11 + x^10 + x^8 + x^7 + x^5 + x^4 + x^2 + x + 1
 abbrev pub generator : ℕ
@@ -37,6 +38,6 @@ crc_remainder start bs = remainder_after start bs
 unfoldable pub crc : List ℕ → ℕ
 crc bs = crc_remainder (2 ^ 32 - 1) bs
 
--- the four bytes of a word of 32 bits, most significant first
-abbrev pub word_bytes : ℕ → List ℕ
-word_bytes w = w / 2 ^ 24 % 256 ∷ w / 2 ^ 16 % 256 ∷ w / 2 ^ 8 % 256 ∷ w % 256 ∷ []
+-- bytes with their CRC_32 behind them, most significant byte first
+abbrev pub closed : List ℕ → List ℕ
+closed bs = bs ++ big_bytes 4 (crc bs)

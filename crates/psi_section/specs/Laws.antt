@@ -1,11 +1,13 @@
 -- What holds of sections whatever code makes them.
-use Rattle.std.specs.Prelude.{◌≡◌, ℕ, ◌+◌, ◌<◌, ◌≤◌, List, [], ◌∷◌, ◌++◌, true, false, length, reverse, filter, map, slice_index, All}
+use Rattle.std.specs.Prelude.{◌≡◌, ℕ, ◌+◌, ◌<◌, ◌≤◌, ◌^◌, List, [], ◌∷◌, ◌++◌, true, false, length, reverse, filter, map, slice_index, All}
 use Rattle.ts_packet.specs.Fields.{on}
 use Rattle.ts_packet.specs.Duplicates.{repeats, last_of}
 use Rattle.ts_packet.specs.Runs.{Seen}
 use Rattle.psi_section.specs.declared.front.Front.TheVariants.{Whole}
 use Rattle.psi_section.specs.Sections.{section_length, has_crc, front_of, is_bad, held, given, failed, given_by, sections_with, sections, sections_after}
-use Rattle.psi_section.specs.Crc.{crc, word_bytes}
+use Rattle.byteorder.specs.Endian.{big_bytes}
+use Rattle.wire_fields.specs.Numbers.{AreBytes}
+use Rattle.psi_section.specs.Crc.{crc, closed}
 use Rattle.psi_section.specs.Packetising.{first_packet, section_packets, packets_in_turn}
 
 -- a packet behind others adds the sections that it finishes
@@ -60,10 +62,6 @@ pub record GivenWhereSound : Type 0 where
 abbrev pub GivenCanBeGiven : Type 0
 GivenCanBeGiven = (pid : ℕ) (p : List ℕ) (past : List (List ℕ)) → All CanBeGiven (given pid p past)
 
--- each of them is a byte
-abbrev pub AreBytes : List ℕ → Type 0
-AreBytes bytes = (place : ℕ) → slice_index bytes place < 256
-
 -- and where packets are bytes, it is bytes
 abbrev pub GivenAreBytes : Type 0
 GivenAreBytes = (pid : ℕ) (p : List ℕ) (past : List (List ℕ)) → AreBytes p → All AreBytes past → All AreBytes (given pid p past)
@@ -86,6 +84,7 @@ abbrev pub ReadBackInTurn : Type 0
 ReadBackInTurn = (pid n : ℕ) (ss past : List (List ℕ)) → pid < 8192 → n < 16 → All CanBeGiven ss → ((s : List ℕ) → repeats pid (first_packet pid n s) past ≡ false)
     → sections_after past pid (packets_in_turn pid n ss) ≡ ss
 
--- bytes with their CRC_32 behind have the CRC_32 0
-abbrev pub CrcCloses : Type 0
-CrcCloses = (bs : List ℕ) → crc (bs ++ word_bytes (crc bs)) ≡ 0
+-- Bytes with their CRC_32 behind have the CRC_32 0, and with another word behind they don't.
+pub record CrcCloses : Type 0 where
+  pub closes : (bs : List ℕ) → crc (closed bs) ≡ 0
+  pub alone : (bs : List ℕ) (word : ℕ) → word < 2 ^ 32 → crc (bs ++ big_bytes 4 word) ≡ 0 → word ≡ crc bs

@@ -2,7 +2,6 @@ pub mod Crc
 pub mod Sections
 pub mod Storing
 pub mod Assembling
-pub mod Finding
 pub mod Packetising
 pub mod Laws
 pub mod SectionsLeft

@@ -1,8 +1,8 @@
 -- The sections in the payloads of the packets of one PID (ISO/IEC 13818-1, 2.4.4.1 and 2.4.4.2), by the packets that came before,
 -- newest first: what is held of a section that is not finished, and which sections one packet more finishes.
-use Rattle.std.specs.Prelude.{ℕ, zero, suc, ◌+◌, ◌-◌, ◌*◌, ◌/◌, ◌%◌, List, [], ◌∷◌, ◌++◌, Bool, true, not, ◌&&◌, ◌||◌, ◌==◌, if◌then◌else◌, Option, None, Some, nat_le, nat_lt, length, take, drop, filter, map, count_by, slice_index}
+use Rattle.std.specs.Prelude.{ℕ, zero, suc, ◌+◌, ◌-◌, ◌*◌, ◌/◌, ◌%◌, List, [], ◌∷◌, ◌++◌, Bool, not, ◌&&◌, ◌||◌, ◌==◌, if◌then◌else◌, Option, None, Some, nat_le, nat_lt, length, take, drop, filter, map, count_by, slice_index}
 use Rattle.ts_packet.specs.declared.follower.Last.{Last}
-use Rattle.ts_packet.specs.Fields.{unit_start, number, bytes}
+use Rattle.ts_packet.specs.Fields.{unit_start, bytes}
 use Rattle.ts_packet.specs.Duplicates.{original, last_of, follows_on}
 use Rattle.ts_packet.specs.Runs.{Seen, seen_after}
 use Rattle.psi_section.specs.declared.front.Front.{Front}
@@ -52,40 +52,40 @@ front_of [] = Nothing
 front_of (x ∷ xs) = if x == 0xFF then Nothing else front_by (section_size (x ∷ xs)) (length (x ∷ xs))
 
 -- what came of some bytes: the sections that they finish, in order, and the part of one that they end with
-pub record Taken : Type 0 where
+pub record Assembled : Type 0 where
   pub finished : List (List ℕ)
   pub part : List ℕ
 
 -- no section and no part
-abbrev pub nothing : Taken
+abbrev pub nothing : Assembled
 nothing = record { finished = []; part = [] }
 
 -- a section, and what came of the bytes behind it
-abbrev pub behind : List ℕ → Taken → Taken
-behind s t = record { finished = s ∷ t.finished; part = t.part }
+abbrev pub with_section : List ℕ → Assembled → Assembled
+with_section s t = record { finished = s ∷ t.finished; part = t.part }
 
 -- The sections that stand one after another behind so many bytes: a table_id 0xFF ends them, and so does a section over 4,096 bytes.
-abbrev pub taken_past : ℕ → List ℕ → Taken
+abbrev pub taken_past : ℕ → List ℕ → Assembled
 taken_past k [] = nothing
 taken_past (suc k) (x ∷ xs) = taken_past k xs
-taken_past zero (x ∷ xs) = elim (front_of (x ∷ xs)) as (λ f. Taken) [
+taken_past zero (x ∷ xs) = elim (front_of (x ∷ xs)) as (λ f. Assembled) [
   | Nothing ↦ nothing
   | Part ↦ record { finished = []; part = x ∷ xs }
-  | Whole size ↦ behind (take size (x ∷ xs)) (taken_past (size - 1) xs)
+  | Whole size ↦ with_section (take size (x ∷ xs)) (taken_past (size - 1) xs)
 ]
 
 -- the sections that stand one after another in these bytes
-abbrev pub taken : List ℕ → Taken
+abbrev pub taken : List ℕ → Assembled
 taken bs = taken_past 0 bs
 
 -- sections before others
-abbrev pub after : List (List ℕ) → Taken → Taken
+abbrev pub after : List (List ℕ) → Assembled → Assembled
 after sections t = record { finished = sections ++ t.finished; part = t.part }
 
 -- Bytes behind the part of a section: what is behind its end is passed over, and so is all where there is no part.
-abbrev pub continued : List ℕ → List ℕ → Taken
+abbrev pub continued : List ℕ → List ℕ → Assembled
 continued [] bs = nothing
-continued (x ∷ xs) bs = elim (front_of ((x ∷ xs) ++ bs)) as (λ f. Taken) [
+continued (x ∷ xs) bs = elim (front_of ((x ∷ xs) ++ bs)) as (λ f. Assembled) [
   | Nothing ↦ nothing
   | Part ↦ record { finished = []; part = (x ∷ xs) ++ bs }
   | Whole size ↦ record { finished = take size ((x ∷ xs) ++ bs) ∷ []; part = [] }
@@ -93,12 +93,12 @@ continued (x ∷ xs) bs = elim (front_of ((x ∷ xs) ++ bs)) as (λ f. Taken) [
 
 -- A payload with payload_unit_start_indicator: pointer_field counts the bytes before the first section that begins in it. They end
 -- the part, or it is discarded. A pointer past the payload discards both.
-abbrev pub started : List ℕ → List ℕ → Taken
+abbrev pub started : List ℕ → List ℕ → Assembled
 started part [] = nothing
 started part (pointer ∷ bs) = if nat_le pointer (length bs) then after (continued part (take pointer bs)).finished (taken (drop pointer bs)) else nothing
 
 -- a payload with payload_unit_start_indicator, or without
-abbrev pub payload_taken : Bool → List ℕ → List ℕ → Taken
+abbrev pub payload_taken : Bool → List ℕ → List ℕ → Assembled
 payload_taken start part bs = if start then started part bs else continued part bs
 
 -- ---- packets
@@ -108,7 +108,7 @@ abbrev pub unbroken : List ℕ → Option Last → List ℕ → List ℕ
 unbroken p last part = if follows_on p last then part else []
 
 -- what comes of a packet behind the last payload packet and a part
-abbrev pub packet_taken : List ℕ → Option Last → List ℕ → Taken
+abbrev pub packet_taken : List ℕ → Option Last → List ℕ → Assembled
 packet_taken p last part = payload_taken (unit_start p) (unbroken p last part) (bytes p)
 
 -- The part of a section that the packets end with. Packets marked in error, without payload or of another PID are left out, and

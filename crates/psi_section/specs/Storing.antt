@@ -5,7 +5,3 @@ use Rattle.psi_section.specs.declared.store.Store.{Store}
 -- the bytes not given yet
 abbrev pub content : Store → List ℕ
 content s = take (s.end - s.at) (drop s.at s.bytes)
-
--- the last so many bytes that were passed over
-abbrev pub skipped : Store → ℕ → List ℕ
-skipped s n = take n (drop (s.at - n) s.bytes)

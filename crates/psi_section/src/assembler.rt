@@ -1,6 +1,6 @@
 //! Sections out of packets.
 
-ghost use Rattle.std.specs.Prelude.{◌≡◌, ◌∷◌, [], ◌≤◌, ◌-◌, ◌^◌, ℕ, List, length, Some, None, option_map, is_some, IfSome, true, false};
+ghost use Rattle.std.specs.Prelude.{◌≡◌, ◌∷◌, [], ◌≤◌, ◌-◌, ◌^◌, ℕ, List, length, Some, None, true, false};
 
 use crate::front::{Front, front_of, is_bad};
 use crate::sections::Sections;
@@ -19,15 +19,12 @@ pub struct Assembler {
 }
 
 impl Assembler {
-    ghost use Rattle.std.specs.Borrow.{sem};
     ghost use Rattle.ts_packet.specs.Fields.{payload, bytes};
     ghost use Rattle.ts_packet.specs.Duplicates.{repeats_last, follows_on};
     ghost use Rattle.psi_section.specs.Sections.{given, taken, failed, packet_taken};
     ghost use Rattle.psi_section.specs.Storing.{content};
-    ghost use Rattle.psi_section.specs.Assembling.{IsOf, IsReady, Waits, Gives, NextRests, capped, bad_left, first, left};
-    ghost use Rattle.psi_section.specs.Finding.{Finds, Picks};
+    ghost use Rattle.psi_section.specs.Assembling.{IsOf, IsReady, Waits, Gives, capped, bad_left, left};
     ghost use Rattle.psi_section.specs.SectionsLeft.{sections_left};
-    ghost use Rattle.psi_section.specs.Laws.{CanBeGiven};
 
     /// An assembler that was fed no packet.
     pub fn new() -> Assembler
@@ -41,8 +38,8 @@ impl Assembler {
         }
     }
 
-    /// Takes the next packet of the PID, once `next` has answered `None` since the one before. A packet marked in error is left
-    /// out, and so is one without payload.
+    /// Takes the next packet of the PID. Between two packets `pass_over` is to be called. A packet marked in error is left out, and so
+    /// is one without payload.
     pub fn feed(&mut self, packet: &Packet)
         requires { IsReady self.old }
         ensures { (pid : ℕ) (past : List (List ℕ)) → IsOf pid packet.now → Waits self.old pid past →
@@ -62,7 +59,7 @@ impl Assembler {
         });
     }
 
-    /// The last payload packet says that this one is its duplicate.
+    /// Whether this packet is the duplicate of the last payload packet.
     fn is_repeated(&self, packet: &Packet) -> bool
         ensures { result ≡ repeats_last packet.now self.now.last }
     {
@@ -72,7 +69,7 @@ impl Assembler {
         }
     }
 
-    /// The counter is one past that of the last payload packet.
+    /// Whether the counter is one past that of the last payload packet, or there was none.
     fn follows_on(&self, packet: &Packet) -> bool
         ensures { result ≡ follows_on packet.now self.now.last }
     {
@@ -97,63 +94,37 @@ impl Assembler {
         self.store.take_payload(packet.unit_start(), payload);
     }
 
-    /// The next section that the last packet fed finished, lent from the assembler's own buffer; `None` where there is none more.
-    pub fn next(&mut self) -> Option<&[u8]>
-        ensures* after { sem 𝓛 (NextRests self.entry (is_some result)) }
-        ensures value { option_map (λ x. x.now) result ≡ first (left self.old) }
-        ensures can { IfSome result (λ section. CanBeGiven section.now) }
-    {
-        let size = self.find();
-        if size == 0 {
-            return None;
-        }
-        Some(self.store.skipped(size))
-    }
-
-    /// The sections that `next` would give, lent where they lie: `next` still gives them.
+    /// The sections that the last packet fed finished, in order, lent from the assembler's own buffer until `pass_over`.
     pub fn sections(&self) -> Sections<'_>
         ensures { sections_left result ≡ left self.now }
     {
         Sections::of(self.store.content())
     }
 
-    /// Passes over the sections that `next` has not given.
+    /// Passes over the sections that the last packet fed finished, and counts those whose CRC_32 fails.
     pub fn pass_over(&mut self)
         ensures waits { (pid : ℕ) (past todo : List (List ℕ)) → Gives self.old pid past todo → Waits self.new pid past }
         ensures ready { IsReady self.new }
-    {
-        while self.find() != 0 {}
-    }
-
-    /// Passes over the sections up to the first whose CRC_32 does not fail, that one included, and answers its size; 0 where there
-    /// is none.
-    fn find(&mut self) -> usize
-        ensures finds { (pid : ℕ) (past todo : List (List ℕ)) → Gives self.old pid past todo →
-            Finds self.new pid past todo result }
-        ensures picks { Picks (left self.old) self.new result }
-        ensures ready { result ≡ 0 → IsReady self.new }
-        ensures room { result ≤ self.new.store.at }
     {
         loop {
             match front_of(self.store.content()) {
                 Front::Whole(size) => {
                     let is_bad = is_bad(&self.store.content()[..size]);
                     self.store.skip(size);
-                    if !is_bad {
-                        return size;
+                    if is_bad {
+                        self.bad = self.bad.saturating_add(1);
                     }
-                    self.bad = self.bad.saturating_add(1);
                 }
-                Front::Part => return 0,
+                Front::Part => return,
                 Front::Nothing => {
                     self.store.clear();
-                    return 0;
+                    return;
                 }
             }
         }
     }
 
-    /// The number of sections whose CRC_32 failed, up to where `next` has come; it stops at the greatest.
+    /// The number of sections passed over whose CRC_32 failed; it stops at the greatest.
     pub fn bad(&self) -> u64
         ensures waits { (pid : ℕ) (past : List (List ℕ)) → Waits self.now pid past → result ≡ capped (failed pid past) }
         ensures gives { (pid : ℕ) (past todo : List (List ℕ)) → Gives self.now pid past todo →

@@ -1,9 +1,12 @@
 //! CRC_32, eight bytes a turn.
 
-ghost use Rattle.std.specs.Prelude.{◌≡◌, ◌<◌, ◌∷◌, [], replicate};
-ghost use Rattle.psi_section.specs.Crc.{crc, crc_remainder};
+ghost use Rattle.std.specs.Prelude.{◌≡◌, ◌<◌, ◌≤◌, ◌+◌, ◌∷◌, [], replicate};
+ghost use Rattle.arrayvec.specs.ArrayVec.{array_vec_len};
+ghost use Rattle.psi_section.specs.Crc.{crc, crc_remainder, closed};
 
 use crate::tables::TABLES;
+use arrayvec::ArrayVec;
+use wire_fields::put_number32;
 
 /// CRC_32 of the bytes (ISO/IEC 13818-1, Annex A), from the start value all ones; that of a section with its own CRC_32 is 0.
 pub fn crc(bytes: &[u8]) -> u32
@@ -15,6 +18,16 @@ pub fn crc(bytes: &[u8]) -> u32
         remainder = with_chunk(remainder, chunk);
     }
     with_bytes(remainder, rest)
+}
+
+/// Puts the bytes' CRC_32 behind them, so that the CRC_32 of the whole is 0.
+pub fn seal<const N: usize>(section: &mut ArrayVec<u8, N>)
+    requires { array_vec_len section.old + 4 ≤ N }
+    ensures value { section.new.items ≡ closed section.old.items }
+    ensures checked { crc section.new.items ≡ 0 }
+{
+    let remainder = crc(section.as_slice());
+    put_number32(section, remainder);
 }
 
 /// The remainder with these bytes behind.
@@ -36,8 +49,9 @@ fn with_byte(remainder: u32, byte: u8) -> u32
     crc_entry((remainder >> 24) as u8 ^ byte) ^ (remainder << 8)
 }
 
-/// The remainder with these eight bytes behind. The division is linear, so each byte is divided apart, with zeros for those behind
-/// it. The last four, which the remainder does not touch, come first: a processor has their words when it is known.
+/// The remainder with these eight bytes behind. The division is linear, so each byte is divided on its own, with zeros in place of
+/// those behind it. The last four, which the remainder does not touch, come first, since their words can be fetched before it is
+/// known.
 #[inline]
 #[tactic(auto, using(crate::proofs::ChunkLemmas::chunk_behind))]
 fn with_chunk(remainder: u32, chunk: &[u8; 8]) -> u32

@@ -6,7 +6,7 @@ ghost use Rattle.psi_section.specs.Sections.{section_length, front_of, front_by,
 use crate::checksum::crc;
 use crate::store::SECTION_SIZE;
 
-/// How bytes that follow a section begin.
+/// How the bytes begin in which the next section may stand.
 #[derive(Clone, Copy, Debug, PartialEq, Eq, Drop)]
 pub enum Front {
     /// With no section: there are no bytes, or stuffing, or a section over 4,096 bytes.
@@ -36,7 +36,7 @@ pub fn section_length(section: &[u8]) -> usize
     (section[1] % 16) as usize * 256 + section[2] as usize
 }
 
-/// How so many bytes begin, where they are a section of this size and what follows it.
+/// How so many bytes begin, where the section that begins them has this size.
 fn front_by(size: usize, have: usize) -> Front
     ensures { result ≡ front_by (Some size) have }
 {
@@ -49,7 +49,7 @@ fn front_by(size: usize, have: usize) -> Front
     }
 }
 
-/// The section's CRC_32 fails. One without CRC_32 has none that could.
+/// Whether the section's CRC_32 fails. That of a section without CRC_32 does not.
 pub(crate) fn is_bad(section: &[u8]) -> bool
     requires { 3 ≤ length section.now }
     ensures { result ≡ is_bad section.now }
@@ -57,7 +57,7 @@ pub(crate) fn is_bad(section: &[u8]) -> bool
     has_crc(section) && crc(section) != 0
 }
 
-/// The section ends with CRC_32.
+/// Whether the section ends with CRC_32.
 fn has_crc(section: &[u8]) -> bool
     requires { 3 ≤ length section.now }
     ensures { result ≡ has_crc section.now }

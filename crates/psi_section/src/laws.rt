@@ -22,7 +22,7 @@ pub fn others_give_nothing()
     ensures { OthersGiveNothing }
 {}
 
-/// The sections that are told with the packets that finish them are the sections.
+/// The sections that are listed with the packets that finish them are the sections of the run.
 pub fn sections_have_packets()
     ensures { SectionsHavePackets }
 {}
@@ -59,7 +59,7 @@ pub fn read_back_in_turn()
     ensures { ReadBackInTurn }
 {}
 
-/// Bytes with their CRC_32 behind, most significant byte first, have the CRC_32 0.
+/// Bytes with their CRC_32 behind, most significant byte first, have the CRC_32 0, and with no other word behind.
 pub fn crc_closes()
     ensures { CrcCloses }
 {}

@@ -19,7 +19,7 @@ pub struct Store {
 }
 
 impl Store {
-    ghost use Rattle.psi_section.specs.Storing.{content, skipped};
+    ghost use Rattle.psi_section.specs.Storing.{content};
 
     /// An empty store.
     pub(crate) fn new() -> Store
@@ -46,20 +46,10 @@ impl Store {
         &self.bytes[self.at..self.end]
     }
 
-    /// The last so many bytes that were passed over.
-    pub(crate) fn skipped(&self, count: usize) -> &[u8]
-        requires { count ≤ self.now.at }
-        ensures { result.now ≡ skipped self.now count }
-    {
-        &self.bytes[self.at - count..self.at]
-    }
-
     /// Passes over bytes.
     pub(crate) fn skip(&mut self, count: usize)
         requires { count ≤ length (content self.old) }
-        ensures left { content self.new ≡ drop count (content self.old) }
-        ensures skipped { skipped self.new count ≡ take count (content self.old) }
-        ensures room { count ≤ self.new.at }
+        ensures { content self.new ≡ drop count (content self.old) }
     {
         self.at += count;
     }

@@ -33,9 +33,10 @@ fn feed(
     ensures { OnOk result (IsReady assembler.new) }
 {
     assembler.feed(packet);
-    while let Some(section) = assembler.next() {
+    for section in assembler.sections() {
         sections.push(Vec::from_slice(alloc, section)?)?;
     }
+    assembler.pass_over();
     Ok(())
 }
 

@@ -6,13 +6,14 @@ use Rattle.std.proofs.lemmas.Bool.{le-ltb, le-leb, eq-eqb, eqb-true}
 use Rattle.std.proofs.lemmas.List.{length-drop, length-take, length-append, take_at, drop_at, take-append-drop, drop-append-le}
 use Rattle.byteorder.specs.Endian.{big_bytes}
 use Rattle.psi_section.specs.Sections.{section_length, has_syntax}
-use Rattle.psi_section.specs.Laws.{AreBytes}
-use Rattle.psi_tables.specs.Numbers.{number16_at, number32_at}
+use Rattle.wire_fields.specs.Numbers.{AreBytes}
+use Rattle.wire_fields.specs.Numbers.{number16_at, number32_at}
 use Rattle.psi_tables.specs.Sections.{is_table, has_size, before_crc, is_current}
 use Rattle.psi_tables.specs.Runs.{run_of, things_of}
 use Rattle.psi_tables.specs.Association.{IsPair, pair_bytes, pair_at, Association, IsAssociation, pat_section, pairs_in, association_of, pat_fills, pat_fault, pat}
 use Rattle.psi_tables.proofs.Chains.{both_are, unless}
-use Rattle.psi_tables.proofs.Cells.{AreBytes-drop, AreBytes-take, field16, field32, one_at, two_at, four_at, number16_fits, number32_fits, length_is, syntax_is}
+use Rattle.wire_fields.proofs.Cells.{AreBytes-drop, AreBytes-take, field16, field32, one_at, two_at, four_at, number16_fits, number32_fits}
+use Rattle.psi_tables.proofs.SectionLemmas.{length_is, syntax_is}
 use Rattle.psi_tables.proofs.RunLemmas.{Spelled, things_spelled, things_back, fills_back}
 use Rattle.psi_tables.proofs.PairLemmas.{pair_shortens, pair_fits, pair_back}
 use Rattle.psi_tables.proofs.AssociationLemmas.{IsPat}

@@ -5,11 +5,12 @@ use Rattle.std.specs.List.{list_any}
 use Rattle.std.proofs.lemmas.Bool.{le-ltb, lt-ltb}
 use Rattle.std.proofs.lemmas.Grind.{flat_map-append}
 use Rattle.psi_tables.specs.declared.cue.TooLong.{TooLong}
-use Rattle.psi_section.specs.Laws.{AreBytes}
+use Rattle.wire_fields.specs.Numbers.{AreBytes}
 use Rattle.psi_tables.specs.Descriptors.{Descriptor, cue_registration, descriptor_bytes, without_registration}
 use Rattle.psi_tables.specs.Streams.{Entry, entry_bytes}
 use Rattle.psi_tables.specs.ProgramMap.{ProgramMap, map_length, body_with, pmt_section, descriptors_bytes, entries_bytes, info_in, entries_in, map_of, pmt_fault}
-use Rattle.psi_tables.specs.Cue.{cue_entry, closed, sealed, with_cue_entry, lists_pid, without_pid, without_cue_entry, section_or_too_long}
+use Rattle.psi_section.specs.Crc.{closed}
+use Rattle.psi_tables.specs.Cue.{cue_entry, sealed, with_cue_entry, lists_pid, without_pid, without_cue_entry, section_or_too_long}
 use Rattle.psi_tables.proofs.MapLemmas.{faultless}
 use Rattle.psi_tables.proofs.MapGrammar.{loops_of_map}
 

@@ -4,7 +4,7 @@ use Rattle.std.specs.Prelude.{nat_lt, ◌==◌, ◌&&◌, if◌then◌else◌, i
 use Rattle.std.proofs.lemmas.Bool.{ltb-false, le-ltb}
 use Rattle.std.proofs.lemmas.List.{length-drop, length-take, length-append, take_at, drop_at, take-append-drop, drop-drop, append-nil}
 use Rattle.std.proofs.lemmas.Option.{some_pair_parts}
-use Rattle.psi_section.specs.Laws.{AreBytes}
+use Rattle.wire_fields.specs.Numbers.{AreBytes}
 use Rattle.psi_tables.specs.Runs.{run_of, things_of}
 use Rattle.psi_tables.specs.Descriptors.{Descriptor, IsDescriptor, descriptor_bytes, descriptor_at, shown_descriptor, registers_cues, without_registration}
 use Rattle.psi_tables.specs.ProgramMap.{descriptors_bytes}

@@ -9,11 +9,11 @@ use Rattle.byteorder.specs.Endian.{big_bytes}
 use Rattle.psi_tables.specs.declared.stream.Stream.{Stream}
 use Rattle.psi_tables.specs.Runs.{run_of, things_of}
 use Rattle.psi_tables.specs.Streams.{Entry, IsEntry, entry_bytes, entry_at, entry_size, front_entry, stream_of, shown_entry}
-use Rattle.psi_section.specs.Laws.{AreBytes}
-use Rattle.psi_tables.specs.Numbers.{number16_at}
+use Rattle.wire_fields.specs.Numbers.{AreBytes}
+use Rattle.wire_fields.specs.Numbers.{number16_at}
 use Rattle.psi_tables.specs.ProgramMap.{entries_bytes}
 use Rattle.psi_tables.specs.Cue.{lists_pid, without_pid}
-use Rattle.psi_tables.proofs.Cells.{AreBytes-drop, field16, one_at, two_at, number16_fits}
+use Rattle.wire_fields.proofs.Cells.{AreBytes-drop, field16, one_at, two_at, number16_fits}
 use Rattle.psi_tables.proofs.RunLemmas.{Shortens, Taken, things_more, things_ended, fills_more, fills_ends, fills_done}
 
 abbrev split_entry : List ℕ → Entry × List ℕ

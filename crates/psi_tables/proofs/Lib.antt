@@ -1,5 +1,5 @@
 pub mod Chains
-pub mod Cells
+pub mod SectionLemmas
 pub mod RunLemmas
 pub mod DescriptorLemmas
 pub mod EntryLemmas
@@ -10,6 +10,5 @@ pub mod SwitchedLemmas
 pub mod MapGrammar
 pub mod CueLemmas
 pub mod AssociationGrammar
-pub mod SealLemmas
 pub mod UndoLemmas
 pub mod ReadBackLemmas

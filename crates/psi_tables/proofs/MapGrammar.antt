@@ -6,15 +6,16 @@ use Rattle.std.proofs.lemmas.List.{length-drop, length-take, length-append, take
 use Rattle.byteorder.specs.Endian.{big_bytes}
 use Rattle.psi_tables.specs.declared.fault.TableFault.{TableFault}
 use Rattle.psi_section.specs.Sections.{section_length, has_syntax}
-use Rattle.psi_section.specs.Laws.{AreBytes}
-use Rattle.psi_tables.specs.Numbers.{number16_at, number32_at}
+use Rattle.wire_fields.specs.Numbers.{AreBytes}
+use Rattle.wire_fields.specs.Numbers.{number16_at, number32_at}
 use Rattle.psi_tables.specs.Sections.{is_table, has_size, before_crc}
 use Rattle.psi_tables.specs.Runs.{run_of, things_of}
 use Rattle.psi_tables.specs.Descriptors.{IsDescriptor, descriptor_bytes, descriptor_at}
 use Rattle.psi_tables.specs.Streams.{IsEntry, entry_bytes, entry_at}
 use Rattle.psi_tables.specs.ProgramMap.{ProgramMap, IsProgramMap, map_length, body_with, map_body, pmt_section, descriptors_bytes, entries_bytes, info_length, info_in, entries_in, map_of, pmt_fills, pmt_fault, pmt}
 use Rattle.psi_tables.proofs.Chains.{both_are}
-use Rattle.psi_tables.proofs.Cells.{AreBytes-drop, AreBytes-take, field16, field32, one_at, two_at, four_at, number16_fits, number32_fits, length_is, syntax_is}
+use Rattle.wire_fields.proofs.Cells.{AreBytes-drop, AreBytes-take, field16, field32, one_at, two_at, four_at, number16_fits, number32_fits}
+use Rattle.psi_tables.proofs.SectionLemmas.{length_is, syntax_is}
 use Rattle.psi_tables.proofs.RunLemmas.{Spelled, things_spelled, things_back, fills_back}
 use Rattle.psi_tables.proofs.DescriptorLemmas.{descriptor_shortens, descriptor_fits, descriptor_back}
 use Rattle.psi_tables.proofs.EntryLemmas.{entry_shortens, entry_fits, entry_back}

@@ -5,9 +5,9 @@ use Rattle.std.proofs.lemmas.Bool.{ltb-false, le-ltb, lt-ltb}
 use Rattle.std.proofs.lemmas.List.{length-drop}
 use Rattle.std.proofs.lemmas.Option.{some_pair_parts}
 use Rattle.byteorder.specs.Endian.{big_bytes}
-use Rattle.psi_section.specs.Laws.{AreBytes}
-use Rattle.psi_tables.specs.Numbers.{number16_at}
-use Rattle.psi_tables.proofs.Cells.{field16, two_at, number16_fits}
+use Rattle.wire_fields.specs.Numbers.{AreBytes}
+use Rattle.wire_fields.specs.Numbers.{number16_at}
+use Rattle.wire_fields.proofs.Cells.{field16, two_at, number16_fits}
 use Rattle.psi_tables.specs.Runs.{run_of, things_of}
 use Rattle.psi_tables.specs.Association.{Pair, IsPair, pair_bytes, pair_at, shown_pair, pid_of_program, first_program_of}
 use Rattle.psi_tables.proofs.RunLemmas.{Shortens, Taken, things_more, things_ended, fills_more, fills_ends, fills_done}

@@ -1,14 +1,15 @@
 -- Tables that are read off a stream, and maps that are put on one.
-use Rattle.std.proofs.Common.{◌≡◌, ℕ, ◌+◌, ◌%◌, ◌/◌, ◌<◌, ◌≤◌, List, [], ◌∷◌, ◌++◌, Bool, true, false, not, ◌||◌, ◌==◌, refl, sym, ap, subst, ◌∙◌, arith, length, map, slice_index, if◌then◌else◌, Option, Some, None, Result, Ok, Err, length-append}
+use Rattle.std.proofs.Common.{◌≡◌, ℕ, ◌%◌, ◌/◌, ◌<◌, ◌≤◌, List, [], ◌∷◌, ◌++◌, Bool, true, false, ◌||◌, ◌==◌, refl, sym, ap, subst, ◌∙◌, arith, length, map, slice_index, if◌then◌else◌, Option, Some, None, Result, Ok, Err, length-append}
 use Rattle.std.specs.Prelude.{is_none, nat_lt}
-use Rattle.std.specs.List.{AllByRecursion, list_any, flat_map}
+use Rattle.std.specs.List.{AllByRecursion, list_any}
 use Rattle.std.proofs.lemmas.Bool.{eq-eqb, ltb-false}
 use Rattle.ts_packet.specs.Duplicates.{repeats}
 use Rattle.ts_packet.proofs.Cases.{by_test}
 use Rattle.psi_section.specs.Crc.{crc}
-use Rattle.psi_section.specs.Sections.{has_crc, section_length, sections_after}
+use Rattle.psi_section.specs.Sections.{has_crc, sections_after}
 use Rattle.psi_section.specs.Packetising.{first_packet, section_packets}
-use Rattle.psi_section.specs.Laws.{AreBytes, CanBeGiven, IsSound}
+use Rattle.wire_fields.specs.Numbers.{AreBytes}
+use Rattle.psi_section.specs.Laws.{CanBeGiven, IsSound}
 use Rattle.psi_section.proofs.GivenLemmas.{sound, can}
 use Rattle.psi_section.proofs.ReadBackLemmas.{read_back}
 use Rattle.psi_tables.specs.declared.fault.TableFault.{TableFault}
@@ -16,9 +17,9 @@ use Rattle.psi_tables.specs.Sections.{or_fault}
 use Rattle.psi_tables.specs.Descriptors.{Descriptor, IsDescriptor, descriptor_bytes, cue_registration, registers_cues, without_registration}
 use Rattle.psi_tables.specs.Streams.{Entry, IsEntry, entry_bytes}
 use Rattle.psi_tables.specs.Association.{Association, IsAssociation, pat, pat_fault, association_of, pat_section}
-use Rattle.psi_tables.specs.ProgramMap.{ProgramMap, IsProgramMap, size_of, map_length, descriptors_bytes, entries_bytes, body_with, map_body, pmt, pmt_fault, map_of, pmt_section}
+use Rattle.psi_tables.specs.ProgramMap.{ProgramMap, IsProgramMap, size_of, descriptors_bytes, entries_bytes, pmt, pmt_fault, map_of, pmt_section}
 use Rattle.psi_tables.specs.declared.cue.TooLong.{TooLong}
-use Rattle.psi_tables.specs.Cue.{ReadsAs, section_or_too_long, cue_entry, sealed, with_cue_entry, lists_pid, without_pid, without_cue_entry}
+use Rattle.psi_tables.specs.Cue.{ReadsAs, section_or_too_long, cue_entry, with_cue_entry, lists_pid, without_pid, without_cue_entry}
 use Rattle.psi_tables.specs.Laws.{MapsReadBack}
 use Rattle.psi_tables.proofs.MapLemmas.{IsPmt, faultless}
 use Rattle.psi_tables.proofs.MapGrammar.{map_back, map_spelled, map_fits}

@@ -5,8 +5,8 @@ use Rattle.std.specs.Option.{option_map_or, option_and_then}
 use Rattle.std.specs.List.{flat_map, AllByRecursion}
 use Rattle.std.proofs.lemmas.List.{drop_at}
 use Rattle.std.proofs.lemmas.List.Concat.{flat_map-cons}
-use Rattle.psi_section.specs.Laws.{AreBytes}
-use Rattle.psi_tables.proofs.Cells.{AreBytes-drop}
+use Rattle.wire_fields.specs.Numbers.{AreBytes}
+use Rattle.wire_fields.proofs.Cells.{AreBytes-drop}
 use Rattle.psi_tables.specs.Runs.{run_within, run_of, things_within, things_of}
 
 module _ {A : Type 0} (at : List ℕ → Option (A × List ℕ)) where

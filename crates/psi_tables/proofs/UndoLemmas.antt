@@ -12,7 +12,8 @@ use Rattle.psi_tables.specs.Streams.{Entry}
 use Rattle.psi_tables.specs.ProgramMap.{ProgramMap, IsProgramMap, body_with, map_body, pmt_section}
 use Rattle.psi_tables.specs.Cue.{cue_entry, sealed, with_cue_entry, lists_pid, without_pid, without_cue_entry}
 use Rattle.psi_tables.specs.Laws.{WrittenMapsCheck}
-use Rattle.psi_tables.proofs.SealLemmas.{crc_closes, crc_alone_closes}
+use Rattle.psi_section.proofs.CrcLemmas.{crc_closed}
+use Rattle.psi_section.proofs.SealLemmas.{crc_alone_closes}
 
 registration_registers : registers_cues (descriptor_bytes cue_registration) ≡ true
 unfolding registers_cues
@@ -60,7 +61,7 @@ undone m pid below fits right none = undone_by m pid below (crc_alone_closes (ma
 
 sealed_checks : (m : ProgramMap) → crc (pmt_section (sealed m)) ≡ 0
 unfolding body_with
-sealed_checks m = crc_closes (map_body m)
+sealed_checks m = crc_closed (map_body m)
 
 pub checks : WrittenMapsCheck
 unfolding with_cue_entry without_cue_entry

@@ -5,8 +5,8 @@ use Rattle.std.specs.Borrow.{Bor}
 use Rattle.byteorder.specs.Endian.{big_bytes}
 use Rattle.psi_tables.specs.declared.fault.TableFault.{TableFault}
 use Rattle.psi_tables.specs.declared.fault.TableFault.TheVariants.{WrongTable, BadLength, Sections}
-use Rattle.psi_tables.specs.Numbers.{number16_at, number32_at, length_field}
-use Rattle.psi_tables.specs.Sections.{is_table, has_size, before_crc, is_current, or_fault}
+use Rattle.wire_fields.specs.Numbers.{number16_at, number32_at}
+use Rattle.psi_tables.specs.Sections.{length_field, is_table, has_size, before_crc, is_current, or_fault}
 use Rattle.psi_tables.specs.Runs.{run_of, things_of}
 use Rattle.psi_tables.specs.Streams.{pid_in}
 
@@ -105,6 +105,6 @@ pat bytes = or_fault (pat_fault bytes) (association_of bytes)
 abbrev pub pid_of_program : ℕ → List Pair → Option ℕ
 pid_of_program number pairs = option_map (λ p. pid_in p.pid_field) (find (λ p. p.number == number) pairs)
 
--- the first programme and its PID: number 0 is none, its PID is that of the network information
+-- the first program and its PID: number 0 is none, its PID is that of the network information
 abbrev pub first_program_of : List Pair → Option (ℕ × ℕ)
 first_program_of pairs = option_map (λ p. (p.number, pid_in p.pid_field)) (find (λ p. not (p.number == 0)) pairs)

@@ -1,9 +1,8 @@
--- The entry by which a program map lists a stream of cues (SCTE 35): stream_type 0x86, and in the programme's descriptors the
+-- The entry by which a program map lists a stream of cues (SCTE 35): stream_type 0x86, and in the program's descriptors the
 -- registration descriptor of `CUEI`.
 use Rattle.std.specs.Prelude.{◌≡◌, ℕ, ◌+◌, List, [], ◌∷◌, ◌++◌, Bool, not, ◌==◌, nat_lt, if◌then◌else◌, Result, Ok, Err}
 use Rattle.std.specs.List.{filter, list_any}
 use Rattle.arrayvec.specs.ArrayVec.{ArrayVec}
-use Rattle.byteorder.specs.Endian.{big_bytes}
 use Rattle.psi_section.specs.Crc.{crc}
 use Rattle.psi_section.specs.Laws.{CanBeGiven}
 use Rattle.psi_tables.specs.declared.cue.TooLong.{TooLong}
@@ -14,10 +13,6 @@ use Rattle.psi_tables.specs.ProgramMap.{ProgramMap, map_body, size_of, pmt, pmt_
 -- a stream of cues on this PID, without descriptors; reserved bits are ones
 abbrev pub cue_entry : ℕ → Entry
 cue_entry pid = record { kind = 134; pid_field = 57344 + pid; info_flags = 15; info = [] }
-
--- bytes with their CRC_32 behind them
-abbrev pub closed : List ℕ → List ℕ
-closed body = body ++ big_bytes 4 (crc body)
 
 -- with the CRC_32 of its other bytes
 abbrev pub sealed : ProgramMap → ProgramMap

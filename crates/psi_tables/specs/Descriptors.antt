@@ -1,4 +1,4 @@
--- The descriptors of a programme (ISO/IEC 13818-1, 2.6): of each descriptor_tag, descriptor_length and the data.
+-- The descriptors of a program (ISO/IEC 13818-1, 2.6): of each descriptor_tag, descriptor_length and the data.
 use Rattle.std.specs.Prelude.{ℕ, ◌+◌, ◌<◌, List, [], ◌∷◌, length, take, drop, Bool, slice_index, nat_lt, ◌==◌, ◌&&◌, if◌then◌else◌, Option, Some, None}
 use Rattle.std.specs.Borrow.{Bor}
 
@@ -27,7 +27,7 @@ taken_descriptor t = (t.0.now, t.1.now)
 abbrev pub shown_descriptor : List ℕ → Descriptor × List ℕ → List ℕ × List ℕ
 shown_descriptor bytes d = (take (2 + slice_index bytes 1) bytes, d.1)
 
--- the registration descriptor of programmes with cues (SCTE 35): tag 5, format_identifier `CUEI`
+-- the registration descriptor of programs with cues (SCTE 35): tag 5, format_identifier `CUEI`
 abbrev pub cue_registration : Descriptor
 cue_registration = record { tag = 5; body = 67 ∷ 85 ∷ 69 ∷ 73 ∷ [] }
 

@@ -1,12 +1,12 @@
 -- What holds of every map.
-use Rattle.std.specs.Prelude.{◌≡◌, ℕ, ◌<◌, ◌≤◌, List, [], ◌∷◌, map, false, Result, Ok}
+use Rattle.std.specs.Prelude.{◌≡◌, ℕ, ◌<◌, ◌≤◌, List, [], ◌∷◌, map, false, Ok}
 use Rattle.std.specs.List.{list_any}
 use Rattle.ts_packet.specs.Duplicates.{repeats}
 use Rattle.psi_section.specs.Crc.{crc}
 use Rattle.psi_section.specs.Sections.{sections_after}
 use Rattle.psi_section.specs.Packetising.{first_packet, section_packets}
-use Rattle.psi_section.specs.Laws.{AreBytes, CanBeGiven}
-use Rattle.psi_tables.specs.declared.fault.TableFault.{TableFault}
+use Rattle.wire_fields.specs.Numbers.{AreBytes}
+use Rattle.psi_section.specs.Laws.{CanBeGiven}
 use Rattle.psi_tables.specs.Association.{Association, IsAssociation, pat, pat_section}
 use Rattle.psi_tables.specs.ProgramMap.{ProgramMap, IsProgramMap, size_of, pmt, pmt_section}
 use Rattle.psi_tables.specs.Cue.{ReadsAs, with_cue_entry, without_cue_entry, lists_pid}

@@ -5,8 +5,8 @@ use Rattle.byteorder.specs.Endian.{big_bytes}
 use Rattle.psi_tables.specs.declared.fault.TableFault.{TableFault}
 use Rattle.psi_tables.specs.declared.fault.TableFault.TheVariants.{WrongTable, BadLength}
 use Rattle.psi_tables.specs.declared.stream.Stream.{Stream}
-use Rattle.psi_tables.specs.Numbers.{number16_at, number32_at, length_field}
-use Rattle.psi_tables.specs.Sections.{is_table, has_size, before_crc, or_fault}
+use Rattle.wire_fields.specs.Numbers.{number16_at, number32_at}
+use Rattle.psi_tables.specs.Sections.{length_field, is_table, has_size, before_crc, or_fault}
 use Rattle.psi_tables.specs.Runs.{run_of, things_of}
 use Rattle.psi_tables.specs.Descriptors.{Descriptor, IsDescriptor, descriptor_bytes, descriptor_at}
 use Rattle.psi_tables.specs.Streams.{Entry, IsEntry, entry_bytes, entry_at, stream_of}
@@ -73,7 +73,7 @@ pub record IsProgramMap (m : ProgramMap) : Type 0 where
 abbrev pub info_length : List ℕ → ℕ
 info_length bytes = number16_at bytes 10 % 4096
 
--- where the programme's descriptors stand, and its entries
+-- where the program's descriptors stand, and its entries
 abbrev pub info_in : List ℕ → List ℕ
 info_in bytes = take (info_length bytes) (drop 12 (before_crc bytes))
 

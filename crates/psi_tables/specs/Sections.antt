@@ -1,7 +1,12 @@
 -- What the sections of all tables have in common (ISO/IEC 13818-1, 2.4.4.3, 2.4.4.8).
-use Rattle.std.specs.Prelude.{ℕ, ◌+◌, ◌-◌, ◌%◌, List, length, take, Bool, slice_index, nat_le, ◌==◌, ◌&&◌, Option, Some, None, Result, Ok, Err}
+use Rattle.std.specs.Prelude.{ℕ, ◌+◌, ◌-◌, ◌*◌, ◌%◌, List, length, take, Bool, slice_index, nat_le, ◌==◌, ◌&&◌, Option, Some, None, Result, Ok, Err}
+use Rattle.byteorder.specs.Endian.{big_bytes}
 use Rattle.psi_tables.specs.declared.fault.TableFault.{TableFault}
 use Rattle.psi_section.specs.Sections.{section_length, has_syntax}
+
+-- a length of 12 bits behind four others
+abbrev pub length_field : ℕ → ℕ → List ℕ
+length_field flags size = big_bytes 2 (flags * 4096 + size)
 
 -- table_id, and section_syntax_indicator 1
 abbrev pub is_table : ℕ → List ℕ → Bool

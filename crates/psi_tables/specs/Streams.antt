@@ -4,7 +4,8 @@ use Rattle.std.specs.List.{filter}
 use Rattle.std.specs.Borrow.{Bor}
 use Rattle.arrayvec.specs.ArrayVec.{ArrayVec}
 use Rattle.byteorder.specs.Endian.{big_bytes}
-use Rattle.psi_tables.specs.Numbers.{number16_at, length_field}
+use Rattle.wire_fields.specs.Numbers.{number16_at}
+use Rattle.psi_tables.specs.Sections.{length_field}
 use Rattle.psi_tables.specs.declared.fault.TooManyStreams.{TooManyStreams}
 use Rattle.psi_tables.specs.declared.stream.Stream.{Stream}
 

@@ -9,10 +9,11 @@ ghost use Rattle.psi_tables.specs.Cue.{ReadsAs, cue_entry, with_cue_entry, witho
 use crate::descriptors::{CUE_REGISTRATION, before_registration};
 use crate::pmt::{Pmt, loops};
 use crate::stream::entries_without;
-use crate::writing::{Section, map_with, put};
+use crate::writing::{Section, map_with};
 use arrayvec::ArrayVec;
 use thiserror::Error;
 use ts_packet::Pid;
+use wire_fields::put;
 
 /// A program map has no room for the entry: `section_length` would be over 1021.
 #[derive(Clone, Copy, Debug, PartialEq, Eq, Drop, Error)]
@@ -59,8 +60,9 @@ fn with_entry(map: &[u8], pid: Pid) -> Result<Section, TooLong>
     Ok(map_with(map, info.as_slice(), entries.as_slice()))
 }
 
-/// The map with an entry for cues on this PID behind its own and the registration descriptor behind the programme's own, and its
-/// `CRC_32` computed again; the version stays. `TooLong` exactly where `section_length`, which grows by 11, would be over 1021.
+/// The map with an entry for cues on this PID as its last, and the registration descriptor as the last of the program's
+/// descriptors. `CRC_32` is computed again, and the version stays. `TooLong` exactly where `section_length`, which grows by 11,
+/// would be over 1021.
 pub fn add_cue(pmt: &Pmt<'_>, pid: Pid) -> Result<Section, TooLong>
     ensures exact { seen_section result ≡ section_or_too_long (with_cue_entry pid (map_of pmt.now.bytes.now)) }
 
@@ -85,8 +87,8 @@ fn without_entry(map: &[u8], pid: Pid) -> Section
     map_with(map, info.as_slice(), entries.as_slice())
 }
 
-/// The map without its entries for this PID and, where there was one and the programme's last descriptor is the registration
-/// descriptor, without that; its `CRC_32` is computed again, and the version stays.
+/// The map without its entries for this PID. Where it had one, and the program's last descriptor is the registration descriptor,
+/// that goes too. `CRC_32` is computed again, and the version stays.
 pub fn strip_cue(pmt: &Pmt<'_>, pid: Pid) -> Section
     ensures exact { result.items ≡ pmt_section (without_cue_entry pid (map_of pmt.now.bytes.now)) }
     ensures reads { ReadsAs (without_cue_entry pid (map_of pmt.now.bytes.now)) result.items }

@@ -1,14 +1,15 @@
-//! The descriptors of a programme.
+//! The descriptors of a program.
 
 ghost use Rattle.std.specs.Prelude.{◌≡◌, ◌≤◌, length, is_some, true, option_map, ◌==◌, ◌&&◌};
 ghost use Rattle.psi_tables.specs.Runs.{run_of, things_of};
 ghost use Rattle.psi_tables.specs.Descriptors.{taken_descriptor, shown_descriptor, descriptor_at, registers_cues, without_registration};
 ghost use Rattle.psi_tables.specs.ProgramMap.{descriptors_bytes};
 
-use crate::writing::{Section, put};
+use crate::writing::Section;
 use arrayvec::ArrayVec;
+use wire_fields::put;
 
-/// The registration descriptor of programmes with cues.
+/// The registration descriptor of programs with cues.
 pub const CUE_REGISTRATION: [u8; 6] = [5, 4, b'C', b'U', b'E', b'I'];
 
 /// The first descriptor's own bytes and those behind it.

@@ -2,15 +2,15 @@
 
 use thiserror::Error;
 
-/// Why some bytes are no program association or program map section. Where several apply, the first of this list is told, but
-/// that fewer than three bytes are always `BadLength`.
+/// Why some bytes are no program association or program map section. Where several apply, the first of this list is told,
+/// except that fewer than three bytes are always `BadLength`.
 #[derive(Clone, Copy, Debug, PartialEq, Eq, Drop, Error)]
 pub enum TableFault {
     /// Another `table_id`, or `section_syntax_indicator` 0.
     #[error("another table")]
     WrongTable,
-    /// `section_length` is over 1021 or is not that of the bytes, these are too short for the fixed fields and `CRC_32`, or
-    /// what the section lists does not fill it exactly.
+    /// `section_length` is over 1021 or does not count the bytes behind it, the bytes are too few for the fixed fields and `CRC_32`,
+    /// or what the section lists does not fill it exactly.
     #[error("a section of a wrong length")]
     BadLength,
     /// A program association section that applies now is not the last of its table: `last_section_number` is not 0.

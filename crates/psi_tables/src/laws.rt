@@ -27,7 +27,7 @@ pub fn written_maps_read_back()
     ensures { WrittenMapsReadBack }
 {}
 
-/// A map that is put in packets is read back as that map, whatever the packets before them.
+/// A map that is put into packets is read back as that map, whatever packets came before.
 pub fn put_maps_read_back()
     ensures { PutMapsReadBack }
 {}

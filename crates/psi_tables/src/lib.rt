@@ -1,6 +1,7 @@
 //! Program association and program map sections of ISO/IEC 13818-1 (2.4.4.3, 2.4.4.8): read where they lie, and the entry of a
-//! cue stream (SCTE 35) added and taken out again. It stands on `psi_section` (`crc`) and `ts_packet` (`Pid`), and takes no memory.
-//! The crates above use one contract of it: a table is read exactly by its grammar, and what is written is one spelling of it.
+//! cue stream (SCTE 35) added and taken out again. It stands on `psi_section` (`seal`), `ts_packet` (`Pid`) and `wire_fields`, and
+//! takes no memory.
+//! The crates above use one contract of it: a table is read exactly as its grammar says, and what is written spells one table.
 #![tactic(auto)]
 
 mod config;
@@ -8,11 +9,11 @@ mod cue;
 mod descriptors;
 mod entries;
 mod fault;
-mod fields;
 pub mod laws;
 mod network;
 mod pat;
 mod pmt;
+mod section;
 mod stream;
 mod writing;
 

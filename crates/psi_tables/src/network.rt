@@ -15,16 +15,16 @@ pub enum NetworkFault {
     /// A packet of a switched stream has scrambling bits.
     #[error("a switched stream is scrambled")]
     Scrambled,
-    /// The programme got another PMT PID, another list of switched streams or another PCR PID, or is listed no more.
-    #[error("the programme has changed")]
+    /// The program got another PMT PID, another list of switched streams or another PCR PID, or is listed no more.
+    #[error("the program has changed")]
     ProgramChanged,
-    /// The programme has more than eight switched streams.
+    /// The program has more than eight switched streams.
     #[error("more than eight switched streams")]
     TooManyStreams,
-    /// PIDs of the programme that can't be: reserved ones, or one that stands for two things.
-    #[error("the programme's PIDs can't be")]
+    /// The program has a PID that it can't have: a reserved one, or one that stands for two things.
+    #[error("the program has a PID that it can't have")]
     BadPids,
-    /// The programme's map has no room for the entry of the cues.
+    /// The program's map has no room for the entry of the cues.
     #[error("the program map has no room for the cue entry")]
     PmtTooLong,
     /// The PID that is to carry the cues is used for something else.
@@ -42,6 +42,6 @@ pub enum FeedFault {
     Network(NetworkFault),
     /// The sink did not take a packet.
     Sink(PutFault),
-    /// A fault was answered before.
+    /// A fault was answered before, and nothing is taken since.
     Failed,
 }

@@ -6,10 +6,11 @@ ghost use Rattle.psi_tables.specs.Sections.{is_current, seen_by};
 ghost use Rattle.psi_tables.specs.Association.{Association, IsAssociation, Pair, pair_at, taken_pair, shown_pair, pairs_in, pat, pat_fault, pat_fills, association_of, pat_section, pid_of_program, first_program_of};
 
 use crate::fault::TableFault;
-use crate::fields::{fits_its_size, from, is_of_table, number16, pid_at, up_to_crc};
+use crate::section::{fits_its_size, is_of_table, pid_at, up_to_crc};
 use ts_packet::Pid;
+use wire_fields::{bytes_from, number16};
 
-/// A program association section (ISO/IEC 13818-1, 2.4.4.3): which PID carries the map of each programme.
+/// A program association section (ISO/IEC 13818-1, 2.4.4.3): which PID carries the map of each program.
 #[derive(Clone, Copy, Debug)]
 pub struct Pat<'a> {
     /// The section, from `table_id` to `CRC_32`.
@@ -44,15 +45,15 @@ impl<'a> Pat<'a> {
         self.bytes[5] % 2 == 1
     }
 
-    /// The PID beside this `program_number`, where it first stands: that of the programme's map, or for number 0 that of the
-    /// network information.
+    /// The PID beside this `program_number`, where it first stands: that of the program's map, or for number 0 that of the
+    /// network information. `None` where the number is not listed.
     pub fn program(&self, number: u16) -> Option<Pid>
         ensures { result ≡ pid_of_program number (association_of self.now.bytes.now).pairs }
     {
         pid_beside(number, self.pairs())
     }
 
-    /// The first programme, which number 0 is none, and the PID of its map.
+    /// The number of the first program, and the PID of its map. Number 0 is that of no program.
     pub fn first_program(&self) -> Option<(u16, Pid)>
         ensures { result ≡ first_program_of (association_of self.now.bytes.now).pairs }
     {
@@ -62,7 +63,7 @@ impl<'a> Pat<'a> {
     fn pairs(&self) -> &[u8]
         ensures { result.now ≡ pairs_in self.now.bytes.now }
     {
-        from(up_to_crc(self.bytes), 8)
+        bytes_from(up_to_crc(self.bytes), 8)
     }
 }
 

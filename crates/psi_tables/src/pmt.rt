@@ -11,12 +11,13 @@ ghost use Rattle.psi_tables.specs.ProgramMap.{ProgramMap, IsProgramMap, pmt, pmt
 use crate::descriptors::descriptors_fill;
 use crate::entries::Entries;
 use crate::fault::{TableFault, TooManyStreams};
-use crate::fields::{fits_its_size, from, is_of_table, length12, number16, pid_at, up_to_crc};
+use crate::section::{fits_its_size, is_of_table, pid_at, up_to_crc};
 use crate::stream::{Stream, entries_fill, is_switched_kind};
 use arrayvec::ArrayVec;
 use ts_packet::Pid;
+use wire_fields::{bytes_from, number12, number16};
 
-/// A program map section (ISO/IEC 13818-1, 2.4.4.8): which streams make up a programme.
+/// A program map section (ISO/IEC 13818-1, 2.4.4.8): which streams make up a program.
 #[derive(Clone, Copy, Debug)]
 pub struct Pmt<'a> {
     /// The section, from `table_id` to `CRC_32`.
@@ -44,7 +45,7 @@ impl<'a> Pmt<'a> {
         }
     }
 
-    /// `program_number`: the programme that the map is of.
+    /// `program_number`: the program that the map is of.
     pub fn program(&self) -> u16
         ensures { result ≡ (map_of self.now.bytes.now).program }
     {
@@ -65,7 +66,7 @@ impl<'a> Pmt<'a> {
         (self.bytes[6], self.bytes[7])
     }
 
-    /// `PCR_PID`: where the programme's clock references are.
+    /// `PCR_PID`: where the program's clock references are.
     pub fn pcr_pid(&self) -> Pid
         ensures { result ≡ pid_in (map_of self.now.bytes.now).pcr_field }
     {
@@ -97,7 +98,7 @@ impl<'a> Pmt<'a> {
         Ok(streams)
     }
 
-    /// Whether the switched streams, no more than eight, are these in this order, and the PCR PID is this one.
+    /// Whether the switched streams are these in this order, eight at most, and the PCR PID is this one.
     pub fn same_streams(&self, streams: &[Stream], pcr: Pid) -> bool
         ensures { IsTrue result ↔ (few_switched (streams_of (map_of self.now.bytes.now)) ≡ Ok streams.now)
             × (pid_in (map_of self.now.bytes.now).pcr_field ≡ pcr) }
@@ -131,14 +132,14 @@ fn fault_of(bytes: &[u8]) -> Option<TableFault>
     None
 }
 
-/// The programme's descriptors and the entries.
+/// The program's descriptors and the entries.
 pub fn loops(bytes: &[u8]) -> (&[u8], &[u8])
     requires { 16 + info_length bytes.now ≤ length bytes.now }
     ensures info { result.0.now ≡ info_in bytes.now }
     ensures entries { result.1.now ≡ entries_in bytes.now }
 {
-    let size = length12(bytes, 10);
-    from(up_to_crc(bytes), 12).split_at(size)
+    let size = number12(bytes, 10) as usize;
+    bytes_from(up_to_crc(bytes), 12).split_at(size)
 }
 
 #[tactic(auto, unfolding(crate::specs::ProgramMap::pmt_fills))]
@@ -146,7 +147,7 @@ fn fills(bytes: &[u8]) -> bool
     requires { 3 ≤ length bytes.now }
     ensures { result ≡ pmt_fills bytes.now }
 {
-    if !fits_its_size(16, bytes) || bytes.len() < 16 + length12(bytes, 10) {
+    if !fits_its_size(16, bytes) || bytes.len() < 16 + number12(bytes, 10) as usize {
         return false;
     }
     let (info, entries) = loops(bytes);

@@ -7,10 +7,11 @@ ghost use Rattle.psi_tables.specs.Streams.{entry_at, taken_entry, shown_entry, i
 ghost use Rattle.psi_tables.specs.ProgramMap.{entries_bytes};
 ghost use Rattle.psi_tables.specs.Cue.{lists_pid, without_pid};
 
-use crate::fields::{length12, pid_at};
-use crate::writing::{Section, put};
+use crate::section::pid_at;
+use crate::writing::Section;
 use arrayvec::ArrayVec;
 use ts_packet::Pid;
+use wire_fields::{number12, put};
 
 /// A stream that a program map lists.
 #[derive(Clone, Copy, Debug, PartialEq, Eq)]
@@ -41,7 +42,7 @@ pub fn first_entry(bytes: &[u8]) -> Option<(Stream, &[u8], &[u8])>
     if bytes.len() < 5 {
         return None;
     }
-    let size = 5 + length12(bytes, 3);
+    let size = 5 + number12(bytes, 3) as usize;
     if bytes.len() < size {
         return None;
     }

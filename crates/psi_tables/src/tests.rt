@@ -317,7 +317,7 @@ fn refuses_an_entry_past_1021(rt: HostRuntime) -> Result<(), Fail> {
 }
 
 #[test]
-fn finds_programmes_and_streams(rt: HostRuntime) -> Result<(), Fail> {
+fn finds_programs_and_streams(rt: HostRuntime) -> Result<(), Fail> {
     let bytes = [
         0, 0xB0, 0x15, 0, 1, 0xC1, 0, 0, 0, 0, 0xE0, 0x10, 0, 2, 0xE0, 0x20, 0, 2, 0xE0, 0x21, 0,
         0, 0, 0,

@@ -1,45 +1,15 @@
 //! Sections that are written.
 
 ghost use Rattle.std.specs.Prelude.{◌≡◌, ◌+◌, ◌<◌, ◌≤◌, ◌++◌, length};
-ghost use Rattle.arrayvec.specs.ArrayVec.{array_vec_len};
-ghost use Rattle.byteorder.specs.Endian.{big_bytes};
 ghost use Rattle.psi_tables.specs.ProgramMap.{map_of, map_length, body_with};
-ghost use Rattle.psi_tables.specs.Cue.{closed};
+ghost use Rattle.psi_section.specs.Crc.{closed};
 
-use crate::fields::number16;
 use arrayvec::ArrayVec;
-use byteorder::{BigEndian, ByteOrder};
-use psi_section::crc;
+use psi_section::seal;
+use wire_fields::{number16, put, put_number16};
 
 /// A section that was written, at most 1,024 bytes.
 pub type Section = ArrayVec<u8, 1024>;
-
-pub fn put(out: &mut Section, bytes: &[u8])
-    requires { array_vec_len out.old + length bytes.now ≤ 1024 }
-    ensures { out.new.items ≡ out.old.items ++ bytes.now }
-{
-    out.try_extend_from_slice(bytes).unwrap();
-}
-
-fn put_number(out: &mut Section, number: u16)
-    requires { array_vec_len out.old + 2 ≤ 1024 }
-    ensures { out.new.items ≡ out.old.items ++ big_bytes 2 number }
-{
-    let mut bytes = [0; 2];
-    BigEndian::write_u16(&mut bytes, number);
-    put(out, &bytes);
-}
-
-/// Puts the bytes' `CRC_32` behind them.
-fn seal(out: &mut Section)
-    requires { array_vec_len out.old + 4 ≤ 1024 }
-    ensures { out.new.items ≡ closed out.old.items }
-{
-    let remainder = crc(out.as_slice());
-    let mut bytes = [0; 4];
-    BigEndian::write_u32(&mut bytes, remainder);
-    put(out, &bytes);
-}
 
 /// The bytes before `CRC_32` of a map's section with these descriptors and entries in place of its own.
 fn body_of(map: &[u8], info: &[u8], entries: &[u8]) -> Section
@@ -50,14 +20,14 @@ fn body_of(map: &[u8], info: &[u8], entries: &[u8]) -> Section
 {
     let mut out = ArrayVec::new();
     put(&mut out, &[2]);
-    put_number(
+    put_number16(
         &mut out,
         number16(map, 1) / 4096 * 4096 + (13 + info.len() + entries.len()) as u16,
     );
-    put_number(&mut out, number16(map, 3));
+    put_number16(&mut out, number16(map, 3));
     put(&mut out, &[map[5], map[6], map[7]]);
-    put_number(&mut out, number16(map, 8));
-    put_number(
+    put_number16(&mut out, number16(map, 8));
+    put_number16(
         &mut out,
         number16(map, 10) / 4096 * 4096 + info.len() as u16,
     );

@@ -9,12 +9,12 @@ use wire_fields::number16;
 /// How far the message at the front of some bytes has come.
 #[derive(Clone, Copy, Debug, PartialEq, Eq)]
 pub enum Frame {
-    /// The message isn't whole: at least this many bytes are wanted before more can be said. Below four bytes,
-    /// which end with the size, it is what is missing of these four.
+    /// The message isn't whole, and lacks at least this many bytes. The size stands in the third and fourth byte: before these are
+    /// there, the number is what is missing of the four.
     NeedMore(usize),
     /// The message is whole, and has this size in bytes. Others may stand behind it.
     Whole(usize),
-    /// The size that the message states is less than any message of its kind has.
+    /// The message states a size that is below the least of its kind.
     BadSize,
 }
 

@@ -12,7 +12,7 @@ pub struct Head {
     pub as_index: u8,
     /// `message_number`, one byte, which the reply repeats.
     pub number: u8,
-    /// `DPI_PID_index`: which programme's cues are meant, two bytes.
+    /// `DPI_PID_index`: which program's cues are meant, two bytes.
     pub index: u16,
 }
 

@@ -1,13 +1,13 @@
-//! What holds of the grammar and of the readers of it, for every message.
+//! What holds of the grammar and of its readers, for every message.
 
 ghost use Rattle.scte104_codec.specs.Laws.{MessagesAreFramed, MessagesReadBack, RepliesReadBack, RequestsReadBack};
 
-/// A message that is spelled is cut where it ends, whatever follows it.
+/// A message of the grammar is cut where it ends, whatever follows it.
 pub fn messages_are_framed()
     ensures { MessagesAreFramed }
 {}
 
-/// What is spelled is read, with the fields that were spelled.
+/// A message of the grammar is read with the fields that it spells.
 pub fn messages_read_back()
     ensures { MessagesReadBack }
 {}
@@ -17,7 +17,7 @@ pub fn replies_read_back()
     ensures { RepliesReadBack }
 {}
 
-/// The data of a request for a break, and avail ids, that are spelled are read.
+/// The data of a request for a break, and a list of avail ids, are read with the fields that they spell.
 pub fn requests_read_back()
     ensures { RequestsReadBack }
 {}

@@ -12,7 +12,7 @@ use crate::multi::Multi;
 use crate::operation_ids::{ALIVE_REQUEST, INIT_REQUEST, MULTIPLE_OPERATION};
 use crate::operations::Operations;
 use thiserror::Error;
-use wire_fields::{behind, number16};
+use wire_fields::{bytes_from, number16};
 
 /// A message that was read. Its data lie in the bytes that it was read from.
 #[derive(Clone, Copy, Debug)]
@@ -27,8 +27,8 @@ pub enum Message<'a> {
     Multi(Multi<'a>),
 }
 
-/// A message that breaks the syntax: a `multiple_operation_message` without a time whose operations don't fill it
-/// exactly or have data of a wrong size, or an `alive_request` with more than 8 bytes of data.
+/// A message that breaks the syntax: a `multiple_operation_message` without a time whose operations don't fill it exactly, or
+/// have data of a wrong size; or an `alive_request` with more than 8 bytes of data.
 #[derive(Clone, Copy, Debug, PartialEq, Eq, Error)]
 #[error("a message that breaks the syntax")]
 pub struct BadMessage {
@@ -45,7 +45,7 @@ fn single_operation(bytes: &[u8]) -> Result<Message<'_>, BadMessage>
     ensures { reading_of result ≡ single_operation_of bytes.now }
 {
     let head = head_of(bytes, 9);
-    let data = behind(bytes, 13);
+    let data = bytes_from(bytes, 13);
     match number16(bytes, 0) {
         INIT_REQUEST => Ok(Message::Init(head)),
         ALIVE_REQUEST if data.len() <= 8 => Ok(Message::Alive(head, data)),
@@ -63,7 +63,7 @@ fn multiple_operation(bytes: &[u8]) -> Result<Message<'_>, BadMessage>
 {
     let head = head_of(bytes, 5);
     let time_kind = bytes[10];
-    let rest = behind(bytes, 12);
+    let rest = bytes_from(bytes, 12);
     let operations = if time_kind == 0 {
         Operations::all(bytes[11], rest)
     } else {

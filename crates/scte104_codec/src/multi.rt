@@ -24,7 +24,7 @@ pub struct Multi<'a> {
     pub version: u8,
     /// `SCTE35_protocol_version`.
     pub cue_version: u8,
-    /// `time_type` of `timestamp()`: 0 where the message has no time. A message with another isn't read past this
+    /// `time_type` of `timestamp()`: 0 where the message has no time. A message with another value isn't read past this
     /// field.
     pub time_kind: u8,
     /// The operations in order. None where the message has a time.
@@ -46,7 +46,7 @@ fn is_known_id(op: u16) -> bool
     )
 }
 
-/// Adds the ids behind those that are there. False where they don't fit.
+/// Adds the ids behind those that are there, and answers false where they don't fit.
 fn add_ids<const N: usize>(ids: &mut ArrayVec<u32, N>, more: AvailIds<'_>) -> bool
     requires { array_vec_len ids.old ≤ N }
     ensures fits { IsTrue result ↔ (array_vec_len ids.old + length (avail_ids_left more.entry) ≤ N) }
@@ -89,7 +89,7 @@ impl<'a> Multi<'a> {
         }
     }
 
-    /// The avail ids of all `insert_avail_descriptor`s, in order. `None` where they are more than `N`.
+    /// The avail ids of all `insert_avail_descriptor`s, in order. `None` where there are more than `N`.
     pub fn avail_ids<const N: usize>(&self) -> Option<ArrayVec<u32, N>>
         ensures all { IfSome result (λ ids. ids.items ≡ avail_ids (operations_left self.now.operations)) }
         ensures many { IsNone result ↔ (N < length (avail_ids (operations_left self.now.operations))) }

@@ -42,7 +42,7 @@ fn has_its_size(op: u16, body: &[u8]) -> bool
     }
 }
 
-/// Whether so many operations, each of the size that its kind has, fill the bytes exactly.
+/// Whether this many operations, each of the size that its `opID` has, fill the bytes exactly.
 fn fill(count: u8, bytes: &[u8]) -> bool
     ensures { result ≡ is_some (operations_in count bytes.now) }
 {

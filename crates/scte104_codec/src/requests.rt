@@ -3,7 +3,7 @@
 ghost use Rattle.std.specs.Prelude.{◌≡◌, ◌+◌, ◌*◌, Some, length, slice_index};
 ghost use Rattle.scte104_codec.specs.Requests.{splice_request_of, avail_ids_of};
 
-use wire_fields::{behind, number16, number32};
+use wire_fields::{bytes_from, number16, number32};
 
 /// `splice_request_data`, by its fields.
 #[derive(Clone, Copy, Debug, PartialEq, Eq)]
@@ -64,7 +64,7 @@ impl<'a> AvailIds<'a> {
     {
         AvailIds {
             count: bytes[0],
-            bytes: behind(bytes, 1),
+            bytes: bytes_from(bytes, 1),
         }
     }
 }
@@ -86,7 +86,7 @@ impl<'a> Iterator for AvailIds<'a> {
         }
         let id = number32(self.bytes, 0);
         self.count -= 1;
-        self.bytes = behind(self.bytes, 4);
+        self.bytes = bytes_from(self.bytes, 4);
         Some(id)
     }
 }

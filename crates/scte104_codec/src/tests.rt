@@ -214,7 +214,7 @@ fn reads_as_another_program_does(rt: HostRuntime) -> Result<(), Fail> {
     Ok(())
 }
 
-/// A message with one request: start of event 1, programme 7, 4 seconds ahead, 30 seconds long.
+/// A message with one request: start of event 1, program 7, 4 seconds ahead, 30 seconds long.
 const REQUEST: [u8; 30] = [
     0xFF, 0xFF, 0, 0x1E, 0, 0, 5, 0, 1, 0, 0, 1, 1, 1, 0, 0x0E, 1, 0, 0, 0, 1, 0, 7, 0x0F, 0xA0, 1,
     0x2C, 0, 0, 1,

@@ -18,7 +18,7 @@ use Rattle.scte35_codec.specs.Reading.{CueReading, cue_of}
 use Rattle.scte35_codec.specs.Spelling.{head_bytes, loop_bytes, start_bytes, end_bytes, unchecked_bytes, cue_bytes, told_of, Fits}
 use Rattle.scte35_codec.specs.Grammar.{IsClear, Spells}
 use Rattle.scte35_codec.specs.Laws.{FitsAPacket}
-use Rattle.scte35_codec.proofs.CrcLemmas.{crc_again}
+use Rattle.psi_section.proofs.CrcLemmas.{crc_closed}
 use Rattle.scte35_codec.proofs.WrittenLemmas.{section, section_grouped, loop_length, cue_spelled, cue_back}
 
 -- ---- one section
@@ -75,7 +75,7 @@ size_cue (End event time) few =
 
 checked_cue : (cue : CueOut) → crc (cue_bytes cue) ≡ 0
 unfolding cue_bytes
-checked_cue cue = crc_again (unchecked_bytes cue)
+checked_cue cue = crc_closed (unchecked_bytes cue)
 
 -- what is spelled is clear, and so its section_length is that of its bytes
 clear_of : (cue : CueOut) → Spells (told_of cue) (cue_bytes cue) → IsClear 5 (cue_bytes cue)

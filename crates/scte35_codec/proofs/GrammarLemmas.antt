@@ -3,8 +3,9 @@ use Rattle.std.proofs.Common.{◌≡◌, ◌≢◌, ℕ, ◌+◌, Bool, true, fa
 use Rattle.std.specs.Prelude.{not, ◌||◌, nat_lt, ◌==◌, if◌then◌else◌}
 use Rattle.std.proofs.lemmas.Bool.{cases_lt, cases_eq, ltb-false, le-ltb, eqb-true, ne_eqb}
 use Rattle.std.proofs.lemmas.List.{length-append}
-use Rattle.scte35_codec.specs.Insert.{SpliceInsert}
-use Rattle.scte35_codec.specs.Insert.{SpliceCommand, cancelled, components, inserted}
+use Rattle.scte35_codec.specs.declared.insert.SpliceInsert.{SpliceInsert}
+use Rattle.scte35_codec.specs.declared.insert.Command.{Command}
+use Rattle.scte35_codec.specs.declared.insert.Command.TheVariants.{Cancelled, Components, Inserted}
 use Rattle.scte35_codec.specs.declared.cue.CueFault.TheVariants as faults
 use Rattle.scte35_codec.specs.Bits.{bit_of}
 use Rattle.scte35_codec.specs.Descriptors.{SpliceDescriptor, descriptor_loop_at, avails_of}
@@ -75,11 +76,11 @@ module _ (adjustment stated : ℕ) (part : List ℕ) where
   insert_told i rest None taken e = inl refl
   insert_told i rest (Some ds) taken e = inr (i, ds, has_command stated (IsInsert i) ds part rest taken (behind_sound stated (length part) rest ds e), refl, refl)
 
-  told_sound_by : (r : Option (SpliceCommand × List ℕ)) → splice_insert_at part ≡ r → Told adjustment stated part (told_by adjustment stated (length part) r)
+  told_sound_by : (r : Option (Command × List ℕ)) → splice_insert_at part ≡ r → Told adjustment stated part (told_by adjustment stated (length part) r)
   told_sound_by None e = inl refl
-  told_sound_by (Some (components, rest)) e = inr (insert_sound components part rest e)
-  told_sound_by (Some (cancelled event, rest)) e = cancel_told event rest (behind_command stated (length part) rest) (insert_sound (cancelled event) part rest e) refl
-  told_sound_by (Some (inserted i, rest)) e = insert_told i rest (behind_command stated (length part) rest) (insert_sound (inserted i) part rest e) refl
+  told_sound_by (Some (Components, rest)) e = inr (insert_sound Components part rest e)
+  told_sound_by (Some (Cancelled event, rest)) e = cancel_told event rest (behind_command stated (length part) rest) (insert_sound (Cancelled event) part rest e) refl
+  told_sound_by (Some (Inserted i, rest)) e = insert_told i rest (behind_command stated (length part) rest) (insert_sound (Inserted i) part rest e) refl
 
   told_back : (read : CueReading) → SpellsInsert read adjustment stated part → told_by adjustment stated (length part) (splice_insert_at part) ≡ read
   told_back (insert i avails) s =

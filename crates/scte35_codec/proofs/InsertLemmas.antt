@@ -5,7 +5,10 @@ use Rattle.std.proofs.lemmas.Option.{some_pair_parts}
 use Rattle.wire_fields.specs.Numbers.{number_of}
 use Rattle.scte35_codec.specs.Bits.{bit_of}
 use Rattle.scte35_codec.specs.Fields.{◌>>=◌, byte_at, number_at, ticks_at}
-use Rattle.scte35_codec.specs.Insert.{SpliceInsert, SpliceCommand, cancelled, components, inserted, splice_time_at, time_unless_at, duration_if_at, inserted_at, splice_insert_at}
+use Rattle.scte35_codec.specs.declared.insert.SpliceInsert.{SpliceInsert}
+use Rattle.scte35_codec.specs.declared.insert.Command.{Command}
+use Rattle.scte35_codec.specs.declared.insert.Command.TheVariants.{Cancelled, Components, Inserted}
+use Rattle.scte35_codec.specs.Insert.{splice_time_at, time_unless_at, duration_if_at, inserted_at, splice_insert_at}
 use Rattle.scte35_codec.specs.Grammar.{IsNumber, IsTicks, IsSpliceTime, IsTime, IsDuration, IsInsert, IsCancel, BeginsComponents}
 use Rattle.scte35_codec.proofs.FieldLemmas.{bind_some, BeginsWith, number_sound, number_back, IsTicksOf, ticks_sound, ticks_back, byte_sound}
 
@@ -180,19 +183,19 @@ inserted_back flags i time duration program rest out t d p =
 
 -- ---- the whole command
 
-abbrev pub IsRead : SpliceCommand → List ℕ → List ℕ → Type 0
-IsRead (cancelled event) bytes rest = BeginsWith (IsCancel event) bytes rest
-IsRead components bytes rest = BeginsComponents bytes
-IsRead (inserted i) bytes rest = BeginsWith (IsInsert i) bytes rest
+abbrev pub IsRead : Command → List ℕ → List ℕ → Type 0
+IsRead (Cancelled event) bytes rest = BeginsWith (IsCancel event) bytes rest
+IsRead Components bytes rest = BeginsComponents bytes
+IsRead (Inserted i) bytes rest = BeginsWith (IsInsert i) bytes rest
 
-abbrev cancelled_with : ℕ → List ℕ → SpliceCommand × List ℕ
-cancelled_with event rest = (cancelled event, rest)
+abbrev cancelled_with : ℕ → List ℕ → Command × List ℕ
+cancelled_with event rest = (Cancelled event, rest)
 
-abbrev components_with : List ℕ → SpliceCommand × List ℕ
-components_with rest = (components, rest)
+abbrev components_with : List ℕ → Command × List ℕ
+components_with rest = (Components, rest)
 
-abbrev inserted_with : SpliceInsert × List ℕ → SpliceCommand × List ℕ
-inserted_with x = (inserted x.0, x.1)
+abbrev inserted_with : SpliceInsert × List ℕ → Command × List ℕ
+inserted_with x = (Inserted x.0, x.1)
 
 record Before (event indicator flags : ℕ) (bytes behind : List ℕ) : Type 0 where
   pub id : List ℕ
@@ -225,11 +228,11 @@ whole_insert event indicator flags i bytes behind rest before program parts =
       };
     }
 
-flags_sound : (b : Bool) (event indicator flags : ℕ) (c : SpliceCommand) (bytes behind rest : List ℕ) → Before event indicator flags bytes behind → bit_of 6 flags ≡ b
+flags_sound : (b : Bool) (event indicator flags : ℕ) (c : Command) (bytes behind rest : List ℕ) → Before event indicator flags bytes behind → bit_of 6 flags ≡ b
     → (if not b then Some (components_with behind) else (inserted_at event flags behind >>= λ x. Some (inserted_with x))) ≡ Some (c, rest) → IsRead c bytes rest
 flags_sound false event indicator flags c bytes behind rest before f h =
     let parts = some_pair_parts (components_with behind).0 c behind rest h in
-    let made : IsRead components bytes rest = record {
+    let made : IsRead Components bytes rest = record {
       id = before.id;
       rest = behind;
       indicator = indicator;
@@ -239,35 +242,35 @@ flags_sound false event indicator flags c bytes behind rest before f h =
       splice_event_cancel_indicator = before.standing;
       program_splice_flag = f;
     } in
-    subst (λ (d : SpliceCommand). IsRead d bytes rest) parts.0 made
+    subst (λ (d : Command). IsRead d bytes rest) parts.0 made
 flags_sound true event indicator flags c bytes behind rest before f h =
     let step = bind_some (inserted_at event flags behind) (λ (x : SpliceInsert × List ℕ). Some (inserted_with x)) (c, rest) h in
     let parts = some_pair_parts (inserted_with step.0).0 c step.0.1 rest step.2 in
     let read = inserted_sound event flags step.0.0 behind step.0.1 step.1 in
-    let made : IsRead (inserted step.0.0) bytes step.0.1 = whole_insert event indicator flags step.0.0 bytes behind step.0.1 before f read in
-    subst (λ (d : SpliceCommand). IsRead d bytes rest) parts.0 (subst (λ (r : List ℕ). IsRead (inserted step.0.0) bytes r) parts.1 made)
+    let made : IsRead (Inserted step.0.0) bytes step.0.1 = whole_insert event indicator flags step.0.0 bytes behind step.0.1 before f read in
+    subst (λ (d : Command). IsRead d bytes rest) parts.0 (subst (λ (r : List ℕ). IsRead (Inserted step.0.0) bytes r) parts.1 made)
 
-abbrev behind_indicator : ℕ → List ℕ → Option (SpliceCommand × List ℕ)
+abbrev behind_indicator : ℕ → List ℕ → Option (Command × List ℕ)
 behind_indicator event rest = byte_at rest >>= λ (flags : ℕ × List ℕ). if not (bit_of 6 flags.0) then Some (components_with flags.1) else (inserted_at event flags.0 flags.1 >>= λ x. Some (inserted_with x))
 
-indicator_sound : (b : Bool) (event indicator : ℕ) (c : SpliceCommand) (bytes id behind rest : List ℕ) → bytes ≡ id ++ indicator ∷ behind → IsNumber 4 event id → bit_of 7 indicator ≡ b
+indicator_sound : (b : Bool) (event indicator : ℕ) (c : Command) (bytes id behind rest : List ℕ) → bytes ≡ id ++ indicator ∷ behind → IsNumber 4 event id → bit_of 7 indicator ≡ b
     → (if b then Some (cancelled_with event behind) else behind_indicator event behind) ≡ Some (c, rest) → IsRead c bytes rest
 indicator_sound true event indicator c bytes id behind rest e is f h =
     let parts = some_pair_parts (cancelled_with event behind).0 c behind rest h in
     let whole : bytes ≡ (id ++ indicator ∷ []) ++ behind = e ∙ sym (append_assoc id (indicator ∷ []) behind) in
-    let made : IsRead (cancelled event) bytes behind = record {
+    let made : IsRead (Cancelled event) bytes behind = record {
       text = id ++ indicator ∷ [];
       whole = whole;
       is = record { id = id; indicator = indicator; whole = refl; splice_event_id = is; splice_event_cancel_indicator = f };
     } in
-    subst (λ (d : SpliceCommand). IsRead d bytes rest) parts.0 (subst (λ (r : List ℕ). IsRead (cancelled event) bytes r) parts.1 made)
+    subst (λ (d : Command). IsRead d bytes rest) parts.0 (subst (λ (r : List ℕ). IsRead (Cancelled event) bytes r) parts.1 made)
 indicator_sound false event indicator c bytes id behind rest e is f h =
     let step = bind_some (byte_at behind) (λ (flags : ℕ × List ℕ). if not (bit_of 6 flags.0) then Some (components_with flags.1) else (inserted_at event flags.0 flags.1 >>= λ x. Some (inserted_with x))) (c, rest) h in
     let next = byte_sound step.0.0 behind step.0.1 step.1 in
     let before : Before event indicator step.0.0 bytes step.0.1 = record { id = id; whole = e ∙ ap (λ (xs : List ℕ). id ++ indicator ∷ xs) next; is = is; standing = f } in
     flags_sound (bit_of 6 step.0.0) event indicator step.0.0 c bytes step.0.1 rest before refl step.2
 
-pub insert_sound : (c : SpliceCommand) (bytes rest : List ℕ) → splice_insert_at bytes ≡ Some (c, rest) → IsRead c bytes rest
+pub insert_sound : (c : Command) (bytes rest : List ℕ) → splice_insert_at bytes ≡ Some (c, rest) → IsRead c bytes rest
 unfolding splice_insert_at
 insert_sound c bytes rest h =
     let s1 = bind_some (number_at 4 bytes) (λ (event : ℕ × List ℕ). byte_at event.1 >>= λ (cancel : ℕ × List ℕ). if bit_of 7 cancel.0 then Some (cancelled_with event.0 cancel.1) else behind_indicator event.0 cancel.1) (c, rest) h in
@@ -279,14 +282,14 @@ insert_sound c bytes rest h =
 
 -- ---- spelled, then read
 
-pub cancel_back : (event : ℕ) (text rest : List ℕ) → IsCancel event text → splice_insert_at (text ++ rest) ≡ Some (cancelled event, rest)
+pub cancel_back : (event : ℕ) (text rest : List ℕ) → IsCancel event text → splice_insert_at (text ++ rest) ≡ Some (Cancelled event, rest)
 unfolding splice_insert_at
 cancel_back event text rest is =
     let grouped : text ++ rest ≡ is.id ++ is.indicator ∷ rest = ap (λ (xs : List ℕ). xs ++ rest) is.whole ∙ append_assoc is.id (is.indicator ∷ []) rest in
     let id = number_back 4 event is.id (is.indicator ∷ rest) is.splice_event_id in
     ap splice_insert_at grouped ∙ rw (id, is.splice_event_cancel_indicator) refl
 
-pub insert_back : (i : SpliceInsert) (text rest : List ℕ) → IsInsert i text → splice_insert_at (text ++ rest) ≡ Some (inserted i, rest)
+pub insert_back : (i : SpliceInsert) (text rest : List ℕ) → IsInsert i text → splice_insert_at (text ++ rest) ≡ Some (Inserted i, rest)
 unfolding splice_insert_at
 insert_back i text rest is =
     let behind = behind_flags is.time is.duration is.program i in
@@ -295,7 +298,7 @@ insert_back i text rest is =
     let others = inserted_back is.flags i is.time is.duration is.program rest is.out_of_network_indicator is.splice_time is.break_duration is.unique_program_id in
     ap splice_insert_at grouped ∙ rw (id, is.splice_event_cancel_indicator, is.program_splice_flag, others) refl
 
-pub components_back : (bytes : List ℕ) → BeginsComponents bytes → (rest : List ℕ) × (splice_insert_at bytes ≡ Some (components, rest))
+pub components_back : (bytes : List ℕ) → BeginsComponents bytes → (rest : List ℕ) × (splice_insert_at bytes ≡ Some (Components, rest))
 unfolding splice_insert_at
 components_back bytes is =
     let numbered : IsNumber 4 (number_of 4 is.id) is.id = record { size = is.splice_event_id; worth = refl } in

@@ -1,6 +1,5 @@
 pub mod DescriptorLemmas
 pub mod SpellingLemmas
-pub mod CrcLemmas
 pub mod FieldLemmas
 pub mod InsertLemmas
 pub mod LoopLemmas

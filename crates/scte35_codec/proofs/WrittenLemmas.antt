@@ -7,7 +7,7 @@ use Rattle.std.proofs.lemmas.List.Concat.{flat_map-cons}
 use Rattle.byteorder.specs.Endian.{big_bytes}
 use Rattle.byteorder.specs.Numbers.{big_number-reads_back}
 use Rattle.psi_section.specs.Crc.{crc}
-use Rattle.scte35_codec.specs.Insert.{SpliceInsert}
+use Rattle.scte35_codec.specs.declared.insert.SpliceInsert.{SpliceInsert}
 use Rattle.scte35_codec.specs.declared.cue_out.CueOut.{CueOut}
 use Rattle.scte35_codec.specs.declared.cue_out.CueOut.TheVariants.{Start, Cancel, End}
 use Rattle.wire_fields.specs.Numbers.{number_of}

@@ -22,5 +22,5 @@ unfoldable pub ticks_at : List ℕ → Option ((Bool × ℕ) × List ℕ)
 ticks_at bytes = if nat_lt (length bytes) 5 then None else Some ((bit_of 7 (slice_index bytes 0), number_of 5 bytes % 2 ^ 33), drop 5 bytes)
 
 -- what the code takes from the front
-abbrev pub front : ℕ × Bor (List ℕ) → ℕ × List ℕ
+abbrev pub front : {A : Type 0} → A × Bor (List ℕ) → A × List ℕ
 front x = (x.0, x.1.now)

@@ -2,7 +2,7 @@
 -- break_duration). Bits that no line names are reserved, or are not looked at, and have any value.
 use Rattle.std.specs.Prelude.{◌≡◌, ◌≢◌, ℕ, ◌+◌, ◌%◌, ◌^◌, ◌≤◌, Bool, true, false, List, [], ◌∷◌, ◌++◌, length, slice_index, Option, Some, None, ◌⊎◌}
 use Rattle.std.specs.List.{flat_map}
-use Rattle.scte35_codec.specs.Insert.{SpliceInsert}
+use Rattle.scte35_codec.specs.declared.insert.SpliceInsert.{SpliceInsert}
 use Rattle.scte35_codec.specs.declared.cue.CueFault.TheVariants as faults
 use Rattle.wire_fields.specs.Numbers.{number_of}
 use Rattle.scte35_codec.specs.Bits.{bit_of}
@@ -40,7 +40,7 @@ IsDuration true None text = ⊥
 IsDuration false (Some d) text = ⊥
 IsDuration false None text = text ≡ []
 
--- splice_insert() of the whole programme
+-- splice_insert() of the whole program
 pub record IsInsert (i : SpliceInsert) (text : List ℕ) : Type 0 where
   pub event : List ℕ
   pub indicator : ℕ

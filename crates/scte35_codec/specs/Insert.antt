@@ -1,25 +1,10 @@
 -- How the command splice_insert() is read, from left to right (ANSI/SCTE 35, splice_insert, splice_time, break_duration).
 use Rattle.std.specs.Prelude.{ℕ, ◌+◌, ◌%◌, ◌^◌, Bool, not, List, Option, Some, None, option_map, if◌then◌else◌}
-use Rattle.std.specs.Borrow.{Bor}
+use Rattle.scte35_codec.specs.declared.insert.SpliceInsert.{SpliceInsert}
+use Rattle.scte35_codec.specs.declared.insert.Command.{Command}
+use Rattle.scte35_codec.specs.declared.insert.Command.TheVariants.{Cancelled, Components, Inserted}
 use Rattle.scte35_codec.specs.Bits.{bit_of}
 use Rattle.scte35_codec.specs.Fields.{◌>>=◌, byte_at, number_at, ticks_at}
-
--- the fields of a splice_insert() of the whole programme: out_of_network_indicator, pts_time, break_duration() as auto_return and the
--- duration, unique_program_id, avail_num and avails_expected
-pub record SpliceInsert : Type 0 where
-  pub event : ℕ
-  pub out : Bool
-  pub time : Option ℕ
-  pub length : Option (Bool × ℕ)
-  pub program : ℕ
-  pub avail : ℕ
-  pub expected : ℕ
-
--- a splice_insert() with splice_event_cancel_indicator, with times of single components, or of the whole programme
-pub data SpliceCommand : Type 0 where
-  cancelled : ℕ → SpliceCommand
-  components : SpliceCommand
-  inserted : SpliceInsert → SpliceCommand
 
 -- splice_time(): time_specified_flag is the first bit; without a time there is one byte
 unfoldable pub splice_time_at : List ℕ → Option (Option ℕ × List ℕ)
@@ -62,15 +47,15 @@ inserted_at event flags bytes = do
 
 -- A cancel ends behind splice_event_cancel_indicator and its reserved bits. Where program_splice_flag is 0 nothing is read behind
 -- the byte of flags.
-unfoldable pub splice_insert_at : List ℕ → Option (SpliceCommand × List ℕ)
+unfoldable pub splice_insert_at : List ℕ → Option (Command × List ℕ)
 splice_insert_at bytes = do
   event ← number_at 4 bytes
   cancel ← byte_at event.1
-  if bit_of 7 cancel.0 then Some (cancelled event.0, cancel.1) else (do
+  if bit_of 7 cancel.0 then Some (Cancelled event.0, cancel.1) else (do
     flags ← byte_at cancel.1
-    if not (bit_of 6 flags.0) then Some (components, flags.1) else (do
+    if not (bit_of 6 flags.0) then Some (Components, flags.1) else (do
       insert ← inserted_at event.0 flags.0 flags.1
-      Some (inserted insert.0, insert.1)))
+      Some (Inserted insert.0, insert.1)))
 
 -- with pts_adjustment added to pts_time, modulo 2^33
 abbrev pub time_later : ℕ → Option ℕ → Option ℕ
@@ -78,10 +63,3 @@ time_later adjustment time = option_map (λ t. (t + adjustment) % 2 ^ 33) time
 
 abbrev pub later : ℕ → SpliceInsert → SpliceInsert
 later adjustment i = record i { time = time_later adjustment i.time }
-
--- what the code takes from the front
-abbrev pub time_taken : Option ℕ × Bor (List ℕ) → Option ℕ × List ℕ
-time_taken x = (x.0, x.1.now)
-
-abbrev pub duration_taken : Option (Bool × ℕ) × Bor (List ℕ) → Option (Bool × ℕ) × List ℕ
-duration_taken x = (x.0, x.1.now)

@@ -3,7 +3,6 @@ pub mod Fields
 pub mod Descriptors
 pub mod AvailsLeft
 pub mod Insert
-pub mod InsertTaken
 pub mod Reading
 pub mod Views
 pub mod Grammar

@@ -7,7 +7,10 @@ use Rattle.psi_section.specs.Sections.{section_length}
 use Rattle.wire_fields.specs.Numbers.{number_of}
 use Rattle.scte35_codec.specs.Bits.{bit_of}
 use Rattle.scte35_codec.specs.Descriptors.{SpliceDescriptor, descriptor_loop_at, avails_of}
-use Rattle.scte35_codec.specs.Insert.{SpliceInsert, SpliceCommand, cancelled, components, inserted, splice_insert_at, later}
+use Rattle.scte35_codec.specs.declared.insert.SpliceInsert.{SpliceInsert}
+use Rattle.scte35_codec.specs.declared.insert.Command.{Command}
+use Rattle.scte35_codec.specs.declared.insert.Command.TheVariants.{Cancelled, Components, Inserted}
+use Rattle.scte35_codec.specs.Insert.{splice_insert_at, later}
 
 -- an insert has its fields, with the time adjusted, and its provider_avail_ids
 pub data CueReading : Type 0 where
@@ -40,11 +43,11 @@ behind_command stated size rest = if (stated == 4095) || (stated + length rest =
 abbrev pub with_loop : (List SpliceDescriptor → CueReading) → Option (List SpliceDescriptor) → CueReading
 with_loop told read = option_map_or told read (bad faults.Command)
 
-abbrev pub told_by : ℕ → ℕ → ℕ → Option (SpliceCommand × List ℕ) → CueReading
+abbrev pub told_by : ℕ → ℕ → ℕ → Option (Command × List ℕ) → CueReading
 told_by adjustment stated size None = bad faults.Command
-told_by adjustment stated size (Some (components, rest)) = other
-told_by adjustment stated size (Some (cancelled event, rest)) = with_loop (λ ds. cancel event) (behind_command stated size rest)
-told_by adjustment stated size (Some (inserted i, rest)) = with_loop (λ ds. insert (later adjustment i) (avails_of ds)) (behind_command stated size rest)
+told_by adjustment stated size (Some (Components, rest)) = other
+told_by adjustment stated size (Some (Cancelled event, rest)) = with_loop (λ ds. cancel event) (behind_command stated size rest)
+told_by adjustment stated size (Some (Inserted i, rest)) = with_loop (λ ds. insert (later adjustment i) (avails_of ds)) (behind_command stated size rest)
 
 unfoldable pub splice_insert_of : List ℕ → CueReading
 splice_insert_of bytes = told_by (pts_adjustment bytes) (splice_command_length bytes) (length (command_part bytes)) (splice_insert_at (command_part bytes))

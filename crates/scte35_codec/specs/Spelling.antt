@@ -3,7 +3,7 @@
 use Rattle.std.specs.Prelude.{ℕ, ◌+◌, ◌*◌, ◌<◌, ◌^◌, true, false, List, [], ◌∷◌, ◌++◌, length, Some, None}
 use Rattle.std.specs.List.{flat_map, AllByRecursion}
 use Rattle.byteorder.specs.Endian.{big_bytes}
-use Rattle.psi_section.specs.Crc.{crc}
+use Rattle.psi_section.specs.Crc.{closed}
 use Rattle.scte35_codec.specs.declared.cue_out.CueOut.{CueOut}
 use Rattle.scte35_codec.specs.declared.cue_out.CueOut.TheVariants.{Start, Cancel, End}
 use Rattle.scte35_codec.specs.Reading.{CueReading, insert, cancel}
@@ -26,13 +26,13 @@ avail_descriptor_bytes id = (0 ∷ 8 ∷ 0x43 ∷ 0x55 ∷ 0x45 ∷ 0x49 ∷ [])
 abbrev pub loop_bytes : List ℕ → List ℕ
 loop_bytes ids = big_bytes 2 (10 * length ids) ++ flat_map avail_descriptor_bytes ids
 
--- splice_event_id, not cancelled; out of the network, of the whole programme, with a duration, not immediate; a time that is
+-- splice_event_id, not cancelled; out of the network, of the whole program, with a duration, not immediate; a time that is
 -- specified, a duration with automatic return
 abbrev pub start_bytes : ℕ → ℕ → ℕ → ℕ → ℕ → ℕ → List ℕ
 start_bytes event time duration program avail expected =
     big_bytes 4 event ++ (0x7F ∷ 0xEF ∷ []) ++ ticks_bytes time ++ ticks_bytes duration ++ big_bytes 2 program ++ (avail ∷ expected ∷ [])
 
--- back to the network, of the whole programme, without a duration, not immediate
+-- back to the network, of the whole program, without a duration, not immediate
 abbrev pub end_bytes : ℕ → ℕ → List ℕ
 end_bytes event time = big_bytes 4 event ++ (0x7F ∷ 0x4F ∷ []) ++ ticks_bytes time ++ (0 ∷ 0 ∷ 0 ∷ 0 ∷ [])
 
@@ -44,7 +44,7 @@ unchecked_bytes (Cancel event) = head_bytes 5 0 ++ (big_bytes 4 event ++ (0xFF �
 unchecked_bytes (End event time) = head_bytes 15 0 ++ end_bytes event time ++ loop_bytes []
 
 unfoldable pub cue_bytes : CueOut → List ℕ
-cue_bytes cue = let bytes = unchecked_bytes cue in bytes ++ big_bytes 4 (crc bytes)
+cue_bytes cue = closed (unchecked_bytes cue)
 
 -- what such a cue says
 abbrev pub told_of : CueOut → CueReading

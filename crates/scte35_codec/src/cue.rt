@@ -7,7 +7,7 @@ ghost use Rattle.scte35_codec.specs.Views.{reading_of};
 
 use crate::descriptors::{Avails, descriptor_loop};
 use crate::fields::{is_set, low_33_bits};
-use crate::insert::{Command, Insert, adjusted, splice_insert};
+use crate::insert::{Command, SpliceInsert, adjusted, splice_insert};
 use byteorder::{BigEndian, ByteOrder};
 use pes_time::Time33;
 use psi_section::section_length;
@@ -16,8 +16,8 @@ use thiserror::Error;
 /// A `splice_info_section` that was read. Its avails lie in the bytes that it was read from.
 #[derive(Clone, Copy, Debug)]
 pub enum Cue<'a> {
-    /// `splice_insert()` of the whole programme.
-    Insert(Insert<'a>),
+    /// `splice_insert()` of the whole program, and the `provider_avail_id` of each `avail_descriptor`.
+    Insert(SpliceInsert, Avails<'a>),
     /// `splice_insert()` with `splice_event_cancel_indicator`: the `splice_event_id` of the event that is taken back.
     Cancel(u32),
     /// `splice_null()`.
@@ -89,7 +89,7 @@ fn command_of(bytes: &[u8]) -> &[u8]
 
 /// The avails behind a command that has the length that is stated for it.
 #[tactic(auto, unfolding(crate::specs::Reading::behind_command))]
-fn behind(stated: usize, size: usize, rest: &[u8]) -> Option<Avails<'_>>
+fn avails_behind(stated: usize, size: usize, rest: &[u8]) -> Option<Avails<'_>>
     requires { stated < 4096 }
     ensures { option_map avails_left result ≡ option_map avails_of (behind_command stated size rest.now) }
 {
@@ -111,19 +111,15 @@ fn read_splice_insert(bytes: &[u8]) -> Result<Cue<'_>, CueFault>
     };
     match command {
         Command::Components => Ok(Cue::Other),
-        Command::Cancelled(event) => match behind(stated, part.len(), rest) {
+        Command::Cancelled(event) => match avails_behind(stated, part.len(), rest) {
             None => Err(CueFault::Command),
             Some(_) => Ok(Cue::Cancel(event)),
         },
-        Command::Inserted(insert) => match behind(stated, part.len(), rest) {
+        Command::Inserted(insert) => match avails_behind(stated, part.len(), rest) {
             None => Err(CueFault::Command),
             Some(avails) => {
                 let time = adjusted(insert.time, adjustment_of(bytes));
-                Ok(Cue::Insert(Insert {
-                    time,
-                    avails,
-                    ..insert
-                }))
+                Ok(Cue::Insert(SpliceInsert { time, ..insert }, avails))
             }
         },
     }
@@ -152,7 +148,7 @@ fn read_section(bytes: &[u8]) -> Result<Cue<'_>, CueFault>
     }
 }
 
-/// Reads a `splice_info_section`, from `table_id` to `CRC_32`, which isn't checked here: whoever assembles sections does.
+/// Reads a `splice_info_section`, from `table_id` to `CRC_32`. `CRC_32` isn't checked here, since the assembler of sections does so.
 ///
 /// # Errors
 ///

@@ -9,10 +9,10 @@ ghost use Rattle.scte35_codec.specs.Spelling.{head_bytes, ticks_bytes, avail_des
 use arrayvec::ArrayVec;
 use byteorder::{BigEndian, ByteOrder};
 use pes_time::Time33;
-use psi_section::crc;
+use psi_section::seal;
 use wire_fields::{put, put_number16, put_number32};
 
-/// A cue to be written, as a `splice_insert()` of the whole programme.
+/// A cue to be written, as a `splice_insert()` of the whole program.
 #[derive(Debug, Drop)]
 pub enum CueOut {
     /// The break begins, with automatic return at its end. 40 bytes and 10 for each avail.
@@ -32,7 +32,7 @@ pub enum CueOut {
         /// The `provider_avail_id` of an `avail_descriptor` each, in order.
         avails: ArrayVec<u32, 14>,
     },
-    /// The event is taken back. 25 bytes.
+    /// The event is cancelled. 25 bytes.
     Cancel {
         /// `splice_event_id`.
         event: u32,
@@ -82,7 +82,7 @@ fn put_avails(out: &mut ArrayVec<u8, 180>, avails: &[u32])
     }
 }
 
-/// All but `CRC_32`.
+/// Puts the section without its `CRC_32`.
 #[tactic(auto, unfolding(crate::specs::Spelling::unchecked_bytes))]
 fn put_unchecked(cue: &CueOut, out: &mut ArrayVec<u8, 180>)
     requires { array_vec_len out.old ≡ 0 }
@@ -134,5 +134,5 @@ pub fn write(cue: &CueOut, out: &mut ArrayVec<u8, 180>)
 {
     out.clear();
     put_unchecked(cue, out);
-    put_number32(out, crc(out.as_slice()));
+    seal(out);
 }

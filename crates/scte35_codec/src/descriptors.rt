@@ -53,7 +53,7 @@ fn are_descriptors(bytes: &[u8]) -> bool
     rest.is_empty()
 }
 
-/// `descriptor_loop_length` and as many bytes, which descriptors have to fill. Bytes may follow.
+/// Reads `descriptor_loop_length` and as many bytes, which whole descriptors have to fill. Other bytes may follow.
 #[tactic(auto, unfolding(crate::specs::Descriptors::descriptor_loop_at, crate::specs::AvailsLeft::avails_left))]
 pub fn descriptor_loop(bytes: &[u8]) -> Option<Avails<'_>>
     ensures { option_map avails_left result ≡ option_map avails_of (descriptor_loop_at bytes.now) }
@@ -68,13 +68,6 @@ pub fn descriptor_loop(bytes: &[u8]) -> Option<Avails<'_>>
         return None;
     }
     Some(Avails { bytes })
-}
-
-impl<'a> Avails<'a> {
-    /// No avails.
-    pub(crate) fn none() -> Avails<'a> {
-        Avails { bytes: &[] }
-    }
 }
 
 impl<'a> Iterator for Avails<'a> {

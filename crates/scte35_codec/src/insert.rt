@@ -1,15 +1,14 @@
 // The command splice_insert().
 ghost use Rattle.std.specs.Prelude.{◌≡◌, option_map};
-ghost use Rattle.scte35_codec.specs.Insert.{splice_time_at, time_unless_at, duration_if_at, inserted_at, splice_insert_at, time_later, time_taken, duration_taken};
-ghost use Rattle.scte35_codec.specs.InsertTaken.{insert_taken, command_taken};
+ghost use Rattle.scte35_codec.specs.Fields.{front};
+ghost use Rattle.scte35_codec.specs.Insert.{splice_time_at, time_unless_at, duration_if_at, inserted_at, splice_insert_at, time_later};
 
-use crate::descriptors::Avails;
 use crate::fields::{byte, is_set, number16, number32, ticks};
 use pes_time::Time33;
 
-/// The fields of a `splice_insert()` (ANSI/SCTE 35, splice_insert).
+/// The fields of a `splice_insert()` of the whole program (ANSI/SCTE 35, splice_insert).
 #[derive(Clone, Copy, Debug)]
-pub struct Insert<'a> {
+pub struct SpliceInsert {
     /// `splice_event_id`.
     pub event: u32,
     /// `out_of_network_indicator`: whether the break begins, and not ends.
@@ -25,24 +24,22 @@ pub struct Insert<'a> {
     pub avail: u8,
     /// `avails_expected`.
     pub expected: u8,
-    /// The `provider_avail_id` of each `avail_descriptor`.
-    pub avails: Avails<'a>,
 }
 
 /// What a `splice_insert()` is.
 #[derive(Clone, Copy, Debug)]
-pub enum Command<'a> {
+pub enum Command {
     /// With `splice_event_cancel_indicator`.
     Cancelled(u32),
     /// With times of single components, which aren't read.
     Components,
-    /// Of the whole programme: without its avails, which stand behind the command, and with `pts_time` as it stands.
-    Inserted(Insert<'a>),
+    /// Of the whole program, with `pts_time` as it stands.
+    Inserted(SpliceInsert),
 }
 
 #[tactic(auto, unfolding(crate::specs::Insert::splice_time_at))]
 fn splice_time(bytes: &[u8]) -> Option<(Option<Time33>, &[u8])>
-    ensures { option_map time_taken result ≡ splice_time_at bytes.now }
+    ensures { option_map front result ≡ splice_time_at bytes.now }
 {
     let Some((first, rest)) = byte(bytes) else {
         return None;
@@ -58,7 +55,7 @@ fn splice_time(bytes: &[u8]) -> Option<(Option<Time33>, &[u8])>
 
 #[tactic(auto, unfolding(crate::specs::Insert::time_unless_at))]
 fn time_unless(immediate: bool, bytes: &[u8]) -> Option<(Option<Time33>, &[u8])>
-    ensures { option_map time_taken result ≡ time_unless_at immediate bytes.now }
+    ensures { option_map front result ≡ time_unless_at immediate bytes.now }
 {
     if immediate {
         Some((None, bytes))
@@ -69,7 +66,7 @@ fn time_unless(immediate: bool, bytes: &[u8]) -> Option<(Option<Time33>, &[u8])>
 
 #[tactic(auto, unfolding(crate::specs::Insert::duration_if_at))]
 fn duration_if(given: bool, bytes: &[u8]) -> Option<(Option<(bool, Time33)>, &[u8])>
-    ensures { option_map duration_taken result ≡ duration_if_at given bytes.now }
+    ensures { option_map front result ≡ duration_if_at given bytes.now }
 {
     if !given {
         return Some((None, bytes));
@@ -81,8 +78,8 @@ fn duration_if(given: bool, bytes: &[u8]) -> Option<(Option<(bool, Time33)>, &[u
 }
 
 #[tactic(auto, unfolding(crate::specs::Insert::inserted_at))]
-fn inserted(event: u32, flags: u8, bytes: &[u8]) -> Option<(Insert<'_>, &[u8])>
-    ensures { option_map insert_taken result ≡ inserted_at event flags bytes.now }
+fn inserted(event: u32, flags: u8, bytes: &[u8]) -> Option<(SpliceInsert, &[u8])>
+    ensures { option_map front result ≡ inserted_at event flags bytes.now }
 {
     let Some((time, rest)) = time_unless(is_set(flags, 4), bytes) else {
         return None;
@@ -100,7 +97,7 @@ fn inserted(event: u32, flags: u8, bytes: &[u8]) -> Option<(Insert<'_>, &[u8])>
         return None;
     };
     let out = is_set(flags, 7);
-    let insert = Insert {
+    let insert = SpliceInsert {
         event,
         out,
         time,
@@ -108,14 +105,13 @@ fn inserted(event: u32, flags: u8, bytes: &[u8]) -> Option<(Insert<'_>, &[u8])>
         program,
         avail,
         expected,
-        avails: Avails::none(),
     };
     Some((insert, rest))
 }
 
 #[tactic(auto, unfolding(crate::specs::Insert::splice_insert_at))]
-pub fn splice_insert(bytes: &[u8]) -> Option<(Command<'_>, &[u8])>
-    ensures { option_map command_taken result ≡ splice_insert_at bytes.now }
+pub fn splice_insert(bytes: &[u8]) -> Option<(Command, &[u8])>
+    ensures { option_map front result ≡ splice_insert_at bytes.now }
 {
     let Some((event, rest)) = number32(bytes) else {
         return None;

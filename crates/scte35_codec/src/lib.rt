@@ -1,5 +1,5 @@
 //! Cues of ANSI/SCTE 35: a splice_info_section read by its fields, and the sections of our own, each with one spelling.
-//! It stands on `psi_section` (CRC_32), `pes_time` (33-bit times), `byteorder` and `arrayvec`, and takes no memory.
+//! It stands on `psi_section` (CRC_32), `pes_time` (33-bit times) and `wire_fields`, and takes no memory.
 //! The crates above use one contract of it: `read` gives exactly what the grammar of `specs/Grammar.antt` says.
 #![tactic(auto)]
 
@@ -13,7 +13,7 @@ pub mod laws;
 pub use cue::{Cue, CueFault, read};
 pub use cue_out::{CueOut, write};
 pub use descriptors::Avails;
-pub use insert::Insert;
+pub use insert::SpliceInsert;
 
 #[cfg(test)]
 mod tests;

@@ -70,7 +70,7 @@ fn told(alloc: Global, bytes: &[u8]) -> Result<String, AllocError> {
         Ok(Cue::Null) => format!(in alloc; "Null"),
         Ok(Cue::Other) => format!(in alloc; "Other"),
         Ok(Cue::Cancel(event)) => format!(in alloc; "Cancel event={:08X}", event),
-        Ok(Cue::Insert(i)) => format!(in alloc;
+        Ok(Cue::Insert(i, avails)) => format!(in alloc;
             "Insert event={:08X} out={} time={} length={} program={} avail={} expected={} avails={}",
             i.event,
             i.out as u8,
@@ -79,7 +79,7 @@ fn told(alloc: Global, bytes: &[u8]) -> Result<String, AllocError> {
             i.program,
             i.avail,
             i.expected,
-            shown_avails(alloc, i.avails)?
+            shown_avails(alloc, avails)?
         ),
         Err(fault) => format!(in alloc; "{:?}", fault),
     }

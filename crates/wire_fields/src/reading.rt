@@ -1,6 +1,6 @@
-//! Fields at a place of some bytes.
+//! Fields that stand at a place in some bytes.
 
-ghost use Rattle.std.specs.Prelude.{◌≡◌, ◌+◌, ◌≤◌, length, drop};
+ghost use Rattle.std.specs.Prelude.{◌≡◌, ◌+◌, ◌%◌, ◌<◌, ◌≤◌, length, drop};
 ghost use Rattle.wire_fields.specs.Numbers.{number16_at, number32_at};
 
 use byteorder::{BigEndian, ByteOrder};
@@ -11,7 +11,16 @@ pub fn number16(bytes: &[u8], place: usize) -> u16
     requires { place + 2 ≤ length bytes.now }
     ensures { result ≡ number16_at bytes.now place }
 {
-    BigEndian::read_u16(behind(bytes, place))
+    BigEndian::read_u16(bytes_from(bytes, place))
+}
+
+/// The number that the last 12 bits of the two bytes at this place make.
+pub fn number12(bytes: &[u8], place: usize) -> u16
+    requires { place + 2 ≤ length bytes.now }
+    ensures value { result ≡ number16_at bytes.now place % 4096 }
+    ensures below { result < 4096 }
+{
+    number16(bytes, place) % 4096
 }
 
 /// The number that the four bytes at this place make.
@@ -20,11 +29,11 @@ pub fn number32(bytes: &[u8], place: usize) -> u32
     requires { place + 4 ≤ length bytes.now }
     ensures { result ≡ number32_at bytes.now place }
 {
-    BigEndian::read_u32(behind(bytes, place))
+    BigEndian::read_u32(bytes_from(bytes, place))
 }
 
 /// The bytes from this place on.
-pub fn behind(bytes: &[u8], place: usize) -> &[u8]
+pub fn bytes_from(bytes: &[u8], place: usize) -> &[u8]
     requires { place ≤ length bytes.now }
     ensures { result.now ≡ drop place bytes.now }
 {

@@ -2,7 +2,8 @@ use Rattle.std.proofs.Common.{◌≡◌, ◌<◌, ◌≤◌, ◌++◌, List, ℕ
 use Rattle.psi_tables.specs.Descriptors.{cue_registration, descriptor_bytes}
 use Rattle.psi_tables.specs.Streams.{entry_bytes}
 use Rattle.psi_tables.specs.ProgramMap.{info_in, entries_in, map_length, map_of, body_with}
-use Rattle.psi_tables.specs.Cue.{cue_entry, closed}
+use Rattle.psi_section.specs.Crc.{closed}
+use Rattle.psi_tables.specs.Cue.{cue_entry}
 use Rattle.psi_tables.proofs.CueLemmas.{added, too_long}
 use Rattle.psi_tables.proofs.ReadBackLemmas.{added_reads}
 use Rattle.psi_tables.proofs.cue.with_entry.Goals as goal

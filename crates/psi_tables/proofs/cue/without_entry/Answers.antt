@@ -4,7 +4,8 @@ use Rattle.psi_tables.specs.Descriptors.{descriptor_at, without_registration}
 use Rattle.psi_tables.specs.Streams.{entry_at}
 use Rattle.psi_tables.specs.Runs.{things_of}
 use Rattle.psi_tables.specs.ProgramMap.{map_of, body_with, descriptors_bytes, entries_bytes}
-use Rattle.psi_tables.specs.Cue.{closed, lists_pid, without_pid}
+use Rattle.psi_section.specs.Crc.{closed}
+use Rattle.psi_tables.specs.Cue.{lists_pid, without_pid}
 use Rattle.psi_tables.proofs.CueLemmas.{stripped, unstripped}
 use Rattle.psi_tables.proofs.ReadBackLemmas.{stripped_reads}
 use Rattle.psi_tables.proofs.cue.without_entry.Goals as goal

@@ -1,5 +1,5 @@
 use Rattle.std.proofs.Common.{◌+◌, ◌%◌, [], ◌∷◌, ◌++◌, ◌∙◌, arith, drop, append_assoc}
-use Rattle.ts_packet.proofs.CountLemmas.{well-refl, well-trans, blamed-after}
+use Rattle.ts_packet.proofs.CountLemmas.{well-trans, blamed-after}
 use Rattle.psi_section.specs.Packetising.{rest_packets}
 use Rattle.psi_section.proofs.PacketiserLemmas.{one_put, one_more_put, counted_more}
 use Rattle.psi_section.proofs.packetiser.Packetiser.put_rest.Goals as goal

@@ -1,7 +1,7 @@
 use Rattle.std.proofs.Common.{◌≡◌, List, ℕ, Option, true, ap, sym, ◌∙◌, arith}
 use Rattle.std.specs.Prelude.{is_none}
 use Rattle.psi_tables.specs.declared.fault.TableFault.{TableFault}
-use Rattle.psi_section.specs.Laws.{AreBytes}
+use Rattle.wire_fields.specs.Numbers.{AreBytes}
 use Rattle.psi_tables.specs.Association.{pat, pat_fault}
 use Rattle.psi_tables.proofs.AssociationLemmas.{faultless}
 use Rattle.psi_tables.proofs.AssociationGrammar.{association_spelled, association_fits, association_back}

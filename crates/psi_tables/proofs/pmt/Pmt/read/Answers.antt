@@ -1,7 +1,7 @@
 use Rattle.std.proofs.Common.{◌≡◌, List, ℕ, Option, true, ap, sym, ◌∙◌, arith}
 use Rattle.std.specs.Prelude.{is_none}
 use Rattle.psi_tables.specs.declared.fault.TableFault.{TableFault}
-use Rattle.psi_section.specs.Laws.{AreBytes}
+use Rattle.wire_fields.specs.Numbers.{AreBytes}
 use Rattle.psi_tables.specs.ProgramMap.{pmt, pmt_fault}
 use Rattle.psi_tables.proofs.MapLemmas.{faultless}
 use Rattle.psi_tables.proofs.MapGrammar.{map_spelled, map_fits, map_back}

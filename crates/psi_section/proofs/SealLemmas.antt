@@ -6,7 +6,7 @@ use Rattle.std.specs.Int.Bits.{xor_assoc, xor_zero_r, xor_self}
 use Rattle.std.proofs.lemmas.Nat.{xor_lt, xor_shr, xor_mod}
 use Rattle.byteorder.specs.Endian.{big_bytes}
 use Rattle.psi_section.specs.Crc.{generator, with_bit, bits_of, with_bits, remainder_after, crc, crc_remainder}
-use Rattle.psi_section.proofs.CrcLemmas.{crc-below, crc_remainder-append, word_closes, crc_closed}
+use Rattle.psi_section.proofs.CrcLemmas.{crc-below, crc_remainder-append, word_closes}
 
 -- ---- a step can be undone
 
@@ -99,9 +99,6 @@ remainder_undone r s bs rl sl e = after_undone r s bs rl sl e
 crc-append : (bs cs : List ℕ) → crc (bs ++ cs) ≡ crc_remainder (crc bs) cs
 unfolding crc
 crc-append bs cs = crc_remainder-append (2 ^ 32 - 1) bs cs
-
-pub crc_closes : (bs : List ℕ) → crc (bs ++ big_bytes 4 (crc bs)) ≡ 0
-crc_closes bs = crc_closed bs
 
 pub crc_alone_closes : (bs : List ℕ) (n : ℕ) → n < 4294967296 → crc (bs ++ big_bytes 4 n) ≡ 0 → n ≡ crc bs
 crc_alone_closes bs n lt e = remainder_undone n (crc bs) (big_bytes 4 n) lt (crc-below bs) (word_closes n lt ∙ sym e ∙ crc-append bs (big_bytes 4 n))
