@@ -5,17 +5,23 @@
 
 mod attended;
 pub mod command;
+mod connection;
 mod cutting;
 mod ends;
 pub mod fault;
 pub mod numbers;
 pub mod program;
+mod script;
+mod script_text;
 mod tell;
 mod watch;
 
 pub use fault::ProgramFault;
 pub use packet_lines::{LinesFault, cut_lines};
+pub use script::{Script, ScriptFault};
 pub use unit_cut::{CutFault, cut};
 
+#[cfg(test)]
+mod script_tests;
 #[cfg(test)]
 mod tests;
