@@ -18,3 +18,8 @@ pub use pat_reader::PatReader;
 pub use purpose::{Listed, Purpose};
 pub use streams::{StreamPacket, Streams};
 pub use tables::{LentTable, Tables};
+
+#[cfg(test)]
+mod networks;
+#[cfg(test)]
+mod tests;
