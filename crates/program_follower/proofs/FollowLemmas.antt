@@ -1,4 +1,5 @@
 -- One packet more, for the whole follower.
+use Rattle.std.specs.Option.{option_or}
 use Rattle.std.proofs.Common.{◌≡◌, ℕ, ℤ, List, [], ◌∷◌, Bool, true, false, ◌&&◌, refl, sym, ap, subst, ◌∙◌, if◌then◌else◌, map, Option, Some, None}
 use Rattle.std.specs.Prelude.{option_map, is_some}
 use Rattle.psi_tables.specs.declared.network.NetworkFault.{NetworkFault}
@@ -12,7 +13,7 @@ use Rattle.program_follower.specs.declared.purpose.Purpose.{Purpose}
 use Rattle.program_follower.specs.declared.purpose.Listed.{Listed}
 use Rattle.program_follower.specs.Standing.{sections_on, newest}
 use Rattle.program_follower.specs.declared.streams.Streams.{Streams}
-use Rattle.program_follower.specs.Program.{earlier, listed, since_pat, table_of, tables_on, tables, all_tables, first_map, known_map, Program, program_in, program_of, behind_head, pids_of}
+use Rattle.program_follower.specs.Program.{listed, since_pat, table_of, tables_on, tables, all_tables, first_map, known_map, Program, program_in, program_of, behind_head, pids_of}
 use Rattle.program_follower.specs.Faults.{if_bad, on_cue, cue_fault, pats_fault, maps_fault, as_network, network_fault}
 use Rattle.program_follower.specs.Following.{StreamsSince, GoesTo, grown}
 use Rattle.program_follower.proofs.StepLemmas.{known_grows, listed_stays}
@@ -33,29 +34,29 @@ module _ (c : Purpose) (p : List ℕ) (past : List (List ℕ)) where
   no_cue_fault h = ap (λ b. if_bad b CuePidUsed) h
 
   pub fault_of_cue : c.writes_cues && on_cue c.cue_pid p ≡ true → network_fault c p past ≡ Some CuePidUsed
-  fault_of_cue h = ap (λ b. earlier (if_bad b CuePidUsed) (earlier pats (earlier maps units))) h
+  fault_of_cue h = ap (λ b. option_or (if_bad b CuePidUsed) (option_or pats (option_or maps units))) h
 
   module _ (h : c.writes_cues && on_cue c.cue_pid p ≡ false) where
-    behind_cue : network_fault c p past ≡ earlier pats (earlier maps units)
-    behind_cue = ap (λ x. earlier x (earlier pats (earlier maps units))) (no_cue_fault h)
+    behind_cue : network_fault c p past ≡ option_or pats (option_or maps units)
+    behind_cue = ap (λ x. option_or x (option_or pats (option_or maps units))) (no_cue_fault h)
 
     pub fault_of_pats : (f : NetworkFault) → pats ≡ Some f → network_fault c p past ≡ Some f
-    fault_of_pats f e = behind_cue ∙ ap (λ x. earlier x (earlier maps units)) e
+    fault_of_pats f e = behind_cue ∙ ap (λ x. option_or x (option_or maps units)) e
 
     module _ (clean : pats ≡ None) where
-      behind_pats : network_fault c p past ≡ earlier maps units
-      behind_pats = behind_cue ∙ ap (λ x. earlier x (earlier maps units)) clean
+      behind_pats : network_fault c p past ≡ option_or maps units
+      behind_pats = behind_cue ∙ ap (λ x. option_or x (option_or maps units)) clean
 
       pub fault_of_maps : (f : NetworkFault) → maps ≡ Some f → network_fault c p past ≡ Some f
-      fault_of_maps f e = behind_pats ∙ ap (λ x. earlier x units) e
+      fault_of_maps f e = behind_pats ∙ ap (λ x. option_or x units) e
 
       module _ (sound : maps ≡ None) where
         pub fault_of_units : (o : Option NetworkFault) → units ≡ o → network_fault c p past ≡ o
-        fault_of_units o e = behind_pats ∙ ap (λ x. earlier x units) sound ∙ e
+        fault_of_units o e = behind_pats ∙ ap (λ x. option_or x units) sound ∙ e
 
 -- ---- what is known, and the packets behind the head
 
-stays_by : (o more : Option ProgramMap) → GoesTo (option_map program_in o) (option_map program_in (earlier o more))
+stays_by : (o more : Option ProgramMap) → GoesTo (option_map program_in o) (option_map program_in (option_or o more))
 stays_by None more r h = absurd (cc)
 stays_by (Some m) more r h = h
 

@@ -1,4 +1,4 @@
-pub mod EarlierLemmas
+pub mod OptionLemmas
 pub mod StepLemmas
 pub mod PatLemmas
 pub mod JudgingLemmas

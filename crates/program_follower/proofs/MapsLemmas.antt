@@ -1,4 +1,5 @@
 -- The sections on the PID of the map, one after another.
+use Rattle.std.specs.Option.{option_or}
 use Rattle.std.proofs.Common.{◌≡◌, ℕ, List, [], ◌∷◌, Bool, true, false, map, Option, Some, None, refl, sym, ap, subst, ◌∙◌}
 use Rattle.std.specs.Prelude.{option_map}
 use Rattle.ts_packet.specs.Fields.{on}
@@ -13,22 +14,19 @@ use Rattle.program_follower.specs.declared.purpose.Purpose.{Purpose}
 use Rattle.program_follower.specs.declared.purpose.Listed.{Listed}
 use Rattle.program_follower.specs.declared.known.KnownProgram.{KnownProgram}
 use Rattle.program_follower.specs.declared.map_reader.MapReader.{MapReader}
-use Rattle.program_follower.specs.Program.{earlier, listed, since_pat, Table, table_of, tables, known_map, map_read, first_map, Program, program_in}
+use Rattle.program_follower.specs.Program.{listed, since_pat, tables_in, tables, known_map, map_read, first_map, Program, program_in}
 use Rattle.program_follower.specs.Faults.{table_fault, tables_fault, maps_fault}
 use Rattle.program_follower.specs.Standing.{known_seen, GivesSince, sections_on, newest, MapsRead}
 use Rattle.program_follower.specs.Judging.{section_fault}
-use Rattle.program_follower.proofs.EarlierLemmas.{earlier-assoc, earlier-none}
+use Rattle.program_follower.proofs.OptionLemmas.{option_or-assoc, option_or-none}
 use Rattle.program_follower.proofs.StepLemmas.{known_grows, listed_stays, since_stays, tables_at, tables_off, known_off}
-
-abbrev pub tables_of : Listed → List (List ℕ) → List Table
-tables_of l ss = map (table_of l.program) ss
 
 -- some are judged, and the rest is to come
 pub record JudgingMaps (c : Purpose) (l : Listed) (before : Option ProgramMap) (all : List (List ℕ)) (known : Option Program) (rest : List (List ℕ)) : Type 0 where
   pub first : Option ProgramMap
   pub known_is : known ≡ option_map program_in first
-  pub fault : tables_fault c l.pid before (tables_of l all) ≡ tables_fault c l.pid first (tables_of l rest)
-  pub first_so : earlier before (first_map (tables_of l all)) ≡ earlier first (first_map (tables_of l rest))
+  pub fault : tables_fault c l.pid before (tables_in l all) ≡ tables_fault c l.pid first (tables_in l rest)
+  pub first_so : option_or before (first_map (tables_in l all)) ≡ option_or first (first_map (tables_in l rest))
 
 pub maps_begin : (c : Purpose) (l : Listed) (before : Option ProgramMap) (all : List (List ℕ)) (known : Option Program) → known ≡ option_map program_in before → JudgingMaps c l before all known all
 maps_begin c l before all known h = record { first = before; known_is = h; fault = refl; first_so = refl }
@@ -38,35 +36,35 @@ pub section_is_table : (c : Purpose) (pid : ℕ) (first o : Option ProgramMap) �
 section_is_table c pid first None = refl
 section_is_table c pid first (Some m) = refl
 
-earlier_program : (x y : Option ProgramMap) → earlier (option_map program_in x) (option_map program_in y) ≡ option_map program_in (earlier x y)
-earlier_program None y = refl
-earlier_program (Some m) y = refl
+or_program : (x y : Option ProgramMap) → option_or (option_map program_in x) (option_map program_in y) ≡ option_map program_in (option_or x y)
+or_program None y = refl
+or_program (Some m) y = refl
 
 module _ (c : Purpose) (l : Listed) (before : Option ProgramMap) (all : List (List ℕ)) (known : Option Program) (rest : List (List ℕ)) (j : JudgingMaps c l before all known rest) where
   fault_here : (s : List ℕ) (f : Option NetworkFault) → section_fault c l.pid known (map_read l.program (pmt s)) ≡ f → table_fault c l.pid j.first (map_read l.program (pmt s)) ≡ f
   fault_here s f h = sym (ap (λ k. section_fault c l.pid k (map_read l.program (pmt s))) j.known_is ∙ section_is_table c l.pid j.first (map_read l.program (pmt s))) ∙ h
 
   pub maps_more : (s : List ℕ) (rest' : List (List ℕ)) (next : Option Program) → rest ≡ s ∷ rest' → section_fault c l.pid known (map_read l.program (pmt s)) ≡ None
-      → next ≡ earlier known (option_map program_in (map_read l.program (pmt s))) → JudgingMaps c l before all next rest'
+      → next ≡ option_or known (option_map program_in (map_read l.program (pmt s))) → JudgingMaps c l before all next rest'
   maps_more s rest' next e h n =
       let m = map_read l.program (pmt s) in
       record {
-        first = earlier j.first m;
-        known_is = n ∙ ap (λ k. earlier k (option_map program_in m)) j.known_is ∙ earlier_program j.first m;
-        fault = j.fault ∙ ap (λ ss. tables_fault c l.pid j.first (tables_of l ss)) e ∙ ap (λ x. earlier x (tables_fault c l.pid (earlier j.first m) (tables_of l rest'))) (fault_here s None h);
-        first_so = j.first_so ∙ ap (λ ss. earlier j.first (first_map (tables_of l ss))) e ∙ sym (earlier-assoc j.first m (first_map (tables_of l rest')));
+        first = option_or j.first m;
+        known_is = n ∙ ap (λ k. option_or k (option_map program_in m)) j.known_is ∙ or_program j.first m;
+        fault = j.fault ∙ ap (λ ss. tables_fault c l.pid j.first (tables_in l ss)) e ∙ ap (λ x. option_or x (tables_fault c l.pid (option_or j.first m) (tables_in l rest'))) (fault_here s None h);
+        first_so = j.first_so ∙ ap (λ ss. option_or j.first (first_map (tables_in l ss))) e ∙ sym (option_or-assoc j.first m (first_map (tables_in l rest')));
       }
 
-  pub maps_done : rest ≡ [] → (tables_fault c l.pid before (tables_of l all) ≡ None) × (known ≡ option_map program_in (earlier before (first_map (tables_of l all))))
+  pub maps_done : rest ≡ [] → (tables_fault c l.pid before (tables_in l all) ≡ None) × (known ≡ option_map program_in (option_or before (first_map (tables_in l all))))
   maps_done e = (
-    j.fault ∙ ap (λ ss. tables_fault c l.pid j.first (tables_of l ss)) e,
-    j.known_is ∙ ap (option_map program_in) (sym (j.first_so ∙ ap (λ ss. earlier j.first (first_map (tables_of l ss))) e ∙ earlier-none j.first)),
+    j.fault ∙ ap (λ ss. tables_fault c l.pid j.first (tables_in l ss)) e,
+    j.known_is ∙ ap (option_map program_in) (sym (j.first_so ∙ ap (λ ss. option_or j.first (first_map (tables_in l ss))) e ∙ option_or-none j.first)),
   )
 
-  pub maps_fail : (s : List ℕ) (rest' : List (List ℕ)) (f : NetworkFault) → rest ≡ s ∷ rest' → section_fault c l.pid known (map_read l.program (pmt s)) ≡ Some f → tables_fault c l.pid before (tables_of l all) ≡ Some f
+  pub maps_fail : (s : List ℕ) (rest' : List (List ℕ)) (f : NetworkFault) → rest ≡ s ∷ rest' → section_fault c l.pid known (map_read l.program (pmt s)) ≡ Some f → tables_fault c l.pid before (tables_in l all) ≡ Some f
   maps_fail s rest' f e h =
       let m = map_read l.program (pmt s) in
-      j.fault ∙ ap (λ ss. tables_fault c l.pid j.first (tables_of l ss)) e ∙ ap (λ x. earlier x (tables_fault c l.pid (earlier j.first m) (tables_of l rest'))) (fault_here s (Some f) h)
+      j.fault ∙ ap (λ ss. tables_fault c l.pid j.first (tables_in l ss)) e ∙ ap (λ x. option_or x (tables_fault c l.pid (option_or j.first m) (tables_in l rest'))) (fault_here s (Some f) h)
 
 -- ---- one packet more
 
@@ -100,19 +98,19 @@ module _ (c : Purpose) (r : MapReader) (l : Listed) (p : List ℕ) (past : List 
       ∙ ap (λ x. maps_fault c x (known_map c.program past) []) (sym at)
 
   module _ (a : Assembler) (g : Gives a l.pid (p ∷ since) (given l.pid p since)) (ss : List (List ℕ)) (ss_is : ss ≡ left a) where
-    tables_are : tables_of l ss ≡ tables c.program p past
-    tables_are = ap (tables_of l) (ss_is ∙ g.todo_left) ∙ sym (tables_at c.program p past l (sym at))
+    tables_are : tables_in l ss ≡ tables c.program p past
+    tables_are = ap (tables_in l) (ss_is ∙ g.todo_left) ∙ sym (tables_at c.program p past l (sym at))
 
-    pub maps_on : (k : Option KnownProgram) → known_seen k ≡ option_map program_in (earlier (known_map c.program past) (first_map (tables_of l ss)))
+    pub maps_on : (k : Option KnownProgram) → known_seen k ≡ option_map program_in (option_or (known_map c.program past) (first_map (tables_in l ss)))
         → MapsRead (record { assembler = a; known = k; is_on_map = true }) c.program (p ∷ past)
     maps_on k e = record {
       todo = given l.pid p since;
       assembler = gives_next a (given l.pid p since) g;
-      program = e ∙ ap (λ ts. option_map program_in (earlier (known_map c.program past) (first_map ts))) tables_are ∙ ap (option_map program_in) (sym (known_grows c.program p past));
+      program = e ∙ ap (λ ts. option_map program_in (option_or (known_map c.program past) (first_map ts))) tables_are ∙ ap (option_map program_in) (sym (known_grows c.program p past));
       newest_is = g.todo_left ∙ sym newest_at;
     }
 
-    pub maps_fault_on : (o : Option NetworkFault) → tables_fault c l.pid (known_map c.program past) (tables_of l ss) ≡ o
+    pub maps_fault_on : (o : Option NetworkFault) → tables_fault c l.pid (known_map c.program past) (tables_in l ss) ≡ o
         → maps_fault c (listed c.program past) (known_map c.program past) (tables c.program p past) ≡ o
     maps_fault_on o e =
         ap (λ x. maps_fault c x (known_map c.program past) (tables c.program p past)) (sym at)

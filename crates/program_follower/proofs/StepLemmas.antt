@@ -1,23 +1,24 @@
 -- One packet more, behind the PAT.
+use Rattle.std.specs.Option.{option_or}
 use Rattle.std.proofs.Common.{◌≡◌, ℕ, List, [], ◌∷◌, ◌++◌, map, true, false, refl, sym, ap, ◌∙◌, Option, Some, None}
 use Rattle.std.proofs.lemmas.List.{append-nil}
 use Rattle.ts_packet.specs.Fields.{on}
 use Rattle.psi_section.specs.Sections.{given}
 use Rattle.psi_section.proofs.RunLemmas.{given_off}
 use Rattle.program_follower.specs.declared.purpose.Listed.{Listed}
-use Rattle.program_follower.specs.Program.{earlier, first_listed, listed, since_pat, Table, table_of, tables, all_tables, first_map, known_map}
-use Rattle.program_follower.proofs.EarlierLemmas.{earlier-assoc}
+use Rattle.program_follower.specs.Program.{first_listed, listed, since_pat, Table, table_of, tables, all_tables, first_map, known_map}
+use Rattle.program_follower.proofs.OptionLemmas.{option_or-assoc}
 
-pub first_map-append : (ts us : List Table) → first_map (ts ++ us) ≡ earlier (first_map ts) (first_map us)
+pub first_map-append : (ts us : List Table) → first_map (ts ++ us) ≡ option_or (first_map ts) (first_map us)
 first_map-append [] us = refl
-first_map-append (t ∷ ts) us = ap (earlier t.program_map) (first_map-append ts us) ∙ sym (earlier-assoc t.program_map (first_map ts) (first_map us))
+first_map-append (t ∷ ts) us = ap (option_or t.program_map) (first_map-append ts us) ∙ sym (option_or-assoc t.program_map (first_map ts) (first_map us))
 
-pub known_grows : (wanted : Option ℕ) (p : List ℕ) (past : List (List ℕ)) → known_map wanted (p ∷ past) ≡ earlier (known_map wanted past) (first_map (tables wanted p past))
+pub known_grows : (wanted : Option ℕ) (p : List ℕ) (past : List (List ℕ)) → known_map wanted (p ∷ past) ≡ option_or (known_map wanted past) (first_map (tables wanted p past))
 known_grows wanted p past = first_map-append (all_tables wanted past) (tables wanted p past)
 
 module _ (wanted : Option ℕ) (p : List ℕ) (past : List (List ℕ)) (l : Listed) (h : listed wanted past ≡ Some l) where
   pub listed_stays : listed wanted (p ∷ past) ≡ Some l
-  listed_stays = ap (λ x. earlier x (first_listed wanted (given 0 p past))) h
+  listed_stays = ap (λ x. option_or x (first_listed wanted (given 0 p past))) h
 
   pub since_stays : since_pat wanted (p ∷ past) ≡ p ∷ since_pat wanted past
   since_stays = simp h

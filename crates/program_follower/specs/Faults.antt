@@ -1,4 +1,5 @@
 -- What a network's tables may not say, and which packets may not come, by the packets that came before, newest first.
+use Rattle.std.specs.Option.{option_or}
 use Rattle.std.specs.Prelude.{ℕ, List, [], ◌∷◌, map, length, Bool, true, false, not, ◌&&◌, ◌||◌, ◌==◌, nat_lt, if◌then◌else◌, Option, Some, None, option_map, Result, Ok, Err}
 use Rattle.std.specs.List.{list_any}
 use Rattle.ts_packet.specs.Fields.{on}
@@ -18,7 +19,7 @@ use Rattle.unit_stream.specs.declared.fault.UnitFault.TheVariants as unit_faults
 use Rattle.unit_stream.specs.Faults.{unit_fault}
 use Rattle.program_follower.specs.declared.purpose.Purpose.{Purpose}
 use Rattle.program_follower.specs.declared.purpose.Listed.{Listed}
-use Rattle.program_follower.specs.Program.{earlier, lists, listed, listed_in, Table, tables, all_tables, first_map, Program, program_in, program_of, behind_head, pids_of}
+use Rattle.program_follower.specs.Program.{lists, listed, listed_in, Table, tables, known_map, Program, program_in, program_of, behind_head, pids_of}
 
 -- it is this PID, where there is one
 abbrev pub is_pid : Option ℕ → ℕ → Bool
@@ -42,7 +43,7 @@ cue_fault c p = if_bad (c.writes_cues && on_cue c.cue_pid p) CuePidUsed
 -- what is wrong with the PID of the PMT alone
 abbrev pub pmt_pid_fault : Purpose → Option Listed → Option NetworkFault
 pmt_pid_fault c None = None
-pmt_pid_fault c (Some l) = earlier (if_bad ((l.pid == 0) || (l.pid == 8191)) BadPids) (if_bad (is_pid c.cue_pid l.pid) CuePidUsed)
+pmt_pid_fault c (Some l) = option_or (if_bad ((l.pid == 0) || (l.pid == 8191)) BadPids) (if_bad (is_pid c.cue_pid l.pid) CuePidUsed)
 
 abbrev pub differs : ℕ → Option ℕ → Bool
 differs pid None = true
@@ -62,7 +63,7 @@ pat_fault c known (Err table_faults.BadLength) = None
 -- the first fault of the sections that one packet finishes on PID 0
 abbrev pub pats_fault : Purpose → Option Listed → List (List ℕ) → Option NetworkFault
 pats_fault c known [] = None
-pats_fault c known (s ∷ ss) = earlier (pat_fault c known (pat s)) (pats_fault c (earlier known (lists c.program s)) ss)
+pats_fault c known (s ∷ ss) = option_or (pat_fault c known (pat s)) (pats_fault c (option_or known (lists c.program s)) ss)
 
 -- ---- a PMT of the program
 
@@ -85,9 +86,14 @@ bad_pid pmt_pid pid = (pid == 0) || (pid == pmt_pid)
 abbrev pub bad_switched : List ℕ → ℕ → Bool
 bad_switched pids pid = (pid == 8191) || is_twice pid pids
 
+abbrev pub switches_bad_pid : List Stream → Bool
+switches_bad_pid streams = list_any (bad_switched (pids_in streams)) (pids_in (switched_of streams))
+
 abbrev pub bad_pids : ℕ → List Stream → ℕ → Bool
-bad_pids pmt_pid streams pcr_pid =
-    list_any (bad_pid pmt_pid) (pcr_pid ∷ pids_in streams) || list_any (bad_switched (pids_in streams)) (pids_in (switched_of streams))
+bad_pids pmt_pid streams pcr_pid = list_any (bad_pid pmt_pid) (pcr_pid ∷ pids_in streams) || switches_bad_pid streams
+
+abbrev pub has_bad_pids : ℕ → ProgramMap → Bool
+has_bad_pids pmt_pid m = bad_pids pmt_pid (streams_of m) (pid_in m.pcr_field)
 
 -- the PIDs on which no cue may stand
 abbrev pub cue_used : Purpose → List Stream → ℕ → Bool
@@ -98,6 +104,9 @@ same_streams [] [] = true
 same_streams [] (t ∷ ts) = false
 same_streams (s ∷ ss) [] = false
 same_streams (s ∷ ss) (t ∷ ts) = ((s.kind == t.kind) && (s.pid == t.pid)) && same_streams ss ts
+
+abbrev pub uses_cue_pid : Purpose → ProgramMap → Bool
+uses_cue_pid c m = cue_used c (streams_of m) (pid_in m.pcr_field)
 
 -- another list of switched streams than the program's, or another PCR PID
 abbrev pub changed_by : Option Program → List Stream → ℕ → Bool
@@ -119,10 +128,10 @@ too_long (Some cue) m = nat_lt 1021 (map_length (descriptors_bytes (with_cue_ent
 -- what is wrong with a map, by the PMT's PID and what is known of the program, where this is a later map
 abbrev pub map_fault_from : Purpose → ℕ → Option Program → ProgramMap → Option NetworkFault
 map_fault_from c pmt_pid known m =
-    earlier (if_bad (nat_lt 8 (length (switched_of (streams_of m)))) TooManyStreams)
-    (earlier (if_bad (bad_pids pmt_pid (streams_of m) (pid_in m.pcr_field)) BadPids)
-    (earlier (if_bad (cue_used c (streams_of m) (pid_in m.pcr_field)) CuePidUsed)
-    (earlier (if_bad (changed_from known m) ProgramChanged)
+    option_or (if_bad (nat_lt 8 (length (switched_of (streams_of m)))) TooManyStreams)
+    (option_or (if_bad (has_bad_pids pmt_pid m) BadPids)
+    (option_or (if_bad (uses_cue_pid c m) CuePidUsed)
+    (option_or (if_bad (changed_from known m) ProgramChanged)
     (if_bad (c.writes_cues && too_long c.cue_pid m) PmtTooLong))))
 
 -- by the program's first map
@@ -136,7 +145,7 @@ table_fault c pmt_pid first (Some m) = map_fault c pmt_pid first m
 -- the first fault of the sections that one packet finishes on the PMT's PID
 abbrev pub tables_fault : Purpose → ℕ → Option ProgramMap → List Table → Option NetworkFault
 tables_fault c pmt_pid first [] = None
-tables_fault c pmt_pid first (t ∷ ts) = earlier (table_fault c pmt_pid first t.program_map) (tables_fault c pmt_pid (earlier first t.program_map) ts)
+tables_fault c pmt_pid first (t ∷ ts) = option_or (table_fault c pmt_pid first t.program_map) (tables_fault c pmt_pid (option_or first t.program_map) ts)
 
 abbrev pub maps_fault : Purpose → Option Listed → Option ProgramMap → List Table → Option NetworkFault
 maps_fault c None first ts = None
@@ -150,16 +159,22 @@ as_network (Some unit_faults.Scrambled) = Some Scrambled
 as_network (Some unit_faults.HeaderSplit) = Some HeaderSplit
 as_network (Some unit_faults.TimeJump) = Some TimeJump
 
+-- of the PATs that a packet finishes, of the maps of the program that it finishes, and of the unit that it is of
+abbrev pub pats_fault_at : Purpose → List ℕ → List (List ℕ) → Option NetworkFault
+pats_fault_at c p past = pats_fault c (listed c.program past) (given 0 p past)
+
+abbrev pub maps_fault_at : Purpose → List ℕ → List (List ℕ) → Option NetworkFault
+maps_fault_at c p past = maps_fault c (listed c.program past) (known_map c.program past) (tables c.program p past)
+
+abbrev pub unit_fault_at : Purpose → List ℕ → List (List ℕ) → Option NetworkFault
+unit_fault_at c p past = as_network (unit_fault (pids_of (program_of c.program past)) p (behind_head c.program past))
+
 -- What is wrong with a packet, by the packets before it. It is of one PID, so that at most one of these speaks of it where the PIDs
 -- of the program are good.
 abbrev pub network_fault : Purpose → List ℕ → List (List ℕ) → Option NetworkFault
-network_fault c p past =
-    earlier (cue_fault c p)
-    (earlier (pats_fault c (listed c.program past) (given 0 p past))
-    (earlier (maps_fault c (listed c.program past) (first_map (all_tables c.program past)) (tables c.program p past))
-    (as_network (unit_fault (pids_of (program_of c.program past)) p (behind_head c.program past)))))
+network_fault c p past = option_or (cue_fault c p) (option_or (pats_fault_at c p past) (option_or (maps_fault_at c p past) (unit_fault_at c p past)))
 
 -- the first fault of a whole run, newest packet first
 abbrev pub first_fault : Purpose → List (List ℕ) → Option NetworkFault
 first_fault c [] = None
-first_fault c (p ∷ past) = earlier (first_fault c past) (network_fault c p past)
+first_fault c (p ∷ past) = option_or (first_fault c past) (network_fault c p past)

@@ -1,13 +1,13 @@
 -- What a follower stands for after the packets that it has seen, newest first, and what a packet is to it.
-use Rattle.std.specs.Prelude.{◌≡◌, ℕ, List, [], ◌∷◌, Bool, true, false, Option, Some, None, option_map}
-use Rattle.std.specs.Borrow.{Bor}
+use Rattle.std.specs.Prelude.{◌≡◌, ℕ, ℤ, List, [], ◌∷◌, Bool, true, false, Option, Some, None}
 use Rattle.ts_packet.specs.Fields.{in_error, on}
+use Rattle.unit_stream.specs.Times.{high}
 use Rattle.psi_tables.specs.declared.network.NetworkFault.{NetworkFault}
 use Rattle.psi_tables.specs.declared.stream.Stream.{Stream}
 use Rattle.program_follower.specs.declared.purpose.Purpose.{Purpose}
 use Rattle.program_follower.specs.declared.purpose.Listed.{Listed}
-use Rattle.program_follower.specs.declared.known.KnownProgram.{KnownProgram}
 use Rattle.program_follower.specs.declared.streams.Streams.{Streams}
+use Rattle.program_follower.specs.declared.streams.StreamPacket.{StreamPacket}
 use Rattle.program_follower.specs.declared.follower.ProgramFollower.{ProgramFollower}
 use Rattle.program_follower.specs.declared.follower.FollowFault.{FollowFault}
 use Rattle.program_follower.specs.declared.follower.FollowFault.TheVariants.{Network, Failed}
@@ -15,7 +15,7 @@ use Rattle.program_follower.specs.declared.follower.Place.{Place}
 use Rattle.program_follower.specs.declared.follower.Place.TheVariants as places
 use Rattle.program_follower.specs.Program.{listed, Program, program_of, behind_head, pids_of}
 use Rattle.program_follower.specs.Faults.{on_cue}
-use Rattle.program_follower.specs.Standing.{PatsRead, MapsRead, program_seen}
+use Rattle.program_follower.specs.Standing.{PatsRead, MapsRead}
 use Rattle.program_follower.specs.Streaming.{first_on, StreamsRead, IsOfStream}
 
 -- the streams are followed from the end of the head on
@@ -34,10 +34,6 @@ abbrev pub grown : Option Program → List ℕ → List (List ℕ) → List (Lis
 grown None p past = []
 grown (Some r) p past = p ∷ past
 
--- what is known, lent
-abbrev pub lent_program : Option (Bor KnownProgram) → Option Program
-lent_program known = option_map (λ k. program_seen k.now) known
-
 -- It follows for this purpose, was fed this past, and answered no fault.
 pub record FollowerStandsFor (f : ProgramFollower) (c : Purpose) (past : List (List ℕ)) : Type 0 where
   pub purpose : f.purpose ≡ c
@@ -46,10 +42,29 @@ pub record FollowerStandsFor (f : ProgramFollower) (c : Purpose) (past : List (L
   pub streams : StreamsSince f.streams (program_of c.program past) (behind_head c.program past)
   pub whole : f.is_spent ≡ false
 
+-- what holds of the packets that it was fed, for its purpose; and for the purpose that it has
+abbrev pub OfPast : ProgramFollower → (Purpose → List (List ℕ) → Type 0) → Type 0
+OfPast f holds = (c : Purpose) (past : List (List ℕ)) → FollowerStandsFor f c past → holds c past
+
+abbrev pub OfRun : ProgramFollower → (List (List ℕ) → Type 0) → Type 0
+OfRun f holds = (past : List (List ℕ)) → FollowerStandsFor f f.purpose past → holds past
+
+-- what holds of the packets behind the head, where the streams were followed for what was known before
+abbrev pub OfStreams : Option Streams → Option Program → (Option Program → List (List ℕ) → Type 0) → Type 0
+OfStreams s known holds = (r : Option Program) (past : List (List ℕ)) → GoesTo r known → StreamsSince s r past → holds r past
+
+-- the greatest time of the units that have begun behind the head
+abbrev pub high_of : Option ℕ → List (List ℕ) → Option ℤ
+high_of wanted past = high (pids_of (program_of wanted past)) (behind_head wanted past)
+
 -- the packet is on the PID of the map, behind the PAT
 abbrev pub on_map : Option Listed → List ℕ → Bool
 on_map None p = false
 on_map (Some l) p = on l.pid p
+
+-- of which switched stream a packet is, behind this past
+abbrev pub IsSwitched : Option (ℕ × StreamPacket) → Purpose → List ℕ → List (List ℕ) → Type 0
+IsSwitched x c p past = IsOfStream x (pids_of (program_of c.program past)) p (behind_head c.program past)
 
 -- what a packet is behind this past
 abbrev pub IsPlace : Place → Purpose → List ℕ → List (List ℕ) → Type 0
@@ -57,7 +72,7 @@ IsPlace places.Marked c p past = in_error p ≡ true
 IsPlace places.Cue c p past = on_cue c.cue_pid p ≡ true
 IsPlace places.Map c p past = (on_cue c.cue_pid p ≡ false) × (on_map (listed c.program past) p ≡ true)
 IsPlace (places.Stream i x) c p past = (on_cue c.cue_pid p ≡ false) × (on_map (listed c.program past) p ≡ false)
-    × IsOfStream (Some (i, x)) (pids_of (program_of c.program past)) p (behind_head c.program past)
+    × IsSwitched (Some (i, x)) c p past
 IsPlace places.Other c p past = (in_error p ≡ false) × (on_cue c.cue_pid p ≡ false) × (on_map (listed c.program past) p ≡ false)
     × (first_on (pids_of (program_of c.program past)) p ≡ None)
 

@@ -4,3 +4,5 @@ pub mod Standing
 pub mod Judging
 pub mod Streaming
 pub mod Following
+pub mod Purposes
+pub mod FirstFault

@@ -1,5 +1,6 @@
 -- What the parts of a follower stand for after the packets that they have seen, newest first.
 use Rattle.std.specs.Prelude.{◌≡◌, ℕ, ◌<◌, List, [], ◌∷◌, length, Bool, if◌then◌else◌, map, slice_index_or, Option, Some, None, option_map}
+use Rattle.std.specs.Borrow.{Bor}
 use Rattle.ts_packet.specs.Fields.{on}
 use Rattle.psi_section.specs.declared.assembler.Assembler.{Assembler}
 use Rattle.psi_section.specs.Sections.{given}
@@ -28,6 +29,10 @@ program_seen k = record { streams = k.streams.items; pcr_pid = k.pcr_pid }
 
 abbrev pub known_seen : Option KnownProgram → Option Program
 known_seen known = option_map program_seen known
+
+-- what is known, lent
+abbrev pub lent_program : Option (Bor KnownProgram) → Option Program
+lent_program known = option_map (λ k. program_seen k.now) known
 
 -- a table that is lent, by its bytes
 abbrev pub table_seen : LentTable → Table

@@ -1,14 +1,15 @@
 //! One program of a network, packet by packet.
 
-ghost use Rattle.std.specs.Prelude.{◌≡◌, ◌&&◌, ◌∷◌, [], ℕ, List, map, Option, Some, None, option_map, is_some, true, OnOk, IfOk, IfErr};
+ghost use Rattle.std.specs.Prelude.{◌≡◌, ◌≤◌, ◌&&◌, ◌∷◌, [], ℕ, List, length, Option, Some, None, option_map, is_some, true};
+ghost use Rattle.std.specs.Prelude.{OnOk, IfOk, IfErr};
 ghost use Rattle.pes_time.specs.Line.{ring_of};
-ghost use Rattle.unit_stream.specs.Times.{high};
 ghost use Rattle.unit_stream.specs.Faults.{unit_fault};
-ghost use Rattle.program_follower.specs.Program.{listed, tables, Program, program_of, known_map, behind_head, pids_of, pmt_pid_of};
+ghost use Rattle.program_follower.specs.Program.{listed, tables, Program, program_of, known_map, pids_of};
 ghost use Rattle.program_follower.specs.Faults.{network_fault, on_cue, as_network};
-ghost use Rattle.program_follower.specs.Standing.{tables_left};
+ghost use Rattle.program_follower.specs.Standing.{tables_left, lent_program};
 ghost use Rattle.program_follower.specs.Streaming.{IsOfStream};
-ghost use Rattle.program_follower.specs.Following.{FollowerStandsFor, StreamsSince, GoesTo, grown, lent_program, IsPlace, IsNetwork, streams_of_program, on_map};
+ghost use Rattle.program_follower.specs.Following.{FollowerStandsFor, OfPast, OfRun, OfStreams, StreamsSince, grown, high_of};
+ghost use Rattle.program_follower.specs.Following.{IsPlace, IsSwitched, IsNetwork, streams_of_program, on_map};
 
 use crate::known::KnownProgram;
 use crate::map_reader::MapReader;
@@ -79,13 +80,10 @@ impl ProgramFollower {
     ///
     /// `Network` with what is wrong with the packet behind those before it; `Failed` once a fault was answered.
     pub fn feed(&mut self, packet: &Packet) -> Result<Place, FollowFault>
-        ensures stands { (c : Purpose) (past : List (List ℕ)) → FollowerStandsFor self.old c past
-            → OnOk result (FollowerStandsFor self.new c (packet.now ∷ past)) }
-        ensures sound { (c : Purpose) (past : List (List ℕ)) → FollowerStandsFor self.old c past
-            → OnOk result (network_fault c packet.now past ≡ None) }
-        ensures place { (c : Purpose) (past : List (List ℕ)) → FollowerStandsFor self.old c past → IfOk result (λ x. IsPlace x c packet.now past) }
-        ensures err { (c : Purpose) (past : List (List ℕ)) → FollowerStandsFor self.old c past
-            → IfErr result (λ f. IsNetwork f (network_fault c packet.now past)) }
+        ensures stands { OfPast self.old (λ c past. OnOk result (FollowerStandsFor self.new c (packet.now ∷ past))) }
+        ensures sound { OfPast self.old (λ c past. OnOk result (network_fault c packet.now past ≡ None)) }
+        ensures place { OfPast self.old (λ c past. IfOk result (λ x. IsPlace x c packet.now past)) }
+        ensures err { OfPast self.old (λ c past. IfErr result (λ f. IsNetwork f (network_fault c packet.now past))) }
         ensures spent { IfErr result (λ _. self.new.is_spent ≡ true) }
         ensures failed { self.old.is_spent ≡ true → result ≡ Err FollowFault.Failed }
     {
@@ -114,8 +112,7 @@ impl ProgramFollower {
 
     /// The greatest time of the units that have begun behind the head, on the ring.
     pub fn high(&self) -> Option<Time33>
-        ensures { (c : Purpose) (past : List (List ℕ)) → FollowerStandsFor self.now c past
-            → result ≡ option_map ring_of (high (pids_of (program_of c.program past)) (behind_head c.program past)) }
+        ensures { OfPast self.now (λ c past. result ≡ option_map ring_of (high_of c.program past)) }
     {
         match &self.streams {
             None => None,
@@ -125,8 +122,7 @@ impl ProgramFollower {
 
     /// The switched streams in the order of the map; none in the head.
     pub fn streams(&self) -> &[Stream]
-        ensures { (c : Purpose) (past : List (List ℕ)) → FollowerStandsFor self.now c past
-            → result.now ≡ streams_of_program (program_of c.program past) }
+        ensures { OfPast self.now (λ c past. result.now ≡ streams_of_program (program_of c.program past)) }
     {
         match self.maps.known() {
             None => &[],
@@ -136,8 +132,7 @@ impl ProgramFollower {
 
     /// The PID of the program's clock references; `None` in the head.
     pub fn pcr_pid(&self) -> Option<Pid>
-        ensures { (c : Purpose) (past : List (List ℕ)) → FollowerStandsFor self.now c past
-            → result ≡ option_map (λ (r : Program). r.pcr_pid) (program_of c.program past) }
+        ensures { OfPast self.now (λ c past. result ≡ option_map (λ (r : Program). r.pcr_pid) (program_of c.program past)) }
     {
         match self.maps.known() {
             None => None,
@@ -147,28 +142,24 @@ impl ProgramFollower {
 
     /// The program and the PID of its map; `None` before the PAT.
     pub fn listed(&self) -> Option<Listed>
-        ensures { (c : Purpose) (past : List (List ℕ)) → FollowerStandsFor self.now c past → result ≡ listed c.program past }
+        ensures { OfPast self.now (λ c past. result ≡ listed c.program past) }
     {
         self.pats.listed()
     }
 
     /// The head is over: a packet has finished the first map of the program.
     pub fn is_behind_head(&self) -> bool
-        ensures { (c : Purpose) (past : List (List ℕ)) → FollowerStandsFor self.now c past → result ≡ is_some (known_map c.program past) }
+        ensures { OfPast self.now (λ c past. result ≡ is_some (known_map c.program past)) }
     {
         self.maps.known().is_some()
     }
 
     /// Takes a packet, and answers what it is, or the first thing that is wrong with it.
     fn take(&mut self, packet: &Packet) -> Result<Place, NetworkFault>
-        ensures stands { (past : List (List ℕ)) → FollowerStandsFor self.old self.old.purpose past
-            → OnOk result (FollowerStandsFor self.new self.old.purpose (packet.now ∷ past)) }
-        ensures sound { (past : List (List ℕ)) → FollowerStandsFor self.old self.old.purpose past
-            → OnOk result (network_fault self.old.purpose packet.now past ≡ None) }
-        ensures place { (past : List (List ℕ)) → FollowerStandsFor self.old self.old.purpose past
-            → IfOk result (λ x. IsPlace x self.old.purpose packet.now past) }
-        ensures err { (past : List (List ℕ)) → FollowerStandsFor self.old self.old.purpose past
-            → IfErr result (λ f. network_fault self.old.purpose packet.now past ≡ Some f) }
+        ensures stands { OfRun self.old (λ past. OnOk result (FollowerStandsFor self.new self.old.purpose (packet.now ∷ past))) }
+        ensures sound { OfRun self.old (λ past. OnOk result (network_fault self.old.purpose packet.now past ≡ None)) }
+        ensures place { OfRun self.old (λ past. IfOk result (λ x. IsPlace x self.old.purpose packet.now past)) }
+        ensures err { OfRun self.old (λ past. IfErr result (λ f. network_fault self.old.purpose packet.now past ≡ Some f)) }
     {
         if is_refused(&self.purpose, packet) {
             return Err(NetworkFault::CuePidUsed);
@@ -196,14 +187,14 @@ fn follow_streams(
     known: Option<&KnownProgram>,
     packet: &Packet,
 ) -> Result<Option<(usize, StreamPacket)>, UnitFault>
-    ensures reads { (r : Option Program) (past : List (List ℕ)) → GoesTo r (lent_program known.entry) → StreamsSince streams.old r past
-        → OnOk result (StreamsSince streams.new (lent_program known.entry) (grown r packet.now past)) }
-    ensures sound { (r : Option Program) (past : List (List ℕ)) → GoesTo r (lent_program known.entry) → StreamsSince streams.old r past
-        → OnOk result (unit_fault (pids_of r) packet.now past ≡ None) }
-    ensures is { (r : Option Program) (past : List (List ℕ)) → GoesTo r (lent_program known.entry) → StreamsSince streams.old r past
-        → IfOk result (λ x. IsOfStream x (pids_of r) packet.now past) }
-    ensures err { (r : Option Program) (past : List (List ℕ)) → GoesTo r (lent_program known.entry) → StreamsSince streams.old r past
-        → IfErr result (λ f. unit_fault (pids_of r) packet.now past ≡ Some f) }
+    ensures reads { OfStreams streams.old (lent_program known.entry) (λ r past.
+        OnOk result (StreamsSince streams.new (lent_program known.entry) (grown r packet.now past))) }
+    ensures sound { OfStreams streams.old (lent_program known.entry) (λ r past.
+        OnOk result (unit_fault (pids_of r) packet.now past ≡ None)) }
+    ensures is { OfStreams streams.old (lent_program known.entry) (λ r past.
+        IfOk result (λ x. IsOfStream x (pids_of r) packet.now past)) }
+    ensures err { OfStreams streams.old (lent_program known.entry) (λ r past.
+        IfErr result (λ f. unit_fault (pids_of r) packet.now past ≡ Some f)) }
 {
     let Some(known) = known else {
         return Ok(None);
@@ -214,10 +205,21 @@ fn follow_streams(
             Err(fault) => Err(fault),
         },
         None => {
-            *streams = Some(Streams::new(known.streams.as_slice()));
+            begin(streams, known.streams.as_slice());
             Ok(None)
         }
     }
+}
+
+/// Begins to follow the streams, at the end of the head. It is called once in a run, and stands by itself so that no other packet pays
+/// for the room that it takes.
+#[cold]
+#[inline(never)]
+fn begin(streams: &mut Option<Streams>, switched: &[Stream])
+    requires { length switched.now ≤ 8 }
+    ensures { (r : Program) → r.streams ≡ switched.now → StreamsSince streams.new (Some r) [] }
+{
+    *streams = Some(Streams::new(switched));
 }
 
 /// The packet is on the PID of cues that are to be written.
@@ -254,8 +256,9 @@ fn place_of(
     of_stream: Option<(usize, StreamPacket)>,
     packet: &Packet,
 ) -> Place
-    ensures { (c : Purpose) (past : List (List ℕ)) → c.cue_pid ≡ cue_pid → is_map ≡ on_map (listed c.program past) packet.now
-        → IsOfStream of_stream (pids_of (program_of c.program past)) packet.now (behind_head c.program past) → IsPlace result c packet.now past }
+    ensures { (c : Purpose) (past : List (List ℕ)) → c.cue_pid ≡ cue_pid
+        → is_map ≡ on_map (listed c.program past) packet.now → IsSwitched of_stream c packet.now past
+        → IsPlace result c packet.now past }
 {
     if packet.error() {
         return Place::Marked;

@@ -1,12 +1,14 @@
 //! What a map of the program may not say.
 
+ghost use Rattle.std.specs.Option.{option_or};
 ghost use Rattle.std.specs.Prelude.{◌≡◌, ◌&&◌, ◌||◌, ◌==◌, ◌∷◌, if◌then◌else◌, Option, Some, None, OnOk, IfErr};
 ghost use Rattle.std.specs.List.{list_any};
-ghost use Rattle.psi_tables.specs.Streams.{pid_in, switched_of};
+ghost use Rattle.psi_tables.specs.Streams.{switched_of};
 ghost use Rattle.psi_tables.specs.StreamsLeft.{streams_left};
-ghost use Rattle.psi_tables.specs.ProgramMap.{map_of, streams_of};
-ghost use Rattle.program_follower.specs.Program.{earlier, program_in};
-ghost use Rattle.program_follower.specs.Faults.{is_pid, pids_in, is_in, is_twice, bad_pid, bad_switched, bad_pids, cue_used, changed_by, same_streams, too_long, map_fault_from};
+ghost use Rattle.psi_tables.specs.ProgramMap.{map_of};
+ghost use Rattle.program_follower.specs.Program.{program_in};
+ghost use Rattle.program_follower.specs.Faults.{is_pid, pids_in, is_in, is_twice, bad_pid, switches_bad_pid, has_bad_pids, uses_cue_pid, changed_by, same_streams, too_long};
+ghost use Rattle.program_follower.specs.Judging.{fault_of_map};
 ghost use Rattle.program_follower.specs.Standing.{known_seen};
 
 use crate::known::KnownProgram;
@@ -25,9 +27,9 @@ pub(crate) fn judge_map(
     pmt_pid: Pid,
     pmt: &Pmt<'_>,
 ) -> Result<(), NetworkFault>
-    ensures ok { OnOk result ((map_fault_from purpose.now pmt_pid (known_seen known.old) (map_of pmt.now.bytes.now) ≡ None)
-        × (known_seen known.new ≡ earlier (known_seen known.old) (Some (program_in (map_of pmt.now.bytes.now))))) }
-    ensures err { IfErr result (λ f. map_fault_from purpose.now pmt_pid (known_seen known.old) (map_of pmt.now.bytes.now) ≡ Some f) }
+    ensures ok { OnOk result ((fault_of_map purpose.now pmt_pid (known_seen known.old) pmt.now.bytes.now ≡ None)
+        × (known_seen known.new ≡ option_or (known_seen known.old) (Some (program_in (map_of pmt.now.bytes.now))))) }
+    ensures err { IfErr result (λ f. fault_of_map purpose.now pmt_pid (known_seen known.old) pmt.now.bytes.now ≡ Some f) }
 {
     let Ok(streams) = pmt.switched() else {
         return Err(NetworkFault::TooManyStreams);
@@ -55,7 +57,7 @@ pub(crate) fn judge_map(
 
 /// A PID of the map is one that it may not have.
 fn has_bad_pids(pmt: &Pmt<'_>, pmt_pid: Pid) -> bool
-    ensures { result ≡ bad_pids pmt_pid (streams_of (map_of pmt.now.bytes.now)) (pid_in (map_of pmt.now.bytes.now).pcr_field) }
+    ensures { result ≡ has_bad_pids pmt_pid (map_of pmt.now.bytes.now) }
 {
     is_bad_pid(pmt_pid, pmt.pcr_pid())
         || lists_bad_pid(pmt_pid, pmt.entries())
@@ -85,7 +87,7 @@ fn lists_bad_pid(pmt_pid: Pid, entries: Entries<'_>) -> bool
 /// A switched stream has the PID of null packets, or one that stands twice.
 #[tactic(auto, using(crate::proofs::JudgingLemmas::found_switched, crate::proofs::JudgingLemmas::other_switched, crate::proofs::JudgingLemmas::passed_switched))]
 fn switches_bad_pid(entries: Entries<'_>) -> bool
-    ensures { result ≡ list_any (bad_switched (pids_in (streams_left entries.entry))) (pids_in (switched_of (streams_left entries.entry))) }
+    ensures { result ≡ switches_bad_pid (streams_left entries.entry) }
 {
     for stream in entries {
         if is_switched_kind(stream.kind)
@@ -117,7 +119,7 @@ fn is_twice(entries: Entries<'_>, pid: Pid) -> bool
 /// The PID of the cues is used for something else.
 #[tactic(auto, using(crate::proofs::JudgingLemmas::no_cue_used))]
 fn uses_cue_pid(purpose: &Purpose, pmt: &Pmt<'_>) -> bool
-    ensures { result ≡ cue_used purpose.now (streams_of (map_of pmt.now.bytes.now)) (pid_in (map_of pmt.now.bytes.now).pcr_field) }
+    ensures { result ≡ uses_cue_pid purpose.now (map_of pmt.now.bytes.now) }
 {
     let Some(cue) = purpose.cue_pid else {
         return false;

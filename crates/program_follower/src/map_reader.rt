@@ -1,11 +1,11 @@
 //! The maps of the program: which streams it has (ISO/IEC 13818-1, 2.4.4.8).
 
-ghost use Rattle.std.specs.Prelude.{◌≡◌, ℕ, List, [], ◌∷◌, map, Option, Some, None, option_map, OnOk, IfOk, IfErr};
+ghost use Rattle.std.specs.Prelude.{◌≡◌, ℕ, List, [], ◌∷◌, map, Option, None, Some, option_map, OnOk, IfErr};
 ghost use Rattle.psi_section.specs.SectionsLeft.{sections_left};
-ghost use Rattle.psi_tables.specs.ProgramMap.{ProgramMap, pmt};
-ghost use Rattle.program_follower.specs.Program.{earlier, listed, Table, table_of, tables, all_tables, first_map, known_map, map_read, program_in, program_of};
-ghost use Rattle.program_follower.specs.Faults.{tables_fault, maps_fault};
-ghost use Rattle.program_follower.specs.Judging.{section_fault};
+ghost use Rattle.psi_tables.specs.ProgramMap.{ProgramMap};
+ghost use Rattle.program_follower.specs.Program.{listed, table_of, program_in, program_of};
+ghost use Rattle.program_follower.specs.Faults.{maps_fault_at};
+ghost use Rattle.program_follower.specs.Judging.{fault_of_section, known_behind, fault_of_sections, known_behind_all};
 ghost use Rattle.program_follower.specs.Standing.{known_seen};
 
 use crate::judging::judge_map;
@@ -26,7 +26,7 @@ pub struct MapReader {
 }
 
 impl MapReader {
-    ghost use Rattle.program_follower.specs.Standing.{MapsRead, shown, tables_left};
+    ghost use Rattle.program_follower.specs.Standing.{MapsRead, shown, tables_left, lent_program};
 
     /// A reader that was fed no packet.
     pub fn new() -> MapReader
@@ -42,7 +42,7 @@ impl MapReader {
     /// What is known of the program; `None` in the head.
     pub fn known(&self) -> Option<&KnownProgram>
         ensures { (wanted : Option ℕ) (past : List (List ℕ)) → MapsRead self.now wanted past
-            → option_map (λ k. Rattle.program_follower.specs.Standing.program_seen k.now) result ≡ program_of wanted past }
+            → lent_program result ≡ program_of wanted past }
     {
         self.known.as_ref()
     }
@@ -72,10 +72,12 @@ impl MapReader {
         ensures reads { (past : List (List ℕ)) → at ≡ listed purpose.now.program past
             → MapsRead self.old purpose.now.program past
             → OnOk result (MapsRead self.new purpose.now.program (packet.now ∷ past)) }
-        ensures ok { (past : List (List ℕ)) → at ≡ listed purpose.now.program past → MapsRead self.old purpose.now.program past
-            → OnOk result (maps_fault purpose.now (listed purpose.now.program past) (known_map purpose.now.program past) (tables purpose.now.program packet.now past) ≡ None) }
-        ensures err { (past : List (List ℕ)) → at ≡ listed purpose.now.program past → MapsRead self.old purpose.now.program past
-            → IfErr result (λ f. maps_fault purpose.now (listed purpose.now.program past) (known_map purpose.now.program past) (tables purpose.now.program packet.now past) ≡ Some f) }
+        ensures ok { (past : List (List ℕ)) → at ≡ listed purpose.now.program past
+            → MapsRead self.old purpose.now.program past
+            → OnOk result (maps_fault_at purpose.now packet.now past ≡ None) }
+        ensures err { (past : List (List ℕ)) → at ≡ listed purpose.now.program past
+            → MapsRead self.old purpose.now.program past
+            → IfErr result (λ f. maps_fault_at purpose.now packet.now past ≡ Some f) }
     {
         self.is_on_map = false;
         let Some(listed) = at else {
@@ -102,10 +104,10 @@ fn judge_sections(
     sections: Sections<'_>,
 ) -> Result<(), NetworkFault>
     ensures ok { (first : Option ProgramMap) → known_seen known.old ≡ option_map program_in first
-        → OnOk result ((tables_fault purpose.now listed.now.pid first (map (table_of listed.now.program) (sections_left sections.entry)) ≡ None)
-        × (known_seen known.new ≡ option_map program_in (earlier first (first_map (map (table_of listed.now.program) (sections_left sections.entry)))))) }
+        → OnOk result ((fault_of_sections purpose.now listed.now first (sections_left sections.entry) ≡ None)
+        × (known_seen known.new ≡ known_behind_all listed.now first (sections_left sections.entry))) }
     ensures err { (first : Option ProgramMap) → known_seen known.old ≡ option_map program_in first
-        → IfErr result (λ f. tables_fault purpose.now listed.now.pid first (map (table_of listed.now.program) (sections_left sections.entry)) ≡ Some f) }
+        → IfErr result (λ f. fault_of_sections purpose.now listed.now first (sections_left sections.entry) ≡ Some f) }
 {
     for section in sections {
         match judge_section(known, purpose, listed, section) {
@@ -123,9 +125,9 @@ fn judge_section(
     listed: &Listed,
     section: &[u8],
 ) -> Result<(), NetworkFault>
-    ensures ok { OnOk result ((section_fault purpose.now listed.now.pid (known_seen known.old) (map_read listed.now.program (pmt section.now)) ≡ None)
-        × (known_seen known.new ≡ earlier (known_seen known.old) (option_map program_in (map_read listed.now.program (pmt section.now))))) }
-    ensures err { IfErr result (λ f. section_fault purpose.now listed.now.pid (known_seen known.old) (map_read listed.now.program (pmt section.now)) ≡ Some f) }
+    ensures ok { OnOk result ((fault_of_section purpose.now listed.now (known_seen known.old) section.now ≡ None)
+        × (known_seen known.new ≡ known_behind listed.now (known_seen known.old) section.now)) }
+    ensures err { IfErr result (λ f. fault_of_section purpose.now listed.now (known_seen known.old) section.now ≡ Some f) }
 {
     match map_of_program(listed.program, section) {
         None => Ok(()),

@@ -1,11 +1,11 @@
 //! The PATs of a network: which PID carries the map of the program (ISO/IEC 13818-1, 2.4.4.3).
 
+ghost use Rattle.std.specs.Option.{option_or};
 ghost use Rattle.std.specs.Prelude.{◌≡◌, ℕ, List, [], ◌∷◌, Option, Some, None, not, OnOk, IfOk, IfErr};
-ghost use Rattle.psi_section.specs.Sections.{given};
 ghost use Rattle.psi_section.specs.Assembling.{left};
-ghost use Rattle.psi_tables.specs.Association.{pat, association_of, pid_of_program};
-ghost use Rattle.program_follower.specs.Program.{earlier, listed, lists, listed_in, first_listed};
-ghost use Rattle.program_follower.specs.Faults.{differs, is_pid, if_bad, pmt_pid_fault, pairs_fault, pat_fault, pats_fault};
+ghost use Rattle.psi_tables.specs.Association.{pat, pid_of_program};
+ghost use Rattle.program_follower.specs.Program.{listed, lists, pairs_in, listed_in, first_listed};
+ghost use Rattle.program_follower.specs.Faults.{differs, is_pid, if_bad, pmt_pid_fault, pairs_fault, pat_fault, pats_fault, pats_fault_at};
 
 use crate::purpose::{Listed, Purpose};
 use psi_section::Assembler;
@@ -34,7 +34,8 @@ impl PatReader {
 
     /// The program and the PID of its map; `None` before the PAT, the first that lists the program.
     pub fn listed(&self) -> Option<Listed>
-        ensures { (wanted : Option ℕ) (past : List (List ℕ)) → PatsRead self.now wanted past → result ≡ listed wanted past }
+        ensures { (wanted : Option ℕ) (past : List (List ℕ)) → PatsRead self.now wanted past
+            → result ≡ listed wanted past }
     {
         self.listed
     }
@@ -45,11 +46,12 @@ impl PatReader {
     ///
     /// The first fault of the PATs that the packet finishes.
     pub fn feed(&mut self, purpose: &Purpose, packet: &Packet) -> Result<(), NetworkFault>
-        ensures reads { (past : List (List ℕ)) → PatsRead self.old purpose.now.program past → OnOk result (PatsRead self.new purpose.now.program (packet.now ∷ past)) }
+        ensures reads { (past : List (List ℕ)) → PatsRead self.old purpose.now.program past
+            → OnOk result (PatsRead self.new purpose.now.program (packet.now ∷ past)) }
         ensures ok { (past : List (List ℕ)) → PatsRead self.old purpose.now.program past
-            → OnOk result (pats_fault purpose.now (listed purpose.now.program past) (given 0 packet.now past) ≡ None) }
+            → OnOk result (pats_fault_at purpose.now packet.now past ≡ None) }
         ensures err { (past : List (List ℕ)) → PatsRead self.old purpose.now.program past
-            → IfErr result (λ f. pats_fault purpose.now (listed purpose.now.program past) (given 0 packet.now past) ≡ Some f) }
+            → IfErr result (λ f. pats_fault_at purpose.now packet.now past ≡ Some f) }
     {
         if !packet.is_on(Pid::of_bits(0, 0)) {
             return Ok(());
@@ -69,7 +71,7 @@ impl PatReader {
     #[tactic(auto, using(crate::proofs::PatLemmas::pats_more, crate::proofs::PatLemmas::pats_done, crate::proofs::PatLemmas::pats_fail))]
     fn judged(&self, purpose: &Purpose) -> Result<Option<Listed>, NetworkFault>
         ensures ok { IfOk result (λ l. (pats_fault purpose.now self.now.listed (left self.now.assembler) ≡ None)
-            × (l ≡ earlier self.now.listed (first_listed purpose.now.program (left self.now.assembler)))) }
+            × (l ≡ option_or self.now.listed (first_listed purpose.now.program (left self.now.assembler)))) }
         ensures err { IfErr result (λ f. pats_fault purpose.now self.now.listed (left self.now.assembler) ≡ Some f) }
     {
         let mut listed = self.listed;
@@ -86,7 +88,8 @@ fn behind_section(
     known: Option<Listed>,
     section: &[u8],
 ) -> Result<Option<Listed>, NetworkFault>
-    ensures ok { IfOk result (λ l. (pat_fault purpose.now known (pat section.now) ≡ None) × (l ≡ earlier known (lists purpose.now.program section.now))) }
+    ensures ok { IfOk result (λ l. (pat_fault purpose.now known (pat section.now) ≡ None)
+        × (l ≡ option_or known (lists purpose.now.program section.now))) }
     ensures err { IfErr result (λ f. pat_fault purpose.now known (pat section.now) ≡ Some f) }
 {
     match Pat::read(section) {
@@ -109,9 +112,9 @@ fn behind_pat(
     known: Option<Listed>,
     pat: &Pat<'_>,
 ) -> Result<Option<Listed>, NetworkFault>
-    ensures ok { IfOk result (λ l. (pairs_fault purpose.now known (association_of pat.now.bytes.now).pairs ≡ None)
-        × (l ≡ earlier known (listed_in purpose.now.program (association_of pat.now.bytes.now).pairs))) }
-    ensures err { IfErr result (λ f. pairs_fault purpose.now known (association_of pat.now.bytes.now).pairs ≡ Some f) }
+    ensures ok { IfOk result (λ l. (pairs_fault purpose.now known (pairs_in pat.now.bytes.now) ≡ None)
+        × (l ≡ option_or known (listed_in purpose.now.program (pairs_in pat.now.bytes.now)))) }
+    ensures err { IfErr result (λ f. pairs_fault purpose.now known (pairs_in pat.now.bytes.now) ≡ Some f) }
 {
     let Some(listed) = known else {
         return first_listed(purpose, pat);
@@ -125,9 +128,9 @@ fn behind_pat(
 
 /// What the first PAT that lists the program lists.
 fn first_listed(purpose: &Purpose, pat: &Pat<'_>) -> Result<Option<Listed>, NetworkFault>
-    ensures ok { IfOk result (λ l. (pmt_pid_fault purpose.now (listed_in purpose.now.program (association_of pat.now.bytes.now).pairs) ≡ None)
-        × (l ≡ listed_in purpose.now.program (association_of pat.now.bytes.now).pairs)) }
-    ensures err { IfErr result (λ f. pmt_pid_fault purpose.now (listed_in purpose.now.program (association_of pat.now.bytes.now).pairs) ≡ Some f) }
+    ensures ok { IfOk result (λ l. (pairs_fault purpose.now None (pairs_in pat.now.bytes.now) ≡ None)
+        × (l ≡ listed_in purpose.now.program (pairs_in pat.now.bytes.now))) }
+    ensures err { IfErr result (λ f. pairs_fault purpose.now None (pairs_in pat.now.bytes.now) ≡ Some f) }
 {
     let Some(listed) = listed_by(purpose, pat) else {
         return Ok(None);
@@ -140,7 +143,7 @@ fn first_listed(purpose: &Purpose, pat: &Pat<'_>) -> Result<Option<Listed>, Netw
 
 /// A PAT lists the program with the same PID.
 fn is_listed(listed: &Listed, pat: &Pat<'_>) -> bool
-    ensures { differs listed.now.pid (pid_of_program listed.now.program (association_of pat.now.bytes.now).pairs) ≡ not result }
+    ensures { differs listed.now.pid (pid_of_program listed.now.program (pairs_in pat.now.bytes.now)) ≡ not result }
 {
     match pat.program(listed.program) {
         None => false,
@@ -150,7 +153,7 @@ fn is_listed(listed: &Listed, pat: &Pat<'_>) -> bool
 
 /// What a PAT lists of the program.
 fn listed_by(purpose: &Purpose, pat: &Pat<'_>) -> Option<Listed>
-    ensures { result ≡ listed_in purpose.now.program (association_of pat.now.bytes.now).pairs }
+    ensures { result ≡ listed_in purpose.now.program (pairs_in pat.now.bytes.now) }
 {
     match purpose.program {
         None => {

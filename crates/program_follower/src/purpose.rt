@@ -1,6 +1,7 @@
 //! What a network is followed for.
 
-ghost use Rattle.std.specs.Prelude.{◌≡◌, Some, None, true, false};
+ghost use Rattle.std.specs.Prelude.{◌≡◌};
+ghost use Rattle.program_follower.specs.Purposes.{writing_cues, reading_cues, reading_advertisement};
 
 use psi_tables::Config;
 use ts_packet::Pid;
@@ -20,7 +21,7 @@ pub struct Purpose {
 impl Purpose {
     /// To put cues into the network.
     pub fn writing_cues(config: &Config) -> Purpose
-        ensures { result ≡ record { program = Some config.now.program; cue_pid = Some config.now.cue_pid; writes_cues = true } }
+        ensures { result ≡ writing_cues config.now }
     {
         Purpose {
             program: Some(config.program),
@@ -31,7 +32,7 @@ impl Purpose {
 
     /// To follow the cues of the network.
     pub fn reading_cues(config: &Config) -> Purpose
-        ensures { result ≡ record { program = Some config.now.program; cue_pid = Some config.now.cue_pid; writes_cues = false } }
+        ensures { result ≡ reading_cues config.now }
     {
         Purpose {
             program: Some(config.program),
@@ -42,7 +43,7 @@ impl Purpose {
 
     /// To read an advertisement: the first program of its own stream, where no PID is that of cues.
     pub fn advertisement() -> Purpose
-        ensures { result ≡ record { program = None; cue_pid = None; writes_cues = false } }
+        ensures { result ≡ reading_advertisement }
     {
         Purpose {
             program: None,

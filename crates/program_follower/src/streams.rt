@@ -1,6 +1,7 @@
 //! The switched streams behind the head: where their units begin, and the greatest time of these.
 
-ghost use Rattle.std.specs.Prelude.{◌≡◌, ◌<◌, ◌≤◌, ◌≢◌, ◌&&◌, ◌∷◌, [], ℕ, List, length, Option, Some, None, option_map, OnOk, IfOk, IfErr, is_some, slice_index_or, true};
+ghost use Rattle.std.specs.Prelude.{◌≡◌, ◌<◌, ◌≤◌, ◌≢◌, ◌&&◌, ◌∷◌, [], ℕ, List, length, Option, Some, None, option_map};
+ghost use Rattle.std.specs.Prelude.{OnOk, IfOk, IfErr, is_some, slice_index_or, true};
 ghost use Rattle.pes_time.specs.Line.{ring_of};
 ghost use Rattle.ts_packet.specs.Fields.{payload, scrambled, payload_on};
 ghost use Rattle.unit_stream.specs.Faults.{unit_fault};
@@ -51,7 +52,8 @@ impl Streams {
 
     /// The greatest time of the units that have begun; `None` where none with a PTS has.
     pub fn high(&self) -> Option<Time33>
-        ensures { (pids : List ℕ) (past : List (List ℕ)) → StreamsRead self.now pids past → result ≡ option_map ring_of (high pids past) }
+        ensures { (pids : List ℕ) (past : List (List ℕ)) → StreamsRead self.now pids past
+            → result ≡ option_map ring_of (high pids past) }
     {
         self.clock.high()
     }
@@ -148,8 +150,10 @@ fn has_scrambled_payload(packet: &Packet) -> bool
 /// Feeds the reader of one stream.
 fn feed_at<'a>(readers: &mut [UnitReader; 8], index: usize, packet: &'a Packet) -> Piece<'a>
     requires { index < 8 }
-    ensures others { (i : ℕ) (d : UnitReader) → i ≢ index → slice_index_or readers.new i d ≡ slice_index_or readers.old i d }
-    ensures reads { (d : UnitReader) (pid : ℕ) (past : List (List ℕ)) → Reads (slice_index_or readers.old index d) pid past
+    ensures others { (i : ℕ) (d : UnitReader) → i ≢ index
+        → slice_index_or readers.new i d ≡ slice_index_or readers.old i d }
+    ensures reads { (d : UnitReader) (pid : ℕ) (past : List (List ℕ))
+        → Reads (slice_index_or readers.old index d) pid past
         → Reads (slice_index_or readers.new index d) pid (packet.now ∷ past) }
     ensures brings { (d : UnitReader) (pid : ℕ) (past : List (List ℕ))
         → Reads (slice_index_or readers.old index d) pid past → Brings result pid packet.now past }

@@ -1,4 +1,5 @@
 -- The cued stream of a network without fault.
+use Rattle.std.specs.Option.{option_or}
 use Rattle.std.proofs.Common.{◌≡◌, ℕ, ◌<◌, List, [], ◌∷◌, Bool, true, false, ◌&&◌, ◌||◌, ◌==◌, refl, sym, ap, ◌∙◌, Option, Some, None, map, if◌then◌else◌}
 use Rattle.std.specs.List.{AllByRecursion}
 use Rattle.std.specs.Prelude.{filter, option_map}
@@ -16,7 +17,7 @@ use Rattle.psi_tables.specs.ProgramMap.{ProgramMap, pmt, pmt_section, streams_of
 use Rattle.psi_tables.specs.Cue.{with_cue_entry, without_cue_entry, lists_pid}
 use Rattle.program_follower.specs.declared.purpose.Purpose.{Purpose}
 use Rattle.program_follower.specs.declared.purpose.Listed.{Listed}
-use Rattle.program_follower.specs.Program.{earlier, listed, since_pat, Table, table_of, map_read, tables, all_tables, first_map, known_map, Program, program_in, program_of, behind_head, pids_of}
+use Rattle.program_follower.specs.Program.{listed, since_pat, Table, table_of, map_read, tables, all_tables, first_map, known_map, Program, program_in, program_of, behind_head, pids_of}
 use Rattle.program_follower.specs.Faults.{is_pid, if_bad, pmt_pid_fault, pids_in, bad_pid, bad_switched, too_long, first_fault}
 use Rattle.program_laws.specs.Writing.{Along, Writing, written, table_out, Off, MapGoesOut, GoesOut, IsClear, ReadsAgain}
 use Rattle.program_laws.specs.Behind.{Passes, TakesAll, SameUnits}
@@ -208,7 +209,7 @@ module _ (c : Purpose) (cue : ℕ) (past : List (List ℕ)) (is_cue : c.cue_pid 
 
     -- the programme
     same_first : (s : List ℕ) (o x : Option ProgramMap) → Entry-goes s o → option_map program_in (option_map (with_cue_entry cue) x) ≡ option_map program_in x
-        → option_map program_in (option_map (with_cue_entry cue) (earlier o x)) ≡ option_map program_in (earlier o x)
+        → option_map program_in (option_map (with_cue_entry cue) (option_or o x)) ≡ option_map program_in (option_or o x)
     same_first s None x g k = k
     same_first s (Some m) x g k = ap (λ r. let y : Option Program = Some r in y) g.same
 
@@ -239,7 +240,7 @@ module _ (c : Purpose) (cue : ℕ) (past : List (List ℕ)) (is_cue : c.cue_pid 
   map_sound : (l : Listed) (ts : List Table) → AllByRecursion (λ (t : Table). MapSound c l.pid t.program_map) ts → MapSound c l.pid (first_map ts)
   map_sound l [] h = tt
   map_sound l (t ∷ ts) h = by_map l t.program_map (first_map ts) h.0 (map_sound l ts h.1) where
-    by_map : (l : Listed) (o x : Option ProgramMap) → MapSound c l.pid o → MapSound c l.pid x → MapSound c l.pid (earlier o x)
+    by_map : (l : Listed) (o x : Option ProgramMap) → MapSound c l.pid o → MapSound c l.pid x → MapSound c l.pid (option_or o x)
     by_map l None x g k = k
     by_map l (Some m) x g k = g
 

@@ -1,4 +1,5 @@
 -- What a run without fault says.
+use Rattle.std.specs.Option.{option_or}
 use Rattle.std.proofs.Common.{◌≡◌, ℕ, List, [], ◌∷◌, ◌++◌, Bool, true, false, not, ◌&&◌, ◌==◌, refl, sym, ap, ◌∙◌, length, Option, Some, None, Result, Ok, Err, if◌then◌else◌}
 use Rattle.std.specs.List.{AllByRecursion}
 use Rattle.std.specs.Prelude.{nat_lt, option_map}
@@ -16,16 +17,16 @@ use Rattle.psi_tables.specs.Association.{Association, Pair, pat, pid_of_program}
 use Rattle.psi_tables.specs.ProgramMap.{ProgramMap, streams_of}
 use Rattle.program_follower.specs.declared.purpose.Purpose.{Purpose}
 use Rattle.program_follower.specs.declared.purpose.Listed.{Listed}
-use Rattle.program_follower.specs.Program.{earlier, pairs_of, listed_by, lists, first_listed, listed, Table, tables, all_tables, first_map, known_map, Program, program_in, program_of, behind_head, pids_of}
+use Rattle.program_follower.specs.Program.{pairs_of, listed_by, lists, first_listed, listed, Table, tables, all_tables, first_map, known_map, Program, program_in, program_of, behind_head, pids_of}
 use Rattle.program_follower.specs.Faults.{on_cue, if_bad, pmt_pid_fault, differs, pairs_fault, pat_fault, pats_fault, bad_pids, cue_used, same_streams, changed, too_long, map_fault, table_fault, tables_fault, maps_fault, cue_fault, as_network, network_fault, first_fault}
 use Rattle.unit_stream.specs.Faults.{unit_fault}
 use Rattle.program_laws.specs.Writing.{Along}
 use Rattle.program_laws.specs.Cued.{PairsAgree, PatsAgree, MapAgrees, NothingChanges, NoCuePackets}
-use Rattle.program_laws.proofs.StepLemmas.{earlier-assoc, tables_grow, kept}
+use Rattle.program_laws.proofs.StepLemmas.{option_or-assoc, tables_grow, kept}
 use Rattle.psi_section.proofs.GivenLemmas.{All-both}
 use Rattle.program_laws.proofs.ReadingLemmas.{listed_stays, none_at_pat}
 
-pub none_both : {A : Type 0} (x y : Option A) → earlier x y ≡ None → (x ≡ None) × (y ≡ None)
+pub none_both : {A : Type 0} (x y : Option A) → option_or x y ≡ None → (x ≡ None) × (y ≡ None)
 none_both None y h = (refl, h)
 none_both (Some x) y h = absurd (cc)
 
@@ -56,8 +57,8 @@ clean c p past h =
     let pats = pats_fault c (listed c.program past) (given 0 p past) in
     let maps = maps_fault c (listed c.program past) (first_map (all_tables c.program past)) (tables c.program p past) in
     let last = as_network (unit_fault (pids_of (program_of c.program past)) p (behind_head c.program past)) in
-    let a = none_both (cue_fault c p) (earlier pats (earlier maps last)) h in
-    let b = none_both pats (earlier maps last) a.1 in
+    let a = none_both (cue_fault c p) (option_or pats (option_or maps last)) h in
+    let b = none_both pats (option_or maps last) a.1 in
     let d = none_both maps last b.1 in
     record { pats = b.0; maps = d.0 }
 
@@ -105,9 +106,9 @@ pid_of_pat c (Err e) h = refl
 pid_first : (c : Purpose) (ss : List (List ℕ)) → pats_fault c None ss ≡ None → pmt_pid_fault c (first_listed c.program ss) ≡ None
 pid_first c [] h = refl
 pid_first c (s ∷ ss) h =
-    let r = none_both (pat_fault c None (pat s)) (pats_fault c (earlier None (lists c.program s)) ss) h in
+    let r = none_both (pat_fault c None (pat s)) (pats_fault c (option_or None (lists c.program s)) ss) h in
     by_listed (lists c.program s) (pid_of_pat c (pat s) r.0) (λ e. pid_first c ss (ap (λ o. pats_fault c o ss) (sym e) ∙ r.1)) where
-      by_listed : (o : Option Listed) → pmt_pid_fault c o ≡ None → (o ≡ None → pmt_pid_fault c (first_listed c.program ss) ≡ None) → pmt_pid_fault c (earlier o (first_listed c.program ss)) ≡ None
+      by_listed : (o : Option Listed) → pmt_pid_fault c o ≡ None → (o ≡ None → pmt_pid_fault c (first_listed c.program ss) ≡ None) → pmt_pid_fault c (option_or o (first_listed c.program ss)) ≡ None
       by_listed None h k = k refl
       by_listed (Some l) h k = h
 
@@ -117,7 +118,7 @@ pid_good c (p ∷ past) h =
     let r = clean_run c p past h in
     let ss = given 0 p past in
     by_known (listed c.program past) (pid_good c past r.0) (λ e. pid_first c ss (ap (λ o. pats_fault c o ss) (sym e) ∙ r.1.pats)) where
-      by_known : (o : Option Listed) → pmt_pid_fault c o ≡ None → (o ≡ None → pmt_pid_fault c (first_listed c.program (given 0 p past)) ≡ None) → pmt_pid_fault c (earlier o (first_listed c.program (given 0 p past))) ≡ None
+      by_known : (o : Option Listed) → pmt_pid_fault c o ≡ None → (o ≡ None → pmt_pid_fault c (first_listed c.program (given 0 p past)) ≡ None) → pmt_pid_fault c (option_or o (first_listed c.program (given 0 p past))) ≡ None
       by_known None h k = k refl
       by_known (Some l) h k = h
 
@@ -140,9 +141,9 @@ sound_map c pid first m h =
     let b3 = cue_used c (streams_of m) (pid_in m.pcr_field) in
     let b4 = changed first m in
     let b5 = c.writes_cues && too_long c.cue_pid m in
-    let r1 = none_both (if_bad b1 TooManyStreams) (earlier (if_bad b2 BadPids) (earlier (if_bad b3 CuePidUsed) (earlier (if_bad b4 ProgramChanged) (if_bad b5 PmtTooLong)))) h in
-    let r2 = none_both (if_bad b2 BadPids) (earlier (if_bad b3 CuePidUsed) (earlier (if_bad b4 ProgramChanged) (if_bad b5 PmtTooLong))) r1.1 in
-    let r3 = none_both (if_bad b3 CuePidUsed) (earlier (if_bad b4 ProgramChanged) (if_bad b5 PmtTooLong)) r2.1 in
+    let r1 = none_both (if_bad b1 TooManyStreams) (option_or (if_bad b2 BadPids) (option_or (if_bad b3 CuePidUsed) (option_or (if_bad b4 ProgramChanged) (if_bad b5 PmtTooLong)))) h in
+    let r2 = none_both (if_bad b2 BadPids) (option_or (if_bad b3 CuePidUsed) (option_or (if_bad b4 ProgramChanged) (if_bad b5 PmtTooLong))) r1.1 in
+    let r3 = none_both (if_bad b3 CuePidUsed) (option_or (if_bad b4 ProgramChanged) (if_bad b5 PmtTooLong)) r2.1 in
     let r4 = none_both (if_bad b4 ProgramChanged) (if_bad b5 PmtTooLong) r3.1 in
     (record { few = not_if_bad b1 TooManyStreams r1.0; pids = not_if_bad b2 BadPids r2.0; cue = not_if_bad b3 CuePidUsed r3.0; room = not_if_bad b5 PmtTooLong r4.1 }, not_if_bad b4 ProgramChanged r4.0)
 
@@ -153,8 +154,8 @@ sound_table c pid first (Some m) h = (sound_map c pid first m h).0
 sound_tables : (c : Purpose) (pid : ℕ) (first : Option ProgramMap) (ts : List Table) → tables_fault c pid first ts ≡ None → AllByRecursion (λ (t : Table). MapSound c pid t.program_map) ts
 sound_tables c pid first [] h = tt
 sound_tables c pid first (t ∷ ts) h =
-    let r = none_both (table_fault c pid first t.program_map) (tables_fault c pid (earlier first t.program_map) ts) h in
-    (sound_table c pid first t.program_map r.0, sound_tables c pid (earlier first t.program_map) ts r.1)
+    let r = none_both (table_fault c pid first t.program_map) (tables_fault c pid (option_or first t.program_map) ts) h in
+    (sound_table c pid first t.program_map r.0, sound_tables c pid (option_or first t.program_map) ts r.1)
 
 -- the same streams
 both_true : (a b : Bool) → a && b ≡ true → (a ≡ true) × (b ≡ true)
@@ -184,7 +185,7 @@ unchanged first m h =
     let f = eqb-true (pid_in m.pcr_field) (pid_in first.pcr_field) r.1 in
     sym (ap (λ ss. let x : Program = record { streams = ss; pcr_pid = pid_in m.pcr_field } in x) e ∙ ap (λ n. let x : Program = record { streams = switched_of (streams_of first); pcr_pid = n } in x) f)
 
-map_agrees : (c : Purpose) (pid : ℕ) (first o rest : Option ProgramMap) → table_fault c pid first o ≡ None → MapAgrees (earlier (earlier first o) rest) o
+map_agrees : (c : Purpose) (pid : ℕ) (first o rest : Option ProgramMap) → table_fault c pid first o ≡ None → MapAgrees (option_or (option_or first o) rest) o
 map_agrees c pid first None rest h = tt
 map_agrees c pid None (Some m) rest h = refl
 map_agrees c pid (Some f) (Some m) rest h = ap (λ r. let x : Option Program = Some r in x) (unchanged f m (sound_map c pid (Some f) m h).1)
@@ -193,23 +194,23 @@ agree_moved : (a b o : Option ProgramMap) → a ≡ b → MapAgrees a o → MapA
 agree_moved a b None e h = tt
 agree_moved a b (Some m) e h = ap (option_map program_in) (sym e) ∙ h
 
-maps_agree : (c : Purpose) (pid : ℕ) (first : Option ProgramMap) (ts : List Table) → tables_fault c pid first ts ≡ None → AllByRecursion (λ (t : Table). MapAgrees (earlier first (first_map ts)) t.program_map) ts
+maps_agree : (c : Purpose) (pid : ℕ) (first : Option ProgramMap) (ts : List Table) → tables_fault c pid first ts ≡ None → AllByRecursion (λ (t : Table). MapAgrees (option_or first (first_map ts)) t.program_map) ts
 maps_agree c pid first [] h = tt
 maps_agree c pid first (t ∷ ts) h =
-    let r = none_both (table_fault c pid first t.program_map) (tables_fault c pid (earlier first t.program_map) ts) h in
-    let e : earlier (earlier first t.program_map) (first_map ts) ≡ earlier first (earlier t.program_map (first_map ts)) = earlier-assoc first t.program_map (first_map ts) in
-    let known = earlier first (earlier t.program_map (first_map ts)) in
-    let later = earlier (earlier first t.program_map) (first_map ts) in (
+    let r = none_both (table_fault c pid first t.program_map) (tables_fault c pid (option_or first t.program_map) ts) h in
+    let e : option_or (option_or first t.program_map) (first_map ts) ≡ option_or first (option_or t.program_map (first_map ts)) = option_or-assoc first t.program_map (first_map ts) in
+    let known = option_or first (option_or t.program_map (first_map ts)) in
+    let later = option_or (option_or first t.program_map) (first_map ts) in (
       agree_moved later known t.program_map e (map_agrees c pid first t.program_map (first_map ts) r.0),
-      Each-map (λ (u : Table). MapAgrees later u.program_map) (λ (u : Table). MapAgrees known u.program_map) (λ u g. agree_moved later known u.program_map e g) ts (maps_agree c pid (earlier first t.program_map) ts r.1),
+      Each-map (λ (u : Table). MapAgrees later u.program_map) (λ (u : Table). MapAgrees known u.program_map) (λ u g. agree_moved later known u.program_map e g) ts (maps_agree c pid (option_or first t.program_map) ts r.1),
     )
 
-still : (known rest o : Option ProgramMap) → MapAgrees known o → MapAgrees (earlier known rest) o
+still : (known rest o : Option ProgramMap) → MapAgrees known o → MapAgrees (option_or known rest) o
 still known rest None h = tt
 still known rest (Some m) h = kept program_in known rest (program_in m) h
 
 new_agree : (c : Purpose) (o : Option Listed) (known : Option ProgramMap) (p : List ℕ) (past : List (List ℕ)) → listed c.program past ≡ o → maps_fault c o known (tables c.program p past) ≡ None
-    → AllByRecursion (λ (t : Table). MapAgrees (earlier known (first_map (tables c.program p past))) t.program_map) (tables c.program p past)
+    → AllByRecursion (λ (t : Table). MapAgrees (option_or known (first_map (tables c.program p past))) t.program_map) (tables c.program p past)
 new_agree c None known p past e h = let n : tables c.program p past ≡ [] = simp e refl in rw n tt
 new_agree c (Some l) known p past e h = maps_agree c l.pid known (tables c.program p past) h
 
@@ -220,8 +221,8 @@ all_agree c (p ∷ past) h =
     let known = known_map c.program past in
     let ts = tables c.program p past in
     let rest = first_map ts in
-    let both = All-both (λ (t : Table). MapAgrees (earlier known rest) t.program_map) (all_tables c.program past) ts
-    (Each-map (λ (t : Table). MapAgrees known t.program_map) (λ (t : Table). MapAgrees (earlier known rest) t.program_map) (λ t g. still known rest t.program_map g) (all_tables c.program past) (all_agree c past r.0))
+    let both = All-both (λ (t : Table). MapAgrees (option_or known rest) t.program_map) (all_tables c.program past) ts
+    (Each-map (λ (t : Table). MapAgrees known t.program_map) (λ (t : Table). MapAgrees (option_or known rest) t.program_map) (λ t g. still known rest t.program_map g) (all_tables c.program past) (all_agree c past r.0))
     (new_agree c (listed c.program past) known p past refl r.1.maps) in
     let e = tables_grow c.program p past in
     rw e both

@@ -1,4 +1,5 @@
 -- What stands behind the head of a written stream.
+use Rattle.std.specs.Option.{option_or}
 use Rattle.std.proofs.Common.{◌≡◌, ℕ, List, [], ◌∷◌, ◌++◌, Bool, true, false, refl, sym, ap, ◌∙◌, Option, Some, None, map, if◌then◌else◌}
 use Rattle.std.specs.List.{AllByRecursion}
 use Rattle.std.specs.Prelude.{filter, is_some, option_map}
@@ -9,7 +10,7 @@ use Rattle.ts_packet.proofs.Cases.{by_test}
 use Rattle.ts_packet.proofs.FieldLemmas.{payload_on-on}
 use Rattle.psi_tables.specs.ProgramMap.{ProgramMap}
 use Rattle.program_follower.specs.declared.purpose.Listed.{Listed}
-use Rattle.program_follower.specs.Program.{earlier, listed, since_pat, table_of, tables, first_map, known_map, behind_head}
+use Rattle.program_follower.specs.Program.{listed, since_pat, table_of, tables, first_map, known_map, behind_head}
 use Rattle.program_laws.specs.Writing.{number_on, Writing, section_out, packets_out, body, written}
 use Rattle.ts_packet.specs.Runs.{onto}
 use Rattle.program_laws.specs.Behind.{Passes, HeadPasses, OthersPass}
@@ -24,7 +25,7 @@ use Rattle.program_laws.proofs.WritingLemmas.{listed_below, written_reads_again}
 -- ---- a block of packets
 
 pub known_stays : (wanted : Option ℕ) (q : List ℕ) (out : List (List ℕ)) (m : ProgramMap) → known_map wanted out ≡ Some m → known_map wanted (q ∷ out) ≡ Some m
-known_stays wanted q out m h = tables_grow wanted q out ∙ ap (λ x. earlier x (first_map (tables wanted q out))) h
+known_stays wanted q out m h = tables_grow wanted q out ∙ ap (λ x. option_or x (first_map (tables wanted q out))) h
 
 behind_onto : (wanted : Option ℕ) (qs out : List (List ℕ)) (m : ProgramMap) → known_map wanted out ≡ Some m → behind_head wanted (onto out qs) ≡ onto (behind_head wanted out) qs
 behind_onto wanted [] out m h = refl
@@ -34,7 +35,7 @@ behind_onto wanted (q ∷ qs) out m h =
 
 known_first : (wanted : Option ℕ) (q : List ℕ) (out : List (List ℕ)) → known_map wanted (q ∷ out) ≡ None → known_map wanted out ≡ None
 known_first wanted q out h = first_none (known_map wanted out) (first_map (tables wanted q out)) (sym (tables_grow wanted q out) ∙ h) where
-  first_none : (x y : Option ProgramMap) → earlier x y ≡ None → x ≡ None
+  first_none : (x y : Option ProgramMap) → option_or x y ≡ None → x ≡ None
   first_none None y h = refl
   first_none (Some x) y h = cc
 
@@ -119,7 +120,7 @@ module _ (takes : List ℕ → Bool) where
         ∙ left_behind wanted (w.front p past ++ packets_out l.pid out (map (section_out w.change) (tables wanted p past))) out all
         ∙ ap (filter takes) (nothing_behind wanted out k))
         (λ n. let t : tables wanted p past ≡ [] = tables_at wanted p past l h ∙ ap (map (table_of l.program)) (given_off l.pid p (since_pat wanted past) n) in
-        let e : known_map wanted (p ∷ past) ≡ None = tables_grow wanted p past ∙ ap (λ ts. earlier (known_map wanted past) (first_map ts)) t ∙ ap (λ x. earlier x None) none in
+        let e : known_map wanted (p ∷ past) ≡ None = tables_grow wanted p past ∙ ap (λ ts. option_or (known_map wanted past) (first_map ts)) t ∙ ap (λ x. option_or x None) none in
         ap (filter takes) (nothing_behind wanted (onto out (whole (Some l))) (again ∙ ap (option_map w.change) e)))
 
     passed : (o : Option ProgramMap) → known_map wanted past ≡ o → known_map wanted out ≡ option_map w.change o

@@ -1,34 +1,35 @@
 -- Streams whose packets on a PID are the same.
+use Rattle.std.specs.Option.{option_or}
 use Rattle.std.proofs.Common.{◌≡◌, ℕ, List, [], ◌∷◌, ◌++◌, refl, sym, ap, ◌∙◌, append_assoc, Option, Some, None, map}
 use Rattle.std.proofs.lemmas.List.{append-nil, map-append}
 use Rattle.psi_section.specs.Sections.{given, sections_after}
 use Rattle.program_follower.specs.declared.purpose.Listed.{Listed}
-use Rattle.program_follower.specs.Program.{earlier, lists, first_listed, listed, since_pat, table_of, tables, all_tables}
+use Rattle.program_follower.specs.Program.{lists, first_listed, listed, since_pat, table_of, tables, all_tables}
 use Rattle.ts_packet.specs.Runs.{onto}
-use Rattle.program_laws.proofs.StepLemmas.{earlier-assoc}
+use Rattle.program_laws.proofs.StepLemmas.{option_or-assoc}
 
 -- ---- a block of packets behind a stream: the PAT
 
-pub first_listed-append : (wanted : Option ℕ) (ss ts : List (List ℕ)) → first_listed wanted (ss ++ ts) ≡ earlier (first_listed wanted ss) (first_listed wanted ts)
+pub first_listed-append : (wanted : Option ℕ) (ss ts : List (List ℕ)) → first_listed wanted (ss ++ ts) ≡ option_or (first_listed wanted ss) (first_listed wanted ts)
 first_listed-append wanted [] ts = refl
 first_listed-append wanted (s ∷ ss) ts =
-    ap (earlier (lists wanted s)) (first_listed-append wanted ss ts) ∙ sym (earlier-assoc (lists wanted s) (first_listed wanted ss) (first_listed wanted ts))
+    ap (option_or (lists wanted s)) (first_listed-append wanted ss ts) ∙ sym (option_or-assoc (lists wanted s) (first_listed wanted ss) (first_listed wanted ts))
 
-earlier-none : {A : Type 0} (x : Option A) → earlier x None ≡ x
-earlier-none None = refl
-earlier-none (Some x) = refl
+option_or-none : {A : Type 0} (x : Option A) → option_or x None ≡ x
+option_or-none None = refl
+option_or-none (Some x) = refl
 
-pub listed_onto : (wanted : Option ℕ) (qs out : List (List ℕ)) → listed wanted (onto out qs) ≡ earlier (listed wanted out) (first_listed wanted (sections_after out 0 qs))
-listed_onto wanted [] out = sym (earlier-none (listed wanted out))
+pub listed_onto : (wanted : Option ℕ) (qs out : List (List ℕ)) → listed wanted (onto out qs) ≡ option_or (listed wanted out) (first_listed wanted (sections_after out 0 qs))
+listed_onto wanted [] out = sym (option_or-none (listed wanted out))
 listed_onto wanted (q ∷ qs) out =
     listed_onto wanted qs (q ∷ out)
-    ∙ earlier-assoc (listed wanted out) (first_listed wanted (given 0 q out)) (first_listed wanted (sections_after (q ∷ out) 0 qs))
-    ∙ ap (earlier (listed wanted out)) (sym (first_listed-append wanted (given 0 q out) (sections_after (q ∷ out) 0 qs)))
+    ∙ option_or-assoc (listed wanted out) (first_listed wanted (given 0 q out)) (first_listed wanted (sections_after (q ∷ out) 0 qs))
+    ∙ ap (option_or (listed wanted out)) (sym (first_listed-append wanted (given 0 q out) (sections_after (q ∷ out) 0 qs)))
 
 -- ---- behind the PAT
 
 pub listed_stays : (wanted : Option ℕ) (q : List ℕ) (out : List (List ℕ)) (l : Listed) → listed wanted out ≡ Some l → listed wanted (q ∷ out) ≡ Some l
-listed_stays wanted q out l h = ap (λ x. earlier x (first_listed wanted (given 0 q out))) h
+listed_stays wanted q out l h = ap (λ x. option_or x (first_listed wanted (given 0 q out))) h
 
 pub since_stays : (wanted : Option ℕ) (q : List ℕ) (out : List (List ℕ)) (l : Listed) → listed wanted out ≡ Some l → since_pat wanted (q ∷ out) ≡ q ∷ since_pat wanted out
 since_stays wanted q out l h = simp h
@@ -55,12 +56,12 @@ tables_onto wanted (q ∷ qs) out l h =
 
 -- ---- before the PAT
 
-earlier_first : {A : Type 0} (x y : Option A) → earlier x y ≡ None → x ≡ None
-earlier_first None y h = refl
-earlier_first (Some x) y h = cc
+or_first : {A : Type 0} (x y : Option A) → option_or x y ≡ None → x ≡ None
+or_first None y h = refl
+or_first (Some x) y h = cc
 
 pub none_before : (wanted : Option ℕ) (p : List ℕ) (past : List (List ℕ)) → listed wanted (p ∷ past) ≡ None → listed wanted past ≡ None
-none_before wanted p past h = earlier_first (listed wanted past) (first_listed wanted (given 0 p past)) h
+none_before wanted p past h = or_first (listed wanted past) (first_listed wanted (given 0 p past)) h
 
 pub no_tables : (wanted : Option ℕ) (past : List (List ℕ)) → listed wanted past ≡ None → all_tables wanted past ≡ []
 no_tables wanted [] h = refl

@@ -1,4 +1,5 @@
 -- Maps with an entry for cues have no fault.
+use Rattle.std.specs.Option.{option_or}
 use Rattle.std.proofs.Common.{◌≡◌, ℕ, ◌+◌, ◌<◌, List, [], ◌∷◌, ◌++◌, Bool, true, false, ◌||◌, ◌==◌, refl, sym, ap, ◌∙◌, arith, length, Option, Some, None, if◌then◌else◌}
 use Rattle.std.specs.Prelude.{nat_lt, option_map}
 use Rattle.std.specs.List.{list_any}
@@ -10,7 +11,7 @@ use Rattle.psi_tables.specs.declared.stream.Stream.{Stream}
 use Rattle.psi_tables.specs.Streams.{pid_in, switched_of, is_switched, stream_of}
 use Rattle.psi_tables.specs.ProgramMap.{ProgramMap, streams_of}
 use Rattle.psi_tables.specs.Cue.{cue_entry, with_cue_entry}
-use Rattle.program_follower.specs.Program.{earlier, Program}
+use Rattle.program_follower.specs.Program.{Program}
 use Rattle.program_follower.specs.Faults.{is_pid, if_bad, pids_in, is_in, is_twice, bad_pid, bad_switched, bad_pids, cue_used, changed}
 use Rattle.psi_tables.specs.declared.network.NetworkFault.{NetworkFault}
 use Rattle.psi_tables.specs.declared.network.NetworkFault.TheVariants.{TooManyStreams, BadPids, CuePidUsed, ProgramChanged}
@@ -72,7 +73,7 @@ same_change : (cue : ℕ) (first : Option ProgramMap) (m : ProgramMap) → chang
 same_change cue None m = refl
 same_change cue (Some f) m = rw (same_switched cue m, same_switched cue f, same_clock cue m, same_clock cue f) refl
 
-fine : (b : Bool) (f : NetworkFault) (rest : Option NetworkFault) → b ≡ false → rest ≡ None → earlier (if_bad b f) rest ≡ None
+fine : (b : Bool) (f : NetworkFault) (rest : Option NetworkFault) → b ≡ false → rest ≡ None → option_or (if_bad b f) rest ≡ None
 fine true f rest h k = absurd (cc)
 fine false f rest h k = k
 

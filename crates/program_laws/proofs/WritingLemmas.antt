@@ -1,4 +1,5 @@
 -- What is written is read again.
+use Rattle.std.specs.Option.{option_or}
 use Rattle.std.proofs.Common.{◌≡◌, ℕ, ◌<◌, List, [], ◌∷◌, ◌++◌, Bool, true, false, refl, sym, ap, ◌∙◌, arith, Option, Some, None, map}
 use Rattle.std.specs.List.{AllByRecursion}
 use Rattle.std.specs.Prelude.{option_map, find, All, not, ◌==◌, ◌&&◌}
@@ -18,7 +19,7 @@ use Rattle.psi_tables.specs.Association.{Pair, pat}
 use Rattle.psi_tables.specs.Streams.{pid_in}
 use Rattle.psi_tables.specs.ProgramMap.{ProgramMap, pmt, pmt_section}
 use Rattle.program_follower.specs.declared.purpose.Listed.{Listed}
-use Rattle.program_follower.specs.Program.{earlier, listed_as, listed_in, pairs_of, listed_by, lists, first_listed, listed, since_pat, Table, map_read, table_of, tables, all_tables, first_map}
+use Rattle.program_follower.specs.Program.{listed_as, listed_in, pairs_of, listed_by, lists, first_listed, listed, since_pat, Table, map_read, table_of, tables, all_tables, first_map}
 use Rattle.program_laws.specs.Writing.{Along, number_on, Writing, section_by, section_out, table_out, packets_out, body, written, Off, MapGoesOut, GoesOut, IsClearBehind, IsClear, WrittenReadsAgain}
 use Rattle.ts_packet.specs.Runs.{onto}
 use Rattle.psi_section.proofs.GivenLemmas.{All-both, given_can_each}
@@ -53,17 +54,17 @@ below_by : (wanted : Option ℕ) (o : Option (List Pair)) → Below (listed_by w
 below_by wanted None = tt
 below_by wanted (Some pairs) = below_in wanted pairs
 
-below_earlier : (x y : Option Listed) → Below x → Below y → Below (earlier x y)
-below_earlier None y h k = k
-below_earlier (Some l) y h k = h
+below_or : (x y : Option Listed) → Below x → Below y → Below (option_or x y)
+below_or None y h k = k
+below_or (Some l) y h k = h
 
 below_lists : (wanted : Option ℕ) (ss : List (List ℕ)) → Below (first_listed wanted ss)
 below_lists wanted [] = tt
-below_lists wanted (s ∷ ss) = below_earlier (lists wanted s) (first_listed wanted ss) (below_by wanted (pairs_of (pat s))) (below_lists wanted ss)
+below_lists wanted (s ∷ ss) = below_or (lists wanted s) (first_listed wanted ss) (below_by wanted (pairs_of (pat s))) (below_lists wanted ss)
 
 below_listed : (wanted : Option ℕ) (past : List (List ℕ)) → Below (listed wanted past)
 below_listed wanted [] = tt
-below_listed wanted (p ∷ past) = below_earlier (listed wanted past) (first_listed wanted (given 0 p past)) (below_listed wanted past) (below_lists wanted (given 0 p past))
+below_listed wanted (p ∷ past) = below_or (listed wanted past) (first_listed wanted (given 0 p past)) (below_listed wanted past) (below_lists wanted (given 0 p past))
 
 pub listed_below : (wanted : Option ℕ) (past : List (List ℕ)) (l : Listed) → listed wanted past ≡ Some l → l.pid < 8192
 listed_below wanted past l h = rw h at (below_listed wanted past)
@@ -121,8 +122,8 @@ record Reads (w : Writing) (wanted : Option ℕ) (past out : List (List ℕ)) : 
 module _ (w : Writing) (wanted : Option ℕ) (p : List ℕ) (past out : List (List ℕ)) (r : Reads w wanted past out) where
   -- packets off PID 0 list nothing
   quiet : (qs : List (List ℕ)) → AllByRecursion (Off 0) qs → listed wanted (onto out qs) ≡ listed wanted past
-  quiet qs h = listed_onto wanted qs out ∙ ap (λ ss. earlier (listed wanted out) (first_listed wanted ss)) (others_give 0 qs out h) ∙ no_more (listed wanted out) ∙ r.same where
-    no_more : (x : Option Listed) → earlier x None ≡ x
+  quiet qs h = listed_onto wanted qs out ∙ ap (λ ss. option_or (listed wanted out) (first_listed wanted ss)) (others_give 0 qs out h) ∙ no_more (listed wanted out) ∙ r.same where
+    no_more : (x : Option Listed) → option_or x None ≡ x
     no_more None = refl
     no_more (Some x) = refl
 
@@ -135,7 +136,7 @@ module _ (w : Writing) (wanted : Option ℕ) (p : List ℕ) (past out : List (Li
       let since = no_since wanted p mid k in
       record {
         zero = alike_on 0 p mid past z;
-        same = ap (λ x. earlier x (first_listed wanted (given 0 p mid))) (quiet front h) ∙ ap (λ ss. earlier (listed wanted past) (first_listed wanted ss)) (given_on 0 p mid past z);
+        same = ap (λ x. option_or x (first_listed wanted (given 0 p mid))) (quiet front h) ∙ ap (λ ss. option_or (listed wanted past) (first_listed wanted ss)) (given_on 0 p mid past z);
         tables = none_at_pat wanted p mid k ∙ ap (map (table_out w.change)) (sym (none_at_pat wanted p past none));
         counters = λ l e. rw since tt;
       }
@@ -145,7 +146,7 @@ module _ (w : Writing) (wanted : Option ℕ) (p : List ℕ) (past out : List (Li
       let mid = onto out qs in
       let z = others_alike 0 qs out past h r.zero in
       let k : listed wanted mid ≡ None = quiet qs h ∙ none in
-      let l : listed wanted (p ∷ past) ≡ None = ap (λ ss. earlier (listed wanted past) (first_listed wanted ss)) (given_off 0 p past off) ∙ ap (λ x. earlier x None) none in
+      let l : listed wanted (p ∷ past) ≡ None = ap (λ ss. option_or (listed wanted past) (first_listed wanted ss)) (given_off 0 p past off) ∙ ap (λ x. option_or x None) none in
       record {
         zero = alike_back 0 (p ∷ past) mid (alike_off 0 p past mid off (alike_back 0 mid past z));
         same = k ∙ sym l;
@@ -160,7 +161,7 @@ module _ (w : Writing) (wanted : Option ℕ) (p : List ℕ) (past out : List (Li
         → Meets l.pid (onto out qs) (last_of l.pid (onto (since_pat wanted out) qs)) → Reads w wanted (p ∷ past) (onto out qs)
     behind qs z ts m =
         let here : listed wanted out ≡ Some l = r.same ∙ known in
-        let e : listed wanted (onto out qs) ≡ Some l = listed_onto wanted qs out ∙ ap (λ x. earlier x (first_listed wanted (sections_after out 0 qs))) here in
+        let e : listed wanted (onto out qs) ≡ Some l = listed_onto wanted qs out ∙ ap (λ x. option_or x (first_listed wanted (sections_after out 0 qs))) here in
         let f : listed wanted (p ∷ past) ≡ Some l = listed_stays wanted p past l known in
         record {
           zero = z;
@@ -252,13 +253,13 @@ reads w wanted (p ∷ past) h = step w wanted p past (written w wanted past) (re
 
 -- ---- the head
 
-pub earlier-map : {A B : Type 0} (f : A → B) (x y : Option A) → option_map f (earlier x y) ≡ earlier (option_map f x) (option_map f y)
-earlier-map f None y = refl
-earlier-map f (Some x) y = refl
+pub option_or-map : {A B : Type 0} (f : A → B) (x y : Option A) → option_map f (option_or x y) ≡ option_or (option_map f x) (option_map f y)
+option_or-map f None y = refl
+option_or-map f (Some x) y = refl
 
 pub first_map-out : (change : ProgramMap → ProgramMap) (ts : List Table) → first_map (map (table_out change) ts) ≡ option_map change (first_map ts)
 first_map-out change [] = refl
-first_map-out change (t ∷ ts) = ap (earlier (option_map change t.program_map)) (first_map-out change ts) ∙ sym (earlier-map change t.program_map (first_map ts))
+first_map-out change (t ∷ ts) = ap (option_or (option_map change t.program_map)) (first_map-out change ts) ∙ sym (option_or-map change t.program_map (first_map ts))
 
 pub written_reads_again : WrittenReadsAgain
 written_reads_again w wanted past h =

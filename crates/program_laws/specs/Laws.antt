@@ -1,10 +1,11 @@
 -- What holds of a programme.
+use Rattle.std.specs.Option.{option_or}
 use Rattle.std.specs.Prelude.{◌≡◌, ℕ, List, ◌∷◌, Option, Some}
-use Rattle.program_follower.specs.Program.{earlier, since_pat, tables, known_map, Program, program_of, behind_head, first_map, pmt_pid_of}
+use Rattle.program_follower.specs.Program.{since_pat, tables, known_map, Program, program_of, behind_head, first_map, pmt_pid_of}
 
 -- one packet more: the first map stays, else it is the first that the packet finishes
 abbrev pub TablesGrow : Type 0
-TablesGrow = (wanted : Option ℕ) (p : List ℕ) (past : List (List ℕ)) → known_map wanted (p ∷ past) ≡ earlier (known_map wanted past) (first_map (tables wanted p past))
+TablesGrow = (wanted : Option ℕ) (p : List ℕ) (past : List (List ℕ)) → known_map wanted (p ∷ past) ≡ option_or (known_map wanted past) (first_map (tables wanted p past))
 
 -- what is known stays
 pub record StaysAt (wanted : Option ℕ) (p : List ℕ) (past : List (List ℕ)) : Type 0 where

@@ -1,7 +1,8 @@
 use Rattle.std.proofs.Common.{◌≡◌, ◌&&◌, ◌∷◌, true, false, Some, None, refl, sym, ap, ◌∙◌}
 use Rattle.program_follower.specs.Program.{program_of, behind_head}
 use Rattle.program_follower.specs.Faults.{on_cue, as_network}
-use Rattle.program_follower.specs.Following.{lent_program, on_map}
+use Rattle.program_follower.specs.Standing.{lent_program}
+use Rattle.program_follower.specs.Following.{on_map}
 use Rattle.program_follower.proofs.FollowLemmas.{fault_of_units, streams_next, goes_to}
 use Rattle.program_follower.proofs.follower.ProgramFollower.take.Goals as goal
 
