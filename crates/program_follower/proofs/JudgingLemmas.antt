@@ -73,7 +73,7 @@ no_cue_used c streams pcr_pid h =
 
 -- ---- the same streams
 
-both_true : (a b : Bool) → a && b ≡ true → (a ≡ true) × (b ≡ true)
+pub both_true : (a b : Bool) → a && b ≡ true → (a ≡ true) × (b ≡ true)
 both_true true b h = (refl, h)
 both_true false b h = absurd (cc)
 

@@ -6,3 +6,4 @@ pub mod MapsLemmas
 pub mod StreamLemmas
 pub mod FollowLemmas
 pub mod PieceLemmas
+pub mod RunLemmas

@@ -25,13 +25,15 @@ use Rattle.program_laws.specs.CueEntry.{EntryGoes}
 use Rattle.program_laws.specs.Cued.{on_one, On, cueing, stripping, CuedReads, CuedStreamReads}
 use Rattle.psi_section.proofs.GivenLemmas.{All-both, given_can_each}
 use Rattle.ts_packet.proofs.FieldLemmas.{off_payload}
-use Rattle.program_laws.proofs.ReadingLemmas.{listed_stays, none_at_pat, tables_at, no_tables}
+use Rattle.program_laws.proofs.ReadingLemmas.{none_at_pat, no_tables}
+use Rattle.program_follower.proofs.StepLemmas.{listed_stays, tables_at}
 use Rattle.program_laws.proofs.WritingLemmas.{off_other, written_reads_again}
 use Rattle.program_laws.proofs.UnitLemmas.{others_are_no_units}
 use Rattle.program_laws.proofs.HeadLemmas.{head_passes}
 use Rattle.program_laws.proofs.EntryOutLemmas.{entry_goes_out}
 use Rattle.program_laws.proofs.ByteLemmas.{all_bytes}
-use Rattle.program_laws.proofs.FaultLemmas.{none_both, not_if_bad, Each-map, Each-both, Each-parts, same_listed, MapSound, all_sound, pid_good}
+use Rattle.program_follower.proofs.OptionLemmas.{none_both}
+use Rattle.program_laws.proofs.FaultLemmas.{not_if_bad, Each-map, Each-both, Each-parts, same_listed, MapSound, all_sound, pid_good}
 
 or_none : (a b : Bool) → a || b ≡ false → (a ≡ false) × (b ≡ false)
 or_none true b h = cc

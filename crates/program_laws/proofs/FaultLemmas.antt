@@ -22,13 +22,13 @@ use Rattle.program_follower.specs.Faults.{on_cue, if_bad, pmt_pid_fault, differs
 use Rattle.unit_stream.specs.Faults.{unit_fault}
 use Rattle.program_laws.specs.Writing.{Along}
 use Rattle.program_laws.specs.Cued.{PairsAgree, PatsAgree, MapAgrees, NothingChanges, NoCuePackets}
-use Rattle.program_laws.proofs.StepLemmas.{option_or-assoc, tables_grow, kept}
+use Rattle.program_follower.proofs.JudgingLemmas.{both_true, same_is}
+use Rattle.program_follower.proofs.OptionLemmas.{none_both}
+use Rattle.program_laws.proofs.StepLemmas.{tables_grow, kept}
+use Rattle.program_follower.proofs.OptionLemmas.{option_or-assoc}
 use Rattle.psi_section.proofs.GivenLemmas.{All-both}
-use Rattle.program_laws.proofs.ReadingLemmas.{listed_stays, none_at_pat}
-
-pub none_both : {A : Type 0} (x y : Option A) → option_or x y ≡ None → (x ≡ None) × (y ≡ None)
-none_both None y h = (refl, h)
-none_both (Some x) y h = absurd (cc)
+use Rattle.program_laws.proofs.ReadingLemmas.{none_at_pat}
+use Rattle.program_follower.proofs.StepLemmas.{listed_stays}
 
 pub not_if_bad : (b : Bool) (f : NetworkFault) → if_bad b f ≡ None → b ≡ false
 not_if_bad true f h = absurd (cc)
@@ -156,21 +156,6 @@ sound_tables c pid first [] h = tt
 sound_tables c pid first (t ∷ ts) h =
     let r = none_both (table_fault c pid first t.program_map) (tables_fault c pid (option_or first t.program_map) ts) h in
     (sound_table c pid first t.program_map r.0, sound_tables c pid (option_or first t.program_map) ts r.1)
-
--- the same streams
-both_true : (a b : Bool) → a && b ≡ true → (a ≡ true) × (b ≡ true)
-both_true true b h = (refl, h)
-both_true false b h = absurd (cc)
-
-same_is : (ss ts : List Stream) → same_streams ss ts ≡ true → ss ≡ ts
-same_is [] [] h = refl
-same_is [] (t ∷ ts) h = absurd (cc)
-same_is (s ∷ ss) [] h = absurd (cc)
-same_is (s ∷ ss) (t ∷ ts) h =
-    let r = both_true ((s.kind == t.kind) && (s.pid == t.pid)) (same_streams ss ts) h in
-    let q = both_true (s.kind == t.kind) (s.pid == t.pid) r.0 in
-    let e : s ≡ t = ap (λ k. let x : Stream = record { kind = k; pid = s.pid } in x) (eqb-true s.kind t.kind q.0) ∙ ap (λ n. let x : Stream = record { kind = t.kind; pid = n } in x) (eqb-true s.pid t.pid q.1) in
-    ap (λ x. x ∷ ss) e ∙ ap (λ xs. t ∷ xs) (same_is ss ts r.1)
 
 not_not : (b : Bool) → not b ≡ false → b ≡ true
 not_not true h = refl

@@ -18,7 +18,8 @@ use Rattle.program_laws.proofs.StepLemmas.{tables_grow}
 use Rattle.psi_section.proofs.GivenLemmas.{All-both}
 use Rattle.program_laws.proofs.PacketLemmas.{one_past-below}
 use Rattle.psi_section.proofs.ReadBackLemmas.{Carries, turn_carry}
-use Rattle.program_laws.proofs.ReadingLemmas.{tables_at, none_at_pat}
+use Rattle.program_laws.proofs.ReadingLemmas.{none_at_pat}
+use Rattle.program_follower.proofs.StepLemmas.{tables_at}
 use Rattle.psi_section.proofs.RunLemmas.{given_off}
 use Rattle.program_laws.proofs.WritingLemmas.{listed_below, written_reads_again}
 

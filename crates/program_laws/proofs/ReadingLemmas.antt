@@ -6,7 +6,8 @@ use Rattle.psi_section.specs.Sections.{given, sections_after}
 use Rattle.program_follower.specs.declared.purpose.Listed.{Listed}
 use Rattle.program_follower.specs.Program.{lists, first_listed, listed, since_pat, table_of, tables, all_tables}
 use Rattle.ts_packet.specs.Runs.{onto}
-use Rattle.program_laws.proofs.StepLemmas.{option_or-assoc}
+use Rattle.program_follower.proofs.OptionLemmas.{option_or-assoc, option_or-none}
+use Rattle.program_follower.proofs.StepLemmas.{listed_stays, since_stays, tables_at}
 
 -- ---- a block of packets behind a stream: the PAT
 
@@ -14,10 +15,6 @@ pub first_listed-append : (wanted : Option ℕ) (ss ts : List (List ℕ)) → fi
 first_listed-append wanted [] ts = refl
 first_listed-append wanted (s ∷ ss) ts =
     ap (option_or (lists wanted s)) (first_listed-append wanted ss ts) ∙ sym (option_or-assoc (lists wanted s) (first_listed wanted ss) (first_listed wanted ts))
-
-option_or-none : {A : Type 0} (x : Option A) → option_or x None ≡ x
-option_or-none None = refl
-option_or-none (Some x) = refl
 
 pub listed_onto : (wanted : Option ℕ) (qs out : List (List ℕ)) → listed wanted (onto out qs) ≡ option_or (listed wanted out) (first_listed wanted (sections_after out 0 qs))
 listed_onto wanted [] out = sym (option_or-none (listed wanted out))
@@ -28,18 +25,9 @@ listed_onto wanted (q ∷ qs) out =
 
 -- ---- behind the PAT
 
-pub listed_stays : (wanted : Option ℕ) (q : List ℕ) (out : List (List ℕ)) (l : Listed) → listed wanted out ≡ Some l → listed wanted (q ∷ out) ≡ Some l
-listed_stays wanted q out l h = ap (λ x. option_or x (first_listed wanted (given 0 q out))) h
-
-pub since_stays : (wanted : Option ℕ) (q : List ℕ) (out : List (List ℕ)) (l : Listed) → listed wanted out ≡ Some l → since_pat wanted (q ∷ out) ≡ q ∷ since_pat wanted out
-since_stays wanted q out l h = simp h
-
 pub since_onto : (wanted : Option ℕ) (qs out : List (List ℕ)) (l : Listed) → listed wanted out ≡ Some l → since_pat wanted (onto out qs) ≡ onto (since_pat wanted out) qs
 since_onto wanted [] out l h = refl
 since_onto wanted (q ∷ qs) out l h = since_onto wanted qs (q ∷ out) l (listed_stays wanted q out l h) ∙ ap (λ past. onto past qs) (since_stays wanted q out l h)
-
-pub tables_at : (wanted : Option ℕ) (q : List ℕ) (out : List (List ℕ)) (l : Listed) → listed wanted out ≡ Some l → tables wanted q out ≡ map (table_of l.program) (given l.pid q (since_pat wanted out))
-tables_at wanted q out l h = simp h
 
 pub tables_onto : (wanted : Option ℕ) (qs out : List (List ℕ)) (l : Listed) → listed wanted out ≡ Some l
     → all_tables wanted (onto out qs) ≡ all_tables wanted out ++ map (table_of l.program) (sections_after (since_pat wanted out) l.pid qs)

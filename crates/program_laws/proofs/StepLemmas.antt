@@ -4,18 +4,11 @@ use Rattle.std.proofs.Common.{◌≡◌, List, [], ◌∷◌, ◌++◌, refl, sy
 use Rattle.std.specs.Prelude.{is_some, option_map}
 use Rattle.program_follower.specs.declared.purpose.Listed.{Listed}
 use Rattle.program_follower.specs.Program.{listed, since_pat, Table, tables, all_tables, first_map, known_map, program_in, behind_head}
+use Rattle.program_follower.proofs.StepLemmas.{known_grows}
 use Rattle.program_laws.specs.Laws.{TablesGrow, Stays}
 
-pub option_or-assoc : {A : Type 0} (x y z : Option A) → option_or (option_or x y) z ≡ option_or x (option_or y z)
-option_or-assoc None y z = refl
-option_or-assoc (Some x) y z = refl
-
-pub first_map-append : (ts us : List Table) → first_map (ts ++ us) ≡ option_or (first_map ts) (first_map us)
-first_map-append [] us = refl
-first_map-append (t ∷ ts) us = ap (option_or t.program_map) (first_map-append ts us) ∙ sym (option_or-assoc t.program_map (first_map ts) (first_map us))
-
 pub tables_grow : TablesGrow
-tables_grow wanted p past = first_map-append (all_tables wanted past) (tables wanted p past)
+tables_grow = known_grows
 
 -- what was there is what comes first
 pub kept : {A B : Type 0} (f : A → B) (x y : Option A) (b : B) → option_map f x ≡ Some b → option_map f (option_or x y) ≡ Some b

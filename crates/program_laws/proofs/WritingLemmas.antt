@@ -25,7 +25,9 @@ use Rattle.ts_packet.specs.Runs.{onto}
 use Rattle.psi_section.proofs.GivenLemmas.{All-both, given_can_each}
 use Rattle.program_laws.proofs.PacketLemmas.{Meets, one_past-below, fresh, meets_others, meets_own}
 use Rattle.psi_section.proofs.ReadBackLemmas.{Carries, turn_carry}
-use Rattle.program_laws.proofs.ReadingLemmas.{listed_onto, listed_stays, since_onto, tables_at, tables_onto, no_tables, none_at_pat, no_since}
+use Rattle.program_laws.proofs.ReadingLemmas.{listed_onto, since_onto, tables_onto, no_tables, none_at_pat, no_since}
+use Rattle.program_follower.proofs.StreamLemmas.{one_pid}
+use Rattle.program_follower.proofs.StepLemmas.{listed_stays, tables_at}
 use Rattle.psi_section.proofs.RunLemmas.{given_off, given_on, alike_off, alike_none, alike_back, others_alike, others_give, alike_on}
 use Rattle.ts_packet.proofs.RunLemmas.{onto-append}
 
@@ -70,13 +72,6 @@ pub listed_below : (wanted : Option ℕ) (past : List (List ℕ)) (l : Listed) �
 listed_below wanted past l h = rw h at (below_listed wanted past)
 
 -- ---- a packet is of one PID
-
-one_pid : (a b : ℕ) (p : List ℕ) → on a p ≡ true → on b p ≡ true → a ≡ b
-unfolding on
-one_pid a b p h k = let x = both_of (not (in_error p)) (pid_of p == a) h in let y = both_of (not (in_error p)) (pid_of p == b) k in sym (eqb-true (pid_of p) a x) ∙ eqb-true (pid_of p) b y where
-  both_of : (x y : Bool) → x && y ≡ true → y ≡ true
-  both_of true y h = h
-  both_of false y h = cc
 
 pub off_other : (a b : ℕ) (p : List ℕ) → (a ≡ b → ⊥) → on a p ≡ true → Off b p
 off_other a b p ne h = by_test (on b p) (λ y. absurd (ne (one_pid a b p h y))) (λ n. n)

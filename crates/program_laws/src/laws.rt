@@ -5,6 +5,7 @@ ghost use Rattle.program_laws.specs.Writing.{WrittenReadsAgain};
 ghost use Rattle.program_laws.specs.Behind.{HeadPasses, OthersPass, OthersAreNoUnits};
 ghost use Rattle.program_laws.specs.CueEntry.{EntryGoesOut};
 ghost use Rattle.program_laws.specs.Spliced.{EntryIsNoFault};
+ghost use Rattle.program_laws.specs.FirstFault.{OneMorePacket, FewMoreBytes, FaultlessBytes};
 ghost use Rattle.program_laws.specs.Cued.{NothingChanges, NoCuePackets, CuedStreamReads};
 
 /// One packet more adds the tables that it finishes.
@@ -66,4 +67,21 @@ pub fn no_cue_packets()
 /// read them.
 pub fn entry_is_no_fault()
     ensures { EntryIsNoFault }
+{}
+
+/// One more packet: the first fault of a network's bytes is that of those before it, else what is wrong with the packet behind them.
+/// It holds for each purpose, and so for those who put cues into a network, those who follow its cues, and those who read an
+/// advertisement.
+pub fn one_more_packet()
+    ensures { OneMorePacket }
+{}
+
+/// Fewer than 188 bytes more: the first fault is that of the packets before them, else that they are too few.
+pub fn few_more_bytes()
+    ensures { FewMoreBytes }
+{}
+
+/// A network's bytes are without fault exactly where each part of 188 bytes is a packet, and none is wrong behind those before it.
+pub fn faultless_bytes()
+    ensures { FaultlessBytes }
 {}
