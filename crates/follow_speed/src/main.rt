@@ -21,7 +21,7 @@ pub enum RunFault {
 }
 
 /// How many bytes are read at a time.
-const BUFFER_SIZE: usize = 128 * 1024;
+const BUFFER_SIZE: usize = 256 * 1024;
 
 /// Follows the first program of a network to the network's end.
 ///
