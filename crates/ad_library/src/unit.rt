@@ -70,7 +70,8 @@ pub(crate) fn next_below(places: &[UnitPlace], least: u64, limit: u64) -> &[Unit
 pub(crate) fn are_below(places: &[UnitPlace], count: usize, least: u64, limit: u64) -> bool
     requires { tops_rise places.now ≡ true }
     ensures within { result ≡ true → count ≤ length places.now }
-    ensures front { result ≡ true → (bs : List ℕ) → drop count (slice_of limit (units_at least places.now bs)) ≡ slice_of limit (units_at least (drop count places.now) bs) }
+    ensures front { result ≡ true → (bs : List ℕ) →
+        drop count (slice_of limit (units_at least places.now bs)) ≡ slice_of limit (units_at least (drop count places.now) bs) }
 {
     if count == 0 {
         return true;

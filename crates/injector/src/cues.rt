@@ -103,11 +103,13 @@ fn put_cues<S: PacketSink>(
     sink: &mut S,
 ) -> Result<(), PutFault>
     ensures leads { S.leads sink.old sink.new }
-    ensures ok { (start : Option (List ℕ)) (ps puts : List (List ℕ)) (x : Sender) → S.holds sink.old start ps → HasPut out.old puts → IsShown event.now notes.now x →
+    ensures ok { (start : Option (List ℕ)) (ps puts : List (List ℕ)) (x : Sender) → S.holds sink.old start ps →
+        HasPut out.old puts → IsShown event.now notes.now x →
         OnOk result (S.holds sink.new start (ps ++ packets_out pid puts (map cue_bytes (cues_by x choice)))) }
     ensures numbers { (puts : List (List ℕ)) (x : Sender) → HasPut out.old puts → IsShown event.now notes.now x →
         OnOk result (HasPut out.new (onto puts (packets_out pid puts (map cue_bytes (cues_by x choice))))) }
-    ensures err { (start : Option (List ℕ)) (ps puts : List (List ℕ)) (x : Sender) → S.holds sink.old start ps → HasPut out.old puts → IsShown event.now notes.now x →
+    ensures err { (start : Option (List ℕ)) (ps puts : List (List ℕ)) (x : Sender) → S.holds sink.old start ps →
+        HasPut out.old puts → IsShown event.now notes.now x →
         IfErr result (λ f. FrontFails (packets_out pid puts (map cue_bytes (cues_by x choice))) (λ put p. S.fails sink.new start (ps ++ put) p f)) }
     ensures well { OnOk result (WentWell (S.counts sink.old) (S.counts sink.new)) }
     ensures blamed { IfErr result (λ f. Blamed f (S.counts sink.old) (S.counts sink.new) (S.is_full sink.new)) }
@@ -148,7 +150,8 @@ fn put_one<S: PacketSink>(
     ensures well { OnOk result (WentWell (S.counts sink.old) (S.counts sink.new)) }
     ensures blamed { IfErr result (λ f. Blamed f (S.counts sink.old) (S.counts sink.new) (S.is_full sink.new)) }
     ensures sending { (line after : Option ℤ) (done : List Sender) (x : Sender) (left : List Sender) → Sending requests.old line after done (x ∷ left) →
-        place ≡ length done → Rises line after → later.now ≡ option_map ring_of after → OnOk result (Sending requests.new line after (done ++ x ∷ []) left) }
+        place ≡ length done → Rises line after → later.now ≡ option_map ring_of after →
+        OnOk result (Sending requests.new line after (done ++ x ∷ []) left) }
     ensures stands { (line : Option ℤ) (standing : List Standing) → StandsFor requests.old.table line standing → StandsFor requests.new.table line standing }
     ensures index { requests.new.index ≡ requests.old.index }
     ensures high { high_of requests.new.table ≡ high_of requests.old.table }
@@ -182,13 +185,15 @@ pub(crate) fn put_due<S: PacketSink>(
     sink: &mut S,
 ) -> Result<(), PutFault>
     ensures leads { S.leads sink.old sink.new }
-    ensures ok { (start : Option (List ℕ)) (ps puts : List (List ℕ)) (index : ℕ) (past : List Turn) (line : Option ℤ) → S.holds sink.old start ps → HasPut out.old puts → RequestsStandFor requests.old index past →
+    ensures ok { (start : Option (List ℕ)) (ps puts : List (List ℕ)) (index : ℕ) (past : List Turn) (line : Option ℤ) →
+        S.holds sink.old start ps → HasPut out.old puts → RequestsStandFor requests.old index past →
         NotesStandFor requests.old index past → Rises (high past) line → later.now ≡ option_map ring_of line →
         OnOk result (S.holds sink.new start (ps ++ packets_out pid puts (map cue_bytes (cues_before index line past)))) }
     ensures numbers { (puts : List (List ℕ)) (index : ℕ) (past : List Turn) (line : Option ℤ) → HasPut out.old puts → RequestsStandFor requests.old index past →
         NotesStandFor requests.old index past → Rises (high past) line → later.now ≡ option_map ring_of line →
         OnOk result (HasPut out.new (onto puts (packets_out pid puts (map cue_bytes (cues_before index line past))))) }
-    ensures err { (start : Option (List ℕ)) (ps puts : List (List ℕ)) (index : ℕ) (past : List Turn) (line : Option ℤ) → S.holds sink.old start ps → HasPut out.old puts → RequestsStandFor requests.old index past →
+    ensures err { (start : Option (List ℕ)) (ps puts : List (List ℕ)) (index : ℕ) (past : List Turn) (line : Option ℤ) →
+        S.holds sink.old start ps → HasPut out.old puts → RequestsStandFor requests.old index past →
         NotesStandFor requests.old index past → Rises (high past) line → later.now ≡ option_map ring_of line →
         IfErr result (λ f. FrontFails (packets_out pid puts (map cue_bytes (cues_before index line past))) (λ put p. S.fails sink.new start (ps ++ put) p f)) }
     ensures well { OnOk result (WentWell (S.counts sink.old) (S.counts sink.new)) }

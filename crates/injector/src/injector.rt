@@ -84,9 +84,12 @@ impl Injector {
         ensures leads { S.leads sink.old sink.new }
         ensures ok { (start : Option (List ℕ)) (ps : List (List ℕ)) (c : Config) (past : List Step) → S.holds sink.old start ps → InjectorStandsFor self.old c past →
             OnOk result (S.holds sink.new start (ps ++ sent_at c packet.now past)) }
-        ensures stands { (c : Config) (past : List Step) → InjectorStandsFor self.old c past → OnOk result (InjectorStandsFor self.new c (PacketStep packet.now ∷ past)) }
-        ensures sound { (c : Config) (past : List Step) → InjectorStandsFor self.old c past → OnOk result (network_fault (purpose_of c) packet.now (packets_in past) ≡ None) }
-        ensures err { (start : Option (List ℕ)) (ps : List (List ℕ)) (c : Config) (past : List Step) → S.holds sink.old start ps → InjectorStandsFor self.old c past →
+        ensures stands { (c : Config) (past : List Step) → InjectorStandsFor self.old c past →
+            OnOk result (InjectorStandsFor self.new c (PacketStep packet.now ∷ past)) }
+        ensures sound { (c : Config) (past : List Step) → InjectorStandsFor self.old c past →
+            OnOk result (network_fault (purpose_of c) packet.now (packets_in past) ≡ None) }
+        ensures err { (start : Option (List ℕ)) (ps : List (List ℕ)) (c : Config) (past : List Step) →
+            S.holds sink.old start ps → InjectorStandsFor self.old c past →
             IfErr result (λ f. FeedFails f c packet.now past (λ put p x. S.fails sink.new start (ps ++ put) p x)) }
         ensures judges { (c : Config) (past : List Step) → JudgesBy self.old c past → IfErr result (λ _. JudgesBy self.new c past) }
         ensures well { OnOk result (WentWell (S.counts sink.old) (S.counts sink.new)) }
@@ -112,9 +115,12 @@ impl Injector {
         ensures leads { S.leads sink.old sink.new }
         ensures ok { (start : Option (List ℕ)) (ps : List (List ℕ)) (c : Config) (past : List Step) → S.holds sink.old start ps → InjectorStandsFor self.old c past →
             OnOk result (S.holds sink.new start (ps ++ sent_at c packet.now past)) }
-        ensures stands { (c : Config) (past : List Step) → InjectorStandsFor self.old c past → OnOk result (InjectorStandsFor self.new c (PacketStep packet.now ∷ past)) }
-        ensures sound { (c : Config) (past : List Step) → InjectorStandsFor self.old c past → OnOk result (network_fault (purpose_of c) packet.now (packets_in past) ≡ None) }
-        ensures err { (start : Option (List ℕ)) (ps : List (List ℕ)) (c : Config) (past : List Step) → S.holds sink.old start ps → InjectorStandsFor self.old c past →
+        ensures stands { (c : Config) (past : List Step) → InjectorStandsFor self.old c past →
+            OnOk result (InjectorStandsFor self.new c (PacketStep packet.now ∷ past)) }
+        ensures sound { (c : Config) (past : List Step) → InjectorStandsFor self.old c past →
+            OnOk result (network_fault (purpose_of c) packet.now (packets_in past) ≡ None) }
+        ensures err { (start : Option (List ℕ)) (ps : List (List ℕ)) (c : Config) (past : List Step) →
+            S.holds sink.old start ps → InjectorStandsFor self.old c past →
             IfErr result (λ f. FeedFails f c packet.now past (λ put p x. S.fails sink.new start (ps ++ put) p x)) }
         ensures judges { (c : Config) (past : List Step) → JudgesBy self.old c past → IfErr result (λ _. JudgesBy self.new c past) }
         ensures well { OnOk result (WentWell (S.counts sink.old) (S.counts sink.new)) }
@@ -178,7 +184,8 @@ impl Injector {
             IsBodyOf self.old is_map c packet.now past → OnOk result (S.holds sink.new start (ps ++ body_at c packet.now past puts)) }
         ensures numbers { (puts : List (List ℕ)) (c : Config) (past : List (List ℕ)) → HasPut self.old.out puts →
             IsBodyOf self.old is_map c packet.now past → OnOk result (HasPut self.new.out (onto puts (body_at c packet.now past puts))) }
-        ensures err { (start : Option (List ℕ)) (ps puts : List (List ℕ)) (c : Config) (past : List (List ℕ)) → S.holds sink.old start ps → HasPut self.old.out puts →
+        ensures err { (start : Option (List ℕ)) (ps puts : List (List ℕ)) (c : Config) (past : List (List ℕ)) →
+            S.holds sink.old start ps → HasPut self.old.out puts →
             IsBodyOf self.old is_map c packet.now past →
             IfErr result (λ f. FrontFails (body_at c packet.now past puts) (λ put p. S.fails sink.new start (ps ++ put) p f)) }
         ensures rest { KeepsRest self.old self.new }

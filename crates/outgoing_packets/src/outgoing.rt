@@ -94,11 +94,13 @@ impl Outgoing {
         sink: &mut S,
     ) -> Result<(), PutFault>
         ensures leads { S.leads sink.old sink.new }
-        ensures ok { (start : Option (List ℕ)) (ps out : List (List ℕ)) → S.holds sink.old start ps → HasPut self.old out → AllGoOut change.now (tables_left tables.entry) →
+        ensures ok { (start : Option (List ℕ)) (ps out : List (List ℕ)) → S.holds sink.old start ps →
+            HasPut self.old out → AllGoOut change.now (tables_left tables.entry) →
             OnOk result (S.holds sink.new start (ps ++ packets_out pid out (map (section_out (change_of change.now)) (tables_left tables.entry)))) }
         ensures numbers { (out : List (List ℕ)) → HasPut self.old out → AllGoOut change.now (tables_left tables.entry) →
             OnOk result (HasPut self.new (onto out (packets_out pid out (map (section_out (change_of change.now)) (tables_left tables.entry))))) }
-        ensures err { (start : Option (List ℕ)) (ps out : List (List ℕ)) → S.holds sink.old start ps → HasPut self.old out → AllGoOut change.now (tables_left tables.entry) →
+        ensures err { (start : Option (List ℕ)) (ps out : List (List ℕ)) → S.holds sink.old start ps →
+            HasPut self.old out → AllGoOut change.now (tables_left tables.entry) →
             IfErr result (λ f. FrontFails (packets_out pid out (map (section_out (change_of change.now)) (tables_left tables.entry))) (λ put p. S.fails sink.new start (ps ++ put) p f)) }
         ensures well { OnOk result (WentWell (S.counts sink.old) (S.counts sink.new)) }
         ensures blamed { IfErr result (λ f. Blamed f (S.counts sink.old) (S.counts sink.new) (S.is_full sink.new)) }
@@ -121,11 +123,13 @@ impl Outgoing {
         sink: &mut S,
     ) -> Result<(), PutFault>
         ensures leads { S.leads sink.old sink.new }
-        ensures ok { (start : Option (List ℕ)) (ps out : List (List ℕ)) → S.holds sink.old start ps → HasPut self.old out → GoesOut change.now (table_seen table.entry) →
+        ensures ok { (start : Option (List ℕ)) (ps out : List (List ℕ)) → S.holds sink.old start ps →
+            HasPut self.old out → GoesOut change.now (table_seen table.entry) →
             OnOk result (S.holds sink.new start (ps ++ packets_out pid out (section_out (change_of change.now) (table_seen table.entry) ∷ []))) }
         ensures numbers { (out : List (List ℕ)) → HasPut self.old out → GoesOut change.now (table_seen table.entry) →
             OnOk result (HasPut self.new (onto out (packets_out pid out (section_out (change_of change.now) (table_seen table.entry) ∷ [])))) }
-        ensures err { (start : Option (List ℕ)) (ps out : List (List ℕ)) → S.holds sink.old start ps → HasPut self.old out → GoesOut change.now (table_seen table.entry) →
+        ensures err { (start : Option (List ℕ)) (ps out : List (List ℕ)) → S.holds sink.old start ps →
+            HasPut self.old out → GoesOut change.now (table_seen table.entry) →
             IfErr result (λ f. FrontFails (packets_out pid out (section_out (change_of change.now) (table_seen table.entry) ∷ [])) (λ put p. S.fails sink.new start (ps ++ put) p f)) }
         ensures well { OnOk result (WentWell (S.counts sink.old) (S.counts sink.new)) }
         ensures blamed { IfErr result (λ f. Blamed f (S.counts sink.old) (S.counts sink.new) (S.is_full sink.new)) }

@@ -61,7 +61,8 @@ impl Follower {
     /// duplicate. `kept` is the PID's last payload packet, with whatever counter, and any packet where there was none.
     #[inline(always)]
     pub fn feed(&mut self, packet: &Packet, kept: &Packet) -> bool
-        ensures follows { (pid : ℕ) (past : List (List ℕ)) → Follows self.old kept.now pid past → Follows self.new (kept_after pid packet.now packet.now kept.now) pid (packet.now ∷ past) }
+        ensures follows { (pid : ℕ) (past : List (List ℕ)) → Follows self.old kept.now pid past →
+            Follows self.new (kept_after pid packet.now packet.now kept.now) pid (packet.now ∷ past) }
         ensures answer { (pid : ℕ) (past : List (List ℕ)) → Follows self.old kept.now pid past → result ≡ original pid packet.now past }
     {
         if !packet.has_payload_on(self.pid) {

@@ -79,7 +79,8 @@ impl<A: Allocator> PacketSink for PacketList<A> {
     ghost leads_spent = { λ s t h. h.2 };
 
     fn put(&mut self, packet: &Packet) -> Result<(), PutFault>
-        ensures leads { (self.new.room ≡ self.old.room) × (nat_le self.old.room (vec_len self.old.items) ≡ true → nat_le self.new.room (vec_len self.new.items) ≡ true)
+        ensures leads { (self.new.room ≡ self.old.room) × (nat_le self.old.room (vec_len self.old.items) ≡ true →
+            nat_le self.new.room (vec_len self.new.items) ≡ true)
             × (self.old.is_broken ≡ true → self.new ≡ self.old) }
         ensures ok { (start : Option (List ℕ)) (ps : List (List ℕ)) → (self.old.is_broken ≡ false) × (self.old.items.items ≡ ps) →
             OnOk result ((self.new.is_broken ≡ false) × (self.new.items.items ≡ ps ++ packet.now ∷ [])) }

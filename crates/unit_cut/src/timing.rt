@@ -53,8 +53,10 @@ impl Timing {
     pub fn begin(&mut self, payload: &[u8]) -> Result<(), UnitFault>
         ensures ok { (k : Cut) (high before : Option ℤ) → BeginsWith k high (stamp_of payload.now) → TimingFor self.old k high before
             → OnOk result (TimingFor self.new k (raised high (stamp_of payload.now)) (timed high (stamp_of payload.now) before)) }
-        ensures sound { (k : Cut) (high before : Option ℤ) → TimingFor self.old k high before → OnOk result (start_fault high (is_split payload.now) (stamp_of payload.now) ≡ None) }
-        ensures err { (k : Cut) (high before : Option ℤ) → TimingFor self.old k high before → IfErr result (λ f. start_fault high (is_split payload.now) (stamp_of payload.now) ≡ Some f) }
+        ensures sound { (k : Cut) (high before : Option ℤ) → TimingFor self.old k high before →
+            OnOk result (start_fault high (is_split payload.now) (stamp_of payload.now) ≡ None) }
+        ensures err { (k : Cut) (high before : Option ℤ) → TimingFor self.old k high before →
+            IfErr result (λ f. start_fault high (is_split payload.now) (stamp_of payload.now) ≡ Some f) }
         ensures unchanged { IfErr result (λ _. self.new ≡ self.old) }
     {
         match self.clock.begin(payload) {

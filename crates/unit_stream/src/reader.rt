@@ -49,7 +49,8 @@ impl UnitFollower {
     /// there was none.
     #[inline(always)]
     pub fn feed<'a>(&mut self, packet: &'a Packet, kept: &Packet) -> Piece<'a>
-        ensures reads { (pid : ℕ) (past : List (List ℕ)) → FollowsUnits self.old kept.now pid past → FollowsUnits self.new (kept_after pid packet.now packet.now kept.now) pid (packet.now ∷ past) }
+        ensures reads { (pid : ℕ) (past : List (List ℕ)) → FollowsUnits self.old kept.now pid past →
+            FollowsUnits self.new (kept_after pid packet.now packet.now kept.now) pid (packet.now ∷ past) }
         ensures brings { (pid : ℕ) (past : List (List ℕ)) → FollowsUnits self.old kept.now pid past → Brings result pid packet.now past }
         ensures payload { HasPayload result packet.now }
     {
