@@ -3,11 +3,16 @@
 
 mod ad_stream;
 mod advert;
+mod fault;
+mod gathering;
 mod library;
 mod slice;
 mod store;
+#[cfg(test)]
+mod tests;
 mod unit;
 
+pub use fault::AdFault;
 pub use library::AdLibrary;
 pub use slice::Slice;
 pub use unit::AdUnit;

@@ -1,17 +1,26 @@
 //! The library.
 
-ghost use Rattle.std.specs.Prelude.{◌≡◌, ℕ, Some, None, IfSome, option_map};
+ghost use Rattle.std.specs.Prelude.{◌≡◌, ◌≤◌, ◌↔◌, ◌⊎◌, ◌+◌, ℕ, List, Option, None, Some, OnOk, OnErr, IfOk, IfErr, IfSome, IsSome, option_map};
 ghost use Rattle.indexmap.specs.IndexMap.{index_map_len};
+ghost use Rattle.ts_packet.specs.Packets.{packets_of};
+ghost use Rattle.ad_library.specs.Advertisements.{advertisement};
 ghost use Rattle.ad_library.specs.Storing.{on_line};
 ghost use Rattle.ad_library.specs.Slices.{left};
-ghost use Rattle.ad_library.specs.Library.{held, fits_held, slice_held, zero_held};
+ghost use Rattle.ad_library.specs.Faults.{advertisement_fault, Says};
+ghost use Rattle.ad_library.specs.Library.{advert_seen, held, filed, fits_held, slice_held, zero_held};
 
 use crate::advert::Advert;
+use crate::fault::AdFault;
+use crate::gathering::Gathering;
 use crate::slice::Slice;
 use indexmap::IndexMap;
 use psi_tables::Stream;
 use std::alloc::{Allocator, Global};
 use std::hash::{BuildHasherDefault, FoldHasher};
+use ts_packet::{Packet, PacketReader, ReadFault, Source};
+
+/// How many advertisements a library holds.
+const MAX_ADVERTS: usize = 64;
 
 /// At most 64 advertisements of at most 67,108,864 bytes each, by number.
 #[derive(Drop)]
@@ -41,6 +50,38 @@ impl<A: Allocator + Copy> AdLibrary<A> {
             adverts: IndexMap::new(alloc),
         }
     }
+
+    /// Reads a stream to its end, and files its first program under this number.
+    ///
+    /// # Errors
+    ///
+    /// Those of [`AdFault`], in their order. Then the library is as it was.
+    pub fn add<S: Source>(&mut self, id: u16, reader: &mut S) -> Result<(), AdFault>
+        ensures files { OnOk result ((ps : List (List ℕ)) × IfSome (S.remaining reader.old) (λ bs. ps ≡ packets_of bs) × IsSome (advertisement ps)
+            × ((other : ℕ) → held self.new other ≡ filed (held self.old) id (advertisement ps) other)) }
+        ensures sound { OnOk result (IfSome (S.remaining reader.old) (λ bs. advertisement_fault bs ≡ None)) }
+        ensures size { OnOk result (index_map_len self.new.adverts ≡ index_map_len self.old.adverts + 1) }
+        ensures says { IfErr result (λ f. IfSome (S.remaining reader.old) (Says f)) }
+        ensures exists { result ≡ Err AdFault.Exists ↔ IsSome (held self.old id) }
+        ensures many { result ≡ Err AdFault.Many ↔ ((held self.old id ≡ None) × (64 ≤ index_map_len self.old.adverts)) }
+        ensures unread { IsSome (held self.old id) ⊎ (64 ≤ index_map_len self.old.adverts) → reader.new ≡ reader.old }
+        ensures unchanged { OnErr result (((other : ℕ) → held self.new other ≡ held self.old other) × (index_map_len self.new.adverts ≡ index_map_len self.old.adverts)) }
+    {
+        if self.adverts.contains_key(&id) {
+            return Err(AdFault::Exists);
+        }
+        if self.adverts.len() >= MAX_ADVERTS {
+            return Err(AdFault::Many);
+        }
+        let advert = match read_advert(self.alloc, reader) {
+            Ok(advert) => advert,
+            Err(fault) => return Err(fault),
+        };
+        match self.adverts.insert(id, advert) {
+            Ok(_) => Ok(()),
+            Err(_) => Err(AdFault::OutOfMemory),
+        }
+    }
 }
 
 impl<A: Allocator> AdLibrary<A> {
@@ -63,5 +104,31 @@ impl<A: Allocator> AdLibrary<A> {
     {
         let advert = self.adverts.get(&id)?;
         advert.slice(kind, k, length)
+    }
+}
+
+/// The advertisement of a stream.
+fn read_advert<S: Source, A: Allocator + Copy>(
+    alloc: A,
+    source: &mut S,
+) -> Result<Advert<A>, AdFault>
+    ensures files { IfOk result (λ ad. (ps : List (List ℕ)) × IfSome (S.remaining source.old) (λ bs. ps ≡ packets_of bs) × (Some (advert_seen ad) ≡ advertisement ps)) }
+    ensures sound { OnOk result (IfSome (S.remaining source.old) (λ bs. advertisement_fault bs ≡ None)) }
+    ensures says { IfErr result (λ f. IfSome (S.remaining source.old) (Says f)) }
+{
+    let mut reader = PacketReader::new(source);
+    let mut packet = Packet::null();
+    let mut gathering = Gathering::new(alloc);
+    loop {
+        match reader.read_into(&mut packet) {
+            Ok(true) => {
+                if let Err(fault) = gathering.take(&packet) {
+                    return Err(fault);
+                }
+            }
+            Ok(false) => return gathering.finish(),
+            Err(ReadFault::Io) => return Err(AdFault::Io),
+            Err(fault) => return Err(AdFault::Packets(fault)),
+        }
     }
 }
