@@ -5,10 +5,14 @@
 #![tactic(auto)]
 
 mod asked;
+mod cues;
+mod injector;
+mod notes;
 mod refusal;
 mod reply;
 mod requests;
 
+pub use injector::{Injector, MessageCounts};
 pub use refusal::Refusal;
 pub use requests::Requests;
 

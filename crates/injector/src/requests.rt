@@ -1,6 +1,6 @@
 //! Requests, judged.
 
-ghost use Rattle.std.specs.Prelude.{◌≡◌, ◌↔◌, ◌+◌, ◌*◌, ◌%◌, ◌^◌, ◌<◌, ◌∷◌, [], ℕ, ℤ, List, Option, OnErr, IsTrue};
+ghost use Rattle.std.specs.Prelude.{◌≡◌, ◌↔◌, ◌+◌, ◌*◌, ◌%◌, ◌^◌, ◌<◌, ◌∷◌, [], ℕ, ℤ, List, Option, OnErr, IsTrue, length};
 ghost use Rattle.scte104_codec.specs.Views.{reading_of};
 ghost use Rattle.event_table.specs.Rings.{CanAdvance};
 ghost use Rattle.event_table.specs.Standing.{Standing, IsTimeAt, has_id, with_cancelled};
@@ -12,9 +12,10 @@ ghost use Rattle.injector.specs.Replies.{reply_to};
 ghost use Rattle.injector.specs.Requests.{RequestsStandFor};
 
 use crate::asked::{Asked, END_NORMAL, START_NORMAL, request_in};
+use crate::notes::Notes;
 use crate::refusal::Refusal;
 use crate::reply::{SUCCESS, UNSERVED, alive_reply, bad_reply, reply, verdict_reply};
-use event_table::{ArmRefusal, Armed, CancelRefusal, Event, ShortenRefusal, Table};
+use event_table::{ArmRefusal, Armed, CancelRefusal, Entry, Event, ShortenRefusal, Table};
 use pes_time::Time33;
 use scte104_codec::operation_ids::{GENERAL_RESPONSE, INIT_RESPONSE};
 use scte104_codec::{BadMessage, Message, Multi, Reply, SpliceRequest};
@@ -29,7 +30,7 @@ const TENTH: u64 = 9_000;
 #[derive(Drop)]
 pub struct Requests {
     index: u16,
-    table: Table,
+    table: Table<Notes>,
 }
 
 impl Requests {
@@ -67,6 +68,19 @@ impl Requests {
         self.table.advance(time);
     }
 
+    /// Takes this as the greatest time behind a packet, if it is another one.
+    pub(crate) fn rise(&mut self, later: Option<Time33>) {
+        if later == self.high() {
+            return;
+        }
+        let Some(high) = later else {
+            return;
+        };
+        if self.can_advance(high) {
+            self.advance(high);
+        }
+    }
+
     /// Judges a message, and answers it. A request that is refused changes nothing; one that is accepted adds one event or changes one.
     pub fn ask(&mut self, message: Result<Message<'_>, BadMessage>) -> Reply
         ensures answer { (index : ℕ) (past : List Turn) → RequestsStandFor self.old index past →
@@ -100,6 +114,25 @@ impl Requests {
         }
     }
 
+    /// How many events stand.
+    pub(crate) fn count(&self) -> usize {
+        self.table.standing().len()
+    }
+
+    /// The event that stands at this place, with its notes.
+    pub(crate) fn entry(&self, place: usize) -> Entry<Notes>
+        requires { place < length self.now.table.entries.items }
+    {
+        self.table.standing()[place]
+    }
+
+    /// Puts these notes beside the event that stands at this place.
+    pub(crate) fn note(&mut self, place: usize, notes: Notes)
+        requires { place < length self.old.table.entries.items }
+    {
+        self.table.set_value(place, notes);
+    }
+
     /// Judges what a message asks for.
     fn judge(&mut self, message: &Multi<'_>) -> Result<(), Refusal>
         ensures answer { (line : Option ℤ) (standing : List Standing) → StandsFor self.old.table line standing →
@@ -127,14 +160,14 @@ impl Requests {
     {
         let request = asked.request;
         match request.splice_insert_type {
-            START_NORMAL => self.start(request),
+            START_NORMAL => self.start(request, Notes::of(asked)),
             END_NORMAL => self.end(request),
             _ => self.cancel(request),
         }
     }
 
     /// Takes a start.
-    fn start(&mut self, request: SpliceRequest) -> Result<(), Refusal>
+    fn start(&mut self, request: SpliceRequest, notes: Notes) -> Result<(), Refusal>
         requires duration { 0 < request.break_duration }
         requires pre_roll { 0 < request.pre_roll_time }
         ensures answer { (line : Option ℤ) (standing : List Standing) → StandsFor self.old.table line standing →
@@ -148,7 +181,7 @@ impl Requests {
         let Some(high) = self.table.high() else {
             return Err(Refusal::NoClock);
         };
-        match self.table.arm(event_at(high, request), ()) {
+        match self.table.arm(event_at(high, request), notes) {
             Ok(Armed::New) => Ok(()),
             Ok(Armed::Same) => Err(Refusal::InUse),
             Err(ArmRefusal::InUse) => Err(Refusal::InUse),

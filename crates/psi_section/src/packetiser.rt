@@ -27,6 +27,14 @@ impl Packetiser {
         Packetiser { pid, counter }
     }
 
+    /// The continuity_counter of the next packet, below 16.
+    pub fn upcoming(&self) -> u8
+        ensures value { result ≡ self.now.counter }
+        ensures below { result < 16 }
+    {
+        self.counter
+    }
+
     /// Puts the packets of a section, which is not empty. After a fault those before the one that failed are out, and the counter
     /// goes on behind them.
     pub fn put<S: PacketSink>(&mut self, section: &[u8], sink: &mut S) -> Result<(), PutFault>
