@@ -5,12 +5,14 @@
 #![tactic(auto)]
 
 pub mod automation;
+mod chain;
 mod hearing;
 pub mod judge;
 mod report;
 mod talk;
 
 pub use automation::{Automation, Taken};
+pub use chain::{Chain, OutOfMemory, RunFault, run_inject};
 pub use hearing::SessionEnd;
 pub use judge::Judge;
 pub use report::Report;

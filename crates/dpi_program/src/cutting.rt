@@ -1,14 +1,13 @@
 //! The subcommand `cut`: a cut between the ends that its options name, and what it tells.
 
 ghost use Rattle.std.specs.Prelude.{◌≡◌, IfErr, IfOk, OnOk, IsOk, IsErrAnd};
-ghost use Rattle.std.specs.Io.KnownBytes.{Keeps};
-ghost use Rattle.std.specs.Io.Buffered.{writer_contents};
 ghost use Rattle.unit_cut.specs.Runs.{CutsAll};
 
 use crate::attended::Attended;
 use crate::command::CutOptions;
 use crate::ends::{End, OpenedEnds, Unopened, open_ends};
 use crate::fault::ProgramFault;
+use crate::flushing::{finish, finish_buffer};
 use crate::tell::{Account, Side, Stopped};
 use crate::watch::{Watch, Watched};
 use packet_lines::{LineSource, LineTarget, LinesFault};
@@ -19,7 +18,7 @@ use ts_packet::{Buffered, Device, Pid, PutFault, Source, Target};
 use unit_cut::{CutFault, cut};
 
 /// How many bytes a file or a stream is read or written at a time.
-const BUFFER_SIZE: usize = 262_144;
+pub(crate) const BUFFER_SIZE: usize = 262_144;
 
 /// What a cut left behind: its answer, what it read from and wrote to, and what was seen go by where that was asked for.
 #[derive(Drop)]
@@ -63,35 +62,6 @@ fn cut_by_options<S: Source + Drop, T: Target>(
     }
 }
 
-/// Flushes the writer at the end of a cut, also after a fault. A failed flush after a cut that went through is `Io`.
-fn finish<W: Write>(outcome: Result<(), CutFault>, writer: &mut W) -> Result<(), CutFault>
-    ensures first { IfErr outcome (λ fault. result ≡ Err fault) }
-    ensures flushed { OnOk outcome (IfErr result (λ fault. fault ≡ CutFault.Sink PutFault.Io)) }
-    ensures kept { Keeps (W.contents writer.old) (W.contents writer.new) }
-{
-    let flushed = writer.flush();
-    outcome?;
-    flushed.map_err(|_| CutFault::Sink(PutFault::Io))
-}
-
-/// Flushes a buffer at the end of a cut, likewise, and gives the writer below it.
-fn finish_buffer<W: Write + Drop>(
-    outcome: Result<(), CutFault>,
-    writer: BufWriter<W>,
-) -> (Result<(), CutFault>, W)
-    ensures first { IfErr outcome (λ fault. result.0 ≡ Err fault) }
-    ensures flushed { OnOk outcome (IfErr result.0 (λ fault. fault ≡ CutFault.Sink PutFault.Io)) }
-    ensures kept { OnOk result.0 (Keeps (writer_contents W.contents writer) (W.contents result.1)) }
-{
-    let mut writer = writer;
-    let emptied = writer.flush();
-    let (below, _) = writer.into_parts();
-    match outcome {
-        Ok(()) => (emptied.map_err(|_| CutFault::Sink(PutFault::Io)), below),
-        Err(fault) => (Err(fault), below),
-    }
-}
-
 /// A cut whose output has been flushed.
 #[derive(Drop)]
 struct Finished<S, W> {
@@ -121,7 +91,7 @@ fn cut_to_blocks<S: Source + Drop, W: Write + Drop>(
         out,
         seen,
     } = cut_by_options(options, network, Device::new(writer));
-    let (outcome, output) = finish_buffer(outcome, out.into_inner());
+    let (outcome, output) = finish_buffer(outcome, out.into_inner(), CutFault::Sink(PutFault::Io));
     Ok(Finished {
         outcome,
         network,
@@ -148,7 +118,7 @@ fn cut_to_packets<S: Source + Drop, W: Write + Drop>(
         seen,
     } = cut_by_options(options, network, out);
     let mut output = out.into_inner();
-    let outcome = finish(outcome, &mut output);
+    let outcome = finish(outcome, &mut output, CutFault::Sink(PutFault::Io));
     Finished {
         outcome,
         network,
@@ -174,7 +144,11 @@ fn cut_to_lines<S: Source + Drop, W: Write + Drop>(
         out,
         seen,
     } = cut_by_options(options, network, out);
-    let (outcome, output) = finish_buffer(outcome, out.into_inner().into_inner());
+    let (outcome, output) = finish_buffer(
+        outcome,
+        out.into_inner().into_inner(),
+        CutFault::Sink(PutFault::Io),
+    );
     Ok(Finished {
         outcome,
         network,
@@ -236,13 +210,13 @@ fn cut_to<S: Source + Drop, F: Write + Drop, O: Write>(
 
 /// The reasons that the devices below a run gave for their last failures.
 #[derive(Drop)]
-struct Reasons {
-    reading: Option<io::Error>,
-    writing: Option<io::Error>,
+pub(crate) struct Reasons {
+    pub(crate) reading: Option<io::Error>,
+    pub(crate) writing: Option<io::Error>,
 }
 
 /// Memory was refused.
-fn out_of_memory() -> Stopped
+pub(crate) fn out_of_memory() -> Stopped
     ensures { result.fault ≡ ProgramFault.OutOfMemory }
 {
     Stopped {
@@ -250,6 +224,7 @@ fn out_of_memory() -> Stopped
         side: Side::Reading,
         reason: None,
         read: None,
+        line: None,
     }
 }
 
@@ -267,6 +242,7 @@ fn stopped(fault: LinesFault, reasons: Reasons, read: Option<Watch>) -> Stopped
         side,
         reason,
         read,
+        line: None,
     }
 }
 
@@ -351,7 +327,7 @@ fn cut_from_lines<R: Read + Drop, F: Write + Drop, O: Write>(
 }
 
 /// A file could not be opened.
-fn unopened(unopened: Unopened) -> Stopped
+pub(crate) fn unopened(unopened: Unopened) -> Stopped
     ensures { result.fault ≡ ProgramFault.File }
 {
     let (side, reason) = match unopened {
@@ -363,6 +339,7 @@ fn unopened(unopened: Unopened) -> Stopped
         side,
         reason: Some(reason),
         read: None,
+        line: None,
     }
 }
 

@@ -8,13 +8,21 @@ pub mod command;
 mod cutting;
 mod ends;
 pub mod fault;
+mod flushing;
+mod inject_options;
+mod injecting;
+mod listening;
 pub mod numbers;
 pub mod program;
+mod script;
+mod script_text;
 mod tell;
 mod watch;
 
 pub use fault::ProgramFault;
+pub use listening::{ListenFault, inject_listening};
 pub use packet_lines::{LinesFault, cut_lines};
+pub use script::{Script, ScriptFault};
 pub use unit_cut::{CutFault, cut};
 
 #[cfg(test)]

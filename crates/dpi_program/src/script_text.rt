@@ -1,0 +1,161 @@
+//! The text of a script, read byte by byte.
+
+use crate::script::ScriptFault;
+use hex_digits::value_of;
+use std::alloc::Global;
+
+/// The most bytes of a line.
+const MOST: usize = 4_096;
+
+/// A line of a script.
+#[derive(Clone, Copy, Debug, PartialEq, Eq)]
+pub(crate) struct Line {
+    /// The packet before which the bytes come, from 0.
+    pub(crate) packet: u64,
+    /// Where its bytes end, behind those of the lines before it.
+    pub(crate) end: usize,
+}
+
+/// Where in a line the reading stands.
+#[derive(Clone, Copy, Debug, PartialEq, Eq)]
+enum Place {
+    /// Before its first byte.
+    Start,
+    /// In the packet's number, so far this.
+    Number(u64),
+    /// Behind the space, where a whole byte may begin; so many bytes came.
+    Bytes(u64, usize),
+    /// Behind the first digit of a byte, of this value; so many bytes came before it.
+    Half(u64, usize, u8),
+}
+
+/// The lines of a script, as far as it was read.
+#[derive(Drop)]
+pub(crate) struct Reading {
+    bytes: Vec<u8>,
+    lines: Vec<Line>,
+    place: Place,
+}
+
+/// The number with a decimal digit more.
+fn with_digit(number: u64, digit: u8) -> Result<u64, ScriptFault> {
+    let Some(value) = digit.checked_sub(b'0') else {
+        return Err(ScriptFault::BadScript);
+    };
+    if value > 9 {
+        return Err(ScriptFault::BadScript);
+    }
+    let Some(tens) = number.checked_mul(10) else {
+        return Err(ScriptFault::BadScript);
+    };
+    match tens.checked_add(u64::from(value)) {
+        Some(sum) => Ok(sum),
+        None => Err(ScriptFault::BadScript),
+    }
+}
+
+impl Reading {
+    /// Nothing was read.
+    pub(crate) fn new(alloc: Global) -> Reading {
+        Reading {
+            bytes: Vec::new(alloc),
+            lines: Vec::new(alloc),
+            place: Place::Start,
+        }
+    }
+
+    /// Whether lines with this number rise from those before.
+    fn rises(&self, packet: u64) -> bool {
+        match self.lines.last() {
+            Some(line) => line.packet < packet,
+            None => true,
+        }
+    }
+
+    /// The value of a hexadecimal digit.
+    fn half(byte: u8) -> Result<u8, ScriptFault> {
+        match value_of(byte) {
+            Some(value) => Ok(value),
+            None => Err(ScriptFault::BadScript),
+        }
+    }
+
+    /// Ends a line behind so many bytes.
+    fn end_line(&mut self, packet: u64, count: usize) -> Result<(), ScriptFault> {
+        if count == 0 {
+            return Err(ScriptFault::BadScript);
+        }
+        let end = self.bytes.len();
+        let Ok(()) = self.lines.push(Line { packet, end }) else {
+            return Err(ScriptFault::OutOfMemory);
+        };
+        Ok(())
+    }
+
+    /// Where the reading stands behind one byte more.
+    fn behind(&mut self, byte: u8) -> Result<Place, ScriptFault> {
+        match self.place {
+            Place::Start => Ok(Place::Number(with_digit(0, byte)?)),
+            Place::Number(number) => {
+                if byte != b' ' {
+                    return Ok(Place::Number(with_digit(number, byte)?));
+                }
+                if self.rises(number) {
+                    Ok(Place::Bytes(number, 0))
+                } else {
+                    Err(ScriptFault::BadScript)
+                }
+            }
+            Place::Bytes(packet, count) => {
+                if byte == b'\n' {
+                    self.end_line(packet, count)?;
+                    return Ok(Place::Start);
+                }
+                if count == MOST {
+                    return Err(ScriptFault::BadScript);
+                }
+                Ok(Place::Half(packet, count, Reading::half(byte)?))
+            }
+            Place::Half(packet, count, high) => {
+                let low = Reading::half(byte)?;
+                let Ok(()) = self.bytes.push(16 * high + low) else {
+                    return Err(ScriptFault::OutOfMemory);
+                };
+                Ok(Place::Bytes(packet, count + 1))
+            }
+        }
+    }
+
+    /// Reads bytes of the text.
+    pub(crate) fn take_in(&mut self, text: &[u8]) -> Result<(), ScriptFault> {
+        for byte in text {
+            self.place = self.behind(*byte)?;
+        }
+        Ok(())
+    }
+
+    /// The end of the text, behind which the end of the last line may be missing.
+    pub(crate) fn finish(&mut self) -> Result<(), ScriptFault> {
+        match self.place {
+            Place::Start => Ok(()),
+            Place::Bytes(packet, count) => self.end_line(packet, count),
+            Place::Number(_) => Err(ScriptFault::BadScript),
+            Place::Half(_, _, _) => Err(ScriptFault::BadScript),
+        }
+    }
+
+    /// The number, from 1, of the line in which the reading stands.
+    pub(crate) fn line(&self) -> usize {
+        self.lines.len().saturating_add(1)
+    }
+
+    /// The bytes of all lines, and the lines.
+    pub(crate) fn into_parts(self) -> (Vec<u8>, Vec<Line>) {
+        let Reading {
+            bytes,
+            lines,
+            place: _,
+        } = self;
+        (bytes, lines)
+    }
+}
