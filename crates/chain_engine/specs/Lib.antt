@@ -1,0 +1,3 @@
+pub mod Automation
+pub mod Judging
+pub mod Hearing
