@@ -1,5 +1,5 @@
 -- Messages of pieces, judged and answered one after another.
-use Rattle.std.proofs.Common.{◌≡◌, ℕ, suc, ◌+◌, ◌<◌, ◌≤◌, Bool, true, false, not, List, [], ◌∷◌, ◌++◌, length, take, drop, Option, None, Some, refl, sym, ap, subst, ◌∙◌, arith, append_assoc, length-append, if◌then◌else◌}
+use Rattle.std.proofs.Common.{◌≡◌, ℕ, suc, ◌<◌, Bool, true, false, not, List, [], ◌∷◌, ◌++◌, length, take, drop, Option, None, Some, refl, sym, ap, subst, ◌∙◌, arith, append_assoc, length-append, if◌then◌else◌}
 use Rattle.std.proofs.lemmas.List.{append-nil, take-append-drop}
 use Rattle.std.proofs.Math.Seq.{take-length}
 use Rattle.scte104_codec.specs.declared.reply.Reply.{Reply}
@@ -9,13 +9,13 @@ use Rattle.scte104_codec.specs.declared.framing.Frame.{Frame}
 use Rattle.scte104_codec.specs.declared.framing.Frame.TheVariants.{NeedMore, Whole, BadSize}
 use Rattle.scte104_codec.specs.Framing.{frame_of}
 use Rattle.as_session.specs.Pending.{is_partial}
-use Rattle.as_session.specs.Feeding.{State, opened, shut, Given, nothing, message, closed, Fed, feed_of, fed_by}
-use Rattle.as_session.specs.Messages.{messages_of, NoneFirst}
+use Rattle.as_session.specs.Feeding.{State, opened, shut, nothing, message, closed, Fed, feed_of, fed_by}
+use Rattle.as_session.specs.Messages.{messages_of}
 use Rattle.as_session.specs.Runs.{messages_in, take_within}
 use Rattle.as_session.specs.Laws.{left_by}
 use Rattle.as_session.proofs.SplitLemmas.{the_split}
-use Rattle.as_session.proofs.RunLemmas.{Reached, Pends, Broken, reached_messages, reached_state, feed_reaches, within_reaches}
-use Rattle.chain_engine.specs.Automation.{Answer, answer_of, Adds, Told, CountsAnswer}
+use Rattle.as_session.proofs.RunLemmas.{Reached, Pends, reached_messages, reached_state, feed_reaches, within_reaches}
+use Rattle.chain_engine.specs.Automation.{Answer, answer_of, Adds, Told}
 use Rattle.chain_engine.specs.Judging.{JudgesAll}
 use Rattle.chain_engine.specs.Hearing.{answers_to, Replied, HearsPiece}
 use Rattle.chain_engine.specs.declared.hearing.SessionEnd.{SessionEnd}
@@ -56,34 +56,29 @@ module _ {J : Type 0} (judges : J → MessageReading → Reply → J → Type 0)
   judged_count i j (m ∷ ms) [] h = absurd h
   judged_count i j (m ∷ ms) (r ∷ rs) (x, one, h) = ap suc (judged_count x j ms rs h)
 
-  counts_more : (lost : Bool) (a b c : ℕ) → CountsAnswer true a b → CountsAnswer (not lost) b c → CountsAnswer (not lost) a c
-  counts_more lost a b c h k = subst (λ x. CountsAnswer (not lost) x c) h k
-
-  pub replied_none : (j : J) (ms : List (List ℕ)) (before : Option (List Answer)) (failed : ℕ) → ms ≡ [] → (rs : List Reply) × Replied judges j j ms rs false before before failed failed
-  replied_none j ms before failed e = (
+  pub replied_none : (j : J) (ms : List (List ℕ)) (before : Option (List Answer)) → ms ≡ [] → (rs : List Reply) × Replied judges j j ms rs false before before
+  replied_none j ms before e = (
     [],
     record {
       judged = rw e refl;
       some = λ h. absurd (cc);
       told = told_none before;
-      failures = refl;
     },
   )
 
-  module _ (j k : J) (m : List ℕ) (ms : List (List ℕ)) (r : Reply) (before now : Option (List Answer)) (failed fails : ℕ)
+  module _ (j k : J) (m : List ℕ) (ms : List (List ℕ)) (r : Reply) (before now : Option (List Answer))
       (e : ms ≡ m ∷ []) (judged : judges j (message_of m) r k) where
-    pub replied_one : (is_given : Bool) → Adds before now (answer_of (reply_bytes r) is_given) → CountsAnswer is_given failed fails
-        → (rs : List Reply) × Replied judges j k ms rs (not is_given) before now failed fails
-    replied_one true told failures = (r ∷ [], record { judged = rw e (k, judged, refl); some = λ h. omega arith; told = told; failures = failures })
-    replied_one false told failures = (r ∷ [], record { judged = rw e (k, judged, refl); some = λ h. omega arith; told = told; failures = failures })
+    pub replied_one : (is_given : Bool) → Adds before now (answer_of (reply_bytes r) is_given)
+        → (rs : List Reply) × Replied judges j k ms rs (not is_given) before now
+    replied_one true told = (r ∷ [], record { judged = rw e (k, judged, refl); some = λ h. omega arith; told = told })
+    replied_one false told = (r ∷ [], record { judged = rw e (k, judged, refl); some = λ h. omega arith; told = told })
 
-  pub replied_more : (i j k : J) (ms ms' : List (List ℕ)) (rs rs' : List Reply) (lost : Bool) (a b c : Option (List Answer)) (f g h : ℕ)
-      → Replied judges i j ms rs false a b f g → Replied judges j k ms' rs' lost b c g h → Replied judges i k (ms ++ ms') (rs ++ rs') lost a c f h
-  replied_more i j k ms ms' rs rs' lost a b c f g h one two = record {
+  pub replied_more : (i j k : J) (ms ms' : List (List ℕ)) (rs rs' : List Reply) (lost : Bool) (a b c : Option (List Answer))
+      → Replied judges i j ms rs false a b → Replied judges j k ms' rs' lost b c → Replied judges i k (ms ++ ms') (rs ++ rs') lost a c
+  replied_more i j k ms ms' rs rs' lost a b c one two = record {
     judged = judged_more i j k ms ms' rs rs' one.judged two.judged;
     some = λ e. let more = two.some e in let all = length-append rs rs' in omega arith;
     told = subst (Told a c) (sym (answers_more lost rs rs' two.some)) (told_more a b c (answers_to false rs) (answers_to lost rs') one.told two.told);
-    failures = counts_more lost f g h one.failures two.failures;
   }
 
 -- ---- a session behind a stream
@@ -136,14 +131,14 @@ broken_more stream more ms r = within_reaches (suc (length more)) stream more sh
 -- ---- a piece
 
 -- A front of the piece was heard, and the messages that end in it were answered.
-pub record HasHeard {J : Type 0} (judges : J → MessageReading → Reply → J → Type 0) (first j : J) (before now : Option (List Answer)) (failed fails : ℕ)
+pub record HasHeard {J : Type 0} (judges : J → MessageReading → Reply → J → Type 0) (first j : J) (before now : Option (List Answer))
     (stream piece rest : List ℕ) (s : State) : Type 0 where
   pub front : List ℕ
   pub ms : List (List ℕ)
   pub rs : List Reply
   pub parts : piece ≡ front ++ rest
   pub reached : Reached (stream ++ front) s ((messages_of stream).messages ++ ms)
-  pub replied : Replied judges first j ms rs false before now failed fails
+  pub replied : Replied judges first j ms rs false before now
 
 module _ (stream piece front rest : List ℕ) (parts : piece ≡ front ++ rest) where
   -- so many more bytes of it
@@ -184,8 +179,7 @@ module _ (stream piece front rest : List ℕ) (parts : piece ≡ front ++ rest) 
         let n = (feed_of s rest).used in
         let here = subst (λ x. Reached (stream ++ (front ++ take n rest)) x ((messages_of stream).messages ++ (ms ++ messages_in (feed_of s rest).gives))) (closed_after s rest e) reached_more in
         let more = broken_more (stream ++ (front ++ take n rest)) (drop n rest) _ here in
-        let there = subst (λ l. Reached l shut (((messages_of stream).messages ++ (ms ++ messages_in (feed_of s rest).gives)) ++ [])) (behind_it n) more in
-        (
+        let there = subst (λ l. Reached l shut (((messages_of stream).messages ++ (ms ++ messages_in (feed_of s rest).gives)) ++ [])) (behind_it n) more in (
           reached_messages (stream ++ piece) shut _ there ∙ append-nil _,
           left_shut shut (messages_of (stream ++ piece)).rest (frame_of (messages_of (stream ++ piece)).rest) refl (reached_state (stream ++ piece) shut _ there),
         )
@@ -204,11 +198,11 @@ module _ (stream piece front rest : List ℕ) (parts : piece ≡ front ++ rest) 
 -- ---- the loop over a piece
 
 module _ {J : Type 0} (judges : J → MessageReading → Reply → J → Type 0) where
-  pub heard_none : (j : J) (before : Option (List Answer)) (failed : ℕ) (stream piece : List ℕ) (s : State)
-      → s ≡ opened (messages_of stream).rest → is_partial (messages_of stream).rest ≡ true → HasHeard judges j j before before failed failed stream piece piece s
-  heard_none j before failed stream piece s e h =
+  pub heard_none : (j : J) (before : Option (List Answer)) (stream piece : List ℕ) (s : State)
+      → s ≡ opened (messages_of stream).rest → is_partial (messages_of stream).rest ≡ true → HasHeard judges j j before before stream piece piece s
+  heard_none j before stream piece s e h =
       let ms = (messages_of stream).messages in
-      let none = replied_none judges j [] before failed refl in
+      let none = replied_none judges j [] before refl in
       record {
         front = [];
         ms = [];
@@ -218,10 +212,10 @@ module _ {J : Type 0} (judges : J → MessageReading → Reply → J → Type 0)
         replied = none.1;
       }
 
-  module _ (first j k : J) (a b c : Option (List Answer)) (f g h : ℕ) (stream piece rest : List ℕ) (s : State)
-      (so_far : HasHeard judges first j a b f g stream piece rest s) (rs : List Reply) where
-    pub heard_more : (rest' : List ℕ) (s' : State) → Replied judges j k (messages_in (feed_of s rest).gives) rs false b c g h → s' ≡ (feed_of s rest).after
-        → rest' ≡ drop (feed_of s rest).used rest → HasHeard judges first k a c f h stream piece rest' s'
+  module _ (first j k : J) (a b c : Option (List Answer)) (stream piece rest : List ℕ) (s : State)
+      (so_far : HasHeard judges first j a b stream piece rest s) (rs : List Reply) where
+    pub heard_more : (rest' : List ℕ) (s' : State) → Replied judges j k (messages_in (feed_of s rest).gives) rs false b c → s' ≡ (feed_of s rest).after
+        → rest' ≡ drop (feed_of s rest).used rest → HasHeard judges first k a c stream piece rest' s'
     heard_more rest' s' one after behind = record {
       front = so_far.front ++ take (feed_of s rest).used rest;
       ms = so_far.ms ++ messages_in (feed_of s rest).gives;
@@ -229,29 +223,29 @@ module _ {J : Type 0} (judges : J → MessageReading → Reply → J → Type 0)
       parts = parts_more stream piece so_far.front rest so_far.parts (feed_of s rest).used ∙ ap (λ l. (so_far.front ++ take (feed_of s rest).used rest) ++ l) (sym behind);
       reached = subst (λ t. Reached (stream ++ (so_far.front ++ take (feed_of s rest).used rest)) t ((messages_of stream).messages ++ (so_far.ms ++ messages_in (feed_of s rest).gives))) (sym after)
           (reached_more stream piece so_far.front rest so_far.parts s so_far.ms so_far.reached);
-      replied = replied_more judges first j k so_far.ms _ so_far.rs rs false a b c f g h so_far.replied one;
+      replied = replied_more judges first j k so_far.ms _ so_far.rs rs false a b c so_far.replied one;
     }
 
     abbrev Ends : State → Bool → Option SessionEnd → Type 0
-    Ends s' lost how = (ms : List (List ℕ)) × (all : List Reply) × HearsPiece stream piece ms s' how × Replied judges first k ms all lost a c f h
+    Ends s' lost how = (ms : List (List ℕ)) × (all : List Reply) × HearsPiece stream piece ms s' how × Replied judges first k ms all lost a c
 
-    ends_so : (s' : State) (lost : Bool) (how : Option SessionEnd) → Replied judges j k (messages_in (feed_of s rest).gives) rs lost b c g h → s' ≡ (feed_of s rest).after
+    ends_so : (s' : State) (lost : Bool) (how : Option SessionEnd) → Replied judges j k (messages_in (feed_of s rest).gives) rs lost b c → s' ≡ (feed_of s rest).after
         → HearsPiece stream piece (so_far.ms ++ messages_in (feed_of s rest).gives) (feed_of s rest).after how → Ends s' lost how
     ends_so s' lost how one after hears = (
       so_far.ms ++ messages_in (feed_of s rest).gives,
       so_far.rs ++ rs,
       subst (λ t. HearsPiece stream piece (so_far.ms ++ messages_in (feed_of s rest).gives) t how) (sym after) hears,
-      replied_more judges first j k so_far.ms _ so_far.rs rs lost a b c f g h so_far.replied one,
+      replied_more judges first j k so_far.ms _ so_far.rs rs lost a b c so_far.replied one,
     )
 
-    pub ends_whole : (s' : State) → Replied judges j k (messages_in (feed_of s rest).gives) rs false b c g h → s' ≡ (feed_of s rest).after → (feed_of s rest).gives ≡ nothing → Ends s' false None
+    pub ends_whole : (s' : State) → Replied judges j k (messages_in (feed_of s rest).gives) rs false b c → s' ≡ (feed_of s rest).after → (feed_of s rest).gives ≡ nothing → Ends s' false None
     ends_whole s' one after e = ends_so s' false None one after (hears_all stream piece so_far.front rest so_far.parts s so_far.ms so_far.reached e)
 
-    pub ends_bad : (s' : State) → Replied judges j k (messages_in (feed_of s rest).gives) rs false b c g h → s' ≡ (feed_of s rest).after → (feed_of s rest).gives ≡ closed
+    pub ends_bad : (s' : State) → Replied judges j k (messages_in (feed_of s rest).gives) rs false b c → s' ≡ (feed_of s rest).after → (feed_of s rest).gives ≡ closed
         → Ends s' false (Some end.BadSize)
     ends_bad s' one after e = ends_so s' false (Some end.BadSize) one after (hears_bad stream piece so_far.front rest so_far.parts s so_far.ms so_far.reached e)
 
-    pub ends_lost : (s' : State) → Replied judges j k (messages_in (feed_of s rest).gives) rs true b c g h → s' ≡ (feed_of s rest).after → (m : List ℕ) → (feed_of s rest).gives ≡ message m
+    pub ends_lost : (s' : State) → Replied judges j k (messages_in (feed_of s rest).gives) rs true b c → s' ≡ (feed_of s rest).after → (m : List ℕ) → (feed_of s rest).gives ≡ message m
         → Ends s' true (Some end.AnswerFailed)
     ends_lost s' one after m e =
         let some : 1 ≡ length (messages_in (feed_of s rest).gives) = sym (ap (λ t. length (messages_in t)) e) in

@@ -1,5 +1,5 @@
 -- What an automation tells of itself: what its takes gave, the answers that it was given, and how many of them failed.
-use Rattle.std.specs.Prelude.{◌≡◌, ℕ, ◌≤◌, Bool, true, false, List, [], ◌∷◌, ◌++◌, Option, None, Some, IfSome, take}
+use Rattle.std.specs.Prelude.{◌≡◌, ℕ, ◌≤◌, Bool, true, false, List, [], ◌∷◌, ◌++◌, Option, Some, IfSome, take}
 use Rattle.std.specs.List.{flat_map}
 use Rattle.ts_packet.specs.Transfers.{IsCounted}
 use Rattle.chain_engine.specs.declared.automation.Taken.{Taken}

@@ -7,8 +7,7 @@ use Rattle.scte104_codec.specs.Framing.{frame_of}
 use Rattle.scte104_codec.specs.declared.framing.Frame.TheVariants.{BadSize}
 use Rattle.as_session.specs.Feeding.{State, opened, Fed, nothing, message, closed}
 use Rattle.as_session.specs.Messages.{messages_of}
-use Rattle.as_session.specs.Runs.{messages_in}
-use Rattle.chain_engine.specs.Automation.{Answer, answer_of, Told, CountsAnswer}
+use Rattle.chain_engine.specs.Automation.{Answer, answer_of, Told}
 use Rattle.chain_engine.specs.Judging.{JudgesAll}
 use Rattle.chain_engine.specs.declared.hearing.Heard.{Heard}
 use Rattle.chain_engine.specs.declared.hearing.Heard.TheVariants as heard
@@ -24,11 +23,10 @@ answers_to lost (r ∷ s ∷ rs) = answer_of (reply_bytes r) true ∷ answers_to
 -- These messages were judged in order, which led from the first judge to the second, and the replies given to the automation; the last was
 -- lost, or none.
 pub record Replied {J : Type 0} (judges : J → MessageReading → Reply → J → Type 0) (j k : J) (ms : List (List ℕ)) (rs : List Reply) (lost : Bool)
-    (before now : Option (List Answer)) (failed fails : ℕ) : Type 0 where
+    (before now : Option (List Answer)) : Type 0 where
   pub judged : JudgesAll judges j ms rs k
   pub some : lost ≡ true → 0 < length rs
   pub told : Told before now (answers_to lost rs)
-  pub failures : CountsAnswer (not lost) failed fails
 
 -- ---- one call of a session
 
@@ -63,3 +61,11 @@ HearsPiece stream piece ms after (Some end.AnswerFailed) =
     (0 < length ms) × ((more : List (List ℕ)) × ((messages_of (stream ++ piece)).messages ≡ (messages_of stream).messages ++ (ms ++ more)))
 HearsPiece stream piece ms after (Some end.Ended) = ⊥
 HearsPiece stream piece ms after (Some end.TakeFailed) = ⊥
+
+-- a piece that was heard ends a session by no other means
+abbrev pub CanEnd : Option SessionEnd → Type 0
+CanEnd None = Unit {0}
+CanEnd (Some end.BadSize) = Unit {0}
+CanEnd (Some end.AnswerFailed) = Unit {0}
+CanEnd (Some end.Ended) = ⊥
+CanEnd (Some end.TakeFailed) = ⊥

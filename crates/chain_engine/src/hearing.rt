@@ -1,12 +1,13 @@
 //! Pieces of automation bytes, heard: the messages in them are judged and answered.
 
-ghost use Rattle.std.specs.Prelude.{◌≡◌, List, ℕ, length};
+ghost use Rattle.std.specs.Prelude.{◌≡◌, List, ℕ, length, not};
 ghost use Rattle.scte104_codec.specs.declared.reply.Reply.{Reply};
 ghost use Rattle.as_session.specs.Session.{state_of};
 ghost use Rattle.as_session.specs.Feeding.{feed_of, opened};
 ghost use Rattle.as_session.specs.Messages.{messages_of};
 ghost use Rattle.as_session.specs.Runs.{messages_in};
-ghost use Rattle.chain_engine.specs.Hearing.{HeardAs, is_unanswered, Replied, lost_by, HearsPiece};
+ghost use Rattle.chain_engine.specs.Automation.{CountsAnswer};
+ghost use Rattle.chain_engine.specs.Hearing.{HeardAs, is_unanswered, Replied, lost_by, HearsPiece, CanEnd};
 
 use crate::automation::Automation;
 use crate::judge::Judge;
@@ -48,7 +49,8 @@ fn hear_one<M: Allocator, J: Judge, U: Automation>(
     ensures heard { HeardAs (feed_of (state_of session.old) piece.now) (length piece.now) result }
     ensures takes { U.takes automation.new ≡ U.takes automation.old }
     ensures replied { (rs : List Reply) × Replied J.judges judge.old judge.new (messages_in (feed_of (state_of session.old) piece.now).gives) rs
-        (is_unanswered result) (U.answers automation.old) (U.answers automation.new) (U.failures automation.old) (U.failures automation.new) }
+        (is_unanswered result) (U.answers automation.old) (U.answers automation.new) }
+    ensures failures { CountsAnswer (not (is_unanswered result)) (U.failures automation.old) (U.failures automation.new) }
 {
     let (used, got) = session.feed(piece);
     match got {
@@ -72,8 +74,9 @@ pub(crate) fn hear<M: Allocator, J: Judge, U: Automation>(
     ensures takes { U.takes automation.new ≡ U.takes automation.old }
     ensures heard { (stream : List ℕ) → state_of session.old ≡ opened (messages_of stream).rest →
         (ms : List (List ℕ)) × (rs : List Reply) × HearsPiece stream piece.now ms (state_of session.new) result
-        × Replied J.judges judge.old judge.new ms rs (lost_by result) (U.answers automation.old) (U.answers automation.new)
-            (U.failures automation.old) (U.failures automation.new) }
+        × Replied J.judges judge.old judge.new ms rs (lost_by result) (U.answers automation.old) (U.answers automation.new) }
+    ensures ends { CanEnd result }
+    ensures failures { CountsAnswer (not (lost_by result)) (U.failures automation.old) (U.failures automation.new) }
 {
     let mut rest = piece;
     loop {
