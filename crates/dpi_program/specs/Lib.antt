@@ -1,3 +1,4 @@
 pub mod Command
 pub mod Names
 pub mod Numbers
+pub mod Scripts

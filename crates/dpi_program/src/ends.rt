@@ -79,20 +79,25 @@ pub fn open_input<R: Files>(rt: &R, path: &str) -> io::Result<(R::File, Metadata
     Ok((file, about))
 }
 
+/// Whether the file that stands there is one that is read.
+fn is_input(standing: &Metadata, input: Option<&Metadata>) -> bool {
+    match input {
+        Some(input) => is_same_file(input, standing),
+        None => false,
+    }
+}
+
 /// Makes a file to write anew, unless it is one of those that are read.
 pub fn create_output<R: Files>(
     rt: &R,
     path: &str,
-    inputs: [Option<&Metadata>; 2],
+    input: Option<&Metadata>,
+    other: Option<&Metadata>,
 ) -> io::Result<R::File> {
-    if let Ok(standing) = fs::metadata(rt, path) {
-        for input in inputs {
-            if let Some(input) = input
-                && is_same_file(input, &standing)
-            {
-                return Err(io::Error::other("it is the input file"));
-            }
-        }
+    if let Ok(standing) = fs::metadata(rt, path)
+        && (is_input(&standing, input) || is_input(&standing, other))
+    {
+        return Err(io::Error::other("it is the input file"));
     }
     fs::create(rt, path)
 }
@@ -110,7 +115,7 @@ pub fn open_ends<R: Files>(
     let about = opened.as_ref().map(|(_, about)| about);
     let is_live = !about.is_some_and(|about| about.is_file());
     let output = match output.path() {
-        Some(path) => Some(create_output(rt, path, [about, None]).map_err(Unopened::Output)?),
+        Some(path) => Some(create_output(rt, path, about, None).map_err(Unopened::Output)?),
         None => None,
     };
     Ok(OpenedEnds {

@@ -6,7 +6,8 @@ use crate::ends::{Unopened, create_output, open_input};
 use crate::fault::ProgramFault;
 use crate::flushing::{finish, finish_buffer};
 use crate::inject_options::{Asking, InjectOptions};
-use crate::listening::{ListenFault, inject_listening, listen};
+use crate::connection::listen;
+use crate::listening::{ListenFault, inject_listening};
 use crate::script::{Script, ScriptFault, load_into};
 use crate::script_text::Reading;
 use crate::tell::{CueAccount, Side, Stopped};
@@ -255,13 +256,13 @@ fn script_from<R: Read + Drop, W: Drop>(
     replies: W,
 ) -> Result<Script<W>, Stopped> {
     let mut reading = Reading::new(alloc);
-    let mut reader = Attended::new(reader);
+    let mut reader = Device::new(Attended::new(reader));
     match load_into(&mut reading, &mut reader) {
         Ok(()) => Ok(Script::of(reading, replies)),
         Err(fault) => Err(Stopped {
             fault: ProgramFault::Script(fault),
             side: Side::Scripting,
-            reason: reader.into_reason(),
+            reason: reader.into_inner().into_reason(),
             read: None,
             line: if fault == ScriptFault::BadScript { Some(reading.line()) } else { None },
         }),
@@ -353,7 +354,7 @@ where
         return run_ends(alloc, options, network, input, is_live, asker, standard);
     }
     let path = options.output.path().unwrap_or("");
-    match create_output(rt, path, [about, script.as_ref()]) {
+    match create_output(rt, path, about, script.as_ref()) {
         Ok(file) => {
             let network = opened.map(|(file, _)| file);
             run_ends(alloc, options, network, input, is_live, asker, file)

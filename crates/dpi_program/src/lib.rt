@@ -5,6 +5,7 @@
 
 mod attended;
 pub mod command;
+mod connection;
 mod cutting;
 mod ends;
 pub mod fault;

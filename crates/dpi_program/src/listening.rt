@@ -1,17 +1,11 @@
-//! An automation on a connection: a client of a port of this machine.
+//! Runs whose automation is a client of a port of this machine.
 
-use chain_engine::{Automation, Chain, Report, RunFault, Taken, run_inject};
+use crate::connection::accept;
+use chain_engine::{Chain, Report, RunFault, run_inject};
 use std::alloc::Allocator;
-use std::io::{self, ErrorKind, Read, Write};
-use std::net::{Net, OpenListener, OpenStream, SocketAddr, TcpListener};
+use std::io::{Read, Write};
+use std::net::{OpenListener, OpenStream};
 use ts_packet::{Source, Target};
-
-/// How many takes in a row answer without asking the system, after one that found nothing. A call into the system before each packet
-/// would cost more than the packet.
-const QUIET: u8 = 15;
-
-/// The most writes of one reply.
-const WRITES: u32 = 64;
 
 /// Why a run with a connection stopped.
 #[derive(Clone, Copy, Debug, PartialEq, Eq, Drop)]
@@ -20,102 +14,6 @@ pub enum ListenFault {
     Accept,
     /// The run stopped.
     Run(RunFault),
-}
-
-/// An automation at the other end of a connection that does not block.
-#[derive(Drop)]
-struct Connection<S> {
-    stream: S,
-    /// How many takes may still answer without asking the system.
-    quiet: u8,
-    /// How many takes and answers failed.
-    failures: u64,
-}
-
-/// Whether a call that failed so found nothing, and may be made again.
-fn is_nothing(kind: ErrorKind) -> bool {
-    kind == ErrorKind::WouldBlock || kind == ErrorKind::TimedOut || kind == ErrorKind::Interrupted
-}
-
-impl<S: Read + Write> Automation for Connection<S> {
-    ghost use Rattle.std.specs.Prelude.{None};
-
-    ghost takes = { λ s. None };
-
-    ghost answers = { λ s. None };
-
-    ghost failures = { λ s. s.failures };
-
-    #[inline(always)]
-    fn take(&mut self, room: &mut [u8]) -> Taken {
-        if self.quiet > 0 {
-            self.quiet -= 1;
-            return Taken::Nothing;
-        }
-        match self.stream.read(room) {
-            Ok(0) => Taken::Ended,
-            Ok(count) => Taken::Bytes(count),
-            Err(error) => {
-                if is_nothing(error.kind()) {
-                    self.quiet = QUIET;
-                    return Taken::Nothing;
-                }
-                self.failures = self.failures.saturating_add(1);
-                Taken::Failed
-            }
-        }
-    }
-
-    fn answer(&mut self, reply: &[u8]) -> bool {
-        if send(&mut self.stream, reply) {
-            return true;
-        }
-        self.failures = self.failures.saturating_add(1);
-        false
-    }
-}
-
-/// Writes all of these bytes, and answers whether they were taken.
-fn send<W: Write>(stream: &mut W, bytes: &[u8]) -> bool {
-    let mut rest = bytes;
-    for _ in 0..WRITES {
-        if rest.is_empty() {
-            return true;
-        }
-        match stream.write(rest) {
-            Ok(0) => return false,
-            Ok(count) => rest = &rest[count..],
-            Err(error) => {
-                if error.kind() != ErrorKind::Interrupted {
-                    return false;
-                }
-            }
-        }
-    }
-    rest.is_empty()
-}
-
-/// Listens on a port of 127.0.0.1.
-pub(crate) fn listen<R: Net>(rt: &R, port: u16) -> io::Result<R::Listener> {
-    TcpListener::bind(rt, SocketAddr::from(([127, 0, 0, 1], port)))
-}
-
-/// Accepts one connection, which may wait for a client.
-fn accept<L: OpenListener>(listener: &L) -> Result<Connection<L::Stream>, ListenFault>
-where
-    L::Stream: OpenStream + Drop,
-{
-    let Ok((stream, _)) = listener.accept() else {
-        return Err(ListenFault::Accept);
-    };
-    if stream.set_nonblocking(true).is_err() {
-        return Err(ListenFault::Accept);
-    }
-    Ok(Connection {
-        stream,
-        quiet: 0,
-        failures: 0,
-    })
 }
 
 /// Waits for one client of the listener, and then runs [`run_inject`] with it as the automation. A read that finds nothing is an empty
@@ -133,7 +31,9 @@ where
     L::Stream: OpenStream + Read + Write + Drop,
     W: Target,
 {
-    let mut connection = accept(listener)?;
+    let Some(mut connection) = accept(listener) else {
+        return Err(ListenFault::Accept);
+    };
     match run_inject(chain, network, &mut connection, out) {
         Ok(report) => Ok(report),
         Err(fault) => Err(ListenFault::Run(fault)),

@@ -1,11 +1,16 @@
 //! A script: an automation whose bytes stand in a text, each line before a packet of the network, and whose replies are printed.
 
+ghost use Rattle.std.specs.Prelude.{IfErr, OnOk};
+ghost use Rattle.ts_packet.specs.Transfers.{LastMovedNone};
+ghost use Rattle.dpi_program.specs.Scripts.{ScriptBlamed};
+
 use crate::script_text::{Line, Reading};
 use chain_engine::{Automation, Taken};
 use hex_digits::Digits;
 use std::alloc::Global;
-use std::io::{ErrorKind, Read, Write};
+use std::io::Write;
 use thiserror::Error;
+use ts_packet::{DeviceFault, Source};
 
 /// The most reads of a script.
 const READS: u64 = 1 << 32;
@@ -54,13 +59,15 @@ impl<W> Script<W> {
     ///
     /// `BadScript` at the first line that is another, `Io` where the reader failed, `Turns` after 2^32 reads, `OutOfMemory` where the
     /// allocator refused memory.
-    pub fn load<R: Read>(
+    pub fn load<S: Source>(
         alloc: Global,
-        reader: &mut R,
+        reader: &mut S,
         replies: W,
     ) -> Result<Script<W>, ScriptFault>
     where
         W: Drop,
+        ensures blamed { IfErr result (λ f. ScriptBlamed f (S.counts reader.old) (S.counts reader.new)) }
+        ensures ended { OnOk result (LastMovedNone (S.counts reader.old) (S.counts reader.new)) }
     {
         let mut reading = Reading::new(alloc);
         load_into(&mut reading, reader)?;
@@ -98,18 +105,24 @@ impl<W> Script<W> {
     }
 }
 
-/// Reads a text to its end.
-pub(crate) fn load_into<R: Read>(reading: &mut Reading, reader: &mut R) -> Result<(), ScriptFault> {
+/// Reads a text to its end. An interrupted read is tried again.
+pub(crate) fn load_into<S: Source>(
+    reading: &mut Reading,
+    reader: &mut S,
+) -> Result<(), ScriptFault>
+    ensures blamed { IfErr result (λ f. ScriptBlamed f (S.counts reader.old) (S.counts reader.new)) }
+    ensures ended { OnOk result (LastMovedNone (S.counts reader.old) (S.counts reader.new)) }
+{
     let mut room = [0; ROOM];
-    for _ in 0..READS {
+    for _turn in 0..READS {
         match reader.read(&mut room) {
             Ok(0) => return reading.finish(),
-            Ok(count) => reading.take_in(&room[..count])?,
-            Err(error) => {
-                if error.kind() != ErrorKind::Interrupted {
-                    return Err(ScriptFault::Io);
-                }
-            }
+            Ok(count) => match reading.take_in(&room[..count]) {
+                Ok(()) => {}
+                Err(fault) => return Err(fault),
+            },
+            Err(DeviceFault::Interrupted) => {}
+            Err(DeviceFault::Failed) => return Err(ScriptFault::Io),
         }
     }
     Err(ScriptFault::Turns)

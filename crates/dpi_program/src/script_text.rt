@@ -1,5 +1,8 @@
 //! The text of a script, read byte by byte.
 
+ghost use Rattle.std.specs.Prelude.{IfErr, IfOk, ◌<◌};
+ghost use Rattle.dpi_program.specs.Scripts.{IsOfText};
+
 use crate::script::ScriptFault;
 use hex_digits::value_of;
 use std::alloc::Global;
@@ -38,7 +41,9 @@ pub(crate) struct Reading {
 }
 
 /// The number with a decimal digit more.
-fn with_digit(number: u64, digit: u8) -> Result<u64, ScriptFault> {
+fn with_digit(number: u64, digit: u8) -> Result<u64, ScriptFault>
+    ensures refused { IfErr result IsOfText }
+{
     let Some(value) = digit.checked_sub(b'0') else {
         return Err(ScriptFault::BadScript);
     };
@@ -73,7 +78,10 @@ impl Reading {
     }
 
     /// The value of a hexadecimal digit.
-    fn half(byte: u8) -> Result<u8, ScriptFault> {
+    fn half(byte: u8) -> Result<u8, ScriptFault>
+        ensures below { IfOk result (λ value. value < 16) }
+        ensures refused { IfErr result IsOfText }
+    {
         match value_of(byte) {
             Some(value) => Ok(value),
             None => Err(ScriptFault::BadScript),
@@ -81,7 +89,9 @@ impl Reading {
     }
 
     /// Ends a line behind so many bytes.
-    fn end_line(&mut self, packet: u64, count: usize) -> Result<(), ScriptFault> {
+    fn end_line(&mut self, packet: u64, count: usize) -> Result<(), ScriptFault>
+        ensures refused { IfErr result IsOfText }
+    {
         if count == 0 {
             return Err(ScriptFault::BadScript);
         }
@@ -93,7 +103,9 @@ impl Reading {
     }
 
     /// Where the reading stands behind one byte more.
-    fn behind(&mut self, byte: u8) -> Result<Place, ScriptFault> {
+    fn behind(&mut self, byte: u8) -> Result<Place, ScriptFault>
+        ensures refused { IfErr result IsOfText }
+    {
         match self.place {
             Place::Start => Ok(Place::Number(with_digit(0, byte)?)),
             Place::Number(number) => {
@@ -118,16 +130,18 @@ impl Reading {
             }
             Place::Half(packet, count, high) => {
                 let low = Reading::half(byte)?;
-                let Ok(()) = self.bytes.push(16 * high + low) else {
+                let Ok(()) = self.bytes.push(high % 16 * 16 + low) else {
                     return Err(ScriptFault::OutOfMemory);
                 };
-                Ok(Place::Bytes(packet, count + 1))
+                Ok(Place::Bytes(packet, count.saturating_add(1)))
             }
         }
     }
 
     /// Reads bytes of the text.
-    pub(crate) fn take_in(&mut self, text: &[u8]) -> Result<(), ScriptFault> {
+    pub(crate) fn take_in(&mut self, text: &[u8]) -> Result<(), ScriptFault>
+        ensures refused { IfErr result IsOfText }
+    {
         for byte in text {
             self.place = self.behind(*byte)?;
         }
@@ -135,7 +149,9 @@ impl Reading {
     }
 
     /// The end of the text, behind which the end of the last line may be missing.
-    pub(crate) fn finish(&mut self) -> Result<(), ScriptFault> {
+    pub(crate) fn finish(&mut self) -> Result<(), ScriptFault>
+        ensures refused { IfErr result IsOfText }
+    {
         match self.place {
             Place::Start => Ok(()),
             Place::Bytes(packet, count) => self.end_line(packet, count),
