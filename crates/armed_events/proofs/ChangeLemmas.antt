@@ -1,13 +1,13 @@
 -- What a change does to all events, and to those that stand.
-use Rattle.std.proofs.Common.{◌≡◌, ℕ, ◌+◌, ◌-◌, ◌^◌, Bool, true, false, not, ◌&&◌, List, [], ◌∷◌, ◌++◌, refl, sym, ap, ◌∙◌, subst, if◌then◌else◌, arith}
-use Rattle.std.specs.Prelude.{ℤ, pos, negsuc, ◌+ℤ◌, ◌-ℤ◌, ◌≤ℤ◌, ◌<ℤ◌, int_le, int_lt, unsigned_abs, filter, find, Option, None, Some, Result, Ok, Err, OnErr}
+use Rattle.std.proofs.Common.{◌≡◌, ℕ, ◌^◌, Bool, true, false, not, ◌&&◌, List, [], ◌∷◌, ◌++◌, refl, sym, ap, ◌∙◌, if◌then◌else◌, arith}
+use Rattle.std.specs.Prelude.{ℤ, pos, negsuc, ◌+ℤ◌, ◌-ℤ◌, ◌≤ℤ◌, int_le, int_lt, unsigned_abs, filter, find, Option, None, Some, Result, Ok, Err, OnErr}
 use Rattle.std.specs.List.{list_any}
 use Rattle.std.specs.Ordering.{int_eq}
 use Rattle.std.proofs.lemmas.Int.{ints}
 use Rattle.std.proofs.lemmas.Bool.{true≢false}
 use Rattle.std.proofs.lemmas.List.Elements.{filter-append}
 use Rattle.pes_time.specs.Line.{place}
-use Rattle.event_table.specs.Standing.{Standing, on_line, forgotten_at, has_id, is_ahead_of, end_of, is_early_end, repeats, arm_answer, cancel_answer, shorten_answer, shorten_answer_of, with_first, cancelled_one, ending_at, with_cancelled, with_end}
+use Rattle.event_table.specs.Standing.{Standing, on_line, has_id, is_ahead_of, end_of, is_early_end, repeats, arm_answer, cancel_answer, shorten_answer, shorten_answer_of, with_first, cancelled_one, ending_at, with_cancelled}
 use Rattle.event_table.specs.declared.table.Table.{Table}
 use Rattle.event_table.specs.declared.table.Armed.{Armed}
 use Rattle.event_table.specs.declared.table.Armed.TheVariants.{New, Same}
@@ -18,8 +18,8 @@ use Rattle.event_table.specs.declared.table.ShortenRefusal.TheVariants.{NoSuchEv
 use Rattle.event_table.specs.Tables.{StandsFor}
 use Rattle.armed_events.specs.declared.asked.Asked.{Asked}
 use Rattle.armed_events.specs.declared.asked.Asked.TheVariants.{Start, End, Cancel, Unfit, Nothing}
-use Rattle.armed_events.specs.Arming.{is_fresh, Change, Arm, Shorten, TakeBack, Keep, Ignore, by_arm_answer, by_shorten_answer, by_cancel_answer, start_change, change, stands, standing_at, is_of, changed}
-use Rattle.armed_events.specs.Obeying.{after_change, is_obeyed}
+use Rattle.armed_events.specs.Arming.{is_fresh, Change, Keep, Ignore, by_arm_answer, by_shorten_answer, by_cancel_answer, start_change, change, stands, standing_at, changed}
+use Rattle.armed_events.specs.Obeying.{after_change}
 use Rattle.armed_events.proofs.TestLemmas.{and-parts}
 
 -- ---- what the table's answers make of it
@@ -39,13 +39,13 @@ start-answered line standing e a r c is =
     picked : (b c : Bool) (x : Change) → b ≡ false → c ≡ true → (if b then Keep else (if c then x else Ignore)) ≡ x
     picked b c x p q = rw (p, q) refl
 
-pub arm-after : (t t' : Table (Unit {0})) (line : Option ℤ) (standing : List Standing) (e : Standing) (a : Result Armed ArmRefusal) → StandsFor t line standing
+pub arm-after : {T : Type 0} → (t t' : Table T) (line : Option ℤ) (standing : List Standing) (e : Standing) (a : Result Armed ArmRefusal) → StandsFor t line standing
     → (a ≡ Ok New → StandsFor t' line (standing ++ e ∷ [])) → (a ≡ Ok Same → t' ≡ t) → OnErr a (t' ≡ t) → StandsFor t' line (after_change (by_arm_answer e a) standing)
 arm-after t t' line standing e (Ok New) s new same refused = new refl
 arm-after t t' line standing e (Ok Same) s new same refused = rw (same refl) s
 arm-after t t' line standing e (Err f) s new same refused = rw refused s
 
-pub cancel-after : (t t' : Table (Unit {0})) (line : Option ℤ) (standing : List Standing) (id : ℕ) (a : Result (Unit {0}) CancelRefusal) → StandsFor t line standing
+pub cancel-after : {T : Type 0} → (t t' : Table T) (line : Option ℤ) (standing : List Standing) (id : ℕ) (a : Result (Unit {0}) CancelRefusal) → StandsFor t line standing
     → (a ≡ Ok tt → StandsFor t' line (with_cancelled id standing)) → OnErr a (t' ≡ t) → StandsFor t' line (after_change (by_cancel_answer id a) standing)
 cancel-after t t' line standing id (Ok u) s done refused = done refl
 cancel-after t t' line standing id (Err f) s done refused = rw refused s

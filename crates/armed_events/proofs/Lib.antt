@@ -1,3 +1,4 @@
 pub mod TestLemmas
 pub mod ChangeLemmas
 pub mod PastLemmas
+pub mod ValueLemmas

@@ -1,20 +1,20 @@
 -- What one packet more does to what the cues have come to.
-use Rattle.std.proofs.Common.{◌≡◌, ℕ, ◌+◌, ◌-◌, ◌^◌, Bool, true, false, ◌&&◌, List, [], ◌∷◌, refl, sym, ap, ◌∙◌, subst, arith}
-use Rattle.std.specs.Prelude.{ℤ, pos, ◌+ℤ◌, ◌≤ℤ◌, ◌<ℤ◌, int_lt, min, filter, Option, None, Some}
+use Rattle.std.proofs.Common.{◌≡◌, ℕ, ◌+◌, ◌-◌, ◌^◌, Bool, true, false, List, [], ◌∷◌, refl, sym, ap, ◌∙◌, subst, arith}
+use Rattle.std.specs.Prelude.{ℤ, pos, ◌+ℤ◌, ◌≤ℤ◌, int_lt, min, filter, Option, None, Some}
 use Rattle.std.proofs.lemmas.Int.{ints}
-use Rattle.pes_time.specs.Line.{signed, ring_of, lift}
+use Rattle.pes_time.specs.Line.{signed, ring_of}
 use Rattle.ts_packet.specs.Fields.{on, payload_on}
-use Rattle.event_table.specs.Rings.{CanAdvance, IsNext}
+use Rattle.event_table.specs.Rings.{CanAdvance}
 use Rattle.event_table.specs.Standing.{Standing, forgotten_at, still_standing, IsTimeAt}
 use Rattle.event_table.specs.declared.table.Table.{Table}
-use Rattle.event_table.specs.Tables.{StandsFor}
+use Rattle.event_table.specs.Tables.{StandsFor, values_of}
 use Rattle.psi_section.specs.Sections.{given}
-use Rattle.psi_section.specs.Assembling.{Waits, capped}
-use Rattle.psi_section.proofs.AssemblerLemmas.{waits_off}
+use Rattle.psi_section.specs.Assembling.{capped}
 use Rattle.armed_events.specs.declared.asked.Asked.{Asked}
 use Rattle.armed_events.specs.declared.obeying.Obeyed.{Obeyed}
-use Rattle.armed_events.specs.Arming.{Change, Arm, Shorten, TakeBack, Keep, Ignore, change, stands, standing_at, changed, is_ignored, Heard, with_change, with_sections, heard}
+use Rattle.armed_events.specs.Arming.{Change, Arm, Shorten, TakeBack, Keep, Ignore, change, stands, standing_at, changed, is_ignored, Heard, with_change, with_sections, heard, armed, standing}
 use Rattle.armed_events.specs.Obeying.{after_change, is_obeyed, ObeyedFor}
+use Rattle.armed_events.specs.Valuing.{values_by}
 use Rattle.armed_events.proofs.ChangeLemmas.{change-fits}
 
 -- ---- the count
@@ -41,7 +41,7 @@ one-more n i h = omega arith
 
 -- ---- one section
 
-module _ (old new : Obeyed) (line : Option ℤ) (h : Heard) (asked : Asked) where
+module _ {T : Type 0} (old new : Obeyed T) (line : Option ℤ) (h : Heard) (asked : Asked) where
   abbrev c : Change
   c = change line (standing_at line h.events) asked
 
@@ -83,7 +83,7 @@ still a b le t h = grind (arith, ints)
 later-than : (h way : ℤ) → pos 0 ≤ℤ way → h ≤ℤ (h +ℤ way)
 later-than h way le = omega (arith, ints)
 
-risen : (t : Table (Unit {0})) (line : Option ℤ) (later : ℤ) (r : ℕ) (some : List Standing) → StandsFor t line some → CanAdvance t.last r → IsTimeAt line r later → (events : List Standing)
+risen : {T : Type 0} → (t : Table T) (line : Option ℤ) (later : ℤ) (r : ℕ) (some : List Standing) → StandsFor t line some → CanAdvance t.last r → IsTimeAt line r later → (events : List Standing)
     → still_standing later (standing_at line events) ≡ standing_at (Some later) events
 risen t None later r some s can at events = narrowed (stands None) (stands (Some later)) (λ e _. refl) events
 risen t (Some h) later r some s can at events =
@@ -92,19 +92,27 @@ risen t (Some h) later r some s can at events =
     narrowed (stands (Some h)) (stands (Some later)) (λ e. still h later le (forgotten_at e)) events
 
 -- once the table has advanced
-pub advanced-for : (old new : Obeyed) (line : Option ℤ) (later : ℤ) (r : ℕ) (h : Heard) → ObeyedFor old line h → CanAdvance old.table.last r → IsTimeAt line r later
+pub advanced-for : {T : Type 0} → (old new : Obeyed T) (line : Option ℤ) (later : ℤ) (r : ℕ) (h : Heard) → ObeyedFor old line h → CanAdvance old.table.last r → IsTimeAt line r later
     → StandsFor new.table (Some later) (still_standing later (standing_at line h.events)) → new.ignored ≡ old.ignored → ObeyedFor new (Some later) h
 advanced-for old new line later r h o can at s same = record {
   table = subst (λ (l : List Standing). StandsFor new.table (Some later) l) (risen old.table line later r (standing_at line h.events) o.table can at h.events) s;
   count = same ∙ o.count;
 }
 
-pub advanced-past : (new : Obeyed) (pid : ℕ) (high : List (List ℕ) → Option ℤ) (p : List ℕ) (past : List (List ℕ)) (later : ℤ) → on pid p ≡ false → high (p ∷ past) ≡ Some later
+pub advanced-past : {T : Type 0} → (new : Obeyed T) (pid : ℕ) (high : List (List ℕ) → Option ℤ) (p : List ℕ) (past : List (List ℕ)) (later : ℤ) → on pid p ≡ false → high (p ∷ past) ≡ Some later
     → ObeyedFor new (Some later) (heard pid high past) → ObeyedFor new (high (p ∷ past)) (heard pid high (p ∷ past))
 advanced-past new pid high p past later off is o =
     subst (λ (h : Heard). ObeyedFor new (high (p ∷ past)) h) (sym (heard-off pid high p past off))
     (subst (λ (l : Option ℤ). ObeyedFor new l (heard pid high past)) (sym is) o)
 
 -- nothing yet
-pub nothing-heard : (t : Table (Unit {0})) (line : Option ℤ) → line ≡ None → StandsFor t None [] → ObeyedFor (record { table = t; ignored = 0 }) line (record { events = []; ignored = 0 })
+pub nothing-heard : {T : Type 0} → (t : Table T) (line : Option ℤ) → line ≡ None → StandsFor t None [] → ObeyedFor (record { table = t; ignored = 0 }) line (record { events = []; ignored = 0 })
 nothing-heard t line is s = record { table = rw is s; count = omega arith }
+
+-- and the values beside those that still stand are theirs
+pub advanced-values : {T : Type 0} → (t t' : Table T) (value : ℤ → T) (pid : ℕ) (high : List (List ℕ) → Option ℤ) (p : List ℕ) (past : List (List ℕ)) (later : ℤ) (r : ℕ) → on pid p ≡ false
+    → StandsFor t (high past) (standing pid high past) → CanAdvance t.last r → IsTimeAt (high past) r later → high (p ∷ past) ≡ Some later
+    → values_of t' ≡ values_by value (still_standing later (standing pid high past)) → values_of t' ≡ values_by value (standing pid high (p ∷ past))
+advanced-values t t' value pid high p past later r off s can at is values =
+    values ∙ ap (values_by value) (risen t (high past) later r (standing pid high past) s can at (armed pid high past)
+    ∙ ap (λ l. standing_at l (armed pid high past)) (sym is) ∙ ap (λ (h : Heard). standing_at (high (p ∷ past)) h.events) (sym (heard-off pid high p past off)))

@@ -3,7 +3,7 @@ use Rattle.std.proofs.Common.{◌≡◌, ℕ, ◌^◌, ◌<◌, ◌≤◌, ◌==
 use Rattle.std.specs.Prelude.{ℤ, pos, ◌+ℤ◌, ◌≤ℤ◌, ◌<ℤ◌, int_le, int_lt, Option, None, Some}
 use Rattle.std.proofs.lemmas.Int.{ints}
 use Rattle.std.proofs.lemmas.Bool.Decides.{nat_tests, same_from_decides}
-use Rattle.pes_time.specs.Line.{signed, ring_of, lift, place}
+use Rattle.pes_time.specs.Line.{signed, ring_of, place}
 use Rattle.event_table.specs.declared.event.Event.{Event}
 use Rattle.event_table.specs.declared.table.Table.{Table}
 use Rattle.event_table.specs.Events.{CanArm, IsArmable}
@@ -70,7 +70,7 @@ armable-decides h e = (to, from)
         (ahead-true h (signed e.start (ring_of h)) can.ahead.above can.ahead.below)
 
 -- whether an event may be armed
-pub can-arm : (t : Table (Unit {0})) (line : Option ℤ) (standing : List Standing) (e : Event) (b : Bool) → StandsFor t line standing → Tells b (CanArm t.last e)
+pub can-arm : {T : Type 0} → (t : Table T) (line : Option ℤ) (standing : List Standing) (e : Event) (b : Bool) → StandsFor t line standing → Tells b (CanArm t.last e)
     → b ≡ (is_fresh (on_line line e) && is_ahead_of line (place line e.start))
 can-arm t None standing e b s d =
     let d' : Tells b (CanArm None e) = subst (λ (h : Option ℕ). Tells b (CanArm h e)) s.high d in

@@ -1,9 +1,9 @@
 -- THE EVENTS THAT CUES ARM, on the line of integers, in order of arming: none is ever left out, and one that is forgotten stands no more.
 -- All is said by the packets that came before, newest first; `high` says of a past the greatest time of a unit in it.
-use Rattle.std.specs.Prelude.{ℕ, ◌+◌, ◌^◌, ◌==◌, nat_le, nat_lt, Bool, true, false, not, ◌&&◌, List, [], ◌∷◌, ◌++◌, filter, ℤ, pos, ◌+ℤ◌, int_le, int_lt, Option, None, Some, Result, Ok, Err, if◌then◌else◌}
+use Rattle.std.specs.Prelude.{ℕ, ◌+◌, ◌^◌, ◌==◌, nat_le, nat_lt, Bool, true, not, ◌&&◌, List, [], ◌∷◌, ◌++◌, filter, ℤ, int_lt, Option, None, Some, Result, Ok, Err, if◌then◌else◌}
 use Rattle.std.specs.List.{list_any}
 use Rattle.pes_time.specs.Line.{place}
-use Rattle.event_table.specs.Standing.{Standing, on_line, forgotten_at, has_id, is_ahead_of, repeats, arm_answer, cancel_answer, shorten_answer, with_first, cancelled_one, ending_at, with_cancelled, with_end}
+use Rattle.event_table.specs.Standing.{Standing, on_line, forgotten_at, has_id, is_ahead_of, repeats, arm_answer, cancel_answer, shorten_answer, with_first, cancelled_one, ending_at}
 use Rattle.event_table.specs.declared.table.Armed.{Armed}
 use Rattle.event_table.specs.declared.table.Armed.TheVariants.{New, Same}
 use Rattle.event_table.specs.declared.table.ArmRefusal.{ArmRefusal}

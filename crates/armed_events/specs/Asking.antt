@@ -1,5 +1,5 @@
 -- What a cue asks of the events that stand (ANSI/SCTE 35, splice_insert).
-use Rattle.std.specs.Prelude.{ℕ, Bool, true, false, Option, None, Some, if◌then◌else◌}
+use Rattle.std.specs.Prelude.{ℕ, Bool, false, Option, None, Some, if◌then◌else◌}
 use Rattle.event_table.specs.declared.event.Event.{Event}
 use Rattle.scte35_codec.specs.Reading.{CueReading, insert, cancel, null, other, bad}
 use Rattle.armed_events.specs.declared.asked.Asked.{Asked}

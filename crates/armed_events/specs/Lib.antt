@@ -1,3 +1,4 @@
 pub mod Asking
 pub mod Arming
 pub mod Obeying
+pub mod Valuing

@@ -24,11 +24,11 @@ is_obeyed Keep = true
 is_obeyed Ignore = false
 
 -- the table stands for those events that stand at the greatest time, and the count is that of the ignored cues, or the greatest count
-pub record ObeyedFor (obeyed : Obeyed) (line : Option ℤ) (heard : Heard) : Type 0 where
+pub record ObeyedFor {T : Type 0} (obeyed : Obeyed T) (line : Option ℤ) (heard : Heard) : Type 0 where
   pub table : StandsFor obeyed.table line (standing_at line heard.events)
   pub count : obeyed.ignored ≡ capped heard.ignored
 
 -- The code has been given this past, newest first, of which `high` says the greatest time.
-pub record Obeys (events : ArmedEvents) (pid : ℕ) (high : List (List ℕ) → Option ℤ) (past : List (List ℕ)) : Type 0 where
+pub record Obeys {T : Type 0} (events : ArmedEvents T) (pid : ℕ) (high : List (List ℕ) → Option ℤ) (past : List (List ℕ)) : Type 0 where
   pub waits : Waits events.assembler pid past
   pub obeyed : ObeyedFor events.obeyed (high past) (heard pid high past)

@@ -1,6 +1,6 @@
 //! The cues of a PID, obeyed as they come.
 
-ghost use Rattle.std.specs.Prelude.{◌≡◌, ◌∷◌, [], ℕ, ℤ, List, Option, Some, None, option_map, false};
+ghost use Rattle.std.specs.Prelude.{◌≡◌, ◌<◌, ◌∷◌, [], ℕ, ℤ, List, length, slice_set, Option, Some, None, option_map, false};
 ghost use Rattle.std.specs.List.{list_any};
 ghost use Rattle.pes_time.specs.Line.{ring_of, place};
 
@@ -11,27 +11,30 @@ use psi_section::{Assembler, Sections};
 use scte35_codec::read;
 use ts_packet::Packet;
 
-/// The events that stand, and how many cues were ignored.
+/// The events that stand, each with a value of the caller's, and how many cues were ignored.
 #[derive(Drop)]
-pub(crate) struct Obeyed {
-    table: Table,
+pub(crate) struct Obeyed<T> {
+    table: Table<T>,
     /// The count stops at the greatest.
     ignored: u64,
 }
 
-impl Obeyed {
+impl<T: Copy + Default> Obeyed<T> {
     ghost use Rattle.event_table.specs.Standing.{Standing, on_line};
-    ghost use Rattle.event_table.specs.Tables.{StandsFor, high_of};
-    ghost use Rattle.armed_events.specs.Arming.{change, start_change, end_change, cancel_change, Heard, with_section, with_sections};
+    ghost use Rattle.event_table.specs.Tables.{StandsFor, high_of, values_of};
+    ghost use Rattle.armed_events.specs.Arming.{change, start_change, end_change, cancel_change, standing_at, Heard, with_section, with_sections};
     ghost use Rattle.armed_events.specs.Obeying.{after_change, is_obeyed, ObeyedFor};
+    ghost use Rattle.armed_events.specs.Valuing.{values_by, IsFreshAhead, AreBeside};
     ghost use Rattle.psi_section.specs.SectionsLeft.{sections_left};
 
-    /// Arms the event, where it is no repeat of one that stands. Answers whether the cue is obeyed, as a repeat is.
-    fn start(&mut self, event: Event) -> bool
+    /// Arms the event with this value, where it is no repeat of one that stands. Answers whether the cue is obeyed, as a repeat is.
+    fn start(&mut self, event: Event, fresh: T) -> bool
         ensures answer { (line : Option ℤ) (standing : List Standing) → StandsFor self.old.table line standing →
             result ≡ is_obeyed (start_change line standing (on_line line event)) }
         ensures stands { (line : Option ℤ) (standing : List Standing) → StandsFor self.old.table line standing →
             StandsFor self.new.table line (after_change (start_change line standing (on_line line event)) standing) }
+        ensures values { (line : Option ℤ) (standing : List Standing) (value : ℤ → T) → StandsFor self.old.table line standing → IsFreshAhead value line fresh →
+            values_of self.old.table ≡ values_by value standing → values_of self.new.table ≡ values_by value (after_change (start_change line standing (on_line line event)) standing) }
         ensures ignored { self.new.ignored ≡ self.old.ignored }
         ensures high { high_of self.new.table ≡ high_of self.old.table }
     {
@@ -41,7 +44,7 @@ impl Obeyed {
         if !self.table.can_arm(&event) {
             return false;
         }
-        self.table.arm(event, ()).is_ok()
+        self.table.arm(event, fresh).is_ok()
     }
 
     /// Ends the event of this id early. Answers whether the cue is obeyed.
@@ -50,6 +53,8 @@ impl Obeyed {
             result ≡ is_obeyed (end_change line standing id (place line time)) }
         ensures stands { (line : Option ℤ) (standing : List Standing) → StandsFor self.old.table line standing →
             StandsFor self.new.table line (after_change (end_change line standing id (place line time)) standing) }
+        ensures values { (line : Option ℤ) (standing : List Standing) (value : ℤ → T) → StandsFor self.old.table line standing →
+            values_of self.old.table ≡ values_by value standing → values_of self.new.table ≡ values_by value (after_change (end_change line standing id (place line time)) standing) }
         ensures ignored { self.new.ignored ≡ self.old.ignored }
         ensures high { high_of self.new.table ≡ high_of self.old.table }
     {
@@ -62,6 +67,8 @@ impl Obeyed {
             result ≡ is_obeyed (cancel_change line standing id) }
         ensures stands { (line : Option ℤ) (standing : List Standing) → StandsFor self.old.table line standing →
             StandsFor self.new.table line (after_change (cancel_change line standing id) standing) }
+        ensures values { (line : Option ℤ) (standing : List Standing) (value : ℤ → T) → StandsFor self.old.table line standing →
+            values_of self.old.table ≡ values_by value standing → values_of self.new.table ≡ values_by value (after_change (cancel_change line standing id) standing) }
         ensures ignored { self.new.ignored ≡ self.old.ignored }
         ensures high { high_of self.new.table ≡ high_of self.old.table }
     {
@@ -69,16 +76,18 @@ impl Obeyed {
     }
 
     /// Does what a cue asks for. Answers whether it is obeyed, as one that asks for nothing is.
-    fn obey(&mut self, asked: Asked) -> bool
+    fn obey(&mut self, asked: Asked, fresh: T) -> bool
         ensures answer { (line : Option ℤ) (standing : List Standing) → StandsFor self.old.table line standing →
             result ≡ is_obeyed (change line standing asked) }
         ensures stands { (line : Option ℤ) (standing : List Standing) → StandsFor self.old.table line standing →
             StandsFor self.new.table line (after_change (change line standing asked) standing) }
+        ensures values { (line : Option ℤ) (standing : List Standing) (value : ℤ → T) → StandsFor self.old.table line standing → IsFreshAhead value line fresh →
+            values_of self.old.table ≡ values_by value standing → values_of self.new.table ≡ values_by value (after_change (change line standing asked) standing) }
         ensures ignored { self.new.ignored ≡ self.old.ignored }
         ensures high { high_of self.new.table ≡ high_of self.old.table }
     {
         match asked {
-            Asked::Start(event) => self.start(event),
+            Asked::Start(event) => self.start(event, fresh),
             Asked::End(id, time) => self.end(id, time),
             Asked::Cancel(id) => self.cancel(id),
             Asked::Unfit => false,
@@ -87,24 +96,28 @@ impl Obeyed {
     }
 
     /// Takes a section: a cue is obeyed, or counts as ignored.
-    fn take(&mut self, section: &[u8])
+    fn take(&mut self, section: &[u8], fresh: T)
         ensures obeyed { (line : Option ℤ) (heard : Heard) → ObeyedFor self.old line heard → ObeyedFor self.new line (with_section line section.now heard) }
+        ensures values { (line : Option ℤ) (heard : Heard) (value : ℤ → T) → ObeyedFor self.old line heard → IsFreshAhead value line fresh →
+            AreBeside self.old value line heard → AreBeside self.new value line (with_section line section.now heard) }
         ensures high { high_of self.new.table ≡ high_of self.old.table }
     {
-        let is_obeyed = self.obey(asked_of(&read(section)));
+        let is_obeyed = self.obey(asked_of(&read(section)), fresh);
         if !is_obeyed {
             self.ignored = self.ignored.saturating_add(1);
         }
     }
 
     /// Takes sections in order.
-    fn take_all(&mut self, sections: Sections<'_>)
+    fn take_all(&mut self, sections: Sections<'_>, fresh: T)
         ensures obeyed { (line : Option ℤ) (heard : Heard) → ObeyedFor self.old line heard →
             ObeyedFor self.new line (with_sections line (sections_left sections.entry) heard) }
+        ensures values { (line : Option ℤ) (heard : Heard) (value : ℤ → T) → ObeyedFor self.old line heard → IsFreshAhead value line fresh →
+            AreBeside self.old value line heard → AreBeside self.new value line (with_sections line (sections_left sections.entry) heard) }
         ensures high { high_of self.new.table ≡ high_of self.old.table }
     {
         for section in sections {
-            self.take(section);
+            self.take(section, fresh);
         }
     }
 }
@@ -114,23 +127,25 @@ impl Obeyed {
 /// Every packet of the PID is given to [`ArmedEvents::feed`], and every new high time, the greatest time of a unit so far, to
 /// [`ArmedEvents::advance`].
 #[derive(Drop)]
-pub struct ArmedEvents {
+pub struct ArmedEvents<T = ()> {
     assembler: Assembler,
-    obeyed: Obeyed,
+    obeyed: Obeyed<T>,
 }
 
-impl ArmedEvents {
+impl<T: Copy + Default> ArmedEvents<T> {
     ghost use Rattle.ts_packet.specs.Fields.{on};
     ghost use Rattle.event_table.specs.Rings.{CanAdvance};
     ghost use Rattle.event_table.specs.Standing.{Standing, IsTimeAt};
-    ghost use Rattle.event_table.specs.Tables.{StandsFor, high_of};
+    ghost use Rattle.event_table.specs.Tables.{StandsFor, high_of, values_of};
     ghost use Rattle.psi_section.specs.Assembling.{IsOf, IsReady, capped};
     ghost use Rattle.armed_events.specs.Arming.{standing, ignored};
     ghost use Rattle.armed_events.specs.Obeying.{Obeys};
+    ghost use Rattle.armed_events.specs.Valuing.{values_by, IsFreshAhead, Keeps};
 
     /// No event, no high time, and no cue ignored.
-    pub fn new() -> ArmedEvents
+    pub fn new() -> ArmedEvents<T>
         ensures obeys { (pid : ℕ) (high : List (List ℕ) → Option ℤ) → high [] ≡ None → Obeys result pid high [] }
+        ensures values { (pid : ℕ) (high : List (List ℕ) → Option ℤ) (value : ℤ → T) → high [] ≡ None → Keeps result value pid high [] }
         ensures ready { IsReady result.assembler }
         ensures high { high_of result.obeyed.table ≡ None }
     {
@@ -143,16 +158,20 @@ impl ArmedEvents {
         }
     }
 
-    /// Obeys the cues that the next packet of the PID finishes, in order. A packet marked in error is left out.
-    pub fn feed(&mut self, packet: &Packet)
+    /// Obeys the cues that the next packet of the PID finishes, in order. A packet marked in error is left out. An event that is armed
+    /// has the value `fresh` beside it.
+    pub fn feed(&mut self, packet: &Packet, fresh: T)
         requires { IsReady self.old.assembler }
         ensures obeys { (pid : ℕ) (high : List (List ℕ) → Option ℤ) (past : List (List ℕ)) → IsOf pid packet.now →
             high (packet.now ∷ past) ≡ high past → Obeys self.old pid high past → Obeys self.new pid high (packet.now ∷ past) }
+        ensures values { (pid : ℕ) (high : List (List ℕ) → Option ℤ) (past : List (List ℕ)) (value : ℤ → T) → IsOf pid packet.now →
+            high (packet.now ∷ past) ≡ high past → Obeys self.old pid high past → IsFreshAhead value (high past) fresh →
+            Keeps self.old value pid high past → Keeps self.new value pid high (packet.now ∷ past) }
         ensures ready { IsReady self.new.assembler }
         ensures high { high_of self.new.obeyed.table ≡ high_of self.old.obeyed.table }
     {
         self.assembler.feed(packet);
-        self.obeyed.take_all(self.assembler.sections());
+        self.obeyed.take_all(self.assembler.sections(), fresh);
         self.assembler.pass_over();
     }
 
@@ -161,14 +180,28 @@ impl ArmedEvents {
         requires { CanAdvance (high_of self.old.obeyed.table) high }
         ensures obeys { (pid : ℕ) (high_in : List (List ℕ) → Option ℤ) (p : List ℕ) (past : List (List ℕ)) (later : ℤ) → on pid p ≡ false →
             IsTimeAt (high_in past) high later → high_in (p ∷ past) ≡ Some later → Obeys self.old pid high_in past → Obeys self.new pid high_in (p ∷ past) }
+        ensures values { (pid : ℕ) (high_in : List (List ℕ) → Option ℤ) (p : List ℕ) (past : List (List ℕ)) (later : ℤ) (value : ℤ → T) → on pid p ≡ false →
+            IsTimeAt (high_in past) high later → high_in (p ∷ past) ≡ Some later → Obeys self.old pid high_in past →
+            Keeps self.old value pid high_in past → Keeps self.new value pid high_in (p ∷ past) }
         ensures assembler { self.new.assembler ≡ self.old.assembler }
         ensures high { high_of self.new.obeyed.table ≡ Some high }
     {
         self.obeyed.table.advance(high);
     }
 
-    /// The events that stand.
-    pub fn table(&self) -> &Table
+    /// Puts the value beside the event that stands at this place of [`Table::standing`]. All else stays as it is.
+    pub fn set_value(&mut self, place: usize, value: T)
+        requires { place < length self.old.obeyed.table.entries.items }
+        ensures values { values_of self.new.obeyed.table ≡ slice_set (values_of self.old.obeyed.table) place value }
+        ensures obeys { (pid : ℕ) (high : List (List ℕ) → Option ℤ) (past : List (List ℕ)) → Obeys self.old pid high past → Obeys self.new pid high past }
+        ensures assembler { self.new.assembler ≡ self.old.assembler }
+        ensures high { high_of self.new.obeyed.table ≡ high_of self.old.obeyed.table }
+    {
+        self.obeyed.table.set_value(place, value);
+    }
+
+    /// The events that stand, each with its value.
+    pub fn table(&self) -> &Table<T>
         ensures same { result.now ≡ self.now.obeyed.table }
         ensures stands { (pid : ℕ) (high : List (List ℕ) → Option ℤ) (past : List (List ℕ)) → Obeys self.now pid high past →
             StandsFor result.now (high past) (standing pid high past) }

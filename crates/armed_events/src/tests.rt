@@ -89,7 +89,7 @@ fn play(events: &mut ArmedEvents, counter: u8, turn: &Turn) -> Result<bool, Fail
             Ok(can)
         }
         Cue(section, is_right, standing, ignored) => {
-            events.feed(&packet(section, counter, *is_right));
+            events.feed(&packet(section, counter, *is_right), ());
             Ok(events.table().standing().len() == *standing && events.ignored() == *ignored)
         }
     }
@@ -133,7 +133,7 @@ const TURNS: [Turn; 17] = [
 
 #[test]
 fn cues_in_turn(rt: HostRuntime) -> Result<(), Fail> {
-    let mut events = ArmedEvents::new();
+    let mut events = ArmedEvents::<()>::new();
     assert_eq!(rt; play_all(&mut events, &TURNS)?, TURNS.len());
     assert_eq!(rt; events.table().standing().len(), 2);
     assert_eq!(rt;
@@ -145,7 +145,7 @@ fn cues_in_turn(rt: HostRuntime) -> Result<(), Fail> {
 
 #[test]
 fn sample_of_the_standard(rt: HostRuntime) -> Result<(), Fail> {
-    let mut events = ArmedEvents::new();
+    let mut events = ArmedEvents::<()>::new();
     assert_eq!(rt;
         play_all(
             &mut events,

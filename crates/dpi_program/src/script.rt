@@ -106,10 +106,7 @@ impl<W> Script<W> {
 }
 
 /// Reads a text to its end. An interrupted read is tried again.
-pub(crate) fn load_into<S: Source>(
-    reading: &mut Reading,
-    reader: &mut S,
-) -> Result<(), ScriptFault>
+pub(crate) fn load_into<S: Source>(reading: &mut Reading, reader: &mut S) -> Result<(), ScriptFault>
     ensures blamed { IfErr result (λ f. ScriptBlamed f (S.counts reader.old) (S.counts reader.new)) }
     ensures ended { OnOk result (LastMovedNone (S.counts reader.old) (S.counts reader.new)) }
 {

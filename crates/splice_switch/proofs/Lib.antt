@@ -1,3 +1,4 @@
 pub mod PutLemmas
 pub mod GrowLemmas
+pub mod CountingLemmas
 mod Examples

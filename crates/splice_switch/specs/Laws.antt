@@ -1,7 +1,6 @@
 -- What holds of every switch.
 use Rattle.std.specs.Prelude.{◌≡◌, ℕ, ◌∷◌, ◌++◌, List, [], false}
 use Rattle.unit_stream.specs.Times.{begins_one}
-use Rattle.event_table.specs.Standing.{Standing}
 use Rattle.splice_switch.specs.Playing.{Adverts, History}
 use Rattle.splice_switch.specs.Switching.{Setting, puts_before, switched_past}
 

@@ -2,3 +2,4 @@ pub mod Playing
 pub mod Switching
 pub mod Reporting
 pub mod Laws
+pub mod Counting

@@ -4,3 +4,5 @@
 #![tactic(auto)]
 
 pub mod laws;
+mod plan;
+mod stream;

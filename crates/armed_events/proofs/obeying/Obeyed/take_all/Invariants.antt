@@ -3,12 +3,15 @@ use Rattle.event_table.specs.Tables.{high_of}
 use Rattle.psi_section.specs.SectionsLeft.{sections_left}
 use Rattle.armed_events.specs.Arming.{Heard, with_sections}
 use Rattle.armed_events.specs.Obeying.{ObeyedFor}
+use Rattle.armed_events.specs.Valuing.{IsFreshAhead, AreBeside}
 use Rattle.armed_events.proofs.obeying.Obeyed.take_all.Given as goal
 
 -- what is still to come brings it to the same
 abbrev pub invariant-loop-section : goal.invariant-loop-section
-invariant-loop-section l = record {
+invariant-loop-section g l = record {
   obeyed : (line : Option ℤ) (heard : Heard) → ObeyedFor l.initial.self line heard →
       (now : Heard) × ObeyedFor l.self line now × (with_sections line (sections_left l.section-iterator) now ≡ with_sections line (sections_left l.fn.sections) heard);
+  values : (line : Option ℤ) (heard : Heard) (value : ℤ → g.row.T.Denot) → ObeyedFor l.initial.self line heard → IsFreshAhead value line l.fn.fresh → AreBeside l.initial.self value line heard →
+      (now : Heard) × ObeyedFor l.self line now × AreBeside l.self value line now × (with_sections line (sections_left l.section-iterator) now ≡ with_sections line (sections_left l.fn.sections) heard);
   high : high_of l.self.table ≡ high_of l.initial.self.table;
 }

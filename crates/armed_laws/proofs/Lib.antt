@@ -1,0 +1,4 @@
+mod TimeLemmas
+mod GrowLemmas
+mod MeetLemmas
+pub mod Proofs
