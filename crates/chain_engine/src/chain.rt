@@ -1,5 +1,10 @@
 //! The chain, and whole runs of it.
 
+ghost use Rattle.std.specs.Prelude.{IfOk, IfErr};
+ghost use Rattle.psi_tables.specs.declared.config.Config.{Config};
+ghost use Rattle.chain_engine.specs.Chains.{ChainStandsFor};
+ghost use Rattle.chain_engine.specs.Runs.{InjectsAll, StopsAt};
+
 use crate::automation::Automation;
 use crate::report::Report;
 use crate::talk::Talk;
@@ -37,7 +42,9 @@ impl Chain {
     /// # Errors
     ///
     /// Where the allocator refused memory.
-    pub fn new(alloc: Global, config: Config) -> Result<Chain, OutOfMemory> {
+    pub fn new(alloc: Global, config: Config) -> Result<Chain, OutOfMemory>
+        ensures { IfOk result (λ chain. ChainStandsFor chain config) }
+    {
         Chain::new_in(alloc, config)
     }
 }
@@ -48,7 +55,9 @@ impl<M: Allocator + Copy> Chain<M> {
     /// # Errors
     ///
     /// As for [`Chain::new`].
-    pub fn new_in(alloc: M, config: Config) -> Result<Chain<M>, OutOfMemory> {
+    pub fn new_in(alloc: M, config: Config) -> Result<Chain<M>, OutOfMemory>
+        ensures { IfOk result (λ chain. ChainStandsFor chain config) }
+    {
         let Ok(talk) = Talk::new_in(alloc) else {
             return Err(OutOfMemory);
         };
@@ -67,7 +76,12 @@ pub fn run_inject<M: Allocator, S: Source, U: Automation, W: Target>(
     network: &mut S,
     automation: &mut U,
     out: &mut W,
-) -> Result<Report, RunFault> {
+) -> Result<Report, RunFault>
+    ensures ok { (c : Config) → ChainStandsFor chain c → IfOk result (λ report. InjectsAll c (S.remaining network.old) (W.contents out.old) (W.contents out.new)
+        (U.takes automation.old) (U.takes automation.new) (U.answers automation.old) (U.answers automation.new) report) }
+    ensures err { (c : Config) → ChainStandsFor chain c → IfErr result (λ fault. StopsAt c fault (S.remaining network.old) (W.contents out.old) (W.contents out.new)
+        (U.takes automation.old) (U.takes automation.new) (U.answers automation.old) (U.answers automation.new)) }
+{
     let Chain {
         mut talk,
         mut injector,

@@ -18,7 +18,14 @@ pub trait Judge {
 }
 
 impl Judge for Injector {
-    ghost judges = { λ _ _ _ _. Unit {0} };
+    ghost use Rattle.std.specs.Prelude.{◌≡◌, ◌∷◌, List};
+    ghost use Rattle.psi_tables.specs.declared.config.Config.{Config};
+    ghost use Rattle.injector.specs.Replies.{reply_to};
+    ghost use Rattle.injector.specs.Steps.{Step, Message, turns_in};
+    ghost use Rattle.injector.specs.Injecting.{InjectorStandsFor};
+
+    ghost judges = { λ old m r new. (c : Config) (past : List Step) → InjectorStandsFor old c past →
+        (r ≡ reply_to c.index m (turns_in c.program past)) × InjectorStandsFor new c (Message m ∷ past) };
 
     fn ask(&mut self, message: Result<Message<'_>, BadMessage>) -> Reply {
         Injector::ask(self, message)

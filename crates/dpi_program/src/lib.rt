@@ -27,4 +27,8 @@ pub use script::{Script, ScriptFault};
 pub use unit_cut::{CutFault, cut};
 
 #[cfg(test)]
+mod inject_tests;
+#[cfg(test)]
+mod script_tests;
+#[cfg(test)]
 mod tests;

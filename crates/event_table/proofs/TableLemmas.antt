@@ -5,7 +5,7 @@ use Rattle.std.specs.List.{list_any, position}
 use Rattle.std.specs.Ordering.{int_eq}
 use Rattle.std.proofs.lemmas.Int.{ints}
 use Rattle.std.proofs.lemmas.Bool.{or_parts}
-use Rattle.std.proofs.lemmas.List.Elements.{All-append, All-cons, All-nil, All-filter, filter_passes}
+use Rattle.std.proofs.lemmas.List.Elements.{All-append, All-cons, All-nil, All-head, All-tail, All-filter, filter_passes}
 use Rattle.std.proofs.lemmas.List.{length-map, map-append, map-set}
 use Rattle.std.proofs.Math.Seq.{map-set_same}
 use Rattle.std.proofs.Math.ListN.{get_or-map}
@@ -427,3 +427,27 @@ values-kept {T} t entries' line standing p later value fits can stands is values
   where
     record-of : (entry : Entry T) (s : Standing) → entry.event ≡ on_ring s → entry.value ≡ value s → entry ≡ record { event = on_ring s; value = value s }
     record-of entry s event_is value_is = let build : Event → T → Entry T = λ e v. record { event = e; value = v } in ap (λ e. build e entry.value) event_is ∙ ap (build (on_ring s)) value_is
+
+-- and so are those that stand beside the events in pairs
+pub pairs-kept : {T : Type 0} (t : Table T) (entries' : List (Entry T)) (line : Option ℤ) (pairs : List (Standing × T)) (p : ℕ) (later : ℤ) → p < 2 ^ 33 → CanAdvance t.last p
+    → StandsFor t line (map (λ x. x.0) pairs) → IsTimeAt line p later → values_of t ≡ map (λ x. x.1) pairs
+    → entries' ≡ filter (λ entry. is_before_on_ring p ((ring_end entry.event + 900000) % 2 ^ 33)) t.entries.items
+    → map (λ entry. entry.value) entries' ≡ map (λ x. x.1) (filter (λ x. int_lt later (forgotten_at x.0)) pairs)
+pairs-kept {T} t entries' line pairs p later fits can stands is values items =
+    let can' : CanAdvance (option_map ring_of line) p = subst (λ h. CanAdvance h p) stands.high can in
+    let first : Standing × T → Standing = λ x. x.0 in
+    let second : Standing × T → T = λ x. x.1 in
+    let entry_of : Standing × T → Entry T = λ x. record { event = on_ring x.0; value = x.1 } in
+    let events_are : map (λ entry. entry.event) t.entries.items ≡ map (λ (x : Standing × T). on_ring x.0) pairs = stands.events ∙ map-map first on_ring pairs in
+    let all : t.entries.items ≡ map entry_of pairs
+    = map-joined (λ entry. entry.event) (λ entry. entry.value) (λ (x : Standing × T). on_ring x.0) second entry_of (λ entry s event value. record-of entry s event value) t.entries.items pairs events_are values in
+    ap (map (λ entry. entry.value)) (items ∙ ap (filter (λ entry. is_before_on_ring p ((ring_end entry.event + 900000) % 2 ^ 33))) all
+    ∙ filter-map entry_of (λ x. IsWithin line x.0) (λ entry. is_before_on_ring p ((ring_end entry.event + 900000) % 2 ^ 33)) (λ x. int_lt later (forgotten_at x.0)) (λ x w. kept-within line p later fits can' is x.0 w) pairs (within pairs stands.within))
+    ∙ map-map entry_of (λ entry. entry.value) (filter (λ x. int_lt later (forgotten_at x.0)) pairs)
+  where
+    record-of : (entry : Entry T) (s : Standing × T) → entry.event ≡ on_ring s.0 → entry.value ≡ s.1 → entry ≡ record { event = on_ring s.0; value = s.1 }
+    record-of entry s event_is value_is = let build : Event → T → Entry T = λ e v. record { event = e; value = v } in ap (λ e. build e entry.value) event_is ∙ ap (build (on_ring s.0)) value_is
+
+    within : (pairs : List (Standing × T)) → All (IsWithin line) (map (λ x. x.0) pairs) → All (λ (x : Standing × T). IsWithin line x.0) pairs
+    within [] all = All-nil (λ (x : Standing × T). IsWithin line x.0)
+    within (x ∷ xs) all = All-cons (λ (y : Standing × T). IsWithin line y.0) x xs (All-head (IsWithin line) x.0 (map (λ y. y.0) xs) all) (within xs (All-tail (IsWithin line) x.0 (map (λ y. y.0) xs) all))

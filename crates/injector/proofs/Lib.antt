@@ -1,2 +1,5 @@
 pub mod ListLemmas
 pub mod RequestLemmas
+pub mod SenderLemmas
+pub mod CueLemmas
+pub mod SendingLemmas

@@ -198,10 +198,10 @@ after-cancel t t' line standing r verdict not_start not_end is taken kept stands
     by (Err e) taken kept = rw kept stands
 
 -- ALL EVENTS and those that stand
-new-stands : (h : ℤ) (a b : ℕ) → int_lt h (((h +ℤ pos a) +ℤ pos b) +ℤ pos 900000) ≡ true
+pub new-stands : (h : ℤ) (a b : ℕ) → int_lt h (((h +ℤ pos a) +ℤ pos b) +ℤ pos 900000) ≡ true
 new-stands h a b = grind (arith, ints)
 
-ended-stands : (h : ℤ) (n : ℕ) (start : ℤ) → int_lt h ((start +ℤ pos (unsigned_abs ((h +ℤ pos n) -ℤ start))) +ℤ pos 900000) ≡ true
+pub ended-stands : (h : ℤ) (n : ℕ) (start : ℤ) → int_lt h ((start +ℤ pos (unsigned_abs ((h +ℤ pos n) -ℤ start))) +ℤ pos 900000) ≡ true
 ended-stands h n start = by ((h +ℤ pos n) -ℤ start) refl
   where
     by : (way : ℤ) → (h +ℤ pos n) -ℤ start ≡ way → int_lt h ((start +ℤ pos (unsigned_abs way)) +ℤ pos 900000) ≡ true

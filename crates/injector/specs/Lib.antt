@@ -3,3 +3,7 @@ pub mod Verdicts
 pub mod Turns
 pub mod Replies
 pub mod Requests
+pub mod Senders
+pub mod Noting
+pub mod Steps
+pub mod Injecting

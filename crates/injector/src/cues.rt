@@ -1,16 +1,34 @@
 //! The cues of standing events, sent.
 
-use crate::notes::{Due, Notes, cues_due};
+ghost use Rattle.std.specs.Prelude.{◌≡◌, ◌<◌, ◌≤◌, ◌^◌, ◌%◌, ◌++◌, ◌∷◌, [], ℕ, ℤ, List, Option, length, map, option_map, OnOk, IfErr};
+ghost use Rattle.pes_time.specs.Line.{ring_of};
+ghost use Rattle.ts_packet.specs.Runs.{onto};
+ghost use Rattle.ts_packet.specs.Sinks.{Blamed};
+ghost use Rattle.ts_packet.specs.Transfers.{WentWell};
+ghost use Rattle.scte35_codec.specs.Spelling.{cue_bytes};
+ghost use Rattle.event_table.specs.Standing.{Standing, on_ring};
+ghost use Rattle.event_table.specs.Tables.{StandsFor, high_of};
+ghost use Rattle.program_laws.specs.Writing.{packets_out};
+ghost use Rattle.outgoing_packets.specs.Numbers.{HasPut, FrontFails};
+ghost use Rattle.injector.specs.Turns.{Turn, high};
+ghost use Rattle.injector.specs.Requests.{RequestsStandFor};
+ghost use Rattle.injector.specs.Senders.{Sender, start_cue, end_cue, cancel_cue, when, cues_by, cues_of, cues_before};
+ghost use Rattle.injector.specs.Noting.{notes_of, IsShown, Sending, NotesStandFor, NotesTold, Rises};
+
+use crate::choice::{Choice, chosen};
+use crate::notes::Notes;
 use crate::requests::Requests;
 use arrayvec::ArrayVec;
-use event_table::{Entry, Event};
+use event_table::Event;
 use outgoing_packets::Outgoing;
 use pes_time::Time33;
 use scte35_codec::{CueOut, write};
 use ts_packet::{PacketSink, Pid, PutFault};
 
 /// The cue by which the event begins.
-fn start_cue(event: &Event, notes: &Notes) -> CueOut {
+fn start_cue(event: &Event, notes: &Notes) -> CueOut
+    ensures { (x : Sender) → IsShown event.now notes.now x → result ≡ start_cue x }
+{
     CueOut::Start {
         event: event.id,
         time: event.start,
@@ -23,7 +41,9 @@ fn start_cue(event: &Event, notes: &Notes) -> CueOut {
 }
 
 /// So many ticks, as a number of 33 bits.
-fn ticks(count: u64) -> Time33 {
+fn ticks(count: u64) -> Time33
+    ensures { result ≡ count % 2 ^ 33 }
+{
     match Time33::new(count % (1 << 33)) {
         Some(time) => time,
         None => unreachable!(),
@@ -31,7 +51,9 @@ fn ticks(count: u64) -> Time33 {
 }
 
 /// The cue by which it ends early.
-fn end_cue(event: &Event) -> CueOut {
+fn end_cue(event: &Event) -> CueOut
+    ensures { (x : Sender) → event.now ≡ on_ring x.event → result ≡ end_cue x }
+{
     CueOut::End {
         event: event.id,
         time: event.end(),
@@ -39,58 +61,150 @@ fn end_cue(event: &Event) -> CueOut {
 }
 
 /// The cue by which it is taken back.
-fn cancel_cue(event: &Event) -> CueOut {
+fn cancel_cue(event: &Event) -> CueOut
+    ensures { (x : Sender) → event.now ≡ on_ring x.event → result ≡ cancel_cue x }
+{
     CueOut::Cancel { event: event.id }
 }
 
-/// Puts a cue, in one packet of this PID.
-fn put_cue<S: PacketSink>(
+/// Puts a cue in one packet of this PID, where it is chosen.
+fn put_chosen<S: PacketSink>(
+    is_chosen: bool,
     cue: &CueOut,
     pid: Pid,
     out: &mut Outgoing,
     sink: &mut S,
-) -> Result<(), PutFault> {
+) -> Result<(), PutFault>
+    ensures leads { S.leads sink.old sink.new }
+    ensures ok { (start : Option (List ℕ)) (ps puts : List (List ℕ)) → S.holds sink.old start ps → HasPut out.old puts →
+        OnOk result (S.holds sink.new start (ps ++ packets_out pid puts (map cue_bytes (when is_chosen cue.now)))) }
+    ensures numbers { (puts : List (List ℕ)) → HasPut out.old puts →
+        OnOk result (HasPut out.new (onto puts (packets_out pid puts (map cue_bytes (when is_chosen cue.now))))) }
+    ensures err { (start : Option (List ℕ)) (ps puts : List (List ℕ)) → S.holds sink.old start ps → HasPut out.old puts →
+        IfErr result (λ f. FrontFails (packets_out pid puts (map cue_bytes (when is_chosen cue.now))) (λ put p. S.fails sink.new start (ps ++ put) p f)) }
+    ensures well { OnOk result (WentWell (S.counts sink.old) (S.counts sink.new)) }
+    ensures blamed { IfErr result (λ f. Blamed f (S.counts sink.old) (S.counts sink.new) (S.is_full sink.new)) }
+{
+    if !is_chosen {
+        return Ok(());
+    }
     let mut section = ArrayVec::new();
     write(cue, &mut section);
     out.put_section(pid, section.as_slice(), sink)
 }
 
-/// Puts those cues of an event that are due.
+/// Puts those cues of an event that are chosen.
 fn put_cues<S: PacketSink>(
-    due: Due,
-    entry: &Entry<Notes>,
+    choice: Choice,
+    event: &Event,
+    notes: &Notes,
     pid: Pid,
     out: &mut Outgoing,
     sink: &mut S,
-) -> Result<(), PutFault> {
-    if due.start {
-        put_cue(&start_cue(&entry.event, &entry.value), pid, out, sink)?;
+) -> Result<(), PutFault>
+    ensures leads { S.leads sink.old sink.new }
+    ensures ok { (start : Option (List ℕ)) (ps puts : List (List ℕ)) (x : Sender) → S.holds sink.old start ps → HasPut out.old puts → IsShown event.now notes.now x →
+        OnOk result (S.holds sink.new start (ps ++ packets_out pid puts (map cue_bytes (cues_by x choice)))) }
+    ensures numbers { (puts : List (List ℕ)) (x : Sender) → HasPut out.old puts → IsShown event.now notes.now x →
+        OnOk result (HasPut out.new (onto puts (packets_out pid puts (map cue_bytes (cues_by x choice))))) }
+    ensures err { (start : Option (List ℕ)) (ps puts : List (List ℕ)) (x : Sender) → S.holds sink.old start ps → HasPut out.old puts → IsShown event.now notes.now x →
+        IfErr result (λ f. FrontFails (packets_out pid puts (map cue_bytes (cues_by x choice))) (λ put p. S.fails sink.new start (ps ++ put) p f)) }
+    ensures well { OnOk result (WentWell (S.counts sink.old) (S.counts sink.new)) }
+    ensures blamed { IfErr result (λ f. Blamed f (S.counts sink.old) (S.counts sink.new) (S.is_full sink.new)) }
+    ensures pid { pid < 8192 }
+{
+    let _number = pid.get();
+    match put_chosen(choice.start, &start_cue(event, notes), pid, out, sink) {
+        Ok(()) => {}
+        Err(fault) => return Err(fault),
     }
-    if due.end {
-        put_cue(&end_cue(&entry.event), pid, out, sink)?;
+    match put_chosen(choice.end, &end_cue(event), pid, out, sink) {
+        Ok(()) => {}
+        Err(fault) => return Err(fault),
     }
-    if due.cancel {
-        put_cue(&cancel_cue(&entry.event), pid, out, sink)?;
+    put_chosen(choice.cancel, &cancel_cue(event), pid, out, sink)
+}
+
+/// Puts the cues of the event that stands at this place, before a packet that lifts the greatest time from `high` to `later`.
+fn put_one<S: PacketSink>(
+    requests: &mut Requests,
+    place: usize,
+    later: &Option<Time33>,
+    pid: Pid,
+    out: &mut Outgoing,
+    sink: &mut S,
+) -> Result<(), PutFault>
+    requires { place < length requests.old.table.entries.items }
+    ensures leads { S.leads sink.old sink.new }
+    ensures ok { (start : Option (List ℕ)) (ps puts : List (List ℕ)) (line after : Option ℤ) (done : List Sender) (x : Sender) (left : List Sender) → S.holds sink.old start ps → HasPut out.old puts → Sending requests.old line after done (x ∷ left) →
+        place ≡ length done → Rises line after → later.now ≡ option_map ring_of after →
+        OnOk result (S.holds sink.new start (ps ++ packets_out pid puts (map cue_bytes (cues_of line after x)))) }
+    ensures numbers { (puts : List (List ℕ)) (line after : Option ℤ) (done : List Sender) (x : Sender) (left : List Sender) → HasPut out.old puts → Sending requests.old line after done (x ∷ left) →
+        place ≡ length done → Rises line after → later.now ≡ option_map ring_of after →
+        OnOk result (HasPut out.new (onto puts (packets_out pid puts (map cue_bytes (cues_of line after x))))) }
+    ensures err { (start : Option (List ℕ)) (ps puts : List (List ℕ)) (line after : Option ℤ) (done : List Sender) (x : Sender) (left : List Sender) → S.holds sink.old start ps → HasPut out.old puts → Sending requests.old line after done (x ∷ left) →
+        place ≡ length done → Rises line after → later.now ≡ option_map ring_of after →
+        IfErr result (λ f. FrontFails (packets_out pid puts (map cue_bytes (cues_of line after x))) (λ put p. S.fails sink.new start (ps ++ put) p f)) }
+    ensures well { OnOk result (WentWell (S.counts sink.old) (S.counts sink.new)) }
+    ensures blamed { IfErr result (λ f. Blamed f (S.counts sink.old) (S.counts sink.new) (S.is_full sink.new)) }
+    ensures sending { (line after : Option ℤ) (done : List Sender) (x : Sender) (left : List Sender) → Sending requests.old line after done (x ∷ left) →
+        place ≡ length done → Rises line after → later.now ≡ option_map ring_of after → OnOk result (Sending requests.new line after (done ++ x ∷ []) left) }
+    ensures stands { (line : Option ℤ) (standing : List Standing) → StandsFor requests.old.table line standing → StandsFor requests.new.table line standing }
+    ensures index { requests.new.index ≡ requests.old.index }
+    ensures high { high_of requests.new.table ≡ high_of requests.old.table }
+    ensures count { length requests.new.table.entries.items ≡ length requests.old.table.entries.items }
+    ensures pid { pid < 8192 }
+{
+    let _number = pid.get();
+    let high = requests.high();
+    let entry = requests.entry(place);
+    let event = entry.event;
+    let notes = entry.value;
+    let choice = chosen(&event, &notes, high, *later);
+    if choice.is_none() {
+        return Ok(());
     }
+    match put_cues(choice, &event, &notes, pid, out, sink) {
+        Ok(()) => {}
+        Err(fault) => return Err(fault),
+    }
+    let told = notes.told(&event, *later);
+    requests.note(place, told);
     Ok(())
 }
 
 /// Puts the cues that are due before a packet behind which this is the greatest time.
 pub(crate) fn put_due<S: PacketSink>(
     requests: &mut Requests,
-    later: Option<Time33>,
+    later: &Option<Time33>,
     pid: Pid,
     out: &mut Outgoing,
     sink: &mut S,
-) -> Result<(), PutFault> {
-    let high = requests.high();
+) -> Result<(), PutFault>
+    ensures leads { S.leads sink.old sink.new }
+    ensures ok { (start : Option (List ℕ)) (ps puts : List (List ℕ)) (index : ℕ) (past : List Turn) (line : Option ℤ) → S.holds sink.old start ps → HasPut out.old puts → RequestsStandFor requests.old index past →
+        NotesStandFor requests.old index past → Rises (high past) line → later.now ≡ option_map ring_of line →
+        OnOk result (S.holds sink.new start (ps ++ packets_out pid puts (map cue_bytes (cues_before index line past)))) }
+    ensures numbers { (puts : List (List ℕ)) (index : ℕ) (past : List Turn) (line : Option ℤ) → HasPut out.old puts → RequestsStandFor requests.old index past →
+        NotesStandFor requests.old index past → Rises (high past) line → later.now ≡ option_map ring_of line →
+        OnOk result (HasPut out.new (onto puts (packets_out pid puts (map cue_bytes (cues_before index line past))))) }
+    ensures err { (start : Option (List ℕ)) (ps puts : List (List ℕ)) (index : ℕ) (past : List Turn) (line : Option ℤ) → S.holds sink.old start ps → HasPut out.old puts → RequestsStandFor requests.old index past →
+        NotesStandFor requests.old index past → Rises (high past) line → later.now ≡ option_map ring_of line →
+        IfErr result (λ f. FrontFails (packets_out pid puts (map cue_bytes (cues_before index line past))) (λ put p. S.fails sink.new start (ps ++ put) p f)) }
+    ensures well { OnOk result (WentWell (S.counts sink.old) (S.counts sink.new)) }
+    ensures blamed { IfErr result (λ f. Blamed f (S.counts sink.old) (S.counts sink.new) (S.is_full sink.new)) }
+    ensures stands { (index : ℕ) (past : List Turn) → RequestsStandFor requests.old index past → RequestsStandFor requests.new index past }
+    ensures told { (puts : List (List ℕ)) (index : ℕ) (past : List Turn) (line : Option ℤ) → HasPut out.old puts → RequestsStandFor requests.old index past →
+        NotesStandFor requests.old index past → Rises (high past) line → later.now ≡ option_map ring_of line →
+        OnOk result (NotesTold requests.new index past line) }
+    ensures high { high_of requests.new.table ≡ high_of requests.old.table }
+{
+    let _number = pid.get();
     let mut place = 0;
     while place < requests.count() {
-        let entry = requests.entry(place);
-        let due = cues_due(&entry.event, &entry.value, high, later);
-        if !due.is_none() {
-            put_cues(due, &entry, pid, out, sink)?;
-            requests.note(place, entry.value.told(&entry.event, later));
+        match put_one(requests, place, later, pid, out, sink) {
+            Ok(()) => {}
+            Err(fault) => return Err(fault),
         }
         place += 1;
     }

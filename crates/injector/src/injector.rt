@@ -1,26 +1,26 @@
 //! The injector: messages in and answers out, packets in and packets with cues out.
 
+ghost use Rattle.std.specs.Prelude.{◌≡◌, ◌++◌, ◌∷◌, [], ℕ, List, Option, Some, None, Err, true, OnOk, IfOk, IfErr, map, is_ok};
+ghost use Rattle.ts_packet.specs.Runs.{onto};
+ghost use Rattle.ts_packet.specs.Sinks.{Blamed};
+ghost use Rattle.ts_packet.specs.Transfers.{WentWell};
+ghost use Rattle.scte104_codec.specs.Views.{reading_of};
+ghost use Rattle.program_follower.specs.Program.{listed, tables};
+ghost use Rattle.program_follower.specs.Faults.{network_fault};
+ghost use Rattle.program_follower.specs.Following.{FollowerStandsFor, on_map, IsPlace};
+ghost use Rattle.outgoing_packets.specs.Numbers.{HasPut, FrontFails};
+ghost use Rattle.injector.specs.Replies.{reply_to};
+ghost use Rattle.injector.specs.Steps.{Step, Message as MessageStep, Packet as PacketStep, packets_in, turns_in, purpose_of, body_at, sent_at, cued};
+ghost use Rattle.injector.specs.Injecting.{InjectorStandsFor, JudgesBy, FeedFails, FeedBlamed, KeepsSink, CountsAre, IsFed, IsBodyOf, KeepsRest, is_map_place, is_err_or};
+
+use crate::counts::{MessageCounts, counted};
 use crate::cues::put_due;
-use crate::reply::SUCCESS;
 use crate::requests::Requests;
 use outgoing_packets::{CueEntry, Outgoing};
-use pes_time::Time33;
 use program_follower::{FollowFault, Place, ProgramFollower, Purpose};
 use psi_tables::{Config, FeedFault};
-use scte104_codec::operation_ids::INJECT_RESPONSE;
 use scte104_codec::{BadMessage, Message, Reply};
 use ts_packet::{Packet, PacketSink, Pid, PutFault};
-
-/// How many messages were judged. A count stops at the greatest.
-#[derive(Clone, Copy, Debug, PartialEq, Eq)]
-pub struct MessageCounts {
-    /// All messages.
-    pub messages: u64,
-    /// Multiple operations that were accepted.
-    pub accepted: u64,
-    /// Multiple operations that were refused.
-    pub refused: u64,
-}
 
 /// Judges the messages of an automation, and puts the cues of the breaks that it asks for into a network. It takes no memory.
 #[derive(Drop)]
@@ -35,7 +35,9 @@ pub struct Injector {
 
 impl Injector {
     /// An injector that was given no message and no packet.
-    pub fn new(config: Config) -> Injector {
+    pub fn new(config: Config) -> Injector
+        ensures { InjectorStandsFor result config [] }
+    {
         Injector {
             cue_pid: config.cue_pid,
             requests: Requests::new(config.index),
@@ -51,14 +53,23 @@ impl Injector {
     }
 
     /// Judges a message by the packets so far, and answers it; also after a fault of [`Injector::feed`].
-    pub fn ask(&mut self, message: Result<Message<'_>, BadMessage>) -> Reply {
+    pub fn ask(&mut self, message: Result<Message<'_>, BadMessage>) -> Reply
+        ensures answer { (c : Config) (past : List Step) → JudgesBy self.old c past →
+            result ≡ reply_to c.index (reading_of message.entry) (turns_in c.program past) }
+        ensures judges { (c : Config) (past : List Step) → JudgesBy self.old c past → JudgesBy self.new c (MessageStep (reading_of message.entry) ∷ past) }
+        ensures stands { (c : Config) (past : List Step) → InjectorStandsFor self.old c past →
+            InjectorStandsFor self.new c (MessageStep (reading_of message.entry) ∷ past) }
+        ensures spent { self.new.is_spent ≡ self.old.is_spent }
+    {
         let reply = self.requests.ask(message);
         self.counts = counted(self.counts, &reply);
         reply
     }
 
     /// How many messages were judged.
-    pub fn counts(&self) -> MessageCounts {
+    pub fn counts(&self) -> MessageCounts
+        ensures { (c : Config) (past : List Step) → JudgesBy self.now c past → CountsAre result c.index (turns_in c.program past) }
+    {
         self.counts
     }
 
@@ -68,8 +79,22 @@ impl Injector {
     /// # Errors
     ///
     /// `Network` with what is wrong with the packet behind those before it: nothing was put then. `Sink` where the sink failed: it has
-    /// a front of what the packet puts. `Failed` once a fault was answered.
-    pub fn feed<S: PacketSink>(&mut self, packet: &Packet, sink: &mut S) -> Result<(), FeedFault> {
+    /// a front of what the packet sends. `Failed` once a fault was answered.
+    pub fn feed<S: PacketSink>(&mut self, packet: &Packet, sink: &mut S) -> Result<(), FeedFault>
+        ensures leads { S.leads sink.old sink.new }
+        ensures ok { (start : Option (List ℕ)) (ps : List (List ℕ)) (c : Config) (past : List Step) → S.holds sink.old start ps → InjectorStandsFor self.old c past →
+            OnOk result (S.holds sink.new start (ps ++ sent_at c packet.now past)) }
+        ensures stands { (c : Config) (past : List Step) → InjectorStandsFor self.old c past → OnOk result (InjectorStandsFor self.new c (PacketStep packet.now ∷ past)) }
+        ensures sound { (c : Config) (past : List Step) → InjectorStandsFor self.old c past → OnOk result (network_fault (purpose_of c) packet.now (packets_in past) ≡ None) }
+        ensures err { (start : Option (List ℕ)) (ps : List (List ℕ)) (c : Config) (past : List Step) → S.holds sink.old start ps → InjectorStandsFor self.old c past →
+            IfErr result (λ f. FeedFails f c packet.now past (λ put p x. S.fails sink.new start (ps ++ put) p x)) }
+        ensures judges { (c : Config) (past : List Step) → JudgesBy self.old c past → IfErr result (λ _. JudgesBy self.new c past) }
+        ensures well { OnOk result (WentWell (S.counts sink.old) (S.counts sink.new)) }
+        ensures blamed { IfErr result (λ f. FeedBlamed f (S.counts sink.old) (S.counts sink.new) (S.is_full sink.new)) }
+        ensures kept { IfErr result (λ f. KeepsSink f sink.old sink.new) }
+        ensures failed { self.old.is_spent ≡ true → result ≡ Err FeedFault.Failed }
+        ensures spent { self.new.is_spent ≡ is_err_or result self.old.is_spent }
+    {
         if self.is_spent {
             return Err(FeedFault::Failed);
         }
@@ -83,55 +108,95 @@ impl Injector {
     }
 
     /// Takes a packet.
-    fn take<S: PacketSink>(&mut self, packet: &Packet, sink: &mut S) -> Result<(), FeedFault> {
-        let place = match self.follower.feed(packet) {
-            Ok(place) => place,
-            Err(FollowFault::Network(fault)) => return Err(FeedFault::Network(fault)),
-            Err(FollowFault::Failed) => return Err(FeedFault::Failed),
-        };
+    fn take<S: PacketSink>(&mut self, packet: &Packet, sink: &mut S) -> Result<(), FeedFault>
+        ensures leads { S.leads sink.old sink.new }
+        ensures ok { (start : Option (List ℕ)) (ps : List (List ℕ)) (c : Config) (past : List Step) → S.holds sink.old start ps → InjectorStandsFor self.old c past →
+            OnOk result (S.holds sink.new start (ps ++ sent_at c packet.now past)) }
+        ensures stands { (c : Config) (past : List Step) → InjectorStandsFor self.old c past → OnOk result (InjectorStandsFor self.new c (PacketStep packet.now ∷ past)) }
+        ensures sound { (c : Config) (past : List Step) → InjectorStandsFor self.old c past → OnOk result (network_fault (purpose_of c) packet.now (packets_in past) ≡ None) }
+        ensures err { (start : Option (List ℕ)) (ps : List (List ℕ)) (c : Config) (past : List Step) → S.holds sink.old start ps → InjectorStandsFor self.old c past →
+            IfErr result (λ f. FeedFails f c packet.now past (λ put p x. S.fails sink.new start (ps ++ put) p x)) }
+        ensures judges { (c : Config) (past : List Step) → JudgesBy self.old c past → IfErr result (λ _. JudgesBy self.new c past) }
+        ensures well { OnOk result (WentWell (S.counts sink.old) (S.counts sink.new)) }
+        ensures blamed { IfErr result (λ f. FeedBlamed f (S.counts sink.old) (S.counts sink.new) (S.is_full sink.new)) }
+        ensures kept { IfErr result (λ f. KeepsSink f sink.old sink.new) }
+        ensures spent { self.new.is_spent ≡ self.old.is_spent }
+    {
+        match self.follower.feed(packet) {
+            Ok(place) => match self.put(is_map(&place), packet, sink) {
+                Ok(()) => Ok(()),
+                Err(fault) => Err(FeedFault::Sink(fault)),
+            },
+            Err(FollowFault::Network(fault)) => Err(FeedFault::Network(fault)),
+            Err(FollowFault::Failed) => Err(FeedFault::Failed),
+        }
+    }
+
+    /// Puts what goes out for a packet that was followed, which is on the PID of the map or not.
+    fn put<S: PacketSink>(
+        &mut self,
+        is_map: bool,
+        packet: &Packet,
+        sink: &mut S,
+    ) -> Result<(), PutFault>
+        ensures leads { S.leads sink.old sink.new }
+        ensures ok { (start : Option (List ℕ)) (ps : List (List ℕ)) (c : Config) (past : List Step) → S.holds sink.old start ps →
+            IsFed self.old is_map c packet.now past → OnOk result (S.holds sink.new start (ps ++ sent_at c packet.now past)) }
+        ensures stands { (c : Config) (past : List Step) → IsFed self.old is_map c packet.now past →
+            OnOk result (InjectorStandsFor self.new c (PacketStep packet.now ∷ past)) }
+        ensures err { (start : Option (List ℕ)) (ps : List (List ℕ)) (c : Config) (past : List Step) → S.holds sink.old start ps →
+            IsFed self.old is_map c packet.now past →
+            IfErr result (λ f. FrontFails (sent_at c packet.now past) (λ put p. S.fails sink.new start (ps ++ put) p f)) }
+        ensures judges { (c : Config) (past : List Step) → JudgesBy self.old c past → IfErr result (λ _. JudgesBy self.new c past) }
+        ensures spent { self.new.is_spent ≡ self.old.is_spent }
+        ensures well { OnOk result (WentWell (S.counts sink.old) (S.counts sink.new)) }
+        ensures blamed { IfErr result (λ f. Blamed f (S.counts sink.old) (S.counts sink.new) (S.is_full sink.new)) }
+    {
         let later = self.follower.high();
-        match self.put(place, later, packet, sink) {
+        let pid = self.cue_pid;
+        match put_due(&mut self.requests, &later, pid, &mut self.out, sink) {
             Ok(()) => {}
-            Err(fault) => return Err(FeedFault::Sink(fault)),
+            Err(fault) => return Err(fault),
+        }
+        match self.put_body(is_map, packet, sink) {
+            Ok(()) => {}
+            Err(fault) => return Err(fault),
         }
         self.requests.rise(later);
         Ok(())
     }
 
-    /// Puts what goes out for a packet that is of this place, behind which this is the greatest time.
-    fn put<S: PacketSink>(
+    /// Puts the packet, or the sections that it finishes on the PID of the map.
+    fn put_body<S: PacketSink>(
         &mut self,
-        place: Place,
-        later: Option<Time33>,
+        is_map: bool,
         packet: &Packet,
         sink: &mut S,
-    ) -> Result<(), PutFault> {
-        match put_due(&mut self.requests, later, self.cue_pid, &mut self.out, sink) {
-            Ok(()) => {}
-            Err(fault) => return Err(fault),
+    ) -> Result<(), PutFault>
+        ensures leads { S.leads sink.old sink.new }
+        ensures ok { (start : Option (List ℕ)) (ps puts : List (List ℕ)) (c : Config) (past : List (List ℕ)) → S.holds sink.old start ps → HasPut self.old.out puts →
+            IsBodyOf self.old is_map c packet.now past → OnOk result (S.holds sink.new start (ps ++ body_at c packet.now past puts)) }
+        ensures numbers { (puts : List (List ℕ)) (c : Config) (past : List (List ℕ)) → HasPut self.old.out puts →
+            IsBodyOf self.old is_map c packet.now past → OnOk result (HasPut self.new.out (onto puts (body_at c packet.now past puts))) }
+        ensures err { (start : Option (List ℕ)) (ps puts : List (List ℕ)) (c : Config) (past : List (List ℕ)) → S.holds sink.old start ps → HasPut self.old.out puts →
+            IsBodyOf self.old is_map c packet.now past →
+            IfErr result (λ f. FrontFails (body_at c packet.now past puts) (λ put p. S.fails sink.new start (ps ++ put) p f)) }
+        ensures rest { KeepsRest self.old self.new }
+        ensures well { OnOk result (WentWell (S.counts sink.old) (S.counts sink.new)) }
+        ensures blamed { IfErr result (λ f. Blamed f (S.counts sink.old) (S.counts sink.new) (S.is_full sink.new)) }
+    {
+        if !is_map {
+            return self.out.pass(packet, sink);
         }
-        match place {
-            Place::Map => self.out.put_tables(
-                packet.pid(),
-                self.follower.tables(),
-                CueEntry::Added(self.cue_pid),
-                sink,
-            ),
-            _ => self.out.pass(packet, sink),
-        }
+        let change = CueEntry::Added(self.cue_pid);
+        let tables = self.follower.tables();
+        self.out.put_tables(packet.pid(), tables, &change, sink)
     }
 }
 
-/// The counts with one message more, which was answered so.
-fn counted(before: MessageCounts, reply: &Reply) -> MessageCounts {
-    let mut counts = before;
-    counts.messages = counts.messages.saturating_add(1);
-    if reply.op == INJECT_RESPONSE {
-        if reply.result == SUCCESS {
-            counts.accepted = counts.accepted.saturating_add(1);
-        } else {
-            counts.refused = counts.refused.saturating_add(1);
-        }
-    }
-    counts
+/// The packet is on the PID of the map.
+fn is_map(place: &Place) -> bool
+    ensures { result ≡ is_map_place place.now }
+{
+    matches!(place, Place::Map)
 }

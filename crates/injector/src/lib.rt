@@ -5,6 +5,8 @@
 #![tactic(auto)]
 
 mod asked;
+mod choice;
+mod counts;
 mod cues;
 mod injector;
 mod notes;
@@ -12,7 +14,8 @@ mod refusal;
 mod reply;
 mod requests;
 
-pub use injector::{Injector, MessageCounts};
+pub use counts::MessageCounts;
+pub use injector::Injector;
 pub use refusal::Refusal;
 pub use requests::Requests;
 

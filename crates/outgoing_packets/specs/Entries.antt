@@ -1,5 +1,6 @@
 -- What becomes of the entry for cues in the maps of a program.
-use Rattle.std.specs.Prelude.{◌≡◌, ℕ, false, Option, Some, None}
+use Rattle.std.specs.Prelude.{◌≡◌, ◌<◌, ℕ, List, length, All, false, Option, Some, None}
+use Rattle.arrayvec.specs.ArrayVec.{ArrayVec}
 use Rattle.psi_tables.specs.ProgramMap.{ProgramMap}
 use Rattle.psi_tables.specs.Cue.{with_cue_entry, without_cue_entry}
 use Rattle.program_follower.specs.Program.{Table}
@@ -17,5 +18,15 @@ HasRoom entry None = Unit {0}
 HasRoom (Added pid) (Some m) = too_long (Some pid) m ≡ false
 HasRoom (Stripped pid) (Some m) = Unit {0}
 
-abbrev pub GoesOut : CueEntry → Table → Type 0
-GoesOut entry t = HasRoom entry t.program_map
+-- a section that is not empty, and has room where it is a map of the program
+pub record GoesOut (entry : CueEntry) (t : Table) : Type 0 where
+  pub some : 0 < length t.section
+  pub room : HasRoom entry t.program_map
+
+abbrev pub AllGoOut : CueEntry → List Table → Type 0
+AllGoOut entry ts = All (GoesOut entry) ts
+
+-- the bytes of a section that was changed, or those that came
+abbrev pub bytes_or : Option (ArrayVec ℕ) → List ℕ → List ℕ
+bytes_or None s = s
+bytes_or (Some changed) s = changed.items

@@ -1,19 +1,18 @@
 //! Packets and sections, put behind others.
 
-ghost use Rattle.std.specs.Prelude.{◌≡◌, ◌<◌, ◌++◌, ◌∷◌, [], ℕ, List, Option, length, map, All, OnOk, IfErr};
+ghost use Rattle.std.specs.Prelude.{◌≡◌, ◌<◌, ◌++◌, ◌∷◌, [], ℕ, List, Option, ◌≢◌, length, map, slice_index_or, OnOk, IfErr};
 ghost use Rattle.ts_packet.specs.Runs.{onto};
 ghost use Rattle.ts_packet.specs.Sinks.{Blamed};
 ghost use Rattle.ts_packet.specs.Transfers.{WentWell};
 ghost use Rattle.program_laws.specs.Writing.{section_out, packets_out};
-ghost use Rattle.program_follower.specs.Program.{Table};
 ghost use Rattle.program_follower.specs.Standing.{tables_left, table_seen};
-ghost use Rattle.outgoing_packets.specs.Entries.{change_of, GoesOut};
+ghost use Rattle.outgoing_packets.specs.Entries.{change_of, GoesOut, AllGoOut, bytes_or};
 ghost use Rattle.outgoing_packets.specs.Numbers.{upcoming_on, FrontFails};
 
 use crate::entry::CueEntry;
 use program_follower::{LentTable, Tables};
 use psi_section::Packetiser;
-use psi_tables::{add_cue, strip_cue};
+use psi_tables::{Section, add_cue, strip_cue};
 use ts_packet::{Packet, PacketSink, Pid, PutFault};
 
 /// The next continuity_counter of each PID, by what has gone out so far. It takes no memory.
@@ -55,16 +54,28 @@ impl Outgoing {
         Ok(())
     }
 
-    /// Puts the section, which is not empty, in packets of this PID.
+    /// Puts the section in packets of this PID. An empty one, which is none, puts nothing.
     pub fn put_section<S: PacketSink>(
         &mut self,
         pid: Pid,
         section: &[u8],
         sink: &mut S,
     ) -> Result<(), PutFault>
-        requires { 0 < length section.now }
+        ensures leads { S.leads sink.old sink.new }
+        ensures ok { (start : Option (List ℕ)) (ps out : List (List ℕ)) → S.holds sink.old start ps → HasPut self.old out → 0 < length section.now →
+            OnOk result (S.holds sink.new start (ps ++ packets_out pid out (section.now ∷ []))) }
+        ensures numbers { (out : List (List ℕ)) → HasPut self.old out → 0 < length section.now →
+            OnOk result (HasPut self.new (onto out (packets_out pid out (section.now ∷ [])))) }
+        ensures err { (start : Option (List ℕ)) (ps out : List (List ℕ)) → S.holds sink.old start ps → HasPut self.old out → 0 < length section.now →
+            IfErr result (λ f. FrontFails (packets_out pid out (section.now ∷ [])) (λ put p. S.fails sink.new start (ps ++ put) p f)) }
+        ensures well { OnOk result (WentWell (S.counts sink.old) (S.counts sink.new)) }
+        ensures blamed { IfErr result (λ f. Blamed f (S.counts sink.old) (S.counts sink.new) (S.is_full sink.new)) }
+        ensures pid { pid < 8192 }
     {
         let mut packetiser = Packetiser::new(pid, self.upcoming(pid));
+        if section.is_empty() {
+            return Ok(());
+        }
         match packetiser.put(section, sink) {
             Ok(()) => {}
             Err(fault) => return Err(fault),
@@ -79,11 +90,21 @@ impl Outgoing {
         &mut self,
         pid: Pid,
         tables: Tables<'_>,
-        entry: CueEntry,
+        change: &CueEntry,
         sink: &mut S,
-    ) -> Result<(), PutFault> {
+    ) -> Result<(), PutFault>
+        ensures leads { S.leads sink.old sink.new }
+        ensures ok { (start : Option (List ℕ)) (ps out : List (List ℕ)) → S.holds sink.old start ps → HasPut self.old out → AllGoOut change.now (tables_left tables.entry) →
+            OnOk result (S.holds sink.new start (ps ++ packets_out pid out (map (section_out (change_of change.now)) (tables_left tables.entry)))) }
+        ensures numbers { (out : List (List ℕ)) → HasPut self.old out → AllGoOut change.now (tables_left tables.entry) →
+            OnOk result (HasPut self.new (onto out (packets_out pid out (map (section_out (change_of change.now)) (tables_left tables.entry))))) }
+        ensures err { (start : Option (List ℕ)) (ps out : List (List ℕ)) → S.holds sink.old start ps → HasPut self.old out → AllGoOut change.now (tables_left tables.entry) →
+            IfErr result (λ f. FrontFails (packets_out pid out (map (section_out (change_of change.now)) (tables_left tables.entry))) (λ put p. S.fails sink.new start (ps ++ put) p f)) }
+        ensures well { OnOk result (WentWell (S.counts sink.old) (S.counts sink.new)) }
+        ensures blamed { IfErr result (λ f. Blamed f (S.counts sink.old) (S.counts sink.new) (S.is_full sink.new)) }
+    {
         for table in tables {
-            match self.put_table(pid, &table, entry, sink) {
+            match self.put_table(pid, table, change, sink) {
                 Ok(()) => {}
                 Err(fault) => return Err(fault),
             }
@@ -95,47 +116,60 @@ impl Outgoing {
     fn put_table<S: PacketSink>(
         &mut self,
         pid: Pid,
-        table: &LentTable<'_>,
-        entry: CueEntry,
+        table: LentTable<'_>,
+        change: &CueEntry,
         sink: &mut S,
-    ) -> Result<(), PutFault> {
-        let Some(map) = &table.map else {
-            return self.put_given(pid, table.section, sink);
-        };
-        match entry {
-            CueEntry::Added(cue_pid) => match add_cue(map, cue_pid) {
-                Ok(section) => self.put_given(pid, section.as_slice(), sink),
-                Err(_) => self.put_given(pid, table.section, sink),
-            },
-            CueEntry::Stripped(cue_pid) => {
-                let section = strip_cue(map, cue_pid);
-                self.put_given(pid, section.as_slice(), sink)
-            }
+    ) -> Result<(), PutFault>
+        ensures leads { S.leads sink.old sink.new }
+        ensures ok { (start : Option (List ℕ)) (ps out : List (List ℕ)) → S.holds sink.old start ps → HasPut self.old out → GoesOut change.now (table_seen table.entry) →
+            OnOk result (S.holds sink.new start (ps ++ packets_out pid out (section_out (change_of change.now) (table_seen table.entry) ∷ []))) }
+        ensures numbers { (out : List (List ℕ)) → HasPut self.old out → GoesOut change.now (table_seen table.entry) →
+            OnOk result (HasPut self.new (onto out (packets_out pid out (section_out (change_of change.now) (table_seen table.entry) ∷ [])))) }
+        ensures err { (start : Option (List ℕ)) (ps out : List (List ℕ)) → S.holds sink.old start ps → HasPut self.old out → GoesOut change.now (table_seen table.entry) →
+            IfErr result (λ f. FrontFails (packets_out pid out (section_out (change_of change.now) (table_seen table.entry) ∷ [])) (λ put p. S.fails sink.new start (ps ++ put) p f)) }
+        ensures well { OnOk result (WentWell (S.counts sink.old) (S.counts sink.new)) }
+        ensures blamed { IfErr result (λ f. Blamed f (S.counts sink.old) (S.counts sink.new) (S.is_full sink.new)) }
+        ensures pid { pid < 8192 }
+    {
+        match changed_section(&table, change) {
+            Some(section) => self.put_section(pid, section.as_slice(), sink),
+            None => self.put_section(pid, table.section, sink),
         }
-    }
-
-    /// Puts a section; none is empty.
-    fn put_given<S: PacketSink>(
-        &mut self,
-        pid: Pid,
-        section: &[u8],
-        sink: &mut S,
-    ) -> Result<(), PutFault> {
-        if section.is_empty() {
-            return Ok(());
-        }
-        self.put_section(pid, section, sink)
     }
 
     /// The continuity_counter of the PID's next packet.
     fn upcoming(&self, pid: Pid) -> u8
-        ensures { result < 16 }
+        ensures number { (out : List (List ℕ)) → HasPut self.now out → result ≡ upcoming_on pid out }
+        ensures below { result < 16 }
+        ensures pid { pid < 8192 }
     {
         self.upcoming[pid.get() as usize] % 16
     }
 
     /// Takes this as the continuity_counter of the PID's next packet.
-    fn set_upcoming(&mut self, pid: Pid, counter: u8) {
+    fn set_upcoming(&mut self, pid: Pid, counter: u8)
+        ensures here { slice_index_or self.new.upcoming pid 0 ≡ counter }
+        ensures others { (other : ℕ) → other ≢ pid → slice_index_or self.new.upcoming other 0 ≡ slice_index_or self.old.upcoming other 0 }
+        ensures pid { pid < 8192 }
+    {
         self.upcoming[pid.get() as usize] = counter;
+    }
+}
+
+/// The section as it goes out, where it is a map that is changed.
+fn changed_section(table: &LentTable<'_>, change: &CueEntry) -> Option<Section>
+    ensures value { GoesOut change.now (table_seen table.now) →
+        bytes_or result table.now.section.now ≡ section_out (change_of change.now) (table_seen table.now) }
+    ensures some { GoesOut change.now (table_seen table.now) → 0 < length (bytes_or result table.now.section.now) }
+{
+    let Some(map) = &table.map else {
+        return None;
+    };
+    match change {
+        CueEntry::Added(pid) => match add_cue(map, *pid) {
+            Ok(section) => Some(section),
+            Err(_) => None,
+        },
+        CueEntry::Stripped(pid) => Some(strip_cue(map, *pid)),
     }
 }

@@ -296,7 +296,7 @@ later_carry : (count pid n : ℕ) (bs : List ℕ) → pid < 8192 → n < 16 → 
 later_carry zero pid n bs pb nb = tt
 later_carry (suc count) pid n bs pb nb = (next_on pid n bs pb nb, later_carry count pid ((n + 1) % 16) (drop 184 bs) pb (omega arith))
 
-section_carry : (pid n : ℕ) (s : List ℕ) → pid < 8192 → n < 16 → AllByRecursion (Carries pid) (section_packets pid n s)
+pub section_carry : (pid n : ℕ) (s : List ℕ) → pid < 8192 → n < 16 → AllByRecursion (Carries pid) (section_packets pid n s)
 section_carry pid n s pb nb = (first_on pid n s pb nb, later_carry _ pid ((n + 1) % 16) (drop 183 s) pb (omega arith))
 
 pub turn_carry : (pid n : ℕ) (ss : List (List ℕ)) → pid < 8192 → n < 16 → AllByRecursion (Carries pid) (packets_in_turn pid n ss)

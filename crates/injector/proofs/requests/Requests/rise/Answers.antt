@@ -1,0 +1,21 @@
+use Rattle.std.proofs.Common.{◌≡◌, ◌∷◌, sym, subst, ◌∙◌, rules}
+use Rattle.std.specs.Prelude.{Option, Some, map}
+use Rattle.event_table.specs.Standing.{IsTimeAt}
+use Rattle.injector.specs.Turns.{Passed, high}
+use Rattle.injector.specs.Requests.{RequestsStandFor}
+use Rattle.injector.specs.Noting.{Rises}
+use Rattle.injector.proofs.SenderLemmas.{same-time, some-line, standing-stays, restate-notes, is-time}
+use Rattle.injector.proofs.requests.Requests.rise.Goals as goal
+
+pub returns-then-eq-clause-notes : goal.returns-then-eq-clause-notes
+returns-then-eq-clause-notes c = λ index past line stands told rises is.
+    let equal : c.args.later ≡ c.high.result = search rules in
+    let same : high past ≡ line = same-time (high past) line rises (sym is ∙ equal ∙ c.high.ensures ∙ stands.table.high) in
+    restate-notes c.args.self.now line _ _ (sym (standing-stays index past line same)) told
+
+pub returns-then-can_advance-clause-stands : goal.returns-then-can_advance-clause-stands
+returns-then-can_advance-clause-stands c = λ index past line stands rises is.
+    let s = some-line line c.in-Some.high (sym is ∙ c.in-Some.is) in
+    let rises_to : Rises (high past) (Some s.0) = subst (Rises (high past)) s.1 rises in
+    let at : IsTimeAt (high past) c.in-Some.high s.0 = subst (λ p. IsTimeAt (high past) p s.0) s.2 (is-time (high past) s.0 rises_to) in
+    subst (λ x. RequestsStandFor c.advance.new.self index (Passed x ∷ past)) (sym s.1) (c.advance.ensures.stands index past s.0 stands at)

@@ -1,0 +1,96 @@
+-- What an injector stands for.
+use Rattle.std.specs.Prelude.{◌≡◌, ℕ, ◌++◌, List, [], ◌∷◌, Bool, true, false, Option, None, Some, Result, Ok, Err}
+use Rattle.ts_packet.specs.declared.tally.Tally.{Tally}
+use Rattle.ts_packet.specs.Sinks.{Blamed}
+use Rattle.ts_packet.specs.declared.sink.PutFault.{PutFault}
+use Rattle.psi_section.specs.Assembling.{capped}
+use Rattle.psi_tables.specs.declared.config.Config.{Config}
+use Rattle.psi_tables.specs.declared.network.FeedFault.{FeedFault}
+use Rattle.psi_tables.specs.declared.network.FeedFault.TheVariants.{Network, Sink, Failed}
+use Rattle.program_follower.specs.declared.follower.Place.{Place}
+use Rattle.program_follower.specs.declared.follower.Place.TheVariants.{Marked, Cue, Map, Stream, Other}
+use Rattle.program_follower.specs.Program.{listed}
+use Rattle.program_follower.specs.Following.{FollowerStandsFor, on_map}
+use Rattle.program_follower.specs.Faults.{network_fault}
+use Rattle.outgoing_packets.specs.Numbers.{HasPut, FrontFails}
+use Rattle.injector.specs.declared.counts.MessageCounts.{MessageCounts}
+use Rattle.injector.specs.declared.injector.Injector.{Injector}
+use Rattle.injector.specs.Turns.{Turn}
+use Rattle.injector.specs.Requests.{RequestsStandFor}
+use Rattle.injector.specs.Noting.{NotesStandFor}
+use Rattle.injector.specs.Steps.{Step, Packet, packets_in, turns_in, purpose_of, cued, sent_at, messages_in, accepted_in, refused_in}
+
+-- each count stops at the greatest u64
+pub record CountsAre (counts : MessageCounts) (index : ℕ) (past : List Turn) : Type 0 where
+  pub messages : counts.messages ≡ capped (messages_in past)
+  pub accepted : counts.accepted ≡ capped (accepted_in index past)
+  pub refused : counts.refused ≡ capped (refused_in index past)
+
+-- It judges and counts messages by this history, also after a fault.
+pub record JudgesBy (i : Injector) (c : Config) (past : List Step) : Type 0 where
+  pub requests : RequestsStandFor i.requests c.index (turns_in c.program past)
+  pub counted : CountsAre i.counts c.index (turns_in c.program past)
+
+-- It has been given this history, and answered no fault.
+pub record InjectorStandsFor (i : Injector) (c : Config) (past : List Step) : Type 0 where
+  pub judges : JudgesBy i c past
+  pub cue_pid : i.cue_pid ≡ c.cue_pid
+  pub notes : NotesStandFor i.requests c.index (turns_in c.program past)
+  pub follower : FollowerStandsFor i.follower (purpose_of c) (packets_in past)
+  pub out : HasPut i.out (cued c past)
+  pub whole : i.is_spent ≡ false
+
+-- Why a packet was not passed on: what is wrong with it behind those before it, before anything of it was put; or the sink failed behind a
+-- front of what the packet sends.
+abbrev pub FeedFails : FeedFault → Config → List ℕ → List Step → (List (List ℕ) → List ℕ → PutFault → Type 0) → Type 0
+FeedFails (Network fault) c p past fails = network_fault (purpose_of c) p (packets_in past) ≡ Some fault
+FeedFails (Sink fault) c p past fails = FrontFails (sent_at c p past) (λ put q. fails put q fault)
+FeedFails Failed c p past fails = ⊥
+
+-- what the calls of the sink's device came to
+abbrev pub FeedBlamed : FeedFault → Tally → Tally → Bool → Type 0
+FeedBlamed (Network fault) old new full = new ≡ old
+FeedBlamed (Sink fault) old new full = Blamed fault old new full
+FeedBlamed Failed old new full = new ≡ old
+
+-- where the network is at fault, or a fault was answered before, the sink is as it was
+abbrev pub KeepsSink : {S : Type 0} → FeedFault → S → S → Type 0
+KeepsSink (Network fault) old new = new ≡ old
+KeepsSink (Sink fault) old new = Unit {0}
+KeepsSink Failed old new = new ≡ old
+
+-- once a fault was answered it stays so
+abbrev pub is_err_or : Result (Unit {0}) FeedFault → Bool → Bool
+is_err_or (Ok u) before = before
+is_err_or (Err e) before = true
+
+-- ---- within
+
+abbrev pub is_map_place : Place → Bool
+is_map_place Map = true
+is_map_place Marked = false
+is_map_place Cue = false
+is_map_place (Stream i x) = false
+is_map_place Other = false
+
+-- the packet was followed, and is on the PID of the map or not
+pub record IsBodyOf (i : Injector) (is_map : Bool) (c : Config) (p : List ℕ) (past : List (List ℕ)) : Type 0 where
+  pub cue_pid : i.cue_pid ≡ c.cue_pid
+  pub follower : FollowerStandsFor i.follower (purpose_of c) (p ∷ past)
+  pub sound : network_fault (purpose_of c) p past ≡ None
+  pub map : is_map ≡ on_map (listed (Some c.program) past) p
+
+pub record IsFed (i : Injector) (is_map : Bool) (c : Config) (p : List ℕ) (past : List Step) : Type 0 where
+  pub judges : JudgesBy i c past
+  pub notes : NotesStandFor i.requests c.index (turns_in c.program past)
+  pub body : IsBodyOf i is_map c p (packets_in past)
+  pub out : HasPut i.out (cued c past)
+  pub whole : i.is_spent ≡ false
+
+-- nothing else changes
+pub record KeepsRest (old new : Injector) : Type 0 where
+  pub cue_pid : new.cue_pid ≡ old.cue_pid
+  pub requests : new.requests ≡ old.requests
+  pub follower : new.follower ≡ old.follower
+  pub counts : new.counts ≡ old.counts
+  pub is_spent : new.is_spent ≡ old.is_spent

@@ -1,0 +1,97 @@
+-- What the code keeps beside an event, and what it stands for.
+use Rattle.std.specs.Prelude.{◌≡◌, ℕ, ℤ, pos, ◌+ℤ◌, ◌≤ℤ◌, ◌+◌, ◌%◌, ◌^◌, ◌≤◌, nat_lt, Bool, false, not, ◌&&◌, if◌then◌else◌, List, ◌++◌, length, drop, replicate, map, filter, All, Option, None, Some, option_map}
+use Rattle.pes_time.specs.Line.{ring_of}
+use Rattle.event_table.specs.declared.event.Event.{Event}
+use Rattle.event_table.specs.Events.{ring_end}
+use Rattle.event_table.specs.Rings.{is_before_on_ring}
+use Rattle.event_table.specs.Standing.{Standing, on_ring}
+use Rattle.event_table.specs.Tables.{StandsFor, values_of}
+use Rattle.injector.specs.declared.asked.Asked.{Asked}
+use Rattle.injector.specs.declared.notes.AvailIds.{AvailIds}
+use Rattle.injector.specs.declared.notes.Told.{Told}
+use Rattle.injector.specs.declared.notes.Notes.{Notes}
+use Rattle.injector.specs.declared.choice.Choice.{Choice}
+use Rattle.injector.specs.declared.requests.Requests.{Requests}
+use Rattle.injector.specs.Turns.{Turn, high}
+use Rattle.injector.specs.Senders.{Sender, is_none, no_cue, tell, events_in, standing_senders}
+
+abbrev pub ids_of : List ℕ → AvailIds
+ids_of ids = record { ids = ids ++ drop (length ids) (replicate 14 0); count = length ids }
+
+abbrev pub told_of : Standing → Told
+told_of e = record { length = e.length; cancelled = e.cancelled }
+
+abbrev pub notes_of : Sender → Notes
+notes_of x = record { avail_num = x.avail_num; avails_expected = x.avails_expected; avails = ids_of x.avails; told = option_map told_of x.told; last = option_map ring_of x.last }
+
+abbrev pub notes_asked : Asked → Notes
+notes_asked a = record { avail_num = a.request.avail_num; avails_expected = a.request.avails_expected; avails = ids_of a.avails.items; told = None; last = None }
+
+-- ---- the choice of cues, on the ring
+
+abbrev pub ring_ended : Event → Bool
+ring_ended e = nat_lt e.length e.asked
+
+abbrev pub ring_news : Event → Option Told → Choice
+ring_news e None = record { start = not e.cancelled; end = not e.cancelled && ring_ended e; cancel = e.cancelled }
+ring_news e (Some t) = record { start = false; end = nat_lt e.length t.length; cancel = e.cancelled && not t.cancelled }
+
+abbrev pub ring_current : Event → Choice
+ring_current e = record { start = not e.cancelled && not (ring_ended e); end = not e.cancelled && ring_ended e; cancel = e.cancelled }
+
+abbrev pub ring_limit : Event → ℕ
+ring_limit e = if not e.cancelled && ring_ended e then ring_end e else e.start
+
+abbrev pub ring_repeated : Event → Option ℕ → Option ℕ → Option ℕ → Bool
+ring_repeated e None high later = false
+ring_repeated e (Some last) None later = false
+ring_repeated e (Some last) (Some high) None = false
+ring_repeated e (Some last) (Some high) (Some later) = is_before_on_ring high (ring_limit e) && not (is_before_on_ring later ((last + 90000) % 2 ^ 33))
+
+abbrev pub ring_chosen : Event → Option Told → Option ℕ → Option ℕ → Option ℕ → Choice
+ring_chosen e told last high later =
+    if not (is_none (ring_news e told)) then ring_news e told
+    else (if ring_repeated e last high later then ring_current e else no_cue)
+
+-- ---- what is kept
+
+-- the last sending lies at or before the greatest time, and the event's start at most 2^29 past it
+abbrev pub LastIn : Option ℤ → ℤ → Option ℤ → Type 0
+LastIn high start None = Unit {0}
+LastIn None start (Some last) = ⊥
+LastIn (Some high) start (Some last) = (last ≤ℤ high) × (start ≤ℤ (last +ℤ pos (2 ^ 29)))
+
+pub record IsKept (high : Option ℤ) (x : Sender) : Type 0 where
+  pub avails : length x.avails ≤ 14
+  pub last : LastIn high x.event.start x.last
+
+-- an event on the ring, with its notes, stands for this one
+pub record IsShown (event : Event) (notes : Notes) (x : Sender) : Type 0 where
+  pub event_is : event ≡ on_ring x.event
+  pub notes_are : notes ≡ notes_of x
+  pub avails : length x.avails ≤ 14
+  pub asked : x.event.asked ≤ 2 ^ 30
+
+-- beside the events of the table stand the notes of these
+pub record AreNoted (requests : Requests) (high : Option ℤ) (xs : List Sender) : Type 0 where
+  pub notes : values_of requests.table ≡ map notes_of xs
+  pub kept : All (IsKept high) xs
+
+-- The cues of some events have gone out, and those of the others, which are left, have not. High is the greatest time before the packet, and later the one behind it.
+pub record Sending (requests : Requests) (high later : Option ℤ) (done left : List Sender) : Type 0 where
+  pub table : StandsFor requests.table high (events_in (done ++ left))
+  pub notes : values_of requests.table ≡ map notes_of (map (tell high later) done ++ left)
+  pub kept : All (IsKept high) (done ++ left)
+
+-- before a packet, and when the cues before it have gone out
+abbrev pub NotesStandFor : Requests → ℕ → List Turn → Type 0
+NotesStandFor requests index past = AreNoted requests (high past) (standing_senders index past)
+
+abbrev pub NotesTold : Requests → ℕ → List Turn → Option ℤ → Type 0
+NotesTold requests index past later = AreNoted requests later (map (tell (high past) later) (standing_senders index past))
+
+-- the greatest time never falls, and rises by ten seconds at most
+abbrev pub Rises : Option ℤ → Option ℤ → Type 0
+Rises None later = Unit {0}
+Rises (Some high) None = ⊥
+Rises (Some high) (Some later) = (high ≤ℤ later) × (later ≤ℤ (high +ℤ pos 900000))
