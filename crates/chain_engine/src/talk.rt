@@ -34,7 +34,8 @@ impl<M: Allocator + Copy> Talk<M> {
 }
 
 impl<M: Allocator> Talk<M> {
-    ghost use Rattle.std.specs.Prelude.{◌≡◌, ℕ, suc, ◌+◌, List, ◌++◌, length};
+    ghost use Rattle.std.specs.Prelude.{◌≡◌, ℕ, suc, ◌+◌, List, ◌++◌, length, true};
+    ghost use Rattle.std.specs.Option.{is_some};
     ghost use Rattle.scte104_codec.specs.declared.reply.Reply.{Reply};
     ghost use Rattle.chain_engine.specs.Automation.{Take, Told};
     ghost use Rattle.chain_engine.specs.Hearing.{Replied};
@@ -48,6 +49,7 @@ impl<M: Allocator> Talk<M> {
             × TalkStandsFor self.new (ts ++ more) (n + length rs) (suc k)
             × Replied J.judges judge.old judge.new (judged_before (n + length rs) (ts ++ more) k) rs (loses self.old.end self.new.end)
             (U.answers automation.old) (U.answers automation.new) }
+        ensures closed { is_some self.old.end ≡ true → (self.new ≡ self.old) × (judge.new ≡ judge.old) × (automation.new ≡ automation.old) }
         ensures failures { CountsEnd self.old.end self.new.end (U.failures automation.old) (U.failures automation.new) }
     {
         if self.end.is_some() {

@@ -5,7 +5,7 @@ use crate::program::program;
 use chain_engine::{Chain, Report};
 use psi_tables::Config;
 use std::io::{Cursor, Read, Write};
-use std::net::{Net, OpenListener, Shutdown, SocketAddr, TcpListener, TcpStream};
+use std::net::{Net, OpenListener, OpenStream, Shutdown, SocketAddr, TcpListener, TcpStream};
 use std::process::Abort;
 use std::rt::Files;
 use std::test::Fail;
@@ -171,11 +171,11 @@ fn a_port_in_use_is_accept(rt: HostRuntime) -> Result<(), Fail> {
 
 /// Runs over one null packet with a client that has sent these bytes, and answers the report and whether the packet came out. A client
 /// that is done has closed its side.
-fn run_with_client(
-    rt: &HostRuntime,
+fn run_with_client<R: Net + AllocGlobal + Abort>(
+    rt: &R,
     sent: &[u8],
     is_done: bool,
-) -> Result<(Report, TcpStream), Fail> {
+) -> Result<(Report, R::Stream), Fail> {
     let listener = TcpListener::bind(rt, SocketAddr::from(([127, 0, 0, 1], 0)))?;
     let mut client = TcpStream::connect(rt, listener.local_addr()?)?;
     client.write_all(sent)?;
