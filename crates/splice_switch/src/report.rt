@@ -1,0 +1,49 @@
+//! What a switch reports.
+
+use crate::plan::Plan;
+use ad_library::AdLibrary;
+use event_table::Entry;
+use psi_tables::Stream;
+
+/// What became of the events that the cues of a network armed. A count stops at the greatest.
+#[derive(Clone, Copy, Debug, PartialEq, Eq)]
+pub struct SwitchReport {
+    /// Events that were not cancelled, and whose advertisement fits, reached or not.
+    pub played: u64,
+    /// Events that were not cancelled, without an advertisement that fits.
+    pub not_fitted: u64,
+    /// Played events of which, in some stream, a unit below the start began after one at or past it, or the same of the end.
+    pub unconditioned: u64,
+    /// Cues that asked for what was refused. A repeat of an event that stands is not among them.
+    pub ignored: u64,
+}
+
+impl SwitchReport {
+    /// Of no events.
+    pub(crate) fn new() -> SwitchReport {
+        SwitchReport {
+            played: 0,
+            not_fitted: 0,
+            unconditioned: 0,
+            ignored: 0,
+        }
+    }
+
+    /// The report with one event more.
+    pub(crate) fn with_event(self, entry: &Entry<Plan>, streams: &[Stream], library: &AdLibrary) -> SwitchReport {
+        let mut report = self;
+        let event = entry.event;
+        if event.cancelled {
+            return report;
+        }
+        if !library.fits(event.program, streams, event.asked) {
+            report.not_fitted = report.not_fitted.saturating_add(1);
+            return report;
+        }
+        report.played = report.played.saturating_add(1);
+        if entry.value.is_crossed {
+            report.unconditioned = report.unconditioned.saturating_add(1);
+        }
+        report
+    }
+}
