@@ -1,4 +1,4 @@
 mod TimeLemmas
-mod GrowLemmas
-mod MeetLemmas
+pub mod GrowLemmas
+pub mod MeetLemmas
 pub mod Proofs

@@ -3,3 +3,4 @@ pub mod Switching
 pub mod Reporting
 pub mod Laws
 pub mod Counting
+pub mod Histories
