@@ -9,7 +9,7 @@ use scte35_codec::{Cue, CueFault, Insert};
 
 /// What a cue asks of the events that stand. Times are on the ring.
 #[derive(Clone, Copy, Debug, PartialEq, Eq)]
-pub(crate) enum Asked {
+pub enum Asked {
     /// That this event be armed: out of the network at a time, for a length, with automatic return.
     Start(Event),
     /// That the event of this id end at this time: back to the network.

@@ -6,6 +6,7 @@
 mod asked;
 mod obeying;
 
+pub use asked::Asked;
 pub use obeying::ArmedEvents;
 
 #[cfg(test)]

@@ -1,5 +1,5 @@
 -- Maps with an entry for cues.
-use Rattle.std.proofs.Common.{◌≡◌, ℕ, ◌<◌, List, [], ◌∷◌, ◌++◌, Bool, true, false, refl, sym, ap, ◌∙◌, Option, Some, None, Result, Ok, Err, map, if◌then◌else◌}
+use Rattle.std.proofs.Common.{◌≡◌, ℕ, [], ◌∷◌, ◌++◌, Bool, true, false, refl, sym, ap, ◌∙◌, Some, None, Result, Ok, Err, map, if◌then◌else◌}
 use Rattle.std.proofs.lemmas.Bool.{ltb-false}
 use Rattle.std.proofs.lemmas.List.{append-nil, map-append}
 use Rattle.std.proofs.lemmas.List.Elements.{filter-append}
@@ -12,7 +12,6 @@ use Rattle.psi_tables.specs.Cue.{ReadsAs, cue_entry, with_cue_entry}
 use Rattle.psi_tables.proofs.ReadBackLemmas.{map_reads, map_checks, maps_read_back}
 use Rattle.psi_tables.proofs.UndoLemmas.{undone}
 use Rattle.program_follower.specs.Program.{is_map_of, map_read, program_in}
-use Rattle.program_follower.specs.Faults.{too_long}
 use Rattle.program_laws.specs.Writing.{IsReadable}
 use Rattle.program_laws.specs.CueEntry.{EntryGoesOut}
 

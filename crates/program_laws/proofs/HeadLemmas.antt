@@ -23,7 +23,7 @@ use Rattle.program_laws.proofs.WritingLemmas.{listed_below, written_reads_again}
 
 -- ---- a block of packets
 
-known_stays : (wanted : Option ℕ) (q : List ℕ) (out : List (List ℕ)) (m : ProgramMap) → known_map wanted out ≡ Some m → known_map wanted (q ∷ out) ≡ Some m
+pub known_stays : (wanted : Option ℕ) (q : List ℕ) (out : List (List ℕ)) (m : ProgramMap) → known_map wanted out ≡ Some m → known_map wanted (q ∷ out) ≡ Some m
 known_stays wanted q out m h = tables_grow wanted q out ∙ ap (λ x. earlier x (first_map (tables wanted q out))) h
 
 behind_onto : (wanted : Option ℕ) (qs out : List (List ℕ)) (m : ProgramMap) → known_map wanted out ≡ Some m → behind_head wanted (onto out qs) ≡ onto (behind_head wanted out) qs
@@ -38,7 +38,7 @@ known_first wanted q out h = first_none (known_map wanted out) (first_map (table
   first_none None y h = refl
   first_none (Some x) y h = cc
 
-nothing_behind : (wanted : Option ℕ) (past : List (List ℕ)) → known_map wanted past ≡ None → behind_head wanted past ≡ []
+pub nothing_behind : (wanted : Option ℕ) (past : List (List ℕ)) → known_map wanted past ≡ None → behind_head wanted past ≡ []
 nothing_behind wanted [] h = refl
 nothing_behind wanted (p ∷ past) h = ap (λ x. if is_some x then p ∷ behind_head wanted past else []) (known_first wanted p past h)
 

@@ -1,19 +1,16 @@
 -- The packets of sections: each has payload and the PID, and the next counter is not the last one's.
-use Rattle.std.proofs.Common.{◌≡◌, ℕ, zero, suc, ◌+◌, ◌/◌, ◌%◌, ◌<◌, List, [], ◌∷◌, true, false, not, ◌&&◌, ◌==◌, Option, Some, None, refl, ap, ◌∙◌, arith, length, drop}
+use Rattle.std.proofs.Common.{◌≡◌, ℕ, ◌+◌, ◌%◌, ◌<◌, List, [], ◌∷◌, false, not, ◌&&◌, Option, Some, None, refl, ap, ◌∙◌, arith}
 use Rattle.std.specs.List.{AllByRecursion}
-use Rattle.std.proofs.lemmas.Bool.{eq-eqb, ne_eqb}
 use Rattle.ts_packet.specs.declared.follower.Last.{Last}
-use Rattle.ts_packet.specs.Fields.{in_error, pid_of, number, payload, on, payload_on, alike}
+use Rattle.ts_packet.specs.Fields.{number, alike}
 use Rattle.ts_packet.specs.Duplicates.{repeats, last_of, repeats_last}
 use Rattle.ts_packet.specs.Numbering.{one_past}
-use Rattle.ts_packet.proofs.Cases.{by_test}
 use Rattle.ts_packet.proofs.FieldLemmas.{number-below, payload_on-on, off_payload}
 use Rattle.psi_section.proofs.ReadBackLemmas.{Carries, first_number, different}
 use Rattle.ts_packet.proofs.HistoryLemmas.{walk_is_last}
-use Rattle.psi_section.specs.Packetising.{padded, first_packet, next_packet, later_packets, section_packets, packets_in_turn}
+use Rattle.psi_section.specs.Packetising.{first_packet}
 use Rattle.program_laws.specs.Writing.{number_on, Off}
 use Rattle.ts_packet.specs.Runs.{onto}
-use Rattle.psi_section.proofs.GivenLemmas.{All-both}
 
 -- ---- the last counter
 

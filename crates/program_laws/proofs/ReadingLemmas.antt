@@ -1,14 +1,10 @@
 -- Streams whose packets on a PID are the same.
-use Rattle.std.proofs.Common.{◌≡◌, ℕ, List, [], ◌∷◌, ◌++◌, false, refl, sym, ap, ◌∙◌, append_assoc, Option, Some, None, map}
-use Rattle.std.specs.List.{AllByRecursion}
+use Rattle.std.proofs.Common.{◌≡◌, ℕ, List, [], ◌∷◌, ◌++◌, refl, sym, ap, ◌∙◌, append_assoc, Option, Some, None, map}
 use Rattle.std.proofs.lemmas.List.{append-nil, map-append}
-use Rattle.ts_packet.specs.Fields.{on}
 use Rattle.psi_section.specs.Sections.{given, sections_after}
 use Rattle.program_follower.specs.declared.purpose.Listed.{Listed}
 use Rattle.program_follower.specs.Program.{earlier, lists, first_listed, listed, since_pat, table_of, tables, all_tables}
-use Rattle.program_laws.specs.Writing.{Off}
 use Rattle.ts_packet.specs.Runs.{onto}
-use Rattle.ts_packet.proofs.FieldLemmas.{off_payload}
 use Rattle.program_laws.proofs.StepLemmas.{earlier-assoc}
 
 -- ---- a block of packets behind a stream: the PAT

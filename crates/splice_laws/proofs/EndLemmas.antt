@@ -24,7 +24,7 @@ abbrev pub run_of : List SliceUnit → Option ℤ → List SliceUnit
 run_of [] h = []
 run_of (u ∷ us) h = if due u.time h then u ∷ run_of us h else []
 
-longest-run : (us : List SliceUnit) (h : Option ℤ) → longest_front us h ≡ run_of us h
+pub longest-run : (us : List SliceUnit) (h : Option ℤ) → longest_front us h ≡ run_of us h
 longest-run [] h = refl
 longest-run (u ∷ us) h = by_test (due u.time h) (λ d. simp d (ap (λ l. u ∷ l) (longest-run us h))) (λ d. simp d)
 
@@ -34,21 +34,21 @@ IsFront a b = (more : List SliceUnit) × (b ≡ a ++ more)
 front-cons : (u : SliceUnit) (a b : List SliceUnit) → IsFront a b → IsFront (u ∷ a) (u ∷ b)
 front-cons u a b f = (f.0, ap (λ l. u ∷ l) f.1)
 
-front-trans : (a b c : List SliceUnit) → IsFront a b → IsFront b c → IsFront a c
+pub front-trans : (a b c : List SliceUnit) → IsFront a b → IsFront b c → IsFront a c
 front-trans a b c f g = (f.0 ++ g.0, g.1 ∙ ap (λ l. l ++ g.0) f.1 ∙ append_assoc a f.0 g.0)
 
-empty-front : (a b : List SliceUnit) → a ≡ [] → IsFront a b
+pub empty-front : (a b : List SliceUnit) → a ≡ [] → IsFront a b
 empty-front a b e = (b, sym (ap (λ l. l ++ b) e))
 
 pub run-front : (us : List SliceUnit) (h : Option ℤ) → IsFront (run_of us h) us
 run-front [] h = ([], refl)
 run-front (u ∷ us) h = by_test (due u.time h) (λ d. simp d (front-cons u (run_of us h) us (run-front us h))) (λ d. simp d (u ∷ us, refl))
 
-front-take : (a b : List SliceUnit) → IsFront a b → a ≡ take (length a) b
+pub front-take : (a b : List SliceUnit) → IsFront a b → a ≡ take (length a) b
 front-take [] b f = refl
 front-take (u ∷ a) b f = ap (λ l. u ∷ l) (front-take a (a ++ f.0) (f.0, refl)) ∙ sym (ap (take (suc (length a))) f.1)
 
-front-length : (a b : List SliceUnit) → IsFront a b → length a ≤ length b
+pub front-length : (a b : List SliceUnit) → IsFront a b → length a ≤ length b
 front-length a b f = let e = ap length f.1 ∙ length-append a f.0 in omega arith
 
 cut-lower : (t a b : ℤ) → b ≤ℤ a → lt_z t b ≡ true → lt_z t a ≡ true

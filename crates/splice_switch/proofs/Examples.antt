@@ -118,6 +118,16 @@ waits = refl
 ended_inside : is_inside ads (events (one 20 ∷ cue 15 ∷ one 14 ∷ one 5 ∷ [])) (Some (pos 20)) ≡ false
 ended_inside = refl
 
+-- a unit that is not due holds back those behind it; where an early end takes it away, they go out with the next unit that begins
+abbrev held_units : List SliceUnit
+held_units = u 10 ∷ u 24 ∷ u 13 ∷ []
+
+held : due_at turns toy (as_played (event 20)) (end_known ads events (pos 10)) held_units (one 14) (one 5 ∷ []) ≡ u 10 ∷ []
+held = refl
+
+let_go : due_at turns toy (as_played (event 20)) (end_known ads events (pos 10)) held_units (one 16) (cue 15 ∷ one 14 ∷ one 5 ∷ []) ≡ u 13 ∷ []
+let_go = refl
+
 -- at the end of the network the rest goes out
 at_the_end : left (one 14 ∷ one 5 ∷ []) ≡ u 16 ∷ u 13 ∷ u 24 ∷ []
 at_the_end = refl

@@ -1,9 +1,8 @@
 -- What is out stays out.
-use Rattle.std.proofs.Common.{◌≡◌, ℕ, ◌∷◌, ◌++◌, [], List, refl, sym, ap, ◌∙◌, append_assoc, rules}
-use Rattle.std.specs.Prelude.{Option, Some}
+use Rattle.std.proofs.Common.{◌≡◌, ℕ, ◌∷◌, ◌++◌, [], List, refl, sym, ◌∙◌, append_assoc, rules}
+use Rattle.std.specs.Prelude.{Some}
 use Rattle.ts_packet.specs.Runs.{onto}
-use Rattle.program_follower.specs.Program.{listed, tables}
-use Rattle.program_laws.specs.Writing.{Writing, block, written}
+use Rattle.program_laws.specs.Writing.{block}
 use Rattle.splice_switch.specs.Switching.{switching, switched_past}
 use Rattle.splice_switch.specs.Laws.{SwitchGrows}
 

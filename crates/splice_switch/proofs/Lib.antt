@@ -1,3 +1,7 @@
 pub mod PutLemmas
 pub mod GrowLemmas
+pub mod CountingLemmas
+pub mod SentLemmas
+pub mod KnownLemmas
+pub mod HistoryLemmas
 mod Examples

@@ -1,14 +1,14 @@
 -- Nothing is put in between unit starts.
-use Rattle.std.proofs.Common.{◌≡◌, ℕ, ◌∷◌, ◌++◌, [], List, Bool, true, false, not, ◌&&◌, if◌then◌else◌, length, drop, refl, sym, ap, ◌∙◌}
+use Rattle.std.proofs.Common.{◌≡◌, ℕ, ◌∷◌, ◌++◌, [], List, Bool, true, false, not, ◌&&◌, if◌then◌else◌, length, drop, refl, ap, ◌∙◌}
 use Rattle.std.specs.Prelude.{ℤ, Option, map, flat_map}
 use Rattle.std.proofs.lemmas.Bool.{true≢false}
 use Rattle.unit_stream.specs.Times.{begins_one}
 use Rattle.event_table.specs.Standing.{Standing}
 use Rattle.splice_laws.specs.Splicing.{PlayedEvent, SliceUnit, Stream, stream}
 use Rattle.splice_laws.specs.Settled.{begun_now, closed_now}
-use Rattle.output_laws.specs.Output.{Move, Put}
-use Rattle.splice_switch.specs.Playing.{Adverts, History, Turns, played, as_played, end_known, sent_of_begun, sent_known, due_at, closing_at, running_at}
-use Rattle.splice_switch.specs.Switching.{puts_by, puts_before}
+use Rattle.output_laws.specs.Output.{Put}
+use Rattle.splice_switch.specs.Playing.{Turns, played, as_played, end_known, sent_of_begun, sent_known, due_at, closing_at, running_at}
+use Rattle.splice_switch.specs.Switching.{puts_by}
 use Rattle.splice_switch.specs.Laws.{PutsAtUnitStarts}
 
 drop-all : (us : List SliceUnit) → drop (length us) us ≡ []

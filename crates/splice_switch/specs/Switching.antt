@@ -1,6 +1,6 @@
 -- THE SWITCH: what goes out for each packet of a network with cues, by the packets that came before, newest first.
-use Rattle.std.specs.Prelude.{ℕ, ◌∷◌, ◌++◌, List, [], Bool, true, false, not, ◌&&◌, ◌||◌, if◌then◌else◌, is_some, Option, None, Some, ℤ, length, drop, reverse, map, flat_map}
-use Rattle.ts_packet.specs.Fields.{on, payload_on}
+use Rattle.std.specs.Prelude.{ℕ, ◌∷◌, ◌++◌, List, [], Bool, false, ◌||◌, if◌then◌else◌, is_some, Option, Some, ℤ, length, drop, reverse, map, flat_map}
+use Rattle.ts_packet.specs.Fields.{on}
 use Rattle.unit_stream.specs.Times.{begins_one, high}
 use Rattle.unit_stream.specs.Fates.{is_left_out}
 use Rattle.event_table.specs.Standing.{Standing}
@@ -8,7 +8,7 @@ use Rattle.armed_events.specs.Arming.{armed}
 use Rattle.psi_tables.specs.Cue.{without_cue_entry}
 use Rattle.program_follower.specs.Program.{program_of, behind_head, pids_of}
 use Rattle.program_laws.specs.Writing.{Writing, written}
-use Rattle.splice_laws.specs.Splicing.{PlayedEvent, SliceUnit, Stream, stream}
+use Rattle.splice_laws.specs.Splicing.{SliceUnit, stream}
 use Rattle.output_laws.specs.Output.{Move, Keep, Leave, Put, Packing, out_at, out_after}
 use Rattle.splice_switch.specs.Playing.{Adverts, History, played, as_played, end_known, is_inside, closing_at, running_at, left_at_end}
 

@@ -1,0 +1,4 @@
+mod TimeLemmas
+pub mod GrowLemmas
+pub mod MeetLemmas
+pub mod Proofs

@@ -1,0 +1,21 @@
+-- The packets of a stream with the counters that they go out with.
+use Rattle.std.proofs.Common.{◌≡◌, ℕ, ◌+◌, ◌%◌, ◌<◌, List, sym, ap, ◌∙◌, arith, length}
+use Rattle.ts_packet.specs.Fields.{number, renumbered, with_number}
+use Rattle.ts_packet.specs.Numbering.{Step, moved, number_out}
+use Rattle.ts_packet.proofs.FieldLemmas.{number-below}
+use Rattle.ts_packet.proofs.Renumbered.{renumbered-zero}
+
+pub moved-out : (n : ℕ) (p : List ℕ) (steps : List Step) → n ≡ number_out p steps → with_number n p ≡ renumbered (moved steps) p
+unfolding renumbered
+moved-out n p steps h = ap (λ k. with_number k p) h
+
+with-own : (p : List ℕ) (n : ℕ) → n ≡ (number p + 0) % 16 → length p ≡ 188 → with_number n p ≡ p
+unfolding renumbered
+with-own p n is size = ap (λ k. with_number k p) is ∙ renumbered-zero p size
+
+own : (n : ℕ) → n < 16 → n ≡ (n + 0) % 16
+own n h = omega (arith, h)
+
+-- one whose counter stays
+pub unmoved-out : (n : ℕ) (p : List ℕ) (steps : List Step) → n ≡ number_out p steps → n ≡ number p → length p ≡ 188 → p ≡ renumbered (moved steps) p
+unmoved-out n p steps is same size = sym (with-own p n (same ∙ own (number p) (number-below p)) size) ∙ moved-out n p steps is
