@@ -1,9 +1,11 @@
 //! The subcommand `cut`: a cut between the ends that its options name, and what it tells.
 
-ghost use Rattle.std.specs.Prelude.{◌≡◌, IfErr, IfOk, OnOk, IsOk, IsErrAnd};
+ghost use Rattle.std.specs.Prelude.{◌≡◌, ℕ, List, [], Option, false, IfErr, IfOk, OnOk, IsOk, IsErrAnd};
 ghost use Rattle.std.specs.Io.KnownBytes.{Keeps};
 ghost use Rattle.std.specs.Io.Buffered.{writer_contents};
+ghost use Rattle.ts_packet.specs.Sinks.{Written};
 ghost use Rattle.unit_cut.specs.Runs.{CutsAll};
+ghost use Rattle.packet_lines.specs.Texts.{WrittenLines};
 
 use crate::attended::Attended;
 use crate::command::CutOptions;
@@ -11,56 +13,51 @@ use crate::ends::{End, OpenedEnds, Unopened, open_ends};
 use crate::fault::ProgramFault;
 use crate::tell::{Account, Side, Stopped};
 use crate::watch::{Watch, Watched};
-use packet_lines::{LineSource, LineTarget, LinesFault};
+use packet_lines::{LineReader, LineWriter, LinesFault};
 use std::alloc::{AllocError, Global};
 use std::io::{self, BufReader, BufWriter, Read, Write};
 use std::rt::Files;
-use ts_packet::{Buffered, Device, Pid, PutFault, Source, Target};
+use ts_packet::{
+    Buffered, Device, PacketReader, PacketSink, PacketSource, PacketWriter, Pid, PutFault,
+};
 use unit_cut::{CutFault, cut};
 
 /// How many bytes a file or a stream is read or written at a time.
 const BUFFER_SIZE: usize = 262_144;
 
-/// What a cut left behind: its answer, what it read from and wrote to, and what was seen go by where that was asked for.
+/// What a cut answered, and what was seen go by where that was asked for.
 #[derive(Drop)]
-struct Passed<S, T> {
+struct Passed {
     outcome: Result<(), CutFault>,
-    network: S,
-    out: T,
     seen: Option<(Watch, Watch)>,
 }
 
 /// Cuts as the options say.
-fn cut_by_options<S: Source + Drop, T: Target>(
+fn cut_by_options<P: PacketSource, K: PacketSink>(
     options: &CutOptions<'_>,
-    network: S,
-    out: T,
-) -> Passed<S, T>
-    ensures done { OnOk result.outcome (CutsAll options.now.pid options.now.from options.now.length (S.remaining network) (T.contents out) (T.contents result.out)) }
+    network: &mut P,
+    out: &mut K,
+) -> Passed
+    requires { P.is_broken network.old ≡ false }
+    ensures done { (start : Option (List ℕ)) → K.holds out.old start [] → OnOk result.outcome
+        (CutsAll options.now.pid options.now.from options.now.length (P.left network.old) (K.holds out.new start)) }
+    ensures reads { P.leads network.old network.new }
+    ensures leads { K.leads out.old out.new }
 {
     let (pid, from) = (options.pid, options.from);
     let length = options.length;
     if !options.is_verbose {
-        let (mut network, mut out) = (network, out);
-        let outcome = cut(&mut network, &mut out, pid, from, length);
+        let outcome = cut(network, out, pid, from, length);
         return Passed {
             outcome,
-            network,
-            out,
             seen: None,
         };
     }
-    let mut network = Watched::new(network, pid);
-    let mut out = Watched::new(out, pid);
-    let outcome = cut(&mut network, &mut out, pid, from, length);
-    let (network, read) = network.into_parts();
-    let (out, written) = out.into_parts();
-    Passed {
-        outcome,
-        network,
-        out,
-        seen: Some((read, written)),
-    }
+    let mut watched = Watched::new(network, pid);
+    let mut watched_out = Watched::new(out, pid);
+    let outcome = cut(&mut watched, &mut watched_out, pid, from, length);
+    let seen = Some((watched.seen(), watched_out.seen()));
+    Passed { outcome, seen }
 }
 
 /// Flushes the writer at the end of a cut, also after a fault. A failed flush after a cut that went through is `Io`.
@@ -94,90 +91,79 @@ fn finish_buffer<W: Write + Drop>(
 
 /// A cut whose output has been flushed.
 #[derive(Drop)]
-struct Finished<S, W> {
+struct Finished<W> {
     outcome: Result<(), CutFault>,
-    network: S,
     output: Attended<W>,
     seen: Option<(Watch, Watch)>,
 }
 
 /// Cuts to bytes, many packets a write.
-#[tactic(auto, using(crate::proofs::CuttingLemmas::cut_finished))]
-fn cut_to_blocks<S: Source + Drop, W: Write + Drop>(
+fn cut_to_blocks<P: PacketSource, W: Write + Drop>(
     alloc: Global,
     options: &CutOptions<'_>,
-    network: S,
+    network: &mut P,
     output: W,
-) -> Result<Finished<S, W>, AllocError>
+) -> Result<Finished<W>, AllocError>
+    requires { P.is_broken network.old ≡ false }
     ensures done { IfOk result (λ f. OnOk f.outcome (CutsAll options.now.pid options.now.from options.now.length
-        (S.remaining network) (W.contents output) (W.contents f.output.inner))) }
+        (P.left network.old) (Written (W.contents f.output.inner) (W.contents output)))) }
 {
     let Ok(writer) = BufWriter::with_capacity(alloc, BUFFER_SIZE, Attended::new(output)) else {
         return Err(AllocError);
     };
-    let Passed {
-        outcome,
-        network,
-        out,
-        seen,
-    } = cut_by_options(options, network, Device::new(writer));
-    let (outcome, output) = finish_buffer(outcome, out.into_inner());
+    let mut target = Device::new(writer);
+    let mut writer = PacketWriter::new(&mut target);
+    let Passed { outcome, seen } = cut_by_options(options, network, &mut writer);
+    let (outcome, output) = finish_buffer(outcome, target.into_inner());
     Ok(Finished {
         outcome,
-        network,
         output,
         seen,
     })
 }
 
 /// Cuts to bytes, each packet as it comes: what came in before a pause goes out before it.
-#[tactic(auto, using(crate::proofs::CuttingLemmas::cut_finished))]
-fn cut_to_packets<S: Source + Drop, W: Write + Drop>(
+fn cut_to_packets<P: PacketSource, W: Write + Drop>(
     options: &CutOptions<'_>,
-    network: S,
+    network: &mut P,
     output: W,
-) -> Finished<S, W>
+) -> Finished<W>
+    requires { P.is_broken network.old ≡ false }
     ensures done { OnOk result.outcome (CutsAll options.now.pid options.now.from options.now.length
-        (S.remaining network) (W.contents output) (W.contents result.output.inner)) }
+        (P.left network.old) (Written (W.contents result.output.inner) (W.contents output))) }
 {
-    let out = Device::new(Attended::new(output));
-    let Passed {
-        outcome,
-        network,
-        out,
-        seen,
-    } = cut_by_options(options, network, out);
-    let mut output = out.into_inner();
+    let mut target = Device::new(Attended::new(output));
+    let mut writer = PacketWriter::new(&mut target);
+    let Passed { outcome, seen } = cut_by_options(options, network, &mut writer);
+    let mut output = target.into_inner();
     let outcome = finish(outcome, &mut output);
     Finished {
         outcome,
-        network,
         output,
         seen,
     }
 }
 
 /// Cuts to lines of digits.
-fn cut_to_lines<S: Source + Drop, W: Write + Drop>(
+fn cut_to_lines<P: PacketSource, W: Write + Drop>(
     alloc: Global,
     options: &CutOptions<'_>,
-    network: S,
+    network: &mut P,
     output: W,
-) -> Result<Finished<S, W>, AllocError> {
+) -> Result<Finished<W>, AllocError>
+    requires { P.is_broken network.old ≡ false }
+    ensures done { IfOk result (λ f. OnOk f.outcome (CutsAll options.now.pid options.now.from options.now.length
+        (P.left network.old) (WrittenLines (W.contents f.output.inner) (W.contents output)))) }
+{
     let Ok(writer) = BufWriter::with_capacity(alloc, BUFFER_SIZE, Attended::new(output)) else {
         return Err(AllocError);
     };
-    let out = LineTarget::new(Device::new(writer));
-    let Passed {
-        outcome,
-        network,
-        out,
-        seen,
-    } = cut_by_options(options, network, out);
-    let (outcome, output) = finish_buffer(outcome, out.into_inner().into_inner());
+    let mut target = Device::new(writer);
+    let mut writer = LineWriter::new(&mut target);
+    let Passed { outcome, seen } = cut_by_options(options, network, &mut writer);
+    let (outcome, output) = finish_buffer(outcome, target.into_inner());
     Ok(Finished {
         outcome,
-        network,
         output,
         seen,
     })
@@ -185,40 +171,39 @@ fn cut_to_lines<S: Source + Drop, W: Write + Drop>(
 
 /// What is left of a cut when its devices are gone.
 #[derive(Drop)]
-struct Ended<S> {
+struct Ended {
     outcome: Result<(), CutFault>,
-    network: S,
     reason: Option<io::Error>,
     seen: Option<(Watch, Watch)>,
 }
 
 /// Lets go of the output, but for the reason of its last failure.
-fn let_go<S: Drop, W: Drop>(finished: Finished<S, W>) -> Ended<S>
+fn let_go<W: Drop>(finished: Finished<W>) -> Ended
     ensures { result.outcome ≡ finished.outcome }
 {
     let Finished {
         outcome,
-        network,
         output,
         seen,
     } = finished;
     Ended {
         outcome,
-        network,
         reason: output.into_reason(),
         seen,
     }
 }
 
 /// Cuts to the output that the options name. `file` is there where that is a file.
-fn cut_to<S: Source + Drop, F: Write + Drop, O: Write>(
+fn cut_to<P: PacketSource, F: Write + Drop, O: Write>(
     alloc: Global,
     options: &CutOptions<'_>,
     is_live: bool,
-    network: S,
+    network: &mut P,
     file: Option<F>,
     output: &mut O,
-) -> Result<Ended<S>, AllocError> {
+) -> Result<Ended, AllocError>
+    requires { P.is_broken network.old ≡ false }
+{
     if let Some(file) = file {
         if is_live {
             return Ok(let_go(cut_to_packets(options, network, file)));
@@ -298,13 +283,13 @@ fn cut_from_bytes<R: Read + Drop, F: Write + Drop, O: Write>(
     let Ok(reader) = BufReader::with_capacity(alloc, BUFFER_SIZE, Attended::new(input)) else {
         return Err(out_of_memory());
     };
-    let network = Buffered::new(reader);
-    let Ok(ended) = cut_to(alloc, options, is_live, network, file, standard) else {
+    let mut network = Buffered::new(reader);
+    let mut packets = PacketReader::new(&mut network);
+    let Ok(ended) = cut_to(alloc, options, is_live, &mut packets, file, standard) else {
         return Err(out_of_memory());
     };
     let Ended {
         outcome,
-        network,
         reason,
         seen,
     } = ended;
@@ -327,27 +312,27 @@ fn cut_from_lines<R: Read + Drop, F: Write + Drop, O: Write>(
     let Ok(reader) = BufReader::with_capacity(alloc, BUFFER_SIZE, Attended::new(input)) else {
         return Err(out_of_memory());
     };
-    let network = LineSource::new(Buffered::new(reader));
-    let Ok(ended) = cut_to(alloc, options, false, network, file, standard) else {
+    let mut network = Buffered::new(reader);
+    let mut packets = LineReader::new(&mut network);
+    let Ok(ended) = cut_to(alloc, options, false, &mut packets, file, standard) else {
         return Err(out_of_memory());
     };
     let Ended {
         outcome,
-        network,
         reason,
         seen,
     } = ended;
-    let outcome = if network.found_bad_line() {
-        Err(LinesFault::BadLine)
-    } else {
-        outcome.map_err(LinesFault::Cut)
-    };
-    let reading = network.into_inner().into_inner().into_inner().into_reason();
+    let reading = network.into_inner().into_inner().into_reason();
     let reasons = Reasons {
         reading,
         writing: reason,
     };
-    told(options.pid, outcome, reasons, seen)
+    told(
+        options.pid,
+        outcome.map_err(LinesFault::of_cut),
+        reasons,
+        seen,
+    )
 }
 
 /// A file could not be opened.

@@ -9,7 +9,7 @@ use std::process::Abort;
 use std::rt::Files;
 use std::test::Fail;
 use std::{env, fs};
-use ts_packet::{Pid, PutFault, ReadFault};
+use ts_packet::{Device, Pid, PutFault, ReadFault};
 use unit_cut::CutFault;
 
 /// Three packets of PID 256, each the start of a unit: their counters are 0, 1, 2, their times 90000, 93000, 96000.
@@ -567,7 +567,8 @@ impl Write for Small {
 
 /// Cuts nothing of PID 256 on lines.
 fn copy_lines<I: Read, O: Write>(input: &mut I, output: &mut O) -> Option<Result<(), LinesFault>> {
-    Some(cut_lines(input, output, Pid::new(256)?, Time33::new(0)?, 0))
+    let (mut input, mut output) = (Device::new(input), Device::new(output));
+    Some(cut_lines(&mut input, &mut output, Pid::new(256)?, Time33::new(0)?, 0))
 }
 
 #[test]

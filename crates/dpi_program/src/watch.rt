@@ -2,11 +2,8 @@
 
 use pes_time::{PesHead, Time33};
 use std::fmt;
-use ts_packet::{DeviceFault, Packet, Pid, Source, Target};
+use ts_packet::{Packet, PacketSink, PacketSource, Pid, PutFault, ReadFault};
 use unit_stream::{Piece, UnitReader};
-
-/// The bytes of a packet.
-const PACKET_SIZE: u64 = 188;
 
 /// The least and the greatest time stamp of some units, on the line through any number of wraps of the clock.
 #[derive(Clone, Copy, Debug, PartialEq, Eq)]
@@ -46,69 +43,58 @@ impl fmt::Display for StampRange {
     }
 }
 
-/// Watches the bytes of a stream go by, packet by packet.
+/// What was seen of a stream.
 #[derive(Clone, Copy, Debug)]
 pub struct Watch {
-    bytes: u64,
-    packet: [u8; 188],
-    units: UnitReader,
-    begun: u64,
+    packets: u64,
+    last: Option<Pid>,
+    was_refused: bool,
+    units: u64,
     stamps: Option<StampRange>,
 }
 
 impl Watch {
-    /// A watch for the units of this PID that has seen nothing.
-    pub fn new(pid: Pid) -> Watch {
+    /// Nothing was seen.
+    pub fn new() -> Watch {
         Watch {
-            bytes: 0,
-            packet: [0; 188],
-            units: UnitReader::new(pid),
-            begun: 0,
+            packets: 0,
+            last: None,
+            was_refused: false,
+            units: 0,
             stamps: None,
         }
     }
 
-    /// Sees these bytes go by.
-    fn see(&mut self, bytes: &[u8]) {
-        let mut rest = bytes;
-        for _ in 0..bytes.len() {
-            if rest.is_empty() {
-                return;
-            }
-            let at = (self.bytes % PACKET_SIZE) as usize;
-            let count = rest.len().min(188 - at);
-            self.packet[at..at + count].copy_from_slice(&rest[..count]);
-            self.bytes = self.bytes.saturating_add(count as u64);
-            rest = &rest[count..];
-            if at + count == 188 {
-                self.judge();
-            }
+    /// Sees this packet go by.
+    fn see(&mut self, packet: &Packet) {
+        self.packets = self.packets.saturating_add(1);
+        self.last = Some(packet.pid());
+    }
+
+    /// Sees a unit begin with this payload.
+    fn see_unit(&mut self, payload: &[u8]) {
+        self.units = self.units.saturating_add(1);
+        if let Ok(head) = PesHead::read(payload)
+            && let Some(pts) = head.pts()
+        {
+            self.stamps = Some(StampRange::with(self.stamps, pts));
         }
     }
 
-    /// Looks at the packet that has gone by whole.
-    fn judge(&mut self) {
-        let Ok(packet) = Packet::from_bytes(&self.packet) else {
-            return;
-        };
-        if let Piece::Start { payload } = self.units.feed(&packet) {
-            self.begun = self.begun.saturating_add(1);
-            if let Ok(head) = PesHead::read(payload)
-                && let Some(pts) = head.pts()
-            {
-                self.stamps = Some(StampRange::with(self.stamps, pts));
-            }
-        }
+    /// Sees that what comes next is no packet.
+    fn refuse(&mut self) {
+        self.last = None;
+        self.was_refused = true;
     }
 
-    /// How many whole packets went by.
+    /// How many packets went by.
     pub fn packets(&self) -> u64 {
-        self.bytes / PACKET_SIZE
+        self.packets
     }
 
     /// How many units of the PID have begun in them.
     pub fn units(&self) -> u64 {
-        self.begun
+        self.units
     }
 
     /// The time stamps of these units.
@@ -116,75 +102,133 @@ impl Watch {
         self.stamps
     }
 
-    /// The number, from 0, of the packet in which the last byte lies.
+    /// The number, from 0, of the last packet, or of what was no packet behind it.
     pub fn last_packet(&self) -> u64 {
-        self.bytes.saturating_sub(1) / PACKET_SIZE
+        if self.was_refused {
+            self.packets
+        } else {
+            self.packets.saturating_sub(1)
+        }
     }
 
-    /// The PID of the last packet, where it went by whole and begins as packets do.
+    /// The PID of the last packet, where it was one.
     pub fn last_pid(&self) -> Option<Pid> {
-        if self.bytes == 0 || self.bytes % PACKET_SIZE != 0 || self.packet[0] != 0x47 {
-            return None;
-        }
-        Pid::new(u16::from(self.packet[1] % 32) * 256 + u16::from(self.packet[2]))
+        self.last
     }
 }
 
-/// A source or a target whose bytes are watched.
+/// A source or a sink whose packets are watched.
 #[derive(Drop)]
-pub struct Watched<D> {
-    inner: D,
+pub struct Watched<'a, D> {
+    inner: &'a mut D,
+    units: UnitReader,
     watch: Watch,
 }
 
-impl<D> Watched<D> {
+impl<'a, D> Watched<'a, D> {
     ghost use Rattle.std.specs.Prelude.{◌≡◌};
 
     /// Watches the units of this PID.
-    pub fn new(inner: D, pid: Pid) -> Watched<D>
-        ensures { result.inner ≡ inner }
+    pub fn new(inner: &'a mut D, pid: Pid) -> Watched<'a, D>
+        ensures same { result.inner.ghost_name ≡ inner.entry.ghost_name }
+        ensures inner { result.inner.now ≡ inner.old }
     {
         Watched {
             inner,
-            watch: Watch::new(pid),
+            units: UnitReader::new(pid),
+            watch: Watch::new(),
         }
     }
 
-    /// What was watched, and what was seen of it.
-    pub fn into_parts(self) -> (D, Watch)
-        ensures { result.0 ≡ self.inner }
+    /// Sees this packet go by.
+    fn see(&mut self, packet: &Packet)
+        ensures { self.new.inner ≡ self.old.inner }
     {
-        let Watched { inner, watch } = self;
-        (inner, watch)
+        self.watch.see(packet);
+        if let Piece::Start { payload } = self.units.feed(packet) {
+            self.watch.see_unit(payload);
+        }
+    }
+
+    /// What was seen so far.
+    pub fn seen(&self) -> Watch {
+        self.watch
     }
 }
 
-impl<S: Source> Source for Watched<S> {
-    ghost remaining = { λ w. S.remaining w.inner };
+impl<P: PacketSource> PacketSource for Watched<'_, P> {
+    ghost use Rattle.std.specs.Prelude.{◌≡◌};
+    ghost use Rattle.std.proofs.Common.{refl, ◌∙◌};
 
-    ghost counts = { λ w. S.counts w.inner };
+    ghost left = { λ w. P.left w.inner.now };
 
-    fn read(&mut self, buf: &mut [u8]) -> Result<usize, DeviceFault> {
-        match self.inner.read(buf) {
-            Ok(count) => {
-                self.watch.see(&buf[..count]);
-                Ok(count)
+    ghost counts = { λ w. P.counts w.inner.now };
+
+    ghost given = { λ w. P.given w.inner.now };
+
+    ghost is_broken = { λ w. P.is_broken w.inner.now };
+
+    ghost has_ended = { λ w. P.has_ended w.inner.now };
+
+    ghost leads = { λ v w. (w.inner.ghost_name ≡ v.inner.ghost_name) × P.leads v.inner.now w.inner.now };
+
+    ghost falls_short = { λ v w. P.falls_short v.inner.now w.inner.now };
+
+    ghost leads_refl = { λ s. (refl, P.leads_refl s.inner.now) };
+
+    ghost leads_trans = { λ s t u h k. (k.0 ∙ h.0, P.leads_trans s.inner.now t.inner.now u.inner.now h.1 k.1) };
+
+    fn read_packet(&mut self, packet: &mut Packet) -> Result<bool, ReadFault> {
+        match self.inner.read_packet(packet) {
+            Ok(true) => {
+                self.see(packet);
+                Ok(true)
             }
-            Err(fault) => Err(fault),
+            Ok(false) => Ok(false),
+            Err(ReadFault::Failed) => Err(ReadFault::Failed),
+            Err(fault) => {
+                self.watch.refuse();
+                Err(fault)
+            }
         }
     }
 }
 
-impl<T: Target> Target for Watched<T> {
-    ghost contents = { λ w. T.contents w.inner };
+impl<K: PacketSink> PacketSink for Watched<'_, K> {
+    ghost use Rattle.std.specs.Prelude.{◌≡◌, true};
+    ghost use Rattle.std.proofs.Common.{refl, ap, ◌∙◌};
 
-    ghost counts = { λ w. T.counts w.inner };
+    ghost holds = { λ w start ps. K.holds w.inner.now start ps };
 
-    fn write(&mut self, buf: &[u8]) -> Result<usize, DeviceFault> {
-        match self.inner.write(buf) {
-            Ok(count) => {
-                self.watch.see(&buf[..count]);
-                Ok(count)
+    ghost fails = { λ w start ps p f. K.fails w.inner.now start ps p f };
+
+    ghost is_broken = { λ w. K.is_broken w.inner.now };
+
+    ghost counts = { λ w. K.counts w.inner.now };
+
+    ghost is_full = { λ w. K.is_full w.inner.now };
+
+    ghost leads = { λ v w. (w.inner.ghost_name ≡ v.inner.ghost_name) × K.leads v.inner.now w.inner.now × (K.is_broken v.inner.now ≡ true → w ≡ v) };
+
+    ghost leads_refl = { λ s. (refl, K.leads_refl s.inner.now, λ b. refl) };
+
+    ghost leads_trans = { λ s t u h k. (
+      k.0 ∙ h.0,
+      K.leads_trans s.inner.now t.inner.now u.inner.now h.1 k.1,
+      λ b. k.2 (ap (λ w. K.is_broken w.inner.now) (h.2 b) ∙ b) ∙ h.2 b,
+    ) };
+
+    ghost leads_later = { λ s t h. K.leads_later s.inner.now t.inner.now h.1 };
+
+    ghost leads_full = { λ s t h. K.leads_full s.inner.now t.inner.now h.1 };
+
+    ghost leads_spent = { λ s t h. h.2 };
+
+    fn put(&mut self, packet: &Packet) -> Result<(), PutFault> {
+        match self.inner.put(packet) {
+            Ok(()) => {
+                self.see(packet);
+                Ok(())
             }
             Err(fault) => Err(fault),
         }

@@ -1,7 +1,8 @@
 -- A text of lines, of which a line was read, or to which one was written.
-use Rattle.std.proofs.Common.{◌≡◌, ℕ, zero, suc, ◌+◌, ◌*◌, ◌/◌, ◌-◌, ◌<◌, ◌≤◌, ◌||◌, ◌&&◌, inl, inr, List, [], ◌∷◌, ◌++◌, Option, None, Some, IfSome, Bool, true, false, arith, length, take, drop, refl, sym, ap, ◌∙◌, subst, append_assoc, nat_eq, slice_index, if◌then◌else◌, length-take-le, drop_at, length-append, length-drop}
+use Rattle.std.proofs.Common.{◌≡◌, ℕ, suc, ◌+◌, ◌*◌, ◌/◌, ◌-◌, ◌<◌, ◌≤◌, ◌||◌, ◌&&◌, inl, inr, List, [], ◌∷◌, ◌++◌, Option, None, Some, IfSome, Bool, true, false, arith, length, take, drop, refl, sym, ap, ◌∙◌, subst, append_assoc, nat_eq, slice_index, slice_set, get_or, if◌then◌else◌, length-take-le, drop_at, length-append, length-drop}
 use Rattle.std.proofs.lemmas.List.{append-nil, drop_all}
 use Rattle.std.proofs.Math.Nat.{eq-or-lt_of_le}
+use Rattle.std.proofs.Math.Seq.{drop-cons, set-append_seam}
 use Rattle.std.specs.Io.KnownBytes.{Consumes, Appends, IsAtEnd}
 use lib.Seq.{take_all, take-append-le}
 use Rattle.ts_packet.specs.Packets.{packet_fault, or_fault}
@@ -18,7 +19,22 @@ use Rattle.std.specs.Prelude.{All}
 use Rattle.packet_lines.specs.Lines.{line_of, lines_of}
 use Rattle.packet_lines.specs.Texts.{packet_in, line_before, told_of, bytes_told, left_in, judged, WrittenLines, FailsToWriteLine}
 
+-- the last character of a whole line
+pub one_left : (line : List ℕ) → length line ≡ 377 → drop 376 line ≡ get_or line 376 0 ∷ []
+one_left line size = drop-cons line 376 0 (omega (arith, size)) ∙ ap (λ l. get_or line 376 0 ∷ l) (drop_all 377 line (omega (arith, size)))
+
 -- ---- lines written
+
+-- the digits of a packet, and then the line's end
+pub line_ended : (line packet : List ℕ) → length packet ≡ 188 → length line ≡ 377 →
+    slice_set (take (2 * 0) line ++ digits_of packet ++ drop (2 * (0 + length packet)) line) 376 10 ≡ line_of packet
+line_ended line packet size line_size =
+    let digits : length (digits_of packet) ≡ 376 = length-digits_of packet ∙ omega (arith, size) in
+    let at : 2 * (0 + length packet) ≡ 376 = omega (arith, size) in
+    let last : drop 376 line ≡ get_or line 376 0 ∷ [] = one_left line line_size in
+    ap (λ l. slice_set (digits_of packet ++ l) 376 10) (ap (λ k. drop k line) at ∙ last)
+    ∙ ap (λ k. slice_set (digits_of packet ++ get_or line 376 0 ∷ []) k 10) (sym digits)
+    ∙ set-append_seam (digits_of packet) (get_or line 376 0) [] 10
 
 lines_more : (ps : List (List ℕ)) (p : List ℕ) → lines_of (ps ++ p ∷ []) ≡ lines_of ps ++ line_of p
 lines_more [] p = append-nil (line_of p)
@@ -164,9 +180,9 @@ line_none (Some xs) (Some ys) buf n size none h =
     let same : xs ≡ [] = h.bytes ∙ ap (λ k. take k buf ++ ys) none ∙ end in
     (ap bytes_told same ∙ told_nothing, ap bytes_told end ∙ told_nothing)
 
-pub line_ended : (text : Option (List ℕ)) → IsAtEnd (left_in true text) × IsAtEnd (left_in true text)
-line_ended None = (tt, tt)
-line_ended (Some xs) = (refl, refl)
+pub text_ended : (text : Option (List ℕ)) → IsAtEnd (left_in true text) × IsAtEnd (left_in true text)
+text_ended None = (tt, tt)
+text_ended (Some xs) = (refl, refl)
 
 -- ---- what a line's packet is judged to be
 

@@ -1,46 +1,64 @@
--- What a run of `cut_lines` writes, where its reader and its writer tell their bytes, and what its faults say.
-use Rattle.std.specs.Prelude.{◌≡◌, ℕ, ◌≤◌, List, [], ◌++◌, Option, None, Some, IfSome, length, take}
-use Rattle.ts_packet.specs.Packets.{packets_of}
-use Rattle.unit_cut.specs.Cutting.{cut_between}
-use Rattle.ts_packet.specs.FirstFault.{IsFirstFault, SaysBy}
-use Rattle.unit_cut.specs.FirstFault.{first_fault, before_fault, cut_cause}
+-- What a run of `cut_lines` writes, where its input and its output tell their bytes; what its faults say, and what its devices did
+-- there. All is said as of `cut`, over the packets of the text's lines.
+use Rattle.std.specs.Prelude.{◌≡◌, ◌≢◌, ℕ, ◌^◌, ◌-◌, ◌⊎◌, List, Option, length, option_map}
+use Rattle.ts_packet.specs.Reading.{HasRead}
+use Rattle.ts_packet.specs.Transfers.{WentWell, LastMovedNone, LastFailed, TookTurns, FallsShort}
+use Rattle.ts_packet.specs.declared.tally.Tally.{Tally}
+use Rattle.ts_packet.specs.declared.reader.ReadFault.TheVariants as read_faults
+use Rattle.ts_packet.specs.declared.sink.PutFault.{PutFault}
+use Rattle.ts_packet.specs.declared.sink.PutFault.TheVariants.{Failed}
+use Rattle.unit_cut.specs.Runs.{CutsAll, Stops}
 use Rattle.unit_cut.specs.declared.run.CutFault.{CutFault}
-use Rattle.packet_lines.specs.Lines.{lines_of, spelled, told}
+use Rattle.unit_cut.specs.declared.run.CutFault.TheVariants.{Read, Scrambled, HeaderSplit, TimeJump, Sink}
+use Rattle.packet_lines.specs.Texts.{bytes_told, WrittenLines, FailsToWriteLine}
 use Rattle.packet_lines.specs.declared.lines.LinesFault.{LinesFault}
 use Rattle.packet_lines.specs.declared.lines.LinesFault.TheVariants.{BadLine, Cut}
 
--- where it was known what was held first, that is held, and behind it the lines of these packets
-abbrev pub HasLines : Option (List ℕ) → Option (List ℕ) → List (List ℕ) → Type 0
-HasLines known start packets = IfSome start (λ text. known ≡ Some (text ++ lines_of packets))
-
--- THE THEOREM: every line of the text is a packet's, the bytes that they spell have no fault, and behind what the output held
--- stand the lines of the packets of their cut
+-- THE THEOREM: every line of the text is a packet's, their bytes have no fault, and behind what the output held stand the lines of the
+-- packets of their cut
 abbrev pub CutsLines : ℕ → ℕ → ℕ → Option (List ℕ) → Option (List ℕ) → Option (List ℕ) → Type 0
-CutsLines pid from length input start out =
-    IfSome input (λ text. (bytes : List ℕ) × (spelled 0 0 text ≡ Some bytes) × (first_fault pid bytes ≡ None) × HasLines out start (cut_between from length pid (packets_of bytes)))
+CutsLines pid from length input start out = CutsAll pid from length (option_map bytes_told input) (WrittenLines out start)
 
--- A front of the lines of these packets, and behind it two characters at most. They leave room for the digits of a packet's last
--- byte: what a sink offers to a write is not known before the write has taken it.
-abbrev pub HasFront : Option (List ℕ) → Option (List ℕ) → List (List ℕ) → Type 0
-HasFront known start packets =
-    IfSome start (λ text. (n : ℕ) × (end : List ℕ) × (length end ≤ 2) × (known ≡ Some (text ++ (take n (lines_of packets) ++ end))))
+-- The fault of the cut that it is. What a text tells up to a line that is no packet's ends in the middle of a packet.
+abbrev pub cut_fault_of : LinesFault → CutFault
+cut_fault_of BadLine = Read read_faults.Truncated
+cut_fault_of (Cut fault) = fault
 
--- the fault is the first one of the bytes, and the lines of all that stood before it are out
-abbrev pub IsFirstOfLines : CutFault → ℕ → ℕ → ℕ → List ℕ → Option (List ℕ) → Option (List ℕ) → Type 0
-IsFirstOfLines fault pid from length bytes start out = IsFirstFault (first_fault pid bytes) (HasLines out start) (cut_between from length pid (before_fault pid bytes)) fault
+-- whole lines are out, and of the packet's line behind them a part
+abbrev pub LineFails : Option (List ℕ) → Option (List ℕ) → List (List ℕ) → List ℕ → PutFault → Type 0
+LineFails out start ps p fault = (fault ≢ Failed) × FailsToWriteLine out start ps p
 
--- a fault of the bytes is the first one; a fault of a device says nothing of them
-abbrev pub SaysOfLines : CutFault → ℕ → ℕ → ℕ → List ℕ → Option (List ℕ) → Option (List ℕ) → Type 0
-SaysOfLines fault pid from length bytes start out = SaysBy (cut_cause fault) (IsFirstOfLines fault pid from length bytes start out)
-
--- A line of the text is no packet's; or what the cut's fault says of the bytes that are told of the text. Where a line is no
--- packet's, these end in a byte more, so that nothing here keeps Truncated from such a text.
-abbrev pub Means : LinesFault → ℕ → ℕ → ℕ → List ℕ → Option (List ℕ) → Option (List ℕ) → Type 0
-Means BadLine pid from length text start out = spelled 0 0 text ≡ None
-Means (Cut fault) pid from length text start out = SaysOfLines fault pid from length (told [] 0 0 text) start out
-
--- THE THEOREM FOR FAULTS: what the fault says, and that a front of the lines of the cut is out: of all lines, or of those before the
--- first that is no packet's
+-- THE THEOREM FOR FAULTS: a bad line, or the fault of a packet, is the first fault of the text, and the lines of the cut of all before
+-- it are out; after a device's fault a front of the lines of the cut is out, and a part of a line only where a write failed in it
 abbrev pub StopsLines : LinesFault → ℕ → ℕ → ℕ → Option (List ℕ) → Option (List ℕ) → Option (List ℕ) → Type 0
-StopsLines fault pid from length input start out =
-    IfSome input (λ text. Means fault pid from length text start out × HasFront out start (cut_between from length pid (packets_of (told [] 0 0 text))))
+StopsLines fault pid from length input start out = (fault ≢ Cut (Read read_faults.Truncated))
+    × Stops (cut_fault_of fault) pid from length (option_map bytes_told input) (WrittenLines out start) (LineFails out start)
+
+-- ---- what the devices did
+
+-- The reads for one line took all their turns: from some state of the device on, up to which all went well, they gave fewer bytes than a
+-- line has. The functions are a device's bytes and counts.
+abbrev pub LineStalls : {X : Type 0} → (X → Option (List ℕ)) → (X → Tally) → X → X → Type 0
+LineStalls {X} remaining counts first now =
+    (at : X) × WentWell (counts first) (counts at) × TookTurns (2 ^ 20) (counts at) (counts now) × FallsShort 377 (remaining at) (remaining now)
+
+-- all reads gave bytes, or the last one found the end
+abbrev pub WentOn : Tally → Tally → Type 0
+WentOn old new = WentWell old new ⊎ LastMovedNone old new
+
+-- as many lines were read as may be
+abbrev pub LinesRunOut : Option (List ℕ) → Type 0
+LinesRunOut input = (rest : Option (List ℕ)) × (ps : List (List ℕ)) × HasRead (option_map bytes_told input) rest ps × (length ps ≡ 2 ^ 64 - 1)
+
+-- what the input did where a cut of its lines stops so
+abbrev pub LineBlamed : {X : Type 0} → CutFault → (X → Option (List ℕ)) → (X → Tally) → X → X → Type 0
+LineBlamed (Read read_faults.Turns) remaining counts first now = LineStalls remaining counts first now ⊎ LinesRunOut (remaining first)
+LineBlamed (Read read_faults.Io) remaining counts first now = LastFailed (counts first) (counts now)
+LineBlamed (Read read_faults.Failed) remaining counts first now = ⊥
+LineBlamed (Read read_faults.Truncated) remaining counts first now = WentOn (counts first) (counts now)
+LineBlamed (Read read_faults.SyncLost) remaining counts first now = WentOn (counts first) (counts now)
+LineBlamed (Read read_faults.BadAdaptation) remaining counts first now = WentOn (counts first) (counts now)
+LineBlamed Scrambled remaining counts first now = WentOn (counts first) (counts now)
+LineBlamed HeaderSplit remaining counts first now = WentOn (counts first) (counts now)
+LineBlamed TimeJump remaining counts first now = WentOn (counts first) (counts now)
+LineBlamed (Sink fault) remaining counts first now = WentOn (counts first) (counts now)

@@ -1,5 +1,4 @@
 pub mod CutLines
 pub mod Laws
-pub mod Lent
 pub mod Lines
 pub mod Texts

@@ -1,7 +1,6 @@
 //! Packets from lines.
 
 ghost use Rattle.std.specs.Prelude.{◌≡◌, ◌^◌, ◌<◌, ◌≤◌, length, option_map, true, false};
-ghost use Rattle.packet_lines.specs.Laws.{LinesTellTheirPackets};
 ghost use Rattle.packet_lines.specs.Texts.{packet_in, judged, is_sized};
 
 use hex_digits::bytes_into;
@@ -133,8 +132,3 @@ impl<S: Source> PacketSource for LineReader<'_, S> {
         }
     }
 }
-
-/// What is written is read: a packet's line, with any text behind it, tells the packet's 188 bytes, and then what that text tells.
-pub fn lines_tell_their_packets()
-    ensures { LinesTellTheirPackets }
-{}

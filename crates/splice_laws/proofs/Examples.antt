@@ -36,7 +36,7 @@ abbrev x2 : PlayedEvent
 x2 = record { start = pos 20; stop = pos 30; name = 2 }
 
 abbrev u : ℕ → SliceUnit
-u t = record { time = pos t; payload = [] }
+u t = record { time = pos t; payload = []; random_access = false }
 
 abbrev slices : PlayedEvent → List SliceUnit
 slices x = elim x.name as (λ _. List SliceUnit) [ zero ↦ [] | suc n ↦ elim n as (λ _. List SliceUnit) [ zero ↦ u 10 ∷ u 16 ∷ u 13 ∷ [] | suc m ↦ u 20 ∷ u 25 ∷ [] ] ]

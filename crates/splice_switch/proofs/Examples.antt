@@ -53,7 +53,7 @@ events [] = []
 events (p ∷ past) = elim (is_cue p) as (λ _. List Standing) [ true ↦ later_event ∷ event 10 ∷ taken_back ∷ [] | false ↦ elim (events past) as (λ _. List Standing) [ [] ↦ later_event ∷ event 20 ∷ taken_back ∷ [] | e ∷ es ↦ e ∷ es ] ]
 
 abbrev u : ℕ → SliceUnit
-u t = record { time = pos t; payload = [] }
+u t = record { time = pos t; payload = []; random_access = false }
 
 abbrev units : List SliceUnit
 units = u 10 ∷ u 16 ∷ u 13 ∷ u 24 ∷ u 31 ∷ []

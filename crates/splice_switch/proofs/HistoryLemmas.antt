@@ -1,5 +1,5 @@
 -- The events that the cues of a network arm are a history.
-use Rattle.std.proofs.Common.{◌≡◌, ℕ, List, [], ◌∷◌, ◌++◌, Bool, true, false, refl, sym, ap, ◌∙◌, Option, None, Some, append_assoc, subst, if◌then◌else◌, length, drop}
+use Rattle.std.proofs.Common.{◌≡◌, ℕ, List, [], ◌∷◌, ◌++◌, true, refl, sym, ap, ◌∙◌, Option, None, Some, append_assoc, subst, if◌then◌else◌, length, drop}
 use Rattle.std.specs.Prelude.{is_some, option_map}
 use Rattle.std.proofs.lemmas.Bool.{true≢false}
 use Rattle.psi_tables.specs.ProgramMap.{ProgramMap}
@@ -7,12 +7,12 @@ use Rattle.unit_stream.specs.Times.{high}
 use Rattle.program_follower.specs.Program.{known_map, behind_head, program_in, pids_of}
 use Rattle.program_laws.proofs.HeadLemmas.{known_stays, nothing_behind}
 use Rattle.armed_events.specs.Arming.{armed}
-use Rattle.armed_laws.specs.Laws.{Grows, NeverFalls, NoneMeet}
+use Rattle.armed_laws.specs.Laws.{Grows, NeverFalls}
 use Rattle.armed_laws.proofs.GrowLemmas.{packets-grow}
 use Rattle.armed_laws.proofs.MeetLemmas.{none-meet}
 use Rattle.splice_laws.specs.Laws.{Risen}
 use Rattle.splice_laws.proofs.PidLemmas.{pids_are_streams}
-use Rattle.splice_switch.specs.Switching.{Setting, switched_at, high_at, head_at, history_at, is_behind_head}
+use Rattle.splice_switch.specs.Switching.{Setting, switched_at, high_at, head_at, history_at}
 use Rattle.splice_switch.specs.Histories.{IsHistory, ArmedIsHistory}
 
 module _ (k : Setting) where

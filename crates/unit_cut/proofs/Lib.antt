@@ -13,4 +13,5 @@ pub mod PassLemmas
 pub mod GrowLemmas
 pub mod RunLemmas
 pub mod StopLemmas
+pub mod BlameLemmas
 pub mod SlotLemmas

@@ -2,7 +2,7 @@
 use Rattle.std.specs.Prelude.{ℕ, List, [], ◌∷◌, Option, None, Some}
 use Rattle.ts_packet.specs.Runs.{Seen}
 use Rattle.ts_packet.specs.FirstFault as firsts
-use Rattle.ts_packet.specs.FirstFault.{fault_of, Cause, OfInput, read_cause, put_cause}
+use Rattle.ts_packet.specs.FirstFault.{fault_of, Cause, OfInput, OfDevice, read_cause}
 use Rattle.unit_stream.specs.Faults.{unit_fault}
 use Rattle.unit_stream.specs.declared.fault.UnitFault.{UnitFault}
 use Rattle.unit_stream.specs.declared.fault.UnitFault.TheVariants as unit_faults
@@ -34,10 +34,10 @@ first_fault pid bs = firsts.first_fault Read (cut_test pid) bs
 abbrev pub before_fault : ℕ → List ℕ → List (List ℕ)
 before_fault pid bs = firsts.before_fault Read (cut_test pid) bs
 
--- where a fault comes from
+-- Where a fault comes from. What a sink refuses says nothing of the network; whether it may answer `Failed`, it says itself.
 abbrev pub cut_cause : CutFault → Cause
 cut_cause (Read fault) = read_cause fault
 cut_cause Scrambled = OfInput
 cut_cause HeaderSplit = OfInput
 cut_cause TimeJump = OfInput
-cut_cause (Sink fault) = put_cause fault
+cut_cause (Sink fault) = OfDevice

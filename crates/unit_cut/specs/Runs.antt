@@ -1,59 +1,100 @@
--- What a run of `cut` writes, where its devices tell their bytes, and what its faults say.
-use Rattle.std.specs.Prelude.{◌≡◌, ℕ, ◌^◌, ◌-◌, ◌⊎◌, List, [], ◌∷◌, ◌++◌, Bool, false, Option, None, Some, IfSome, All, length, reverse}
-use Rattle.ts_packet.specs.Packets.{packets_of, bytes_of}
-use Rattle.ts_packet.specs.Reading.{HasRead, Stalls}
-use Rattle.ts_packet.specs.Sinks.{Blamed, Written}
+-- What a run of `cut` puts, where its source tells its bytes; what its faults say, and what its devices did there.
+use Rattle.std.specs.Prelude.{◌≡◌, ℕ, ◌+◌, ◌^◌, ◌-◌, ◌⊎◌, List, [], ◌∷◌, ◌++◌, Bool, true, false, Option, None, Some, IfSome, All, length, reverse}
+use Rattle.ts_packet.specs.Packets.{packets_of}
+use Rattle.ts_packet.specs.Reading.{HasRead, ReadSo}
+use Rattle.ts_packet.specs.Sinks.{Blamed}
 use Rattle.ts_packet.specs.declared.tally.Tally.{Tally}
-use Rattle.ts_packet.specs.Transfers.{WentWell, LastMovedNone, LastFailed}
+use Rattle.ts_packet.specs.Transfers.{WentWell, LastMovedNone, LastFailed, TookTurns}
 use Rattle.ts_packet.specs.Runs.{Seen, seen_after}
 use Rattle.ts_packet.specs.declared.reader.ReadFault.TheVariants as read_faults
 use Rattle.ts_packet.specs.declared.sink.PutFault.{PutFault}
 use Rattle.unit_stream.specs.Faults.{unit_fault}
 use Rattle.unit_cut.specs.Cutting.{cut, cut_between}
 use Rattle.unit_cut.specs.Standing.{Cut, goes_by, Begins, StandsFor}
-use Rattle.ts_packet.specs.FirstFault.{IsFirstFault, IsFrontOf, SaysBy}
+use Rattle.ts_packet.specs.FirstFault.{IsFirstFault, SaysBy}
 use Rattle.unit_cut.specs.FirstFault.{first_fault, before_fault, as_unit_fault, cut_test, cut_cause}
 use Rattle.unit_cut.specs.declared.cutter.Cutter.{Cutter}
 use Rattle.unit_cut.specs.declared.run.CutFault.{CutFault}
 use Rattle.unit_cut.specs.declared.run.CutFault.TheVariants.{Read, Scrambled, HeaderSplit, TimeJump, Sink}
 
--- THE THEOREM: the network's bytes have no fault, and behind what the output held stand the packets of the cut
-abbrev pub CutsAll : ℕ → ℕ → ℕ → Option (List ℕ) → Option (List ℕ) → Option (List ℕ) → Type 0
-CutsAll pid from length input start out =
-    IfSome input (λ bs. (first_fault pid bs ≡ None) × Written out start (cut_between from length pid (packets_of bs)))
+-- THE THEOREM: the network's bytes have no fault, and the packets of the cut are out. `is_out` says so of packets: of a writer, that
+-- their bytes, or their lines, stand behind what its device held.
+abbrev pub CutsAll : ℕ → ℕ → ℕ → Option (List ℕ) → (List (List ℕ) → Type 0) → Type 0
+CutsAll pid from length input is_out =
+    IfSome input (λ bs. (first_fault pid bs ≡ None) × is_out (cut_between from length pid (packets_of bs)))
 
--- a front of the cut is out
-abbrev pub IsFront : ℕ → ℕ → ℕ → List ℕ → Option (List ℕ) → Option (List ℕ) → Type 0
-IsFront pid from length bs start out = IsFrontOf (bytes_of (cut_between from length pid (packets_of bs))) start out
+-- ---- what a fault says
 
--- the fault is the first one of the bytes, and all that stood before it is out
-abbrev pub IsFirst : CutFault → ℕ → ℕ → ℕ → List ℕ → Option (List ℕ) → Option (List ℕ) → Type 0
-IsFirst fault pid from length bs start out = IsFirstFault (first_fault pid bs) (Written out start) (cut_between from length pid (before_fault pid bs)) fault
+-- the fault is the first one of the bytes, and the cut of all that stood before it is out
+abbrev pub IsFirst : CutFault → ℕ → ℕ → ℕ → List ℕ → (List (List ℕ) → Type 0) → Type 0
+IsFirst fault pid from length bs is_out =
+    IsFirstFault (first_fault pid bs) is_out (cut_between from length pid (before_fault pid bs)) fault
 
 -- a fault of the bytes is the first one; a fault of a device says nothing of them
-abbrev pub Says : CutFault → ℕ → ℕ → ℕ → List ℕ → Option (List ℕ) → Option (List ℕ) → Type 0
-Says fault pid from length bs start out = SaysBy (cut_cause fault) (IsFirst fault pid from length bs start out)
+abbrev pub Says : CutFault → ℕ → ℕ → ℕ → List ℕ → (List (List ℕ) → Type 0) → Type 0
+Says fault pid from length bs is_out = SaysBy (cut_cause fault) (IsFirst fault pid from length bs is_out)
+
+-- a front of these packets is out
+abbrev pub FrontIsOut : List (List ℕ) → (List (List ℕ) → Type 0) → Type 0
+FrontIsOut whole is_out = (front more : List (List ℕ)) × (whole ≡ front ++ more) × is_out front
+
+-- a front of them is out, and the put of the next one failed
+abbrev pub NextFails : List (List ℕ) → (List (List ℕ) → List ℕ → Type 0) → Type 0
+NextFails whole fails = (front : List (List ℕ)) × (p : List ℕ) × (more : List (List ℕ)) × (whole ≡ front ++ p ∷ more) × fails front p
+
+-- what is out of these packets where a run stops so: whole packets alone, unless the put of one failed
+abbrev pub Leaves : CutFault → List (List ℕ) → (List (List ℕ) → Type 0) → (List (List ℕ) → List ℕ → PutFault → Type 0) → Type 0
+Leaves (Read fault) whole is_out fails = FrontIsOut whole is_out
+Leaves Scrambled whole is_out fails = FrontIsOut whole is_out
+Leaves HeaderSplit whole is_out fails = FrontIsOut whole is_out
+Leaves TimeJump whole is_out fails = FrontIsOut whole is_out
+Leaves (Sink fault) whole is_out fails = NextFails whole (λ front p. fails front p fault)
 
 -- THE THEOREM FOR FAULTS: what the fault says, and what is out
-abbrev pub Stops : CutFault → ℕ → ℕ → ℕ → Option (List ℕ) → Option (List ℕ) → Option (List ℕ) → Type 0
-Stops fault pid from length input start out = IfSome input (λ bs. Says fault pid from length bs start out × IsFront pid from length bs start out)
+abbrev pub Stops : CutFault → ℕ → ℕ → ℕ → Option (List ℕ) → (List (List ℕ) → Type 0) → (List (List ℕ) → List ℕ → PutFault → Type 0) → Type 0
+Stops fault pid from length input is_out fails =
+    IfSome input (λ bs. Says fault pid from length bs is_out × Leaves fault (cut_between from length pid (packets_of bs)) is_out fails)
 
--- What the devices must have done where a run stops so. The functions are the reader's bytes and counts, and the last two what the
--- writer counted.
-abbrev pub RunBlamed : {X : Type 0} → CutFault → (X → Option (List ℕ)) → (X → Tally) → X → X → Tally → Tally → Type 0
-RunBlamed (Read read_faults.Io) remaining counts first now old new = LastFailed (counts first) (counts now) × WentWell old new
-RunBlamed (Read read_faults.Turns) remaining counts first now old new =
-    (Stalls remaining counts first now ⊎ ((left : Option (List ℕ)) × (ps : List (List ℕ)) × HasRead (remaining first) left ps × (length ps ≡ 2 ^ 64 - 1))) × WentWell old new
-RunBlamed (Read read_faults.Failed) remaining counts first now old new = ⊥
-RunBlamed (Read read_faults.Truncated) remaining counts first now old new = LastMovedNone (counts first) (counts now) × WentWell old new
-RunBlamed (Read read_faults.SyncLost) remaining counts first now old new = WentWell (counts first) (counts now) × WentWell old new
-RunBlamed (Read read_faults.BadAdaptation) remaining counts first now old new = WentWell (counts first) (counts now) × WentWell old new
-RunBlamed Scrambled remaining counts first now old new = WentWell (counts first) (counts now) × WentWell old new
-RunBlamed HeaderSplit remaining counts first now old new = WentWell (counts first) (counts now) × WentWell old new
-RunBlamed TimeJump remaining counts first now old new = WentWell (counts first) (counts now) × WentWell old new
-RunBlamed (Sink fault) remaining counts first now old new = WentWell (counts first) (counts now) × Blamed fault old new false
+-- ---- what the devices did
+
+-- what the network's device counted where a run stops so; `ended` is whether it has told the end
+abbrev pub NetworkBlamed : CutFault → Bool → Tally → Tally → Type 0
+NetworkBlamed (Read read_faults.Truncated) ended old new = WentWell old new ⊎ LastMovedNone old new
+NetworkBlamed (Read read_faults.SyncLost) ended old new = WentWell old new ⊎ LastMovedNone old new
+NetworkBlamed (Read read_faults.BadAdaptation) ended old new = WentWell old new ⊎ LastMovedNone old new
+NetworkBlamed (Read read_faults.Io) ended old new = LastFailed old new
+NetworkBlamed (Read read_faults.Turns) ended old new = WentWell old new
+NetworkBlamed (Read read_faults.Failed) ended old new = ⊥
+NetworkBlamed Scrambled ended old new = ReadSo ended old new
+NetworkBlamed HeaderSplit ended old new = ReadSo ended old new
+NetworkBlamed TimeJump ended old new = ReadSo ended old new
+NetworkBlamed (Sink fault) ended old new = ReadSo ended old new
+
+-- what the output's device counted there; `full` is whether the output takes no more
+abbrev pub OutputBlamed : CutFault → Tally → Tally → Bool → Type 0
+OutputBlamed (Read fault) old new full = WentWell old new
+OutputBlamed Scrambled old new full = WentWell old new
+OutputBlamed HeaderSplit old new full = WentWell old new
+OutputBlamed TimeJump old new full = WentWell old new
+OutputBlamed (Sink fault) old new full = Blamed fault old new full
+
+-- The reads for one packet took all their turns: from some state of the source on, up to which all went well, they gave fewer bytes than
+-- a packet takes. The functions are a source's.
+abbrev pub Stalled : {X : Type 0} → (X → X → Type 0) → (X → Tally) → (X → X → Type 0) → X → X → Type 0
+Stalled {X} leads counts falls_short first now =
+    (at : X) × leads first at × WentWell (counts first) (counts at) × TookTurns (2 ^ 20) (counts at) (counts now) × falls_short at now
+
+-- the source has given as many packets as it may
+abbrev pub Exhausted : {X : Type 0} → (X → Option (List ℕ)) → (X → ℕ) → X → Type 0
+Exhausted {X} left given first =
+    (rest : Option (List ℕ)) × (ps : List (List ℕ)) × HasRead (left first) rest ps × (given first + length ps ≡ 2 ^ 64 - 1)
 
 -- ---- on the way
+
+-- what the reads of packets came to up to now, by whether the device had told the end at the begin, and has now
+abbrev pub ReadOn : Bool → Bool → Tally → Tally → Type 0
+ReadOn false now old new = ReadSo now old new
+ReadOn true now old new = (now ≡ true) × (new ≡ old)
 
 -- every packet was sound for the PID
 abbrev pub IsSound : ℕ → List (List ℕ) → Type 0
@@ -70,13 +111,15 @@ pub record IsCutOf (k : Cut) (pid from length : ℕ) (ps : List (List ℕ)) : Ty
 abbrev pub cut_by : Cut → List (List ℕ) → List (List ℕ)
 cut_by k ps = cut (goes_by k) (k.pid ∷ []) k.pid ps
 
--- these packets were read, and passed on
-pub record HasPassed (input left : Option (List ℕ)) (start out : Option (List ℕ)) (broken : Bool) (given : ℕ) (cutter : Cutter) (kept : List ℕ) (pid from length' : ℕ) (ps : List (List ℕ)) : Type 0 where
+-- these packets were read, of a source that had given so many before
+pub record HasGiven (input left : Option (List ℕ)) (first given : ℕ) (ps : List (List ℕ)) : Type 0 where
   pub read : HasRead input left ps
-  pub count : given ≡ length ps
+  pub count : given ≡ first + length ps
+
+-- they were passed on
+pub record HasPassed (is_out : List (List ℕ) → Type 0) (cutter : Cutter) (kept : List ℕ) (pid from length' : ℕ) (ps : List (List ℕ)) : Type 0 where
   pub sound : IsSound pid ps
-  pub whole : broken ≡ false
-  pub passed : (k : Cut) → IsCutOf k pid from length' ps → StandsFor cutter kept k (reverse ps) × Written out start (cut_by k ps)
+  pub passed : (k : Cut) → IsCutOf k pid from length' ps → StandsFor cutter kept k (reverse ps) × is_out (cut_by k ps)
 
 -- what one packet that is not passed on says
 abbrev pub PassFails : Cut → List ℕ → List (List ℕ) → CutFault → (List (List ℕ) → Type 0) → (List (List ℕ) → List ℕ → PutFault → Type 0) → Type 0

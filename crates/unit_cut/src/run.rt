@@ -1,22 +1,20 @@
-//! Cutting an interval of one PID out of a network, from bytes to bytes.
+//! Cutting an interval of one PID out of a network, packet by packet.
 
-ghost use Rattle.std.specs.Prelude.{◌≡◌, ℕ, ◌≤◌, List, [], ◌∷◌, ◌++◌, Option, Some, None, OnOk, IfOk, IfErr, reverse, false};
+ghost use Rattle.std.specs.Prelude.{◌≡◌, ℕ, ◌⊎◌, List, [], ◌∷◌, ◌++◌, Option, Some, None, OnOk, IfOk, IfErr, reverse, false};
 ghost use Rattle.ts_packet.specs.Fields.{payload_on};
 ghost use Rattle.ts_packet.specs.Following.{kept_after};
-ghost use Rattle.ts_packet.specs.Transfers.{WentWell, LastMovedNone};
-ghost use Rattle.ts_packet.specs.Sinks.{Blamed};
+ghost use Rattle.ts_packet.specs.Reading.{SourceCounts};
+ghost use Rattle.ts_packet.specs.Transfers.{WentWell};
 ghost use Rattle.unit_stream.specs.Faults.{unit_fault};
 ghost use Rattle.unit_cut.specs.FirstFault.{as_cut_fault};
 ghost use Rattle.unit_cut.specs.Standing.{Cut, StandsFor, Begins};
-ghost use Rattle.unit_cut.specs.Runs.{CutsAll, Stops, RunBlamed, cut_by, PassFails, PassBlamed};
+ghost use Rattle.unit_cut.specs.Runs.{CutsAll, Stops, NetworkBlamed, OutputBlamed, Stalled, Exhausted, cut_by, PassFails, PassBlamed};
 
 use crate::cutter::Cutter;
 use crate::slots::Slots;
 use pes_time::Time33;
 use thiserror::Error;
-use ts_packet::{
-    Packet, PacketReader, PacketSink, PacketWriter, Pid, PutFault, ReadFault, Source, Target,
-};
+use ts_packet::{Packet, PacketSink, PacketSource, Pid, PutFault, ReadFault};
 use unit_stream::UnitFault;
 
 /// Why a cut stopped.
@@ -58,10 +56,15 @@ pub(crate) fn pass<K: PacketSink>(
     sink: &mut K,
 ) -> Result<bool, CutFault>
     ensures leads { K.leads sink.old sink.new }
-    ensures ok { (k : Cut) (start : Option (List ℕ)) (ps : List (List ℕ)) → Begins k (packet.old ∷ reverse ps) → StandsFor cutter.old kept.now k (reverse ps) → K.holds sink.old start (cut_by k ps)
-        → OnOk result ((unit_fault (k.pid ∷ []) packet.old (reverse ps) ≡ None) × StandsFor cutter.new (kept_after k.pid packet.old packet.new kept.now) k (packet.old ∷ reverse ps) × K.holds sink.new start (cut_by k (ps ++ packet.old ∷ []))) }
-    ensures err { (k : Cut) (start : Option (List ℕ)) (ps : List (List ℕ)) → Begins k (packet.old ∷ reverse ps) → StandsFor cutter.old kept.now k (reverse ps) → K.holds sink.old start (cut_by k ps)
-        → IfErr result (λ f. PassFails k packet.old ps f (K.holds sink.new start) (K.fails sink.new start)) }
+    ensures ok { (k : Cut) (start : Option (List ℕ)) (before ps : List (List ℕ)) → Begins k (packet.old ∷ reverse ps)
+        → StandsFor cutter.old kept.now k (reverse ps) → K.holds sink.old start (before ++ cut_by k ps)
+        → OnOk result ((unit_fault (k.pid ∷ []) packet.old (reverse ps) ≡ None)
+        × StandsFor cutter.new (kept_after k.pid packet.old packet.new kept.now) k (packet.old ∷ reverse ps)
+        × K.holds sink.new start (before ++ cut_by k (ps ++ packet.old ∷ []))) }
+    ensures err { (k : Cut) (start : Option (List ℕ)) (before ps : List (List ℕ)) → Begins k (packet.old ∷ reverse ps)
+        → StandsFor cutter.old kept.now k (reverse ps) → K.holds sink.old start (before ++ cut_by k ps)
+        → IfErr result (λ f. PassFails k packet.old ps f
+        (λ l. K.holds sink.new start (before ++ l)) (λ l. K.fails sink.new start (before ++ l))) }
     ensures last { IfOk result (λ is_last. is_last ≡ payload_on cutter.old.pid packet.old) }
     ensures well { OnOk result (WentWell (K.counts sink.old) (K.counts sink.new)) }
     ensures blamed { IfErr result (λ f. PassBlamed f (K.counts sink.old) (K.counts sink.new) (K.is_full sink.new)) }
@@ -77,28 +80,42 @@ pub(crate) fn pass<K: PacketSink>(
     }
 }
 
-/// Writes the network's packets but for those of the PID's units whose time lies in the interval from `from` on, for `length`
-/// ticks of 90 kHz.
-pub fn cut<S: Source, W: Target>(
-    network: &mut S,
-    out: &mut W,
+/// Puts the network's packets but for those of the PID's units whose time lies in the interval from `from` on, for `length`
+/// ticks of 90 kHz. The network is bytes, by a [`PacketReader`](ts_packet::PacketReader), or any other source of packets, and the
+/// output likewise any sink. It is neither buffered nor flushed here.
+///
+/// # Errors
+///
+/// The first fault of the network, once the cut of all packets before it is out; or the device's fault, at the packet where it came.
+pub fn cut<P: PacketSource, K: PacketSink>(
+    network: &mut P,
+    out: &mut K,
     pid: Pid,
     from: Time33,
     length: u32,
 ) -> Result<(), CutFault>
-    ensures ok { OnOk result (CutsAll pid from length (S.remaining network.old) (W.contents out.old) (W.contents out.new)) }
-    ensures err { IfErr result (λ f. Stops f pid from length (S.remaining network.old) (W.contents out.old) (W.contents out.new)) }
-    ensures counts { OnOk result (LastMovedNone (S.counts network.old) (S.counts network.new) × WentWell (W.counts out.old) (W.counts out.new)) }
-    ensures blamed { IfErr result (λ f. RunBlamed f S.remaining S.counts network.old network.new (W.counts out.old) (W.counts out.new)) }
+    requires { P.is_broken network.old ≡ false }
+    ensures ok { (start : Option (List ℕ)) (before : List (List ℕ)) → K.holds out.old start before
+        → OnOk result (CutsAll pid from length (P.left network.old) (λ ps. K.holds out.new start (before ++ ps))) }
+    ensures err { (start : Option (List ℕ)) (before : List (List ℕ)) → K.holds out.old start before
+        → IfErr result (λ f. Stops f pid from length (P.left network.old)
+        (λ ps. K.holds out.new start (before ++ ps)) (λ ps. K.fails out.new start (before ++ ps))) }
+    ensures read { OnOk result (SourceCounts false (P.has_ended network.old) (P.has_ended network.new)
+        (P.counts network.old) (P.counts network.new)) }
+    ensures wrote { OnOk result (WentWell (K.counts out.old) (K.counts out.new)) }
+    ensures reading { IfErr result (λ f. NetworkBlamed f (P.has_ended network.new) (P.counts network.old) (P.counts network.new)) }
+    ensures writing { IfErr result (λ f. OutputBlamed f (K.counts out.old) (K.counts out.new) (K.is_full out.new)) }
+    ensures turns { result ≡ Err (CutFault.Read ReadFault.Turns)
+        → Stalled P.leads P.counts P.falls_short network.old network.new ⊎ Exhausted P.left P.given network.old }
+    ensures reads { P.leads network.old network.new }
+    ensures leads { K.leads out.old out.new }
 {
-    let mut reader = PacketReader::new(network);
-    let mut writer = PacketWriter::new(out);
     let mut cutter = Cutter::new(pid, from, length);
     let mut slots = Slots::new();
     loop {
-        match slots.read(&mut reader) {
+        match slots.read(network) {
             Ok(true) => {
-                if let Err(fault) = slots.pass(&mut cutter, &mut writer) {
+                if let Err(fault) = slots.pass(&mut cutter, out) {
                     return Err(fault);
                 }
             }

@@ -1,5 +1,5 @@
 use Rattle.std.proofs.Common.{ap, ◌∙◌, slice_set}
-use Rattle.packet_lines.proofs.HeldLemmas.{line_ended}
+use Rattle.packet_lines.proofs.TextLemmas.{line_ended}
 use Rattle.packet_lines.proofs.line_writer.spell_line.Goals as goal
 
 pub returns-clause-line : goal.returns-clause-line

@@ -1,7 +1,6 @@
-use Rattle.std.proofs.Common.{◌≡◌, ◌≤◌, ◌<◌, length, take, arith, sym, ap, ◌∙◌, true, false, None, Some, Ok, Err, rules, nat_lt}
-use Rattle.std.specs.Prelude.{option_map}
+use Rattle.std.proofs.Common.{◌≡◌, ◌<◌, length, take, arith, sym, ap, ◌∙◌, Some, Err, rules, nat_lt}
 use Rattle.ts_packet.specs.declared.packet.PacketFault.TheVariants as packet_faults
-use Rattle.packet_lines.specs.Texts.{packet_in, judged}
+use Rattle.packet_lines.specs.Texts.{packet_in}
 use Rattle.packet_lines.proofs.TextLemmas.{line_given, line_refused, line_bad, line_none, judged_ok, judged_err, judged_none, well_or_none, below, read_so}
 use Rattle.packet_lines.proofs.line_reader.LineReaderPacketSource.read_packet.Goals as goal
 

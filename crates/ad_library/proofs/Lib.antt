@@ -1,0 +1,3 @@
+pub mod StoreLemmas
+pub mod PlacingLemmas
+pub mod FitLemmas

@@ -1,0 +1,2 @@
+pub mod HearingLemmas
+pub mod TalkLemmas

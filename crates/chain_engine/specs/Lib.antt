@@ -1,0 +1,4 @@
+pub mod Automation
+pub mod Judging
+pub mod Hearing
+pub mod Talks

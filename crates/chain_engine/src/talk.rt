@@ -1,0 +1,63 @@
+//! The talk with an automation: a piece before each packet, for as long as its session is open.
+
+use crate::automation::{Automation, Taken};
+use crate::hearing::{SessionEnd, hear};
+use crate::judge::Judge;
+use as_session::Session;
+use std::alloc::{AllocError, Allocator, Global};
+
+/// The most bytes of one take.
+const ROOM: usize = 4_096;
+
+/// The session of an automation, and why it is not listened to any more.
+#[derive(Drop)]
+pub(crate) struct Talk<M: Allocator = Global> {
+    session: Session<M>,
+    end: Option<SessionEnd>,
+    room: [u8; 4096],
+}
+
+impl<M: Allocator + Copy> Talk<M> {
+    ghost use Rattle.std.specs.Prelude.{[], IfOk};
+    ghost use Rattle.chain_engine.specs.Talks.{TalkStandsFor};
+
+    /// A talk that has not begun, with memory of this allocator.
+    pub(crate) fn new_in(alloc: M) -> Result<Talk<M>, AllocError>
+        ensures { IfOk result (λ talk. TalkStandsFor talk [] 0 0) }
+    {
+        Ok(Talk {
+            session: Session::new_in(alloc)?,
+            end: None,
+            room: [0; ROOM],
+        })
+    }
+}
+
+impl<M: Allocator> Talk<M> {
+    ghost use Rattle.std.specs.Prelude.{◌≡◌, ℕ, suc, ◌+◌, List, ◌++◌, length};
+    ghost use Rattle.scte104_codec.specs.declared.reply.Reply.{Reply};
+    ghost use Rattle.chain_engine.specs.Automation.{Take, Told};
+    ghost use Rattle.chain_engine.specs.Hearing.{Replied};
+    ghost use Rattle.chain_engine.specs.Talks.{TalkStandsFor, judged_before, loses, CountsEnd};
+
+    /// Takes a piece and hears it, while the session is open.
+    #[inline(always)]
+    pub(crate) fn listen<J: Judge, U: Automation>(&mut self, judge: &mut J, automation: &mut U)
+        ensures talk { (ts : List Take) (n k : ℕ) → TalkStandsFor self.old ts n k →
+            (more : List Take) × (rs : List Reply) × Told (U.takes automation.old) (U.takes automation.new) more
+            × TalkStandsFor self.new (ts ++ more) (n + length rs) (suc k)
+            × Replied J.judges judge.old judge.new (judged_before (n + length rs) (ts ++ more) k) rs (loses self.old.end self.new.end)
+            (U.answers automation.old) (U.answers automation.new) }
+        ensures failures { CountsEnd self.old.end self.new.end (U.failures automation.old) (U.failures automation.new) }
+    {
+        if self.end.is_some() {
+            return;
+        }
+        self.end = match automation.take(&mut self.room) {
+            Taken::Bytes(count) => hear(&mut self.session, &self.room[..count], judge, automation),
+            Taken::Nothing => None,
+            Taken::Ended => Some(SessionEnd::Ended),
+            Taken::Failed => Some(SessionEnd::TakeFailed),
+        };
+    }
+}
