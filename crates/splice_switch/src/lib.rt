@@ -13,6 +13,3 @@ mod switch;
 
 pub use report::SwitchReport;
 pub use switch::Switch;
-
-#[cfg(test)]
-mod tests;
