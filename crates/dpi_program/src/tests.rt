@@ -507,13 +507,6 @@ fn more_is_told_where_it_is_asked_for(rt: HostRuntime) -> Result<(), Fail> {
     let bad = run(&rt, &words, text.as_slice());
     let says = std::str::from_utf8(bad.faults.as_slice())?;
     assert_eq!(rt; says, "fault: BadLine\nreading standard input: line 2\n");
-    let text = lines(rt.alloc(), &[FIRST, "47410020B8"])?;
-    let refused = run(&rt, &words, text.as_slice());
-    let says = std::str::from_utf8(refused.faults.as_slice())?;
-    assert_eq!(rt;
-        says,
-        "fault: BadAdaptation\nreading standard input: packet 1, byte 188, PID 256 (0x0100)\n"
-    );
     Ok(())
 }
 

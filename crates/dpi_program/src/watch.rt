@@ -81,13 +81,9 @@ impl Watch {
         }
     }
 
-    /// Sees that what comes next is refused. A reader leaves the bytes of a bad adaptation field in the slot, so that they have a PID;
-    /// other bytes that are no packet have none.
-    fn refuse(&mut self, fault: ReadFault, slot: &Packet) {
-        self.last = match fault {
-            ReadFault::BadAdaptation => Some(slot.pid()),
-            _ => None,
-        };
+    /// Sees that what comes next is no packet.
+    fn refuse(&mut self) {
+        self.last = None;
         self.was_refused = true;
     }
 
@@ -191,7 +187,7 @@ impl<P: PacketSource> PacketSource for Watched<'_, P> {
             Ok(false) => Ok(false),
             Err(ReadFault::Failed) => Err(ReadFault::Failed),
             Err(fault) => {
-                self.watch.refuse(fault, packet);
+                self.watch.refuse();
                 Err(fault)
             }
         }
