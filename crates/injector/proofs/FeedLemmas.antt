@@ -24,7 +24,8 @@ use Rattle.event_table.proofs.AdvanceLemmas.{may-advance}
 use Rattle.program_follower.specs.declared.purpose.Listed.{Listed}
 use Rattle.program_follower.specs.declared.follower.Place.{Place}
 use Rattle.program_follower.specs.declared.follower.Place.TheVariants.{Marked, Cue, Map, Stream, Other}
-use Rattle.program_follower.specs.Program.{earlier, listed, since_pat, Table, table_of, tables, all_tables, first_map, Program, program_in, program_of, behind_head, pids_of}
+use Rattle.std.specs.Option.{option_or}
+use Rattle.program_follower.specs.Program.{listed, since_pat, Table, table_of, tables, all_tables, first_map, Program, program_in, program_of, behind_head, pids_of}
 use Rattle.program_follower.specs.Faults.{network_fault, cue_fault, on_cue, if_bad, bad_pids, cue_used, changed_from, pats_fault, table_fault, tables_fault, maps_fault, as_network, too_long, map_fault}
 use Rattle.program_follower.specs.Following.{grown, on_map, IsPlace}
 use Rattle.program_follower.proofs.FollowLemmas.{program_stays, grown_is, no_high}
@@ -39,11 +40,11 @@ use Rattle.injector.specs.Injecting.{is_map_place}
 
 -- ---- faults
 
-first-none : {A : Type 0} (x y : Option A) → earlier x y ≡ None → x ≡ None
+first-none : {A : Type 0} (x y : Option A) → option_or x y ≡ None → x ≡ None
 first-none None y is = refl
 first-none (Some a) y is = absurd (let no : Some a ≡ None = is in cc)
 
-second-none : {A : Type 0} (x y : Option A) → earlier x y ≡ None → y ≡ None
+second-none : {A : Type 0} (x y : Option A) → option_or x y ≡ None → y ≡ None
 second-none None y is = is
 second-none (Some a) y is = absurd (let no : Some a ≡ None = is in cc)
 
@@ -66,12 +67,12 @@ module _ (c : Config) (p : List ℕ) (past : List (List ℕ)) (good : network_fa
   no-cue : on_cue (Some c.cue_pid) p ≡ false
   no-cue = none-if (on_cue (Some c.cue_pid) p) _ (first-none (cue_fault (purpose_of c) p) _ good)
 
-  behind-cue : earlier (pats_fault (purpose_of c) (listed (Some c.program) past) (given 0 p past))
-      (earlier (maps_fault (purpose_of c) (listed (Some c.program) past) (first_map (all_tables (Some c.program) past)) (tables (Some c.program) p past))
+  behind-cue : option_or (pats_fault (purpose_of c) (listed (Some c.program) past) (given 0 p past))
+      (option_or (maps_fault (purpose_of c) (listed (Some c.program) past) (first_map (all_tables (Some c.program) past)) (tables (Some c.program) p past))
       (as_network (unit_fault (pids_of (program_of (Some c.program) past)) p (behind_head (Some c.program) past)))) ≡ None
   behind-cue = second-none (cue_fault (purpose_of c) p) _ good
 
-  behind-pats : earlier (maps_fault (purpose_of c) (listed (Some c.program) past) (first_map (all_tables (Some c.program) past)) (tables (Some c.program) p past))
+  behind-pats : option_or (maps_fault (purpose_of c) (listed (Some c.program) past) (first_map (all_tables (Some c.program) past)) (tables (Some c.program) p past))
       (as_network (unit_fault (pids_of (program_of (Some c.program) past)) p (behind_head (Some c.program) past))) ≡ None
   behind-pats = second-none (pats_fault (purpose_of c) (listed (Some c.program) past) (given 0 p past)) _ behind-cue
 
@@ -139,8 +140,8 @@ turns-high program (Packet p ∷ past) = refl
 
 -- ---- tables
 
-last-none : (v w x y z : Option NetworkFault) → earlier v (earlier w (earlier x (earlier y z))) ≡ None → z ≡ None
-last-none v w x y z is = second-none y z (second-none x (earlier y z) (second-none w (earlier x (earlier y z)) (second-none v (earlier w (earlier x (earlier y z))) is)))
+last-none : (v w x y z : Option NetworkFault) → option_or v (option_or w (option_or x (option_or y z))) ≡ None → z ≡ None
+last-none v w x y z is = second-none y z (second-none x (option_or y z) (second-none w (option_or x (option_or y z)) (second-none v (option_or w (option_or x (option_or y z))) is)))
 
 map-room : (c : Config) (pid : ℕ) (first : Option ProgramMap) (o : Option ProgramMap) → table_fault (purpose_of c) pid first o ≡ None → HasRoom (Added c.cue_pid) o
 map-room c pid first None good = tt
@@ -158,7 +159,7 @@ all-room c pid first program (s ∷ ss) good can =
     let some = (sound s (All-head CanBeGiven s ss can)).least in
     All-cons (GoesOut (Added c.cue_pid)) t (map (table_of program) ss)
     (record { some = omega arith; room = map-room c pid first t.program_map (first-none (table_fault (purpose_of c) pid first t.program_map) _ good) })
-    (all-room c pid (earlier first t.program_map) program ss (second-none (table_fault (purpose_of c) pid first t.program_map) _ good) (All-tail CanBeGiven s ss can))
+    (all-room c pid (option_or first t.program_map) program ss (second-none (table_fault (purpose_of c) pid first t.program_map) _ good) (All-tail CanBeGiven s ss can))
 
 pub tables-go : (c : Config) (p : List ℕ) (past : List (List ℕ)) → network_fault (purpose_of c) p past ≡ None → AllGoOut (Added c.cue_pid) (tables (Some c.program) p past)
 tables-go c p past good = by (listed (Some c.program) past) (no-maps c p past good)
