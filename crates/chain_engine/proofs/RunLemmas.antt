@@ -74,6 +74,11 @@ few_takes : (end : Option SessionEnd) (ts : List Take) (n k : ℕ) → HasTalked
 few_takes None ts n k t = omega (arith, t.0)
 few_takes (Some end) ts n k t = t.0
 
+both_said : (A B : Type 0) (cause : Cause) → SaysBy cause A → SaysBy cause B → SaysBy cause (A × B)
+both_said A B OfInput a b = (a, b)
+both_said A B OfDevice a b = tt
+both_said A B OfNothing a b = a
+
 -- ---- the begin
 
 not_empty : {X : Type 0} (xs : List X) (x : X) → [] ≡ xs ++ x ∷ [] → ⊥
@@ -84,17 +89,17 @@ not_empty xs x e =
 
 begins_open : (end : Option SessionEnd) (n k : ℕ) → HasTalked end [] n k → end ≡ None
 begins_open None n k t = refl
-begins_open (Some Ended) n k (le, ts, e, more) = absurd (not_empty ts ended e)
-begins_open (Some TakeFailed) n k (le, ts, e, more) = absurd (not_empty ts failed e)
-begins_open (Some BadSize) n k (le, ts, bs, e, more) = absurd (not_empty ts (piece bs) e)
-begins_open (Some AnswerFailed) n k (le, ts, bs, e, more) = absurd (not_empty ts (piece bs) e)
+begins_open (Some Ended) n k (le, (ts, e, o, m)) = absurd (not_empty ts ended e)
+begins_open (Some TakeFailed) n k (le, (ts, e, o, m)) = absurd (not_empty ts failed e)
+begins_open (Some BadSize) n k (le, (ts, bs, e, o, m, f)) = absurd (not_empty ts (piece bs) e)
+begins_open (Some AnswerFailed) n k (le, (ts, bs, e, o, l, m)) = absurd (not_empty ts (piece bs) e)
 
-module _ {M X : Type 0} (takes : X → Option (List Take)) (answers : X → Option (List Answer)) (failures : X → ℕ) (c : Config) where
+module _ {X : Type 0} (takes : X → Option (List Take)) (answers : X → Option (List Answer)) (failures : X → ℕ) (c : Config) where
   none_exchanged : (x : X) (end : Option SessionEnd) → end ≡ None → Exchanged takes answers failures x x end [] []
   none_exchanged x None e = record { took = told_none (takes x); answered = told_none (answers x); counted = refl }
   none_exchanged x (Some end) e = absurd (cc)
 
-  pub begun : (chain : Chain M) (is_out : List (List ℕ) → Type 0) (x : X) → ChainStandsFor chain c → is_out [] → HasRun c chain.injector chain.talk is_out (Exchanged takes answers failures x x) []
+  pub begun : {M : Type 0} (chain : Chain M) (is_out : List (List ℕ) → Type 0) (x : X) → ChainStandsFor chain c → is_out [] → HasRun c chain.injector chain.talk is_out (Exchanged takes answers failures x x) []
   begun chain is_out x h o = record {
     sound = All-nil _;
     ts = [];
@@ -120,7 +125,7 @@ module _ {M X : Type 0} (takes : X → Option (List Take)) (answers : X → Opti
   }
 
   module _ (is_out : List (List ℕ) → Type 0) (ps : List (List ℕ)) (x : X) where
-    heard_closed : (y : X) (injector : Injector) (talk : Talk M) → is_some talk.end ≡ true → HasRun c injector talk is_out (Exchanged takes answers failures x y) ps
+    heard_closed : {M : Type 0} (y : X) (injector : Injector) (talk : Talk M) → is_some talk.end ≡ true → HasRun c injector talk is_out (Exchanged takes answers failures x y) ps
         → HasHeard c injector talk is_out (Exchanged takes answers failures x y) ps
     heard_closed y injector talk is h =
         let goes = goes_closed talk.end (state_of talk.session) h.ts (length h.rs) (length ps) is h.talks.talked in
@@ -137,7 +142,7 @@ module _ {M X : Type 0} (takes : X → Option (List Take)) (answers : X → Opti
           out = subst (λ s. is_out (sent_by c s)) (sym same) h.out;
         }
 
-    module _ (y z : X) (injector injector' : Injector) (talk talk' : Talk M) (h : HasRun c injector talk is_out (Exchanged takes answers failures x y) ps) where
+    module _ {M : Type 0} (y z : X) (injector injector' : Injector) (talk talk' : Talk M) (h : HasRun c injector talk is_out (Exchanged takes answers failures x y) ps) where
       abbrev Listens : Type 0
       Listens = (ts : List Take) (n k : ℕ) → TalkStandsFor talk ts n k →
           (more : List Take) × (rs : List Reply) × Told (takes y) (takes z) more × TalkStandsFor talk' (ts ++ more) (n + length rs) (suc k)
@@ -148,10 +153,10 @@ module _ {M X : Type 0} (takes : X → Option (List Take)) (answers : X → Opti
           let (more, rs, told, stands, replied) = listens h.ts (length h.rs) (length ps) h.talks in
           let n = length h.rs in
           let m = length rs in
-          let open = subst (λ (end : Option SessionEnd). HasTalked end h.ts n (length ps)) e h.talks.talked in
+          let is_open = subst (λ (end : Option SessionEnd). HasTalked end h.ts n (length ps)) e h.talks.talked in
           let sum : length (h.rs ++ rs) ≡ n + m = length-append h.rs rs in
           let back : length (reverse ps) ≡ length ps = length-reverse ps in
-          let stay = steps_stay h.ts more n m open.2 (reverse ps) (omega (arith, back, open.0)) in
+          let stay = steps_stay h.ts more n m is_open.2 (reverse ps) (omega (arith, back, is_open.0)) in
           let ms = judged_before (n + m) (h.ts ++ more) (length (reverse ps)) in
           let judged : JudgesAll InjectorJudges injector ms rs injector' = subst (λ k. JudgesAll InjectorJudges injector (judged_before (n + m) (h.ts ++ more) k) rs injector') (sym back) replied.judged in
           let done = asked_judged c ms rs injector injector' (steps_of n h.ts (reverse ps)) judged h.stands in
@@ -186,8 +191,8 @@ reverse_onto : (past ps : List (List ℕ)) → reverse (onto past ps) ≡ revers
 reverse_onto past [] = sym (append-nil (reverse past))
 reverse_onto past (p ∷ ps) = reverse_onto (p ∷ past) ps ∙ ap (λ l. l ++ ps) (reverse-append (p ∷ []) past) ∙ append_assoc (reverse past) (p ∷ []) ps
 
-module _ {M : Type 0} (c : Config) (exchanged : Option SessionEnd → List Take → List Reply → Type 0) (ps : List (List ℕ)) where
-  pub passed : (injector injector' : Injector) (talk : Talk M) (is_out is_out' : List (List ℕ) → Type 0) (p : List ℕ) → HasHeard c injector talk is_out exchanged ps
+module _ (c : Config) (exchanged : Option SessionEnd → List Take → List Reply → Type 0) (ps : List (List ℕ)) where
+  pub passed : {M : Type 0} (injector injector' : Injector) (talk : Talk M) (is_out is_out' : List (List ℕ) → Type 0) (p : List ℕ) → HasHeard c injector talk is_out exchanged ps
       → ((steps : List Step) → InjectorStandsFor injector c steps → is_out (sent_by c steps)
       → (network_fault (purpose_of c) p (packets_in steps) ≡ None) × InjectorStandsFor injector' c (Packet p ∷ steps) × is_out' (sent_by c steps ++ sent_at c p steps))
       → HasRun c injector' talk is_out' exchanged (ps ++ p ∷ [])
@@ -209,7 +214,7 @@ module _ {M : Type 0} (c : Config) (exchanged : Option SessionEnd → List Take 
 
   -- ---- the end
 
-  pub ends : (injector : Injector) (talk : Talk M) (is_out : List (List ℕ) → Type 0) (input left : Option (List ℕ)) (report : Report) → HasRead input left ps → IsAtEnd left
+  pub ends : {M : Type 0} (injector : Injector) (talk : Talk M) (is_out : List (List ℕ) → Type 0) (input left : Option (List ℕ)) (report : Report) → HasRead input left ps → IsAtEnd left
       → HasRun c injector talk is_out exchanged ps → ((steps : List Step) → JudgesBy injector c steps → report ≡ report_of c steps) → InjectsAll c input is_out exchanged report
   ends injector talk is_out None left report r at h counts = tt
   ends injector talk is_out (Some bs) left report r at h counts =
@@ -227,11 +232,6 @@ module _ {M : Type 0} (c : Config) (exchanged : Option SessionEnd → List Take 
 
   abbrev AreSound : Type 0
   AreSound = All (λ (s : Seen). network_test as_run_fault (purpose_of c) s ≡ None) (seen_after [] ps)
-
-  both_said : {A B : Type 0} (cause : Cause) → SaysBy cause A → SaysBy cause B → SaysBy cause (A × B)
-  both_said OfInput a b = (a, b)
-  both_said OfDevice a b = tt
-  both_said OfNothing a b = a
 
   before_at : (bs p : List ℕ) (qs : List (List ℕ)) (f : RunFault) → packets_of bs ≡ ps ++ p ∷ qs → All (λ q. packet_fault q ≡ None) ps → AreSound
       → fault_of Read (network_test as_run_fault (purpose_of c)) (record { packet = p; past = reverse ps }) ≡ Some f → before_fault c bs ≡ ps
@@ -254,7 +254,7 @@ module _ {M : Type 0} (c : Config) (exchanged : Option SessionEnd → List Take 
     before_read read_faults.Turns k = tt
     before_read read_faults.Failed k = absurd (cc)
 
-  pub read_stops : (injector : Injector) (talk : Talk M) (is_out : List (List ℕ) → Type 0) (fails : List (List ℕ) → List ℕ → PutFault → Type 0) (input left : Option (List ℕ)) → HasRead input left ps
+  pub read_stops : {M : Type 0} (injector : Injector) (talk : Talk M) (is_out : List (List ℕ) → Type 0) (fails : List (List ℕ) → List ℕ → PutFault → Type 0) (input left : Option (List ℕ)) → HasRead input left ps
       → HasRun c injector talk is_out exchanged ps → (fault : ReadFault) → Refuses false left fault → StopsAt c (Read fault) input is_out fails exchanged
   read_stops injector talk is_out fails None left r h fault k = tt
   read_stops injector talk is_out fails (Some bs) None r h fault k = absurd r.bytes
@@ -265,7 +265,7 @@ module _ {M : Type 0} (c : Config) (exchanged : Option SessionEnd → List Take 
         passed = ps;
         rest = packets_of rest;
         parts = ap packets_of r.bytes ∙ packets_of-append ps rest r.sizes;
-        says = both_said (read_cause fault) (reader_stops Read (network_test as_run_fault (purpose_of c)) (Some bs) (Some rest) ps r h.sound fault k) (before_read bs rest r h.sound fault k);
+        says = both_said (first_fault c bs ≡ Some (Read fault)) (before_fault c bs ≡ ps) (read_cause fault) (reader_stops Read (network_test as_run_fault (purpose_of c)) (Some bs) (Some rest) ps r h.sound fault k) (before_read bs rest r h.sound fault k);
         ts = h.ts;
         rs = h.rs;
         serves = record { ending = talk.end; talked = h.talks.talked; exchanges = h.exchanges; replies = h.replies ∙ ap (replies_in c) (sym same) };
@@ -274,7 +274,7 @@ module _ {M : Type 0} (c : Config) (exchanged : Option SessionEnd → List Take 
 
   -- ---- a packet is not passed on
 
-  pub feed_stops : {S : Type 0} (injector : Injector) (talk : Talk M) (is_out : S → List (List ℕ) → Type 0) (fails : List (List ℕ) → List ℕ → PutFault → Type 0) (s t : S)
+  pub feed_stops : {M S : Type 0} (injector : Injector) (talk : Talk M) (is_out : S → List (List ℕ) → Type 0) (fails : List (List ℕ) → List ℕ → PutFault → Type 0) (s t : S)
       (input left left' : Option (List ℕ)) (p : List ℕ) → HasRead input left ps → Given left left' p → HasHeard c injector talk (is_out s) exchanged ps → (fault : FeedFault) → KeepsSink fault s t
       → ((steps : List Step) → InjectorStandsFor injector c steps → is_out s (sent_by c steps) → FeedFails fault c p steps (λ put q f. fails (sent_by c steps ++ put) q f))
       → StopsAt c (Feed fault) input (is_out t) fails exchanged
@@ -316,3 +316,10 @@ module _ {M : Type 0} (c : Config) (exchanged : Option SessionEnd → List Take 
         leaves = (p, packets_of rest, refl, k);
       }
       by Failed kept k = absurd k
+
+-- what follows from how a sink failed
+pub fails_so : (fault : FeedFault) (c : Config) (p : List ℕ) (steps : List Step) (fails fails' : List (List ℕ) → List ℕ → PutFault → Type 0) → ((put : List (List ℕ)) (q : List ℕ) (f : PutFault) → fails put q f → fails' put q f)
+    → FeedFails fault c p steps fails → FeedFails fault c p steps fails'
+fails_so (Network f) c p steps fails fails' so h = h
+fails_so (Sink f) c p steps fails fails' so h = record { put = h.put; packet = h.packet; left = h.left; all = h.all; fault = so h.put h.packet f h.fault }
+fails_so Failed c p steps fails fails' so h = absurd h
