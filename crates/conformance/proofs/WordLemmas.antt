@@ -1,6 +1,7 @@
 -- Words between spaces, and the packets that they spell.
 use Rattle.std.proofs.Common.{◌≡◌, ℕ, zero, suc, ◌+◌, ◌<◌, List, [], ◌∷◌, ◌++◌, Bool, true, false, nat_eq, length, take, drop, get_or, Option, None, Some, refl, sym, ap, ◌∙◌, append_assoc, add-one, eqb-true, arith}
 use Rattle.std.specs.Prelude.{option_map}
+use Rattle.hex_digits.proofs.DigitLemmas.{behind}
 use Rattle.conformance.specs.Sections.{before_word, words_of, packet_of, packet_before, packets_in}
 
 -- ---- the first word
@@ -29,9 +30,6 @@ cut_nowhere (x ∷ xs) ne =
     first ∙ ap (before_word x) (cut_nowhere xs (λ k h. ne (suc k) (omega arith)))
 
 -- ---- packets behind others
-
-abbrev pub behind : List (List ℕ) → Option (List (List ℕ)) → Option (List (List ℕ))
-behind before packets = option_map (λ ps. before ++ ps) packets
 
 pub behind-packet_before : (before : List (List ℕ)) (p : List ℕ) (packets : Option (List (List ℕ)))
     → behind (before ++ p ∷ []) packets ≡ behind before (packet_before (Some p) packets)

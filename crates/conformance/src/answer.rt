@@ -20,7 +20,8 @@ use std::io::{self, Write};
 
 /// Writes the answer to a line, which is given without its line feed.
 pub fn write_answer<O: Write>(alloc: Global, output: &mut O, line: &[u8]) -> io::Result<()>
-    ensures { OnOk result ((text : List ℕ) × IsAnswer line.now text × Appends (O.contents output.old) (O.contents output.new) text) }
+    ensures { OnOk result ((text : List ℕ) × IsAnswer line.now text
+        × Appends (O.contents output.old) (O.contents output.new) text) }
 {
     match kind_of(line) {
         None => writeln!(output, "bad line"),
@@ -34,7 +35,8 @@ pub fn write_answer<O: Write>(alloc: Global, output: &mut O, line: &[u8]) -> io:
 
 /// Writes what the packets of these words finish.
 fn write_sections<O: Write>(alloc: Global, output: &mut O, words: &[u8]) -> io::Result<()>
-    ensures { OnOk result ((text : List ℕ) × IsPacketsAnswer (packets_in (words_of words.now)) text × Appends (O.contents output.old) (O.contents output.new) text) }
+    ensures { OnOk result ((text : List ℕ) × IsPacketsAnswer (packets_in (words_of words.now)) text
+        × Appends (O.contents output.old) (O.contents output.new) text) }
 {
     match packets_of(alloc, words)? {
         None => writeln!(output, "bad line"),
@@ -44,7 +46,8 @@ fn write_sections<O: Write>(alloc: Global, output: &mut O, words: &[u8]) -> io::
 
 /// Writes what these bytes are.
 fn write_reading<O: Write>(output: &mut O, codec: Codec, bytes: &[u8]) -> io::Result<()>
-    ensures { OnOk result (Appends (O.contents output.old) (O.contents output.new) (ended (reading_text codec bytes.now))) }
+    ensures { OnOk result (Appends (O.contents output.old) (O.contents output.new)
+        (ended (reading_text codec bytes.now))) }
 {
     match codec {
         Codec::Cue => write_cue(output, bytes),
@@ -55,7 +58,8 @@ fn write_reading<O: Write>(output: &mut O, codec: Codec, bytes: &[u8]) -> io::Re
 
 /// Writes the cue that these bytes are, or why they are none.
 fn write_cue<O: Write>(output: &mut O, bytes: &[u8]) -> io::Result<()>
-    ensures { OnOk result (Appends (O.contents output.old) (O.contents output.new) (ended (cue_reading_text (cue_of bytes.now)))) }
+    ensures { OnOk result (Appends (O.contents output.old) (O.contents output.new)
+        (ended (cue_reading_text (cue_of bytes.now)))) }
 {
     match scte35_codec::read(bytes) {
         Ok(cue) => {
@@ -72,7 +76,8 @@ fn write_cue<O: Write>(output: &mut O, bytes: &[u8]) -> io::Result<()>
 /// Writes the message at the front of these bytes, or what is missing of it.
 #[tactic(auto, using(crate::proofs::FrameLemmas::whole_fits, crate::proofs::FrameLemmas::front_size, crate::proofs::FrameLemmas::front_whole))]
 fn write_message<O: Write>(output: &mut O, bytes: &[u8]) -> io::Result<()>
-    ensures { OnOk result (Appends (O.contents output.old) (O.contents output.new) (ended (front_text bytes.now (frame_of bytes.now)))) }
+    ensures { OnOk result (Appends (O.contents output.old) (O.contents output.new)
+        (ended (front_text bytes.now (frame_of bytes.now)))) }
 {
     match scte104_codec::frame(bytes) {
         Frame::Whole(size) => write_whole(output, &bytes[..size]),
@@ -86,7 +91,8 @@ fn write_message<O: Write>(output: &mut O, bytes: &[u8]) -> io::Result<()>
 /// Writes this message, or how it breaks the syntax.
 fn write_whole<O: Write>(output: &mut O, message: &[u8]) -> io::Result<()>
     requires { frame_of message.now ≡ Whole (length message.now) }
-    ensures { OnOk result (Appends (O.contents output.old) (O.contents output.new) (ended (message_reading_text message.now (message_of message.now)))) }
+    ensures { OnOk result (Appends (O.contents output.old) (O.contents output.new)
+        (ended (message_reading_text message.now (message_of message.now)))) }
 {
     match scte104_codec::read(message) {
         Ok(read) => {

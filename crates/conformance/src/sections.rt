@@ -80,7 +80,8 @@ fn keep(
     place: usize,
     finished: &mut Vec<Finished>,
 ) -> Result<(), AllocError>
-    ensures { OnOk result (map placed finished.new.items ≡ map placed finished.old.items ++ at_place place (sections_left sections.entry)) }
+    ensures { OnOk result (map placed finished.new.items
+        ≡ map placed finished.old.items ++ at_place place (sections_left sections.entry)) }
 {
     for section in sections {
         let section = Vec::from_slice(alloc, section)?;
@@ -102,7 +103,8 @@ fn feed(
     ensures waits { (pid : ℕ) (past : List (List ℕ)) → IsOf pid packet.now → Waits assembler.old pid past →
         OnOk result (Waits assembler.new pid (packet.now ∷ past)) }
     ensures finished { (pid : ℕ) (past : List (List ℕ)) → IsOf pid packet.now → Waits assembler.old pid past →
-        OnOk result (map placed finished.new.items ≡ map placed finished.old.items ++ at_place place (given pid packet.now past)) }
+        OnOk result (map placed finished.new.items
+        ≡ map placed finished.old.items ++ at_place place (given pid packet.now past)) }
 {
     assembler.feed(packet);
     keep(alloc, assembler.sections(), place, finished)?;

@@ -51,7 +51,8 @@ fn write_pmt<O: Write>(output: &mut O, bytes: &[u8]) -> io::Result<()>
 
 /// Writes the map with the cue entry of this PID added, or that it has no room for it.
 fn write_added<O: Write>(output: &mut O, pmt: &Pmt<'_>, cue_pid: Pid) -> io::Result<()>
-    ensures { OnOk result (Appends (O.contents output.old) (O.contents output.new) (added_text (section_or_too_long (with_cue_entry cue_pid (map_of pmt.now.bytes.now))))) }
+    ensures { OnOk result (Appends (O.contents output.old) (O.contents output.new)
+        (added_text (section_or_too_long (with_cue_entry cue_pid (map_of pmt.now.bytes.now))))) }
 {
     match add_cue(pmt, cue_pid) {
         Ok(section) => {

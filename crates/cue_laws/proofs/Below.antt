@@ -3,14 +3,14 @@ use Rattle.std.proofs.Common.{◌≡◌, ℕ, ◌<◌, ◌≤◌, ◌==◌, Bool
 use Rattle.std.specs.Prelude.{ℤ, pos, ◌+ℤ◌, ◌<ℤ◌, ◌≤ℤ◌, int_lt, filter, map, is_some, if◌then◌else◌}
 use Rattle.std.proofs.lemmas.Int.{ints}
 use Rattle.std.proofs.lemmas.Bool.Decides.{nat_tests}
-use Rattle.cue_laws.specs.Events.{Event, Started, Cancelled, Ended, before, taken, stands, is_of, bars, count, can_start, fresh, can_cancel, cancel_by, can_end, end_by, or_so, In}
+use Rattle.cue_laws.specs.Events.{LineEvent, Started, Cancelled, Ended, before, taken, stands, is_of, bars, count, can_start, fresh, can_cancel, cancel_by, can_end, end_by, or_so, In}
 use Rattle.cue_laws.specs.Thinning.{Repeats}
 use Rattle.cue_laws.proofs.Settling.{by_test, both, lt-test, lt-is, can_start-parts, CanStart, and_off}
 use Rattle.cue_laws.proofs.Lists.{In-map, In-mapped, In-filter, In-filtered, any-false, any-none, Distinct, distinct-filter, distinct-map, no_more}
 use Rattle.cue_laws.proofs.Orders.{Orderly, before-more, is_of-parts, is_of-is, or-left}
 
 -- the same event: here it may be uncancelled where it is cancelled there
-pub record Match (a t : Event) : Type 0 where
+pub record Match (a t : LineEvent) : Type 0 where
   pub id : a.id ≡ t.id
   pub start : a.start ≡ t.start
   pub asked : a.asked ≡ t.asked
@@ -18,39 +18,39 @@ pub record Match (a t : Event) : Type 0 where
   pub cancelled : a.cancelled ≡ true → t.cancelled ≡ true
 
 -- THE INVARIANT: each event here stands there
-pub record Below (es all : List Event) : Type 0 where
-  pub part : (a : Event) → In a es → (t : Event) × In t all × Match a t
+pub record Below (es all : List LineEvent) : Type 0 where
+  pub part : (a : LineEvent) → In a es → (t : LineEvent) × In t all × Match a t
   pub distinct : Distinct es
 
 pub below-none : Below [] []
 below-none = record { part = λ a i. absurd i; distinct = tt }
 
 -- each event of the one list has its like in the other after a change
-below-to : (f : Event → Event) → ((e : Event) → (f e).start ≡ e.start) → (es all all' : List Event) → Below es all
-    → ((a t : Event) → In t all → Match a t → (u : Event) × In u all' × Match (f a) u) → Below (map f es) all'
+below-to : (f : LineEvent → LineEvent) → ((e : LineEvent) → (f e).start ≡ e.start) → (es all all' : List LineEvent) → Below es all
+    → ((a t : LineEvent) → In t all → Match a t → (u : LineEvent) × In u all' × Match (f a) u) → Below (map f es) all'
 below-to f keeps es all all' b like = record {
   part = λ a i. let r = In-mapped f a es i in let m = b.part r.0 r.1 in let u = like r.0 m.0 m.1 m.2 in (u.0, u.1, subst (λ z. Match z u.0) (sym r.2) u.2);
   distinct = distinct-map f keeps es b.distinct;
 }
 
-pub match-stands : (h : Option ℤ) (a t : Event) → Match a t → stands h a ≡ stands h t
+pub match-stands : (h : Option ℤ) (a t : LineEvent) → Match a t → stands h a ≡ stands h t
 match-stands h a t m = ap (λ e. before h (e +ℤ pos 900000)) m.end
 
-pub match-is_of : (h : Option ℤ) (id : ℕ) (a t : Event) → Match a t → is_of h id a ≡ is_of h id t
+pub match-is_of : (h : Option ℤ) (id : ℕ) (a t : LineEvent) → Match a t → is_of h id a ≡ is_of h id t
 match-is_of h id a t m = ap (λ e. before h (e +ℤ pos 900000) && a.id == id) m.end ∙ ap (λ i. stands h t && i == id) m.id
 
-pub match-can_cancel : (h : Option ℤ) (id : ℕ) (a t : Event) → Match a t → can_cancel h id a ≡ can_cancel h id t
+pub match-can_cancel : (h : Option ℤ) (id : ℕ) (a t : LineEvent) → Match a t → can_cancel h id a ≡ can_cancel h id t
 match-can_cancel h id a t m = ap (λ v. v && before h a.start) (match-is_of h id a t m) ∙ ap (λ s. is_of h id t && before h s) m.start
 
 -- ---- what is left out
 
-pub skip_start : (h : Option ℤ) (id : ℕ) (start end : ℤ) (es all : List Event) → Below es all → Below es (taken h (Started id start end) all)
+pub skip_start : (h : Option ℤ) (id : ℕ) (start end : ℤ) (es all : List LineEvent) → Below es all → Below es (taken h (Started id start end) all)
 skip_start h id start end es all b =
     by_test (can_start h id start end all)
     (λ can. simp can (record { part = λ a i. let r = b.part a i in (r.0, inr r.1, r.2); distinct = b.distinct }))
     (λ can. simp can b)
 
-pub skip_cancel : (h : Option ℤ) (id : ℕ) (es all : List Event) → Below es all → Below es (taken h (Cancelled id) all)
+pub skip_cancel : (h : Option ℤ) (id : ℕ) (es all : List LineEvent) → Below es all → Below es (taken h (Cancelled id) all)
 skip_cancel h id es all b = record {
   part = λ a i. let r = b.part a i in let m = r.2 in (
     cancel_by h id r.0,
@@ -63,14 +63,14 @@ skip_cancel h id es all b = record {
 -- ---- what arrives, where all is as the cue left it
 
 -- all that a cancel cancels is cancelled
-abbrev pub IsCancelledBy : Option ℤ → ℕ → List Event → Type 0
-IsCancelledBy h id all = (t : Event) → In t all → can_cancel h id t ≡ true → t.cancelled ≡ true
+abbrev pub IsCancelledBy : Option ℤ → ℕ → List LineEvent → Type 0
+IsCancelledBy h id all = (t : LineEvent) → In t all → can_cancel h id t ≡ true → t.cancelled ≡ true
 
 or-split : (a b : Bool) → or_so a b ≡ true → (a ≡ true) ⊎ (b ≡ true)
 or-split a true is = inr refl
 or-split a false is = inl is
 
-pub take_cancel : (h : Option ℤ) (id : ℕ) (es all : List Event) → IsCancelledBy h id all → Below es all → Below (taken h (Cancelled id) es) all
+pub take_cancel : (h : Option ℤ) (id : ℕ) (es all : List LineEvent) → IsCancelledBy h id all → Below es all → Below (taken h (Cancelled id) es) all
 take_cancel h id es all done b =
     below-to (cancel_by h id) (λ e. refl) es all all b
     (λ a t i m. (
@@ -85,12 +85,12 @@ take_cancel h id es all done b =
       },
     ))
   where
-    which : (a t : Event) → In t all → Match a t → (a.cancelled ≡ true) ⊎ (can_cancel h id a ≡ true) → t.cancelled ≡ true
+    which : (a t : LineEvent) → In t all → Match a t → (a.cancelled ≡ true) ⊎ (can_cancel h id a ≡ true) → t.cancelled ≡ true
     which a t i m (inl c) = m.cancelled c
     which a t i m (inr c) = done t i (sym (match-can_cancel h id a t m) ∙ c)
 
 -- where the event there is not cancelled, an end does the same to both
-end_same : (h : Option ℤ) (id : ℕ) (time : ℤ) (a t : Event) → Match a t → (is_of h id t ≡ true → t.cancelled ≡ false) → can_end h id time a ≡ can_end h id time t
+end_same : (h : Option ℤ) (id : ℕ) (time : ℤ) (a t : LineEvent) → Match a t → (is_of h id t ≡ true → t.cancelled ≡ false) → can_end h id time a ≡ can_end h id time t
 end_same h id time a t m un =
     by_test (is_of h id t)
     (λ s.
@@ -101,7 +101,7 @@ end_same h id time a t m un =
     ∙ ap (λ v. is_of h id t && (not t.cancelled && (int_lt t.start time && (before h time && int_lt time v)))) m.end)
     (λ s. and_off (is_of h id a) _ (match-is_of h id a t m ∙ s) ∙ sym (and_off (is_of h id t) _ s))
 
-pub take_end : (h : Option ℤ) (id : ℕ) (time : ℤ) (es all : List Event) → ((t : Event) → In t all → is_of h id t ≡ true → t.cancelled ≡ false)
+pub take_end : (h : Option ℤ) (id : ℕ) (time : ℤ) (es all : List LineEvent) → ((t : LineEvent) → In t all → is_of h id t ≡ true → t.cancelled ≡ false)
     → Below es all → Below (taken h (Ended id time) es) (taken h (Ended id time) all)
 take_end h id time es all un b =
     below-to (end_by h id time) (λ e. refl) es all (map (end_by h id time) all) b
@@ -120,28 +120,28 @@ take_end h id time es all un b =
 -- ---- a start that arrives
 
 -- the event of a start cue, in a list that took the cue or had it before
-pub record IsThere (h : Option ℤ) (id : ℕ) (start end : ℤ) (all : List Event) (x : Event) : Type 0 where
+pub record IsThere (h : Option ℤ) (id : ℕ) (start end : ℤ) (all : List LineEvent) (x : LineEvent) : Type 0 where
   pub clock : is_some h ≡ true
   pub ahead : before h start ≡ true
   pub there : In x all
   pub repeats : Repeats id start end x
 
-take_start_new : (h : Option ℤ) (id : ℕ) (start end : ℤ) (es all : List Event) (x : Event) → Orderly h all → IsThere h id start end all x → Below es all
-    → ((e : Event) → In e es → e.start ≡ start → ⊥) → Below (fresh id start end ∷ es) all
+take_start_new : (h : Option ℤ) (id : ℕ) (start end : ℤ) (es all : List LineEvent) (x : LineEvent) → Orderly h all → IsThere h id start end all x → Below es all
+    → ((e : LineEvent) → In e es → e.start ≡ start → ⊥) → Below (fresh id start end ∷ es) all
 take_start_new h id start end es all x o x_is b none = record { part = part; distinct = (λ e i is. none e i is, b.distinct) }
   where
     here : Match (fresh id start end) x
     here = let r = x_is.repeats in
         record { id = sym r.same_id; start = sym r.same_start; asked = sym r.same_asked; end = sym r.unshortened; cancelled = λ c. let bad : false ≡ true = c in cc }
 
-    part : (a : Event) → In a (fresh id start end ∷ es) → (t : Event) × In t all × Match a t
+    part : (a : LineEvent) → In a (fresh id start end ∷ es) → (t : LineEvent) × In t all × Match a t
     part a (inl is) = (x, x_is.there, subst (λ z. Match z x) (sym is) here)
     part a (inr i) = b.part a i
 
-there-some : (h : Option ℤ) (id : ℕ) (start end : ℤ) (all : List Event) (x : Event) → Orderly h all → IsThere h id start end all x → start <ℤ end
+there-some : (h : Option ℤ) (id : ℕ) (start end : ℤ) (all : List LineEvent) (x : LineEvent) → Orderly h all → IsThere h id start end all x → start <ℤ end
 there-some h id start end all x o x_is = let s = o.some x x_is.there in let r = x_is.repeats in omega (arith, ints, s, r.same_start, r.unshortened)
 
-there-stands : (h : Option ℤ) (id : ℕ) (start end : ℤ) (all : List Event) (x : Event) → Orderly h all → IsThere h id start end all x → stands h x ≡ true
+there-stands : (h : Option ℤ) (id : ℕ) (start end : ℤ) (all : List LineEvent) (x : LineEvent) → Orderly h all → IsThere h id start end all x → stands h x ≡ true
 there-stands h id start end all x o x_is =
     let s = o.some x x_is.there in let r = x_is.repeats in
     before-more h start (x.end +ℤ pos 900000) x_is.ahead (omega (arith, ints, s, r.same_start))
@@ -149,13 +149,13 @@ there-stands h id start end all x o x_is =
 and-is : (a b : Bool) → a ≡ true → b ≡ true → (a && b) ≡ true
 and-is a b p q = cc
 
-can_start-is : (h : Option ℤ) (id : ℕ) (start end : ℤ) (es : List Event) → CanStart h id start end es → can_start h id start end es ≡ true
+can_start-is : (h : Option ℤ) (id : ℕ) (start end : ℤ) (es : List LineEvent) → CanStart h id start end es → can_start h id start end es ≡ true
 can_start-is h id start end es c =
     and-is _ _ c.clock (and-is _ _ (lt-is start end c.some) (and-is _ _ c.ahead (and-is _ _ (ap not c.unused) (and-is _ _ c.room (ap not c.free)))))
 
 -- here it can be armed, where it is not there yet
-pub start_taken : (h : Option ℤ) (id : ℕ) (start end : ℤ) (es all : List Event) (x : Event) → Orderly h all → IsThere h id start end all x → Below es all
-    → ((e : Event) → In e es → e.start ≡ start → ⊥) → can_start h id start end es ≡ true
+pub start_taken : (h : Option ℤ) (id : ℕ) (start end : ℤ) (es all : List LineEvent) (x : LineEvent) → Orderly h all → IsThere h id start end all x → Below es all
+    → ((e : LineEvent) → In e es → e.start ≡ start → ⊥) → can_start h id start end es ≡ true
 start_taken h id start end es all x o x_is b none =
     can_start-is h id start end es (record {
       clock = x_is.clock;
@@ -169,19 +169,19 @@ start_taken h id start end es all x o x_is b none =
     stands_there : stands h x ≡ true
     stands_there = there-stands h id start end all x o x_is
 
-    used : (a : Event) → In a es → is_of h id a ≡ true → ⊥
+    used : (a : LineEvent) → In a es → is_of h id a ≡ true → ⊥
     used a i t =
         let m = b.part a i in let p = is_of-parts h id a t in
         none a i (m.2.start ∙ o.ids m.0 x m.1 x_is.there (sym (match-stands h a m.0 m.2) ∙ p.0) stands_there (sym m.2.id ∙ p.1 ∙ sym x_is.repeats.same_id) ∙ x_is.repeats.same_start)
 
-    barred : (a : Event) → In a es → bars h start end a ≡ true → ⊥
+    barred : (a : LineEvent) → In a es → bars h start end a ≡ true → ⊥
     barred a i t =
         let m = b.part a i in
         let p = (both (stands h a) _ t).1 in
         let q = both (int_lt start a.end) (int_lt a.start end) p in
         split a m.0 m.2 (lt-test start a.end q.0) (lt-test a.start end q.1) (o.apart m.0 x m.1 x_is.there (λ is. none a i (m.2.start ∙ is ∙ x_is.repeats.same_start)))
       where
-        split : (a t : Event) → Match a t → start <ℤ a.end → a.start <ℤ end → (t.end ≤ℤ x.start) ⊎ (x.end ≤ℤ t.start) → ⊥
+        split : (a t : LineEvent) → Match a t → start <ℤ a.end → a.start <ℤ end → (t.end ≤ℤ x.start) ⊎ (x.end ≤ℤ t.start) → ⊥
         split a t m l r (inl k) = let s = x_is.repeats in omega (arith, ints, m.end, l, k, s.same_start)
         split a t m l r (inr k) = let s = x_is.repeats in omega (arith, ints, m.start, r, k, s.unshortened)
 
@@ -194,13 +194,13 @@ start_taken h id start end es all x o x_is b none =
         (λ e i. each e i) in
         omega (arith, most, more)
       where
-        each : (e : Event) → In e (x ∷ filter (stands h) es) → (t : Event) × In t (filter (stands h) all) × (e.start ≡ t.start)
-        each e (inl is) = (x, In-filter (stands h) x all x_is.there stands_there, ap (λ (z : Event). z.start) is)
+        each : (e : LineEvent) → In e (x ∷ filter (stands h) es) → (t : LineEvent) × In t (filter (stands h) all) × (e.start ≡ t.start)
+        each e (inl is) = (x, In-filter (stands h) x all x_is.there stands_there, ap (λ (z : LineEvent). z.start) is)
         each e (inr i) =
             let r = In-filtered (stands h) e es i in let m = b.part e r.0 in
             (m.0, In-filter (stands h) m.0 all m.1 (sym (match-stands h e m.0 m.2) ∙ r.1), m.2.start)
 
-pub take_start : (h : Option ℤ) (id : ℕ) (start end : ℤ) (es all : List Event) (x : Event) → Orderly h all → IsThere h id start end all x → Below es all
+pub take_start : (h : Option ℤ) (id : ℕ) (start end : ℤ) (es all : List LineEvent) (x : LineEvent) → Orderly h all → IsThere h id start end all x → Below es all
     → Below (taken h (Started id start end) es) all
 take_start h id start end es all x o x_is b =
     by_test (can_start h id start end es)
@@ -208,11 +208,11 @@ take_start h id start end es all x o x_is b =
     (λ can. simp can b)
   where
     -- one with its start would stand in the way
-    new : (a : Event) → In a es → a.start ≡ start → CanStart h id start end es → ⊥
+    new : (a : LineEvent) → In a es → a.start ≡ start → CanStart h id start end es → ⊥
     new a i is can =
         let m = b.part a i in
         let same : m.0 ≡ x = o.same m.0 x m.1 x_is.there (sym m.2.start ∙ is ∙ sym x_is.repeats.same_start) in
         let stand : stands h a ≡ true = match-stands h a m.0 m.2 ∙ ap (stands h) same ∙ there-stands h id start end all x o x_is in
-        let used : is_of h id a ≡ true = is_of-is h id a stand (m.2.id ∙ ap (λ (z : Event). z.id) same ∙ x_is.repeats.same_id) in
+        let used : is_of h id a ≡ true = is_of-is h id a stand (m.2.id ∙ ap (λ (z : LineEvent). z.id) same ∙ x_is.repeats.same_id) in
         let free : is_of h id a ≡ false = any-false (is_of h id) a es can.unused i in
         let bad : true ≡ false = sym used ∙ free in cc

@@ -2,7 +2,7 @@
 use Rattle.std.proofs.Common.{◌≡◌, ◌↔◌, ℕ, Bool, true, false, not, ◌⊎◌, inl, inr, refl, sym, ap, ◌∙◌, subst, List, [], ◌∷◌, Option, None, Some, arith}
 use Rattle.std.specs.Prelude.{ℤ, ◌<ℤ◌, ◌≤ℤ◌, int_le, int_lt, filter, map}
 use Rattle.std.proofs.lemmas.Int.{ints}
-use Rattle.cue_laws.specs.Events.{Turn, Event, Name, Started, Cancelled, Ended, Passed, high, before, events, can_start, fresh, can_cancel, cancel_by, can_end, end_by, or_so, In, upon, covers, name_of, holders}
+use Rattle.cue_laws.specs.Events.{Turn, LineEvent, Name, Started, Cancelled, Ended, Passed, high, before, events, can_start, fresh, can_cancel, cancel_by, can_end, end_by, or_so, In, upon, covers, name_of, holders}
 use Rattle.cue_laws.specs.Thinning.{IsSound, thinned, KeepsStart, KeepsCancel, KeepsEnds}
 use Rattle.cue_laws.specs.Cueing.{IsRun, cued}
 use Rattle.cue_laws.specs.Laws.{CuePathHolders, NothingLostIsEnough, Invariant, NoStartRefused, CuedIsSound}
@@ -33,7 +33,7 @@ ends-ones (Cancelled id ∷ past) = ends-ones past
 ends-ones (Ended id time ∷ past) = (inl (omega arith), ends-ones past)
 ends-ones (Passed h ∷ past) = ends-ones past
 
-keeps_named : (copies : List Turn → ℕ) (x y : Event) → name_of x ≡ name_of y → (all : List Turn) → KeepsCancel copies x all → KeepsCancel copies y all
+keeps_named : (copies : List Turn → ℕ) (x y : LineEvent) → name_of x ≡ name_of y → (all : List Turn) → KeepsCancel copies x all → KeepsCancel copies y all
 keeps_named copies x y name [] k = k
 keeps_named copies x y name (Started id start end ∷ past) k = keeps_named copies x y name past k
 keeps_named copies x y name (Cancelled id ∷ past) (inl k) =
@@ -47,7 +47,7 @@ or-cases a true is = inr refl
 or-cases a false is = inl is
 
 -- an event is cancelled by a cancel
-cancel_origin : (all : List Turn) (x : Event) → In x (events all) → x.cancelled ≡ true → KeepsCancel ones x all
+cancel_origin : (all : List Turn) (x : LineEvent) → In x (events all) → x.cancelled ≡ true → KeepsCancel ones x all
 cancel_origin [] x i c = absurd i
 cancel_origin (Started id start end ∷ past) x i c =
     by_test (can_start (high past) id start end (events past))
@@ -55,25 +55,25 @@ cancel_origin (Started id start end ∷ past) x i c =
     (λ can. let j = simp can at i in cancel_origin past x j c)
   where
     first : In x (fresh id start end ∷ events past) → (In x (events past) → KeepsCancel ones x past) → KeepsCancel ones x past
-    first (inl is) later = absurd (let f : x.cancelled ≡ false = ap (λ (z : Event). z.cancelled) is in let bad : true ≡ false = sym c ∙ f in cc)
+    first (inl is) later = absurd (let f : x.cancelled ≡ false = ap (λ (z : LineEvent). z.cancelled) is in let bad : true ≡ false = sym c ∙ f in cc)
     first (inr j) later = later j
 cancel_origin (Cancelled id ∷ past) x i c =
     let r = In-mapped (cancel_by (high past) id) x (events past) i in
     let old : name_of r.0 ≡ name_of x = sym (ap name_of r.2) in
-    which r.0 r.1 old (or-cases r.0.cancelled (can_cancel (high past) id r.0) (sym (ap (λ (z : Event). z.cancelled) r.2) ∙ c)) (λ d. cancel_origin past r.0 r.1 d)
+    which r.0 r.1 old (or-cases r.0.cancelled (can_cancel (high past) id r.0) (sym (ap (λ (z : LineEvent). z.cancelled) r.2) ∙ c)) (λ d. cancel_origin past r.0 r.1 d)
   where
-    which : (e : Event) → In e (events past) → name_of e ≡ name_of x → (e.cancelled ≡ true) ⊎ (can_cancel (high past) id e ≡ true) → (e.cancelled ≡ true → KeepsCancel ones e past)
+    which : (e : LineEvent) → In e (events past) → name_of e ≡ name_of x → (e.cancelled ≡ true) ⊎ (can_cancel (high past) id e ≡ true) → (e.cancelled ≡ true → KeepsCancel ones e past)
         → KeepsCancel ones x (Cancelled id ∷ past)
     which e j name (inl d) later = inr (keeps_named ones e x name past (later d))
     which e j name (inr d) later =
         let p = both (is_of_it e) (before (high past) e.start) d in
         inl (omega arith, sym (is_of-parts (high past) id e p.0).1 ∙ ap (λ (z : Name). z.id) name, ap (before (high past)) (sym (ap (λ (z : Name). z.start) name)) ∙ p.1, (e, j, name))
       where
-        is_of_it : Event → Bool
+        is_of_it : LineEvent → Bool
         is_of_it e = Rattle.cue_laws.specs.Events.is_of (high past) id e
 cancel_origin (Ended id time ∷ past) x i c =
     let r = In-mapped (end_by (high past) id time) x (events past) i in
-    keeps_named ones r.0 x (sym (ap name_of r.2)) past (cancel_origin past r.0 r.1 (sym (ap (λ (z : Event). z.cancelled) r.2) ∙ c))
+    keeps_named ones r.0 x (sym (ap name_of r.2)) past (cancel_origin past r.0 r.1 (sym (ap (λ (z : LineEvent). z.cancelled) r.2) ∙ c))
 cancel_origin (Passed h ∷ past) x i c = cancel_origin past x i c
 
 pub nothing_lost_is_enough : NothingLostIsEnough
@@ -89,7 +89,7 @@ nothing_lost_is_enough h past r = record {
     sound : IsSound all
     sound = (cued_goes (Passed h ∷ past) r).sound
 
-    which : (x : Event) → In x (events (Passed h ∷ past)) → x.cancelled ≡ true → ((e : Event) × In e (events all) × (e.start ≡ x.start)) ⊎ ((e : Event) → In e (events all) → e.start ≡ x.start → ⊥)
+    which : (x : LineEvent) → In x (events (Passed h ∷ past)) → x.cancelled ≡ true → ((e : LineEvent) × In e (events all) × (e.start ≡ x.start)) ⊎ ((e : LineEvent) → In e (events all) → e.start ≡ x.start → ⊥)
         → KeepsCancel ones x all ⊎ (KeepsStart ones x all → ⊥)
     which x i c (inl e) =
         let same : e.0 ≡ x = (stand (Passed h ∷ past) r).order.same e.0 x (known_of h past r e.0 e.1) i e.2 in
@@ -101,7 +101,7 @@ nothing_lost_is_enough h past r = record {
 -- ---- holders
 
 -- lists with the same elements are one where all elements have one start
-one_of : (es fs : List Event) → Distinct es → Distinct fs → ((x : Event) → In x es → In x fs) → ((x : Event) → In x fs → In x es) → ((x y : Event) → In x fs → In y fs → x.start ≡ y.start) → es ≡ fs
+one_of : (es fs : List LineEvent) → Distinct es → Distinct fs → ((x : LineEvent) → In x es → In x fs) → ((x : LineEvent) → In x fs → In x es) → ((x y : LineEvent) → In x fs → In y fs → x.start ≡ y.start) → es ≡ fs
 one_of [] [] d f to back same = refl
 one_of [] (y ∷ ys) d f to back same = absurd (back y (inl refl))
 one_of (x ∷ xs) [] d f to back same = absurd (to x (inl refl))
@@ -113,7 +113,7 @@ one_of (x ∷ []) (y ∷ []) d f to back same = which (to x (inl refl))
 one_of (x ∷ z ∷ xs) (y ∷ ys) d f to back same = absurd (d.0 z (inl refl) (same z x (to z (inr (inl refl))) (to x (inl refl))))
 one_of (x ∷ []) (y ∷ z ∷ ys) d f to back same = absurd (f.0 z (inl refl) (same z y (inr (inl refl)) (inl refl)))
 
-pub record Covers (time : ℤ) (e : Event) : Type 0 where
+pub record Covers (time : ℤ) (e : LineEvent) : Type 0 where
   pub uncancelled : e.cancelled ≡ false
   pub from : e.start ≤ℤ time
   pub to : time <ℤ e.end
@@ -121,7 +121,7 @@ pub record Covers (time : ℤ) (e : Event) : Type 0 where
 le-test : (a b : ℤ) → int_le a b ≡ true → a ≤ℤ b
 le-test a b is = grind (arith, ints)
 
-pub covers-parts : (time : ℤ) (e : Event) → covers time e ≡ true → Covers time e
+pub covers-parts : (time : ℤ) (e : LineEvent) → covers time e ≡ true → Covers time e
 covers-parts time e c =
     let p = both (not e.cancelled) _ c in let q = both (int_le e.start time) (int_lt time e.end) p.1 in
     record { uncancelled = not_true e.cancelled p.0; from = le-test _ _ q.0; to = lt-test _ _ q.1 }
@@ -148,10 +148,10 @@ cue_path_holders copies h past later last r k time b =
     front : List Turn
     front = cued (Passed h ∷ past)
 
-    here : List Event
+    here : List LineEvent
     here = events (thinned copies front)
 
-    there : List Event
+    there : List LineEvent
     there = events (Passed h ∷ past)
 
     run : IsRun (Passed h ∷ past)
@@ -165,10 +165,10 @@ cue_path_holders copies h past later last r k time b =
         let f = front_whole h last past later in
         below copies front (cued_goes (Passed h ∷ past) run).sound (ends_front copies front f.0 (subst (KeepsEnds copies) f.1 k.ends))
 
-    law : (x : Event) → covers time x ≡ true → In x here ↔ In x there
+    law : (x : LineEvent) → covers time x ≡ true → In x here ↔ In x there
     law x c = let p = covers-parts time x c in cue_path copies h past later last r k x p.uncancelled (reached_start h time x.start b p.from)
 
-    one_start : (x y : Event) → In x there → In y there → Covers time x → Covers time y → (x.start ≡ y.start) ⊎ (x.start ≡ y.start → ⊥) → x.start ≡ y.start
+    one_start : (x y : LineEvent) → In x there → In y there → Covers time x → Covers time y → (x.start ≡ y.start) ⊎ (x.start ≡ y.start → ⊥) → x.start ≡ y.start
     one_start x y i j c d (inl is) = is
     one_start x y i j c d (inr differ) = absurd (split (order.apart x y i j differ))
       where

@@ -2,13 +2,13 @@
 use Rattle.std.proofs.Common.{◌≡◌, ℕ, Bool, true, false, ◌⊎◌, inl, inr, refl, sym, ap, ◌∙◌, subst, List, [], ◌∷◌, Option, None, Some, arith}
 use Rattle.std.specs.Prelude.{ℤ, ◌<ℤ◌, ◌≤ℤ◌, map, is_some}
 use Rattle.std.proofs.lemmas.Int.{ints}
-use Rattle.cue_laws.specs.Events.{Turn, Event, Started, Cancelled, Ended, Passed, high, before, events, Rises, is_of, fresh, can_cancel, cancel_by, can_end, end_by, or_so}
+use Rattle.cue_laws.specs.Events.{Turn, LineEvent, Started, Cancelled, Ended, Passed, high, before, events, Rises, is_of, fresh, can_cancel, cancel_by, can_end, end_by, or_so}
 use Rattle.cue_laws.specs.Cueing.{MayBeAccepted, IsRun, Told, Untold, Known, Never, Sender, told_now, tell, change, senders}
 use Rattle.cue_laws.proofs.Settling.{by_test, both, can_start-parts, can_end-parts}
 use Rattle.cue_laws.proofs.Orders.{Orderly, orderly-none, orderly-map, orderly-fresh, orderly-passed, Clear, clear-can, clear-map, Shrinks, cancel-shrinks, end-shrinks, or-left}
 
 -- what was told of an event is true, but for what is new
-pub record IsKnown (h : Option ℤ) (e t : Event) : Type 0 where
+pub record IsKnown (h : Option ℤ) (e t : LineEvent) : Type 0 where
   pub id : t.id ≡ e.id
   pub start : t.start ≡ e.start
   pub asked : t.asked ≡ e.asked
@@ -17,10 +17,10 @@ pub record IsKnown (h : Option ℤ) (e t : Event) : Type 0 where
   pub cancelled : t.cancelled ≡ true → e.cancelled ≡ true
   pub cancel_new : e.cancelled ≡ true → t.cancelled ≡ false → before h e.start ≡ true
 
-abbrev pub event_of : Sender → Event
+abbrev pub event_of : Sender → LineEvent
 event_of x = x.event
 
-abbrev pub IsFair : Option ℤ → Event → Told → List Event → Type 0
+abbrev pub IsFair : Option ℤ → LineEvent → Told → List LineEvent → Type 0
 IsFair h e Untold older = Clear h e.id e.start e.asked older
 IsFair h e (Known t) older = IsKnown h e t
 IsFair h e Never older = e.cancelled ≡ true
@@ -36,7 +36,7 @@ Fair h (x ∷ older) = IsFair h x.event x.told (map event_of older) × ((x.told 
 
 -- ---- turns
 
-map-change : (f : Event → Event) (xs : List Sender) → map event_of (map (change f) xs) ≡ map f (map event_of xs)
+map-change : (f : LineEvent → LineEvent) (xs : List Sender) → map event_of (map (change f) xs) ≡ map f (map event_of xs)
 map-change f [] = refl
 map-change f (x ∷ xs) = ap (λ l. f x.event ∷ l) (map-change f xs)
 
@@ -44,15 +44,15 @@ map-tell : (h later : Option ℤ) (xs : List Sender) → map event_of (map (tell
 map-tell h later [] = refl
 map-tell h later (x ∷ xs) = ap (λ l. x.event ∷ l) (map-tell h later xs)
 
-told-change : (f : Event → Event) (xs : List Sender) → AllTold xs → AllTold (map (change f) xs)
+told-change : (f : LineEvent → LineEvent) (xs : List Sender) → AllTold xs → AllTold (map (change f) xs)
 told-change f [] a = tt
 told-change f (x ∷ xs) a = (a.0, told-change f xs a.1)
 
 -- a change that keeps what was told true
-abbrev Keeps : Option ℤ → (Event → Event) → Type 0
-Keeps h f = (e t : Event) → IsKnown h e t → IsKnown h (f e) t
+abbrev Keeps : Option ℤ → (LineEvent → LineEvent) → Type 0
+Keeps h f = (e t : LineEvent) → IsKnown h e t → IsKnown h (f e) t
 
-fair-one : (h : Option ℤ) (f : Event → Event) → ((e : Event) → Shrinks e (f e)) → Keeps h f → (e : Event) (told : Told) (older : List Event) → IsFair h e told older → IsFair h (f e) told (map f older)
+fair-one : (h : Option ℤ) (f : LineEvent → LineEvent) → ((e : LineEvent) → Shrinks e (f e)) → Keeps h f → (e : LineEvent) (told : Told) (older : List LineEvent) → IsFair h e told older → IsFair h (f e) told (map f older)
 fair-one h f shrinks keeps e Untold older a =
     let s = shrinks e in
     let c = clear-map h e.id e.start e.asked f shrinks older a in
@@ -65,13 +65,13 @@ fair-one h f shrinks keeps e Untold older a =
       room = c.room;
     }
   where
-    turn : (y : Event) → (e.asked ≤ℤ y.start) ⊎ (y.end ≤ℤ e.start) → ((f e).asked ≤ℤ y.start) ⊎ (y.end ≤ℤ (f e).start)
+    turn : (y : LineEvent) → (e.asked ≤ℤ y.start) ⊎ (y.end ≤ℤ e.start) → ((f e).asked ≤ℤ y.start) ⊎ (y.end ≤ℤ (f e).start)
     turn y (inl l) = inl (let s = shrinks e in omega (arith, ints, l, s.asked))
     turn y (inr l) = inr (let s = shrinks e in omega (arith, ints, l, s.start))
 fair-one h f shrinks keeps e (Known t) older a = keeps e t a
 fair-one h f shrinks keeps e Never older a = (shrinks e).cancelled a
 
-fair-change : (h : Option ℤ) (f : Event → Event) → ((e : Event) → Shrinks e (f e)) → Keeps h f → (xs : List Sender) → Fair h xs → Fair h (map (change f) xs)
+fair-change : (h : Option ℤ) (f : LineEvent → LineEvent) → ((e : LineEvent) → Shrinks e (f e)) → Keeps h f → (xs : List Sender) → Fair h xs → Fair h (map (change f) xs)
 fair-change h f shrinks keeps [] a = tt
 fair-change h f shrinks keeps (x ∷ xs) a = (
   subst (λ l. IsFair h (f x.event) x.told l) (sym (map-change f xs)) (fair-one h f shrinks keeps x.event x.told (map event_of xs) a.0),
@@ -113,7 +113,7 @@ end-keeps h id time e t k = record {
 }
 
 -- all that is told is told as it is
-known-now : (h : Option ℤ) (e : Event) → IsKnown h e e
+known-now : (h : Option ℤ) (e : LineEvent) → IsKnown h e e
 known-now h e = record {
   id = refl;
   start = refl;
@@ -124,12 +124,12 @@ known-now h e = record {
   cancel_new = λ c n. let bad : true ≡ false = sym c ∙ n in cc;
 }
 
-fair-told : (later : Option ℤ) (e : Event) (h : Option ℤ) (told : Told) (older : List Event) → IsFair h e told older → (es : List Event) → IsFair later e (told_now e told) es
+fair-told : (later : Option ℤ) (e : LineEvent) (h : Option ℤ) (told : Told) (older : List LineEvent) → IsFair h e told older → (es : List LineEvent) → IsFair later e (told_now e told) es
 fair-told later e h Untold older a es = by_test e.cancelled (λ c. simp c) (λ c. simp c (known-now later e))
 fair-told later e h (Known t) older a es = known-now later e
 fair-told later e h Never older a es = a
 
-told-told : (e : Event) (told : Told) → told_now e told ≡ Untold → ⊥
+told-told : (e : LineEvent) (told : Told) → told_now e told ≡ Untold → ⊥
 told-told e Untold is = by_test e.cancelled (λ c. let j = simp c at is in cc) (λ c. let j = simp c at is in cc)
 told-told e (Known t) is = cc
 told-told e Never is = cc

@@ -3,7 +3,7 @@ use Rattle.std.proofs.Common.{◌≡◌, ℕ, ◌<◌, ◌≤◌, ◌==◌, Bool
 use Rattle.std.specs.Prelude.{ℤ, pos, ◌+ℤ◌, ◌<ℤ◌, ◌≤ℤ◌, int_lt, map, is_some, if◌then◌else◌}
 use Rattle.std.proofs.lemmas.Int.{ints}
 use Rattle.std.proofs.lemmas.Bool.Decides.{nat_tests}
-use Rattle.cue_laws.specs.Events.{Turn, Event, Started, Cancelled, Ended, Passed, high, before, events, Rises, stands, is_of, bars, count, can_start, fresh, can_cancel, cancel_by, can_end, end_by, or_so, In}
+use Rattle.cue_laws.specs.Events.{Turn, LineEvent, Started, Cancelled, Ended, Passed, high, before, events, Rises, stands, is_of, bars, count, can_start, fresh, can_cancel, cancel_by, can_end, end_by, or_so, In}
 use Rattle.cue_laws.specs.Thinning.{MayCome, IsSound}
 use Rattle.cue_laws.proofs.Settling.{by_test, both, ge-test, can_start-parts, CanStart, can_end-parts}
 use Rattle.cue_laws.proofs.Lists.{In-mapped, any-false, Distinct, distinct-map}
@@ -23,23 +23,23 @@ pub forgotten-before : (h : Option ℤ) (end start : ℤ) → before h (end +ℤ
 forgotten-before None end start f b = absurd (let no : true ≡ false = f in cc)
 forgotten-before (Some h) end start f b = grind (arith, ints)
 
-pub is_of-parts : (h : Option ℤ) (id : ℕ) (e : Event) → is_of h id e ≡ true → (stands h e ≡ true) × (e.id ≡ id)
+pub is_of-parts : (h : Option ℤ) (id : ℕ) (e : LineEvent) → is_of h id e ≡ true → (stands h e ≡ true) × (e.id ≡ id)
 is_of-parts h id e of = let p = both (stands h e) (e.id == id) of in let q = p.1 in (p.0, grind (arith, nat_tests))
 
-pub is_of-is : (h : Option ℤ) (id : ℕ) (e : Event) → stands h e ≡ true → e.id ≡ id → is_of h id e ≡ true
+pub is_of-is : (h : Option ℤ) (id : ℕ) (e : LineEvent) → stands h e ≡ true → e.id ≡ id → is_of h id e ≡ true
 is_of-is h id e s i = let t : (e.id == id) ≡ true = grind (arith, nat_tests) in simp (s, t)
 
-pub record Orderly (h : Option ℤ) (es : List Event) : Type 0 where
-  pub some : (x : Event) → In x es → x.start <ℤ x.end
-  pub whole : (x : Event) → In x es → x.end ≤ℤ x.asked
-  pub same : (x y : Event) → In x es → In y es → x.start ≡ y.start → x ≡ y
-  pub apart : (x y : Event) → In x es → In y es → (x.start ≡ y.start → ⊥) → (x.end ≤ℤ y.start) ⊎ (y.end ≤ℤ x.start)
-  pub ids : (x y : Event) → In x es → In y es → stands h x ≡ true → stands h y ≡ true → x.id ≡ y.id → x.start ≡ y.start
+pub record Orderly (h : Option ℤ) (es : List LineEvent) : Type 0 where
+  pub some : (x : LineEvent) → In x es → x.start <ℤ x.end
+  pub whole : (x : LineEvent) → In x es → x.end ≤ℤ x.asked
+  pub same : (x y : LineEvent) → In x es → In y es → x.start ≡ y.start → x ≡ y
+  pub apart : (x y : LineEvent) → In x es → In y es → (x.start ≡ y.start → ⊥) → (x.end ≤ℤ y.start) ⊎ (y.end ≤ℤ x.start)
+  pub ids : (x y : LineEvent) → In x es → In y es → stands h x ≡ true → stands h y ≡ true → x.id ≡ y.id → x.start ≡ y.start
   pub distinct : Distinct es
   pub room : count h es ≤ 32
 
 -- what a change may do to an event
-pub record Shrinks (e after : Event) : Type 0 where
+pub record Shrinks (e after : LineEvent) : Type 0 where
   pub id : after.id ≡ e.id
   pub start : after.start ≡ e.start
   pub asked : after.asked ≡ e.asked
@@ -59,7 +59,7 @@ pub or-neither : (a b : Bool) → b ≡ false → or_so a b ≡ a
 or-neither a true is = cc
 or-neither a false is = refl
 
-pub cancel-shrinks : (h : Option ℤ) (id : ℕ) (e : Event) → Shrinks e (cancel_by h id e)
+pub cancel-shrinks : (h : Option ℤ) (id : ℕ) (e : LineEvent) → Shrinks e (cancel_by h id e)
 cancel-shrinks h id e = record { id = refl; start = refl; asked = refl; earlier = omega (arith, ints); some = λ s. s; cancelled = or-left e.cancelled (can_cancel h id e) }
 
 ended-earlier : (b : Bool) (time end : ℤ) → (b ≡ true → time <ℤ end) → (if b then time else end) ≤ℤ end
@@ -70,7 +70,7 @@ ended-past : (b : Bool) (start time end : ℤ) → (b ≡ true → start <ℤ ti
 ended-past true start time end k s = k refl
 ended-past false start time end k s = s
 
-pub end-shrinks : (h : Option ℤ) (id : ℕ) (time : ℤ) (e : Event) → Shrinks e (end_by h id time e)
+pub end-shrinks : (h : Option ℤ) (id : ℕ) (time : ℤ) (e : LineEvent) → Shrinks e (end_by h id time e)
 end-shrinks h id time e = record {
   id = refl;
   start = refl;
@@ -80,10 +80,10 @@ end-shrinks h id time e = record {
   some = ended-past (can_end h id time e) e.start time e.end (λ can. (can_end-parts h id time e can).past);
 }
 
-pub stands-back : (h : Option ℤ) (e after : Event) → Shrinks e after → stands h after ≡ true → stands h e ≡ true
+pub stands-back : (h : Option ℤ) (e after : LineEvent) → Shrinks e after → stands h after ≡ true → stands h e ≡ true
 stands-back h e after s t = before-more h (after.end +ℤ pos 900000) (e.end +ℤ pos 900000) t (omega (arith, ints, s.earlier))
 
-count-map : (h : Option ℤ) (f : Event → Event) → ((e : Event) → Shrinks e (f e)) → (es : List Event) → count h (map f es) ≤ count h es
+count-map : (h : Option ℤ) (f : LineEvent → LineEvent) → ((e : LineEvent) → Shrinks e (f e)) → (es : List LineEvent) → count h (map f es) ≤ count h es
 count-map h f shrinks [] = omega arith
 count-map h f shrinks (e ∷ es) =
     let rest = count-map h f shrinks es in
@@ -91,7 +91,7 @@ count-map h f shrinks (e ∷ es) =
     (λ a. let b = stands-back h e (f e) (shrinks e) a in simp (a, b) (omega (arith, rest)))
     (λ a. by_test (stands h e) (λ b. simp (a, b) (omega (arith, rest))) (λ b. simp (a, b) (omega (arith, rest))))
 
-pub orderly-map : (h : Option ℤ) (f : Event → Event) → ((e : Event) → Shrinks e (f e)) → (es : List Event) → Orderly h es → Orderly h (map f es)
+pub orderly-map : (h : Option ℤ) (f : LineEvent → LineEvent) → ((e : LineEvent) → Shrinks e (f e)) → (es : List LineEvent) → Orderly h es → Orderly h (map f es)
 orderly-map h f shrinks es o = record {
   some = λ x i. let r = from x i in let s = r.3 in let t = o.some r.0 r.1 in omega (arith, ints, s.some t, s.start);
   whole = λ x i. let r = from x i in let s = r.3 in let t = o.whole r.0 r.1 in omega (arith, ints, t, s.earlier, s.asked);
@@ -105,14 +105,14 @@ orderly-map h f shrinks es o = record {
   room = let c = count-map h f shrinks es in let l = o.room in omega arith;
 }
   where
-    from : (x : Event) → In x (map f es) → (e : Event) × In e es × (x ≡ f e) × Shrinks e x
+    from : (x : LineEvent) → In x (map f es) → (e : LineEvent) × In e es × (x ≡ f e) × Shrinks e x
     from x i = let r = In-mapped f x es i in (r.0, r.1, r.2, subst (λ z. Shrinks r.0 z) (sym r.2) (shrinks r.0))
 
-    still : (a b x y : Event) → Shrinks a x → Shrinks b y → (a.end ≤ℤ b.start) ⊎ (b.end ≤ℤ a.start) → (x.end ≤ℤ y.start) ⊎ (y.end ≤ℤ x.start)
+    still : (a b x y : LineEvent) → Shrinks a x → Shrinks b y → (a.end ≤ℤ b.start) ⊎ (b.end ≤ℤ a.start) → (x.end ≤ℤ y.start) ⊎ (y.end ≤ℤ x.start)
     still a b x y s t (inl l) = inl (omega (arith, ints, l, s.earlier, t.start))
     still a b x y s t (inr l) = inr (omega (arith, ints, l, t.earlier, s.start))
 
-count-passed : (h later : Option ℤ) → Rises h later → (es : List Event) → count later es ≤ count h es
+count-passed : (h later : Option ℤ) → Rises h later → (es : List LineEvent) → count later es ≤ count h es
 count-passed h later r [] = omega arith
 count-passed h later r (e ∷ es) =
     let rest = count-passed h later r es in
@@ -120,7 +120,7 @@ count-passed h later r (e ∷ es) =
     (λ a. let b = before-back h later (e.end +ℤ pos 900000) r a in simp (a, b) (omega (arith, rest)))
     (λ a. by_test (stands h e) (λ b. simp (a, b) (omega (arith, rest))) (λ b. simp (a, b) (omega (arith, rest))))
 
-pub orderly-passed : (h later : Option ℤ) → Rises h later → (es : List Event) → Orderly h es → Orderly later es
+pub orderly-passed : (h later : Option ℤ) → Rises h later → (es : List LineEvent) → Orderly h es → Orderly later es
 orderly-passed h later r es o = record {
   some = o.some;
   whole = o.whole;
@@ -137,7 +137,7 @@ bars-not true true b is t = inr is
 bars-not true false b is t = inl refl
 bars-not false a b is t = cc
 
-pub clear-of : (h : Option ℤ) (id : ℕ) (start end : ℤ) (es : List Event) → CanStart h id start end es → (y : Event) → In y es → (end ≤ℤ y.start) ⊎ (y.end ≤ℤ start)
+pub clear-of : (h : Option ℤ) (id : ℕ) (start end : ℤ) (es : List LineEvent) → CanStart h id start end es → (y : LineEvent) → In y es → (end ≤ℤ y.start) ⊎ (y.end ≤ℤ start)
 clear-of h id start end es can y i =
     by_test (stands h y)
     (λ s. split (bars-not (stands h y) (int_lt start y.end) (int_lt y.start end) (any-false (bars h start end) y es can.free i) s))
@@ -148,15 +148,15 @@ clear-of h id start end es can y i =
     split (inr b) = inl (ge-test y.start end b)
 
 -- an interval may be taken beside these events
-pub record Clear (h : Option ℤ) (id : ℕ) (start end : ℤ) (es : List Event) : Type 0 where
+pub record Clear (h : Option ℤ) (id : ℕ) (start end : ℤ) (es : List LineEvent) : Type 0 where
   pub clock : is_some h ≡ true
   pub ahead : before h start ≡ true
   pub some : start <ℤ end
-  pub clear : (y : Event) → In y es → (end ≤ℤ y.start) ⊎ (y.end ≤ℤ start)
-  pub unused : (y : Event) → In y es → stands h y ≡ true → y.id ≡ id → ⊥
+  pub clear : (y : LineEvent) → In y es → (end ≤ℤ y.start) ⊎ (y.end ≤ℤ start)
+  pub unused : (y : LineEvent) → In y es → stands h y ≡ true → y.id ≡ id → ⊥
   pub room : count h es < 32
 
-pub clear-can : (h : Option ℤ) (id : ℕ) (start end : ℤ) (es : List Event) → CanStart h id start end es → Clear h id start end es
+pub clear-can : (h : Option ℤ) (id : ℕ) (start end : ℤ) (es : List LineEvent) → CanStart h id start end es → Clear h id start end es
 clear-can h id start end es can = record {
   clock = can.clock;
   ahead = can.ahead;
@@ -167,7 +167,7 @@ clear-can h id start end es can = record {
 }
 
 -- and beside what is left of them
-pub clear-map : (h : Option ℤ) (id : ℕ) (start end : ℤ) (f : Event → Event) → ((e : Event) → Shrinks e (f e)) → (es : List Event)
+pub clear-map : (h : Option ℤ) (id : ℕ) (start end : ℤ) (f : LineEvent → LineEvent) → ((e : LineEvent) → Shrinks e (f e)) → (es : List LineEvent)
     → Clear h id start end es → Clear h id start end (map f es)
 clear-map h id start end f shrinks es c = record {
   clock = c.clock;
@@ -178,55 +178,55 @@ clear-map h id start end f shrinks es c = record {
   room = let n = count-map h f shrinks es in let l = c.room in omega arith;
 }
   where
-    from : (x : Event) → In x (map f es) → (e : Event) × In e es × Shrinks e x
+    from : (x : LineEvent) → In x (map f es) → (e : LineEvent) × In e es × Shrinks e x
     from x i = let r = In-mapped f x es i in (r.0, r.1, subst (λ z. Shrinks r.0 z) (sym r.2) (shrinks r.0))
 
-    still : (a x : Event) → Shrinks a x → (end ≤ℤ a.start) ⊎ (a.end ≤ℤ start) → (end ≤ℤ x.start) ⊎ (x.end ≤ℤ start)
+    still : (a x : LineEvent) → Shrinks a x → (end ≤ℤ a.start) ⊎ (a.end ≤ℤ start) → (end ≤ℤ x.start) ⊎ (x.end ≤ℤ start)
     still a x s (inl l) = inl (omega (arith, ints, l, s.start))
     still a x s (inr l) = inr (omega (arith, ints, l, s.earlier))
 
-pub orderly-clear : (h : Option ℤ) (id : ℕ) (start end : ℤ) (es : List Event) → Clear h id start end es → Orderly h es → Orderly h (fresh id start end ∷ es)
+pub orderly-clear : (h : Option ℤ) (id : ℕ) (start end : ℤ) (es : List LineEvent) → Clear h id start end es → Orderly h es → Orderly h (fresh id start end ∷ es)
 orderly-clear h id start end es can o = record { some = some; whole = whole; same = same; apart = apart; ids = ids; distinct = (λ e i is. other e i is, o.distinct); room = room }
   where
-    some : (x : Event) → In x (fresh id start end ∷ es) → x.start <ℤ x.end
-    some x (inl is) = subst (λ (z : Event). z.start <ℤ z.end) (sym is) can.some
+    some : (x : LineEvent) → In x (fresh id start end ∷ es) → x.start <ℤ x.end
+    some x (inl is) = subst (λ (z : LineEvent). z.start <ℤ z.end) (sym is) can.some
     some x (inr i) = o.some x i
 
-    whole : (x : Event) → In x (fresh id start end ∷ es) → x.end ≤ℤ x.asked
-    whole x (inl is) = subst (λ (z : Event). z.end ≤ℤ z.asked) (sym is) (omega (arith, ints))
+    whole : (x : LineEvent) → In x (fresh id start end ∷ es) → x.end ≤ℤ x.asked
+    whole x (inl is) = subst (λ (z : LineEvent). z.end ≤ℤ z.asked) (sym is) (omega (arith, ints))
     whole x (inr i) = o.whole x i
 
-    other : (y : Event) → In y es → y.start ≡ start → ⊥
+    other : (y : LineEvent) → In y es → y.start ≡ start → ⊥
     other y i is = split (can.clear y i)
       where
         split : (end ≤ℤ y.start) ⊎ (y.end ≤ℤ start) → ⊥
         split (inl l) = let a = can.some in omega (arith, ints)
         split (inr l) = let a = o.some y i in omega (arith, ints)
 
-    same : (x y : Event) → In x (fresh id start end ∷ es) → In y (fresh id start end ∷ es) → x.start ≡ y.start → x ≡ y
+    same : (x y : LineEvent) → In x (fresh id start end ∷ es) → In y (fresh id start end ∷ es) → x.start ≡ y.start → x ≡ y
     same x y (inl is) (inl so) e = is ∙ sym so
-    same x y (inl is) (inr j) e = absurd (other y j (sym e ∙ ap (λ (z : Event). z.start) is))
-    same x y (inr i) (inl so) e = absurd (other x i (e ∙ ap (λ (z : Event). z.start) so))
+    same x y (inl is) (inr j) e = absurd (other y j (sym e ∙ ap (λ (z : LineEvent). z.start) is))
+    same x y (inr i) (inl so) e = absurd (other x i (e ∙ ap (λ (z : LineEvent). z.start) so))
     same x y (inr i) (inr j) e = o.same x y i j e
 
-    turn : (x y : Event) → x ≡ fresh id start end → (end ≤ℤ y.start) ⊎ (y.end ≤ℤ start) → (x.end ≤ℤ y.start) ⊎ (y.end ≤ℤ x.start)
-    turn x y is (inl l) = inl (subst (λ (z : Event). z.end ≤ℤ y.start) (sym is) l)
-    turn x y is (inr l) = inr (subst (λ (z : Event). y.end ≤ℤ z.start) (sym is) l)
+    turn : (x y : LineEvent) → x ≡ fresh id start end → (end ≤ℤ y.start) ⊎ (y.end ≤ℤ start) → (x.end ≤ℤ y.start) ⊎ (y.end ≤ℤ x.start)
+    turn x y is (inl l) = inl (subst (λ (z : LineEvent). z.end ≤ℤ y.start) (sym is) l)
+    turn x y is (inr l) = inr (subst (λ (z : LineEvent). y.end ≤ℤ z.start) (sym is) l)
 
-    swap : (a b : Event) → (a.end ≤ℤ b.start) ⊎ (b.end ≤ℤ a.start) → (b.end ≤ℤ a.start) ⊎ (a.end ≤ℤ b.start)
+    swap : (a b : LineEvent) → (a.end ≤ℤ b.start) ⊎ (b.end ≤ℤ a.start) → (b.end ≤ℤ a.start) ⊎ (a.end ≤ℤ b.start)
     swap a b (inl l) = inr l
     swap a b (inr l) = inl l
 
-    apart : (x y : Event) → In x (fresh id start end ∷ es) → In y (fresh id start end ∷ es) → (x.start ≡ y.start → ⊥) → (x.end ≤ℤ y.start) ⊎ (y.end ≤ℤ x.start)
-    apart x y (inl is) (inl so) differ = absurd (differ (ap (λ (z : Event). z.start) (is ∙ sym so)))
+    apart : (x y : LineEvent) → In x (fresh id start end ∷ es) → In y (fresh id start end ∷ es) → (x.start ≡ y.start → ⊥) → (x.end ≤ℤ y.start) ⊎ (y.end ≤ℤ x.start)
+    apart x y (inl is) (inl so) differ = absurd (differ (ap (λ (z : LineEvent). z.start) (is ∙ sym so)))
     apart x y (inl is) (inr j) differ = turn x y is (can.clear y j)
     apart x y (inr i) (inl so) differ = swap y x (turn y x so (can.clear x i))
     apart x y (inr i) (inr j) differ = o.apart x y i j differ
 
-    ids : (x y : Event) → In x (fresh id start end ∷ es) → In y (fresh id start end ∷ es) → stands h x ≡ true → stands h y ≡ true → x.id ≡ y.id → x.start ≡ y.start
-    ids x y (inl is) (inl so) s t e = ap (λ (z : Event). z.start) (is ∙ sym so)
-    ids x y (inl is) (inr j) s t e = absurd (can.unused y j t (sym e ∙ ap (λ (z : Event). z.id) is))
-    ids x y (inr i) (inl so) s t e = absurd (can.unused x i s (e ∙ ap (λ (z : Event). z.id) so))
+    ids : (x y : LineEvent) → In x (fresh id start end ∷ es) → In y (fresh id start end ∷ es) → stands h x ≡ true → stands h y ≡ true → x.id ≡ y.id → x.start ≡ y.start
+    ids x y (inl is) (inl so) s t e = ap (λ (z : LineEvent). z.start) (is ∙ sym so)
+    ids x y (inl is) (inr j) s t e = absurd (can.unused y j t (sym e ∙ ap (λ (z : LineEvent). z.id) is))
+    ids x y (inr i) (inl so) s t e = absurd (can.unused x i s (e ∙ ap (λ (z : LineEvent). z.id) so))
     ids x y (inr i) (inr j) s t e = o.ids x y i j s t e
 
     room : count h (fresh id start end ∷ es) ≤ 32
@@ -234,11 +234,11 @@ orderly-clear h id start end es can o = record { some = some; whole = whole; sam
         let l = can.room in
         by_test (stands h (fresh id start end)) (λ s. simp s (omega (arith, l))) (λ s. simp s (omega (arith, l)))
 
-pub orderly-fresh : (h : Option ℤ) (id : ℕ) (start end : ℤ) (es : List Event) → CanStart h id start end es → Orderly h es → Orderly h (fresh id start end ∷ es)
+pub orderly-fresh : (h : Option ℤ) (id : ℕ) (start end : ℤ) (es : List LineEvent) → CanStart h id start end es → Orderly h es → Orderly h (fresh id start end ∷ es)
 orderly-fresh h id start end es can o = orderly-clear h id start end es (clear-can h id start end es can) o
 
 -- without the newest
-pub orderly-tail : (h : Option ℤ) (e : Event) (es : List Event) → Orderly h (e ∷ es) → Orderly h es
+pub orderly-tail : (h : Option ℤ) (e : LineEvent) (es : List LineEvent) → Orderly h (e ∷ es) → Orderly h es
 orderly-tail h e es o = record {
   some = λ x i. o.some x (inr i);
   whole = λ x i. o.whole x (inr i);

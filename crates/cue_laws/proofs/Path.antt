@@ -2,7 +2,7 @@
 use Rattle.std.proofs.Common.{◌≡◌, ◌↔◌, ℕ, Bool, true, false, ◌⊎◌, inl, inr, refl, sym, ap, ◌∙◌, subst, List, [], ◌∷◌, ◌++◌, Option, arith, append_assoc}
 use Rattle.std.specs.Prelude.{ℤ, pos, ◌+ℤ◌, int_lt, map, if◌then◌else◌}
 use Rattle.std.proofs.lemmas.Int.{ints}
-use Rattle.cue_laws.specs.Events.{Turn, Event, Started, Cancelled, Ended, Passed, high, events, Rises, stands, cancel_by, end_by, In, upon}
+use Rattle.cue_laws.specs.Events.{Turn, LineEvent, Started, Cancelled, Ended, Passed, high, events, Rises, stands, cancel_by, end_by, In, upon}
 use Rattle.cue_laws.specs.Thinning.{IsSound, KeepsEnough}
 use Rattle.cue_laws.specs.Cueing.{IsRun, Told, Untold, Known, Never, Sender, is_cancel_new, is_news, current, is_due, end_on, told_on, block_on, told_now, tell, change, senders, cued}
 use Rattle.cue_laws.specs.Laws.{KeepsEnoughOf, CuePath, CuePathAtTheEnd}
@@ -16,38 +16,38 @@ use Rattle.cue_laws.proofs.Tell.{About, repeat_never, tell_known, tell_start, te
 
 -- ---- what was told
 
-abbrev told_by : Told → List Event → List Event
+abbrev told_by : Told → List LineEvent → List LineEvent
 told_by Untold es = es
 told_by (Known t) es = t ∷ es
 told_by Never es = es
 
-abbrev told_of : List Sender → List Event
+abbrev told_of : List Sender → List LineEvent
 told_of [] = []
 told_of (x ∷ xs) = told_by x.told (told_of xs)
 
-told-parts : (told : Told) (es : List Event) → told_by told [] ++ es ≡ told_by told es
+told-parts : (told : Told) (es : List LineEvent) → told_by told [] ++ es ≡ told_by told es
 told-parts Untold es = refl
 told-parts (Known t) es = refl
 told-parts Never es = refl
 
-told-apart : (front : List Event) (told : Told) (es : List Event) → (front ++ told_by told []) ++ es ≡ front ++ told_by told es
+told-apart : (front : List LineEvent) (told : Told) (es : List LineEvent) → (front ++ told_by told []) ++ es ≡ front ++ told_by told es
 told-apart front told es = append_assoc front (told_by told []) es ∙ ap (λ l. front ++ l) (told-parts told es)
 
-told_of-change : (f : Event → Event) (xs : List Sender) → told_of (map (change f) xs) ≡ told_of xs
+told_of-change : (f : LineEvent → LineEvent) (xs : List Sender) → told_of (map (change f) xs) ≡ told_of xs
 told_of-change f [] = refl
 told_of-change f (x ∷ xs) = ap (told_by x.told) (told_of-change f xs)
 
 module _ (h later : Option ℤ) where
   -- behind the cues, what was told is the events themselves
-  now_part : (xs : List Sender) (y : Event) → In y (told_of (map (tell h later) xs)) → In y (map event_of xs)
+  now_part : (xs : List Sender) (y : LineEvent) → In y (told_of (map (tell h later) xs)) → In y (map event_of xs)
   now_part [] y i = i
   now_part (x ∷ xs) y i = which x.event x.told i (λ j. now_part xs y j)
     where
-      add : (e : Event) → In y (e ∷ told_of (map (tell h later) xs)) → (In y (told_of (map (tell h later) xs)) → In y (map event_of xs)) → In y (e ∷ map event_of xs)
+      add : (e : LineEvent) → In y (e ∷ told_of (map (tell h later) xs)) → (In y (told_of (map (tell h later) xs)) → In y (map event_of xs)) → In y (e ∷ map event_of xs)
       add e (inl is) more = inl is
       add e (inr j) more = inr (more j)
 
-      which : (e : Event) (told : Told) → In y (told_by (told_now e told) (told_of (map (tell h later) xs)))
+      which : (e : LineEvent) (told : Told) → In y (told_by (told_now e told) (told_of (map (tell h later) xs)))
           → (In y (told_of (map (tell h later) xs)) → In y (map event_of xs)) → In y (e ∷ map event_of xs)
       which e Untold i more = by_test e.cancelled (λ c. let j = simp c at i in inr (more j)) (λ c. let j = simp c at i in add e j more)
       which e (Known t) i more = add e i more
@@ -57,30 +57,30 @@ module _ (h later : Option ℤ) where
   now_distinct [] d = tt
   now_distinct (x ∷ xs) d = which x.event x.told d.0 (now_distinct xs d.1)
     where
-      which : (e : Event) (told : Told) → ((b : Event) → In b (map event_of xs) → b.start ≡ e.start → ⊥) → Distinct (told_of (map (tell h later) xs))
+      which : (e : LineEvent) (told : Told) → ((b : LineEvent) → In b (map event_of xs) → b.start ≡ e.start → ⊥) → Distinct (told_of (map (tell h later) xs))
           → Distinct (told_by (told_now e told) (told_of (map (tell h later) xs)))
       which e Untold other rest = by_test e.cancelled (λ c. simp c rest) (λ c. simp c ((λ b i is. other b (now_part xs b i) is), rest))
       which e (Known t) other rest = ((λ b i is. other b (now_part xs b i) is), rest)
       which e Never other rest = rest
 
-  now_all : (xs : List Sender) → Fair h xs → (y : Event) → y.cancelled ≡ false → In y (map event_of xs) → In y (told_of (map (tell h later) xs))
+  now_all : (xs : List Sender) → Fair h xs → (y : LineEvent) → y.cancelled ≡ false → In y (map event_of xs) → In y (told_of (map (tell h later) xs))
   now_all [] fair y c i = i
   now_all (x ∷ xs) fair y c (inl is) = which x.event x.told is fair.0
     where
-      which : (e : Event) (told : Told) → y ≡ e → IsFair h e told (map event_of xs) → In y (told_by (told_now e told) (told_of (map (tell h later) xs)))
-      which e Untold is f = let d : e.cancelled ≡ false = sym (ap (λ (z : Event). z.cancelled) is) ∙ c in simp d (inl is)
+      which : (e : LineEvent) (told : Told) → y ≡ e → IsFair h e told (map event_of xs) → In y (told_by (told_now e told) (told_of (map (tell h later) xs)))
+      which e Untold is f = let d : e.cancelled ≡ false = sym (ap (λ (z : LineEvent). z.cancelled) is) ∙ c in simp d (inl is)
       which e (Known t) is f = inl is
-      which e Never is f = let d : e.cancelled ≡ false = sym (ap (λ (z : Event). z.cancelled) is) ∙ c in absurd (let bad : true ≡ false = sym f ∙ d in cc)
+      which e Never is f = let d : e.cancelled ≡ false = sym (ap (λ (z : LineEvent). z.cancelled) is) ∙ c in absurd (let bad : true ≡ false = sym f ∙ d in cc)
   now_all (x ∷ xs) fair y c (inr i) = which x.event x.told (now_all xs fair.3 y c i)
     where
-      which : (e : Event) (told : Told) → In y (told_of (map (tell h later) xs)) → In y (told_by (told_now e told) (told_of (map (tell h later) xs)))
+      which : (e : LineEvent) (told : Told) → In y (told_of (map (tell h later) xs)) → In y (told_by (told_now e told) (told_of (map (tell h later) xs)))
       which e Untold j = by_test e.cancelled (λ d. simp d j) (λ d. simp d (inr j))
       which e (Known t) j = inr j
       which e Never j = j
 
   -- ---- one event, and all
 
-  turn : (e : Event) (last : Option ℤ) (told : Told) (older front back : List Event) (rest : List Turn) → About h e older front back → IsFair h e told older
+  turn : (e : LineEvent) (last : Option ℤ) (told : Told) (older front back : List LineEvent) (rest : List Turn) → About h e older front back → IsFair h e told older
       → (told ≡ Untold → front ≡ []) → Goes h rest (front ++ told_by told back) → Goes h (told_on h later e last told rest) (front ++ told_by (told_now e told) back)
   turn e last Untold older front back rest about fair none g =
       by_test e.cancelled
@@ -90,13 +90,13 @@ module _ (h later : Option ℤ) where
   turn e last Never older front back rest about fair none g = repeat_never h later e older front back about last rest fair g
 
   -- one that is known stands where what was told of it does
-  stands_told : (e t : Event) → IsKnown h e t → stands h t ≡ true → stands h e ≡ true
+  stands_told : (e t : LineEvent) → IsKnown h e t → stands h t ≡ true → stands h e ≡ true
   stands_told e t k s =
       by_test (int_lt e.end t.end)
       (λ l. before-more h e.end (e.end +ℤ pos 900000) (k.end_new (lt-test e.end t.end l)).0 (omega (arith, ints)))
       (λ l. let x = ge-test e.end t.end l in before-more h (t.end +ℤ pos 900000) (e.end +ℤ pos 900000) s (omega (arith, ints, x)))
 
-  block : (xs : List Sender) (front : List Event) (rest : List Turn) → Fair h xs → Orderly h (map event_of xs) → (front ≡ []) ⊎ AllTold xs
+  block : (xs : List Sender) (front : List LineEvent) (rest : List Turn) → Fair h xs → Orderly h (map event_of xs) → (front ≡ []) ⊎ AllTold xs
       → ((x : Sender) → In x xs → stands h x.event ≡ true → Others h x.event.id front)
       → Goes h rest (front ++ told_of xs) → Goes h (block_on h later xs rest) (front ++ told_of (map (tell h later) xs))
   block [] front rest fair order ahead newer g = g
@@ -128,17 +128,17 @@ module _ (h later : Option ℤ) where
       next a (Known t) all none = inr (all (λ is. cc))
       next a Never all none = inr (all (λ is. cc))
 
-      apart : (e : Event) → In e (map event_of xs) → stands h e ≡ true → stands h x.event ≡ true → e.id ≡ x.event.id → ⊥
+      apart : (e : LineEvent) → In e (map event_of xs) → stands h e ≡ true → stands h x.event ≡ true → e.id ≡ x.event.id → ⊥
       apart e j t s is = order.distinct.0 e j (order.ids e x.event (inr j) (inl refl) t s is)
 
-      told_stands : (told : Told) → IsFair h x.event told (map event_of xs) → (e : Event) → In e (told_by told []) → stands h e ≡ true → (e.id ≡ x.event.id) × (stands h x.event ≡ true)
+      told_stands : (told : Told) → IsFair h x.event told (map event_of xs) → (e : LineEvent) → In e (told_by told []) → stands h e ≡ true → (e.id ≡ x.event.id) × (stands h x.event ≡ true)
       told_stands Untold f e i t = absurd i
       told_stands (Known k) f e (inl is) t =
-          (ap (λ (z : Event). z.id) is ∙ f.id, stands_told x.event k f (ap (stands h) (sym is) ∙ t))
+          (ap (λ (z : LineEvent). z.id) is ∙ f.id, stands_told x.event k f (ap (stands h) (sym is) ∙ t))
       told_stands (Known k) f e (inr i) t = absurd i
       told_stands Never f e i t = absurd i
 
-      others : (y : Sender) → In y xs → stands h y.event ≡ true → (e : Event) → In e front ⊎ In e (told_by x.told []) → stands h e ≡ true → e.id ≡ y.event.id → ⊥
+      others : (y : Sender) → In y xs → stands h y.event ≡ true → (e : LineEvent) → In e front ⊎ In e (told_by x.told []) → stands h e ≡ true → e.id ≡ y.event.id → ⊥
       others y i s e (inl j) t is = newer y (inr i) s e j t is
       others y i s e (inr j) t is =
           let k = told_stands x.told fair.0 e j t in
@@ -157,14 +157,14 @@ cued_goes (Passed later ∷ past) r =
     record { sound = (subst (λ k. Rises k later) (sym g.clock) r.0, g.sound); clock = refl; list = g.list }
 
 -- with nothing lost, behind a packet
-pub nothing_lost : (h : Option ℤ) (past : List Turn) → IsRun (Passed h ∷ past) → (x : Event) → x.cancelled ≡ false → In x (events (cued (Passed h ∷ past))) ↔ In x (events (Passed h ∷ past))
+pub nothing_lost : (h : Option ℤ) (past : List Turn) → IsRun (Passed h ∷ past) → (x : LineEvent) → x.cancelled ≡ false → In x (events (cued (Passed h ∷ past))) ↔ In x (events (Passed h ∷ past))
 nothing_lost h past r x c =
     let s = stand past r.1 in let g = cued_goes (Passed h ∷ past) r in (
       λ i. subst (In x) s.same (now_part (high past) h (senders past) x (subst (In x) g.list i)),
       λ i. subst (In x) (sym g.list) (now_all (high past) h (senders past) s.fair x c (subst (In x) (sym s.same) i)),
     )
 
-pub known_of : (h : Option ℤ) (past : List Turn) → IsRun (Passed h ∷ past) → (x : Event) → In x (events (cued (Passed h ∷ past))) → In x (events (Passed h ∷ past))
+pub known_of : (h : Option ℤ) (past : List Turn) → IsRun (Passed h ∷ past) → (x : LineEvent) → In x (events (cued (Passed h ∷ past))) → In x (events (Passed h ∷ past))
 known_of h past r x i =
     let s = stand past r.1 in let g = cued_goes (Passed h ∷ past) r in
     subst (In x) s.same (now_part (high past) h (senders past) x (subst (In x) g.list i))
@@ -181,7 +181,7 @@ front_if : (b : Bool) (s : Turn) (front all : List Turn) → IsFront front all �
 front_if true s front all f = front_more s front all f
 front_if false s front all f = f
 
-front_told : (h later : Option ℤ) (e : Event) (last : Option ℤ) (told : Told) (front all : List Turn) → IsFront front all → IsFront front (told_on h later e last told all)
+front_told : (h later : Option ℤ) (e : LineEvent) (last : Option ℤ) (told : Told) (front all : List Turn) → IsFront front all → IsFront front (told_on h later e last told all)
 front_told h later e last Untold front all f =
     by_test e.cancelled
     (λ c. simp c (front_more (Cancelled e.id) front all f))

@@ -3,7 +3,7 @@ use Rattle.std.proofs.Common.{◌≡◌, ℕ, Bool, true, false, not, ◌&&◌, 
 use Rattle.std.specs.Prelude.{ℤ, ◌≤ℤ◌, ◌<ℤ◌, int_le, int_lt, map, if◌then◌else◌}
 use Rattle.std.specs.List.{list_any}
 use Rattle.std.proofs.lemmas.Int.{ints}
-use Rattle.cue_laws.specs.Events.{Turn, Event, Started, Cancelled, Ended, Passed, high, before, events, taken, Rises, NeverFalls, holders, upon, covers, name_of, can_start, fresh, cancel_by, can_cancel, end_by, can_end, or_so, is_of, bars, count}
+use Rattle.cue_laws.specs.Events.{Turn, LineEvent, Started, Cancelled, Ended, Passed, high, before, events, taken, Rises, NeverFalls, holders, upon, covers, name_of, can_start, fresh, cancel_by, can_cancel, end_by, can_end, or_so, is_of, bars, count}
 use Rattle.cue_laws.specs.Laws.{Settlement}
 
 -- two cases of a test
@@ -17,8 +17,8 @@ reached_later (Some h) None time r b = absurd r
 reached_later (Some h) (Some later) time r b = grind (arith, ints)
 
 -- a change of events that keeps names and what holds the time keeps the holders
-pub holders-map : (time : ℤ) (f : Event → Event) → ((e : Event) → name_of (f e) ≡ name_of e) → ((e : Event) → covers time (f e) ≡ covers time e)
-    → (es : List Event) → holders time (map f es) ≡ holders time es
+pub holders-map : (time : ℤ) (f : LineEvent → LineEvent) → ((e : LineEvent) → name_of (f e) ≡ name_of e) → ((e : LineEvent) → covers time (f e) ≡ covers time e)
+    → (es : List LineEvent) → holders time (map f es) ≡ holders time es
 holders-map time f names same [] = refl
 holders-map time f names same (e ∷ es) =
     by_test (covers time e)
@@ -53,7 +53,7 @@ cancel_off false false c k = refl
 pub and_off : (a b : Bool) → a ≡ false → (a && b) ≡ false
 and_off a b is = cc
 
-covers-cancelled : (h : Option ℤ) (id : ℕ) (time : ℤ) → before h time ≡ false → (e : Event) → covers time (cancel_by h id e) ≡ covers time e
+covers-cancelled : (h : Option ℤ) (id : ℕ) (time : ℤ) → before h time ≡ false → (e : LineEvent) → covers time (cancel_by h id e) ≡ covers time e
 covers-cancelled None id time b e = absurd (let no : true ≡ false = b in cc)
 covers-cancelled (Some h) id time b e =
     cancel_off e.cancelled (can_cancel (Some h) id e) (int_le e.start time && int_lt time e.end)
@@ -63,7 +63,7 @@ end_off : (time end old : ℤ) (b : Bool) → (b ≡ true → (time <ℤ end) ×
 end_off time end old true k = let f = k refl in lt-is _ _ f.0 ∙ sym (lt-is _ _ f.1)
 end_off time end old false k = refl
 
-pub record CanEnd (h : Option ℤ) (id : ℕ) (end : ℤ) (e : Event) : Type 0 where
+pub record CanEnd (h : Option ℤ) (id : ℕ) (end : ℤ) (e : LineEvent) : Type 0 where
   pub of : is_of h id e ≡ true
   pub uncancelled : e.cancelled ≡ false
   pub past : e.start <ℤ end
@@ -74,7 +74,7 @@ pub not_true : (a : Bool) → not a ≡ true → a ≡ false
 not_true true is = cc
 not_true false is = refl
 
-pub can_end-parts : (h : Option ℤ) (id : ℕ) (end : ℤ) (e : Event) → can_end h id end e ≡ true → CanEnd h id end e
+pub can_end-parts : (h : Option ℤ) (id : ℕ) (end : ℤ) (e : LineEvent) → can_end h id end e ≡ true → CanEnd h id end e
 can_end-parts h id end e can =
     let a = both (is_of h id e) _ can in
     let b = both (not e.cancelled) _ a.1 in
@@ -82,7 +82,7 @@ can_end-parts h id end e can =
     let d = both (before h end) _ c.1 in
     record { of = a.0; uncancelled = not_true _ b.0; past = lt-test _ _ c.0; ahead = d.0; earlier = lt-test _ _ d.1 }
 
-covers-ended : (h : Option ℤ) (id : ℕ) (end time : ℤ) → before h time ≡ false → (e : Event) → covers time (end_by h id end e) ≡ covers time e
+covers-ended : (h : Option ℤ) (id : ℕ) (end time : ℤ) → before h time ≡ false → (e : LineEvent) → covers time (end_by h id end e) ≡ covers time e
 covers-ended None id end time b e = absurd (let no : true ≡ false = b in cc)
 covers-ended (Some h) id end time b e =
     ap (λ v. not e.cancelled && (int_le e.start time && v))
@@ -93,7 +93,7 @@ covers-fresh : (h : Option ℤ) (id : ℕ) (start end time : ℤ) → before h t
 covers-fresh None id start end time b s = absurd (let no : true ≡ false = b in cc)
 covers-fresh (Some h) id start end time b s = grind (arith, ints)
 
-pub record CanStart (h : Option ℤ) (id : ℕ) (start end : ℤ) (es : List Event) : Type 0 where
+pub record CanStart (h : Option ℤ) (id : ℕ) (start end : ℤ) (es : List LineEvent) : Type 0 where
   pub clock : is_some h ≡ true
   pub some : start <ℤ end
   pub ahead : before h start ≡ true
@@ -101,7 +101,7 @@ pub record CanStart (h : Option ℤ) (id : ℕ) (start end : ℤ) (es : List Eve
   pub room : nat_lt (count h es) 32 ≡ true
   pub free : list_any (bars h start end) es ≡ false
 
-pub can_start-parts : (h : Option ℤ) (id : ℕ) (start end : ℤ) (es : List Event) → can_start h id start end es ≡ true → CanStart h id start end es
+pub can_start-parts : (h : Option ℤ) (id : ℕ) (start end : ℤ) (es : List LineEvent) → can_start h id start end es ≡ true → CanStart h id start end es
 can_start-parts h id start end es can =
     let a = both (is_some h) _ can in
     let b = both (int_lt start end) _ a.1 in
@@ -110,7 +110,7 @@ can_start-parts h id start end es can =
     let e = both (nat_lt (count h es) 32) _ d.1 in
     record { clock = a.0; some = lt-test _ _ b.0; ahead = c.0; unused = not_true _ d.0; room = e.0; free = not_true _ e.1 }
 
-pub settled_step : (h : Option ℤ) (s : Turn) (es : List Event) (time : ℤ) → before h time ≡ false → holders time (taken h s es) ≡ holders time es
+pub settled_step : (h : Option ℤ) (s : Turn) (es : List LineEvent) (time : ℤ) → before h time ≡ false → holders time (taken h s es) ≡ holders time es
 settled_step h (Started id start end) es time b =
     by_test (can_start h id start end es)
     (λ can. let off = covers-fresh h id start end time b (can_start-parts h id start end es can).ahead in simp (can, off))

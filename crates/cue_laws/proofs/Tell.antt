@@ -2,7 +2,7 @@
 use Rattle.std.proofs.Common.{◌≡◌, Bool, true, false, not, ◌&&◌, ◌⊎◌, inl, inr, refl, sym, ap, ◌∙◌, subst, List, [], ◌∷◌, ◌++◌, Option, arith}
 use Rattle.std.specs.Prelude.{ℤ, pos, ◌+ℤ◌, ◌<ℤ◌, ◌≤ℤ◌, int_lt, is_some, if◌then◌else◌}
 use Rattle.std.proofs.lemmas.Int.{ints}
-use Rattle.cue_laws.specs.Events.{Turn, Event, Started, Cancelled, Ended, before, stands, is_of, can_start, fresh, can_cancel, cancel_by, can_end, end_by, In}
+use Rattle.cue_laws.specs.Events.{Turn, LineEvent, Started, Cancelled, Ended, before, stands, is_of, can_start, fresh, can_cancel, cancel_by, can_end, end_by, In}
 use Rattle.cue_laws.specs.Cueing.{Known, is_cancel_new, or_else, is_news, current, limit, is_due, is_second, end_on, cancel_on, repeat_on, told_on}
 use Rattle.cue_laws.proofs.Settling.{by_test, both, lt-test, ge-test, lt-is, can_end-parts, not_true}
 use Rattle.cue_laws.proofs.Lists.{Distinct}
@@ -13,12 +13,12 @@ use Rattle.cue_laws.proofs.Fair.{IsKnown}
 use Rattle.cue_laws.proofs.Block.{Goes, goes-to, start_goes, again_goes, Others, end-off, cancel_middle, cancel_none, end_middle, In-right}
 
 -- what lies about an event in the list of what was told: `front` newer, `back` older, and the older events themselves
-pub record About (h : Option ℤ) (e : Event) (older front back : List Event) : Type 0 where
+pub record About (h : Option ℤ) (e : LineEvent) (older front back : List LineEvent) : Type 0 where
   pub clock : is_some h ≡ true
   pub order : Orderly h (e ∷ older)
   pub newer : stands h e ≡ true → Others h e.id front
   pub others : stands h e ≡ true → Others h e.id back
-  pub part : (y : Event) → In y back → In y older
+  pub part : (y : LineEvent) → In y back → In y older
   pub distinct : Distinct back
 
 and-is : (a b : Bool) → a ≡ true → b ≡ true → (a && b) ≡ true
@@ -35,29 +35,29 @@ same_flag true false is k = absurd (let bad : true ≡ false = is in cc)
 same_flag false true is k = let bad = k refl in cc
 same_flag false false is k = refl
 
-if_goes : (h : Option ℤ) (b : Bool) (s : Turn) (rest : List Turn) (es : List Event) → (b ≡ true → Goes h (s ∷ rest) es) → (b ≡ false → Goes h rest es) → Goes h (if b then s ∷ rest else rest) es
+if_goes : (h : Option ℤ) (b : Bool) (s : Turn) (rest : List Turn) (es : List LineEvent) → (b ≡ true → Goes h (s ∷ rest) es) → (b ≡ false → Goes h rest es) → Goes h (if b then s ∷ rest else rest) es
 if_goes h true s rest es a z = a refl
 if_goes h false s rest es a z = z refl
 
-limit-cancelled : (e : Event) → e.cancelled ≡ true → (limit e ≡ e.start) × (current e ≡ Cancelled e.id)
+limit-cancelled : (e : LineEvent) → e.cancelled ≡ true → (limit e ≡ e.start) × (current e ≡ Cancelled e.id)
 limit-cancelled e c = (
   ap (λ b. if b then e.start else (if int_lt e.end e.asked then e.end else e.start)) c,
   ap (λ b. if b then Cancelled e.id else (if int_lt e.end e.asked then Ended e.id e.end else Started e.id e.start e.asked)) c,
 )
 
-limit-ended : (e : Event) → e.cancelled ≡ false → int_lt e.end e.asked ≡ true → (limit e ≡ e.end) × (current e ≡ Ended e.id e.end)
+limit-ended : (e : LineEvent) → e.cancelled ≡ false → int_lt e.end e.asked ≡ true → (limit e ≡ e.end) × (current e ≡ Ended e.id e.end)
 limit-ended e c s = (
   ap (λ b. if b then e.start else (if int_lt e.end e.asked then e.end else e.start)) c ∙ ap (λ b. if b then e.end else e.start) s,
   ap (λ b. if b then Cancelled e.id else (if int_lt e.end e.asked then Ended e.id e.end else Started e.id e.start e.asked)) c ∙ ap (λ b. if b then Ended e.id e.end else Started e.id e.start e.asked) s,
 )
 
-limit-whole : (e : Event) → e.cancelled ≡ false → int_lt e.end e.asked ≡ false → (limit e ≡ e.start) × (current e ≡ Started e.id e.start e.asked)
+limit-whole : (e : LineEvent) → e.cancelled ≡ false → int_lt e.end e.asked ≡ false → (limit e ≡ e.start) × (current e ≡ Started e.id e.start e.asked)
 limit-whole e c s = (
   ap (λ b. if b then e.start else (if int_lt e.end e.asked then e.end else e.start)) c ∙ ap (λ b. if b then e.end else e.start) s,
   ap (λ b. if b then Cancelled e.id else (if int_lt e.end e.asked then Ended e.id e.end else Started e.id e.start e.asked)) c ∙ ap (λ b. if b then Ended e.id e.end else Started e.id e.start e.asked) s,
 )
 
-module _ (h later : Option ℤ) (e : Event) (older front back : List Event) (about : About h e older front back) where
+module _ (h later : Option ℤ) (e : LineEvent) (older front back : List LineEvent) (about : About h e older front back) where
   some_here : e.start <ℤ e.end
   some_here = about.order.some e (inl refl)
 
@@ -106,7 +106,7 @@ module _ (h later : Option ℤ) (e : Event) (older front back : List Event) (abo
       (λ due. g)
 
   -- the end that is new
-  end_known : (rest : List Turn) (t : Event) → IsKnown h e t → Goes h rest (front ++ (t ∷ back))
+  end_known : (rest : List Turn) (t : LineEvent) → IsKnown h e t → Goes h rest (front ++ (t ∷ back))
       → Goes h (end_on e t.end rest) (front ++ (record { id = t.id; start = t.start; asked = t.asked; end = e.end; cancelled = t.cancelled } ∷ back))
   end_known rest t k g =
       if_goes h (int_lt e.end t.end) (Ended e.id e.end) rest _
@@ -125,11 +125,11 @@ module _ (h later : Option ℤ) (e : Event) (older front back : List Event) (abo
       goes-to h rest _ _ (ap (λ v. front ++ (record { id = t.id; start = t.start; asked = t.asked; end = v; cancelled = t.cancelled } ∷ back)) same) g)
 
   -- then the cancel that is new
-  cancel_known : (rest : List Turn) (t : Event) → IsKnown h e t
+  cancel_known : (rest : List Turn) (t : LineEvent) → IsKnown h e t
       → Goes h rest (front ++ (record { id = t.id; start = t.start; asked = t.asked; end = e.end; cancelled = t.cancelled } ∷ back))
       → Goes h (cancel_on e t rest) (front ++ (e ∷ back))
   cancel_known rest t k g =
-      let u : Event = record { id = t.id; start = t.start; asked = t.asked; end = e.end; cancelled = t.cancelled } in
+      let u : LineEvent = record { id = t.id; start = t.start; asked = t.asked; end = e.end; cancelled = t.cancelled } in
       if_goes h (is_cancel_new e t) (Cancelled e.id) rest (front ++ (e ∷ back))
       (λ n.
       let p = both e.cancelled (not t.cancelled) n in
@@ -140,13 +140,13 @@ module _ (h later : Option ℤ) (e : Event) (older front back : List Event) (abo
       cancel_middle h e front back (about.newer s) (about.others s) rest u e same g)
       (λ n. goes-to h rest _ _ (ap (λ z. front ++ (z ∷ back)) (equal_events u e k.id k.start k.asked refl (same_flag e.cancelled t.cancelled n k.cancelled))) g)
 
-  known_as_it_is : (t : Event) → IsKnown h e t → is_news e t ≡ false → t ≡ e
+  known_as_it_is : (t : LineEvent) → IsKnown h e t → is_news e t ≡ false → t ≡ e
   known_as_it_is t k n =
       let p = or_else-false (int_lt e.end t.end) (is_cancel_new e t) n in
       let x = ge-test e.end t.end p.0 in let y = k.earlier in
       equal_events t e k.id k.start k.asked (omega (arith, ints, x, y)) (same_flag e.cancelled t.cancelled p.1 k.cancelled)
 
-  pub tell_known : (last : Option ℤ) (rest : List Turn) (t : Event) → IsKnown h e t → Goes h rest (front ++ (t ∷ back)) → Goes h (told_on h later e last (Known t) rest) (front ++ (e ∷ back))
+  pub tell_known : (last : Option ℤ) (rest : List Turn) (t : LineEvent) → IsKnown h e t → Goes h rest (front ++ (t ∷ back)) → Goes h (told_on h later e last (Known t) rest) (front ++ (e ∷ back))
   tell_known last rest t k g =
       by_test (is_news e t)
       (λ n. simp n (cancel_known (end_on e t.end rest) t k (end_known rest t k g)))
@@ -174,13 +174,13 @@ module _ (h later : Option ℤ) (e : Event) (older front back : List Event) (abo
       goes-to h (Started e.id e.start e.asked ∷ rest) (asked_for ∷ back) (e ∷ back)
       (ap (λ z. z ∷ back) (equal_events asked_for e refl refl refl (omega (arith, ints, x, y)) (sym c))) started))
     where
-      asked_for : Event
+      asked_for : LineEvent
       asked_for = fresh e.id e.start e.asked
 
       bare : Goes h rest back
       bare = goes-to h rest (front ++ back) back (ap (λ f. f ++ back) none) g
 
-      free : (a : Event) → In a back → a.start ≡ e.start → ⊥
+      free : (a : LineEvent) → In a back → a.start ≡ e.start → ⊥
       free a i is = split (clear.clear a (about.part a i))
         where
           split : (e.asked ≤ℤ a.start) ⊎ (a.end ≤ℤ e.start) → ⊥

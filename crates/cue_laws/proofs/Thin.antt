@@ -2,7 +2,7 @@
 use Rattle.std.proofs.Common.{◌≡◌, ℕ, ◌<◌, zero, suc, true, false, ◌⊎◌, inl, inr, refl, sym, ap, ◌∙◌, subst, List, [], ◌∷◌, Option, arith}
 use Rattle.std.specs.Prelude.{ℤ, map, if◌then◌else◌}
 use Rattle.std.proofs.lemmas.Int.{ints}
-use Rattle.cue_laws.specs.Events.{Turn, Event, Started, Cancelled, Ended, Passed, high, events, taken, is_of, can_start, fresh, can_cancel, cancel_by, can_end, end_by, In}
+use Rattle.cue_laws.specs.Events.{Turn, LineEvent, Started, Cancelled, Ended, Passed, high, events, taken, is_of, can_start, fresh, can_cancel, cancel_by, can_end, end_by, In}
 use Rattle.cue_laws.specs.Thinning.{MayCome, IsSound, Repeats, times, thinned, KeepsEnds}
 use Rattle.cue_laws.proofs.Settling.{by_test, can_end-parts}
 use Rattle.cue_laws.proofs.Lists.{In-mapped}
@@ -32,23 +32,23 @@ high-thinned copies (Passed h ∷ past) = refl
 
 -- the event of a start cue that may come is there once it has come
 pub there : (id : ℕ) (start end : ℤ) (past : List Turn) → MayCome (Started id start end) past
-    → (x : Event) × IsThere (high past) id start end (events (Started id start end ∷ past)) x
+    → (x : LineEvent) × IsThere (high past) id start end (events (Started id start end ∷ past)) x
 there id start end past m =
     by_test (can_start (high past) id start end (events past))
     (λ can. (fresh id start end, record { clock = m.0; ahead = m.1; there = simp can (inl refl); repeats = record { same_id = refl; same_start = refl; same_asked = refl; unshortened = refl; uncancelled = refl } }))
     (λ can. again can m.2)
   where
     again : can_start (high past) id start end (events past) ≡ false
-        → (can_start (high past) id start end (events past) ≡ true) ⊎ ((e : Event) × In e (events past) × Repeats id start end e)
-        → (x : Event) × IsThere (high past) id start end (events (Started id start end ∷ past)) x
+        → (can_start (high past) id start end (events past) ≡ true) ⊎ ((e : LineEvent) × In e (events past) × Repeats id start end e)
+        → (x : LineEvent) × IsThere (high past) id start end (events (Started id start end ∷ past)) x
     again can (inl new) = absurd (let bad : true ≡ false = sym new ∙ can in cc)
     again can (inr e) = (e.0, record { clock = m.0; ahead = m.1; there = simp can e.1; repeats = e.2 })
 
-abbrev ending : ℤ → Event → Event
+abbrev ending : ℤ → LineEvent → LineEvent
 ending time t = record { id = t.id; start = t.start; asked = t.asked; end = time; cancelled = t.cancelled }
 
 -- an end comes to nothing a second time
-ended_twice : (h : Option ℤ) (id : ℕ) (time : ℤ) (t : Event) → end_by h id time (end_by h id time t) ≡ end_by h id time t
+ended_twice : (h : Option ℤ) (id : ℕ) (time : ℤ) (t : LineEvent) → end_by h id time (end_by h id time t) ≡ end_by h id time t
 ended_twice h id time t =
     by_test (can_end h id time t)
     (λ c.
@@ -57,7 +57,7 @@ ended_twice h id time t =
     ap (end_by h id time) e ∙ ap (λ b. ending (if b then time else time) t) off ∙ sym e)
     (λ c. let e : end_by h id time t ≡ t = ap (λ b. ending (if b then time else t.end) t) c in ap (end_by h id time) e)
 
-map_twice : (f : Event → Event) → ((e : Event) → f (f e) ≡ f e) → (es : List Event) → map f (map f es) ≡ map f es
+map_twice : (f : LineEvent → LineEvent) → ((e : LineEvent) → f (f e) ≡ f e) → (es : List LineEvent) → map f (map f es) ≡ map f es
 map_twice f twice [] = refl
 map_twice f twice (e ∷ es) = simp (twice e, map_twice f twice es)
 
@@ -82,11 +82,11 @@ module _ (copies : List Turn → ℕ) where
       (sym (high-cancels n id (thinned copies past) ∙ high-thinned copies past))
       (take_cancel (high past) id _ _ done rest)
     where
-      done : (t : Event) → In t (map (cancel_by (high past) id) (events past)) → can_cancel (high past) id t ≡ true → t.cancelled ≡ true
+      done : (t : LineEvent) → In t (map (cancel_by (high past) id) (events past)) → can_cancel (high past) id t ≡ true → t.cancelled ≡ true
       done t i c =
           let r = In-mapped (cancel_by (high past) id) t (events past) i in
           let d : can_cancel (high past) id (cancel_by (high past) id r.0) ≡ true = subst (λ z. can_cancel (high past) id z ≡ true) r.2 c in
-          subst (λ (z : Event). z.cancelled ≡ true) (sym r.2) (or-right r.0.cancelled (can_cancel (high past) id r.0) d)
+          subst (λ (z : LineEvent). z.cancelled ≡ true) (sym r.2) (or-right r.0.cancelled (can_cancel (high past) id r.0) d)
 
   below_ends : (n id : ℕ) (time : ℤ) (past : List Turn) → MayCome (Ended id time) past → Below (events (thinned copies past)) (events past)
       → Below (events (times (suc n) (Ended id time) (thinned copies past))) (events (Ended id time ∷ past))
@@ -102,13 +102,13 @@ module _ (copies : List Turn → ℕ) where
       (map_twice (end_by (high past) id time) (ended_twice (high past) id time) (events past))
       (take_end (high past) id time _ _ still rest))
     where
-      still : (t : Event) → In t (map (end_by (high past) id time) (events past)) → is_of (high past) id t ≡ true → t.cancelled ≡ false
+      still : (t : LineEvent) → In t (map (end_by (high past) id time) (events past)) → is_of (high past) id t ≡ true → t.cancelled ≡ false
       still t i of =
           let r = In-mapped (end_by (high past) id time) t (events past) i in
           let d : is_of (high past) id (end_by (high past) id time r.0) ≡ true = subst (λ z. is_of (high past) id z ≡ true) r.2 of in
           let p = is_of-parts (high past) id (end_by (high past) id time r.0) d in
           let e : is_of (high past) id r.0 ≡ true = is_of-is (high past) id r.0 (stands-back (high past) r.0 (end_by (high past) id time r.0) (end-shrinks (high past) id time r.0) p.0) p.1 in
-          subst (λ (z : Event). z.cancelled ≡ false) (sym r.2) (m r.0 r.1 e)
+          subst (λ (z : LineEvent). z.cancelled ≡ false) (sym r.2) (m r.0 r.1 e)
 
   below_end : (n id : ℕ) (time : ℤ) (past : List Turn) → MayCome (Ended id time) past → (0 < n) ⊎ (events (Ended id time ∷ past) ≡ events past)
       → Below (events (thinned copies past)) (events past)

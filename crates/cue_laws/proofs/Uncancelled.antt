@@ -2,7 +2,7 @@
 use Rattle.std.specs.Prelude.{◌<ℤ◌, ◌≤ℤ◌, int_lt, filter}
 use Rattle.std.proofs.Common.{◌≡◌, ◌⊎◌, inl, inr, refl, sym, ap, ◌∙◌, subst, List, [], ◌∷◌, arith}
 use Rattle.std.proofs.lemmas.Int.{ints}
-use Rattle.cue_laws.specs.Events.{Event, Passed, events, In}
+use Rattle.cue_laws.specs.Events.{LineEvent, Passed, events, In}
 use Rattle.cue_laws.specs.Thinning.{thinned}
 use Rattle.cue_laws.specs.Cueing.{cued}
 use Rattle.cue_laws.specs.Tables.{put_in, by_start, is_uncancelled, uncancelled_events}
@@ -15,11 +15,11 @@ use Rattle.cue_laws.proofs.Thin.{below}
 use Rattle.cue_laws.proofs.Fair.{stand}
 use Rattle.cue_laws.proofs.Path.{cued_goes, cue_path_at_the_end}
 
-abbrev Rising : List Event → Type 0
+abbrev Rising : List LineEvent → Type 0
 Rising [] = Unit {0}
-Rising (a ∷ es) = ((b : Event) → In b es → a.start <ℤ b.start) × Rising es
+Rising (a ∷ es) = ((b : LineEvent) → In b es → a.start <ℤ b.start) × Rising es
 
-put_in-from : (a : Event) (es : List Event) (x : Event) → In x (put_in a es) → (x ≡ a) ⊎ In x es
+put_in-from : (a : LineEvent) (es : List LineEvent) (x : LineEvent) → In x (put_in a es) → (x ≡ a) ⊎ In x es
 put_in-from a [] x (inl is) = inl is
 put_in-from a [] x (inr i) = absurd i
 put_in-from a (e ∷ es) x i =
@@ -35,7 +35,7 @@ put_in-from a (e ∷ es) x i =
         more (inl is) = inl is
         more (inr k) = inr (inr k)
 
-put_in-to : (a : Event) (es : List Event) (x : Event) → (x ≡ a) ⊎ In x es → In x (put_in a es)
+put_in-to : (a : LineEvent) (es : List LineEvent) (x : LineEvent) → (x ≡ a) ⊎ In x es → In x (put_in a es)
 put_in-to a [] x i = i
 put_in-to a (e ∷ es) x i = by_test (int_lt a.start e.start) (λ l. simp l i) (λ l. simp l (later i (λ k. put_in-to a es x k)))
   where
@@ -44,7 +44,7 @@ put_in-to a (e ∷ es) x i = by_test (int_lt a.start e.start) (λ l. simp l i) (
     later (inr (inl is)) go = inl is
     later (inr (inr j)) go = inr (go (inr j))
 
-rising-put : (a : Event) (es : List Event) → Rising es → ((b : Event) → In b es → b.start ≡ a.start → ⊥) → Rising (put_in a es)
+rising-put : (a : LineEvent) (es : List LineEvent) → Rising es → ((b : LineEvent) → In b es → b.start ≡ a.start → ⊥) → Rising (put_in a es)
 rising-put a [] r other = ((λ b i. absurd i), tt)
 rising-put a (e ∷ es) r other =
     by_test (int_lt a.start e.start)
@@ -53,18 +53,18 @@ rising-put a (e ∷ es) r other =
     let strict : e.start <ℤ a.start = past k (other e (inl refl)) in
     simp l ((λ b i. next strict b (put_in-from a es b i)), rising-put a es r.1 (λ b i. other b (inr i))))
   where
-    first : a.start <ℤ e.start → (b : Event) → (b ≡ e) ⊎ In b es → a.start <ℤ b.start
-    first k b (inl is) = subst (λ (z : Event). a.start <ℤ z.start) (sym is) k
+    first : a.start <ℤ e.start → (b : LineEvent) → (b ≡ e) ⊎ In b es → a.start <ℤ b.start
+    first k b (inl is) = subst (λ (z : LineEvent). a.start <ℤ z.start) (sym is) k
     first k b (inr i) = let m = r.0 b i in omega (arith, ints, k, m)
 
     past : e.start ≤ℤ a.start → (e.start ≡ a.start → ⊥) → e.start <ℤ a.start
     past k differ = by_test (int_lt e.start a.start) (λ l. lt-test e.start a.start l) (λ l. let m = ge-test e.start a.start l in absurd (differ (omega (arith, ints, k, m))))
 
-    next : e.start <ℤ a.start → (b : Event) → (b ≡ a) ⊎ In b es → e.start <ℤ b.start
-    next k b (inl is) = subst (λ (z : Event). e.start <ℤ z.start) (sym is) k
+    next : e.start <ℤ a.start → (b : LineEvent) → (b ≡ a) ⊎ In b es → e.start <ℤ b.start
+    next k b (inl is) = subst (λ (z : LineEvent). e.start <ℤ z.start) (sym is) k
     next k b (inr i) = r.0 b i
 
-by_start-from : (es : List Event) (x : Event) → In x (by_start es) → In x es
+by_start-from : (es : List LineEvent) (x : LineEvent) → In x (by_start es) → In x es
 by_start-from [] x i = i
 by_start-from (e ∷ es) x i = later (put_in-from e (by_start es) x i) (λ k. by_start-from es x k)
   where
@@ -72,17 +72,17 @@ by_start-from (e ∷ es) x i = later (put_in-from e (by_start es) x i) (λ k. by
     later (inl is) go = inl is
     later (inr k) go = inr (go k)
 
-by_start-to : (es : List Event) (x : Event) → In x es → In x (by_start es)
+by_start-to : (es : List LineEvent) (x : LineEvent) → In x es → In x (by_start es)
 by_start-to [] x i = i
 by_start-to (e ∷ es) x (inl is) = put_in-to e (by_start es) x (inl is)
 by_start-to (e ∷ es) x (inr i) = put_in-to e (by_start es) x (inr (by_start-to es x i))
 
-rising-sorted : (es : List Event) → Distinct es → Rising (by_start es)
+rising-sorted : (es : List LineEvent) → Distinct es → Rising (by_start es)
 rising-sorted [] d = tt
 rising-sorted (e ∷ es) d = rising-put e (by_start es) (rising-sorted es d.1) (λ b i is. d.0 b (by_start-from es b i) is)
 
 -- two lists in order with the same elements are one
-one_order : (es fs : List Event) → Rising es → Rising fs → ((x : Event) → In x es → In x fs) → ((x : Event) → In x fs → In x es) → es ≡ fs
+one_order : (es fs : List LineEvent) → Rising es → Rising fs → ((x : LineEvent) → In x es → In x fs) → ((x : LineEvent) → In x fs → In x es) → es ≡ fs
 one_order [] [] r s to back = refl
 one_order [] (y ∷ ys) r s to back = absurd (back y (inl refl))
 one_order (x ∷ xs) [] r s to back = absurd (to x (inl refl))
@@ -92,8 +92,8 @@ one_order (x ∷ xs) (y ∷ ys) r s to back =
     (λ z i. rest z ys (λ is. let m = r.0 z i in bad x z (is ∙ sym same) m) (to z (inr i)))
     (λ z i. rest' z i (back z (inr i))))
   where
-    bad : (x z : Event) → z ≡ x → x.start <ℤ z.start → ⊥
-    bad x z is m = let k = ap (λ (z : Event). z.start) is in omega (arith, ints, k, m)
+    bad : (x z : LineEvent) → z ≡ x → x.start <ℤ z.start → ⊥
+    bad x z is m = let k = ap (λ (z : LineEvent). z.start) is in omega (arith, ints, k, m)
 
     same : x ≡ y
     same = pick (to x (inl refl)) (back y (inl refl))
@@ -103,11 +103,11 @@ one_order (x ∷ xs) (y ∷ ys) r s to back =
         pick (inr i) (inl is) = sym is
         pick (inr i) (inr j) = absurd (let m = s.0 x i in let n = r.0 y j in omega (arith, ints, m, n))
 
-    rest : (z : Event) (ys : List Event) → (z ≡ y → ⊥) → (z ≡ y) ⊎ In z ys → In z ys
+    rest : (z : LineEvent) (ys : List LineEvent) → (z ≡ y → ⊥) → (z ≡ y) ⊎ In z ys → In z ys
     rest z ys differ (inl is) = absurd (differ is)
     rest z ys differ (inr i) = i
 
-    rest' : (z : Event) → In z ys → (z ≡ x) ⊎ In z xs → In z xs
+    rest' : (z : LineEvent) → In z ys → (z ≡ x) ⊎ In z xs → In z xs
     rest' z i (inl is) = absurd (let m = s.0 z i in bad y z (is ∙ same) m)
     rest' z i (inr j) = j
 
@@ -121,10 +121,10 @@ uncancelled_events_agree copies h past r k =
     (λ x i. let p = In-filtered is_uncancelled x there (by_start-from (filter is_uncancelled there) x i) in
     by_start-to (filter is_uncancelled here) x (In-filter is_uncancelled x here ((cue_path_at_the_end copies h past r k x (not_true x.cancelled p.1)).1 p.0) p.1))
   where
-    here : List Event
+    here : List LineEvent
     here = events (thinned copies (cued (Passed h ∷ past)))
 
-    there : List Event
+    there : List LineEvent
     there = events (Passed h ∷ past)
 
     order : Orderly h there

@@ -1,6 +1,6 @@
 -- The laws, over the definitions alone.
 use Rattle.std.specs.Prelude.{◌≡◌, ◌↔◌, ◌⊎◌, ℕ, true, false, List, ◌∷◌, ℤ, Option, pos, ◌+ℤ◌}
-use Rattle.cue_laws.specs.Events.{Turn, Started, Passed, Event, high, before, events, NeverFalls, holders, upon, In}
+use Rattle.cue_laws.specs.Events.{Turn, Started, Passed, LineEvent, high, before, events, NeverFalls, holders, upon, In}
 use Rattle.cue_laws.specs.Thinning.{IsSound, thinned, IsThinned, KeepsEnough, KeepsStart, KeepsCancel, KeepsEnds}
 use Rattle.cue_laws.specs.Cueing.{IsRun, cued}
 use Rattle.cue_laws.specs.Tables.{standing, uncancelled_events}
@@ -13,18 +13,18 @@ Settlement = (past later : List Turn) (time : ℤ) → NeverFalls (upon later pa
 -- LOST CUES, at every front: the uncancelled events whose start is reached are the same, in all fields, with cues lost as without
 abbrev pub LostCues : Type 0
 LostCues = (copies : List Turn → ℕ) (front later : List Turn) → IsSound (upon later front) → KeepsEnough copies (upon later front) →
-    (x : Event) → x.cancelled ≡ false → before (high front) x.start ≡ false → In x (events (thinned copies front)) ↔ In x (events front)
+    (x : LineEvent) → x.cancelled ≡ false → before (high front) x.start ≡ false → In x (events (thinned copies front)) ↔ In x (events front)
 
 -- and at the end all uncancelled events are
 abbrev pub LostCuesAtTheEnd : Type 0
 LostCuesAtTheEnd = (copies : List Turn → ℕ) (all : List Turn) → IsSound all → KeepsEnough copies all →
-    (x : Event) → x.cancelled ≡ false → In x (events (thinned copies all)) ↔ In x (events all)
+    (x : LineEvent) → x.cancelled ≡ false → In x (events (thinned copies all)) ↔ In x (events all)
 
 -- THE PREMISE OF THINNING, in the injector's words: each event never cancelled keeps a start cue, each cancelled one a cancel cue or none of
 -- its start cues, and the first sending of each early end is kept
 pub record KeepsEnoughOf (copies : List Turn → ℕ) (run : List Turn) : Type 0 where
-  pub starts : (x : Event) → In x (events run) → x.cancelled ≡ false → KeepsStart copies x (cued run)
-  pub cancels : (x : Event) → In x (events run) → x.cancelled ≡ true → KeepsCancel copies x (cued run) ⊎ (KeepsStart copies x (cued run) → ⊥)
+  pub starts : (x : LineEvent) → In x (events run) → x.cancelled ≡ false → KeepsStart copies x (cued run)
+  pub cancels : (x : LineEvent) → In x (events run) → x.cancelled ≡ true → KeepsCancel copies x (cued run) ⊎ (KeepsStart copies x (cued run) → ⊥)
   pub ends : KeepsEnds copies (cued run)
 
 -- WITH NOTHING LOST: every cue of a run may come, so a splicer refuses none
@@ -36,13 +36,13 @@ CuedIsSound = (run : List Turn) → IsRun run → IsSound (cued run)
 abbrev pub CuePath : Type 0
 CuePath = (copies : List Turn → ℕ) (h : Option ℤ) (past later : List Turn) (last : Option ℤ) →
     IsRun (Passed last ∷ upon later (Passed h ∷ past)) → KeepsEnoughOf copies (Passed last ∷ upon later (Passed h ∷ past)) →
-    (x : Event) → x.cancelled ≡ false → before h x.start ≡ false →
+    (x : LineEvent) → x.cancelled ≡ false → before h x.start ≡ false →
     In x (events (thinned copies (cued (Passed h ∷ past)))) ↔ In x (events (Passed h ∷ past))
 
 -- and behind the last packet all uncancelled events are
 abbrev pub CuePathAtTheEnd : Type 0
 CuePathAtTheEnd = (copies : List Turn → ℕ) (h : Option ℤ) (past : List Turn) → IsRun (Passed h ∷ past) → KeepsEnoughOf copies (Passed h ∷ past) →
-    (x : Event) → x.cancelled ≡ false → In x (events (thinned copies (cued (Passed h ∷ past)))) ↔ In x (events (Passed h ∷ past))
+    (x : LineEvent) → x.cancelled ≡ false → In x (events (thinned copies (cued (Passed h ∷ past)))) ↔ In x (events (Passed h ∷ past))
 
 -- so of each time that is reached, behind each packet, the same events hold it on both sides
 abbrev pub CuePathHolders : Type 0
@@ -63,7 +63,7 @@ abbrev pub CuedGrows : Type 0
 CuedGrows = (front later : List Turn) → (more : List Turn) × (cued (upon later front) ≡ upon more (cued front))
 
 -- the same event; where it is cancelled in the one list, it is in the other
-pub record IsPartOf (a t : Event) : Type 0 where
+pub record IsPartOf (a t : LineEvent) : Type 0 where
   pub id : a.id ≡ t.id
   pub start : a.start ≡ t.start
   pub asked : a.asked ≡ t.asked
@@ -73,13 +73,13 @@ pub record IsPartOf (a t : Event) : Type 0 where
 -- THE INVARIANT, behind each packet: each event of the splicer's is one of the injector's. Of what is lost only the ends count.
 abbrev pub Invariant : Type 0
 Invariant = (copies : List Turn → ℕ) (h : Option ℤ) (past : List Turn) → IsRun (Passed h ∷ past) → KeepsEnds copies (cued (Passed h ∷ past)) →
-    (a : Event) → In a (events (thinned copies (cued (Passed h ∷ past)))) → (t : Event) × In t (events (Passed h ∷ past)) × IsPartOf a t
+    (a : LineEvent) → In a (events (thinned copies (cued (Passed h ∷ past)))) → (t : LineEvent) × In t (events (Passed h ∷ past)) × IsPartOf a t
 
 -- so no start cue is refused: of each that is left the splicer has the event
 abbrev pub NoStartRefused : Type 0
 NoStartRefused = (copies : List Turn → ℕ) (run : List Turn) → IsRun run → KeepsEnds copies (cued run) →
     (id : ℕ) (start end : ℤ) → In (Started id start end) (thinned copies (cued run)) →
-    (e : Event) × In e (events (thinned copies (cued run))) × (e.start ≡ start)
+    (e : LineEvent) × In e (events (thinned copies (cued run))) × (e.start ≡ start)
 
 -- THE TABLE IS JUDGED BY THE WHOLE RUN: behind each packet, the table of a splicer that lost cues and forgets what is ten seconds past
 -- answers for each time reached, not ten seconds back, what the injector's list answers at the end of the run

@@ -1,26 +1,26 @@
 -- The table that code keeps: only the events that stand.
 use Rattle.std.specs.Prelude.{◌≡◌, Bool, not, if◌then◌else◌, List, [], ◌∷◌, filter, int_lt}
-use Rattle.cue_laws.specs.Events.{Turn, Event, high, stands, taken, events, NeverFalls}
+use Rattle.cue_laws.specs.Events.{Turn, LineEvent, high, stands, taken, events, NeverFalls}
 
 -- the events that stand, newest first; what is forgotten is left out at each turn
-abbrev pub standing : List Turn → List Event
+abbrev pub standing : List Turn → List LineEvent
 standing [] = []
 standing (s ∷ past) = filter (stands (high (s ∷ past))) (taken (high past) s (standing past))
 
 -- in order of their starts
-abbrev pub put_in : Event → List Event → List Event
+abbrev pub put_in : LineEvent → List LineEvent → List LineEvent
 put_in x [] = x ∷ []
 put_in x (e ∷ es) = if int_lt x.start e.start then x ∷ e ∷ es else e ∷ put_in x es
 
-abbrev pub by_start : List Event → List Event
+abbrev pub by_start : List LineEvent → List LineEvent
 by_start [] = []
 by_start (e ∷ es) = put_in e (by_start es)
 
-abbrev pub is_uncancelled : Event → Bool
+abbrev pub is_uncancelled : LineEvent → Bool
 is_uncancelled e = not e.cancelled
 
 -- the events that are not cancelled, in order of their starts
-abbrev pub uncancelled_events : List Event → List Event
+abbrev pub uncancelled_events : List LineEvent → List LineEvent
 uncancelled_events es = by_start (filter is_uncancelled es)
 
 -- a table that forgets judges as one that does not

@@ -1,9 +1,9 @@
 -- Streams of cues: those that a splicer which misses nothing can obey, and what is left of one on the way.
 use Rattle.std.specs.Prelude.{◌≡◌, ℕ, ◌<◌, zero, suc, true, false, ◌⊎◌, List, [], ◌∷◌, ℤ, is_some}
-use Rattle.cue_laws.specs.Events.{Turn, Started, Cancelled, Ended, Passed, Event, high, before, events, is_of, can_start, Rises, name_of, In}
+use Rattle.cue_laws.specs.Events.{Turn, Started, Cancelled, Ended, Passed, LineEvent, high, before, events, is_of, can_start, Rises, name_of, In}
 
 -- the event is there as it was first asked for
-pub record Repeats (id : ℕ) (from to : ℤ) (e : Event) : Type 0 where
+pub record Repeats (id : ℕ) (from to : ℤ) (e : LineEvent) : Type 0 where
   pub same_id : e.id ≡ id
   pub same_start : e.start ≡ from
   pub same_asked : e.asked ≡ to
@@ -15,9 +15,9 @@ pub record Repeats (id : ℕ) (from to : ℤ) (e : Event) : Type 0 where
 abbrev pub MayCome : Turn → List Turn → Type 0
 MayCome (Started id start end) past =
     (is_some (high past) ≡ true) × (before (high past) start ≡ true)
-    × ((can_start (high past) id start end (events past) ≡ true) ⊎ ((e : Event) × In e (events past) × Repeats id start end e))
+    × ((can_start (high past) id start end (events past) ≡ true) ⊎ ((e : LineEvent) × In e (events past) × Repeats id start end e))
 MayCome (Cancelled id) past = Unit {0}
-MayCome (Ended id time) past = (e : Event) → In e (events past) → is_of (high past) id e ≡ true → e.cancelled ≡ false
+MayCome (Ended id time) past = (e : LineEvent) → In e (events past) → is_of (high past) id e ≡ true → e.cancelled ≡ false
 MayCome (Passed h) past = Rises (high past) h
 
 -- so all of them
@@ -55,15 +55,15 @@ KeepsEnds copies (Ended id time ∷ past) = ((0 < copies (Ended id time ∷ past
 KeepsEnds copies (Passed h ∷ past) = KeepsEnds copies past
 
 -- a start cue of the event is left
-abbrev pub KeepsStart : (List Turn → ℕ) → Event → List Turn → Type 0
+abbrev pub KeepsStart : (List Turn → ℕ) → LineEvent → List Turn → Type 0
 KeepsStart copies x past = In (Started x.id x.start x.asked) (thinned copies past)
 
 -- the event is known here
-abbrev pub Knows : Event → List Event → Type 0
-Knows x es = (e : Event) × In e es × (name_of e ≡ name_of x)
+abbrev pub Knows : LineEvent → List LineEvent → Type 0
+Knows x es = (e : LineEvent) × In e es × (name_of e ≡ name_of x)
 
 -- a cancel cue of the event is left, one with its id between its arming and its begin
-abbrev pub KeepsCancel : (List Turn → ℕ) → Event → List Turn → Type 0
+abbrev pub KeepsCancel : (List Turn → ℕ) → LineEvent → List Turn → Type 0
 KeepsCancel copies x [] = ⊥
 KeepsCancel copies x (Started id start end ∷ past) = KeepsCancel copies x past
 KeepsCancel copies x (Cancelled id ∷ past) =
@@ -74,6 +74,6 @@ KeepsCancel copies x (Passed h ∷ past) = KeepsCancel copies x past
 -- THE PREMISE OF THINNING: each event never cancelled keeps a start cue, each cancelled one a cancel cue or none of its start cues, and
 -- the first sending of each early end is kept
 pub record KeepsEnough (copies : List Turn → ℕ) (all : List Turn) : Type 0 where
-  pub starts : (x : Event) → In x (events all) → x.cancelled ≡ false → KeepsStart copies x all
-  pub cancels : (x : Event) → In x (events all) → x.cancelled ≡ true → KeepsCancel copies x all ⊎ (KeepsStart copies x all → ⊥)
+  pub starts : (x : LineEvent) → In x (events all) → x.cancelled ≡ false → KeepsStart copies x all
+  pub cancels : (x : LineEvent) → In x (events all) → x.cancelled ≡ true → KeepsCancel copies x all ⊎ (KeepsStart copies x all → ⊥)
   pub ends : KeepsEnds copies all

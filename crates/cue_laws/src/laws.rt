@@ -1,6 +1,7 @@
 //! Laws, each the contract of a function that does nothing.
 
-ghost use Rattle.cue_laws.specs.Laws.{UncancelledEventsAgree, CuedIsSound, TableIsJudged, Settlement, LostCues, LostCuesAtTheEnd, CuePath, CuePathAtTheEnd, CuePathHolders, NothingLostIsEnough, Invariant, NoStartRefused, ThinnedIsChosen, CuedGrows};
+ghost use Rattle.cue_laws.specs.Laws.{UncancelledEventsAgree, CuedIsSound, TableIsJudged, Settlement, LostCues, LostCuesAtTheEnd};
+ghost use Rattle.cue_laws.specs.Laws.{CuePath, CuePathAtTheEnd, CuePathHolders, NothingLostIsEnough, Invariant, NoStartRefused, ThinnedIsChosen, CuedGrows};
 ghost use Rattle.cue_laws.specs.Tables.{ForgettingIsSafe};
 ghost use Rattle.cue_laws.specs.Needed.{OrderIsNeeded, EndsAreNeeded, CancelsAreNeeded};
 

@@ -20,7 +20,7 @@ use Rattle.event_table.specs.declared.table.Armed.TheVariants.{New, Same}
 use Rattle.event_table.specs.declared.table.ArmRefusal.TheVariants.{InUse, Full, Overlap}
 use Rattle.event_table.specs.declared.table.CancelRefusal.TheVariants.{NoSuchEvent, TooLate}
 use Rattle.event_table.specs.declared.table.ShortenRefusal.TheVariants.{NoSuchEvent as NothingToShorten, BadEnd}
-use Rattle.event_table.specs.Rings.{is_before_on_ring, has_reached_on_ring, IsAheadOf, CanAdvance, IsAhead}
+use Rattle.event_table.specs.Rings.{is_before_on_ring, has_reached_on_ring, IsAheadOf, CanAdvance, IsAheadOnRing}
 use Rattle.event_table.specs.Events.{ring_end, covers_on_ring, meets_on_ring, repeats_on_ring, ends_early_on_ring, cancelled_event, ended_on_ring, CanArm}
 use Rattle.event_table.specs.Standing.{Standing, on_ring, on_line, end_of, forgotten_at, has_id, covers, meets, repeats, is_full, arm_answer, has_begun, cancel_answer, is_early_end, is_ahead_of, shorten_answer, with_first, cancelled_one, ending_at, with_cancelled, with_end, still_standing, IsTimeAt, IsApart, IsInReach, IsWithin}
 use Rattle.event_table.specs.Tables.{StandsFor, events_of, values_of}
@@ -288,7 +288,7 @@ pub ahead-told : {T : Type 0} (t : Table T) (line : Option ℤ) (standing : List
 ahead-told t line standing p b tells stands = is_ahead-told line p b (subst (λ h. IsTrue b ↔ IsAheadOf h p) stands.high tells)
 
 -- the end that is asked for lies ahead of the high time
-ahead-window : (high : ℤ) (p : ℕ) → IsAhead (ring_of high) p → InWindow high (lift high p)
+ahead-window : (high : ℤ) (p : ℕ) → IsAheadOnRing (ring_of high) p → InWindow high (lift high p)
 ahead-window high p ahead = let above = ahead.above in let below = ahead.below in record { low = omega (arith, ints); top = omega (arith, ints) }
 
 same-end-within : (line : Option ℤ) (p : ℕ) → p < 2 ^ 33 → IsAheadOf (option_map ring_of line) p → (s : Standing) → IsWithin line s

@@ -2,7 +2,7 @@
 use Rattle.std.specs.Prelude.{◌≡◌, ℕ, ◌+◌, ◌%◌, ◌^◌, ◌<◌, ◌≤◌, ◌==◌, Bool, true, false, not, ◌&&◌, pos, int_le, int_lt, unsigned_abs, Option, None, Some}
 use Rattle.pes_time.specs.Line.{signed}
 use Rattle.event_table.specs.declared.event.Event.{Event}
-use Rattle.event_table.specs.Rings.{is_before_on_ring, IsAhead}
+use Rattle.event_table.specs.Rings.{is_before_on_ring, IsAheadOnRing}
 
 -- what fills an unused place of a table
 abbrev pub no_event : Event
@@ -45,7 +45,7 @@ pub record IsFresh (event : Event) : Type 0 where
 
 pub record IsArmable (high : ℕ) (event : Event) : Type 0 where
   pub fresh : IsFresh event
-  pub ahead : IsAhead high event.start
+  pub ahead : IsAheadOnRing high event.start
 
 -- an event may be armed: there is a high time, the event is fresh, and its start lies 1 to 2^29 ticks past the high time
 abbrev pub CanArm : Option ℕ → Event → Type 0

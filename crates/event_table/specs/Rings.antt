@@ -7,14 +7,14 @@ abbrev pub is_before_on_ring : ℕ → ℕ → Bool
 is_before_on_ring a b = int_lt (signed a b) (pos 0)
 
 -- the time lies 1 to 2^29 ticks past the high time
-pub record IsAhead (high time : ℕ) : Type 0 where
+pub record IsAheadOnRing (high time : ℕ) : Type 0 where
   pub above : pos 0 <ℤ signed time high
   pub below : signed time high ≤ℤ pos (2 ^ 29)
 
 -- there is a high time, and the time lies ahead of it
 abbrev pub IsAheadOf : Option ℕ → ℕ → Type 0
 IsAheadOf None time = ⊥
-IsAheadOf (Some high) time = IsAhead high time
+IsAheadOf (Some high) time = IsAheadOnRing high time
 
 -- the next high time is not below the last one, and at most 900,000 ticks (ten seconds) past it
 pub record IsNext (high next : ℕ) : Type 0 where

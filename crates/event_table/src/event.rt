@@ -1,7 +1,7 @@
 //! An event on the ring, and what is asked of one event alone.
 
 ghost use Rattle.std.specs.Prelude.{◌≡◌, ◌↔◌, IsTrue, true};
-ghost use Rattle.event_table.specs.Rings.{is_before_on_ring, IsAhead};
+ghost use Rattle.event_table.specs.Rings.{is_before_on_ring, IsAheadOnRing};
 
 use pes_time::Time33;
 
@@ -66,14 +66,15 @@ pub fn is_before(a: Time33, b: Time33) -> bool
 
 /// Whether a time lies 1 to 2^29 ticks past the high time.
 pub(crate) fn is_ahead(time: Time33, high: Time33) -> bool
-    ensures { IsTrue result ↔ IsAhead high time }
+    ensures { IsTrue result ↔ IsAheadOnRing high time }
 {
     let way = time.signed_from(high);
     0 < way && way <= FURTHEST
 }
 
 impl Event {
-    ghost use Rattle.event_table.specs.Events.{ring_end, covers_on_ring, meets_on_ring, repeats_on_ring, ends_early_on_ring, cancelled_event, ended_on_ring, IsFresh};
+    ghost use Rattle.event_table.specs.Events.{ring_end, covers_on_ring, meets_on_ring, repeats_on_ring, ends_early_on_ring};
+    ghost use Rattle.event_table.specs.Events.{cancelled_event, ended_on_ring, IsFresh};
 
     /// The end that is in force now, on the ring: the first time outside.
     pub fn end(&self) -> Time33

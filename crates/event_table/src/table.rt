@@ -1,6 +1,7 @@
 //! The table of standing events, and its answers.
 
-ghost use Rattle.std.specs.Prelude.{◌≡◌, ◌↔◌, ◌^◌, ◌<◌, ◌≤◌, ◌==◌, ℤ, List, [], ◌∷◌, ◌++◌, map, filter, position, length, slice_set, slice_index_or, IsTrue, IfSome, OnErr, Option, option_map, int_lt};
+ghost use Rattle.std.specs.Prelude.{◌≡◌, ◌↔◌, ◌^◌, ◌<◌, ◌≤◌, ◌==◌, ℤ, List, [], ◌∷◌, ◌++◌, Option, int_lt};
+ghost use Rattle.std.specs.Prelude.{map, filter, position, length, slice_set, slice_index_or, IsTrue, IfSome, OnErr, option_map};
 ghost use Rattle.std.specs.List.{list_any};
 ghost use Rattle.pes_time.specs.Line.{ring_of, place};
 
@@ -96,7 +97,8 @@ pub struct Table<T = ()> {
 impl<T: Copy + Default> Table<T> {
     ghost use Rattle.event_table.specs.Rings.{CanAdvance, has_reached_on_ring, IsAheadOf};
     ghost use Rattle.event_table.specs.Events.{CanArm, meets_on_ring, repeats_on_ring, covers_on_ring};
-    ghost use Rattle.event_table.specs.Standing.{Standing, on_ring, on_line, covers, repeats, has_id, arm_answer, cancel_answer, shorten_answer, with_cancelled, with_end, still_standing, forgotten_at, IsTimeAt};
+    ghost use Rattle.event_table.specs.Standing.{Standing, on_ring, on_line, covers, repeats, has_id, arm_answer, cancel_answer, shorten_answer};
+    ghost use Rattle.event_table.specs.Standing.{with_cancelled, with_end, still_standing, forgotten_at, IsTimeAt};
     ghost use Rattle.event_table.specs.Tables.{StandsFor, high_of, events_of, values_of};
 
     /// A table with no event and no high time.
@@ -295,15 +297,16 @@ impl<T: Copy + Default> Table<T> {
     /// Takes this time as the high time, and forgets each event whose end lies 900,000 ticks or more before it, with its value.
     pub fn advance(&mut self, high: Time33)
         requires { CanAdvance (high_of self.old) high }
-        ensures stands { (line : Option ℤ) (standing : List Standing) (later : ℤ) → StandsFor self.old line standing → IsTimeAt line high later →
-            StandsFor self.new (Some later) (still_standing later standing) }
+        ensures stands { (line : Option ℤ) (standing : List Standing) (later : ℤ) → StandsFor self.old line standing →
+            IsTimeAt line high later → StandsFor self.new (Some later) (still_standing later standing) }
         ensures values { (line : Option ℤ) (standing : List Standing) (later : ℤ) (value : Standing → T) →
             StandsFor self.old line standing → IsTimeAt line high later → values_of self.old ≡ map value standing →
             values_of self.new ≡ map value (still_standing later standing) }
 
         // Each event that still stands keeps its own value, whatever the values are.
         ensures pairs { (line : Option ℤ) (pairs : List (Standing × T)) (later : ℤ) →
-            StandsFor self.old line (map (λ x. x.0) pairs) → IsTimeAt line high later → values_of self.old ≡ map (λ x. x.1) pairs →
+            StandsFor self.old line (map (λ x. x.0) pairs) → IsTimeAt line high later →
+            values_of self.old ≡ map (λ x. x.1) pairs →
             values_of self.new ≡ map (λ x. x.1) (filter (λ x. int_lt later (forgotten_at x.0)) pairs) }
         ensures high { high_of self.new ≡ Some high }
     {

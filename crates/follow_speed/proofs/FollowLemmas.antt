@@ -3,7 +3,7 @@ use Rattle.std.specs.Prelude.{All, option_map}
 use Rattle.std.specs.Io.KnownBytes.{IsAtEnd}
 use Rattle.std.proofs.Common.{◌≡◌, ℕ, List, [], ◌∷◌, ◌++◌, Bool, false, sym, ap, ◌∙◌, subst, Option, Some, None, reverse}
 use Rattle.std.proofs.lemmas.List.Elements.{All-nil}
-use Rattle.ts_packet.specs.Reading.{Given, Refuses}
+use Rattle.ts_packet.specs.Sources.{Given, Refuses}
 use Rattle.ts_packet.specs.Runs.{Seen}
 use Rattle.ts_packet.specs.declared.reader.ReadFault.{ReadFault}
 use Rattle.ts_packet.specs.declared.reader.ReadFault.TheVariants as read_faults

@@ -1,6 +1,6 @@
 -- What a run over a network says that follows its first program to its end.
 use Rattle.std.specs.Prelude.{◌≡◌, ℕ, List, [], Option, None, Some, IfSome, reverse, All}
-use Rattle.ts_packet.specs.Reading.{HasRead}
+use Rattle.ts_packet.specs.Sources.{HasRead}
 use Rattle.ts_packet.specs.Runs.{Seen, seen_after}
 use Rattle.ts_packet.specs.FirstFault.{Cause, OfInput, OfNothing, read_cause, SaysBy}
 use Rattle.psi_tables.specs.declared.network.NetworkFault.{NetworkFault}

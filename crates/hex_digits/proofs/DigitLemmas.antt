@@ -58,9 +58,9 @@ spell_step line bytes start i inside room =
 
 -- ---- read out of a text
 
--- these bytes, and then those that are spelled behind them
-abbrev pub behind : List ℕ → Option (List ℕ) → Option (List ℕ)
-behind done bytes = option_map (λ more. done ++ more) bytes
+-- these, and then those that may be behind them
+abbrev pub behind : {X : Type 0} → List X → Option (List X) → Option (List X)
+behind done rest = option_map (λ more. done ++ more) rest
 
 pub behind_none : (bytes : Option (List ℕ)) → behind [] bytes ≡ bytes
 behind_none None = refl

@@ -12,7 +12,7 @@ use Rattle.ts_packet.specs.Runs.{onto}
 use Rattle.ts_packet.proofs.RunLemmas.{onto-append}
 use Rattle.ts_packet.proofs.FieldLemmas.{payload_on-on}
 use Rattle.psi_section.specs.Packetising.{packets_for, first_packet, next_packet, later_packets, section_packets, packets_in_turn}
-use Rattle.psi_section.proofs.ReadBackLemmas.{Carries, first_number, next_number, next_on, section_carry}
+use Rattle.psi_section.proofs.ReadBackLemmas.{first_number, next_number, next_on, section_carry}
 use Rattle.program_follower.specs.Program.{Table}
 use Rattle.program_laws.specs.Writing.{number_on, packets_out, section_out, Off}
 use Rattle.program_laws.proofs.PacketLemmas.{one_past-below}

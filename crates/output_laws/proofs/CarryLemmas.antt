@@ -10,7 +10,7 @@ use Rattle.ts_packet.proofs.Cases.{by_test}
 use Rattle.ts_packet.proofs.FieldLemmas.{payload_on-on, payload_on-renumbered, start-renumbered, bytes-renumbered}
 use Rattle.ts_packet.proofs.Renumbered.{renumbered-zero}
 use Rattle.unit_stream.specs.Units.{has_payload, rest_of_row}
-use Rattle.unit_stream.specs.Carrying.{Joins, Carries}
+use Rattle.unit_stream.specs.Carrying.{Joins, CarriesUnits}
 use Rattle.unit_stream.specs.UnitPackets.{AllOn}
 use Rattle.unit_stream.proofs.PackedLemmas.{carries_one}
 use Rattle.unit_cut.proofs.CutCarries.{row_joins}
@@ -42,8 +42,8 @@ row_behind Keeping l = refl
 row_behind Leaving l = refl
 row_behind Between l = refl
 
-first_kept : (q : List ℕ) (bs rest : List ℕ) (qs row left us : List (List ℕ)) → unit_start q ≡ true → bytes q ≡ bs → qs ≡ row ++ left → Joins (Some q) row rest → Carries left us
-    → Carries (q ∷ qs) ((bs ++ rest) ∷ us)
+first_kept : (q : List ℕ) (bs rest : List ℕ) (qs row left us : List (List ℕ)) → unit_start q ≡ true → bytes q ≡ bs → qs ≡ row ++ left → Joins (Some q) row rest → CarriesUnits left us
+    → CarriesUnits (q ∷ qs) ((bs ++ rest) ∷ us)
 first_kept q bs rest qs row left us s e f j c = (q ∷ row, left, ap (λ l. q ∷ l) f, (s, (rest, ap (λ l. l ++ rest) (sym e), j)), c)
 
 module _ (pid : ℕ) where
@@ -92,7 +92,7 @@ module _ (packed : Packing) (pid : ℕ) where
   CarriedAfter past ss =
       (left : List (List ℕ))
       × (filter (payload_on pid) (out_after packed past ss) ≡ row_at (place pid past) (map (renumbered (moved (es packed pid past))) (row_of pid past ss)) ++ left)
-      × Carries left (units_out pid past ss)
+      × CarriesUnits left (units_out pid past ss)
 
   carried_keep : (p : List ℕ) (past ss : List Move) → IsWhole pid (Keep p) past → CarriedAfter (Keep p ∷ past) ss → CarriedAfter past (Keep p ∷ ss)
   carried_keep p past ss w h =

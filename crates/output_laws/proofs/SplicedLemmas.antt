@@ -7,8 +7,8 @@ use Rattle.ts_packet.specs.Runs.{Seen, seen_after, IsGaplessAfter}
 use Rattle.ts_packet.proofs.Cases.{by_test}
 use Rattle.ts_packet.proofs.RunLemmas.{onto}
 use Rattle.unit_stream.specs.Times.{begins, unit_time}
-use Rattle.unit_stream.specs.Carrying.{Carries}
-use Rattle.unit_stream.specs.Units.{is_original, rest_of_unit, lead}
+use Rattle.unit_stream.specs.Carrying.{CarriesUnits}
+use Rattle.unit_stream.specs.Units.{is_original, rest_of_unit, lead_in}
 use Rattle.splice_laws.specs.Splicing.{PlayedEvent, SliceUnit, Out, Network, Inserted, Stream, stream, begun, closed, out_of, inserted, rest, holds, outside, all_inserted, all_rest, all_slices_at}
 use Rattle.splice_laws.specs.Laws.{AreOrdered, IsStream, Counts}
 use Rattle.splice_laws.specs.Streams.{Act, Through, Insert, all_closing, all_running, insert_on, on_each, is_dropped, spliced_at, of_stream, IsOnce}
@@ -375,7 +375,7 @@ spliced_carries packed sw xs o slice ps pid h s l =
     let e = network_moves sw xs slice out [] ps in
     let c = output_carries_units packed pid moves (record { sound = s; whole = w }) (subst (λ q. All (λ (p : List ℕ). length p ≡ 188) q) (sym e) l) in
     let v = ap (λ q. inserted_payloads q ++ placed_payloads sw pid xs (slice pid) [] ps) (sym (none_at_first r xs (slice pid) (out pid))) ∙ placed_after sw xs slice out o pid h [] ps [] n i in
-    (c.0, c.1 ∙ ap (λ q. lead pid q ++ c.0) e, subst (Carries c.0) (sym v) c.2)
+    (c.0, c.1 ∙ ap (λ q. lead_in pid q ++ c.0) e, subst (CarriesUnits c.0) (sym v) c.2)
 
 pub spliced_has_units : SplicedHasUnits
 spliced_has_units packed sw xs o slice ps pid h s f b g sw' =

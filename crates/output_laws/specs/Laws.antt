@@ -2,8 +2,8 @@
 use Rattle.std.specs.Prelude.{◌≡◌, ℕ, ◌++◌, ◌∷◌, List, [], true, Option, None, map, filter, reverse, length, All}
 use Rattle.ts_packet.specs.Fields.{payload_on, number}
 use Rattle.ts_packet.specs.Runs.{IsGaplessAfter}
-use Rattle.unit_stream.specs.Units.{units, payloads, lead}
-use Rattle.unit_stream.specs.Carrying.{Carries}
+use Rattle.unit_stream.specs.Units.{units, payloads, lead_in}
+use Rattle.unit_stream.specs.Carrying.{CarriesUnits}
 use Rattle.splice_laws.specs.Splicing.{SliceUnit}
 use Rattle.output_laws.specs.Output.{Move, Keep, Put, network, Packing, output, Sound, IsWhole, IsFed, Along, units_out}
 
@@ -26,8 +26,8 @@ OutputHasUnits = (packed : Packing) (pid : ℕ) (before : Option (List ℕ)) (sw
 -- and then packets that carry the units kept and those put in, in order
 abbrev pub OutputCarriesUnits : Type 0
 OutputCarriesUnits = (packed : Packing) (pid : ℕ) (moves : List Move) → IsRun packed pid moves → All (λ (p : List ℕ). length p ≡ 188) (network moves) →
-    (carried : List (List ℕ)) × (filter (payload_on pid) (output packed moves) ≡ lead pid (network moves) ++ carried)
-    × Carries carried (units_out pid [] moves)
+    (carried : List (List ℕ)) × (filter (payload_on pid) (output packed moves) ≡ lead_in pid (network moves) ++ carried)
+    × CarriesUnits carried (units_out pid [] moves)
 
 -- with nothing put in and nothing left out every packet goes out as it came
 abbrev pub NothingChanges : Type 0

@@ -3,8 +3,8 @@ use Rattle.std.specs.Prelude.{◌≡◌, ℕ, ◌++◌, ◌∷◌, List, [], ◌
 use Rattle.ts_packet.specs.Fields.{payload_on, bytes}
 use Rattle.ts_packet.specs.Runs.{seen_after, IsGaplessAfter}
 use Rattle.unit_stream.specs.Times.{begins, unit_time}
-use Rattle.unit_stream.specs.Units.{is_original, rest_of_unit, lead, units, payloads}
-use Rattle.unit_stream.specs.Carrying.{Carries}
+use Rattle.unit_stream.specs.Units.{is_original, rest_of_unit, lead_in, units, payloads}
+use Rattle.unit_stream.specs.Carrying.{CarriesUnits}
 use Rattle.splice_laws.specs.Splicing.{PlayedEvent, SliceUnit, Out, Network, Inserted, stream, out_of, inserted, rest, outside, all_slices_at}
 use Rattle.splice_laws.specs.Laws.{AreOrdered}
 use Rattle.splice_laws.specs.Streams.{all_closing, all_running, is_dropped, spliced, IsOnce}
@@ -62,8 +62,8 @@ placed_payloads switched pid xs slice past (p ∷ ps) =
 abbrev pub SplicedCarries : Type 0
 SplicedCarries = (packed : Packing) (switched : List ℕ) (xs : List PlayedEvent) → AreOrdered xs → (slice : ℕ → PlayedEvent → List SliceUnit) (ps : List (List ℕ)) (pid : ℕ) → IsOnce pid switched →
     Along (λ (s : Move) (past : List Move). Sound packed s) (reverse (splice_moves switched xs slice ps)) → All (λ (p : List ℕ). length p ≡ 188) ps →
-    (carried : List (List ℕ)) × (filter (payload_on pid) (output packed (splice_moves switched xs slice ps)) ≡ lead pid ps ++ carried)
-    × Carries carried (placed_payloads switched pid xs (slice pid) [] ps)
+    (carried : List (List ℕ)) × (filter (payload_on pid) (output packed (splice_moves switched xs slice ps)) ≡ lead_in pid ps ++ carried)
+    × CarriesUnits carried (placed_payloads switched pid xs (slice pid) [] ps)
 
 -- WHERE THE NETWORK IS GAPLESS on the PID, and it has a payload packet before its first unit put in, so is the output, and its units are what is placed
 abbrev pub SplicedHasUnits : Type 0

@@ -3,13 +3,13 @@ use Rattle.std.proofs.Common.{◌≡◌, ◌≢◌, ℕ, List, [], Option, None,
 use Rattle.std.specs.Prelude.{option_map}
 use Rattle.std.proofs.lemmas.List.{append-nil}
 use Rattle.unit_cut.specs.declared.run.CutFault.{CutFault}
-use Rattle.unit_cut.specs.Runs.{CutsAll, Stops, NetworkBlamed, Stalled, Exhausted}
+use Rattle.unit_cut.specs.Runs.{CutsAll, Stops, NetworkBlamed}
 use Rattle.unit_cut.specs.declared.run.CutFault.TheVariants.{Read, Scrambled, HeaderSplit, TimeJump, Sink}
 use Rattle.ts_packet.specs.declared.reader.ReadFault.TheVariants as read_faults
 use Rattle.unit_cut.proofs.StopLemmas.{cuts_so, stops_so}
 use Rattle.ts_packet.specs.declared.tally.Tally.{Tally}
 use Rattle.ts_packet.specs.declared.sink.PutFault.TheVariants.{Failed}
-use Rattle.ts_packet.specs.Reading.{HasRead, ReadSo}
+use Rattle.ts_packet.specs.Sources.{HasRead, ReadSo, Stalled, Exhausted}
 use Rattle.ts_packet.specs.Transfers.{FallsShort, WentWell, LastMovedNone}
 use Rattle.packet_lines.specs.Texts.{bytes_told, WrittenLines, FailsToWriteLine}
 use Rattle.packet_lines.specs.CutLines.{LineFails, LineStalls, LinesRunOut, LineBlamed}

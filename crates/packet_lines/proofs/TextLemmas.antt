@@ -7,7 +7,7 @@ use Rattle.std.specs.Io.KnownBytes.{Consumes, Appends, IsAtEnd}
 use lib.Seq.{take_all, take-append-le}
 use Rattle.ts_packet.specs.Packets.{packet_fault, or_fault}
 use Rattle.std.specs.Prelude.{option_map, Ok, Err, ◌⊎◌, nat_lt}
-use Rattle.ts_packet.specs.Reading.{Given, ReadSo}
+use Rattle.ts_packet.specs.Sources.{Given, ReadSo}
 use Rattle.ts_packet.specs.declared.tally.Tally.{Tally}
 use Rattle.ts_packet.proofs.Cases.{by_test}
 use Rattle.ts_packet.specs.Transfers.{Filled, WentWell, LastMovedNone}

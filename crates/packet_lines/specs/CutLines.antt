@@ -1,7 +1,7 @@
 -- What a run of `cut_lines` writes, where its input and its output tell their bytes; what its faults say, and what its devices did
 -- there. All is said as of `cut`, over the packets of the text's lines.
 use Rattle.std.specs.Prelude.{◌≡◌, ◌≢◌, ℕ, ◌^◌, ◌-◌, ◌⊎◌, List, Option, length, option_map}
-use Rattle.ts_packet.specs.Reading.{HasRead}
+use Rattle.ts_packet.specs.Sources.{HasRead}
 use Rattle.ts_packet.specs.Transfers.{WentWell, LastMovedNone, LastFailed, TookTurns, FallsShort}
 use Rattle.ts_packet.specs.declared.tally.Tally.{Tally}
 use Rattle.ts_packet.specs.declared.reader.ReadFault.TheVariants as read_faults

@@ -1,9 +1,11 @@
 -- A text of lines, each the 376 upper case hexadecimal digits of a packet's 188 bytes and the line's end, 0x0A, which may be missing
 -- behind the last; and what is read of it, and written to it, as packets.
-use Rattle.std.specs.Prelude.{◌≡◌, ℕ, zero, suc, ◌+◌, ◌/◌, ◌||◌, ◌&&◌, ◌++◌, Bool, true, false, List, [], ◌∷◌, Option, Some, None, IfSome, Result, nat_eq, length, take, drop, slice_index, if◌then◌else◌, option_map}
+use Rattle.std.specs.Prelude.{◌≡◌, ◌≢◌, ℕ, zero, suc, ◌+◌, ◌/◌, ◌||◌, ◌&&◌, ◌++◌, Bool, true, false, List, [], ◌∷◌, Option, Some, None, IfSome, Result, nat_eq, length, take, drop, slice_index, if◌then◌else◌, option_map}
 use Rattle.hex_digits.specs.Digits.{spelled}
 use Rattle.ts_packet.specs.Packets.{packet_fault, or_fault}
 use Rattle.ts_packet.specs.declared.packet.PacketFault.{PacketFault}
+use Rattle.ts_packet.specs.declared.sink.PutFault.{PutFault}
+use Rattle.ts_packet.specs.declared.sink.PutFault.TheVariants.{Failed}
 use Rattle.packet_lines.specs.Lines.{line_of, lines_of}
 
 -- a line: 376 characters, or these and the line's end
@@ -46,3 +48,11 @@ WrittenLines known start ps = IfSome start (λ text. known ≡ Some (text ++ lin
 -- and then a front of a further line
 abbrev pub FailsToWriteLine : Option (List ℕ) → Option (List ℕ) → List (List ℕ) → List ℕ → Type 0
 FailsToWriteLine known start ps p = (n : ℕ) × IfSome start (λ text. known ≡ Some (text ++ (lines_of ps ++ take n (line_of p))))
+
+-- a writer that has failed in no put, and what is known of its device
+abbrev pub HasWrittenLines : Bool → Option (List ℕ) → Option (List ℕ) → List (List ℕ) → Type 0
+HasWrittenLines broken known start ps = (broken ≡ false) × WrittenLines known start ps
+
+-- one whose put of this packet failed so, behind these
+abbrev pub HasFailedInLine : Bool → PutFault → Option (List ℕ) → Option (List ℕ) → List (List ℕ) → List ℕ → Type 0
+HasFailedInLine broken fault known start ps p = (broken ≡ true) × (fault ≢ Failed) × FailsToWriteLine known start ps p

@@ -47,16 +47,15 @@ impl<'a, W: Target> LineWriter<'a, W> {
 }
 
 impl<W: Target> PacketSink for LineWriter<'_, W> {
-    ghost use Rattle.std.specs.Prelude.{◌≡◌, ◌≢◌, ◌∷◌, [], ◌++◌, ℕ, ◌+◌, ◌^◌, ◌≤◌, List, Option, true, false, OnOk, IfErr, Err, is_err};
-    ghost use Rattle.ts_packet.specs.declared.sink.PutFault.TheVariants.{Failed};
+    ghost use Rattle.std.specs.Prelude.{◌≡◌, ◌∷◌, [], ◌++◌, ℕ, ◌+◌, ◌^◌, ◌≤◌, List, Option, true, false, OnOk, IfErr, Err, is_err};
     ghost use Rattle.ts_packet.specs.Transfers.{WentWell};
     ghost use Rattle.ts_packet.specs.Sinks.{Later, Later-refl, Later-trans, Blamed};
-    ghost use Rattle.packet_lines.specs.Texts.{WrittenLines, FailsToWriteLine};
+    ghost use Rattle.packet_lines.specs.Texts.{HasWrittenLines, HasFailedInLine};
     ghost use Rattle.std.proofs.Common.{refl, ap, ◌∙◌};
 
-    ghost holds = { λ w start ps. (w.is_broken ≡ false) × WrittenLines (W.contents w.target.now) start ps };
+    ghost holds = { λ w start ps. HasWrittenLines w.is_broken (W.contents w.target.now) start ps };
 
-    ghost fails = { λ w start ps p f. (w.is_broken ≡ true) × (f ≢ Failed) × FailsToWriteLine (W.contents w.target.now) start ps p };
+    ghost fails = { λ w start ps p f. HasFailedInLine w.is_broken f (W.contents w.target.now) start ps p };
 
     ghost is_broken = { λ w. w.is_broken };
 
@@ -64,7 +63,8 @@ impl<W: Target> PacketSink for LineWriter<'_, W> {
 
     ghost is_full = { λ w. false };
 
-    ghost leads = { λ v w. (w.target.ghost_name ≡ v.target.ghost_name) × Later (W.counts v.target.now) (W.counts w.target.now) × (v.is_broken ≡ true → w ≡ v) };
+    ghost leads = { λ v w. (w.target.ghost_name ≡ v.target.ghost_name) × Later (W.counts v.target.now) (W.counts w.target.now)
+        × (v.is_broken ≡ true → w ≡ v) };
 
     ghost leads_refl = { λ s. (refl, Later-refl _, λ b. refl) };
 
@@ -77,12 +77,15 @@ impl<W: Target> PacketSink for LineWriter<'_, W> {
     ghost leads_spent = { λ s t h. h.2 };
 
     fn put(&mut self, packet: &Packet) -> Result<(), PutFault>
-        ensures leads { (self.new.target.ghost_name ≡ self.old.target.ghost_name) × Later (W.counts self.old.target.now) (W.counts self.new.target.now)
+        ensures leads { (self.new.target.ghost_name ≡ self.old.target.ghost_name)
+            × Later (W.counts self.old.target.now) (W.counts self.new.target.now)
             × (self.old.is_broken ≡ true → self.new ≡ self.old) }
-        ensures ok { (start : Option (List ℕ)) (ps : List (List ℕ)) → (self.old.is_broken ≡ false) × WrittenLines (W.contents self.old.target.now) start ps →
-            OnOk result ((self.new.is_broken ≡ false) × WrittenLines (W.contents self.new.target.now) start (ps ++ packet.now ∷ [])) }
-        ensures err { (start : Option (List ℕ)) (ps : List (List ℕ)) → (self.old.is_broken ≡ false) × WrittenLines (W.contents self.old.target.now) start ps →
-            IfErr result (λ f. (self.new.is_broken ≡ true) × (f ≢ PutFault.Failed) × FailsToWriteLine (W.contents self.new.target.now) start ps packet.now) }
+        ensures ok { (start : Option (List ℕ)) (ps : List (List ℕ)) →
+            HasWrittenLines self.old.is_broken (W.contents self.old.target.now) start ps →
+            OnOk result (HasWrittenLines self.new.is_broken (W.contents self.new.target.now) start (ps ++ packet.now ∷ [])) }
+        ensures err { (start : Option (List ℕ)) (ps : List (List ℕ)) →
+            HasWrittenLines self.old.is_broken (W.contents self.old.target.now) start ps →
+            IfErr result (λ f. HasFailedInLine self.new.is_broken f (W.contents self.new.target.now) start ps packet.now) }
         ensures well { OnOk result (WentWell (W.counts self.old.target.now) (W.counts self.new.target.now)) }
         ensures blamed { IfErr result (λ f. Blamed f (W.counts self.old.target.now) (W.counts self.new.target.now) false) }
         ensures broken { self.new.is_broken ≡ is_err result }

@@ -4,7 +4,7 @@ use Rattle.std.specs.Prelude.{All}
 use Rattle.std.specs.Io.KnownBytes.{IsAtEnd}
 use Rattle.std.proofs.Common.{◌≡◌, ℕ, ◌<◌, ◌≤◌, List, [], ◌∷◌, ◌++◌, Bool, true, false, refl, sym, ap, ◌∙◌, append_assoc, Option, Some, None, IfSome, reverse, length, take, drop}
 use Rattle.ts_packet.specs.Packets.{packets_of, last_part, packet_fault}
-use Rattle.ts_packet.specs.Reading.{Given, HasRead, Refuses}
+use Rattle.ts_packet.specs.Sources.{Given, HasRead, Refuses}
 use Rattle.ts_packet.specs.Runs.{Seen, seen_after}
 use Rattle.ts_packet.specs.FirstFault.{or_then, first_of, named, fault_of, fault_behind, first_fault, read_cause, SaysBy}
 use Rattle.ts_packet.specs.declared.reader.ReadFault.{ReadFault}

@@ -7,7 +7,8 @@ ghost use Rattle.psi_tables.specs.Streams.{switched_of};
 ghost use Rattle.psi_tables.specs.StreamsLeft.{streams_left};
 ghost use Rattle.psi_tables.specs.ProgramMap.{map_of};
 ghost use Rattle.program_follower.specs.Program.{program_in};
-ghost use Rattle.program_follower.specs.Faults.{is_pid, pids_in, is_in, is_twice, bad_pid, switches_bad_pid, has_bad_pids, uses_cue_pid, changed_by, same_streams, too_long};
+ghost use Rattle.program_follower.specs.Faults.{is_pid, pids_in, is_in, is_twice, bad_pid, switches_bad_pid, has_bad_pids};
+ghost use Rattle.program_follower.specs.Faults.{uses_cue_pid, changed_by, same_streams, too_long};
 ghost use Rattle.program_follower.specs.Judging.{fault_of_map};
 ghost use Rattle.program_follower.specs.Standing.{known_seen};
 

@@ -45,9 +45,10 @@ pub(crate) enum Came {
     Together(&'static [Table]),
     /// A section in one packet, whose adaptation field fills the rest.
     Stuffed(Table),
-    /// A packet of this PID and this counter, in which a unit with this PTS begins.
+    /// A packet of this PID, with this counter and these scrambling bits, in which a unit with this PTS begins.
     Unit(u16, u8, u64),
-    /// A packet of this PID and this counter, in which a payload of these bytes begins, behind an adaptation field.
+    /// A packet of this PID, with this counter and these scrambling bits, in which a payload of these bytes begins, behind an
+    /// adaptation field.
     Short(u16, u8, &'static [u8]),
     /// A packet that begins with these bytes; the others are 0xFF.
     Bytes(&'static [u8]),
@@ -128,9 +129,10 @@ fn packet(head: &[u8], payload: &[u8]) -> Packet {
     Packet::from_bytes(&bytes).unwrap_or(Packet::null())
 }
 
-/// The packet in which a unit with this PTS begins (ISO/IEC 13818-1, 2.4.3.6).
-pub(crate) fn unit(pid: u16, counter: u8, pts: u64) -> Packet {
-    let head = first_bytes(0x4000 | pid, 0x10 | (counter & 15));
+/// The packet in which a unit with this PTS begins (ISO/IEC 13818-1, 2.4.3.6), with these transport_scrambling_control and
+/// continuity_counter.
+pub(crate) fn unit(pid: u16, control: u8, pts: u64) -> Packet {
+    let head = first_bytes(0x4000 | pid, 0x10 | (control & 0xCF));
     let bytes = [
         0x00,
         0x00,
@@ -256,10 +258,11 @@ fn payload_of(alloc: Global, tables: &[Table]) -> Result<Vec<u8>, AllocError> {
     Ok(payload)
 }
 
-/// A packet in which this payload begins, behind an adaptation field without flags that fills the rest.
-fn stuffed(alloc: Global, pid: u16, counter: u8, payload: &[u8]) -> Result<Packet, AllocError> {
+/// A packet in which this payload begins, behind an adaptation field without flags that fills the rest, with these
+/// transport_scrambling_control and continuity_counter.
+fn stuffed(alloc: Global, pid: u16, control: u8, payload: &[u8]) -> Result<Packet, AllocError> {
     let mut bytes = Vec::new(alloc);
-    bytes.extend_from_slice(&first_bytes(0x4000 | pid, 0x30 | (counter & 15)))?;
+    bytes.extend_from_slice(&first_bytes(0x4000 | pid, 0x30 | (control & 0xCF)))?;
     let length = 183 - payload.len().min(183);
     bytes.push(length as u8)?;
     if length > 0 {
@@ -285,13 +288,18 @@ fn feed(alloc: Global, network: &mut Network, came: &Came) -> Result<Told, Alloc
         }
         Stuffed(table) => {
             let payload = payload_of(alloc, &[*table])?;
-            let stuffed = stuffed(alloc, pid_of(table), network.counter, payload.as_slice())?;
+            let stuffed = stuffed(
+                alloc,
+                pid_of(table),
+                network.counter & 15,
+                payload.as_slice(),
+            )?;
             network.counter = network.counter.wrapping_add(1);
             Ok(network.feed(&stuffed))
         }
-        Unit(pid, counter, pts) => Ok(network.feed(&unit(*pid, *counter, *pts))),
-        Short(pid, counter, payload) => {
-            let short = stuffed(alloc, *pid, *counter, payload)?;
+        Unit(pid, control, pts) => Ok(network.feed(&unit(*pid, *control, *pts))),
+        Short(pid, control, payload) => {
+            let short = stuffed(alloc, *pid, *control, payload)?;
             Ok(network.feed(&short))
         }
         Bytes(bytes) => Ok(network.feed(&packet(bytes, &[]))),

@@ -86,7 +86,7 @@ impl Streams {
             return Err(UnitFault::Scrambled);
         }
         let piece = feed_at(&mut self.readers, index, packet);
-        match pass(&mut self.clock, piece) {
+        match stream_packet(&mut self.clock, piece) {
             Ok(part) => Ok(Some((index, part))),
             Err(fault) => Err(fault),
         }
@@ -95,7 +95,7 @@ impl Streams {
 
 /// What a packet of a stream is, by what it brings to the stream's units. The clock passes the begin of a unit.
 #[tactic(auto, using(crate::proofs::PieceLemmas::high_start, crate::proofs::PieceLemmas::high_other, crate::proofs::PieceLemmas::no_begin, crate::proofs::PieceLemmas::repeat_begins_none, crate::proofs::PieceLemmas::empty_begins_none, crate::proofs::PieceLemmas::stamp_in, crate::proofs::PieceLemmas::splits_in))]
-fn pass(clock: &mut Clock, piece: Piece<'_>) -> Result<StreamPacket, UnitFault>
+fn stream_packet(clock: &mut Clock, piece: Piece<'_>) -> Result<StreamPacket, UnitFault>
     ensures clock { (pids : List ℕ) (pid : ℕ) (p : List ℕ) (past : List (List ℕ)) → IsOne pids pid p past
         → ClockAt clock.old (high pids past) → Brings piece.entry pid p past
         → OnOk result (ClockAt clock.new (high pids (p ∷ past))) }

@@ -474,7 +474,7 @@ fn repeats(rt: HostRuntime) -> Result<(), Fail> {
     Ok(())
 }
 
-/// What is wrong with a packet of a switched stream behind the head: it is scrambled, whatever payload packet it is; then, at the start
+/// What is wrong with a packet of a switched stream behind the head: it is scrambled, whatever payload packet it is; else, at the start
 /// of a unit, its PES header is split. In the head nothing is wrong with it.
 const SCRAMBLED_AND_SPLIT: &[Case] = &[
     (
@@ -506,6 +506,19 @@ const SCRAMBLED_AND_SPLIT: &[Case] = &[
     (
         &[LISTED, MAPPED, Short(0x100, 0, &[0, 0, 1, 0xE0])],
         Wrong(HeaderSplit),
+    ),
+    (
+        &[LISTED, MAPPED, Short(0x100, 0x80, &[0, 0, 1, 0xE0])],
+        Wrong(Scrambled),
+    ),
+    (
+        &[
+            LISTED,
+            MAPPED,
+            Unit(0x100, 0, 1_000_000),
+            Unit(0x101, 0xC0, 1_900_001),
+        ],
+        Wrong(Scrambled),
     ),
     (&[LISTED, MAPPED, Short(0x100, 0, &[0, 0, 2])], Start(0)),
     (

@@ -17,7 +17,7 @@ use Rattle.program_laws.specs.Behind.{Passes, HeadPasses, OthersPass}
 use Rattle.program_laws.proofs.StepLemmas.{tables_grow}
 use Rattle.psi_section.proofs.GivenLemmas.{All-both}
 use Rattle.program_laws.proofs.PacketLemmas.{one_past-below}
-use Rattle.psi_section.proofs.ReadBackLemmas.{Carries, turn_carry}
+use Rattle.psi_section.proofs.ReadBackLemmas.{IsPayloadOn, turn_carry}
 use Rattle.program_laws.proofs.ReadingLemmas.{none_at_pat}
 use Rattle.program_follower.proofs.StepLemmas.{tables_at}
 use Rattle.psi_section.proofs.RunLemmas.{given_off}
@@ -67,7 +67,7 @@ module _ (takes : List ℕ → Bool) where
   left_behind wanted [] out h = refl
   left_behind wanted (q ∷ qs) out h = left_behind wanted qs (q ∷ out) h.1 ∙ one_behind wanted q out (known_map wanted out) h.0 refl
 
-  own_left : (pid : ℕ) → ((q : List ℕ) → on pid q ≡ true → takes q ≡ false) → (qs : List (List ℕ)) → AllByRecursion (Carries pid) qs → AllByRecursion Left qs
+  own_left : (pid : ℕ) → ((q : List ℕ) → on pid q ≡ true → takes q ≡ false) → (qs : List (List ℕ)) → AllByRecursion (IsPayloadOn pid) qs → AllByRecursion Left qs
   own_left pid own [] h = tt
   own_left pid own (q ∷ qs) h = (own q (payload_on-on pid q h.0), own_left pid own qs h.1)
 

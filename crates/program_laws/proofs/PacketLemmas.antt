@@ -6,7 +6,7 @@ use Rattle.ts_packet.specs.Fields.{number, alike}
 use Rattle.ts_packet.specs.Duplicates.{repeats, last_of, repeats_last}
 use Rattle.ts_packet.specs.Numbering.{one_past}
 use Rattle.ts_packet.proofs.FieldLemmas.{number-below, payload_on-on, off_payload}
-use Rattle.psi_section.proofs.ReadBackLemmas.{Carries, first_number, different}
+use Rattle.psi_section.proofs.ReadBackLemmas.{IsPayloadOn, first_number, different}
 use Rattle.ts_packet.proofs.HistoryLemmas.{walk_is_last}
 use Rattle.psi_section.specs.Packetising.{first_packet}
 use Rattle.program_laws.specs.Writing.{number_on, Off}
@@ -49,7 +49,7 @@ meets_off pid q out since h m =
     let f : number_on pid (q ∷ out) ≡ number_on pid out = simp h in
     rw e (moved pid q out (last_of pid since) f m)
 
-meets_on : (pid : ℕ) (q : List ℕ) (out since : List (List ℕ)) → Carries pid q → Meets pid (q ∷ out) (last_of pid (q ∷ since))
+meets_on : (pid : ℕ) (q : List ℕ) (out since : List (List ℕ)) → IsPayloadOn pid q → Meets pid (q ∷ out) (last_of pid (q ∷ since))
 meets_on pid q out since h =
     let k = payload_on-on pid q h in
     let e : last_of pid (q ∷ since) ≡ Some (record { packet = q; is_repeat = repeats pid q since }) = simp h in
@@ -59,6 +59,6 @@ pub meets_others : (pid : ℕ) (qs out since : List (List ℕ)) → AllByRecursi
 meets_others pid [] out since h m = m
 meets_others pid (q ∷ qs) out since h m = meets_others pid qs (q ∷ out) (q ∷ since) h.1 (meets_off pid q out since h.0 m)
 
-pub meets_own : (pid : ℕ) (qs out since : List (List ℕ)) → AllByRecursion (Carries pid) qs → Meets pid out (last_of pid since) → Meets pid (onto out qs) (last_of pid (onto since qs))
+pub meets_own : (pid : ℕ) (qs out since : List (List ℕ)) → AllByRecursion (IsPayloadOn pid) qs → Meets pid out (last_of pid since) → Meets pid (onto out qs) (last_of pid (onto since qs))
 meets_own pid [] out since h m = m
 meets_own pid (q ∷ qs) out since h m = meets_own pid qs (q ∷ out) (q ∷ since) h.1 (meets_on pid q out since h.0)

@@ -24,7 +24,7 @@ use Rattle.program_laws.specs.Writing.{Along, number_on, Writing, section_by, se
 use Rattle.ts_packet.specs.Runs.{onto}
 use Rattle.psi_section.proofs.GivenLemmas.{All-both, given_can_each}
 use Rattle.program_laws.proofs.PacketLemmas.{Meets, one_past-below, fresh, meets_others, meets_own}
-use Rattle.psi_section.proofs.ReadBackLemmas.{Carries, turn_carry}
+use Rattle.psi_section.proofs.ReadBackLemmas.{IsPayloadOn, turn_carry}
 use Rattle.program_laws.proofs.ReadingLemmas.{listed_onto, since_onto, tables_onto, no_tables, none_at_pat, no_since}
 use Rattle.program_follower.proofs.StreamLemmas.{one_pid}
 use Rattle.program_follower.proofs.StepLemmas.{listed_stays, tables_at}
@@ -76,7 +76,7 @@ listed_below wanted past l h = rw h at (below_listed wanted past)
 pub off_other : (a b : ℕ) (p : List ℕ) → (a ≡ b → ⊥) → on a p ≡ true → Off b p
 off_other a b p ne h = by_test (on b p) (λ y. absurd (ne (one_pid a b p h y))) (λ n. n)
 
-pub carry_off : (a b : ℕ) (qs : List (List ℕ)) → (a ≡ b → ⊥) → AllByRecursion (Carries a) qs → AllByRecursion (Off b) qs
+pub carry_off : (a b : ℕ) (qs : List (List ℕ)) → (a ≡ b → ⊥) → AllByRecursion (IsPayloadOn a) qs → AllByRecursion (Off b) qs
 carry_off a b [] ne h = tt
 carry_off a b (q ∷ qs) ne h = (off_other a b q ne (payload_on-on a q h.0), carry_off a b qs ne h.1)
 

@@ -289,20 +289,20 @@ module _ (s : List ℕ) (can : CanBeGiven s) where
 -- ---- all of them are payload packets of the PID
 
 -- a payload packet of the PID
-abbrev pub Carries : ℕ → List ℕ → Type 0
-Carries pid p = payload_on pid p ≡ true
+abbrev pub IsPayloadOn : ℕ → List ℕ → Type 0
+IsPayloadOn pid p = payload_on pid p ≡ true
 
-later_carry : (count pid n : ℕ) (bs : List ℕ) → pid < 8192 → n < 16 → AllByRecursion (Carries pid) (later_packets count pid n bs)
+later_carry : (count pid n : ℕ) (bs : List ℕ) → pid < 8192 → n < 16 → AllByRecursion (IsPayloadOn pid) (later_packets count pid n bs)
 later_carry zero pid n bs pb nb = tt
 later_carry (suc count) pid n bs pb nb = (next_on pid n bs pb nb, later_carry count pid ((n + 1) % 16) (drop 184 bs) pb (omega arith))
 
-pub section_carry : (pid n : ℕ) (s : List ℕ) → pid < 8192 → n < 16 → AllByRecursion (Carries pid) (section_packets pid n s)
+pub section_carry : (pid n : ℕ) (s : List ℕ) → pid < 8192 → n < 16 → AllByRecursion (IsPayloadOn pid) (section_packets pid n s)
 section_carry pid n s pb nb = (first_on pid n s pb nb, later_carry _ pid ((n + 1) % 16) (drop 183 s) pb (omega arith))
 
-pub turn_carry : (pid n : ℕ) (ss : List (List ℕ)) → pid < 8192 → n < 16 → AllByRecursion (Carries pid) (packets_in_turn pid n ss)
+pub turn_carry : (pid n : ℕ) (ss : List (List ℕ)) → pid < 8192 → n < 16 → AllByRecursion (IsPayloadOn pid) (packets_in_turn pid n ss)
 turn_carry pid n [] pb nb = tt
 turn_carry pid n (s ∷ ss) pb nb =
-    All-both (Carries pid) (section_packets pid n s) (packets_in_turn pid ((n + length (section_packets pid n s)) % 16) ss) (section_carry pid n s pb nb)
+    All-both (IsPayloadOn pid) (section_packets pid n s) (packets_in_turn pid ((n + length (section_packets pid n s)) % 16) ss) (section_carry pid n s pb nb)
     (turn_carry pid ((n + length (section_packets pid n s)) % 16) ss pb (omega arith))
 
 -- ---- one section after another

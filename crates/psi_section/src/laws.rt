@@ -1,6 +1,7 @@
 //! Laws over the definitions of sections, each a function that does nothing and whose contract is the law.
 
-ghost use Rattle.psi_section.specs.Laws.{SectionsGrow, SectionsOfPid, OthersChangeNothing, OthersGiveNothing, SectionsHavePackets, GivenWhereSound, GivenCanBeGiven, GivenAreBytes, FitsOnePacket, ReadsBack, ReadBackInTurn, CrcCloses};
+ghost use Rattle.psi_section.specs.Laws.{SectionsGrow, SectionsOfPid, OthersChangeNothing, OthersGiveNothing, SectionsHavePackets};
+ghost use Rattle.psi_section.specs.Laws.{GivenWhereSound, GivenCanBeGiven, GivenAreBytes, FitsOnePacket, ReadsBack, ReadBackInTurn, CrcCloses};
 
 /// A packet behind others adds the sections that it finishes.
 pub fn sections_grow()

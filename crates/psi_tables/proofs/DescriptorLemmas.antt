@@ -8,7 +8,7 @@ use Rattle.wire_fields.specs.Numbers.{AreBytes}
 use Rattle.psi_tables.specs.Runs.{run_of, things_of}
 use Rattle.psi_tables.specs.Descriptors.{Descriptor, IsDescriptor, descriptor_bytes, descriptor_at, shown_descriptor, registers_cues, without_registration}
 use Rattle.psi_tables.specs.ProgramMap.{descriptors_bytes}
-use Rattle.psi_tables.proofs.RunLemmas.{Shortens, Taken, things_more, things_ended, fills_more, fills_ends, fills_done}
+use Rattle.psi_tables.proofs.RunLemmas.{Shortens, SpelledFirst, things_more, things_ended, fills_more, fills_ends, fills_done}
 
 abbrev pub split_descriptor : List ℕ → Descriptor × List ℕ
 split_descriptor bytes = (record { tag = slice_index bytes 0; body = take (slice_index bytes 1) (drop 2 bytes) }, drop (2 + slice_index bytes 1) bytes)
@@ -176,7 +176,7 @@ pub last_of : (front rest : List ℕ) → ((length rest == 0) && registers_cues 
 last_of front [] t e = t
 last_of front (b ∷ rest) t e = absurd (omega arith)
 
-pub descriptor_fits : (bytes : List ℕ) (d : Descriptor) (rest : List ℕ) → AreBytes bytes → descriptor_at bytes ≡ Some (d, rest) → Taken descriptor_bytes IsDescriptor bytes d rest
+pub descriptor_fits : (bytes : List ℕ) (d : Descriptor) (rest : List ℕ) → AreBytes bytes → descriptor_at bytes ≡ Some (d, rest) → SpelledFirst descriptor_bytes IsDescriptor bytes d rest
 descriptor_fits bytes d rest are h =
     let t = descriptor_taken bytes d rest h in
     let size = are 1 in

@@ -14,7 +14,7 @@ use Rattle.wire_fields.specs.Numbers.{number16_at}
 use Rattle.psi_tables.specs.ProgramMap.{entries_bytes}
 use Rattle.psi_tables.specs.Cue.{lists_pid, without_pid}
 use Rattle.wire_fields.proofs.Cells.{AreBytes-drop, field16, one_at, two_at, number16_fits}
-use Rattle.psi_tables.proofs.RunLemmas.{Shortens, Taken, things_more, things_ended, fills_more, fills_ends, fills_done}
+use Rattle.psi_tables.proofs.RunLemmas.{Shortens, SpelledFirst, things_more, things_ended, fills_more, fills_ends, fills_done}
 
 abbrev split_entry : List ℕ → Entry × List ℕ
 split_entry bytes = (front_entry bytes, drop (entry_size bytes) bytes)
@@ -127,7 +127,7 @@ entry_rest bytes e rest are h =
     let behind : drop (length (entry_bytes e)) bytes ≡ rest = ap (λ (xs : List ℕ). drop (length (entry_bytes e)) xs) t.parts ∙ drop_at (entry_bytes e) rest (length (entry_bytes e)) refl in
     subst (λ (xs : List ℕ). AreBytes xs) behind (AreBytes-drop (length (entry_bytes e)) bytes are)
 
-pub entry_fits : (bytes : List ℕ) (e : Entry) (rest : List ℕ) → AreBytes bytes → entry_at bytes ≡ Some (e, rest) → Taken entry_bytes IsEntry bytes e rest
+pub entry_fits : (bytes : List ℕ) (e : Entry) (rest : List ℕ) → AreBytes bytes → entry_at bytes ≡ Some (e, rest) → SpelledFirst entry_bytes IsEntry bytes e rest
 entry_fits bytes e rest are h =
     let t = entry_taken bytes e rest are h in
     record { parts = t.parts; fits = t.fits }

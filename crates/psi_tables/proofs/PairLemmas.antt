@@ -10,7 +10,7 @@ use Rattle.wire_fields.specs.Numbers.{number16_at}
 use Rattle.wire_fields.proofs.Cells.{field16, two_at, number16_fits}
 use Rattle.psi_tables.specs.Runs.{run_of, things_of}
 use Rattle.psi_tables.specs.Association.{Pair, IsPair, pair_bytes, pair_at, shown_pair, pid_of_program, first_program_of}
-use Rattle.psi_tables.proofs.RunLemmas.{Shortens, Taken, things_more, things_ended, fills_more, fills_ends, fills_done}
+use Rattle.psi_tables.proofs.RunLemmas.{Shortens, SpelledFirst, things_more, things_ended, fills_more, fills_ends, fills_done}
 
 abbrev pub split_pair : List ℕ → Pair × List ℕ
 split_pair bytes = (record { number = number16_at bytes 0; pid_field = number16_at bytes 2 }, drop 4 bytes)
@@ -63,15 +63,15 @@ pairs_fill_within (suc n) (a ∷ b ∷ c ∷ d ∷ rest) le =
 pub pairs_fill : (bytes : List ℕ) → is_some (run_of pair_at bytes) ≡ (length bytes % 4 == 0)
 pairs_fill bytes = pairs_fill_within (length bytes) bytes (omega arith)
 
-pub pair_fits : (bytes : List ℕ) (p : Pair) (rest : List ℕ) → AreBytes bytes → pair_at bytes ≡ Some (p, rest) → Taken pair_bytes IsPair bytes p rest
+pub pair_fits : (bytes : List ℕ) (p : Pair) (rest : List ℕ) → AreBytes bytes → pair_at bytes ≡ Some (p, rest) → SpelledFirst pair_bytes IsPair bytes p rest
 pair_fits bytes p rest are h =
     let s = pair_split bytes p rest h in
     let long = s.long in
     let a = two_at bytes 0 (omega arith) are in
     let b = two_at bytes 2 (omega arith) are in
     let whole : bytes ≡ pair_bytes (split_pair bytes).0 ++ drop 4 bytes = a ∙ ap (λ (xs : List ℕ). big_bytes 2 (number16_at bytes 0) ++ xs) b in
-    let made : Taken pair_bytes IsPair bytes (split_pair bytes).0 (drop 4 bytes) = record { parts = whole; fits = record { number = number16_fits bytes 0 are; pid_field = number16_fits bytes 2 are } } in
-    subst (λ (x : Pair). Taken pair_bytes IsPair bytes x rest) s.pair-is (subst (λ (r : List ℕ). Taken pair_bytes IsPair bytes (split_pair bytes).0 r) s.rest-is made)
+    let made : SpelledFirst pair_bytes IsPair bytes (split_pair bytes).0 (drop 4 bytes) = record { parts = whole; fits = record { number = number16_fits bytes 0 are; pid_field = number16_fits bytes 2 are } } in
+    subst (λ (x : Pair). SpelledFirst pair_bytes IsPair bytes x rest) s.pair-is (subst (λ (r : List ℕ). SpelledFirst pair_bytes IsPair bytes (split_pair bytes).0 r) s.rest-is made)
 
 abbrev found_pair : ℕ → ℕ → List ℕ → Option (Pair × List ℕ)
 found_pair number pid_field rest = Some (record { number = number; pid_field = pid_field }, rest)

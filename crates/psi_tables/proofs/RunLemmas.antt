@@ -99,7 +99,7 @@ module _ {A : Type 0} (at : List ℕ → Option (A × List ℕ)) (shortens : Sho
 
 -- ---- what fills the bytes is their spelling
 
-pub record Taken {A : Type 0} (spell : A → List ℕ) (Fits : A → Type 0) (bytes : List ℕ) (x : A) (rest : List ℕ) : Type 0 where
+pub record SpelledFirst {A : Type 0} (spell : A → List ℕ) (Fits : A → Type 0) (bytes : List ℕ) (x : A) (rest : List ℕ) : Type 0 where
   pub parts : bytes ≡ spell x ++ rest
   pub fits : Fits x
 
@@ -113,7 +113,7 @@ rest_bytes front bytes rest are e =
     subst (λ (xs : List ℕ). AreBytes xs) behind (AreBytes-drop (length front) bytes are)
 
 module _ {A : Type 0} (at : List ℕ → Option (A × List ℕ)) (shortens : Shortens at) (spell : A → List ℕ) (Fits : A → Type 0) where
-  module _ (taken : (bytes : List ℕ) (x : A) (rest : List ℕ) → AreBytes bytes → at bytes ≡ Some (x, rest) → Taken spell Fits bytes x rest) where
+  module _ (taken : (bytes : List ℕ) (x : A) (rest : List ℕ) → AreBytes bytes → at bytes ≡ Some (x, rest) → SpelledFirst spell Fits bytes x rest) where
     spelled_none : (bytes : List ℕ) → at bytes ≡ None → is_some (run_of at bytes) ≡ true → Spelled spell Fits bytes (things_of at bytes)
     spelled_none [] e all =
         let none = things_ended at shortens [] e in

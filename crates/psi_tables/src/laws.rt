@@ -1,6 +1,7 @@
 //! Laws of the definitions, each the contract of a function that does nothing.
 
-ghost use Rattle.psi_tables.specs.Laws.{StripUndoesAdd, WrittenMapsCheck, GivenTablesCheck, ReadTablesAreSpelled, WrittenMapsReadBack, PutMapsReadBack};
+ghost use Rattle.psi_tables.specs.Laws.{StripUndoesAdd, WrittenMapsCheck, GivenTablesCheck};
+ghost use Rattle.psi_tables.specs.Laws.{ReadTablesAreSpelled, WrittenMapsReadBack, PutMapsReadBack};
 
 /// A map whose `CRC_32` is right and that lists nothing on the PID is the same after a cue entry was added and taken out again.
 pub fn strip_undoes_add()

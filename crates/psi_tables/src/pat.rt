@@ -3,7 +3,8 @@
 ghost use Rattle.std.specs.Prelude.{◌≡◌, ◌≤◌, ◌+◌, ◌%◌, length, option_map, IfOk, Ok, slice_index, is_none, true, is_some};
 ghost use Rattle.psi_tables.specs.Runs.{run_of, things_of};
 ghost use Rattle.psi_tables.specs.Sections.{is_current, seen_by};
-ghost use Rattle.psi_tables.specs.Association.{Association, IsAssociation, Pair, pair_at, taken_pair, shown_pair, pairs_in, pat, pat_fault, pat_fills, association_of, pat_section, pid_of_program, first_program_of};
+ghost use Rattle.psi_tables.specs.Association.{Association, IsAssociation, Pair, pair_at, taken_pair, shown_pair, pairs_in};
+ghost use Rattle.psi_tables.specs.Association.{pat, pat_fault, pat_fills, association_of, pat_section, pid_of_program, first_program_of};
 
 use crate::fault::TableFault;
 use crate::section::{fits_its_size, is_of_table, pid_at, up_to_crc};

@@ -6,7 +6,8 @@ ghost use Rattle.psi_tables.specs.Sections.{is_current, seen_by};
 ghost use Rattle.psi_tables.specs.Streams.{entry_at, pid_in, few_switched, seen_switched};
 ghost use Rattle.psi_tables.specs.Descriptors.{descriptor_at};
 ghost use Rattle.psi_tables.specs.StreamsLeft.{streams_left};
-ghost use Rattle.psi_tables.specs.ProgramMap.{ProgramMap, IsProgramMap, pmt, pmt_fault, pmt_fills, map_of, pmt_section, info_length, info_in, entries_in, streams_of};
+ghost use Rattle.psi_tables.specs.ProgramMap.{ProgramMap, IsProgramMap, pmt, pmt_fault, pmt_fills, map_of, pmt_section};
+ghost use Rattle.psi_tables.specs.ProgramMap.{info_length, info_in, entries_in, streams_of};
 
 use crate::descriptors::descriptors_fill;
 use crate::entries::Entries;

@@ -1,7 +1,8 @@
 ghost use Rattle.std.specs.Prelude.{◌≡◌, ◌<◌, ◌≤◌, length, option_map};
 ghost use Rattle.scte35_codec.specs.AvailsLeft.{avails_left};
 ghost use Rattle.scte35_codec.specs.Descriptors.{avails_of};
-ghost use Rattle.scte35_codec.specs.Reading.{CueReading, pts_adjustment, splice_command_length, command_part, behind_command, splice_insert_of, cue_of};
+ghost use Rattle.scte35_codec.specs.Reading.{CueReading, pts_adjustment, splice_command_length, command_part};
+ghost use Rattle.scte35_codec.specs.Reading.{behind_command, splice_insert_of, cue_of};
 ghost use Rattle.scte35_codec.specs.Grammar.{Spells};
 ghost use Rattle.scte35_codec.specs.Views.{reading_of};
 

@@ -7,10 +7,10 @@ use Rattle.ts_packet.specs.Duplicates.{repeats}
 use Rattle.ts_packet.specs.Runs.{Seen, seen_after}
 use Rattle.ts_packet.proofs.Cases.{by_test}
 use Rattle.unit_stream.specs.Times.{begins, unit_time}
-use Rattle.unit_stream.specs.Units.{Row, has_payload, rest_of_row, rows_of, rows, lead}
+use Rattle.unit_stream.specs.Units.{Row, has_payload, rest_of_row, rows_of, rows, lead_in}
 use Rattle.splice_laws.specs.Splicing.{PlayedEvent, SliceUnit, Out, Network, Inserted, Stream, stream, slice_at, all_slices_at, put_in, kept, outside, parts, placed}
 use Rattle.splice_laws.proofs.PidLemmas.{pids_are_streams}
-use Rattle.splice_laws.specs.Rows.{Item, Own, Played, out_items, own_items, slice_items, slices_before, placed_units_of, is_between, units_between, unit_parts, led}
+use Rattle.splice_laws.specs.Rows.{Item, Own, Played, out_items, own_items, slice_items, slices_before, placed_units_of, is_between, units_between, unit_parts, carried_items}
 
 pub out_items-append : (a b : List Item) → out_items (a ++ b) ≡ out_items a ++ out_items b
 out_items-append [] b = refl
@@ -74,15 +74,15 @@ module _ (sw : List ℕ) (pid : ℕ) (slice : PlayedEvent → List SliceUnit) (r
       (picked_rows (is_between (Some low) (Some x.start)) sw pid [] ps) (slice_if (reached x) (slice x)) (parts_rows x.stop xs ps)
 
   pub first_rows : (xs : List PlayedEvent) (ps : List (List ℕ)) →
-      parts (stream sw pid) None xs reached slice (seen_after [] ps) ≡ led pid ps (unit_parts None xs reached slice (rows sw pid ps))
+      parts (stream sw pid) None xs reached slice (seen_after [] ps) ≡ carried_items pid ps (unit_parts None xs reached slice (rows sw pid ps))
   first_rows [] ps = picked_rows (is_between None None) sw pid [] ps
   first_rows (x ∷ xs) ps =
       let A = own_items (units_between None (Some x.start) (rows sw pid ps)) in
       let Q : List Out = if reached x then put_in (slice x) else [] in
       let R = parts (stream sw pid) (Some x.stop) xs reached slice (seen_after [] ps) in
       ap (λ l. l ++ (Q ++ R)) (picked_rows (is_between None (Some x.start)) sw pid [] ps)
-      ∙ append_assoc (network (lead pid ps)) (out_items A) (Q ++ R)
-      ∙ ap (λ l. network (lead pid ps) ++ l) (three A (if reached x then slice_items (slice x) else []) (unit_parts (Some x.stop) xs reached slice (rows sw pid ps)) (out_items A) Q R refl (slice_if (reached x) (slice x)) (parts_rows x.stop xs ps))
+      ∙ append_assoc (network (lead_in pid ps)) (out_items A) (Q ++ R)
+      ∙ ap (λ l. network (lead_in pid ps) ++ l) (three A (if reached x then slice_items (slice x) else []) (unit_parts (Some x.stop) xs reached slice (rows sw pid ps)) (out_items A) Q R refl (slice_if (reached x) (slice x)) (parts_rows x.stop xs ps))
 
 -- ---- placed
 
@@ -183,5 +183,5 @@ outside-none [] = refl
 outside-none (x ∷ xs) = outside-none xs
 
 pub placed_units_are : (sw : List ℕ) (pid : ℕ) (xs : List PlayedEvent) (slice : PlayedEvent → List SliceUnit) (ps : List (List ℕ)) →
-    placed (stream sw pid) xs slice ps ≡ led pid ps (placed_units_of sw pid xs slice (filter (has_payload pid) (seen_after [] ps)))
+    placed (stream sw pid) xs slice ps ≡ carried_items pid ps (placed_units_of sw pid xs slice (filter (has_payload pid) (seen_after [] ps)))
 placed_units_are sw pid xs slice ps = let h = placed_rows sw pid xs slice [] ps in let e = outside-none xs in simp e at h

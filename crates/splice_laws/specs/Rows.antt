@@ -2,7 +2,7 @@
 use Rattle.std.specs.Prelude.{◌≡◌, ℕ, ℤ, ◌++◌, ◌∷◌, List, [], Bool, ◌&&◌, if◌then◌else◌, Option, None, Some, filter, map, flat_map, reverse}
 use Rattle.ts_packet.specs.Runs.{Seen, seen_after}
 use Rattle.unit_stream.specs.Times.{begins, unit_time}
-use Rattle.unit_stream.specs.Units.{Row, has_payload, rest_of_row, rows, lead}
+use Rattle.unit_stream.specs.Units.{Row, has_payload, rest_of_row, rows, lead_in}
 use Rattle.splice_laws.specs.Splicing.{PlayedEvent, SliceUnit, Out, Network, Inserted, stream, begun, slice_at, outside, from, up_to, carried}
 use Rattle.splice_laws.specs.Laws.{AreOrdered, IsConditioned}
 
@@ -59,15 +59,15 @@ splice_units switched pid xs slice ps = unit_parts None xs (λ (x : PlayedEvent)
 -- ---- the laws
 
 -- a PID's packets before its first unit start, and then those of these items
-abbrev pub led : ℕ → List (List ℕ) → List Item → List Out
-led pid ps items = map (λ (p : List ℕ). Network p) (lead pid ps) ++ out_items items
+abbrev pub carried_items : ℕ → List (List ℕ) → List Item → List Out
+carried_items pid ps items = map (λ (p : List ℕ). Network p) (lead_in pid ps) ++ out_items items
 
 -- THE LAW OF PLACES, FOR A PID
 abbrev pub CarriesPlacedUnits : Type 0
 CarriesPlacedUnits = (switched : List ℕ) (pid : ℕ) (xs : List PlayedEvent) → AreOrdered xs → (slice : PlayedEvent → List SliceUnit) (ps : List (List ℕ)) →
-    carried (stream switched pid) xs slice ps ≡ led pid ps (placed_units switched pid xs slice ps)
+    carried (stream switched pid) xs slice ps ≡ carried_items pid ps (placed_units switched pid xs slice ps)
 
 -- THE LAW OF THE SPLICE, FOR A PID
 abbrev pub CarriesSpliceUnits : Type 0
 CarriesSpliceUnits = (switched : List ℕ) (pid : ℕ) (xs : List PlayedEvent) → AreOrdered xs → (slice : PlayedEvent → List SliceUnit) (ps : List (List ℕ)) →
-    IsConditioned (stream switched pid) xs ps → carried (stream switched pid) xs slice ps ≡ led pid ps (splice_units switched pid xs slice ps)
+    IsConditioned (stream switched pid) xs ps → carried (stream switched pid) xs slice ps ≡ carried_items pid ps (splice_units switched pid xs slice ps)

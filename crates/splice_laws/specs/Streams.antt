@@ -6,7 +6,7 @@ use Rattle.unit_stream.specs.Fates.{is_left_out}
 use Rattle.splice_laws.specs.Splicing.{PlayedEvent, SliceUnit, Out, Network, Inserted, Stream, stream, closed, out_of, inserted, rest, outside, carried, carried_by}
 use Rattle.splice_laws.specs.Laws.{AreOrdered, IsConditioned, Counts}
 use Rattle.splice_laws.specs.Ends.{sent_at, unsent, carried_now, EndSoon}
-use Rattle.splice_laws.specs.Rows.{led, splice_units}
+use Rattle.splice_laws.specs.Rows.{carried_items, splice_units}
 
 -- a packet passes, or a unit of a slice goes out on a PID
 pub data Act : Type 0 where
@@ -93,7 +93,7 @@ StreamsCarry = (switched : List ℕ) (xs : List PlayedEvent) → AreOrdered xs �
 -- THE HEADLINE'S HALF: in a conditioned stream its units and the slices, as their times say
 abbrev pub StreamsAreSpliced : Type 0
 StreamsAreSpliced = (switched : List ℕ) (xs : List PlayedEvent) → AreOrdered xs → (slice : ℕ → PlayedEvent → List SliceUnit) (ps : List (List ℕ)) (pid : ℕ) → IsOnce pid switched →
-    IsConditioned (stream switched pid) xs ps → of_stream pid (spliced switched xs slice ps) ≡ led pid ps (splice_units switched pid xs (slice pid) ps)
+    IsConditioned (stream switched pid) xs ps → of_stream pid (spliced switched xs slice ps) ≡ carried_items pid ps (splice_units switched pid xs (slice pid) ps)
 
 -- THE LAW OF STREAMS, FOR EARLY ENDS
 abbrev pub StreamsCarryNow : Type 0

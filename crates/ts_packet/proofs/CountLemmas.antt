@@ -12,7 +12,7 @@ use Rattle.ts_packet.specs.Transfers.{IsCounted, Rose, CountsFailure, CountsZero
 use Rattle.ts_packet.specs.Sinks.{Later, Blamed}
 use Rattle.ts_packet.specs.declared.reader.ReadFault.{ReadFault}
 use Rattle.ts_packet.specs.declared.reader.ReadFault.TheVariants as read_faults
-use Rattle.ts_packet.specs.Reading.{ReadCounts, ReadBlamed, SourceCounts, SourceBlamed}
+use Rattle.ts_packet.specs.Sources.{ReadCounts, ReadBlamed, SourceCounts, SourceBlamed}
 
 pub counted-later : (old new : ℕ) → IsCounted old new → old ≤ new
 counted-later old new h = grind (arith, h.0, h.1)

@@ -4,7 +4,7 @@ use Rattle.std.specs.Prelude.{nat_eq}
 use Rattle.std.proofs.lemmas.Grind.{common_steps}
 use Rattle.std.proofs.lemmas.List.{drop-drop, get_or-drop}
 use Rattle.ts_packet.proofs.Cases.{by_test}
-use Rattle.ts_packet.specs.Fields.{in_error, unit_start, pid_of, scrambled, number, payload, with_number, on, payload_on, bytes, or_none, carries, alike, renumbered, without_number}
+use Rattle.ts_packet.specs.Fields.{in_error, unit_start, pid_of, scrambled, number, payload, with_number, on, payload_on, bytes, or_none, carries_as, alike, renumbered, without_number}
 
 -- the code's write is the definition
 pub set_is_with_number : (p : List ℕ) (n : ℕ) → length p ≡ 188 → slice_set p 3 (slice_index p 3 / 16 * 16 + n) ≡ with_number n p
@@ -106,7 +106,7 @@ unfolding renumbered
 bytes-renumbered n p = bytes-with ((number p + n) % 16) p (below_16 (number p + n))
 
 pub alike-number : (q p : List ℕ) → alike q p ≡ true → number q ≡ number p
-unfolding alike carries
+unfolding alike carries_as
 alike-number q p h = grind (arith, common_steps)
 
 same_test : (a b c d : ℕ) → (a ≡ b → c ≡ d) → (c ≡ d → a ≡ b) → nat_eq a b ≡ nat_eq c d
@@ -117,7 +117,7 @@ same_number n a b h k = same_test _ _ _ _ (λ e. omega arith) (λ e. omega arith
 
 -- moved alike, they are alike
 pub alike-renumbered : (n : ℕ) (q p : List ℕ) → alike (renumbered n q) (renumbered n p) ≡ alike q p
-unfolding alike carries
+unfolding alike carries_as
 alike-renumbered n q p =
     rw (
       number-renumbered n q,
@@ -141,6 +141,6 @@ unfolding renumbered
 renumbered-same m n p h = let e : (number p + m) % 16 ≡ (number p + n) % 16 = omega arith in rw e refl
 
 -- what a packet carries does not hang on its counter
-pub carries-with : (n : ℕ) (q p : List ℕ) → n < 16 → carries (with_number n q) p ≡ carries q p
-unfolding carries
+pub carries-with : (n : ℕ) (q p : List ℕ) → n < 16 → carries_as (with_number n q) p ≡ carries_as q p
+unfolding carries_as
 carries-with n q p h = rw (start-with n q, payload-with n q h) refl

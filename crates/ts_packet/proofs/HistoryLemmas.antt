@@ -1,7 +1,7 @@
 use Rattle.std.proofs.Common.{◌≡◌, ◌==◌, ℕ, ◌+◌, ◌%◌, List, [], ◌∷◌, Bool, true, false, not, ◌&&◌, refl, if◌then◌else◌, Option, Some, None}
 use Rattle.ts_packet.specs.declared.follower.Last.{Last}
 use Rattle.ts_packet.specs.declared.follower.Mark.{Mark}
-use Rattle.ts_packet.specs.Fields.{number, payload_on, carries, alike}
+use Rattle.ts_packet.specs.Fields.{number, payload_on, carries_as, alike}
 use Rattle.ts_packet.specs.Duplicates.{repeats, repeats_last, last_of, follows_on, is_gap}
 use Rattle.ts_packet.specs.Following.{Marks}
 
@@ -17,7 +17,7 @@ walk_is_last pid p [] = refl
 walk_is_last pid p (q ∷ past) = both (payload_on pid q) pid p (record { packet = q; is_repeat = repeats pid q past }) past (walk_is_last pid p past)
 
 -- what is remembered of the last payload packet, and what is kept of it, say whether a packet repeats it
-pub said : (m : Mark) (kept p : List ℕ) (last : Option Last) → Marks (Some m) kept last → ((m.counter == number p) && carries kept p) && not m.is_repeat ≡ repeats_last p last
+pub said : (m : Mark) (kept p : List ℕ) (last : Option Last) → Marks (Some m) kept last → ((m.counter == number p) && carries_as kept p) && not m.is_repeat ≡ repeats_last p last
 unfolding alike
 said m kept p None h = absurd h
 said m kept p (Some l) h = rw (h.0, h.1, h.2 p) refl

@@ -5,9 +5,10 @@ pub mod CountLemmas
 pub mod WritingLemmas
 pub mod TransferLemmas
 pub mod BufferedLemmas
-pub mod ReadingLemmas
+pub mod SourceLemmas
 pub mod ClockLemmas
 pub mod PacketsLemmas
 pub mod RunLemmas
+pub mod RunBlameLemmas
 pub mod Renumbered
 pub mod FirstFaultLemmas

@@ -6,7 +6,7 @@ use Rattle.std.specs.Io.KnownBytes.{Consumes, IsAtEnd}
 use Rattle.std.proofs.KnownBytes.{Consumes-trans, Consumes-nil}
 use lib.Seq.{take_all, take-append-le, drop-drop}
 use Rattle.ts_packet.specs.Packets.{parts, packets_of, last_part, bytes_of, packet_fault}
-use Rattle.ts_packet.specs.Reading.{Given, HasRead}
+use Rattle.ts_packet.specs.Sources.{Given, HasRead}
 use Rattle.ts_packet.proofs.WritingLemmas.{bytes_of-snoc}
 
 -- the first part, and the rest

@@ -76,12 +76,12 @@ unfoldable pub bytes : List ℕ → List ℕ
 bytes p = or_none (payload p)
 
 -- equal in payload_unit_start_indicator and payload
-unfoldable pub carries : List ℕ → List ℕ → Bool
-carries q p = beq (unit_start q) (unit_start p) && option_eq (pointwise nat_eq) (payload q) (payload p)
+unfoldable pub carries_as : List ℕ → List ℕ → Bool
+carries_as q p = beq (unit_start q) (unit_start p) && option_eq (pointwise nat_eq) (payload q) (payload p)
 
 -- equal in continuity_counter, payload_unit_start_indicator and payload
 unfoldable pub alike : List ℕ → List ℕ → Bool
-alike q p = (number q == number p) && carries q p
+alike q p = (number q == number p) && carries_as q p
 
 -- the packet with its counter moved up by n, modulo 16
 unfoldable pub renumbered : ℕ → List ℕ → List ℕ

@@ -1,13 +1,11 @@
 -- The first fault of a run, for faults of any kind, and what a fault says of the output, whatever that is.
-use Rattle.std.specs.Prelude.{◌≡◌, ℕ, ◌==◌, ◌++◌, List, [], ◌∷◌, if◌then◌else◌, Option, None, Some, IfSome, length, take}
+use Rattle.std.specs.Prelude.{◌≡◌, ℕ, ◌==◌, List, [], ◌∷◌, if◌then◌else◌, Option, None, Some, length}
 use Rattle.ts_packet.specs.Packets.{packets_of, last_part, packet_fault}
 use Rattle.ts_packet.specs.Runs.{Seen, seen_after}
 use Rattle.ts_packet.specs.declared.packet.PacketFault.{PacketFault}
 use Rattle.ts_packet.specs.declared.packet.PacketFault.TheVariants as packet_faults
 use Rattle.ts_packet.specs.declared.reader.ReadFault.{ReadFault}
 use Rattle.ts_packet.specs.declared.reader.ReadFault.TheVariants as read_faults
-use Rattle.ts_packet.specs.declared.sink.PutFault.{PutFault}
-use Rattle.ts_packet.specs.declared.sink.PutFault.TheVariants as put_faults
 
 -- the first of two faults
 abbrev pub or_then : {F : Type 0} → Option F → Option F → Option F
@@ -62,12 +60,6 @@ read_cause read_faults.Io = OfDevice
 read_cause read_faults.Turns = OfDevice
 read_cause read_faults.Failed = OfNothing
 
-abbrev pub put_cause : PutFault → Cause
-put_cause put_faults.Io = OfDevice
-put_cause put_faults.Stuck = OfDevice
-put_cause put_faults.Turns = OfDevice
-put_cause put_faults.Failed = OfNothing
-
 -- THE TABLE: a fault of the input is the first one; a device's says nothing of the input
 abbrev pub SaysBy : Cause → Type 0 → Type 0
 SaysBy OfInput first = first
@@ -79,7 +71,3 @@ SaysBy OfNothing first = ⊥
 pub record IsFirstFault {F : Type 0} (found : Option F) (is_out : List (List ℕ) → Type 0) (ps : List (List ℕ)) (fault : F) : Type 0 where
   pub first : found ≡ Some fault
   pub before : is_out ps
-
--- a front of these bytes stands behind what was known first
-abbrev pub IsFrontOf : List ℕ → Option (List ℕ) → Option (List ℕ) → Type 0
-IsFrontOf whole start out = (n : ℕ) × IfSome start (λ known. out ≡ Some (known ++ take n whole))

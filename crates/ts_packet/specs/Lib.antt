@@ -3,7 +3,7 @@ pub mod Duplicates
 pub mod Runs
 pub mod Packets
 pub mod Transfers
-pub mod Reading
+pub mod Sources
 pub mod Sinks
 pub mod Following
 pub mod Numbering

@@ -1,5 +1,5 @@
 -- What a sink of packets stands for, what its device counts, and why a put may fail.
-use Rattle.std.specs.Prelude.{◌≡◌, ℕ, ◌^◌, ◌≤◌, Bool, true, false, ◌⊎◌, List, ◌++◌, take, Option, Some, IfSome}
+use Rattle.std.specs.Prelude.{◌≡◌, ◌≢◌, ℕ, ◌^◌, ◌≤◌, Bool, true, false, ◌⊎◌, List, ◌++◌, take, Option, Some, IfSome}
 use Rattle.std.proofs.Math.Nat.{le_refl, le_trans}
 use Rattle.ts_packet.specs.Packets.{bytes_of}
 use Rattle.ts_packet.specs.declared.tally.Tally.{Tally}
@@ -39,3 +39,11 @@ Written known start ps = IfSome start (λ bs. known ≡ Some (bs ++ bytes_of ps)
 -- and then a front of a further packet
 abbrev pub FailsToWrite : Option (List ℕ) → Option (List ℕ) → List (List ℕ) → List ℕ → Type 0
 FailsToWrite known start ps p = (n : ℕ) × IfSome start (λ bs. known ≡ Some (bs ++ (bytes_of ps ++ take n p)))
+
+-- a writer that has failed in no put, and what is known of its device
+abbrev pub HasWritten : Bool → Option (List ℕ) → Option (List ℕ) → List (List ℕ) → Type 0
+HasWritten broken known start ps = (broken ≡ false) × Written known start ps
+
+-- one whose put of this packet failed so, behind these
+abbrev pub HasFailed : Bool → PutFault → Option (List ℕ) → Option (List ℕ) → List (List ℕ) → List ℕ → Type 0
+HasFailed broken fault known start ps p = (broken ≡ true) × (fault ≢ Failed) × FailsToWrite known start ps p

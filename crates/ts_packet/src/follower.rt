@@ -25,12 +25,13 @@ pub struct Mark {
 
 impl Mark {
     ghost use Rattle.std.specs.Prelude.{◌==◌, ◌&&◌, not};
-    ghost use Rattle.ts_packet.specs.Fields.{number, carries};
+    ghost use Rattle.ts_packet.specs.Fields.{number, carries_as};
 
     /// The packet is the duplicate of the one that is remembered, of which `kept` is kept.
     #[inline(always)]
     fn is_repeated(&self, packet: &Packet, kept: &Packet) -> bool
-        ensures { result ≡ (((self.now.counter == number packet.now) && carries kept.now packet.now) && not self.now.is_repeat) }
+        ensures { result ≡ (((self.now.counter == number packet.now) && carries_as kept.now packet.now)
+            && not self.now.is_repeat) }
     {
         self.counter == packet.counter() && kept.carries_as(packet) && !self.is_repeat
     }
@@ -47,7 +48,7 @@ pub struct Follower {
 }
 
 impl Follower {
-    ghost use Rattle.ts_packet.specs.Following.{Follows, kept_after};
+    ghost use Rattle.ts_packet.specs.Following.{Follows, OfFollowed, kept_after};
     ghost use Rattle.ts_packet.specs.Duplicates.{original, repeats_last, last_of, follows_on, is_gap};
 
     /// A follower of this PID, which has met no packet.
@@ -61,9 +62,9 @@ impl Follower {
     /// duplicate. `kept` is the PID's last payload packet, with whatever counter, and any packet where there was none.
     #[inline(always)]
     pub fn feed(&mut self, packet: &Packet, kept: &Packet) -> bool
-        ensures follows { (pid : ℕ) (past : List (List ℕ)) → Follows self.old kept.now pid past →
-            Follows self.new (kept_after pid packet.now packet.now kept.now) pid (packet.now ∷ past) }
-        ensures answer { (pid : ℕ) (past : List (List ℕ)) → Follows self.old kept.now pid past → result ≡ original pid packet.now past }
+        ensures follows { OfFollowed self.old kept.now (λ pid past.
+            Follows self.new (kept_after pid packet.now packet.now kept.now) pid (packet.now ∷ past)) }
+        ensures answer { OfFollowed self.old kept.now (λ pid past. result ≡ original pid packet.now past) }
     {
         if !packet.has_payload_on(self.pid) {
             return false;
@@ -80,7 +81,7 @@ impl Follower {
     /// one past that of the payload packet before it. `kept` is as for `feed`.
     #[inline(always)]
     pub fn has_gap(&self, packet: &Packet, kept: &Packet) -> bool
-        ensures { (pid : ℕ) (past : List (List ℕ)) → Follows self.now kept.now pid past → result ≡ is_gap pid packet.now past }
+        ensures { OfFollowed self.now kept.now (λ pid past. result ≡ is_gap pid packet.now past) }
     {
         if !packet.has_payload_on(self.pid) {
             return false;
@@ -96,7 +97,7 @@ impl Follower {
     #[inline(always)]
     #[tactic(auto, using(crate::proofs::HistoryLemmas::goes_on, crate::proofs::HistoryLemmas::begins))]
     fn follows_on(&self, packet: &Packet) -> bool
-        ensures { (kept : List ℕ) (pid : ℕ) (past : List (List ℕ)) → Follows self.now kept pid past → result ≡ follows_on packet.now (last_of pid past) }
+        ensures { (kept : List ℕ) → OfFollowed self.now kept (λ pid past. result ≡ follows_on packet.now (last_of pid past)) }
     {
         match &self.last {
             Some(mark) => packet.counter() == (mark.counter + 1) % 16,
@@ -108,7 +109,7 @@ impl Follower {
     #[inline(always)]
     #[tactic(auto, using(crate::proofs::HistoryLemmas::said, crate::proofs::HistoryLemmas::unsaid))]
     fn is_repeated(&self, packet: &Packet, kept: &Packet) -> bool
-        ensures { (pid : ℕ) (past : List (List ℕ)) → Follows self.now kept.now pid past → result ≡ repeats_last packet.now (last_of pid past) }
+        ensures { OfFollowed self.now kept.now (λ pid past. result ≡ repeats_last packet.now (last_of pid past)) }
     {
         match &self.last {
             Some(mark) => mark.is_repeated(packet, kept),

@@ -66,7 +66,8 @@ impl<A: Allocator> PacketSink for PacketList<A> {
 
     ghost is_full = { λ l. nat_le l.room (vec_len l.items) };
 
-    ghost leads = { λ s t. (t.room ≡ s.room) × (nat_le s.room (vec_len s.items) ≡ true → nat_le t.room (vec_len t.items) ≡ true) × (s.is_broken ≡ true → t ≡ s) };
+    ghost leads = { λ s t. (t.room ≡ s.room) × (nat_le s.room (vec_len s.items) ≡ true → nat_le t.room (vec_len t.items) ≡ true)
+        × (s.is_broken ≡ true → t ≡ s) };
 
     ghost leads_refl = { λ s. (refl, λ e. e, λ b. refl) };
 

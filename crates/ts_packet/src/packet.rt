@@ -1,7 +1,9 @@
 //! One transport packet.
 
-ghost use Rattle.std.specs.Prelude.{◌≡◌, ℕ, List, ◌+◌, ◌*◌, ◌/◌, ◌%◌, ◌<◌, ◌≤◌, slice_index, slice_set, length, Some, None, Ok, Err, option_map, if◌then◌else◌, drop, IsTrue, ◌↔◌, true, false, is_some, IfOk, OnErr, ◌^◌};
-ghost use Rattle.ts_packet.specs.Fields.{in_error, unit_start, pid_of, scrambled, number, payload, random_access, pcr, with_number, renumbered, has_adaptation, on, payload_on, carries, alike};
+ghost use Rattle.std.specs.Prelude.{◌≡◌, ℕ, List, ◌+◌, ◌*◌, ◌/◌, ◌%◌, ◌<◌, ◌≤◌, ◌^◌, ◌↔◌, if◌then◌else◌, true, false};
+ghost use Rattle.std.specs.Prelude.{slice_index, slice_set, length, Some, None, Ok, Err, option_map, drop, IsTrue, is_some, IfOk, OnErr};
+ghost use Rattle.ts_packet.specs.Fields.{in_error, unit_start, pid_of, scrambled, number, payload, random_access, pcr};
+ghost use Rattle.ts_packet.specs.Fields.{with_number, renumbered, has_adaptation, on, payload_on, carries_as, alike};
 ghost use Rattle.ts_packet.specs.Packets.{packet_fault, or_fault, null_packet};
 ghost use Rattle.ts_packet.specs.Clock.{clock_packet};
 ghost use Rattle.ts_packet.specs.Transfers.{Filled, FallsShort, FillCounts};
@@ -292,9 +294,9 @@ impl Packet {
     }
 
     /// Equal in payload_unit_start_indicator and payload.
-    #[tactic(auto, unfolding(crate::specs::Fields::carries))]
+    #[tactic(auto, unfolding(crate::specs::Fields::carries_as))]
     pub fn carries_as(&self, packet: &Packet) -> bool
-        ensures { result ≡ carries self.now packet.now }
+        ensures { result ≡ carries_as self.now packet.now }
     {
         self.unit_start() == packet.unit_start() && self.payload() == packet.payload()
     }

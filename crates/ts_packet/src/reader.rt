@@ -1,7 +1,7 @@
 //! Packets from a device.
 
 ghost use Rattle.std.specs.Prelude.{◌≡◌, ℕ, ◌+◌, ◌^◌, ◌<◌, ◌≤◌, cond, length, is_some, IfOk, IfErr, IfSome, false, true, option_to_list};
-ghost use Rattle.ts_packet.specs.Reading.{GivesInto, Gives, Refuses, ReadCounts, ReadBlamed, Spends, ReadAnswers};
+ghost use Rattle.ts_packet.specs.Sources.{GivesInto, Gives, Refuses, ReadCounts, ReadBlamed, Spends, ReadAnswers};
 ghost use Rattle.ts_packet.specs.Sinks.{Later};
 
 use crate::device::Source;
@@ -70,7 +70,8 @@ impl<'a, S: Source> PacketReader<'a, S> {
         ensures blamed { IfErr result (λ f. ReadBlamed f self.old.given (S.counts self.old.source.now) (S.counts self.new.source.now)) }
         ensures few { (S.counts self.new.source.now).calls ≤ (S.counts self.old.source.now).calls + 2 ^ 20 }
         ensures later { Later (S.counts self.old.source.now) (S.counts self.new.source.now) }
-        ensures given { IfOk result (λ more. (self.old.is_broken ≡ false) × (self.new.is_broken ≡ false) × (self.new.given ≡ self.old.given + cond more 1 0)) }
+        ensures given { IfOk result (λ more. (self.old.is_broken ≡ false) × (self.new.is_broken ≡ false)
+            × (self.new.given ≡ self.old.given + cond more 1 0)) }
         ensures counted { IfOk result (λ _. self.new.given < 2 ^ 64) }
         ensures broken { IfErr result (λ _. self.new.is_broken ≡ true) }
         ensures failed { self.old.is_broken ≡ true → (result ≡ Err ReadFault.Failed) × (self.new ≡ self.old) }
@@ -112,7 +113,8 @@ impl<'a, S: Source> PacketReader<'a, S> {
         ensures blamed { IfErr result (λ f. ReadBlamed f self.old.given (S.counts self.old.source.now) (S.counts self.new.source.now)) }
         ensures few { (S.counts self.new.source.now).calls ≤ (S.counts self.old.source.now).calls + 2 ^ 20 }
         ensures later { Later (S.counts self.old.source.now) (S.counts self.new.source.now) }
-        ensures given { IfOk result (λ o. (self.old.is_broken ≡ false) × (self.new.is_broken ≡ false) × (self.new.given ≡ self.old.given + length (option_to_list o))) }
+        ensures given { IfOk result (λ o. (self.old.is_broken ≡ false) × (self.new.is_broken ≡ false)
+            × (self.new.given ≡ self.old.given + length (option_to_list o))) }
         ensures counted { IfOk result (λ _. self.new.given < 2 ^ 64) }
         ensures broken { IfErr result (λ _. self.new.is_broken ≡ true) }
         ensures failed { self.old.is_broken ≡ true → (result ≡ Err ReadFault.Failed) × (self.new ≡ self.old) }

@@ -50,8 +50,10 @@ pub trait PacketSink {
     /// Takes the packet behind those before it.
     fn put(&mut self, packet: &Packet) -> Result<(), PutFault>
         ensures leads { leads self.old self.new }
-        ensures ok { (start : Option (List ℕ)) (ps : List (List ℕ)) → holds self.old start ps → OnOk result (holds self.new start (ps ++ packet.now ∷ [])) }
-        ensures err { (start : Option (List ℕ)) (ps : List (List ℕ)) → holds self.old start ps → IfErr result (λ f. fails self.new start ps packet.now f) }
+        ensures ok { (start : Option (List ℕ)) (ps : List (List ℕ)) → holds self.old start ps
+            → OnOk result (holds self.new start (ps ++ packet.now ∷ [])) }
+        ensures err { (start : Option (List ℕ)) (ps : List (List ℕ)) → holds self.old start ps
+            → IfErr result (λ f. fails self.new start ps packet.now f) }
         ensures well { OnOk result (WentWell (counts self.old) (counts self.new)) }
         ensures blamed { IfErr result (λ f. Blamed f (counts self.old) (counts self.new) (is_full self.new)) }
         ensures broken { is_broken self.new ≡ is_err result }

@@ -9,7 +9,7 @@ pub trait PacketSource {
     ghost use Rattle.std.specs.Prelude.{◌≡◌, ℕ, ◌+◌, ◌^◌, ◌<◌, List, Option, Bool, true, false, Err, cond, is_err, IfOk, IfErr};
     ghost use Rattle.ts_packet.specs.declared.reader.ReadFault.TheVariants.{Turns, Failed};
     ghost use Rattle.ts_packet.specs.declared.tally.Tally.{Tally};
-    ghost use Rattle.ts_packet.specs.Reading.{GivesInto, Refuses, SourceCounts, SourceBlamed};
+    ghost use Rattle.ts_packet.specs.Sources.{GivesInto, Refuses, SourceCounts, SourceBlamed};
 
     /// The bytes of the packets that it will give, with those behind them that are none, where they are known.
     ghost left: { Self → Option (List ℕ) };

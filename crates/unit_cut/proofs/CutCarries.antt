@@ -10,7 +10,7 @@ use Rattle.ts_packet.proofs.FieldLemmas.{start-renumbered, payload_on-renumbered
 use Rattle.ts_packet.proofs.Renumbered.{renumbered-zero}
 use Rattle.unit_stream.specs.Times.{unit_time}
 use Rattle.unit_stream.specs.Units.{is_original, rest_of_unit, units_of, payloads, has_payload, rest_of_row}
-use Rattle.unit_stream.specs.Carrying.{Joins, Carries}
+use Rattle.unit_stream.specs.Carrying.{Joins, CarriesUnits}
 use Rattle.unit_stream.proofs.RowLemmas as rows
 use Rattle.unit_stream.proofs.RowLemmas.{RowJoins}
 use Rattle.unit_cut.specs.Cutting.{staying}
@@ -24,8 +24,8 @@ pub row_joins : (n pid : ℕ) (past ps : List (List ℕ)) → RowJoins (renumber
 row_joins n pid past ps = rows.row_joins (renumbered n) (alike-renumbered n) (start-renumbered n) (bytes-renumbered n) pid past ps
 
 -- a row's first packet, kept, in front of the rest
-first_kept : (q : List ℕ) (bs rest : List ℕ) (qs row left us : List (List ℕ)) → unit_start q ≡ true → bytes q ≡ bs → qs ≡ row ++ left → Joins (Some q) row rest → Carries left us
-    → Carries (q ∷ qs) ((bs ++ rest) ∷ us)
+first_kept : (q : List ℕ) (bs rest : List ℕ) (qs row left us : List (List ℕ)) → unit_start q ≡ true → bytes q ≡ bs → qs ≡ row ++ left → Joins (Some q) row rest → CarriesUnits left us
+    → CarriesUnits (q ∷ qs) ((bs ++ rest) ∷ us)
 first_kept q bs rest qs row left us s e f j c = (q ∷ row, left, ap (λ l. q ∷ l) f, (s, (rest, ap (λ l. l ++ rest) (sym e), j)), c)
 
 no_row : (b : Bool) → (if◌then◌else◌ {A = List (List ℕ)} b [] []) ≡ []
@@ -39,7 +39,7 @@ module _ (goes : Option ℤ → Bool) (sw : List ℕ) (pid : ℕ) where
       (left : List (List ℕ))
       × (filter (payload_on pid) (cut_after goes sw pid past ps)
       ≡ (if goes (unit_time sw pid past) then [] else map (renumbered (15 * gone goes sw pid past)) (rest_of_row pid (filter (has_payload pid) (seen_after past ps)))) ++ left)
-      × Carries left (payloads (staying goes (units_of sw pid (filter (is_original pid) (seen_after past ps)))))
+      × CarriesUnits left (payloads (staying goes (units_of sw pid (filter (is_original pid) (seen_after past ps)))))
 
   carried_more : (p : List ℕ) (past ps : List (List ℕ)) → CarriedAfter (p ∷ past) ps → CarriedAfter past (p ∷ ps)
   carried_more p past ps h =

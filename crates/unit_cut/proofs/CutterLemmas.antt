@@ -10,7 +10,7 @@ use Rattle.unit_stream.specs.Times.{begins, begins_one, high, raised, timed, uni
 use Rattle.unit_stream.specs.Faults.{unit_fault, start_fault, scrambled_one}
 use Rattle.unit_stream.proofs.ClockLemmas.{fault_none, fault_begun}
 use Rattle.unit_stream.specs.Fates.{is_cut, steps, numbered}
-use Rattle.unit_cut.specs.Standing.{Cut, goes_by, TimingFor, Begins, BeginsWith, Answers}
+use Rattle.unit_cut.specs.Standing.{Cut, goes_by, TimingFor, Begins, BeginsWith, CutAnswers}
 use Rattle.unit_cut.specs.declared.timing.Timing.{Timing}
 
 -- ---- fields
@@ -119,7 +119,7 @@ events_repeated false c n r p es a b e = cc
 events_repeated true c true r p es a b e = cc
 
 pub settled : (k : Cut) (p : List ℕ) (past : List (List ℕ)) (r g : Bool) (q : List ℕ) → r ≡ not g → unit_fault (k.pid ∷ []) p past ≡ None
-    → is_cut (goes_by k) (k.pid ∷ []) k.pid p past ≡ g → (r ≡ true → q ≡ numbered k.pid p (steps (goes_by k) (k.pid ∷ []) k.pid past)) → Answers k p past (Ok r) q
+    → is_cut (goes_by k) (k.pid ∷ []) k.pid p past ≡ g → (r ≡ true → q ≡ numbered k.pid p (steps (goes_by k) (k.pid ∷ []) k.pid past)) → CutAnswers k p past (Ok r) q
 settled k p past true true q e f c w = cc
 settled k p past true false q e f c w = (f, c, w refl)
 settled k p past false true q e f c w = (f, c)

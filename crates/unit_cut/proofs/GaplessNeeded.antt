@@ -6,7 +6,7 @@ use Rattle.std.specs.Option.{option_eq}
 use Rattle.std.proofs.lemmas.Grind.{common_steps}
 use Rattle.std.proofs.lemmas.List.{append-nil}
 use lib.Pointwise.{pointwise}
-use Rattle.ts_packet.specs.Fields.{payload_on, unit_start, number, payload, bytes, carries, alike, renumbered}
+use Rattle.ts_packet.specs.Fields.{payload_on, unit_start, number, payload, bytes, carries_as, alike, renumbered}
 use Rattle.ts_packet.specs.Duplicates.{original}
 use Rattle.ts_packet.proofs.Cases.{by_test}
 use Rattle.ts_packet.proofs.FieldLemmas.{number-below, number-renumbered, start-renumbered, payload_on-renumbered, payload_on-on, payload-renumbered, bytes-renumbered, alike-number}
@@ -35,7 +35,7 @@ same_bit false = refl
 
 -- moved up by 1 and then by 15 it is like the packet itself
 around : (p : List ℕ) → alike (renumbered 0 p) (renumbered 15 (renumbered 1 p)) ≡ true
-unfolding alike carries
+unfolding alike carries_as
 around p =
     let e : ((number p + 1) % 16 + 15) % 16 ≡ (number p + 0) % 16 = omega arith in
     rw (

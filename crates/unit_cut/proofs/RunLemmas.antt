@@ -7,17 +7,17 @@ use Rattle.ts_packet.specs.Runs.{seen_after}
 use Rattle.std.specs.Io.KnownBytes.{IsAtEnd}
 use Rattle.pes_time.specs.Line.{lift}
 use Rattle.ts_packet.specs.Packets.{packets_of, last_part, packet_fault}
-use Rattle.ts_packet.specs.Reading.{Given, HasRead}
-use Rattle.ts_packet.proofs.PacketsLemmas.{read_none, read_more, read_to_end}
+use Rattle.ts_packet.specs.Sources.{HasRead}
+use Rattle.ts_packet.proofs.PacketsLemmas.{read_to_end}
 use Rattle.unit_stream.specs.Times.{first_time}
 use Rattle.unit_stream.specs.Faults.{unit_fault}
 use Rattle.unit_cut.specs.Cutting.{cut_between, begin_of}
-use Rattle.unit_cut.specs.Standing.{Cut, StandsFor, Begins}
+use Rattle.unit_cut.specs.Standing.{Cut, CutterStandsFor, Begins}
 use Rattle.ts_packet.specs.FirstFault.{or_then, first_of, fault_behind}
 use Rattle.ts_packet.proofs.FirstFaultLemmas.{sound_all, sound_more}
 use Rattle.unit_cut.specs.FirstFault.{first_fault, fault_at, cut_test, as_unit_fault}
 use Rattle.unit_cut.specs.declared.run.CutFault.TheVariants.{Read}
-use Rattle.unit_cut.specs.Runs.{CutsAll, FrontIsOut, NextFails, IsSound, IsCutOf, cut_by, HasGiven, HasPassed}
+use Rattle.unit_cut.specs.Runs.{CutsAll, FrontIsOut, NextFails, IsSound, IsCutOf, cut_by, HasPassed}
 use Rattle.unit_cut.specs.declared.cutter.Cutter.{Cutter}
 use Rattle.unit_cut.proofs.GrowLemmas.{between_grows}
 use Rattle.unit_cut.proofs.CutterLemmas.{begins_before}
@@ -46,18 +46,8 @@ cut_of_fewer k pid from len ps p h =
 
 -- ---- the loop
 
-pub given_none : (input : Option (List ℕ)) (first : ℕ) → HasGiven input input first first []
-given_none input first = record { read = read_none input; count = omega arith }
-
-pub given_more : (input left left' : Option (List ℕ)) (first given given' : ℕ) (ps : List (List ℕ)) (p : List ℕ) → HasGiven input left first given ps → Given left left' p → given' ≡ given + 1
-    → HasGiven input left' first given' (ps ++ p ∷ [])
-given_more input left left' first given given' ps p h r g = record {
-  read = read_more input left left' ps p h.read r;
-  count = let l = length-append ps (p ∷ []) in omega (arith, g, h.count, l);
-}
-
 pub passed_none : (is_out : List (List ℕ) → Type 0) (cutter : Cutter) (kept : List ℕ) (pid from len : ℕ) → is_out []
-    → ((k : Cut) → k.pid ≡ pid → k.from ≡ from → k.length ≡ len → StandsFor cutter kept k [])
+    → ((k : Cut) → k.pid ≡ pid → k.from ≡ from → k.length ≡ len → CutterStandsFor cutter kept k [])
     → HasPassed is_out cutter kept pid from len []
 passed_none is_out cutter kept pid from len w h = record {
   sound = All-nil _;
@@ -66,8 +56,8 @@ passed_none is_out cutter kept pid from len w h = record {
 
 pub passed_more : (is_out is_out' : List (List ℕ) → Type 0) (cutter cutter' : Cutter) (kept kept' : List ℕ) (pid from len : ℕ) (ps : List (List ℕ)) (p : List ℕ)
     → HasPassed is_out cutter kept pid from len ps
-    → ((k : Cut) → Begins k (p ∷ reverse ps) → StandsFor cutter kept k (reverse ps) → is_out (cut_by k ps)
-    → (unit_fault (k.pid ∷ []) p (reverse ps) ≡ None) × StandsFor cutter' kept' k (p ∷ reverse ps) × is_out' (cut_by k (ps ++ p ∷ [])))
+    → ((k : Cut) → Begins k (p ∷ reverse ps) → CutterStandsFor cutter kept k (reverse ps) → is_out (cut_by k ps)
+    → (unit_fault (k.pid ∷ []) p (reverse ps) ≡ None) × CutterStandsFor cutter' kept' k (p ∷ reverse ps) × is_out' (cut_by k (ps ++ p ∷ [])))
     → HasPassed is_out' cutter' kept' pid from len (ps ++ p ∷ [])
 passed_more is_out is_out' cutter cutter' kept kept' pid from len ps p h pass =
     let k0 = the_cut pid from len (ps ++ p ∷ []) in
@@ -80,7 +70,7 @@ passed_more is_out is_out' cutter cutter' kept kept' pid from len ps p h pass =
           let (b, j) = cut_of_fewer k pid from len ps p i in
           let at = h.passed k j in
           let more = pass k b at.0 at.1 in
-          (subst (StandsFor cutter' kept' k) (sym (reverse-snoc ps p)) more.1, more.2);
+          (subst (CutterStandsFor cutter' kept' k) (sym (reverse-snoc ps p)) more.1, more.2);
     }
 
 -- ---- the end

@@ -3,8 +3,8 @@ use Rattle.std.specs.Prelude.{◌≡◌, ℕ, ℤ, ◌+◌, ◌%◌, ◌++◌, �
 use Rattle.ts_packet.specs.Fields.{payload_on, unit_start, number, bytes, renumbered}
 use Rattle.ts_packet.specs.Runs.{IsGapless, IsGaplessAfter, others, uncounted}
 use Rattle.unit_stream.specs.Times.{unit_time}
-use Rattle.unit_stream.specs.Units.{units, payloads, rows, lead}
-use Rattle.unit_stream.specs.Carrying.{Carries}
+use Rattle.unit_stream.specs.Units.{units, payloads, rows, lead_in}
+use Rattle.unit_stream.specs.Carrying.{CarriesUnits}
 use Rattle.unit_cut.specs.Cutting.{cut, staying, packets_staying}
 
 -- THE LAW ON UNITS: where the PID is gapless, its units in what the cut leaves are the units that stay, in order, whichever streams the output is read with
@@ -17,13 +17,13 @@ CutLeavesUnits = (goes : Option ℤ → Bool) (switched switched' : List ℕ) (p
 abbrev pub CutCarriesUnits : Type 0
 CutCarriesUnits = (goes : Option ℤ → Bool) → goes None ≡ false → (switched : List ℕ) (pid : ℕ) (ps : List (List ℕ)) →
     All (λ (p : List ℕ). length p ≡ 188) ps →
-    (carried : List (List ℕ)) × (filter (payload_on pid) (cut goes switched pid ps) ≡ lead pid ps ++ carried)
-    × Carries carried (payloads (staying goes (units switched pid ps)))
+    (carried : List (List ℕ)) × (filter (payload_on pid) (cut goes switched pid ps) ≡ lead_in pid ps ++ carried)
+    × CarriesUnits carried (payloads (staying goes (units switched pid ps)))
 
 -- gapless or not, its payload packets are, but for their counters, those before the first unit start and the rows that stay
 abbrev pub CutLeavesRows : Type 0
 CutLeavesRows = (goes : Option ℤ → Bool) → goes None ≡ false → (switched : List ℕ) (pid : ℕ) (ps : List (List ℕ)) →
-    uncounted (filter (payload_on pid) (cut goes switched pid ps)) ≡ uncounted (lead pid ps ++ packets_staying goes (rows switched pid ps))
+    uncounted (filter (payload_on pid) (cut goes switched pid ps)) ≡ uncounted (lead_in pid ps ++ packets_staying goes (rows switched pid ps))
 
 -- gapless it was, gapless it is, whatever the last payload packet of the head
 abbrev pub CutStaysGapless : Type 0

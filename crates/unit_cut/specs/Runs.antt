@@ -1,16 +1,15 @@
 -- What a run of `cut` puts, where its source tells its bytes; what its faults say, and what its devices did there.
 use Rattle.std.specs.Prelude.{◌≡◌, ℕ, ◌+◌, ◌^◌, ◌-◌, ◌⊎◌, List, [], ◌∷◌, ◌++◌, Bool, true, false, Option, None, Some, IfSome, All, length, reverse}
 use Rattle.ts_packet.specs.Packets.{packets_of}
-use Rattle.ts_packet.specs.Reading.{HasRead, ReadSo}
+use Rattle.ts_packet.specs.Sources.{ReadSo, RunBlamed}
 use Rattle.ts_packet.specs.Sinks.{Blamed}
 use Rattle.ts_packet.specs.declared.tally.Tally.{Tally}
 use Rattle.ts_packet.specs.Transfers.{WentWell, LastMovedNone, LastFailed, TookTurns}
 use Rattle.ts_packet.specs.Runs.{Seen, seen_after}
-use Rattle.ts_packet.specs.declared.reader.ReadFault.TheVariants as read_faults
 use Rattle.ts_packet.specs.declared.sink.PutFault.{PutFault}
 use Rattle.unit_stream.specs.Faults.{unit_fault}
 use Rattle.unit_cut.specs.Cutting.{cut, cut_between}
-use Rattle.unit_cut.specs.Standing.{Cut, goes_by, Begins, StandsFor}
+use Rattle.unit_cut.specs.Standing.{Cut, goes_by, Begins, CutterStandsFor}
 use Rattle.ts_packet.specs.FirstFault.{IsFirstFault, SaysBy}
 use Rattle.unit_cut.specs.FirstFault.{first_fault, before_fault, as_unit_fault, cut_test, cut_cause}
 use Rattle.unit_cut.specs.declared.cutter.Cutter.{Cutter}
@@ -59,12 +58,7 @@ Stops fault pid from length input is_out fails =
 
 -- what the network's device counted where a run stops so; `ended` is whether it has told the end
 abbrev pub NetworkBlamed : CutFault → Bool → Tally → Tally → Type 0
-NetworkBlamed (Read read_faults.Truncated) ended old new = WentWell old new ⊎ LastMovedNone old new
-NetworkBlamed (Read read_faults.SyncLost) ended old new = WentWell old new ⊎ LastMovedNone old new
-NetworkBlamed (Read read_faults.BadAdaptation) ended old new = WentWell old new ⊎ LastMovedNone old new
-NetworkBlamed (Read read_faults.Io) ended old new = LastFailed old new
-NetworkBlamed (Read read_faults.Turns) ended old new = WentWell old new
-NetworkBlamed (Read read_faults.Failed) ended old new = ⊥
+NetworkBlamed (Read fault) ended old new = RunBlamed fault old new
 NetworkBlamed Scrambled ended old new = ReadSo ended old new
 NetworkBlamed HeaderSplit ended old new = ReadSo ended old new
 NetworkBlamed TimeJump ended old new = ReadSo ended old new
@@ -78,23 +72,7 @@ OutputBlamed HeaderSplit old new full = WentWell old new
 OutputBlamed TimeJump old new full = WentWell old new
 OutputBlamed (Sink fault) old new full = Blamed fault old new full
 
--- The reads for one packet took all their turns: from some state of the source on, up to which all went well, they gave fewer bytes than
--- a packet takes. The functions are a source's.
-abbrev pub Stalled : {X : Type 0} → (X → X → Type 0) → (X → Tally) → (X → X → Type 0) → X → X → Type 0
-Stalled {X} leads counts falls_short first now =
-    (at : X) × leads first at × WentWell (counts first) (counts at) × TookTurns (2 ^ 20) (counts at) (counts now) × falls_short at now
-
--- the source has given as many packets as it may
-abbrev pub Exhausted : {X : Type 0} → (X → Option (List ℕ)) → (X → ℕ) → X → Type 0
-Exhausted {X} left given first =
-    (rest : Option (List ℕ)) × (ps : List (List ℕ)) × HasRead (left first) rest ps × (given first + length ps ≡ 2 ^ 64 - 1)
-
 -- ---- on the way
-
--- what the reads of packets came to up to now, by whether the device had told the end at the begin, and has now
-abbrev pub ReadOn : Bool → Bool → Tally → Tally → Type 0
-ReadOn false now old new = ReadSo now old new
-ReadOn true now old new = (now ≡ true) × (new ≡ old)
 
 -- every packet was sound for the PID
 abbrev pub IsSound : ℕ → List (List ℕ) → Type 0
@@ -111,15 +89,10 @@ pub record IsCutOf (k : Cut) (pid from length : ℕ) (ps : List (List ℕ)) : Ty
 abbrev pub cut_by : Cut → List (List ℕ) → List (List ℕ)
 cut_by k ps = cut (goes_by k) (k.pid ∷ []) k.pid ps
 
--- these packets were read, of a source that had given so many before
-pub record HasGiven (input left : Option (List ℕ)) (first given : ℕ) (ps : List (List ℕ)) : Type 0 where
-  pub read : HasRead input left ps
-  pub count : given ≡ first + length ps
-
 -- they were passed on
 pub record HasPassed (is_out : List (List ℕ) → Type 0) (cutter : Cutter) (kept : List ℕ) (pid from length' : ℕ) (ps : List (List ℕ)) : Type 0 where
   pub sound : IsSound pid ps
-  pub passed : (k : Cut) → IsCutOf k pid from length' ps → StandsFor cutter kept k (reverse ps) × is_out (cut_by k ps)
+  pub passed : (k : Cut) → IsCutOf k pid from length' ps → CutterStandsFor cutter kept k (reverse ps) × is_out (cut_by k ps)
 
 -- what one packet that is not passed on says
 abbrev pub PassFails : Cut → List ℕ → List (List ℕ) → CutFault → (List (List ℕ) → Type 0) → (List (List ℕ) → List ℕ → PutFault → Type 0) → Type 0

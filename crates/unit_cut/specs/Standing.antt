@@ -59,18 +59,18 @@ high_or None p = pos p
 high_or (Some h) p = h
 
 -- the cutter has seen this past, newest first, and its caller keeps the PID's last payload packet
-pub record StandsFor (cutter : Cutter) (kept : List ℕ) (k : Cut) (past : List (List ℕ)) : Type 0 where
+pub record CutterStandsFor (cutter : Cutter) (kept : List ℕ) (k : Cut) (past : List (List ℕ)) : Type 0 where
   pub same : cutter.pid ≡ k.pid
   pub units : FollowsUnits cutter.units kept k.pid past
   pub timing : TimingFor cutter.timing k (high (k.pid ∷ []) past) (unit_time (k.pid ∷ []) k.pid past)
   pub counter : Counts cutter.counter (steps (goes_by k) (k.pid ∷ []) k.pid past)
 
 -- what it answers to a packet p behind this past, and what becomes of the packet
-abbrev pub Answers : Cut → List ℕ → List (List ℕ) → Result Bool UnitFault → List ℕ → Type 0
-Answers k p past (Ok true) q = (unit_fault (k.pid ∷ []) p past ≡ None) × (is_cut (goes_by k) (k.pid ∷ []) k.pid p past ≡ false)
+abbrev pub CutAnswers : Cut → List ℕ → List (List ℕ) → Result Bool UnitFault → List ℕ → Type 0
+CutAnswers k p past (Ok true) q = (unit_fault (k.pid ∷ []) p past ≡ None) × (is_cut (goes_by k) (k.pid ∷ []) k.pid p past ≡ false)
     × (q ≡ numbered k.pid p (steps (goes_by k) (k.pid ∷ []) k.pid past))
-Answers k p past (Ok false) q = (unit_fault (k.pid ∷ []) p past ≡ None) × (is_cut (goes_by k) (k.pid ∷ []) k.pid p past ≡ true)
-Answers k p past (Err f) q = unit_fault (k.pid ∷ []) p past ≡ Some f
+CutAnswers k p past (Ok false) q = (unit_fault (k.pid ∷ []) p past ≡ None) × (is_cut (goes_by k) (k.pid ∷ []) k.pid p past ≡ true)
+CutAnswers k p past (Err f) q = unit_fault (k.pid ∷ []) p past ≡ Some f
 
 -- ---- the two packets of a run
 

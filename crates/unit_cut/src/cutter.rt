@@ -1,7 +1,7 @@
 //! Cuts the units of one PID out of a run, packet by packet.
 
-ghost use Rattle.std.specs.Prelude.{◌≡◌, ℕ, List, [], ◌∷◌, Option, Some, None, Result, Ok, Err, OnOk, IfOk, IfErr, true, false, not, is_some, if◌then◌else◌};
-ghost use Rattle.std.specs.Prelude.{◌&&◌};
+ghost use Rattle.std.specs.Prelude.{◌≡◌, ◌&&◌, ℕ, List, [], ◌∷◌, Option, Some, None, true, false, not, is_some, if◌then◌else◌};
+ghost use Rattle.std.specs.Prelude.{Result, Ok, Err, OnOk, IfOk, IfErr};
 ghost use Rattle.ts_packet.specs.Fields.{on, payload, payload_on, scrambled, with_number};
 
 use crate::timing::Timing;
@@ -20,13 +20,14 @@ pub struct Cutter {
 }
 
 impl Cutter {
-    ghost use Rattle.ts_packet.specs.Following.{CarriesAs, kept_after};
+    ghost use Rattle.ts_packet.specs.Following.{CarriesSame, kept_after};
     ghost use Rattle.ts_packet.specs.Numbering.{Step, Counts, Kept, Dropped, number_out};
-    ghost use Rattle.unit_cut.specs.Standing.{StandsFor, Begins, Answers, Cut};
+    ghost use Rattle.unit_cut.specs.Standing.{CutterStandsFor, Begins, CutAnswers, Cut};
 
     /// A cutter for the units of `pid` from `from` on, for `length` ticks of 90 kHz.
     pub fn new(pid: Pid, from: Time33, length: u32) -> Cutter
-        ensures { (kept : List ℕ) (k : Cut) → k.pid ≡ pid → k.from ≡ from → k.length ≡ length → StandsFor result kept k [] }
+        ensures { (kept : List ℕ) (k : Cut) → k.pid ≡ pid → k.from ≡ from → k.length ≡ length
+            → CutterStandsFor result kept k [] }
     {
         Cutter {
             pid,
@@ -41,9 +42,11 @@ impl Cutter {
         ensures pid { self.new.pid ≡ self.old.pid }
         ensures units { self.new.units ≡ self.old.units }
         ensures timing { self.new.timing ≡ self.old.timing }
-        ensures carries { CarriesAs packet.new packet.old }
-        ensures counts { (steps : List Step) → Counts self.old.counter steps → Counts self.new.counter (Kept packet.old ∷ steps) }
-        ensures packet { (steps : List Step) → Counts self.old.counter steps → packet.new ≡ with_number (number_out packet.old steps) packet.old }
+        ensures carries { CarriesSame packet.new packet.old }
+        ensures counts { (steps : List Step) → Counts self.old.counter steps
+            → Counts self.new.counter (Kept packet.old ∷ steps) }
+        ensures packet { (steps : List Step) → Counts self.old.counter steps
+            → packet.new ≡ with_number (number_out packet.old steps) packet.old }
     {
         let number = self.counter.kept(packet);
         packet.set_counter(number);
@@ -66,10 +69,10 @@ impl Cutter {
     #[inline(always)]
     pub fn feed(&mut self, packet: &mut Packet, kept: &Packet) -> Result<bool, UnitFault>
         ensures answers { (k : Cut) (past : List (List ℕ)) → Begins k (packet.old ∷ past)
-            → StandsFor self.old kept.now k past → Answers k packet.old past result packet.new }
+            → CutterStandsFor self.old kept.now k past → CutAnswers k packet.old past result packet.new }
         ensures stands { (k : Cut) (past : List (List ℕ)) → Begins k (packet.old ∷ past)
-            → StandsFor self.old kept.now k past
-            → OnOk result (StandsFor self.new (kept_after k.pid packet.old packet.new kept.now) k (packet.old ∷ past)) }
+            → CutterStandsFor self.old kept.now k past
+            → OnOk result (CutterStandsFor self.new (kept_after k.pid packet.old packet.new kept.now) k (packet.old ∷ past)) }
     {
         if !packet.is_on(self.pid) {
             return Ok(true);
@@ -102,7 +105,7 @@ impl Cutter {
         ensures pid { self.new.pid ≡ self.old.pid }
         ensures units { self.new.units ≡ self.old.units }
         ensures timing { self.new.timing ≡ self.old.timing }
-        ensures carries { CarriesAs packet.new packet.old }
+        ensures carries { CarriesSame packet.new packet.old }
         ensures stays { result ≡ not self.old.timing.is_going }
         ensures counts { (steps : List Step) → Counts self.old.counter steps
             → Counts self.new.counter (if result then Kept packet.old ∷ steps else Dropped packet.old ∷ steps) }
@@ -122,7 +125,7 @@ impl Cutter {
         ensures pid { self.new.pid ≡ self.old.pid }
         ensures units { self.new.units ≡ self.old.units }
         ensures timing { self.new.timing ≡ self.old.timing }
-        ensures carries { CarriesAs packet.new packet.old }
+        ensures carries { CarriesSame packet.new packet.old }
         ensures stays { result ≡ not self.old.timing.is_going }
         ensures counts { (steps : List Step) → Counts self.old.counter steps
             → Counts self.new.counter (if result then Kept packet.old ∷ steps else steps) }

@@ -52,8 +52,8 @@ impl Distance {
         }
     }
 
-    /// Passes a unit whose time lies so far past the greatest before it, or before that one. Whether its time lies inside the cut.
-    pub fn pass(&mut self, way: i64, length: u32) -> bool
+    /// Goes on to a unit whose time lies so far past the greatest before it, or before that one. Whether its time lies inside the cut.
+    pub fn advance(&mut self, way: i64, length: u32) -> bool
         requires low { negsuc 899999 ≤ℤ way }
         requires top { way ≤ℤ pos 900000 }
         ensures distance { (begin high : ℤ) → IsDistance self.old.ticks begin high → IsDistance self.new.ticks begin (int_max high (high +ℤ way)) }

@@ -3,12 +3,12 @@
 ghost use Rattle.std.specs.Prelude.{◌≡◌, ℕ, ◌⊎◌, List, [], ◌∷◌, ◌++◌, Option, Some, None, OnOk, IfOk, IfErr, reverse, false};
 ghost use Rattle.ts_packet.specs.Fields.{payload_on};
 ghost use Rattle.ts_packet.specs.Following.{kept_after};
-ghost use Rattle.ts_packet.specs.Reading.{SourceCounts};
+ghost use Rattle.ts_packet.specs.Sources.{SourceCounts, Stalled, Exhausted};
 ghost use Rattle.ts_packet.specs.Transfers.{WentWell};
 ghost use Rattle.unit_stream.specs.Faults.{unit_fault};
 ghost use Rattle.unit_cut.specs.FirstFault.{as_cut_fault};
-ghost use Rattle.unit_cut.specs.Standing.{Cut, StandsFor, Begins};
-ghost use Rattle.unit_cut.specs.Runs.{CutsAll, Stops, NetworkBlamed, OutputBlamed, Stalled, Exhausted, cut_by, PassFails, PassBlamed};
+ghost use Rattle.unit_cut.specs.Standing.{Cut, CutterStandsFor, Begins};
+ghost use Rattle.unit_cut.specs.Runs.{CutsAll, Stops, NetworkBlamed, OutputBlamed, cut_by, PassFails, PassBlamed};
 
 use crate::cutter::Cutter;
 use crate::slots::Slots;
@@ -57,12 +57,12 @@ pub(crate) fn pass<K: PacketSink>(
 ) -> Result<bool, CutFault>
     ensures leads { K.leads sink.old sink.new }
     ensures ok { (k : Cut) (start : Option (List ℕ)) (before ps : List (List ℕ)) → Begins k (packet.old ∷ reverse ps)
-        → StandsFor cutter.old kept.now k (reverse ps) → K.holds sink.old start (before ++ cut_by k ps)
+        → CutterStandsFor cutter.old kept.now k (reverse ps) → K.holds sink.old start (before ++ cut_by k ps)
         → OnOk result ((unit_fault (k.pid ∷ []) packet.old (reverse ps) ≡ None)
-        × StandsFor cutter.new (kept_after k.pid packet.old packet.new kept.now) k (packet.old ∷ reverse ps)
+        × CutterStandsFor cutter.new (kept_after k.pid packet.old packet.new kept.now) k (packet.old ∷ reverse ps)
         × K.holds sink.new start (before ++ cut_by k (ps ++ packet.old ∷ []))) }
     ensures err { (k : Cut) (start : Option (List ℕ)) (before ps : List (List ℕ)) → Begins k (packet.old ∷ reverse ps)
-        → StandsFor cutter.old kept.now k (reverse ps) → K.holds sink.old start (before ++ cut_by k ps)
+        → CutterStandsFor cutter.old kept.now k (reverse ps) → K.holds sink.old start (before ++ cut_by k ps)
         → IfErr result (λ f. PassFails k packet.old ps f
         (λ l. K.holds sink.new start (before ++ l)) (λ l. K.fails sink.new start (before ++ l))) }
     ensures last { IfOk result (λ is_last. is_last ≡ payload_on cutter.old.pid packet.old) }

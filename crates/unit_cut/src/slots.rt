@@ -2,10 +2,10 @@
 
 ghost use Rattle.std.specs.Prelude.{◌≡◌, ℕ, ◌<◌, ◌+◌, ◌^◌, cond, List, [], ◌∷◌, ◌++◌, Option, None, OnOk, IfOk, IfErr, is_err, reverse, false};
 ghost use Rattle.ts_packet.specs.Packets.{null_packet};
-ghost use Rattle.ts_packet.specs.Reading.{GivesInto, Refuses, SourceCounts, SourceBlamed};
+ghost use Rattle.ts_packet.specs.Sources.{GivesInto, Refuses, SourceCounts, SourceBlamed};
 ghost use Rattle.ts_packet.specs.Transfers.{WentWell};
 ghost use Rattle.unit_stream.specs.Faults.{unit_fault};
-ghost use Rattle.unit_cut.specs.Standing.{Cut, StandsFor, Begins, read_of, kept_of};
+ghost use Rattle.unit_cut.specs.Standing.{Cut, CutterStandsFor, Begins, read_of, kept_of};
 ghost use Rattle.unit_cut.specs.Runs.{cut_by, PassFails, PassBlamed};
 
 use crate::cutter::Cutter;
@@ -62,12 +62,12 @@ impl Slots {
     pub fn pass<K: PacketSink>(&mut self, cutter: &mut Cutter, sink: &mut K) -> Result<(), CutFault>
         ensures leads { K.leads sink.old sink.new }
         ensures ok { (k : Cut) (start : Option (List ℕ)) (before ps : List (List ℕ)) → Begins k (read_of self.old ∷ reverse ps)
-            → StandsFor cutter.old (kept_of self.old) k (reverse ps) → K.holds sink.old start (before ++ cut_by k ps)
+            → CutterStandsFor cutter.old (kept_of self.old) k (reverse ps) → K.holds sink.old start (before ++ cut_by k ps)
             → OnOk result ((unit_fault (k.pid ∷ []) (read_of self.old) (reverse ps) ≡ None)
-            × StandsFor cutter.new (kept_of self.new) k (read_of self.old ∷ reverse ps)
+            × CutterStandsFor cutter.new (kept_of self.new) k (read_of self.old ∷ reverse ps)
             × K.holds sink.new start (before ++ cut_by k (ps ++ read_of self.old ∷ []))) }
         ensures err { (k : Cut) (start : Option (List ℕ)) (before ps : List (List ℕ)) → Begins k (read_of self.old ∷ reverse ps)
-            → StandsFor cutter.old (kept_of self.old) k (reverse ps) → K.holds sink.old start (before ++ cut_by k ps)
+            → CutterStandsFor cutter.old (kept_of self.old) k (reverse ps) → K.holds sink.old start (before ++ cut_by k ps)
             → IfErr result (λ f. PassFails k (read_of self.old) ps f
             (λ l. K.holds sink.new start (before ++ l)) (λ l. K.fails sink.new start (before ++ l))) }
         ensures well { OnOk result (WentWell (K.counts sink.old) (K.counts sink.new)) }

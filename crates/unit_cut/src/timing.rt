@@ -1,8 +1,8 @@
 //! Whether the running unit goes.
 
 ghost use Rattle.std.specs.Prelude.{◌≡◌, ℕ, ℤ, Option, Some, None, OnOk, IfErr};
-ghost use Rattle.pes_time.specs.Stamps.{stamp_of, is_split};
-ghost use Rattle.unit_stream.specs.Faults.{start_fault};
+ghost use Rattle.pes_time.specs.Stamps.{stamp_of};
+ghost use Rattle.unit_stream.specs.Faults.{payload_fault};
 
 use crate::distance::Distance;
 use pes_time::Time33;
@@ -51,17 +51,19 @@ impl Timing {
     ///
     /// `HeaderSplit`, then `TimeJump`. Then nothing has changed.
     pub fn begin(&mut self, payload: &[u8]) -> Result<(), UnitFault>
-        ensures ok { (k : Cut) (high before : Option ℤ) → BeginsWith k high (stamp_of payload.now) → TimingFor self.old k high before
-            → OnOk result (TimingFor self.new k (raised high (stamp_of payload.now)) (timed high (stamp_of payload.now) before)) }
+        ensures ok { (k : Cut) (high before : Option ℤ) → BeginsWith k high (stamp_of payload.now)
+            → TimingFor self.old k high before
+            → OnOk result (TimingFor self.new k (raised high (stamp_of payload.now))
+            (timed high (stamp_of payload.now) before)) }
         ensures sound { (k : Cut) (high before : Option ℤ) → TimingFor self.old k high before →
-            OnOk result (start_fault high (is_split payload.now) (stamp_of payload.now) ≡ None) }
+            OnOk result (payload_fault high payload.now ≡ None) }
         ensures err { (k : Cut) (high before : Option ℤ) → TimingFor self.old k high before →
-            IfErr result (λ f. start_fault high (is_split payload.now) (stamp_of payload.now) ≡ Some f) }
+            IfErr result (λ f. payload_fault high payload.now ≡ Some f) }
         ensures unchanged { IfErr result (λ _. self.new ≡ self.old) }
     {
         match self.clock.begin(payload) {
             Ok(Some(begun)) => {
-                self.pass(begun.pts, begun.way);
+                self.advance(begun.pts, begun.way);
                 Ok(())
             }
             Ok(None) => Ok(()),
@@ -71,8 +73,8 @@ impl Timing {
 
     /// The distance before a stamp; the first stamp starts it.
     fn distance_at(&self, pts: Time33) -> Distance
-        ensures { (k : Cut) (high : Option ℤ) → BeginsWith k high (Some pts) → k.from ≡ self.now.from → DistanceFor self.now.distance k.begin high
-            → IsDistance result.ticks k.begin (high_or high pts) }
+        ensures { (k : Cut) (high : Option ℤ) → BeginsWith k high (Some pts) → k.from ≡ self.now.from
+            → DistanceFor self.now.distance k.begin high → IsDistance result.ticks k.begin (high_or high pts) }
     {
         match self.distance {
             Some(distance) => distance,
@@ -80,20 +82,21 @@ impl Timing {
         }
     }
 
-    /// Passes a unit with this PTS, whose time lies so far past the greatest before it, or before that one.
-    fn pass(&mut self, pts: Time33, way: i64)
+    /// Goes on to a unit with this PTS, whose time lies so far past the greatest before it, or before that one.
+    fn advance(&mut self, pts: Time33, way: i64)
         requires low { negsuc 899999 ≤ℤ way }
         requires top { way ≤ℤ pos 900000 }
         ensures from { self.new.from ≡ self.old.from }
         ensures length { self.new.length ≡ self.old.length }
         ensures clock { self.new.clock ≡ self.old.clock }
-        ensures distance { (k : Cut) (high : Option ℤ) → BeginsWith k high (Some pts) → k.from ≡ self.old.from → DistanceFor self.old.distance k.begin high
-            → way ≡ way_from high pts → DistanceFor self.new.distance k.begin (raise high (place high pts)) }
-        ensures going { (k : Cut) (high : Option ℤ) → BeginsWith k high (Some pts) → k.from ≡ self.old.from → k.length ≡ self.old.length
-            → DistanceFor self.old.distance k.begin high → way ≡ way_from high pts → self.new.is_going ≡ goes_by k (Some (place high pts)) }
+        ensures distance { (k : Cut) (high : Option ℤ) → BeginsWith k high (Some pts) → k.from ≡ self.old.from
+            → DistanceFor self.old.distance k.begin high → way ≡ way_from high pts → DistanceFor self.new.distance k.begin (raise high (place high pts)) }
+        ensures going { (k : Cut) (high : Option ℤ) → BeginsWith k high (Some pts) → k.from ≡ self.old.from
+            → k.length ≡ self.old.length → DistanceFor self.old.distance k.begin high → way ≡ way_from high pts
+            → self.new.is_going ≡ goes_by k (Some (place high pts)) }
     {
         let mut distance = self.distance_at(pts);
-        self.is_going = distance.pass(way, self.length);
+        self.is_going = distance.advance(way, self.length);
         self.distance = Some(distance);
     }
 }

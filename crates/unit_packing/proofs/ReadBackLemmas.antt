@@ -9,12 +9,12 @@ use Rattle.ts_packet.proofs.RunLemmas.{onto, nearest_is_last, reverse-cons, gapl
 use Rattle.unit_stream.specs.Times.{unit_time}
 use Rattle.unit_stream.specs.Units.{TimedUnit, units, units_back, payloads}
 use Rattle.unit_stream.specs.UnitPackets.{GoOn, IsPacked}
-use Rattle.unit_stream.specs.Carrying.{Carries}
+use Rattle.unit_stream.specs.Carrying.{CarriesUnits}
 use Rattle.unit_stream.proofs.UnitLemmas.{units_in_order}
 use Rattle.unit_stream.proofs.PackedLemmas.{Numbered, AllOriginal, put_gapless, put_originals, carries_one}
 use Rattle.unit_packing.specs.Laws.{PackedReadBack}
 
-pub carry_one : (pid n : ℕ) (bs : List ℕ) (qs : List (List ℕ)) → IsPacked pid bs n qs → Carries qs (bs ∷ [])
+pub carry_one : (pid n : ℕ) (bs : List ℕ) (qs : List (List ℕ)) → IsPacked pid bs n qs → CarriesUnits qs (bs ∷ [])
 carry_one pid n bs qs p = (qs, [], sym (append-nil qs), carries_one qs bs p.starts p.joined, refl)
 
 onto-append : (past ps qs : List (List ℕ)) → onto past (ps ++ qs) ≡ onto (onto past ps) qs

@@ -6,7 +6,7 @@ use Rattle.ts_packet.specs.Duplicates.{nearest, IsNext}
 use Rattle.ts_packet.specs.Runs.{IsGaplessAfter}
 use Rattle.unit_stream.specs.Units.{units, payloads}
 use Rattle.unit_stream.specs.UnitPackets.{IsPacked}
-use Rattle.unit_stream.specs.Carrying.{Carries}
+use Rattle.unit_stream.specs.Carrying.{CarriesUnits}
 use Rattle.pes_time.specs.Stamps.{is_split, restamped}
 use Rattle.unit_packing.specs.Packing.{room, unit_packets}
 
@@ -16,7 +16,7 @@ UnitsArePacked = (pid n : ℕ) (access : Bool) (bs : List ℕ) → pid < 8192 �
 
 -- whatever packets are packed so carry that one unit
 abbrev pub PackedCarry : Type 0
-PackedCarry = (pid n : ℕ) (bs : List ℕ) (qs : List (List ℕ)) → IsPacked pid bs n qs → Carries qs (bs ∷ [])
+PackedCarry = (pid n : ℕ) (bs : List ℕ) (qs : List (List ℕ)) → IsPacked pid bs n qs → CarriesUnits qs (bs ∷ [])
 
 -- whole packets of 188 bytes, none scrambled and none with a clock reference
 pub record IsPlain (p : List ℕ) : Type 0 where

@@ -29,12 +29,13 @@ pub fn put_unit<S: PacketSink>(
 ) -> Result<(), PutFault>
     requires { 0 < length bytes.now }
     ensures leads { S.leads sink.old sink.new }
-    ensures ok { (start : Option (List ℕ)) (ps : List (List ℕ)) (steps : List Step) → S.holds sink.old start ps → Counts counter.old steps →
-        OnOk result (S.holds sink.new start (ps ++ unit_packets pid random_access (next_number steps) bytes.now)) }
+    ensures ok { (start : Option (List ℕ)) (ps : List (List ℕ)) (steps : List Step) → S.holds sink.old start ps
+        → Counts counter.old steps → OnOk result (S.holds sink.new start (ps ++ unit_packets pid random_access (next_number steps) bytes.now)) }
     ensures counted { (steps : List Step) → Counts counter.old steps →
         OnOk result (Counts counter.new (put_in (unit_packets pid random_access (next_number steps) bytes.now) steps)) }
-    ensures err { (start : Option (List ℕ)) (ps : List (List ℕ)) (steps : List Step) → S.holds sink.old start ps → Counts counter.old steps →
-        IfErr result (λ f. PutFails counter.new steps (unit_packets pid random_access (next_number steps) bytes.now) (λ put p. S.fails sink.new start (ps ++ put) p f)) }
+    ensures err { (start : Option (List ℕ)) (ps : List (List ℕ)) (steps : List Step) → S.holds sink.old start ps
+        → Counts counter.old steps → IfErr result (λ f. PutFails counter.new steps (unit_packets pid random_access (next_number steps) bytes.now)
+        (λ put p. S.fails sink.new start (ps ++ put) p f)) }
     ensures well { OnOk result (WentWell (S.counts sink.old) (S.counts sink.new)) }
     ensures blamed { IfErr result (λ f. Blamed f (S.counts sink.old) (S.counts sink.new) (S.is_full sink.new)) }
 {
@@ -68,12 +69,16 @@ pub fn put_moved<S: PacketSink>(
     requires some { 0 < length bytes.now }
     requires head { head_of bytes.now ≡ Ok head.now }
     ensures leads { S.leads sink.old sink.new }
-    ensures ok { (start : Option (List ℕ)) (ps : List (List ℕ)) (steps : List Step) → S.holds sink.old start ps → Counts counter.old steps →
-        OnOk result (S.holds sink.new start (ps ++ unit_packets pid random_access (next_number steps) (restamped bytes.now delta))) }
+    ensures ok { (start : Option (List ℕ)) (ps : List (List ℕ)) (steps : List Step) → S.holds sink.old start ps
+        → Counts counter.old steps → OnOk result (S.holds sink.new start
+        (ps ++ unit_packets pid random_access (next_number steps) (restamped bytes.now delta))) }
     ensures counted { (steps : List Step) → Counts counter.old steps →
-        OnOk result (Counts counter.new (put_in (unit_packets pid random_access (next_number steps) (restamped bytes.now delta)) steps)) }
-    ensures err { (start : Option (List ℕ)) (ps : List (List ℕ)) (steps : List Step) → S.holds sink.old start ps → Counts counter.old steps →
-        IfErr result (λ f. PutFails counter.new steps (unit_packets pid random_access (next_number steps) (restamped bytes.now delta)) (λ put p. S.fails sink.new start (ps ++ put) p f)) }
+        OnOk result (Counts counter.new
+        (put_in (unit_packets pid random_access (next_number steps) (restamped bytes.now delta)) steps)) }
+    ensures err { (start : Option (List ℕ)) (ps : List (List ℕ)) (steps : List Step) → S.holds sink.old start ps
+        → Counts counter.old steps → IfErr result (λ f. PutFails counter.new steps
+        (unit_packets pid random_access (next_number steps) (restamped bytes.now delta))
+        (λ put p. S.fails sink.new start (ps ++ put) p f)) }
     ensures well { OnOk result (WentWell (S.counts sink.old) (S.counts sink.new)) }
     ensures blamed { IfErr result (λ f. Blamed f (S.counts sink.old) (S.counts sink.new) (S.is_full sink.new)) }
 {
@@ -97,12 +102,13 @@ fn put_rest<S: PacketSink>(
     sink: &mut S,
 ) -> Result<(), PutFault>
     ensures leads { S.leads sink.old sink.new }
-    ensures ok { (start : Option (List ℕ)) (ps : List (List ℕ)) (steps : List Step) → S.holds sink.old start ps → Counts counter.old steps →
-        OnOk result (S.holds sink.new start (ps ++ rest_packets pid (next_number steps) bytes.now)) }
+    ensures ok { (start : Option (List ℕ)) (ps : List (List ℕ)) (steps : List Step) → S.holds sink.old start ps
+        → Counts counter.old steps → OnOk result (S.holds sink.new start (ps ++ rest_packets pid (next_number steps) bytes.now)) }
     ensures counted { (steps : List Step) → Counts counter.old steps →
         OnOk result (Counts counter.new (put_in (rest_packets pid (next_number steps) bytes.now) steps)) }
-    ensures err { (start : Option (List ℕ)) (ps : List (List ℕ)) (steps : List Step) → S.holds sink.old start ps → Counts counter.old steps →
-        IfErr result (λ f. PutFails counter.new steps (rest_packets pid (next_number steps) bytes.now) (λ put p. S.fails sink.new start (ps ++ put) p f)) }
+    ensures err { (start : Option (List ℕ)) (ps : List (List ℕ)) (steps : List Step) → S.holds sink.old start ps
+        → Counts counter.old steps → IfErr result (λ f. PutFails counter.new steps (rest_packets pid (next_number steps) bytes.now)
+        (λ put p. S.fails sink.new start (ps ++ put) p f)) }
     ensures well { OnOk result (WentWell (S.counts sink.old) (S.counts sink.new)) }
     ensures blamed { IfErr result (λ f. Blamed f (S.counts sink.old) (S.counts sink.new) (S.is_full sink.new)) }
 {
@@ -129,9 +135,11 @@ fn put_packet<S: PacketSink>(
     sink: &mut S,
 ) -> Result<(), PutFault>
     ensures leads { S.leads sink.old sink.new }
-    ensures ok { (start : Option (List ℕ)) (ps : List (List ℕ)) → S.holds sink.old start ps → OnOk result (S.holds sink.new start (ps ++ packet.now ∷ [])) }
+    ensures ok { (start : Option (List ℕ)) (ps : List (List ℕ)) → S.holds sink.old start ps
+        → OnOk result (S.holds sink.new start (ps ++ packet.now ∷ [])) }
     ensures counted { OnOk result (counter.new ≡ counted) }
-    ensures err { (start : Option (List ℕ)) (ps : List (List ℕ)) → S.holds sink.old start ps → IfErr result (λ f. S.fails sink.new start ps packet.now f) }
+    ensures err { (start : Option (List ℕ)) (ps : List (List ℕ)) → S.holds sink.old start ps
+        → IfErr result (λ f. S.fails sink.new start ps packet.now f) }
     ensures same { IfErr result (λ _. counter.new ≡ counter.old) }
     ensures well { OnOk result (WentWell (S.counts sink.old) (S.counts sink.new)) }
     ensures blamed { IfErr result (λ f. Blamed f (S.counts sink.old) (S.counts sink.new) (S.is_full sink.new)) }

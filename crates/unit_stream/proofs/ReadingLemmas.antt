@@ -4,7 +4,7 @@ use Rattle.ts_packet.specs.Fields.{in_error, on, payload_on, payload, bytes, or_
 use Rattle.ts_packet.specs.Duplicates.{original, repeats, last_of}
 use Rattle.ts_packet.specs.declared.follower.Last.{Last}
 use Rattle.ts_packet.specs.declared.follower.Mark.{Mark}
-use Rattle.ts_packet.specs.Following.{CarriesAs, Marks, kept_after}
+use Rattle.ts_packet.specs.Following.{CarriesSame, Marks, kept_after}
 use Rattle.ts_packet.proofs.Cases.{by_test}
 use Rattle.unit_stream.specs.Pieces.{FollowsUnits}
 use Rattle.unit_stream.specs.declared.reader.UnitFollower.{UnitFollower}
@@ -34,17 +34,17 @@ pub passes : (r : UnitFollower) (pid : ℕ) (p kept : List ℕ) (past : List (Li
 passes r pid p kept past y h = record { same = h.same; follows = record { same = h.follows.same; last = simp y h.follows.last }; begun = simp y h.begun }
 
 -- what is kept may become another packet that carries the same
-became : (m : Option Mark) (last : Option Last) (p q : List ℕ) → CarriesAs q p → Marks m p last → Marks m q last
+became : (m : Option Mark) (last : Option Last) (p q : List ℕ) → CarriesSame q p → Marks m p last → Marks m q last
 became None None p q same h = h
 became None (Some l) p q same h = h
 became (Some m) None p q same h = h
 became (Some m) (Some l) p q same h = (h.0, h.1, λ r. same r ∙ h.2 r)
 
-became_by : (b : Bool) (m : Option Mark) (last : Option Last) (p q kept : List ℕ) → CarriesAs q p → Marks m (if b then p else kept) last → Marks m (if b then q else kept) last
+became_by : (b : Bool) (m : Option Mark) (last : Option Last) (p q kept : List ℕ) → CarriesSame q p → Marks m (if b then p else kept) last → Marks m (if b then q else kept) last
 became_by true m last p q kept same h = became m last p q same h
 became_by false m last p q kept same h = h
 
-pub kept_became : (r : UnitFollower) (pid : ℕ) (p q kept : List ℕ) (past : List (List ℕ)) → CarriesAs q p → FollowsUnits r (kept_after pid p p kept) pid past → FollowsUnits r (kept_after pid p q kept) pid past
+pub kept_became : (r : UnitFollower) (pid : ℕ) (p q kept : List ℕ) (past : List (List ℕ)) → CarriesSame q p → FollowsUnits r (kept_after pid p p kept) pid past → FollowsUnits r (kept_after pid p q kept) pid past
 kept_became r pid p q kept past same h = record { same = h.same; follows = record { same = h.follows.same; last = became_by (payload_on pid p) r.follower.last (last_of pid past) p q kept same h.follows.last }; begun = h.begun }
 
 pub is_repeat : (pid : ℕ) (p : List ℕ) (past : List (List ℕ)) → payload_on pid p ≡ true → original pid p past ≡ false → repeats pid p past ≡ true

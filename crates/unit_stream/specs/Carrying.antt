@@ -18,6 +18,6 @@ IsUnit [] u = ⊥
 IsUnit (p ∷ qs) u = (unit_start p ≡ true) × ((rest : List ℕ) × (u ≡ bytes p ++ rest) × Joins (Some p) qs rest)
 
 -- the packets fall into rows, one for each unit, in order
-abbrev pub Carries : List (List ℕ) → List (List ℕ) → Type 0
-Carries ps [] = ps ≡ []
-Carries ps (u ∷ us) = (row : List (List ℕ)) × (left : List (List ℕ)) × (ps ≡ row ++ left) × IsUnit row u × Carries left us
+abbrev pub CarriesUnits : List (List ℕ) → List (List ℕ) → Type 0
+CarriesUnits ps [] = ps ≡ []
+CarriesUnits ps (u ∷ us) = (row : List (List ℕ)) × (left : List (List ℕ)) × (ps ≡ row ++ left) × IsUnit row u × CarriesUnits left us

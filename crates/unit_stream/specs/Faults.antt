@@ -2,6 +2,7 @@
 use Rattle.std.specs.Prelude.{ℕ, ℤ, pos, negsuc, ◌-ℤ◌, ◌∷◌, List, [], Bool, false, ◌&&◌, ◌||◌, if◌then◌else◌, Option, None, Some}
 use lib.Signed.{lt_z}
 use Rattle.pes_time.specs.Line.{place}
+use Rattle.pes_time.specs.Stamps.{stamp_of, is_split}
 use Rattle.ts_packet.specs.Fields.{payload_on, scrambled}
 use Rattle.unit_stream.specs.Times.{begins_one, high, stamp, splits}
 use Rattle.unit_stream.specs.declared.fault.UnitFault.{UnitFault}
@@ -25,6 +26,10 @@ jumps (Some h) (Some t) = is_far (place (Some h) t -ℤ h)
 -- what is wrong with the beginning of a unit: its stamps are split, or its time jumps
 abbrev pub start_fault : Option ℤ → Bool → Option ℕ → Option UnitFault
 start_fault high split stamp = if split then Some HeaderSplit else (if jumps high stamp then Some TimeJump else None)
+
+-- the same of a unit whose first packet has this payload
+abbrev pub payload_fault : Option ℤ → List ℕ → Option UnitFault
+payload_fault high payload = start_fault high (is_split payload) (stamp_of payload)
 
 -- what is wrong with a packet, by the packets before it
 abbrev pub unit_fault : List ℕ → List ℕ → List (List ℕ) → Option UnitFault

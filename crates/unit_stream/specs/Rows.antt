@@ -2,7 +2,7 @@
 use Rattle.std.specs.Prelude.{◌≡◌, ℕ, ◌++◌, List, [], ◌∷◌, Bool, false, filter}
 use Rattle.ts_packet.specs.Fields.{payload_on, random_access}
 use Rattle.unit_stream.specs.Carrying.{IsUnit}
-use Rattle.unit_stream.specs.Units.{TimedUnit, Row, units, rows, lead}
+use Rattle.unit_stream.specs.Units.{TimedUnit, Row, units, rows, lead_in}
 
 -- the random_access_indicator of the first of some packets
 abbrev pub is_random_access : List (List ℕ) → Bool
@@ -30,4 +30,4 @@ row_packets (r ∷ rs) = r.packets ++ row_packets rs
 -- THE LAW OF ROWS: on any run the payload packets of a PID are those before its first unit start and then its rows, and each row joins to its unit
 abbrev pub RowsJoin : Type 0
 RowsJoin = (switched : List ℕ) (pid : ℕ) (ps : List (List ℕ)) →
-    (filter (payload_on pid) ps ≡ lead pid ps ++ row_packets (rows switched pid ps)) × AreRowsOf (rows switched pid ps) (units switched pid ps)
+    (filter (payload_on pid) ps ≡ lead_in pid ps ++ row_packets (rows switched pid ps)) × AreRowsOf (rows switched pid ps) (units switched pid ps)

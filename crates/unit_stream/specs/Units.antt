@@ -1,5 +1,5 @@
 -- The units of a run (ISO/IEC 13818-1, 2.4.3.6), as filters and maps over the packets with their pasts. The run begins after the head.
-use Rattle.std.specs.Prelude.{◌≡◌, ℕ, ℤ, ◌++◌, ◌∷◌, List, [], Bool, if◌then◌else◌, Option, filter, map, reverse, drop}
+use Rattle.std.specs.Prelude.{◌≡◌, ℕ, ℤ, ◌++◌, ◌∷◌, List, [], Bool, if◌then◌else◌, Option, filter, map, reverse}
 use Rattle.ts_packet.specs.Fields.{payload_on, unit_start, bytes, random_access}
 use Rattle.ts_packet.specs.Duplicates.{original}
 use Rattle.ts_packet.specs.Runs.{Seen, seen_after}
@@ -33,20 +33,6 @@ units switched pid ps = units_of switched pid (filter (is_original pid) (seen_af
 -- the bytes of units
 abbrev pub payloads : List TimedUnit → List (List ℕ)
 payloads us = map (λ (u : TimedUnit). u.payload) us
-
--- ---- runs with a head: its packets pass as they are and belong to no unit, whichever PIDs turn out to be switched at its end
-
--- the packets behind a head of so many
-abbrev pub behind : ℕ → List (List ℕ) → List (List ℕ)
-behind head ps = drop head ps
-
--- the units of a PID behind the head
-abbrev pub units_behind : ℕ → List ℕ → ℕ → List (List ℕ) → List TimedUnit
-units_behind head switched pid ps = units switched pid (behind head ps)
-
--- the greatest time of the units that begin behind the head
-abbrev pub high_behind : ℕ → List ℕ → List (List ℕ) → Option ℤ
-high_behind head switched ps = high switched (reverse (behind head ps))
 
 -- ---- the same, one packet at a time, newest first
 
@@ -95,8 +81,8 @@ rows_of switched pid (s ∷ ss) = if begins pid s.packet s.past
     else rows_of switched pid ss
 
 -- the payload packets of a PID: those before the first unit start, and the rows
-abbrev pub lead : ℕ → List (List ℕ) → List (List ℕ)
-lead pid ps = rest_of_row pid (filter (has_payload pid) (seen_after [] ps))
+abbrev pub lead_in : ℕ → List (List ℕ) → List (List ℕ)
+lead_in pid ps = rest_of_row pid (filter (has_payload pid) (seen_after [] ps))
 
 abbrev pub rows : List ℕ → ℕ → List (List ℕ) → List Row
 rows switched pid ps = rows_of switched pid (filter (has_payload pid) (seen_after [] ps))

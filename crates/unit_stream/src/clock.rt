@@ -1,8 +1,8 @@
 //! The greatest time of the units that have begun, on the ring of 33-bit stamps.
 
 ghost use Rattle.std.specs.Prelude.{◌≡◌, ℤ, pos, negsuc, ◌≤ℤ◌, Option, Some, None, true, false, IfOk, OnOk, IfErr};
-ghost use Rattle.pes_time.specs.Stamps.{stamp_of, is_split};
-ghost use Rattle.unit_stream.specs.Faults.{start_fault, jumps, is_far};
+ghost use Rattle.pes_time.specs.Stamps.{stamp_of};
+ghost use Rattle.unit_stream.specs.Faults.{payload_fault, jumps, is_far};
 ghost use Rattle.unit_stream.specs.Times.{raised};
 
 use crate::fault::UnitFault;
@@ -55,29 +55,33 @@ impl Clock {
     /// `HeaderSplit`, then `TimeJump` where the time lies more than 900,000 ticks from the greatest one, before or after it. Then the clock
     /// is as it was.
     pub fn begin(&mut self, payload: &[u8]) -> Result<Option<Begun>, UnitFault>
-        ensures ok { (high : Option ℤ) → ClockAt self.old high → OnOk result (ClockAt self.new (raised high (stamp_of payload.now))) }
-        ensures sound { (high : Option ℤ) → ClockAt self.old high → OnOk result (start_fault high (is_split payload.now) (stamp_of payload.now) ≡ None) }
-        ensures tells { (high : Option ℤ) → ClockAt self.old high → IfOk result (λ begun. Tells begun high (stamp_of payload.now)) }
+        ensures ok { (high : Option ℤ) → ClockAt self.old high
+            → OnOk result (ClockAt self.new (raised high (stamp_of payload.now))) }
+        ensures sound { (high : Option ℤ) → ClockAt self.old high → OnOk result (payload_fault high payload.now ≡ None) }
+        ensures tells { (high : Option ℤ) → ClockAt self.old high
+            → IfOk result (λ begun. Tells begun high (stamp_of payload.now)) }
         ensures near { IfOk result IsNear }
-        ensures err { (high : Option ℤ) → ClockAt self.old high → IfErr result (λ f. start_fault high (is_split payload.now) (stamp_of payload.now) ≡ Some f) }
+        ensures err { (high : Option ℤ) → ClockAt self.old high
+            → IfErr result (λ f. payload_fault high payload.now ≡ Some f) }
         ensures unchanged { IfErr result (λ _. self.new ≡ self.old) }
     {
         match PesHead::read(payload) {
             Err(_) => Err(UnitFault::HeaderSplit),
             Ok(head) => match head.pts() {
                 None => Ok(None),
-                Some(pts) => self.pass(pts),
+                Some(pts) => self.advance(pts),
             },
         }
     }
 
-    /// Passes the time of a unit.
-    fn pass(&mut self, pts: Time33) -> Result<Option<Begun>, UnitFault>
+    /// Goes on to the time of a unit.
+    fn advance(&mut self, pts: Time33) -> Result<Option<Begun>, UnitFault>
         ensures ok { (high : Option ℤ) → ClockAt self.old high → OnOk result (ClockAt self.new (raised high (Some pts))) }
         ensures sound { (high : Option ℤ) → ClockAt self.old high → OnOk result (jumps high (Some pts) ≡ false) }
         ensures tells { (high : Option ℤ) → ClockAt self.old high → IfOk result (λ begun. Tells begun high (Some pts)) }
         ensures near { IfOk result IsNear }
-        ensures err { (high : Option ℤ) → ClockAt self.old high → IfErr result (λ f. (f ≡ UnitFault.TimeJump) × (jumps high (Some pts) ≡ true)) }
+        ensures err { (high : Option ℤ) → ClockAt self.old high
+            → IfErr result (λ f. (f ≡ UnitFault.TimeJump) × (jumps high (Some pts) ≡ true)) }
         ensures unchanged { IfErr result (λ _. self.new ≡ self.old) }
     {
         let way = match self.high {

@@ -1,6 +1,6 @@
 use Rattle.std.proofs.Common.{◌≡◌, length, option_map}
 use Rattle.conformance.specs.Sections.{packets_in, words_of, words_behind}
-use Rattle.conformance.proofs.WordLemmas.{behind}
+use Rattle.hex_digits.proofs.DigitLemmas.{behind}
 use Rattle.conformance.proofs.sections.packets_of.Given as goal
 
 abbrev pub invariant-loop-rest : goal.invariant-loop-rest

@@ -1,10 +1,11 @@
 use Rattle.std.proofs.Common.{[], ◌∷◌, ◌++◌, sym, subst, reverse}
 use Rattle.std.proofs.lemmas.List.{append-nil}
 use Rattle.ts_packet.proofs.CountLemmas.{well-refl, well-trans}
-use Rattle.unit_cut.specs.Standing.{StandsFor, read_of}
-use Rattle.unit_cut.proofs.RunLemmas.{given_none, given_more, passed_none, passed_more, ends, the_cut, is_the_cut, cut_of_fewer}
+use Rattle.unit_cut.specs.Standing.{CutterStandsFor, read_of}
+use Rattle.unit_cut.proofs.RunLemmas.{passed_none, passed_more, ends, the_cut, is_the_cut, cut_of_fewer}
 use Rattle.unit_cut.proofs.StopLemmas.{read_stops, pass_stops}
-use Rattle.unit_cut.proofs.BlameLemmas.{on-refl, on-more}
+use Rattle.ts_packet.proofs.RunBlameLemmas.{given_none, given_more, on-refl, on-more, on-told, on-end, read_blamed, read_turns}
+use Rattle.unit_cut.proofs.BlameLemmas.{pass_read, pass_wrote}
 use Rattle.unit_cut.proofs.run.cut.Goals as goal
 
 pub loop-slots-init : goal.loop-slots-init
@@ -32,7 +33,7 @@ loop-slots-preserved g c =
         ps ++ p ∷ [],
         given_more _ _ _ _ _ _ ps p n r (rw c.in-Ok-true.field-0-test at c.in-Ok-true.ensures.given),
         λ start before w. passed_more _ _ _ _ _ _ _ _ _ ps p (h start before w)
-            (λ k b s o. c.in_default.ensures.ok k start before ps b (subst (λ q. StandsFor c.loop-slots.cutter q k (reverse ps)) (sym c.read.ensures.kept) s) o),
+            (λ k b s o. c.in_default.ensures.ok k start before ps b (subst (λ q. CutterStandsFor c.loop-slots.cutter q k (reverse ps)) (sym c.read.ensures.kept) s) o),
       );
     }
 
@@ -50,7 +51,7 @@ returns-in-Err-pass-clause-err g c = λ start before w.
     let k = the_cut c.args.pid c.args.from c.args.length (ps ++ p ∷ []) in
     let (b, i) = cut_of_fewer k c.args.pid c.args.from c.args.length ps p (is_the_cut c.args.pid c.args.from c.args.length (ps ++ p ∷ [])) in
     let at = (h start before w).passed k i in
-    let stands = subst (λ q. StandsFor c.loop-slots.cutter q k (reverse ps)) (sym c.read.ensures.kept) at.0 in
+    let stands = subst (λ q. CutterStandsFor c.loop-slots.cutter q k (reverse ps)) (sym c.read.ensures.kept) at.0 in
     let fails = c.in-Err-pass.ensures.err k start before ps b stands at.1 in
     pass_stops _ _ _ _ _ _ _ _ _ _ _ ps p n.read (h start before w) r c.in-Err-pass.fault fails
 

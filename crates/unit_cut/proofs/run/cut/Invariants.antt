@@ -1,7 +1,8 @@
 use Rattle.std.proofs.Common.{◌≡◌, ◌-◌, ◌^◌, ◌++◌, List, ℕ, Option, false}
 use Rattle.ts_packet.specs.Transfers.{WentWell}
 use Rattle.unit_cut.specs.Standing.{kept_of}
-use Rattle.unit_cut.specs.Runs.{HasGiven, HasPassed, ReadOn}
+use Rattle.ts_packet.specs.Sources.{HasGiven, ReadOn}
+use Rattle.unit_cut.specs.Runs.{HasPassed}
 use Rattle.unit_cut.proofs.run.cut.Given as goal
 
 abbrev pub invariant-loop-slots : goal.invariant-loop-slots

@@ -2,7 +2,7 @@ use Rattle.std.proofs.Common.{◌≡◌, None, Some}
 use Rattle.ts_packet.specs.Packets.{packet_fault}
 use Rattle.ts_packet.specs.declared.packet.PacketFault.TheVariants.{SyncLost, BadAdaptation}
 use Rattle.ts_packet.specs.declared.reader.ReadFault.TheVariants as read_faults
-use Rattle.ts_packet.proofs.ReadingLemmas.{refused, refuses, given, filled}
+use Rattle.ts_packet.proofs.SourceLemmas.{refused, refuses, given, filled}
 use Rattle.ts_packet.proofs.reader.PacketReader.read_into.Goals as goal
 
 pub returns-in-None-clause-exact : goal.returns-in-None-clause-exact

@@ -5,7 +5,7 @@ use Rattle.std.specs.Io.KnownBytes.{Consumes, IsAtEnd}
 use Rattle.ts_packet.specs.declared.packet.PacketFault.TheVariants as packet_faults
 use Rattle.ts_packet.specs.declared.reader.ReadFault.{ReadFault}
 use Rattle.ts_packet.specs.declared.reader.ReadFault.TheVariants.{Truncated, SyncLost, BadAdaptation, Io, Turns, Failed}
-use Rattle.ts_packet.specs.Reading.{Given, GivesInto, Refuses, answer_to, answer_over, ReadAnswers}
+use Rattle.ts_packet.specs.Sources.{Given, GivesInto, Refuses, answer_to, answer_over, ReadAnswers}
 use lib.Seq.{take_all, take-append-le}
 use Rattle.ts_packet.specs.declared.packet.PacketFault.{PacketFault}
 use Rattle.ts_packet.specs.Packets.{packet_fault}

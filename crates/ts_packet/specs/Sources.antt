@@ -1,5 +1,5 @@
 -- What one call of a packet reader answers, by the bytes that its source has left, and what many of them come to.
-use Rattle.std.specs.Prelude.{◌≡◌, ℕ, ◌-◌, ◌^◌, ◌<◌, ◌≤◌, Bool, true, false, ◌⊎◌, if◌then◌else◌, nat_eq, nat_lt, List, length, take, Option, None, Some, IfSome, Result, Ok, Err, All}
+use Rattle.std.specs.Prelude.{◌≡◌, ℕ, ◌+◌, ◌-◌, ◌^◌, ◌<◌, ◌≤◌, Bool, true, false, ◌⊎◌, if◌then◌else◌, nat_eq, nat_lt, List, length, take, Option, None, Some, IfSome, Result, Ok, Err, All}
 use Rattle.std.specs.Io.KnownBytes.{Consumes, IsAtEnd}
 use Rattle.ts_packet.specs.Packets.{bytes_of, packet_fault}
 use Rattle.ts_packet.specs.declared.tally.Tally.{Tally}
@@ -59,12 +59,6 @@ ReadBlamed Io given old new = LastFailed old new
 ReadBlamed Turns given old new = TookTurns (2 ^ 20) old new ⊎ ((given ≡ 2 ^ 64 - 1) × (new ≡ old))
 ReadBlamed Failed given old new = new ≡ old
 
--- The reads for one packet took all their turns: from some state of the device on, up to which all went well, they gave fewer bytes
--- than a packet has. The functions are a device's bytes and counts.
-abbrev pub Stalls : {X : Type 0} → (X → Option (List ℕ)) → (X → Tally) → X → X → Type 0
-Stalls {X} remaining counts first now =
-    (at : X) × WentWell (counts first) (counts at) × TookTurns (2 ^ 20) (counts at) (counts now) × FallsShort 188 (remaining at) (remaining now)
-
 -- the same of any source: a fault of what was read says only that no call failed
 abbrev pub SourceBlamed : ReadFault → ℕ → Tally → Tally → Type 0
 SourceBlamed Truncated given old new = WentWell old new ⊎ LastMovedNone old new
@@ -102,3 +96,35 @@ pub record HasRead (start left : Option (List ℕ)) (ps : List (List ℕ)) : Typ
   pub bytes : Consumes start left (bytes_of ps)
   pub sizes : All (λ p. length p ≡ 188) ps
   pub sound : All (λ p. packet_fault p ≡ None) ps
+
+-- ---- whole runs over a source
+
+-- what the reads of packets came to up to now, by whether the device had told the end at the begin, and has now
+abbrev pub ReadOn : Bool → Bool → Tally → Tally → Type 0
+ReadOn false now old new = ReadSo now old new
+ReadOn true now old new = (now ≡ true) × (new ≡ old)
+
+-- what they came to from the begin of a run that a reader's fault ends; the run reads nothing of a source that has failed
+abbrev pub RunBlamed : ReadFault → Tally → Tally → Type 0
+RunBlamed Truncated old new = WentWell old new ⊎ LastMovedNone old new
+RunBlamed SyncLost old new = WentWell old new ⊎ LastMovedNone old new
+RunBlamed BadAdaptation old new = WentWell old new ⊎ LastMovedNone old new
+RunBlamed Io old new = LastFailed old new
+RunBlamed Turns old new = WentWell old new
+RunBlamed Failed old new = ⊥
+
+-- The reads for one packet took all their turns: from some state of the source on, up to which all went well, they gave fewer bytes than
+-- a packet takes. The functions are a source's.
+abbrev pub Stalled : {X : Type 0} → (X → X → Type 0) → (X → Tally) → (X → X → Type 0) → X → X → Type 0
+Stalled {X} leads counts falls_short first now =
+    (at : X) × leads first at × WentWell (counts first) (counts at) × TookTurns (2 ^ 20) (counts at) (counts now) × falls_short at now
+
+-- the source has given as many packets as it may
+abbrev pub Exhausted : {X : Type 0} → (X → Option (List ℕ)) → (X → ℕ) → X → Type 0
+Exhausted {X} left given first =
+    (rest : Option (List ℕ)) × (ps : List (List ℕ)) × HasRead (left first) rest ps × (given first + length ps ≡ 2 ^ 64 - 1)
+
+-- these packets were read, of a source that had given so many before
+pub record HasGiven (input left : Option (List ℕ)) (first given : ℕ) (ps : List (List ℕ)) : Type 0 where
+  pub read : HasRead input left ps
+  pub count : given ≡ first + length ps

@@ -1,7 +1,7 @@
 use Rattle.std.proofs.Common.{◌≡◌, ◌<◌, ◌^◌, negsuc, ◌-◌, ◌≤ℤ◌, ◌+ℤ◌, to_z, of_z, w64, rules, arith, ◌∙◌}
 use Rattle.std.proofs.lemmas.Int.{ints}
 use Rattle.unit_cut.proofs.DistanceLemmas.{within_is}
-use Rattle.unit_cut.proofs.distance.Distance.pass.Goals as goal
+use Rattle.unit_cut.proofs.distance.Distance.advance.Goals as goal
 
 pub returns-clause-inside : goal.returns-clause-inside
 returns-clause-inside c = λ begin high i.
