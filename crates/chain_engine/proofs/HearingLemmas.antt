@@ -36,7 +36,7 @@ told_more (Some known) (Some later) c xs ys h k =
 
 -- ---- the answers that replies come to
 
-answers_more : (lost : Bool) (rs rs' : List Reply) → (lost ≡ true → 0 < length rs') → answers_to lost (rs ++ rs') ≡ answers_to false rs ++ answers_to lost rs'
+pub answers_more : (lost : Bool) (rs rs' : List Reply) → (lost ≡ true → 0 < length rs') → answers_to lost (rs ++ rs') ≡ answers_to false rs ++ answers_to lost rs'
 answers_more lost [] rs' some = refl
 answers_more true (r ∷ []) [] some = absurd (omega (arith, some refl))
 answers_more false (r ∷ []) [] some = refl

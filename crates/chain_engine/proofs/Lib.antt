@@ -1,2 +1,4 @@
 pub mod HearingLemmas
 pub mod TalkLemmas
+pub mod StepsLemmas
+pub mod RunLemmas

@@ -2,3 +2,5 @@ pub mod Automation
 pub mod Judging
 pub mod Hearing
 pub mod Talks
+pub mod Chains
+pub mod Runs

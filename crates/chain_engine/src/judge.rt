@@ -1,5 +1,6 @@
 //! What judges messages.
 
+use injector::Injector;
 use scte104_codec::{BadMessage, Message, Reply};
 
 /// Judges messages, one after another, and answers each: an injector, or what stands before several.
@@ -14,4 +15,14 @@ pub trait Judge {
     /// Judges a message, and answers it.
     fn ask(&mut self, message: Result<Message<'_>, BadMessage>) -> Reply
         ensures { judges self.old (reading_of message.entry) result self.new };
+}
+
+impl Judge for Injector {
+    ghost use Rattle.chain_engine.specs.Judging.{InjectorJudges};
+
+    ghost judges = { λ old m reply new. InjectorJudges old m reply new };
+
+    fn ask(&mut self, message: Result<Message<'_>, BadMessage>) -> Reply {
+        Injector::ask(self, message)
+    }
 }

@@ -1,0 +1,322 @@
+-- A whole run with an automation, from its first packet to its end or its fault.
+use Rattle.std.specs.Prelude.{All, option_map}
+use Rattle.std.specs.Io.KnownBytes.{IsAtEnd}
+use Rattle.std.proofs.Common.{◌≡◌, ℕ, suc, ◌+◌, ◌≤◌, ◌<◌, Bool, true, false, List, [], ◌∷◌, ◌++◌, length, reverse, take, drop, Option, None, Some, refl, sym, ap, subst, ◌∙◌, arith, append_assoc, length-append}
+use Rattle.std.specs.Option.{is_some}
+use Rattle.std.proofs.lemmas.List.{append-nil, reverse-append, length-reverse}
+use Rattle.std.proofs.lemmas.List.Elements.{All-nil}
+use Rattle.ts_packet.specs.Packets.{packets_of, packet_fault}
+use Rattle.ts_packet.specs.Reading.{Given, HasRead, Refuses}
+use Rattle.ts_packet.specs.Runs.{Seen, seen_after, onto}
+use Rattle.ts_packet.specs.FirstFault.{fault_of, named, or_then, sound_front, Cause, OfInput, OfDevice, OfNothing, read_cause, SaysBy}
+use Rattle.ts_packet.specs.declared.reader.ReadFault.{ReadFault}
+use Rattle.ts_packet.specs.declared.reader.ReadFault.TheVariants as read_faults
+use Rattle.ts_packet.specs.declared.sink.PutFault.{PutFault}
+use Rattle.ts_packet.proofs.FirstFaultLemmas.{sound_all, sound_more, fault_behind_sound}
+use Rattle.ts_packet.proofs.PacketsLemmas.{read_more, read_all, read_before, read_to_end, packets_of-append}
+use Rattle.psi_tables.specs.declared.config.Config.{Config}
+use Rattle.psi_tables.specs.declared.network.FeedFault.{FeedFault}
+use Rattle.psi_tables.specs.declared.network.FeedFault.TheVariants.{Network, Sink, Failed}
+use Rattle.program_follower.specs.Faults.{network_fault}
+use Rattle.program_follower.specs.FirstFault.{network_test}
+use Rattle.program_follower.proofs.RunLemmas.{ends_sound, reader_stops, packet_stops}
+use Rattle.scte104_codec.specs.declared.reply.Reply.{Reply}
+use Rattle.as_session.specs.Session.{state_of}
+use Rattle.injector.specs.declared.injector.Injector.{Injector}
+use Rattle.injector.specs.Steps.{Step, Packet, packets_in, purpose_of, cued, sent_at}
+use Rattle.injector.specs.Injecting.{InjectorStandsFor, JudgesBy, FeedFails, KeepsSink}
+use Rattle.chain_engine.specs.Automation.{Take, piece, ended, failed, Answer, Told}
+use Rattle.chain_engine.specs.Hearing.{answers_to, lost_by, Replied}
+use Rattle.chain_engine.specs.Judging.{JudgesAll, InjectorJudges}
+use Rattle.chain_engine.specs.Talks.{judged_before, HasTalked, TalkStandsFor, loses, CountsEnd}
+use Rattle.chain_engine.specs.Runs.{asked, steps_of, steps_before, replies_in, report_of, sent_by, as_run_fault, first_fault, before_fault, Exchanged, Serves, InjectsAll, Stopped, StopsAt}
+use Rattle.chain_engine.specs.Chains.{ChainStandsFor}
+use Rattle.chain_engine.specs.declared.hearing.SessionEnd.{SessionEnd}
+use Rattle.chain_engine.specs.declared.hearing.SessionEnd.TheVariants.{Ended, TakeFailed, BadSize, AnswerFailed}
+use Rattle.chain_engine.specs.declared.report.Report.{Report}
+use Rattle.chain_engine.specs.declared.talk.Talk.{Talk}
+use Rattle.chain_engine.specs.declared.chain.Chain.{Chain}
+use Rattle.chain_engine.specs.declared.chain.RunFault.{RunFault}
+use Rattle.chain_engine.specs.declared.chain.RunFault.TheVariants.{Read, Feed}
+use Rattle.chain_engine.proofs.HearingLemmas.{told_none, told_more, answers_more}
+use Rattle.chain_engine.proofs.TalkLemmas.{goes_closed, open_end}
+use Rattle.chain_engine.proofs.StepsLemmas.{steps_stay, none_asked, asked_cued, before_packets, asked_judged}
+
+-- ---- what is known between two packets, and behind the messages before a packet
+
+pub record HasRun {M : Type 0} (c : Config) (injector : Injector) (talk : Talk M) (is_out : List (List ℕ) → Type 0) (exchanged : Option SessionEnd → List Take → List Reply → Type 0)
+    (ps : List (List ℕ)) : Type 0 where
+  pub sound : All (λ (s : Seen). network_test as_run_fault (purpose_of c) s ≡ None) (seen_after [] ps)
+  pub ts : List Take
+  pub rs : List Reply
+  pub stands : InjectorStandsFor injector c (steps_of (length rs) ts (reverse ps))
+  pub talks : TalkStandsFor talk ts (length rs) (length ps)
+  pub exchanges : exchanged talk.end ts rs
+  pub replies : rs ≡ replies_in c (steps_of (length rs) ts (reverse ps))
+  pub out : is_out (sent_by c (steps_of (length rs) ts (reverse ps)))
+
+pub record HasHeard {M : Type 0} (c : Config) (injector : Injector) (talk : Talk M) (is_out : List (List ℕ) → Type 0) (exchanged : Option SessionEnd → List Take → List Reply → Type 0)
+    (ps : List (List ℕ)) : Type 0 where
+  pub sound : All (λ (s : Seen). network_test as_run_fault (purpose_of c) s ≡ None) (seen_after [] ps)
+  pub ts : List Take
+  pub rs : List Reply
+  pub stands : InjectorStandsFor injector c (steps_before (length rs) ts (reverse ps))
+  pub talks : TalkStandsFor talk ts (length rs) (suc (length ps))
+  pub exchanges : exchanged talk.end ts rs
+  pub replies : rs ≡ replies_in c (steps_before (length rs) ts (reverse ps))
+  pub out : is_out (sent_by c (steps_before (length rs) ts (reverse ps)))
+
+-- at most one take was made for each packet
+few_takes : (end : Option SessionEnd) (ts : List Take) (n k : ℕ) → HasTalked end ts n k → length ts ≤ k
+few_takes None ts n k t = omega (arith, t.0)
+few_takes (Some end) ts n k t = t.0
+
+both_said : (A B : Type 0) (cause : Cause) → SaysBy cause A → SaysBy cause B → SaysBy cause (A × B)
+both_said A B OfInput a b = (a, b)
+both_said A B OfDevice a b = tt
+both_said A B OfNothing a b = a
+
+-- ---- the begin
+
+not_empty : {X : Type 0} (xs : List X) (x : X) → [] ≡ xs ++ x ∷ [] → ⊥
+not_empty xs x e =
+    let long : 0 ≡ length (xs ++ x ∷ []) = ap length e in
+    let sum = length-append xs (x ∷ []) in
+    omega (arith, long, sum)
+
+begins_open : (end : Option SessionEnd) (n k : ℕ) → HasTalked end [] n k → end ≡ None
+begins_open None n k t = refl
+begins_open (Some Ended) n k (le, (ts, e, o, m)) = absurd (not_empty ts ended e)
+begins_open (Some TakeFailed) n k (le, (ts, e, o, m)) = absurd (not_empty ts failed e)
+begins_open (Some BadSize) n k (le, (ts, bs, e, o, m, f)) = absurd (not_empty ts (piece bs) e)
+begins_open (Some AnswerFailed) n k (le, (ts, bs, e, o, l, m)) = absurd (not_empty ts (piece bs) e)
+
+module _ {X : Type 0} (takes : X → Option (List Take)) (answers : X → Option (List Answer)) (failures : X → ℕ) (c : Config) where
+  none_exchanged : (x : X) (end : Option SessionEnd) → end ≡ None → Exchanged takes answers failures x x end [] []
+  none_exchanged x None e = record { took = told_none (takes x); answered = told_none (answers x); counted = refl }
+  none_exchanged x (Some end) e = absurd (cc)
+
+  pub begun : {M : Type 0} (chain : Chain M) (is_out : List (List ℕ) → Type 0) (x : X) → ChainStandsFor chain c → is_out [] → HasRun c chain.injector chain.talk is_out (Exchanged takes answers failures x x) []
+  begun chain is_out x h o = record {
+    sound = All-nil _;
+    ts = [];
+    rs = [];
+    stands = h.injector;
+    talks = h.talk;
+    exchanges = none_exchanged x chain.talk.end (begins_open chain.talk.end 0 0 h.talk.talked);
+    replies = refl;
+    out = o;
+  }
+
+  -- ---- the messages before a packet
+
+  exchanged_more : (x y z : X) (end end' : Option SessionEnd) (ts more : List Take) (rs rs' : List Reply) → end ≡ None → Exchanged takes answers failures x y end ts rs
+      → Told (takes y) (takes z) more → Told (answers y) (answers z) (answers_to (loses end end') rs') → (loses end end' ≡ true → 0 < length rs')
+      → CountsEnd end end' (failures y) (failures z) → Exchanged takes answers failures x z end' (ts ++ more) (rs ++ rs')
+  exchanged_more x y z (Some end) end' ts more rs rs' e h told given some counts = absurd (cc)
+  exchanged_more x y z None end' ts more rs rs' e h told given some counts = record {
+    took = told_more (takes x) (takes y) (takes z) ts more h.took told;
+    answered = subst (Told (answers x) (answers z)) (sym (answers_more (lost_by end') rs rs' some))
+        (told_more (answers x) (answers y) (answers z) (answers_to false rs) (answers_to (lost_by end') rs') h.answered given);
+    counted = subst (λ n. CountsEnd None end' n (failures z)) h.counted counts;
+  }
+
+  module _ (is_out : List (List ℕ) → Type 0) (ps : List (List ℕ)) (x : X) where
+    heard_closed : {M : Type 0} (y : X) (injector : Injector) (talk : Talk M) → is_some talk.end ≡ true → HasRun c injector talk is_out (Exchanged takes answers failures x y) ps
+        → HasHeard c injector talk is_out (Exchanged takes answers failures x y) ps
+    heard_closed y injector talk is h =
+        let goes = goes_closed talk.end (state_of talk.session) h.ts (length h.rs) (length ps) is h.talks.talked in
+        let back = length-reverse ps in
+        let le = few_takes talk.end h.ts (length h.rs) (length ps) h.talks.talked in
+        let same = none_asked (length h.rs) h.ts (reverse ps) (omega (arith, le, back)) in record {
+          sound = h.sound;
+          ts = h.ts;
+          rs = h.rs;
+          stands = subst (InjectorStandsFor injector c) (sym same) h.stands;
+          talks = record { talked = goes.talked; pending = h.talks.pending };
+          exchanges = h.exchanges;
+          replies = h.replies ∙ ap (replies_in c) (sym same);
+          out = subst (λ s. is_out (sent_by c s)) (sym same) h.out;
+        }
+
+    module _ {M : Type 0} (y z : X) (injector injector' : Injector) (talk talk' : Talk M) (h : HasRun c injector talk is_out (Exchanged takes answers failures x y) ps) where
+      abbrev Listens : Type 0
+      Listens = (ts : List Take) (n k : ℕ) → TalkStandsFor talk ts n k →
+          (more : List Take) × (rs : List Reply) × Told (takes y) (takes z) more × TalkStandsFor talk' (ts ++ more) (n + length rs) (suc k)
+          × Replied InjectorJudges injector injector' (judged_before (n + length rs) (ts ++ more) k) rs (loses talk.end talk'.end) (answers y) (answers z)
+
+      heard_open : talk.end ≡ None → Listens → CountsEnd talk.end talk'.end (failures y) (failures z) → HasHeard c injector' talk' is_out (Exchanged takes answers failures x z) ps
+      heard_open e listens counts =
+          let (more, rs, told, stands, replied) = listens h.ts (length h.rs) (length ps) h.talks in
+          let n = length h.rs in
+          let m = length rs in
+          let is_open = subst (λ (end : Option SessionEnd). HasTalked end h.ts n (length ps)) e h.talks.talked in
+          let sum : length (h.rs ++ rs) ≡ n + m = length-append h.rs rs in
+          let back : length (reverse ps) ≡ length ps = length-reverse ps in
+          let stay = steps_stay h.ts more n m is_open.2 (reverse ps) (omega (arith, back, is_open.0)) in
+          let ms = judged_before (n + m) (h.ts ++ more) (length (reverse ps)) in
+          let judged : JudgesAll InjectorJudges injector ms rs injector' = subst (λ k. JudgesAll InjectorJudges injector (judged_before (n + m) (h.ts ++ more) k) rs injector') (sym back) replied.judged in
+          let done = asked_judged c ms rs injector injector' (steps_of n h.ts (reverse ps)) judged h.stands in
+          let steps : steps_before (length (h.rs ++ rs)) (h.ts ++ more) (reverse ps) ≡ asked ms (steps_of n h.ts (reverse ps)) =
+          ap (λ q. steps_before q (h.ts ++ more) (reverse ps)) sum ∙ ap (asked ms) stay in
+          let same : cued c (steps_before (length (h.rs ++ rs)) (h.ts ++ more) (reverse ps)) ≡ cued c (steps_of n h.ts (reverse ps)) = ap (cued c) steps ∙ asked_cued c ms (steps_of n h.ts (reverse ps)) in record {
+            sound = h.sound;
+            ts = h.ts ++ more;
+            rs = h.rs ++ rs;
+            stands = subst (InjectorStandsFor injector' c) (sym steps) done.0;
+            talks = subst (λ q. TalkStandsFor talk' (h.ts ++ more) q (suc (length ps))) (sym sum) stands;
+            exchanges = exchanged_more x y z talk.end talk'.end h.ts more h.rs rs e h.exchanges told replied.told replied.some counts;
+            replies = ap (λ l. l ++ rs) h.replies ∙ sym done.1 ∙ ap (replies_in c) (sym steps);
+            out = subst (λ l. is_out (reverse l)) (sym same) h.out;
+          }
+
+      pub heard : Listens → (is_some talk.end ≡ true → (talk' ≡ talk) × (injector' ≡ injector) × (z ≡ y)) → CountsEnd talk.end talk'.end (failures y) (failures z)
+          → HasHeard c injector' talk' is_out (Exchanged takes answers failures x z) ps
+      heard listens closed counts = by (is_some talk.end) refl
+        where
+          by : (b : Bool) → is_some talk.end ≡ b → HasHeard c injector' talk' is_out (Exchanged takes answers failures x z) ps
+          by false e = heard_open (open_end talk.end e) listens counts
+          by true e =
+              let (t, i, a) = closed e in
+              subst (λ w. HasHeard c injector' talk' is_out (Exchanged takes answers failures x w) ps) (sym a)
+              (subst (λ w. HasHeard c injector' w is_out (Exchanged takes answers failures x y) ps) (sym t)
+              (subst (λ w. HasHeard c w talk is_out (Exchanged takes answers failures x y) ps) (sym i) (heard_closed y injector talk e h)))
+
+-- ---- a packet is passed on
+
+reverse_onto : (past ps : List (List ℕ)) → reverse (onto past ps) ≡ reverse past ++ ps
+reverse_onto past [] = sym (append-nil (reverse past))
+reverse_onto past (p ∷ ps) = reverse_onto (p ∷ past) ps ∙ ap (λ l. l ++ ps) (reverse-append (p ∷ []) past) ∙ append_assoc (reverse past) (p ∷ []) ps
+
+module _ (c : Config) (exchanged : Option SessionEnd → List Take → List Reply → Type 0) (ps : List (List ℕ)) where
+  pub passed : {M : Type 0} (injector injector' : Injector) (talk : Talk M) (is_out is_out' : List (List ℕ) → Type 0) (p : List ℕ) → HasHeard c injector talk is_out exchanged ps
+      → ((steps : List Step) → InjectorStandsFor injector c steps → is_out (sent_by c steps)
+      → (network_fault (purpose_of c) p (packets_in steps) ≡ None) × InjectorStandsFor injector' c (Packet p ∷ steps) × is_out' (sent_by c steps ++ sent_at c p steps))
+      → HasRun c injector' talk is_out' exchanged (ps ++ p ∷ [])
+  passed injector injector' talk is_out is_out' p h feeds =
+      let steps = steps_before (length h.rs) h.ts (reverse ps) in
+      let (none, stands, out) = feeds steps h.stands h.out in
+      let sound = subst (λ q. network_fault (purpose_of c) p q ≡ None) (before_packets (length h.rs) h.ts (reverse ps)) none in
+      let now : steps_of (length h.rs) h.ts (reverse (ps ++ p ∷ [])) ≡ Packet p ∷ steps = ap (steps_of (length h.rs) h.ts) (reverse-append ps (p ∷ [])) in
+      let long = length-append ps (p ∷ []) in record {
+        sound = sound_more (network_test as_run_fault (purpose_of c)) ps p h.sound (ap (option_map as_run_fault) sound);
+        ts = h.ts;
+        rs = h.rs;
+        stands = subst (InjectorStandsFor injector' c) (sym now) stands;
+        talks = subst (λ k. TalkStandsFor talk h.ts (length h.rs) k) (omega (arith, long)) h.talks;
+        exchanges = h.exchanges;
+        replies = h.replies ∙ ap (replies_in c) (sym now);
+        out = subst is_out' (sym (reverse_onto (cued c steps) (sent_at c p steps)) ∙ ap (sent_by c) (sym now)) out;
+      }
+
+  -- ---- the end
+
+  pub ends : {M : Type 0} (injector : Injector) (talk : Talk M) (is_out : List (List ℕ) → Type 0) (input left : Option (List ℕ)) (report : Report) → HasRead input left ps → IsAtEnd left
+      → HasRun c injector talk is_out exchanged ps → ((steps : List Step) → JudgesBy injector c steps → report ≡ report_of c steps) → InjectsAll c input is_out exchanged report
+  ends injector talk is_out None left report r at h counts = tt
+  ends injector talk is_out (Some bs) left report r at h counts =
+      let all : packets_of bs ≡ ps = (read_to_end (Some bs) left ps r at).0 in record {
+        sound = ends_sound Read (network_test as_run_fault (purpose_of c)) (Some bs) left ps r h.sound at;
+        ts = h.ts;
+        rs = h.rs;
+        serves = subst (λ q. Serves c exchanged h.ts h.rs (length q) (steps_of (length h.rs) h.ts (reverse q))) (sym all)
+            (record { ending = talk.end; talked = h.talks.talked; exchanges = h.exchanges; replies = h.replies });
+        written = subst (λ q. is_out (sent_by c (steps_of (length h.rs) h.ts (reverse q)))) (sym all) h.out;
+        counted = subst (λ q. report ≡ report_of c (steps_of (length h.rs) h.ts (reverse q))) (sym all) (counts (steps_of (length h.rs) h.ts (reverse ps)) h.stands.judges);
+      }
+
+  -- ---- the network stops the run
+
+  abbrev AreSound : Type 0
+  AreSound = All (λ (s : Seen). network_test as_run_fault (purpose_of c) s ≡ None) (seen_after [] ps)
+
+  before_at : (bs p : List ℕ) (qs : List (List ℕ)) (f : RunFault) → packets_of bs ≡ ps ++ p ∷ qs → All (λ q. packet_fault q ≡ None) ps → AreSound
+      → fault_of Read (network_test as_run_fault (purpose_of c)) (record { packet = p; past = reverse ps }) ≡ Some f → before_fault c bs ≡ ps
+  before_at bs p qs f e a b at =
+      ap (λ l. sound_front (fault_of Read (network_test as_run_fault (purpose_of c))) (seen_after [] l)) e ∙ (fault_behind_sound Read (network_test as_run_fault (purpose_of c)) ps p qs f a b at).1
+
+  module _ (bs rest : List ℕ) (r : HasRead (Some bs) (Some rest) ps) (sound : AreSound) where
+    refused : (f : RunFault) → 188 ≤ length rest → named Read (packet_fault (take 188 rest)) ≡ Some f → before_fault c bs ≡ ps
+    refused f long e =
+        before_at bs (take 188 rest) (packets_of (drop 188 rest)) f (read_before (Some bs) (Some rest) ps r long) r.sound sound
+        (ap (λ o. or_then o (network_test as_run_fault (purpose_of c) (record { packet = take 188 rest; past = reverse ps }))) e)
+
+    before_read : (fault : ReadFault) → Refuses false (Some rest) fault → SaysBy (read_cause fault) (before_fault c bs ≡ ps)
+    before_read read_faults.Truncated k =
+        ap (λ l. sound_front (fault_of Read (network_test as_run_fault (purpose_of c))) (seen_after [] l)) (read_all (Some bs) (Some rest) ps r k.1).0
+        ∙ (sound_all Read (network_test as_run_fault (purpose_of c)) ps r.sound sound).1
+    before_read read_faults.SyncLost k = refused (Read read_faults.SyncLost) k.0 (ap (named Read) k.1)
+    before_read read_faults.BadAdaptation k = refused (Read read_faults.BadAdaptation) k.0 (ap (named Read) k.1)
+    before_read read_faults.Io k = tt
+    before_read read_faults.Turns k = tt
+    before_read read_faults.Failed k = absurd (cc)
+
+  pub read_stops : {M : Type 0} (injector : Injector) (talk : Talk M) (is_out : List (List ℕ) → Type 0) (fails : List (List ℕ) → List ℕ → PutFault → Type 0) (input left : Option (List ℕ)) → HasRead input left ps
+      → HasRun c injector talk is_out exchanged ps → (fault : ReadFault) → Refuses false left fault → StopsAt c (Read fault) input is_out fails exchanged
+  read_stops injector talk is_out fails None left r h fault k = tt
+  read_stops injector talk is_out fails (Some bs) None r h fault k = absurd r.bytes
+  read_stops injector talk is_out fails (Some bs) (Some rest) r h fault k =
+      let back = length-reverse ps in
+      let le = few_takes talk.end h.ts (length h.rs) (length ps) h.talks.talked in
+      let same = none_asked (length h.rs) h.ts (reverse ps) (omega (arith, le, back)) in record {
+        passed = ps;
+        rest = packets_of rest;
+        parts = ap packets_of r.bytes ∙ packets_of-append ps rest r.sizes;
+        says = both_said (first_fault c bs ≡ Some (Read fault)) (before_fault c bs ≡ ps) (read_cause fault) (reader_stops Read (network_test as_run_fault (purpose_of c)) (Some bs) (Some rest) ps r h.sound fault k) (before_read bs rest r h.sound fault k);
+        ts = h.ts;
+        rs = h.rs;
+        serves = record { ending = talk.end; talked = h.talks.talked; exchanges = h.exchanges; replies = h.replies ∙ ap (replies_in c) (sym same) };
+        leaves = subst (λ s. is_out (sent_by c s)) (sym same) h.out;
+      }
+
+  -- ---- a packet is not passed on
+
+  pub feed_stops : {M S : Type 0} (injector : Injector) (talk : Talk M) (is_out : S → List (List ℕ) → Type 0) (fails : List (List ℕ) → List ℕ → PutFault → Type 0) (s t : S)
+      (input left left' : Option (List ℕ)) (p : List ℕ) → HasRead input left ps → Given left left' p → HasHeard c injector talk (is_out s) exchanged ps → (fault : FeedFault) → KeepsSink fault s t
+      → ((steps : List Step) → InjectorStandsFor injector c steps → is_out s (sent_by c steps) → FeedFails fault c p steps (λ put q f. fails (sent_by c steps ++ put) q f))
+      → StopsAt c (Feed fault) input (is_out t) fails exchanged
+  feed_stops injector talk is_out fails s t None left left' p r g h fault kept feeds = tt
+  feed_stops injector talk is_out fails s t (Some bs) left None p r g h fault kept feeds = absurd (read_more (Some bs) left None ps p r g).bytes
+  feed_stops injector talk is_out fails s t (Some bs) left (Some rest) p r g h fault kept feeds = by fault kept (feeds steps h.stands h.out)
+    where
+      steps : List Step
+      steps = steps_before (length h.rs) h.ts (reverse ps)
+
+      parts : packets_of bs ≡ ps ++ p ∷ packets_of rest
+      parts = let more = read_more (Some bs) left (Some rest) ps p r g in ap packets_of more.bytes ∙ packets_of-append (ps ++ p ∷ []) rest more.sizes ∙ append_assoc ps (p ∷ []) (packets_of rest)
+
+      by : (fault : FeedFault) → KeepsSink fault s t → FeedFails fault c p steps (λ put q f. fails (sent_by c steps ++ put) q f) → Stopped c (Feed fault) bs (is_out t) fails exchanged
+      by (Network f) kept k =
+          let fault = subst (λ q. network_fault (purpose_of c) p q ≡ Some f) (before_packets (length h.rs) h.ts (reverse ps)) k in
+          let test : network_test as_run_fault (purpose_of c) (record { packet = p; past = reverse ps }) ≡ Some (Feed (Network f)) = ap (option_map as_run_fault) fault in
+          let at = ap (λ o. or_then (named Read o) (network_test as_run_fault (purpose_of c) (record { packet = p; past = reverse ps }))) g.sound ∙ test in record {
+            passed = ps;
+            rest = p ∷ packets_of rest;
+            parts = parts;
+            says = (
+              packet_stops Read (network_test as_run_fault (purpose_of c)) (Some bs) left (Some rest) ps p (Feed (Network f)) r h.sound g test,
+              before_at bs p (packets_of rest) (Feed (Network f)) parts r.sound h.sound at,
+            );
+            ts = h.ts;
+            rs = h.rs;
+            serves = record { ending = talk.end; talked = h.talks.talked; exchanges = h.exchanges; replies = h.replies };
+            leaves = subst (λ w. is_out w (sent_by c steps)) (sym kept) h.out;
+          }
+      by (Sink f) kept k = record {
+        passed = ps;
+        rest = p ∷ packets_of rest;
+        parts = parts;
+        says = tt;
+        ts = h.ts;
+        rs = h.rs;
+        serves = record { ending = talk.end; talked = h.talks.talked; exchanges = h.exchanges; replies = h.replies };
+        leaves = (p, packets_of rest, refl, k);
+      }
+      by Failed kept k = absurd k
+
+-- what follows from how a sink failed
+pub fails_so : (fault : FeedFault) (c : Config) (p : List ℕ) (steps : List Step) (fails fails' : List (List ℕ) → List ℕ → PutFault → Type 0) → ((put : List (List ℕ)) (q : List ℕ) (f : PutFault) → fails put q f → fails' put q f)
+    → FeedFails fault c p steps fails → FeedFails fault c p steps fails'
+fails_so (Network f) c p steps fails fails' so h = h
+fails_so (Sink f) c p steps fails fails' so h = record { put = h.put; packet = h.packet; left = h.left; all = h.all; fault = so h.put h.packet f h.fault }
+fails_so Failed c p steps fails fails' so h = absurd h

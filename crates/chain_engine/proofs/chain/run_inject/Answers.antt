@@ -1,0 +1,78 @@
+use Rattle.std.proofs.Common.{[], ◌∷◌, ◌++◌, sym, subst, append_assoc}
+use Rattle.std.proofs.lemmas.List.{append-nil}
+use Rattle.ts_packet.specs.Reading.{Refuses}
+use Rattle.ts_packet.proofs.CountLemmas.{well-refl, well-trans}
+use Rattle.unit_cut.proofs.RunLemmas.{given_none, given_more}
+use Rattle.unit_cut.proofs.BlameLemmas.{on-refl, on-more}
+use Rattle.injector.specs.Steps.{sent_at}
+use Rattle.chain_engine.specs.Runs.{sent_by}
+use Rattle.chain_engine.proofs.RunLemmas.{begun, heard, passed, ends, read_stops, feed_stops, fails_so}
+use Rattle.chain_engine.proofs.chain.run_inject.Goals as goal
+
+pub loop-injector-init : goal.loop-injector-init
+loop-injector-init g c = record {
+  whole = c.requires;
+  reads = g.met.P.PacketSource.leads_refl _;
+  leads = g.met.K.PacketSink.leads_refl _;
+  well = on-refl _ _;
+  wrote = well-refl _;
+  passed = (
+    [],
+    given_none _ _,
+    λ d start before h held. begun g.U.Automation.takes g.U.Automation.answers g.U.Automation.failures d c.args.chain (λ qs. g.K.PacketSink.holds c.args.out.now start (before ++ qs)) c.args.automation.now h
+        (subst (g.K.PacketSink.holds c.args.out.now start) (sym (append-nil before)) held),
+  );
+}
+
+pub returns-in-Ok-false-clause-ok : goal.returns-in-Ok-false-clause-ok
+returns-in-Ok-false-clause-ok g c = λ d start before h held.
+    let (ps, n, run) = c.loop-injector.invariant.passed in
+    let r = rw c.in-Ok-false.field-0-test at c.in-Ok-false.ensures.ok in
+    ends d _ ps c.loop-injector.injector c.loop-injector.talk _ _ _ _ n.read r.0 (run d start before h held) (λ steps j. c.of.ensures d steps (c.counts.ensures d steps j))
+
+pub returns-in-Err-clause-err : goal.returns-in-Err-clause-err
+returns-in-Err-clause-err g c = λ d start before h held.
+    let (ps, n, run) = c.loop-injector.invariant.passed in
+    let refuses = subst (λ b. Refuses b (g.P.PacketSource.left c.loop-injector.network) c.in-Err.fault) c.loop-injector.invariant.whole c.in-Err.ensures.err in
+    read_stops d _ ps c.loop-injector.injector c.loop-injector.talk _ (λ qs. g.K.PacketSink.fails c.loop-injector.out start (before ++ qs)) _ _ n.read (run d start before h held) c.in-Err.fault refuses
+
+pub loop-injector-preserved : goal.loop-injector-preserved
+loop-injector-preserved g c =
+    let (ps, n, run) = c.loop-injector.invariant.passed in
+    let p = c.read_packet.new.packet in
+    let r = rw c.in-Ok-true.field-0-test at c.in-Ok-true.ensures.ok in
+    let given = rw c.in-Ok-true.field-0-test at c.in-Ok-true.ensures.given in
+    record {
+      whole = c.in-Ok-true.ensures.broken;
+      reads = g.met.P.PacketSource.leads_trans _ _ _ c.loop-injector.invariant.reads c.in-Ok-true.ensures.leads;
+      leads = g.met.K.PacketSink.leads_trans _ _ _ c.loop-injector.invariant.leads c.in-Ok.ensures.leads;
+      well = on-more _ _ _ _ _ _ c.loop-injector.invariant.well (rw c.in-Ok-true.field-0-test at c.in-Ok-true.ensures.counts);
+      wrote = well-trans _ _ _ c.loop-injector.invariant.wrote c.in-Ok.ensures.well;
+      passed = (
+        ps ++ p ∷ [],
+        given_more _ _ _ _ _ _ ps p n r given.1,
+        λ d start before h held.
+            let before_packet = heard g.U.Automation.takes g.U.Automation.answers g.U.Automation.failures d (λ qs. g.K.PacketSink.holds c.loop-injector.out start (before ++ qs)) ps c.args.automation.now
+            c.loop-injector.automation c.listen.new.automation c.loop-injector.injector c.listen.new.judge c.loop-injector.talk c.listen.new.self (run d start before h held)
+            c.listen.ensures.talk c.listen.ensures.closed c.listen.ensures.failures in
+            passed d _ ps c.listen.new.judge c.feed.new.self c.listen.new.self (λ qs. g.K.PacketSink.holds c.loop-injector.out start (before ++ qs)) (λ qs. g.K.PacketSink.holds c.feed.new.sink start (before ++ qs)) p before_packet
+            (λ steps s o. (
+              c.in-Ok.ensures.sound d steps s,
+              c.in-Ok.ensures.stands d steps s,
+              subst (g.K.PacketSink.holds c.feed.new.sink start) (append_assoc before (sent_by d steps) (sent_at d p steps)) (c.in-Ok.ensures.ok start (before ++ sent_by d steps) d steps o s),
+            )),
+      );
+    }
+
+pub returns-in-Err-feed-clause-err : goal.returns-in-Err-feed-clause-err
+returns-in-Err-feed-clause-err g c = λ d start before h held.
+    let (ps, n, run) = c.loop-injector.invariant.passed in
+    let p = c.read_packet.new.packet in
+    let r = rw c.in-Ok-true.field-0-test at c.in-Ok-true.ensures.ok in
+    let before_packet = heard g.U.Automation.takes g.U.Automation.answers g.U.Automation.failures d (λ qs. g.K.PacketSink.holds c.loop-injector.out start (before ++ qs)) ps c.args.automation.now
+    c.loop-injector.automation c.listen.new.automation c.loop-injector.injector c.listen.new.judge c.loop-injector.talk c.listen.new.self (run d start before h held)
+    c.listen.ensures.talk c.listen.ensures.closed c.listen.ensures.failures in
+    feed_stops d _ ps c.listen.new.judge c.listen.new.self (λ s qs. g.K.PacketSink.holds s start (before ++ qs)) (λ qs. g.K.PacketSink.fails c.feed.new.sink start (before ++ qs))
+    c.loop-injector.out c.feed.new.sink _ _ _ p n.read r before_packet c.in-Err-feed.fault c.in-Err-feed.ensures.kept
+    (λ steps s o. fails_so c.in-Err-feed.fault d p steps (λ put q f. g.K.PacketSink.fails c.feed.new.sink start ((before ++ sent_by d steps) ++ put) q f) (λ put q f. g.K.PacketSink.fails c.feed.new.sink start (before ++ (sent_by d steps ++ put)) q f)
+    (λ put q f. subst (λ l. g.K.PacketSink.fails c.feed.new.sink start l q f) (append_assoc before (sent_by d steps) put)) (c.in-Err-feed.ensures.err start (before ++ sent_by d steps) d steps o s))

@@ -1,0 +1,11 @@
+-- What a chain stands for before its run.
+use Rattle.std.specs.Prelude.{[]}
+use Rattle.psi_tables.specs.declared.config.Config.{Config}
+use Rattle.injector.specs.Injecting.{InjectorStandsFor}
+use Rattle.chain_engine.specs.Talks.{TalkStandsFor}
+use Rattle.chain_engine.specs.declared.chain.Chain.{Chain}
+
+-- it was given nothing
+pub record ChainStandsFor {M : Type 0} (chain : Chain M) (c : Config) : Type 0 where
+  pub talk : TalkStandsFor chain.talk [] 0 0
+  pub injector : InjectorStandsFor chain.injector c []

@@ -1,0 +1,33 @@
+//! What is counted in a run.
+
+ghost use Rattle.std.specs.Prelude.{◌≡◌, List};
+ghost use Rattle.psi_tables.specs.declared.config.Config.{Config};
+ghost use Rattle.injector.specs.Injecting.{CountsAre};
+ghost use Rattle.injector.specs.Steps.{Step, turns_in};
+ghost use Rattle.chain_engine.specs.Runs.{report_of};
+
+use injector::MessageCounts;
+
+/// What a run counted. Each count stops at the greatest u64.
+#[derive(Clone, Copy, Debug, PartialEq, Eq, Drop)]
+pub struct Report {
+    /// The messages that were judged.
+    pub messages: u64,
+    /// The multiple operations among them that were accepted.
+    pub accepted: u64,
+    /// The multiple operations among them that were refused.
+    pub refused: u64,
+}
+
+impl Report {
+    /// The report of a run in which the injector counted so.
+    pub(crate) fn of(counts: MessageCounts) -> Report
+        ensures { (c : Config) (steps : List Step) → CountsAre counts c.index (turns_in c.program steps) → result ≡ report_of c steps }
+    {
+        Report {
+            messages: counts.messages,
+            accepted: counts.accepted,
+            refused: counts.refused,
+        }
+    }
+}
