@@ -7,7 +7,7 @@ use Rattle.std.proofs.Math.Bool.{or-false}
 use Rattle.ts_packet.proofs.Cases.{by_test}
 use Rattle.pes_time.specs.Stamps.{is_split, is_untimed}
 use Rattle.ad_library.specs.declared.store.UnitPlace.{UnitPlace}
-use Rattle.ad_library.specs.Advertisements.{slice_of, reaches_end}
+use Rattle.ad_library.specs.Advertisements.{AdvertUnit, is_below, slice_of, reaches_end}
 use Rattle.ad_library.specs.Placing.{start_or, unit_at, units_at, is_placed, are_placed, is_topped, tops_rise, tops_are}
 
 pub both_true : (a b : Bool) → a && b ≡ true → (a ≡ true) × (b ≡ true)
@@ -198,3 +198,14 @@ module _ (limit least : ℕ) (bs : List ℕ) where
       (λ y. let le = leb-true (limit - 45000) (0 - least) y in let m = le-leb (limit - 45000) (p.time - least) (omega arith) in
       ap (λ c. c || any_reached (p ∷ ps)) y ∙ sym (ap (λ c. c || any_reached ps) (own ∙ m)))
       (λ n. ap (λ c. c || any_reached (p ∷ ps)) n)
+
+-- no more units are left than there are places
+few_one : (limit : ℕ) (b : Bool) (u : AdvertUnit) (us : List AdvertUnit) (n : ℕ) → is_below limit u ≡ b → length (slice_of limit us) ≤ n → length (slice_of limit (u ∷ us)) ≤ suc n
+few_one limit true u us n h l = simp h (omega (arith, l))
+few_one limit false u us n h l = simp h (omega (arith, l))
+
+pub few_left : (limit least : ℕ) (ps : List UnitPlace) (bs : List ℕ) → length (slice_of limit (units_at least ps bs)) ≤ length ps
+few_left limit least [] bs = omega arith
+few_left limit least (p ∷ ps) bs =
+    let u = unit_at least p (start_or ps (length bs)) bs in
+    few_one limit (is_below limit u) u (units_at least ps bs) (length ps) refl (few_left limit least ps bs)

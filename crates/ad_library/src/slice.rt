@@ -1,6 +1,6 @@
 //! Units lent from an advertisement.
 
-ghost use Rattle.std.specs.Prelude.{◌≡◌, ◌<◌, slice_get, drop, length, option_map, IfSome, true};
+ghost use Rattle.std.specs.Prelude.{◌≡◌, ◌<◌, ◌≤◌, slice_get, drop, length, option_map, IfSome, true};
 ghost use Rattle.pes_time.specs.Line.{ring_of};
 ghost use Rattle.ad_library.specs.Storing.{on_line};
 ghost use Rattle.ad_library.specs.Lending.{unit_seen, HasHead};
@@ -59,6 +59,13 @@ impl<'a> Slice<'a> {
                 return;
             }
         }
+    }
+
+    /// As many units are left at most.
+    pub fn most(&self) -> usize
+        ensures { length (left self.now) ≤ result }
+    {
+        self.places.len()
     }
 
     /// The least time of the advertisement, from which the offsets count, on the ring of 33-bit stamps.

@@ -136,7 +136,7 @@ impl<T: Copy + Default> ArmedEvents<T> {
     ghost use Rattle.ts_packet.specs.Fields.{on};
     ghost use Rattle.event_table.specs.Rings.{CanAdvance};
     ghost use Rattle.event_table.specs.Standing.{Standing, IsTimeAt};
-    ghost use Rattle.event_table.specs.Tables.{StandsFor, high_of, values_of};
+    ghost use Rattle.event_table.specs.Tables.{StandsFor, high_of, events_of, values_of};
     ghost use Rattle.psi_section.specs.Assembling.{IsOf, IsReady, capped};
     ghost use Rattle.armed_events.specs.Arming.{standing, ignored};
     ghost use Rattle.armed_events.specs.Obeying.{Obeys};
@@ -193,6 +193,7 @@ impl<T: Copy + Default> ArmedEvents<T> {
     pub fn set_value(&mut self, place: usize, value: T)
         requires { place < length self.old.obeyed.table.entries.items }
         ensures values { values_of self.new.obeyed.table ≡ slice_set (values_of self.old.obeyed.table) place value }
+        ensures events { events_of self.new.obeyed.table ≡ events_of self.old.obeyed.table }
         ensures obeys { (pid : ℕ) (high : List (List ℕ) → Option ℤ) (past : List (List ℕ)) → Obeys self.old pid high past → Obeys self.new pid high past }
         ensures assembler { self.new.assembler ≡ self.old.assembler }
         ensures high { high_of self.new.obeyed.table ≡ high_of self.old.obeyed.table }

@@ -1,12 +1,15 @@
 //! An event on the ring, and what is asked of one event alone.
 
-ghost use Rattle.std.specs.Prelude.{◌≡◌, ◌↔◌, IsTrue, true};
+ghost use Rattle.std.specs.Prelude.{◌≡◌, ◌↔◌, ◌+◌, ◌%◌, ◌^◌, IsTrue, true, not};
 ghost use Rattle.event_table.specs.Rings.{is_before_on_ring, IsAheadOnRing};
 
 use pes_time::Time33;
 
 /// The longest length of an event, in ticks: a little over three hours.
 const LONGEST: u64 = 1 << 30;
+
+/// How long past its end an event is kept, in ticks: ten seconds.
+pub(crate) const KEPT: u64 = 900_000;
 
 /// The furthest that a start or an early end may lie past the high time, in ticks: a little over an hour and a half.
 const FURTHEST: i64 = 1 << 29;
@@ -83,8 +86,15 @@ impl Event {
         self.start.plus(self.length)
     }
 
+    /// Whether the event is forgotten where this is the greatest time: its end lies 900,000 ticks or more before it.
+    pub fn is_forgotten_at(&self, high: Time33) -> bool
+        ensures { result ≡ not (is_before_on_ring high ((ring_end self.now + 900000) % 2 ^ 33)) }
+    {
+        !is_before(high, self.end().plus(KEPT))
+    }
+
     /// Whether an uncancelled event holds the time.
-    pub(crate) fn covers(&self, time: Time33) -> bool
+    pub fn covers(&self, time: Time33) -> bool
         ensures { result ≡ covers_on_ring self.now time }
     {
         let way = time.signed_from(self.start);

@@ -5,13 +5,10 @@ ghost use Rattle.std.specs.Prelude.{map, filter, position, length, slice_set, sl
 ghost use Rattle.std.specs.List.{list_any};
 ghost use Rattle.pes_time.specs.Line.{ring_of, place};
 
-use crate::event::{Event, is_ahead, is_before};
+use crate::event::{Event, KEPT, is_ahead, is_before};
 use arrayvec::ArrayVec;
 use pes_time::Time33;
 use thiserror::Error;
-
-/// How long past its end an event is kept, in ticks: ten seconds.
-const KEPT: u64 = 900_000;
 
 /// How far the high time may rise in one step, in ticks: ten seconds.
 const STEP: i64 = 900_000;

@@ -5,3 +5,6 @@ pub mod SentLemmas
 pub mod KnownLemmas
 pub mod HistoryLemmas
 mod Examples
+mod TurnLemmas
+mod SliceLemmas
+pub mod AdvertLemmas

@@ -4,3 +4,6 @@ pub mod Reporting
 pub mod Laws
 pub mod Counting
 pub mod Histories
+pub mod Slicing
+pub mod Turning
+pub mod Adverts

@@ -1,12 +1,14 @@
 -- What a switch reports of a network: counts over the events that were armed in it.
-use Rattle.std.specs.Prelude.{ℕ, List, Bool, not, ◌&&◌, ◌||◌, count_by, Some}
+use Rattle.std.specs.Prelude.{◌≡◌, ℕ, ◌+◌, if◌then◌else◌, List, Bool, not, ◌&&◌, ◌||◌, count_by, Some}
 use Rattle.std.specs.List.{list_any}
 use Rattle.event_table.specs.Standing.{Standing, end_of}
 use Rattle.armed_events.specs.Arming.{ignored}
 use Rattle.program_follower.specs.Program.{behind_head}
+use Rattle.psi_section.specs.Assembling.{capped}
 use Rattle.splice_laws.specs.Splicing.{stream}
+use Rattle.splice_switch.specs.declared.report.SwitchReport.{SwitchReport}
 use Rattle.splice_switch.specs.Playing.{Adverts, is_played, is_crossed}
-use Rattle.splice_switch.specs.Switching.{Setting, switched_at, high_at, events_at}
+use Rattle.splice_switch.specs.Switching.{Setting, switched_at, streams_at, high_at, events_at}
 
 -- not cancelled, and without an advertisement that fits
 abbrev pub is_not_fitted : Adverts → Standing → Bool
@@ -22,10 +24,33 @@ pub record Counts : Type 0 where
   pub unconditioned : ℕ
   pub ignored : ℕ
 
+-- of no events
+abbrev pub no_counts : Counts
+no_counts = record { played = 0; not_fitted = 0; unconditioned = 0; ignored = 0 }
+
+abbrev pub one_if : Bool → ℕ
+one_if b = if b then 1 else 0
+
+-- with one event more
+abbrev pub with_one : Bool → Bool → Bool → Counts → Counts
+with_one cancelled fits crossed c = record {
+  played = one_if (not cancelled && fits) + c.played;
+  not_fitted = one_if (not cancelled && not fits) + c.not_fitted;
+  unconditioned = one_if ((not cancelled && fits) && crossed) + c.unconditioned;
+  ignored = c.ignored;
+}
+
+-- each count stops at the greatest u64
+pub record ReportIs (report : SwitchReport) (c : Counts) : Type 0 where
+  pub played : report.played ≡ capped c.played
+  pub not_fitted : report.not_fitted ≡ capped c.not_fitted
+  pub unconditioned : report.unconditioned ≡ capped c.unconditioned
+  pub ignored : report.ignored ≡ capped c.ignored
+
 -- THE REPORT
 abbrev pub report_of : Setting → List (List ℕ) → Counts
 report_of k past =
-    let ads = k.adverts (switched_at k past) in
+    let ads = k.adverts (streams_at k past) in
     let behind = behind_head (Some k.program) past in
     let events = events_at k past in
     record {

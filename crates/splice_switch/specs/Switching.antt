@@ -7,6 +7,8 @@ use Rattle.event_table.specs.Standing.{Standing}
 use Rattle.armed_events.specs.Arming.{armed}
 use Rattle.psi_tables.specs.Cue.{without_cue_entry}
 use Rattle.program_follower.specs.Program.{program_of, behind_head, pids_of}
+use Rattle.program_follower.specs.Following.{streams_of_program}
+use Rattle.psi_tables.specs.declared.stream.Stream.{Stream}
 use Rattle.program_laws.specs.Writing.{Writing, written}
 use Rattle.splice_laws.specs.Splicing.{SliceUnit, stream}
 use Rattle.output_laws.specs.Output.{Move, Keep, Leave, Put, Packing, out_at, out_after}
@@ -55,12 +57,16 @@ module _ (switched : List ℕ) (ads : Adverts) (events : History) where
 pub record Setting : Type 0 where
   pub program : ℕ
   pub cue_pid : ℕ
-  pub adverts : List ℕ → Adverts
+  pub adverts : List Stream → Adverts
   pub packed : Packing
 
 -- the PIDs of the switched streams, in the order of the PMT; none before the head's end
 abbrev pub switched_at : Setting → List (List ℕ) → List ℕ
 switched_at k past = pids_of (program_of (Some k.program) past)
+
+-- these streams
+abbrev pub streams_at : Setting → List (List ℕ) → List Stream
+streams_at k past = streams_of_program (program_of (Some k.program) past)
 
 -- the greatest time of a unit
 abbrev pub high_at : Setting → List (List ℕ) → Option ℤ
@@ -82,7 +88,7 @@ is_behind_head k past = is_some (program_of (Some k.program) past)
 
 abbrev pub front_at : Setting → List ℕ → List (List ℕ) → List (List ℕ)
 front_at k p past = if is_behind_head k past
-    then front_of (switched_at k past) (k.adverts (switched_at k past)) (history_at k past) k.packed p (behind_head (Some k.program) past)
+    then front_of (switched_at k past) (k.adverts (streams_at k past)) (history_at k past) k.packed p (behind_head (Some k.program) past)
     else []
 
 abbrev pub is_switched : List ℕ → List ℕ → Bool
@@ -93,7 +99,7 @@ is_switched (pid ∷ pids) p = on pid p || is_switched pids p
 abbrev pub place_at : Setting → List ℕ → List (List ℕ) → List (List ℕ)
 place_at k p past = if on k.cue_pid p then []
     else (if is_switched (switched_at k past) p
-    then place_of (switched_at k past) (k.adverts (switched_at k past)) (history_at k past) k.packed p (behind_head (Some k.program) past)
+    then place_of (switched_at k past) (k.adverts (streams_at k past)) (history_at k past) k.packed p (behind_head (Some k.program) past)
     else p ∷ [])
 
 -- On the PMT's PID the sections go out in the place of the packets that finish them, the program's maps without the entry for the cues.
@@ -107,7 +113,7 @@ switched_past k past = written (switching k) (Some k.program) past
 -- what goes out at the end
 abbrev pub rest_at : Setting → List (List ℕ) → List (List ℕ)
 rest_at k past = if is_behind_head k past
-    then end_of_run (switched_at k past) (k.adverts (switched_at k past)) (history_at k past) k.packed (behind_head (Some k.program) past)
+    then end_of_run (switched_at k past) (k.adverts (streams_at k past)) (history_at k past) k.packed (behind_head (Some k.program) past)
     else []
 
 -- THE OUTPUT of a whole network, in order

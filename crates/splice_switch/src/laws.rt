@@ -2,6 +2,7 @@
 
 ghost use Rattle.splice_switch.specs.Laws.{SwitchGrows, PutsAtUnitStarts, SentGrows};
 ghost use Rattle.splice_switch.specs.Histories.{EndsNeverRise, PlayedSettle, ArmedIsHistory};
+ghost use Rattle.splice_switch.specs.Adverts.{LibrariesAreSteady};
 
 /// What is out stays out, whatever comes behind it.
 pub fn switch_grows()
@@ -32,4 +33,9 @@ pub fn played_settle()
 /// The events that the cues of a network arm behind its head are such a history.
 pub fn armed_is_history()
     ensures { ArmedIsHistory }
+{}
+
+/// What a library says of an event does not change with what becomes of the event.
+pub fn libraries_are_steady()
+    ensures { LibrariesAreSteady }
 {}

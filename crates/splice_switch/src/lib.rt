@@ -1,8 +1,12 @@
 //! The switch: advertisements in the place of the network's units, in the events that cues arm.
-//!
-//! Here stand the definitions: what goes out for each packet of a network, and what is reported, by the packets that came before.
+//! It stands on `program_follower`, for the network, `armed_events`, for the events, `ad_library`, for the units of advertisements, and
+//! `unit_packing` and `outgoing_packets`, for what goes out. It takes no memory.
 #![tactic(auto)]
 
 pub mod laws;
 mod plan;
+mod report;
+mod slices;
 mod stream;
+
+pub use report::SwitchReport;
