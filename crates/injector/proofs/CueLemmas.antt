@@ -1,5 +1,5 @@
 -- Cues in packets, and which go out.
-use Rattle.std.proofs.Common.{◌≡◌, ℕ, ◌+◌, ◌%◌, ◌^◌, ◌<◌, ◌≤◌, Bool, true, false, not, ◌&&◌, cond, List, [], ◌∷◌, ◌++◌, length, refl, ap, sym, ◌∙◌, subst, arith, length-append}
+use Rattle.std.proofs.Common.{◌≡◌, ℕ, ◌+◌, ◌%◌, ◌^◌, ◌<◌, Bool, true, false, not, ◌&&◌, cond, List, ◌++◌, length, refl, ap, ◌∙◌, arith}
 use Rattle.std.specs.Prelude.{ℤ, pos, ◌+ℤ◌, ◌-ℤ◌, ◌≤ℤ◌, ◌<ℤ◌, int_lt, int_le, map, Option, None, Some, option_map}
 use Rattle.std.proofs.lemmas.Int.{ints}
 use Rattle.pes_time.specs.Line.{ring_of, signed}
@@ -16,8 +16,8 @@ use Rattle.ts_packet.proofs.RunLemmas.{onto-append}
 use Rattle.program_laws.specs.Writing.{packets_out}
 use Rattle.outgoing_packets.proofs.NumberLemmas.{packets-append}
 use Rattle.injector.specs.declared.choice.Choice.{Choice}
-use Rattle.injector.specs.Senders.{Sender, is_none, is_ended, news, current, limit, is_repeated, chosen, no_cue, start_cue, end_cue, cancel_cue, when, cues_by}
-use Rattle.injector.specs.Noting.{told_of, notes_of, ring_news, ring_current, ring_limit, ring_repeated, ring_chosen, LastIn, IsKept, Rises}
+use Rattle.injector.specs.Senders.{Sender, is_none, is_ended, news, current, limit, is_repeated, chosen, no_cue, start_cue, end_cue, cancel_cue, when, cues_by, packed}
+use Rattle.injector.specs.Noting.{told_of, ring_news, ring_limit, ring_repeated, ring_chosen, LastIn, IsKept, Rises}
 
 pub cue-some : (cue : CueOut) → 0 < length (cue_bytes cue)
 unfolding cue_bytes unchecked_bytes
@@ -81,10 +81,6 @@ ring-chosen x high later within kept rises =
     ∙ ap (λ b. cond (not (is_none (news x.event x.told))) (news x.event x.told) (cond b (current x.event) no_cue)) (ring-repeated x.event x.last high later within kept.last rises)
 
 -- ---- cues in turn
-
--- the packets of cues, behind what is out
-abbrev pub packed : ℕ → List (List ℕ) → List CueOut → List (List ℕ)
-packed pid out cues = packets_out pid out (map cue_bytes cues)
 
 pub one-of_three : (pid : ℕ) (out : List (List ℕ)) (one rest : List CueOut) → pid < 8192
     → packed pid out (one ++ rest) ≡ packed pid out one ++ packed pid (onto out (packed pid out one)) rest

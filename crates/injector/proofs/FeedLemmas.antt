@@ -1,12 +1,12 @@
 -- A packet that goes out: the greatest time rises, and its tables have room for the entry of the cues.
-use Rattle.std.proofs.Common.{◌≡◌, ℕ, ◌+◌, ◌<◌, ◌≤◌, ◌==◌, Bool, true, false, not, ◌&&◌, cond, List, [], ◌∷◌, ◌++◌, length, refl, ap, sym, ◌∙◌, subst, arith}
-use Rattle.std.specs.Prelude.{ℤ, pos, ◌+ℤ◌, ◌-ℤ◌, ◌≤ℤ◌, map, All, nat_lt, Option, None, Some, option_map, Result, Ok, Err}
+use Rattle.std.proofs.Common.{◌≡◌, ℕ, ◌==◌, Bool, true, false, not, ◌&&◌, cond, List, [], ◌∷◌, length, refl, ap, sym, ◌∙◌, subst, arith}
+use Rattle.std.specs.Prelude.{ℤ, map, All, nat_lt, Option, None, Some, option_map}
 use Rattle.std.specs.Int.{int_max}
 use Rattle.std.specs.Option.{option_or}
 use Rattle.std.proofs.lemmas.Int.{ints}
 use Rattle.std.proofs.lemmas.Bool.{eqb-true}
 use Rattle.std.proofs.lemmas.List.Elements.{All-nil, All-cons, All-head, All-tail}
-use Rattle.pes_time.specs.Line.{ring_of, lift, signed, place}
+use Rattle.pes_time.specs.Line.{place}
 use Rattle.ts_packet.specs.Fields.{in_error, pid_of, on}
 use Rattle.psi_section.specs.Sections.{given}
 use Rattle.psi_section.specs.Laws.{CanBeGiven}
@@ -26,10 +26,10 @@ use Rattle.program_follower.specs.declared.purpose.Listed.{Listed}
 use Rattle.program_follower.specs.declared.follower.Place.{Place}
 use Rattle.program_follower.specs.declared.follower.Place.TheVariants.{Marked, Cue, Map, Stream, Other}
 use Rattle.program_follower.specs.Program.{listed, since_pat, Table, table_of, tables, all_tables, first_map, Program, program_in, program_of, behind_head, pids_of}
-use Rattle.program_follower.specs.Faults.{network_fault, cue_fault, on_cue, if_bad, bad_pids, cue_used, changed_from, pats_fault, table_fault, tables_fault, maps_fault, as_network, too_long, map_fault}
+use Rattle.program_follower.specs.Faults.{network_fault, cue_fault, on_cue, if_bad, bad_pids, cue_used, changed_from, pats_fault, table_fault, tables_fault, maps_fault, as_network, too_long}
 use Rattle.program_follower.specs.Following.{grown, on_map, IsPlace}
 use Rattle.program_follower.proofs.FollowLemmas.{program_stays, grown_is, no_high}
-use Rattle.program_laws.specs.Writing.{Writing, packets_out, section_out, body}
+use Rattle.program_laws.specs.Writing.{packets_out, section_out, body}
 use Rattle.program_laws.specs.Cued.{cueing}
 use Rattle.outgoing_packets.specs.declared.entry.CueEntry.TheVariants.{Added}
 use Rattle.outgoing_packets.specs.Entries.{change_of, HasRoom, GoesOut, AllGoOut}

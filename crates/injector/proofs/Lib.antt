@@ -5,3 +5,4 @@ pub mod CueLemmas
 pub mod SendingLemmas
 pub mod CountLemmas
 pub mod FeedLemmas
+pub mod RestLemmas

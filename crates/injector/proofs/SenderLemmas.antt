@@ -1,25 +1,24 @@
 -- What is kept beside the events of a table, and the history that it stands for.
-use Rattle.std.proofs.Common.{◌≡◌, ℕ, ◌+◌, ◌*◌, ◌≤◌, ◌==◌, Bool, true, false, not, ◌&&◌, cond, List, [], ◌∷◌, ◌++◌, length, refl, ap, sym, ◌∙◌, subst, arith}
-use Rattle.std.specs.Prelude.{ℤ, pos, ◌+ℤ◌, ◌-ℤ◌, ◌≤ℤ◌, int_lt, map, filter, All, Option, None, Some, option_map, Result, Ok, Err}
+use Rattle.std.proofs.Common.{◌≡◌, ℕ, ◌*◌, ◌==◌, Bool, true, false, cond, List, [], ◌∷◌, ◌++◌, refl, ap, sym, ◌∙◌, subst, arith}
+use Rattle.std.specs.Prelude.{ℤ, ◌-ℤ◌, int_lt, map, filter, All, Option, None, Some, option_map, Result, Ok, Err}
 use Rattle.std.proofs.lemmas.Int.{ints}
 use Rattle.std.proofs.lemmas.List.{map-append}
-use Rattle.std.proofs.lemmas.List.Elements.{All-nil, All-cons, All-head, All-tail, All-push, All-filter}
-use Rattle.pes_time.specs.Line.{ring_of, lift, signed}
-use Rattle.scte104_codec.specs.declared.requests.SpliceRequest.{SpliceRequest}
+use Rattle.std.proofs.lemmas.List.Elements.{All-cons, All-head, All-tail, All-filter}
+use Rattle.pes_time.specs.Line.{ring_of, signed}
 use Rattle.event_table.specs.Rings.{CanAdvance}
 use Rattle.event_table.specs.Standing.{Standing, forgotten_at, has_id, ending_at, cancelled_one, with_first, IsTimeAt}
 use Rattle.event_table.specs.declared.table.Table.{Table}
-use Rattle.event_table.specs.Tables.{StandsFor, high_of, values_of}
-use Rattle.event_table.proofs.ListLemmas.{filter-map, map-map}
+use Rattle.event_table.specs.Tables.{high_of, values_of}
+use Rattle.event_table.proofs.ListLemmas.{map-map}
 use Rattle.event_table.proofs.TimeLemmas.{signed-range, ring-only}
 use Rattle.injector.specs.declared.asked.Asked.{Asked}
 use Rattle.injector.specs.declared.refusal.Refusal.{Refusal}
 use Rattle.injector.specs.declared.notes.Notes.{Notes}
 use Rattle.injector.specs.declared.requests.Requests.{Requests}
 use Rattle.injector.specs.Asking.{is_start, asked_of}
-use Rattle.injector.specs.Verdicts.{time_at, start_event, verdict_of, started, ended, accepted, changed, after_by}
+use Rattle.injector.specs.Verdicts.{time_at, start_event, verdict_of, started, ended, changed}
 use Rattle.injector.specs.Turns.{Turn, Judged, Passed, high, stands, stands_as, events, standing, with_asked}
-use Rattle.injector.specs.Senders.{Sender, is_none, chosen, tell, told_now, fresh, with_event, begun, cut_short, with_accepted, with_judged, stands_now, stands_by, events_in, with_request, noted_after, senders, standing_senders}
+use Rattle.injector.specs.Senders.{Sender, is_none, chosen, tell, told_now, fresh, with_event, begun, cut_short, with_judged, stands_now, stands_by, events_in, with_request, noted_after, senders, standing_senders}
 use Rattle.injector.specs.Noting.{notes_of, IsKept, LastIn, AreNoted, Rises}
 use Rattle.injector.proofs.ListLemmas.{filter-twice, filter-push, with_first-filter}
 use Rattle.injector.proofs.RequestLemmas.{new-stands, ended-stands}

@@ -1,6 +1,6 @@
 -- Some events' cues have gone out, one event after another.
-use Rattle.std.proofs.Common.{◌≡◌, ℕ, ◌+◌, ◌-◌, ◌<◌, ◌≤◌, ◌^◌, Bool, true, false, not, ◌&&◌, cond, List, [], ◌∷◌, ◌++◌, length, refl, ap, sym, ◌∙◌, subst, arith, append_assoc, length-append}
-use Rattle.std.specs.Prelude.{ℤ, pos, ◌+ℤ◌, ◌≤ℤ◌, map, All, Option, None, Some, option_map, slice_index_or, slice_set}
+use Rattle.std.proofs.Common.{◌≡◌, ℕ, ◌+◌, ◌<◌, ◌≤◌, ◌^◌, Bool, true, false, not, ◌&&◌, cond, List, [], ◌∷◌, ◌++◌, length, refl, ap, sym, ◌∙◌, subst, arith, append_assoc, length-append}
+use Rattle.std.specs.Prelude.{ℤ, ◌≤ℤ◌, map, All, Option, None, Some, option_map, slice_index_or, slice_set}
 use Rattle.std.specs.List.{flat_map}
 use Rattle.std.proofs.Math.Seq.{get_or-append_seam, set-append_seam}
 use Rattle.std.proofs.lemmas.Int.{ints}
@@ -10,17 +10,17 @@ use Rattle.pes_time.specs.Line.{ring_of}
 use Rattle.ts_packet.specs.Runs.{onto}
 use Rattle.scte35_codec.specs.declared.cue_out.CueOut.{CueOut}
 use Rattle.event_table.specs.declared.event.Event.{Event}
-use Rattle.event_table.specs.Standing.{Standing, on_ring, IsWithin, IsInReach}
+use Rattle.event_table.specs.Standing.{on_ring, IsWithin}
 use Rattle.event_table.specs.Tables.{StandsFor, high_of, events_of, values_of}
 use Rattle.event_table.proofs.ListLemmas.{map-map}
 use Rattle.injector.specs.declared.choice.Choice.{Choice}
 use Rattle.injector.specs.declared.notes.Notes.{Notes}
 use Rattle.injector.specs.declared.requests.Requests.{Requests}
-use Rattle.injector.specs.Turns.{Turn, high, standing}
+use Rattle.injector.specs.Turns.{Turn, high}
 use Rattle.injector.specs.Requests.{RequestsStandFor}
-use Rattle.injector.specs.Senders.{Sender, is_none, chosen, cues_by, cues_of, tell, told_now, events_in, standing_senders}
+use Rattle.injector.specs.Senders.{Sender, is_none, chosen, cues_by, tell, told_now, events_in, standing_senders, packed}
 use Rattle.injector.specs.Noting.{notes_of, told_of, ring_chosen, IsShown, IsKept, LastIn, AreNoted, Sending, NotesStandFor, NotesTold, Rises}
-use Rattle.injector.proofs.CueLemmas.{ring-chosen, packed, one-of_three}
+use Rattle.injector.proofs.CueLemmas.{ring-chosen, one-of_three}
 use Rattle.injector.proofs.SenderLemmas.{standing-events}
 
 -- an element behind others
@@ -147,7 +147,7 @@ kept-told (Some h) (Some l) rises x within kept = by (is_none (chosen x (Some h)
     by true = record { avails = kept.avails; last = stays x.last kept.last }
     by false = let s = within.start in let b = above in record { avails = kept.avails; last = (omega (arith, ints), omega (arith, ints)) }
 
-all-kept : (line after : Option ℤ) → Rises line after → (xs : List Sender) → All (IsWithin line) (events_in xs) → All (IsKept line) xs → All (IsKept after) (map (tell line after) xs)
+pub all-kept : (line after : Option ℤ) → Rises line after → (xs : List Sender) → All (IsWithin line) (events_in xs) → All (IsKept line) xs → All (IsKept after) (map (tell line after) xs)
 all-kept line after rises [] within kept = All-nil (IsKept after)
 all-kept line after rises (x ∷ xs) within kept =
     All-cons (IsKept after) (tell line after x) (map (tell line after) xs)

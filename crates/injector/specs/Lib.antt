@@ -7,3 +7,4 @@ pub mod Senders
 pub mod Noting
 pub mod Steps
 pub mod Injecting
+pub mod Laws

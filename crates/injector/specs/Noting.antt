@@ -1,5 +1,5 @@
 -- What the code keeps beside an event, and what it stands for.
-use Rattle.std.specs.Prelude.{◌≡◌, ℕ, ℤ, pos, ◌+ℤ◌, ◌≤ℤ◌, ◌+◌, ◌%◌, ◌^◌, ◌≤◌, nat_lt, Bool, false, not, ◌&&◌, if◌then◌else◌, List, ◌++◌, length, drop, replicate, map, filter, All, Option, None, Some, option_map}
+use Rattle.std.specs.Prelude.{◌≡◌, ℕ, ℤ, pos, ◌+ℤ◌, ◌≤ℤ◌, ◌+◌, ◌%◌, ◌^◌, ◌≤◌, nat_lt, Bool, false, not, ◌&&◌, if◌then◌else◌, List, ◌∷◌, ◌++◌, length, drop, replicate, map, All, Option, None, Some, option_map}
 use Rattle.pes_time.specs.Line.{ring_of}
 use Rattle.event_table.specs.declared.event.Event.{Event}
 use Rattle.event_table.specs.Events.{ring_end}
@@ -13,7 +13,8 @@ use Rattle.injector.specs.declared.notes.Notes.{Notes}
 use Rattle.injector.specs.declared.choice.Choice.{Choice}
 use Rattle.injector.specs.declared.requests.Requests.{Requests}
 use Rattle.injector.specs.Turns.{Turn, high}
-use Rattle.injector.specs.Senders.{Sender, is_none, no_cue, tell, events_in, standing_senders}
+use Rattle.injector.specs.Requests.{RequestsStandFor}
+use Rattle.injector.specs.Senders.{Sender, is_none, no_cue, tell, events_in, standing_senders, IsIdle}
 
 abbrev pub ids_of : List ℕ → AvailIds
 ids_of ids = record { ids = ids ++ drop (length ids) (replicate 14 0); count = length ids }
@@ -95,3 +96,19 @@ abbrev pub Rises : Option ℤ → Option ℤ → Type 0
 Rises None later = Unit {0}
 Rises (Some high) None = ⊥
 Rises (Some high) (Some later) = (high ≤ℤ later) × (later ≤ℤ (high +ℤ pos 900000))
+
+-- Before a packet behind which the greatest time is `line`, at this place of the ring. No event is looked at where it is known that no cue
+-- is due.
+pub record IsBefore (is_due : Bool) (requests : Requests) (later : Option ℕ) (index : ℕ) (past : List Turn) (line : Option ℤ) : Type 0 where
+  pub stands : RequestsStandFor requests index past
+  pub notes : NotesStandFor requests index past
+  pub rises : Rises (high past) line
+  pub time : later ≡ option_map ring_of line
+  pub idle : is_due ≡ false → IsIdle index line past
+
+-- The cues of this event are next.
+pub record IsNext (requests : Requests) (place : ℕ) (later : Option ℕ) (line after : Option ℤ) (done : List Sender) (x : Sender) (left : List Sender) : Type 0 where
+  pub sending : Sending requests line after done (x ∷ left)
+  pub place_is : place ≡ length done
+  pub rises : Rises line after
+  pub time : later ≡ option_map ring_of after

@@ -1,9 +1,11 @@
 -- The cues of accepted events, by the history of an injector: what an event's cues tell, what was told of it, and when.
-use Rattle.std.specs.Prelude.{ℕ, ℤ, pos, ◌+ℤ◌, ◌==◌, nat_lt, int_lt, int_le, Bool, true, false, not, ◌&&◌, ◌||◌, if◌then◌else◌, List, [], ◌∷◌, ◌++◌, map, filter, Option, None, Some, Result, Ok, Err}
+use Rattle.std.specs.Prelude.{◌≡◌, All, ℕ, ℤ, pos, ◌+ℤ◌, ◌==◌, nat_lt, int_lt, int_le, Bool, true, false, not, ◌&&◌, if◌then◌else◌, List, [], ◌∷◌, ◌++◌, map, filter, Option, None, Some, Result, Ok, Err}
 use Rattle.std.specs.List.{flat_map}
 use Rattle.pes_time.specs.Line.{ring_of}
 use Rattle.scte35_codec.specs.declared.cue_out.CueOut.{CueOut}
 use Rattle.scte35_codec.specs.declared.cue_out.CueOut.TheVariants.{Start, Cancel, End}
+use Rattle.scte35_codec.specs.Spelling.{cue_bytes}
+use Rattle.program_laws.specs.Writing.{packets_out}
 use Rattle.event_table.specs.Standing.{Standing, end_of, has_id, ending_at, cancelled_one, with_first}
 use Rattle.injector.specs.declared.asked.Asked.{Asked}
 use Rattle.injector.specs.declared.choice.Choice.{Choice}
@@ -81,6 +83,10 @@ cues_by x c = when c.start (start_cue x) ++ (when c.end (end_cue x) ++ when c.ca
 abbrev pub cues_of : Option ℤ → Option ℤ → Sender → List CueOut
 cues_of high later x = cues_by x (chosen x high later)
 
+-- cues in packets, behind what is out
+abbrev pub packed : ℕ → List (List ℕ) → List CueOut → List (List ℕ)
+packed pid out cues = packets_out pid out (map cue_bytes cues)
+
 -- behind the packet
 abbrev pub told_now : Option ℤ → Sender → Sender
 told_now later x = record x { told = Some x.event; last = later }
@@ -149,3 +155,7 @@ standing_senders index past = filter (stands_now (high past)) (senders index pas
 -- THE CUES that go out before a packet behind which this is the greatest time: those of the events that stand, in order of acceptance
 abbrev pub cues_before : ℕ → Option ℤ → List Turn → List CueOut
 cues_before index later past = flat_map (cues_of (high past) later) (standing_senders index past)
+
+-- no event that stands has one
+abbrev pub IsIdle : ℕ → Option ℤ → List Turn → Type 0
+IsIdle index later past = All (λ x. is_none (chosen x (high past) later) ≡ true) (standing_senders index past)

@@ -1,5 +1,5 @@
 -- What an injector puts out, by its whole history: the messages that it judged and the packets of the network, newest first.
-use Rattle.std.specs.Prelude.{ℕ, ℤ, ◌+◌, List, [], ◌∷◌, ◌++◌, map, Bool, true, false, if◌then◌else◌, is_ok, not, Option, None, Some, Result, Ok, Err}
+use Rattle.std.specs.Prelude.{ℕ, ℤ, ◌+◌, List, [], ◌∷◌, ◌++◌, map, Bool, true, false, ◌||◌, if◌then◌else◌, is_ok, not, Option, None, Some, Result, Err}
 use Rattle.ts_packet.specs.Runs.{onto}
 use Rattle.unit_stream.specs.Times.{high as unit_high}
 use Rattle.psi_tables.specs.declared.config.Config.{Config}
@@ -7,7 +7,7 @@ use Rattle.scte35_codec.specs.Spelling.{cue_bytes}
 use Rattle.scte104_codec.specs.Reading.{MessageReading, init, alive, other, multiple, bad}
 use Rattle.program_follower.specs.declared.purpose.Purpose.{Purpose}
 use Rattle.program_follower.specs.Program.{listed, tables, program_of, behind_head, pids_of}
-use Rattle.program_laws.specs.Writing.{packets_out, body, block}
+use Rattle.program_laws.specs.Writing.{packets_out, body}
 use Rattle.program_laws.specs.Cued.{cueing}
 use Rattle.injector.specs.declared.refusal.Refusal.{Refusal}
 use Rattle.injector.specs.declared.refusal.Refusal.TheVariants.{BadSyntax}
@@ -86,6 +86,12 @@ is_accepted (Some r) = is_ok r
 abbrev pub is_refused : Option (Result (Unit {0}) Refusal) → Bool
 is_refused None = false
 is_refused (Some r) = not (is_ok r)
+
+-- a request was accepted since the last packet
+abbrev pub has_news : ℕ → List Turn → Bool
+has_news index [] = false
+has_news index (Judged m ∷ past) = has_news index past || is_accepted (outcome index m past)
+has_news index (Passed h ∷ past) = false
 
 -- how many messages were judged, and how many multiple operations were accepted and refused
 abbrev pub messages_in : List Turn → ℕ

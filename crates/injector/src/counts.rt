@@ -4,6 +4,7 @@ ghost use Rattle.std.specs.Prelude.{◌≡◌, ℕ, List, ◌∷◌};
 ghost use Rattle.scte104_codec.specs.Reading.{MessageReading};
 ghost use Rattle.injector.specs.Turns.{Turn, Judged};
 ghost use Rattle.injector.specs.Replies.{reply_to};
+ghost use Rattle.injector.specs.Steps.{outcome, is_accepted};
 ghost use Rattle.injector.specs.Injecting.{CountsAre};
 
 use crate::reply::SUCCESS;
@@ -21,10 +22,18 @@ pub struct MessageCounts {
     pub refused: u64,
 }
 
+/// Whether this is the answer to a multiple operation that was accepted.
+pub(crate) fn accepts(reply: &Reply) -> bool
+    ensures { (index : ℕ) (m : MessageReading) (past : List Turn) → reply.now ≡ reply_to index m past →
+        result ≡ is_accepted (outcome index m past) }
+{
+    reply.op == INJECT_RESPONSE && reply.result == SUCCESS
+}
+
 /// The counts with one message more, which was answered so.
 pub(crate) fn counted(before: MessageCounts, reply: &Reply) -> MessageCounts
-    ensures { (index : ℕ) (m : MessageReading) (past : List Turn) → CountsAre before index past → reply.now ≡ reply_to index m past →
-        CountsAre result index (Judged m ∷ past) }
+    ensures { (index : ℕ) (m : MessageReading) (past : List Turn) → CountsAre before index past →
+        reply.now ≡ reply_to index m past → CountsAre result index (Judged m ∷ past) }
 {
     let mut counts = before;
     counts.messages = counts.messages.saturating_add(1);

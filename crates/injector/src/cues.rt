@@ -1,19 +1,16 @@
 //! The cues of standing events, sent.
 
-ghost use Rattle.std.specs.Prelude.{◌≡◌, ◌<◌, ◌≤◌, ◌^◌, ◌%◌, ◌++◌, ◌∷◌, [], ℕ, ℤ, List, Option, length, map, option_map, OnOk, IfErr};
-ghost use Rattle.pes_time.specs.Line.{ring_of};
+ghost use Rattle.std.specs.Prelude.{◌≡◌, ◌<◌, ◌≤◌, ◌^◌, ◌%◌, ◌++◌, ◌∷◌, [], ℕ, ℤ, List, Option, length, OnOk, IfErr};
 ghost use Rattle.ts_packet.specs.Runs.{onto};
 ghost use Rattle.ts_packet.specs.Sinks.{Blamed};
 ghost use Rattle.ts_packet.specs.Transfers.{WentWell};
-ghost use Rattle.scte35_codec.specs.Spelling.{cue_bytes};
 ghost use Rattle.event_table.specs.Standing.{Standing, on_ring};
 ghost use Rattle.event_table.specs.Tables.{StandsFor, high_of};
-ghost use Rattle.program_laws.specs.Writing.{packets_out};
 ghost use Rattle.outgoing_packets.specs.Numbers.{HasPut, FrontFails};
-ghost use Rattle.injector.specs.Turns.{Turn, high};
+ghost use Rattle.injector.specs.Turns.{Turn};
 ghost use Rattle.injector.specs.Requests.{RequestsStandFor};
-ghost use Rattle.injector.specs.Senders.{Sender, start_cue, end_cue, cancel_cue, when, cues_by, cues_of, cues_before};
-ghost use Rattle.injector.specs.Noting.{notes_of, IsShown, Sending, NotesStandFor, NotesTold, Rises};
+ghost use Rattle.injector.specs.Senders.{Sender, start_cue, end_cue, cancel_cue, when, cues_by, cues_of, cues_before, packed};
+ghost use Rattle.injector.specs.Noting.{IsShown, Sending, NotesTold, IsBefore, IsNext};
 
 use crate::choice::{Choice, chosen};
 use crate::notes::Notes;
@@ -77,11 +74,13 @@ fn put_chosen<S: PacketSink>(
 ) -> Result<(), PutFault>
     ensures leads { S.leads sink.old sink.new }
     ensures ok { (start : Option (List ℕ)) (ps puts : List (List ℕ)) → S.holds sink.old start ps → HasPut out.old puts →
-        OnOk result (S.holds sink.new start (ps ++ packets_out pid puts (map cue_bytes (when is_chosen cue.now)))) }
+        OnOk result (S.holds sink.new start (ps ++ packed pid puts (when is_chosen cue.now))) }
     ensures numbers { (puts : List (List ℕ)) → HasPut out.old puts →
-        OnOk result (HasPut out.new (onto puts (packets_out pid puts (map cue_bytes (when is_chosen cue.now))))) }
-    ensures err { (start : Option (List ℕ)) (ps puts : List (List ℕ)) → S.holds sink.old start ps → HasPut out.old puts →
-        IfErr result (λ f. FrontFails (packets_out pid puts (map cue_bytes (when is_chosen cue.now))) (λ put p. S.fails sink.new start (ps ++ put) p f)) }
+        OnOk result (HasPut out.new (onto puts (packed pid puts (when is_chosen cue.now)))) }
+    ensures err { (start : Option (List ℕ)) (ps puts : List (List ℕ)) → S.holds sink.old start ps →
+        HasPut out.old puts →
+        IfErr result (λ f. FrontFails (packed pid puts (when is_chosen cue.now))
+        (λ put p. S.fails sink.new start (ps ++ put) p f)) }
     ensures well { OnOk result (WentWell (S.counts sink.old) (S.counts sink.new)) }
     ensures blamed { IfErr result (λ f. Blamed f (S.counts sink.old) (S.counts sink.new) (S.is_full sink.new)) }
 {
@@ -105,12 +104,13 @@ fn put_cues<S: PacketSink>(
     ensures leads { S.leads sink.old sink.new }
     ensures ok { (start : Option (List ℕ)) (ps puts : List (List ℕ)) (x : Sender) → S.holds sink.old start ps →
         HasPut out.old puts → IsShown event.now notes.now x →
-        OnOk result (S.holds sink.new start (ps ++ packets_out pid puts (map cue_bytes (cues_by x choice)))) }
+        OnOk result (S.holds sink.new start (ps ++ packed pid puts (cues_by x choice))) }
     ensures numbers { (puts : List (List ℕ)) (x : Sender) → HasPut out.old puts → IsShown event.now notes.now x →
-        OnOk result (HasPut out.new (onto puts (packets_out pid puts (map cue_bytes (cues_by x choice))))) }
+        OnOk result (HasPut out.new (onto puts (packed pid puts (cues_by x choice)))) }
     ensures err { (start : Option (List ℕ)) (ps puts : List (List ℕ)) (x : Sender) → S.holds sink.old start ps →
         HasPut out.old puts → IsShown event.now notes.now x →
-        IfErr result (λ f. FrontFails (packets_out pid puts (map cue_bytes (cues_by x choice))) (λ put p. S.fails sink.new start (ps ++ put) p f)) }
+        IfErr result (λ f. FrontFails (packed pid puts (cues_by x choice))
+        (λ put p. S.fails sink.new start (ps ++ put) p f)) }
     ensures well { OnOk result (WentWell (S.counts sink.old) (S.counts sink.new)) }
     ensures blamed { IfErr result (λ f. Blamed f (S.counts sink.old) (S.counts sink.new) (S.is_full sink.new)) }
     ensures pid { pid < 8192 }
@@ -138,21 +138,25 @@ fn put_one<S: PacketSink>(
 ) -> Result<(), PutFault>
     requires { place < length requests.old.table.entries.items }
     ensures leads { S.leads sink.old sink.new }
-    ensures ok { (start : Option (List ℕ)) (ps puts : List (List ℕ)) (line after : Option ℤ) (done : List Sender) (x : Sender) (left : List Sender) → S.holds sink.old start ps → HasPut out.old puts → Sending requests.old line after done (x ∷ left) →
-        place ≡ length done → Rises line after → later.now ≡ option_map ring_of after →
-        OnOk result (S.holds sink.new start (ps ++ packets_out pid puts (map cue_bytes (cues_of line after x)))) }
-    ensures numbers { (puts : List (List ℕ)) (line after : Option ℤ) (done : List Sender) (x : Sender) (left : List Sender) → HasPut out.old puts → Sending requests.old line after done (x ∷ left) →
-        place ≡ length done → Rises line after → later.now ≡ option_map ring_of after →
-        OnOk result (HasPut out.new (onto puts (packets_out pid puts (map cue_bytes (cues_of line after x))))) }
-    ensures err { (start : Option (List ℕ)) (ps puts : List (List ℕ)) (line after : Option ℤ) (done : List Sender) (x : Sender) (left : List Sender) → S.holds sink.old start ps → HasPut out.old puts → Sending requests.old line after done (x ∷ left) →
-        place ≡ length done → Rises line after → later.now ≡ option_map ring_of after →
-        IfErr result (λ f. FrontFails (packets_out pid puts (map cue_bytes (cues_of line after x))) (λ put p. S.fails sink.new start (ps ++ put) p f)) }
+    ensures ok { (start : Option (List ℕ)) (ps puts : List (List ℕ)) (line after : Option ℤ) (done : List Sender)
+        (x : Sender) (left : List Sender) → S.holds sink.old start ps → HasPut out.old puts →
+        IsNext requests.old place later.now line after done x left →
+        OnOk result (S.holds sink.new start (ps ++ packed pid puts (cues_of line after x))) }
+    ensures numbers { (puts : List (List ℕ)) (line after : Option ℤ) (done : List Sender) (x : Sender)
+        (left : List Sender) → HasPut out.old puts → IsNext requests.old place later.now line after done x left →
+        OnOk result (HasPut out.new (onto puts (packed pid puts (cues_of line after x)))) }
+    ensures err { (start : Option (List ℕ)) (ps puts : List (List ℕ)) (line after : Option ℤ) (done : List Sender)
+        (x : Sender) (left : List Sender) → S.holds sink.old start ps → HasPut out.old puts →
+        IsNext requests.old place later.now line after done x left →
+        IfErr result (λ f. FrontFails (packed pid puts (cues_of line after x))
+        (λ put p. S.fails sink.new start (ps ++ put) p f)) }
     ensures well { OnOk result (WentWell (S.counts sink.old) (S.counts sink.new)) }
     ensures blamed { IfErr result (λ f. Blamed f (S.counts sink.old) (S.counts sink.new) (S.is_full sink.new)) }
-    ensures sending { (line after : Option ℤ) (done : List Sender) (x : Sender) (left : List Sender) → Sending requests.old line after done (x ∷ left) →
-        place ≡ length done → Rises line after → later.now ≡ option_map ring_of after →
+    ensures sending { (line after : Option ℤ) (done : List Sender) (x : Sender) (left : List Sender) →
+        IsNext requests.old place later.now line after done x left →
         OnOk result (Sending requests.new line after (done ++ x ∷ []) left) }
-    ensures stands { (line : Option ℤ) (standing : List Standing) → StandsFor requests.old.table line standing → StandsFor requests.new.table line standing }
+    ensures stands { (line : Option ℤ) (standing : List Standing) → StandsFor requests.old.table line standing →
+        StandsFor requests.new.table line standing }
     ensures index { requests.new.index ≡ requests.old.index }
     ensures high { high_of requests.new.table ≡ high_of requests.old.table }
     ensures count { length requests.new.table.entries.items ≡ length requests.old.table.entries.items }
@@ -176,8 +180,10 @@ fn put_one<S: PacketSink>(
     Ok(())
 }
 
-/// Puts the cues that are due before a packet behind which this is the greatest time.
+/// Puts the cues that are due before a packet behind which this is the greatest time. Where it is known that none is, no event is
+/// looked at.
 pub(crate) fn put_due<S: PacketSink>(
+    is_due: bool,
     requests: &mut Requests,
     later: &Option<Time33>,
     pid: Pid,
@@ -186,25 +192,27 @@ pub(crate) fn put_due<S: PacketSink>(
 ) -> Result<(), PutFault>
     ensures leads { S.leads sink.old sink.new }
     ensures ok { (start : Option (List ℕ)) (ps puts : List (List ℕ)) (index : ℕ) (past : List Turn) (line : Option ℤ) →
-        S.holds sink.old start ps → HasPut out.old puts → RequestsStandFor requests.old index past →
-        NotesStandFor requests.old index past → Rises (high past) line → later.now ≡ option_map ring_of line →
-        OnOk result (S.holds sink.new start (ps ++ packets_out pid puts (map cue_bytes (cues_before index line past)))) }
-    ensures numbers { (puts : List (List ℕ)) (index : ℕ) (past : List Turn) (line : Option ℤ) → HasPut out.old puts → RequestsStandFor requests.old index past →
-        NotesStandFor requests.old index past → Rises (high past) line → later.now ≡ option_map ring_of line →
-        OnOk result (HasPut out.new (onto puts (packets_out pid puts (map cue_bytes (cues_before index line past))))) }
+        S.holds sink.old start ps → HasPut out.old puts → IsBefore is_due requests.old later.now index past line →
+        OnOk result (S.holds sink.new start (ps ++ packed pid puts (cues_before index line past))) }
+    ensures numbers { (puts : List (List ℕ)) (index : ℕ) (past : List Turn) (line : Option ℤ) → HasPut out.old puts →
+        IsBefore is_due requests.old later.now index past line →
+        OnOk result (HasPut out.new (onto puts (packed pid puts (cues_before index line past)))) }
     ensures err { (start : Option (List ℕ)) (ps puts : List (List ℕ)) (index : ℕ) (past : List Turn) (line : Option ℤ) →
-        S.holds sink.old start ps → HasPut out.old puts → RequestsStandFor requests.old index past →
-        NotesStandFor requests.old index past → Rises (high past) line → later.now ≡ option_map ring_of line →
-        IfErr result (λ f. FrontFails (packets_out pid puts (map cue_bytes (cues_before index line past))) (λ put p. S.fails sink.new start (ps ++ put) p f)) }
+        S.holds sink.old start ps → HasPut out.old puts → IsBefore is_due requests.old later.now index past line →
+        IfErr result (λ f. FrontFails (packed pid puts (cues_before index line past))
+        (λ put p. S.fails sink.new start (ps ++ put) p f)) }
     ensures well { OnOk result (WentWell (S.counts sink.old) (S.counts sink.new)) }
     ensures blamed { IfErr result (λ f. Blamed f (S.counts sink.old) (S.counts sink.new) (S.is_full sink.new)) }
-    ensures stands { (index : ℕ) (past : List Turn) → RequestsStandFor requests.old index past → RequestsStandFor requests.new index past }
-    ensures told { (puts : List (List ℕ)) (index : ℕ) (past : List Turn) (line : Option ℤ) → HasPut out.old puts → RequestsStandFor requests.old index past →
-        NotesStandFor requests.old index past → Rises (high past) line → later.now ≡ option_map ring_of line →
-        OnOk result (NotesTold requests.new index past line) }
+    ensures stands { (index : ℕ) (past : List Turn) → RequestsStandFor requests.old index past →
+        RequestsStandFor requests.new index past }
+    ensures told { (puts : List (List ℕ)) (index : ℕ) (past : List Turn) (line : Option ℤ) → HasPut out.old puts →
+        IsBefore is_due requests.old later.now index past line → OnOk result (NotesTold requests.new index past line) }
     ensures high { high_of requests.new.table ≡ high_of requests.old.table }
 {
     let _number = pid.get();
+    if !is_due {
+        return Ok(());
+    }
     let mut place = 0;
     while place < requests.count() {
         match put_one(requests, place, later, pid, out, sink) {

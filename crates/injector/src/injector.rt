@@ -1,22 +1,25 @@
 //! The injector: messages in and answers out, packets in and packets with cues out.
 
-ghost use Rattle.std.specs.Prelude.{◌≡◌, ◌++◌, ◌∷◌, [], ℕ, List, Option, Some, None, Err, true, OnOk, IfOk, IfErr, map, is_ok};
+ghost use Rattle.std.specs.Prelude.{◌≡◌, ◌++◌, ◌∷◌, [], ℕ, List, Option, Some, None, option_map, Err, Bool, true, false, OnOk, IfErr};
+ghost use Rattle.pes_time.specs.Line.{ring_of};
 ghost use Rattle.ts_packet.specs.Runs.{onto};
 ghost use Rattle.ts_packet.specs.Sinks.{Blamed};
 ghost use Rattle.ts_packet.specs.Transfers.{WentWell};
 ghost use Rattle.scte104_codec.specs.Views.{reading_of};
-ghost use Rattle.program_follower.specs.Program.{listed, tables};
 ghost use Rattle.program_follower.specs.Faults.{network_fault};
-ghost use Rattle.program_follower.specs.Following.{FollowerStandsFor, on_map, IsPlace};
 ghost use Rattle.outgoing_packets.specs.Numbers.{HasPut, FrontFails};
 ghost use Rattle.injector.specs.Replies.{reply_to};
-ghost use Rattle.injector.specs.Steps.{Step, Message as MessageStep, Packet as PacketStep, packets_in, turns_in, purpose_of, body_at, sent_at, cued};
-ghost use Rattle.injector.specs.Injecting.{InjectorStandsFor, JudgesBy, FeedFails, FeedBlamed, KeepsSink, CountsAre, IsFed, IsBodyOf, KeepsRest, is_map_place, is_err_or};
+ghost use Rattle.injector.specs.Senders.{IsIdle};
+ghost use Rattle.injector.specs.Steps.{Step, Message as MessageStep, Packet as PacketStep, packets_in, turns_in, high_of};
+ghost use Rattle.injector.specs.Steps.{purpose_of, body_at, sent_at};
+ghost use Rattle.injector.specs.Injecting.{InjectorStandsFor, JudgesBy, FeedFails, FeedBlamed, KeepsSink, CountsAre};
+ghost use Rattle.injector.specs.Injecting.{IsFed, IsBodyOf, KeepsRest, is_map_place, is_err_or};
 
-use crate::counts::{MessageCounts, counted};
+use crate::counts::{MessageCounts, accepts, counted};
 use crate::cues::put_due;
 use crate::requests::Requests;
 use outgoing_packets::{CueEntry, Outgoing};
+use pes_time::Time33;
 use program_follower::{FollowFault, Place, ProgramFollower, Purpose};
 use psi_tables::{Config, FeedFault};
 use scte104_codec::{BadMessage, Message, Reply};
@@ -30,6 +33,8 @@ pub struct Injector {
     follower: ProgramFollower,
     out: Outgoing,
     counts: MessageCounts,
+    /// A request was accepted since the last packet.
+    has_news: bool,
     is_spent: bool,
 }
 
@@ -48,6 +53,7 @@ impl Injector {
                 accepted: 0,
                 refused: 0,
             },
+            has_news: false,
             is_spent: false,
         }
     }
@@ -63,6 +69,7 @@ impl Injector {
     {
         let reply = self.requests.ask(message);
         self.counts = counted(self.counts, &reply);
+        self.has_news = self.has_news || accepts(&reply);
         reply
     }
 
@@ -160,7 +167,8 @@ impl Injector {
     {
         let later = self.follower.high();
         let pid = self.cue_pid;
-        match put_due(&mut self.requests, &later, pid, &mut self.out, sink) {
+        let is_due = self.is_due(&later);
+        match put_due(is_due, &mut self.requests, &later, pid, &mut self.out, sink) {
             Ok(()) => {}
             Err(fault) => return Err(fault),
         }
@@ -169,7 +177,18 @@ impl Injector {
             Err(fault) => return Err(fault),
         }
         self.requests.rise(later);
+        self.has_news = false;
         Ok(())
+    }
+
+    /// Whether a cue may be due before a packet that was followed, behind which this is the greatest time: where it is not the greatest
+    /// time before the packet, or a request was accepted since the last one. It looks at no event.
+    fn is_due(&self, later: &Option<Time33>) -> bool
+        ensures { (is_map : Bool) (c : Config) (p : List ℕ) (past : List Step) → IsFed self.now is_map c p past →
+            later.now ≡ option_map ring_of (high_of c.program (p ∷ packets_in past)) → result ≡ false →
+            IsIdle c.index (high_of c.program (p ∷ packets_in past)) (turns_in c.program past) }
+    {
+        self.has_news || *later != self.requests.high()
     }
 
     /// Puts the packet, or the sections that it finishes on the PID of the map.

@@ -11,6 +11,7 @@ mod choice;
 mod counts;
 mod cues;
 mod injector;
+pub mod laws;
 mod notes;
 mod refusal;
 mod reply;

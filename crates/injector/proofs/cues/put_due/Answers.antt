@@ -1,5 +1,4 @@
-use Rattle.std.proofs.Common.{◌≡◌, ◌<◌, ◌≤◌, ℕ, List, Option, [], ◌∷◌, ◌++◌, length, refl, sym, ap, subst, ◌∙◌, append_assoc, length-append, ◌+◌, arith}
-use Rattle.std.specs.Prelude.{map}
+use Rattle.std.proofs.Common.{◌≡◌, ◌<◌, ◌≤◌, List, [], ◌∷◌, ◌++◌, length, refl, sym, ap, subst, ◌∙◌, append_assoc, length-append, ◌+◌, arith}
 use Rattle.std.specs.List.{flat_map}
 use Rattle.std.proofs.lemmas.List.{append-nil}
 use Rattle.ts_packet.specs.Runs.{onto}
@@ -9,10 +8,10 @@ use Rattle.scte35_codec.specs.declared.cue_out.CueOut.{CueOut}
 use Rattle.outgoing_packets.specs.Numbers.{HasPut}
 use Rattle.outgoing_packets.proofs.NumberLemmas.{fails-behind}
 use Rattle.injector.specs.Turns.{high, standing}
-use Rattle.injector.specs.Senders.{Sender, cues_of, standing_senders}
-use Rattle.injector.specs.Noting.{Sending}
-use Rattle.injector.proofs.CueLemmas.{packed}
-use Rattle.injector.proofs.SendingLemmas.{next-left, none-left, sending-first, sending-last, packed-push, packed-seam, flat-push}
+use Rattle.injector.specs.Senders.{Sender, cues_of, standing_senders, packed}
+use Rattle.injector.specs.Noting.{Sending, IsBefore, IsNext}
+use Rattle.injector.proofs.SendingLemmas.{next-left, none-left, sending-first, sending-last, packed-push, packed-seam}
+use Rattle.injector.proofs.RestLemmas.{idle-cues, idle-told}
 use Rattle.injector.proofs.cues.put_due.Goals as goal
 
 pub loop-place-init : goal.loop-place-init
@@ -22,8 +21,8 @@ loop-place-init g c = record {
   stands = λ index past stands. stands;
   same_high = refl;
   count = refl;
-  sent = λ puts index past line h stands noted rises is.
-      ([], standing_senders index past, refl, refl, sending-first c.args.requests.now index past line stands noted, h, λ start ps held. rw append-nil held);
+  sent = λ puts index past line h b.
+      ([], standing_senders index past, refl, refl, sending-first c.args.requests.now index past line b.stands b.notes, h, λ start ps held. rw append-nil held);
 }
 
 pub loop-place-smaller : goal.loop-place-smaller
@@ -41,15 +40,16 @@ loop-place-preserved g c = record {
       record { index_is = c.put_one.ensures.index ∙ before.index_is; table = c.put_one.ensures.stands (high past) (standing index past) before.table };
   same_high = c.put_one.ensures.high ∙ c.loop-place.invariant.same_high;
   count = c.put_one.ensures.count ∙ c.loop-place.invariant.count;
-  sent = λ puts index past line h stands noted rises is.
+  sent = λ puts index past line h b.
       let below : c.loop-place.place < length c.loop-place.requests.table.entries.items = subst (λ n. c.loop-place.place < n) c.count.ensures c.loop-place-test.true in
       let i = c.loop-place.invariant in
-      let s = i.sent puts index past line h stands noted rises is in
+      let s = i.sent puts index past line h b in
       let done = s.0 in
       let m = next-left c.loop-place.requests (high past) line done s.1 c.loop-place.place s.4 s.3 below in
       let x = m.0 in
       let rest = m.1 in
       let sending : Sending c.loop-place.requests (high past) line done (x ∷ rest) = subst (Sending c.loop-place.requests (high past) line done) m.2 s.4 in
+      let next : IsNext c.loop-place.requests c.loop-place.place c.args.later.now (high past) line done x rest = record { sending = sending; place_is = s.3; rises = b.rises; time = b.time } in
       let f : Sender → List CueOut = cues_of (high past) line in
       let put = packed c.args.pid puts (flat_map f done) in
       let out1 = onto puts put in
@@ -60,10 +60,10 @@ loop-place-preserved g c = record {
         rest,
         s.2 ∙ ap (λ l. done ++ l) m.2 ∙ sym (append_assoc done (x ∷ []) rest),
         (let n : length (done ++ x ∷ []) ≡ length done + 1 = length-append done (x ∷ []) in ap (λ k. k + 1) s.3 ∙ sym n),
-        c.in-Ok.ensures.sending (high past) line done x rest sending s.3 rises is,
-        subst (HasPut c.put_one.new.out) (sym (onto-append puts put new) ∙ ap (onto puts) (sym more)) (c.in-Ok.ensures.numbers out1 (high past) line done x rest s.5 sending s.3 rises is),
+        c.in-Ok.ensures.sending (high past) line done x rest next,
+        subst (HasPut c.put_one.new.out) (sym (onto-append puts put new) ∙ ap (onto puts) (sym more)) (c.in-Ok.ensures.numbers out1 (high past) line done x rest s.5 next),
         λ start ps held. subst (g.S.PacketSink.holds c.put_one.new.sink start) (append_assoc ps put new ∙ ap (λ l. ps ++ l) (sym more))
-            (c.in-Ok.ensures.ok start (ps ++ put) out1 (high past) line done x rest (s.6 start ps held) s.5 sending s.3 rises is),
+            (c.in-Ok.ensures.ok start (ps ++ put) out1 (high past) line done x rest (s.6 start ps held) s.5 next),
       );
 }
 
@@ -71,15 +71,16 @@ pub returns-in-Err-clause-leads : goal.returns-in-Err-clause-leads
 returns-in-Err-clause-leads g c = g.met.S.PacketSink.leads_trans c.args.sink.now c.loop-place.sink c.put_one.new.sink c.loop-place.invariant.leads c.put_one.ensures.leads
 
 pub returns-in-Err-clause-err : goal.returns-in-Err-clause-err
-returns-in-Err-clause-err g c = λ start ps puts index past line held h stands noted rises is.
+returns-in-Err-clause-err g c = λ start ps puts index past line held h b.
     let below : c.loop-place.place < length c.loop-place.requests.table.entries.items = subst (λ n. c.loop-place.place < n) c.count.ensures c.loop-place-test.true in
     let i = c.loop-place.invariant in
-    let s = i.sent puts index past line h stands noted rises is in
+    let s = i.sent puts index past line h b in
     let done = s.0 in
     let m = next-left c.loop-place.requests (high past) line done s.1 c.loop-place.place s.4 s.3 below in
     let x = m.0 in
     let rest = m.1 in
     let sending : Sending c.loop-place.requests (high past) line done (x ∷ rest) = subst (Sending c.loop-place.requests (high past) line done) m.2 s.4 in
+    let next : IsNext c.loop-place.requests c.loop-place.place c.args.later.now (high past) line done x rest = record { sending = sending; place_is = s.3; rises = b.rises; time = b.time } in
     let f : Sender → List CueOut = cues_of (high past) line in
     let put = packed c.args.pid puts (flat_map f done) in
     let out1 = onto puts put in
@@ -88,7 +89,7 @@ returns-in-Err-clause-err g c = λ start ps puts index past line held h stands n
     (λ q p. g.S.PacketSink.fails c.put_one.new.sink start ((ps ++ put) ++ q) p c.in-Err.fault) (λ q p. g.S.PacketSink.fails c.put_one.new.sink start (ps ++ q) p c.in-Err.fault)
     (ap (λ xs. packed c.args.pid puts (flat_map f xs)) (s.2 ∙ ap (λ l. done ++ l) m.2) ∙ packed-seam f c.args.pid puts done x rest pb)
     (λ q p e. subst (λ l. g.S.PacketSink.fails c.put_one.new.sink start l p c.in-Err.fault) (append_assoc ps put q) e)
-    (c.in-Err.ensures.err start (ps ++ put) out1 (high past) line done x rest (s.6 start ps held) s.5 sending s.3 rises is)
+    (c.in-Err.ensures.err start (ps ++ put) out1 (high past) line done x rest (s.6 start ps held) s.5 next)
 
 pub returns-in-Err-clause-blamed : goal.returns-in-Err-clause-blamed
 returns-in-Err-clause-blamed g c = blamed-after _ _ _ _ _ c.loop-place.invariant.well c.in-Err.ensures.blamed
@@ -113,28 +114,42 @@ pub returns-clause-high : goal.returns-clause-high
 returns-clause-high g c = c.loop-place.invariant.same_high
 
 pub returns-clause-ok : goal.returns-clause-ok
-returns-clause-ok g c = λ start ps puts index past line held h stands noted rises is.
+returns-clause-ok g c = λ start ps puts index past line held h b.
     let i = c.loop-place.invariant in
-    let s = i.sent puts index past line h stands noted rises is in
+    let s = i.sent puts index past line h b in
     let over : length c.loop-place.requests.table.entries.items ≤ c.loop-place.place = subst (λ n. n ≤ c.loop-place.place) c.count.ensures c.loop-place-test.false in
     let none = none-left c.loop-place.requests (high past) line s.0 s.1 c.loop-place.place s.4 s.3 over in
     let all : standing_senders index past ≡ s.0 = s.2 ∙ ap (λ l. s.0 ++ l) none ∙ append-nil s.0 in
     subst (λ xs. g.S.PacketSink.holds c.loop-place.sink start (ps ++ packed c.args.pid puts (flat_map (cues_of (high past) line) xs))) (sym all) (s.6 start ps held)
 
 pub returns-clause-numbers : goal.returns-clause-numbers
-returns-clause-numbers g c = λ puts index past line h stands noted rises is.
+returns-clause-numbers g c = λ puts index past line h b.
     let i = c.loop-place.invariant in
-    let s = i.sent puts index past line h stands noted rises is in
+    let s = i.sent puts index past line h b in
     let over : length c.loop-place.requests.table.entries.items ≤ c.loop-place.place = subst (λ n. n ≤ c.loop-place.place) c.count.ensures c.loop-place-test.false in
     let none = none-left c.loop-place.requests (high past) line s.0 s.1 c.loop-place.place s.4 s.3 over in
     let all : standing_senders index past ≡ s.0 = s.2 ∙ ap (λ l. s.0 ++ l) none ∙ append-nil s.0 in
     subst (λ xs. HasPut c.loop-place.out (onto puts (packed c.args.pid puts (flat_map (cues_of (high past) line) xs)))) (sym all) s.5
 
 pub returns-clause-told : goal.returns-clause-told
-returns-clause-told g c = λ puts index past line h stands noted rises is.
+returns-clause-told g c = λ puts index past line h b.
     let i = c.loop-place.invariant in
-    let s = i.sent puts index past line h stands noted rises is in
+    let s = i.sent puts index past line h b in
     let over : length c.loop-place.requests.table.entries.items ≤ c.loop-place.place = subst (λ n. n ≤ c.loop-place.place) c.count.ensures c.loop-place-test.false in
     let none = none-left c.loop-place.requests (high past) line s.0 s.1 c.loop-place.place s.4 s.3 over in
     let all : standing_senders index past ≡ s.0 = s.2 ∙ ap (λ l. s.0 ++ l) none ∙ append-nil s.0 in
-    sending-last c.loop-place.requests index past line s.0 rises all (subst (Sending c.loop-place.requests (high past) line s.0) none s.4)
+    sending-last c.loop-place.requests index past line s.0 b.rises all (subst (Sending c.loop-place.requests (high past) line s.0) none s.4)
+
+pub returns-then-not-is_due-clause-ok : goal.returns-then-not-is_due-clause-ok
+returns-then-not-is_due-clause-ok g c = λ start ps puts index past line held h b.
+    let none = idle-cues index line past (b.idle c.if-not-is_due.true) in
+    subst (λ cs. g.S.PacketSink.holds c.args.sink.now start (ps ++ packed c.args.pid puts cs)) (sym none) (rw append-nil held)
+
+pub returns-then-not-is_due-clause-numbers : goal.returns-then-not-is_due-clause-numbers
+returns-then-not-is_due-clause-numbers g c = λ puts index past line h b.
+    let none = idle-cues index line past (b.idle c.if-not-is_due.true) in
+    subst (λ cs. HasPut c.args.out.now (onto puts (packed c.args.pid puts cs))) (sym none) h
+
+pub returns-then-not-is_due-clause-told : goal.returns-then-not-is_due-clause-told
+returns-then-not-is_due-clause-told g c = λ puts index past line h b.
+    idle-told c.args.requests.now c.args.later.now index past line (subst (λ d. IsBefore d c.args.requests.now c.args.later.now index past line) c.if-not-is_due.true b)

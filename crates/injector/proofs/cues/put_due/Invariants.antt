@@ -1,16 +1,14 @@
-use Rattle.std.proofs.Common.{◌≡◌, ◌≤◌, ◌-◌, ℕ, List, ◌++◌, length, Option}
-use Rattle.std.specs.Prelude.{ℤ, option_map}
+use Rattle.std.proofs.Common.{◌≡◌, ◌-◌, ℕ, List, ◌++◌, length, Option}
+use Rattle.std.specs.Prelude.{ℤ}
 use Rattle.std.specs.List.{flat_map}
-use Rattle.pes_time.specs.Line.{ring_of}
 use Rattle.ts_packet.specs.Runs.{onto}
 use Rattle.ts_packet.specs.Transfers.{WentWell}
 use Rattle.event_table.specs.Tables.{high_of}
 use Rattle.outgoing_packets.specs.Numbers.{HasPut}
 use Rattle.injector.specs.Turns.{Turn, high}
 use Rattle.injector.specs.Requests.{RequestsStandFor}
-use Rattle.injector.specs.Senders.{Sender, cues_of, standing_senders}
-use Rattle.injector.specs.Noting.{NotesStandFor, Rises, Sending}
-use Rattle.injector.proofs.CueLemmas.{packed}
+use Rattle.injector.specs.Senders.{Sender, cues_of, standing_senders, packed}
+use Rattle.injector.specs.Noting.{IsBefore, Sending}
 use Rattle.injector.proofs.cues.put_due.Given as goal
 
 -- the cues of some events are put, and those of the others are left
@@ -21,8 +19,8 @@ invariant-loop-place g l = record {
   stands : (index : ℕ) (past : List Turn) → RequestsStandFor l.initial.requests index past → RequestsStandFor l.requests index past;
   same_high : high_of l.requests.table ≡ high_of l.initial.requests.table;
   count : length l.requests.table.entries.items ≡ length l.initial.requests.table.entries.items;
-  sent : (puts : List (List ℕ)) (index : ℕ) (past : List Turn) (line : Option ℤ) → HasPut l.initial.out puts → RequestsStandFor l.initial.requests index past →
-      NotesStandFor l.initial.requests index past → Rises (high past) line → l.later ≡ option_map ring_of line →
+  sent : (puts : List (List ℕ)) (index : ℕ) (past : List Turn) (line : Option ℤ) → HasPut l.initial.out puts →
+      IsBefore l.is_due l.initial.requests l.later index past line →
       (done : List Sender) × (left : List Sender) × (standing_senders index past ≡ done ++ left) × (l.place ≡ length done) × Sending l.requests (high past) line done left
       × HasPut l.out (onto puts (packed l.pid puts (flat_map (cues_of (high past) line) done)))
       × ((start : Option (List ℕ)) (ps : List (List ℕ)) → g.S.PacketSink.holds l.initial.sink start ps → g.S.PacketSink.holds l.sink start (ps ++ packed l.pid puts (flat_map (cues_of (high past) line) done)));

@@ -1,15 +1,17 @@
-use Rattle.std.proofs.Common.{◌≡◌, true, false, ◌<◌, ℕ, List, Option, [], ◌∷◌, ◌++◌, refl, sym, ap, subst, ◌∙◌}
-use Rattle.std.specs.Prelude.{map}
+use Rattle.std.proofs.Common.{◌≡◌, true, false, ◌∷◌, ◌++◌, sym, ap, subst, ◌∙◌}
 use Rattle.std.proofs.lemmas.List.{append-nil}
 use Rattle.ts_packet.specs.Runs.{onto}
 use Rattle.outgoing_packets.specs.Numbers.{HasPut, FrontFails}
-use Rattle.injector.specs.Senders.{is_none, chosen, cues_by, cues_of, events_in}
-use Rattle.injector.proofs.CueLemmas.{packed}
+use Rattle.injector.specs.Senders.{is_none, chosen, cues_by, events_in, packed}
 use Rattle.injector.proofs.SendingLemmas.{sending-shown, sending-choice, sending-skip, sending-told, none-cues}
 use Rattle.injector.proofs.cues.put_one.Goals as goal
 
 pub returns-then-is_none-clause-ok : goal.returns-then-is_none-clause-ok
-returns-then-is_none-clause-ok g c = λ start ps puts line after done x left held h sending at rises is.
+returns-then-is_none-clause-ok g c = λ start ps puts line after done x left held h next.
+    let sending = next.sending in
+    let at = next.place_is in
+    let rises = next.rises in
+    let is = next.time in
     let e = c.entry-entry.result.event in
     let n = c.entry-entry.result.value in
     let shown = sending-shown c.args.requests.now line after done x left sending c.args.place e n at c.entry-entry.ensures.event c.entry-entry.ensures.value in
@@ -18,7 +20,11 @@ returns-then-is_none-clause-ok g c = λ start ps puts line after done x left hel
     subst (λ cs. g.S.PacketSink.holds c.args.sink.now start (ps ++ packed c.args.pid puts cs)) (sym (none-cues x (chosen x line after) none)) (rw append-nil held)
 
 pub returns-then-is_none-clause-numbers : goal.returns-then-is_none-clause-numbers
-returns-then-is_none-clause-numbers g c = λ puts line after done x left h sending at rises is.
+returns-then-is_none-clause-numbers g c = λ puts line after done x left h next.
+    let sending = next.sending in
+    let at = next.place_is in
+    let rises = next.rises in
+    let is = next.time in
     let e = c.entry-entry.result.event in
     let n = c.entry-entry.result.value in
     let shown = sending-shown c.args.requests.now line after done x left sending c.args.place e n at c.entry-entry.ensures.event c.entry-entry.ensures.value in
@@ -27,7 +33,11 @@ returns-then-is_none-clause-numbers g c = λ puts line after done x left h sendi
     subst (λ cs. HasPut c.args.out.now (onto puts (packed c.args.pid puts cs))) (sym (none-cues x (chosen x line after) none)) h
 
 pub returns-then-is_none-clause-sending : goal.returns-then-is_none-clause-sending
-returns-then-is_none-clause-sending g c = λ line after done x left sending at rises is.
+returns-then-is_none-clause-sending g c = λ line after done x left next.
+    let sending = next.sending in
+    let at = next.place_is in
+    let rises = next.rises in
+    let is = next.time in
     let e = c.entry-entry.result.event in
     let n = c.entry-entry.result.value in
     let shown = sending-shown c.args.requests.now line after done x left sending c.args.place e n at c.entry-entry.ensures.event c.entry-entry.ensures.value in
@@ -36,7 +46,11 @@ returns-then-is_none-clause-sending g c = λ line after done x left sending at r
     sending-skip c.args.requests.now line after done x left sending none
 
 pub returns-in-Err-clause-err : goal.returns-in-Err-clause-err
-returns-in-Err-clause-err g c = λ start ps puts line after done x left held h sending at rises is.
+returns-in-Err-clause-err g c = λ start ps puts line after done x left held h next.
+    let sending = next.sending in
+    let at = next.place_is in
+    let rises = next.rises in
+    let is = next.time in
     let e = c.entry-entry.result.event in
     let n = c.entry-entry.result.value in
     let shown = sending-shown c.args.requests.now line after done x left sending c.args.place e n at c.entry-entry.ensures.event c.entry-entry.ensures.value in
@@ -45,7 +59,11 @@ returns-in-Err-clause-err g c = λ start ps puts line after done x left held h s
     (c.in-Err.ensures.err start ps puts x held h shown)
 
 pub returns-clause-ok : goal.returns-clause-ok
-returns-clause-ok g c = λ start ps puts line after done x left held h sending at rises is.
+returns-clause-ok g c = λ start ps puts line after done x left held h next.
+    let sending = next.sending in
+    let at = next.place_is in
+    let rises = next.rises in
+    let is = next.time in
     let e = c.entry-entry.result.event in
     let n = c.entry-entry.result.value in
     let shown = sending-shown c.args.requests.now line after done x left sending c.args.place e n at c.entry-entry.ensures.event c.entry-entry.ensures.value in
@@ -53,7 +71,11 @@ returns-clause-ok g c = λ start ps puts line after done x left held h sending a
     subst (λ k. g.S.PacketSink.holds c.put_cues.new.sink start (ps ++ packed c.args.pid puts (cues_by x k))) picked (c.in-Ok.ensures.ok start ps puts x held h shown)
 
 pub returns-clause-numbers : goal.returns-clause-numbers
-returns-clause-numbers g c = λ puts line after done x left h sending at rises is.
+returns-clause-numbers g c = λ puts line after done x left h next.
+    let sending = next.sending in
+    let at = next.place_is in
+    let rises = next.rises in
+    let is = next.time in
     let e = c.entry-entry.result.event in
     let n = c.entry-entry.result.value in
     let shown = sending-shown c.args.requests.now line after done x left sending c.args.place e n at c.entry-entry.ensures.event c.entry-entry.ensures.value in
@@ -61,7 +83,11 @@ returns-clause-numbers g c = λ puts line after done x left h sending at rises i
     subst (λ k. HasPut c.put_cues.new.out (onto puts (packed c.args.pid puts (cues_by x k)))) picked (c.in-Ok.ensures.numbers puts x h shown)
 
 pub returns-clause-sending : goal.returns-clause-sending
-returns-clause-sending g c = λ line after done x left sending at rises is.
+returns-clause-sending g c = λ line after done x left next.
+    let sending = next.sending in
+    let at = next.place_is in
+    let rises = next.rises in
+    let is = next.time in
     let e = c.entry-entry.result.event in
     let n = c.entry-entry.result.value in
     let shown = sending-shown c.args.requests.now line after done x left sending c.args.place e n at c.entry-entry.ensures.event c.entry-entry.ensures.value in

@@ -1,24 +1,18 @@
-use Rattle.std.proofs.Common.{◌≡◌, true, false, ◌<◌, ℕ, List, Option, [], ◌∷◌, ◌++◌, OnOk, IfErr, refl, sym, ap, subst, ◌∙◌, append_assoc, rules}
-use Rattle.std.specs.Prelude.{map, option_map, None, Some}
+use Rattle.std.proofs.Common.{◌≡◌, [], ◌∷◌, ◌++◌, refl, sym, ap, subst, ◌∙◌, append_assoc}
+use Rattle.std.specs.Prelude.{option_map}
 use Rattle.std.proofs.lemmas.List.{append-nil}
 use Rattle.pes_time.specs.Line.{ring_of}
 use Rattle.ts_packet.specs.Runs.{onto}
 use Rattle.ts_packet.proofs.RunLemmas.{onto-append}
-use Rattle.psi_section.proofs.PacketiserLemmas.{if_err_more, on_ok_more}
-use Rattle.program_laws.specs.Writing.{packets_out, section_out}
-use Rattle.program_follower.specs.Program.{tables}
-use Rattle.program_follower.specs.Standing.{tables_left}
-use Rattle.outgoing_packets.specs.declared.entry.CueEntry.TheVariants.{Added}
-use Rattle.outgoing_packets.specs.Entries.{change_of, AllGoOut}
-use Rattle.outgoing_packets.specs.Numbers.{HasPut, FrontFails}
+use Rattle.program_laws.specs.Writing.{packets_out}
+use Rattle.outgoing_packets.specs.Numbers.{HasPut}
 use Rattle.outgoing_packets.proofs.NumberLemmas.{fails-behind}
 use Rattle.injector.specs.Turns.{high}
-use Rattle.injector.specs.Noting.{Rises, NotesStandFor}
+use Rattle.injector.specs.Noting.{Rises, NotesStandFor, IsBefore}
 use Rattle.injector.specs.Requests.{RequestsStandFor}
 use Rattle.injector.specs.Steps.{packets_in, turns_in, high_of, purpose_of, cued, cue_packets, body_at, sent_at}
 use Rattle.injector.specs.Injecting.{IsFed, IsBodyOf, InjectorStandsFor, JudgesBy}
-use Rattle.injector.specs.declared.injector.Injector.{Injector}
-use Rattle.injector.proofs.FeedLemmas.{rises-at, turns-high, tables-go, body-off, body-map, place-map}
+use Rattle.injector.proofs.FeedLemmas.{rises-at, turns-high}
 use Rattle.injector.proofs.injector.Injector.put.Goals as goal
 
 pub returns-in-Err-clause-err : goal.returns-in-Err-clause-err
@@ -28,6 +22,8 @@ returns-in-Err-clause-err g c = λ start ps cfg past held b.
     let line = high_of cfg.program (p ∷ packets_in past) in
     let is : c.high-later.result ≡ option_map ring_of line = c.high-later.ensures (purpose_of cfg) (p ∷ packets_in past) b.body.follower in
     let rises : Rises (high turns) line = subst (λ h. Rises h line) (sym (turns-high cfg.program past)) (rises-at cfg p (packets_in past) b.body.sound) in
+    let before : IsBefore c.is_due-is_due.result c.args.self.now.requests c.high-later.result cfg.index turns line
+    = record { stands = b.judges.requests; notes = b.notes; rises = rises; time = is; idle = c.is_due-is_due.ensures c.args.is_map cfg p past b is } in
     let out = cued cfg past in
     let cues = packets_out c.args.self.now.cue_pid out (Rattle.injector.specs.Steps.sections_before cfg p past) in
     let same : cues ≡ cue_packets cfg p past out = ap (λ q. packets_out q out (Rattle.injector.specs.Steps.sections_before cfg p past)) b.body.cue_pid in
@@ -36,7 +32,7 @@ returns-in-Err-clause-err g c = λ start ps cfg past held b.
     fails-behind (sent_at cfg p past) [] cues more
     (λ put q. g.S.PacketSink.fails c.put_due.new.sink start (ps ++ put) q c.in-Err.fault) (λ put q. g.S.PacketSink.fails c.put_due.new.sink start (ps ++ put) q c.in-Err.fault)
     sent (λ put q f. f)
-    (c.in-Err.ensures.err start ps out cfg.index turns line held b.out b.judges.requests b.notes rises is)
+    (c.in-Err.ensures.err start ps out cfg.index turns line held b.out before)
 
 pub returns-in-Err-put_body-clause-err : goal.returns-in-Err-put_body-clause-err
 returns-in-Err-put_body-clause-err g c = λ start ps cfg past held b.
@@ -45,6 +41,8 @@ returns-in-Err-put_body-clause-err g c = λ start ps cfg past held b.
     let line = high_of cfg.program (p ∷ packets_in past) in
     let is : c.high-later.result ≡ option_map ring_of line = c.high-later.ensures (purpose_of cfg) (p ∷ packets_in past) b.body.follower in
     let rises : Rises (high turns) line = subst (λ h. Rises h line) (sym (turns-high cfg.program past)) (rises-at cfg p (packets_in past) b.body.sound) in
+    let before : IsBefore c.is_due-is_due.result c.args.self.now.requests c.high-later.result cfg.index turns line
+    = record { stands = b.judges.requests; notes = b.notes; rises = rises; time = is; idle = c.is_due-is_due.ensures c.args.is_map cfg p past b is } in
     let out = cued cfg past in
     let cues = packets_out c.args.self.now.cue_pid out (Rattle.injector.specs.Steps.sections_before cfg p past) in
     let same : cues ≡ cue_packets cfg p past out = ap (λ q. packets_out q out (Rattle.injector.specs.Steps.sections_before cfg p past)) b.body.cue_pid in
@@ -54,8 +52,8 @@ returns-in-Err-put_body-clause-err g c = λ start ps cfg past held b.
     (λ put q. g.S.PacketSink.fails c.put_body.new.sink start ((ps ++ cues) ++ put) q c.in-Err-put_body.fault) (λ put q. g.S.PacketSink.fails c.put_body.new.sink start (ps ++ put) q c.in-Err-put_body.fault)
     (sent ∙ ap (λ l. cues ++ l) (sym (append-nil more))) (λ put q f. subst (λ l. g.S.PacketSink.fails c.put_body.new.sink start l q c.in-Err-put_body.fault) (append_assoc ps cues put) f)
     (c.in-Err-put_body.ensures.err start (ps ++ cues) (onto out cues) cfg (packets_in past)
-    (c.in-Ok.ensures.ok start ps out cfg.index turns line held b.out b.judges.requests b.notes rises is)
-    (c.in-Ok.ensures.numbers out cfg.index turns line b.out b.judges.requests b.notes rises is) (record { cue_pid = b.body.cue_pid; follower = b.body.follower; sound = b.body.sound; map = b.body.map }))
+    (c.in-Ok.ensures.ok start ps out cfg.index turns line held b.out before)
+    (c.in-Ok.ensures.numbers out cfg.index turns line b.out before) (record { cue_pid = b.body.cue_pid; follower = b.body.follower; sound = b.body.sound; map = b.body.map }))
 
 pub returns-clause-ok : goal.returns-clause-ok
 returns-clause-ok g c = λ start ps cfg past held b.
@@ -64,6 +62,8 @@ returns-clause-ok g c = λ start ps cfg past held b.
     let line = high_of cfg.program (p ∷ packets_in past) in
     let is : c.high-later.result ≡ option_map ring_of line = c.high-later.ensures (purpose_of cfg) (p ∷ packets_in past) b.body.follower in
     let rises : Rises (high turns) line = subst (λ h. Rises h line) (sym (turns-high cfg.program past)) (rises-at cfg p (packets_in past) b.body.sound) in
+    let before : IsBefore c.is_due-is_due.result c.args.self.now.requests c.high-later.result cfg.index turns line
+    = record { stands = b.judges.requests; notes = b.notes; rises = rises; time = is; idle = c.is_due-is_due.ensures c.args.is_map cfg p past b is } in
     let out = cued cfg past in
     let cues = packets_out c.args.self.now.cue_pid out (Rattle.injector.specs.Steps.sections_before cfg p past) in
     let same : cues ≡ cue_packets cfg p past out = ap (λ q. packets_out q out (Rattle.injector.specs.Steps.sections_before cfg p past)) b.body.cue_pid in
@@ -71,8 +71,8 @@ returns-clause-ok g c = λ start ps cfg past held b.
     let sent : sent_at cfg p past ≡ cues ++ more = ap (λ l. l ++ body_at cfg p (packets_in past) (onto out l)) (sym same) in
     subst (g.S.PacketSink.holds c.put_body.new.sink start) (append_assoc ps cues more ∙ ap (λ l. ps ++ l) (sym sent))
     (c.in-Ok-put_body.ensures.ok start (ps ++ cues) (onto out cues) cfg (packets_in past)
-    (c.in-Ok.ensures.ok start ps out cfg.index turns line held b.out b.judges.requests b.notes rises is)
-    (c.in-Ok.ensures.numbers out cfg.index turns line b.out b.judges.requests b.notes rises is) (record { cue_pid = b.body.cue_pid; follower = b.body.follower; sound = b.body.sound; map = b.body.map }))
+    (c.in-Ok.ensures.ok start ps out cfg.index turns line held b.out before)
+    (c.in-Ok.ensures.numbers out cfg.index turns line b.out before) (record { cue_pid = b.body.cue_pid; follower = b.body.follower; sound = b.body.sound; map = b.body.map }))
 
 pub returns-clause-stands : goal.returns-clause-stands
 returns-clause-stands g c = λ cfg past b.
@@ -81,6 +81,8 @@ returns-clause-stands g c = λ cfg past b.
     let line = high_of cfg.program (p ∷ packets_in past) in
     let is : c.high-later.result ≡ option_map ring_of line = c.high-later.ensures (purpose_of cfg) (p ∷ packets_in past) b.body.follower in
     let rises : Rises (high turns) line = subst (λ h. Rises h line) (sym (turns-high cfg.program past)) (rises-at cfg p (packets_in past) b.body.sound) in
+    let before : IsBefore c.is_due-is_due.result c.args.self.now.requests c.high-later.result cfg.index turns line
+    = record { stands = b.judges.requests; notes = b.notes; rises = rises; time = is; idle = c.is_due-is_due.ensures c.args.is_map cfg p past b is } in
     let out = cued cfg past in
     let cues = packets_out c.args.self.now.cue_pid out (Rattle.injector.specs.Steps.sections_before cfg p past) in
     let same : cues ≡ cue_packets cfg p past out = ap (λ q. packets_out q out (Rattle.injector.specs.Steps.sections_before cfg p past)) b.body.cue_pid in
@@ -88,7 +90,7 @@ returns-clause-stands g c = λ cfg past b.
     let sent : sent_at cfg p past ≡ cues ++ more = ap (λ l. l ++ body_at cfg p (packets_in past) (onto out l)) (sym same) in
     let k = c.put_body.ensures.rest in
     let due = c.put_due.ensures.stands cfg.index turns b.judges.requests in
-    let told = c.in-Ok.ensures.told out cfg.index turns line b.out b.judges.requests b.notes rises is in
+    let told = c.in-Ok.ensures.told out cfg.index turns line b.out before in
     let requests : RequestsStandFor c.put_body.new.self.requests cfg.index turns = subst (λ r. RequestsStandFor r cfg.index turns) (sym k.requests) due in
     let n = subst (λ n. Rattle.injector.specs.Injecting.CountsAre n cfg.index turns) (sym k.counts) b.judges.counted in
     let noted = subst (λ r. Rattle.injector.specs.Noting.NotesTold r cfg.index turns line) (sym k.requests) told in
@@ -99,9 +101,10 @@ returns-clause-stands g c = λ cfg past b.
       };
       cue_pid = k.cue_pid ∙ b.body.cue_pid;
       notes = c.rise.ensures.notes cfg.index turns line requests noted rises is;
+      news = refl;
       follower = subst (λ f. Rattle.program_follower.specs.Following.FollowerStandsFor f (purpose_of cfg) (p ∷ packets_in past)) (sym k.follower) b.body.follower;
       out = subst (HasPut c.put_body.new.self.out) (sym (onto-append out cues more) ∙ ap (onto out) (sym sent))
-          (c.in-Ok-put_body.ensures.numbers (onto out cues) cfg (packets_in past) (c.in-Ok.ensures.numbers out cfg.index turns line b.out b.judges.requests b.notes rises is)
+          (c.in-Ok-put_body.ensures.numbers (onto out cues) cfg (packets_in past) (c.in-Ok.ensures.numbers out cfg.index turns line b.out before)
           (record { cue_pid = b.body.cue_pid; follower = b.body.follower; sound = b.body.sound; map = b.body.map }));
       whole = k.is_spent ∙ b.whole;
     }

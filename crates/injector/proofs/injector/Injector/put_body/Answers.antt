@@ -1,24 +1,16 @@
-use Rattle.std.proofs.Common.{◌≡◌, true, false, ◌<◌, ℕ, List, Option, [], ◌∷◌, ◌++◌, OnOk, IfErr, refl, sym, ap, subst, ◌∙◌, append_assoc, rules}
-use Rattle.std.specs.Prelude.{map, option_map, None, Some}
+use Rattle.std.proofs.Common.{◌≡◌, [], ◌++◌, OnOk, IfErr, sym, subst, ◌∙◌}
+use Rattle.std.specs.Prelude.{map, Some}
 use Rattle.std.proofs.lemmas.List.{append-nil}
-use Rattle.pes_time.specs.Line.{ring_of}
 use Rattle.ts_packet.specs.Runs.{onto}
-use Rattle.ts_packet.proofs.RunLemmas.{onto-append}
-use Rattle.psi_section.proofs.PacketiserLemmas.{if_err_more, on_ok_more}
+use Rattle.psi_section.proofs.PacketiserLemmas.{if_err_more}
 use Rattle.program_laws.specs.Writing.{packets_out, section_out}
 use Rattle.program_follower.specs.Program.{tables}
 use Rattle.program_follower.specs.Standing.{tables_left}
 use Rattle.outgoing_packets.specs.declared.entry.CueEntry.TheVariants.{Added}
 use Rattle.outgoing_packets.specs.Entries.{change_of, AllGoOut}
 use Rattle.outgoing_packets.specs.Numbers.{HasPut, FrontFails}
-use Rattle.outgoing_packets.proofs.NumberLemmas.{fails-behind}
-use Rattle.injector.specs.Turns.{high}
-use Rattle.injector.specs.Noting.{Rises, NotesStandFor}
-use Rattle.injector.specs.Requests.{RequestsStandFor}
-use Rattle.injector.specs.Steps.{packets_in, turns_in, high_of, purpose_of, cued, cue_packets, body_at, sent_at}
-use Rattle.injector.specs.Injecting.{IsFed, IsBodyOf, InjectorStandsFor, JudgesBy}
-use Rattle.injector.specs.declared.injector.Injector.{Injector}
-use Rattle.injector.proofs.FeedLemmas.{rises-at, turns-high, tables-go, body-off, body-map, place-map}
+use Rattle.injector.specs.Steps.{purpose_of, body_at}
+use Rattle.injector.proofs.FeedLemmas.{tables-go, body-off, body-map}
 use Rattle.injector.proofs.injector.Injector.put_body.Goals as goal
 
 pub returns-then-not-is_map-clause-err : goal.returns-then-not-is_map-clause-err

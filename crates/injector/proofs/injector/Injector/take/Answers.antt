@@ -1,26 +1,9 @@
-use Rattle.std.proofs.Common.{◌≡◌, true, false, ◌<◌, ℕ, List, Option, [], ◌∷◌, ◌++◌, OnOk, IfErr, refl, sym, ap, subst, ◌∙◌, append_assoc, rules}
-use Rattle.std.specs.Prelude.{map, option_map, None, Some}
-use Rattle.std.proofs.lemmas.List.{append-nil}
-use Rattle.pes_time.specs.Line.{ring_of}
-use Rattle.ts_packet.specs.Runs.{onto}
-use Rattle.ts_packet.proofs.RunLemmas.{onto-append}
-use Rattle.psi_section.proofs.PacketiserLemmas.{if_err_more, on_ok_more}
-use Rattle.program_laws.specs.Writing.{packets_out, section_out}
-use Rattle.program_follower.specs.Program.{tables}
+use Rattle.std.proofs.Common.{subst, ◌∙◌}
 use Rattle.program_follower.specs.Faults.{network_fault}
 use Rattle.program_follower.specs.Following.{IsNetwork}
-use Rattle.program_follower.specs.Standing.{tables_left}
-use Rattle.outgoing_packets.specs.declared.entry.CueEntry.TheVariants.{Added}
-use Rattle.outgoing_packets.specs.Entries.{change_of, AllGoOut}
-use Rattle.outgoing_packets.specs.Numbers.{HasPut, FrontFails}
-use Rattle.outgoing_packets.proofs.NumberLemmas.{fails-behind}
-use Rattle.injector.specs.Turns.{high}
-use Rattle.injector.specs.Noting.{Rises, NotesStandFor}
-use Rattle.injector.specs.Requests.{RequestsStandFor}
-use Rattle.injector.specs.Steps.{packets_in, turns_in, high_of, purpose_of, cued, cue_packets, body_at, sent_at}
-use Rattle.injector.specs.Injecting.{IsFed, IsBodyOf, InjectorStandsFor, JudgesBy}
-use Rattle.injector.specs.declared.injector.Injector.{Injector}
-use Rattle.injector.proofs.FeedLemmas.{rises-at, turns-high, tables-go, body-off, body-map, place-map}
+use Rattle.injector.specs.Steps.{packets_in, purpose_of}
+use Rattle.injector.specs.Injecting.{IsFed}
+use Rattle.injector.proofs.FeedLemmas.{place-map}
 use Rattle.injector.proofs.injector.Injector.take.Goals as goal
 
 pub returns-in-Ok-put-clause-ok : goal.returns-in-Ok-put-clause-ok
@@ -32,6 +15,7 @@ returns-in-Ok-put-clause-ok g c = λ start ps cfg past held b.
     record {
       judges = record { requests = b.judges.requests; counted = b.judges.counted };
       notes = b.notes;
+      news = b.news;
       body = record {
         cue_pid = b.cue_pid;
         follower = c.in-Ok.ensures.stands (purpose_of cfg) ps_in b.follower;
@@ -52,6 +36,7 @@ returns-in-Ok-put-clause-stands g c = λ cfg past b.
     record {
       judges = record { requests = b.judges.requests; counted = b.judges.counted };
       notes = b.notes;
+      news = b.news;
       body = record {
         cue_pid = b.cue_pid;
         follower = c.in-Ok.ensures.stands (purpose_of cfg) ps_in b.follower;
@@ -75,6 +60,7 @@ returns-in-Err-clause-err g c = λ start ps cfg past held b.
     record {
       judges = record { requests = b.judges.requests; counted = b.judges.counted };
       notes = b.notes;
+      news = b.news;
       body = record {
         cue_pid = b.cue_pid;
         follower = c.in-Ok.ensures.stands (purpose_of cfg) ps_in b.follower;

@@ -1,5 +1,5 @@
 use Rattle.std.proofs.Common.{◌≡◌, ◌∷◌, sym, subst, ◌∙◌, rules}
-use Rattle.std.specs.Prelude.{Option, Some, map}
+use Rattle.std.specs.Prelude.{Some}
 use Rattle.event_table.specs.Standing.{IsTimeAt}
 use Rattle.injector.specs.Turns.{Passed, high}
 use Rattle.injector.specs.Requests.{RequestsStandFor}
