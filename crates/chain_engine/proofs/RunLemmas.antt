@@ -6,7 +6,7 @@ use Rattle.std.specs.Option.{is_some}
 use Rattle.std.proofs.lemmas.List.{append-nil, reverse-append, length-reverse}
 use Rattle.std.proofs.lemmas.List.Elements.{All-nil}
 use Rattle.ts_packet.specs.Packets.{packets_of, packet_fault}
-use Rattle.ts_packet.specs.Reading.{Given, HasRead, Refuses}
+use Rattle.ts_packet.specs.Sources.{Given, HasRead, Refuses}
 use Rattle.ts_packet.specs.Runs.{Seen, seen_after, onto}
 use Rattle.ts_packet.specs.FirstFault.{fault_of, named, or_then, sound_front, Cause, OfInput, OfDevice, OfNothing, read_cause, SaysBy}
 use Rattle.ts_packet.specs.declared.reader.ReadFault.{ReadFault}

@@ -1,7 +1,7 @@
 -- Whole runs: what is put and answered, by the network's bytes and what the automation gave; what a fault says, and what the devices did there.
 use Rattle.std.specs.Prelude.{◌≡◌, ℕ, suc, List, [], ◌∷◌, ◌++◌, Bool, Option, None, Some, IfSome, length, reverse}
 use Rattle.ts_packet.specs.Packets.{packets_of}
-use Rattle.ts_packet.specs.Reading.{ReadSo}
+use Rattle.ts_packet.specs.Sources.{ReadSo, RunBlamed}
 use Rattle.ts_packet.specs.Sinks.{Blamed}
 use Rattle.ts_packet.specs.Transfers.{WentWell}
 use Rattle.ts_packet.specs.FirstFault.{Cause, OfInput, OfDevice, OfNothing, read_cause, SaysBy}
@@ -14,8 +14,6 @@ use Rattle.psi_tables.specs.declared.network.NetworkFault.{NetworkFault}
 use Rattle.program_follower.specs.FirstFault.{first_network_fault, before_network_fault}
 use Rattle.scte104_codec.specs.declared.reply.Reply.{Reply}
 use Rattle.scte104_codec.specs.Reading.{message_of}
-use Rattle.unit_cut.specs.Runs as cuts
-use Rattle.unit_cut.specs.declared.run.CutFault.TheVariants as cut_faults
 use Rattle.outgoing_packets.specs.Numbers.{FrontFails}
 use Rattle.injector.specs.Replies.{reply_to}
 use Rattle.injector.specs.Steps.{Step, Message, Packet, turns_in, purpose_of, cued, sent_at, messages_in, accepted_in, refused_in}
@@ -149,7 +147,7 @@ StopsAt c fault input is_out fails exchanged = IfSome input (λ bs. Stopped c fa
 
 -- what the network's device counted where a run stops so; `ended` is whether it has told the end
 abbrev pub NetworkBlamed : RunFault → Bool → Tally → Tally → Type 0
-NetworkBlamed (Read fault) ended old new = cuts.NetworkBlamed (cut_faults.Read fault) ended old new
+NetworkBlamed (Read fault) ended old new = RunBlamed fault old new
 NetworkBlamed (Feed fault) ended old new = ReadSo ended old new
 
 -- what the output's device counted there; `full` is whether the output takes no more

@@ -1,9 +1,8 @@
 //! The chain, and whole runs of it.
 
 ghost use Rattle.std.specs.Prelude.{◌≡◌, ℕ, ◌⊎◌, List, ◌++◌, Option, Err, false, OnOk, IfOk, IfErr};
-ghost use Rattle.ts_packet.specs.Reading.{SourceCounts};
+ghost use Rattle.ts_packet.specs.Sources.{SourceCounts, Stalled, Exhausted};
 ghost use Rattle.ts_packet.specs.Transfers.{WentWell};
-ghost use Rattle.unit_cut.specs.Runs.{Stalled, Exhausted};
 ghost use Rattle.psi_tables.specs.declared.config.Config.{Config};
 ghost use Rattle.chain_engine.specs.Chains.{ChainStandsFor};
 ghost use Rattle.chain_engine.specs.Runs.{Exchanged, InjectsAll, StopsAt, NetworkBlamed, OutputBlamed};

@@ -1,9 +1,9 @@
 use Rattle.std.proofs.Common.{[], ◌∷◌, ◌++◌, sym, subst, append_assoc}
 use Rattle.std.proofs.lemmas.List.{append-nil}
-use Rattle.ts_packet.specs.Reading.{Refuses}
+use Rattle.ts_packet.specs.Sources.{Refuses}
 use Rattle.ts_packet.proofs.CountLemmas.{well-refl, well-trans}
-use Rattle.unit_cut.proofs.RunLemmas.{given_none, given_more}
-use Rattle.unit_cut.proofs.BlameLemmas.{on-refl, on-more}
+use Rattle.ts_packet.proofs.RunBlameLemmas.{given_none, given_more}
+use Rattle.ts_packet.proofs.RunBlameLemmas.{on-refl, on-more}
 use Rattle.injector.specs.Steps.{sent_at}
 use Rattle.chain_engine.specs.Runs.{sent_by}
 use Rattle.chain_engine.proofs.RunLemmas.{begun, heard, passed, ends, read_stops, feed_stops, fails_so}

@@ -1,6 +1,6 @@
 use Rattle.std.proofs.Common.{◌≡◌, ◌-◌, ◌^◌, ◌++◌, List, ℕ, Option, false}
 use Rattle.ts_packet.specs.Transfers.{WentWell}
-use Rattle.unit_cut.specs.Runs.{HasGiven, ReadOn}
+use Rattle.ts_packet.specs.Sources.{HasGiven, ReadOn}
 use Rattle.psi_tables.specs.declared.config.Config.{Config}
 use Rattle.chain_engine.specs.Chains.{ChainStandsFor}
 use Rattle.chain_engine.specs.Runs.{Exchanged}
