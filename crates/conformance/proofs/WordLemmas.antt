@@ -1,6 +1,5 @@
 -- Words between spaces, and the packets that they spell.
 use Rattle.std.proofs.Common.{◌≡◌, ℕ, zero, suc, ◌+◌, ◌<◌, List, [], ◌∷◌, ◌++◌, Bool, true, false, nat_eq, length, take, drop, get_or, Option, None, Some, refl, sym, ap, ◌∙◌, append_assoc, add-one, eqb-true, arith}
-use Rattle.std.specs.Prelude.{option_map}
 use Rattle.hex_digits.proofs.DigitLemmas.{behind}
 use Rattle.conformance.specs.Sections.{before_word, words_of, packet_of, packet_before, packets_in}
 

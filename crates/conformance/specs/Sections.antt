@@ -1,5 +1,5 @@
 -- Which packets words spell, and which sections these finish.
-use Rattle.std.specs.Prelude.{◌≡◌, ℕ, List, [], ◌∷◌, ◌++◌, Option, None, Some, option_and_then, is_none, length, map, reverse, ◌==◌, ◌&&◌, if◌then◌else◌}
+use Rattle.std.specs.Prelude.{◌≡◌, ℕ, List, [], ◌∷◌, Option, None, Some, option_and_then, is_none, length, map, reverse, ◌==◌, ◌&&◌, if◌then◌else◌}
 use Rattle.hex_digits.specs.Digits.{spelled}
 use Rattle.ts_packet.specs.Packets.{packet_fault}
 use Rattle.ts_packet.specs.Runs.{Seen, seen_after}

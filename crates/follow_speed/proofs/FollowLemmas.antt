@@ -1,16 +1,14 @@
 -- A run over a network, on the way and at its end.
-use Rattle.std.specs.Prelude.{All, option_map}
+use Rattle.std.specs.Prelude.{option_map}
 use Rattle.std.specs.Io.KnownBytes.{IsAtEnd}
-use Rattle.std.proofs.Common.{◌≡◌, ℕ, List, [], ◌∷◌, ◌++◌, Bool, false, sym, ap, ◌∙◌, subst, Option, Some, None, reverse}
+use Rattle.std.proofs.Common.{◌≡◌, ℕ, List, [], ◌∷◌, ◌++◌, Bool, false, sym, ap, subst, Option, None, reverse}
 use Rattle.std.proofs.lemmas.List.Elements.{All-nil}
 use Rattle.ts_packet.specs.Sources.{Given, Refuses}
 use Rattle.ts_packet.specs.Runs.{Seen}
 use Rattle.ts_packet.specs.declared.reader.ReadFault.{ReadFault}
-use Rattle.ts_packet.specs.declared.reader.ReadFault.TheVariants as read_faults
 use Rattle.ts_packet.proofs.PacketsLemmas.{read_none, read_more}
 use Rattle.std.proofs.lemmas.List.{reverse-append}
 use Rattle.ts_packet.proofs.FirstFaultLemmas.{sound_more}
-use Rattle.psi_tables.specs.declared.network.NetworkFault.{NetworkFault}
 use Rattle.program_follower.specs.declared.follower.ProgramFollower.{ProgramFollower}
 use Rattle.program_follower.specs.declared.follower.FollowFault.{FollowFault}
 use Rattle.program_follower.specs.declared.follower.FollowFault.TheVariants as follow_faults
@@ -19,7 +17,6 @@ use Rattle.program_follower.specs.Faults.{network_fault}
 use Rattle.program_follower.specs.FirstFault.{network_test}
 use Rattle.program_follower.specs.Following.{FollowerStandsFor, IsNetwork}
 use Rattle.program_follower.proofs.RunLemmas.{ends_sound, reader_stops, packet_stops}
-use Rattle.follow_speed.specs.declared.RunFault.{RunFault}
 use Rattle.follow_speed.specs.declared.RunFault.TheVariants.{Read, Follow}
 use Rattle.follow_speed.specs.Runs.{of_network, HasNoFault, Stops, HasFollowed}
 

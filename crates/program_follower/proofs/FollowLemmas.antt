@@ -1,6 +1,6 @@
 -- One packet more, for the whole follower.
 use Rattle.std.specs.Option.{option_or}
-use Rattle.std.proofs.Common.{◌≡◌, ℕ, ℤ, List, [], ◌∷◌, Bool, true, false, ◌&&◌, refl, sym, ap, subst, ◌∙◌, if◌then◌else◌, map, Option, Some, None}
+use Rattle.std.proofs.Common.{◌≡◌, ℕ, List, [], ◌∷◌, true, false, ◌&&◌, refl, sym, ap, subst, ◌∙◌, if◌then◌else◌, map, Option, Some, None}
 use Rattle.std.specs.Prelude.{option_map, is_some}
 use Rattle.psi_tables.specs.declared.network.NetworkFault.{NetworkFault}
 use Rattle.psi_tables.specs.declared.network.NetworkFault.TheVariants.{CuePidUsed}
@@ -13,7 +13,7 @@ use Rattle.program_follower.specs.declared.purpose.Purpose.{Purpose}
 use Rattle.program_follower.specs.declared.purpose.Listed.{Listed}
 use Rattle.program_follower.specs.Standing.{sections_on, newest}
 use Rattle.program_follower.specs.declared.streams.Streams.{Streams}
-use Rattle.program_follower.specs.Program.{listed, since_pat, table_of, tables_on, tables, all_tables, first_map, known_map, Program, program_in, program_of, behind_head, pids_of}
+use Rattle.program_follower.specs.Program.{listed, since_pat, table_of, tables_on, tables, first_map, known_map, Program, program_in, program_of, behind_head, pids_of}
 use Rattle.program_follower.specs.Faults.{if_bad, on_cue, cue_fault, pats_fault, maps_fault, as_network, network_fault}
 use Rattle.program_follower.specs.Following.{StreamsSince, GoesTo, grown}
 use Rattle.program_follower.proofs.StepLemmas.{known_grows, listed_stays}

@@ -1,9 +1,9 @@
 -- What a piece says of the begin of units.
-use Rattle.std.proofs.Common.{◌≡◌, ℕ, List, ◌∷◌, Bool, true, false, not, ◌&&◌, refl, sym, ap, ◌∙◌, Option}
+use Rattle.std.proofs.Common.{◌≡◌, ℕ, List, ◌∷◌, Bool, true, false, not, ◌&&◌, refl, ap, ◌∙◌}
 use Rattle.pes_time.specs.Stamps.{stamp_of, is_split}
 use Rattle.ts_packet.specs.Fields.{payload_on, unit_start, bytes}
 use Rattle.ts_packet.specs.Duplicates.{original, repeats}
-use Rattle.unit_stream.specs.Times.{begins, begins_one, high, raised, stamp, splits}
+use Rattle.unit_stream.specs.Times.{begins, high, raised, stamp, splits}
 use Rattle.program_follower.specs.Streaming.{IsOne}
 
 module _ (pids : List ℕ) (pid : ℕ) (p : List ℕ) (past : List (List ℕ)) (one : IsOne pids pid p past) where

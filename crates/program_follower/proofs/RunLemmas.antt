@@ -2,7 +2,7 @@
 -- a packet.
 use Rattle.std.specs.Prelude.{All}
 use Rattle.std.specs.Io.KnownBytes.{IsAtEnd}
-use Rattle.std.proofs.Common.{◌≡◌, ℕ, ◌<◌, ◌≤◌, List, [], ◌∷◌, ◌++◌, Bool, true, false, refl, sym, ap, ◌∙◌, append_assoc, Option, Some, None, IfSome, reverse, length, take, drop}
+use Rattle.std.proofs.Common.{◌≡◌, ℕ, ◌≤◌, List, [], ◌∷◌, ◌++◌, false, ap, ◌∙◌, append_assoc, Option, Some, None, IfSome, reverse, length, take, drop}
 use Rattle.ts_packet.specs.Packets.{packets_of, last_part, packet_fault}
 use Rattle.ts_packet.specs.Sources.{Given, HasRead, Refuses}
 use Rattle.ts_packet.specs.Runs.{Seen, seen_after}

@@ -5,7 +5,7 @@ use Rattle.std.proofs.lemmas.Bool.{eqb-true, eq-eqb}
 use Rattle.std.proofs.Math.ListN.{set}
 use Rattle.std.proofs.lemmas.List.{get_or-set_same, get_or-set_other}
 use Rattle.ts_packet.specs.Fields.{in_error, pid_of, on, payload, payload_on, scrambled, unit_start}
-use Rattle.ts_packet.specs.Duplicates.{original, repeats}
+use Rattle.ts_packet.specs.Duplicates.{repeats}
 use Rattle.ts_packet.proofs.Cases.{by_test}
 use Rattle.ts_packet.proofs.FieldLemmas.{payload_on-on}
 use Rattle.psi_tables.specs.declared.stream.Stream.{Stream}

@@ -10,7 +10,6 @@ use Rattle.psi_section.specs.Sections.{given}
 use Rattle.psi_tables.specs.declared.fault.TableFault.{TableFault}
 use Rattle.psi_tables.specs.declared.network.NetworkFault.{NetworkFault}
 use Rattle.psi_tables.specs.declared.network.NetworkFault.TheVariants.{TooManyStreams, BadPids, PmtTooLong, CuePidUsed, ProgramChanged}
-use Rattle.psi_tables.specs.declared.stream.Stream.{Stream}
 use Rattle.psi_tables.specs.Sections.{is_current}
 use Rattle.psi_tables.specs.Streams.{pid_in, switched_of}
 use Rattle.psi_tables.specs.Association.{Association, Pair, pat, pid_of_program}

@@ -4,7 +4,7 @@ use Rattle.std.specs.Prelude.{All, option_map}
 use Rattle.std.proofs.Common.{◌≡◌, ℕ, ◌<◌, List, [], ◌∷◌, ◌++◌, refl, sym, ap, ◌∙◌, Option, Some, None, reverse, length, arith}
 use Rattle.std.proofs.lemmas.List.{append-nil}
 use Rattle.std.proofs.lemmas.List.Elements.{All-nil, All-cons, All-head, All-tail}
-use Rattle.ts_packet.specs.Packets.{packets_of, last_part, bytes_of, packet_fault}
+use Rattle.ts_packet.specs.Packets.{bytes_of, packet_fault}
 use Rattle.ts_packet.specs.Runs.{Seen, seen_after, onto}
 use Rattle.ts_packet.specs.FirstFault.{or_then, first_of, named, fault_of, fault_behind}
 use Rattle.ts_packet.specs.declared.packet.PacketFault.{PacketFault}
@@ -12,13 +12,12 @@ use Rattle.ts_packet.specs.declared.packet.PacketFault.TheVariants as packet_fau
 use Rattle.ts_packet.specs.declared.reader.ReadFault.{ReadFault}
 use Rattle.ts_packet.proofs.RunLemmas.{seen_after-append}
 use Rattle.ts_packet.proofs.PacketsLemmas.{packets_of-whole, last_part-whole}
-use Rattle.psi_tables.specs.declared.network.NetworkFault.{NetworkFault}
 use Rattle.program_follower.specs.declared.purpose.Purpose.{Purpose}
 use Rattle.program_follower.specs.Faults.{network_fault, first_fault}
 use Rattle.program_follower.specs.FirstFault.{network_test}
 use Rattle.program_follower.proofs.OptionLemmas.{none_both}
-use Rattle.program_follower.proofs.RunLemmas.{found, by_parts}
-use Rattle.program_laws.specs.FirstFault.{BytesFault, OfReader, OfNetwork, fault_of_bytes, fault_of_part, ArePacketsLong, OneMorePacket, FewMoreBytes, IsFaultless, FaultlessBytes}
+use Rattle.program_follower.proofs.RunLemmas.{by_parts}
+use Rattle.program_laws.specs.FirstFault.{BytesFault, OfReader, OfNetwork, fault_of_bytes, fault_of_part, ArePacketsLong, OneMorePacket, FewMoreBytes, FaultlessBytes}
 
 or_then-assoc : {A : Type 0} (x y z : Option A) → or_then (or_then x y) z ≡ or_then x (or_then y z)
 or_then-assoc None y z = refl

@@ -1,9 +1,9 @@
 -- One packet more.
 use Rattle.std.specs.Option.{option_or}
-use Rattle.std.proofs.Common.{◌≡◌, List, [], ◌∷◌, ◌++◌, refl, sym, ap, ◌∙◌, Option, Some, None, if◌then◌else◌}
+use Rattle.std.proofs.Common.{◌≡◌, [], ◌∷◌, refl, ap, ◌∙◌, Option, Some, None, if◌then◌else◌}
 use Rattle.std.specs.Prelude.{is_some, option_map}
 use Rattle.program_follower.specs.declared.purpose.Listed.{Listed}
-use Rattle.program_follower.specs.Program.{listed, since_pat, Table, tables, all_tables, first_map, known_map, program_in, behind_head}
+use Rattle.program_follower.specs.Program.{listed, since_pat, tables, first_map, known_map, program_in, behind_head}
 use Rattle.program_follower.proofs.StepLemmas.{known_grows}
 use Rattle.program_laws.specs.Laws.{TablesGrow, Stays}
 

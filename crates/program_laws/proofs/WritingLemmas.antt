@@ -1,12 +1,11 @@
 -- What is written is read again.
 use Rattle.std.specs.Option.{option_or}
-use Rattle.std.proofs.Common.{◌≡◌, ℕ, ◌<◌, List, [], ◌∷◌, ◌++◌, Bool, true, false, refl, sym, ap, ◌∙◌, arith, Option, Some, None, map}
+use Rattle.std.proofs.Common.{◌≡◌, ℕ, ◌<◌, List, [], ◌∷◌, ◌++◌, true, false, refl, sym, ap, ◌∙◌, arith, Option, Some, None, map}
 use Rattle.std.specs.List.{AllByRecursion}
-use Rattle.std.specs.Prelude.{option_map, find, All, not, ◌==◌, ◌&&◌}
-use Rattle.std.proofs.lemmas.Bool.{eqb-true}
+use Rattle.std.specs.Prelude.{option_map, find, All, not, ◌==◌}
 use Rattle.std.proofs.lemmas.List.{map-append}
 use Rattle.std.proofs.lemmas.List.Elements.{All-cons, All-nil}
-use Rattle.ts_packet.specs.Fields.{on, pid_of, in_error}
+use Rattle.ts_packet.specs.Fields.{on}
 use Rattle.ts_packet.specs.Duplicates.{last_of}
 use Rattle.ts_packet.specs.Numbering.{one_past}
 use Rattle.ts_packet.proofs.Cases.{by_test}

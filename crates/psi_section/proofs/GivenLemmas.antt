@@ -12,9 +12,6 @@ use Rattle.psi_section.specs.declared.front.Front.{Front}
 use Rattle.psi_section.specs.declared.front.Front.TheVariants.{Nothing, Whole, Part}
 use Rattle.psi_section.specs.Sections.{front_of, has_crc, is_good, is_bad, Assembled, taken_past, taken, continued, started, payload_taken, unbroken, packet_taken, held, finished, given}
 use Rattle.psi_section.specs.Crc.{crc}
-use Rattle.psi_section.specs.declared.assembler.Assembler.{Assembler}
-use Rattle.psi_section.specs.Storing.{content}
-use Rattle.psi_section.specs.Assembling.{left}
 use Rattle.psi_section.specs.Laws.{CanBeGiven, IsSound}
 use Rattle.psi_section.proofs.FrontLemmas.{whole_stays, whole_says, front_whole, front_from, not_yet, by_front, by_front_joined}
 

@@ -1,10 +1,10 @@
 -- What a run of `cut` puts, where its source tells its bytes; what its faults say, and what its devices did there.
-use Rattle.std.specs.Prelude.{◌≡◌, ℕ, ◌+◌, ◌^◌, ◌-◌, ◌⊎◌, List, [], ◌∷◌, ◌++◌, Bool, true, false, Option, None, Some, IfSome, All, length, reverse}
+use Rattle.std.specs.Prelude.{◌≡◌, ℕ, List, [], ◌∷◌, ◌++◌, Bool, Option, None, Some, IfSome, All, length, reverse}
 use Rattle.ts_packet.specs.Packets.{packets_of}
 use Rattle.ts_packet.specs.Sources.{ReadSo, RunBlamed}
 use Rattle.ts_packet.specs.Sinks.{Blamed}
 use Rattle.ts_packet.specs.declared.tally.Tally.{Tally}
-use Rattle.ts_packet.specs.Transfers.{WentWell, LastMovedNone, LastFailed, TookTurns}
+use Rattle.ts_packet.specs.Transfers.{WentWell}
 use Rattle.ts_packet.specs.Runs.{Seen, seen_after}
 use Rattle.ts_packet.specs.declared.sink.PutFault.{PutFault}
 use Rattle.unit_stream.specs.Faults.{unit_fault}

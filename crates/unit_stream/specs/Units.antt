@@ -3,7 +3,7 @@ use Rattle.std.specs.Prelude.{◌≡◌, ℕ, ℤ, ◌++◌, ◌∷◌, List, []
 use Rattle.ts_packet.specs.Fields.{payload_on, unit_start, bytes, random_access}
 use Rattle.ts_packet.specs.Duplicates.{original}
 use Rattle.ts_packet.specs.Runs.{Seen, seen_after}
-use Rattle.unit_stream.specs.Times.{begins, unit_time, high}
+use Rattle.unit_stream.specs.Times.{begins, unit_time}
 
 -- a unit: its time, its bytes, and the random_access_indicator of its first packet
 pub record TimedUnit : Type 0 where

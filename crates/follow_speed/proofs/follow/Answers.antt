@@ -1,4 +1,4 @@
-use Rattle.std.proofs.Common.{◌≡◌, ◌∷◌, ◌++◌, [], reverse}
+use Rattle.std.proofs.Common.{◌∷◌, ◌++◌, [], reverse}
 use Rattle.follow_speed.specs.declared.RunFault.TheVariants.{Read, Follow}
 use Rattle.follow_speed.specs.Runs.{HasNoFault, Stops}
 use Rattle.program_follower.specs.Purposes.{reading_advertisement}

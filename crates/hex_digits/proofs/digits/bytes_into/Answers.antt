@@ -1,4 +1,4 @@
-use Rattle.std.proofs.Common.{◌≡◌, ◌+◌, ◌*◌, ◌≤◌, ◌<◌, ◌++◌, ◌∷◌, [], length, take, drop, arith, ap, sym, ◌∙◌, refl, Some, None, Option, List, ℕ}
+use Rattle.std.proofs.Common.{◌+◌, ◌*◌, ◌≤◌, ◌<◌, ◌++◌, ◌∷◌, [], length, take, arith, ap, ◌∙◌, refl}
 use Rattle.std.proofs.lemmas.List.{take_more_set, length-set, length-drop}
 use Rattle.hex_digits.specs.Digits.{spelled}
 use Rattle.hex_digits.proofs.DigitLemmas.{behind, behind_none, spelled_more}

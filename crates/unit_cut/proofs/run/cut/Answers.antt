@@ -4,8 +4,7 @@ use Rattle.ts_packet.proofs.CountLemmas.{well-refl, well-trans}
 use Rattle.unit_cut.specs.Standing.{CutterStandsFor, read_of}
 use Rattle.unit_cut.proofs.RunLemmas.{passed_none, passed_more, ends, the_cut, is_the_cut, cut_of_fewer}
 use Rattle.unit_cut.proofs.StopLemmas.{read_stops, pass_stops}
-use Rattle.ts_packet.proofs.RunBlameLemmas.{given_none, given_more, on-refl, on-more, on-told, on-end, read_blamed, read_turns}
-use Rattle.unit_cut.proofs.BlameLemmas.{pass_read, pass_wrote}
+use Rattle.ts_packet.proofs.RunBlameLemmas.{given_none, given_more, on-refl, on-more}
 use Rattle.unit_cut.proofs.run.cut.Goals as goal
 
 pub loop-slots-init : goal.loop-slots-init

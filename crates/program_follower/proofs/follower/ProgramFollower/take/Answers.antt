@@ -1,4 +1,4 @@
-use Rattle.std.proofs.Common.{◌≡◌, ◌&&◌, ◌∷◌, true, false, Some, None, refl, sym, ap, ◌∙◌}
+use Rattle.std.proofs.Common.{◌≡◌, ◌&&◌, ◌∷◌, false, Some, None, refl, sym, ap, ◌∙◌}
 use Rattle.program_follower.specs.Program.{program_of, behind_head}
 use Rattle.program_follower.specs.Faults.{on_cue, as_network}
 use Rattle.program_follower.specs.Standing.{lent_program}

@@ -1,8 +1,6 @@
-use Rattle.std.proofs.Common.{◌≡◌, ℕ, List, true, false, Option, Some, None, sym, ◌∙◌, IfErr}
+use Rattle.std.proofs.Common.{◌≡◌, true, false, Some, None}
 use Rattle.ts_packet.specs.Fields.{on}
-use Rattle.psi_section.specs.Assembling.{IsOf}
 use Rattle.psi_section.proofs.AssemblerLemmas.{on-of}
-use Rattle.program_follower.specs.Faults.{pats_fault}
 use Rattle.program_follower.proofs.PatLemmas.{pats_off, pats_clean_off, pats_on, pats_fault_on}
 use Rattle.program_follower.proofs.pat_reader.PatReader.feed.Goals as goal
 

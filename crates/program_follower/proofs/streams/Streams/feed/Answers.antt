@@ -1,8 +1,7 @@
-use Rattle.std.proofs.Common.{◌≡◌, ℕ, ◌<◌, ◌≤◌, ◌&&◌, ◌∷◌, true, false, Some, None, sym, ap, ◌∙◌}
-use Rattle.std.specs.Prelude.{is_some, option_map}
+use Rattle.std.proofs.Common.{◌≡◌, ℕ, ◌&&◌, false, Some, None, sym, ap, ◌∙◌}
+use Rattle.std.specs.Prelude.{option_map}
 use Rattle.pes_time.specs.Line.{ring_of}
-use Rattle.ts_packet.specs.Fields.{payload, payload_on, scrambled}
-use Rattle.unit_stream.specs.Times.{high}
+use Rattle.ts_packet.specs.Fields.{payload_on, scrambled}
 use Rattle.program_follower.specs.Faults.{pids_in}
 use Rattle.program_follower.specs.Streaming.{first_on}
 use Rattle.program_follower.proofs.StreamLemmas.{first_is_on, first_within_streams, all_off, all_on, none_fault, none_high, is_one, fault_scrambled, fault_begin, payload_of, some_reader}
