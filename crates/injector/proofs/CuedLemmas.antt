@@ -1,11 +1,10 @@
 -- The cued stream of a history is that of its network.
-use Rattle.std.proofs.Common.{◌≡◌, ℕ, suc, ◌+◌, ◌<◌, ◌≤◌, ◌==◌, Bool, true, false, cond, List, [], ◌∷◌, ◌++◌, length, refl, ap, sym, ◌∙◌, subst, arith}
-use Rattle.std.specs.Prelude.{map, Option, None, Some}
+use Rattle.std.proofs.Common.{◌≡◌, ℕ, ◌<◌, ◌≤◌, ◌==◌, Bool, true, false, cond, List, [], ◌∷◌, ◌++◌, length, refl, ap, sym, ◌∙◌, subst, arith}
+use Rattle.std.specs.Prelude.{Option, None, Some}
 use Rattle.std.specs.List.{AllByRecursion}
 use Rattle.std.proofs.lemmas.Bool.{eq-eqb, eqb-true}
 use Rattle.ts_packet.specs.Fields.{on}
 use Rattle.ts_packet.specs.Runs.{onto}
-use Rattle.ts_packet.proofs.RunLemmas.{onto-append}
 use Rattle.ts_packet.proofs.Cases.{by_test}
 use Rattle.ts_packet.specs.Numbering.{one_past}
 use Rattle.psi_section.proofs.ReadBackLemmas.{Carries, turn_carry}
@@ -13,14 +12,13 @@ use Rattle.ts_packet.proofs.FieldLemmas.{payload_on-on}
 use Rattle.psi_tables.specs.declared.config.Config.{Config}
 use Rattle.program_follower.specs.declared.purpose.Listed.{Listed}
 use Rattle.program_follower.specs.Program.{listed, Table, tables}
-use Rattle.program_follower.specs.Faults.{first_fault}
-use Rattle.program_laws.specs.Writing.{Along, Writing, written, body, packets_out, section_out, number_on, Off}
+use Rattle.program_laws.specs.Writing.{Along, written, body, number_on, Off}
 use Rattle.program_laws.specs.Cued.{cueing, On, cued as cued_network}
 use Rattle.program_laws.proofs.CuedLemmas.{ons_off, cued_stream_reads}
 use Rattle.program_laws.proofs.FaultLemmas.{no_cue_packets}
 use Rattle.program_laws.proofs.PacketLemmas.{one_past-below}
 use Rattle.injector.specs.Steps.{Step, Message, Packet, packets_in, purpose_of, sections_before, cue_packets, cued, body_at}
-use Rattle.injector.specs.Laws.{fronts, IsCuedNetwork, CuedIsWritten, CuedReadsAgain}
+use Rattle.injector.specs.Laws.{fronts, CuedIsWritten, CuedReadsAgain}
 
 -- ---- lists of packets
 
@@ -55,8 +53,8 @@ body-behind cue f None p past ts cues out off all = refl
 body-behind cue f (Some l) p past ts cues out off all =
     by_test (on l.pid p)
     (λ y. let other : cue ≡ l.pid → ⊥ = (λ e. let no : true ≡ false = sym y ∙ ap (λ q. on q p) (sym e) ∙ off in cc) in
-        let same : number_on l.pid (onto out cues) ≡ number_on l.pid out = number-others l.pid cues out (ons_off cue l.pid cues other all) in
-        rw same refl)
+    let same : number_on l.pid (onto out cues) ≡ number_on l.pid out = number-others l.pid cues out (ons_off cue l.pid cues other all) in
+    rw same refl)
     (λ n. rw n refl)
 
 -- ---- fronts

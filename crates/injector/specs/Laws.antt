@@ -38,4 +38,5 @@ CuedIsWritten = (c : Config) (past : List Step) → first_fault (purpose_of c) (
 abbrev pub CuedReadsAgain : Type 0
 CuedReadsAgain = (c : Config) (past : List Step) → first_fault (purpose_of c) (packets_in past) ≡ None →
     Along (λ p ps. AreBytes p) (packets_in past) →
-    CuedReads (Some c.program) c.cue_pid (cued c past) (packets_in past) (pids_of (program_of (Some c.program) (packets_in past)))
+    CuedReads (Some c.program) c.cue_pid (cued c past) (packets_in past)
+    (pids_of (program_of (Some c.program) (packets_in past)))
