@@ -6,3 +6,4 @@ pub mod SendingLemmas
 pub mod CountLemmas
 pub mod FeedLemmas
 pub mod RestLemmas
+pub mod CuedLemmas

@@ -1,6 +1,7 @@
 -- What a message asks for, by the message alone (ANSI/SCTE 104, multiple_operation_message and splice_request_data): the first reason for a
 -- refusal, in the order that stands here, or the request with its avail ids.
-use Rattle.std.specs.Prelude.{ℕ, ◌<◌, ◌≡◌, nat_lt, ◌==◌, Bool, not, ◌&&◌, ◌||◌, if◌then◌else◌, List, [], ◌∷◌, length, Result, Ok, Err}
+use Rattle.std.specs.Prelude.{ℕ, ◌<◌, ◌≡◌, nat_lt, ◌==◌, Bool, not, ◌&&◌, ◌||◌, if◌then◌else◌, List, [], ◌∷◌, length}
+use Rattle.std.specs.Prelude.{Result, Ok, Err}
 use Rattle.scte104_codec.specs.declared.multi.Multi.{Multi}
 use Rattle.scte104_codec.specs.declared.requests.SpliceRequest.{SpliceRequest}
 use Rattle.scte104_codec.specs.Operations.{Operation}
@@ -9,11 +10,21 @@ use Rattle.scte104_codec.specs.Asked.{all_known, splice_requests, avail_ids}
 use Rattle.scte104_codec.specs.Reading.{MessageReading, init, alive, other, multiple, bad, Multiple}
 use Rattle.injector.specs.declared.asked.Asked.{Asked}
 use Rattle.injector.specs.declared.refusal.Refusal.{Refusal}
-use Rattle.injector.specs.declared.refusal.Refusal.TheVariants.{BadSyntax, WrongVersion, WrongIndex, TimeType, UnknownOp, NoRequest, TwoRequests, BadType, Unsupported, TooManyAvails, NoDuration, NoReturn, NoPreRoll}
+use Rattle.injector.specs.declared.refusal.Refusal.TheVariants.{BadSyntax, WrongVersion, WrongIndex, TimeType}
+use Rattle.injector.specs.declared.refusal.Refusal.TheVariants.{UnknownOp, NoRequest, TwoRequests, BadType}
+use Rattle.injector.specs.declared.refusal.Refusal.TheVariants.{Unsupported, TooManyAvails, NoDuration, NoReturn}
+use Rattle.injector.specs.declared.refusal.Refusal.TheVariants.{NoPreRoll}
 
 -- what a message that was read shows
 abbrev pub fields_of : Multi → Multiple
-fields_of m = record { head = m.head; version = m.version; cue_version = m.cue_version; time_kind = m.time_kind; operations = operations_left m.operations }
+fields_of m =
+    record {
+      head = m.head;
+      version = m.version;
+      cue_version = m.cue_version;
+      time_kind = m.time_kind;
+      operations = operations_left m.operations;
+    }
 
 -- the one splice_request
 abbrev pub only_of : List SpliceRequest → Result SpliceRequest Refusal

@@ -18,7 +18,8 @@ use Rattle.injector.specs.declared.injector.Injector.{Injector}
 use Rattle.injector.specs.Turns.{Turn}
 use Rattle.injector.specs.Requests.{RequestsStandFor}
 use Rattle.injector.specs.Noting.{NotesStandFor}
-use Rattle.injector.specs.Steps.{Step, packets_in, turns_in, purpose_of, cued, sent_at, has_news, messages_in, accepted_in, refused_in}
+use Rattle.injector.specs.Steps.{Step, packets_in, turns_in, purpose_of, cued, sent_at, has_news, messages_in}
+use Rattle.injector.specs.Steps.{accepted_in, refused_in}
 
 -- each count stops at the greatest u64
 pub record CountsAre (counts : MessageCounts) (index : ℕ) (past : List Turn) : Type 0 where

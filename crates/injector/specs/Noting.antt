@@ -1,5 +1,7 @@
 -- What the code keeps beside an event, and what it stands for.
-use Rattle.std.specs.Prelude.{◌≡◌, ℕ, ℤ, pos, ◌+ℤ◌, ◌≤ℤ◌, ◌+◌, ◌%◌, ◌^◌, ◌≤◌, nat_lt, Bool, false, not, ◌&&◌, if◌then◌else◌, List, ◌∷◌, ◌++◌, length, drop, replicate, map, All, Option, None, Some, option_map}
+use Rattle.std.specs.Prelude.{◌≡◌, ℕ, ℤ, pos, ◌+ℤ◌, ◌≤ℤ◌, ◌+◌, ◌%◌, ◌^◌, ◌≤◌, nat_lt, Bool, false, not, ◌&&◌}
+use Rattle.std.specs.Prelude.{if◌then◌else◌, List, ◌∷◌, ◌++◌, length, drop, replicate, map, All, Option, None, Some}
+use Rattle.std.specs.Prelude.{option_map}
 use Rattle.pes_time.specs.Line.{ring_of}
 use Rattle.event_table.specs.declared.event.Event.{Event}
 use Rattle.event_table.specs.Events.{ring_end}
@@ -23,10 +25,24 @@ abbrev pub told_of : Standing → Told
 told_of e = record { length = e.length; cancelled = e.cancelled }
 
 abbrev pub notes_of : Sender → Notes
-notes_of x = record { avail_num = x.avail_num; avails_expected = x.avails_expected; avails = ids_of x.avails; told = option_map told_of x.told; last = option_map ring_of x.last }
+notes_of x =
+    record {
+      avail_num = x.avail_num;
+      avails_expected = x.avails_expected;
+      avails = ids_of x.avails;
+      told = option_map told_of x.told;
+      last = option_map ring_of x.last;
+    }
 
 abbrev pub notes_asked : Asked → Notes
-notes_asked a = record { avail_num = a.request.avail_num; avails_expected = a.request.avails_expected; avails = ids_of a.avails.items; told = None; last = None }
+notes_asked a =
+    record {
+      avail_num = a.request.avail_num;
+      avails_expected = a.request.avails_expected;
+      avails = ids_of a.avails.items;
+      told = None;
+      last = None;
+    }
 
 -- ---- the choice of cues, on the ring
 
@@ -38,7 +54,12 @@ ring_news e None = record { start = not e.cancelled; end = not e.cancelled && ri
 ring_news e (Some t) = record { start = false; end = nat_lt e.length t.length; cancel = e.cancelled && not t.cancelled }
 
 abbrev pub ring_current : Event → Choice
-ring_current e = record { start = not e.cancelled && not (ring_ended e); end = not e.cancelled && ring_ended e; cancel = e.cancelled }
+ring_current e =
+    record {
+      start = not e.cancelled && not (ring_ended e);
+      end = not e.cancelled && ring_ended e;
+      cancel = e.cancelled;
+    }
 
 abbrev pub ring_limit : Event → ℕ
 ring_limit e = if not e.cancelled && ring_ended e then ring_end e else e.start
@@ -47,7 +68,8 @@ abbrev pub ring_repeated : Event → Option ℕ → Option ℕ → Option ℕ �
 ring_repeated e None high later = false
 ring_repeated e (Some last) None later = false
 ring_repeated e (Some last) (Some high) None = false
-ring_repeated e (Some last) (Some high) (Some later) = is_before_on_ring high (ring_limit e) && not (is_before_on_ring later ((last + 90000) % 2 ^ 33))
+ring_repeated e (Some last) (Some high) (Some later) =
+    is_before_on_ring high (ring_limit e) && not (is_before_on_ring later ((last + 90000) % 2 ^ 33))
 
 abbrev pub ring_chosen : Event → Option Told → Option ℕ → Option ℕ → Option ℕ → Choice
 ring_chosen e told last high later =
@@ -89,7 +111,8 @@ abbrev pub NotesStandFor : Requests → ℕ → List Turn → Type 0
 NotesStandFor requests index past = AreNoted requests (high past) (standing_senders index past)
 
 abbrev pub NotesTold : Requests → ℕ → List Turn → Option ℤ → Type 0
-NotesTold requests index past later = AreNoted requests later (map (tell (high past) later) (standing_senders index past))
+NotesTold requests index past later =
+    AreNoted requests later (map (tell (high past) later) (standing_senders index past))
 
 -- the greatest time never falls, and rises by ten seconds at most
 abbrev pub Rises : Option ℤ → Option ℤ → Type 0
@@ -99,7 +122,9 @@ Rises (Some high) (Some later) = (high ≤ℤ later) × (later ≤ℤ (high +ℤ
 
 -- Before a packet behind which the greatest time is `line`, at this place of the ring. No event is looked at where it is known that no cue
 -- is due.
-pub record IsBefore (is_due : Bool) (requests : Requests) (later : Option ℕ) (index : ℕ) (past : List Turn) (line : Option ℤ) : Type 0 where
+pub record IsBefore
+    (is_due : Bool) (requests : Requests) (later : Option ℕ) (index : ℕ) (past : List Turn)
+    (line : Option ℤ) : Type 0 where
   pub stands : RequestsStandFor requests index past
   pub notes : NotesStandFor requests index past
   pub rises : Rises (high past) line
@@ -107,7 +132,9 @@ pub record IsBefore (is_due : Bool) (requests : Requests) (later : Option ℕ) (
   pub idle : is_due ≡ false → IsIdle index line past
 
 -- The cues of this event are next.
-pub record IsNext (requests : Requests) (place : ℕ) (later : Option ℕ) (line after : Option ℤ) (done : List Sender) (x : Sender) (left : List Sender) : Type 0 where
+pub record IsNext
+    (requests : Requests) (place : ℕ) (later : Option ℕ) (line after : Option ℤ) (done : List Sender) (x : Sender)
+    (left : List Sender) : Type 0 where
   pub sending : Sending requests line after done (x ∷ left)
   pub place_is : place ≡ length done
   pub rises : Rises line after

@@ -13,7 +13,8 @@ reply_with op number head body = record { op = op; result = number; head = head;
 
 -- alive_response with the data of the request, at most 8 bytes
 abbrev pub alive_reply_of : Head → List ℕ → Reply
-alive_reply_of head body = if nat_lt 8 (length body) then reply_with 0x0004 0x8001 head [] else reply_with 0x0004 100 head body
+alive_reply_of head body =
+    if nat_lt 8 (length body) then reply_with 0x0004 0x8001 head [] else reply_with 0x0004 100 head body
 
 -- inject_response with message_number, or alive_response without data
 abbrev pub bad_reply_of : Bool → Head → Reply

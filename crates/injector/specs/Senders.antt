@@ -1,5 +1,6 @@
 -- The cues of accepted events, by the history of an injector: what an event's cues tell, what was told of it, and when.
-use Rattle.std.specs.Prelude.{◌≡◌, All, ℕ, ℤ, pos, ◌+ℤ◌, ◌==◌, nat_lt, int_lt, int_le, Bool, true, false, not, ◌&&◌, if◌then◌else◌, List, [], ◌∷◌, ◌++◌, map, filter, Option, None, Some, Result, Ok, Err}
+use Rattle.std.specs.Prelude.{◌≡◌, All, ℕ, ℤ, pos, ◌+ℤ◌, ◌==◌, nat_lt, int_lt, int_le, Bool, true, false, not, ◌&&◌}
+use Rattle.std.specs.Prelude.{if◌then◌else◌, List, [], ◌∷◌, ◌++◌, map, filter, Option, None, Some, Result, Ok, Err}
 use Rattle.std.specs.List.{flat_map}
 use Rattle.pes_time.specs.Line.{ring_of}
 use Rattle.scte35_codec.specs.declared.cue_out.CueOut.{CueOut}
@@ -31,7 +32,9 @@ abbrev pub is_ended : Standing → Bool
 is_ended e = nat_lt e.length e.asked
 
 abbrev pub start_cue : Sender → CueOut
-start_cue x = Start x.event.id (ring_of x.event.start) x.event.asked x.event.program x.avail_num x.avails_expected (record { items = x.avails })
+start_cue x =
+    Start x.event.id (ring_of x.event.start) x.event.asked x.event.program x.avail_num x.avails_expected
+    (record { items = x.avails })
 
 abbrev pub end_cue : Sender → CueOut
 end_cue x = End x.event.id (ring_of (end_of x.event))
@@ -54,7 +57,8 @@ news e (Some t) = record { start = false; end = nat_lt e.length t.length; cancel
 
 -- the cue that is repeated: the cancel, else the end, else the start
 abbrev pub current : Standing → Choice
-current e = record { start = not e.cancelled && not (is_ended e); end = not e.cancelled && is_ended e; cancel = e.cancelled }
+current e =
+    record { start = not e.cancelled && not (is_ended e); end = not e.cancelled && is_ended e; cancel = e.cancelled }
 
 -- and the time below which it is: the event's start, or the end that it tells
 abbrev pub limit : Standing → ℤ
@@ -98,7 +102,15 @@ tell high later x = if is_none (chosen x high later) then x else told_now later 
 
 -- an event that was just accepted, of which nothing was told
 abbrev pub fresh : ℤ → Asked → Sender
-fresh high a = record { event = start_event high a.request; avail_num = a.request.avail_num; avails_expected = a.request.avails_expected; avails = a.avails.items; told = None; last = None }
+fresh high a =
+    record {
+      event = start_event high a.request;
+      avail_num = a.request.avail_num;
+      avails_expected = a.request.avails_expected;
+      avails = a.avails.items;
+      told = None;
+      last = None;
+    }
 
 abbrev pub with_event : (Standing → Standing) → Sender → Sender
 with_event change x = record x { event = change x.event }
@@ -135,12 +147,16 @@ events_in xs = map (λ (x : Sender). x.event) xs
 -- with one request more
 abbrev pub with_request : Option ℤ → List Sender → Result Asked Refusal → List Sender
 with_request high xs (Err e) = xs
-with_request high xs (Ok a) = with_judged high (stands_by high a.request.splice_event_id) xs a (verdict_of high (events_in (filter (stands_now high) xs)) a.request)
+with_request high xs (Ok a) =
+    with_judged high (stands_by high a.request.splice_event_id) xs a
+    (verdict_of high (events_in (filter (stands_now high) xs)) a.request)
 
 -- of those that stand
 abbrev pub noted_after : Option ℤ → List Sender → Result Asked Refusal → List Sender
 noted_after high xs (Err e) = xs
-noted_after high xs (Ok a) = with_judged high (λ x. has_id a.request.splice_event_id x.event) xs a (verdict_of high (events_in xs) a.request)
+noted_after high xs (Ok a) =
+    with_judged high (λ x. has_id a.request.splice_event_id x.event) xs a
+    (verdict_of high (events_in xs) a.request)
 
 -- ALL EVENTS that were accepted, in order of acceptance, with what was told of each
 abbrev pub senders : ℕ → List Turn → List Sender

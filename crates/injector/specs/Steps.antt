@@ -1,5 +1,6 @@
 -- What an injector puts out, by its whole history: the messages that it judged and the packets of the network, newest first.
-use Rattle.std.specs.Prelude.{ℕ, ℤ, ◌+◌, List, [], ◌∷◌, ◌++◌, map, Bool, true, false, ◌||◌, if◌then◌else◌, is_ok, not, Option, None, Some, Result, Err}
+use Rattle.std.specs.Prelude.{ℕ, ℤ, ◌+◌, List, [], ◌∷◌, ◌++◌, map, Bool, true, false, ◌||◌, if◌then◌else◌, is_ok, not}
+use Rattle.std.specs.Prelude.{Option, None, Some, Result, Err}
 use Rattle.ts_packet.specs.Runs.{onto}
 use Rattle.unit_stream.specs.Times.{high as unit_high}
 use Rattle.psi_tables.specs.declared.config.Config.{Config}
@@ -41,7 +42,8 @@ purpose_of c = record { program = Some c.program; cue_pid = Some c.cue_pid; writ
 
 -- the sections of the cues before a packet
 abbrev pub sections_before : Config → List ℕ → List Step → List (List ℕ)
-sections_before c p past = map cue_bytes (cues_before c.index (high_of c.program (p ∷ packets_in past)) (turns_in c.program past))
+sections_before c p past =
+    map cue_bytes (cues_before c.index (high_of c.program (p ∷ packets_in past)) (turns_in c.program past))
 
 -- the cues in a packet each, whose counters go on from the last on their PID
 abbrev pub cue_packets : Config → List ℕ → List Step → List (List ℕ) → List (List ℕ)
@@ -50,11 +52,13 @@ cue_packets c p past out = packets_out c.cue_pid out (sections_before c p past)
 -- the packet, or in its place on the PID of the program's map the sections that it finishes, the maps with the entry for cues; their
 -- counters go on from the last packet of that PID
 abbrev pub body_at : Config → List ℕ → List (List ℕ) → List (List ℕ) → List (List ℕ)
-body_at c p past out = body (cueing c.cue_pid (λ q qs. [])) (listed (Some c.program) past) p past (tables (Some c.program) p past) out
+body_at c p past out =
+    body (cueing c.cue_pid (λ q qs. [])) (listed (Some c.program) past) p past (tables (Some c.program) p past) out
 
 -- WHAT GOES OUT for a packet, behind what is out: the cues before it, and then the packet or what stands in its place
 abbrev pub sent_behind : Config → List ℕ → List Step → List (List ℕ) → List (List ℕ)
-sent_behind c p past out = cue_packets c p past out ++ body_at c p (packets_in past) (onto out (cue_packets c p past out))
+sent_behind c p past out =
+    cue_packets c p past out ++ body_at c p (packets_in past) (onto out (cue_packets c p past out))
 
 -- THE CUED STREAM, newest packet first
 abbrev pub cued : Config → List Step → List (List ℕ)

@@ -1,6 +1,7 @@
 -- The history of an injector: messages judged and packets passed, newest first. All is said by whole lists: no event is ever left out of
 -- `events`, and those that stand are a filter of it.
-use Rattle.std.specs.Prelude.{ℕ, ℤ, ◌&&◌, Bool, true, List, [], ◌∷◌, Option, None, Some, Result, Ok, Err, int_lt, filter}
+use Rattle.std.specs.Prelude.{ℕ, ℤ, ◌&&◌, Bool, true, List, [], ◌∷◌, Option, None, Some, Result, Ok, Err, int_lt}
+use Rattle.std.specs.Prelude.{filter}
 use Rattle.scte104_codec.specs.Reading.{MessageReading, Multiple}
 use Rattle.event_table.specs.Standing.{Standing, has_id, forgotten_at}
 use Rattle.injector.specs.declared.asked.Asked.{Asked}
@@ -31,7 +32,9 @@ stands_as h id s = stands h s && has_id id s
 -- the events, with one request more
 abbrev pub with_asked : Option ℤ → List Standing → Result Asked Refusal → List Standing
 with_asked h events (Err e) = events
-with_asked h events (Ok a) = changed h (stands_as h a.request.splice_event_id) events a.request (verdict_of h (filter (stands h) events) a.request)
+with_asked h events (Ok a) =
+    changed h (stands_as h a.request.splice_event_id) events a.request
+    (verdict_of h (filter (stands h) events) a.request)
 
 -- THE EVENTS that were accepted, in order of acceptance, each with its present end, the cancelled ones among them
 abbrev pub events : ℕ → List Turn → List Standing

@@ -1,13 +1,18 @@
 -- The verdict on a request, by the greatest time of the network and the events that stand, and what an accepted one makes of them.
 -- pre_roll_time counts milliseconds of 90 ticks, break_duration tenths of a second of 9,000 ticks.
-use Rattle.std.specs.Prelude.{ℕ, ℤ, pos, ◌+◌, ◌*◌, ◌%◌, ◌^◌, ◌+ℤ◌, ◌==◌, int_lt, int_le, Bool, not, ◌&&◌, if◌then◌else◌, false, List, [], ◌∷◌, ◌++◌, find, Option, None, Some, Result, Ok, Err}
+use Rattle.std.specs.Prelude.{ℕ, ℤ, pos, ◌+◌, ◌*◌, ◌%◌, ◌^◌, ◌+ℤ◌, ◌==◌, int_lt, int_le, Bool, not, ◌&&◌}
+use Rattle.std.specs.Prelude.{if◌then◌else◌, false, List, [], ◌∷◌, ◌++◌, find, Option, None, Some, Result, Ok, Err}
 use Rattle.std.specs.List.{list_any}
 use Rattle.scte104_codec.specs.declared.requests.SpliceRequest.{SpliceRequest}
 use Rattle.event_table.specs.declared.event.Event.{Event}
 use Rattle.event_table.specs.Standing.{Standing, has_id, is_full, meets, end_of, ending_at, cancelled_one, with_first}
 use Rattle.injector.specs.declared.asked.Asked.{Asked}
 use Rattle.injector.specs.declared.refusal.Refusal.{Refusal}
-use Rattle.injector.specs.declared.refusal.Refusal.TheVariants.{BadSyntax, WrongVersion, WrongIndex, TimeType, UnknownOp, NoRequest, TwoRequests, BadType, Unsupported, TooManyAvails, NoDuration, NoReturn, NoPreRoll, NoClock, InUse, Full, Overlap, NoSuchEvent, TooLate, BadEnd}
+use Rattle.injector.specs.declared.refusal.Refusal.TheVariants.{BadSyntax, WrongVersion, WrongIndex, TimeType}
+use Rattle.injector.specs.declared.refusal.Refusal.TheVariants.{UnknownOp, NoRequest, TwoRequests, BadType}
+use Rattle.injector.specs.declared.refusal.Refusal.TheVariants.{Unsupported, TooManyAvails, NoDuration, NoReturn}
+use Rattle.injector.specs.declared.refusal.Refusal.TheVariants.{NoPreRoll, NoClock, InUse, Full, Overlap, NoSuchEvent}
+use Rattle.injector.specs.declared.refusal.Refusal.TheVariants.{TooLate, BadEnd}
 use Rattle.injector.specs.Asking.{is_start}
 
 -- the number of each reason in a reply
@@ -40,12 +45,26 @@ time_at high r = high +ℤ pos (90 * r.pre_roll_time)
 -- the event that a start asks for
 abbrev pub start_event : ℤ → SpliceRequest → Standing
 start_event high r =
-    record { id = r.splice_event_id; start = time_at high r; length = 9000 * r.break_duration; asked = 9000 * r.break_duration; program = r.unique_program_id; cancelled = false }
+    record {
+      id = r.splice_event_id;
+      start = time_at high r;
+      length = 9000 * r.break_duration;
+      asked = 9000 * r.break_duration;
+      program = r.unique_program_id;
+      cancelled = false;
+    }
 
 -- where it stands on the ring
 abbrev pub event_on_ring : ℕ → SpliceRequest → Event
 event_on_ring high r =
-    record { id = r.splice_event_id; start = (high + 90 * r.pre_roll_time) % 2 ^ 33; length = 9000 * r.break_duration; asked = 9000 * r.break_duration; program = r.unique_program_id; cancelled = false }
+    record {
+      id = r.splice_event_id;
+      start = (high + 90 * r.pre_roll_time) % 2 ^ 33;
+      length = 9000 * r.break_duration;
+      asked = 9000 * r.break_duration;
+      program = r.unique_program_id;
+      cancelled = false;
+    }
 
 abbrev pub start_verdict_at : ℤ → List Standing → SpliceRequest → Result (Unit {0}) Refusal
 start_verdict_at high standing r =
@@ -61,7 +80,9 @@ start_verdict (Some high) standing r = start_verdict_at high standing r
 
 -- an end lies above the start and the greatest time, and below the end in force
 abbrev pub can_end : ℤ → Standing → SpliceRequest → Bool
-can_end high s r = not s.cancelled && (int_lt s.start (time_at high r) && (int_lt high (time_at high r) && int_lt (time_at high r) (end_of s)))
+can_end high s r =
+    not s.cancelled
+    && (int_lt s.start (time_at high r) && (int_lt high (time_at high r) && int_lt (time_at high r) (end_of s)))
 
 abbrev pub end_verdict_at : Option ℤ → Option Standing → SpliceRequest → Result (Unit {0}) Refusal
 end_verdict_at high None r = Err NoSuchEvent
@@ -113,7 +134,8 @@ accepted high test events r =
     else with_first test cancelled_one events)
 
 -- a refused one changes nothing
-abbrev pub changed : Option ℤ → (Standing → Bool) → List Standing → SpliceRequest → Result (Unit {0}) Refusal → List Standing
+abbrev pub changed :
+    Option ℤ → (Standing → Bool) → List Standing → SpliceRequest → Result (Unit {0}) Refusal → List Standing
 changed high test events r (Ok u) = accepted high test events r
 changed high test events r (Err e) = events
 

@@ -9,7 +9,8 @@ ghost use Rattle.event_table.specs.Tables.{StandsFor, high_of};
 ghost use Rattle.outgoing_packets.specs.Numbers.{HasPut, FrontFails};
 ghost use Rattle.injector.specs.Turns.{Turn};
 ghost use Rattle.injector.specs.Requests.{RequestsStandFor};
-ghost use Rattle.injector.specs.Senders.{Sender, start_cue, end_cue, cancel_cue, when, cues_by, cues_of, cues_before, packed};
+ghost use Rattle.injector.specs.Senders.{Sender, start_cue, end_cue, cancel_cue, when, cues_by, cues_of, cues_before};
+ghost use Rattle.injector.specs.Senders.{packed};
 ghost use Rattle.injector.specs.Noting.{IsShown, Sending, NotesTold, IsBefore, IsNext};
 
 use crate::choice::{Choice, chosen};

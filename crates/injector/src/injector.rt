@@ -1,6 +1,7 @@
 //! The injector: messages in and answers out, packets in and packets with cues out.
 
-ghost use Rattle.std.specs.Prelude.{◌≡◌, ◌++◌, ◌∷◌, [], ℕ, List, Option, Some, None, option_map, Err, Bool, true, false, OnOk, IfErr};
+ghost use Rattle.std.specs.Prelude.{◌≡◌, ◌++◌, ◌∷◌, [], ℕ, List, Option, Some, None, option_map, Err, Bool, true};
+ghost use Rattle.std.specs.Prelude.{false, OnOk, IfErr};
 ghost use Rattle.pes_time.specs.Line.{ring_of};
 ghost use Rattle.ts_packet.specs.Runs.{onto};
 ghost use Rattle.ts_packet.specs.Sinks.{Blamed};
@@ -10,7 +11,8 @@ ghost use Rattle.program_follower.specs.Faults.{network_fault};
 ghost use Rattle.outgoing_packets.specs.Numbers.{HasPut, FrontFails};
 ghost use Rattle.injector.specs.Replies.{reply_to};
 ghost use Rattle.injector.specs.Senders.{IsIdle};
-ghost use Rattle.injector.specs.Steps.{Step, Message as MessageStep, Packet as PacketStep, packets_in, turns_in, high_of};
+ghost use Rattle.injector.specs.Steps.{Step, Message as MessageStep, Packet as PacketStep, packets_in, turns_in};
+ghost use Rattle.injector.specs.Steps.{high_of};
 ghost use Rattle.injector.specs.Steps.{purpose_of, body_at, sent_at};
 ghost use Rattle.injector.specs.Injecting.{InjectorStandsFor, JudgesBy, FeedFails, FeedBlamed, KeepsSink, CountsAre};
 ghost use Rattle.injector.specs.Injecting.{IsFed, IsBodyOf, KeepsRest, is_map_place, is_err_or};
@@ -62,7 +64,8 @@ impl Injector {
     pub fn ask(&mut self, message: Result<Message<'_>, BadMessage>) -> Reply
         ensures answer { (c : Config) (past : List Step) → JudgesBy self.old c past →
             result ≡ reply_to c.index (reading_of message.entry) (turns_in c.program past) }
-        ensures judges { (c : Config) (past : List Step) → JudgesBy self.old c past → JudgesBy self.new c (MessageStep (reading_of message.entry) ∷ past) }
+        ensures judges { (c : Config) (past : List Step) → JudgesBy self.old c past →
+            JudgesBy self.new c (MessageStep (reading_of message.entry) ∷ past) }
         ensures stands { (c : Config) (past : List Step) → InjectorStandsFor self.old c past →
             InjectorStandsFor self.new c (MessageStep (reading_of message.entry) ∷ past) }
         ensures spent { self.new.is_spent ≡ self.old.is_spent }
@@ -75,7 +78,8 @@ impl Injector {
 
     /// How many messages were judged.
     pub fn counts(&self) -> MessageCounts
-        ensures { (c : Config) (past : List Step) → JudgesBy self.now c past → CountsAre result c.index (turns_in c.program past) }
+        ensures { (c : Config) (past : List Step) → JudgesBy self.now c past →
+            CountsAre result c.index (turns_in c.program past) }
     {
         self.counts
     }
@@ -89,7 +93,8 @@ impl Injector {
     /// a front of what the packet sends. `Failed` once a fault was answered.
     pub fn feed<S: PacketSink>(&mut self, packet: &Packet, sink: &mut S) -> Result<(), FeedFault>
         ensures leads { S.leads sink.old sink.new }
-        ensures ok { (start : Option (List ℕ)) (ps : List (List ℕ)) (c : Config) (past : List Step) → S.holds sink.old start ps → InjectorStandsFor self.old c past →
+        ensures ok { (start : Option (List ℕ)) (ps : List (List ℕ)) (c : Config) (past : List Step) →
+            S.holds sink.old start ps → InjectorStandsFor self.old c past →
             OnOk result (S.holds sink.new start (ps ++ sent_at c packet.now past)) }
         ensures stands { (c : Config) (past : List Step) → InjectorStandsFor self.old c past →
             OnOk result (InjectorStandsFor self.new c (PacketStep packet.now ∷ past)) }
@@ -98,7 +103,8 @@ impl Injector {
         ensures err { (start : Option (List ℕ)) (ps : List (List ℕ)) (c : Config) (past : List Step) →
             S.holds sink.old start ps → InjectorStandsFor self.old c past →
             IfErr result (λ f. FeedFails f c packet.now past (λ put p x. S.fails sink.new start (ps ++ put) p x)) }
-        ensures judges { (c : Config) (past : List Step) → JudgesBy self.old c past → IfErr result (λ _. JudgesBy self.new c past) }
+        ensures judges { (c : Config) (past : List Step) → JudgesBy self.old c past →
+            IfErr result (λ _. JudgesBy self.new c past) }
         ensures well { OnOk result (WentWell (S.counts sink.old) (S.counts sink.new)) }
         ensures blamed { IfErr result (λ f. FeedBlamed f (S.counts sink.old) (S.counts sink.new) (S.is_full sink.new)) }
         ensures kept { IfErr result (λ f. KeepsSink f sink.old sink.new) }
@@ -120,7 +126,8 @@ impl Injector {
     /// Takes a packet.
     fn take<S: PacketSink>(&mut self, packet: &Packet, sink: &mut S) -> Result<(), FeedFault>
         ensures leads { S.leads sink.old sink.new }
-        ensures ok { (start : Option (List ℕ)) (ps : List (List ℕ)) (c : Config) (past : List Step) → S.holds sink.old start ps → InjectorStandsFor self.old c past →
+        ensures ok { (start : Option (List ℕ)) (ps : List (List ℕ)) (c : Config) (past : List Step) →
+            S.holds sink.old start ps → InjectorStandsFor self.old c past →
             OnOk result (S.holds sink.new start (ps ++ sent_at c packet.now past)) }
         ensures stands { (c : Config) (past : List Step) → InjectorStandsFor self.old c past →
             OnOk result (InjectorStandsFor self.new c (PacketStep packet.now ∷ past)) }
@@ -129,7 +136,8 @@ impl Injector {
         ensures err { (start : Option (List ℕ)) (ps : List (List ℕ)) (c : Config) (past : List Step) →
             S.holds sink.old start ps → InjectorStandsFor self.old c past →
             IfErr result (λ f. FeedFails f c packet.now past (λ put p x. S.fails sink.new start (ps ++ put) p x)) }
-        ensures judges { (c : Config) (past : List Step) → JudgesBy self.old c past → IfErr result (λ _. JudgesBy self.new c past) }
+        ensures judges { (c : Config) (past : List Step) → JudgesBy self.old c past →
+            IfErr result (λ _. JudgesBy self.new c past) }
         ensures well { OnOk result (WentWell (S.counts sink.old) (S.counts sink.new)) }
         ensures blamed { IfErr result (λ f. FeedBlamed f (S.counts sink.old) (S.counts sink.new) (S.is_full sink.new)) }
         ensures kept { IfErr result (λ f. KeepsSink f sink.old sink.new) }
@@ -153,14 +161,19 @@ impl Injector {
         sink: &mut S,
     ) -> Result<(), PutFault>
         ensures leads { S.leads sink.old sink.new }
-        ensures ok { (start : Option (List ℕ)) (ps : List (List ℕ)) (c : Config) (past : List Step) → S.holds sink.old start ps →
-            IsFed self.old is_map c packet.now past → OnOk result (S.holds sink.new start (ps ++ sent_at c packet.now past)) }
+        ensures ok { (start : Option (List ℕ)) (ps : List (List ℕ)) (c : Config) (past : List Step) →
+            S.holds sink.old start ps →
+            IsFed self.old is_map c packet.now past →
+            OnOk result (S.holds sink.new start (ps ++ sent_at c packet.now past)) }
         ensures stands { (c : Config) (past : List Step) → IsFed self.old is_map c packet.now past →
             OnOk result (InjectorStandsFor self.new c (PacketStep packet.now ∷ past)) }
-        ensures err { (start : Option (List ℕ)) (ps : List (List ℕ)) (c : Config) (past : List Step) → S.holds sink.old start ps →
+        ensures err { (start : Option (List ℕ)) (ps : List (List ℕ)) (c : Config) (past : List Step) →
+            S.holds sink.old start ps →
             IsFed self.old is_map c packet.now past →
-            IfErr result (λ f. FrontFails (sent_at c packet.now past) (λ put p. S.fails sink.new start (ps ++ put) p f)) }
-        ensures judges { (c : Config) (past : List Step) → JudgesBy self.old c past → IfErr result (λ _. JudgesBy self.new c past) }
+            IfErr result (λ f. FrontFails (sent_at c packet.now past)
+            (λ put p. S.fails sink.new start (ps ++ put) p f)) }
+        ensures judges { (c : Config) (past : List Step) → JudgesBy self.old c past →
+            IfErr result (λ _. JudgesBy self.new c past) }
         ensures spent { self.new.is_spent ≡ self.old.is_spent }
         ensures well { OnOk result (WentWell (S.counts sink.old) (S.counts sink.new)) }
         ensures blamed { IfErr result (λ f. Blamed f (S.counts sink.old) (S.counts sink.new) (S.is_full sink.new)) }
@@ -199,14 +212,18 @@ impl Injector {
         sink: &mut S,
     ) -> Result<(), PutFault>
         ensures leads { S.leads sink.old sink.new }
-        ensures ok { (start : Option (List ℕ)) (ps puts : List (List ℕ)) (c : Config) (past : List (List ℕ)) → S.holds sink.old start ps → HasPut self.old.out puts →
-            IsBodyOf self.old is_map c packet.now past → OnOk result (S.holds sink.new start (ps ++ body_at c packet.now past puts)) }
+        ensures ok { (start : Option (List ℕ)) (ps puts : List (List ℕ)) (c : Config) (past : List (List ℕ)) →
+            S.holds sink.old start ps → HasPut self.old.out puts →
+            IsBodyOf self.old is_map c packet.now past →
+            OnOk result (S.holds sink.new start (ps ++ body_at c packet.now past puts)) }
         ensures numbers { (puts : List (List ℕ)) (c : Config) (past : List (List ℕ)) → HasPut self.old.out puts →
-            IsBodyOf self.old is_map c packet.now past → OnOk result (HasPut self.new.out (onto puts (body_at c packet.now past puts))) }
+            IsBodyOf self.old is_map c packet.now past →
+            OnOk result (HasPut self.new.out (onto puts (body_at c packet.now past puts))) }
         ensures err { (start : Option (List ℕ)) (ps puts : List (List ℕ)) (c : Config) (past : List (List ℕ)) →
             S.holds sink.old start ps → HasPut self.old.out puts →
             IsBodyOf self.old is_map c packet.now past →
-            IfErr result (λ f. FrontFails (body_at c packet.now past puts) (λ put p. S.fails sink.new start (ps ++ put) p f)) }
+            IfErr result (λ f. FrontFails (body_at c packet.now past puts)
+            (λ put p. S.fails sink.new start (ps ++ put) p f)) }
         ensures rest { KeepsRest self.old self.new }
         ensures well { OnOk result (WentWell (S.counts sink.old) (S.counts sink.new)) }
         ensures blamed { IfErr result (λ f. Blamed f (S.counts sink.old) (S.counts sink.new) (S.is_full sink.new)) }

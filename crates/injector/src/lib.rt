@@ -23,4 +23,6 @@ pub use refusal::Refusal;
 pub use requests::Requests;
 
 #[cfg(test)]
+mod feed_tests;
+#[cfg(test)]
 mod tests;

@@ -98,7 +98,8 @@ impl Notes {
 
     /// Behind a packet before which all that is new of the event was sent.
     pub(crate) fn told(&self, event: &Event, last: Option<Time33>) -> Notes
-        ensures { (x : Sender) (later : Option ℤ) → self.now ≡ notes_of x → event.now ≡ on_ring x.event → last ≡ option_map ring_of later →
+        ensures { (x : Sender) (later : Option ℤ) → self.now ≡ notes_of x → event.now ≡ on_ring x.event →
+            last ≡ option_map ring_of later →
             result ≡ notes_of (told_now later x) }
     {
         let mut notes = *self;

@@ -1,13 +1,15 @@
 //! Requests, judged.
 
-ghost use Rattle.std.specs.Prelude.{◌≡◌, ◌↔◌, ◌+◌, ◌*◌, ◌%◌, ◌^◌, ◌<◌, ◌∷◌, [], ℕ, ℤ, List, ◌++◌, Option, Ok, Some, OnErr, IsTrue, length, slice_index_or, slice_set, option_map};
+ghost use Rattle.std.specs.Prelude.{◌≡◌, ◌↔◌, ◌+◌, ◌*◌, ◌%◌, ◌^◌, ◌<◌, ◌∷◌, [], ℕ, ℤ, List, ◌++◌, Option, Ok, Some};
+ghost use Rattle.std.specs.Prelude.{OnErr, IsTrue, length, slice_index_or, slice_set, option_map};
 ghost use Rattle.scte104_codec.specs.Views.{reading_of};
 ghost use Rattle.event_table.specs.Rings.{CanAdvance};
 ghost use Rattle.event_table.specs.Standing.{Standing, IsTimeAt, has_id, with_cancelled};
 ghost use Rattle.event_table.specs.Tables.{StandsFor, high_of, events_of, values_of};
 ghost use Rattle.pes_time.specs.Line.{ring_of};
 ghost use Rattle.injector.specs.Asking.{fields_of, asked_of_multiple, IsStartable};
-ghost use Rattle.injector.specs.Verdicts.{start_verdict, end_verdict, cancel_verdict, verdict_of, verdict_by, started, ended, after, after_by, event_on_ring};
+ghost use Rattle.injector.specs.Verdicts.{start_verdict, end_verdict, cancel_verdict, verdict_of, verdict_by};
+ghost use Rattle.injector.specs.Verdicts.{started, ended, after, after_by, event_on_ring};
 ghost use Rattle.injector.specs.Turns.{Turn, Judged, Passed, high};
 ghost use Rattle.injector.specs.Replies.{reply_to};
 ghost use Rattle.injector.specs.Requests.{RequestsStandFor};
@@ -65,9 +67,11 @@ impl Requests {
     /// Takes this time as the greatest one, which a packet brought.
     pub fn advance(&mut self, time: Time33)
         requires { CanAdvance (high_of self.old.table) time }
-        ensures stands { (index : ℕ) (past : List Turn) (later : ℤ) → RequestsStandFor self.old index past → IsTimeAt (high past) time later →
+        ensures stands { (index : ℕ) (past : List Turn) (later : ℤ) → RequestsStandFor self.old index past →
+            IsTimeAt (high past) time later →
             RequestsStandFor self.new index (Passed (Some later) ∷ past) }
-        ensures notes { (index : ℕ) (past : List Turn) (later : ℤ) → RequestsStandFor self.old index past → NotesTold self.old index past (Some later) →
+        ensures notes { (index : ℕ) (past : List Turn) (later : ℤ) → RequestsStandFor self.old index past →
+            NotesTold self.old index past (Some later) →
             IsTimeAt (high past) time later → NotesStandFor self.new index (Passed (Some later) ∷ past) }
         ensures high { high_of self.new.table ≡ Some time }
     {
@@ -76,10 +80,13 @@ impl Requests {
 
     /// Takes this as the greatest time behind a packet, if it is another one.
     pub(crate) fn rise(&mut self, later: Option<Time33>)
-        ensures stands { (index : ℕ) (past : List Turn) (line : Option ℤ) → RequestsStandFor self.old index past → Rises (high past) line →
+        ensures stands { (index : ℕ) (past : List Turn) (line : Option ℤ) → RequestsStandFor self.old index past →
+            Rises (high past) line →
             later ≡ option_map ring_of line → RequestsStandFor self.new index (Passed line ∷ past) }
-        ensures notes { (index : ℕ) (past : List Turn) (line : Option ℤ) → RequestsStandFor self.old index past → NotesTold self.old index past line →
-            Rises (high past) line → later ≡ option_map ring_of line → NotesStandFor self.new index (Passed line ∷ past) }
+        ensures notes { (index : ℕ) (past : List Turn) (line : Option ℤ) → RequestsStandFor self.old index past →
+            NotesTold self.old index past line →
+            Rises (high past) line → later ≡ option_map ring_of line →
+            NotesStandFor self.new index (Passed line ∷ past) }
     {
         if later == self.high() {
             return;
@@ -98,7 +105,8 @@ impl Requests {
             result ≡ reply_to index (reading_of message.entry) past }
         ensures turn { (index : ℕ) (past : List Turn) → RequestsStandFor self.old index past →
             RequestsStandFor self.new index (Judged (reading_of message.entry) ∷ past) }
-        ensures notes { (index : ℕ) (past : List Turn) → RequestsStandFor self.old index past → NotesStandFor self.old index past →
+        ensures notes { (index : ℕ) (past : List Turn) → RequestsStandFor self.old index past →
+            NotesStandFor self.old index past →
             NotesStandFor self.new index (Judged (reading_of message.entry) ∷ past) }
         ensures high { high_of self.new.table ≡ high_of self.old.table }
     {
@@ -114,7 +122,8 @@ impl Requests {
             result ≡ reply_to index (reading_of (Ok message.entry)) past }
         ensures turn { (index : ℕ) (past : List Turn) → RequestsStandFor self.old index past →
             RequestsStandFor self.new index (Judged (reading_of (Ok message.entry)) ∷ past) }
-        ensures notes { (index : ℕ) (past : List Turn) → RequestsStandFor self.old index past → NotesStandFor self.old index past →
+        ensures notes { (index : ℕ) (past : List Turn) → RequestsStandFor self.old index past →
+            NotesStandFor self.old index past →
             NotesStandFor self.new index (Judged (reading_of (Ok message.entry)) ∷ past) }
         ensures high { high_of self.new.table ≡ high_of self.old.table }
     {
@@ -149,7 +158,8 @@ impl Requests {
     pub(crate) fn note(&mut self, place: usize, notes: Notes)
         requires { place < length self.old.table.entries.items }
         ensures notes { values_of self.new.table ≡ slice_set (values_of self.old.table) place notes }
-        ensures stands { (line : Option ℤ) (standing : List Standing) → StandsFor self.old.table line standing → StandsFor self.new.table line standing }
+        ensures stands { (line : Option ℤ) (standing : List Standing) → StandsFor self.old.table line standing →
+            StandsFor self.new.table line standing }
         ensures index { self.new.index ≡ self.old.index }
         ensures high { high_of self.new.table ≡ high_of self.old.table }
         ensures count { length self.new.table.entries.items ≡ length self.old.table.entries.items }
@@ -162,8 +172,10 @@ impl Requests {
         ensures answer { (line : Option ℤ) (standing : List Standing) → StandsFor self.old.table line standing →
             result ≡ verdict_by line standing (asked_of_multiple self.old.index (fields_of message.now)) }
         ensures after { (line : Option ℤ) (standing : List Standing) → StandsFor self.old.table line standing →
-            StandsFor self.new.table line (after_by line standing (asked_of_multiple self.old.index (fields_of message.now))) }
-        ensures notes { (line : Option ℤ) (xs : List Sender) → StandsFor self.old.table line (events_in xs) → AreNoted self.old line xs →
+            StandsFor self.new.table line
+            (after_by line standing (asked_of_multiple self.old.index (fields_of message.now))) }
+        ensures notes { (line : Option ℤ) (xs : List Sender) → StandsFor self.old.table line (events_in xs) →
+            AreNoted self.old line xs →
             AreNoted self.new line (noted_after line xs (asked_of_multiple self.old.index (fields_of message.now))) }
         ensures index { self.new.index ≡ self.old.index }
         ensures high { high_of self.new.table ≡ high_of self.old.table }
@@ -180,8 +192,10 @@ impl Requests {
         ensures answer { (line : Option ℤ) (standing : List Standing) → StandsFor self.old.table line standing →
             result ≡ verdict_of line standing asked.now.request }
         ensures after { (line : Option ℤ) (standing : List Standing) → StandsFor self.old.table line standing →
-            StandsFor self.new.table line (after line standing asked.now.request (verdict_of line standing asked.now.request)) }
-        ensures notes { (line : Option ℤ) (xs : List Sender) → StandsFor self.old.table line (events_in xs) → AreNoted self.old line xs →
+            StandsFor self.new.table line
+            (after line standing asked.now.request (verdict_of line standing asked.now.request)) }
+        ensures notes { (line : Option ℤ) (xs : List Sender) → StandsFor self.old.table line (events_in xs) →
+            AreNoted self.old line xs →
             AreNoted self.new line (noted_after line xs (Ok asked.now)) }
         ensures index { self.new.index ≡ self.old.index }
         ensures high { high_of self.new.table ≡ high_of self.old.table }
@@ -200,7 +214,8 @@ impl Requests {
         requires pre_roll { 0 < request.pre_roll_time }
         ensures answer { (line : Option ℤ) (standing : List Standing) → StandsFor self.old.table line standing →
             result ≡ start_verdict line standing request }
-        ensures started { result ≡ Ok tt → (line : Option ℤ) (standing : List Standing) → StandsFor self.old.table line standing →
+        ensures started { result ≡ Ok tt → (line : Option ℤ) (standing : List Standing) →
+            StandsFor self.old.table line standing →
             StandsFor self.new.table line (started line standing request) }
         ensures notes { result ≡ Ok tt → values_of self.new.table ≡ values_of self.old.table ++ notes ∷ [] }
         ensures refused { OnErr result (self.new ≡ self.old) }
@@ -223,7 +238,8 @@ impl Requests {
     fn end(&mut self, request: SpliceRequest) -> Result<(), Refusal>
         ensures answer { (line : Option ℤ) (standing : List Standing) → StandsFor self.old.table line standing →
             result ≡ end_verdict line standing request }
-        ensures ended { result ≡ Ok tt → (line : Option ℤ) (standing : List Standing) → StandsFor self.old.table line standing →
+        ensures ended { result ≡ Ok tt → (line : Option ℤ) (standing : List Standing) →
+            StandsFor self.old.table line standing →
             StandsFor self.new.table line (ended line (has_id request.splice_event_id) standing request) }
         ensures notes { values_of self.new.table ≡ values_of self.old.table }
         ensures refused { OnErr result (self.new ≡ self.old) }
@@ -246,7 +262,8 @@ impl Requests {
     fn cancel(&mut self, request: SpliceRequest) -> Result<(), Refusal>
         ensures answer { (line : Option ℤ) (standing : List Standing) → StandsFor self.old.table line standing →
             result ≡ cancel_verdict line standing request }
-        ensures cancelled { result ≡ Ok tt → (line : Option ℤ) (standing : List Standing) → StandsFor self.old.table line standing →
+        ensures cancelled { result ≡ Ok tt → (line : Option ℤ) (standing : List Standing) →
+            StandsFor self.old.table line standing →
             StandsFor self.new.table line (with_cancelled request.splice_event_id standing) }
         ensures notes { values_of self.new.table ≡ values_of self.old.table }
         ensures refused { OnErr result (self.new ≡ self.old) }

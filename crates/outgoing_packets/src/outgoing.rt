@@ -1,12 +1,13 @@
 //! Packets and sections, put behind others.
 
-ghost use Rattle.std.specs.Prelude.{◌≡◌, ◌<◌, ◌++◌, ◌∷◌, [], ℕ, List, Option, ◌≢◌, length, map, slice_index_or, OnOk, IfErr};
+ghost use Rattle.std.specs.Prelude.{◌≡◌, ◌<◌, ◌++◌, ◌∷◌, [], ℕ, List, Option, ◌≢◌, length, map, slice_index_or, OnOk};
+ghost use Rattle.std.specs.Prelude.{IfErr};
 ghost use Rattle.ts_packet.specs.Runs.{onto};
 ghost use Rattle.ts_packet.specs.Sinks.{Blamed};
 ghost use Rattle.ts_packet.specs.Transfers.{WentWell};
 ghost use Rattle.program_laws.specs.Writing.{section_out, packets_out};
 ghost use Rattle.program_follower.specs.Standing.{tables_left, table_seen};
-ghost use Rattle.outgoing_packets.specs.Entries.{change_of, GoesOut, AllGoOut, bytes_or};
+ghost use Rattle.outgoing_packets.specs.Entries.{change_of, tables_out, table_out, GoesOut, AllGoOut, bytes_or};
 ghost use Rattle.outgoing_packets.specs.Numbers.{upcoming_on, FrontFails};
 
 use crate::entry::CueEntry;
@@ -38,7 +39,8 @@ impl Outgoing {
         ensures leads { S.leads sink.old sink.new }
         ensures ok { (start : Option (List ℕ)) (ps : List (List ℕ)) → S.holds sink.old start ps →
             OnOk result (S.holds sink.new start (ps ++ packet.now ∷ [])) }
-        ensures numbers { (out : List (List ℕ)) → HasPut self.old out → OnOk result (HasPut self.new (packet.now ∷ out)) }
+        ensures numbers { (out : List (List ℕ)) → HasPut self.old out →
+            OnOk result (HasPut self.new (packet.now ∷ out)) }
         ensures err { (start : Option (List ℕ)) (ps : List (List ℕ)) → S.holds sink.old start ps →
             IfErr result (λ f. S.fails sink.new start ps packet.now f) }
         ensures well { OnOk result (WentWell (S.counts sink.old) (S.counts sink.new)) }
@@ -62,12 +64,15 @@ impl Outgoing {
         sink: &mut S,
     ) -> Result<(), PutFault>
         ensures leads { S.leads sink.old sink.new }
-        ensures ok { (start : Option (List ℕ)) (ps out : List (List ℕ)) → S.holds sink.old start ps → HasPut self.old out → 0 < length section.now →
+        ensures ok { (start : Option (List ℕ)) (ps out : List (List ℕ)) → S.holds sink.old start ps →
+            HasPut self.old out → 0 < length section.now →
             OnOk result (S.holds sink.new start (ps ++ packets_out pid out (section.now ∷ []))) }
         ensures numbers { (out : List (List ℕ)) → HasPut self.old out → 0 < length section.now →
             OnOk result (HasPut self.new (onto out (packets_out pid out (section.now ∷ [])))) }
-        ensures err { (start : Option (List ℕ)) (ps out : List (List ℕ)) → S.holds sink.old start ps → HasPut self.old out → 0 < length section.now →
-            IfErr result (λ f. FrontFails (packets_out pid out (section.now ∷ [])) (λ put p. S.fails sink.new start (ps ++ put) p f)) }
+        ensures err { (start : Option (List ℕ)) (ps out : List (List ℕ)) → S.holds sink.old start ps →
+            HasPut self.old out → 0 < length section.now →
+            IfErr result (λ f. FrontFails (packets_out pid out (section.now ∷ []))
+            (λ put p. S.fails sink.new start (ps ++ put) p f)) }
         ensures well { OnOk result (WentWell (S.counts sink.old) (S.counts sink.new)) }
         ensures blamed { IfErr result (λ f. Blamed f (S.counts sink.old) (S.counts sink.new) (S.is_full sink.new)) }
         ensures pid { pid < 8192 }
@@ -96,12 +101,13 @@ impl Outgoing {
         ensures leads { S.leads sink.old sink.new }
         ensures ok { (start : Option (List ℕ)) (ps out : List (List ℕ)) → S.holds sink.old start ps →
             HasPut self.old out → AllGoOut change.now (tables_left tables.entry) →
-            OnOk result (S.holds sink.new start (ps ++ packets_out pid out (map (section_out (change_of change.now)) (tables_left tables.entry)))) }
+            OnOk result (S.holds sink.new start (ps ++ tables_out change.now pid out (tables_left tables.entry))) }
         ensures numbers { (out : List (List ℕ)) → HasPut self.old out → AllGoOut change.now (tables_left tables.entry) →
-            OnOk result (HasPut self.new (onto out (packets_out pid out (map (section_out (change_of change.now)) (tables_left tables.entry))))) }
+            OnOk result (HasPut self.new (onto out (tables_out change.now pid out (tables_left tables.entry)))) }
         ensures err { (start : Option (List ℕ)) (ps out : List (List ℕ)) → S.holds sink.old start ps →
             HasPut self.old out → AllGoOut change.now (tables_left tables.entry) →
-            IfErr result (λ f. FrontFails (packets_out pid out (map (section_out (change_of change.now)) (tables_left tables.entry))) (λ put p. S.fails sink.new start (ps ++ put) p f)) }
+            IfErr result (λ f. FrontFails (tables_out change.now pid out (tables_left tables.entry))
+            (λ put p. S.fails sink.new start (ps ++ put) p f)) }
         ensures well { OnOk result (WentWell (S.counts sink.old) (S.counts sink.new)) }
         ensures blamed { IfErr result (λ f. Blamed f (S.counts sink.old) (S.counts sink.new) (S.is_full sink.new)) }
     {
@@ -125,12 +131,13 @@ impl Outgoing {
         ensures leads { S.leads sink.old sink.new }
         ensures ok { (start : Option (List ℕ)) (ps out : List (List ℕ)) → S.holds sink.old start ps →
             HasPut self.old out → GoesOut change.now (table_seen table.entry) →
-            OnOk result (S.holds sink.new start (ps ++ packets_out pid out (section_out (change_of change.now) (table_seen table.entry) ∷ []))) }
+            OnOk result (S.holds sink.new start (ps ++ table_out change.now pid out (table_seen table.entry))) }
         ensures numbers { (out : List (List ℕ)) → HasPut self.old out → GoesOut change.now (table_seen table.entry) →
-            OnOk result (HasPut self.new (onto out (packets_out pid out (section_out (change_of change.now) (table_seen table.entry) ∷ [])))) }
+            OnOk result (HasPut self.new (onto out (table_out change.now pid out (table_seen table.entry)))) }
         ensures err { (start : Option (List ℕ)) (ps out : List (List ℕ)) → S.holds sink.old start ps →
             HasPut self.old out → GoesOut change.now (table_seen table.entry) →
-            IfErr result (λ f. FrontFails (packets_out pid out (section_out (change_of change.now) (table_seen table.entry) ∷ [])) (λ put p. S.fails sink.new start (ps ++ put) p f)) }
+            IfErr result (λ f. FrontFails (table_out change.now pid out (table_seen table.entry))
+            (λ put p. S.fails sink.new start (ps ++ put) p f)) }
         ensures well { OnOk result (WentWell (S.counts sink.old) (S.counts sink.new)) }
         ensures blamed { IfErr result (λ f. Blamed f (S.counts sink.old) (S.counts sink.new) (S.is_full sink.new)) }
         ensures pid { pid < 8192 }
@@ -153,7 +160,8 @@ impl Outgoing {
     /// Takes this as the continuity_counter of the PID's next packet.
     fn set_upcoming(&mut self, pid: Pid, counter: u8)
         ensures here { slice_index_or self.new.upcoming pid 0 ≡ counter }
-        ensures others { (other : ℕ) → other ≢ pid → slice_index_or self.new.upcoming other 0 ≡ slice_index_or self.old.upcoming other 0 }
+        ensures others { (other : ℕ) → other ≢ pid →
+            slice_index_or self.new.upcoming other 0 ≡ slice_index_or self.old.upcoming other 0 }
         ensures pid { pid < 8192 }
     {
         self.upcoming[pid.get() as usize] = counter;

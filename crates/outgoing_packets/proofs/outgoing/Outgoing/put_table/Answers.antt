@@ -1,4 +1,4 @@
-use Rattle.std.proofs.Common.{◌≡◌, ◌<◌, List, ℕ, [], ◌∷◌, ◌++◌, length, IfErr, sym, ap, ◌∙◌, subst}
+use Rattle.std.proofs.Common.{◌≡◌, ◌<◌, [], ◌∷◌, ◌++◌, length, IfErr, sym, ◌∙◌, subst}
 use Rattle.program_laws.specs.Writing.{section_out, packets_out}
 use Rattle.program_follower.specs.Standing.{table_seen}
 use Rattle.outgoing_packets.specs.Entries.{change_of}

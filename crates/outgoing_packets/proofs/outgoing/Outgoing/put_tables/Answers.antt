@@ -1,4 +1,4 @@
-use Rattle.std.proofs.Common.{◌≡◌, ℕ, List, [], ◌∷◌, ◌++◌, Option, IfErr, refl, sym, ap, ◌∙◌, subst, append_assoc}
+use Rattle.std.proofs.Common.{◌≡◌, [], ◌∷◌, ◌++◌, ap, ◌∙◌, append_assoc}
 use Rattle.std.specs.Prelude.{map}
 use Rattle.std.proofs.lemmas.List.{append-nil}
 use Rattle.ts_packet.specs.Runs.{onto}
@@ -6,7 +6,6 @@ use Rattle.ts_packet.proofs.CountLemmas.{well-refl, well-trans, blamed-after}
 use Rattle.program_laws.specs.Writing.{section_out, packets_out}
 use Rattle.program_follower.specs.Standing.{tables_left, table_seen}
 use Rattle.outgoing_packets.specs.Entries.{change_of}
-use Rattle.outgoing_packets.specs.Numbers.{HasPut}
 use Rattle.outgoing_packets.proofs.NumberLemmas.{going-first, going-good, going-here, going-more, fails-behind, packets-more}
 use Rattle.outgoing_packets.proofs.outgoing.Outgoing.put_tables.Goals as goal
 

@@ -1,4 +1,4 @@
-use Rattle.std.proofs.Common.{◌≡◌, ◌<◌, ℕ, List, ◌++◌, Option}
+use Rattle.std.proofs.Common.{ℕ, List, ◌++◌, Option}
 use Rattle.ts_packet.specs.Transfers.{WentWell}
 use Rattle.program_follower.specs.Standing.{tables_left}
 use Rattle.outgoing_packets.specs.Entries.{AllGoOut}
