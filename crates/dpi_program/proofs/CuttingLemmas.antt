@@ -7,7 +7,7 @@ use Rattle.unit_cut.specs.Runs.{CutsAll}
 use Rattle.unit_cut.specs.declared.run.CutFault.{CutFault}
 
 -- what is known of a flushed output is what was known before
-kept_bytes : (start out out' : Option (List ℕ)) (more : List ℕ) → IfSome start (λ bs. out ≡ Some (bs ++ more)) → Keeps out out' → IfSome start (λ bs. out' ≡ Some (bs ++ more))
+pub kept_bytes : (start out out' : Option (List ℕ)) (more : List ℕ) → IfSome start (λ bs. out ≡ Some (bs ++ more)) → Keeps out out' → IfSome start (λ bs. out' ≡ Some (bs ++ more))
 kept_bytes None out out' more h k = tt
 kept_bytes (Some bs) None out' more h k = absurd (cc)
 kept_bytes (Some bs) (Some xs) None more h k = absurd k

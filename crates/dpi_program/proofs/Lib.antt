@@ -1,2 +1,3 @@
 pub mod CuttingLemmas
+pub mod InjectingLemmas
 pub mod NumberLemmas

@@ -1,4 +1,5 @@
 pub mod Command
 pub mod Names
 pub mod Numbers
+pub mod Runs
 pub mod Scripts

@@ -8,7 +8,14 @@ use Rattle.unit_cut.specs.declared.run.CutFault.{CutFault}
 use Rattle.unit_cut.specs.declared.run.CutFault.TheVariants.{Read, Scrambled, HeaderSplit, TimeJump, Sink}
 use Rattle.packet_lines.specs.declared.lines.LinesFault.TheVariants.{BadLine, Cut}
 use Rattle.dpi_program.specs.declared.fault.ProgramFault.{ProgramFault}
-use Rattle.dpi_program.specs.declared.fault.ProgramFault.TheVariants.{Lines, File, OutOfMemory}
+use Rattle.dpi_program.specs.declared.fault.ProgramFault.TheVariants.{Lines, Run, Script, Accept, Print, File, OutOfMemory}
+use Rattle.chain_engine.specs.declared.chain.RunFault.{RunFault}
+use Rattle.chain_engine.specs.declared.chain.RunFault.TheVariants as run
+use Rattle.psi_tables.specs.declared.network.FeedFault.TheVariants as feed
+use Rattle.psi_tables.specs.declared.network.NetworkFault.{NetworkFault}
+use Rattle.psi_tables.specs.declared.network.NetworkFault.TheVariants as network
+use Rattle.dpi_program.specs.declared.script.ScriptFault.{ScriptFault}
+use Rattle.dpi_program.specs.declared.script.ScriptFault.TheVariants as script
 
 abbrev pub read_name : ReadFault → List ℕ
 read_name read.Truncated = codes "Truncated"
@@ -31,8 +38,36 @@ cut_name HeaderSplit = codes "HeaderSplit"
 cut_name TimeJump = codes "TimeJump"
 cut_name (Sink fault) = put_name fault
 
+abbrev pub network_name : NetworkFault → List ℕ
+network_name network.TimeJump = codes "TimeJump"
+network_name network.HeaderSplit = codes "HeaderSplit"
+network_name network.Scrambled = codes "Scrambled"
+network_name network.ProgramChanged = codes "ProgramChanged"
+network_name network.TooManyStreams = codes "TooManyStreams"
+network_name network.BadPids = codes "BadPids"
+network_name network.PmtTooLong = codes "PmtTooLong"
+network_name network.CuePidUsed = codes "CuePidUsed"
+network_name network.Sections = codes "Sections"
+
+abbrev pub run_name : RunFault → List ℕ
+run_name (run.Read fault) = read_name fault
+run_name (run.Feed (feed.Network fault)) = network_name fault
+run_name (run.Feed (feed.Sink fault)) = put_name fault
+run_name (run.Feed feed.Failed) = codes "Failed"
+
+abbrev pub script_name : ScriptFault → List ℕ
+script_name script.BadScript = codes "BadScript"
+script_name script.Io = codes "Io"
+script_name script.Turns = codes "Turns"
+script_name script.OutOfMemory = codes "OutOfMemory"
+
 abbrev pub fault_name : ProgramFault → List ℕ
 fault_name (Lines BadLine) = codes "BadLine"
 fault_name (Lines (Cut fault)) = cut_name fault
+fault_name (Run fault) = run_name fault
+fault_name (Script fault) = script_name fault
+fault_name Accept = codes "Accept"
+-- what prints failed, as a device
+fault_name Print = codes "Io"
 fault_name File = codes "File"
 fault_name OutOfMemory = codes "OutOfMemory"

@@ -1,10 +1,11 @@
-//! The command line: the subcommand `cut`, its options and their ranges.
+//! The command line, and of the subcommand `cut` its options and their ranges.
 
 ghost use Rattle.std.specs.Prelude.{◌≡◌, ◌^◌, IfOk, IfErr, Some};
 ghost use Rattle.dpi_program.specs.Numbers.{number_below};
 ghost use Rattle.dpi_program.specs.Command.{IsRefused};
 
 use crate::ends::End;
+use crate::inject_options::{INJECT_USAGE, inject_command};
 use crate::numbers::number_below;
 use clap::{Arg, ArgAction, ArgMatches, Command};
 use pes_time::Time33;
@@ -21,7 +22,8 @@ const TIME_LIMIT: u64 = 1 << 33;
 /// The first number that is no length, in ticks of 90 kHz.
 const LENGTH_LIMIT: u64 = 1 << 32;
 
-const ABOUT: &str = "Cuts programme intervals out of MPEG transport streams";
+const ABOUT: &str =
+    "Cuts intervals out of MPEG transport streams, and puts the cues of breaks into them";
 
 const CUT_ABOUT: &str = "Cuts one interval of one PID out of a transport stream";
 
@@ -80,6 +82,23 @@ pub enum NumberOption {
     Pid,
     From,
     Length,
+    Program,
+    CuePid,
+    Index,
+    Port,
+}
+
+impl NumberOption {
+    /// How the option's subcommand is called.
+    fn usage(&self) -> &'static str {
+        match self {
+            NumberOption::Pid | NumberOption::From | NumberOption::Length => CUT_USAGE,
+            NumberOption::Program
+            | NumberOption::CuePid
+            | NumberOption::Index
+            | NumberOption::Port => INJECT_USAGE,
+        }
+    }
 }
 
 /// An option's text that is no number in its range.
@@ -104,6 +123,22 @@ impl fmt::Display for NumberOption {
                 f,
                 "'--length <TICKS>': a length is a decimal number of 90 kHz ticks from 0 to 4294967295 (2^32 - 1)"
             ),
+            NumberOption::Program => write!(
+                f,
+                "'--program <N>': a program's number is a decimal number from 1 to 65535"
+            ),
+            NumberOption::CuePid => write!(
+                f,
+                "'--cue-pid <PID>': a PID for cues is a decimal number from 16 to 8190"
+            ),
+            NumberOption::Index => write!(
+                f,
+                "'--index <N>': a DPI_PID_index is a decimal number from 0 to 65535"
+            ),
+            NumberOption::Port => write!(
+                f,
+                "'--listen <PORT>': a port is a decimal number from 1 to 65535"
+            ),
         }
     }
 }
@@ -116,9 +151,10 @@ impl fmt::Display for BadNumber<'_> {
         if let Some(number) = hexadecimal(text) {
             write!(f, "; {text} is {number}")?;
         }
+        let usage = option.usage();
         write!(
             f,
-            "\n\nUsage: {CUT_USAGE}\n\nFor more information, try '--help'.\n"
+            "\n\nUsage: {usage}\n\nFor more information, try '--help'.\n"
         )
     }
 }
@@ -130,7 +166,12 @@ fn hexadecimal(text: &str) -> Option<u64> {
 }
 
 /// An option that takes one value.
-fn option<'a>(alloc: Global, id: &'a str, value_name: &'a str, help: &'a str) -> Arg<'a> {
+pub(crate) fn option<'a>(
+    alloc: Global,
+    id: &'a str,
+    value_name: &'a str,
+    help: &'a str,
+) -> Arg<'a> {
     Arg::new(alloc, id)
         .long(id)
         .value_name(value_name)
@@ -198,7 +239,8 @@ pub fn command<'a>(alloc: Global) -> Result<Command<'a>, AllocError> {
         .version("0.1.0")
         .no_binary_name(true)
         .subcommand_required(true)
-        .subcommand(cut_command(alloc)?)
+        .subcommand(cut_command(alloc)?)?
+        .subcommand(inject_command(alloc)?)
 }
 
 /// The numbers of a cut: its PID, its start and its length. The first of them that is not in its range is answered.

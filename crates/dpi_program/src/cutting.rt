@@ -1,8 +1,6 @@
 //! The subcommand `cut`: a cut between the ends that its options name, and what it tells.
 
 ghost use Rattle.std.specs.Prelude.{◌≡◌, ℕ, List, [], Option, false, IfErr, IfOk, OnOk, IsOk, IsErrAnd};
-ghost use Rattle.std.specs.Io.KnownBytes.{Keeps};
-ghost use Rattle.std.specs.Io.Buffered.{writer_contents};
 ghost use Rattle.ts_packet.specs.Sinks.{Written};
 ghost use Rattle.unit_cut.specs.Runs.{CutsAll};
 ghost use Rattle.packet_lines.specs.Texts.{WrittenLines};
@@ -11,6 +9,7 @@ use crate::attended::Attended;
 use crate::command::CutOptions;
 use crate::ends::{End, OpenedEnds, Unopened, open_ends};
 use crate::fault::ProgramFault;
+use crate::flushing::{finish, finish_buffer};
 use crate::tell::{Account, Side, Stopped};
 use crate::watch::{Watch, Watched};
 use packet_lines::{LineReader, LineWriter, LinesFault};
@@ -23,7 +22,10 @@ use ts_packet::{
 use unit_cut::{CutFault, cut};
 
 /// How many bytes a file or a stream is read or written at a time.
-const BUFFER_SIZE: usize = 262_144;
+pub const BUFFER_SIZE: usize = 262_144;
+
+/// The fault of an output that could not be flushed.
+const UNFLUSHED: CutFault = CutFault::Sink(PutFault::Io);
 
 /// What a cut answered, and what was seen go by where that was asked for.
 #[derive(Drop)]
@@ -60,35 +62,6 @@ fn cut_by_options<P: PacketSource, K: PacketSink>(
     Passed { outcome, seen }
 }
 
-/// Flushes the writer at the end of a cut, also after a fault. A failed flush after a cut that went through is `Io`.
-fn finish<W: Write>(outcome: Result<(), CutFault>, writer: &mut W) -> Result<(), CutFault>
-    ensures first { IfErr outcome (λ fault. result ≡ Err fault) }
-    ensures flushed { OnOk outcome (IfErr result (λ fault. fault ≡ CutFault.Sink PutFault.Io)) }
-    ensures kept { Keeps (W.contents writer.old) (W.contents writer.new) }
-{
-    let flushed = writer.flush();
-    outcome?;
-    flushed.map_err(|_| CutFault::Sink(PutFault::Io))
-}
-
-/// Flushes a buffer at the end of a cut, likewise, and gives the writer below it.
-fn finish_buffer<W: Write + Drop>(
-    outcome: Result<(), CutFault>,
-    writer: BufWriter<W>,
-) -> (Result<(), CutFault>, W)
-    ensures first { IfErr outcome (λ fault. result.0 ≡ Err fault) }
-    ensures flushed { OnOk outcome (IfErr result.0 (λ fault. fault ≡ CutFault.Sink PutFault.Io)) }
-    ensures kept { OnOk result.0 (Keeps (writer_contents W.contents writer) (W.contents result.1)) }
-{
-    let mut writer = writer;
-    let emptied = writer.flush();
-    let (below, _) = writer.into_parts();
-    match outcome {
-        Ok(()) => (emptied.map_err(|_| CutFault::Sink(PutFault::Io)), below),
-        Err(fault) => (Err(fault), below),
-    }
-}
-
 /// A cut whose output has been flushed.
 #[derive(Drop)]
 struct Finished<W> {
@@ -114,7 +87,7 @@ fn cut_to_blocks<P: PacketSource, W: Write + Drop>(
     let mut target = Device::new(writer);
     let mut writer = PacketWriter::new(&mut target);
     let Passed { outcome, seen } = cut_by_options(options, network, &mut writer);
-    let (outcome, output) = finish_buffer(outcome, target.into_inner());
+    let (outcome, output) = finish_buffer(outcome, target.into_inner(), UNFLUSHED);
     Ok(Finished {
         outcome,
         output,
@@ -136,7 +109,7 @@ fn cut_to_packets<P: PacketSource, W: Write + Drop>(
     let mut writer = PacketWriter::new(&mut target);
     let Passed { outcome, seen } = cut_by_options(options, network, &mut writer);
     let mut output = target.into_inner();
-    let outcome = finish(outcome, &mut output);
+    let outcome = finish(outcome, &mut output, UNFLUSHED);
     Finished {
         outcome,
         output,
@@ -161,7 +134,7 @@ fn cut_to_lines<P: PacketSource, W: Write + Drop>(
     let mut target = Device::new(writer);
     let mut writer = LineWriter::new(&mut target);
     let Passed { outcome, seen } = cut_by_options(options, network, &mut writer);
-    let (outcome, output) = finish_buffer(outcome, target.into_inner());
+    let (outcome, output) = finish_buffer(outcome, target.into_inner(), UNFLUSHED);
     Ok(Finished {
         outcome,
         output,
@@ -221,13 +194,13 @@ fn cut_to<P: PacketSource, F: Write + Drop, O: Write>(
 
 /// The reasons that the devices below a run gave for their last failures.
 #[derive(Drop)]
-struct Reasons {
-    reading: Option<io::Error>,
-    writing: Option<io::Error>,
+pub struct Reasons {
+    pub reading: Option<io::Error>,
+    pub writing: Option<io::Error>,
 }
 
 /// Memory was refused.
-fn out_of_memory() -> Stopped
+pub fn out_of_memory() -> Stopped
     ensures { result.fault ≡ ProgramFault.OutOfMemory }
 {
     Stopped {
@@ -235,6 +208,7 @@ fn out_of_memory() -> Stopped
         side: Side::Reading,
         reason: None,
         read: None,
+        line: None,
     }
 }
 
@@ -252,6 +226,7 @@ fn stopped(fault: LinesFault, reasons: Reasons, read: Option<Watch>) -> Stopped
         side,
         reason,
         read,
+        line: None,
     }
 }
 
@@ -336,7 +311,7 @@ fn cut_from_lines<R: Read + Drop, F: Write + Drop, O: Write>(
 }
 
 /// A file could not be opened.
-fn unopened(unopened: Unopened) -> Stopped
+pub fn unopened(unopened: Unopened) -> Stopped
     ensures { result.fault ≡ ProgramFault.File }
 {
     let (side, reason) = match unopened {
@@ -348,6 +323,7 @@ fn unopened(unopened: Unopened) -> Stopped
         side,
         reason: Some(reason),
         read: None,
+        line: None,
     }
 }
 

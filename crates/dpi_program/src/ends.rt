@@ -70,7 +70,7 @@ fn is_same_file(one: &Metadata, other: &Metadata) -> bool {
 }
 
 /// Opens a file to read, with what the system says of it. A directory is refused.
-fn open_input<R: Files>(rt: &R, path: &str) -> io::Result<(R::File, Metadata)> {
+pub fn open_input<R: Files>(rt: &R, path: &str) -> io::Result<(R::File, Metadata)> {
     let file = fs::open(rt, path)?;
     let about = file.metadata()?;
     if about.is_dir() {
@@ -79,11 +79,23 @@ fn open_input<R: Files>(rt: &R, path: &str) -> io::Result<(R::File, Metadata)> {
     Ok((file, about))
 }
 
-/// Makes a file to write anew, unless it is the one that is read.
-fn create_output<R: Files>(rt: &R, path: &str, input: Option<&Metadata>) -> io::Result<R::File> {
-    if let Some(input) = input
-        && let Ok(standing) = fs::metadata(rt, path)
-        && is_same_file(input, &standing)
+/// Whether the file that stands there is one that is read.
+fn is_input(standing: &Metadata, input: Option<&Metadata>) -> bool {
+    match input {
+        Some(input) => is_same_file(input, standing),
+        None => false,
+    }
+}
+
+/// Makes a file to write anew, unless it is one of those that are read.
+pub fn create_output<R: Files>(
+    rt: &R,
+    path: &str,
+    input: Option<&Metadata>,
+    other: Option<&Metadata>,
+) -> io::Result<R::File> {
+    if let Ok(standing) = fs::metadata(rt, path)
+        && (is_input(&standing, input) || is_input(&standing, other))
     {
         return Err(io::Error::other("it is the input file"));
     }
@@ -103,7 +115,7 @@ pub fn open_ends<R: Files>(
     let about = opened.as_ref().map(|(_, about)| about);
     let is_live = !about.is_some_and(|about| about.is_file());
     let output = match output.path() {
-        Some(path) => Some(create_output(rt, path, about).map_err(Unopened::Output)?),
+        Some(path) => Some(create_output(rt, path, about, None).map_err(Unopened::Output)?),
         None => None,
     };
     Ok(OpenedEnds {

@@ -1,9 +1,12 @@
 //! Why a run of the program stopped, and the name that is printed.
 
 ghost use Rattle.std.specs.Prelude.{◌≡◌};
-ghost use Rattle.dpi_program.specs.Names.{read_name, put_name, cut_name, fault_name};
+ghost use Rattle.dpi_program.specs.Names.{read_name, put_name, cut_name, network_name, run_name, script_name, fault_name};
 
+use crate::script::ScriptFault;
+use chain_engine::RunFault;
 use packet_lines::LinesFault;
+use psi_tables::{FeedFault, NetworkFault};
 use ts_packet::{PutFault, ReadFault};
 use unit_cut::CutFault;
 
@@ -12,6 +15,14 @@ use unit_cut::CutFault;
 pub enum ProgramFault {
     /// The cut stopped, or a line is no packet's.
     Lines(LinesFault),
+    /// A run with cues stopped.
+    Run(RunFault),
+    /// The script was not loaded.
+    Script(ScriptFault),
+    /// No automation system could connect.
+    Accept,
+    /// A reply or the report could not be printed.
+    Print,
     /// A file could not be opened.
     File,
     /// Memory was refused.
@@ -57,6 +68,47 @@ fn cut_name(fault: CutFault) -> &'static str
     }
 }
 
+/// The name of what is wrong with a network.
+fn network_name(fault: NetworkFault) -> &'static str
+    ensures { result.now ≡ network_name fault }
+{
+    match fault {
+        NetworkFault::TimeJump => "TimeJump",
+        NetworkFault::HeaderSplit => "HeaderSplit",
+        NetworkFault::Scrambled => "Scrambled",
+        NetworkFault::ProgramChanged => "ProgramChanged",
+        NetworkFault::TooManyStreams => "TooManyStreams",
+        NetworkFault::BadPids => "BadPids",
+        NetworkFault::PmtTooLong => "PmtTooLong",
+        NetworkFault::CuePidUsed => "CuePidUsed",
+        NetworkFault::Sections => "Sections",
+    }
+}
+
+/// The name of a fault of a run.
+fn run_name(fault: RunFault) -> &'static str
+    ensures { result.now ≡ run_name fault }
+{
+    match fault {
+        RunFault::Read(inner) => read_name(inner),
+        RunFault::Feed(FeedFault::Network(inner)) => network_name(inner),
+        RunFault::Feed(FeedFault::Sink(inner)) => put_name(inner),
+        RunFault::Feed(FeedFault::Failed) => "Failed",
+    }
+}
+
+/// The name of a script's fault.
+fn script_name(fault: ScriptFault) -> &'static str
+    ensures { result.now ≡ script_name fault }
+{
+    match fault {
+        ScriptFault::BadScript => "BadScript",
+        ScriptFault::Io => "Io",
+        ScriptFault::Turns => "Turns",
+        ScriptFault::OutOfMemory => "OutOfMemory",
+    }
+}
+
 /// The innermost name of a fault.
 pub fn fault_name(fault: ProgramFault) -> &'static str
     ensures { result.now ≡ fault_name fault }
@@ -64,6 +116,10 @@ pub fn fault_name(fault: ProgramFault) -> &'static str
     match fault {
         ProgramFault::Lines(LinesFault::BadLine) => "BadLine",
         ProgramFault::Lines(LinesFault::Cut(inner)) => cut_name(inner),
+        ProgramFault::Run(inner) => run_name(inner),
+        ProgramFault::Script(inner) => script_name(inner),
+        ProgramFault::Accept => "Accept",
+        ProgramFault::Print => "Io",
         ProgramFault::File => "File",
         ProgramFault::OutOfMemory => "OutOfMemory",
     }

@@ -6,10 +6,13 @@ ghost use Rattle.clap.specs.Values.{kind_of};
 use crate::command::{CutOptions, command, cut_options};
 use crate::cutting::run_cut;
 use crate::fault::{ProgramFault, fault_name};
+use crate::inject_options::{InjectOptions, inject_options};
+use crate::injecting::{Injected, run_inject_command};
 use crate::tell::{Side, Stopped, Trouble};
 use clap::Error;
 use clap::error::ErrorKind;
 use std::io::{Read, Write};
+use std::net::Net;
 use std::rt::Files;
 
 /// The exit status where all is done.
@@ -38,12 +41,75 @@ fn report_stopped<E: Write>(faults: &mut E, options: &CutOptions<'_>, stopped: &
     if options.is_verbose && stopped.fault != ProgramFault::OutOfMemory {
         let name = match stopped.side {
             Side::Reading => options.input.input_name(),
-            Side::Writing => options.output.output_name(),
+            _ => options.output.output_name(),
         };
         let trouble = Trouble { stopped, name };
         let _ = write!(faults, "{trouble}");
     }
     status
+}
+
+/// Prints the report of a run with cues, and answers whether it is out.
+fn print_report<W: Write>(printed: &mut W, injected: &Injected) -> bool {
+    let messages = injected.report.messages;
+    let (accepted, refused) = (injected.report.accepted, injected.report.refused);
+    let text = write!(
+        printed,
+        "messages {messages}\naccepted {accepted}\nrefused {refused}\n"
+    );
+    text.is_ok() && printed.flush().is_ok()
+}
+
+/// Prints the fault's line of a run with cues, and behind it what is known of it where that is asked for.
+fn report_inject<E: Write>(faults: &mut E, options: &InjectOptions<'_>, stopped: &Stopped) -> u8
+    ensures { result ≡ 1 }
+{
+    let status = report(faults, stopped.fault);
+    if options.is_verbose && stopped.fault != ProgramFault::OutOfMemory {
+        let name = match stopped.side {
+            Side::Reading => options.network.input_name(),
+            Side::Writing => options.output.output_name(),
+            Side::Scripting => options.asking_name(),
+            Side::Listening => options.asking_name(),
+            Side::Printing => "the standard stream",
+        };
+        let trouble = Trouble { stopped, name };
+        let _ = write!(faults, "{trouble}");
+    }
+    status
+}
+
+/// Runs `inject`, and answers the exit status.
+fn inject<R, I, O, E>(
+    rt: &R,
+    options: &InjectOptions<'_>,
+    input: &mut I,
+    output: &mut O,
+    faults: &mut E,
+) -> u8
+where
+    R: Files + Net + AllocGlobal,
+    I: Read,
+    O: Write,
+    E: Write,
+    ensures { result ≤ 1 }
+{
+    let injected = match run_inject_command(rt, options, input, output, faults) {
+        Ok(injected) => injected,
+        Err(stopped) => return report_inject(faults, options, &stopped),
+    };
+    let is_out = if options.has_standard_output() {
+        print_report(faults, &injected)
+    } else {
+        print_report(output, &injected)
+    };
+    if !is_out {
+        return report(faults, ProgramFault::Print);
+    }
+    if let Some(account) = injected.account {
+        let _ = write!(faults, "{account}");
+    }
+    DONE
 }
 
 /// Answers a command line that names no run, help and version among them: its text is printed on `faults`.
@@ -95,7 +161,7 @@ pub fn program<R, I, O, E>(
     faults: &mut E,
 ) -> u8
 where
-    R: Files + AllocGlobal,
+    R: Files + Net + AllocGlobal,
     I: Read,
     O: Write,
     E: Write,
@@ -108,6 +174,15 @@ where
         Ok(matches) => matches,
         Err(error) => return answer(faults, &error),
     };
+    if let Some(given) = matches.subcommand_matches("inject") {
+        return match inject_options(given) {
+            Ok(options) => inject(rt, &options, input, output, faults),
+            Err(bad) => {
+                let _ = write!(faults, "{bad}");
+                USAGE
+            }
+        };
+    }
     let Some(given) = matches.subcommand_matches("cut") else {
         return USAGE;
     };

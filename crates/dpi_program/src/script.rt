@@ -1,6 +1,6 @@
 //! A script: an automation whose bytes stand in a text, each line before a packet of the network, and whose replies are printed.
 
-ghost use Rattle.std.specs.Prelude.{IfErr, OnOk};
+ghost use Rattle.std.specs.Prelude.{◌≡◌, nat_lt, IfErr, OnOk};
 ghost use Rattle.ts_packet.specs.Transfers.{LastMovedNone};
 ghost use Rattle.dpi_program.specs.Scripts.{ScriptBlamed};
 
@@ -89,7 +89,9 @@ impl<W> Script<W> {
     }
 
     /// Whether a reply could not be printed.
-    pub fn has_lost_a_reply(&self) -> bool {
+    pub fn has_lost_a_reply(&self) -> bool
+        ensures { result ≡ nat_lt 0 self.now.lost }
+    {
         self.lost > 0
     }
 

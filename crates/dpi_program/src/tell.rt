@@ -2,7 +2,9 @@
 
 use crate::fault::ProgramFault;
 use crate::watch::Watch;
+use chain_engine::RunFault;
 use packet_lines::LinesFault;
+use psi_tables::FeedFault;
 use std::{fmt, io};
 use ts_packet::{Pid, ReadFault};
 use unit_cut::CutFault;
@@ -10,8 +12,16 @@ use unit_cut::CutFault;
 /// What a run did to one of its ends when it stopped.
 #[derive(Clone, Copy, Debug, PartialEq, Eq)]
 pub enum Side {
+    /// It read the stream.
     Reading,
+    /// It wrote the stream.
     Writing,
+    /// It read the script.
+    Scripting,
+    /// It waited for an automation system.
+    Listening,
+    /// It printed replies or the report.
+    Printing,
 }
 
 /// Why a run stopped, and what is known of it.
@@ -24,6 +34,8 @@ pub struct Stopped {
     pub reason: Option<io::Error>,
     /// What was read until then, where that was watched.
     pub read: Option<Watch>,
+    /// The line of the script in which the fault stands, from 1.
+    pub line: Option<usize>,
 }
 
 /// A PID in decimal and hexadecimal digits.
@@ -48,6 +60,18 @@ fn is_of_the_stream(fault: ProgramFault) -> bool {
         | ProgramFault::Lines(LinesFault::Cut(CutFault::Scrambled))
         | ProgramFault::Lines(LinesFault::Cut(CutFault::HeaderSplit))
         | ProgramFault::Lines(LinesFault::Cut(CutFault::TimeJump)) => true,
+        ProgramFault::Run(fault) => is_of_the_network(fault),
+        _ => false,
+    }
+}
+
+/// Likewise, of a run with cues.
+fn is_of_the_network(fault: RunFault) -> bool {
+    match fault {
+        RunFault::Read(ReadFault::Truncated)
+        | RunFault::Read(ReadFault::SyncLost)
+        | RunFault::Read(ReadFault::BadAdaptation)
+        | RunFault::Feed(FeedFault::Network(_)) => true,
         _ => false,
     }
 }
@@ -80,6 +104,9 @@ impl Trouble<'_> {
         if let Some(reason) = &self.stopped.reason {
             return write!(f, ": {reason}");
         }
+        if let Some(line) = self.stopped.line {
+            return write!(f, ": line {line}");
+        }
         let Some(read) = &self.stopped.read else {
             return Ok(());
         };
@@ -100,6 +127,9 @@ impl fmt::Display for Trouble<'_> {
         match self.stopped.side {
             Side::Reading => write!(f, "reading {name}")?,
             Side::Writing => write!(f, "writing {name}")?,
+            Side::Scripting => write!(f, "reading the script {name}")?,
+            Side::Listening => write!(f, "listening on {name}")?,
+            Side::Printing => write!(f, "printing to {name}")?,
         }
         self.write_place(f)?;
         writeln!(f)
@@ -131,5 +161,28 @@ impl fmt::Display for Account {
             Some(stamps) => writeln!(f, "; its time stamps go from {stamps}"),
             None => writeln!(f, "; it has no time stamps"),
         }
+    }
+}
+
+/// What a run with cues that went through has done.
+#[derive(Clone, Copy, Debug)]
+pub struct CueAccount {
+    /// The PID of the cues.
+    pub cue_pid: Pid,
+    /// What was read.
+    pub read: Watch,
+    /// What was written, with the cues as units of their PID.
+    pub written: Watch,
+}
+
+impl fmt::Display for CueAccount {
+    fn fmt<W: fmt::Write>(&self, f: &mut fmt::Formatter<W>) -> fmt::Result {
+        let cues = self.written.units();
+        let (read, written) = (self.read.packets(), self.written.packets());
+        let pid = BothWays { pid: self.cue_pid };
+        writeln!(
+            f,
+            "inject: {cues} cues on {pid}, {read} packets read, {written} written"
+        )
     }
 }

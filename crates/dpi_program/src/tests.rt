@@ -5,6 +5,7 @@ use super::{LinesFault, cut_lines};
 use pes_time::Time33;
 use std::alloc::{AllocError, Global};
 use std::io::{self, Cursor, ErrorKind, Read, Write};
+use std::net::Net;
 use std::process::Abort;
 use std::rt::Files;
 use std::test::Fail;
@@ -74,7 +75,7 @@ struct Outcome {
 }
 
 /// Runs the program on an input.
-fn run<R: Files + AllocGlobal>(rt: &R, words: &[&str], input: &[u8]) -> Outcome {
+fn run<R: Files + Net + AllocGlobal>(rt: &R, words: &[&str], input: &[u8]) -> Outcome {
     let mut output = Vec::new(rt.alloc());
     let mut faults = Vec::new(rt.alloc());
     let status = program(rt, words, &mut Cursor::new(input), &mut output, &mut faults);
@@ -91,7 +92,7 @@ fn cut_words<'a>(from: &'a str, length: &'a str) -> [&'a str; 7] {
 }
 
 /// The run on these lines ends with this status, this output and this text of its fault.
-fn expect_run<R: Files + AllocGlobal + Abort>(
+fn expect_run<R: Files + Net + AllocGlobal + Abort>(
     rt: &R,
     words: &[&str],
     input: &[u8],
@@ -131,7 +132,7 @@ fn intervals_are_cut_and_the_gap_is_closed(rt: HostRuntime) -> Result<(), Fail> 
 }
 
 /// With nothing cut, the first line goes out, and then this fault comes at the rest of the text.
-fn expect_fault<R: Files + AllocGlobal + Abort>(
+fn expect_fault<R: Files + Net + AllocGlobal + Abort>(
     rt: &R,
     rest: &[u8],
     fault: &str,
@@ -230,7 +231,7 @@ fn packets_are_judged_in_order(rt: HostRuntime) -> Result<(), Fail> {
 }
 
 /// The command line is not taken, and the text for the user has this in it.
-fn expect_usage<R: Files + AllocGlobal + Abort>(
+fn expect_usage<R: Files + Net + AllocGlobal + Abort>(
     rt: &R,
     words: &[&str],
     text: &str,
@@ -399,7 +400,7 @@ fn files_hold_bytes(rt: HostRuntime) -> Result<(), Fail> {
 }
 
 /// The output is refused since it is the input, and the line behind the fault says so.
-fn expect_same_file<R: Files + AllocGlobal + Abort>(
+fn expect_same_file<R: Files + Net + AllocGlobal + Abort>(
     rt: &R,
     input: &str,
     output: &str,
@@ -427,7 +428,7 @@ fn expect_same_file<R: Files + AllocGlobal + Abort>(
 }
 
 /// The input is no file that can be read.
-fn expect_no_file<R: Files + AllocGlobal + Abort>(rt: &R, input: &str, output: &str) {
+fn expect_no_file<R: Files + Net + AllocGlobal + Abort>(rt: &R, input: &str, output: &str) {
     let words = [
         "cut", "--pid", "256", "--from", "90000", "--length", "1", "--in", input, "--out", output,
     ];

@@ -1,0 +1,281 @@
+//! The command line of the subcommand `inject`: its options and their ranges.
+
+ghost use Rattle.std.specs.Prelude.{◌≡◌, ◌^◌, IfOk, Some};
+ghost use Rattle.dpi_program.specs.Numbers.{number_below};
+
+use crate::command::{BadNumber, NumberOption, option};
+use crate::ends::End;
+use crate::numbers::number_below;
+use clap::{Arg, ArgAction, ArgMatches, Command};
+use psi_tables::Config;
+use std::alloc::{AllocError, Global};
+use std::fmt;
+use ts_packet::Pid;
+
+/// The first number that two bytes do not hold.
+const NUMBER_LIMIT: u64 = 0x1_0000;
+
+/// The first number that is no PID.
+const PID_LIMIT: u64 = 0x2000;
+
+const INJECT_ABOUT: &str =
+    "Puts cues (SCTE 35) into a transport stream, as an automation asks for them (SCTE 104)";
+
+const INJECT_LONG_ABOUT: &str =
+    "Puts cues (SCTE 35) into one program of a transport stream, as an automation system asks for them (SCTE 104).
+
+Each message is judged at the packet before which its last byte came, by the greatest presentation time (PTS) of the program's
+pictures and sound so far, and is answered at once. A break that was accepted is cued on the cue PID, which the program's map (PMT)
+lists from then on: at once, and again every second up to its start. Starts, early ends and cancels are served.
+
+With --script the messages stand in a text file, and the replies are lines `reply HEX` on standard output. With --listen one
+automation system may connect to the port of this machine (127.0.0.1). It is waited for, and has the replies; it may close or fail,
+and the stream goes on.
+
+At the end standard output has three lines: how many `messages` came, and how many requests were `accepted` and `refused`. With
+--out - the packets go to standard output, and the replies and these lines to standard error.
+
+FILE may be a pipe, and - is standard input or output. What came in before a pause of the network goes out before it. The output
+file is written from the begin; it may not be an input.";
+
+const INJECT_EXAMPLE: &str =
+    "Numbers are decimal digits: PID 496 is what other tools may show as 0x1F0 (0x1F0 is not taken).
+
+A line of a script is the number of a packet of the network, from 0, a space, and the bytes of messages that come before that packet,
+1 to 4096 of them as upper case digits. The numbers rise from line to line. This line asks, before packet 203, for break 1, which
+starts in 4000 ms (0FA0), lasts 300 tenths of a second (012C) and is to play advertisement 7:
+  203 FFFF001E00000500010000010101000E010000000100070FA0012C000001
+and its reply is `reply 0007000E0064FFFF000005000105`: 0064 is success; from 8001 on it is the number of a refusal.
+
+Example, program 1, whose automation uses DPI_PID_index 1:
+  dpi_chain inject --network network.ts --program 1 --cue-pid 496 --index 1 --script breaks.txt --out cued.ts
+
+The same from a pipe, with an automation system on port 5167:
+  dpi_chain inject --network - --program 1 --cue-pid 496 --index 1 --listen 5167 --out cued.ts < network.ts
+
+Exit status: 0 where the whole stream went through; 1 at a fault, which is named on standard error as `fault: NAME`, and
+what went out before it stands; 2 where the command line is not taken, or asks for help or the version.";
+
+/// How the subcommand is called.
+pub const INJECT_USAGE: &str =
+    "dpi_chain inject --network <FILE> --program <N> --cue-pid <PID> --index <N> <--script <FILE>|--listen <PORT>> --out <FILE> [--verbose]";
+
+/// Where the messages come from.
+#[derive(Clone, Copy, Debug, PartialEq, Eq, Drop)]
+pub enum Asking<'a> {
+    /// A script.
+    Script(End<'a>),
+    /// The client of a port of this machine.
+    Port(u16),
+}
+
+/// What `inject` is to do.
+#[derive(Clone, Copy, Debug, Drop)]
+pub struct InjectOptions<'a> {
+    /// The program, the PID of its cues and the `DPI_PID_index` of its messages.
+    pub config: Config,
+    /// What is read.
+    pub network: End<'a>,
+    /// Where the messages come from.
+    pub asking: Asking<'a>,
+    /// What is written.
+    pub output: End<'a>,
+    /// Whether more is told than the fault's line.
+    pub is_verbose: bool,
+}
+
+impl<'a> InjectOptions<'a> {
+    /// Whether the packets go to standard output.
+    pub fn has_standard_output(&self) -> bool {
+        self.output.path().is_none()
+    }
+
+    /// What the end is called where the messages come from.
+    pub fn asking_name(&self) -> &'a str {
+        match self.asking {
+            Asking::Script(end) => end.input_name(),
+            Asking::Port(_) => "the port",
+        }
+    }
+}
+
+/// Why the options of `inject` are not taken.
+#[derive(Clone, Copy, Debug, Drop)]
+pub enum BadInject<'a> {
+    /// An option's text is no number in its range.
+    Number(BadNumber<'a>),
+    /// Neither a script nor a port is given, or both are.
+    Asking,
+    /// The network and the script are both standard input.
+    Input,
+}
+
+impl fmt::Display for BadInject<'_> {
+    fn fmt<W: fmt::Write>(&self, f: &mut fmt::Formatter<W>) -> fmt::Result {
+        match self {
+            BadInject::Number(bad) => return write!(f, "{bad}"),
+            BadInject::Asking => write!(
+                f,
+                "error: exactly one of '--script <FILE>' and '--listen <PORT>' is to be given"
+            )?,
+            BadInject::Input => write!(
+                f,
+                "error: '--network <FILE>' and '--script <FILE>' cannot both be standard input"
+            )?,
+        }
+        write!(
+            f,
+            "\n\nUsage: {INJECT_USAGE}\n\nFor more information, try '--help'.\n"
+        )
+    }
+}
+
+/// The options that say where the messages come from.
+fn asking_arguments<'a>(alloc: Global, command: Command<'a>) -> Result<Command<'a>, AllocError> {
+    let script = option(
+        alloc,
+        "script",
+        "FILE",
+        "The messages as lines of text, a packet's number, a space and digits; - is standard input",
+    );
+    let listen = option(
+        alloc,
+        "listen",
+        "PORT",
+        "The port of this machine, from 1 to 65535, to which one automation system may connect",
+    );
+    command.arg(script)?.arg(listen)
+}
+
+/// The subcommand `inject`.
+pub fn inject_command<'a>(alloc: Global) -> Result<Command<'a>, AllocError> {
+    let network = option(
+        alloc,
+        "network",
+        "FILE",
+        "The transport stream to read, a file or a pipe of 188-byte packets; - is standard input",
+    )
+    .required(true);
+    let program = option(
+        alloc,
+        "program",
+        "N",
+        "The program's number (program_number), from 1 to 65535",
+    )
+    .required(true);
+    let cue_pid = option(
+        alloc,
+        "cue-pid",
+        "PID",
+        "The PID for the cues, from 16 to 8190, which nothing in the network uses, as 496 (0x1F0)",
+    )
+    .required(true);
+    let index = option(
+        alloc,
+        "index",
+        "N",
+        "The DPI_PID_index of the messages to this program, from 0 to 65535",
+    )
+    .required(true);
+    let output = option(
+        alloc,
+        "out",
+        "FILE",
+        "The file to write, whose contents are replaced; - is standard output",
+    )
+    .required(true);
+    let verbose = Arg::new(alloc, "verbose")
+        .long("verbose")
+        .action(ArgAction::SetTrue)
+        .help("Tell more on standard error: where a fault stands, or how many cues went out");
+    let command = Command::new(alloc, "inject")
+        .about(INJECT_ABOUT)
+        .long_about(INJECT_LONG_ABOUT)
+        .after_help(INJECT_EXAMPLE)
+        .override_usage(INJECT_USAGE)
+        .arg(network)?
+        .arg(program)?
+        .arg(cue_pid)?
+        .arg(index)?;
+    asking_arguments(alloc, command)?.arg(output)?.arg(verbose)
+}
+
+/// An option's text that is no number in its range.
+fn bad_number<'a>(option: NumberOption, text: &'a str) -> BadInject<'a> {
+    BadInject::Number(BadNumber { option, text })
+}
+
+/// The program, its cue PID and its index. The first of them that is not in its range is answered.
+fn config_of<'a>(
+    program: &'a str,
+    cue_pid: &'a str,
+    index: &'a str,
+) -> Result<Config, BadInject<'a>>
+    ensures program { IfOk result (λ c. number_below program.now (2 ^ 16) ≡ Some c.program) }
+    ensures cue_pid { IfOk result (λ c. number_below cue_pid.now 8192 ≡ Some c.cue_pid) }
+    ensures index { IfOk result (λ c. number_below index.now (2 ^ 16) ≡ Some c.index) }
+{
+    let number = match number_below(program, NUMBER_LIMIT) {
+        Some(number) => {
+            if number == 0 {
+                None
+            } else {
+                Some(number as u16)
+            }
+        }
+        None => None,
+    };
+    let Some(number) = number else {
+        return Err(bad_number(NumberOption::Program, program));
+    };
+    let Some(pid) = number_below(cue_pid, PID_LIMIT).and_then(|pid| Pid::new(pid as u16)) else {
+        return Err(bad_number(NumberOption::CuePid, cue_pid));
+    };
+    let Some(index_number) = number_below(index, NUMBER_LIMIT) else {
+        return Err(bad_number(NumberOption::Index, index));
+    };
+    match Config::new(number, pid, index_number as u16) {
+        Ok(config) => Ok(config),
+        Err(_) => Err(bad_number(NumberOption::CuePid, cue_pid)),
+    }
+}
+
+/// Where the messages come from: exactly one option says it.
+fn asking_of<'a>(
+    script: Option<&'a str>,
+    listen: Option<&'a str>,
+) -> Result<Asking<'a>, BadInject<'a>> {
+    match (script, listen) {
+        (Some(script), None) => Ok(Asking::Script(End::named(Some(script)))),
+        (None, Some(port)) => match number_below(port, NUMBER_LIMIT) {
+            Some(number) => {
+                if number == 0 {
+                    return Err(bad_number(NumberOption::Port, port));
+                }
+                Ok(Asking::Port(number as u16))
+            }
+            None => Err(bad_number(NumberOption::Port, port)),
+        },
+        _ => Err(BadInject::Asking),
+    }
+}
+
+/// What the options of `inject` say.
+pub fn inject_options<'a>(matches: &ArgMatches<'a>) -> Result<InjectOptions<'a>, BadInject<'a>> {
+    let program = matches.get_str("program").unwrap_or("");
+    let cue_pid = matches.get_str("cue-pid").unwrap_or("");
+    let index = matches.get_str("index").unwrap_or("");
+    let config = config_of(program, cue_pid, index)?;
+    let asking = asking_of(matches.get_str("script"), matches.get_str("listen"))?;
+    let network = End::named(matches.get_str("network"));
+    if network == End::Standard && asking == Asking::Script(End::Standard) {
+        return Err(BadInject::Input);
+    }
+    Ok(InjectOptions {
+        config,
+        network,
+        asking,
+        output: End::named(matches.get_str("out")),
+        is_verbose: matches.get_flag("verbose"),
+    })
+}

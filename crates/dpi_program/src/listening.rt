@@ -1,0 +1,54 @@
+//! Runs whose automation is a client of a port of this machine.
+
+ghost use Rattle.std.specs.Prelude.{◌≡◌, ℕ, List, ◌++◌, Option, false, IfOk, IfErr};
+ghost use Rattle.psi_tables.specs.declared.config.Config.{Config};
+ghost use Rattle.chain_engine.specs.Chains.{ChainStandsFor};
+ghost use Rattle.dpi_program.specs.Runs.{CuesAll, CuesStop};
+
+use crate::connection::accept;
+use chain_engine::{Chain, Report, RunFault, run_inject};
+use std::alloc::Allocator;
+use std::io::{Read, Write};
+use std::net::{OpenListener, OpenStream};
+use ts_packet::{PacketSink, PacketSource};
+
+/// Why a run with a connection stopped.
+#[derive(Clone, Copy, Debug, PartialEq, Eq, Drop)]
+pub enum ListenFault {
+    /// No connection was accepted, or it could not be set not to block.
+    Accept,
+    /// The run stopped.
+    Run(RunFault),
+}
+
+/// Waits for one client of the listener, and then runs [`run_inject`] with it as the automation. A read that finds nothing is an empty
+/// piece; a reply that the client does not take at once ends its session.
+pub fn inject_listening<M, P, L, K>(
+    chain: Chain<M>,
+    network: &mut P,
+    listener: &L,
+    out: &mut K,
+) -> Result<Report, ListenFault>
+where
+    M: Allocator,
+    P: PacketSource,
+    L: OpenListener,
+    L::Stream: OpenStream + Read + Write + Drop,
+    K: PacketSink,
+    requires { P.is_broken network.old ≡ false }
+    ensures ok { (c : Config) (start : Option (List ℕ)) (before : List (List ℕ)) → ChainStandsFor chain c → K.holds out.old start before
+        → IfOk result (CuesAll c (P.left network.old) (λ ps. K.holds out.new start (before ++ ps))) }
+    ensures err { (c : Config) (start : Option (List ℕ)) (before : List (List ℕ)) → ChainStandsFor chain c → K.holds out.old start before
+        → IfErr result (λ f. CuesStop c f (P.left network.old) (λ ps. K.holds out.new start (before ++ ps))
+        (λ ps. K.fails out.new start (before ++ ps))) }
+    ensures reads { P.leads network.old network.new }
+    ensures leads { K.leads out.old out.new }
+{
+    let Some(mut connection) = accept(listener) else {
+        return Err(ListenFault::Accept);
+    };
+    match run_inject(chain, network, &mut connection, out) {
+        Ok(report) => Ok(report),
+        Err(fault) => Err(ListenFault::Run(fault)),
+    }
+}
