@@ -4,3 +4,5 @@ pub mod Reading
 pub mod Facts
 pub mod Senders
 pub mod Requests
+pub mod Sending
+pub mod Blocks

@@ -195,7 +195,7 @@ module _ (h : ℤ) (xs : List Sender) (run : List LineTurn) (s : Stood (Some h) 
 -- ---- a message
 
 -- before the first time there are none
-none-there : (xs : List Sender) (ys : List LineSender) → Alike (IsSender None) xs ys → (xs ≡ []) × (ys ≡ [])
+pub none-there : (xs : List Sender) (ys : List LineSender) → Alike (IsSender None) xs ys → (xs ≡ []) × (ys ≡ [])
 none-there xs [] a = (a, refl)
 none-there xs (y ∷ ys) a = absurd (a.3).held
 
