@@ -232,23 +232,23 @@ module _ (h : ℤ) (id : ℕ) (time : ℤ) (near : time ≤ℤ (h +ℤ pos (2 ^ 
 
 module _ (h : ℤ) (id : ℕ) (start : ℤ) (ticks program : ℕ) (near : start ≤ℤ (h +ℤ pos (2 ^ 29))) (some : 0 < ticks) (most : ticks ≤ 2 ^ 30)
     (xs : List Standing) (ys : List Event) (o : Orderly (Some h) ys) (a : Alike IsView xs ys) where
-  abbrev event : Standing
+  abbrev pub event : Standing
   event = record { id = id; start = start; length = ticks; asked = ticks; program = program; cancelled = false }
 
-  abbrev here : List Standing
+  abbrev pub here : List Standing
   here = standing_at (Some h) xs
 
-  used-is : list_any (has_id id) here ≡ list_any (line_is_of (Some h) id) ys
+  pub used-is : list_any (has_id id) here ≡ list_any (line_is_of (Some h) id) ys
   used-is = any-filter (stands (Some h)) (has_id id) xs ∙ alike-any IsView (is_of (Some h) id) (line_is_of (Some h) id) (is_of-view (Some h) id) xs ys a
 
-  meets-is : list_any (meets event) here ≡ list_any (bars (Some h) start (start +ℤ pos ticks)) ys
+  pub meets-is : list_any (meets event) here ≡ list_any (bars (Some h) start (start +ℤ pos ticks)) ys
   meets-is = any-filter (stands (Some h)) (meets event) xs
       ∙ alike-any IsView (λ s. stands (Some h) s && meets event s) (bars (Some h) start (start +ℤ pos ticks)) (λ s e v. ap (bars (Some h) start (start +ℤ pos ticks)) v) xs ys a
 
   full-by : (n m : ℕ) → n ≡ m → m ≤ 32 → not (n == 32) ≡ nat_lt m 32
   full-by n m same room = grind (arith, nat_tests)
 
-  full-is : not (is_full here) ≡ nat_lt (count (Some h) ys) 32
+  pub full-is : not (is_full here) ≡ nat_lt (count (Some h) ys) 32
   full-is = full-by (length here) (count (Some h) ys) (alike-count IsView (stands (Some h)) (line_stands (Some h)) (λ s e v. ap (line_stands (Some h)) v) xs ys a) o.room
 
   repeats-id : (s : Standing) → repeats event s ≡ true → has_id id s ≡ true
@@ -266,7 +266,7 @@ module _ (h : ℤ) (id : ℕ) (start : ℤ) (ticks program : ℕ) (near : start 
       by : (k m : ℤ) → m ≤ℤ (k +ℤ pos (2 ^ 29)) → (int_lt k m && int_le m (k +ℤ pos (2 ^ 29))) ≡ int_lt k m
       by k m l = grind (arith, ints)
 
-  some-is : int_lt start (start +ℤ pos ticks) ≡ true
+  pub some-is : int_lt start (start +ℤ pos ticks) ≡ true
   some-is = grind (arith, ints)
 
   kinds : (again ahead used full met : Bool) → (used ≡ false → again ≡ false) → can_start (Some h) id start (start +ℤ pos ticks) ys ≡ (ahead && (not used && (not full && not met)))

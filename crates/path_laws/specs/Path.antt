@@ -85,13 +85,15 @@ with_verdict None r verdict past = past
 with_verdict (Some high) r (Ok u) past = line_asked high r ∷ past
 with_verdict (Some high) r (Err e) past = past
 
+-- with what a message asks for, where these events stand
+abbrev pub with_asked : {A : Type 0} → Option ℤ → List Standing → Result A Refusal → (A → SpliceRequest) → List LineTurn → List LineTurn
+with_asked h standing (Ok a) request past = with_verdict h (request a) (verdict_of h standing (request a)) past
+with_asked h standing (Err e) request past = past
+
 -- THE ACCEPTED REQUESTS of a history, and its packets
 abbrev pub asked_line : ℕ → List Turn → List LineTurn
 asked_line index [] = []
-asked_line index (Judged m ∷ past) = elim (asked_of index m) as (λ r. List LineTurn) [
-  | Ok a ↦ with_verdict (high past) a.request (verdict_of (high past) (standing index past) a.request) (asked_line index past)
-  | Err e ↦ asked_line index past
-]
+asked_line index (Judged m ∷ past) = with_asked (high past) (standing index past) (asked_of index m) (λ a. a.request) (asked_line index past)
 asked_line index (Passed h ∷ past) = LinePassed h ∷ asked_line index past
 
 -- ---- histories
@@ -105,8 +107,12 @@ pub record FieldsFit (r : SpliceRequest) (avails : List ℕ) : Type 0 where
   pub avails_fit : AllByRecursion (λ id. id < 2 ^ 32) avails
 
 -- what a message asks for fits
+abbrev pub FitsIn : {A : Type 0} → Result A Refusal → (A → SpliceRequest) → (A → List ℕ) → Type 0
+FitsIn (Ok a) request avails = FieldsFit (request a) (avails a)
+FitsIn (Err e) request avails = Unit {0}
+
 abbrev pub RequestFits : ℕ → MessageReading → Type 0
-RequestFits index m = elim (asked_of index m) as (λ r. Type 0) [ Ok a ↦ FieldsFit a.request a.avails.items | Err e ↦ Unit {0} ]
+RequestFits index m = FitsIn (asked_of index m) (λ a. a.request) (λ a. a.avails.items)
 
 -- the requests fit, and the greatest time never falls and rises by ten seconds at most
 abbrev pub IsHistory : ℕ → List Turn → Type 0
