@@ -7,7 +7,7 @@ use Rattle.ts_packet.specs.Fields.{on}
 use Rattle.ts_packet.specs.Runs.{onto}
 use Rattle.ts_packet.proofs.Cases.{by_test}
 use Rattle.ts_packet.specs.Numbering.{one_past}
-use Rattle.psi_section.proofs.ReadBackLemmas.{Carries, turn_carry}
+use Rattle.psi_section.proofs.ReadBackLemmas.{IsPayloadOn, turn_carry}
 use Rattle.ts_packet.proofs.FieldLemmas.{payload_on-on}
 use Rattle.psi_tables.specs.declared.config.Config.{Config}
 use Rattle.program_follower.specs.declared.purpose.Listed.{Listed}
@@ -26,7 +26,7 @@ number-others : (pid : ℕ) (qs out : List (List ℕ)) → AllByRecursion (Off p
 number-others pid [] out off = refl
 number-others pid (q ∷ qs) out off = number-others pid qs (q ∷ out) off.1 ∙ (let f : number_on pid (q ∷ out) ≡ number_on pid out = simp off.0 in f)
 
-carried-on : (pid : ℕ) (qs : List (List ℕ)) → AllByRecursion (Carries pid) qs → AllByRecursion (On pid) qs
+carried-on : (pid : ℕ) (qs : List (List ℕ)) → AllByRecursion (IsPayloadOn pid) qs → AllByRecursion (On pid) qs
 carried-on pid [] all = tt
 carried-on pid (q ∷ qs) all = (payload_on-on pid q all.0, carried-on pid qs all.1)
 
