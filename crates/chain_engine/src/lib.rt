@@ -12,6 +12,8 @@ mod hearing;
 pub mod judge;
 mod report;
 mod talk;
+#[cfg(test)]
+mod tests;
 
 pub use automation::{Automation, Taken};
 pub use chain::{Chain, OutOfMemory, RunFault, run_inject};
