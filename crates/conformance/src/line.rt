@@ -51,7 +51,8 @@ pub fn word_bytes(alloc: Global, word: &[u8]) -> Result<Option<Vec<u8>>, AllocEr
     ensures exact { IfOk result (λ bytes. option_map (λ b. b.items) bytes ≡ bytes_in word.now) }
     ensures empty { word.now ≡ [] → IfOk result (λ bytes. bytes ≡ None) }
     ensures dash { word.now ≡ codes "-" → IfOk result (λ bytes. option_map (λ b. b.items) bytes ≡ Some []) }
-    ensures digits { word.now ≢ [] → word.now ≢ codes "-" → IfOk result (λ bytes. option_map (λ b. b.items) bytes ≡ spelled word.now) }
+    ensures digits { word.now ≢ [] → word.now ≢ codes "-"
+        → IfOk result (λ bytes. option_map (λ b. b.items) bytes ≡ spelled word.now) }
 {
     if word == b"-".as_slice() {
         return Ok(Some(Vec::new(alloc)));

@@ -19,7 +19,8 @@ fn take_off_feed(line: &mut Vec<u8>)
 
 /// Takes the next line of the input, which ends by a line feed or where the input does, and answers whether there is one.
 fn take_line<I: BufRead>(input: &mut I, line: &mut Vec<u8>) -> io::Result<bool>
-    ensures { IfOk result (λ is_there. TakesLine (I.remaining input.old) (I.remaining input.new) is_there line.new.items) }
+    ensures { IfOk result (λ is_there. TakesLine (I.remaining input.old) (I.remaining input.new)
+        is_there line.new.items) }
 {
     line.clear();
     if input.read_until(b'\n', line)? == 0 {

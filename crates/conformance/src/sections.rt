@@ -116,7 +116,8 @@ fn feed(
 pub fn found_in(alloc: Global, packets: &[Packet]) -> Result<Found, AllocError>
     ensures found { (pid : ℕ) → All (IsOf pid) packets.now → IfOk result (λ found. IsFoundIn pid packets.now found) }
     ensures sections { (pid : ℕ) → All (IsOf pid) packets.now →
-        IfOk result (λ found. map (λ finished. finished.section.items) found.finished.items ≡ sections pid packets.now) }
+        IfOk result (λ found. map (λ finished. finished.section.items) found.finished.items
+        ≡ sections pid packets.now) }
 {
     let mut assembler = Assembler::new();
     let mut finished = Vec::new(alloc);

@@ -68,7 +68,8 @@ fn write_added<O: Write>(output: &mut O, pmt: &Pmt<'_>, cue_pid: Pid) -> io::Res
 
 /// Writes a program map, and it with the cue entry of PID 0x01F0 added and with it stripped.
 fn write_map<O: Write>(output: &mut O, pmt: &Pmt<'_>) -> io::Result<()>
-    ensures { OnOk result (Appends (O.contents output.old) (O.contents output.new) (changes_text (map_of pmt.now.bytes.now))) }
+    ensures { OnOk result (Appends (O.contents output.old) (O.contents output.new)
+        (changes_text (map_of pmt.now.bytes.now))) }
 {
     let cue_pid = Pid::of_bits(0x01, 0xF0);
     let text = PmtText(*pmt);

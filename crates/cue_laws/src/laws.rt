@@ -1,7 +1,8 @@
 //! Laws, each the contract of a function that does nothing.
 
 ghost use Rattle.cue_laws.specs.Laws.{UncancelledEventsAgree, CuedIsSound, TableIsJudged, Settlement, LostCues, LostCuesAtTheEnd};
-ghost use Rattle.cue_laws.specs.Laws.{CuePath, CuePathAtTheEnd, CuePathHolders, NothingLostIsEnough, Invariant, NoStartRefused, ThinnedIsChosen, CuedGrows};
+ghost use Rattle.cue_laws.specs.Laws.{CuePath, CuePathAtTheEnd, CuePathHolders};
+ghost use Rattle.cue_laws.specs.Laws.{NothingLostIsEnough, Invariant, NoStartRefused, ThinnedIsChosen, CuedGrows};
 ghost use Rattle.cue_laws.specs.Tables.{ForgettingIsSafe};
 ghost use Rattle.cue_laws.specs.Needed.{OrderIsNeeded, EndsAreNeeded, CancelsAreNeeded};
 

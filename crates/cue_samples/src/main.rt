@@ -19,7 +19,8 @@ const EVENT: u32 = 1;
 
 /// Writes a cue, and prints its digits and a line feed.
 fn print_cue<O: Write>(output: &mut O, cue: &CueOut) -> io::Result<()>
-    ensures { OnOk result (Appends (O.contents output.old) (O.contents output.new) (digits_of (cue_bytes cue.now) ++ 10 ∷ [])) }
+    ensures { OnOk result (Appends (O.contents output.old) (O.contents output.new)
+        (digits_of (cue_bytes cue.now) ++ 10 ∷ [])) }
 {
     let mut bytes = ArrayVec::new();
     write(cue, &mut bytes);

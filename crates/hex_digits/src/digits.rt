@@ -34,7 +34,8 @@ pub fn digit_of(value: u8) -> u8
 /// Spells bytes into a line, as two digits for each, behind those of the `start` bytes before them.
 pub fn spell(line: &mut [u8], start: usize, bytes: &[u8])
     requires { 2 * (start + length bytes.now) ≤ length line.old }
-    ensures { line.new ≡ take (2 * start) line.old ++ digits_of bytes.now ++ drop (2 * (start + length bytes.now)) line.old }
+    ensures { line.new
+        ≡ take (2 * start) line.old ++ digits_of bytes.now ++ drop (2 * (start + length bytes.now)) line.old }
 {
     for (index, byte) in bytes.iter().enumerate() {
         let at = 2 * (start + index);

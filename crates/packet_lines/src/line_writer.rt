@@ -82,12 +82,15 @@ impl<W: Target> PacketSink for LineWriter<'_, W> {
             × (self.old.is_broken ≡ true → self.new ≡ self.old) }
         ensures ok { (start : Option (List ℕ)) (ps : List (List ℕ)) →
             HasWrittenLines self.old.is_broken (W.contents self.old.target.now) start ps →
-            OnOk result (HasWrittenLines self.new.is_broken (W.contents self.new.target.now) start (ps ++ packet.now ∷ [])) }
+            OnOk result (HasWrittenLines self.new.is_broken (W.contents self.new.target.now) start
+            (ps ++ packet.now ∷ [])) }
         ensures err { (start : Option (List ℕ)) (ps : List (List ℕ)) →
             HasWrittenLines self.old.is_broken (W.contents self.old.target.now) start ps →
-            IfErr result (λ f. HasFailedInLine self.new.is_broken f (W.contents self.new.target.now) start ps packet.now) }
+            IfErr result (λ f. HasFailedInLine self.new.is_broken f
+            (W.contents self.new.target.now) start ps packet.now) }
         ensures well { OnOk result (WentWell (W.counts self.old.target.now) (W.counts self.new.target.now)) }
-        ensures blamed { IfErr result (λ f. Blamed f (W.counts self.old.target.now) (W.counts self.new.target.now) false) }
+        ensures blamed { IfErr result (λ f. Blamed f (W.counts self.old.target.now)
+            (W.counts self.new.target.now) false) }
         ensures broken { self.new.is_broken ≡ is_err result }
         ensures spent { self.old.is_broken ≡ true → (result ≡ Err PutFault.Failed) × (self.new ≡ self.old) }
         ensures few { (W.counts self.new.target.now).calls ≤ (W.counts self.old.target.now).calls + 2 ^ 20 }

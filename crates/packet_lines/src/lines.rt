@@ -54,12 +54,15 @@ pub fn cut_lines<S: Source, W: Target>(
     from: Time33,
     length: u32,
 ) -> Result<(), LinesFault>
-    ensures ok { OnOk result (CutsLines pid from length (S.remaining input.old) (W.contents output.old) (W.contents output.new)) }
-    ensures err { IfErr result (λ f. StopsLines f pid from length (S.remaining input.old) (W.contents output.old) (W.contents output.new)) }
+    ensures ok { OnOk result (CutsLines pid from length (S.remaining input.old) (W.contents output.old)
+        (W.contents output.new)) }
+    ensures err { IfErr result (λ f. StopsLines f pid from length (S.remaining input.old) (W.contents output.old)
+        (W.contents output.new)) }
     ensures read { OnOk result (LastMovedNone (S.counts input.old) (S.counts input.new)) }
     ensures wrote { OnOk result (WentWell (W.counts output.old) (W.counts output.new)) }
     ensures reading { IfErr result (λ f. LineBlamed (cut_fault_of f) S.remaining S.counts input.old input.new) }
-    ensures writing { IfErr result (λ f. OutputBlamed (cut_fault_of f) (W.counts output.old) (W.counts output.new) false) }
+    ensures writing { IfErr result (λ f. OutputBlamed (cut_fault_of f) (W.counts output.old)
+        (W.counts output.new) false) }
 {
     let mut reader = LineReader::new(input);
     let mut writer = LineWriter::new(output);

@@ -132,7 +132,8 @@ impl ProgramFollower {
 
     /// The PID of the program's clock references; `None` in the head.
     pub fn pcr_pid(&self) -> Option<Pid>
-        ensures { OfPast self.now (λ c past. result ≡ option_map (λ (r : Program). r.pcr_pid) (program_of c.program past)) }
+        ensures { OfPast self.now (λ c past. result
+            ≡ option_map (λ (r : Program). r.pcr_pid) (program_of c.program past)) }
     {
         match self.maps.known() {
             None => None,
@@ -156,10 +157,12 @@ impl ProgramFollower {
 
     /// Takes a packet, and answers what it is, or the first thing that is wrong with it.
     fn take(&mut self, packet: &Packet) -> Result<Place, NetworkFault>
-        ensures stands { OfRun self.old (λ past. OnOk result (FollowerStandsFor self.new self.old.purpose (packet.now ∷ past))) }
+        ensures stands { OfRun self.old (λ past. OnOk result
+            (FollowerStandsFor self.new self.old.purpose (packet.now ∷ past))) }
         ensures sound { OfRun self.old (λ past. OnOk result (network_fault self.old.purpose packet.now past ≡ None)) }
         ensures place { OfRun self.old (λ past. IfOk result (λ x. IsPlace x self.old.purpose packet.now past)) }
-        ensures err { OfRun self.old (λ past. IfErr result (λ f. network_fault self.old.purpose packet.now past ≡ Some f)) }
+        ensures err { OfRun self.old (λ past. IfErr result
+            (λ f. network_fault self.old.purpose packet.now past ≡ Some f)) }
     {
         if is_refused(&self.purpose, packet) {
             return Err(NetworkFault::CuePidUsed);

@@ -30,7 +30,8 @@ pub(crate) fn judge_map(
 ) -> Result<(), NetworkFault>
     ensures ok { OnOk result ((fault_of_map purpose.now pmt_pid (known_seen known.old) pmt.now.bytes.now ≡ None)
         × (known_seen known.new ≡ option_or (known_seen known.old) (Some (program_in (map_of pmt.now.bytes.now))))) }
-    ensures err { IfErr result (λ f. fault_of_map purpose.now pmt_pid (known_seen known.old) pmt.now.bytes.now ≡ Some f) }
+    ensures err { IfErr result (λ f. fault_of_map purpose.now pmt_pid (known_seen known.old) pmt.now.bytes.now
+        ≡ Some f) }
 {
     let Ok(streams) = pmt.switched() else {
         return Err(NetworkFault::TooManyStreams);

@@ -127,7 +127,8 @@ fn judge_section(
 ) -> Result<(), NetworkFault>
     ensures ok { OnOk result ((fault_of_section purpose.now listed.now (known_seen known.old) section.now ≡ None)
         × (known_seen known.new ≡ known_behind listed.now (known_seen known.old) section.now)) }
-    ensures err { IfErr result (λ f. fault_of_section purpose.now listed.now (known_seen known.old) section.now ≡ Some f) }
+    ensures err { IfErr result (λ f. fault_of_section purpose.now listed.now (known_seen known.old) section.now
+        ≡ Some f) }
 {
     match map_of_program(listed.program, section) {
         None => Ok(()),

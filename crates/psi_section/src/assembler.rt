@@ -84,7 +84,8 @@ impl Assembler {
         requires room { length (content self.old.store) ≤ 4096 }
         requires size { length payload.now ≤ 184 }
         requires same { payload.now ≡ bytes packet.now }
-        ensures taken { taken (content self.new.store) ≡ packet_taken packet.now self.old.last (content self.old.store) }
+        ensures taken { taken (content self.new.store)
+            ≡ packet_taken packet.now self.old.last (content self.old.store) }
         ensures last { self.new.last ≡ self.old.last }
         ensures bad { self.new.bad ≡ self.old.bad }
     {

@@ -44,7 +44,8 @@ impl Packetiser {
             OnOk result (S.holds sink.new start (ps ++ packets_of self.old section.now)) }
         ensures counter { OnOk result (PutsAfter self.new self.old (length (packets_of self.old section.now))) }
         ensures err { (start : Option (List ℕ)) (ps : List (List ℕ)) → S.holds sink.old start ps →
-            IfErr result (λ f. PutFails self.old self.new (packets_of self.old section.now) (λ put p. S.fails sink.new start (ps ++ put) p f)) }
+            IfErr result (λ f. PutFails self.old self.new (packets_of self.old section.now)
+            (λ put p. S.fails sink.new start (ps ++ put) p f)) }
         ensures well { OnOk result (WentWell (S.counts sink.old) (S.counts sink.new)) }
         ensures blamed { IfErr result (λ f. Blamed f (S.counts sink.old) (S.counts sink.new) (S.is_full sink.new)) }
     {
@@ -63,7 +64,8 @@ impl Packetiser {
             OnOk result (S.holds sink.new start (ps ++ rest_of self.old bytes.now)) }
         ensures counter { OnOk result (PutsAfter self.new self.old (length (rest_of self.old bytes.now))) }
         ensures err { (start : Option (List ℕ)) (ps : List (List ℕ)) → S.holds sink.old start ps →
-            IfErr result (λ f. PutFails self.old self.new (rest_of self.old bytes.now) (λ put p. S.fails sink.new start (ps ++ put) p f)) }
+            IfErr result (λ f. PutFails self.old self.new (rest_of self.old bytes.now)
+            (λ put p. S.fails sink.new start (ps ++ put) p f)) }
         ensures well { OnOk result (WentWell (S.counts sink.old) (S.counts sink.new)) }
         ensures blamed { IfErr result (λ f. Blamed f (S.counts sink.old) (S.counts sink.new) (S.is_full sink.new)) }
     {

@@ -62,7 +62,10 @@ impl<'a> Pmt<'a> {
 
     /// `section_number` and `last_section_number`.
     pub fn numbers(&self) -> (u8, u8)
-        ensures { result ≡ ((map_of self.now.bytes.now).section_number, (map_of self.now.bytes.now).last_section_number) }
+        ensures { result ≡ (
+          (map_of self.now.bytes.now).section_number,
+          (map_of self.now.bytes.now).last_section_number,
+        ) }
     {
         (self.bytes[6], self.bytes[7])
     }

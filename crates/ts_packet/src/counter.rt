@@ -47,7 +47,8 @@ impl Counter {
     pub fn dropped(&mut self, packet: &Packet) -> u8
         requires { is_some (payload packet.now) ≡ true }
         ensures counts { (steps : List Step) → Counts self.old steps → Counts self.new (Dropped packet.now ∷ steps) }
-        ensures number { (steps : List Step) → Counts self.old steps → result ≡ number_out packet.now (Dropped packet.now ∷ steps) }
+        ensures number { (steps : List Step) → Counts self.old steps
+            → result ≡ number_out packet.now (Dropped packet.now ∷ steps) }
         ensures below { result < 16 }
     {
         self.shift = (self.shift + 15) % 16;

@@ -97,7 +97,8 @@ impl Follower {
     #[inline(always)]
     #[tactic(auto, using(crate::proofs::HistoryLemmas::goes_on, crate::proofs::HistoryLemmas::begins))]
     fn follows_on(&self, packet: &Packet) -> bool
-        ensures { (kept : List ℕ) → OfFollowed self.now kept (λ pid past. result ≡ follows_on packet.now (last_of pid past)) }
+        ensures { (kept : List ℕ) → OfFollowed self.now kept
+            (λ pid past. result ≡ follows_on packet.now (last_of pid past)) }
     {
         match &self.last {
             Some(mark) => packet.counter() == (mark.counter + 1) % 16,

@@ -83,11 +83,14 @@ impl<A: Allocator> PacketSink for PacketList<A> {
         ensures leads { (self.new.room ≡ self.old.room) × (nat_le self.old.room (vec_len self.old.items) ≡ true →
             nat_le self.new.room (vec_len self.new.items) ≡ true)
             × (self.old.is_broken ≡ true → self.new ≡ self.old) }
-        ensures ok { (start : Option (List ℕ)) (ps : List (List ℕ)) → (self.old.is_broken ≡ false) × (self.old.items.items ≡ ps) →
+        ensures ok { (start : Option (List ℕ)) (ps : List (List ℕ))
+            → (self.old.is_broken ≡ false) × (self.old.items.items ≡ ps) →
             OnOk result ((self.new.is_broken ≡ false) × (self.new.items.items ≡ ps ++ packet.now ∷ [])) }
-        ensures err { (start : Option (List ℕ)) (ps : List (List ℕ)) → (self.old.is_broken ≡ false) × (self.old.items.items ≡ ps) →
+        ensures err { (start : Option (List ℕ)) (ps : List (List ℕ))
+            → (self.old.is_broken ≡ false) × (self.old.items.items ≡ ps) →
             IfErr result (λ f. (self.new.is_broken ≡ true) × (f ≡ PutFault.Stuck) × (self.new.items.items ≡ ps)) }
-        ensures blamed { IfErr result (λ f. Blamed f no_tally no_tally (nat_le self.new.room (vec_len self.new.items))) }
+        ensures blamed { IfErr result (λ f. Blamed f no_tally no_tally
+            (nat_le self.new.room (vec_len self.new.items))) }
         ensures room { self.old.is_broken ≡ false → vec_len self.old.items < self.old.room → result ≡ Ok tt }
         ensures well { OnOk result (WentWell no_tally no_tally) }
         ensures kept { IfErr result (λ _. self.new.items.items ≡ self.old.items.items) }

@@ -61,13 +61,18 @@ impl<'a, S: Source> PacketReader<'a, S> {
     /// the slot is open.
     #[inline(always)]
     pub fn read_into(&mut self, packet: &mut Packet) -> Result<bool, ReadFault>
-        ensures exact { self.old.is_broken ≡ false → IfSome (S.remaining self.old.source.now) (λ bs. ReadAnswers bs result) }
+        ensures exact { self.old.is_broken ≡ false → IfSome (S.remaining self.old.source.now)
+            (λ bs. ReadAnswers bs result) }
         ensures same { self.new.source.ghost_name ≡ self.old.source.ghost_name }
-        ensures ok { IfOk result (λ more. GivesInto (S.remaining self.old.source.now) (S.remaining self.new.source.now) more packet.new) }
+        ensures ok { IfOk result (λ more. GivesInto (S.remaining self.old.source.now)
+            (S.remaining self.new.source.now) more packet.new) }
         ensures err { IfErr result (λ f. Refuses self.old.is_broken (S.remaining self.old.source.now) f) }
-        ensures spends { IfErr result (λ f. Spends f (S.remaining self.old.source.now) (S.remaining self.new.source.now)) }
-        ensures counts { IfOk result (λ more. ReadCounts more (S.counts self.old.source.now) (S.counts self.new.source.now)) }
-        ensures blamed { IfErr result (λ f. ReadBlamed f self.old.given (S.counts self.old.source.now) (S.counts self.new.source.now)) }
+        ensures spends { IfErr result (λ f. Spends f (S.remaining self.old.source.now)
+            (S.remaining self.new.source.now)) }
+        ensures counts { IfOk result (λ more. ReadCounts more (S.counts self.old.source.now)
+            (S.counts self.new.source.now)) }
+        ensures blamed { IfErr result (λ f. ReadBlamed f self.old.given (S.counts self.old.source.now)
+            (S.counts self.new.source.now)) }
         ensures few { (S.counts self.new.source.now).calls ≤ (S.counts self.old.source.now).calls + 2 ^ 20 }
         ensures later { Later (S.counts self.old.source.now) (S.counts self.new.source.now) }
         ensures given { IfOk result (λ more. (self.old.is_broken ≡ false) × (self.new.is_broken ≡ false)
@@ -108,9 +113,12 @@ impl<'a, S: Source> PacketReader<'a, S> {
         ensures same { self.new.source.ghost_name ≡ self.old.source.ghost_name }
         ensures ok { IfOk result (λ o. Gives (S.remaining self.old.source.now) (S.remaining self.new.source.now) o) }
         ensures err { IfErr result (λ f. Refuses self.old.is_broken (S.remaining self.old.source.now) f) }
-        ensures spends { IfErr result (λ f. Spends f (S.remaining self.old.source.now) (S.remaining self.new.source.now)) }
-        ensures counts { IfOk result (λ o. ReadCounts (is_some o) (S.counts self.old.source.now) (S.counts self.new.source.now)) }
-        ensures blamed { IfErr result (λ f. ReadBlamed f self.old.given (S.counts self.old.source.now) (S.counts self.new.source.now)) }
+        ensures spends { IfErr result (λ f. Spends f (S.remaining self.old.source.now)
+            (S.remaining self.new.source.now)) }
+        ensures counts { IfOk result (λ o. ReadCounts (is_some o) (S.counts self.old.source.now)
+            (S.counts self.new.source.now)) }
+        ensures blamed { IfErr result (λ f. ReadBlamed f self.old.given (S.counts self.old.source.now)
+            (S.counts self.new.source.now)) }
         ensures few { (S.counts self.new.source.now).calls ≤ (S.counts self.old.source.now).calls + 2 ^ 20 }
         ensures later { Later (S.counts self.old.source.now) (S.counts self.new.source.now) }
         ensures given { IfOk result (λ o. (self.old.is_broken ≡ false) × (self.new.is_broken ≡ false)

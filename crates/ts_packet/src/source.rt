@@ -38,10 +38,13 @@ pub trait PacketSource {
         ensures leads { leads self.old self.new }
         ensures ok { IfOk result (λ more. GivesInto (left self.old) (left self.new) more packet.new) }
         ensures err { IfErr result (λ f. Refuses (is_broken self.old) (left self.old) f) }
-        ensures counts { IfOk result (λ more. SourceCounts more (has_ended self.old) (has_ended self.new) (counts self.old) (counts self.new)) }
-        ensures blamed { IfErr result (λ f. (has_ended self.old ≡ false) × SourceBlamed f (given self.old) (counts self.old) (counts self.new)) }
+        ensures counts { IfOk result (λ more. SourceCounts more (has_ended self.old) (has_ended self.new)
+            (counts self.old) (counts self.new)) }
+        ensures blamed { IfErr result (λ f. (has_ended self.old ≡ false)
+            × SourceBlamed f (given self.old) (counts self.old) (counts self.new)) }
         ensures short { result ≡ Err Turns → falls_short self.old self.new }
-        ensures given { IfOk result (λ more. (is_broken self.old ≡ false) × (given self.new ≡ given self.old + cond more 1 0)) }
+        ensures given { IfOk result (λ more. (is_broken self.old ≡ false)
+            × (given self.new ≡ given self.old + cond more 1 0)) }
         ensures counted { IfOk result (λ _. given self.new < 2 ^ 64) }
         ensures broken { is_broken self.new ≡ is_err result }
         ensures spent { is_broken self.old ≡ true → (result ≡ Err Failed) × (self.new ≡ self.old) };

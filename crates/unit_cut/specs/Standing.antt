@@ -18,6 +18,10 @@ use Rattle.unit_cut.specs.declared.slots.Slots.{Slots}
 abbrev pub IsDistance : ℤ → ℤ → ℤ → Type 0
 IsDistance ticks begin high = (ticks ≡ high -ℤ begin) ⊎ ((ticks ≡ pos (2 ^ 40)) × ((begin +ℤ pos (2 ^ 40)) ≤ℤ high))
 
+-- what is said of each begin and greatest time that lie so far apart
+abbrev pub OfDistance : ℤ → (ℤ → ℤ → Type 0) → Type 0
+OfDistance ticks says = (begin high : ℤ) → IsDistance ticks begin high → says begin high
+
 abbrev pub DistanceFor : Option Distance → ℤ → Option ℤ → Type 0
 DistanceFor None begin None = Unit {0}
 DistanceFor (Some d) begin (Some high) = IsDistance d.ticks begin high

@@ -72,7 +72,8 @@ impl Cutter {
             → CutterStandsFor self.old kept.now k past → CutAnswers k packet.old past result packet.new }
         ensures stands { (k : Cut) (past : List (List ℕ)) → Begins k (packet.old ∷ past)
             → CutterStandsFor self.old kept.now k past
-            → OnOk result (CutterStandsFor self.new (kept_after k.pid packet.old packet.new kept.now) k (packet.old ∷ past)) }
+            → OnOk result (CutterStandsFor self.new (kept_after k.pid packet.old packet.new kept.now) k
+            (packet.old ∷ past)) }
     {
         if !packet.is_on(self.pid) {
             return Ok(true);

@@ -21,7 +21,7 @@ pub struct Distance {
 }
 
 impl Distance {
-    ghost use Rattle.unit_cut.specs.Standing.{IsDistance};
+    ghost use Rattle.unit_cut.specs.Standing.{IsDistance, OfDistance};
 
     /// The distance of the first time of a unit, which places the cut's begin on the line.
     pub fn start(first: Time33, from: Time33) -> Distance
@@ -45,7 +45,8 @@ impl Distance {
     fn raise(&mut self, way: i64)
         requires low { negsuc 899999 ≤ℤ way }
         requires top { way ≤ℤ pos 900000 }
-        ensures { (begin high : ℤ) → IsDistance self.old.ticks begin high → IsDistance self.new.ticks begin (int_max high (high +ℤ way)) }
+        ensures { OfDistance self.old.ticks (λ begin high. IsDistance self.new.ticks begin
+            (int_max high (high +ℤ way))) }
     {
         if way > 0 {
             self.ticks = self.of(way).min(FAR);
@@ -56,8 +57,9 @@ impl Distance {
     pub fn advance(&mut self, way: i64, length: u32) -> bool
         requires low { negsuc 899999 ≤ℤ way }
         requires top { way ≤ℤ pos 900000 }
-        ensures distance { (begin high : ℤ) → IsDistance self.old.ticks begin high → IsDistance self.new.ticks begin (int_max high (high +ℤ way)) }
-        ensures inside { (begin high : ℤ) → IsDistance self.old.ticks begin high → result ≡ inside begin length (Some (high +ℤ way)) }
+        ensures distance { OfDistance self.old.ticks
+            (λ begin high. IsDistance self.new.ticks begin (int_max high (high +ℤ way))) }
+        ensures inside { OfDistance self.old.ticks (λ begin high. result ≡ inside begin length (Some (high +ℤ way))) }
     {
         let at = self.of(way);
         self.raise(way);

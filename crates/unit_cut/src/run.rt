@@ -103,7 +103,8 @@ pub fn cut<P: PacketSource, K: PacketSink>(
     ensures read { OnOk result (SourceCounts false (P.has_ended network.old) (P.has_ended network.new)
         (P.counts network.old) (P.counts network.new)) }
     ensures wrote { OnOk result (WentWell (K.counts out.old) (K.counts out.new)) }
-    ensures reading { IfErr result (λ f. NetworkBlamed f (P.has_ended network.new) (P.counts network.old) (P.counts network.new)) }
+    ensures reading { IfErr result (λ f. NetworkBlamed f (P.has_ended network.new) (P.counts network.old)
+        (P.counts network.new)) }
     ensures writing { IfErr result (λ f. OutputBlamed f (K.counts out.old) (K.counts out.new) (K.is_full out.new)) }
     ensures turns { result ≡ Err (CutFault.Read ReadFault.Turns)
         → Stalled P.leads P.counts P.falls_short network.old network.new ⊎ Exhausted P.left P.given network.old }

@@ -61,13 +61,17 @@ impl Slots {
     #[inline(always)]
     pub fn pass<K: PacketSink>(&mut self, cutter: &mut Cutter, sink: &mut K) -> Result<(), CutFault>
         ensures leads { K.leads sink.old sink.new }
-        ensures ok { (k : Cut) (start : Option (List ℕ)) (before ps : List (List ℕ)) → Begins k (read_of self.old ∷ reverse ps)
-            → CutterStandsFor cutter.old (kept_of self.old) k (reverse ps) → K.holds sink.old start (before ++ cut_by k ps)
+        ensures ok { (k : Cut) (start : Option (List ℕ)) (before ps : List (List ℕ))
+            → Begins k (read_of self.old ∷ reverse ps)
+            → CutterStandsFor cutter.old (kept_of self.old) k (reverse ps)
+            → K.holds sink.old start (before ++ cut_by k ps)
             → OnOk result ((unit_fault (k.pid ∷ []) (read_of self.old) (reverse ps) ≡ None)
             × CutterStandsFor cutter.new (kept_of self.new) k (read_of self.old ∷ reverse ps)
             × K.holds sink.new start (before ++ cut_by k (ps ++ read_of self.old ∷ []))) }
-        ensures err { (k : Cut) (start : Option (List ℕ)) (before ps : List (List ℕ)) → Begins k (read_of self.old ∷ reverse ps)
-            → CutterStandsFor cutter.old (kept_of self.old) k (reverse ps) → K.holds sink.old start (before ++ cut_by k ps)
+        ensures err { (k : Cut) (start : Option (List ℕ)) (before ps : List (List ℕ))
+            → Begins k (read_of self.old ∷ reverse ps)
+            → CutterStandsFor cutter.old (kept_of self.old) k (reverse ps)
+            → K.holds sink.old start (before ++ cut_by k ps)
             → IfErr result (λ f. PassFails k (read_of self.old) ps f
             (λ l. K.holds sink.new start (before ++ l)) (λ l. K.fails sink.new start (before ++ l))) }
         ensures well { OnOk result (WentWell (K.counts sink.old) (K.counts sink.new)) }

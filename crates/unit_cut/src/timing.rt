@@ -90,7 +90,8 @@ impl Timing {
         ensures length { self.new.length ≡ self.old.length }
         ensures clock { self.new.clock ≡ self.old.clock }
         ensures distance { (k : Cut) (high : Option ℤ) → BeginsWith k high (Some pts) → k.from ≡ self.old.from
-            → DistanceFor self.old.distance k.begin high → way ≡ way_from high pts → DistanceFor self.new.distance k.begin (raise high (place high pts)) }
+            → DistanceFor self.old.distance k.begin high → way ≡ way_from high pts
+            → DistanceFor self.new.distance k.begin (raise high (place high pts)) }
         ensures going { (k : Cut) (high : Option ℤ) → BeginsWith k high (Some pts) → k.from ≡ self.old.from
             → k.length ≡ self.old.length → DistanceFor self.old.distance k.begin high → way ≡ way_from high pts
             → self.new.is_going ≡ goes_by k (Some (place high pts)) }

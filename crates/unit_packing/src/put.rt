@@ -30,11 +30,13 @@ pub fn put_unit<S: PacketSink>(
     requires { 0 < length bytes.now }
     ensures leads { S.leads sink.old sink.new }
     ensures ok { (start : Option (List ℕ)) (ps : List (List ℕ)) (steps : List Step) → S.holds sink.old start ps
-        → Counts counter.old steps → OnOk result (S.holds sink.new start (ps ++ unit_packets pid random_access (next_number steps) bytes.now)) }
+        → Counts counter.old steps → OnOk result (S.holds sink.new start
+        (ps ++ unit_packets pid random_access (next_number steps) bytes.now)) }
     ensures counted { (steps : List Step) → Counts counter.old steps →
         OnOk result (Counts counter.new (put_in (unit_packets pid random_access (next_number steps) bytes.now) steps)) }
     ensures err { (start : Option (List ℕ)) (ps : List (List ℕ)) (steps : List Step) → S.holds sink.old start ps
-        → Counts counter.old steps → IfErr result (λ f. PutFails counter.new steps (unit_packets pid random_access (next_number steps) bytes.now)
+        → Counts counter.old steps → IfErr result (λ f. PutFails counter.new steps
+        (unit_packets pid random_access (next_number steps) bytes.now)
         (λ put p. S.fails sink.new start (ps ++ put) p f)) }
     ensures well { OnOk result (WentWell (S.counts sink.old) (S.counts sink.new)) }
     ensures blamed { IfErr result (λ f. Blamed f (S.counts sink.old) (S.counts sink.new) (S.is_full sink.new)) }
@@ -103,11 +105,13 @@ fn put_rest<S: PacketSink>(
 ) -> Result<(), PutFault>
     ensures leads { S.leads sink.old sink.new }
     ensures ok { (start : Option (List ℕ)) (ps : List (List ℕ)) (steps : List Step) → S.holds sink.old start ps
-        → Counts counter.old steps → OnOk result (S.holds sink.new start (ps ++ rest_packets pid (next_number steps) bytes.now)) }
+        → Counts counter.old steps → OnOk result (S.holds sink.new start
+        (ps ++ rest_packets pid (next_number steps) bytes.now)) }
     ensures counted { (steps : List Step) → Counts counter.old steps →
         OnOk result (Counts counter.new (put_in (rest_packets pid (next_number steps) bytes.now) steps)) }
     ensures err { (start : Option (List ℕ)) (ps : List (List ℕ)) (steps : List Step) → S.holds sink.old start ps
-        → Counts counter.old steps → IfErr result (λ f. PutFails counter.new steps (rest_packets pid (next_number steps) bytes.now)
+        → Counts counter.old steps → IfErr result (λ f. PutFails counter.new steps
+        (rest_packets pid (next_number steps) bytes.now)
         (λ put p. S.fails sink.new start (ps ++ put) p f)) }
     ensures well { OnOk result (WentWell (S.counts sink.old) (S.counts sink.new)) }
     ensures blamed { IfErr result (λ f. Blamed f (S.counts sink.old) (S.counts sink.new) (S.is_full sink.new)) }

@@ -16,9 +16,17 @@ pub record FollowsUnits (units : UnitFollower) (kept : List ℕ) (pid : ℕ) (pa
   pub follows : Follows units.follower kept pid past
   pub begun : units.has_begun ≡ in_unit pid past
 
+-- what is said of each PID and past that it has followed, where this packet is kept
+abbrev pub OfUnits : UnitFollower → List ℕ → (ℕ → List (List ℕ) → Type 0) → Type 0
+OfUnits units kept says = (pid : ℕ) (past : List (List ℕ)) → FollowsUnits units kept pid past → says pid past
+
 -- the reader has followed the PID over this past, newest first
 abbrev pub Reads : UnitReader → ℕ → List (List ℕ) → Type 0
 Reads reader pid past = FollowsUnits reader.units reader.last pid past
+
+-- what is said of each PID and past that the reader has followed
+abbrev pub OfReader : UnitReader → (ℕ → List (List ℕ) → Type 0) → Type 0
+OfReader reader says = (pid : ℕ) (past : List (List ℕ)) → Reads reader pid past → says pid past
 
 -- the piece is the one that this packet brings behind this past
 abbrev pub Brings : Piece → ℕ → List ℕ → List (List ℕ) → Type 0

@@ -57,7 +57,8 @@ impl Clock {
     pub fn begin(&mut self, payload: &[u8]) -> Result<Option<Begun>, UnitFault>
         ensures ok { (high : Option ℤ) → ClockAt self.old high
             → OnOk result (ClockAt self.new (raised high (stamp_of payload.now))) }
-        ensures sound { (high : Option ℤ) → ClockAt self.old high → OnOk result (payload_fault high payload.now ≡ None) }
+        ensures sound { (high : Option ℤ) → ClockAt self.old high
+            → OnOk result (payload_fault high payload.now ≡ None) }
         ensures tells { (high : Option ℤ) → ClockAt self.old high
             → IfOk result (λ begun. Tells begun high (stamp_of payload.now)) }
         ensures near { IfOk result IsNear }
@@ -76,7 +77,8 @@ impl Clock {
 
     /// Goes on to the time of a unit.
     fn advance(&mut self, pts: Time33) -> Result<Option<Begun>, UnitFault>
-        ensures ok { (high : Option ℤ) → ClockAt self.old high → OnOk result (ClockAt self.new (raised high (Some pts))) }
+        ensures ok { (high : Option ℤ) → ClockAt self.old high
+            → OnOk result (ClockAt self.new (raised high (Some pts))) }
         ensures sound { (high : Option ℤ) → ClockAt self.old high → OnOk result (jumps high (Some pts) ≡ false) }
         ensures tells { (high : Option ℤ) → ClockAt self.old high → IfOk result (λ begun. Tells begun high (Some pts)) }
         ensures near { IfOk result IsNear }

@@ -32,7 +32,7 @@ pub struct UnitFollower {
 
 impl UnitFollower {
     ghost use Rattle.ts_packet.specs.Following.{kept_after};
-    ghost use Rattle.unit_stream.specs.Pieces.{FollowsUnits, Brings, HasPayload};
+    ghost use Rattle.unit_stream.specs.Pieces.{FollowsUnits, OfUnits, Brings, HasPayload};
 
     /// A follower of this PID that has seen no packet.
     pub fn new(pid: Pid) -> UnitFollower
@@ -49,9 +49,9 @@ impl UnitFollower {
     /// there was none.
     #[inline(always)]
     pub fn feed<'a>(&mut self, packet: &'a Packet, kept: &Packet) -> Piece<'a>
-        ensures reads { (pid : ℕ) (past : List (List ℕ)) → FollowsUnits self.old kept.now pid past →
-            FollowsUnits self.new (kept_after pid packet.now packet.now kept.now) pid (packet.now ∷ past) }
-        ensures brings { (pid : ℕ) (past : List (List ℕ)) → FollowsUnits self.old kept.now pid past → Brings result pid packet.now past }
+        ensures reads { OfUnits self.old kept.now (λ pid past.
+            FollowsUnits self.new (kept_after pid packet.now packet.now kept.now) pid (packet.now ∷ past)) }
+        ensures brings { OfUnits self.old kept.now (λ pid past. Brings result pid packet.now past) }
         ensures payload { HasPayload result packet.now }
     {
         if packet.error() {
@@ -86,7 +86,7 @@ pub struct UnitReader {
 }
 
 impl UnitReader {
-    ghost use Rattle.unit_stream.specs.Pieces.{Reads, Brings, HasPayload};
+    ghost use Rattle.unit_stream.specs.Pieces.{Reads, OfReader, Brings, HasPayload};
 
     /// A reader of this PID that has seen no packet.
     pub fn new(pid: Pid) -> UnitReader
@@ -100,8 +100,8 @@ impl UnitReader {
 
     /// What the next packet brings.
     pub fn feed<'a>(&mut self, packet: &'a Packet) -> Piece<'a>
-        ensures reads { (pid : ℕ) (past : List (List ℕ)) → Reads self.old pid past → Reads self.new pid (packet.now ∷ past) }
-        ensures brings { (pid : ℕ) (past : List (List ℕ)) → Reads self.old pid past → Brings result pid packet.now past }
+        ensures reads { OfReader self.old (λ pid past. Reads self.new pid (packet.now ∷ past)) }
+        ensures brings { OfReader self.old (λ pid past. Brings result pid packet.now past) }
         ensures payload { HasPayload result packet.now }
     {
         let piece = self.units.feed(packet, &self.last);
