@@ -1,6 +1,6 @@
 -- All cues before a packet, and the whole path.
-use Rattle.std.proofs.Common.{◌≡◌, ℕ, zero, suc, ◌+◌, ◌^◌, ◌<◌, ◌≤◌, ◌==◌, Bool, true, false, not, ◌&&◌, ◌||◌, cond, ◌⊎◌, inl, inr, refl, sym, ap, ◌∙◌, subst, List, [], ◌∷◌, ◌++◌, length, arith, if◌then◌else◌}
-use Rattle.std.specs.Prelude.{ℤ, pos, ◌+ℤ◌, ◌≤ℤ◌, ◌<ℤ◌, int_lt, int_le, map, filter, Option, None, Some, Result, Ok, Err}
+use Rattle.std.proofs.Common.{◌≡◌, ℕ, ◌==◌, Bool, true, false, ◌&&◌, cond, inl, inr, refl, sym, ap, ◌∙◌, subst, List, [], ◌∷◌, ◌++◌, arith}
+use Rattle.std.specs.Prelude.{ℤ, pos, ◌+ℤ◌, ◌≤ℤ◌, int_lt, filter, Option, None, Some, Result, Ok, Err}
 use Rattle.std.specs.List.{flat_map}
 use Rattle.std.proofs.lemmas.Int.{ints}
 use Rattle.std.proofs.lemmas.List.{append-nil}
@@ -8,25 +8,24 @@ use Rattle.std.proofs.lemmas.List.Elements.{filter-append}
 use Rattle.std.proofs.lemmas.Grind.{flat_map-append}
 use Rattle.scte104_codec.specs.declared.requests.SpliceRequest.{SpliceRequest}
 use Rattle.scte35_codec.specs.declared.cue_out.CueOut.{CueOut}
-use Rattle.event_table.specs.Standing.{Standing, end_of, with_first}
+use Rattle.event_table.specs.Standing.{Standing, end_of}
 use Rattle.injector.specs.declared.refusal.Refusal.{Refusal}
 use Rattle.injector.specs.Asking.{is_start, asked_of}
 use Rattle.injector.specs.Verdicts.{verdict_of}
 use Rattle.injector.specs.Turns.{Turn, Judged, Passed, high, standing}
-use Rattle.injector.specs.Senders.{Sender, cues_of, stands_now, senders, standing_senders, cues_before, with_event, with_judged, with_request, tell, is_none, chosen}
-use Rattle.cue_laws.specs.Events.{Turn as LineTurn, Started, Cancelled, Ended, LineEvent, before, Rises, In}
-use Rattle.cue_laws.specs.Events.{Passed as LinePassed, high as line_high, stands as line_stands}
-use Rattle.cue_laws.specs.Cueing.{Sender as LineSender, Told, Untold, Known, Never, is_news, is_cancel_new, is_due, is_second, or_else, told_on, block_on, cued}
+use Rattle.injector.specs.Senders.{Sender, cues_of, stands_now, senders}
+use Rattle.cue_laws.specs.Events.{Turn as LineTurn, LineEvent, before, Rises, In}
+use Rattle.cue_laws.specs.Events.{Passed as LinePassed}
+use Rattle.cue_laws.specs.Cueing.{Sender as LineSender, Told, Untold, Known, Never, is_news, is_due, is_second, told_on, block_on, cued}
 use Rattle.cue_laws.specs.Cueing.{senders as line_senders, limit as line_limit}
-use Rattle.cue_laws.proofs.Settling.{by_test, both, lt-test, ge-test}
+use Rattle.cue_laws.proofs.Settling.{by_test, lt-test}
 use Rattle.cue_laws.proofs.Fair.{IsFair, IsKnown, Fair, stand}
-use Rattle.path_laws.specs.Path.{Item, Packet, Sent, high_on, sent_onto, path, line, with_asked, with_verdict, line_asked, asked_line, IsHistory}
-use Rattle.path_laws.proofs.Alike.{Alike, In-pushed, In-last, In-front}
+use Rattle.path_laws.specs.Path.{Item, Sent, sent_onto, path, with_asked, with_verdict, asked_line, IsHistory}
+use Rattle.path_laws.proofs.Alike.{Alike, In-last, In-front}
 use Rattle.path_laws.proofs.Switch.{view}
-use Rattle.path_laws.proofs.Reading.{AreNear}
-use Rattle.path_laws.proofs.Senders.{IsSender, is_new, fair-in}
+use Rattle.path_laws.proofs.Senders.{IsSender, fair-in}
 use Rattle.path_laws.proofs.Requests.{Stood, stood, none-there}
-use Rattle.path_laws.proofs.Sending.{AreNamed, Tells, sender-sent}
+use Rattle.path_laws.proofs.Sending.{Tells, sender-sent}
 
 -- ---- of an event that is forgotten nothing is sent
 

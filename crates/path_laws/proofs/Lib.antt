@@ -6,3 +6,5 @@ pub mod Senders
 pub mod Requests
 pub mod Sending
 pub mod Blocks
+pub mod Programs
+pub mod Proofs

@@ -1,22 +1,20 @@
 -- What the switch makes of a path is what the definitions on the line make of it, and of what is left of it.
-use Rattle.std.proofs.Common.{◌≡◌, ℕ, zero, suc, ◌+◌, ◌^◌, ◌<◌, ◌≤◌, false, refl, sym, ap, ◌∙◌, subst, List, [], ◌∷◌, arith}
-use Rattle.std.specs.Prelude.{ℤ, pos, ◌+ℤ◌, ◌≤ℤ◌, ◌<ℤ◌, map, Option, None, Some}
-use Rattle.std.proofs.lemmas.Int.{ints}
+use Rattle.std.proofs.Common.{◌≡◌, ℕ, zero, suc, ◌^◌, ◌<◌, ◌≤◌, false, refl, sym, ap, ◌∙◌, subst, List, [], ◌∷◌}
+use Rattle.std.specs.Prelude.{ℤ, pos, ◌+ℤ◌, ◌≤ℤ◌, map, Option, None, Some}
 use Rattle.pes_time.specs.Line.{ring_of, lift, place}
 use Rattle.pes_time.proofs.LineLemmas.{lift-only}
 use Rattle.scte35_codec.specs.declared.cue_out.CueOut.{CueOut}
 use Rattle.scte35_codec.specs.declared.cue_out.CueOut.TheVariants.{Start, Cancel, End}
-use Rattle.scte35_codec.specs.Spelling.{cue_bytes, Fits, told_of}
-use Rattle.scte35_codec.specs.Reading.{cue_of}
+use Rattle.scte35_codec.specs.Spelling.{cue_bytes, Fits}
 use Rattle.scte35_codec.proofs.WrittenLemmas.{cue_back}
-use Rattle.event_table.specs.Standing.{Standing, end_of}
+use Rattle.event_table.specs.Standing.{end_of}
 use Rattle.armed_events.specs.Asking.{asked_of}
-use Rattle.armed_events.specs.Arming.{Heard, change, start_change, end_change, cancel_change, changed, standing_at, with_section}
-use Rattle.cue_laws.specs.Events.{Turn as LineTurn, Started, Cancelled, Ended, Passed, LineEvent, high, events, taken, Rises, NeverFalls, cancel_by, end_by}
+use Rattle.armed_events.specs.Arming.{Heard, change, start_change, end_change, changed, standing_at, with_section}
+use Rattle.cue_laws.specs.Events.{Turn as LineTurn, Started, Passed, high, events, taken, Rises, NeverFalls, cancel_by, end_by}
 use Rattle.cue_laws.specs.Thinning.{times, thinned}
-use Rattle.injector.specs.Senders.{Sender, start_cue, end_cue, cancel_cue}
+use Rattle.injector.specs.Senders.{start_cue, end_cue, cancel_cue}
 use Rattle.path_laws.specs.Path.{Item, Sent, Packet, high_on, line_of, line, left, heard_on, armed_on}
-use Rattle.path_laws.specs.Telling.{first_asked, IsClose, StartTells, EndTells, CancelTells}
+use Rattle.path_laws.specs.Telling.{IsClose, StartTells, EndTells, CancelTells}
 use Rattle.path_laws.proofs.Alike.{Alike}
 use Rattle.path_laws.proofs.Switch.{IsView, in-order, cancel-alike, end-alike, start-alike}
 
@@ -103,7 +101,7 @@ armed-alike (Packet h ∷ past) n = armed-alike past n.1
 
 -- ---- what is left
 
-high-times : (n : ℕ) (cue : CueOut) (items : List Item) → high_on (times n (Sent cue) items) ≡ high_on items
+pub high-times : (n : ℕ) (cue : CueOut) (items : List Item) → high_on (times n (Sent cue) items) ≡ high_on items
 high-times zero cue items = refl
 high-times (suc n) cue items = high-times n cue items
 

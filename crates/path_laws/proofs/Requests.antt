@@ -1,33 +1,30 @@
 -- The accepted requests are a run on the line, with the injector's events.
-use Rattle.std.proofs.Common.{◌≡◌, ℕ, zero, suc, ◌+◌, ◌*◌, ◌^◌, ◌<◌, ◌≤◌, ◌==◌, nat_lt, Bool, true, false, not, ◌&&◌, ◌||◌, cond, refl, sym, ap, ◌∙◌, subst, List, [], ◌∷◌, ◌++◌, length, arith, if◌then◌else◌, is_some}
-use Rattle.std.specs.Prelude.{ℤ, pos, ◌+ℤ◌, ◌≤ℤ◌, ◌<ℤ◌, int_lt, int_le, map, filter, find, Option, None, Some, Result, Ok, Err}
-use Rattle.std.specs.List.{list_any, AllByRecursion}
+use Rattle.std.proofs.Common.{◌≡◌, ℕ, ◌*◌, ◌^◌, ◌<◌, ◌≤◌, ◌==◌, Bool, true, false, not, ◌&&◌, refl, sym, ap, ◌∙◌, subst, List, [], ◌∷◌, ◌++◌, arith, if◌then◌else◌}
+use Rattle.std.specs.Prelude.{ℤ, pos, ◌+ℤ◌, ◌≤ℤ◌, int_lt, int_le, map, filter, find, Option, None, Some, Result, Ok, Err}
 use Rattle.std.proofs.lemmas.Int.{ints}
-use Rattle.std.proofs.lemmas.Bool.Decides.{nat_tests}
 use Rattle.scte104_codec.specs.declared.requests.SpliceRequest.{SpliceRequest}
-use Rattle.event_table.specs.Standing.{Standing, end_of, has_id, is_full, meets, cancelled_one, ending_at, with_first}
+use Rattle.event_table.specs.Standing.{Standing, end_of, has_id, cancelled_one, ending_at, with_first}
 use Rattle.armed_events.specs.Arming.{stands, is_of}
 use Rattle.injector.specs.declared.refusal.Refusal.{Refusal}
-use Rattle.injector.specs.declared.refusal.Refusal.TheVariants.{InUse, Full, Overlap, NoSuchEvent, BadEnd, TooLate}
+use Rattle.injector.specs.declared.refusal.Refusal.TheVariants.{InUse, Full, Overlap, NoSuchEvent}
 use Rattle.injector.specs.Asking.{is_start, asked_of}
-use Rattle.injector.specs.Verdicts.{time_at, start_event, start_verdict_at, end_verdict, end_verdict_at, cancel_verdict, cancel_verdict_at, verdict_of, has_begun}
+use Rattle.injector.specs.Verdicts.{time_at, start_event, start_verdict_at, end_verdict_at, cancel_verdict_at, verdict_of, has_begun}
 use Rattle.injector.specs.Turns.{Turn, Judged, Passed, high, standing}
-use Rattle.injector.specs.Turns.{events as injector_events}
-use Rattle.injector.specs.Senders.{Sender, with_event, stands_now, stands_by, events_in, with_request, with_judged, senders, standing_senders}
-use Rattle.injector.proofs.SenderLemmas.{senders-events, standing-events}
-use Rattle.cue_laws.specs.Events.{Turn as LineTurn, Started, Cancelled, Ended, LineEvent, before, events, Rises, fresh, can_start, can_cancel, can_end, cancel_by, end_by, In}
-use Rattle.cue_laws.specs.Events.{Passed as LinePassed, high as line_high, is_of as line_is_of, count, bars}
-use Rattle.cue_laws.specs.Cueing.{Sender as LineSender, Untold, IsRun, change}
+use Rattle.injector.specs.Senders.{Sender, with_event, stands_now, stands_by, events_in, with_request, with_judged, senders}
+use Rattle.injector.proofs.SenderLemmas.{standing-events}
+use Rattle.cue_laws.specs.Events.{Turn as LineTurn, Started, Cancelled, Ended, LineEvent, before, events, Rises, can_start, can_cancel, can_end, cancel_by, end_by, In}
+use Rattle.cue_laws.specs.Events.{high as line_high, is_of as line_is_of}
+use Rattle.cue_laws.specs.Cueing.{Sender as LineSender, IsRun, change}
 use Rattle.cue_laws.specs.Cueing.{senders as line_senders, tell as line_tell}
 use Rattle.cue_laws.proofs.Settling.{by_test, both}
-use Rattle.cue_laws.proofs.Fair.{IsFair, Fair, Stand, stand, event_of}
+use Rattle.cue_laws.proofs.Fair.{IsFair, Fair, stand, event_of}
 use Rattle.cue_laws.proofs.Lists.{In-map}
 use Rattle.cue_laws.proofs.Orders.{Orderly}
-use Rattle.path_laws.specs.Path.{FieldsFit, FitsIn, IsHistory, with_verdict, line_asked, with_asked, asked_line}
+use Rattle.path_laws.specs.Path.{FieldsFit, FitsIn, IsHistory, with_verdict, with_asked, asked_line}
 use Rattle.path_laws.proofs.Alike.{Alike, AtMostOnce, alike-in, find-some}
 use Rattle.path_laws.proofs.Switch.{view, IsView, find-filter, is_of-view, at-most-once, the-one, used-is, meets-is, full-is, some-is}
 use Rattle.path_laws.proofs.Facts.{IsServed, ServedBy, asked-facts}
-use Rattle.path_laws.proofs.Senders.{IsHeld, IsSender, is_mine, cancel-senders, end-senders, fair-in, tell-senders, view-senders}
+use Rattle.path_laws.proofs.Senders.{IsSender, cancel-senders, end-senders, fair-in, tell-senders, view-senders}
 
 -- a history of senders stands for a run on the line
 pub record Stood (h : Option ℤ) (xs : List Sender) (run : List LineTurn) : Type 0 where

@@ -1,26 +1,22 @@
 -- The injector's events, with what was told of each, are those of the definitions on the line.
-use Rattle.std.proofs.Common.{◌≡◌, ℕ, zero, suc, ◌+◌, ◌*◌, ◌^◌, ◌<◌, ◌≤◌, ◌==◌, nat_lt, Bool, true, false, not, ◌&&◌, ◌||◌, cond, inl, inr, refl, sym, ap, ◌∙◌, subst, List, [], ◌∷◌, ◌++◌, length, arith, if◌then◌else◌}
-use Rattle.std.specs.Prelude.{ℤ, pos, ◌+ℤ◌, ◌≤ℤ◌, ◌<ℤ◌, int_lt, int_le, map, filter, find, Option, None, Some, Result, Ok, Err}
+use Rattle.std.proofs.Common.{◌≡◌, ℕ, ◌^◌, ◌<◌, ◌≤◌, nat_lt, Bool, true, false, not, ◌&&◌, ◌||◌, cond, inl, inr, refl, sym, ap, ◌∙◌, subst, List, [], ◌∷◌, length, arith}
+use Rattle.std.specs.Prelude.{ℤ, pos, ◌+ℤ◌, ◌≤ℤ◌, ◌<ℤ◌, int_lt, int_le, map, Option, None, Some}
 use Rattle.std.specs.List.{list_any, AllByRecursion}
 use Rattle.std.proofs.lemmas.Int.{ints}
 use Rattle.std.proofs.lemmas.List.{map-append}
 use Rattle.std.proofs.lemmas.Bool.Decides.{nat_tests}
-use Rattle.scte104_codec.specs.declared.requests.SpliceRequest.{SpliceRequest}
-use Rattle.event_table.specs.Standing.{Standing, end_of, has_id, is_full, meets, cancelled_one, ending_at, with_first}
-use Rattle.injector.specs.declared.refusal.Refusal.{Refusal}
-use Rattle.injector.specs.Asking.{is_start}
-use Rattle.injector.specs.Verdicts.{time_at}
-use Rattle.injector.specs.Senders.{Sender, is_none, is_ended, news, current, limit, is_repeated, chosen, no_cue, tell, told_now, with_event, stands_now, stands_by, events_in}
-use Rattle.cue_laws.specs.Events.{LineEvent, before, Rises, fresh, can_cancel, can_end, cancel_by, end_by, In}
-use Rattle.cue_laws.specs.Events.{is_of as line_is_of, stands as line_stands}
-use Rattle.cue_laws.specs.Cueing.{Sender as LineSender, Told, Untold, Known, Never, is_cancel_new, or_else, is_news, is_second, is_due, is_sent, change}
+use Rattle.event_table.specs.Standing.{Standing, end_of, cancelled_one, ending_at, with_first}
+use Rattle.injector.specs.Senders.{Sender, is_none, is_ended, news, current, limit, is_repeated, chosen, tell, told_now, with_event, stands_by, events_in}
+use Rattle.cue_laws.specs.Events.{LineEvent, before, Rises, can_cancel, can_end, cancel_by, end_by, In}
+use Rattle.cue_laws.specs.Events.{is_of as line_is_of}
+use Rattle.cue_laws.specs.Cueing.{Sender as LineSender, Told, Untold, Known, Never, is_cancel_new, or_else, is_news, is_due, is_sent, change}
 use Rattle.cue_laws.specs.Cueing.{limit as line_limit, tell as line_tell, told_now as line_told_now}
-use Rattle.cue_laws.proofs.Settling.{by_test, both, lt-test, ge-test, can_end-parts}
+use Rattle.cue_laws.proofs.Settling.{by_test, both, ge-test, can_end-parts}
 use Rattle.cue_laws.proofs.Lost.{equal_events}
 use Rattle.cue_laws.proofs.Fair.{IsKnown, IsFair, Fair, event_of}
-use Rattle.cue_laws.proofs.Orders.{Clear, or-right}
+use Rattle.cue_laws.proofs.Orders.{or-right}
 use Rattle.path_laws.proofs.Alike.{Alike, AtMostOnce, alike-map, alike-first}
-use Rattle.path_laws.proofs.Switch.{view, IsView, stands-view, cancel-off, end-off}
+use Rattle.path_laws.proofs.Switch.{view, IsView, cancel-off, end-off}
 use Rattle.event_table.proofs.EventLemmas.{ending-end}
 
 -- the fields of an event that is held at a time

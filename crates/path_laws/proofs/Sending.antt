@@ -1,35 +1,23 @@
 -- What an injector sends tells the line what the definitions say.
-use Rattle.std.proofs.Common.{◌≡◌, ℕ, zero, suc, ◌+◌, ◌-◌, ◌%◌, ◌*◌, ◌^◌, ◌<◌, ◌≤◌, ◌==◌, nat_lt, Bool, true, false, not, ◌&&◌, ◌||◌, cond, inl, inr, refl, sym, ap, ◌∙◌, subst, List, [], ◌∷◌, ◌++◌, length, arith, if◌then◌else◌}
-use Rattle.std.specs.Prelude.{ℤ, pos, negsuc, ◌+ℤ◌, ◌≤ℤ◌, ◌<ℤ◌, int_lt, int_le, map, filter, Option, None, Some, Result, Ok, Err}
-use Rattle.std.specs.List.{AllByRecursion, flat_map}
+use Rattle.std.proofs.Common.{◌≡◌, ℕ, ◌^◌, ◌<◌, ◌≤◌, nat_lt, true, false, not, ◌&&◌, cond, refl, sym, ap, ◌∙◌, subst, List, [], ◌∷◌, arith}
+use Rattle.std.specs.Prelude.{ℤ, pos, negsuc, ◌+ℤ◌, ◌≤ℤ◌, ◌<ℤ◌, int_lt, Option, None, Some}
 use Rattle.std.proofs.lemmas.Int.{ints}
 use Rattle.std.proofs.lemmas.Bool.Decides.{nat_tests}
-use Rattle.std.proofs.lemmas.List.{append-nil}
-use Rattle.std.proofs.lemmas.List.Elements.{filter-append}
-use Rattle.std.proofs.lemmas.Grind.{flat_map-append}
 use Rattle.pes_time.specs.Line.{ring_of, place, lift}
-use Rattle.scte104_codec.specs.declared.requests.SpliceRequest.{SpliceRequest}
 use Rattle.scte35_codec.specs.declared.cue_out.CueOut.{CueOut}
 use Rattle.scte35_codec.specs.declared.cue_out.CueOut.TheVariants.{Start, Cancel, End}
-use Rattle.scte35_codec.specs.Spelling.{Fits}
 use Rattle.event_table.specs.Standing.{Standing, end_of}
-use Rattle.injector.specs.declared.refusal.Refusal.{Refusal}
-use Rattle.injector.specs.Asking.{is_start, asked_of}
-use Rattle.injector.specs.Turns.{Turn, Judged, Passed, high, standing}
-use Rattle.injector.specs.Senders.{Sender, is_none, is_ended, news, current, is_repeated, chosen, cues_by, cues_of, start_cue, end_cue, cancel_cue, stands_now, senders, standing_senders, cues_before}
-use Rattle.cue_laws.specs.Events.{Turn as LineTurn, Started, Cancelled, Ended, LineEvent, before, Rises, In}
-use Rattle.cue_laws.specs.Events.{Passed as LinePassed, high as line_high, stands as line_stands}
-use Rattle.cue_laws.specs.Cueing.{Sender as LineSender, Told, Untold, Known, Never, is_cancel_new, is_news, is_due, or_else, end_on, cancel_on, repeat_on, told_on, block_on, cued}
-use Rattle.cue_laws.specs.Cueing.{senders as line_senders, limit as line_limit, current as line_current}
-use Rattle.cue_laws.proofs.Settling.{by_test, both, lt-test, ge-test}
-use Rattle.cue_laws.proofs.Fair.{IsFair, IsKnown, Fair, Stand, stand, event_of}
+use Rattle.injector.specs.Senders.{Sender, is_none, is_ended, news, current, is_repeated, chosen, cues_by, cues_of, start_cue, end_cue, cancel_cue}
+use Rattle.cue_laws.specs.Events.{Turn as LineTurn, Started, Cancelled, Ended, LineEvent, before}
+use Rattle.cue_laws.specs.Cueing.{Sender as LineSender, Told, Untold, Known, Never, is_news, is_due, end_on, cancel_on, repeat_on, told_on}
+use Rattle.cue_laws.specs.Cueing.{limit as line_limit, current as line_current}
+use Rattle.cue_laws.proofs.Settling.{by_test, both, lt-test}
+use Rattle.cue_laws.proofs.Fair.{IsFair, IsKnown}
 use Rattle.path_laws.specs.Telling.{IsClose}
-use Rattle.path_laws.specs.Path.{Item, Sent, Packet, high_on, sent_onto, path, line_of, line, with_asked, with_verdict, line_asked, asked_line, IsHistory}
-use Rattle.path_laws.proofs.Alike.{Alike}
+use Rattle.path_laws.specs.Path.{Item, Sent, Packet, high_on, sent_onto, line_of, line}
 use Rattle.path_laws.proofs.Switch.{view}
-use Rattle.path_laws.proofs.Reading.{placed, IsStartNear, IsNear, AreNear}
-use Rattle.path_laws.proofs.Senders.{IsHeld, IsSender, SameTold, is_new, ended-is, end-new-is, news-is, limit-is, repeated-is}
-use Rattle.path_laws.proofs.Requests.{Stood, stood, none-there}
+use Rattle.path_laws.proofs.Reading.{placed, IsNear, AreNear}
+use Rattle.path_laws.proofs.Senders.{IsHeld, IsSender, SameTold, ended-is, end-new-is, news-is, repeated-is}
 
 ring-small : (t : ℤ) → ring_of t < 2 ^ 33
 ring-small (pos n) = omega arith

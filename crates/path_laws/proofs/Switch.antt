@@ -1,21 +1,21 @@
 -- The switch arms what the definitions on the line say.
-use Rattle.std.proofs.Common.{◌≡◌, ℕ, ◌+◌, ◌^◌, ◌<◌, ◌≤◌, ◌==◌, nat_lt, nat_le, Bool, true, false, not, ◌&&◌, ◌||◌, cond, ◌⊎◌, inl, inr, refl, sym, ap, ◌∙◌, subst, List, [], ◌∷◌, ◌++◌, length, arith, if◌then◌else◌}
-use Rattle.std.specs.Prelude.{ℤ, pos, ◌+ℤ◌, ◌-ℤ◌, ◌≤ℤ◌, ◌<ℤ◌, int_lt, int_le, map, filter, find, Option, None, Some, Result, Ok, Err}
+use Rattle.std.proofs.Common.{◌≡◌, ℕ, ◌^◌, ◌<◌, ◌≤◌, ◌==◌, nat_lt, Bool, true, false, not, ◌&&◌, ◌||◌, cond, inl, inr, refl, sym, ap, ◌∙◌, subst, List, [], ◌∷◌, length, arith, if◌then◌else◌}
+use Rattle.std.specs.Prelude.{ℤ, pos, ◌+ℤ◌, ◌≤ℤ◌, ◌<ℤ◌, int_lt, int_le, map, filter, find, Option, None, Some, Ok, Err}
 use Rattle.std.specs.List.{list_any}
 use Rattle.std.specs.Ordering.{int_eq}
 use Rattle.std.proofs.lemmas.Int.{ints}
 use Rattle.std.proofs.lemmas.Bool.Decides.{nat_tests}
-use Rattle.event_table.specs.Standing.{Standing, end_of, forgotten_at, has_id, is_full, is_ahead_of, is_early_end, has_begun, meets, repeats, arm_answer, cancel_answer_of, cancel_answer, shorten_answer_of, shorten_answer, cancelled_one, ending_at, with_first}
+use Rattle.event_table.specs.Standing.{Standing, end_of, has_id, is_full, is_ahead_of, is_early_end, has_begun, meets, repeats, cancel_answer_of, cancel_answer, shorten_answer_of, shorten_answer, cancelled_one, ending_at, with_first}
 use Rattle.event_table.specs.declared.table.Armed.TheVariants.{New, Same}
 use Rattle.event_table.specs.declared.table.ArmRefusal.TheVariants.{InUse, Full, Overlap}
 use Rattle.event_table.specs.declared.table.ShortenRefusal.TheVariants.{BadEnd}
 use Rattle.armed_events.specs.Arming.{is_fresh, Keep, Ignore, by_arm_answer, by_shorten_answer, by_cancel_answer, start_change, end_change, cancel_change, stands, standing_at, is_of, changed}
 use Rattle.event_table.proofs.EventLemmas.{ending-end}
-use Rattle.cue_laws.specs.Events.{Turn, Started, Cancelled, Ended, Passed, LineEvent, high, before, events, taken, NeverFalls, can_start, can_cancel, can_end, fresh, cancel_by, end_by, or_so, In, count, bars}
+use Rattle.cue_laws.specs.Events.{Turn, Started, Cancelled, Ended, Passed, LineEvent, high, before, events, taken, NeverFalls, can_start, can_cancel, can_end, cancel_by, end_by, In, count, bars}
 use Rattle.cue_laws.specs.Events.{stands as line_stands, is_of as line_is_of}
-use Rattle.cue_laws.proofs.Settling.{by_test, both, lt-test, ge-test, and_off, can_start-parts, can_end-parts}
-use Rattle.cue_laws.proofs.Lists.{Distinct, any-none, any-false}
-use Rattle.cue_laws.proofs.Orders.{Orderly, orderly-none, orderly-map, orderly-fresh, orderly-passed, cancel-shrinks, end-shrinks, is_of-parts, is_of-is, or-neither, or-right}
+use Rattle.cue_laws.proofs.Settling.{by_test, both, lt-test, and_off, can_start-parts, can_end-parts}
+use Rattle.cue_laws.proofs.Lists.{Distinct, any-none}
+use Rattle.cue_laws.proofs.Orders.{Orderly, orderly-none, orderly-map, orderly-fresh, orderly-passed, cancel-shrinks, end-shrinks, is_of-parts, or-neither, or-right}
 use Rattle.path_laws.proofs.Alike.{Alike, AtMostOnce, alike-in, alike-any, alike-count, alike-first, find-none, find-some, map-off, map-same}
 
 -- the event as the definitions on the line have it

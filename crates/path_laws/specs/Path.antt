@@ -1,5 +1,5 @@
 -- THE CUE PATH of an injector: what of its cues reaches a switch, and what the switch makes of it. All lists are newest first.
-use Rattle.std.specs.Prelude.{◌≡◌, ℕ, pos, ◌*◌, ◌<◌, ◌^◌, ◌==◌, ℤ, ◌+ℤ◌, if◌then◌else◌, List, [], ◌∷◌, Option, None, Some, Result, Ok, Err}
+use Rattle.std.specs.Prelude.{ℕ, pos, ◌*◌, ◌<◌, ◌^◌, ◌==◌, ℤ, ◌+ℤ◌, if◌then◌else◌, List, [], ◌∷◌, Option, None, Some, Result, Ok, Err}
 use Rattle.std.specs.List.{AllByRecursion}
 use Rattle.pes_time.specs.Line.{place}
 use Rattle.scte104_codec.specs.declared.requests.SpliceRequest.{SpliceRequest}

@@ -1,5 +1,5 @@
 -- What a cue of the injector's tells the switch: each is read back by its bytes, and taken as meant for its event.
-use Rattle.std.specs.Prelude.{◌≡◌, ℕ, ◌^◌, false, ℤ, pos, ◌+ℤ◌, ◌≤ℤ◌, ◌<ℤ◌, List, Option, Some}
+use Rattle.std.specs.Prelude.{◌≡◌, ◌^◌, false, ℤ, pos, ◌+ℤ◌, ◌≤ℤ◌, ◌<ℤ◌, List, Option, Some}
 use Rattle.scte35_codec.specs.Spelling.{cue_bytes, Fits}
 use Rattle.scte35_codec.specs.Reading.{cue_of}
 use Rattle.event_table.specs.Standing.{Standing, end_of}

@@ -1,6 +1,7 @@
 //! The laws of the cue path, each on a function of its own.
 
 ghost use Rattle.path_laws.specs.Telling.{StartTells, EndTells, CancelTells};
+ghost use Rattle.path_laws.specs.Laws.{RequestsAreARun, CuesTellTheLine, CuePathOfEvents, CuePathOfEventsAtTheEnd};
 
 /// The section that an injector writes for the start of an event reads back, and is taken by the switch as that event, at its time on the
 /// line.
@@ -16,4 +17,25 @@ pub fn end_tells()
 /// The section for a cancel reads back, and is taken as the cancel of its event.
 pub fn cancel_tells()
     ensures { CancelTells }
+{}
+
+/// The requests that an injector accepts are a run by the definitions on the line.
+pub fn requests_are_a_run()
+    ensures { RequestsAreARun }
+{}
+
+/// What an injector sends tells, on the line, the cues that its accepted requests make due, however often the ring turns.
+pub fn cues_tell_the_line()
+    ensures { CuesTellTheLine }
+{}
+
+/// Behind each packet, what is left of an injector's cues arms exactly the uncancelled events that it accepted and whose start is
+/// reached.
+pub fn cue_path_of_events()
+    ensures { CuePathOfEvents }
+{}
+
+/// Behind the last packet it arms exactly the uncancelled events that were accepted.
+pub fn cue_path_of_events_at_the_end()
+    ensures { CuePathOfEventsAtTheEnd }
 {}
