@@ -87,7 +87,7 @@ fn one_if(kind: u8, other: u8) -> usize
 }
 
 /// How many streams are of this type.
-fn count_of_kind(kind: u8, streams: &[Stream]) -> usize
+pub fn count_of_kind(kind: u8, streams: &[Stream]) -> usize
     ensures { result ≡ count_of_kind kind streams.now }
 {
     let mut count = 0;

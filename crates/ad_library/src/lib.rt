@@ -8,6 +8,7 @@ mod slice;
 mod store;
 mod unit;
 
+pub use advert::count_of_kind;
 pub use library::AdLibrary;
 pub use slice::Slice;
 pub use unit::AdUnit;

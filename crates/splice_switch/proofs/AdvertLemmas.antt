@@ -1,6 +1,5 @@
 -- What a library says of an event goes by what never changes of it.
-use Rattle.std.proofs.Common.{ℕ, ap, ◌∙◌, [], Option}
-use Rattle.psi_tables.specs.declared.stream.Stream.{Stream}
+use Rattle.std.proofs.Common.{ap, ◌∙◌, []}
 use Rattle.ad_library.specs.Library.{fits_held}
 use Rattle.splice_switch.specs.Adverts.{kind_and_place, units_at, LibrariesAreSteady}
 

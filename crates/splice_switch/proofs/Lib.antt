@@ -8,3 +8,5 @@ mod Examples
 mod TurnLemmas
 mod SliceLemmas
 pub mod AdvertLemmas
+mod PartLemmas
+mod AllTurnedLemmas

@@ -1,6 +1,6 @@
 -- Units of a slice put one by one.
-use Rattle.std.proofs.Common.{◌≡◌, ℕ, ◌+◌, ◌-◌, ◌%◌, ◌^◌, ◌≤◌, ◌<◌, List, [], ◌∷◌, ◌++◌, Bool, true, false, refl, sym, ap, ◌∙◌, subst, append_assoc, length, drop, Option, None, Some, arith}
-use Rattle.std.specs.Prelude.{pos, slice_get, option_map, nat_le}
+use Rattle.std.proofs.Common.{◌≡◌, ℕ, ◌+◌, ◌-◌, ◌%◌, ◌^◌, ◌≤◌, List, [], ◌∷◌, ◌++◌, true, false, refl, sym, ap, ◌∙◌, append_assoc, length, drop, Option, None, Some, arith}
+use Rattle.std.specs.Prelude.{pos, slice_get}
 use Rattle.std.proofs.lemmas.List.{append-nil}
 use Rattle.pes_time.specs.Line.{ring_of}
 use Rattle.ts_packet.specs.Numbering.{Step, Inserted}

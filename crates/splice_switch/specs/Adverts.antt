@@ -5,7 +5,6 @@ use Rattle.psi_tables.specs.declared.config.Config.{Config}
 use Rattle.unit_packing.specs.Packing.{unit_packets}
 use Rattle.ad_library.specs.Advertisements.{AdvertUnit, AdvertStream, Advertisement, stream_at, count_of_kind, played_bytes}
 use Rattle.ad_library.specs.Library.{fits_held}
-use Rattle.event_table.specs.Standing.{Standing}
 use Rattle.splice_laws.specs.Splicing.{SliceUnit}
 use Rattle.output_laws.specs.Output.{Packing}
 use Rattle.splice_switch.specs.Playing.{Adverts}

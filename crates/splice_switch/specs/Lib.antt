@@ -7,3 +7,4 @@ pub mod Histories
 pub mod Slicing
 pub mod Turning
 pub mod Adverts
+pub mod Parts

@@ -1,5 +1,5 @@
 -- Units of an advertisement on their way out on a PID.
-use Rattle.std.specs.Prelude.{ℕ, ◌+◌, ◌-◌, ◌%◌, ◌^◌, nat_le, pos, List, [], ◌∷◌, ◌++◌, Bool, true, if◌then◌else◌, Option, None, Some}
+use Rattle.std.specs.Prelude.{ℕ, ◌+◌, ◌-◌, ◌%◌, ◌^◌, nat_le, ℤ, pos, List, [], ◌∷◌, ◌++◌, Bool, true, if◌then◌else◌, Option, None, Some}
 use lib.Signed.{le_z}
 use Rattle.pes_time.specs.Line.{ring_of}
 use Rattle.pes_time.specs.Stamps.{restamped}
@@ -19,9 +19,13 @@ abbrev pub is_due : Option ℕ → AdvertUnit → Bool
 is_due None u = true
 is_due (Some reached) u = le_z u.offset (pos reached)
 
--- how far the stamps move, on the ring: from the least time of an advertisement, as it is held, to this time
+-- how far the stamps move, on the ring: from the least time of an advertisement to this time
+abbrev pub delta_at : ℕ → ℤ → ℕ
+delta_at start least = (start + (2 ^ 33 - ring_of least % 2 ^ 33)) % 2 ^ 33
+
+-- from a least time as it is held
 abbrev pub delta_of : ℕ → ℕ → ℕ
-delta_of start least = (start + (2 ^ 33 - ring_of (on_line least) % 2 ^ 33)) % 2 ^ 33
+delta_of start held = delta_at start (on_line held)
 
 -- the longest front of units that are due
 abbrev pub due_units : Option ℕ → List AdvertUnit → List AdvertUnit

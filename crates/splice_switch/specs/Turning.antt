@@ -1,5 +1,5 @@
 -- How far an event comes in a stream with each unit that begins there.
-use Rattle.std.specs.Prelude.{◌≡◌, ℕ, ◌%◌, List, [], ◌∷◌, Bool, false, ◌&&◌, ◌||◌, if◌then◌else◌, slice_index_or, slice_set, ℤ, pos, ◌+ℤ◌, ◌≤ℤ◌, int_le, int_lt, Option, None, Some}
+use Rattle.std.specs.Prelude.{ℕ, ◌%◌, Bool, false, ◌&&◌, ◌||◌, if◌then◌else◌, slice_index_or, slice_set, ℤ, pos, ◌+ℤ◌, ◌≤ℤ◌, int_le, int_lt, Option, None, Some}
 use Rattle.event_table.specs.Standing.{Standing, covers, end_of}
 use Rattle.splice_switch.specs.declared.plan.Stage.{Stage}
 use Rattle.splice_switch.specs.declared.plan.Stage.TheVariants.{Waiting, Running, Closing, Over}

@@ -4,9 +4,11 @@
 #![tactic(auto)]
 
 pub mod laws;
+mod parts;
 mod plan;
 mod report;
 mod slices;
 mod stream;
+mod turns;
 
 pub use report::SwitchReport;

@@ -1,10 +1,8 @@
-use Rattle.std.proofs.Common.{◌≡◌, ◌++◌, ◌∷◌, [], ℕ, List, length, Option, ◌+◌, ◌∙◌, sym, ap, subst, append_assoc, arith, refl}
+use Rattle.std.proofs.Common.{◌≡◌, ◌++◌, ◌∷◌, [], ℕ, List, length, ◌∙◌, sym, ap, subst, append_assoc, arith, refl}
 use Rattle.std.proofs.lemmas.List.{append-nil}
-use Rattle.ts_packet.specs.Numbering.{Step, Counts}
+use Rattle.ts_packet.specs.Numbering.{Counts}
 use Rattle.ts_packet.proofs.CountLemmas.{well-refl, well-trans, blamed-after}
 use Rattle.unit_stream.specs.UnitPackets.{put_in}
-use Rattle.unit_packing.proofs.PutLemmas.{if_err_more}
-use Rattle.ad_library.specs.Advertisements.{AdvertUnit}
 use Rattle.ad_library.specs.Lending.{unit_seen}
 use Rattle.ad_library.specs.Slices.{left}
 use Rattle.splice_switch.specs.Slicing.{due_units, delta_of, moved_packets, slice_packets}

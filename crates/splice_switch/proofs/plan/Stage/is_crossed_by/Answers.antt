@@ -1,4 +1,4 @@
-use Rattle.std.proofs.Common.{◌≡◌, ◌∙◌, ap, rules}
+use Rattle.std.proofs.Common.{◌∙◌, ap, rules}
 use Rattle.pes_time.specs.Line.{place}
 use Rattle.event_table.specs.Rings.{is_before_on_ring}
 use Rattle.splice_switch.proofs.TurnLemmas.{before-end, closed-crosses}
