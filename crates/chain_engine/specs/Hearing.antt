@@ -20,10 +20,10 @@ answers_to lost [] = []
 answers_to lost (r ∷ []) = answer_of (reply_bytes r) (not lost) ∷ []
 answers_to lost (r ∷ s ∷ rs) = answer_of (reply_bytes r) true ∷ answers_to lost (s ∷ rs)
 
--- These messages were judged in order, which led from the first judge to the second, and the replies given to the automation; the last was
--- lost, or none.
-pub record Replied {J : Type 0} (judges : J → MessageReading → Reply → J → Type 0) (j k : J) (ms : List (List ℕ)) (rs : List Reply) (lost : Bool)
-    (before now : Option (List Answer)) : Type 0 where
+-- These messages were judged in order, which led from the first judge to the second, and the replies given to the
+-- automation; the last was lost, or none.
+pub record Replied {J : Type 0} (judges : J → MessageReading → Reply → J → Type 0) (j k : J)
+    (ms : List (List ℕ)) (rs : List Reply) (lost : Bool) (before now : Option (List Answer)) : Type 0 where
   pub judged : JudgesAll judges j ms rs k
   pub some : lost ≡ true → 0 < length rs
   pub told : Told before now (answers_to lost rs)
@@ -38,7 +38,8 @@ is_unanswered heard.Closed = false
 -- what was heard, of a piece of so many bytes
 abbrev pub HeardAs : Fed → ℕ → Heard → Type 0
 HeardAs fed size heard.Nothing = fed.gives ≡ nothing
-HeardAs fed size (heard.Answered used is_given) = (m : List ℕ) × (fed.gives ≡ message m) × (used ≡ fed.used) × (0 < used) × (used ≤ size)
+HeardAs fed size (heard.Answered used is_given) =
+    (m : List ℕ) × (fed.gives ≡ message m) × (used ≡ fed.used) × (0 < used) × (used ≤ size)
 HeardAs fed size heard.Closed = fed.gives ≡ closed
 
 -- ---- one piece
@@ -50,15 +51,18 @@ lost_by (Some end.TakeFailed) = false
 lost_by (Some end.BadSize) = false
 lost_by (Some end.AnswerFailed) = true
 
--- Behind the bytes of a stream a piece was heard, in which these messages end. They are all, and the session goes on behind the piece; or all before
--- a bad size; or those up to one whose reply was lost.
+-- Behind the bytes of a stream a piece was heard, in which these messages end. They are all, and the session goes on
+-- behind the piece; or all before a bad size; or those up to one whose reply was lost.
 abbrev pub HearsPiece : List ℕ → List ℕ → List (List ℕ) → State → Option SessionEnd → Type 0
 HearsPiece stream piece ms after None =
-    ((messages_of (stream ++ piece)).messages ≡ (messages_of stream).messages ++ ms) × (after ≡ opened (messages_of (stream ++ piece)).rest)
+    ((messages_of (stream ++ piece)).messages ≡ (messages_of stream).messages ++ ms)
+    × (after ≡ opened (messages_of (stream ++ piece)).rest)
 HearsPiece stream piece ms after (Some end.BadSize) =
-    ((messages_of (stream ++ piece)).messages ≡ (messages_of stream).messages ++ ms) × (frame_of (messages_of (stream ++ piece)).rest ≡ BadSize)
+    ((messages_of (stream ++ piece)).messages ≡ (messages_of stream).messages ++ ms)
+    × (frame_of (messages_of (stream ++ piece)).rest ≡ BadSize)
 HearsPiece stream piece ms after (Some end.AnswerFailed) =
-    (0 < length ms) × ((more : List (List ℕ)) × ((messages_of (stream ++ piece)).messages ≡ (messages_of stream).messages ++ (ms ++ more)))
+    (0 < length ms) × ((more : List (List ℕ))
+    × ((messages_of (stream ++ piece)).messages ≡ (messages_of stream).messages ++ (ms ++ more)))
 HearsPiece stream piece ms after (Some end.Ended) = ⊥
 HearsPiece stream piece ms after (Some end.TakeFailed) = ⊥
 

@@ -1,4 +1,5 @@
--- Whole runs: what is put and answered, by the network's bytes and what the automation gave; what a fault says, and what the devices did there.
+-- Whole runs: what is put and answered, by the network's bytes and what the automation gave; what a fault says, and
+-- what the devices did there.
 use Rattle.std.specs.Prelude.{◌≡◌, ℕ, suc, List, [], ◌∷◌, ◌++◌, Bool, Option, None, Some, IfSome, length, reverse}
 use Rattle.ts_packet.specs.Packets.{packets_of}
 use Rattle.ts_packet.specs.Sources.{ReadSo, RunBlamed}
@@ -16,7 +17,8 @@ use Rattle.scte104_codec.specs.declared.reply.Reply.{Reply}
 use Rattle.scte104_codec.specs.Reading.{message_of}
 use Rattle.outgoing_packets.specs.Numbers.{FrontFails}
 use Rattle.injector.specs.Replies.{reply_to}
-use Rattle.injector.specs.Steps.{Step, Message, Packet, turns_in, purpose_of, cued, sent_at, messages_in, accepted_in, refused_in}
+use Rattle.injector.specs.Steps.{Step, Message, Packet, turns_in, purpose_of, cued, sent_at, messages_in, accepted_in}
+use Rattle.injector.specs.Steps.{refused_in}
 use Rattle.chain_engine.specs.Automation.{Take, Answer, Told}
 use Rattle.chain_engine.specs.Hearing.{answers_to, lost_by}
 use Rattle.chain_engine.specs.Talks.{judged_before, HasTalked, CountsEnd}
@@ -32,7 +34,8 @@ abbrev pub asked : List (List ℕ) → List Step → List Step
 asked [] past = past
 asked (m ∷ ms) past = asked ms (Message (message_of m) ∷ past)
 
--- THE STEPS up to these packets, newest first: before each packet the messages whose last byte stands in the take before it
+-- THE STEPS up to these packets, newest first: before each packet the messages whose last byte stands in the take
+-- before it
 abbrev pub steps_of : ℕ → List Take → List (List ℕ) → List Step
 steps_of most takes [] = []
 steps_of most takes (p ∷ past) = Packet p ∷ asked (judged_before most takes (length past)) (steps_of most takes past)
@@ -80,17 +83,18 @@ run_cause (Feed Failed) = OfNothing
 
 -- ---- the talk of a run
 
--- What the automation gave up to its session's end, where it has ended, and what it was given: all replies, the last one lost or not. The
--- failure that ended the session is counted. The functions are an automation's.
-pub record Exchanged {X : Type 0} (takes : X → Option (List Take)) (answers : X → Option (List Answer)) (failures : X → ℕ) (old new : X)
-    (ending : Option SessionEnd) (ts : List Take) (rs : List Reply) : Type 0 where
+-- What the automation gave up to its session's end, where it has ended, and what it was given: all replies, the last
+-- one lost or not. The failure that ended the session is counted. The functions are an automation's.
+pub record Exchanged {X : Type 0} (takes : X → Option (List Take)) (answers : X → Option (List Answer))
+    (failures : X → ℕ) (old new : X) (ending : Option SessionEnd) (ts : List Take) (rs : List Reply) : Type 0 where
   pub took : Told (takes old) (takes new) ts
   pub answered : Told (answers old) (answers new) (answers_to (lost_by ending) rs)
   pub counted : CountsEnd None ending (failures old) (failures new)
 
--- A run has talked before so many packets, and each reply is the one by the history. `exchanged` says so of a session's end, takes and replies.
-pub record Serves (c : Config) (exchanged : Option SessionEnd → List Take → List Reply → Type 0) (ts : List Take) (rs : List Reply) (k : ℕ)
-    (steps : List Step) : Type 0 where
+-- A run has talked before so many packets, and each reply is the one by the history. `exchanged` says so of a
+-- session's end, takes and replies.
+pub record Serves (c : Config) (exchanged : Option SessionEnd → List Take → List Reply → Type 0) (ts : List Take)
+    (rs : List Reply) (k : ℕ) (steps : List Step) : Type 0 where
   pub ending : Option SessionEnd
   pub talked : HasTalked ending ts (length rs) k
   pub exchanges : exchanged ending ts rs
@@ -98,10 +102,11 @@ pub record Serves (c : Config) (exchanged : Option SessionEnd → List Take → 
 
 -- ---- the theorems
 
--- THE THEOREM: the network's bytes have no fault; the cued stream of the network and of the requests that were accepted is out; the replies
--- are those to the messages of all pieces joined; and the report counts them. `is_out` says of packets that they stand behind what was there.
-pub record Injected (c : Config) (bs : List ℕ) (is_out : List (List ℕ) → Type 0) (exchanged : Option SessionEnd → List Take → List Reply → Type 0)
-    (report : Report) : Type 0 where
+-- THE THEOREM: the network's bytes have no fault; the cued stream of the network and of the requests that were
+-- accepted is out; the replies are those to the messages of all pieces joined; and the report counts them. `is_out`
+-- says of packets that they stand behind what was there.
+pub record Injected (c : Config) (bs : List ℕ) (is_out : List (List ℕ) → Type 0)
+    (exchanged : Option SessionEnd → List Take → List Reply → Type 0) (report : Report) : Type 0 where
   pub sound : first_fault c bs ≡ None
   pub ts : List Take
   pub rs : List Reply
@@ -109,7 +114,8 @@ pub record Injected (c : Config) (bs : List ℕ) (is_out : List (List ℕ) → T
   pub written : is_out (sent_by c (steps_of (length rs) ts (reverse (packets_of bs))))
   pub counted : report ≡ report_of c (steps_of (length rs) ts (reverse (packets_of bs)))
 
-abbrev pub InjectsAll : Config → Option (List ℕ) → (List (List ℕ) → Type 0) → (Option SessionEnd → List Take → List Reply → Type 0) → Report → Type 0
+abbrev pub InjectsAll : Config → Option (List ℕ) → (List (List ℕ) → Type 0)
+    → (Option SessionEnd → List Take → List Reply → Type 0) → Report → Type 0
 InjectsAll c input is_out exchanged report = IfSome input (λ bs. Injected c bs is_out exchanged report)
 
 -- The automation is heard before a packet that is not passed on, and not where none was read.
@@ -117,18 +123,22 @@ abbrev pub heard_before : RunFault → ℕ → ℕ
 heard_before (Read fault) k = k
 heard_before (Feed fault) k = suc k
 
--- What is out where a run stops so behind these steps, with these packets before it: all that they send; or, where the sink failed, with it a
--- front of what the next packet sends.
-abbrev pub Leaves : RunFault → Config → List Step → List (List ℕ) → (List (List ℕ) → Type 0) → (List (List ℕ) → List ℕ → PutFault → Type 0) → Type 0
+-- What is out where a run stops so behind these steps, with these packets before it: all that they send; or, where
+-- the sink failed, with it a front of what the next packet sends.
+abbrev pub Leaves : RunFault → Config → List Step → List (List ℕ) → (List (List ℕ) → Type 0)
+    → (List (List ℕ) → List ℕ → PutFault → Type 0) → Type 0
 Leaves (Read fault) c steps rest is_out fails = is_out (sent_by c steps)
 Leaves (Feed (Network fault)) c steps rest is_out fails = is_out (sent_by c steps)
 Leaves (Feed (Sink fault)) c steps rest is_out fails =
-    (p : List ℕ) × (more : List (List ℕ)) × (rest ≡ p ∷ more) × FrontFails (sent_at c p steps) (λ put q. fails (sent_by c steps ++ put) q fault)
+    (p : List ℕ) × (more : List (List ℕ)) × (rest ≡ p ∷ more)
+    × FrontFails (sent_at c p steps) (λ put q. fails (sent_by c steps ++ put) q fault)
 Leaves (Feed Failed) c steps rest is_out fails = ⊥
 
--- THE THEOREM FOR FAULTS: a fault of the network is the first one of its bytes, and the packets before it were passed on; a device's says
--- nothing of them; and what is out and answered is that of the packets that were passed on, and of the messages before the next.
-pub record Stopped (c : Config) (fault : RunFault) (bs : List ℕ) (is_out : List (List ℕ) → Type 0) (fails : List (List ℕ) → List ℕ → PutFault → Type 0)
+-- THE THEOREM FOR FAULTS: a fault of the network is the first one of its bytes, and the packets before it were passed
+-- on; a device's says nothing of them; and what is out and answered is that of the packets that were passed on, and
+-- of the messages before the next.
+pub record Stopped (c : Config) (fault : RunFault) (bs : List ℕ) (is_out : List (List ℕ) → Type 0)
+    (fails : List (List ℕ) → List ℕ → PutFault → Type 0)
     (exchanged : Option SessionEnd → List Take → List Reply → Type 0) : Type 0 where
   pub passed : List (List ℕ)
   pub rest : List (List ℕ)
@@ -136,11 +146,12 @@ pub record Stopped (c : Config) (fault : RunFault) (bs : List ℕ) (is_out : Lis
   pub says : SaysBy (run_cause fault) ((first_fault c bs ≡ Some fault) × (before_fault c bs ≡ passed))
   pub ts : List Take
   pub rs : List Reply
-  pub serves : Serves c exchanged ts rs (heard_before fault (length passed)) (steps_before (length rs) ts (reverse passed))
+  pub serves : Serves c exchanged ts rs (heard_before fault (length passed))
+      (steps_before (length rs) ts (reverse passed))
   pub leaves : Leaves fault c (steps_before (length rs) ts (reverse passed)) rest is_out fails
 
-abbrev pub StopsAt : Config → RunFault → Option (List ℕ) → (List (List ℕ) → Type 0) → (List (List ℕ) → List ℕ → PutFault → Type 0)
-    → (Option SessionEnd → List Take → List Reply → Type 0) → Type 0
+abbrev pub StopsAt : Config → RunFault → Option (List ℕ) → (List (List ℕ) → Type 0)
+    → (List (List ℕ) → List ℕ → PutFault → Type 0) → (Option SessionEnd → List Take → List Reply → Type 0) → Type 0
 StopsAt c fault input is_out fails exchanged = IfSome input (λ bs. Stopped c fault bs is_out fails exchanged)
 
 -- ---- what the devices did

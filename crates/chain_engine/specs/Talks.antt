@@ -1,5 +1,7 @@
--- The talk with an automation: which takes were made, which messages stand in them, and before which packet each is judged.
-use Rattle.std.specs.Prelude.{◌≡◌, ℕ, suc, ◌<◌, ◌≤◌, Bool, true, false, List, [], ◌∷◌, ◌++◌, Option, None, Some, length, take, drop}
+-- The talk with an automation: which takes were made, which messages stand in them, and before which packet each is
+-- judged.
+use Rattle.std.specs.Prelude.{◌≡◌, ℕ, suc, ◌<◌, ◌≤◌, Bool, true, false, List, [], ◌∷◌, ◌++◌, Option, None, Some, length}
+use Rattle.std.specs.Prelude.{take, drop}
 use Rattle.std.specs.List.{list_all}
 use Rattle.ts_packet.specs.Transfers.{IsCounted}
 use Rattle.scte104_codec.specs.Framing.{frame_of}
@@ -36,16 +38,20 @@ pub record IsOpenBehind (takes : List Take) : Type 0 where
   pub pieces : list_all is_piece takes ≡ true
   pub partial : is_partial (messages_of (bytes_of takes)).rest ≡ true
 
--- The session ended with the last of these takes, behind so many judged messages: by that take; by a bad size in it, behind all messages; or by
--- the reply to a message that ends in it.
+-- The session ended with the last of these takes, behind so many judged messages: by that take; by a bad size in it,
+-- behind all messages; or by the reply to a message that ends in it.
 abbrev pub EndsBy : SessionEnd → List Take → ℕ → Type 0
-EndsBy Ended takes n = (ts : List Take) × (takes ≡ ts ++ ended ∷ []) × IsOpenBehind ts × (n ≡ length (messages_in ts))
-EndsBy TakeFailed takes n = (ts : List Take) × (takes ≡ ts ++ failed ∷ []) × IsOpenBehind ts × (n ≡ length (messages_in ts))
+EndsBy Ended takes n =
+    (ts : List Take) × (takes ≡ ts ++ ended ∷ []) × IsOpenBehind ts × (n ≡ length (messages_in ts))
+EndsBy TakeFailed takes n =
+    (ts : List Take) × (takes ≡ ts ++ failed ∷ []) × IsOpenBehind ts × (n ≡ length (messages_in ts))
 EndsBy BadSize takes n =
-    (ts : List Take) × (bs : List ℕ) × (takes ≡ ts ++ piece bs ∷ []) × IsOpenBehind ts × (n ≡ length (messages_in takes))
+    (ts : List Take) × (bs : List ℕ) × (takes ≡ ts ++ piece bs ∷ []) × IsOpenBehind ts
+    × (n ≡ length (messages_in takes))
     × (frame_of (messages_of (bytes_of takes)).rest ≡ frames.BadSize)
 EndsBy AnswerFailed takes n =
-    (ts : List Take) × (bs : List ℕ) × (takes ≡ ts ++ piece bs ∷ []) × IsOpenBehind ts × (length (messages_in ts) < n) × (n ≤ length (messages_in takes))
+    (ts : List Take) × (bs : List ℕ) × (takes ≡ ts ++ piece bs ∷ []) × IsOpenBehind ts
+    × (length (messages_in ts) < n) × (n ≤ length (messages_in takes))
 
 -- THE TALK before so many packets: one take for each of them, all messages judged; or up to the session's end
 abbrev pub HasTalked : Option SessionEnd → List Take → ℕ → ℕ → Type 0

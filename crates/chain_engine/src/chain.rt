@@ -85,16 +85,18 @@ pub fn run_inject<M: Allocator, P: PacketSource, U: Automation, K: PacketSink>(
     out: &mut K,
 ) -> Result<Report, RunFault>
     requires { P.is_broken network.old ≡ false }
-    ensures ok { (c : Config) (start : Option (List ℕ)) (before : List (List ℕ)) → ChainStandsFor chain c → K.holds out.old start before
-        → IfOk result (λ report. InjectsAll c (P.left network.old) (λ ps. K.holds out.new start (before ++ ps))
-        (Exchanged U.takes U.answers U.failures automation.old automation.new) report) }
-    ensures err { (c : Config) (start : Option (List ℕ)) (before : List (List ℕ)) → ChainStandsFor chain c → K.holds out.old start before
-        → IfErr result (λ f. StopsAt c f (P.left network.old) (λ ps. K.holds out.new start (before ++ ps))
-        (λ ps. K.fails out.new start (before ++ ps)) (Exchanged U.takes U.answers U.failures automation.old automation.new)) }
+    ensures ok { (c : Config) (start : Option (List ℕ)) (before : List (List ℕ)) → ChainStandsFor chain c
+        → K.holds out.old start before → IfOk result (InjectsAll c (P.left network.old)
+        (λ ps. K.holds out.new start (before ++ ps)) (Exchanged U.takes U.answers U.failures automation.old automation.new)) }
+    ensures err { (c : Config) (start : Option (List ℕ)) (before : List (List ℕ)) → ChainStandsFor chain c
+        → K.holds out.old start before → IfErr result (λ f. StopsAt c f (P.left network.old)
+        (λ ps. K.holds out.new start (before ++ ps)) (λ ps. K.fails out.new start (before ++ ps))
+        (Exchanged U.takes U.answers U.failures automation.old automation.new)) }
     ensures read { OnOk result (SourceCounts false (P.has_ended network.old) (P.has_ended network.new)
         (P.counts network.old) (P.counts network.new)) }
     ensures wrote { OnOk result (WentWell (K.counts out.old) (K.counts out.new)) }
-    ensures reading { IfErr result (λ f. NetworkBlamed f (P.has_ended network.new) (P.counts network.old) (P.counts network.new)) }
+    ensures reading { IfErr result (λ f. NetworkBlamed f (P.has_ended network.new)
+        (P.counts network.old) (P.counts network.new)) }
     ensures writing { IfErr result (λ f. OutputBlamed f (K.counts out.old) (K.counts out.new) (K.is_full out.new)) }
     ensures turns { result ≡ Err (RunFault.Read ReadFault.Turns)
         → Stalled P.leads P.counts P.falls_short network.old network.new ⊎ Exhausted P.left P.given network.old }

@@ -48,9 +48,10 @@ fn hear_one<M: Allocator, J: Judge, U: Automation>(
     ensures after { state_of session.new ≡ (feed_of (state_of session.old) piece.now).after }
     ensures heard { HeardAs (feed_of (state_of session.old) piece.now) (length piece.now) result }
     ensures takes { U.takes automation.new ≡ U.takes automation.old }
-    ensures replied { (rs : List Reply) × Replied J.judges judge.old judge.new (messages_in (feed_of (state_of session.old) piece.now).gives) rs
-        (is_unanswered result) (U.answers automation.old) (U.answers automation.new) }
-    ensures failures { CountsAnswer (not (is_unanswered result)) (U.failures automation.old) (U.failures automation.new) }
+    ensures replied { (rs : List Reply) × Replied J.judges judge.old judge.new
+        (messages_in (feed_of (state_of session.old) piece.now).gives) rs (is_unanswered result) (U.answers automation.old) (U.answers automation.new) }
+    ensures failures { CountsAnswer (not (is_unanswered result))
+        (U.failures automation.old) (U.failures automation.new) }
 {
     let (used, got) = session.feed(piece);
     match got {

@@ -22,7 +22,8 @@ pub struct Report {
 impl Report {
     /// The report of a run in which the injector counted so.
     pub(crate) fn of(counts: MessageCounts) -> Report
-        ensures { (c : Config) (steps : List Step) → CountsAre counts c.index (turns_in c.program steps) → result ≡ report_of c steps }
+        ensures { (c : Config) (steps : List Step) → CountsAre counts c.index (turns_in c.program steps)
+            → result ≡ report_of c steps }
     {
         Report {
             messages: counts.messages,

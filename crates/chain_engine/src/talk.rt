@@ -47,9 +47,10 @@ impl<M: Allocator> Talk<M> {
         ensures talk { (ts : List Take) (n k : ℕ) → TalkStandsFor self.old ts n k →
             (more : List Take) × (rs : List Reply) × Told (U.takes automation.old) (U.takes automation.new) more
             × TalkStandsFor self.new (ts ++ more) (n + length rs) (suc k)
-            × Replied J.judges judge.old judge.new (judged_before (n + length rs) (ts ++ more) k) rs (loses self.old.end self.new.end)
-            (U.answers automation.old) (U.answers automation.new) }
-        ensures closed { is_some self.old.end ≡ true → (self.new ≡ self.old) × (judge.new ≡ judge.old) × (automation.new ≡ automation.old) }
+            × Replied J.judges judge.old judge.new (judged_before (n + length rs) (ts ++ more) k) rs
+            (loses self.old.end self.new.end) (U.answers automation.old) (U.answers automation.new) }
+        ensures closed { is_some self.old.end ≡ true → (self.new ≡ self.old) × (judge.new ≡ judge.old)
+            × (automation.new ≡ automation.old) }
         ensures failures { CountsEnd self.old.end self.new.end (U.failures automation.old) (U.failures automation.new) }
     {
         if self.end.is_some() {

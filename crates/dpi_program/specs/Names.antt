@@ -8,7 +8,8 @@ use Rattle.unit_cut.specs.declared.run.CutFault.{CutFault}
 use Rattle.unit_cut.specs.declared.run.CutFault.TheVariants.{Read, Scrambled, HeaderSplit, TimeJump, Sink}
 use Rattle.packet_lines.specs.declared.lines.LinesFault.TheVariants.{BadLine, Cut}
 use Rattle.dpi_program.specs.declared.fault.ProgramFault.{ProgramFault}
-use Rattle.dpi_program.specs.declared.fault.ProgramFault.TheVariants.{Lines, Run, Script, Accept, Print, File, OutOfMemory}
+use Rattle.dpi_program.specs.declared.fault.ProgramFault.TheVariants.{Lines, Run, Script, Accept, Print, File}
+use Rattle.dpi_program.specs.declared.fault.ProgramFault.TheVariants.{OutOfMemory}
 use Rattle.chain_engine.specs.declared.chain.RunFault.{RunFault}
 use Rattle.chain_engine.specs.declared.chain.RunFault.TheVariants as run
 use Rattle.psi_tables.specs.declared.network.FeedFault.TheVariants as feed

@@ -6,7 +6,8 @@ use Rattle.std.specs.Prelude.{◌⊎◌}
 use Rattle.dpi_program.specs.declared.script.ScriptFault.{ScriptFault}
 use Rattle.dpi_program.specs.declared.script.ScriptFault.TheVariants.{BadScript, Io, Turns, OutOfMemory}
 
--- What the reads of a script came to where it was not loaded: a bad line, or memory for it, comes behind reads that went well, or at the end.
+-- What the reads of a script came to where it was not loaded: a bad line, or memory for it, comes behind reads that
+-- went well, or at the end.
 abbrev pub ScriptBlamed : ScriptFault → Tally → Tally → Type 0
 ScriptBlamed BadScript old new = WentWell old new ⊎ LastMovedNone old new
 ScriptBlamed OutOfMemory old new = WentWell old new ⊎ LastMovedNone old new

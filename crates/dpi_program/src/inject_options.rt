@@ -1,11 +1,12 @@
 //! The command line of the subcommand `inject`: its options and their ranges.
 
-ghost use Rattle.std.specs.Prelude.{◌≡◌, ◌^◌, IfOk, Some};
-ghost use Rattle.dpi_program.specs.Numbers.{number_below};
+ghost use Rattle.std.specs.Prelude.{◌≡◌, ◌^◌, IfOk, IfErr, OnOk, Some, Err, is_some, not, IsSomeAnd};
+ghost use Rattle.dpi_program.specs.Numbers.{number_below, number_within};
+ghost use Rattle.dpi_program.specs.Command.{IsRefusedOf, refused_option};
 
 use crate::command::{BadNumber, NumberOption, option};
 use crate::ends::End;
-use crate::numbers::number_below;
+use crate::numbers::{number_below, number_within};
 use clap::{Arg, ArgAction, ArgMatches, Command};
 use psi_tables::Config;
 use std::alloc::{AllocError, Global};
@@ -15,8 +16,11 @@ use ts_packet::Pid;
 /// The first number that two bytes do not hold.
 const NUMBER_LIMIT: u64 = 0x1_0000;
 
-/// The first number that is no PID.
-const PID_LIMIT: u64 = 0x2000;
+/// The first PID that is not reserved.
+const LEAST_PID: u64 = 0x10;
+
+/// The PID of null packets.
+const NULL_PID: u64 = 0x1FFF;
 
 const INJECT_ABOUT: &str =
     "Puts cues (SCTE 35) into a transport stream, as an automation asks for them (SCTE 104)";
@@ -201,7 +205,9 @@ pub fn inject_command<'a>(alloc: Global) -> Result<Command<'a>, AllocError> {
 }
 
 /// An option's text that is no number in its range.
-fn bad_number<'a>(option: NumberOption, text: &'a str) -> BadInject<'a> {
+fn bad_number<'a>(option: NumberOption, text: &'a str) -> BadInject<'a>
+    ensures { refused_option result ≡ Some option }
+{
     BadInject::Number(BadNumber { option, text })
 }
 
@@ -211,30 +217,23 @@ fn config_of<'a>(
     cue_pid: &'a str,
     index: &'a str,
 ) -> Result<Config, BadInject<'a>>
-    ensures program { IfOk result (λ c. number_below program.now (2 ^ 16) ≡ Some c.program) }
-    ensures cue_pid { IfOk result (λ c. number_below cue_pid.now 8192 ≡ Some c.cue_pid) }
+    ensures program { IfOk result (λ c. number_within program.now 1 (2 ^ 16) ≡ Some c.program) }
+    ensures cue_pid { IfOk result (λ c. number_within cue_pid.now 16 8191 ≡ Some c.cue_pid) }
     ensures index { IfOk result (λ c. number_below index.now (2 ^ 16) ≡ Some c.index) }
+    ensures refused { IfErr result (λ bad. IsSomeAnd (refused_option bad)
+        (λ option. IsRefusedOf option program.now cue_pid.now index.now)) }
 {
-    let number = match number_below(program, NUMBER_LIMIT) {
-        Some(number) => {
-            if number == 0 {
-                None
-            } else {
-                Some(number as u16)
-            }
-        }
-        None => None,
-    };
-    let Some(number) = number else {
+    let Some(number) = number_within(program, 1, NUMBER_LIMIT) else {
         return Err(bad_number(NumberOption::Program, program));
     };
-    let Some(pid) = number_below(cue_pid, PID_LIMIT).and_then(|pid| Pid::new(pid as u16)) else {
+    let Some(pid) = number_within(cue_pid, LEAST_PID, NULL_PID).and_then(|pid| Pid::new(pid as u16))
+    else {
         return Err(bad_number(NumberOption::CuePid, cue_pid));
     };
     let Some(index_number) = number_below(index, NUMBER_LIMIT) else {
         return Err(bad_number(NumberOption::Index, index));
     };
-    match Config::new(number, pid, index_number as u16) {
+    match Config::new(number as u16, pid, index_number as u16) {
         Ok(config) => Ok(config),
         Err(_) => Err(bad_number(NumberOption::CuePid, cue_pid)),
     }
@@ -244,16 +243,14 @@ fn config_of<'a>(
 fn asking_of<'a>(
     script: Option<&'a str>,
     listen: Option<&'a str>,
-) -> Result<Asking<'a>, BadInject<'a>> {
+) -> Result<Asking<'a>, BadInject<'a>>
+    ensures one { OnOk result (is_some script.entry ≡ not (is_some listen.entry)) }
+    ensures other { is_some script.entry ≡ is_some listen.entry → result ≡ Err BadInject.Asking }
+{
     match (script, listen) {
         (Some(script), None) => Ok(Asking::Script(End::named(Some(script)))),
-        (None, Some(port)) => match number_below(port, NUMBER_LIMIT) {
-            Some(number) => {
-                if number == 0 {
-                    return Err(bad_number(NumberOption::Port, port));
-                }
-                Ok(Asking::Port(number as u16))
-            }
+        (None, Some(port)) => match number_within(port, 1, NUMBER_LIMIT) {
+            Some(number) => Ok(Asking::Port(number as u16)),
             None => Err(bad_number(NumberOption::Port, port)),
         },
         _ => Err(BadInject::Asking),

@@ -301,8 +301,10 @@ fn told(
     reasons: Reasons,
     seen: Option<(Watch, Watch)>,
 ) -> Result<Injected, Stopped>
-    ensures done { IfOk outcome (λ report. has_lost_a_reply ≡ false → IsOkAnd result (λ injected. injected.report ≡ report)) }
-    ensures lost { IfOk outcome (λ report. has_lost_a_reply ≡ true → IsErrAnd result (λ stopped. stopped.fault ≡ ProgramFault.Print)) }
+    ensures done { IfOk outcome (λ report. has_lost_a_reply ≡ false
+        → IsOkAnd result (λ injected. injected.report ≡ report)) }
+    ensures lost { IfOk outcome (λ report. has_lost_a_reply ≡ true
+        → IsErrAnd result (λ stopped. stopped.fault ≡ ProgramFault.Print)) }
     ensures fault { IfErr outcome (λ fault. IsErrAnd result (λ stopped. stopped.fault ≡ told_fault fault)) }
 {
     let report = match outcome {

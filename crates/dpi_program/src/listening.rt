@@ -36,9 +36,11 @@ where
     L::Stream: OpenStream + Read + Write + Drop,
     K: PacketSink,
     requires { P.is_broken network.old ≡ false }
-    ensures ok { (c : Config) (start : Option (List ℕ)) (before : List (List ℕ)) → ChainStandsFor chain c → K.holds out.old start before
+    ensures ok { (c : Config) (start : Option (List ℕ)) (before : List (List ℕ)) → ChainStandsFor chain c
+        → K.holds out.old start before
         → IfOk result (CuesAll c (P.left network.old) (λ ps. K.holds out.new start (before ++ ps))) }
-    ensures err { (c : Config) (start : Option (List ℕ)) (before : List (List ℕ)) → ChainStandsFor chain c → K.holds out.old start before
+    ensures err { (c : Config) (start : Option (List ℕ)) (before : List (List ℕ)) → ChainStandsFor chain c
+        → K.holds out.old start before
         → IfErr result (λ f. CuesStop c f (P.left network.old) (λ ps. K.holds out.new start (before ++ ps))
         (λ ps. K.fails out.new start (before ++ ps))) }
     ensures reads { P.leads network.old network.new }

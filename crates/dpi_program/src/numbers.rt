@@ -3,7 +3,7 @@
 ghost use Rattle.std.specs.Prelude.{◌≡◌};
 ghost use Rattle.std.specs.List.{list_all};
 ghost use Rattle.std.specs.Char.{is_ascii_digit};
-ghost use Rattle.dpi_program.specs.Numbers.{is_number, number_below};
+ghost use Rattle.dpi_program.specs.Numbers.{is_number, number_below, number_within};
 
 /// Whether each byte of the text is a decimal digit.
 fn are_digits(text: &str) -> bool
@@ -29,5 +29,15 @@ pub fn number_below(text: &str, limit: u64) -> Option<u64>
     match text.parse::<u64>() {
         Ok(number) => { if number < limit { Some(number) } else { None } }
         Err(_) => None,
+    }
+}
+
+/// Likewise, where it is at least `least`.
+pub fn number_within(text: &str, least: u64, limit: u64) -> Option<u64>
+    ensures { result ≡ number_within text.now least limit }
+{
+    match number_below(text, limit) {
+        Some(number) => { if number < least { None } else { Some(number) } }
+        None => None,
     }
 }

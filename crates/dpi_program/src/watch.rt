@@ -208,7 +208,8 @@ impl<K: PacketSink> PacketSink for Watched<'_, K> {
 
     ghost is_full = { λ w. K.is_full w.inner.now };
 
-    ghost leads = { λ v w. (w.inner.ghost_name ≡ v.inner.ghost_name) × K.leads v.inner.now w.inner.now × (K.is_broken v.inner.now ≡ true → w ≡ v) };
+    ghost leads = { λ v w. (w.inner.ghost_name ≡ v.inner.ghost_name) × K.leads v.inner.now w.inner.now
+        × (K.is_broken v.inner.now ≡ true → w ≡ v) };
 
     ghost leads_refl = { λ s. (refl, K.leads_refl s.inner.now, λ b. refl) };
 
