@@ -1,6 +1,6 @@
 -- The packets of a section read back as that section.
-use Rattle.std.proofs.Common.{◌≡◌, ℕ, zero, suc, ◌+◌, ◌-◌, ◌/◌, ◌%◌, ◌<◌, ◌≤◌, inl, inr, List, [], ◌∷◌, ◌++◌, Bool, true, false, not, ◌&&◌, ◌==◌, if◌then◌else◌, nat_le, Option, Some, refl, sym, ap, ◌∙◌, arith, length, take, drop, replicate, append_assoc, ⊎_elim}
-use Rattle.std.specs.Prelude.{filter}
+use Rattle.std.proofs.Common.{◌≡◌, ℕ, zero, suc, ◌+◌, ◌-◌, ◌/◌, ◌%◌, ◌<◌, ◌≤◌, inl, inr, List, [], ◌∷◌, ◌++◌, Bool, true, false, not, ◌&&◌, ◌==◌, if◌then◌else◌, nat_le, Option, Some, refl, sym, ap, ◌∙◌, arith, length, take, drop, replicate, append_assoc, ⊎_elim, subst, zero-add}
+use Rattle.std.specs.Prelude.{filter, count_by}
 use Rattle.std.proofs.lemmas.Bool.{eq-eqb, ne_eqb, cases_lt, le-leb}
 use Rattle.std.proofs.lemmas.List.{append-nil, length-take-le, length-drop, take_at, take_all, take-append-drop, drop-drop}
 use Rattle.std.proofs.Math.Seq.{take-length, take-add}
@@ -12,16 +12,16 @@ use Rattle.ts_packet.proofs.FieldLemmas.{number-below}
 use Rattle.ts_packet.proofs.HistoryLemmas.{walk_is_last}
 use Rattle.psi_section.specs.declared.front.Front.{Front}
 use Rattle.psi_section.specs.declared.front.Front.TheVariants.{Nothing, Whole, Part}
-use Rattle.psi_section.specs.Sections.{front_of, Assembled, nothing, with_section, taken_past, taken, continued, started, payload_taken, unbroken, packet_taken, held, given, is_good, sections_after}
+use Rattle.psi_section.specs.Sections.{front_of, Assembled, nothing, with_section, taken_past, taken, continued, started, payload_taken, unbroken, packet_taken, held, given, failed, is_good, is_bad, sections_after}
 use Rattle.psi_section.specs.Packetising.{padded, first_packet, next_packet, packets_for, later_packets, rest_packets, section_packets}
 use Rattle.psi_section.specs.Assembling.{IsPart}
-use Rattle.psi_section.specs.Laws.{CanBeGiven}
+use Rattle.psi_section.specs.Laws.{CanBeGiven, NothingIsLeft}
 use Rattle.psi_section.proofs.FrontLemmas.{whole_and, whole_stays, part_alone, part_of, by_front, by_front_joined, joined_front}
 use Rattle.ts_packet.proofs.RunLemmas.{onto}
 use Rattle.std.specs.Prelude.{All}
 use Rattle.std.proofs.lemmas.List.Elements.{All-head, All-tail}
 use Rattle.psi_section.specs.Packetising.{packets_in_turn}
-use Rattle.psi_section.proofs.RunLemmas.{original_gives, original_holds, sections_after-append}
+use Rattle.psi_section.proofs.RunLemmas.{original_gives, original_holds, original_fails, sections_after-append}
 use Rattle.std.specs.List.{AllByRecursion}
 use Rattle.psi_section.proofs.GivenLemmas.{All-both}
 use Rattle.psi_section.proofs.PacketiserLemmas.{rest-none}
@@ -284,6 +284,74 @@ module _ (s : List ℕ) (can : CanBeGiven s) where
       let i : given pid p past ≡ s ∷ [] = original_gives pid p past (record { finished = s ∷ []; part = [] }) y w v ∙ good_one in
       let z : length (drop 183 s) ≡ 0 = omega arith in
       ap (λ x. x ++ sections_after (p ∷ past) pid more) i ∙ ap (λ x. (s ∷ []) ++ sections_after (p ∷ past) pid x) (rest-none pid ((n + 1) % 16) (drop 183 s) z))
+      (cases_lt 183 (length s))
+
+-- ---- nothing is left of them
+
+over_more : (pid : ℕ) (past between after : List (List ℕ)) → failed pid between ≡ failed pid past → NothingIsLeft pid between after → NothingIsLeft pid past after
+over_more pid past between after e h = record { part = h.part; failed = h.failed ∙ e }
+
+module _ (s : List ℕ) (can : CanBeGiven s) where
+  none_bad : count_by is_bad (s ∷ []) ≡ 0
+  none_bad = let e : is_bad s ≡ false = can.good in simp e
+
+  -- the packet in which the section ends
+  over_here : (pid : ℕ) (p : List ℕ) (past : List (List ℕ)) → payload_on pid p ≡ true → repeats pid p past ≡ false
+      → packet_taken p (last_of pid past) (held pid past) ≡ record { finished = s ∷ []; part = [] } → NothingIsLeft pid past (p ∷ past)
+  over_here pid p past y w u = record {
+    part = original_holds pid p past (record { finished = s ∷ []; part = [] }) y w u;
+    failed = original_fails pid p past (record { finished = s ∷ []; part = [] }) y w u ∙ ap (λ c. c + failed pid past) none_bad ∙ zero-add (failed pid past);
+  }
+
+  later_over : (count pid k n : ℕ) (past : List (List ℕ)) (l : Last) → pid < 8192 → n < 16 → 3 ≤ k → k < length s → count ≡ packets_for (length s - k) → held pid past ≡ take k s
+      → last_of pid past ≡ Some l → n ≡ (number l.packet + 1) % 16 → NothingIsLeft pid past (onto past (later_packets count pid n (drop k s)))
+  later_over zero pid k n past l pb nb a b c h e f = absurd (omega arith)
+  later_over (suc count) pid k n past l pb nb a b c h e f =
+      let q = next_packet pid n (drop k s) in
+      let y = next_on pid n (drop k s) pb nb in
+      let w = next_original pid n (drop k s) past pb nb l e f in
+      let t : packet_taken q (last_of pid past) (held pid past) ≡ continued (take k s) (padded 184 (drop k s)) =
+      next_taken pid n (drop k s) past pb nb l e f ∙ ap (λ x. continued x (padded 184 (drop k s))) h in
+      let d : length (drop k s) ≡ length s - k = length-drop k s in
+      ⊎_elim
+      (λ g.
+      let u = t ∙ later_large s can.whole k a b (rw d g) in
+      let j : held pid (q ∷ past) ≡ take (k + 184) s = original_holds pid q past (record { finished = []; part = take (k + 184) s }) y w u in
+      let i : failed pid (q ∷ past) ≡ failed pid past = original_fails pid q past (record { finished = []; part = take (k + 184) s }) y w u ∙ zero-add (failed pid past) in
+      let m : (n + 1) % 16 ≡ (number q + 1) % 16 = ap (λ x. (x + 1) % 16) (sym (next_number pid n (drop k s) pb nb)) in
+      let r = later_over count pid (k + 184) ((n + 1) % 16) (q ∷ past) (record { packet = q; is_repeat = false }) pb (omega arith) (omega arith) (omega arith) (omega arith) j
+      (next_last pid n (drop k s) past pb nb l e f) m in
+      subst (λ (x : List ℕ). NothingIsLeft pid past (onto (q ∷ past) (later_packets count pid ((n + 1) % 16) x))) (sym (drop-drop 184 k s)) (over_more pid past (q ∷ past) _ i r))
+      (λ g.
+      let u = t ∙ later_small s can.whole k a b (rw d g) in
+      let z : count ≡ 0 = omega arith in
+      subst (λ (x : ℕ). NothingIsLeft pid past (onto (q ∷ past) (later_packets x pid ((n + 1) % 16) (drop 184 (drop k s))))) (sym z) (over_here pid q past y w u))
+      (cases_lt 184 (length s - k))
+
+  pub nothing_left : (pid n : ℕ) (past : List (List ℕ)) → pid < 8192 → n < 16 → repeats pid (first_packet pid n s) past ≡ false → NothingIsLeft pid past (onto past (section_packets pid n s))
+  nothing_left pid n past pb nb w =
+      let p = first_packet pid n s in
+      let y = first_on pid n s pb nb in
+      let u = unbroken p (last_of pid past) (held pid past) in
+      let t : packet_taken p (last_of pid past) (held pid past) ≡ taken (padded 183 s) =
+      ap (λ x. payload_taken x u (bytes p)) (first_start pid n s pb nb)
+      ∙ ap (started u) (first_bytes pid n s pb nb)
+      ∙ started_first u (padded 183 s) (unbroken_part p (last_of pid past) (held pid past) (held_part pid past)) in
+      let d : length (drop 183 s) ≡ length s - 183 = length-drop 183 s in
+      ⊎_elim
+      (λ g.
+      let v = t ∙ first_large s can.whole g in
+      let j : held pid (p ∷ past) ≡ take 183 s = original_holds pid p past (record { finished = []; part = take 183 s }) y w v in
+      let i : failed pid (p ∷ past) ≡ failed pid past = original_fails pid p past (record { finished = []; part = take 183 s }) y w v ∙ zero-add (failed pid past) in
+      let m : (n + 1) % 16 ≡ (number p + 1) % 16 = ap (λ x. (x + 1) % 16) (sym (first_number pid n s pb nb)) in
+      let o : last_of pid (p ∷ past) ≡ Some (record { packet = p; is_repeat = false }) = simp (y, w) in
+      let c : packets_for (length (drop 183 s)) ≡ packets_for (length s - 183) = ap packets_for d in
+      over_more pid past (p ∷ past) _ i
+      (later_over (packets_for (length (drop 183 s))) pid 183 ((n + 1) % 16) (p ∷ past) (record { packet = p; is_repeat = false }) pb (omega arith) (omega arith) g c j o m))
+      (λ g.
+      let v = t ∙ first_small s can.whole g in
+      let z : length (drop 183 s) ≡ 0 = omega arith in
+      subst (λ (x : List (List ℕ)). NothingIsLeft pid past (onto (p ∷ past) x)) (sym (rest-none pid ((n + 1) % 16) (drop 183 s) z)) (over_here pid p past y w v))
       (cases_lt 183 (length s))
 
 -- ---- all of them are payload packets of the PID

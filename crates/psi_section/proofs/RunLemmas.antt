@@ -1,6 +1,6 @@
 -- Sections of runs.
 use Rattle.std.proofs.Common.{◌≡◌, ℕ, List, [], ◌∷◌, ◌++◌, reverse, true, false, refl, sym, ap, ◌∙◌, append_assoc, zero-add}
-use Rattle.std.specs.Prelude.{filter, map}
+use Rattle.std.specs.Prelude.{◌+◌, filter, map, count_by}
 use Rattle.std.proofs.lemmas.List.{append-nil, map-append}
 use Rattle.std.specs.List.{AllByRecursion}
 use Rattle.ts_packet.specs.Fields.{on, payload_on}
@@ -10,7 +10,7 @@ use Rattle.ts_packet.proofs.Cases.{by_test}
 use Rattle.ts_packet.proofs.FieldLemmas.{off_payload}
 use Rattle.ts_packet.proofs.RunLemmas.{onto, seen_after-append}
 use Rattle.psi_section.specs.Laws.{SameHistory}
-use Rattle.psi_section.specs.Sections.{Assembled, packet_taken, is_good, held, given, failed, given_by, sections_with, sections_after, sections}
+use Rattle.psi_section.specs.Sections.{Assembled, packet_taken, is_good, is_bad, held, given, failed, given_by, sections_with, sections_after, sections}
 
 -- ---- one packet more
 
@@ -33,6 +33,10 @@ original_gives pid p past t y w e = simp (y, w) (ap (λ (x : Assembled). filter 
 pub original_holds : (pid : ℕ) (p : List ℕ) (past : List (List ℕ)) (t : Assembled) → payload_on pid p ≡ true → repeats pid p past ≡ false
     → packet_taken p (last_of pid past) (held pid past) ≡ t → held pid (p ∷ past) ≡ t.part
 original_holds pid p past t y w e = simp (y, w) (ap (λ (x : Assembled). x.part) e)
+
+pub original_fails : (pid : ℕ) (p : List ℕ) (past : List (List ℕ)) (t : Assembled) → payload_on pid p ≡ true → repeats pid p past ≡ false
+    → packet_taken p (last_of pid past) (held pid past) ≡ t → failed pid (p ∷ past) ≡ count_by is_bad t.finished + failed pid past
+original_fails pid p past t y w e = simp (y, w) (ap (λ (x : Assembled). count_by is_bad x.finished + failed pid past) e)
 
 -- ---- packets of other PIDs
 

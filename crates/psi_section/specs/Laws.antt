@@ -2,7 +2,7 @@
 use Rattle.std.specs.Prelude.{◌≡◌, ℕ, ◌+◌, ◌<◌, ◌≤◌, ◌^◌, List, [], ◌∷◌, ◌++◌, true, false, length, reverse, filter, map, slice_index, All}
 use Rattle.ts_packet.specs.Fields.{on}
 use Rattle.ts_packet.specs.Duplicates.{repeats, last_of}
-use Rattle.ts_packet.specs.Runs.{Seen}
+use Rattle.ts_packet.specs.Runs.{Seen, onto}
 use Rattle.psi_section.specs.declared.front.Front.TheVariants.{Whole}
 use Rattle.psi_section.specs.Sections.{section_length, has_crc, front_of, is_bad, held, given, failed, given_by, sections_with, sections, sections_after}
 use Rattle.byteorder.specs.Endian.{big_bytes}
@@ -72,11 +72,16 @@ GivenAreBytes = (pid : ℕ) (p : List ℕ) (past : List (List ℕ)) → AreBytes
 abbrev pub FitsOnePacket : Type 0
 FitsOnePacket = (pid n : ℕ) (s : List ℕ) → length s ≤ 183 → section_packets pid n s ≡ first_packet pid n s ∷ []
 
+-- behind more packets no part of a section is held, and no CRC_32 has failed in them
+pub record NothingIsLeft (pid : ℕ) (past after : List (List ℕ)) : Type 0 where
+  pub part : held pid after ≡ []
+  pub failed : failed pid after ≡ failed pid past
+
 -- The packets of a section that can be given have that one section, whatever came before them, as long as the first is no duplicate
--- of the payload packet before it.
+-- of the payload packet before it; and nothing is left of them.
 abbrev pub ReadsBack : Type 0
 ReadsBack = (pid n : ℕ) (s : List ℕ) (past : List (List ℕ)) → pid < 8192 → n < 16 → CanBeGiven s → repeats pid (first_packet pid n s) past ≡ false
-    → sections_after past pid (section_packets pid n s) ≡ s ∷ []
+    → (sections_after past pid (section_packets pid n s) ≡ s ∷ []) × NothingIsLeft pid past (onto past (section_packets pid n s))
 
 -- The packets of sections that can be given, put in turn, have those sections, whatever came before them, as long as no packet with
 -- the first counter is a duplicate there: as at the beginning, or behind a payload packet with another counter.
