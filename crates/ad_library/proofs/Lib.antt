@@ -1,3 +1,4 @@
 pub mod StoreLemmas
 pub mod PlacingLemmas
 pub mod FitLemmas
+pub mod GatheredLemmas

@@ -3,11 +3,16 @@
 
 mod ad_stream;
 mod advert;
+mod fault;
+mod gathered;
+mod gathering;
 mod library;
+mod line;
 mod slice;
 mod store;
 mod unit;
 
+pub use fault::AdFault;
 pub use library::AdLibrary;
 pub use slice::Slice;
 pub use unit::AdUnit;
