@@ -12,6 +12,8 @@ use Rattle.unit_stream.specs.Units.{units_back}
 use Rattle.psi_tables.specs.declared.stream.Stream.{Stream}
 use Rattle.program_follower.specs.declared.streams.StreamPacket.{StreamPacket}
 use Rattle.program_follower.specs.declared.streams.StreamPacket.TheVariants.{Start, More, Repeat, Lead, NoPayload}
+use Rattle.program_follower.specs.declared.follower.Place.{Place}
+use Rattle.program_follower.specs.declared.follower.Place.TheVariants as places
 use Rattle.program_follower.specs.Program.{Program, program_of, behind_head, pids_of}
 use Rattle.program_follower.specs.Faults.{first_fault, pids_in, is_in}
 use Rattle.program_follower.specs.Streaming.{IsStreamPacket, first_on}
@@ -93,7 +95,7 @@ pub record GathersStream {A : Type 0} (g : Gathered A) (pids : List ℕ) (pid : 
 -- each of the streams, in their order
 abbrev pub AllGathered : {A : Type 0} → List (Gathered A) → List Stream → List ℕ → List (List ℕ) → Type 0
 AllGathered [] [] pids past = Unit {0}
-AllGathered (g ∷ gs) (s ∷ ss) pids past = (g.kind ≡ s.kind) × (GathersStream g pids s.pid past × AllGathered gs ss pids past)
+AllGathered (g ∷ gs) (s ∷ ss) pids past = (g.kind ≡ s.kind) × GathersStream g pids s.pid past × AllGathered gs ss pids past
 AllGathered [] (s ∷ ss) pids past = ⊥
 AllGathered (g ∷ gs) [] pids past = ⊥
 
@@ -148,6 +150,14 @@ pub record IsOfOne {A Z : Type 0} (streams : Option (Vec (Gathered A) Z)) (high'
   pub place_is : one.0 ≡ index
   pub first_is : first_on (pids_in ss) p ≡ Some one
   pub is : IsStreamPacket part (pids_in ss) one.1 p past
+
+-- of which stream a packet is, where it is of one
+abbrev pub stream_in : Place → Option (ℕ × StreamPacket)
+stream_in places.Marked = None
+stream_in places.Cue = None
+stream_in places.Map = None
+stream_in (places.Stream index part) = Some (index, part)
+stream_in places.Other = None
 
 -- THE GATHERING has taken these packets, and the network has no fault in them
 pub record Gathers {A : Type 0} (g : Gathering A) (past : List (List ℕ)) : Type 0 where

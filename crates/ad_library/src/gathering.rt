@@ -12,7 +12,7 @@ ghost use Rattle.program_follower.specs.Streaming.{first_on, IsStreamPacket};
 ghost use Rattle.program_follower.specs.Following.{FollowerStandsFor};
 ghost use Rattle.ad_library.specs.Storing.{on_line};
 ghost use Rattle.ad_library.specs.Faults.{first_program, packet_fault};
-ghost use Rattle.ad_library.specs.Gathering.{Gathers, AllGathered, StreamsGathered, IsWholeStart, IsNearStart, HasWay, IsHeld, IsOfOne, StreamsStand};
+ghost use Rattle.ad_library.specs.Gathering.{Gathers, AllGathered, StreamsGathered, IsWholeStart, IsNearStart, HasWay, IsHeld, IsOfOne, StreamsStand, stream_in};
 
 use crate::fault::{AdFault, of_follower};
 use crate::gathered::Gathered;
@@ -67,13 +67,35 @@ impl<A: Allocator + Copy> Gathering<A> {
             return Err(AdFault::Large);
         }
         self.packets += 1;
-        match self.follower.feed(packet) {
-            Err(fault) => Err(of_follower(fault)),
-            Ok(Place::Stream(index, part)) => {
-                keep(&mut self.streams, &mut self.high, index, &part, packet)
+        let place = match self.follower.feed(packet) {
+            Ok(place) => place,
+            Err(fault) => return Err(of_follower(fault)),
+        };
+        match stream_of(&place) {
+            Some((index, part)) => {
+                match keep(&mut self.streams, &mut self.high, index, &part, packet) {
+                    Ok(()) => Ok(()),
+                    Err(fault) => Err(fault),
+                }
             }
-            Ok(_) => open(&mut self.streams, &self.follower, self.alloc),
+            None => match open(&mut self.streams, &self.follower, self.alloc) {
+                Ok(()) => Ok(()),
+                Err(fault) => Err(fault),
+            },
         }
+    }
+}
+
+/// Of which switched stream a packet is, where it is of one, and what it is there.
+fn stream_of(place: &Place) -> Option<(usize, StreamPacket)>
+    ensures { result ≡ stream_in place.now }
+{
+    match place {
+        Place::Stream(index, part) => Some((*index, *part)),
+        Place::Marked => None,
+        Place::Cue => None,
+        Place::Map => None,
+        Place::Other => None,
     }
 }
 
@@ -101,7 +123,10 @@ fn keep<A: Allocator>(
         None => Ok(()),
         Some(streams) => match streams.get_mut(index) {
             None => Ok(()),
-            Some(stream) => stream.take(part, time, packet),
+            Some(stream) => match stream.take(part, time, packet) {
+                Ok(()) => Ok(()),
+                Err(fault) => Err(fault),
+            },
         },
     }
 }
@@ -117,15 +142,32 @@ fn open<A: Allocator + Copy>(
         → OnOk result (StreamsGathered (option_map (λ v. v.items) streams.new) (program_of None past) []) }
     ensures err { IfErr result (λ f. f ≡ AdFault.OutOfMemory) }
 {
-    if streams.is_some() || !follower.is_behind_head() {
+    if streams.is_some() {
         return Ok(());
     }
-    match none_of(follower.streams(), alloc) {
-        Ok(none) => {
-            *streams = Some(none);
+    match begun(follower, alloc) {
+        Ok(begun) => {
+            *streams = begun;
             Ok(())
         }
         Err(_) => Err(AdFault::OutOfMemory),
+    }
+}
+
+/// The switched streams, of which nothing was read; none in the head.
+fn begun<A: Allocator + Copy>(
+    follower: &ProgramFollower,
+    alloc: A,
+) -> Result<Option<Vec<Gathered<A>, A>>, AllocError>
+    ensures { (past : List (List ℕ)) → FollowerStandsFor follower.now first_program past
+        → IfOk result (λ s. StreamsGathered (option_map (λ v. v.items) s) (program_of None past) []) }
+{
+    if !follower.is_behind_head() {
+        return Ok(None);
+    }
+    match none_of(follower.streams(), alloc) {
+        Ok(none) => Ok(Some(none)),
+        Err(refused) => Err(refused),
     }
 }
 
