@@ -6,3 +6,5 @@ pub mod ProgramLemmas
 pub mod StreamsLemmas
 pub mod KeepLemmas
 pub mod TakeLemmas
+pub mod FilingLemmas
+pub mod FiledLemmas

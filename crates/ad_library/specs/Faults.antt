@@ -1,10 +1,13 @@
 -- What is wrong with a stream that is to be an advertisement: the first thing that it reaches.
-use Rattle.std.specs.Prelude.{◌≡◌, ℕ, List, [], ◌∷◌, length, reverse, Bool, false, ◌||◌, nat_le, if◌then◌else◌, Option, None, Some}
+use Rattle.std.specs.Prelude.{◌≡◌, ℕ, List, [], ◌∷◌, length, reverse, Bool, true, false, ◌||◌, ◌⊎◌, nat_le, if◌then◌else◌, Option, None, Some}
 use Rattle.ts_packet.specs.Packets.{packets_of}
 use Rattle.ts_packet.specs.Duplicates.{is_gap}
 use Rattle.ts_packet.specs.Runs.{Seen}
 use Rattle.ts_packet.specs.FirstFault as firsts
-use Rattle.ts_packet.specs.FirstFault.{or_then}
+use Rattle.ts_packet.specs.FirstFault.{or_then, Cause, OfInput, OfDevice, OfNothing, SaysBy}
+use Rattle.ts_packet.specs.Transfers.{WentWell, LastMovedNone, LastFailed}
+use Rattle.ts_packet.specs.declared.tally.Tally.{Tally}
+use Rattle.ts_packet.specs.declared.reader.ReadFault.{ReadFault}
 use Rattle.ts_packet.specs.declared.reader.ReadFault.TheVariants as read_faults
 use Rattle.psi_tables.specs.declared.network.NetworkFault.{NetworkFault}
 use Rattle.psi_tables.specs.declared.network.NetworkFault.TheVariants as network_faults
@@ -54,11 +57,6 @@ packet_fault p past = or_then (large_fault past) (or_then (as_ad_fault (network_
 abbrev pub ad_test : Seen → Option AdFault
 ad_test s = packet_fault s.packet s.past
 
--- the first of all packets, newest first
-abbrev pub first_ad_fault : List (List ℕ) → Option AdFault
-first_ad_fault [] = None
-first_ad_fault (p ∷ past) = or_then (first_ad_fault past) (packet_fault p past)
-
 -- of a whole stream: it has no program, or no unit with a time
 abbrev pub without_zero : Option Program → Option AdFault
 without_zero None = Some NoProgram
@@ -71,27 +69,89 @@ end_fault ps = elim (zero_of (kept_streams ps)) [ None ↦ without_zero (program
 abbrev pub advertisement_fault : List ℕ → Option AdFault
 advertisement_fault bs = or_then (firsts.first_fault Packets ad_test bs) (end_fault (packets_of bs))
 
--- WHAT A FAULT SAYS of the bytes: one of the stream is the first; those of the library, of a device and of memory say nothing of them, and
--- a failed device has a name of its own
+-- Where a fault comes from. Those of the library and of memory say nothing of the bytes, as those of a device; a failed device has a name
+-- of its own, and a broken reader is not read.
+abbrev pub ad_cause : AdFault → Cause
+ad_cause Exists = OfDevice
+ad_cause Many = OfDevice
+ad_cause Io = OfDevice
+ad_cause OutOfMemory = OfDevice
+ad_cause (Packets read_faults.Truncated) = OfInput
+ad_cause (Packets read_faults.SyncLost) = OfInput
+ad_cause (Packets read_faults.BadAdaptation) = OfInput
+ad_cause (Packets read_faults.Io) = OfNothing
+ad_cause (Packets read_faults.Turns) = OfDevice
+ad_cause (Packets read_faults.Failed) = OfNothing
+ad_cause Large = OfInput
+ad_cause NoProgram = OfInput
+ad_cause Sections = OfInput
+ad_cause TooManyStreams = OfInput
+ad_cause BadPids = OfInput
+ad_cause ProgramChanged = OfInput
+ad_cause Scrambled = OfInput
+ad_cause HeaderSplit = OfInput
+ad_cause TimeJump = OfInput
+ad_cause Loss = OfInput
+ad_cause NoTime = OfInput
+
+-- WHAT A FAULT SAYS of the bytes: one of the stream is the first
 abbrev pub Says : AdFault → List ℕ → Type 0
-Says Exists bs = Unit {0}
-Says Many bs = Unit {0}
-Says Io bs = Unit {0}
-Says OutOfMemory bs = Unit {0}
-Says (Packets read_faults.Turns) bs = Unit {0}
-Says (Packets read_faults.Io) bs = ⊥
-Says (Packets read_faults.Failed) bs = ⊥
-Says (Packets read_faults.Truncated) bs = advertisement_fault bs ≡ Some (Packets read_faults.Truncated)
-Says (Packets read_faults.SyncLost) bs = advertisement_fault bs ≡ Some (Packets read_faults.SyncLost)
-Says (Packets read_faults.BadAdaptation) bs = advertisement_fault bs ≡ Some (Packets read_faults.BadAdaptation)
-Says Large bs = advertisement_fault bs ≡ Some Large
-Says NoProgram bs = advertisement_fault bs ≡ Some NoProgram
-Says Sections bs = advertisement_fault bs ≡ Some Sections
-Says TooManyStreams bs = advertisement_fault bs ≡ Some TooManyStreams
-Says BadPids bs = advertisement_fault bs ≡ Some BadPids
-Says ProgramChanged bs = advertisement_fault bs ≡ Some ProgramChanged
-Says Scrambled bs = advertisement_fault bs ≡ Some Scrambled
-Says HeaderSplit bs = advertisement_fault bs ≡ Some HeaderSplit
-Says TimeJump bs = advertisement_fault bs ≡ Some TimeJump
-Says Loss bs = advertisement_fault bs ≡ Some Loss
-Says NoTime bs = advertisement_fault bs ≡ Some NoTime
+Says fault bs = SaysBy (ad_cause fault) (advertisement_fault bs ≡ Some fault)
+
+-- a fault of a reader, by its name here
+abbrev pub of_read : ReadFault → AdFault
+of_read read_faults.Truncated = Packets read_faults.Truncated
+of_read read_faults.SyncLost = Packets read_faults.SyncLost
+of_read read_faults.BadAdaptation = Packets read_faults.BadAdaptation
+of_read read_faults.Io = Io
+of_read read_faults.Turns = Packets read_faults.Turns
+of_read read_faults.Failed = Packets read_faults.Failed
+
+-- it comes before anything is read
+abbrev pub is_of_library : AdFault → Bool
+is_of_library Exists = true
+is_of_library Many = true
+is_of_library Io = false
+is_of_library OutOfMemory = false
+is_of_library (Packets fault) = false
+is_of_library Large = false
+is_of_library NoProgram = false
+is_of_library Sections = false
+is_of_library TooManyStreams = false
+is_of_library BadPids = false
+is_of_library ProgramChanged = false
+is_of_library Scrambled = false
+is_of_library HeaderSplit = false
+is_of_library TimeJump = false
+is_of_library Loss = false
+is_of_library NoTime = false
+
+-- ---- what the stream's device did
+
+-- no call failed: all moved bytes, or all but the last one, which told the end
+abbrev pub NoneFailed : Tally → Tally → Type 0
+NoneFailed old new = WentWell old new ⊎ LastMovedNone old new
+
+-- what it counted where the stream is refused so
+abbrev pub StreamBlamed : AdFault → Tally → Tally → Type 0
+StreamBlamed Exists old new = new ≡ old
+StreamBlamed Many old new = new ≡ old
+StreamBlamed Io old new = LastFailed old new
+StreamBlamed (Packets read_faults.Truncated) old new = NoneFailed old new
+StreamBlamed (Packets read_faults.SyncLost) old new = NoneFailed old new
+StreamBlamed (Packets read_faults.BadAdaptation) old new = NoneFailed old new
+StreamBlamed (Packets read_faults.Io) old new = ⊥
+StreamBlamed (Packets read_faults.Turns) old new = WentWell old new
+StreamBlamed (Packets read_faults.Failed) old new = ⊥
+StreamBlamed OutOfMemory old new = NoneFailed old new
+StreamBlamed Large old new = NoneFailed old new
+StreamBlamed NoProgram old new = NoneFailed old new
+StreamBlamed Sections old new = NoneFailed old new
+StreamBlamed TooManyStreams old new = NoneFailed old new
+StreamBlamed BadPids old new = NoneFailed old new
+StreamBlamed ProgramChanged old new = NoneFailed old new
+StreamBlamed Scrambled old new = NoneFailed old new
+StreamBlamed HeaderSplit old new = NoneFailed old new
+StreamBlamed TimeJump old new = NoneFailed old new
+StreamBlamed Loss old new = NoneFailed old new
+StreamBlamed NoTime old new = NoneFailed old new

@@ -7,3 +7,5 @@ pub mod Zeros
 pub mod Library
 pub mod Faults
 pub mod Gathering
+pub mod Filing
+pub mod Reading

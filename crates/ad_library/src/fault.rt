@@ -3,7 +3,7 @@
 ghost use Rattle.std.specs.Prelude.{◌≡◌, Option, Some};
 ghost use Rattle.psi_tables.specs.declared.network.NetworkFault.{NetworkFault};
 ghost use Rattle.program_follower.specs.Following.{IsNetwork};
-ghost use Rattle.ad_library.specs.Faults.{of_network, as_ad_fault};
+ghost use Rattle.ad_library.specs.Faults.{of_network, of_read, as_ad_fault};
 
 use program_follower::FollowFault;
 use psi_tables::NetworkFault;
@@ -71,6 +71,20 @@ pub(crate) fn of_follower(fault: FollowFault) -> AdFault
     match fault {
         FollowFault::Network(fault) => of_network(fault),
         FollowFault::Failed => AdFault::ProgramChanged,
+    }
+}
+
+/// A fault of a reader, as one of an advertisement.
+pub(crate) fn of_read(fault: ReadFault) -> AdFault
+    ensures { result ≡ of_read fault }
+{
+    match fault {
+        ReadFault::Truncated => AdFault::Packets(ReadFault::Truncated),
+        ReadFault::SyncLost => AdFault::Packets(ReadFault::SyncLost),
+        ReadFault::BadAdaptation => AdFault::Packets(ReadFault::BadAdaptation),
+        ReadFault::Io => AdFault::Io,
+        ReadFault::Turns => AdFault::Packets(ReadFault::Turns),
+        ReadFault::Failed => AdFault::Packets(ReadFault::Failed),
     }
 }
 

@@ -28,7 +28,7 @@ const MAX_PACKETS: u32 = 356_962;
 /// Reads the first program of a stream, and keeps the units of its switched streams.
 #[derive(Drop)]
 pub struct Gathering<A: Allocator> {
-    alloc: A,
+    pub(crate) alloc: A,
     follower: ProgramFollower,
     /// The streams; none in the head.
     pub(crate) streams: Option<Vec<Gathered<A>, A>>,

@@ -4,10 +4,12 @@
 mod ad_stream;
 mod advert;
 mod fault;
+mod filing;
 mod gathered;
 mod gathering;
 mod library;
 mod line;
+mod reading;
 mod slice;
 mod store;
 mod unit;
