@@ -8,3 +8,4 @@ pub mod KeepLemmas
 pub mod TakeLemmas
 pub mod FilingLemmas
 pub mod FiledLemmas
+pub mod ReadLemmas
