@@ -1,9 +1,9 @@
 -- Streams that are filed one after another.
-use Rattle.std.specs.Prelude.{option_map, ℤ, reverse, Vec, vec_len}
-use Rattle.std.specs.List.{AllByRecursion, list_all}
-use Rattle.std.proofs.Common.{◌≡◌, ℕ, ◌+◌, List, [], ◌∷◌, ◌++◌, map, Bool, true, false, ◌&&◌, ◌==◌, refl, sym, ap, ◌∙◌, subst, Option, Some, None, append_assoc, length, arith}
+use Rattle.std.specs.Prelude.{option_map, ℤ, reverse, Vec}
+use Rattle.std.specs.List.{list_all}
+use Rattle.std.proofs.Common.{◌≡◌, ℕ, ◌+◌, List, [], ◌∷◌, ◌++◌, map, true, ◌==◌, refl, sym, ap, ◌∙◌, subst, Option, Some, None, append_assoc, length, arith}
 use Rattle.std.proofs.lemmas.List.{reverse-reverse, append-nil}
-use Rattle.unit_stream.specs.Units.{units, units_back}
+use Rattle.unit_stream.specs.Units.{units_back}
 use Rattle.unit_stream.proofs.UnitLemmas.{units_in_order}
 use Rattle.psi_tables.specs.declared.stream.Stream.{Stream}
 use Rattle.program_follower.specs.Faults.{pids_in}
@@ -12,17 +12,16 @@ use Rattle.program_follower.specs.Following.{streams_of_program}
 use Rattle.ad_library.specs.declared.fault.AdFault.{AdFault}
 use Rattle.ad_library.specs.declared.fault.AdFault.TheVariants as ad_faults
 use Rattle.ad_library.specs.declared.gathered.Gathered.{Gathered}
-use Rattle.ad_library.specs.declared.gathering.Gathering.{Gathering}
-use Rattle.ad_library.specs.Advertisements.{KeptUnit, kept, KeptStream, kept_stream, kept_streams, zero_of, least_of, lower_of, AdvertStream, Advertisement, stream_from, advertisement, advertisement_from}
-use Rattle.ad_library.specs.Storing.{StoredUnit, Stores, on_line, kept_unit}
+use Rattle.ad_library.specs.Advertisements.{kept, KeptStream, kept_stream, kept_streams, zero_of, least_of, lower_of, AdvertStream, Advertisement, stream_from, advertisement, advertisement_from}
+use Rattle.ad_library.specs.Storing.{StoredUnit, Stores, on_line}
 use Rattle.ad_library.specs.Faults.{end_fault, without_zero}
-use Rattle.ad_library.specs.Gathering.{GathersStream, AllGathered, StreamsGathered, Gathers}
+use Rattle.ad_library.specs.Gathering.{GathersStream, AllGathered, StreamsGathered}
 use Rattle.ad_library.specs.Filing.{kept_of, ArePast, least_of_places, StoresStream, AllStored, AreOf}
 use Rattle.std.proofs.lemmas.Bool.{eq-eqb}
 use Rattle.ad_library.specs.declared.ad_stream.AdStream.{AdStream}
 use Rattle.ad_library.specs.Zeros.{has_zero}
 use Rattle.ad_library.proofs.PlacingLemmas.{both, both_true}
-use Rattle.ad_library.proofs.FilingLemmas.{NotBefore, NoneBefore, none_before, are_past, kept_reverse, least_stored, lower_of_push, lower_none}
+use Rattle.ad_library.proofs.FilingLemmas.{NotBefore, NoneBefore, none_before, are_past, kept_reverse, least_stored, lower_of_push}
 
 -- ---- the streams that are left
 

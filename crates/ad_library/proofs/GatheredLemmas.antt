@@ -1,7 +1,7 @@
 -- One packet more of a stream that is gathered.
 use Rattle.std.specs.Option.{option_or}
 use Rattle.std.specs.Prelude.{ℤ, map, option_map, is_some}
-use Rattle.std.proofs.Common.{◌≡◌, ℕ, List, [], ◌∷◌, ◌++◌, Bool, true, false, not, ◌&&◌, ◌||◌, refl, sym, ap, ◌∙◌, subst, Option, Some, None, if◌then◌else◌}
+use Rattle.std.proofs.Common.{◌≡◌, ℕ, List, [], ◌∷◌, ◌++◌, Bool, true, false, not, ◌&&◌, ◌||◌, refl, sym, ap, ◌∙◌, subst, Option, Some, None}
 use Rattle.ts_packet.proofs.Cases.{by_test}
 use Rattle.ts_packet.specs.Fields.{number, on, payload, payload_on, unit_start, bytes, random_access}
 use Rattle.ts_packet.specs.Duplicates.{original, repeats, last_of, follows_on, is_gap}
@@ -12,8 +12,7 @@ use Rattle.unit_stream.specs.Units.{TimedUnit, units_back, longer}
 use Rattle.unit_stream.proofs.UnitLemmas.{HeadTime, head_time}
 use Rattle.program_follower.specs.declared.streams.StreamPacket.{StreamPacket}
 use Rattle.program_follower.specs.declared.streams.StreamPacket.TheVariants.{Start, More, Repeat, Lead, NoPayload}
-use Rattle.program_follower.specs.Streaming.{IsStreamPacket}
-use Rattle.program_follower.proofs.StreamLemmas.{off_payload, payload_of}
+use Rattle.program_follower.proofs.StreamLemmas.{payload_of}
 use Rattle.ad_library.specs.declared.gathered.Gathered.{Gathered}
 use Rattle.ad_library.specs.Advertisements.{KeptUnit, with_unit, kept}
 use Rattle.ad_library.specs.Storing.{StoredUnit, Stores, kept_unit, on_line, last_time, longer_stored}

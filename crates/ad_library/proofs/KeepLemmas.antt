@@ -1,10 +1,8 @@
 -- A packet of one of the streams that are gathered.
-use Rattle.std.specs.Prelude.{option_map, slice_get, ℤ, Vec, vec_len, ◌<◌}
+use Rattle.std.specs.Prelude.{option_map, slice_get, Vec, vec_len, ◌<◌}
 use Rattle.std.proofs.lemmas.Option.{slice_get-get_or}
 use Rattle.std.proofs.Common.{◌≡◌, ℕ, zero, suc, length, arith, get_or, List, [], ◌∷◌, Bool, true, false, refl, sym, ap, ◌∙◌, subst, Option, Some, None}
 use Rattle.std.proofs.Math.ListN.{set}
-use Rattle.ts_packet.specs.Fields.{on, payload_on, unit_start}
-use Rattle.ts_packet.specs.Duplicates.{repeats}
 use Rattle.pes_time.specs.Line.{place}
 use Rattle.unit_stream.specs.Times.{begins, begins_one, high, raised, stamp}
 use Rattle.unit_stream.proofs.ClockLemmas.{high_begun, high_same, begins_off, begins_not, begins_repeat}
@@ -12,7 +10,7 @@ use Rattle.psi_tables.specs.declared.stream.Stream.{Stream}
 use Rattle.program_follower.specs.declared.streams.StreamPacket.{StreamPacket}
 use Rattle.program_follower.specs.declared.streams.StreamPacket.TheVariants.{Start, More, Repeat, Lead, NoPayload}
 use Rattle.program_follower.specs.Faults.{pids_in}
-use Rattle.program_follower.specs.Streaming.{first_on, IsStreamPacket}
+use Rattle.program_follower.specs.Streaming.{IsStreamPacket}
 use Rattle.program_follower.proofs.StreamLemmas.{first_is_on}
 use Rattle.ad_library.specs.declared.gathered.Gathered.{Gathered}
 use Rattle.ad_library.specs.Storing.{on_line}

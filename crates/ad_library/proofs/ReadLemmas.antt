@@ -1,15 +1,13 @@
 -- Reading a stream packet by packet.
-use Rattle.std.specs.Prelude.{IfSome, All, reverse, ℤ}
+use Rattle.std.specs.Prelude.{IfSome, reverse, ℤ}
 use Rattle.std.specs.Io.KnownBytes.{IsAtEnd}
-use Rattle.std.specs.Option.{option_or}
-use Rattle.std.proofs.Common.{◌≡◌, ℕ, ◌+◌, List, [], ◌∷◌, ◌++◌, Bool, true, false, refl, sym, ap, ◌∙◌, subst, ◌⊎◌, inl, inr, Option, Some, None, Result, Err, if◌then◌else◌}
+use Rattle.std.proofs.Common.{◌≡◌, ℕ, List, [], ◌∷◌, ◌++◌, Bool, true, false, refl, sym, ap, ◌∙◌, subst, ◌⊎◌, inl, inr, Option, Some, None, if◌then◌else◌}
 use Rattle.std.proofs.lemmas.List.{reverse-append, reverse-reverse}
 use Rattle.ts_packet.specs.Packets.{packets_of}
 use Rattle.ts_packet.specs.Reading.{Given, HasRead, Refuses, ReadSo, SourceCounts, SourceBlamed}
-use Rattle.ts_packet.specs.Runs.{Seen, seen_after}
 use Rattle.ts_packet.specs.FirstFault as firsts
 use Rattle.ts_packet.specs.FirstFault.{or_then, Cause, OfInput, OfDevice, OfNothing, SaysBy, read_cause}
-use Rattle.ts_packet.specs.Transfers.{WentWell, LastMovedNone}
+use Rattle.ts_packet.specs.Transfers.{WentWell}
 use Rattle.ts_packet.specs.declared.tally.Tally.{Tally}
 use Rattle.ts_packet.specs.declared.reader.ReadFault.{ReadFault}
 use Rattle.ts_packet.specs.declared.reader.ReadFault.TheVariants as read_faults
@@ -19,16 +17,16 @@ use Rattle.ts_packet.proofs.CountLemmas.{well-refl}
 use Rattle.psi_tables.specs.declared.network.NetworkFault.{NetworkFault}
 use Rattle.psi_tables.specs.declared.network.NetworkFault.TheVariants as network_faults
 use Rattle.program_follower.specs.Faults.{network_fault}
-use Rattle.program_follower.specs.Program.{Program, program_of, behind_head, pids_of}
+use Rattle.program_follower.specs.Program.{Program, program_of}
 use Rattle.program_follower.proofs.RunLemmas.{ends_sound, reader_stops, packet_stops}
-use Rattle.unit_cut.specs.Runs.{ReadOn, HasGiven, Stalled, Exhausted, NetworkBlamed}
+use Rattle.unit_cut.specs.Runs.{ReadOn, HasGiven, NetworkBlamed}
 use Rattle.unit_cut.specs.declared.run.CutFault.TheVariants.{Read}
-use Rattle.unit_cut.proofs.BlameLemmas.{on-told, on-end, read_blamed}
+use Rattle.unit_cut.proofs.BlameLemmas.{on-told, read_blamed}
 use Rattle.ad_library.specs.declared.fault.AdFault.{AdFault}
 use Rattle.ad_library.specs.declared.fault.AdFault.TheVariants as ad_faults
 use Rattle.ad_library.specs.declared.gathering.Gathering.{Gathering}
 use Rattle.ad_library.specs.Advertisements.{kept_streams, zero_of, Advertisement, advertisement}
-use Rattle.ad_library.specs.Faults.{first_program, of_network, as_ad_fault, gap_on_one, large_fault, loss_fault, packet_fault, ad_test, end_fault, without_zero, advertisement_fault, ad_cause, Says, of_read, is_of_library, NoneFailed, StreamBlamed}
+use Rattle.ad_library.specs.Faults.{first_program, of_network, as_ad_fault, large_fault, loss_fault, packet_fault, ad_test, end_fault, without_zero, advertisement_fault, ad_cause, Says, of_read, is_of_library, NoneFailed, StreamBlamed}
 use Rattle.ad_library.specs.Gathering.{Gathers}
 use Rattle.ad_library.specs.Reading.{AreClean, GathersAll}
 

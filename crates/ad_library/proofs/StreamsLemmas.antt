@@ -1,18 +1,17 @@
 -- All streams that are gathered, one packet more.
-use Rattle.std.specs.List.{AllByRecursion}
-use Rattle.std.specs.Prelude.{option_map, slice_get, take, drop, ◌<◌}
-use Rattle.std.proofs.Common.{◌≡◌, ℕ, zero, suc, ◌+◌, List, [], ◌∷◌, ◌++◌, Bool, true, false, not, ◌&&◌, ◌||◌, ◌==◌, refl, sym, ap, ◌∙◌, subst, Option, Some, None, if◌then◌else◌, length, arith, get_or}
+use Rattle.std.specs.Prelude.{option_map, slice_get, take, ◌<◌}
+use Rattle.std.proofs.Common.{◌≡◌, ℕ, suc, ◌+◌, List, [], ◌∷◌, ◌++◌, Bool, true, false, not, ◌&&◌, ◌||◌, ◌==◌, refl, sym, ap, ◌∙◌, subst, Option, Some, None, length, arith, get_or}
 use Rattle.std.proofs.Math.ListN.{set}
 use Rattle.std.proofs.lemmas.Bool.{eq-eqb}
 use Rattle.std.proofs.lemmas.List.{take_more}
-use Rattle.ts_packet.specs.Fields.{on, payload_on, unit_start}
-use Rattle.ts_packet.specs.Duplicates.{original, repeats, is_gap, follows_on, last_of}
+use Rattle.ts_packet.specs.Fields.{on, unit_start}
+use Rattle.ts_packet.specs.Duplicates.{repeats, is_gap}
 use Rattle.ts_packet.proofs.Cases.{by_test}
-use Rattle.unit_stream.specs.Times.{begins, begins_one, high}
+use Rattle.unit_stream.specs.Times.{begins, begins_one}
 use Rattle.psi_tables.specs.declared.stream.Stream.{Stream}
 use Rattle.program_follower.specs.Faults.{pids_in, is_in}
 use Rattle.program_follower.specs.Streaming.{next_place, first_on}
-use Rattle.program_follower.proofs.StreamLemmas.{one_of, NeedsOn, first_of, none_of, off_payload, one_pid, begins_is, begins_needs, first_is_on}
+use Rattle.program_follower.proofs.StreamLemmas.{one_of, NeedsOn, first_of, off_payload, one_pid, begins_is, begins_needs}
 use Rattle.ad_library.specs.declared.gathered.Gathered.{Gathered}
 use Rattle.ad_library.specs.Faults.{gap_on_one}
 use Rattle.ad_library.specs.Gathering.{AllGathered, AreApart, GathersStream}

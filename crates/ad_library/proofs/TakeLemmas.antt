@@ -1,34 +1,31 @@
 -- A gathering, one packet more.
 use Rattle.std.specs.Option.{option_or}
 use Rattle.std.specs.Prelude.{option_map, ℤ, pos, negsuc, ◌≤ℤ◌, ◌-ℤ◌, Vec, is_some, nat_le, IfSome, IsSome, ◌<◌}
-use Rattle.std.proofs.Common.{◌≡◌, ℕ, ◌+◌, ◌≤◌, List, [], ◌∷◌, Bool, true, false, ◌||◌, refl, sym, ap, ◌∙◌, subst, ◌⊎◌, inl, inr, Option, Some, None, if◌then◌else◌, length, arith}
+use Rattle.std.proofs.Common.{◌≡◌, ℕ, ◌+◌, List, [], ◌∷◌, Bool, true, false, refl, sym, ap, ◌∙◌, subst, ◌⊎◌, inl, inr, Option, Some, None, if◌then◌else◌, length, arith}
 use Rattle.std.proofs.lemmas.Int.{ints}
 use Rattle.std.proofs.lemmas.Bool.{leb-true}
-use lib.Signed.{lt_z}
-use Rattle.ts_packet.specs.Fields.{on, bytes, in_error}
+use Rattle.ts_packet.specs.Fields.{on, bytes}
 use Rattle.ts_packet.specs.Duplicates.{is_gap}
 use Rattle.ts_packet.specs.FirstFault.{or_then}
 use Rattle.ts_packet.proofs.Cases.{by_test}
 use Rattle.pes_time.specs.Line.{place}
-use Rattle.pes_time.specs.Stamps.{is_split}
-use Rattle.unit_stream.specs.Clocks.{Tells, IsNear, way_from}
-use Rattle.unit_stream.specs.Times.{begins, begins_one, high, stamp, splits}
+use Rattle.unit_stream.specs.Clocks.{Tells, IsNear}
+use Rattle.unit_stream.specs.Times.{begins_one, high, stamp, splits}
 use Rattle.unit_stream.specs.Faults.{scrambled_one, start_fault, jumps, is_far, unit_fault}
 use Rattle.unit_stream.specs.declared.fault.UnitFault.{UnitFault}
 use Rattle.unit_stream.specs.declared.fault.UnitFault.TheVariants as unit_faults
 use Rattle.unit_stream.specs.declared.clock.Begun.{Begun}
 use Rattle.unit_stream.proofs.ClockLemmas.{splits_is, high_same}
-use Rattle.psi_tables.specs.declared.network.NetworkFault.{NetworkFault}
 use Rattle.psi_tables.specs.declared.stream.Stream.{Stream}
 use Rattle.program_follower.specs.declared.purpose.Listed.{Listed}
 use Rattle.program_follower.specs.declared.streams.StreamPacket.{StreamPacket}
 use Rattle.program_follower.specs.declared.streams.StreamPacket.TheVariants.{Start, More, Repeat, Lead, NoPayload}
 use Rattle.program_follower.specs.declared.follower.Place.{Place}
 use Rattle.program_follower.specs.declared.follower.Place.TheVariants as places
-use Rattle.program_follower.specs.Program.{listed, Program, program_in, program_of, known_map, behind_head, pids_of}
-use Rattle.program_follower.specs.Faults.{pids_in, as_network, cue_fault, pats_fault_at, maps_fault_at, unit_fault_at, network_fault, first_fault, on_cue}
-use Rattle.program_follower.specs.Streaming.{first_on, IsStreamPacket, IsOfStream}
-use Rattle.program_follower.specs.Following.{FollowerStandsFor, IsPlace, IsSwitched, GoesTo, grown, streams_of_program, on_map}
+use Rattle.program_follower.specs.Program.{listed, Program, program_of, known_map, behind_head, pids_of}
+use Rattle.program_follower.specs.Faults.{pids_in, as_network, cue_fault, pats_fault_at, maps_fault_at, unit_fault_at, network_fault, first_fault}
+use Rattle.program_follower.specs.Streaming.{first_on, IsStreamPacket}
+use Rattle.program_follower.specs.Following.{FollowerStandsFor, IsPlace, grown, streams_of_program, on_map}
 use Rattle.program_follower.proofs.OptionLemmas.{none_both}
 use Rattle.program_follower.proofs.FollowLemmas.{program_stays, grown_is, known_program, no_high}
 use Rattle.ad_library.specs.declared.fault.AdFault.{AdFault}
@@ -37,9 +34,9 @@ use Rattle.ad_library.specs.declared.gathered.Gathered.{Gathered}
 use Rattle.ad_library.specs.declared.gathering.Gathering.{Gathering}
 use Rattle.ad_library.specs.Storing.{on_line}
 use Rattle.ad_library.specs.Faults.{first_program, as_ad_fault, gap_on_one, large_fault, loss_fault, packet_fault}
-use Rattle.ad_library.specs.Gathering.{AllGathered, StreamsGathered, StreamsStand, IsOfOne, IsWholeStart, IsNearStart, AreApart, stream_in, Gathers, IsHeld}
-use Rattle.ad_library.proofs.ProgramLemmas.{NoPayload as NonePayload, ListedApart, streams_apart, none_marked, none_first, none_map}
-use Rattle.ad_library.proofs.StreamsLemmas.{all_off, begins_none, gaps_none, gap_first, begins_first}
+use Rattle.ad_library.specs.Gathering.{AllGathered, StreamsGathered, StreamsStand, IsOfOne, IsWholeStart, IsNearStart, stream_in, Gathers, IsHeld}
+use Rattle.ad_library.proofs.ProgramLemmas.{NoPayload as NonePayload, streams_apart, none_marked, none_first, none_map}
+use Rattle.ad_library.proofs.StreamsLemmas.{all_off, begins_none, gap_first, begins_first}
 
 -- ---- the head
 

@@ -1,6 +1,6 @@
 -- What a gathering stands for after the packets that it has taken, newest first.
 use Rattle.std.specs.Option.{option_or}
-use Rattle.std.specs.Prelude.{◌≡◌, ◌==◌, ◌%◌, ℕ, ◌+◌, ◌*◌, ◌^◌, ◌≤◌, ◌<◌, ℤ, List, [], ◌∷◌, map, length, Bool, true, false, not, ◌&&◌, Option, None, Some, option_map, IfSome, Vec}
+use Rattle.std.specs.Prelude.{◌≡◌, ◌==◌, ◌%◌, ℕ, ◌+◌, ◌*◌, ◌^◌, ◌≤◌, ◌<◌, ℤ, List, [], ◌∷◌, map, length, Bool, true, false, Option, None, Some, option_map, IfSome, Vec}
 use Rattle.pes_time.specs.Line.{place}
 use Rattle.pes_time.specs.Stamps.{is_split}
 use Rattle.ts_packet.specs.Fields.{number, on}
@@ -20,7 +20,7 @@ use Rattle.program_follower.specs.Streaming.{IsStreamPacket, first_on}
 use Rattle.program_follower.specs.Following.{FollowerStandsFor}
 use Rattle.ad_library.specs.declared.gathered.Gathered.{Gathered}
 use Rattle.ad_library.specs.declared.gathering.Gathering.{Gathering}
-use Rattle.ad_library.specs.Advertisements.{KeptUnit, with_unit, kept}
+use Rattle.ad_library.specs.Advertisements.{kept}
 use Rattle.ad_library.specs.Storing.{StoredUnit, Stores, kept_unit, on_line, last_time, longer_stored}
 use Rattle.ad_library.specs.Faults.{first_program}
 

@@ -1,7 +1,6 @@
-use Rattle.std.proofs.Common.{◌∙◌, sym, inr, subst, List}
+use Rattle.std.proofs.Common.{sym, inr}
 use Rattle.std.specs.Prelude.{reverse}
 use Rattle.ad_library.specs.Advertisements.{kept_streams}
-use Rattle.ad_library.specs.Filing.{AllStored}
 use Rattle.ad_library.proofs.FiledLemmas.{gathered_stored, stored_as, no_time, is_filed, ends_with}
 use Rattle.ad_library.proofs.filing.advert_of.Goals as goal
 

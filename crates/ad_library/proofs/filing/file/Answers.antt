@@ -1,5 +1,5 @@
-use Rattle.std.proofs.Common.{◌∙◌, sym, ap, subst, true, ◌≡◌}
-use Rattle.ad_library.specs.Advertisements.{AdvertStream, AdvertUnit}
+use Rattle.std.proofs.Common.{◌∙◌, ap}
+use Rattle.ad_library.specs.Advertisements.{AdvertStream}
 use Rattle.ad_library.specs.Placing.{are_placed, tops_are, units_at}
 use Rattle.ad_library.specs.Storing.{places_of}
 use Rattle.ad_library.proofs.FilingLemmas.{stored_placed, tops_stored}

@@ -1,7 +1,7 @@
-use Rattle.std.proofs.Common.{◌≡◌, ◌++◌, List, Some, map, true, length}
+use Rattle.std.proofs.Common.{◌≡◌, List, Some, map, true, length}
 use Rattle.std.specs.List.{list_all}
 use Rattle.std.specs.Vec.Iter.{into_iter_items, into_iter_len}
-use Rattle.ad_library.specs.Advertisements.{KeptStream, zero_of, stream_from}
+use Rattle.ad_library.specs.Advertisements.{KeptStream, zero_of}
 use Rattle.ad_library.specs.Storing.{on_line}
 use Rattle.ad_library.specs.Filing.{AllStored}
 use Rattle.ad_library.specs.Library.{stream_seen}

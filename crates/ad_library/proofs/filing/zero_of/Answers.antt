@@ -1,4 +1,4 @@
-use Rattle.std.proofs.Common.{◌∙◌, sym, ap}
+use Rattle.std.proofs.Common.{◌∙◌, ap}
 use Rattle.std.specs.Prelude.{option_map}
 use Rattle.ad_library.specs.Advertisements.{lower_of}
 use Rattle.ad_library.specs.Storing.{on_line}

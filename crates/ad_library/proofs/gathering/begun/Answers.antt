@@ -1,4 +1,4 @@
-use Rattle.std.proofs.Common.{◌∙◌, sym, refl}
+use Rattle.std.proofs.Common.{◌∙◌, sym}
 use Rattle.ad_library.proofs.TakeLemmas.{none_known, some_known}
 use Rattle.ad_library.proofs.gathering.begun.Goals as goal
 

@@ -1,4 +1,4 @@
-use Rattle.std.proofs.Common.{◌∙◌, refl, sym}
+use Rattle.std.proofs.Common.{refl}
 use Rattle.ad_library.proofs.KeepLemmas.{Passed, of_some, is_gathered, there, not_there, got, one_more}
 use Rattle.ad_library.proofs.gathering.keep.Goals as goal
 

@@ -1,4 +1,4 @@
-use Rattle.std.proofs.Common.{[], refl, ◌≡◌}
+use Rattle.std.proofs.Common.{[], ◌≡◌}
 use Rattle.ts_packet.specs.declared.reader.ReadFault.TheVariants as read_faults
 use Rattle.ad_library.specs.declared.fault.AdFault.TheVariants as ad_faults
 use Rattle.std.specs.Prelude.{reverse}

@@ -1,4 +1,4 @@
-use Rattle.std.proofs.Common.{◌∙◌, sym, ap, ◌≡◌, Err}
+use Rattle.std.proofs.Common.{ap, ◌≡◌, Err}
 use Rattle.std.specs.Prelude.{reverse}
 use Rattle.ts_packet.specs.declared.reader.ReadFault.TheVariants as read_faults
 use Rattle.ad_library.specs.declared.fault.AdFault.TheVariants as ad_faults

@@ -1,8 +1,7 @@
-use Rattle.std.proofs.Common.{◌∙◌, sym, ap, not, inr, refl}
-use Rattle.ts_packet.specs.Fields.{number, bytes, random_access}
+use Rattle.std.proofs.Common.{sym, inr, refl}
+use Rattle.ts_packet.specs.Fields.{bytes}
 use Rattle.unit_stream.proofs.ReadingLemmas.{bytes_are}
-use Rattle.ad_library.specs.Gathering.{IsWholeStart}
-use Rattle.ad_library.proofs.GatheredLemmas.{off, no_gap, no_payload, has_payload, gap_is, told, gathers_more, starts_whole}
+use Rattle.ad_library.proofs.GatheredLemmas.{off, no_gap, no_payload, has_payload, told, gathers_more, starts_whole}
 use Rattle.ad_library.proofs.gathered.Gathered.take.Goals as goal
 
 pub returns-in_default-clause-ok : goal.returns-in_default-clause-ok

@@ -1,5 +1,4 @@
-use Rattle.std.proofs.Common.{◌∙◌, sym, ap, inr}
-use Rattle.ad_library.proofs.FiledLemmas.{of_filed, no_program}
+use Rattle.ad_library.proofs.FiledLemmas.{of_filed}
 use Rattle.ad_library.proofs.gathering.Gathering.finish.Goals as goal
 
 pub advert_of-requires : goal.advert_of-requires

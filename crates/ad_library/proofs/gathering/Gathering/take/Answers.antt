@@ -1,11 +1,8 @@
-use Rattle.std.proofs.Common.{◌∙◌, ◌<◌, sym, refl, ap, inl, inr, arith, ◌⊎◌, ◌≡◌, Some, None, true, ◌∷◌}
+use Rattle.std.proofs.Common.{◌∙◌, ◌<◌, refl, inr, arith, None, ◌∷◌}
 use Rattle.program_follower.specs.Program.{program_of, behind_head, pids_of}
 use Rattle.ts_packet.specs.Duplicates.{is_gap}
-use Rattle.ad_library.specs.declared.fault.AdFault.{AdFault}
-use Rattle.ad_library.specs.declared.fault.AdFault.TheVariants as ad_faults
-use Rattle.ad_library.specs.Faults.{first_program, packet_fault}
-use Rattle.ad_library.specs.Gathering.{Gathers}
-use Rattle.ad_library.proofs.TakeLemmas.{Feeds, few, one_is, one_whole, one_kept, gap_of, is_clean, is_lost, is_refused, lost_or, of_none, none_kept, held_more}
+use Rattle.ad_library.specs.Faults.{first_program}
+use Rattle.ad_library.proofs.TakeLemmas.{few, one_is, one_whole, one_kept, gap_of, is_clean, is_refused, lost_or, of_none, none_kept, held_more}
 use Rattle.ad_library.proofs.StreamsLemmas.{gaps_none}
 use Rattle.ad_library.proofs.gathering.Gathering.take.Goals as goal
 
