@@ -5,3 +5,7 @@ pub mod Lending
 pub mod Slices
 pub mod Zeros
 pub mod Library
+pub mod Faults
+pub mod Gathering
+pub mod Filing
+pub mod Reading

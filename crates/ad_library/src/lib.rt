@@ -3,12 +3,19 @@
 
 mod ad_stream;
 mod advert;
+mod fault;
+mod filing;
+mod gathered;
+mod gathering;
 mod library;
+mod line;
+mod reading;
 mod slice;
 mod store;
 mod unit;
 
 pub use advert::count_of_kind;
+pub use fault::AdFault;
 pub use library::AdLibrary;
 pub use slice::Slice;
 pub use unit::AdUnit;

@@ -1,17 +1,28 @@
 //! The library.
 
-ghost use Rattle.std.specs.Prelude.{◌≡◌, ℕ, Some, None, IfSome, option_map};
+ghost use Rattle.std.specs.Prelude.{◌≡◌, ◌≤◌, ◌↔◌, ◌⊎◌, ◌+◌, ℕ, List, Option, None, Some, Err, false, OnOk, OnErr, IfOk, IfErr, IfSome, IsSome, option_map};
 ghost use Rattle.indexmap.specs.IndexMap.{index_map_len};
+ghost use Rattle.ts_packet.specs.Packets.{packets_of};
+ghost use Rattle.ts_packet.specs.Reading.{SourceCounts};
+ghost use Rattle.unit_cut.specs.Runs.{Stalled, Exhausted};
+ghost use Rattle.ad_library.specs.Advertisements.{advertisement};
 ghost use Rattle.ad_library.specs.Storing.{on_line};
 ghost use Rattle.ad_library.specs.Slices.{left};
-ghost use Rattle.ad_library.specs.Library.{held, fits_held, slice_held, zero_held};
+ghost use Rattle.ad_library.specs.Faults.{advertisement_fault, Says, StreamBlamed};
+ghost use Rattle.ad_library.specs.Library.{advert_seen, held, filed, fits_held, slice_held, zero_held};
 
 use crate::advert::Advert;
+use crate::fault::AdFault;
+use crate::reading::read_advert;
 use crate::slice::Slice;
 use indexmap::IndexMap;
 use psi_tables::Stream;
 use std::alloc::{Allocator, Global};
 use std::hash::{BuildHasherDefault, FoldHasher};
+use ts_packet::{PacketSource, ReadFault};
+
+/// How many advertisements a library holds.
+const MAX_ADVERTS: usize = 64;
 
 /// At most 64 advertisements of at most 67,108,864 bytes each, by number.
 #[derive(Drop)]
@@ -39,6 +50,46 @@ impl<A: Allocator + Copy> AdLibrary<A> {
         AdLibrary {
             alloc,
             adverts: IndexMap::new(alloc),
+        }
+    }
+
+    /// Reads a stream to its end, and files its first program under this number.
+    ///
+    /// # Errors
+    ///
+    /// Those of [`AdFault`], in their order. Then the library is as it was.
+    pub fn add<P: PacketSource>(&mut self, id: u16, source: &mut P) -> Result<(), AdFault>
+        requires { P.is_broken source.old ≡ false }
+        ensures files { OnOk result ((ps : List (List ℕ)) × IfSome (P.left source.old) (λ bs. ps ≡ packets_of bs) × IsSome (advertisement ps)
+            × ((other : ℕ) → held self.new other ≡ filed (held self.old) id (advertisement ps) other)) }
+        ensures sound { OnOk result (IfSome (P.left source.old) (λ bs. advertisement_fault bs ≡ None)) }
+        ensures size { OnOk result (index_map_len self.new.adverts ≡ index_map_len self.old.adverts + 1) }
+        ensures says { IfErr result (λ f. IfSome (P.left source.old) (Says f)) }
+        ensures exists { result ≡ Err AdFault.Exists ↔ IsSome (held self.old id) }
+        ensures many { result ≡ Err AdFault.Many ↔ ((held self.old id ≡ None) × (64 ≤ index_map_len self.old.adverts)) }
+        ensures unread { IsSome (held self.old id) ⊎ (64 ≤ index_map_len self.old.adverts) → source.new ≡ source.old }
+        ensures unchanged { OnErr result ((other : ℕ) → held self.new other ≡ held self.old other) }
+        ensures stays { OnErr result (index_map_len self.new.adverts ≡ index_map_len self.old.adverts) }
+        ensures read { OnOk result (SourceCounts false (P.has_ended source.old) (P.has_ended source.new)
+            (P.counts source.old) (P.counts source.new)) }
+        ensures reading { IfErr result (λ f. StreamBlamed f (P.counts source.old) (P.counts source.new)) }
+        ensures turns { result ≡ Err (AdFault.Packets ReadFault.Turns)
+            → Stalled P.leads P.counts P.falls_short source.old source.new ⊎ Exhausted P.left P.given source.old }
+        ensures reads { P.leads source.old source.new }
+    {
+        if self.adverts.contains_key(&id) {
+            return Err(AdFault::Exists);
+        }
+        if self.adverts.len() >= MAX_ADVERTS {
+            return Err(AdFault::Many);
+        }
+        let advert = match read_advert(self.alloc, source) {
+            Ok(advert) => advert,
+            Err(fault) => return Err(fault),
+        };
+        match self.adverts.insert(id, advert) {
+            Ok(_) => Ok(()),
+            Err(_) => Err(AdFault::OutOfMemory),
         }
     }
 }
