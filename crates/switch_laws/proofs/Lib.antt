@@ -1,0 +1,5 @@
+pub mod OrderLemmas
+pub mod BringLemmas
+pub mod IntervalLemmas
+pub mod KnownLemmas
+pub mod OutLemmas
