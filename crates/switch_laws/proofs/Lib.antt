@@ -3,3 +3,4 @@ pub mod BringLemmas
 pub mod IntervalLemmas
 pub mod KnownLemmas
 pub mod OutLemmas
+pub mod PieceLemmas
