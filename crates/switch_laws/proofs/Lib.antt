@@ -4,3 +4,4 @@ pub mod IntervalLemmas
 pub mod KnownLemmas
 pub mod OutLemmas
 pub mod PieceLemmas
+pub mod MoveLemmas
