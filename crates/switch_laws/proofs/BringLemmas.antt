@@ -1,14 +1,13 @@
 -- The moves of a run bring its packets.
-use Rattle.std.proofs.Common.{◌≡◌, ℕ, List, [], ◌∷◌, ◌++◌, Bool, true, false, refl, sym, ap, ◌∙◌, if◌then◌else◌}
+use Rattle.std.proofs.Common.{◌≡◌, ℕ, List, [], ◌∷◌, ◌++◌, Bool, true, false, refl, ap, ◌∙◌, if◌then◌else◌}
 use Rattle.std.specs.Prelude.{flat_map, map}
-use Rattle.std.proofs.lemmas.List.{append-nil}
 use Rattle.event_table.specs.Standing.{Standing}
 use Rattle.unit_stream.specs.Times.{begins_one}
 use Rattle.unit_stream.specs.Fates.{is_left_out}
 use Rattle.splice_laws.specs.Splicing.{SliceUnit, stream}
 use Rattle.output_laws.specs.Output.{Move, Keep, Leave, Put, network}
 use Rattle.splice_switch.specs.Playing.{Adverts, History, played, as_played, end_known, is_inside, closing_at, running_at, left_at_end}
-use Rattle.splice_switch.specs.Switching.{puts_by, puts_before, puts_at_end, fate}
+use Rattle.splice_switch.specs.Switching.{puts_by, puts_before, fate}
 use Rattle.switch_laws.specs.Moving.{moves_from}
 use Rattle.switch_laws.specs.Laws.{MovesBringTheNetwork}
 

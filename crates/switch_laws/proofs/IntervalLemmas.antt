@@ -1,13 +1,13 @@
 -- The played ones of events that never meet: as intervals they stand in order, and the start says which is meant.
-use Rattle.std.proofs.Common.{◌≡◌, ℕ, ◌<◌, List, [], ◌∷◌, Bool, true, false, not, ◌&&◌, ◌||◌, ◌⊎◌, inl, inr, refl, sym, ap, ◌∙◌, Option, None, Some, arith}
-use Rattle.std.specs.Prelude.{ℤ, pos, ◌+ℤ◌, ◌≤ℤ◌, int_lt, filter, find, map}
+use Rattle.std.proofs.Common.{◌≡◌, ℕ, ◌<◌, List, [], ◌∷◌, Bool, true, false, not, ◌&&◌, ◌||◌, inl, inr, refl, ap, ◌∙◌, Option, Some, arith}
+use Rattle.std.specs.Prelude.{ℤ, pos, ◌+ℤ◌, ◌≤ℤ◌, int_lt, filter, map}
 use Rattle.std.specs.List.{AllByRecursion, list_any}
 use Rattle.std.specs.Ordering.{int_eq}
 use Rattle.std.proofs.lemmas.Int.{ints}
 use Rattle.ts_packet.proofs.Cases.{by_test}
 use Rattle.event_table.specs.Standing.{Standing, end_of}
 use Rattle.armed_laws.specs.Laws.{AreApart, IsApartOf, NoneMeet}
-use Rattle.splice_laws.specs.Splicing.{PlayedEvent, holds, outside}
+use Rattle.splice_laws.specs.Splicing.{holds, outside}
 use Rattle.splice_laws.specs.Laws.{IsBefore, AreOrdered}
 use Rattle.splice_switch.specs.Playing.{Adverts, is_played, put_by_start, by_start, as_played}
 use Rattle.switch_laws.specs.Moving.{intervals, meant_by}

@@ -5,3 +5,4 @@ pub mod KnownLemmas
 pub mod OutLemmas
 pub mod PieceLemmas
 pub mod MoveLemmas
+pub mod RunLemmas

@@ -1,8 +1,7 @@
 -- The moves of a run, by what was known at each packet, are those of the splice of the events of the end.
-use Rattle.std.proofs.Common.{◌≡◌, ℕ, List, [], ◌∷◌, ◌++◌, Bool, true, false, not, ◌&&◌, ◌||◌, refl, sym, ap, ◌∙◌, Option, append_assoc, if◌then◌else◌, subst, map, length}
-use Rattle.std.specs.Prelude.{ℤ, Contains, All, flat_map, int_lt}
+use Rattle.std.proofs.Common.{◌≡◌, ℕ, List, [], ◌∷◌, ◌++◌, Bool, true, false, not, ◌&&◌, ◌||◌, refl, sym, ap, ◌∙◌, append_assoc, if◌then◌else◌, subst, map, length}
+use Rattle.std.specs.Prelude.{Contains, All, flat_map, int_lt}
 use Rattle.std.specs.List.{AllByRecursion}
-use Rattle.std.proofs.lemmas.List.{append-nil}
 use Rattle.std.proofs.lemmas.List.Elements.{All-head, All-tail, All-cons, All-nil, All-contains_itself}
 use Rattle.ts_packet.specs.Fields.{payload_on}
 use Rattle.ts_packet.specs.Runs.{Seen, seen_after, onto}
@@ -16,9 +15,9 @@ use Rattle.splice_laws.specs.Laws.{Counts, AreOrdered}
 use Rattle.splice_laws.specs.Streams.{all_closing, all_running, is_dropped}
 use Rattle.splice_laws.proofs.PidLemmas.{pids_are_streams}
 use Rattle.splice_laws.proofs.SettledLemmas.{switched_pids_are_within}
-use Rattle.output_laws.specs.Output.{Move, Keep, Leave, Put}
+use Rattle.output_laws.specs.Output.{Keep, Leave}
 use Rattle.output_laws.specs.Spliced.{puts_on, puts_each, puts_at, moves_after}
-use Rattle.splice_switch.specs.Playing.{Adverts, History, is_played, played, put_by_start, by_start, as_played, end_known, is_inside, sent_known, left_at_end}
+use Rattle.splice_switch.specs.Playing.{Adverts, History, is_played, played, put_by_start, as_played, end_known, is_inside, sent_known, left_at_end}
 use Rattle.splice_switch.specs.Switching.{puts_by, puts_before, fate}
 use Rattle.splice_switch.specs.Histories.{IsHistory, AreSteady, IsSettledAt}
 use Rattle.splice_switch.proofs.KnownLemmas.{ends_never_rise, played_settle}
@@ -186,7 +185,7 @@ module _ (switched : List ℕ) (ads : Adverts) (steady : AreSteady ads) (events 
         let before : whole ≡ (g.0 ++ p ∷ []) ++ past = there ∙ sym (append_assoc g.0 (p ∷ []) past) in
         let us = units_for ads pid (meant_by ads (events whole) (as_played x)) in
         let n = counts (begins_one switched) (stream switched pid) (pids_are_streams switched pid) (as_played x) (end_known ads events x.start) us
-            (ends_never_rise switched pid c ads steady events h (as_played x)) g.0 past p (t (g.0 ++ p ∷ []) past before is) (t g.0 (p ∷ past) there is) in
+        (ends_never_rise switched pid c ads steady events h (as_played x)) g.0 past p (t (g.0 ++ p ∷ []) past before is) (t g.0 (p ∷ past) there is) in
         All-cons (CountsHere (as_played x)) (record { packet = p; past = past }) (seen_after (p ∷ past) ps)
         (counted-in x us p past (g.0 ++ (p ∷ past)) (sym there) n)
         (count-one x t is (p ∷ past) ps e)

@@ -1,10 +1,9 @@
 -- What is out of an event, packet by packet: it never shrinks, and once the event is closed all is out.
-use Rattle.std.proofs.Common.{◌≡◌, ℕ, ◌≤◌, List, [], ◌∷◌, ◌++◌, Bool, true, false, not, ◌&&◌, ◌||◌, refl, sym, ap, ◌∙◌, Option, None, Some, append_assoc, if◌then◌else◌, length, drop, take, subst}
+use Rattle.std.proofs.Common.{◌≡◌, ℕ, List, [], ◌∷◌, ◌++◌, Bool, true, false, not, ◌&&◌, ◌||◌, refl, sym, ap, ◌∙◌, Option, append_assoc, if◌then◌else◌, length, drop, take, subst}
 use Rattle.std.proofs.lemmas.List.{append-nil}
 use Rattle.std.proofs.lemmas.Bool.{true≢false}
 use Rattle.ts_packet.proofs.Cases.{by_test}
-use Rattle.ts_packet.specs.Runs.{Seen}
-use Rattle.splice_laws.specs.Splicing.{PlayedEvent, SliceUnit, Stream, begun, closed, inserted, rest}
+use Rattle.splice_laws.specs.Splicing.{PlayedEvent, SliceUnit, Stream, begun, closed, rest}
 use Rattle.splice_laws.specs.Laws.{IsStream, Counts, CountsAt}
 use Rattle.splice_laws.specs.Settled.{begun_now, closed_now}
 use Rattle.splice_laws.proofs.EndLemmas.{IsFront, front-trans, front-take, front-length, drop-front}
