@@ -6,3 +6,5 @@ pub mod OutLemmas
 pub mod PieceLemmas
 pub mod MoveLemmas
 pub mod RunLemmas
+pub mod WholeLemmas
+pub mod NoneLemmas

@@ -107,7 +107,7 @@ module _ (switched : List ℕ) (ads : Adverts) (steady : AreSteady ads) (events 
     all-pids : AllByRecursion (Contains switched) switched
     all-pids = all-each (Contains switched) switched (All-contains_itself switched)
 
-    same-puts : puts_before switched ads events p past ≡ puts_at switched xs slice out p past
+    pub same-puts : puts_before switched ads events p past ≡ puts_at switched xs slice out p past
     same-puts =
         let es = played ads (events (p ∷ past)) in
         ap (λ ms. ms ++ puts_by switched es (running_rule switched ads events p past))
@@ -128,7 +128,7 @@ module _ (switched : List ℕ) (ads : Adverts) (steady : AreSteady ads) (events 
         ap (λ b. (payload_on pid p && b) || is_left_out (λ pid time. is_inside ads (events (p ∷ past)) time) switched p past pids) (same-time pid c.0)
         ∙ ap (λ b. (payload_on pid p && not (outside xs (unit_time switched pid (p ∷ past)))) || b) (same-fates pids c.1)
 
-    same-fate : fate switched ads events p past ≡ (if is_dropped switched xs p past switched then Leave p else Keep p)
+    pub same-fate : fate switched ads events p past ≡ (if is_dropped switched xs p past switched then Leave p else Keep p)
     same-fate = ap (λ b. if b then Leave p else Keep p) (same-fates switched all-pids)
 
   end-pids : (pids : List ℕ) → AllByRecursion (Contains switched) pids →

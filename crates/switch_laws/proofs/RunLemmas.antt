@@ -120,11 +120,11 @@ others_pass switched ads events k packed ps l s =
 
 -- ---- where nothing is played
 
-none-dropped : (switched : List ℕ) (p : List ℕ) (past : List (List ℕ)) (pids : List ℕ) → is_dropped switched [] p past pids ≡ false
+pub none-dropped : (switched : List ℕ) (p : List ℕ) (past : List (List ℕ)) (pids : List ℕ) → is_dropped switched [] p past pids ≡ false
 none-dropped switched p past [] = refl
 none-dropped switched p past (pid ∷ pids) = by_test (payload_on pid p) (λ y. simp y (none-dropped switched p past pids)) (λ y. simp y (none-dropped switched p past pids))
 
-none-each : (pids : List ℕ) → puts_each pids (λ pid. []) ≡ []
+pub none-each : (pids : List ℕ) → puts_each pids (λ pid. []) ≡ []
 none-each [] = refl
 none-each (pid ∷ pids) = none-each pids
 
