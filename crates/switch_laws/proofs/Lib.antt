@@ -8,3 +8,5 @@ pub mod MoveLemmas
 pub mod RunLemmas
 pub mod WholeLemmas
 pub mod NoneLemmas
+pub mod SoundLemmas
+pub mod SplitLemmas

@@ -1,43 +1,43 @@
 -- Where no event is played, and where no program is listed, nothing is put in and nothing but the cues left out.
 use Rattle.std.specs.Option.{option_or}
 use Rattle.std.proofs.Common.{◌≡◌, ℕ, List, [], ◌∷◌, ◌++◌, Bool, true, false, not, ◌||◌, refl, sym, ap, ◌∙◌, Option, None, Some, append_assoc, if◌then◌else◌, subst, map, length, reverse}
-use Rattle.std.specs.Prelude.{All, filter, flat_map}
-use Rattle.std.specs.List.{AllByRecursion}
-use Rattle.std.proofs.lemmas.Bool.{true≢false}
-use Rattle.std.proofs.lemmas.List.{append-nil}
+use Rattle.std.specs.Prelude.{filter, ◌==◌}
+use Rattle.std.proofs.lemmas.List.{append-nil, reverse-reverse}
 use Rattle.std.proofs.lemmas.List.Elements.{All-head, All-tail, All-cons, All-nil}
-use Rattle.ts_packet.specs.Fields.{on, in_error, pid_of, payload_on}
+use Rattle.ts_packet.specs.Fields.{on}
 use Rattle.ts_packet.specs.Runs.{onto}
 use Rattle.ts_packet.proofs.Cases.{by_test}
-use Rattle.ts_packet.proofs.RunLemmas.{reverse-cons, filter-reverse}
+use Rattle.ts_packet.proofs.RunLemmas.{filter-reverse}
 use Rattle.unit_stream.specs.Times.{high}
 use Rattle.psi_tables.specs.ProgramMap.{ProgramMap}
 use Rattle.psi_tables.specs.Cue.{without_cue_entry}
 use Rattle.event_table.specs.Standing.{Standing}
 use Rattle.program_follower.specs.declared.purpose.Listed.{Listed}
-use Rattle.program_follower.specs.Program.{listed, tables, known_map, behind_head}
+use Rattle.program_follower.specs.Program.{listed, tables, known_map, first_map, behind_head}
 use Rattle.program_laws.specs.Writing.{Along, Writing, written, block, body}
 use Rattle.program_laws.specs.Behind.{Passes}
 use Rattle.program_laws.specs.Cued.{stripping}
 use Rattle.program_laws.proofs.HeadLemmas.{others_pass as others-pass}
-use Rattle.splice_laws.specs.Splicing.{PlayedEvent, SliceUnit}
+use Rattle.splice_laws.specs.Splicing.{SliceUnit}
 use Rattle.splice_laws.specs.Streams.{is_among, is_dropped}
 use Rattle.output_laws.specs.Output.{Move, Keep, Leave, out_after, out_at}
 use Rattle.output_laws.specs.Others.{is_off}
 use Rattle.output_laws.specs.Spliced.{puts_at}
 use Rattle.output_laws.proofs.Unchanged.{same_packet}
 use Rattle.output_laws.proofs.OtherLemmas.{off_on}
+use Rattle.output_laws.proofs.StepLemmas.{test-same}
+use Rattle.program_laws.proofs.ReadingLemmas.{no_tables}
 use Rattle.splice_switch.specs.Playing.{Adverts, History, played, as_played}
-use Rattle.splice_switch.specs.Switching.{Setting, switched_at, events_at, head_at, history_at, is_behind_head, front_at, place_at, rest_at, switching, switched_past, is_switched, moves, puts_before, puts_at_end, puts_by, fate, place_of, front_of, end_of_run}
+use Rattle.splice_switch.specs.Switching.{Setting, switched_at, events_at, head_at, history_at, front_at, place_at, rest_at, switching, switched_past, is_switched, moves, puts_before, puts_at_end, puts_by, fate, place_of, front_of, end_of_run}
 use Rattle.splice_switch.specs.Histories.{IsHistory, AreSteady}
 use Rattle.splice_switch.proofs.HistoryLemmas.{armed_is_history}
-use Rattle.switch_laws.specs.Moving.{sent_in_all, sent_count, intervals}
+use Rattle.switch_laws.specs.Moving.{sent_in_all, sent_count}
 use Rattle.switch_laws.specs.Laws.{ArePackets}
 use Rattle.switch_laws.specs.Whole.{adverts_at, table_pids, pmt_pids, NothingIsPlayed, NoPacketChanges, NoProgram}
 use Rattle.switch_laws.proofs.BringLemmas.{end_rule}
 use Rattle.switch_laws.proofs.MoveLemmas.{same-puts, same-fate}
 use Rattle.switch_laws.proofs.RunLemmas.{none-dropped, none-each}
-use Rattle.switch_laws.proofs.WholeLemmas.{along-each, packets-each, known-later, behind-later, head-later, head-joined, adverts-same, switched-same, none-switched, not-behind, is-behind}
+use Rattle.switch_laws.proofs.WholeLemmas.{along-each, packets-each, known-later, behind-later, head-later, head-joined, listed-later, adverts-same, none-switched, not-behind, is-behind}
 
 -- ---- a run in which nothing is played
 
@@ -204,3 +204,92 @@ nothing_is_played k network steady long none =
 
     long-reversed : (ps : List (List ℕ)) → ArePackets ps → ArePackets (reverse ps)
     long-reversed ps a = long-onto [] ps (All-nil (λ (q : List ℕ). length q ≡ 188)) a
+
+-- ---- packets of other PIDs
+
+among-first : (q pid : ℕ) (qs : List ℕ) → q ≡ pid → is_among pid (q ∷ qs) ≡ true
+among-first q pid qs e = ap (λ n. (n == pid) || is_among pid qs) e ∙ ap (λ b. b || is_among pid qs) (test-same pid)
+
+among-second : (a q pid : ℕ) → q ≡ pid → is_among pid (a ∷ q ∷ []) ≡ true
+among-second a q pid e = by_test (a == pid) (λ y. simp y refl) (λ n. simp n (among-first q pid [] e))
+
+module _ (k : Setting) (network : List (List ℕ)) where
+  abbrev pids : List ℕ
+  pids = table_pids k network
+
+  abbrev takes : List ℕ → Bool
+  takes q = is_off (table_pids k network) q
+
+  cue-left : (q : List ℕ) → on k.cue_pid q ≡ true → takes q ≡ false
+  cue-left q o = off_on k.packed (table_pids k network) k.cue_pid q (among-first k.cue_pid k.cue_pid (pmt_pids (listed (Some k.program) network)) refl) o
+
+  pmt-left : (l : Listed) (past more : List (List ℕ)) → network ≡ more ++ past → listed (Some k.program) past ≡ Some l → (q : List ℕ) → on l.pid q ≡ true → takes q ≡ false
+  pmt-left l past more is h q o =
+      let there : listed (Some k.program) network ≡ Some l = ap (listed (Some k.program)) is ∙ listed-later (Some k.program) l more past h in
+      off_on k.packed (table_pids k network) l.pid q (ap (λ (o : Option Listed). is_among l.pid (k.cue_pid ∷ pmt_pids o)) there ∙ among-second k.cue_pid l.pid l.pid refl) o
+
+  strip-taken : (p : List ℕ) → filter takes (if on k.cue_pid p then [] else p ∷ []) ≡ filter takes (p ∷ [])
+  strip-taken p = by_test (on k.cue_pid p) (λ y. let n = cue-left p y in simp (y, n) refl) (λ n. simp n refl)
+
+  pub strip-passes : (past more : List (List ℕ)) → network ≡ more ++ past → Along (Passes takes (stripping k.cue_pid) (Some k.program)) past
+  strip-passes past more is = along-each (Passes takes (stripping k.cue_pid) (Some k.program)) network past more is
+      (λ p past more there. record {
+        front = tt;
+        place = strip-taken p;
+        own = pmt-there p past more there;
+      })
+    where
+      pmt-there : (p : List ℕ) (past more : List (List ℕ)) → network ≡ more ++ (p ∷ past) → (l : Listed) → listed (Some k.program) past ≡ Some l → (q : List ℕ) → on l.pid q ≡ true → takes q ≡ false
+      pmt-there p past more there l h q o = pmt-left l past (more ++ p ∷ []) (there ∙ sym (append_assoc more (p ∷ []) past)) h q o
+
+pub no_packet_changes : NoPacketChanges
+no_packet_changes k network steady long none =
+    let back = reverse network in
+    let takes : List ℕ → Bool = λ q. is_off (table_pids k (reverse network)) q in
+    ap (filter takes) (nothing_is_played k network steady long none)
+    ∙ filter-reverse takes (written (stripping k.cue_pid) (Some k.program) back)
+    ∙ ap reverse (others-pass takes (stripping k.cue_pid) (Some k.program) back (strip-passes k back back [] refl))
+    ∙ sym (filter-reverse takes back)
+    ∙ ap (filter takes) (reverse-reverse network)
+
+-- ---- without a program
+
+option-none : {A : Type 0} (x y : Option A) → option_or x y ≡ None → x ≡ None
+option-none None y h = refl
+option-none (Some x) y h = cc
+
+module _ (k : Setting) where
+  none-before : (more past : List (List ℕ)) → listed (Some k.program) (more ++ past) ≡ None → listed (Some k.program) past ≡ None
+  none-before [] past h = h
+  none-before (p ∷ more) past h = none-before more past (option-none (listed (Some k.program) (more ++ past)) _ h)
+
+  abbrev others : List ℕ → Bool
+  others p = not (on k.cue_pid p)
+
+  no-map : (past : List (List ℕ)) → listed (Some k.program) past ≡ None → known_map (Some k.program) past ≡ None
+  no-map past h = ap first_map (no_tables (Some k.program) past h)
+
+  one-packet : (p : List ℕ) (past out : List (List ℕ)) → listed (Some k.program) past ≡ None → block (switching k) (Some k.program) p past out ≡ (if on k.cue_pid p then [] else p ∷ [])
+  one-packet p past out h =
+      let known = no-map past h in
+      let b = behind_head (Some k.program) past in
+      ap (λ c. (if c then front_of (switched_at k past) (adverts_at k past) (history_at k past) k.packed p b else []) ++ body (switching k) (listed (Some k.program) past) p past (tables (Some k.program) p past) out) (not-behind k past known)
+      ∙ ap (λ o. body (switching k) o p past (tables (Some k.program) p past) out) h
+      ∙ ap (λ sw. if on k.cue_pid p then [] else (if is_switched sw p then place_of (switched_at k past) (adverts_at k past) (history_at k past) k.packed p b else p ∷ [])) (none-switched k past known)
+
+  pub without-program : (past : List (List ℕ)) → listed (Some k.program) past ≡ None → switched_past k past ≡ filter others past
+  without-program [] h = refl
+  without-program (p ∷ past) h =
+      let n = option-none (listed (Some k.program) past) _ h in
+      ap (onto (switched_past k past)) (one-packet p past (switched_past k past) n)
+      ∙ by_test (on k.cue_pid p) (λ y. simp y (without-program past n)) (λ y. simp y (ap (λ l. p ∷ l) (without-program past n)))
+
+pub no_program : NoProgram
+no_program k network h =
+    let back = reverse network in
+    let takes : List ℕ → Bool = λ p. not (on k.cue_pid p) in
+    ap (λ c. reverse (switched_past k back) ++ (if c then end_of_run (switched_at k back) (adverts_at k back) (history_at k back) k.packed (behind_head (Some k.program) back) else [])) (not-behind k back (no-map k back h))
+    ∙ append-nil (reverse (switched_past k back))
+    ∙ ap reverse (without-program k back h)
+    ∙ sym (filter-reverse takes back)
+    ∙ ap (filter takes) (reverse-reverse network)

@@ -1,35 +1,23 @@
 -- The output for a whole network, packet by packet.
-use Rattle.std.specs.Option.{option_or}
-use Rattle.std.proofs.Common.{◌≡◌, ℕ, List, [], ◌∷◌, ◌++◌, Bool, true, false, not, refl, sym, ap, ◌∙◌, Option, None, Some, append_assoc, if◌then◌else◌, subst, map, length, reverse, drop}
-use Rattle.std.specs.Prelude.{All, filter, flat_map, is_some, option_map}
-use Rattle.std.proofs.lemmas.Bool.{true≢false}
-use Rattle.std.proofs.lemmas.List.{append-nil, reverse-append}
-use Rattle.std.proofs.lemmas.List.Elements.{All-head, All-tail, filter-append}
-use Rattle.ts_packet.specs.Fields.{on}
+use Rattle.std.proofs.Common.{◌≡◌, ℕ, List, [], ◌∷◌, ◌++◌, true, false, refl, sym, ap, ◌∙◌, Option, None, Some, append_assoc, if◌then◌else◌, length, reverse, drop}
+use Rattle.std.specs.Prelude.{All, flat_map, is_some, option_map}
+use Rattle.std.proofs.lemmas.List.{append-nil}
+use Rattle.std.proofs.lemmas.List.Elements.{All-tail}
 use Rattle.ts_packet.specs.Runs.{Seen, seen_after, onto}
-use Rattle.ts_packet.proofs.Cases.{by_test}
-use Rattle.ts_packet.proofs.RunLemmas.{reverse-cons, reverse-more, filter-reverse}
+use Rattle.ts_packet.proofs.RunLemmas.{reverse-more}
 use Rattle.psi_tables.specs.ProgramMap.{ProgramMap}
-use Rattle.psi_tables.specs.Cue.{without_cue_entry}
 use Rattle.program_follower.specs.declared.purpose.Listed.{Listed}
-use Rattle.program_follower.specs.Program.{listed, tables, all_tables, known_map, first_map, behind_head, program_in, pids_of}
+use Rattle.program_follower.specs.Program.{listed, known_map, behind_head, program_in, pids_of}
 use Rattle.program_follower.proofs.StepLemmas.{listed_stays}
-use Rattle.program_laws.specs.Writing.{Along, Writing, written, block, body}
-use Rattle.program_laws.specs.Cued.{stripping}
-use Rattle.program_laws.proofs.HeadLemmas.{known_stays, nothing_behind}
-use Rattle.output_laws.specs.Output.{Move, Keep, Leave, Put, out_after, out_at}
-use Rattle.output_laws.proofs.Unchanged.{same_packet}
-use Rattle.splice_switch.specs.Playing.{Adverts, History, played, as_played}
-use Rattle.splice_switch.specs.Switching.{Setting, switched_at, events_at, head_at, history_at, is_behind_head, front_at, rest_at, switching, switched_past, spliced_network, is_switched, moves, puts_before, puts_at_end, fate, place_at, end_of_run}
-use Rattle.splice_switch.specs.Histories.{IsHistory, AreSteady}
-use Rattle.splice_switch.proofs.HistoryLemmas.{armed_is_history}
-use Rattle.unit_stream.specs.Times.{high}
-use Rattle.switch_laws.specs.Laws.{ArePackets}
+use Rattle.program_laws.specs.Writing.{Along, block}
+use Rattle.program_laws.proofs.HeadLemmas.{known_stays}
+use Rattle.splice_switch.specs.Playing.{Adverts}
+use Rattle.splice_switch.specs.Switching.{Setting, switched_at, head_at, is_behind_head, front_at, rest_at, switching, switched_past}
 use Rattle.switch_laws.specs.Whole.{adverts_at, stands_for, OutputIsInOrder}
 
 -- ---- in order
 
-reverse-onto : (past qs : List (List ℕ)) → reverse (onto past qs) ≡ reverse past ++ qs
+pub reverse-onto : (past qs : List (List ℕ)) → reverse (onto past qs) ≡ reverse past ++ qs
 reverse-onto past [] = sym (append-nil (reverse past))
 reverse-onto past (q ∷ qs) = reverse-onto (q ∷ past) qs ∙ reverse-more q past qs
 
