@@ -54,7 +54,7 @@ module _ (packed : Packing) (pids : List ℕ) where
       (λ e. let g : true ≡ false = sym w.0 ∙ ap (λ n. is_among n pids) (test-true q pid e) ∙ a in cc)
       (λ e. simp e (unmoved pid past a w.1))
 
-  off-kept : (p : List ℕ) (past : List Move) → is_off pids (kept_packet packed p past) ≡ is_off pids p
+  pub off-kept : (p : List ℕ) (past : List Move) → is_off pids (kept_packet packed p past) ≡ is_off pids p
   off-kept p past = by_kept (in_error p) where
     by_kept : (b : Bool) → is_off pids (if b then p else renumbered (moved (counter_steps packed (pid_of p) past)) p) ≡ is_off pids p
     by_kept true = refl
@@ -69,14 +69,14 @@ module _ (packed : Packing) (pids : List ℕ) where
       let z = unmoved (pid_of p) past a w in
       simp e (ap (λ n. renumbered n p) z ∙ renumbered-zero p l))
 
-  skip_on : (q : ℕ) (qs tail : List (List ℕ)) → is_among q pids ≡ true → AllOn q qs → filter (is_off pids) (qs ++ tail) ≡ filter (is_off pids) tail
+  pub skip_on : (q : ℕ) (qs tail : List (List ℕ)) → is_among q pids ≡ true → AllOn q qs → filter (is_off pids) (qs ++ tail) ≡ filter (is_off pids) tail
   skip_on q [] tail a h = refl
   skip_on q (p ∷ qs) tail a h = skip (is_off pids p) (off_on q p a (payload_on-on q p h.0)) ∙ skip_on q qs tail a h.1 where
     skip : (b : Bool) → b ≡ false → (if b then p ∷ filter (is_off pids) (qs ++ tail) else filter (is_off pids) (qs ++ tail)) ≡ filter (is_off pids) (qs ++ tail)
     skip true e = cc
     skip false e = refl
 
-  skip_clock : (k n : ℕ) (o : Option (List ℕ)) (tail : List (List ℕ)) → k < 8192 → is_among k pids ≡ true → filter (is_off pids) (clock_alone k n o ++ tail) ≡ filter (is_off pids) tail
+  pub skip_clock : (k n : ℕ) (o : Option (List ℕ)) (tail : List (List ℕ)) → k < 8192 → is_among k pids ≡ true → filter (is_off pids) (clock_alone k n o ++ tail) ≡ filter (is_off pids) tail
   skip_clock k n None tail l a = refl
   skip_clock k n (Some c) tail l a =
       skip (is_off pids (clock_packet k n c)) (on_off (in_error (clock_packet k n c)) _ (error-clock k n c l) (ap (λ m. is_among m pids) (pid-clock k n c l) ∙ a)) where

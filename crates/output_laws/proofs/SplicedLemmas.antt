@@ -1,5 +1,5 @@
 -- The moves of a splice keep whole units, and put slices in their places.
-use Rattle.std.specs.Prelude.{All, ℤ, ◌==◌, if◌then◌else◌, filter, flat_map, map}
+use Rattle.std.specs.Prelude.{All, ℤ, ◌==◌, if◌then◌else◌, filter, flat_map, map, reverse}
 use Rattle.std.proofs.Common.{◌≡◌, ℕ, List, [], ◌∷◌, ◌++◌, Bool, true, false, not, ◌&&◌, ◌⊎◌, inl, inr, refl, sym, ap, ◌∙◌, Option, None, append_assoc, length, subst}
 use Rattle.std.proofs.lemmas.List.{append-nil}
 use Rattle.ts_packet.specs.Fields.{payload_on, bytes}
@@ -8,7 +8,7 @@ use Rattle.ts_packet.proofs.Cases.{by_test}
 use Rattle.ts_packet.proofs.RunLemmas.{onto}
 use Rattle.unit_stream.specs.Times.{begins, unit_time}
 use Rattle.unit_stream.specs.Carrying.{CarriesUnits}
-use Rattle.unit_stream.specs.Units.{is_original, rest_of_unit, lead_in}
+use Rattle.unit_stream.specs.Units.{is_original, rest_of_unit, lead_in, units, payloads}
 use Rattle.splice_laws.specs.Splicing.{PlayedEvent, SliceUnit, Out, Network, Inserted, Stream, stream, begun, closed, out_of, inserted, rest, holds, outside, all_inserted, all_rest, all_slices_at}
 use Rattle.splice_laws.specs.Laws.{AreOrdered, IsStream, Counts}
 use Rattle.splice_laws.specs.Streams.{Act, Through, Insert, all_closing, all_running, insert_on, on_each, is_dropped, spliced_at, of_stream, IsOnce}
@@ -16,8 +16,8 @@ use Rattle.splice_laws.proofs.PidLemmas.{pids_are_streams}
 use Rattle.splice_laws.proofs.HistoryLemmas.{running-inside}
 use Rattle.splice_laws.proofs.PlacedLemmas.{nothing_new, put_in-append, swap, AllAt, AllCounted, counted_head, counted_tail, all_counted, all_joined, left_inside, none_at_first, out_counts_all}
 use Rattle.splice_laws.proofs.StreamLemmas.{of_stream-append, once_on, phases, put_in-flat, dropped_is}
-use Rattle.output_laws.specs.Output.{Move, Keep, Leave, Put, acts, network, Place, Keeping, Leaving, place, IsWhole, Along, units_out}
-use Rattle.output_laws.specs.Spliced.{puts_on, puts_each, puts_at, fate, moves_after, splice_moves, MovesAreSpliced, inserted_payloads, unit_at, placed_payloads, SplicedCarries, SplicedHasUnits}
+use Rattle.output_laws.specs.Output.{Move, Keep, Leave, Put, acts, network, Place, Keeping, Leaving, place, IsWhole, Packing, output, Sound, IsFed, Along, units_out}
+use Rattle.output_laws.specs.Spliced.{puts_on, puts_each, puts_at, fate, moves_after, MovesAreSpliced, inserted_payloads, unit_at, placed_payloads, SplicedCarries, SplicedHasUnits}
 use Rattle.output_laws.specs.Laws.{IsRun}
 use Rattle.output_laws.proofs.StepLemmas.{onto_moves}
 use Rattle.output_laws.proofs.GaplessLemmas.{output_stays_gapless}
@@ -153,7 +153,7 @@ module _ (sw : List ℕ) (xs : List PlayedEvent) (slice : ℕ → PlayedEvent �
   fate_network true p rest = refl
   fate_network false p rest = refl
 
-  network_moves : (past ps : List (List ℕ)) → network (moves_after sw xs slice out past ps) ≡ ps
+  pub network_moves : (past ps : List (List ℕ)) → network (moves_after sw xs slice out past ps) ≡ ps
   network_moves past [] =
       let E = puts_each sw (λ (q : ℕ). flat_map (λ (x : PlayedEvent). rest (stream sw q) x (slice q x) (out q x) past) xs) in
       ap network (sym (append-nil E)) ∙ network_more E [] (puts_each_are sw (λ (q : ℕ). flat_map (λ (x : PlayedEvent). rest (stream sw q) x (slice q x) (out q x) past) xs))
@@ -363,33 +363,48 @@ outside-none : (xs : List PlayedEvent) → outside xs None ≡ true
 outside-none [] = refl
 outside-none (x ∷ xs) = outside-none xs
 
+-- ---- for any count
+
+module _ (packed : Packing) (sw : List ℕ) (xs : List PlayedEvent) (o : AreOrdered xs) (slice : ℕ → PlayedEvent → List SliceUnit) (out : ℕ → PlayedEvent → List (List ℕ) → ℕ)
+    (ps : List (List ℕ)) (pid : ℕ) (h : IsOnce pid sw) (c : All (λ (x : PlayedEvent). All (Counts (stream sw pid) x (slice pid x) (out pid x)) (seen_after [] ps)) xs)
+    (s : Along (λ (s : Move) (past : List Move). Sound packed s) (reverse (moves_after sw xs slice out [] ps))) where
+  abbrev counted : AllCounted (stream sw pid) (pids_are_streams sw pid) (slice pid) (out pid) xs (seen_after [] ps)
+  counted = all_counted (stream sw pid) (pids_are_streams sw pid) (slice pid) (out pid) xs (seen_after [] ps) c
+
+  abbrev first : Inv sw xs slice out o pid h [] []
+  first = record { net = refl; at = sym (ap fate_place (outside-none xs)); whole = tt }
+
+  abbrev run : IsRun packed pid (moves_after sw xs slice out [] ps)
+  run = record { sound = s; whole = whole_after sw xs slice out o pid h [] ps [] counted first }
+
+  placed_is : placed_payloads sw pid xs (slice pid) [] ps ≡ units_out pid [] (moves_after sw xs slice out [] ps)
+  placed_is =
+      ap (λ q. inserted_payloads q ++ placed_payloads sw pid xs (slice pid) [] ps) (sym (none_at_first (stream sw pid) xs (slice pid) (out pid)))
+      ∙ placed_after sw xs slice out o pid h [] ps [] counted first
+
+  pub counted_carries : All (λ (p : List ℕ). length p ≡ 188) ps →
+      (carried : List (List ℕ)) × (filter (payload_on pid) (output packed (moves_after sw xs slice out [] ps)) ≡ lead_in pid ps ++ carried)
+      × CarriesUnits carried (placed_payloads sw pid xs (slice pid) [] ps)
+  counted_carries l =
+      let e = network_moves sw xs slice out [] ps in
+      let c = output_carries_units packed pid (moves_after sw xs slice out [] ps) run (subst (λ q. All (λ (p : List ℕ). length p ≡ 188) q) (sym e) l) in
+      (c.0, c.1 ∙ ap (λ q. lead_in pid q ++ c.0) e, subst (CarriesUnits c.0) (sym placed_is) c.2)
+
+  pub counted_has_units : Along (IsFed pid) (reverse (moves_after sw xs slice out [] ps)) → (before : Option (List ℕ)) → IsGaplessAfter before pid ps → (switched : List ℕ) →
+      IsGaplessAfter before pid (output packed (moves_after sw xs slice out [] ps))
+      × (payloads (units switched pid (output packed (moves_after sw xs slice out [] ps))) ≡ placed_payloads sw pid xs (slice pid) [] ps)
+  counted_has_units f b g switched =
+      let moves = moves_after sw xs slice out [] ps in
+      let g' : IsGaplessAfter b pid (network moves) = subst (IsGaplessAfter b pid) (sym (network_moves sw xs slice out [] ps)) g in
+      (output_stays_gapless packed pid b moves run f g', output_has_units packed pid b switched moves run f g' ∙ sym placed_is)
+
 pub spliced_carries : SplicedCarries
 spliced_carries packed sw xs o slice ps pid h s l =
-    let r = stream sw pid in
-    let k = pids_are_streams sw pid in
-    let out : ℕ → PlayedEvent → List (List ℕ) → ℕ = λ (q : ℕ) (x : PlayedEvent). out_of (stream sw q) x (slice q x) in
-    let n = all_counted r k (slice pid) (out pid) xs (seen_after [] ps) (out_counts_all r k xs (slice pid) ps) in
-    let moves = splice_moves sw xs slice ps in
-    let i : Inv sw xs slice out o pid h [] [] = record { net = refl; at = sym (ap fate_place (outside-none xs)); whole = tt } in
-    let w = whole_after sw xs slice out o pid h [] ps [] n i in
-    let e = network_moves sw xs slice out [] ps in
-    let c = output_carries_units packed pid moves (record { sound = s; whole = w }) (subst (λ q. All (λ (p : List ℕ). length p ≡ 188) q) (sym e) l) in
-    let v = ap (λ q. inserted_payloads q ++ placed_payloads sw pid xs (slice pid) [] ps) (sym (none_at_first r xs (slice pid) (out pid))) ∙ placed_after sw xs slice out o pid h [] ps [] n i in
-    (c.0, c.1 ∙ ap (λ q. lead_in pid q ++ c.0) e, subst (CarriesUnits c.0) (sym v) c.2)
+    counted_carries packed sw xs o slice (λ (q : ℕ) (x : PlayedEvent). out_of (stream sw q) x (slice q x)) ps pid h (out_counts_all (stream sw pid) (pids_are_streams sw pid) xs (slice pid) ps) s l
 
 pub spliced_has_units : SplicedHasUnits
 spliced_has_units packed sw xs o slice ps pid h s f b g sw' =
-    let r = stream sw pid in
-    let k = pids_are_streams sw pid in
-    let out : ℕ → PlayedEvent → List (List ℕ) → ℕ = λ (q : ℕ) (x : PlayedEvent). out_of (stream sw q) x (slice q x) in
-    let n = all_counted r k (slice pid) (out pid) xs (seen_after [] ps) (out_counts_all r k xs (slice pid) ps) in
-    let moves = splice_moves sw xs slice ps in
-    let i : Inv sw xs slice out o pid h [] [] = record { net = refl; at = sym (ap fate_place (outside-none xs)); whole = tt } in
-    let w : IsRun packed pid moves = record { sound = s; whole = whole_after sw xs slice out o pid h [] ps [] n i } in
-    let e = network_moves sw xs slice out [] ps in
-    let v = ap (λ q. inserted_payloads q ++ placed_payloads sw pid xs (slice pid) [] ps) (sym (none_at_first r xs (slice pid) (out pid))) ∙ placed_after sw xs slice out o pid h [] ps [] n i in
-    let g' : IsGaplessAfter b pid (network moves) = subst (IsGaplessAfter b pid) (sym e) g in
-    (output_stays_gapless packed pid b moves w f g', output_has_units packed pid b sw' moves w f g' ∙ sym v)
+    counted_has_units packed sw xs o slice (λ (q : ℕ) (x : PlayedEvent). out_of (stream sw q) x (slice q x)) ps pid h (out_counts_all (stream sw pid) (pids_are_streams sw pid) xs (slice pid) ps) s f b g sw'
 
 -- ---- they are the acts of the splice law
 
@@ -407,7 +422,7 @@ module _ (sw : List ℕ) (xs : List PlayedEvent) (slice : ℕ → PlayedEvent �
   abbrev left : ℕ → PlayedEvent → List (List ℕ) → List SliceUnit
   left q x = rest (stream sw q) x (slice q x) (out q x)
 
-  acts_after : (past ps : List (List ℕ)) → acts (moves_after sw xs slice out past ps)
+  pub acts_after : (past ps : List (List ℕ)) → acts (moves_after sw xs slice out past ps)
       ≡ flat_map (spliced_at sw xs piece) (seen_after past ps) ++ on_each sw (λ (q : ℕ). flat_map (λ (x : PlayedEvent). left q x (onto past ps)) xs)
   acts_after past [] = acts_each sw (λ (q : ℕ). flat_map (λ (x : PlayedEvent). left q x past) xs)
   acts_after past (p ∷ ps) =

@@ -58,7 +58,7 @@ module _ (packed : Packing) (sw : List ℕ) where
     fate_within true p S f h = (f refl, h)
     fate_within false p S f h = (tt, h)
 
-    within : (past ps : List (List ℕ)) (S : List Move) → Here S → Here (onto_moves S (moves_after sw xs slice out past ps))
+    pub within : (past ps : List (List ℕ)) (S : List Move) → Here S → Here (onto_moves S (moves_after sw xs slice out past ps))
     within past [] S h = on_each_one sw (λ (q : ℕ). flat_map (λ (x : PlayedEvent). rest (stream sw q) x (slice q x) (out q x) past) xs) S (sub_self sw) h
     within past (p ∷ ps) S h =
         let fc : ℕ → List SliceUnit = λ (q : ℕ). all_closing (stream sw q) xs (λ (x : PlayedEvent). inserted (slice q x) (out q x)) p past in

@@ -17,7 +17,7 @@ module _ (packed : Packing) where
   unmoved pid [] = refl
   unmoved pid (p ∷ past) = by_test (on pid p) (λ o. simp o (unmoved pid past)) (λ o. simp o (unmoved pid past))
 
-  same_packet : (p : List ℕ) (past : List (List ℕ)) → length p ≡ 188 → kept_packet packed p (kept past) ≡ p
+  pub same_packet : (p : List ℕ) (past : List (List ℕ)) → length p ≡ 188 → kept_packet packed p (kept past) ≡ p
   same_packet p past h = by_test (in_error p) (λ e. simp e) (λ e. simp (e, unmoved (pid_of p) past) (renumbered-zero p h))
 
   all_same : (past ps : List (List ℕ)) → All (λ (p : List ℕ). length p ≡ 188) ps → out_after packed (kept past) (kept ps) ≡ ps

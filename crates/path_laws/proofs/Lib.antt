@@ -8,3 +8,6 @@ pub mod Sending
 pub mod Blocks
 pub mod Programs
 pub mod Proofs
+pub mod Packets
+pub mod Streams
+pub mod Whole

@@ -1,0 +1,12 @@
+pub mod OrderLemmas
+pub mod BringLemmas
+pub mod IntervalLemmas
+pub mod KnownLemmas
+pub mod OutLemmas
+pub mod PieceLemmas
+pub mod MoveLemmas
+pub mod RunLemmas
+pub mod WholeLemmas
+pub mod NoneLemmas
+pub mod SoundLemmas
+pub mod SplitLemmas

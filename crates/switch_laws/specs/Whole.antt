@@ -1,0 +1,95 @@
+-- The output for a whole network, beside the network.
+use Rattle.std.specs.Prelude.{◌≡◌, ℕ, ◌<◌, true, false, ◌++◌, ◌∷◌, List, [], not, Option, None, Some, filter, flat_map, reverse, All}
+use Rattle.ts_packet.specs.Fields.{on, pid_of, payload_on}
+use Rattle.std.specs.List.{AllByRecursion}
+use Rattle.ts_packet.specs.Runs.{Seen, seen_after}
+use Rattle.unit_stream.specs.UnitPackets.{IsPacked}
+use Rattle.event_table.specs.Standing.{Standing}
+use Rattle.splice_laws.specs.Splicing.{SliceUnit}
+use Rattle.splice_laws.specs.Streams.{is_among}
+use Rattle.program_follower.specs.declared.purpose.Listed.{Listed}
+use Rattle.program_follower.specs.Program.{listed, tables, behind_head}
+use Rattle.program_laws.specs.Writing.{written, body}
+use Rattle.program_laws.specs.Cued.{stripping}
+use Rattle.output_laws.specs.Output.{Packing, output}
+use Rattle.output_laws.specs.Others.{is_off}
+use Rattle.splice_switch.specs.Playing.{Adverts, History, played}
+use Rattle.splice_switch.specs.Switching.{Setting, switched_at, events_at, head_at, history_at, front_at, rest_at, switching, switched_past, spliced_network}
+use Rattle.splice_switch.specs.Histories.{AreSteady}
+use Rattle.switch_laws.specs.Moving.{run_moves}
+use Rattle.switch_laws.specs.Laws.{ArePackets, AreSound}
+
+-- what the advertisements say of the streams that are switched behind a past
+abbrev pub adverts_at : Setting → List (List ℕ) → Adverts
+adverts_at k past = k.adverts (switched_at k past)
+
+-- WHAT STANDS IN THE OUTPUT FOR A PACKET of the network
+abbrev pub stands_for : Setting → List ℕ → List (List ℕ) → List (List ℕ)
+stands_for k p past = body (switching k) (listed (Some k.program) past) p past (tables (Some k.program) p past) (switched_past k past)
+
+-- THE LAW OF ORDER: across all PIDs, what stands for the packets of the network stands in their order, each behind what is put in before
+-- it, and at the end what is put in there
+abbrev pub OutputIsInOrder : Type 0
+OutputIsInOrder = (k : Setting) (network : List (List ℕ)) →
+    spliced_network k network ≡ flat_map (λ (s : Seen). front_at k s.packet s.past ++ stands_for k s.packet s.past) (seen_after [] network) ++ rest_at k (reverse network)
+
+-- ---- where nothing is played
+
+-- THE LAW OF NO PLAYED EVENT: where no event is played in the end, the output is the network without its cues: the packets of their PID are
+-- left out, and the program's maps go out without the entry for them
+abbrev pub NothingIsPlayed : Type 0
+NothingIsPlayed = (k : Setting) (network : List (List ℕ)) → AreSteady (adverts_at k (reverse network)) → ArePackets network →
+    played (adverts_at k (reverse network)) (events_at k (reverse network)) ≡ [] →
+    spliced_network k network ≡ reverse (written (stripping k.cue_pid) (Some k.program) (reverse network))
+
+-- the PID of the cues, and that of the PMT where the PAT lists the program
+abbrev pub pmt_pids : Option Listed → List ℕ
+pmt_pids None = []
+pmt_pids (Some l) = l.pid ∷ []
+
+abbrev pub table_pids : Setting → List (List ℕ) → List ℕ
+table_pids k past = k.cue_pid ∷ pmt_pids (listed (Some k.program) past)
+
+-- then every packet of another PID, and every one marked in error, is the network's byte for byte, in their order across all PIDs
+abbrev pub NoPacketChanges : Type 0
+NoPacketChanges = (k : Setting) (network : List (List ℕ)) → AreSteady (adverts_at k (reverse network)) → ArePackets network →
+    played (adverts_at k (reverse network)) (events_at k (reverse network)) ≡ [] →
+    filter (is_off (table_pids k (reverse network))) (spliced_network k network) ≡ filter (is_off (table_pids k (reverse network))) network
+
+-- THE LAW OF NO PROGRAM: where no PAT lists the program, the output is the network without the packets of the cue PID
+abbrev pub NoProgram : Type 0
+NoProgram = (k : Setting) (network : List (List ℕ)) → listed (Some k.program) (reverse network) ≡ None →
+    spliced_network k network ≡ filter (λ p. not (on k.cue_pid p)) network
+
+-- ---- packets put in
+
+-- each unit of the advertisements is packed, whatever the first counter
+abbrev pub ArePacked : Packing → Adverts → Type 0
+ArePacked packed ads = (e : Standing) (pid : ℕ) → AllByRecursion (λ (u : SliceUnit). (n : ℕ) → n < 16 → IsPacked pid u.payload n (packed pid u n)) (ads.units e pid)
+
+-- the PID of each packet is of 13 bits, as it is where packets are bytes
+abbrev pub HavePids : List (List ℕ) → Type 0
+HavePids ps = All (λ (p : List ℕ). pid_of p < 8192) ps
+
+-- then all moves of a run are sound
+abbrev pub RunsAreSound : Type 0
+RunsAreSound = (switched : List ℕ) (ads : Adverts) (events : History) (packed : Packing) (ps : List (List ℕ)) → ArePacked packed ads → HavePids ps →
+    AreSound packed (run_moves switched ads events ps)
+
+-- ---- switched streams
+
+-- neither the PID of the cues nor that of the PMT is a switched stream's
+pub record IsApart (k : Setting) (past : List (List ℕ)) : Type 0 where
+  pub cue : is_among k.cue_pid (switched_at k past) ≡ false
+  pub pmt : (l : Listed) → listed (Some k.program) past ≡ Some l → is_among l.pid (switched_at k past) ≡ false
+
+-- the output of the run behind the head
+abbrev pub run_out : Setting → List (List ℕ) → List (List ℕ)
+run_out k past = output k.packed (run_moves (switched_at k past) (adverts_at k past) (history_at k past) (reverse (behind_head (Some k.program) past)))
+
+-- THE LAW OF STREAMS: the payload packets of a switched PID in the output are those of the head, and those of the run behind it, as if no
+-- other packet were there
+abbrev pub StreamsGoByThemselves : Type 0
+StreamsGoByThemselves = (k : Setting) (network : List (List ℕ)) → IsApart k (reverse network) → (pid : ℕ) → is_among pid (switched_at k (reverse network)) ≡ true →
+    filter (payload_on pid) (spliced_network k network)
+    ≡ filter (payload_on pid) (reverse (head_at k (reverse network))) ++ filter (payload_on pid) (run_out k (reverse network))

@@ -1,0 +1,75 @@
+//! What holds of every spliced stream, over the definitions alone.
+
+ghost use Rattle.switch_laws.specs.Laws.{MovesBringTheNetwork, RunsAreSettled, RowsArePlaced, RowsAreSpliced, RunsCarry, RunsHaveUnits, OthersPass, NothingPlayed};
+ghost use Rattle.switch_laws.specs.Whole.{OutputIsInOrder, NothingIsPlayed, NoPacketChanges, NoProgram, RunsAreSound, StreamsGoByThemselves};
+
+/// What a switch does to a run has each packet of the run once, in order, kept or left out.
+pub fn moves_bring_the_network()
+    ensures { MovesBringTheNetwork }
+{}
+
+/// What a switch did by what was known of the events at each packet is what the events of the end say of it.
+pub fn runs_are_settled()
+    ensures { RunsAreSettled }
+{}
+
+/// Of a switched stream stand the packets before its first unit, and then its units outside all played events, each with its
+/// packets, with all that goes out of each reached event before the first unit at or past its start.
+pub fn rows_are_placed()
+    ensures { RowsArePlaced }
+{}
+
+/// Where the network is conditioned at the starts, the units and the slices stand where their times say.
+pub fn rows_are_spliced()
+    ensures { RowsAreSpliced }
+{}
+
+/// On any network the output of a run carries, behind a switched stream's packets before its first unit, what is placed.
+pub fn runs_carry()
+    ensures { RunsCarry }
+{}
+
+/// Where the network is gapless on a switched PID, so is the output, and its units are what is placed.
+pub fn runs_have_units()
+    ensures { RunsHaveUnits }
+{}
+
+/// The packets of all but the switched PIDs, and those marked in error, are the same list, byte for byte.
+pub fn others_pass()
+    ensures { OthersPass }
+{}
+
+/// Where no event is played, every packet is kept, and nothing is put in.
+pub fn nothing_played()
+    ensures { NothingPlayed }
+{}
+
+/// Across all PIDs, what stands for the packets of the network stands in their order, each behind what is put in before it.
+pub fn output_is_in_order()
+    ensures { OutputIsInOrder }
+{}
+
+/// Where no event is played, the output is the network without its cues and their entries.
+pub fn nothing_is_played()
+    ensures { NothingIsPlayed }
+{}
+
+/// Then every packet of another PID is the network's byte for byte, in order across all PIDs.
+pub fn no_packet_changes()
+    ensures { NoPacketChanges }
+{}
+
+/// Where no PAT lists the program, the output is the network without the packets of the cue PID.
+pub fn no_program()
+    ensures { NoProgram }
+{}
+
+/// Where the units of the advertisements are packed, so are all that are put in.
+pub fn runs_are_sound()
+    ensures { RunsAreSound }
+{}
+
+/// The payload packets of a switched PID are those of the head, and those of the run behind it, as if no other packet were there.
+pub fn streams_go_by_themselves()
+    ensures { StreamsGoByThemselves }
+{}
