@@ -8,3 +8,4 @@ pub mod Sending
 pub mod Blocks
 pub mod Programs
 pub mod Proofs
+pub mod Packets

@@ -52,7 +52,7 @@ event-in x (y ∷ xs) (inr i) = inr (event-in x xs i)
 senders-named : (index : ℕ) (past : List Turn) → IsHistory index past → SendersNamed (programs index past) (senders index past)
 senders-named index past i x j = events-named index past i x.event (subst (In x.event) (senders-events index past) (event-in x (senders index past) j))
 
-tells : (index : ℕ) (past : List Turn) → IsHistory index past → Tells (programs index past) (high past) (path index past) (cued (asked_line index past))
+pub tells : (index : ℕ) (past : List Turn) → IsHistory index past → Tells (programs index past) (high past) (path index past) (cued (asked_line index past))
 tells index past i = path-tells (programs index past) index past i (always-named (programs index past) index past (senders-named index past i))
 
 -- ---- one event on both sides

@@ -1,3 +1,4 @@
 pub mod Telling
 pub mod Path
 pub mod Laws
+pub mod Packets

@@ -1,6 +1,7 @@
 //! The laws of the cue path, each on a function of its own.
 
 ghost use Rattle.path_laws.specs.Telling.{StartTells, EndTells, CancelTells};
+ghost use Rattle.path_laws.specs.Packets.{SectionsReadBack};
 ghost use Rattle.path_laws.specs.Laws.{RequestsAreARun, CuesTellTheLine, CuePathOfEvents, CuePathOfEventsAtTheEnd};
 
 /// The section that an injector writes for the start of an event reads back, and is taken by the switch as that event, at its time on the
@@ -38,4 +39,9 @@ pub fn cue_path_of_events()
 /// Behind the last packet it arms exactly the uncancelled events that were accepted.
 pub fn cue_path_of_events_at_the_end()
     ensures { CuePathOfEventsAtTheEnd }
+{}
+
+/// A reader of the cue PID finds in the cued stream of a network without fault exactly the sections of the injector's cues, in order.
+pub fn sections_read_back()
+    ensures { SectionsReadBack }
 {}
