@@ -9,3 +9,4 @@ pub mod Blocks
 pub mod Programs
 pub mod Proofs
 pub mod Packets
+pub mod Streams
