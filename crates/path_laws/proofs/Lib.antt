@@ -10,3 +10,4 @@ pub mod Programs
 pub mod Proofs
 pub mod Packets
 pub mod Streams
+pub mod Whole

@@ -1,5 +1,5 @@
 -- The cue path in packets: a network with packets of the cue PID put in front of its packets, and what the switch's reader finds in them.
-use Rattle.std.specs.Prelude.{◌≡◌, ◌↔◌, ℕ, ◌<◌, true, false, ℤ, List, [], ◌∷◌, ◌++◌, map, reverse, Option, Some, None}
+use Rattle.std.specs.Prelude.{◌≡◌, ◌↔◌, ℕ, ◌<◌, true, false, ℤ, List, [], ◌∷◌, ◌++◌, map, reverse, length, ◌==◌, if◌then◌else◌, Option, Some, None}
 use Rattle.std.specs.List.{AllByRecursion}
 use Rattle.ts_packet.specs.Fields.{on}
 use Rattle.wire_fields.specs.Numbers.{AreBytes}
@@ -15,7 +15,7 @@ use Rattle.event_table.specs.Standing.{Standing}
 use Rattle.armed_events.specs.Arming.{heard, armed}
 use Rattle.injector.specs.Turns.{events}
 use Rattle.injector.specs.Senders.{cues_before}
-use Rattle.injector.specs.Steps.{Step, Message, Packet, packets_in, high_of, turns_in, purpose_of, sections_before, cued}
+use Rattle.injector.specs.Steps.{Step, Message, Packet, packets_in, high_of, turns_in, purpose_of, sections_before, cue_packets, cued}
 use Rattle.cue_laws.specs.Events.{Turn as LineTurn, before, In}
 use Rattle.cue_laws.specs.Thinning.{times}
 use Rattle.cue_laws.specs.Laws.{KeepsEnoughOf}
@@ -90,3 +90,16 @@ CuePathInPackets = (c : Config) (copies : List LineTurn → ℕ) (fronts : List 
     KeepsEnoughOf copies (asked_line c.index (turns_in c.program (Packet last ∷ (later ++ Packet p ∷ past)))) →
     (e : Standing) → e.cancelled ≡ false → before (high_of c.program (p ∷ packets_in past)) e.start ≡ false →
     In e (armed c.cue_pid (high_of c.program) (stream c fronts (Packet p ∷ past))) ↔ In e (events c.index (turns_in c.program (Packet p ∷ past)))
+
+-- ---- nothing lost
+
+-- the packets that an injector puts in front of a packet, by the number of packets before it
+abbrev pub own_fronts : Config → List Step → List ℕ → List (List ℕ) → List (List ℕ)
+own_fronts c [] p before_it = []
+own_fronts c (Message m ∷ past) p before_it = own_fronts c past p before_it
+own_fronts c (Packet q ∷ past) p before_it = if length before_it == length (packets_in past) then cue_packets c q past (cued c past) else own_fronts c past p before_it
+
+-- THE CUED STREAM ITSELF is such a stream, with one copy of each cue
+abbrev pub CuedStreamBrings : Type 0
+CuedStreamBrings = (c : Config) (past : List Step) → IsRunOf c past →
+    (stream c (own_fronts c past) past ≡ cued c past) × Brings c (λ t. 1) (own_fronts c past) past

@@ -1,7 +1,7 @@
 //! The laws of the cue path, each on a function of its own.
 
 ghost use Rattle.path_laws.specs.Telling.{StartTells, EndTells, CancelTells};
-ghost use Rattle.path_laws.specs.Packets.{SectionsReadBack};
+ghost use Rattle.path_laws.specs.Packets.{SectionsReadBack, StreamArms, CuePathInPackets, CuedStreamBrings};
 ghost use Rattle.path_laws.specs.Laws.{RequestsAreARun, CuesTellTheLine, CuePathOfEvents, CuePathOfEventsAtTheEnd};
 
 /// The section that an injector writes for the start of an event reads back, and is taken by the switch as that event, at its time on the
@@ -44,4 +44,20 @@ pub fn cue_path_of_events_at_the_end()
 /// A reader of the cue PID finds in the cued stream of a network without fault exactly the sections of the injector's cues, in order.
 pub fn sections_read_back()
     ensures { SectionsReadBack }
+{}
+
+/// What a stream arms, in front of whose packets some of the cues stand, is what the path of these cues does.
+pub fn stream_arms()
+    ensures { StreamArms }
+{}
+
+/// Behind each packet of a network without fault, a switch that reads what is left of the cues has armed exactly the uncancelled events
+/// that the injector has accepted and whose start is reached.
+pub fn cue_path_in_packets()
+    ensures { CuePathInPackets }
+{}
+
+/// The injector's own cued stream is such a stream, with one copy of each cue.
+pub fn cued_stream_brings()
+    ensures { CuedStreamBrings }
 {}
