@@ -1,7 +1,6 @@
 -- The cues in packets.
-use Rattle.std.proofs.Common.{◌≡◌, ◌↔◌, ℕ, zero, suc, ◌<◌, ◌==◌, Bool, true, false, ◌||◌, refl, sym, ap, ◌∙◌, subst, List, [], ◌∷◌, ◌++◌, cond, arith, append_assoc}
-use Rattle.std.specs.Prelude.{ℤ, map, reverse, All, Option, Some, None, Result, Ok, Err}
-use Rattle.std.specs.Option.{option_or}
+use Rattle.std.proofs.Common.{◌≡◌, ℕ, ◌==◌, Bool, true, false, ◌||◌, refl, sym, ap, ◌∙◌, subst, List, [], ◌∷◌, ◌++◌, append_assoc}
+use Rattle.std.specs.Prelude.{ℤ, map, reverse, All, Option, Some, None}
 use Rattle.std.specs.List.{AllByRecursion}
 use Rattle.std.proofs.lemmas.Bool.{eq-eqb}
 use Rattle.std.proofs.lemmas.List.{append-nil}
@@ -11,11 +10,10 @@ use Rattle.ts_packet.specs.Duplicates.{last_of}
 use Rattle.ts_packet.specs.Numbering.{one_past}
 use Rattle.ts_packet.specs.Runs.{onto}
 use Rattle.ts_packet.proofs.RunLemmas.{onto-append, reverse-cons}
-use Rattle.psi_section.specs.Sections.{given, sections, sections_after}
+use Rattle.psi_section.specs.Sections.{sections, sections_after}
 use Rattle.psi_section.specs.Laws.{CanBeGiven}
-use Rattle.psi_section.proofs.RunLemmas.{sections_after-append, given_off, others_give}
-use Rattle.psi_section.proofs.ReadBackLemmas.{Carries, turn_carry, read_back_in_turn}
-use Rattle.psi_section.proofs.GivenLemmas.{All-both}
+use Rattle.psi_section.proofs.RunLemmas.{sections_after-append, others_give}
+use Rattle.psi_section.proofs.ReadBackLemmas.{turn_carry, read_back_in_turn}
 use Rattle.psi_tables.specs.declared.config.Config.{Config}
 use Rattle.psi_tables.specs.declared.network.NetworkFault.TheVariants.{BadPids, CuePidUsed}
 use Rattle.scte35_codec.specs.declared.cue_out.CueOut.{CueOut}
@@ -23,24 +21,21 @@ use Rattle.scte35_codec.specs.Spelling.{cue_bytes, Fits}
 use Rattle.scte35_codec.proofs.GivenLemmas.{cue_given}
 use Rattle.program_follower.specs.declared.purpose.Listed.{Listed}
 use Rattle.program_follower.specs.Program.{listed, tables, Table}
-use Rattle.program_follower.specs.Faults.{first_fault, network_fault, pmt_pid_fault, if_bad, is_pid}
+use Rattle.program_follower.specs.Faults.{first_fault, network_fault, pmt_pid_fault, if_bad}
 use Rattle.program_follower.proofs.OptionLemmas.{none_both}
-use Rattle.program_laws.specs.Writing.{Along, number_on, Writing, section_out, packets_out, body, Off}
+use Rattle.program_laws.specs.Writing.{number_on, section_out, packets_out, body, Off}
 use Rattle.program_laws.specs.Cued.{cueing}
 use Rattle.program_laws.proofs.PacketLemmas.{Meets, one_past-below, fresh, meets_others, meets_own}
 use Rattle.program_laws.proofs.WritingLemmas.{carry_off, listed_below}
 use Rattle.program_laws.proofs.FaultLemmas.{not_if_bad, pid_good, no_cue_packets}
 use Rattle.scte104_codec.specs.Reading.{MessageReading}
 use Rattle.injector.specs.Noting.{Rises as InjectorRises}
-use Rattle.injector.specs.Turns.{Turn, Judged, Passed, high}
-use Rattle.injector.specs.Senders.{cues_before}
-use Rattle.injector.specs.Steps.{Step, Message, Packet, packets_in, high_of, turns_in, purpose_of, sections_before, cue_packets, body_at, sent_behind, cued}
+use Rattle.injector.specs.Steps.{Step, Message, Packet, packets_in, high_of, turns_in, purpose_of, sections_before, cue_packets, body_at, cued}
 use Rattle.injector.proofs.FeedLemmas.{rises-at, turns-high}
 use Rattle.cue_laws.specs.Events.{Rises}
 use Rattle.cue_laws.proofs.Settling.{by_test}
-use Rattle.path_laws.specs.Path.{Item, Sent, high_on, sent_onto, path, IsHistory}
-use Rattle.path_laws.specs.Path.{Packet as Crossed}
-use Rattle.path_laws.specs.Packets.{RequestsFit, IsRunOf, cue_sections, SectionsReadBack, cues_at, sent_in}
+use Rattle.path_laws.specs.Path.{Item, Sent, sent_onto, IsHistory}
+use Rattle.path_laws.specs.Packets.{IsRunOf, SectionsReadBack, cues_at, sent_in}
 use Rattle.path_laws.proofs.Reading.{AreNear}
 use Rattle.path_laws.proofs.Proofs.{tells}
 

@@ -1,10 +1,9 @@
 -- What a stream with some of its cues arms.
-use Rattle.std.proofs.Common.{◌≡◌, ◌↔◌, ℕ, zero, suc, ◌<◌, ◌==◌, Bool, true, false, not, ◌||◌, ◌&&◌, cond, refl, sym, ap, ◌∙◌, subst, List, [], ◌∷◌, ◌++◌, arith, is_some, if◌then◌else◌}
+use Rattle.std.proofs.Common.{◌≡◌, ℕ, zero, suc, ◌==◌, Bool, true, false, ◌||◌, cond, refl, sym, ap, ◌∙◌, subst, List, [], ◌∷◌, ◌++◌, is_some}
 use Rattle.std.specs.Prelude.{ℤ, map, filter, Option, Some, None, option_map}
 use Rattle.std.specs.Option.{option_or}
 use Rattle.std.specs.List.{AllByRecursion, list_any}
 use Rattle.std.proofs.lemmas.Bool.{eq-eqb}
-use Rattle.std.proofs.lemmas.List.{append-nil}
 use Rattle.ts_packet.specs.Fields.{on}
 use Rattle.ts_packet.specs.Runs.{onto}
 use Rattle.ts_packet.proofs.RunLemmas.{onto-append}
@@ -20,27 +19,25 @@ use Rattle.scte35_codec.specs.declared.cue_out.CueOut.{CueOut}
 use Rattle.scte35_codec.specs.Spelling.{cue_bytes}
 use Rattle.program_follower.specs.declared.purpose.Listed.{Listed}
 use Rattle.program_follower.specs.Program.{listed, first_listed, tables, all_tables, Table, first_map, known_map, program_in, program_of, behind_head, pids_of}
-use Rattle.program_follower.specs.Faults.{first_fault, is_pid, pids_in, cue_used}
+use Rattle.program_follower.specs.Faults.{first_fault, is_pid, pids_in}
 use Rattle.program_follower.proofs.StepLemmas.{known_off}
 use Rattle.program_follower.proofs.OptionLemmas.{option_or-none}
-use Rattle.program_laws.specs.Writing.{Along, written, body, Off}
-use Rattle.program_laws.specs.Behind.{TakesAll, SameUnits}
+use Rattle.program_laws.specs.Writing.{Along, body, Off}
+use Rattle.program_laws.specs.Behind.{TakesAll}
 use Rattle.program_laws.specs.Cued.{on_one, On, cueing, CuedReads}
 use Rattle.program_laws.proofs.ReadingLemmas.{no_tables, none_at_pat}
 use Rattle.program_laws.proofs.WritingLemmas.{off_other}
 use Rattle.program_laws.proofs.HeadLemmas.{nothing_behind}
 use Rattle.program_laws.proofs.UnitLemmas.{others_are_no_units}
-use Rattle.program_laws.proofs.FaultLemmas.{MapSound, all_sound, no_cue_packets}
+use Rattle.program_laws.proofs.FaultLemmas.{MapSound, all_sound}
 use Rattle.program_laws.proofs.CuedLemmas.{cued_stream_reads}
-use Rattle.armed_events.specs.Arming.{Heard, with_section, with_sections, heard, armed}
-use Rattle.injector.specs.Turns.{Turn, high, events}
+use Rattle.armed_events.specs.Arming.{Heard, with_section, with_sections, heard}
 use Rattle.injector.specs.Steps.{Step, Message, Packet, packets_in, high_of, turns_in, purpose_of}
 use Rattle.injector.proofs.FeedLemmas.{turns-high}
 use Rattle.cue_laws.specs.Events.{Turn as LineTurn}
 use Rattle.cue_laws.specs.Thinning.{times}
 use Rattle.cue_laws.proofs.Settling.{by_test}
-use Rattle.path_laws.specs.Path.{Item, Sent, high_on, sent_onto, line, left, path, heard_on, armed_on, IsHistory}
-use Rattle.path_laws.specs.Path.{Packet as Crossed}
+use Rattle.path_laws.specs.Path.{Item, Sent, high_on, sent_onto, line, left, heard_on}
 use Rattle.path_laws.specs.Packets.{IsRunOf, cues_at, sent_in, kept, stream, Brings, StreamArms}
 use Rattle.path_laws.proofs.Reading.{high-left}
 use Rattle.path_laws.proofs.Packets.{run-message, run-packet, run-history, map-pid, place-off}

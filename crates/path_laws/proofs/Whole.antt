@@ -1,36 +1,31 @@
 -- The cue path in packets, and the cued stream itself.
-use Rattle.std.proofs.Common.{◌≡◌, ◌↔◌, ℕ, zero, suc, ◌<◌, ◌≤◌, ◌==◌, Bool, true, false, refl, sym, ap, ◌∙◌, subst, List, [], ◌∷◌, ◌++◌, length, cond, arith, if◌then◌else◌}
-use Rattle.std.specs.Prelude.{ℤ, map, Option, Some, None}
+use Rattle.std.proofs.Common.{◌≡◌, ◌↔◌, ℕ, suc, ◌≤◌, ◌==◌, true, false, refl, sym, ap, ◌∙◌, subst, List, [], ◌∷◌, ◌++◌, length, cond, arith}
+use Rattle.std.specs.Prelude.{map, Option, Some, None}
 use Rattle.std.specs.List.{AllByRecursion}
 use Rattle.std.proofs.lemmas.Bool.{eq-eqb}
 use Rattle.std.proofs.lemmas.Bool.Decides.{nat_tests}
 use Rattle.ts_packet.specs.Fields.{on}
 use Rattle.ts_packet.specs.Numbering.{one_past}
 use Rattle.ts_packet.specs.Runs.{onto}
-use Rattle.ts_packet.proofs.RunLemmas.{onto-append}
 use Rattle.ts_packet.proofs.FieldLemmas.{payload_on-on}
 use Rattle.psi_section.specs.Sections.{sections_after}
 use Rattle.psi_section.specs.Packetising.{packets_in_turn}
 use Rattle.psi_section.proofs.ReadBackLemmas.{Carries, turn_carry}
 use Rattle.psi_tables.specs.declared.config.Config.{Config}
-use Rattle.scte104_codec.specs.Reading.{MessageReading}
 use Rattle.scte35_codec.specs.declared.cue_out.CueOut.{CueOut}
 use Rattle.scte35_codec.specs.Spelling.{cue_bytes}
-use Rattle.event_table.specs.Standing.{Standing}
-use Rattle.armed_events.specs.Arming.{Heard, heard, armed}
+use Rattle.armed_events.specs.Arming.{Heard, armed}
 use Rattle.program_follower.specs.declared.purpose.Listed.{Listed}
 use Rattle.program_follower.specs.Program.{listed, tables, Table}
-use Rattle.program_follower.specs.Faults.{first_fault}
-use Rattle.program_laws.specs.Writing.{number_on, section_out, packets_out, body, Off}
+use Rattle.program_laws.specs.Writing.{number_on, section_out, body, Off}
 use Rattle.program_laws.specs.Cued.{On, cueing}
 use Rattle.program_laws.proofs.PacketLemmas.{one_past-below}
 use Rattle.program_laws.proofs.WritingLemmas.{carry_off}
 use Rattle.injector.specs.Turns.{Turn, Judged, Passed, events}
-use Rattle.injector.specs.Steps.{Step, Message, Packet, packets_in, high_of, turns_in, purpose_of, sections_before, cue_packets, body_at, cued}
-use Rattle.cue_laws.specs.Events.{Turn as LineTurn, In}
+use Rattle.injector.specs.Steps.{Step, Message, Packet, packets_in, high_of, turns_in, sections_before, cue_packets, cued}
+use Rattle.cue_laws.specs.Events.{In}
 use Rattle.cue_laws.specs.Laws.{KeepsEnoughOf}
-use Rattle.cue_laws.proofs.Settling.{by_test}
-use Rattle.path_laws.specs.Path.{Item, Sent, left, heard_on, armed_on, asked_line, IsHistory}
+use Rattle.path_laws.specs.Path.{Item, Sent, left, armed_on, asked_line, IsHistory}
 use Rattle.path_laws.specs.Packets.{IsRunOf, cues_at, sent_in, kept, stream, Brings, CuePathInPackets, own_fronts, CuedStreamBrings}
 use Rattle.path_laws.proofs.Packets.{run-message, run-packet, run-history, map-pid, cues-back}
 use Rattle.path_laws.proofs.Streams.{stream_arms}

@@ -1,7 +1,6 @@
 -- The cue path in packets: a network with packets of the cue PID put in front of its packets, and what the switch's reader finds in them.
-use Rattle.std.specs.Prelude.{◌≡◌, ◌↔◌, ℕ, ◌<◌, true, false, ℤ, List, [], ◌∷◌, ◌++◌, map, reverse, length, ◌==◌, if◌then◌else◌, Option, Some, None}
+use Rattle.std.specs.Prelude.{◌≡◌, ◌↔◌, ℕ, ◌<◌, false, List, [], ◌∷◌, ◌++◌, map, reverse, length, ◌==◌, if◌then◌else◌, Some, None}
 use Rattle.std.specs.List.{AllByRecursion}
-use Rattle.ts_packet.specs.Fields.{on}
 use Rattle.wire_fields.specs.Numbers.{AreBytes}
 use Rattle.psi_section.specs.Sections.{sections, sections_after}
 use Rattle.psi_tables.specs.declared.config.Config.{Config}
