@@ -4,7 +4,7 @@ use Rattle.std.specs.Io.KnownBytes.{IsAtEnd}
 use Rattle.std.proofs.Common.{◌≡◌, ℕ, List, [], ◌∷◌, ◌++◌, Bool, true, false, refl, sym, ap, ◌∙◌, subst, ◌⊎◌, inl, inr, Option, Some, None, if◌then◌else◌}
 use Rattle.std.proofs.lemmas.List.{reverse-append, reverse-reverse}
 use Rattle.ts_packet.specs.Packets.{packets_of}
-use Rattle.ts_packet.specs.Reading.{Given, HasRead, Refuses, ReadSo, SourceCounts, SourceBlamed}
+use Rattle.ts_packet.specs.Sources.{Given, HasRead, Refuses, ReadSo, SourceCounts, SourceBlamed}
 use Rattle.ts_packet.specs.FirstFault as firsts
 use Rattle.ts_packet.specs.FirstFault.{or_then, Cause, OfInput, OfDevice, OfNothing, SaysBy, read_cause}
 use Rattle.ts_packet.specs.Transfers.{WentWell}
@@ -19,9 +19,8 @@ use Rattle.psi_tables.specs.declared.network.NetworkFault.TheVariants as network
 use Rattle.program_follower.specs.Faults.{network_fault}
 use Rattle.program_follower.specs.Program.{Program, program_of}
 use Rattle.program_follower.proofs.RunLemmas.{ends_sound, reader_stops, packet_stops}
-use Rattle.unit_cut.specs.Runs.{ReadOn, HasGiven, NetworkBlamed}
-use Rattle.unit_cut.specs.declared.run.CutFault.TheVariants.{Read}
-use Rattle.unit_cut.proofs.BlameLemmas.{on-told, read_blamed}
+use Rattle.ts_packet.specs.Sources.{ReadOn, HasGiven, RunBlamed}
+use Rattle.ts_packet.proofs.RunBlameLemmas.{on-told, read_blamed}
 use Rattle.ad_library.specs.declared.fault.AdFault.{AdFault}
 use Rattle.ad_library.specs.declared.fault.AdFault.TheVariants as ad_faults
 use Rattle.ad_library.specs.declared.gathering.Gathering.{Gathering}
@@ -222,7 +221,7 @@ quiet_take p past f (inr e) = quiet_packet p past f e
 pub told_blamed : (first now now' : Bool) (a b c : Tally) (f : AdFault) → ReadOn first now a b → SourceCounts true now now' b c → is_quiet f ≡ true → StreamBlamed f a c
 told_blamed first now now' a b c f h k q = quiet_blamed f a c q (so_quiet now' a c (on-told first now now' a b c h k))
 
-by_name : (fault : ReadFault) (ended : Bool) (a c : Tally) → NetworkBlamed (Read fault) ended a c → StreamBlamed (of_read fault) a c
+by_name : (fault : ReadFault) (ended : Bool) (a c : Tally) → RunBlamed fault a c → StreamBlamed (of_read fault) a c
 by_name read_faults.Truncated ended a c h = h
 by_name read_faults.SyncLost ended a c h = h
 by_name read_faults.BadAdaptation ended a c h = h
@@ -232,7 +231,7 @@ by_name read_faults.Failed ended a c h = h
 
 pub reader_blamed : (first now ended : Bool) (given : ℕ) (left : Option (List ℕ)) (a b c : Tally) → ReadOn first now a b → now ≡ false → (fault : ReadFault) → Refuses false left fault
     → SourceBlamed fault given b c → StreamBlamed (of_read fault) a c
-reader_blamed first now ended given left a b c h e fault k r = by_name fault ended a c (read_blamed first now ended given left a b c h e fault k r)
+reader_blamed first now ended given left a b c h e fault k r = by_name fault ended a c (read_blamed first now given left a b c h e fault k r)
 
 pub is_turns : (fault : ReadFault) → of_read fault ≡ ad_faults.Packets read_faults.Turns → fault ≡ read_faults.Turns
 is_turns read_faults.Truncated e = absurd (cc)

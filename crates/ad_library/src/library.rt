@@ -3,8 +3,8 @@
 ghost use Rattle.std.specs.Prelude.{◌≡◌, ◌≤◌, ◌↔◌, ◌⊎◌, ◌+◌, ℕ, List, Option, None, Some, Err, false, OnOk, OnErr, IfOk, IfErr, IfSome, IsSome, option_map};
 ghost use Rattle.indexmap.specs.IndexMap.{index_map_len};
 ghost use Rattle.ts_packet.specs.Packets.{packets_of};
-ghost use Rattle.ts_packet.specs.Reading.{SourceCounts};
-ghost use Rattle.unit_cut.specs.Runs.{Stalled, Exhausted};
+ghost use Rattle.ts_packet.specs.Sources.{SourceCounts};
+ghost use Rattle.ts_packet.specs.Sources.{Stalled, Exhausted};
 ghost use Rattle.ad_library.specs.Advertisements.{advertisement};
 ghost use Rattle.ad_library.specs.Storing.{on_line};
 ghost use Rattle.ad_library.specs.Slices.{left};

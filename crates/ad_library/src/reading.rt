@@ -2,8 +2,8 @@
 
 ghost use Rattle.std.specs.Prelude.{◌≡◌, ◌⊎◌, ℕ, List, [], Option, Some, None, Err, OnOk, IfOk, IfErr, IfSome, false};
 ghost use Rattle.ts_packet.specs.Packets.{packets_of};
-ghost use Rattle.ts_packet.specs.Reading.{SourceCounts};
-ghost use Rattle.unit_cut.specs.Runs.{Stalled, Exhausted};
+ghost use Rattle.ts_packet.specs.Sources.{SourceCounts};
+ghost use Rattle.ts_packet.specs.Sources.{Stalled, Exhausted};
 ghost use Rattle.ad_library.specs.Advertisements.{advertisement};
 ghost use Rattle.ad_library.specs.Library.{advert_seen};
 ghost use Rattle.ad_library.specs.Faults.{advertisement_fault, Says, is_of_library, StreamBlamed};

@@ -1,6 +1,6 @@
 -- The laws of a run, from those of a splice.
-use Rattle.unit_stream.specs.Carrying.{Carries}
-use Rattle.unit_stream.specs.Units.{units, payloads, lead}
+use Rattle.unit_stream.specs.Carrying.{CarriesUnits}
+use Rattle.unit_stream.specs.Units.{units, payloads, lead_in}
 use Rattle.ts_packet.proofs.Cases.{by_test}
 use Rattle.std.proofs.Common.{◌≡◌, ℕ, List, [], ◌∷◌, ◌++◌, false, refl, sym, ap, ◌∙◌, if◌then◌else◌, subst, map, length, reverse, inl, inr, suc, arith}
 use Rattle.std.specs.Prelude.{Contains, All, filter, ◌<◌}
@@ -94,7 +94,7 @@ runs_carry switched ads events k packed ps l s pid o =
     let slice : ℕ → PlayedEvent → List SliceUnit = λ pid x. sent_in_all switched ads events (reverse ps) pid x in
     let out : ℕ → PlayedEvent → List (List ℕ) → ℕ = λ pid x. sent_count switched ads events (reverse ps) pid x in
     let e = same switched ads events k ps in
-    subst (λ ms. (carried : List (List ℕ)) × (filter (payload_on pid) (output packed ms) ≡ lead pid ps ++ carried) × Carries carried (placed_payloads switched pid xs (slice pid) [] ps)) (sym e)
+    subst (λ ms. (carried : List (List ℕ)) × (filter (payload_on pid) (output packed ms) ≡ lead_in pid ps ++ carried) × CarriesUnits carried (placed_payloads switched pid xs (slice pid) [] ps)) (sym e)
     (counted_carries packed switched xs d slice out ps pid o (count switched ads events k ps pid o) (subst (AreSound packed) e s) l)
 
 pub runs_have_units : RunsHaveUnits

@@ -13,7 +13,7 @@ use Rattle.ts_packet.proofs.FieldLemmas.{payload_on-on, off_payload}
 use Rattle.ts_packet.proofs.RunLemmas.{filter-reverse}
 use Rattle.unit_stream.specs.Fates.{is_left_out}
 use Rattle.psi_tables.specs.ProgramMap.{ProgramMap}
-use Rattle.psi_section.proofs.ReadBackLemmas.{Carries, turn_carry}
+use Rattle.psi_section.proofs.ReadBackLemmas.{IsPayloadOn, turn_carry}
 use Rattle.program_follower.proofs.StreamLemmas.{one_pid}
 use Rattle.output_laws.proofs.GaplessLemmas.{test-true}
 use Rattle.program_follower.specs.declared.purpose.Listed.{Listed}
@@ -121,7 +121,7 @@ module _ (k : Setting) (pid : ℕ) where
   not-own : (q : ℕ) (p : List ℕ) → (q ≡ pid → ⊥) → on q p ≡ true → payload_on pid p ≡ false
   not-own q p ne o = by_test (payload_on pid p) (λ y. absurd (ne (one_pid q pid p o (payload_on-on pid p y)))) (λ n. n)
 
-  none-own : (q : ℕ) (qs : List (List ℕ)) → (q ≡ pid → ⊥) → AllByRecursion (Carries q) qs → filter takes qs ≡ []
+  none-own : (q : ℕ) (qs : List (List ℕ)) → (q ≡ pid → ⊥) → AllByRecursion (IsPayloadOn q) qs → filter takes qs ≡ []
   none-own q [] ne a = refl
   none-own q (p ∷ qs) ne a = let n = not-own q p ne (payload_on-on q p a.0) in simp n (none-own q qs ne a.1)
 

@@ -3,8 +3,8 @@ use Rattle.std.specs.Prelude.{◌≡◌, ℕ, ◌++◌, List, [], Option, map, f
 use Rattle.ts_packet.specs.Fields.{payload_on}
 use Rattle.ts_packet.specs.Runs.{IsGaplessAfter}
 use Rattle.unit_stream.specs.Times.{high}
-use Rattle.unit_stream.specs.Units.{units, payloads, lead}
-use Rattle.unit_stream.specs.Carrying.{Carries}
+use Rattle.unit_stream.specs.Units.{units, payloads, lead_in}
+use Rattle.unit_stream.specs.Carrying.{CarriesUnits}
 use Rattle.splice_laws.specs.Splicing.{stream}
 use Rattle.splice_laws.specs.Laws.{AreOrdered, IsConditioned}
 use Rattle.splice_laws.specs.Rows.{led, placed_units, splice_units}
@@ -65,8 +65,8 @@ AreSound packed moves = Along (λ (s : Move) (past : List Move). Sound packed s)
 abbrev pub RunsCarry : Type 0
 RunsCarry = (switched : List ℕ) (ads : Adverts) (events : History) → IsPlayable switched ads events → (packed : Packing) (ps : List (List ℕ)) → ArePackets ps →
     AreSound packed (run_moves switched ads events ps) → (pid : ℕ) → IsOnce pid switched →
-    (carried : List (List ℕ)) × (filter (payload_on pid) (output packed (run_moves switched ads events ps)) ≡ lead pid ps ++ carried)
-    × Carries carried (placed_payloads switched pid (intervals ads (events (reverse ps))) (sent_in_all switched ads events (reverse ps) pid) [] ps)
+    (carried : List (List ℕ)) × (filter (payload_on pid) (output packed (run_moves switched ads events ps)) ≡ lead_in pid ps ++ carried)
+    × CarriesUnits carried (placed_payloads switched pid (intervals ads (events (reverse ps))) (sent_in_all switched ads events (reverse ps) pid) [] ps)
 
 -- WHERE THE NETWORK IS GAPLESS on the PID, and it has a payload packet before its first unit put in, so is the output, and its units are these
 abbrev pub RunsHaveUnits : Type 0

@@ -3,8 +3,8 @@ use Rattle.ts_packet.specs.declared.reader.ReadFault.TheVariants as read_faults
 use Rattle.ad_library.specs.declared.fault.AdFault.TheVariants as ad_faults
 use Rattle.std.specs.Prelude.{reverse}
 use Rattle.std.proofs.lemmas.List.Elements.{All-nil}
-use Rattle.unit_cut.proofs.BlameLemmas.{on-refl, on-more, on-end}
-use Rattle.unit_cut.proofs.RunLemmas.{given_none, given_more}
+use Rattle.ts_packet.proofs.RunBlameLemmas.{on-refl, on-more, on-end}
+use Rattle.ts_packet.proofs.RunBlameLemmas.{given_none, given_more}
 use Rattle.ad_library.proofs.ReadLemmas.{one_taken, all_taken, take_says, read_says, read_own, told_blamed, quiet_take, not_turns, reader_blamed}
 use Rattle.ad_library.proofs.reading.gather.Goals as goal
 

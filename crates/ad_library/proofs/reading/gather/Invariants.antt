@@ -1,5 +1,5 @@
 use Rattle.std.proofs.Common.{◌≡◌, ◌-◌, ◌^◌, false}
-use Rattle.unit_cut.specs.Runs.{ReadOn}
+use Rattle.ts_packet.specs.Sources.{ReadOn}
 use Rattle.ad_library.proofs.ReadLemmas.{HasTaken}
 use Rattle.ad_library.proofs.reading.gather.Given as goal
 
