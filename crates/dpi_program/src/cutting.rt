@@ -25,7 +25,11 @@ use unit_cut::{CutFault, cut};
 pub const BUFFER_SIZE: usize = 262_144;
 
 /// The fault of an output that could not be flushed.
-const UNFLUSHED: CutFault = CutFault::Sink(PutFault::Io);
+fn unflushed() -> CutFault
+    ensures { result ≡ CutFault.Sink PutFault.Io }
+{
+    CutFault::Sink(PutFault::Io)
+}
 
 /// What a cut answered, and what was seen go by where that was asked for.
 #[derive(Drop)]
@@ -87,7 +91,7 @@ fn cut_to_blocks<P: PacketSource, W: Write + Drop>(
     let mut target = Device::new(writer);
     let mut writer = PacketWriter::new(&mut target);
     let Passed { outcome, seen } = cut_by_options(options, network, &mut writer);
-    let (outcome, output) = finish_buffer(outcome, target.into_inner(), UNFLUSHED);
+    let (outcome, output) = finish_buffer(outcome, target.into_inner(), unflushed());
     Ok(Finished {
         outcome,
         output,
@@ -109,7 +113,7 @@ fn cut_to_packets<P: PacketSource, W: Write + Drop>(
     let mut writer = PacketWriter::new(&mut target);
     let Passed { outcome, seen } = cut_by_options(options, network, &mut writer);
     let mut output = target.into_inner();
-    let outcome = finish(outcome, &mut output, UNFLUSHED);
+    let outcome = finish(outcome, &mut output, unflushed());
     Finished {
         outcome,
         output,
@@ -134,7 +138,7 @@ fn cut_to_lines<P: PacketSource, W: Write + Drop>(
     let mut target = Device::new(writer);
     let mut writer = LineWriter::new(&mut target);
     let Passed { outcome, seen } = cut_by_options(options, network, &mut writer);
-    let (outcome, output) = finish_buffer(outcome, target.into_inner(), UNFLUSHED);
+    let (outcome, output) = finish_buffer(outcome, target.into_inner(), unflushed());
     Ok(Finished {
         outcome,
         output,

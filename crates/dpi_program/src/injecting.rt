@@ -30,7 +30,11 @@ use ts_packet::{
 };
 
 /// The fault of an output that could not be flushed.
-const UNFLUSHED: ListenFault = ListenFault::Run(RunFault::Feed(FeedFault::Sink(PutFault::Io)));
+fn unflushed() -> ListenFault
+    ensures { result ≡ ListenFault.Run (RunFault.Feed (FeedFault.Sink PutFault.Io)) }
+{
+    ListenFault::Run(RunFault::Feed(FeedFault::Sink(PutFault::Io)))
+}
 
 /// Where the messages of a run come from: a script, or the next client of a listener.
 #[derive(Drop)]
@@ -155,7 +159,7 @@ where
     let mut writer = PacketWriter::new(&mut target);
     let Passed { outcome, seen } = run_by_options(options, chain, network, asker, &mut writer);
     let mut output = target.into_inner();
-    let outcome = finish(outcome, &mut output, UNFLUSHED);
+    let outcome = finish(outcome, &mut output, unflushed());
     Finished {
         outcome,
         output,
@@ -189,7 +193,7 @@ where
     let mut target = Device::new(buffer);
     let mut writer = PacketWriter::new(&mut target);
     let Passed { outcome, seen } = run_by_options(options, chain, network, asker, &mut writer);
-    let (outcome, output) = finish_buffer(outcome, target.into_inner(), UNFLUSHED);
+    let (outcome, output) = finish_buffer(outcome, target.into_inner(), unflushed());
     Ok(Finished {
         outcome,
         output,
