@@ -25,7 +25,7 @@ cue-some (Start event time duration program avail expected avails) = omega arith
 cue-some (Cancel event) = omega arith
 cue-some (End event time) = omega arith
 
-ring-limit : (e : Standing) → ring_limit (on_ring e) ≡ ring_of (limit e)
+pub ring-limit : (e : Standing) → ring_limit (on_ring e) ≡ ring_of (limit e)
 ring-limit e = by (not e.cancelled && is_ended e)
   where
     by : (b : Bool) → cond b (ring_end (on_ring e)) (ring_of e.start) ≡ ring_of (cond b (end_of e) e.start)
@@ -36,7 +36,7 @@ ring-news : (e : Standing) (t : Option Standing) → ring_news (on_ring e) (opti
 ring-news e None = refl
 ring-news e (Some t) = refl
 
-limit-bounds : (high : ℤ) (e : Standing) → IsInReach high e → (limit e ≤ℤ (high +ℤ pos (2 ^ 31))) × (high ≤ℤ (limit e +ℤ pos (2 ^ 31)))
+pub limit-bounds : (high : ℤ) (e : Standing) → IsInReach high e → (limit e ≤ℤ (high +ℤ pos (2 ^ 31))) × (high ≤ℤ (limit e +ℤ pos (2 ^ 31)))
 limit-bounds high e r = by (not e.cancelled && is_ended e)
   where
     by : (b : Bool) → (cond b (end_of e) e.start ≤ℤ (high +ℤ pos (2 ^ 31))) × (high ≤ℤ (cond b (end_of e) e.start +ℤ pos (2 ^ 31)))
@@ -44,7 +44,7 @@ limit-bounds high e r = by (not e.cancelled && is_ended e)
     by false = let s = r.start in let m = r.most in let k = r.shortened in let f = r.stands in (omega (arith, ints), omega (arith, ints))
 
 -- two times less than 2^32 apart
-before-within : (a b : ℤ) → b ≤ℤ (a +ℤ pos (2 ^ 32)) → a <ℤ (b +ℤ pos (2 ^ 32)) → is_before_on_ring (ring_of a) (ring_of b) ≡ int_lt a b
+pub before-within : (a b : ℤ) → b ≤ℤ (a +ℤ pos (2 ^ 32)) → a <ℤ (b +ℤ pos (2 ^ 32)) → is_before_on_ring (ring_of a) (ring_of b) ≡ int_lt a b
 before-within a b low top = let way : signed (ring_of a) (ring_of b) ≡ a -ℤ b = signed-range a b low top in rw way (grind (arith, ints))
 
 not-before : (a b : ℤ) → not (int_lt a b) ≡ int_le b a

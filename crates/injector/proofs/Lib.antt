@@ -7,3 +7,4 @@ pub mod CountLemmas
 pub mod FeedLemmas
 pub mod RestLemmas
 pub mod CuedLemmas
+pub mod BoundLemmas

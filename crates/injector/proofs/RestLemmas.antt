@@ -94,10 +94,10 @@ some-current e = by e.cancelled (is_ended e)
     by false false = refl
 
 -- nothing is chosen where nothing is new and nothing is repeated
-none-chosen : (x : Sender) (line later : Option ℤ) → is_none (news x.event x.told) ≡ true → is_repeated x.event x.last line later ≡ false → is_none (chosen x line later) ≡ true
+pub none-chosen : (x : Sender) (line later : Option ℤ) → is_none (news x.event x.told) ≡ true → is_repeated x.event x.last line later ≡ false → is_none (chosen x line later) ≡ true
 none-chosen x line later none not-again = rw none (rw not-again refl)
 
-chosen-none : (x : Sender) (line later : Option ℤ) → is_none (chosen x line later) ≡ true → (is_none (news x.event x.told) ≡ true) × (is_repeated x.event x.last line later ≡ false)
+pub chosen-none : (x : Sender) (line later : Option ℤ) → is_none (chosen x line later) ≡ true → (is_none (news x.event x.told) ≡ true) × (is_repeated x.event x.last line later ≡ false)
 chosen-none x line later none = by (is_none (news x.event x.told)) (is_repeated x.event x.last line later) refl refl
   where
     by : (n r : Bool) → is_none (news x.event x.told) ≡ n → is_repeated x.event x.last line later ≡ r → (is_none (news x.event x.told) ≡ true) × (is_repeated x.event x.last line later ≡ false)
@@ -143,7 +143,7 @@ same-judged : (line : Option ℤ) (test : Sender → Bool) (xs : List Sender) (a
 same-judged line test xs a (Err e) is = refl
 same-judged line test xs a (Ok u) is = absurd (let no : true ≡ false = is in cc)
 
-same-refused : (index : ℕ) (m : MessageReading) (past : List Turn) → is_accepted (outcome index m past) ≡ false → with_request (high past) (senders index past) (asked_of index m) ≡ senders index past
+pub same-refused : (index : ℕ) (m : MessageReading) (past : List Turn) → is_accepted (outcome index m past) ≡ false → with_request (high past) (senders index past) (asked_of index m) ≡ senders index past
 same-refused index (init head) past is = refl
 same-refused index (alive head body) past is = refl
 same-refused index (other head) past is = refl
@@ -253,7 +253,7 @@ no-cues line later (x ∷ xs) all =
 same-tell : (line later : Option ℤ) (x : Sender) → is_none (chosen x line later) ≡ true → tell line later x ≡ x
 same-tell line later x none = ap (λ b. cond b x (told_now later x)) none
 
-none-told : (line later : Option ℤ) (xs : List Sender) → All (λ x. is_none (chosen x line later) ≡ true) xs → map (tell line later) xs ≡ xs
+pub none-told : (line later : Option ℤ) (xs : List Sender) → All (λ x. is_none (chosen x line later) ≡ true) xs → map (tell line later) xs ≡ xs
 none-told line later [] all = refl
 none-told line later (x ∷ xs) all =
     ap (λ y. y ∷ map (tell line later) xs) (same-tell line later x (All-head (λ y. is_none (chosen y line later) ≡ true) x xs all))

@@ -28,7 +28,7 @@ seam-at : {X : Type 0} (front : List X) (x : X) (bs all : List X) (place : ℕ) 
 seam-at front x bs all place y same at is =
     is ∙ ap (λ l. slice_index_or l place y) same ∙ ap (λ k. slice_index_or (front ++ x ∷ bs) k y) at ∙ get_or-append_seam front x bs y
 
-seam-all : {X : Type 0} (P : X → Type 0) (front : List X) (x : X) (bs : List X) → All P (front ++ x ∷ bs) → P x
+pub seam-all : {X : Type 0} (P : X → Type 0) (front : List X) (x : X) (bs : List X) → All P (front ++ x ∷ bs) → P x
 seam-all P [] x bs all = All-head P x bs all
 seam-all P (a ∷ front) x bs all = seam-all P front x bs (All-tail P a (front ++ x ∷ bs) all)
 
@@ -45,7 +45,7 @@ module _ (r : Requests) (line after : Option ℤ) (done : List Sender) (x : Send
   value_list : values_of r.table ≡ map notes_of (map (tell line after) done) ++ notes_of x ∷ map notes_of left
   value_list = sending.notes ∙ seam-map notes_of (map (tell line after) done) x left
 
-  at_within : IsWithin line x.event
+  pub at_within : IsWithin line x.event
   at_within = within (done ++ x ∷ left) sending.table.within (λ P all. seam-all P done x left all)
     where
       within : (xs : List Sender) → All (IsWithin line) (events_in xs) → ((P : Sender → Type 0) → All P xs → P x) → IsWithin line x.event
@@ -55,7 +55,7 @@ module _ (r : Requests) (line after : Option ℤ) (done : List Sender) (x : Send
           unmapped [] all = All-nil (λ (y : Sender). IsWithin line y.event)
           unmapped (y ∷ ys) all = All-cons (λ (z : Sender). IsWithin line z.event) y ys (All-head (IsWithin line) y.event (events_in ys) all) (unmapped ys (All-tail (IsWithin line) y.event (events_in ys) all))
 
-  at_kept : IsKept line x
+  pub at_kept : IsKept line x
   at_kept = seam-all (IsKept line) done x left sending.kept
 
   pub sending-shown : (place : ℕ) (e : Event) (n : Notes) → place ≡ length done → e ≡ slice_index_or (events_of r.table) place e → n ≡ slice_index_or (values_of r.table) place n → IsShown e n x

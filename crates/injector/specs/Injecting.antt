@@ -1,5 +1,5 @@
 -- What an injector stands for.
-use Rattle.std.specs.Prelude.{◌≡◌, ℕ, List, ◌∷◌, Bool, true, false, None, Some, Result, Ok, Err}
+use Rattle.std.specs.Prelude.{Option, ◌≡◌, ℕ, List, ◌∷◌, Bool, true, false, None, Some, Result, Ok, Err}
 use Rattle.ts_packet.specs.declared.tally.Tally.{Tally}
 use Rattle.ts_packet.specs.Sinks.{Blamed}
 use Rattle.ts_packet.specs.declared.sink.PutFault.{PutFault}
@@ -15,11 +15,16 @@ use Rattle.program_follower.specs.Faults.{network_fault}
 use Rattle.outgoing_packets.specs.Numbers.{HasPut, FrontFails}
 use Rattle.injector.specs.declared.counts.MessageCounts.{MessageCounts}
 use Rattle.injector.specs.declared.injector.Injector.{Injector}
-use Rattle.injector.specs.Turns.{Turn}
+use Rattle.injector.specs.Turns.{Turn, high}
+use Rattle.injector.specs.Senders.{standing_senders}
 use Rattle.injector.specs.Requests.{RequestsStandFor}
-use Rattle.injector.specs.Noting.{NotesStandFor}
+use Rattle.injector.specs.Noting.{NotesStandFor, Rests}
 use Rattle.injector.specs.Steps.{Step, packets_in, turns_in, purpose_of, cued, sent_at, has_news, messages_in}
 use Rattle.injector.specs.Steps.{accepted_in, refused_in}
+
+-- the time until which no cue is due
+abbrev pub RestsAt : Option ℕ → ℕ → List Turn → Type 0
+RestsAt rest index past = Rests rest (high past) (standing_senders index past)
 
 -- each count stops at the greatest u64
 pub record CountsAre (counts : MessageCounts) (index : ℕ) (past : List Turn) : Type 0 where
@@ -38,6 +43,7 @@ pub record InjectorStandsFor (i : Injector) (c : Config) (past : List Step) : Ty
   pub cue_pid : i.cue_pid ≡ c.cue_pid
   pub notes : NotesStandFor i.requests c.index (turns_in c.program past)
   pub news : i.has_news ≡ has_news c.index (turns_in c.program past)
+  pub rest : i.has_news ≡ false → RestsAt i.rest c.index (turns_in c.program past)
   pub follower : FollowerStandsFor i.follower (purpose_of c) (packets_in past)
   pub out : HasPut i.out (cued c past)
   pub whole : i.is_spent ≡ false
@@ -86,6 +92,7 @@ pub record IsFed (i : Injector) (is_map : Bool) (c : Config) (p : List ℕ) (pas
   pub judges : JudgesBy i c past
   pub notes : NotesStandFor i.requests c.index (turns_in c.program past)
   pub news : i.has_news ≡ has_news c.index (turns_in c.program past)
+  pub rest : i.has_news ≡ false → RestsAt i.rest c.index (turns_in c.program past)
   pub body : IsBodyOf i is_map c p (packets_in past)
   pub out : HasPut i.out (cued c past)
   pub whole : i.is_spent ≡ false
@@ -95,6 +102,7 @@ pub record KeepsRest (old new : Injector) : Type 0 where
   pub cue_pid : new.cue_pid ≡ old.cue_pid
   pub requests : new.requests ≡ old.requests
   pub has_news : new.has_news ≡ old.has_news
+  pub rest : new.rest ≡ old.rest
   pub follower : new.follower ≡ old.follower
   pub counts : new.counts ≡ old.counts
   pub is_spent : new.is_spent ≡ old.is_spent

@@ -1,5 +1,6 @@
 -- What the code keeps beside an event, and what it stands for.
-use Rattle.std.specs.Prelude.{◌≡◌, ℕ, ℤ, pos, ◌+ℤ◌, ◌≤ℤ◌, ◌+◌, ◌%◌, ◌^◌, ◌≤◌, nat_lt, Bool, false, not, ◌&&◌}
+use Rattle.std.specs.Prelude.{◌≡◌, ℕ, ℤ, pos, ◌+ℤ◌, ◌≤ℤ◌, ◌<ℤ◌, int_lt, ◌+◌, ◌%◌, ◌^◌, ◌≤◌, nat_lt, Bool, false, not}
+use Rattle.std.specs.Prelude.{◌&&◌}
 use Rattle.std.specs.Prelude.{if◌then◌else◌, List, ◌∷◌, ◌++◌, length, drop, replicate, map, All, Option, None, Some}
 use Rattle.std.specs.Prelude.{option_map}
 use Rattle.pes_time.specs.Line.{ring_of}
@@ -14,9 +15,9 @@ use Rattle.injector.specs.declared.notes.Told.{Told}
 use Rattle.injector.specs.declared.notes.Notes.{Notes}
 use Rattle.injector.specs.declared.choice.Choice.{Choice}
 use Rattle.injector.specs.declared.requests.Requests.{Requests}
-use Rattle.injector.specs.Turns.{Turn, high}
+use Rattle.injector.specs.Turns.{Turn, Passed, high}
 use Rattle.injector.specs.Requests.{RequestsStandFor}
-use Rattle.injector.specs.Senders.{Sender, is_none, no_cue, tell, events_in, standing_senders, IsIdle}
+use Rattle.injector.specs.Senders.{Sender, is_none, no_cue, limit, tell, events_in, standing_senders, IsIdle}
 
 abbrev pub ids_of : List ℕ → AvailIds
 ids_of ids = record { ids = ids ++ drop (length ids) (replicate 14 0); count = length ids }
@@ -43,6 +44,11 @@ notes_asked a =
       told = None;
       last = None;
     }
+
+abbrev pub next_by : Standing → Option ℤ → Option ℤ → Option ℤ
+next_by e None high = None
+next_by e (Some last) None = None
+next_by e (Some last) (Some high) = if int_lt high (limit e) then Some (last +ℤ pos 90000) else None
 
 -- ---- the choice of cues, on the ring
 
@@ -75,6 +81,25 @@ abbrev pub ring_chosen : Event → Option Told → Option ℕ → Option ℕ →
 ring_chosen e told last high later =
     if not (is_none (ring_news e told)) then ring_news e told
     else (if ring_repeated e last high later then ring_current e else no_cue)
+
+-- the time at which the cue is repeated next
+abbrev pub ring_next : Event → Option ℕ → Option ℕ → Option ℕ
+ring_next e None high = None
+ring_next e (Some last) None = None
+ring_next e (Some last) (Some high) =
+    if is_before_on_ring high (ring_limit e) then Some ((last + 90000) % 2 ^ 33) else None
+
+-- the earlier of two times
+abbrev pub ring_earlier : Option ℕ → Option ℕ → Option ℕ
+ring_earlier None b = b
+ring_earlier (Some a) None = Some a
+ring_earlier (Some a) (Some b) = if is_before_on_ring b a then Some b else Some a
+
+-- the greatest time behind a packet has come to this time
+abbrev pub ring_reached : Option ℕ → Option ℕ → Bool
+ring_reached None later = false
+ring_reached (Some rest) None = false
+ring_reached (Some rest) (Some later) = not (is_before_on_ring later rest)
 
 -- ---- what is kept
 
@@ -119,6 +144,36 @@ abbrev pub Rises : Option ℤ → Option ℤ → Type 0
 Rises None later = Unit {0}
 Rises (Some high) None = ⊥
 Rises (Some high) (Some later) = (high ≤ℤ later) × (later ≤ℤ (high +ℤ pos 900000))
+
+-- ---- until when no cue is due
+
+-- the time at which the event's cue is repeated next, unless it changes
+abbrev pub next_of : Option ℤ → Sender → Option ℤ
+next_of high x = next_by x.event x.last high
+
+-- it is not before this one
+abbrev pub AtOrAfter : Option ℤ → Option ℤ → Type 0
+AtOrAfter bound None = Unit {0}
+AtOrAfter None (Some next) = ⊥
+AtOrAfter (Some bound) (Some next) = bound ≤ℤ next
+
+-- a second past the greatest time at most
+abbrev pub IsAhead : Option ℤ → Option ℤ → Type 0
+IsAhead None high = Unit {0}
+IsAhead (Some bound) None = ⊥
+IsAhead (Some bound) (Some high) = (high <ℤ bound) × (bound ≤ℤ (high +ℤ pos 90000))
+
+-- No cue of these events is repeated before the time that is kept, or ever where none is kept.
+pub record Rests (rest : Option ℕ) (high : Option ℤ) (xs : List Sender) : Type 0 where
+  pub bound : Option ℤ
+  pub kept : rest ≡ option_map ring_of bound
+  pub ahead : IsAhead bound high
+  pub waits : All (λ x. AtOrAfter bound (next_of high x)) xs
+
+-- the same by a history: also behind a packet before which no cue is due
+pub record StaysAtRest (rest : Option ℕ) (index : ℕ) (line : Option ℤ) (past : List Turn) : Type 0 where
+  pub idle : IsIdle index line past
+  pub rests : Rests rest line (standing_senders index (Passed line ∷ past))
 
 -- Before a packet behind which the greatest time is `line`, at this place of the ring. No event is looked at where it is known that no cue
 -- is due.

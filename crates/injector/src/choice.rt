@@ -3,6 +3,7 @@
 ghost use Rattle.std.specs.Prelude.{◌≡◌, ℕ, Option};
 ghost use Rattle.injector.specs.Senders.{is_none};
 ghost use Rattle.injector.specs.Noting.{ring_ended, ring_news, ring_current, ring_limit, ring_repeated, ring_chosen};
+ghost use Rattle.injector.specs.Noting.{ring_next, ring_earlier, ring_reached};
 
 use crate::notes::{Notes, Told};
 use event_table::{Event, is_before};
@@ -94,6 +95,51 @@ fn is_repeated(
         return false;
     };
     is_before(high, limit(event)) && !is_before(later, last.plus(REPEAT))
+}
+
+/// The time at which the event's cue is repeated next, behind a packet with this greatest time, unless the event changes.
+pub(crate) fn next_time(event: &Event, last: Option<Time33>, high: Option<Time33>) -> Option<Time33>
+    ensures { result ≡ ring_next event.now last high }
+{
+    let Some(last) = last else {
+        return None;
+    };
+    let Some(high) = high else {
+        return None;
+    };
+    if is_before(high, limit(event)) {
+        return Some(last.plus(REPEAT));
+    }
+    None
+}
+
+/// The earlier of two times.
+pub(crate) fn earlier(a: &Option<Time33>, b: &Option<Time33>) -> Option<Time33>
+    ensures { result ≡ ring_earlier a.now b.now }
+{
+    let Some(first) = *a else {
+        return *b;
+    };
+    let Some(second) = *b else {
+        return Some(first);
+    };
+    if is_before(second, first) {
+        return Some(second);
+    }
+    Some(first)
+}
+
+/// Whether the greatest time behind a packet has come to this time.
+pub(crate) fn is_reached(rest: Option<Time33>, later: Option<Time33>) -> bool
+    ensures { result ≡ ring_reached rest later }
+{
+    let Some(rest) = rest else {
+        return false;
+    };
+    let Some(later) = later else {
+        return false;
+    };
+    !is_before(later, rest)
 }
 
 /// The cues of an event that go out before a packet that lifts the greatest time from `high` to `later`: the new ones, else the one that

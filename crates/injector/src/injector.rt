@@ -10,13 +10,15 @@ ghost use Rattle.scte104_codec.specs.Views.{reading_of};
 ghost use Rattle.program_follower.specs.Faults.{network_fault};
 ghost use Rattle.outgoing_packets.specs.Numbers.{HasPut, FrontFails};
 ghost use Rattle.injector.specs.Replies.{reply_to};
-ghost use Rattle.injector.specs.Senders.{IsIdle};
+ghost use Rattle.injector.specs.Requests.{RequestsStandFor};
+ghost use Rattle.injector.specs.Noting.{NotesStandFor, StaysAtRest};
 ghost use Rattle.injector.specs.Steps.{Step, Message as MessageStep, Packet as PacketStep, packets_in, turns_in};
 ghost use Rattle.injector.specs.Steps.{high_of};
 ghost use Rattle.injector.specs.Steps.{purpose_of, body_at, sent_at};
 ghost use Rattle.injector.specs.Injecting.{InjectorStandsFor, JudgesBy, FeedFails, FeedBlamed, KeepsSink, CountsAre};
-ghost use Rattle.injector.specs.Injecting.{IsFed, IsBodyOf, KeepsRest, is_map_place, is_err_or};
+ghost use Rattle.injector.specs.Injecting.{IsFed, IsBodyOf, RestsAt, KeepsRest, is_map_place, is_err_or};
 
+use crate::choice::is_reached;
 use crate::counts::{MessageCounts, accepts, counted};
 use crate::cues::put_due;
 use crate::requests::Requests;
@@ -37,11 +39,14 @@ pub struct Injector {
     counts: MessageCounts,
     /// A request was accepted since the last packet.
     has_news: bool,
+    /// The time before which no cue is repeated; `None` where none is, unless a request comes.
+    rest: Option<Time33>,
     is_spent: bool,
 }
 
 impl Injector {
     /// An injector that was given no message and no packet.
+    #[tactic(auto, using(crate::proofs::BoundLemmas::rests_none))]
     pub fn new(config: Config) -> Injector
         ensures { InjectorStandsFor result config [] }
     {
@@ -56,6 +61,7 @@ impl Injector {
                 refused: 0,
             },
             has_news: false,
+            rest: None,
             is_spent: false,
         }
     }
@@ -190,18 +196,33 @@ impl Injector {
             Err(fault) => return Err(fault),
         }
         self.requests.rise(later);
+        self.rest = self.rest_behind(is_due);
         self.has_news = false;
         Ok(())
     }
 
-    /// Whether a cue may be due before a packet that was followed, behind which this is the greatest time: where it is not the greatest
-    /// time before the packet, or a request was accepted since the last one. It looks at no event.
+    /// Whether a cue may be due before a packet that was followed, behind which this is the greatest time: where it has come to the
+    /// time that is kept, or a request was accepted since the last packet. It looks at no event.
     fn is_due(&self, later: &Option<Time33>) -> bool
         ensures { (is_map : Bool) (c : Config) (p : List ℕ) (past : List Step) → IsFed self.now is_map c p past →
             later.now ≡ option_map ring_of (high_of c.program (p ∷ packets_in past)) → result ≡ false →
-            IsIdle c.index (high_of c.program (p ∷ packets_in past)) (turns_in c.program past) }
+            StaysAtRest self.now.rest c.index (high_of c.program (p ∷ packets_in past)) (turns_in c.program past) }
     {
-        self.has_news || *later != self.requests.high()
+        self.has_news || is_reached(self.rest, *later)
+    }
+
+    /// The time until which no cue is due behind a packet: that from before where none was due, and else by each event.
+    fn rest_behind(&self, is_due: bool) -> Option<Time33>
+        ensures { (c : Config) (p : List ℕ) (past : List Step) →
+            RequestsStandFor self.now.requests c.index (turns_in c.program (PacketStep p ∷ past)) →
+            NotesStandFor self.now.requests c.index (turns_in c.program (PacketStep p ∷ past)) →
+            (is_due ≡ false → RestsAt self.now.rest c.index (turns_in c.program (PacketStep p ∷ past))) →
+            RestsAt result c.index (turns_in c.program (PacketStep p ∷ past)) }
+    {
+        if is_due {
+            return self.requests.rest();
+        }
+        self.rest
     }
 
     /// Puts the packet, or the sections that it finishes on the PID of the map.

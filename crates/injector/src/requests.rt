@@ -4,7 +4,7 @@ ghost use Rattle.std.specs.Prelude.{◌≡◌, ◌↔◌, ◌+◌, ◌*◌, ◌%
 ghost use Rattle.std.specs.Prelude.{OnErr, IsTrue, length, slice_index_or, slice_set, option_map};
 ghost use Rattle.scte104_codec.specs.Views.{reading_of};
 ghost use Rattle.event_table.specs.Rings.{CanAdvance};
-ghost use Rattle.event_table.specs.Standing.{Standing, IsTimeAt, has_id, with_cancelled};
+ghost use Rattle.event_table.specs.Standing.{Standing, IsTimeAt, on_ring, has_id, with_cancelled};
 ghost use Rattle.event_table.specs.Tables.{StandsFor, high_of, events_of, values_of};
 ghost use Rattle.pes_time.specs.Line.{ring_of};
 ghost use Rattle.injector.specs.Asking.{fields_of, asked_of_multiple, IsStartable};
@@ -13,10 +13,11 @@ ghost use Rattle.injector.specs.Verdicts.{started, ended, after, after_by, event
 ghost use Rattle.injector.specs.Turns.{Turn, Judged, Passed, high};
 ghost use Rattle.injector.specs.Replies.{reply_to};
 ghost use Rattle.injector.specs.Requests.{RequestsStandFor};
-ghost use Rattle.injector.specs.Senders.{Sender, events_in, noted_after};
-ghost use Rattle.injector.specs.Noting.{AreNoted, NotesStandFor, NotesTold, Rises};
+ghost use Rattle.injector.specs.Senders.{Sender, events_in, noted_after, standing_senders, IsIdle};
+ghost use Rattle.injector.specs.Noting.{AreNoted, NotesStandFor, NotesTold, Rises, Rests, Sending, ring_next};
 
 use crate::asked::{Asked, END_NORMAL, START_NORMAL, request_in};
+use crate::choice::{earlier, next_time};
 use crate::notes::Notes;
 use crate::refusal::Refusal;
 use crate::reply::{SUCCESS, UNSERVED, alive_reply, bad_reply, reply, verdict_reply};
@@ -136,6 +137,34 @@ impl Requests {
                 verdict_reply(multi.head, verdict)
             }
         }
+    }
+
+    /// The time until which no cue is due, behind a packet before which those that were due went out.
+    pub(crate) fn rest(&self) -> Option<Time33>
+        ensures { (index : ℕ) (past : List Turn) → RequestsStandFor self.now index past →
+            NotesStandFor self.now index past → IsIdle index (high past) past →
+            Rests result (high past) (standing_senders index past) }
+    {
+        let mut rest = None;
+        let mut place = 0;
+        while place < self.count() {
+            let next = self.next_at(place);
+            rest = earlier(&rest, &next);
+            place += 1;
+        }
+        rest
+    }
+
+    /// The time at which the cue of the event at this place is repeated next.
+    fn next_at(&self, place: usize) -> Option<Time33>
+        requires { place < length self.now.table.entries.items }
+        ensures { (line : Option ℤ) (done : List Sender) (x : Sender) (left : List Sender) →
+            Sending self.now line line done (x ∷ left) → place ≡ length done →
+            result ≡ ring_next (on_ring x.event) (option_map ring_of x.last) (option_map ring_of line) }
+    {
+        let entry = self.entry(place);
+        let high = self.high();
+        next_time(&entry.event, entry.value.last, high)
     }
 
     /// How many events stand.

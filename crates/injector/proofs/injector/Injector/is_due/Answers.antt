@@ -1,17 +1,19 @@
-use Rattle.std.proofs.Common.{rules, ◌≡◌, ◌∷◌, sym, ◌∙◌, subst}
+use Rattle.std.proofs.Common.{◌≡◌, false, ◌∷◌, refl, sym, ap, ◌∙◌, subst}
+use Rattle.std.specs.Prelude.{option_map}
+use Rattle.pes_time.specs.Line.{ring_of}
 use Rattle.injector.specs.Turns.{high}
-use Rattle.injector.specs.Noting.{Rises}
+use Rattle.injector.specs.Noting.{Rises, ring_reached}
 use Rattle.injector.specs.Steps.{packets_in, turns_in, high_of}
 use Rattle.injector.proofs.FeedLemmas.{rises-at, turns-high}
-use Rattle.injector.proofs.SenderLemmas.{same-time}
 use Rattle.injector.proofs.RestLemmas.{idle-between}
+use Rattle.injector.proofs.BoundLemmas.{stays-at-rest}
 use Rattle.injector.proofs.injector.Injector.is_due.Goals as goal
 
 pub returns-else-self : goal.returns-else-self
 returns-else-self c = λ is_map cfg p past fed time none.
-    let equal : c.args.later.now ≡ c.high.result = search rules in
     let turns = turns_in cfg.program past in
     let line = high_of cfg.program (p ∷ packets_in past) in
+    let quiet = c.if-self.false in
     let rises : Rises (high turns) line = subst (λ h. Rises h line) (sym (turns-high cfg.program past)) (rises-at cfg p (packets_in past) fed.body.sound) in
-    let same : high turns ≡ line = same-time (high turns) line rises (sym time ∙ equal ∙ c.high.ensures ∙ fed.judges.requests.table.high) in
-    idle-between cfg past line (sym fed.news ∙ c.if-self.false) same
+    let below : ring_reached c.args.self.now.rest (option_map ring_of line) ≡ false = ap (ring_reached c.args.self.now.rest) (sym time) ∙ sym c.is_reached.ensures ∙ none in
+    stays-at-rest c.args.self.now.rest cfg.index turns line rises fed.notes.kept (idle-between cfg past (high turns) (sym fed.news ∙ quiet) refl) (fed.rest quiet) below

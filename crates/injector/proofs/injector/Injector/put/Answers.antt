@@ -7,8 +7,9 @@ use Rattle.ts_packet.proofs.RunLemmas.{onto-append}
 use Rattle.program_laws.specs.Writing.{packets_out}
 use Rattle.outgoing_packets.specs.Numbers.{HasPut}
 use Rattle.outgoing_packets.proofs.NumberLemmas.{fails-behind}
-use Rattle.injector.specs.Turns.{high}
-use Rattle.injector.specs.Noting.{Rises, NotesStandFor, IsBefore}
+use Rattle.injector.specs.Turns.{high, Passed}
+use Rattle.injector.specs.Senders.{standing_senders}
+use Rattle.injector.specs.Noting.{Rests, Rises, NotesStandFor, IsBefore}
 use Rattle.injector.specs.Requests.{RequestsStandFor}
 use Rattle.injector.specs.Steps.{packets_in, turns_in, high_of, purpose_of, cued, cue_packets, body_at, sent_at}
 use Rattle.injector.specs.Injecting.{IsFed, IsBodyOf, InjectorStandsFor, JudgesBy}
@@ -23,7 +24,7 @@ returns-in-Err-clause-err g c = λ start ps cfg past held b.
     let is : c.high-later.result ≡ option_map ring_of line = c.high-later.ensures (purpose_of cfg) (p ∷ packets_in past) b.body.follower in
     let rises : Rises (high turns) line = subst (λ h. Rises h line) (sym (turns-high cfg.program past)) (rises-at cfg p (packets_in past) b.body.sound) in
     let before : IsBefore c.is_due-is_due.result c.args.self.now.requests c.high-later.result cfg.index turns line
-    = record { stands = b.judges.requests; notes = b.notes; rises = rises; time = is; idle = c.is_due-is_due.ensures c.args.is_map cfg p past b is } in
+    = record { stands = b.judges.requests; notes = b.notes; rises = rises; time = is; idle = λ none. (c.is_due-is_due.ensures c.args.is_map cfg p past b is none).idle } in
     let out = cued cfg past in
     let cues = packets_out c.args.self.now.cue_pid out (Rattle.injector.specs.Steps.sections_before cfg p past) in
     let same : cues ≡ cue_packets cfg p past out = ap (λ q. packets_out q out (Rattle.injector.specs.Steps.sections_before cfg p past)) b.body.cue_pid in
@@ -42,7 +43,7 @@ returns-in-Err-put_body-clause-err g c = λ start ps cfg past held b.
     let is : c.high-later.result ≡ option_map ring_of line = c.high-later.ensures (purpose_of cfg) (p ∷ packets_in past) b.body.follower in
     let rises : Rises (high turns) line = subst (λ h. Rises h line) (sym (turns-high cfg.program past)) (rises-at cfg p (packets_in past) b.body.sound) in
     let before : IsBefore c.is_due-is_due.result c.args.self.now.requests c.high-later.result cfg.index turns line
-    = record { stands = b.judges.requests; notes = b.notes; rises = rises; time = is; idle = c.is_due-is_due.ensures c.args.is_map cfg p past b is } in
+    = record { stands = b.judges.requests; notes = b.notes; rises = rises; time = is; idle = λ none. (c.is_due-is_due.ensures c.args.is_map cfg p past b is none).idle } in
     let out = cued cfg past in
     let cues = packets_out c.args.self.now.cue_pid out (Rattle.injector.specs.Steps.sections_before cfg p past) in
     let same : cues ≡ cue_packets cfg p past out = ap (λ q. packets_out q out (Rattle.injector.specs.Steps.sections_before cfg p past)) b.body.cue_pid in
@@ -63,7 +64,7 @@ returns-clause-ok g c = λ start ps cfg past held b.
     let is : c.high-later.result ≡ option_map ring_of line = c.high-later.ensures (purpose_of cfg) (p ∷ packets_in past) b.body.follower in
     let rises : Rises (high turns) line = subst (λ h. Rises h line) (sym (turns-high cfg.program past)) (rises-at cfg p (packets_in past) b.body.sound) in
     let before : IsBefore c.is_due-is_due.result c.args.self.now.requests c.high-later.result cfg.index turns line
-    = record { stands = b.judges.requests; notes = b.notes; rises = rises; time = is; idle = c.is_due-is_due.ensures c.args.is_map cfg p past b is } in
+    = record { stands = b.judges.requests; notes = b.notes; rises = rises; time = is; idle = λ none. (c.is_due-is_due.ensures c.args.is_map cfg p past b is none).idle } in
     let out = cued cfg past in
     let cues = packets_out c.args.self.now.cue_pid out (Rattle.injector.specs.Steps.sections_before cfg p past) in
     let same : cues ≡ cue_packets cfg p past out = ap (λ q. packets_out q out (Rattle.injector.specs.Steps.sections_before cfg p past)) b.body.cue_pid in
@@ -82,7 +83,7 @@ returns-clause-stands g c = λ cfg past b.
     let is : c.high-later.result ≡ option_map ring_of line = c.high-later.ensures (purpose_of cfg) (p ∷ packets_in past) b.body.follower in
     let rises : Rises (high turns) line = subst (λ h. Rises h line) (sym (turns-high cfg.program past)) (rises-at cfg p (packets_in past) b.body.sound) in
     let before : IsBefore c.is_due-is_due.result c.args.self.now.requests c.high-later.result cfg.index turns line
-    = record { stands = b.judges.requests; notes = b.notes; rises = rises; time = is; idle = c.is_due-is_due.ensures c.args.is_map cfg p past b is } in
+    = record { stands = b.judges.requests; notes = b.notes; rises = rises; time = is; idle = λ none. (c.is_due-is_due.ensures c.args.is_map cfg p past b is none).idle } in
     let out = cued cfg past in
     let cues = packets_out c.args.self.now.cue_pid out (Rattle.injector.specs.Steps.sections_before cfg p past) in
     let same : cues ≡ cue_packets cfg p past out = ap (λ q. packets_out q out (Rattle.injector.specs.Steps.sections_before cfg p past)) b.body.cue_pid in
@@ -102,6 +103,8 @@ returns-clause-stands g c = λ cfg past b.
       cue_pid = k.cue_pid ∙ b.body.cue_pid;
       notes = c.rise.ensures.notes cfg.index turns line requests noted rises is;
       news = refl;
+      rest = λ quiet. c.rest_behind-self.ensures cfg p past (c.rise.ensures.stands cfg.index turns line requests rises is) (c.rise.ensures.notes cfg.index turns line requests noted rises is)
+          (λ none. subst (λ r. Rests r line (standing_senders cfg.index (Passed line ∷ turns))) (sym k.rest) (c.is_due-is_due.ensures c.args.is_map cfg p past b is none).rests);
       follower = subst (λ f. Rattle.program_follower.specs.Following.FollowerStandsFor f (purpose_of cfg) (p ∷ packets_in past)) (sym k.follower) b.body.follower;
       out = subst (HasPut c.put_body.new.self.out) (sym (onto-append out cues more) ∙ ap (onto out) (sym sent))
           (c.in-Ok-put_body.ensures.numbers (onto out cues) cfg (packets_in past) (c.in-Ok.ensures.numbers out cfg.index turns line b.out before)

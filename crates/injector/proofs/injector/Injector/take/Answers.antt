@@ -16,6 +16,7 @@ returns-in-Ok-put-clause-ok g c = λ start ps cfg past held b.
       judges = record { requests = b.judges.requests; counted = b.judges.counted };
       notes = b.notes;
       news = b.news;
+      rest = b.rest;
       body = record {
         cue_pid = b.cue_pid;
         follower = c.in-Ok.ensures.stands (purpose_of cfg) ps_in b.follower;
@@ -37,6 +38,7 @@ returns-in-Ok-put-clause-stands g c = λ cfg past b.
       judges = record { requests = b.judges.requests; counted = b.judges.counted };
       notes = b.notes;
       news = b.news;
+      rest = b.rest;
       body = record {
         cue_pid = b.cue_pid;
         follower = c.in-Ok.ensures.stands (purpose_of cfg) ps_in b.follower;
@@ -61,6 +63,7 @@ returns-in-Err-clause-err g c = λ start ps cfg past held b.
       judges = record { requests = b.judges.requests; counted = b.judges.counted };
       notes = b.notes;
       news = b.news;
+      rest = b.rest;
       body = record {
         cue_pid = b.cue_pid;
         follower = c.in-Ok.ensures.stands (purpose_of cfg) ps_in b.follower;
