@@ -24,7 +24,7 @@ pub fn byte(bytes: &[u8]) -> Option<(u8, &[u8])>
     }
 }
 
-#[tactic(auto, unfolding(crate::specs::Fields::number_at, wire_fields::specs::Numbers::number_of))]
+#[tactic(auto, unfolding(crate::specs::Fields::number_at, wire_fields::specs::Numbers::number_of, wire_fields::specs::Numbers::number16_at))]
 pub fn number16(bytes: &[u8]) -> Option<(u16, &[u8])>
     ensures { option_map front result ≡ number_at 2 bytes.now }
 {
@@ -32,16 +32,16 @@ pub fn number16(bytes: &[u8]) -> Option<(u16, &[u8])>
         return None;
     }
     let (_, rest) = bytes.split_at(2);
-    Some((BigEndian::read_u16(bytes), rest))
+    Some((wire_fields::number16(bytes, 0), rest))
 }
 
 /// The number that the four bytes at the front make.
-#[tactic(auto, unfolding(wire_fields::specs::Numbers::number_of))]
+#[tactic(auto, unfolding(wire_fields::specs::Numbers::number_of, wire_fields::specs::Numbers::number32_at))]
 pub fn leading32(bytes: &[u8]) -> u32
     requires { 4 ≤ length bytes.now }
     ensures { result ≡ number_of 4 bytes.now }
 {
-    BigEndian::read_u32(bytes)
+    wire_fields::number32(bytes, 0)
 }
 
 #[tactic(auto, unfolding(crate::specs::Fields::number_at))]
