@@ -9,3 +9,4 @@ pub mod TakeLemmas
 pub mod FilingLemmas
 pub mod FiledLemmas
 pub mod ReadLemmas
+pub mod SliceLemmas

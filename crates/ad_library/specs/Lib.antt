@@ -9,3 +9,4 @@ pub mod Faults
 pub mod Gathering
 pub mod Filing
 pub mod Reading
+pub mod Laws

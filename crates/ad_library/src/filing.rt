@@ -26,7 +26,8 @@ impl<A: Allocator + Copy> Gathering<A> {
     /// `NoProgram`, `NoTime`, `OutOfMemory`.
     pub(crate) fn finish(self) -> Result<Advert<A>, AdFault>
         requires { (past : List (List ℕ)) × Gathers self past }
-        ensures ok { (past : List (List ℕ)) → Gathers self past → IfOk result (λ ad. Some (advert_seen ad) ≡ advertisement (reverse past)) }
+        ensures ok { (past : List (List ℕ)) → Gathers self past
+            → IfOk result (λ ad. Some (advert_seen ad) ≡ advertisement (reverse past)) }
         ensures sound { (past : List (List ℕ)) → Gathers self past → OnOk result (end_fault (reverse past) ≡ None) }
         ensures err { (past : List (List ℕ)) → Gathers self past
             → IfErr result (λ f. (f ≡ AdFault.OutOfMemory) ⊎ (end_fault (reverse past) ≡ Some f)) }

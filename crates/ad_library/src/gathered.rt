@@ -114,7 +114,8 @@ fn add<A: Allocator>(
     payload: &[u8],
 ) -> Result<(), AllocError>
     requires { IsWholeStart part.now payload.now }
-    ensures { (us : List StoredUnit) → Stores store.old us → OnOk result (Stores store.new (added part.now time random_access payload.now us)) }
+    ensures { (us : List StoredUnit) → Stores store.old us
+        → OnOk result (Stores store.new (added part.now time random_access payload.now us)) }
 {
     match part {
         StreamPacket::Start(_) => match first_of(time, store.last_time()) {

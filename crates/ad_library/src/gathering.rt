@@ -58,8 +58,10 @@ impl<A: Allocator + Copy> Gathering<A> {
     /// The first thing that is wrong with it, or `OutOfMemory`.
     pub(crate) fn take(&mut self, packet: &Packet) -> Result<(), AdFault>
         requires { (past : List (List ℕ)) × Gathers self.old past }
-        ensures ok { (past : List (List ℕ)) → Gathers self.old past → OnOk result (Gathers self.new (packet.now ∷ past)) }
-        ensures sound { (past : List (List ℕ)) → Gathers self.old past → OnOk result (packet_fault packet.now past ≡ None) }
+        ensures ok { (past : List (List ℕ)) → Gathers self.old past
+            → OnOk result (Gathers self.new (packet.now ∷ past)) }
+        ensures sound { (past : List (List ℕ)) → Gathers self.old past
+            → OnOk result (packet_fault packet.now past ≡ None) }
         ensures err { (past : List (List ℕ)) → Gathers self.old past
             → IfErr result (λ f. (f ≡ AdFault.OutOfMemory) ⊎ (packet_fault packet.now past ≡ Some f)) }
     {
@@ -110,11 +112,14 @@ fn keep<A: Allocator>(
     requires whole { IsWholeStart part.now (bytes packet.now) }
     requires near { IsNearStart part.now }
     requires way { IfSome high.old HasWay }
-    ensures ok { (one : ℕ × ℕ) (ss : List Stream) (past : List (List ℕ)) → IsOfOne streams.old high.old part.now index one ss packet.now past
+    ensures ok { (one : ℕ × ℕ) (ss : List Stream) (past : List (List ℕ))
+        → IsOfOne streams.old high.old part.now index one ss packet.now past
         → OnOk result (StreamsStand streams.new high.new ss (packet.now ∷ past)) }
-    ensures whole { (one : ℕ × ℕ) (ss : List Stream) (past : List (List ℕ)) → IsOfOne streams.old high.old part.now index one ss packet.now past
+    ensures whole { (one : ℕ × ℕ) (ss : List Stream) (past : List (List ℕ))
+        → IsOfOne streams.old high.old part.now index one ss packet.now past
         → OnOk result (is_gap one.1 packet.now past ≡ false) }
-    ensures err { (one : ℕ × ℕ) (ss : List Stream) (past : List (List ℕ)) → IsOfOne streams.old high.old part.now index one ss packet.now past
+    ensures err { (one : ℕ × ℕ) (ss : List Stream) (past : List (List ℕ))
+        → IsOfOne streams.old high.old part.now index one ss packet.now past
         → IfErr result (λ f. (f ≡ AdFault.OutOfMemory) ⊎ ((f ≡ AdFault.Loss) × (is_gap one.1 packet.now past ≡ true))) }
     ensures held { (count : ℕ) → IfSome high.old (IsHeld count) → IfSome high.new (IsHeld (count + 1)) }
 {

@@ -7,11 +7,14 @@ mod fault;
 mod filing;
 mod gathered;
 mod gathering;
+pub mod laws;
 mod library;
 mod line;
 mod reading;
 mod slice;
 mod store;
+#[cfg(test)]
+mod tests;
 mod unit;
 
 pub use advert::count_of_kind;

@@ -39,7 +39,8 @@ pub(crate) fn pass(high: &mut Option<u64>, part: &StreamPacket) -> Option<u64>
 fn placed(high: Option<u64>, begun: Begun) -> u64
     requires near { IsNear (Some begun) }
     requires way { IfSome high HasWay }
-    ensures time { begun.way ≡ way_from (option_map on_line high) begun.pts → on_line result ≡ place (option_map on_line high) begun.pts }
+    ensures time { begun.way ≡ way_from (option_map on_line high) begun.pts
+        → on_line result ≡ place (option_map on_line high) begun.pts }
     ensures held { (count : ℕ) → IfSome high (IsHeld count) → IsHeld (count + 1) result }
 {
     match high {

@@ -81,7 +81,8 @@ impl<A: Allocator> UnitStore<A> {
     ///
     /// Where the allocator refused memory. What the store holds then is open.
     pub(crate) fn go_on(&mut self, payload: &[u8]) -> Result<(), AllocError>
-        ensures { (us : List StoredUnit) → Stores self.old us → OnOk result (Stores self.new (longer_stored us payload.now)) }
+        ensures { (us : List StoredUnit) → Stores self.old us
+            → OnOk result (Stores self.new (longer_stored us payload.now)) }
     {
         if self.places.as_slice().is_empty() {
             return Ok(());

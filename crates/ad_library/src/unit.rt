@@ -51,7 +51,8 @@ pub(crate) fn start_or(places: &[UnitPlace], end: usize) -> usize
 
 /// The places from the first unit of lower offset than the limit on.
 pub(crate) fn next_below(places: &[UnitPlace], least: u64, limit: u64) -> &[UnitPlace]
-    ensures kept { (bs : List ℕ) → slice_of limit (units_at least result.now bs) ≡ slice_of limit (units_at least places.now bs) }
+    ensures kept { (bs : List ℕ)
+        → slice_of limit (units_at least result.now bs) ≡ slice_of limit (units_at least places.now bs) }
     ensures placed { (bs : List ℕ) → are_placed least places.now bs ≡ true → are_placed least result.now bs ≡ true }
     ensures rising { tops_rise places.now ≡ true → tops_rise result.now ≡ true }
     ensures first { begins_below least limit result.now ≡ true }
