@@ -12,3 +12,5 @@ pub mod SoundLemmas
 pub mod SplitLemmas
 pub mod StreamLemmas
 pub mod StandingLemmas
+pub mod OtherLemmas
+pub mod FaultlessLemmas

@@ -1,17 +1,20 @@
 -- What stands in the output for each packet of a network, and the packets of all PIDs that a switch does not touch.
-use Rattle.std.specs.Prelude.{◌≡◌, ℕ, ◌++◌, ◌∷◌, List, [], Bool, true, false, Some, map, filter, reverse}
+use Rattle.std.specs.Prelude.{◌≡◌, ℕ, ◌++◌, ◌∷◌, List, [], Bool, true, false, None, Some, map, filter, reverse}
 use Rattle.ts_packet.specs.Fields.{on, in_error, pid_of, pcr, with_number}
 use Rattle.ts_packet.specs.Numbering.{Step, number_out}
 use Rattle.unit_stream.specs.Fates.{is_left_out}
 use Rattle.psi_tables.specs.Cue.{without_cue_entry}
 use Rattle.program_follower.specs.declared.purpose.Listed.{Listed}
 use Rattle.program_follower.specs.Program.{listed, tables, behind_head}
+use Rattle.program_follower.specs.Faults.{first_fault}
+use Rattle.program_laws.specs.Spliced.{reading_cues}
+use Rattle.splice_laws.specs.Streams.{is_among, IsOnce}
 use Rattle.program_laws.specs.Writing.{section_out, packets_out}
 use Rattle.output_laws.specs.Output.{Move, Leave, counter_steps, clock_alone}
 use Rattle.output_laws.specs.Others.{is_off}
 use Rattle.splice_switch.specs.Playing.{is_inside}
 use Rattle.splice_switch.specs.Switching.{Setting, switched_at, history_at, switched_past, spliced_network, is_switched, moves, puts_before}
-use Rattle.switch_laws.specs.Whole.{adverts_at, stands_for, table_pids, ArePacked, HavePids}
+use Rattle.switch_laws.specs.Whole.{adverts_at, stands_for, table_pids, ArePacked, HavePids, IsApart}
 
 -- it is not on the PID of the PMT, behind the PAT
 abbrev pub IsNoTable : Setting → List ℕ → List (List ℕ) → Type 0
@@ -62,3 +65,12 @@ touched k past = table_pids k past ++ switched_at k past
 abbrev pub OthersStay : Type 0
 OthersStay = (k : Setting) (network : List (List ℕ)) → ArePacked k.packed (adverts_at k (reverse network)) → HavePids network →
     filter (is_off (touched k (reverse network))) (spliced_network k network) ≡ filter (is_off (touched k (reverse network))) network
+
+-- THE LAW OF FAULTLESS NETWORKS: where those who read the cues of a network find no fault in it, its switched streams are apart, and each is
+-- listed once
+pub record IsSound (k : Setting) (past : List (List ℕ)) : Type 0 where
+  pub apart : IsApart k past
+  pub once : (pid : ℕ) → is_among pid (switched_at k past) ≡ true → IsOnce pid (switched_at k past)
+
+abbrev pub FaultlessIsSound : Type 0
+FaultlessIsSound = (k : Setting) (past : List (List ℕ)) → first_fault (reading_cues (Some k.program) k.cue_pid) past ≡ None → IsSound k past

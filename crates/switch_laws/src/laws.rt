@@ -2,7 +2,7 @@
 
 ghost use Rattle.switch_laws.specs.Laws.{MovesBringTheNetwork, RunsAreSettled, RowsArePlaced, RowsAreSpliced, RunsCarry, RunsHaveUnits, OthersPass, NothingPlayed};
 ghost use Rattle.switch_laws.specs.Whole.{OutputIsInOrder, NothingIsPlayed, NoPacketChanges, NoProgram, RunsAreSound, StreamsGoByThemselves, StreamsCarry};
-ghost use Rattle.switch_laws.specs.Standing.{PacketsStandAs};
+ghost use Rattle.switch_laws.specs.Standing.{PacketsStandAs, OthersStay, FaultlessIsSound};
 
 /// What a switch does to a run has each packet of the run once, in order, kept or left out.
 pub fn moves_bring_the_network()
@@ -83,4 +83,14 @@ pub fn streams_carry()
 /// For each packet of the network stands itself, with the counter of the rule where it is of a switched stream; or its clock reference\nalone, where its unit lies in a played event; or sections, on the PID of the PMT; and for a cue nothing.
 pub fn packets_stand_as()
     ensures { PacketsStandAs }
+{}
+
+/// The packets of all PIDs that a switch does not touch, and those marked in error, are one list, byte for byte, in their order.
+pub fn others_stay()
+    ensures { OthersStay }
+{}
+
+/// Where those who read the cues of a network find no fault in it, neither the PID of its cues nor that of its PMT is a switched stream's,\nand each switched stream is listed once.
+pub fn faultless_is_sound()
+    ensures { FaultlessIsSound }
 {}
