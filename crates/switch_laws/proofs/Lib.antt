@@ -10,3 +10,7 @@ pub mod WholeLemmas
 pub mod NoneLemmas
 pub mod SoundLemmas
 pub mod SplitLemmas
+pub mod StreamLemmas
+pub mod StandingLemmas
+pub mod OtherLemmas
+pub mod FaultlessLemmas

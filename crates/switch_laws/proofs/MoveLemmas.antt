@@ -30,7 +30,7 @@ use Rattle.switch_laws.proofs.PieceLemmas.{Ready, Ended, same-pieces, same-end}
 
 -- ---- lists
 
-all-each : {A : Type 0} (P : A → Type 0) (xs : List A) → All P xs → AllByRecursion P xs
+pub all-each : {A : Type 0} (P : A → Type 0) (xs : List A) → All P xs → AllByRecursion P xs
 all-each P [] a = tt
 all-each P (x ∷ xs) a = (All-head P x xs a, all-each P xs (All-tail P x xs a))
 

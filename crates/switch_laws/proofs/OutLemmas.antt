@@ -51,7 +51,7 @@ module _ (turns : Turns) (r : Stream) (k : IsStream r) (x : PlayedEvent) (known 
       or_first true b h = refl
       or_first false b h = absurd (true≢false (sym h))
 
-  stays : (p : List ℕ) (past : List (List ℕ)) → closed_now r x known past ≡ true → sent (p ∷ past) ≡ sent past
+  pub stays : (p : List ℕ) (past : List (List ℕ)) → closed_now r x known past ≡ true → sent (p ∷ past) ≡ sent past
   stays p past c = was (turns p past) (closed_now r x known past) (begun_now r x known (p ∷ past)) (sent_of_begun turns r x known units p past) (sent past) c
     where
       was : (t c b : Bool) (new old : List SliceUnit) → c ≡ true → (if t && (not c && b) then new else old) ≡ old

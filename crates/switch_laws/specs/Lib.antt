@@ -1,3 +1,4 @@
 pub mod Moving
 pub mod Laws
 pub mod Whole
+pub mod Standing

@@ -3,20 +3,23 @@ use Rattle.std.specs.Prelude.{◌≡◌, ℕ, ◌<◌, true, false, ◌++◌, �
 use Rattle.ts_packet.specs.Fields.{on, pid_of, payload_on}
 use Rattle.std.specs.List.{AllByRecursion}
 use Rattle.ts_packet.specs.Runs.{Seen, seen_after}
+use Rattle.unit_stream.specs.Units.{lead}
+use Rattle.unit_stream.specs.Carrying.{Carries}
 use Rattle.unit_stream.specs.UnitPackets.{IsPacked}
 use Rattle.event_table.specs.Standing.{Standing}
-use Rattle.splice_laws.specs.Splicing.{SliceUnit}
-use Rattle.splice_laws.specs.Streams.{is_among}
+use Rattle.splice_laws.specs.Splicing.{PlayedEvent, SliceUnit}
+use Rattle.splice_laws.specs.Streams.{is_among, IsOnce}
 use Rattle.program_follower.specs.declared.purpose.Listed.{Listed}
 use Rattle.program_follower.specs.Program.{listed, tables, behind_head}
 use Rattle.program_laws.specs.Writing.{written, body}
 use Rattle.program_laws.specs.Cued.{stripping}
 use Rattle.output_laws.specs.Output.{Packing, output}
 use Rattle.output_laws.specs.Others.{is_off}
+use Rattle.output_laws.specs.Spliced.{placed_payloads}
 use Rattle.splice_switch.specs.Playing.{Adverts, History, played}
 use Rattle.splice_switch.specs.Switching.{Setting, switched_at, events_at, head_at, history_at, front_at, rest_at, switching, switched_past, spliced_network}
 use Rattle.splice_switch.specs.Histories.{AreSteady}
-use Rattle.switch_laws.specs.Moving.{run_moves}
+use Rattle.switch_laws.specs.Moving.{run_moves, intervals, sent_in_all}
 use Rattle.switch_laws.specs.Laws.{ArePackets, AreSound}
 
 -- what the advertisements say of the streams that are switched behind a past
@@ -93,3 +96,30 @@ abbrev pub StreamsGoByThemselves : Type 0
 StreamsGoByThemselves = (k : Setting) (network : List (List ℕ)) → IsApart k (reverse network) → (pid : ℕ) → is_among pid (switched_at k (reverse network)) ≡ true →
     filter (payload_on pid) (spliced_network k network)
     ≡ filter (payload_on pid) (reverse (head_at k (reverse network))) ++ filter (payload_on pid) (run_out k (reverse network))
+
+-- ---- the headline's half
+
+-- it is a switched stream, once
+abbrev pub IsSwitchedOnce : Setting → List (List ℕ) → ℕ → Type 0
+IsSwitchedOnce k past pid = IsOnce pid (switched_at k past)
+
+-- the played events of a network, in order of their starts, and what goes out of each on a PID
+abbrev pub breaks : Setting → List (List ℕ) → List PlayedEvent
+breaks k past = intervals (adverts_at k past) (events_at k past)
+
+abbrev pub slices : Setting → List (List ℕ) → ℕ → PlayedEvent → List SliceUnit
+slices k past pid x = sent_in_all (switched_at k past) (adverts_at k past) (history_at k past) (behind_head (Some k.program) past) pid x
+
+-- what is placed in a switched stream: its units behind the head that lie outside all played events, with what goes out of each reached
+-- event before the first unit at or past its start
+abbrev pub placed_in : Setting → List (List ℕ) → ℕ → List (List ℕ)
+placed_in k past pid = placed_payloads (switched_at k past) pid (breaks k past) (slices k past pid) [] (reverse (behind_head (Some k.program) past))
+
+-- THE OUTPUT OF A NETWORK CARRIES WHAT IS PLACED, on any network: the switched stream's payload packets are those of the head, those behind
+-- it before the first unit, unchanged, and then packets that carry what is placed
+abbrev pub StreamsCarry : Type 0
+StreamsCarry = (k : Setting) (network : List (List ℕ)) → IsApart k (reverse network) → AreSteady (adverts_at k (reverse network)) →
+    ArePacked k.packed (adverts_at k (reverse network)) → ArePackets network → HavePids network → (pid : ℕ) → IsSwitchedOnce k (reverse network) pid →
+    (carried : List (List ℕ)) × (filter (payload_on pid) (spliced_network k network)
+    ≡ filter (payload_on pid) (reverse (head_at k (reverse network))) ++ (lead pid (reverse (behind_head (Some k.program) (reverse network))) ++ carried))
+    × Carries carried (placed_in k (reverse network) pid)

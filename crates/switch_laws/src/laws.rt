@@ -1,7 +1,8 @@
 //! What holds of every spliced stream, over the definitions alone.
 
 ghost use Rattle.switch_laws.specs.Laws.{MovesBringTheNetwork, RunsAreSettled, RowsArePlaced, RowsAreSpliced, RunsCarry, RunsHaveUnits, OthersPass, NothingPlayed};
-ghost use Rattle.switch_laws.specs.Whole.{OutputIsInOrder, NothingIsPlayed, NoPacketChanges, NoProgram, RunsAreSound, StreamsGoByThemselves};
+ghost use Rattle.switch_laws.specs.Whole.{OutputIsInOrder, NothingIsPlayed, NoPacketChanges, NoProgram, RunsAreSound, StreamsGoByThemselves, StreamsCarry};
+ghost use Rattle.switch_laws.specs.Standing.{PacketsStandAs, OthersStay, FaultlessIsSound};
 
 /// What a switch does to a run has each packet of the run once, in order, kept or left out.
 pub fn moves_bring_the_network()
@@ -72,4 +73,24 @@ pub fn runs_are_sound()
 /// The payload packets of a switched PID are those of the head, and those of the run behind it, as if no other packet were there.
 pub fn streams_go_by_themselves()
     ensures { StreamsGoByThemselves }
+{}
+
+/// On any network a switched stream of the output has the packets of the head, those before its first unit, and then carries what is placed.
+pub fn streams_carry()
+    ensures { StreamsCarry }
+{}
+
+/// For each packet of the network stands itself, with the counter of the rule where it is of a switched stream; or its clock reference\nalone, where its unit lies in a played event; or sections, on the PID of the PMT; and for a cue nothing.
+pub fn packets_stand_as()
+    ensures { PacketsStandAs }
+{}
+
+/// The packets of all PIDs that a switch does not touch, and those marked in error, are one list, byte for byte, in their order.
+pub fn others_stay()
+    ensures { OthersStay }
+{}
+
+/// Where those who read the cues of a network find no fault in it, neither the PID of its cues nor that of its PMT is a switched stream's,\nand each switched stream is listed once.
+pub fn faultless_is_sound()
+    ensures { FaultlessIsSound }
 {}

@@ -1,0 +1,128 @@
+-- The switched streams of a network without fault.
+use Rattle.std.proofs.Common.{◌≡◌, ℕ, List, [], ◌∷◌, Bool, true, false, ◌||◌, ◌⊎◌, inl, inr, refl, sym, ap, ◌∙◌, Option, None, Some, if◌then◌else◌, subst}
+use Rattle.std.specs.Prelude.{◌==◌, option_map}
+use Rattle.std.specs.Option.{option_or}
+use Rattle.std.specs.List.{AllByRecursion, list_any}
+use Rattle.std.proofs.lemmas.Bool.{true≢false}
+use Rattle.ts_packet.proofs.Cases.{by_test}
+use Rattle.psi_tables.specs.declared.stream.Stream.{Stream}
+use Rattle.psi_tables.specs.Streams.{switched_of, is_switched, pid_in}
+use Rattle.psi_tables.specs.ProgramMap.{ProgramMap, streams_of}
+use Rattle.program_follower.specs.declared.purpose.Purpose.{Purpose}
+use Rattle.program_follower.specs.declared.purpose.Listed.{Listed}
+use Rattle.program_follower.specs.Program.{listed, Table, all_tables, known_map, first_map, program_in, pids_of}
+use Rattle.program_follower.specs.Faults.{first_fault, pids_in, is_in, is_twice, bad_pid, bad_switched, is_pid}
+use Rattle.program_laws.specs.Spliced.{reading_cues}
+use Rattle.program_laws.proofs.FaultLemmas.{Sound, MapSound, all_sound}
+use Rattle.program_laws.proofs.ReadingLemmas.{no_tables}
+use Rattle.splice_laws.specs.Streams.{is_among, IsOnce}
+use Rattle.output_laws.proofs.GaplessLemmas.{test-true}
+use Rattle.splice_switch.specs.Switching.{Setting, switched_at}
+use Rattle.switch_laws.specs.Whole.{IsApart}
+use Rattle.switch_laws.specs.Standing.{IsSound, FaultlessIsSound}
+use Rattle.switch_laws.proofs.WholeLemmas.{none-switched}
+
+or-parts : (a b : Bool) → (a || b) ≡ false → (a ≡ false) × (b ≡ false)
+or-parts true b h = absurd (true≢false h)
+or-parts false b h = (refl, h)
+
+or-both : (a b : Bool) → a ≡ false → b ≡ false → (a || b) ≡ false
+or-both true b h k = h
+or-both false b h k = k
+
+-- what no stream is, no switched one is
+none-switched-is : (f : ℕ → Bool) (ss : List Stream) → list_any f (pids_in ss) ≡ false → list_any f (pids_in (switched_of ss)) ≡ false
+none-switched-is f [] h = refl
+none-switched-is f (s ∷ ss) h =
+    let r = or-parts (f s.pid) (list_any f (pids_in ss)) h in
+    by_test (is_switched s.kind) (λ y. simp y (or-both (f s.pid) (list_any f (pids_in (switched_of ss))) r.0 (none-switched-is f ss r.1))) (λ n. simp n (none-switched-is f ss r.1))
+
+not-in : (x : ℕ) (ss : List Stream) → is_in x (pids_in ss) ≡ false → is_among x (pids_in (switched_of ss)) ≡ false
+not-in x [] h = refl
+not-in x (s ∷ ss) h =
+    let r = or-parts (s.pid == x) (is_in x (pids_in ss)) h in
+    by_test (is_switched s.kind) (λ y. simp y (or-both (s.pid == x) (is_among x (pids_in (switched_of ss))) r.0 (not-in x ss r.1))) (λ n. simp n (not-in x ss r.1))
+
+-- one that stands not twice, and is there, stands once
+once : (x : ℕ) (ss : List Stream) → is_twice x (pids_in ss) ≡ false → is_among x (pids_in (switched_of ss)) ≡ true → IsOnce x (pids_in (switched_of ss))
+once x [] t a = absurd (true≢false (sym a))
+once x (s ∷ ss) t a = by_test (s.pid == x)
+    (λ e. let n : is_in x (pids_in ss) ≡ false = simp e at t in
+    by_test (is_switched s.kind)
+    (λ y. simp y (inl (test-true s.pid x e, not-in x ss n)))
+    (λ y. let b : is_among x (pids_in (switched_of ss)) ≡ true = simp y at a in absurd (true≢false (sym b ∙ not-in x ss n))))
+    (λ e. let n : is_twice x (pids_in ss) ≡ false = simp e at t in
+    by_test (is_switched s.kind)
+    (λ y. let b : is_among x (pids_in (switched_of ss)) ≡ true = simp (y, e) at a in simp y (inr (e, once x ss n b)))
+    (λ y. let b : is_among x (pids_in (switched_of ss)) ≡ true = simp y at a in simp y (once x ss n b)))
+
+among-any : (x : ℕ) (f : ℕ → Bool) (qs : List ℕ) → ((q : ℕ) → f q ≡ false → (q == x) ≡ false) → list_any f qs ≡ false → is_among x qs ≡ false
+among-any x f [] h n = refl
+among-any x f (q ∷ qs) h n = let r = or-parts (f q) (list_any f qs) n in or-both (q == x) (is_among x qs) (h q r.0) (among-any x f qs h r.1)
+
+any-among : (x : ℕ) (f : ℕ → Bool) (qs : List ℕ) → list_any f qs ≡ false → is_among x qs ≡ true → f x ≡ false
+any-among x f [] n a = absurd (true≢false (sym a))
+any-among x f (q ∷ qs) n a =
+    let r = or-parts (f q) (list_any f qs) n in
+    by_test (q == x) (λ e. ap f (sym (test-true q x e)) ∙ r.0) (λ e. any-among x f qs r.1 (simp e at a))
+
+-- the first map is one of those that were read
+same-map : (n m : ProgramMap) → Some n ≡ Some m → n ≡ m
+same-map n m e = cc
+
+sound-or : (c : Purpose) (pid : ℕ) (m : ProgramMap) (o rest : Option ProgramMap) → MapSound c pid o → option_or o rest ≡ Some m → (rest ≡ Some m → Sound c pid m) → Sound c pid m
+sound-or c pid m None rest s h later = later h
+sound-or c pid m (Some n) rest s h later = subst (Sound c pid) (same-map n m h) s
+
+first-sound : (c : Purpose) (pid : ℕ) (m : ProgramMap) (ts : List Table) → AllByRecursion (λ (t : Table). MapSound c pid t.program_map) ts → first_map ts ≡ Some m → Sound c pid m
+first-sound c pid m [] a h = cc
+first-sound c pid m (t ∷ ts) a h = sound-or c pid m t.program_map (first_map ts) a.0 h (first-sound c pid m ts a.1)
+
+module _ (k : Setting) (past : List (List ℕ)) (h : first_fault (reading_cues (Some k.program) k.cue_pid) past ≡ None) where
+  abbrev purpose : Purpose
+  purpose = reading_cues (Some k.program) k.cue_pid
+
+  unlisted : (o : Option Listed) → listed (Some k.program) past ≡ o → (m : ProgramMap) → known_map (Some k.program) past ≡ Some m → (l : Listed) × (listed (Some k.program) past ≡ Some l)
+  unlisted (Some l) e m known = (l, e)
+  unlisted None e m known = absurd (no-map m (sym (ap first_map (no_tables (Some k.program) past e)) ∙ known))
+    where
+      no-map : (m : ProgramMap) → None ≡ Some m → ⊥
+      no-map m e = cc
+
+  by-map : (m : ProgramMap) (l : Listed) → known_map (Some k.program) past ≡ Some m → listed (Some k.program) past ≡ Some l → IsSound k past
+  by-map m l known e =
+      let s = first-sound purpose l.pid m (all_tables (Some k.program) past) (all_sound purpose past l h e) known in
+      let ss = streams_of m in
+      let bad = or-parts (list_any (bad_pid l.pid) (pid_in m.pcr_field ∷ pids_in ss)) (list_any (bad_switched (pids_in ss)) (pids_in (switched_of ss))) s.pids in
+      let each = or-parts (bad_pid l.pid (pid_in m.pcr_field)) (list_any (bad_pid l.pid) (pids_in ss)) bad.0 in
+      let cue = or-parts (is_pid (Some k.cue_pid) (pid_in m.pcr_field)) (list_any (is_pid (Some k.cue_pid)) (pids_in (switched_of ss))) s.cue in
+      let sw : switched_at k past ≡ pids_in (switched_of ss) = ap (λ o. pids_of (option_map program_in o)) known in
+      record {
+        apart = record {
+          cue = ap (is_among k.cue_pid) sw ∙ among-any k.cue_pid (is_pid (Some k.cue_pid)) (pids_in (switched_of ss)) (λ q n. n) cue.1;
+          pmt = λ other g.
+              let same : l ≡ other = same-listed l other (sym e ∙ g) in
+              ap (λ (l : Listed). is_among l.pid (switched_at k past)) (sym same)
+              ∙ ap (is_among l.pid) sw
+              ∙ among-any l.pid (bad_pid l.pid) (pids_in (switched_of ss)) (λ q n. (or-parts (q == 0) (q == l.pid) n).1) (none-switched-is (bad_pid l.pid) ss each.1);
+        };
+        once = λ pid a.
+            let here : is_among pid (pids_in (switched_of ss)) ≡ true = sym (ap (is_among pid) sw) ∙ a in
+            let t = any-among pid (bad_switched (pids_in ss)) (pids_in (switched_of ss)) bad.1 here in
+            subst (IsOnce pid) (sym sw) (once pid ss (or-parts (pid == 8191) (is_twice pid (pids_in ss)) t).1 here);
+      }
+    where
+      same-listed : (l other : Listed) → Some l ≡ Some other → l ≡ other
+      same-listed l other e = cc
+
+  by-known : (o : Option ProgramMap) → known_map (Some k.program) past ≡ o → IsSound k past
+  by-known None known =
+      let sw : switched_at k past ≡ [] = none-switched k past known in
+      record {
+        apart = record { cue = ap (is_among k.cue_pid) sw; pmt = λ l g. ap (is_among l.pid) sw };
+        once = λ pid a. absurd (true≢false (sym a ∙ ap (is_among pid) sw));
+      }
+  by-known (Some m) known = let u = unlisted (listed (Some k.program) past) refl m known in by-map m u.0 known u.1
+
+pub faultless_is_sound : FaultlessIsSound
+faultless_is_sound k past h = by-known k past h (known_map (Some k.program) past) refl
