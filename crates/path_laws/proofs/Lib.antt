@@ -11,3 +11,4 @@ pub mod Proofs
 pub mod Packets
 pub mod Streams
 pub mod Whole
+pub mod Thinned

@@ -45,7 +45,7 @@ use Rattle.path_laws.proofs.Proofs.{tells}
 
 -- ---- cues that are left
 
-times-turn : {X : Type 0} (n : ℕ) (x : X) (rest : List X) → times n x (x ∷ rest) ≡ x ∷ times n x rest
+pub times-turn : {X : Type 0} (n : ℕ) (x : X) (rest : List X) → times n x (x ∷ rest) ≡ x ∷ times n x rest
 times-turn zero x rest = refl
 times-turn (suc n) x rest = ap (λ l. x ∷ l) (times-turn n x rest)
 

@@ -2,3 +2,4 @@ pub mod Telling
 pub mod Path
 pub mod Laws
 pub mod Packets
+pub mod Thinning

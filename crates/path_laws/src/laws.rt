@@ -2,6 +2,7 @@
 
 ghost use Rattle.path_laws.specs.Telling.{StartTells, EndTells, CancelTells};
 ghost use Rattle.path_laws.specs.Packets.{SectionsReadBack, StreamArms, CuePathInPackets, CuedStreamBrings};
+ghost use Rattle.path_laws.specs.Thinning.{ThinnedBrings, ThinnedOfAll};
 ghost use Rattle.path_laws.specs.Laws.{RequestsAreARun, CuesTellTheLine, CuePathOfEvents, CuePathOfEventsAtTheEnd};
 
 /// The section that an injector writes for the start of an event reads back, and is taken by the switch as that event, at its time on the
@@ -60,4 +61,15 @@ pub fn cue_path_in_packets()
 /// The injector's own cued stream is such a stream, with one copy of each cue.
 pub fn cued_stream_brings()
     ensures { CuedStreamBrings }
+{}
+
+/// Where the packets that are left of the injector's are no duplicates of one another, the reader finds the section of each that is left,
+/// of one that is doubled on the spot once.
+pub fn thinned_brings()
+    ensures { ThinnedBrings }
+{}
+
+/// The injector's own packets are those of which one copy each is left.
+pub fn thinned_of_all()
+    ensures { ThinnedOfAll }
 {}

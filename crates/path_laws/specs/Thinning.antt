@@ -1,0 +1,55 @@
+-- The packets of the cued stream, some of the cue PID left out, and some doubled on the spot.
+use Rattle.std.specs.Prelude.{◌≡◌, ℕ, zero, suc, ◌+◌, ◌%◌, ◌<◌, false, List, [], ◌∷◌}
+use Rattle.ts_packet.specs.Numbering.{one_past}
+use Rattle.ts_packet.specs.Duplicates.{repeats}
+use Rattle.psi_section.specs.Packetising.{first_packet}
+use Rattle.psi_tables.specs.declared.config.Config.{Config}
+use Rattle.scte35_codec.specs.declared.cue_out.CueOut.{CueOut}
+use Rattle.scte35_codec.specs.Spelling.{cue_bytes}
+use Rattle.program_laws.specs.Writing.{number_on}
+use Rattle.injector.specs.Steps.{Step, Message, Packet, packets_in, cue_packets, cued}
+use Rattle.cue_laws.specs.Events.{Turn as LineTurn}
+use Rattle.cue_laws.specs.Thinning.{times}
+use Rattle.path_laws.specs.Path.{Item, Sent, line}
+use Rattle.path_laws.specs.Packets.{IsRunOf, cues_at, sent_in, stream, Brings}
+
+-- so many copies of the packet of each cue, the counters those of the cued stream
+abbrev pub thin : ℕ → (List LineTurn → ℕ) → List Item → ℕ → List CueOut → List (List ℕ)
+thin pid copies items n [] = []
+thin pid copies items n (cue ∷ cues) = times (copies (line (Sent cue ∷ items))) (first_packet pid n (cue_bytes cue)) (thin pid copies (Sent cue ∷ items) ((n + 1) % 16) cues)
+
+-- a packet that is left is no duplicate of the payload packet that is left before it on the PID
+abbrev pub AreFresh : ℕ → (List LineTurn → ℕ) → List Item → ℕ → List (List ℕ) → List CueOut → Type 0
+AreFresh pid copies items n out [] = Unit {0}
+AreFresh pid copies items n out (cue ∷ cues) =
+    (0 < copies (line (Sent cue ∷ items)) → repeats pid (first_packet pid n (cue_bytes cue)) out ≡ false)
+    × AreFresh pid copies (Sent cue ∷ items) ((n + 1) % 16) (times (copies (line (Sent cue ∷ items))) (first_packet pid n (cue_bytes cue)) out) cues
+
+-- the counter of the first cue before the next packet
+abbrev pub next_number : Config → List Step → ℕ
+next_number c past = one_past (number_on c.cue_pid (cued c past))
+
+-- in front of each packet stand so many copies of each packet that the injector puts there
+abbrev pub IsThinned : Config → (List LineTurn → ℕ) → (List ℕ → List (List ℕ) → List (List ℕ)) → List Step → Type 0
+IsThinned c copies fronts [] = Unit {0}
+IsThinned c copies fronts (Message m ∷ past) = IsThinned c copies fronts past
+IsThinned c copies fronts (Packet p ∷ past) =
+    (fronts p (packets_in past) ≡ thin c.cue_pid copies (sent_in c past) (next_number c past) (cues_at c p past))
+    × AreFresh c.cue_pid copies (sent_in c past) (next_number c past) (stream c fronts past) (cues_at c p past)
+    × IsThinned c copies fronts past
+
+-- how many sections copies on the spot give: a packet that comes twice gives its section once
+abbrev pub sections_given : ℕ → ℕ
+sections_given zero = 0
+sections_given (suc zero) = 1
+sections_given (suc (suc n)) = suc (sections_given n)
+
+-- THINNED PACKETS: where those that are left are no duplicates of one another, the reader finds the section of each that is left
+abbrev pub ThinnedBrings : Type 0
+ThinnedBrings = (c : Config) (copies : List LineTurn → ℕ) (fronts : List ℕ → List (List ℕ) → List (List ℕ)) (past : List Step) → IsRunOf c past →
+    IsThinned c copies fronts past → Brings c (λ t. sections_given (copies t)) fronts past
+
+-- the injector's own packets are those of which one copy is left
+abbrev pub ThinnedOfAll : Type 0
+ThinnedOfAll = (c : Config) (p : List ℕ) (past : List Step) → IsRunOf c (Packet p ∷ past) →
+    cue_packets c p past (cued c past) ≡ thin c.cue_pid (λ t. 1) (sent_in c past) (next_number c past) (cues_at c p past)
