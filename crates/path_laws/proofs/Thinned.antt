@@ -26,9 +26,10 @@ use Rattle.cue_laws.specs.Events.{Turn as LineTurn}
 use Rattle.cue_laws.specs.Thinning.{times}
 use Rattle.path_laws.specs.Path.{Item, Sent, line}
 use Rattle.path_laws.specs.Packets.{IsRunOf, cues_at, sent_in, kept, stream, Brings}
-use Rattle.path_laws.specs.Thinning.{thin, AreFresh, next_number, IsThinned, sections_given, ThinnedBrings, ThinnedOfAll}
+use Rattle.path_laws.specs.Thinning.{thin, AreFresh, next_number, IsThinned, sections_given, ThinnedBrings, ThinnedOfAll, ThinnedCuePath}
 use Rattle.path_laws.proofs.Packets.{run-message, run-packet, cues-fit}
 use Rattle.path_laws.proofs.Streams.{times-turn}
+use Rattle.path_laws.proofs.Whole.{run-front, cue_path_in_packets}
 
 same-byte : (n : ℕ) → nat_eq n n ≡ true
 same-byte n = grind (arith, common_steps)
@@ -137,3 +138,8 @@ thin-all pid items n (cue ∷ cues) fits =
 
 pub thinned_of_all : ThinnedOfAll
 thinned_of_all c p past r = thin-all c.cue_pid (sent_in c past) (next_number c past) (cues_at c p past) (cues-fit c p past r)
+
+pub thinned_cue_path : ThinnedCuePath
+thinned_cue_path c copies fronts p last past later r t k e un reached =
+    let here = run-front c later (Packet p ∷ past) (run-packet c last (later ++ Packet p ∷ past) r) in
+    cue_path_in_packets c (λ x. sections_given (copies x)) fronts p last past later r (thinned_brings c copies fronts (Packet p ∷ past) here t) k e un reached

@@ -26,14 +26,14 @@ use Rattle.injector.specs.Steps.{Step, Message, Packet, packets_in, high_of, tur
 use Rattle.cue_laws.specs.Events.{In}
 use Rattle.cue_laws.specs.Laws.{KeepsEnoughOf}
 use Rattle.path_laws.specs.Path.{Item, Sent, left, armed_on, asked_line, IsHistory}
-use Rattle.path_laws.specs.Packets.{IsRunOf, cues_at, sent_in, kept, stream, Brings, CuePathInPackets, own_fronts, CuedStreamBrings}
+use Rattle.path_laws.specs.Packets.{IsRunOf, cues_at, sent_in, kept, stream, Brings, CuePathInPackets, CuePathInPacketsAtTheEnd, own_fronts, CuedStreamBrings}
 use Rattle.path_laws.proofs.Packets.{run-message, run-packet, run-history, map-pid, cues-back}
 use Rattle.path_laws.proofs.Streams.{stream_arms}
-use Rattle.path_laws.proofs.Proofs.{cue_path_of_events}
+use Rattle.path_laws.proofs.Proofs.{cue_path_of_events, cue_path_of_events_at_the_end}
 
 -- ---- fronts of a run
 
-run-front : (c : Config) (later front : List Step) → IsRunOf c (later ++ front) → IsRunOf c front
+pub run-front : (c : Config) (later front : List Step) → IsRunOf c (later ++ front) → IsRunOf c front
 run-front c [] front r = r
 run-front c (Message m ∷ later) front r = run-front c later front (run-message c m (later ++ front) r)
 run-front c (Packet p ∷ later) front r = run-front c later front (run-packet c p (later ++ front) r)
@@ -59,6 +59,15 @@ cue_path_in_packets c copies fronts p last past later r b k e un reached =
     cue_path_of_events c.index copies h top (turns_in c.program past) u.0
     (subst (IsHistory c.index) same (run-history c whole r)) (subst (λ l. KeepsEnoughOf copies (asked_line c.index l)) same k) e un reached in
     let arms : armed c.cue_pid (high_of c.program) (stream c fronts front) ≡ armed_on (left copies (sent_in c front)) = ap (λ (x : Heard). x.events) (stream_arms c copies fronts front here b) in
+    (λ i. law.0 (subst (In e) arms i), λ i. subst (In e) (sym arms) (law.1 i))
+
+pub cue_path_in_packets_at_the_end : CuePathInPacketsAtTheEnd
+cue_path_in_packets_at_the_end c copies fronts p past r b k e un =
+    let front = Packet p ∷ past in
+    let h = high_of c.program (p ∷ packets_in past) in
+    let law : In e (armed_on (left copies (sent_in c front))) ↔ In e (events c.index (turns_in c.program front)) =
+    cue_path_of_events_at_the_end c.index copies h (turns_in c.program past) (run-history c front r) k e un in
+    let arms : armed c.cue_pid (high_of c.program) (stream c fronts front) ≡ armed_on (left copies (sent_in c front)) = ap (λ (x : Heard). x.events) (stream_arms c copies fronts front r b) in
     (λ i. law.0 (subst (In e) arms i), λ i. subst (In e) (sym arms) (law.1 i))
 
 -- ---- the cued stream itself

@@ -90,6 +90,13 @@ CuePathInPackets = (c : Config) (copies : List LineTurn → ℕ) (fronts : List 
     (e : Standing) → e.cancelled ≡ false → before (high_of c.program (p ∷ packets_in past)) e.start ≡ false →
     In e (armed c.cue_pid (high_of c.program) (stream c fronts (Packet p ∷ past))) ↔ In e (events c.index (turns_in c.program (Packet p ∷ past)))
 
+-- and behind the last packet it is so for all uncancelled events
+abbrev pub CuePathInPacketsAtTheEnd : Type 0
+CuePathInPacketsAtTheEnd = (c : Config) (copies : List LineTurn → ℕ) (fronts : List ℕ → List (List ℕ) → List (List ℕ)) (p : List ℕ) (past : List Step) →
+    IsRunOf c (Packet p ∷ past) → Brings c copies fronts (Packet p ∷ past) → KeepsEnoughOf copies (asked_line c.index (turns_in c.program (Packet p ∷ past))) →
+    (e : Standing) → e.cancelled ≡ false →
+    In e (armed c.cue_pid (high_of c.program) (stream c fronts (Packet p ∷ past))) ↔ In e (events c.index (turns_in c.program (Packet p ∷ past)))
+
 -- ---- nothing lost
 
 -- the packets that an injector puts in front of a packet, by the number of packets before it

@@ -1,5 +1,5 @@
 -- The packets of the cued stream, some of the cue PID left out, and some doubled on the spot.
-use Rattle.std.specs.Prelude.{◌≡◌, ℕ, zero, suc, ◌+◌, ◌%◌, ◌<◌, false, List, [], ◌∷◌}
+use Rattle.std.specs.Prelude.{◌≡◌, ◌↔◌, ℕ, zero, suc, ◌+◌, ◌%◌, ◌<◌, false, List, [], ◌∷◌, ◌++◌}
 use Rattle.ts_packet.specs.Numbering.{one_past}
 use Rattle.ts_packet.specs.Duplicates.{repeats}
 use Rattle.psi_section.specs.Packetising.{first_packet}
@@ -7,10 +7,14 @@ use Rattle.psi_tables.specs.declared.config.Config.{Config}
 use Rattle.scte35_codec.specs.declared.cue_out.CueOut.{CueOut}
 use Rattle.scte35_codec.specs.Spelling.{cue_bytes}
 use Rattle.program_laws.specs.Writing.{number_on}
-use Rattle.injector.specs.Steps.{Step, Message, Packet, packets_in, cue_packets, cued}
-use Rattle.cue_laws.specs.Events.{Turn as LineTurn}
+use Rattle.event_table.specs.Standing.{Standing}
+use Rattle.armed_events.specs.Arming.{armed}
+use Rattle.injector.specs.Turns.{events}
+use Rattle.injector.specs.Steps.{Step, Message, Packet, packets_in, high_of, turns_in, cue_packets, cued}
+use Rattle.cue_laws.specs.Events.{Turn as LineTurn, before, In}
+use Rattle.cue_laws.specs.Laws.{KeepsEnoughOf}
 use Rattle.cue_laws.specs.Thinning.{times}
-use Rattle.path_laws.specs.Path.{Item, Sent, line}
+use Rattle.path_laws.specs.Path.{Item, Sent, line, asked_line}
 use Rattle.path_laws.specs.Packets.{IsRunOf, cues_at, sent_in, stream, Brings}
 
 -- so many copies of the packet of each cue, the counters those of the cued stream
@@ -53,3 +57,12 @@ ThinnedBrings = (c : Config) (copies : List LineTurn → ℕ) (fronts : List ℕ
 abbrev pub ThinnedOfAll : Type 0
 ThinnedOfAll = (c : Config) (p : List ℕ) (past : List Step) → IsRunOf c (Packet p ∷ past) →
     cue_packets c p past (cued c past) ≡ thin c.cue_pid (λ t. 1) (sent_in c past) (next_number c past) (cues_at c p past)
+
+-- THE CUE PATH OF THINNED PACKETS: behind each packet of the network, from the injector's packets of which some are left out and some
+-- doubled, a switch has armed an uncancelled event whose start is reached exactly where the injector has accepted it
+abbrev pub ThinnedCuePath : Type 0
+ThinnedCuePath = (c : Config) (copies : List LineTurn → ℕ) (fronts : List ℕ → List (List ℕ) → List (List ℕ)) (p last : List ℕ) (past later : List Step) →
+    IsRunOf c (Packet last ∷ (later ++ Packet p ∷ past)) → IsThinned c copies fronts (Packet p ∷ past) →
+    KeepsEnoughOf (λ t. sections_given (copies t)) (asked_line c.index (turns_in c.program (Packet last ∷ (later ++ Packet p ∷ past)))) →
+    (e : Standing) → e.cancelled ≡ false → before (high_of c.program (p ∷ packets_in past)) e.start ≡ false →
+    In e (armed c.cue_pid (high_of c.program) (stream c fronts (Packet p ∷ past))) ↔ In e (events c.index (turns_in c.program (Packet p ∷ past)))

@@ -1,8 +1,8 @@
 //! The laws of the cue path, each on a function of its own.
 
 ghost use Rattle.path_laws.specs.Telling.{StartTells, EndTells, CancelTells};
-ghost use Rattle.path_laws.specs.Packets.{SectionsReadBack, StreamArms, CuePathInPackets, CuedStreamBrings};
-ghost use Rattle.path_laws.specs.Thinning.{ThinnedBrings, ThinnedOfAll};
+ghost use Rattle.path_laws.specs.Packets.{SectionsReadBack, StreamArms, CuePathInPackets, CuePathInPacketsAtTheEnd, CuedStreamBrings};
+ghost use Rattle.path_laws.specs.Thinning.{ThinnedBrings, ThinnedOfAll, ThinnedCuePath};
 ghost use Rattle.path_laws.specs.Laws.{RequestsAreARun, CuesTellTheLine, CuePathOfEvents, CuePathOfEventsAtTheEnd};
 
 /// The section that an injector writes for the start of an event reads back, and is taken by the switch as that event, at its time on the
@@ -72,4 +72,14 @@ pub fn thinned_brings()
 /// The injector's own packets are those of which one copy each is left.
 pub fn thinned_of_all()
     ensures { ThinnedOfAll }
+{}
+
+/// Behind the last packet it has armed exactly the uncancelled events that were accepted.
+pub fn cue_path_in_packets_at_the_end()
+    ensures { CuePathInPacketsAtTheEnd }
+{}
+
+/// So it is with the injector's packets of which some are left out and some doubled.
+pub fn thinned_cue_path()
+    ensures { ThinnedCuePath }
 {}
