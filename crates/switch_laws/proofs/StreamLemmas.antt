@@ -6,8 +6,8 @@ use Rattle.std.proofs.lemmas.List.{reverse-reverse}
 use Rattle.std.proofs.lemmas.List.Elements.{All-head, All-tail, All-cons, All-nil}
 use Rattle.ts_packet.specs.Fields.{payload_on, pid_of}
 use Rattle.ts_packet.specs.Runs.{onto}
-use Rattle.unit_stream.specs.Units.{lead}
-use Rattle.unit_stream.specs.Carrying.{Carries}
+use Rattle.unit_stream.specs.Units.{lead_in}
+use Rattle.unit_stream.specs.Carrying.{CarriesUnits}
 use Rattle.psi_tables.specs.ProgramMap.{ProgramMap}
 use Rattle.program_follower.specs.Program.{known_map, behind_head}
 use Rattle.splice_laws.specs.Streams.{is_among, IsOnce}
@@ -63,8 +63,8 @@ streams_carry k network apart steady good long pids pid once = by (known_map (So
   where
     by : (o : Option ProgramMap) → known_map (Some k.program) (reverse network) ≡ o →
         (carried : List (List ℕ)) × (filter (payload_on pid) (spliced_network k network)
-        ≡ filter (payload_on pid) (reverse (head_at k (reverse network))) ++ (lead pid (reverse (behind_head (Some k.program) (reverse network))) ++ carried))
-        × Carries carried (placed_in k (reverse network) pid)
+        ≡ filter (payload_on pid) (reverse (head_at k (reverse network))) ++ (lead_in pid (reverse (behind_head (Some k.program) (reverse network))) ++ carried))
+        × CarriesUnits carried (placed_in k (reverse network) pid)
     by None known = absurd (true≢false (sym (once-among pid (switched_at k (reverse network)) once) ∙ ap (is_among pid) (none-switched k (reverse network) known)))
     by (Some m) known =
         let back = reverse network in
@@ -77,5 +77,5 @@ streams_carry k network apart steady good long pids pid once = by (known_map (So
         let c = runs_carry sw ads ev play k.packed ps (all-behind (λ (p : List ℕ). length p ≡ 188) k network long) sound pid once in (
           c.0,
           streams_go_by_themselves k network apart pid (once-among pid sw once) ∙ ap (λ l. filter (payload_on pid) (reverse (head_at k back)) ++ l) c.1,
-          subst (Carries c.0) (placed-same k back pid) c.2,
+          subst (CarriesUnits c.0) (placed-same k back pid) c.2,
         )

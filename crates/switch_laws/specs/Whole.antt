@@ -3,8 +3,8 @@ use Rattle.std.specs.Prelude.{◌≡◌, ℕ, ◌<◌, true, false, ◌++◌, �
 use Rattle.ts_packet.specs.Fields.{on, pid_of, payload_on}
 use Rattle.std.specs.List.{AllByRecursion}
 use Rattle.ts_packet.specs.Runs.{Seen, seen_after}
-use Rattle.unit_stream.specs.Units.{lead}
-use Rattle.unit_stream.specs.Carrying.{Carries}
+use Rattle.unit_stream.specs.Units.{lead_in}
+use Rattle.unit_stream.specs.Carrying.{CarriesUnits}
 use Rattle.unit_stream.specs.UnitPackets.{IsPacked}
 use Rattle.event_table.specs.Standing.{Standing}
 use Rattle.splice_laws.specs.Splicing.{PlayedEvent, SliceUnit}
@@ -121,5 +121,5 @@ abbrev pub StreamsCarry : Type 0
 StreamsCarry = (k : Setting) (network : List (List ℕ)) → IsApart k (reverse network) → AreSteady (adverts_at k (reverse network)) →
     ArePacked k.packed (adverts_at k (reverse network)) → ArePackets network → HavePids network → (pid : ℕ) → IsSwitchedOnce k (reverse network) pid →
     (carried : List (List ℕ)) × (filter (payload_on pid) (spliced_network k network)
-    ≡ filter (payload_on pid) (reverse (head_at k (reverse network))) ++ (lead pid (reverse (behind_head (Some k.program) (reverse network))) ++ carried))
-    × Carries carried (placed_in k (reverse network) pid)
+    ≡ filter (payload_on pid) (reverse (head_at k (reverse network))) ++ (lead_in pid (reverse (behind_head (Some k.program) (reverse network))) ++ carried))
+    × CarriesUnits carried (placed_in k (reverse network) pid)
