@@ -1,20 +1,12 @@
 -- What the devices of a cut did where it stopped at a packet.
-use Rattle.std.proofs.Common.{◌≡◌, ℕ, List, Bool, false, Option}
-use Rattle.ts_packet.specs.Sources.{ReadSo, ReadOn, Refuses, SourceBlamed}
-use Rattle.ts_packet.specs.declared.reader.ReadFault.{ReadFault}
-use Rattle.ts_packet.proofs.RunBlameLemmas as runs
-pub use Rattle.ts_packet.proofs.RunBlameLemmas.{on-refl, on-more, on-told, on-end, read_turns}
+use Rattle.std.proofs.Common.{Bool}
+use Rattle.ts_packet.specs.Sources.{ReadSo}
 use Rattle.ts_packet.specs.declared.tally.Tally.{Tally}
 use Rattle.ts_packet.specs.Transfers.{WentWell}
 use Rattle.ts_packet.proofs.CountLemmas.{blamed-after}
 use Rattle.unit_cut.specs.declared.run.CutFault.{CutFault}
 use Rattle.unit_cut.specs.declared.run.CutFault.TheVariants.{Read, Scrambled, HeaderSplit, TimeJump, Sink}
 use Rattle.unit_cut.specs.Runs.{NetworkBlamed, OutputBlamed, PassBlamed}
-
--- a read failed
-pub read_blamed : (first now ended : Bool) (given : ℕ) (left : Option (List ℕ)) (a b c : Tally) → ReadOn first now a b → now ≡ false → (fault : ReadFault) → Refuses false left fault
-    → SourceBlamed fault given b c → NetworkBlamed (Read fault) ended a c
-read_blamed first now ended given left a b c h e fault k r = runs.read_blamed first now given left a b c h e fault k r
 
 -- a packet was not passed on: what was read
 pub pass_read : (fault : CutFault) (old new : Tally) (full ended : Bool) (a c : Tally) → PassBlamed fault old new full → ReadSo ended a c → NetworkBlamed fault ended a c

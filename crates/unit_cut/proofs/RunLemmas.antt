@@ -9,7 +9,6 @@ use Rattle.pes_time.specs.Line.{lift}
 use Rattle.ts_packet.specs.Packets.{packets_of, last_part, packet_fault}
 use Rattle.ts_packet.specs.Sources.{HasRead}
 use Rattle.ts_packet.proofs.PacketsLemmas.{read_to_end}
-pub use Rattle.ts_packet.proofs.RunBlameLemmas.{given_none, given_more}
 use Rattle.unit_stream.specs.Times.{first_time}
 use Rattle.unit_stream.specs.Faults.{unit_fault}
 use Rattle.unit_cut.specs.Cutting.{cut_between, begin_of}
