@@ -1,5 +1,5 @@
 -- The switched streams of a network without fault.
-use Rattle.std.proofs.Common.{◌≡◌, ℕ, List, [], ◌∷◌, Bool, true, false, ◌||◌, ◌⊎◌, inl, inr, refl, sym, ap, ◌∙◌, Option, None, Some, if◌then◌else◌, subst}
+use Rattle.std.proofs.Common.{◌≡◌, ℕ, List, [], ◌∷◌, Bool, true, false, ◌||◌, inl, inr, refl, sym, ap, ◌∙◌, Option, None, Some, subst}
 use Rattle.std.specs.Prelude.{◌==◌, option_map}
 use Rattle.std.specs.Option.{option_or}
 use Rattle.std.specs.List.{AllByRecursion, list_any}
@@ -18,7 +18,6 @@ use Rattle.program_laws.proofs.ReadingLemmas.{no_tables}
 use Rattle.splice_laws.specs.Streams.{is_among, IsOnce}
 use Rattle.output_laws.proofs.GaplessLemmas.{test-true}
 use Rattle.splice_switch.specs.Switching.{Setting, switched_at}
-use Rattle.switch_laws.specs.Whole.{IsApart}
 use Rattle.switch_laws.specs.Standing.{IsSound, FaultlessIsSound}
 use Rattle.switch_laws.proofs.WholeLemmas.{none-switched}
 

@@ -14,3 +14,4 @@ pub mod StreamLemmas
 pub mod StandingLemmas
 pub mod OtherLemmas
 pub mod FaultlessLemmas
+pub mod SliceLemmas

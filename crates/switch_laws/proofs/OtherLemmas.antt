@@ -1,6 +1,6 @@
 -- The packets of other PIDs stay.
-use Rattle.std.proofs.Common.{◌≡◌, ℕ, ◌<◌, List, [], ◌∷◌, ◌++◌, Bool, true, false, not, ◌||◌, refl, sym, ap, ◌∙◌, Option, None, Some, append_assoc, if◌then◌else◌, subst, map, length, reverse}
-use Rattle.std.specs.Prelude.{All, filter, flat_map, ◌==◌}
+use Rattle.std.proofs.Common.{◌≡◌, ℕ, ◌<◌, List, [], ◌∷◌, ◌++◌, Bool, true, false, ◌||◌, refl, sym, ap, ◌∙◌, Option, None, Some, append_assoc, if◌then◌else◌, subst, map, reverse}
+use Rattle.std.specs.Prelude.{filter, flat_map, ◌==◌}
 use Rattle.std.specs.List.{AllByRecursion}
 use Rattle.std.proofs.lemmas.Bool.{true≢false}
 use Rattle.std.proofs.lemmas.List.{append-nil, reverse-reverse}
@@ -21,13 +21,13 @@ use Rattle.program_laws.specs.Behind.{Passes}
 use Rattle.program_laws.proofs.HeadLemmas.{others_pass as others-pass}
 use Rattle.splice_laws.specs.Splicing.{SliceUnit}
 use Rattle.splice_laws.specs.Streams.{is_among}
-use Rattle.output_laws.specs.Output.{Move, Keep, Leave, Put, Packing, Sound, counter_steps, clock_alone, out_at, out_after}
+use Rattle.output_laws.specs.Output.{Move, Keep, Leave, Put, Packing, counter_steps, clock_alone, out_at, out_after}
 use Rattle.output_laws.specs.Others.{is_off}
 use Rattle.output_laws.proofs.StepLemmas.{test-same, pid_is}
 use Rattle.output_laws.proofs.GaplessLemmas.{one_below}
 use Rattle.output_laws.proofs.OtherLemmas.{off_on, off-kept, skip_clock}
 use Rattle.splice_switch.specs.Playing.{Adverts, History, played, is_inside}
-use Rattle.splice_switch.specs.Switching.{Setting, switched_at, history_at, front_at, place_at, rest_at, switching, switched_past, spliced_network, is_switched, moves, puts_by, puts_before, puts_at_end, place_of, front_of, end_of_run}
+use Rattle.splice_switch.specs.Switching.{Setting, switched_at, history_at, front_at, place_at, rest_at, switching, switched_past, is_switched, moves, puts_by, puts_before, puts_at_end, place_of, front_of, end_of_run}
 use Rattle.switch_laws.specs.Whole.{adverts_at, table_pids, pmt_pids, ArePacked, HavePids}
 use Rattle.switch_laws.specs.Standing.{touched, OthersStay}
 use Rattle.switch_laws.proofs.BringLemmas.{closing_rule, running_rule, end_rule}

@@ -2,3 +2,4 @@ pub mod Moving
 pub mod Laws
 pub mod Whole
 pub mod Standing
+pub mod Slices

@@ -3,6 +3,7 @@
 ghost use Rattle.switch_laws.specs.Laws.{MovesBringTheNetwork, RunsAreSettled, RowsArePlaced, RowsAreSpliced, RunsCarry, RunsHaveUnits, OthersPass, NothingPlayed};
 ghost use Rattle.switch_laws.specs.Whole.{OutputIsInOrder, NothingIsPlayed, NoPacketChanges, NoProgram, RunsAreSound, StreamsGoByThemselves, StreamsCarry};
 ghost use Rattle.switch_laws.specs.Standing.{PacketsStandAs, OthersStay, FaultlessIsSound};
+ghost use Rattle.switch_laws.specs.Slices.{SlicesAreWhole};
 
 /// What a switch does to a run has each packet of the run once, in order, kept or left out.
 pub fn moves_bring_the_network()
@@ -93,4 +94,9 @@ pub fn others_stay()
 /// Where those who read the cues of a network find no fault in it, neither the PID of its cues nor that of its PMT is a switched stream's,\nand each switched stream is listed once.
 pub fn faultless_is_sound()
     ensures { FaultlessIsSound }
+{}
+
+/// In a stream that is conditioned at an event's start, what goes out of it is all units of its advertisement before its last end, where it\nis reached.
+pub fn slices_are_whole()
+    ensures { SlicesAreWhole }
 {}
