@@ -7,6 +7,7 @@ use Rattle.ts_packet.specs.Runs.{Seen, seen_after, onto}
 use Rattle.ts_packet.proofs.RunLemmas.{reverse-more}
 use Rattle.psi_tables.specs.ProgramMap.{ProgramMap}
 use Rattle.program_follower.specs.declared.purpose.Listed.{Listed}
+use Rattle.program_follower.specs.Following.{streams_of_program}
 use Rattle.program_follower.specs.Program.{listed, known_map, behind_head, program_in, pids_of}
 use Rattle.program_follower.proofs.StepLemmas.{listed_stays}
 use Rattle.program_laws.specs.Writing.{Along, block}
@@ -89,7 +90,7 @@ module _ (k : Setting) where
   adverts-same past later h = ap (λ o. adverts_of o) h
     where
       adverts_of : Option ProgramMap → Adverts
-      adverts_of o = k.adverts (pids_of (option_map program_in o))
+      adverts_of o = k.adverts (streams_of_program (option_map program_in o))
 
   pub switched-same : (past later : List (List ℕ)) → known_map (Some k.program) past ≡ known_map (Some k.program) later → switched_at k past ≡ switched_at k later
   switched-same past later h = ap (λ o. pids_of (option_map program_in o)) h
