@@ -7,7 +7,7 @@ use Rattle.unit_stream.specs.Units.{units, payloads, lead_in}
 use Rattle.unit_stream.specs.Carrying.{CarriesUnits}
 use Rattle.splice_laws.specs.Splicing.{stream}
 use Rattle.splice_laws.specs.Laws.{AreOrdered, IsConditioned}
-use Rattle.splice_laws.specs.Rows.{led, placed_units, splice_units}
+use Rattle.splice_laws.specs.Rows.{carried_items, placed_units, splice_units}
 use Rattle.splice_laws.specs.Streams.{IsOnce, of_stream}
 use Rattle.output_laws.specs.Output.{Move, Keep, acts, network, Packing, output, Sound, IsFed, Along}
 use Rattle.output_laws.specs.Others.{is_off}
@@ -43,14 +43,14 @@ RunsAreSettled = (switched : List ℕ) (ads : Adverts) (events : History) → Is
 abbrev pub RowsArePlaced : Type 0
 RowsArePlaced = (switched : List ℕ) (ads : Adverts) (events : History) → IsPlayable switched ads events → (ps : List (List ℕ)) (pid : ℕ) → IsOnce pid switched →
     of_stream pid (acts (run_moves switched ads events ps))
-    ≡ led pid ps (placed_units switched pid (intervals ads (events (reverse ps))) (sent_in_all switched ads events (reverse ps) pid) ps)
+    ≡ carried_items pid ps (placed_units switched pid (intervals ads (events (reverse ps))) (sent_in_all switched ads events (reverse ps) pid) ps)
 
 -- THE LAW OF THE SPLICE: where the network is conditioned at the starts, these are their places by time
 abbrev pub RowsAreSpliced : Type 0
 RowsAreSpliced = (switched : List ℕ) (ads : Adverts) (events : History) → IsPlayable switched ads events → (ps : List (List ℕ)) (pid : ℕ) → IsOnce pid switched →
     IsConditioned (stream switched pid) (intervals ads (events (reverse ps))) ps →
     of_stream pid (acts (run_moves switched ads events ps))
-    ≡ led pid ps (splice_units switched pid (intervals ads (events (reverse ps))) (sent_in_all switched ads events (reverse ps) pid) ps)
+    ≡ carried_items pid ps (splice_units switched pid (intervals ads (events (reverse ps))) (sent_in_all switched ads events (reverse ps) pid) ps)
 
 -- ---- packets
 
