@@ -10,7 +10,7 @@ use Rattle.ts_packet.specs.Runs.{onto}
 use Rattle.ts_packet.proofs.FieldLemmas.{payload_on-on}
 use Rattle.psi_section.specs.Sections.{sections_after}
 use Rattle.psi_section.specs.Packetising.{packets_in_turn}
-use Rattle.psi_section.proofs.ReadBackLemmas.{IsPayloadOn, turn_carry}
+use Rattle.psi_section.proofs.ReadBackLemmas.{Carries, turn_carry}
 use Rattle.psi_tables.specs.declared.config.Config.{Config}
 use Rattle.scte35_codec.specs.declared.cue_out.CueOut.{CueOut}
 use Rattle.scte35_codec.specs.Spelling.{cue_bytes}
@@ -25,11 +25,12 @@ use Rattle.injector.specs.Turns.{Turn, Judged, Passed, events}
 use Rattle.injector.specs.Steps.{Step, Message, Packet, packets_in, high_of, turns_in, sections_before, cue_packets, cued}
 use Rattle.cue_laws.specs.Events.{In}
 use Rattle.cue_laws.specs.Laws.{KeepsEnoughOf}
+use Rattle.cue_laws.proofs.Enough.{nothing_lost_is_enough}
 use Rattle.path_laws.specs.Path.{Item, Sent, left, armed_on, asked_line, IsHistory}
-use Rattle.path_laws.specs.Packets.{IsRunOf, cues_at, sent_in, kept, stream, Brings, CuePathInPackets, CuePathInPacketsAtTheEnd, own_fronts, CuedStreamBrings}
+use Rattle.path_laws.specs.Packets.{IsRunOf, cues_at, sent_in, kept, stream, Brings, CuePathInPackets, CuePathInPacketsAtTheEnd, own_fronts, CuedStreamBrings, CuedStreamArms}
 use Rattle.path_laws.proofs.Packets.{run-message, run-packet, run-history, map-pid, cues-back}
 use Rattle.path_laws.proofs.Streams.{stream_arms}
-use Rattle.path_laws.proofs.Proofs.{cue_path_of_events, cue_path_of_events_at_the_end}
+use Rattle.path_laws.proofs.Proofs.{requests_are_a_run, cue_path_of_events, cue_path_of_events_at_the_end}
 
 -- ---- fronts of a run
 
@@ -107,7 +108,7 @@ number-others : (pid : ℕ) (out qs : List (List ℕ)) → AllByRecursion (Off p
 number-others pid out [] off = refl
 number-others pid out (q ∷ qs) off = number-others pid (q ∷ out) qs off.1 ∙ (let o = off.0 in simp o refl)
 
-cue-carry : (c : Config) (q : List ℕ) (past : List Step) → IsRunOf c past → AllByRecursion (IsPayloadOn c.cue_pid) (cue_packets c q past (cued c past))
+cue-carry : (c : Config) (q : List ℕ) (past : List Step) → IsRunOf c past → AllByRecursion (Carries c.cue_pid) (cue_packets c q past (cued c past))
 cue-carry c q past r = turn_carry c.cue_pid (one_past (number_on c.cue_pid (cued c past))) (sections_before c q past) r.cue_pid (one_past-below (number_on c.cue_pid (cued c past)))
 
 body-same : (c : Config) (fronts : List ℕ → List (List ℕ) → List (List ℕ)) (p : List ℕ) (past : List Step) (o : Option Listed) (ts : List Table) → IsRunOf c past → listed (Some c.program) (packets_in past) ≡ o
@@ -131,7 +132,7 @@ stream-is c fronts (Packet p ∷ past) r a =
     ∙ ap (λ qs. onto (cued c past) (qs ++ body (cueing c.cue_pid fronts) o p (packets_in past) ts (cued c past))) a.0
     ∙ ap (λ rest. onto (cued c past) (cue_packets c p past (cued c past) ++ rest)) (body-same c fronts p past o ts before refl)
 
-carries-on : (pid : ℕ) (qs : List (List ℕ)) → AllByRecursion (IsPayloadOn pid) qs → AllByRecursion (On pid) qs
+carries-on : (pid : ℕ) (qs : List (List ℕ)) → AllByRecursion (Carries pid) qs → AllByRecursion (On pid) qs
 carries-on pid [] all = tt
 carries-on pid (q ∷ qs) all = (payload_on-on pid q all.0, carries-on pid qs all.1)
 
@@ -150,3 +151,12 @@ stream-brings c fronts (Packet p ∷ past) r a =
 
 pub cued_stream_brings : CuedStreamBrings
 cued_stream_brings c past r = (stream-is c (own_fronts c past) past r (agrees c past), stream-brings c (own_fronts c past) past r (agrees c past))
+
+pub cued_stream_arms : CuedStreamArms
+cued_stream_arms c p past r e un =
+    let front = Packet p ∷ past in
+    let h = high_of c.program (p ∷ packets_in past) in
+    let own = cued_stream_brings c front r in
+    let run = requests_are_a_run c.index (turns_in c.program front) (run-history c front r) in
+    let law = cue_path_in_packets_at_the_end c (λ t. 1) (own_fronts c front) p past r own.1 (nothing_lost_is_enough h (asked_line c.index (turns_in c.program past)) run) e un in
+    subst (λ l. In e (armed c.cue_pid (high_of c.program) l) ↔ In e (events c.index (turns_in c.program front))) own.0 law
