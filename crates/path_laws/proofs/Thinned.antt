@@ -1,32 +1,30 @@
 -- Packets that are lost or doubled.
-use Rattle.std.proofs.Common.{◌≡◌, ℕ, zero, suc, ◌+◌, ◌%◌, ◌<◌, ◌≤◌, ◌==◌, Bool, true, false, not, ◌&&◌, refl, sym, ap, ◌∙◌, subst, List, [], ◌∷◌, ◌++◌, length, cond, arith}
+use Rattle.std.proofs.Common.{◌≡◌, ℕ, zero, suc, ◌+◌, ◌%◌, ◌<◌, ◌==◌, Bool, true, false, not, ◌&&◌, refl, sym, ap, ◌∙◌, subst, List, [], ◌∷◌, ◌++◌, length, cond, arith}
 use Rattle.std.proofs.lemmas.Grind.{common_steps}
-use Rattle.std.specs.Prelude.{map, nat_eq, Option, Some, None, filter}
+use Rattle.std.specs.Prelude.{map, nat_eq, Option, Some, None}
 use Rattle.std.specs.Bool.{beq}
 use Rattle.std.specs.Option.{option_eq}
 use lib.Pointwise.{pointwise}
 use Rattle.std.specs.List.{AllByRecursion}
 use Rattle.std.proofs.lemmas.List.{append-nil}
-use Rattle.ts_packet.specs.Fields.{number, payload, unit_start, on, payload_on, alike, carries}
-use Rattle.ts_packet.specs.Duplicates.{repeats, original}
-use Rattle.ts_packet.specs.Numbering.{one_past}
+use Rattle.ts_packet.specs.Fields.{number, payload, unit_start, payload_on, alike, carries}
+use Rattle.ts_packet.specs.Duplicates.{repeats}
 use Rattle.ts_packet.proofs.FieldLemmas.{payload_on-on}
-use Rattle.psi_section.specs.Sections.{given, finished, is_good, sections_after}
-use Rattle.psi_section.specs.Packetising.{first_packet, section_packets, packets_in_turn}
+use Rattle.psi_section.specs.Sections.{given, sections_after}
+use Rattle.psi_section.specs.Packetising.{first_packet, packets_in_turn}
 use Rattle.psi_section.proofs.ReadBackLemmas.{first_on, read_back}
-use Rattle.psi_tables.specs.declared.config.Config.{Config}
 use Rattle.scte35_codec.specs.declared.cue_out.CueOut.{CueOut}
 use Rattle.scte35_codec.specs.Spelling.{cue_bytes, Fits}
 use Rattle.scte35_codec.proofs.GivenLemmas.{cue_given, cue_fits}
 use Rattle.program_laws.specs.Writing.{number_on}
 use Rattle.program_laws.specs.Cued.{On}
 use Rattle.program_laws.proofs.PacketLemmas.{one_past-below}
-use Rattle.injector.specs.Steps.{Step, Message, Packet, packets_in, cued}
+use Rattle.injector.specs.Steps.{Message, Packet, cued}
 use Rattle.cue_laws.specs.Events.{Turn as LineTurn}
 use Rattle.cue_laws.specs.Thinning.{times}
 use Rattle.path_laws.specs.Path.{Item, Sent, line}
-use Rattle.path_laws.specs.Packets.{IsRunOf, cues_at, sent_in, kept, stream, Brings}
-use Rattle.path_laws.specs.Thinning.{thin, AreFresh, next_number, IsThinned, sections_given, ThinnedBrings, ThinnedOfAll, ThinnedCuePath}
+use Rattle.path_laws.specs.Packets.{cues_at, sent_in, kept, stream}
+use Rattle.path_laws.specs.Thinning.{thin, AreFresh, next_number, sections_given, ThinnedBrings, ThinnedOfAll, ThinnedCuePath}
 use Rattle.path_laws.proofs.Packets.{run-message, run-packet, cues-fit}
 use Rattle.path_laws.proofs.Streams.{times-turn}
 use Rattle.path_laws.proofs.Whole.{run-front, cue_path_in_packets}

@@ -25,11 +25,12 @@ use Rattle.injector.specs.Turns.{Turn, Judged, Passed, events}
 use Rattle.injector.specs.Steps.{Step, Message, Packet, packets_in, high_of, turns_in, sections_before, cue_packets, cued}
 use Rattle.cue_laws.specs.Events.{In}
 use Rattle.cue_laws.specs.Laws.{KeepsEnoughOf}
+use Rattle.cue_laws.proofs.Enough.{nothing_lost_is_enough}
 use Rattle.path_laws.specs.Path.{Item, Sent, left, armed_on, asked_line, IsHistory}
-use Rattle.path_laws.specs.Packets.{IsRunOf, cues_at, sent_in, kept, stream, Brings, CuePathInPackets, CuePathInPacketsAtTheEnd, own_fronts, CuedStreamBrings}
+use Rattle.path_laws.specs.Packets.{IsRunOf, cues_at, sent_in, kept, stream, Brings, CuePathInPackets, CuePathInPacketsAtTheEnd, own_fronts, CuedStreamBrings, CuedStreamArms}
 use Rattle.path_laws.proofs.Packets.{run-message, run-packet, run-history, map-pid, cues-back}
 use Rattle.path_laws.proofs.Streams.{stream_arms}
-use Rattle.path_laws.proofs.Proofs.{cue_path_of_events, cue_path_of_events_at_the_end}
+use Rattle.path_laws.proofs.Proofs.{requests_are_a_run, cue_path_of_events, cue_path_of_events_at_the_end}
 
 -- ---- fronts of a run
 
@@ -150,3 +151,12 @@ stream-brings c fronts (Packet p ∷ past) r a =
 
 pub cued_stream_brings : CuedStreamBrings
 cued_stream_brings c past r = (stream-is c (own_fronts c past) past r (agrees c past), stream-brings c (own_fronts c past) past r (agrees c past))
+
+pub cued_stream_arms : CuedStreamArms
+cued_stream_arms c p past r e un =
+    let front = Packet p ∷ past in
+    let h = high_of c.program (p ∷ packets_in past) in
+    let own = cued_stream_brings c front r in
+    let run = requests_are_a_run c.index (turns_in c.program front) (run-history c front r) in
+    let law = cue_path_in_packets_at_the_end c (λ t. 1) (own_fronts c front) p past r own.1 (nothing_lost_is_enough h (asked_line c.index (turns_in c.program past)) run) e un in
+    subst (λ l. In e (armed c.cue_pid (high_of c.program) l) ↔ In e (events c.index (turns_in c.program front))) own.0 law

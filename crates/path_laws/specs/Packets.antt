@@ -109,3 +109,9 @@ own_fronts c (Packet q ∷ past) p before_it = if length before_it == length (pa
 abbrev pub CuedStreamBrings : Type 0
 CuedStreamBrings = (c : Config) (past : List Step) → IsRunOf c past →
     (stream c (own_fronts c past) past ≡ cued c past) × Brings c (λ t. 1) (own_fronts c past) past
+
+-- so of the cued stream itself a switch has armed, behind each packet of the network, all uncancelled events that were accepted, and no
+-- others that are not cancelled
+abbrev pub CuedStreamArms : Type 0
+CuedStreamArms = (c : Config) (p : List ℕ) (past : List Step) → IsRunOf c (Packet p ∷ past) → (e : Standing) → e.cancelled ≡ false →
+    In e (armed c.cue_pid (high_of c.program) (cued c (Packet p ∷ past))) ↔ In e (events c.index (turns_in c.program (Packet p ∷ past)))

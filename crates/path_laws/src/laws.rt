@@ -1,7 +1,7 @@
 //! The laws of the cue path, each on a function of its own.
 
 ghost use Rattle.path_laws.specs.Telling.{StartTells, EndTells, CancelTells};
-ghost use Rattle.path_laws.specs.Packets.{SectionsReadBack, StreamArms, CuePathInPackets, CuePathInPacketsAtTheEnd, CuedStreamBrings};
+ghost use Rattle.path_laws.specs.Packets.{SectionsReadBack, StreamArms, CuePathInPackets, CuePathInPacketsAtTheEnd, CuedStreamBrings, CuedStreamArms};
 ghost use Rattle.path_laws.specs.Thinning.{ThinnedBrings, ThinnedOfAll, ThinnedCuePath};
 ghost use Rattle.path_laws.specs.Laws.{RequestsAreARun, CuesTellTheLine, CuePathOfEvents, CuePathOfEventsAtTheEnd};
 
@@ -82,4 +82,9 @@ pub fn cue_path_in_packets_at_the_end()
 /// So it is with the injector's packets of which some are left out and some doubled.
 pub fn thinned_cue_path()
     ensures { ThinnedCuePath }
+{}
+
+/// Of the cued stream itself, behind each packet, a switch has armed exactly the uncancelled events that were accepted.
+pub fn cued_stream_arms()
+    ensures { CuedStreamArms }
 {}
