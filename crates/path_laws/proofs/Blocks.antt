@@ -14,7 +14,7 @@ use Rattle.injector.specs.Asking.{is_start, asked_of}
 use Rattle.injector.specs.Verdicts.{verdict_of}
 use Rattle.injector.specs.Turns.{Turn, Judged, Passed, high, standing}
 use Rattle.injector.specs.Senders.{Sender, cues_of, stands_now, senders}
-use Rattle.cue_laws.specs.Events.{Turn as LineTurn, Event, before, Rises, In}
+use Rattle.cue_laws.specs.Events.{Turn as LineTurn, LineEvent, before, Rises, In}
 use Rattle.cue_laws.specs.Events.{Passed as LinePassed}
 use Rattle.cue_laws.specs.Cueing.{Sender as LineSender, Told, Untold, Known, Never, is_news, is_due, is_second, told_on, block_on, cued}
 use Rattle.cue_laws.specs.Cueing.{senders as line_senders, limit as line_limit}
@@ -44,7 +44,7 @@ module _ (h : ℤ) (later : Option ℤ) (e : Standing) (gone : int_lt h (end_of 
   not-due last = and-first (before (Some h) (line_limit (view e))) (is_second last later)
       (past-forgotten h (end_of e) (line_limit (view e)) gone (limit-below e.start e.length (e.start +ℤ pos e.asked) e.cancelled))
 
-  not-news : (k : Event) → IsKnown (Some h) (view e) k → is_news (view e) k ≡ false
+  not-news : (k : LineEvent) → IsKnown (Some h) (view e) k → is_news (view e) k ≡ false
   not-news k known =
       by_test (int_lt (end_of e) k.end)
       (λ s. let ahead = (known.end_new (lt-test (end_of e) k.end s)).0 in
@@ -59,7 +59,7 @@ module _ (h : ℤ) (later : Option ℤ) (e : Standing) (gone : int_lt h (end_of 
       start-below : (start : ℤ) (n : ℕ) → start ≤ℤ (start +ℤ pos n)
       start-below start n = omega (arith, ints)
 
-  forgotten-silent : (last : Option ℤ) (k : Told) (older : List Event) (rest : List LineTurn) → IsFair (Some h) (view e) k older → told_on (Some h) later (view e) last k rest ≡ rest
+  forgotten-silent : (last : Option ℤ) (k : Told) (older : List LineEvent) (rest : List LineTurn) → IsFair (Some h) (view e) k older → told_on (Some h) later (view e) last k rest ≡ rest
   forgotten-silent last Untold older rest fair =
       let no_more = past-forgotten h (end_of e) e.start gone (start-below e.start e.length) in absurd (let bad : true ≡ false = sym fair.ahead ∙ no_more in cc)
     where
@@ -88,7 +88,7 @@ abbrev pub SendersNamed : (ℤ → ℕ) → List Sender → Type 0
 SendersNamed program xs = (x : Sender) → In x xs → x.event.program ≡ program x.event.start
 
 module _ (program : ℤ → ℕ) (h : ℤ) (later : Option ℤ) where
-  one-in : (x : Sender) (y : LineSender) (older : List Event) → IsSender (Some h) x y → IsFair (Some h) y.event y.told older → x.event.program ≡ program x.event.start
+  one-in : (x : Sender) (y : LineSender) (older : List LineEvent) → IsSender (Some h) x y → IsFair (Some h) y.event y.told older → x.event.program ≡ program x.event.start
       → (items : List Item) (rest : List LineTurn) → Tells program (Some h) items rest → Tells program (Some h) (sent_onto items (cues_in h later (x ∷ []))) (told_on (Some h) later y.event y.last y.told rest)
   one-in x y older same fair name items rest t =
       by_test (stands_now (Some h) x)
@@ -100,7 +100,7 @@ module _ (program : ℤ → ℕ) (h : ℤ) (later : Option ℤ) where
       silent s = ap (λ e. told_on (Some h) later e y.last y.told rest) (sym same.event_is)
           ∙ forgotten-silent h later x.event s y.last y.told older rest (subst (λ e. IsFair (Some h) e y.told older) (sym same.event_is) fair)
 
-  block-in : (xs : List Sender) (ys : List LineSender) → Alike (IsSender (Some h)) xs ys → ((y : LineSender) → In y ys → (older : List Event) × IsFair (Some h) y.event y.told older) → SendersNamed program xs
+  block-in : (xs : List Sender) (ys : List LineSender) → Alike (IsSender (Some h)) xs ys → ((y : LineSender) → In y ys → (older : List LineEvent) × IsFair (Some h) y.event y.told older) → SendersNamed program xs
       → (items : List Item) (rest : List LineTurn) → Tells program (Some h) items rest → Tells program (Some h) (sent_onto items (cues_in h later xs)) (block_on (Some h) later ys rest)
   block-in xs [] a fair names items rest t = subst (λ l. Tells program (Some h) (sent_onto items (cues_in h later l)) rest) (sym a) t
   block-in xs (y ∷ ys) a fair names items rest t =

@@ -22,7 +22,7 @@ use Rattle.injector.specs.Verdicts.{time_at, verdict_of}
 use Rattle.injector.specs.Asking.{asked_of as request_of}
 use Rattle.injector.specs.Turns.{Turn, Judged, Passed, high}
 use Rattle.injector.specs.Senders.{Sender, is_none, chosen, tell, with_event, fresh, stands_by, stands_now, events_in, with_judged, with_request, senders}
-use Rattle.cue_laws.specs.Events.{Event, In}
+use Rattle.cue_laws.specs.Events.{LineEvent, In}
 use Rattle.cue_laws.proofs.Settling.{by_test}
 use Rattle.cue_laws.proofs.Lists.{Distinct, In-map}
 use Rattle.path_laws.specs.Path.{Item, Sent, Packet, high_on, left, armed_on}
@@ -61,7 +61,7 @@ program-found (e ∷ es) s (inr i) =
     (λ off. let r = program-found es s i in (r.0, inr r.1, r.2, simp off r.3))
 
 -- no two events of the injector's have one start
-start-once : (xs : List Standing) (ys : List Event) → Alike IsView xs ys → Distinct ys → (a b : Standing) → In a xs → In b xs → a.start ≡ b.start → a ≡ b
+start-once : (xs : List Standing) (ys : List LineEvent) → Alike IsView xs ys → Distinct ys → (a b : Standing) → In a xs → In b xs → a.start ≡ b.start → a ≡ b
 start-once xs [] l d a b i j same = absurd (subst (In a) l i)
 start-once xs (y ∷ ys) l d a b i j same =
     which (In-pushed a l.1 l.0 (subst (In a) l.2 i)) (In-pushed b l.1 l.0 (subst (In b) l.2 j)) (λ p q. start-once l.0 ys l.4 d.1 a b p q same)
@@ -69,7 +69,7 @@ start-once xs (y ∷ ys) l d a b i j same =
     last : (z : Standing) → In z l.0 → z.start ≡ (l.1).start → ⊥
     last z p is =
         let r = alike-in IsView z l.0 ys l.4 p in
-        d.0 r.0 r.1 (sym (ap (λ (e : Event). e.start) r.2) ∙ is ∙ ap (λ (e : Event). e.start) l.3)
+        d.0 r.0 r.1 (sym (ap (λ (e : LineEvent). e.start) r.2) ∙ is ∙ ap (λ (e : LineEvent). e.start) l.3)
 
     which : In a l.0 ⊎ (a ≡ l.1) → In b l.0 ⊎ (b ≡ l.1) → (In a l.0 → In b l.0 → a ≡ b) → a ≡ b
     which (inl p) (inl q) older = older p q
@@ -77,7 +77,7 @@ start-once xs (y ∷ ys) l d a b i j same =
     which (inr is) (inl q) older = absurd (last b q (sym same ∙ ap (λ (e : Standing). e.start) is))
     which (inr is) (inr so) older = is ∙ sym so
 
-pub programs-known : (xs : List Standing) (ys : List Event) → Alike IsView xs ys → Distinct ys → Named (program_at xs) xs
+pub programs-known : (xs : List Standing) (ys : List LineEvent) → Alike IsView xs ys → Distinct ys → Named (program_at xs) xs
 programs-known xs ys l d s i =
     let r = program-found xs s i in
     sym (r.3 ∙ ap (λ (e : Standing). e.program) (start-once xs ys l d r.0 s r.1 i r.2))

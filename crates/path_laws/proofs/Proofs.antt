@@ -10,7 +10,7 @@ use Rattle.injector.specs.Verdicts.{verdict_of}
 use Rattle.injector.specs.Turns.{Turn, Judged, Passed, high, standing, events}
 use Rattle.injector.specs.Senders.{Sender, senders, events_in}
 use Rattle.injector.proofs.SenderLemmas.{senders-events}
-use Rattle.cue_laws.specs.Events.{Turn as LineTurn, Event, Passed as LinePassed, In, upon}
+use Rattle.cue_laws.specs.Events.{Turn as LineTurn, LineEvent, Passed as LinePassed, In, upon}
 use Rattle.cue_laws.specs.Events.{events as line_events}
 use Rattle.cue_laws.specs.Thinning.{thinned}
 use Rattle.cue_laws.specs.Cueing.{IsRun, cued}
@@ -62,22 +62,22 @@ length-same start start' a b same sum = omega (arith, ints, same, sum)
 
 event-same : (s t : Standing) → view s ≡ view t → s.program ≡ t.program → s ≡ t
 event-same s t v p =
-    let start : s.start ≡ t.start = ap (λ (e : Event). e.start) v in
-    ap (λ i. record { id = i; start = s.start; length = s.length; asked = s.asked; program = s.program; cancelled = s.cancelled }) (ap (λ (e : Event). e.id) v)
+    let start : s.start ≡ t.start = ap (λ (e : LineEvent). e.start) v in
+    ap (λ i. record { id = i; start = s.start; length = s.length; asked = s.asked; program = s.program; cancelled = s.cancelled }) (ap (λ (e : LineEvent). e.id) v)
     ∙ ap (λ i. record { id = t.id; start = i; length = s.length; asked = s.asked; program = s.program; cancelled = s.cancelled }) start
-    ∙ ap (λ i. record { id = t.id; start = t.start; length = i; asked = s.asked; program = s.program; cancelled = s.cancelled }) (length-same s.start t.start s.length t.length start (ap (λ (e : Event). e.end) v))
-    ∙ ap (λ i. record { id = t.id; start = t.start; length = t.length; asked = i; program = s.program; cancelled = s.cancelled }) (length-same s.start t.start s.asked t.asked start (ap (λ (e : Event). e.asked) v))
+    ∙ ap (λ i. record { id = t.id; start = t.start; length = i; asked = s.asked; program = s.program; cancelled = s.cancelled }) (length-same s.start t.start s.length t.length start (ap (λ (e : LineEvent). e.end) v))
+    ∙ ap (λ i. record { id = t.id; start = t.start; length = t.length; asked = i; program = s.program; cancelled = s.cancelled }) (length-same s.start t.start s.asked t.asked start (ap (λ (e : LineEvent). e.asked) v))
     ∙ ap (λ i. record { id = t.id; start = t.start; length = t.length; asked = t.asked; program = i; cancelled = s.cancelled }) p
-    ∙ ap (λ i. record { id = t.id; start = t.start; length = t.length; asked = t.asked; program = t.program; cancelled = i }) (ap (λ (e : Event). e.cancelled) v)
+    ∙ ap (λ i. record { id = t.id; start = t.start; length = t.length; asked = t.asked; program = t.program; cancelled = i }) (ap (λ (e : LineEvent). e.cancelled) v)
 
 -- an event of the one list whose view is in the other's views is in the other list, where both have the programs of one rule
-moved : (program : ℤ → ℕ) (xs : List Standing) (ys : List Event) → Alike IsView xs ys → Named program xs → (e : Standing) → e.program ≡ program e.start → In (view e) ys → In e xs
+moved : (program : ℤ → ℕ) (xs : List Standing) (ys : List LineEvent) → Alike IsView xs ys → Named program xs → (e : Standing) → e.program ≡ program e.start → In (view e) ys → In e xs
 moved program xs ys a named e mine i =
     let r = alike-back IsView (view e) xs ys a i in
-    let same : r.0 ≡ e = event-same r.0 e r.2 (named r.0 r.1 ∙ ap program (ap (λ (v : Event). v.start) r.2) ∙ sym mine) in
+    let same : r.0 ≡ e = event-same r.0 e r.2 (named r.0 r.1 ∙ ap program (ap (λ (v : LineEvent). v.start) r.2) ∙ sym mine) in
     subst (λ z. In z xs) same r.1
 
-seen : (xs : List Standing) (ys : List Event) → Alike IsView xs ys → (e : Standing) → In e xs → In (view e) ys
+seen : (xs : List Standing) (ys : List LineEvent) → Alike IsView xs ys → (e : Standing) → In e xs → In (view e) ys
 seen xs ys a e i = let r = alike-in IsView e xs ys a i in subst (λ z. In z ys) (sym r.2) r.1
 
 module _ (index : ℕ) (copies : List LineTurn → ℕ) (h : Option ℤ) (past : List Turn) (i : IsHistory index (Passed h ∷ past)) where

@@ -12,7 +12,7 @@ use Rattle.injector.specs.Verdicts.{time_at, start_event, start_verdict_at, end_
 use Rattle.injector.specs.Turns.{Turn, Judged, Passed, high, standing}
 use Rattle.injector.specs.Senders.{Sender, with_event, stands_now, stands_by, events_in, with_request, with_judged, senders}
 use Rattle.injector.proofs.SenderLemmas.{standing-events}
-use Rattle.cue_laws.specs.Events.{Turn as LineTurn, Started, Cancelled, Ended, Event, before, events, Rises, can_start, can_cancel, can_end, cancel_by, end_by, In}
+use Rattle.cue_laws.specs.Events.{Turn as LineTurn, Started, Cancelled, Ended, LineEvent, before, events, Rises, can_start, can_cancel, can_end, cancel_by, end_by, In}
 use Rattle.cue_laws.specs.Events.{high as line_high, is_of as line_is_of}
 use Rattle.cue_laws.specs.Cueing.{Sender as LineSender, IsRun, change}
 use Rattle.cue_laws.specs.Cueing.{senders as line_senders, tell as line_tell}
@@ -48,7 +48,7 @@ module _ (h : ℤ) (xs : List Sender) (run : List LineTurn) (s : Stood (Some h) 
   viewed : Alike IsView (events_in xs) (events run)
   viewed = subst (Alike IsView (events_in xs)) same-events (view-senders (Some h) xs (line_senders run) s.alike)
 
-  fairly : (y : LineSender) → In y (line_senders run) → (older : List Event) × IsFair (Some h) y.event y.told older
+  fairly : (y : LineSender) → In y (line_senders run) → (older : List LineEvent) × IsFair (Some h) y.event y.told older
   fairly = fair-in (Some h) (line_senders run) (subst (λ k. Fair k (line_senders run)) s.clock (stand run s.accepted).fair)
 
   mine-of : (y : LineSender) → In y (line_senders run) → In y.event (events run)
@@ -62,13 +62,13 @@ module _ (h : ℤ) (xs : List Sender) (run : List LineTurn) (s : Stood (Some h) 
       late : (k start : ℤ) → int_le start k ≡ false → int_lt k start ≡ true
       late k start is = grind (arith, ints)
 
-  cancel-by-found : (id : ℕ) (f : Option Standing) → find (is_of (Some h) id) (events_in xs) ≡ f → cancel_verdict_at (Some h) f ≡ Ok tt → (e : Event) × In e (events run) × (can_cancel (Some h) id e ≡ true)
+  cancel-by-found : (id : ℕ) (f : Option Standing) → find (is_of (Some h) id) (events_in xs) ≡ f → cancel_verdict_at (Some h) f ≡ Ok tt → (e : LineEvent) × In e (events run) × (can_cancel (Some h) id e ≡ true)
   cancel-by-found id None is verdict = absurd (let bad : Err NoSuchEvent ≡ Ok tt = verdict in cc)
   cancel-by-found id (Some z) is verdict =
       let f = find-some (is_of (Some h) id) z (events_in xs) is in
       let r = alike-in IsView z (events_in xs) (events run) viewed f.0 in
       let t : line_is_of (Some h) id r.0 ≡ true = sym (is_of-view (Some h) id z r.0 r.2) ∙ f.1 in
-      let early : before (Some h) (r.0).start ≡ true = ap (λ (e : Event). before (Some h) e.start) (sym r.2) ∙ begun-not z (by_test (has_begun (Some h) z) (λ b. absurd (let bad = simp b at verdict in cc)) (λ b. b)) in
+      let early : before (Some h) (r.0).start ≡ true = ap (λ (e : LineEvent). before (Some h) e.start) (sym r.2) ∙ begun-not z (by_test (has_begun (Some h) z) (λ b. absurd (let bad = simp b at verdict in cc)) (λ b. b)) in
       (r.0, r.1, simp (t, early) refl)
 
   found-is : (id : ℕ) → find (has_id id) (events_in (filter (stands_now (Some h)) xs)) ≡ find (is_of (Some h) id) (events_in xs)
@@ -90,7 +90,7 @@ module _ (h : ℤ) (xs : List Sender) (run : List LineTurn) (s : Stood (Some h) 
   -- ---- early ends
 
   end-by-found : (r : SpliceRequest) (f : Option Standing) → find (is_of (Some h) r.splice_event_id) (events_in xs) ≡ f → end_verdict_at (Some h) f r ≡ Ok tt
-      → (e : Event) × In e (events run) × (can_end (Some h) r.splice_event_id (time_at h r) e ≡ true)
+      → (e : LineEvent) × In e (events run) × (can_end (Some h) r.splice_event_id (time_at h r) e ≡ true)
   end-by-found r None is verdict = absurd (let bad : Err NoSuchEvent ≡ Ok tt = verdict in cc)
   end-by-found r (Some z) is verdict =
       let f = find-some (is_of (Some h) r.splice_event_id) z (events_in xs) is in

@@ -7,7 +7,7 @@ use Rattle.std.proofs.lemmas.List.{map-append}
 use Rattle.std.proofs.lemmas.Bool.Decides.{nat_tests}
 use Rattle.event_table.specs.Standing.{Standing, end_of, cancelled_one, ending_at, with_first}
 use Rattle.injector.specs.Senders.{Sender, is_none, is_ended, news, current, limit, is_repeated, chosen, tell, told_now, with_event, stands_by, events_in}
-use Rattle.cue_laws.specs.Events.{Event, before, Rises, can_cancel, can_end, cancel_by, end_by, In}
+use Rattle.cue_laws.specs.Events.{LineEvent, before, Rises, can_cancel, can_end, cancel_by, end_by, In}
 use Rattle.cue_laws.specs.Events.{is_of as line_is_of}
 use Rattle.cue_laws.specs.Cueing.{Sender as LineSender, Told, Untold, Known, Never, is_cancel_new, or_else, is_news, is_due, is_sent, change}
 use Rattle.cue_laws.specs.Cueing.{limit as line_limit, tell as line_tell, told_now as line_told_now}
@@ -53,12 +53,12 @@ pub record IsSender (h : Option ℤ) (x : Sender) (y : LineSender) : Type 0 wher
 -- ---- what is new, and what is repeated
 
 -- something is new
-abbrev pub is_new : Event → Told → Bool
+abbrev pub is_new : LineEvent → Told → Bool
 is_new e Untold = true
 is_new e (Known t) = is_news e t
 is_new e Never = false
 
-pub sent-is : (h later : Option ℤ) (e : Event) (last : Option ℤ) (told : Told) → is_sent h later e last told ≡ or_else (is_new e told) (is_due h later e last)
+pub sent-is : (h later : Option ℤ) (e : LineEvent) (last : Option ℤ) (told : Told) → is_sent h later e last told ≡ or_else (is_new e told) (is_due h later e last)
 sent-is h later e last Untold = refl
 sent-is h later e last (Known t) = refl
 sent-is h later e last Never = refl
@@ -77,13 +77,13 @@ none-or : (a b : Bool) → (not false && (not a && not b)) ≡ not (or_else a b)
 none-or true b = refl
 none-or false b = refl
 
-pub news-is : (h : Option ℤ) (e : Standing) (t : Option Standing) (k : Told) (older : List Event) → SameTold e t k → IsFair h (view e) k older → is_none (news e t) ≡ not (is_new (view e) k)
+pub news-is : (h : Option ℤ) (e : Standing) (t : Option Standing) (k : Told) (older : List LineEvent) → SameTold e t k → IsFair h (view e) k older → is_none (news e t) ≡ not (is_new (view e) k)
 news-is h e None Untold older same fair = by_test e.cancelled (λ c. simp c refl) (λ c. simp c refl)
 news-is h e None (Known k) older same fair = absurd same
 news-is h e None Never older same fair = absurd same
 news-is h e (Some t) Untold older same fair = absurd same
 news-is h e (Some t) (Known k) older same fair =
-    let start : t.start ≡ e.start = ap (λ (z : Event). z.start) same.0 ∙ fair.start in
+    let start : t.start ≡ e.start = ap (λ (z : LineEvent). z.start) same.0 ∙ fair.start in
     subst (λ z. is_none (news e (Some t)) ≡ not (is_news (view e) z)) same.0
     (none-or (nat_lt e.length t.length) (e.cancelled && not t.cancelled) ∙ ap (λ b. not (or_else b (e.cancelled && not t.cancelled))) (sym (end-new-is e t start)))
 news-is h e (Some t) Never older same fair =
@@ -125,7 +125,7 @@ not-not : (b : Bool) → not (not b) ≡ b
 not-not true = refl
 not-not false = refl
 
-pub silent-is : (h : ℤ) (later : Option ℤ) (x : Sender) (y : LineSender) (older : List Event) → IsSender (Some h) x y → IsFair (Some h) y.event y.told older
+pub silent-is : (h : ℤ) (later : Option ℤ) (x : Sender) (y : LineSender) (older : List LineEvent) → IsSender (Some h) x y → IsFair (Some h) y.event y.told older
     → is_none (chosen x (Some h) later) ≡ not (is_sent (Some h) later y.event y.last y.told)
 silent-is h later x y older same fair =
     let f : IsFair (Some h) (view x.event) y.told older = subst (λ e. IsFair (Some h) e y.told older) (sym same.event_is) fair in
@@ -163,14 +163,14 @@ same_flag false true is k = let bad = k refl in cc
 same_flag false false is k = refl
 
 -- what was told is the event, where nothing is new
-nothing-new : (h : Option ℤ) (e k : Event) → IsKnown h e k → is_news e k ≡ false → k ≡ e
+nothing-new : (h : Option ℤ) (e k : LineEvent) → IsKnown h e k → is_news e k ≡ false → k ≡ e
 nothing-new h e k known is =
     let p = or_else-false (int_lt e.end k.end) (is_cancel_new e k) is in
     equal_events k e known.id known.start known.asked
     (let a = known.earlier in let b = ge-test e.end k.end p.0 in omega (arith, ints))
     (same_flag e.cancelled k.cancelled p.1 known.cancelled)
 
-silent-told : (h later : Option ℤ) (e : Standing) (t : Option Standing) (f : Event) (last : Option ℤ) (k : Told) (older : List Event) → SameTold e t k → IsFair h f k older
+silent-told : (h later : Option ℤ) (e : Standing) (t : Option Standing) (f : LineEvent) (last : Option ℤ) (k : Told) (older : List LineEvent) → SameTold e t k → IsFair h f k older
     → is_sent h later f last k ≡ false → SameTold e t (line_told_now f k)
 silent-told h later e None f last Untold older same fair off = absurd (let bad : true ≡ false = off in cc)
 silent-told h later e None f last (Known k) older same fair off = absurd same
@@ -180,15 +180,15 @@ silent-told h later e (Some t) f last (Known k) older same fair off =
     (same.0 ∙ nothing-new h f k fair (or_else-false (is_news f k) (is_due h later f last) off).0, same.1)
 silent-told h later e (Some t) f last Never older same fair off = same
 
-sent-told : (h : Option ℤ) (e : Standing) (f : Event) (k : Told) (older : List Event) → view e ≡ f → e.length ≤ e.asked → IsFair h f k older → SameTold e (Some e) (line_told_now f k)
+sent-told : (h : Option ℤ) (e : Standing) (f : LineEvent) (k : Told) (older : List LineEvent) → view e ≡ f → e.length ≤ e.asked → IsFair h f k older → SameTold e (Some e) (line_told_now f k)
 sent-told h e f Untold older is whole fair =
     by_test f.cancelled
-    (λ c. simp c (ap (λ (z : Event). z.cancelled) is ∙ c, omega arith))
+    (λ c. simp c (ap (λ (z : LineEvent). z.cancelled) is ∙ c, omega arith))
     (λ c. simp c (is, whole))
 sent-told h e f (Known k) older is whole fair = (is, whole)
-sent-told h e f Never older is whole fair = (ap (λ (z : Event). z.cancelled) is ∙ fair, omega arith)
+sent-told h e f Never older is whole fair = (ap (λ (z : LineEvent). z.cancelled) is ∙ fair, omega arith)
 
-pub tell-sender : (h later : Option ℤ) → Rises h later → (x : Sender) (y : LineSender) (older : List Event) → IsSender h x y → IsFair h y.event y.told older
+pub tell-sender : (h later : Option ℤ) → Rises h later → (x : Sender) (y : LineSender) (older : List LineEvent) → IsSender h x y → IsFair h y.event y.told older
     → IsSender later (tell h later x) (line_tell h later y)
 tell-sender None later r x y older same fair = absurd same.held
 tell-sender (Some h) None r x y older same fair = absurd r
@@ -214,7 +214,7 @@ length-told e f (Some t) Untold is same = same
 length-told e f (Some t) (Known k) is same = same
 length-told e f (Some t) Never is same = (same.0, let l = same.1 in omega (arith, l, is))
 
-ended-told : (h : Option ℤ) (e f : Standing) (t : Option Standing) (y : Event) (k : Told) (older : List Event) → y.cancelled ≡ false → IsFair h y k older → SameTold e t k → SameTold f t k
+ended-told : (h : Option ℤ) (e f : Standing) (t : Option Standing) (y : LineEvent) (k : Told) (older : List LineEvent) → y.cancelled ≡ false → IsFair h y k older → SameTold e t k → SameTold f t k
 ended-told h e f None y Untold older un fair same = same
 ended-told h e f None y (Known k) older un fair same = same
 ended-told h e f None y Never older un fair same = same
@@ -222,7 +222,7 @@ ended-told h e f (Some t) y Untold older un fair same = same
 ended-told h e f (Some t) y (Known k) older un fair same = same
 ended-told h e f (Some t) y Never older un fair same = absurd (let bad : true ≡ false = sym fair ∙ un in cc)
 
-abbrev with_event_of : LineSender → Event → LineSender
+abbrev with_event_of : LineSender → LineEvent → LineSender
 with_event_of y e = record { event = e; told = y.told; last = y.last }
 
 module _ (h : ℤ) (id : ℕ) where
@@ -240,18 +240,18 @@ module _ (h : ℤ) (id : ℕ) where
     held = let k : IsHeld h x = same.held in record { id = k.id; program = k.program; some = k.some; most = k.most; whole = k.whole; start = k.start; end = k.end; count = k.count; avails = k.avails };
   }
     where
-      with_c : Event → Bool → Event
+      with_c : LineEvent → Bool → LineEvent
       with_c e c = record { id = e.id; start = e.start; asked = e.asked; end = e.end; cancelled = c }
 
-      made : Event → Event
+      made : LineEvent → LineEvent
       made e = with_c e true
 
-  end-sender : (time : ℤ) → time ≤ℤ (h +ℤ pos (2 ^ 29)) → (x : Sender) (y : LineSender) (older : List Event) → IsSender (Some h) x y → IsFair (Some h) y.event y.told older
+  end-sender : (time : ℤ) → time ≤ℤ (h +ℤ pos (2 ^ 29)) → (x : Sender) (y : LineSender) (older : List LineEvent) → IsSender (Some h) x y → IsFair (Some h) y.event y.told older
       → can_end (Some h) id time y.event ≡ true → IsSender (Some h) (with_event (ending_at time) x) (change (end_by (Some h) id time) y)
   end-sender time near x y older same fair can =
       let parts = can_end-parts (Some h) id time y.event can in
-      let start : x.event.start ≡ (y.event).start = ap (λ (e : Event). e.start) same.event_is in
-      let end : end_of x.event ≡ (y.event).end = ap (λ (e : Event). e.end) same.event_is in
+      let start : x.event.start ≡ (y.event).start = ap (λ (e : LineEvent). e.start) same.event_is in
+      let end : end_of x.event ≡ (y.event).end = ap (λ (e : LineEvent). e.end) same.event_is in
       let past : x.event.start <ℤ time = subst (λ k. k <ℤ time) (sym start) parts.past in
       let early : time <ℤ end_of x.event = subst (λ k. time <ℤ k) (sym end) parts.earlier in
       let new : end_of (ending_at time x.event) ≡ time = ending-end x.event.start time past in
@@ -272,7 +272,7 @@ module _ (h : ℤ) (id : ℕ) where
         };
       }
     where
-      with_end : Event → ℤ → Event
+      with_end : LineEvent → ℤ → LineEvent
       with_end e k = record { id = e.id; start = e.start; asked = e.asked; end = k; cancelled = e.cancelled }
 
       shorter : (start : ℤ) (new old asked : ℕ) (time : ℤ) → start +ℤ pos new ≡ time → time <ℤ (start +ℤ pos old) → old ≤ asked → new ≤ asked
@@ -299,7 +299,7 @@ module _ (h : ℤ) (id : ℕ) where
 
   pub end-senders : (time : ℤ) → time ≤ℤ (h +ℤ pos (2 ^ 29)) → (xs : List Sender) (ys : List LineSender) → Alike (IsSender (Some h)) xs ys → AtMostOnce (line_is_of (Some h) id) (map event_of ys)
       → ((y : LineSender) → In y ys → is_mine y ≡ true → can_end (Some h) id time y.event ≡ true)
-      → ((y : LineSender) → In y ys → (older : List Event) × IsFair (Some h) y.event y.told older)
+      → ((y : LineSender) → In y ys → (older : List LineEvent) × IsFair (Some h) y.event y.told older)
       → Alike (IsSender (Some h)) (with_first (stands_by (Some h) id) (with_event (ending_at time)) xs) (map (change (end_by (Some h) id time)) ys)
   end-senders time near xs ys a once can fair =
       alike-first (IsSender (Some h)) (stands_by (Some h) id) is_mine mine-is (with_event (ending_at time)) (change (end_by (Some h) id time))
@@ -307,7 +307,7 @@ module _ (h : ℤ) (id : ℕ) where
       xs ys (λ x y i same on. let f = fair y i in end-sender time near x y f.0 same f.1 (can y i on)) (mine-once ys once) a
 
 -- what is fair of one of them
-pub fair-in : (h : Option ℤ) (ys : List LineSender) → Fair h ys → (y : LineSender) → In y ys → (older : List Event) × IsFair h y.event y.told older
+pub fair-in : (h : Option ℤ) (ys : List LineSender) → Fair h ys → (y : LineSender) → In y ys → (older : List LineEvent) × IsFair h y.event y.told older
 fair-in h [] fair y i = absurd i
 fair-in h (z ∷ ys) fair y (inl is) = (map event_of ys, subst (λ w. IsFair h w.event w.told (map event_of ys)) (sym is) fair.0)
 fair-in h (z ∷ ys) fair y (inr i) = fair-in h ys fair.3 y i

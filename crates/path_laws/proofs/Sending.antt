@@ -8,7 +8,7 @@ use Rattle.scte35_codec.specs.declared.cue_out.CueOut.{CueOut}
 use Rattle.scte35_codec.specs.declared.cue_out.CueOut.TheVariants.{Start, Cancel, End}
 use Rattle.event_table.specs.Standing.{Standing, end_of}
 use Rattle.injector.specs.Senders.{Sender, is_none, is_ended, news, current, is_repeated, chosen, cues_by, cues_of, start_cue, end_cue, cancel_cue}
-use Rattle.cue_laws.specs.Events.{Turn as LineTurn, Started, Cancelled, Ended, Event, before}
+use Rattle.cue_laws.specs.Events.{Turn as LineTurn, Started, Cancelled, Ended, LineEvent, before}
 use Rattle.cue_laws.specs.Cueing.{Sender as LineSender, Told, Untold, Known, Never, is_news, is_due, end_on, cancel_on, repeat_on, told_on}
 use Rattle.cue_laws.specs.Cueing.{limit as line_limit, current as line_current}
 use Rattle.cue_laws.proofs.Settling.{by_test, both, lt-test}
@@ -165,7 +165,7 @@ module _ (program : ℤ → ℕ) (h : ℤ) (later : Option ℤ) (items : List It
       ended : (start : ℤ) (a b : ℕ) (start' : ℤ) (a' b' : ℕ) → nat_lt a a' ≡ true → a' ≤ b' → start' ≡ start → (start' +ℤ pos b') ≡ (start +ℤ pos b) → nat_lt a b ≡ true
       ended start a b start' a' b' s w p r = grind (arith, ints, nat_tests)
 
-  one-sent : (e : Standing) (n m : ℕ) (ids : List ℕ) (told : Option Standing) (l : Option ℤ) (k : Told) (older : List Event) → IsHeld h (sender e n m ids told l) → e.program ≡ program e.start
+  one-sent : (e : Standing) (n m : ℕ) (ids : List ℕ) (told : Option Standing) (l : Option ℤ) (k : Told) (older : List LineEvent) → IsHeld h (sender e n m ids told l) → e.program ≡ program e.start
       → SameTold e told k → IsFair (Some h) (view e) k older
       → Tells program (Some h) (sent_onto items (cues_by (sender e n m ids told l) (chosen (sender e n m ids told l) (Some h) later))) (told_on (Some h) later (view e) l k rest)
   one-sent e n m ids None l Untold older held name same fair = untold-sent e n m ids l held name fair.ahead
@@ -178,7 +178,7 @@ module _ (program : ℤ → ℕ) (h : ℤ) (later : Option ℤ) (items : List It
   one-sent e n m ids (Some o) l Never older held name same fair =
       repeated-sent (sender e n m ids (Some o) l) held name (news-is (Some h) e (Some o) Never older same fair)
 
-  pub sender-sent : (x : Sender) (y : LineSender) (older : List Event) → IsSender (Some h) x y → IsFair (Some h) y.event y.told older → x.event.program ≡ program x.event.start
+  pub sender-sent : (x : Sender) (y : LineSender) (older : List LineEvent) → IsSender (Some h) x y → IsFair (Some h) y.event y.told older → x.event.program ≡ program x.event.start
       → Tells program (Some h) (sent_onto items (cues_of (Some h) later x)) (told_on (Some h) later y.event y.last y.told rest)
   sender-sent x y older same fair name =
       subst (λ e. Tells program (Some h) (sent_onto items (cues_of (Some h) later x)) (told_on (Some h) later e y.last y.told rest)) same.event_is

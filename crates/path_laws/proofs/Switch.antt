@@ -11,7 +11,7 @@ use Rattle.event_table.specs.declared.table.ArmRefusal.TheVariants.{InUse, Full,
 use Rattle.event_table.specs.declared.table.ShortenRefusal.TheVariants.{BadEnd}
 use Rattle.armed_events.specs.Arming.{is_fresh, Keep, Ignore, by_arm_answer, by_shorten_answer, by_cancel_answer, start_change, end_change, cancel_change, stands, standing_at, is_of, changed}
 use Rattle.event_table.proofs.EventLemmas.{ending-end}
-use Rattle.cue_laws.specs.Events.{Turn, Started, Cancelled, Ended, Passed, Event, high, before, events, taken, NeverFalls, can_start, can_cancel, can_end, cancel_by, end_by, In, count, bars}
+use Rattle.cue_laws.specs.Events.{Turn, Started, Cancelled, Ended, Passed, LineEvent, high, before, events, taken, NeverFalls, can_start, can_cancel, can_end, cancel_by, end_by, In, count, bars}
 use Rattle.cue_laws.specs.Events.{stands as line_stands, is_of as line_is_of}
 use Rattle.cue_laws.proofs.Settling.{by_test, both, lt-test, and_off, can_start-parts, can_end-parts}
 use Rattle.cue_laws.proofs.Lists.{Distinct, any-none}
@@ -19,10 +19,10 @@ use Rattle.cue_laws.proofs.Orders.{Orderly, orderly-none, orderly-map, orderly-f
 use Rattle.path_laws.proofs.Alike.{Alike, AtMostOnce, alike-in, alike-any, alike-count, alike-first, find-none, find-some, map-off, map-same}
 
 -- the event as the definitions on the line have it
-abbrev pub view : Standing → Event
+abbrev pub view : Standing → LineEvent
 view s = record { id = s.id; start = s.start; asked = s.start +ℤ pos s.asked; end = end_of s; cancelled = s.cancelled }
 
-abbrev pub IsView : Standing → Event → Type 0
+abbrev pub IsView : Standing → LineEvent → Type 0
 IsView s e = view s ≡ e
 
 -- ---- lists
@@ -43,7 +43,7 @@ any-mono p q implies (x ∷ xs) none =
     (λ u. let n = simp u at none in let off : p x ≡ false = by_test (p x) (λ v. let w = implies x v in let bad : true ≡ false = sym w ∙ u in cc) (λ v. v) in simp off (any-mono p q implies xs n))
 
 -- of events in order at most one stands with an id
-once-by : (h : Option ℤ) (id : ℕ) (es : List Event) → ((x y : Event) → In x es → In y es → line_stands h x ≡ true → line_stands h y ≡ true → x.id ≡ y.id → x.start ≡ y.start)
+once-by : (h : Option ℤ) (id : ℕ) (es : List LineEvent) → ((x y : LineEvent) → In x es → In y es → line_stands h x ≡ true → line_stands h y ≡ true → x.id ≡ y.id → x.start ≡ y.start)
     → Distinct es → AtMostOnce (line_is_of h id) es
 once-by h id [] ids d = tt
 once-by h id (y ∷ es) ids d = (
@@ -53,11 +53,11 @@ once-by h id (y ∷ es) ids d = (
   once-by h id es (λ a b i j. ids a b (inr i) (inr j)) d.1,
 )
 
-pub at-most-once : (h : Option ℤ) (id : ℕ) (es : List Event) → Orderly h es → AtMostOnce (line_is_of h id) es
+pub at-most-once : (h : Option ℤ) (id : ℕ) (es : List LineEvent) → Orderly h es → AtMostOnce (line_is_of h id) es
 at-most-once h id es o = once-by h id es o.ids o.distinct
 
 -- the one that stands with an id
-pub the-one : (h : Option ℤ) (id : ℕ) (es : List Event) → Orderly h es → (x y : Event) → In x es → In y es → line_is_of h id x ≡ true → line_is_of h id y ≡ true → x ≡ y
+pub the-one : (h : Option ℤ) (id : ℕ) (es : List LineEvent) → Orderly h es → (x y : LineEvent) → In x es → In y es → line_is_of h id x ≡ true → line_is_of h id y ≡ true → x ≡ y
 the-one h id es o x y i j t u =
     let a = is_of-parts h id x t in let b = is_of-parts h id y u in
     o.same x y i j (o.ids x y i j a.0 b.0 (a.1 ∙ sym b.1))
@@ -79,18 +79,18 @@ pub stands-view : (h : Option ℤ) (s : Standing) → stands h s ≡ line_stands
 stands-view None s = refl
 stands-view (Some h) s = refl
 
-pub is_of-view : (h : Option ℤ) (id : ℕ) (s : Standing) (e : Event) → view s ≡ e → is_of h id s ≡ line_is_of h id e
+pub is_of-view : (h : Option ℤ) (id : ℕ) (s : Standing) (e : LineEvent) → view s ≡ e → is_of h id s ≡ line_is_of h id e
 is_of-view h id s e v = ap (λ b. b && has_id id s) (stands-view h s) ∙ ap (line_is_of h id) v
 
 -- ---- what changes nothing
 
-pub cancel-off : (h : Option ℤ) (id : ℕ) (e : Event) → can_cancel h id e ≡ false → cancel_by h id e ≡ e
+pub cancel-off : (h : Option ℤ) (id : ℕ) (e : LineEvent) → can_cancel h id e ≡ false → cancel_by h id e ≡ e
 cancel-off h id e off = ap (λ c. made c) (or-neither e.cancelled (can_cancel h id e) off)
   where
-    made : Bool → Event
+    made : Bool → LineEvent
     made c = record { id = e.id; start = e.start; asked = e.asked; end = e.end; cancelled = c }
 
-pub end-off : (h : Option ℤ) (id : ℕ) (time : ℤ) (e : Event) → can_end h id time e ≡ false → end_by h id time e ≡ e
+pub end-off : (h : Option ℤ) (id : ℕ) (time : ℤ) (e : LineEvent) → can_end h id time e ≡ false → end_by h id time e ≡ e
 end-off h id time e off = simp off refl
 
 off-first : (a b : Bool) → a ≡ false → (a && b) ≡ false
@@ -102,10 +102,10 @@ off-second false b is = refl
 
 -- ---- cancels
 
-module _ (h : Option ℤ) (id : ℕ) (xs : List Standing) (ys : List Event) (o : Orderly h ys) (a : Alike IsView xs ys) where
-  nothing-cancelled : (y : Event) → In y ys → line_is_of h id y ≡ true → before h y.start ≡ false → map (cancel_by h id) ys ≡ ys
+module _ (h : Option ℤ) (id : ℕ) (xs : List Standing) (ys : List LineEvent) (o : Orderly h ys) (a : Alike IsView xs ys) where
+  nothing-cancelled : (y : LineEvent) → In y ys → line_is_of h id y ≡ true → before h y.start ≡ false → map (cancel_by h id) ys ≡ ys
   nothing-cancelled y i t late = map-same (cancel_by h id) ys (λ z j. by_test (line_is_of h id z)
-      (λ u. cancel-off h id z (off-second (line_is_of h id z) (before h z.start) (ap (λ (e : Event). before h e.start) (the-one h id ys o z y j i u t) ∙ late)))
+      (λ u. cancel-off h id z (off-second (line_is_of h id z) (before h z.start) (ap (λ (e : LineEvent). before h e.start) (the-one h id ys o z y j i u t) ∙ late)))
       (λ u. cancel-off h id z (off-first (line_is_of h id z) (before h z.start) u)))
 
   begun-is : (s : Standing) → has_begun h s ≡ not (before h s.start)
@@ -118,19 +118,19 @@ module _ (h : Option ℤ) (id : ℕ) (xs : List Standing) (ys : List Event) (o :
       by None = refl
       by (Some k) = late k s.start
 
-  some-cancelled : (y : Event) → In y ys → line_is_of h id y ≡ true → before h y.start ≡ true → Alike IsView (with_first (is_of h id) cancelled_one xs) (map (cancel_by h id) ys)
+  some-cancelled : (y : LineEvent) → In y ys → line_is_of h id y ≡ true → before h y.start ≡ true → Alike IsView (with_first (is_of h id) cancelled_one xs) (map (cancel_by h id) ys)
   some-cancelled y i t early =
       alike-first IsView (is_of h id) (line_is_of h id) (is_of-view h id) cancelled_one (cancel_by h id)
       (λ z u. cancel-off h id z (off-first (line_is_of h id z) (before h z.start) u)) xs ys
       (λ s z j v u. let same = the-one h id ys o z y j i u t in
-      let can : can_cancel h id z ≡ true = let e = ap (λ (w : Event). before h w.start) same ∙ early in simp (u, e) refl in
+      let can : can_cancel h id z ≡ true = let e = ap (λ (w : LineEvent). before h w.start) same ∙ early in simp (u, e) refl in
       ap made v ∙ ap (λ c. with_c z c) (sym (or-right z.cancelled (can_cancel h id z) can)))
       (at-most-once h id ys o) a
     where
-      with_c : Event → Bool → Event
+      with_c : LineEvent → Bool → LineEvent
       with_c e c = record { id = e.id; start = e.start; asked = e.asked; end = e.end; cancelled = c }
 
-      made : Event → Event
+      made : LineEvent → LineEvent
       made e = with_c e true
 
   cancel-found : (f : Option Standing) → find (is_of h id) xs ≡ f → Alike IsView (changed h (by_cancel_answer id (cancel_answer_of h f)) xs) (map (cancel_by h id) ys)
@@ -141,7 +141,7 @@ module _ (h : Option ℤ) (id : ℕ) (xs : List Standing) (ys : List Event) (o :
       let f = find-some (is_of h id) s xs is in
       let r = alike-in IsView s xs ys a f.0 in
       let t : line_is_of h id r.0 ≡ true = sym (is_of-view h id s r.0 r.2) ∙ f.1 in
-      let begun : has_begun h s ≡ not (before h (r.0).start) = begun-is s ∙ ap (λ (e : Event). not (before h e.start)) r.2 in
+      let begun : has_begun h s ≡ not (before h (r.0).start) = begun-is s ∙ ap (λ (e : LineEvent). not (before h e.start)) r.2 in
       by_test (before h (r.0).start)
       (λ early. let b : has_begun h s ≡ false = begun ∙ ap not early in simp b (some-cancelled r.0 r.1 t early))
       (λ late. let b : has_begun h s ≡ true = begun ∙ ap not late in simp b (subst (Alike IsView xs) (sym (nothing-cancelled r.0 r.1 t late)) a))
@@ -153,31 +153,31 @@ module _ (h : Option ℤ) (id : ℕ) (xs : List Standing) (ys : List Event) (o :
 
 -- ---- early ends
 
-module _ (h : ℤ) (id : ℕ) (time : ℤ) (near : time ≤ℤ (h +ℤ pos (2 ^ 29))) (xs : List Standing) (ys : List Event) (o : Orderly (Some h) ys) (a : Alike IsView xs ys) where
-  nothing-ended : (y : Event) → In y ys → line_is_of (Some h) id y ≡ true → can_end (Some h) id time y ≡ false → map (end_by (Some h) id time) ys ≡ ys
+module _ (h : ℤ) (id : ℕ) (time : ℤ) (near : time ≤ℤ (h +ℤ pos (2 ^ 29))) (xs : List Standing) (ys : List LineEvent) (o : Orderly (Some h) ys) (a : Alike IsView xs ys) where
+  nothing-ended : (y : LineEvent) → In y ys → line_is_of (Some h) id y ≡ true → can_end (Some h) id time y ≡ false → map (end_by (Some h) id time) ys ≡ ys
   nothing-ended y i t off = map-same (end_by (Some h) id time) ys (λ z j. by_test (line_is_of (Some h) id z)
       (λ u. end-off (Some h) id time z (ap (can_end (Some h) id time) (the-one (Some h) id ys o z y j i u t) ∙ off))
       (λ u. end-off (Some h) id time z (off-first (line_is_of (Some h) id z) _ u)))
 
-  some-ended : (y : Event) → In y ys → line_is_of (Some h) id y ≡ true → can_end (Some h) id time y ≡ true → Alike IsView (with_first (is_of (Some h) id) (ending_at time) xs) (map (end_by (Some h) id time) ys)
+  some-ended : (y : LineEvent) → In y ys → line_is_of (Some h) id y ≡ true → can_end (Some h) id time y ≡ true → Alike IsView (with_first (is_of (Some h) id) (ending_at time) xs) (map (end_by (Some h) id time) ys)
   some-ended y i t can =
       alike-first IsView (is_of (Some h) id) (line_is_of (Some h) id) (is_of-view (Some h) id) (ending_at time) (end_by (Some h) id time)
       (λ z u. end-off (Some h) id time z (off-first (line_is_of (Some h) id z) _ u)) xs ys
       (λ s z j v u. let same = the-one (Some h) id ys o z y j i u t in
       let now : can_end (Some h) id time z ≡ true = ap (can_end (Some h) id time) same ∙ can in
       let past = (can_end-parts (Some h) id time z now).past in
-      let start : s.start ≡ z.start = ap (λ (e : Event). e.start) v in
+      let start : s.start ≡ z.start = ap (λ (e : LineEvent). e.start) v in
       let new : end_of (ending_at time s) ≡ time = ending-end s.start time (subst (λ k. k <ℤ time) (sym start) past) in
       ap (λ k. with_end (view s) k) new ∙ ap (λ e. with_end e time) v ∙ ap (λ b. with_end z (cond b time z.end)) (sym now))
       (at-most-once (Some h) id ys o) a
     where
-      with_end : Event → ℤ → Event
+      with_end : LineEvent → ℤ → LineEvent
       with_end e k = record { id = e.id; start = e.start; asked = e.asked; end = k; cancelled = e.cancelled }
 
-  not-end : (y : Event) → (can_end (Some h) id time y ≡ true → ⊥) → can_end (Some h) id time y ≡ false
+  not-end : (y : LineEvent) → (can_end (Some h) id time y ≡ true → ⊥) → can_end (Some h) id time y ≡ false
   not-end y never = by_test (can_end (Some h) id time y) (λ c. absurd (never c)) (λ c. c)
 
-  ended-kinds : (s : Standing) (y : Event) → In y ys → view s ≡ y → line_is_of (Some h) id y ≡ true
+  ended-kinds : (s : Standing) (y : LineEvent) → In y ys → view s ≡ y → line_is_of (Some h) id y ≡ true
       → (b c d e : Bool) → is_ahead_of (Some h) time ≡ b → s.cancelled ≡ c → int_eq time (end_of s) ≡ d → is_early_end s time ≡ e
       → Alike IsView (changed (Some h) (by_shorten_answer id time (if not b then Err BadEnd else if c then Err BadEnd else if d then Ok Same else if e then Ok New else Err BadEnd)) xs) (map (end_by (Some h) id time) ys)
   ended-kinds s y i v t false c d e bis cis dis eis =
@@ -187,31 +187,31 @@ module _ (h : ℤ) (id : ℕ) (time : ℤ) (near : time ≤ℤ (h +ℤ pos (2 ^ 
       far k m l g is = grind (arith, ints)
   ended-kinds s y i v t true true d e bis cis dis eis =
       subst (Alike IsView xs) (sym (nothing-ended y i t (not-end y (λ can. let p = (can_end-parts (Some h) id time y can).uncancelled in
-      let bad : true ≡ false = sym cis ∙ ap (λ (w : Event). w.cancelled) v ∙ p in absurd (let no = bad in cc))))) a
+      let bad : true ≡ false = sym cis ∙ ap (λ (w : LineEvent). w.cancelled) v ∙ p in absurd (let no = bad in cc))))) a
   ended-kinds s y i v t true false true e bis cis dis eis =
       subst (Alike IsView xs) (sym (nothing-ended y i t (not-end y (λ can. let p = (can_end-parts (Some h) id time y can).earlier in
-      let end : end_of s ≡ y.end = ap (λ (w : Event). w.end) v in last time (end_of s) dis (subst (λ k. time <ℤ k) (sym end) p))))) a
+      let end : end_of s ≡ y.end = ap (λ (w : LineEvent). w.end) v in last time (end_of s) dis (subst (λ k. time <ℤ k) (sym end) p))))) a
     where
       last : (m k : ℤ) → int_eq m k ≡ true → m <ℤ k → ⊥
       last m k is l = grind (arith, ints)
   ended-kinds s y i v t true false false false bis cis dis eis =
       subst (Alike IsView xs) (sym (nothing-ended y i t (not-end y (λ can. let p = can_end-parts (Some h) id time y can in
-      let end : end_of s ≡ y.end = ap (λ (w : Event). w.end) v in let start : s.start ≡ y.start = ap (λ (w : Event). w.start) v in
+      let end : end_of s ≡ y.end = ap (λ (w : LineEvent). w.end) v in let start : s.start ≡ y.start = ap (λ (w : LineEvent). w.start) v in
       outside s.start time (end_of s) eis (subst (λ k. k <ℤ time) (sym start) p.past) (subst (λ k. time <ℤ k) (sym end) p.earlier))))) a
     where
       outside : (b m k : ℤ) → (int_lt b m && int_lt m k) ≡ false → b <ℤ m → m <ℤ k → ⊥
       outside b m k is l g = grind (arith, ints)
   ended-kinds s y i v t true false false true bis cis dis eis = some-ended y i t (can y v)
     where
-      tests : (w : Event) (b : Bool) → line_is_of (Some h) id w ≡ true → w.cancelled ≡ false → int_lt w.start time ≡ true → int_lt h time ≡ true → int_lt time w.end ≡ true → can_end (Some h) id time w ≡ true
+      tests : (w : LineEvent) (b : Bool) → line_is_of (Some h) id w ≡ true → w.cancelled ≡ false → int_lt w.start time ≡ true → int_lt h time ≡ true → int_lt time w.end ≡ true → can_end (Some h) id time w ≡ true
       tests w b p q r u z = simp (p, q, r, u, z) refl
 
-      can : (w : Event) → view s ≡ w → can_end (Some h) id time w ≡ true
+      can : (w : LineEvent) → view s ≡ w → can_end (Some h) id time w ≡ true
       can w same =
           let early = both (int_lt s.start time) (int_lt time (end_of s)) eis in
           let ahead = both (int_lt h time) _ bis in
-          tests w true (ap (line_is_of (Some h) id) (sym same ∙ v) ∙ t) (sym (ap (λ (z : Event). z.cancelled) same) ∙ cis)
-          (ap (λ (z : Event). int_lt z.start time) (sym same) ∙ early.0) ahead.0 (ap (λ (z : Event). int_lt time z.end) (sym same) ∙ early.1)
+          tests w true (ap (line_is_of (Some h) id) (sym same ∙ v) ∙ t) (sym (ap (λ (z : LineEvent). z.cancelled) same) ∙ cis)
+          (ap (λ (z : LineEvent). int_lt z.start time) (sym same) ∙ early.0) ahead.0 (ap (λ (z : LineEvent). int_lt time z.end) (sym same) ∙ early.1)
 
   end-found : (f : Option Standing) → find (is_of (Some h) id) xs ≡ f → Alike IsView (changed (Some h) (by_shorten_answer id time (shorten_answer_of (Some h) time f)) xs) (map (end_by (Some h) id time) ys)
   end-found None is =
@@ -231,7 +231,7 @@ module _ (h : ℤ) (id : ℕ) (time : ℤ) (near : time ≤ℤ (h +ℤ pos (2 ^ 
 -- ---- starts
 
 module _ (h : ℤ) (id : ℕ) (start : ℤ) (ticks program : ℕ) (near : start ≤ℤ (h +ℤ pos (2 ^ 29))) (some : 0 < ticks) (most : ticks ≤ 2 ^ 30)
-    (xs : List Standing) (ys : List Event) (o : Orderly (Some h) ys) (a : Alike IsView xs ys) where
+    (xs : List Standing) (ys : List LineEvent) (o : Orderly (Some h) ys) (a : Alike IsView xs ys) where
   abbrev pub event : Standing
   event = record { id = id; start = start; length = ticks; asked = ticks; program = program; cancelled = false }
 

@@ -7,7 +7,7 @@ use Rattle.std.specs.Option.{option_eq}
 use lib.Pointwise.{pointwise}
 use Rattle.std.specs.List.{AllByRecursion}
 use Rattle.std.proofs.lemmas.List.{append-nil}
-use Rattle.ts_packet.specs.Fields.{number, payload, unit_start, payload_on, alike, carries}
+use Rattle.ts_packet.specs.Fields.{number, payload, unit_start, payload_on, alike, carries_as}
 use Rattle.ts_packet.specs.Duplicates.{repeats}
 use Rattle.ts_packet.proofs.FieldLemmas.{payload_on-on}
 use Rattle.psi_section.specs.Sections.{given, sections_after}
@@ -48,7 +48,7 @@ same-number : (n : ℕ) → (n == n) ≡ true
 same-number n = grind (arith, common_steps)
 
 alike-self : (q : List ℕ) → alike q q ≡ true
-unfolding alike carries
+unfolding alike carries_as
 alike-self q = rw (same-number (number q), same-flag (unit_start q), same-payload (payload q)) refl
 
 -- ---- the copies of one packet

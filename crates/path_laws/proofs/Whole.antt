@@ -10,7 +10,7 @@ use Rattle.ts_packet.specs.Runs.{onto}
 use Rattle.ts_packet.proofs.FieldLemmas.{payload_on-on}
 use Rattle.psi_section.specs.Sections.{sections_after}
 use Rattle.psi_section.specs.Packetising.{packets_in_turn}
-use Rattle.psi_section.proofs.ReadBackLemmas.{Carries, turn_carry}
+use Rattle.psi_section.proofs.ReadBackLemmas.{IsPayloadOn, turn_carry}
 use Rattle.psi_tables.specs.declared.config.Config.{Config}
 use Rattle.scte35_codec.specs.declared.cue_out.CueOut.{CueOut}
 use Rattle.scte35_codec.specs.Spelling.{cue_bytes}
@@ -108,7 +108,7 @@ number-others : (pid : ℕ) (out qs : List (List ℕ)) → AllByRecursion (Off p
 number-others pid out [] off = refl
 number-others pid out (q ∷ qs) off = number-others pid (q ∷ out) qs off.1 ∙ (let o = off.0 in simp o refl)
 
-cue-carry : (c : Config) (q : List ℕ) (past : List Step) → IsRunOf c past → AllByRecursion (Carries c.cue_pid) (cue_packets c q past (cued c past))
+cue-carry : (c : Config) (q : List ℕ) (past : List Step) → IsRunOf c past → AllByRecursion (IsPayloadOn c.cue_pid) (cue_packets c q past (cued c past))
 cue-carry c q past r = turn_carry c.cue_pid (one_past (number_on c.cue_pid (cued c past))) (sections_before c q past) r.cue_pid (one_past-below (number_on c.cue_pid (cued c past)))
 
 body-same : (c : Config) (fronts : List ℕ → List (List ℕ) → List (List ℕ)) (p : List ℕ) (past : List Step) (o : Option Listed) (ts : List Table) → IsRunOf c past → listed (Some c.program) (packets_in past) ≡ o
@@ -132,7 +132,7 @@ stream-is c fronts (Packet p ∷ past) r a =
     ∙ ap (λ qs. onto (cued c past) (qs ++ body (cueing c.cue_pid fronts) o p (packets_in past) ts (cued c past))) a.0
     ∙ ap (λ rest. onto (cued c past) (cue_packets c p past (cued c past) ++ rest)) (body-same c fronts p past o ts before refl)
 
-carries-on : (pid : ℕ) (qs : List (List ℕ)) → AllByRecursion (Carries pid) qs → AllByRecursion (On pid) qs
+carries-on : (pid : ℕ) (qs : List (List ℕ)) → AllByRecursion (IsPayloadOn pid) qs → AllByRecursion (On pid) qs
 carries-on pid [] all = tt
 carries-on pid (q ∷ qs) all = (payload_on-on pid q all.0, carries-on pid qs all.1)
 
