@@ -1,6 +1,7 @@
 //! The units of a stream's first program, gathered packet by packet.
 
-ghost use Rattle.std.specs.Prelude.{◌≡◌, ◌+◌, true, ◌⊎◌, ◌∷◌, [], ℕ, ℤ, List, Option, Some, None, OnOk, IfOk, IfErr, IfSome, IsSome, reverse, map, option_map, false};
+ghost use Rattle.std.specs.Prelude.{◌≡◌, ◌+◌, true, ◌⊎◌, ◌∷◌, [], ℕ, ℤ, List, Option, Some, None, OnOk, IfOk, IfErr};
+ghost use Rattle.std.specs.Prelude.{IfSome, IsSome, reverse, map, option_map, false};
 ghost use Rattle.pes_time.specs.Line.{place};
 ghost use Rattle.ts_packet.specs.Fields.{bytes};
 ghost use Rattle.ts_packet.specs.Duplicates.{is_gap};
@@ -12,7 +13,8 @@ ghost use Rattle.program_follower.specs.Streaming.{first_on, IsStreamPacket};
 ghost use Rattle.program_follower.specs.Following.{FollowerStandsFor};
 ghost use Rattle.ad_library.specs.Storing.{on_line};
 ghost use Rattle.ad_library.specs.Faults.{first_program, packet_fault};
-ghost use Rattle.ad_library.specs.Gathering.{Gathers, AllGathered, StreamsGathered, IsWholeStart, IsNearStart, HasWay, IsHeld, IsOfOne, StreamsStand, stream_in};
+ghost use Rattle.ad_library.specs.Gathering.{Gathers, AllGathered, StreamsGathered, IsWholeStart, IsNearStart};
+ghost use Rattle.ad_library.specs.Gathering.{HasWay, IsHeld, IsOfOne, StreamsStand, stream_in};
 
 use crate::fault::{AdFault, of_follower};
 use crate::gathered::Gathered;

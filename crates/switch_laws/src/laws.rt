@@ -1,7 +1,9 @@
 //! What holds of every spliced stream, over the definitions alone.
 
-ghost use Rattle.switch_laws.specs.Laws.{MovesBringTheNetwork, RunsAreSettled, RowsArePlaced, RowsAreSpliced, RunsCarry, RunsHaveUnits, OthersPass, NothingPlayed};
-ghost use Rattle.switch_laws.specs.Whole.{OutputIsInOrder, NothingIsPlayed, NoPacketChanges, NoProgram, RunsAreSound, StreamsGoByThemselves, StreamsCarry};
+ghost use Rattle.switch_laws.specs.Laws.{MovesBringTheNetwork, RunsAreSettled, RowsArePlaced, RowsAreSpliced};
+ghost use Rattle.switch_laws.specs.Laws.{RunsCarry, RunsHaveUnits, OthersPass, NothingPlayed};
+ghost use Rattle.switch_laws.specs.Whole.{OutputIsInOrder, NothingIsPlayed, NoPacketChanges, NoProgram};
+ghost use Rattle.switch_laws.specs.Whole.{RunsAreSound, StreamsGoByThemselves, StreamsCarry};
 ghost use Rattle.switch_laws.specs.Standing.{PacketsStandAs, OthersStay, FaultlessIsSound};
 ghost use Rattle.switch_laws.specs.Slices.{SlicesAreWhole};
 
@@ -81,7 +83,8 @@ pub fn streams_carry()
     ensures { StreamsCarry }
 {}
 
-/// For each packet of the network stands itself, with the counter of the rule where it is of a switched stream; or its clock reference\nalone, where its unit lies in a played event; or sections, on the PID of the PMT; and for a cue nothing.
+/// For each packet of the network stands itself, with the counter of the rule where it is of a switched stream; or its clock reference
+/// alone, where its unit lies in a played event; or sections, on the PID of the PMT; and for a cue nothing.
 pub fn packets_stand_as()
     ensures { PacketsStandAs }
 {}
@@ -91,12 +94,14 @@ pub fn others_stay()
     ensures { OthersStay }
 {}
 
-/// Where those who read the cues of a network find no fault in it, neither the PID of its cues nor that of its PMT is a switched stream's,\nand each switched stream is listed once.
+/// Where those who read the cues of a network find no fault in it, neither the PID of its cues nor that of its PMT is a switched stream's,
+/// and each switched stream is listed once.
 pub fn faultless_is_sound()
     ensures { FaultlessIsSound }
 {}
 
-/// In a stream that is conditioned at an event's start, what goes out of it is all units of its advertisement before its last end, where it\nis reached.
+/// In a stream that is conditioned at an event's start, what goes out of it is all units of its advertisement before its last end, where it
+/// is reached.
 pub fn slices_are_whole()
     ensures { SlicesAreWhole }
 {}
