@@ -18,7 +18,7 @@ use crate::plan::{Plan, Stage};
 use crate::turns::{first_closing, running};
 use ad_library::AdLibrary;
 use armed_events::ArmedEvents;
-use event_table::Table;
+use event_table::{Table, is_before};
 use pes_time::Time33;
 use psi_tables::Stream;
 use ts_packet::{Counter, PacketSink, PutFault};
@@ -129,8 +129,11 @@ fn reached_in(table: &Table<Plan>, place: usize, high: &Option<Time33>) -> Optio
     match high {
         None => None,
         Some(high) => {
-            let way = high.signed_from(table.standing()[place].event.start);
-            if way < 0 { Some(0) } else { Some(way as u64) }
+            let start = table.standing()[place].event.start;
+            if is_before(*high, start) {
+                return Some(0);
+            }
+            Some(high.signed_from(start) as u64)
         }
     }
 }
