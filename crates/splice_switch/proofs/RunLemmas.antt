@@ -8,6 +8,7 @@ use Rattle.pes_time.proofs.LineLemmas.{signed-near}
 use Rattle.event_table.specs.declared.event.Event.{Event}
 use Rattle.event_table.specs.declared.table.Entry.{Entry}
 use Rattle.event_table.specs.declared.table.Table.{Table}
+use Rattle.event_table.specs.Rings.{is_before_on_ring}
 use Rattle.event_table.specs.Standing.{Standing, on_ring, IsWithin, IsInReach}
 use Rattle.event_table.specs.Tables.{StandsFor}
 use Rattle.event_table.proofs.TableLemmas.{length-entries}
@@ -53,10 +54,21 @@ module _ (t : Table Plan) (line : Option ℤ) (es : List Standing) (s : StandsFo
   pub e-within : IsWithin line e
   e-within = subst (IsWithin line) (sym e-is) (within-there t line es s at below)
 
-pub reached-below : (line high_line : Option ℤ) (p : ℕ) (e : Standing) (way : ℤ) → IsWithin line e → IsReached line (Some p) high_line → way ≡ signed p (ring_of e.start) → way <ℤ pos 0 → Some 0 ≡ reached_by high_line e
-reached-below line None p e way within is w h = absurd is
-reached-below line (Some t) p e way within is w h = reached-none t e way (w ∙ way-past line e p t within is) h
+below-test : (t start way : ℤ) → way ≡ t -ℤ start → int_lt way (pos 0) ≡ true → int_lt t start ≡ true
+below-test t start way is h = grind (arith, ints, is, h)
 
-pub reached-past : (line high_line : Option ℤ) (p : ℕ) (e : Standing) (way : ℤ) (n : ℕ) → IsWithin line e → IsReached line (Some p) high_line → way ≡ signed p (ring_of e.start) → pos 0 ≤ℤ way → way ≡ pos n → Some n ≡ reached_by high_line e
-reached-past line None p e way n within is w h k = absurd is
-reached-past line (Some t) p e way n within is w h k = reached-some t e way n (w ∙ way-past line e p t within is) h k
+past-test : (t start way : ℤ) → way ≡ t -ℤ start → int_lt way (pos 0) ≡ false → int_lt t start ≡ false
+past-test t start way is h = grind (arith, ints, is, h)
+
+pub reached-below : (line high_line : Option ℤ) (p : ℕ) (e : Standing) → IsWithin line e → IsReached line (Some p) high_line → is_before_on_ring p (ring_of e.start) ≡ true → Some 0 ≡ reached_by high_line e
+reached-below line None p e within is h = absurd is
+reached-below line (Some t) p e within is h = rw (below-test t e.start (signed p (ring_of e.start)) (way-past line e p t within is) h) refl
+
+pub reached-past : (line high_line : Option ℤ) (p : ℕ) (e : Standing) (n : ℕ) → IsWithin line e → IsReached line (Some p) high_line → is_before_on_ring p (ring_of e.start) ≡ false → signed p (ring_of e.start) ≡ pos n → Some n ≡ reached_by high_line e
+reached-past line None p e n within is h k = absurd is
+reached-past line (Some t) p e n within is h k =
+    rw (past-test t e.start (signed p (ring_of e.start)) (way-past line e p t within is) h) (ap (λ w. Some (unsigned_abs w)) (sym k ∙ way-past line e p t within is))
+
+pub abs-past : (way : ℤ) → int_lt way (pos 0) ≡ false → way ≡ pos (unsigned_abs way)
+abs-past (pos n) h = refl
+abs-past (negsuc n) h = absurd (grind (arith, ints, h))

@@ -1,5 +1,5 @@
 -- Of the events that are to close the one that starts first is the first in order of start.
-use Rattle.std.proofs.Common.{◌≡◌, ℕ, zero, suc, ◌+◌, ◌<◌, ◌≤◌, refl, sym, ap, ◌∙◌, subst, arith, List, [], ◌∷◌, length, Bool, true, false, if◌then◌else◌, Unit}
+use Rattle.std.proofs.Common.{◌≡◌, ℕ, zero, suc, ◌+◌, ◌<◌, ◌≤◌, refl, sym, ap, ◌∙◌, subst, arith, List, [], ◌∷◌, length, Bool, true, false, if◌then◌else◌}
 use Rattle.std.specs.Prelude.{ℤ, ◌≤ℤ◌, ◌<ℤ◌, int_lt, filter, slice_index_or, slice_set}
 use Rattle.std.proofs.lemmas.Int.{ints}
 use Rattle.event_table.specs.Standing.{Standing}
@@ -26,11 +26,11 @@ put-later a x ys h = rw (lt-false a.0.start x.0.start h) refl
 
 behind-put : (start : ℤ) (x : Standing × Plan) (ys : List (Standing × Plan)) → start <ℤ x.0.start → Behind start ys → Behind start (put_pair x ys)
 behind-put start x [] h k = (h, tt)
-behind-put start x (y ∷ ys) h k = by (int_lt x.0.start y.0.start) refl
+behind-put start x (y ∷ ys) h k = by (int_lt x.0.start y.0.start) refl (behind-put start x ys h k.1)
   where
-    by : (b : Bool) → int_lt x.0.start y.0.start ≡ b → Behind start (put_pair x (y ∷ ys))
-    by true is = rw is (h, k)
-    by false is = rw is (k.0, behind-put start x ys h k.1)
+    by : (b : Bool) → int_lt x.0.start y.0.start ≡ b → Behind start (put_pair x ys) → Behind start (put_pair x (y ∷ ys))
+    by true is later = rw is (h, k)
+    by false is later = rw is (k.0, later)
 
 behind-sorted : (start : ℤ) (xs : List (Standing × Plan)) → Behind start xs → Behind start (pairs_by_start xs)
 behind-sorted start [] h = tt
