@@ -10,3 +10,5 @@ mod SliceLemmas
 pub mod AdvertLemmas
 mod PartLemmas
 mod AllTurnedLemmas
+mod RunLemmas
+pub mod SelectLemmas

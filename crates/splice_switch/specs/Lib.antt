@@ -8,3 +8,6 @@ pub mod Slicing
 pub mod Turning
 pub mod Adverts
 pub mod Parts
+pub mod Known
+pub mod Ready
+pub mod Standing

@@ -1,11 +1,13 @@
 -- What goes out of an event in one stream, and what that does to the plans beside the events.
-use Rattle.std.specs.Prelude.{◌≡◌, ℕ, ◌+◌, ◌<◌, List, [], ◌∷◌, length, drop, take, Bool, true, false, ◌&&◌, if◌then◌else◌, slice_index_or, ℤ, pos, ◌≤ℤ◌, Option, None, Some}
+use Rattle.std.specs.Prelude.{◌≡◌, ℕ, ◌+◌, ◌<◌, List, [], ◌∷◌, length, drop, take, Bool, true, false, ◌&&◌, if◌then◌else◌, slice_index_or, ℤ, pos, ◌≤ℤ◌, ◌-ℤ◌, ◌+ℤ◌, int_lt, unsigned_abs, filter, find, map, ◌++◌, Option, None, Some}
 use Rattle.psi_tables.specs.declared.stream.Stream.{Stream}
+use Rattle.pes_time.specs.Line.{ring_of}
 use Rattle.ts_packet.specs.Numbering.{Step}
 use Rattle.event_table.specs.declared.event.Event.{Event}
 use Rattle.event_table.specs.Events.{no_event}
 use Rattle.event_table.specs.Rings.{is_before_on_ring}
-use Rattle.event_table.specs.Standing.{Standing}
+use Rattle.event_table.specs.Standing.{Standing, on_ring}
+use Rattle.unit_stream.specs.UnitPackets.{put_in}
 use Rattle.event_table.specs.declared.table.Entry.{Entry}
 use Rattle.event_table.specs.Tables.{events_of, high_of}
 use Rattle.armed_events.specs.declared.obeying.ArmedEvents.{ArmedEvents}
@@ -108,3 +110,70 @@ pub record IsFirstClosing (stream : ℕ) (es : List Standing) (plans : List Plan
   pub closes : closes_in stream (slice_index_or plans at no_entry.value) ≡ true
   pub first : (other : ℕ) → other < length plans → closes_in stream (slice_index_or plans other no_entry.value) ≡ true →
       (slice_index_or es at no_standing).start ≤ℤ (slice_index_or es other no_standing).start
+
+-- ---- of several events
+
+abbrev pub beside : List Standing → List Plan → List (Standing × Plan)
+beside [] plans = []
+beside (e ∷ es) [] = []
+beside (e ∷ es) (plan ∷ plans) = (e, plan) ∷ beside es plans
+
+abbrev pub put_pair : Standing × Plan → List (Standing × Plan) → List (Standing × Plan)
+put_pair x [] = x ∷ []
+put_pair x (y ∷ ys) = if int_lt x.0.start y.0.start then x ∷ y ∷ ys else y ∷ put_pair x ys
+
+abbrev pub pairs_by_start : List (Standing × Plan) → List (Standing × Plan)
+pairs_by_start [] = []
+pairs_by_start (x ∷ xs) = put_pair x (pairs_by_start xs)
+
+-- those that are to close in the stream, in order of start
+abbrev pub closing_pairs : ℕ → List (Standing × Plan) → List (Standing × Plan)
+closing_pairs stream xs = pairs_by_start (filter (λ x. closes_in stream x.1) xs)
+
+-- the time on the ring, if one is given, is this one of the line, at most 900,000 ticks past the greatest so far
+abbrev pub IsReached : Option ℤ → Option ℕ → Option ℤ → Type 0
+IsReached line None None = Unit {0}
+IsReached line None (Some t) = ⊥
+IsReached line (Some p) None = ⊥
+IsReached None (Some p) (Some t) = p ≡ ring_of t
+IsReached (Some h) (Some p) (Some t) = (p ≡ ring_of t) × (h ≤ℤ t) × (t ≤ℤ (h +ℤ pos 900000))
+
+-- how far the greatest time lies past the start; no limit where none is given
+abbrev pub reached_by : Option ℤ → Standing → Option ℕ
+reached_by None e = None
+reached_by (Some high) e = Some (if int_lt high e.start then 0 else unsigned_abs (high -ℤ e.start))
+
+module _ (filed : ℕ → Option Advertisement) (streams : List Stream) (stream : ℕ) (of : Stream) where
+  -- what goes out of one of them, behind these steps of the stream's counter
+  abbrev pub pair_packets : Option ℕ → List Step → Standing × Plan → List (List ℕ)
+  pair_packets reached steps x = packets_in filed streams stream of (on_ring x.0) (part_of x.1 stream).sent reached steps
+
+  abbrev pub put_plan : Option ℕ → Stage → Standing × Plan → Plan
+  put_plan reached stage x = with_part x.1 stream (record { stage = stage; sent = (part_of x.1 stream).sent + length (units_in filed streams stream of (on_ring x.0) (part_of x.1 stream).sent reached) })
+
+  abbrev pub rest_packets : List Step → List (Standing × Plan) → List (List ℕ)
+  rest_packets steps [] = []
+  rest_packets steps (x ∷ xs) = pair_packets None steps x ++ rest_packets (put_in (pair_packets None steps x) steps) xs
+
+  -- once those that were to close are over
+  abbrev pub closed_plan : Standing × Plan → Plan
+  closed_plan x = if closes_in stream x.1 then put_plan None Over x else x.1
+
+  abbrev pub runs_in : Standing × Plan → Bool
+  runs_in x = is_running (part_of x.1 stream).stage
+
+  abbrev pub found_packets : Option ℤ → List Step → Option (Standing × Plan) → List (List ℕ)
+  found_packets high steps None = []
+  found_packets high steps (Some x) = pair_packets (reached_by high x.0) steps x
+
+  -- what goes out of the event that runs, if one does
+  abbrev pub running_packets : Option ℤ → List Step → List (Standing × Plan) → List (List ℕ)
+  running_packets high steps xs = found_packets high steps (find runs_in xs)
+
+  abbrev pub ran_plan : Option ℤ → Standing × Plan → Plan
+  ran_plan high x = put_plan (reached_by high x.0) Running x
+
+  -- the first that runs has moved on
+  abbrev pub ran_plans : Option ℤ → List (Standing × Plan) → List Plan
+  ran_plans high [] = []
+  ran_plans high (x ∷ xs) = if runs_in x then ran_plan high x ∷ map (λ y. y.1) xs else x.1 ∷ ran_plans high xs

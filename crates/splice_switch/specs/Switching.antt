@@ -9,7 +9,7 @@ use Rattle.psi_tables.specs.Cue.{without_cue_entry}
 use Rattle.program_follower.specs.Program.{program_of, behind_head, pids_of}
 use Rattle.program_follower.specs.Following.{streams_of_program}
 use Rattle.psi_tables.specs.declared.stream.Stream.{Stream}
-use Rattle.program_laws.specs.Writing.{Writing, written}
+use Rattle.program_laws.specs.Writing.{Writing, written, block}
 use Rattle.splice_laws.specs.Splicing.{SliceUnit, stream}
 use Rattle.output_laws.specs.Output.{Move, Keep, Leave, Put, Packing, out_at, out_after}
 use Rattle.splice_switch.specs.Playing.{Adverts, History, played, as_played, end_known, is_inside, closing_at, running_at, left_at_end}
@@ -109,6 +109,10 @@ switching k = record { change = without_cue_entry k.cue_pid; front = front_at k;
 -- WHAT IS OUT behind a past, newest first
 abbrev pub switched_past : Setting → List (List ℕ) → List (List ℕ)
 switched_past k past = written (switching k) (Some k.program) past
+
+-- what goes out for one packet, in order
+abbrev pub switched_at_packet : Setting → List ℕ → List (List ℕ) → List (List ℕ)
+switched_at_packet k p past = block (switching k) (Some k.program) p past (switched_past k past)
 
 -- what goes out at the end
 abbrev pub rest_at : Setting → List (List ℕ) → List (List ℕ)

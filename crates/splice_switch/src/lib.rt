@@ -6,9 +6,13 @@
 pub mod laws;
 mod parts;
 mod plan;
+mod playing;
 mod report;
+mod runs;
 mod slices;
 mod stream;
+mod switch;
 mod turns;
 
 pub use report::SwitchReport;
+pub use switch::Switch;

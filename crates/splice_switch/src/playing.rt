@@ -1,0 +1,302 @@
+//! The events in the switched streams: which have begun, which are over, and what has gone out of their slices.
+
+ghost use Rattle.std.specs.Prelude.{◌≡◌, ◌<◌, ◌++◌, ◌∷◌, [], ℕ, List, length, Option, None, OnOk, IfErr, true, false, is_some};
+ghost use Rattle.ts_packet.specs.Sinks.{Blamed};
+ghost use Rattle.ts_packet.specs.Fields.{on, payload};
+ghost use Rattle.ts_packet.specs.Transfers.{WentWell};
+ghost use Rattle.outgoing_packets.specs.Numbers.{FrontFails};
+ghost use Rattle.ad_library.specs.Library.{held};
+ghost use Rattle.splice_switch.specs.Switching.{Setting, front_at, place_at, rest_at, is_switched, switched_at};
+ghost use Rattle.splice_switch.specs.Reporting.{ReportIs, report_of};
+ghost use Rattle.splice_switch.specs.Ready.{is_ready};
+
+use crate::plan::Plan;
+use crate::report::SwitchReport;
+use crate::runs::{close_all, put_running};
+use crate::stream::SwitchedStream;
+use crate::turns::{is_inside, turn_all};
+use ad_library::AdLibrary;
+use armed_events::ArmedEvents;
+use event_table::Table;
+use pes_time::Time33;
+use psi_tables::Stream;
+use ts_packet::{Packet, PacketSink, PutFault};
+
+/// The events that stand, with their plans, the streams, and what became of the events that are forgotten.
+#[derive(Drop)]
+pub(crate) struct Playing {
+    events: ArmedEvents<Plan>,
+    streams: [SwitchedStream; 8],
+    forgotten: SwitchReport,
+    ghost ready: { is_ready events.assembler ≡ true },
+}
+
+impl Playing {
+    ghost use Rattle.splice_switch.specs.Known.{PlaysFor, PlaysBefore, PlaysBehind, BeginsIn, IsPacketOf, IsKeptOf, EndsWith, Reports};
+
+    /// No event, and nothing is out.
+    pub(crate) fn new() -> Playing
+        ensures { (k : Setting) → PlaysFor result k [] }
+    {
+        Playing {
+            events: ArmedEvents::new(),
+            streams: [SwitchedStream::new(); 8],
+            forgotten: SwitchReport::new(),
+        }
+    }
+
+    /// Obeys the cues that a packet of their PID finishes.
+    pub(crate) fn obey(&mut self, packet: &Packet)
+        ensures { (k : Setting) (past : List (List ℕ)) → on k.cue_pid packet.now ≡ true → is_switched (switched_at k past) packet.now ≡ false →
+            PlaysFor self.old k past → PlaysFor self.new k (packet.now ∷ past) }
+    {
+        self.events.feed(packet, Plan::new());
+    }
+
+    /// A unit begins in the stream of this number, of this time where it has one, behind which `high` is the greatest time: puts what goes
+    /// out before it.
+    pub(crate) fn begin<S: PacketSink>(
+        &mut self,
+        stream: usize,
+        time: &Option<Time33>,
+        high: &Option<Time33>,
+        streams: &[Stream],
+        library: &AdLibrary,
+        sink: &mut S,
+    ) -> Result<(), PutFault>
+        requires { stream < length streams.now }
+        ensures leads { S.leads sink.old sink.new }
+        ensures ok { (start : Option (List ℕ)) (ps : List (List ℕ)) (k : Setting) (p : List ℕ) (past : List (List ℕ)) → S.holds sink.old start ps →
+            PlaysFor self.old k past → BeginsIn k (held library.now) streams.now stream time.now high.now p past →
+            OnOk result (S.holds sink.new start (ps ++ front_at k p past)) }
+        ensures plays { (k : Setting) (p : List ℕ) (past : List (List ℕ)) →
+            PlaysFor self.old k past → BeginsIn k (held library.now) streams.now stream time.now high.now p past →
+            OnOk result (PlaysBefore self.new k p past) }
+        ensures err { (start : Option (List ℕ)) (ps : List (List ℕ)) (k : Setting) (p : List ℕ) (past : List (List ℕ)) → S.holds sink.old start ps →
+            PlaysFor self.old k past → BeginsIn k (held library.now) streams.now stream time.now high.now p past →
+            IfErr result (λ f. FrontFails (front_at k p past) (λ put q. S.fails sink.new start (ps ++ put) q f)) }
+        ensures well { OnOk result (WentWell (S.counts sink.old) (S.counts sink.new)) }
+        ensures blamed { IfErr result (λ f. Blamed f (S.counts sink.old) (S.counts sink.new) (S.is_full sink.new)) }
+    {
+        match self.turn(stream, time, streams, library, sink) {
+            Ok(()) => {}
+            Err(fault) => return Err(fault),
+        }
+        match high {
+            None => Ok(()),
+            Some(_) => self.put_running(high, streams, library, sink),
+        }
+    }
+
+    /// Lets each event come as far as it does with a unit of this time, and puts the rest of those that it closes, in order of start.
+    fn turn<S: PacketSink>(
+        &mut self,
+        stream: usize,
+        time: &Option<Time33>,
+        streams: &[Stream],
+        library: &AdLibrary,
+        sink: &mut S,
+    ) -> Result<(), PutFault>
+        requires { stream < length streams.now }
+        ensures leads { S.leads sink.old sink.new }
+        ensures well { OnOk result (WentWell (S.counts sink.old) (S.counts sink.new)) }
+        ensures blamed { IfErr result (λ f. Blamed f (S.counts sink.old) (S.counts sink.new) (S.is_full sink.new)) }
+    {
+        let Some(time) = *time else {
+            return Ok(());
+        };
+        turn_all(&mut self.events, stream, time, streams, library);
+        let mut of = self.streams[stream % 8];
+        let mut counter = of.counter;
+        match close_all(
+            &mut self.events,
+            stream,
+            streams,
+            library,
+            &mut counter,
+            sink,
+        ) {
+            Ok(()) => {}
+            Err(fault) => return Err(fault),
+        }
+        of.counter = counter;
+        of.is_leaving = is_inside(self.events.table(), stream, time);
+        self.streams[stream % 8] = of;
+        Ok(())
+    }
+
+    /// Puts of the events that run what is due where this is the greatest time, or all that is left, by stream.
+    fn put_running<S: PacketSink>(
+        &mut self,
+        high: &Option<Time33>,
+        streams: &[Stream],
+        library: &AdLibrary,
+        sink: &mut S,
+    ) -> Result<(), PutFault>
+        ensures leads { S.leads sink.old sink.new }
+        ensures well { OnOk result (WentWell (S.counts sink.old) (S.counts sink.new)) }
+        ensures blamed { IfErr result (λ f. Blamed f (S.counts sink.old) (S.counts sink.new) (S.is_full sink.new)) }
+    {
+        for stream in 0..streams.len() {
+            let mut of = self.streams[stream % 8];
+            let mut counter = of.counter;
+            match put_running(
+                &mut self.events,
+                high,
+                stream,
+                streams,
+                library,
+                &mut counter,
+                sink,
+            ) {
+                Ok(()) => {}
+                Err(fault) => return Err(fault),
+            }
+            of.counter = counter;
+            self.streams[stream % 8] = of;
+        }
+        Ok(())
+    }
+
+    /// Puts what is left of the events that run, by stream.
+    pub(crate) fn finish<S: PacketSink>(
+        &mut self,
+        streams: &[Stream],
+        library: &AdLibrary,
+        sink: &mut S,
+    ) -> Result<(), PutFault>
+        ensures leads { S.leads sink.old sink.new }
+        ensures ok { (start : Option (List ℕ)) (ps : List (List ℕ)) (k : Setting) (past : List (List ℕ)) → S.holds sink.old start ps →
+            PlaysFor self.old k past → EndsWith k (held library.now) streams.now past → OnOk result (S.holds sink.new start (ps ++ rest_at k past)) }
+        ensures reports { (k : Setting) (past : List (List ℕ)) → PlaysFor self.old k past → EndsWith k (held library.now) streams.now past →
+            OnOk result (Reports self.new k past) }
+        ensures err { (start : Option (List ℕ)) (ps : List (List ℕ)) (k : Setting) (past : List (List ℕ)) → S.holds sink.old start ps →
+            PlaysFor self.old k past → EndsWith k (held library.now) streams.now past →
+            IfErr result (λ f. FrontFails (rest_at k past) (λ put q. S.fails sink.new start (ps ++ put) q f)) }
+        ensures well { OnOk result (WentWell (S.counts sink.old) (S.counts sink.new)) }
+        ensures blamed { IfErr result (λ f. Blamed f (S.counts sink.old) (S.counts sink.new) (S.is_full sink.new)) }
+    {
+        self.put_running(&None, streams, library, sink)
+    }
+
+    /// Puts a payload packet of the stream of this number, a duplicate or not, or its clock reference where its unit lies in a played event.
+    pub(crate) fn put_packet<S: PacketSink>(
+        &mut self,
+        stream: usize,
+        packet: &Packet,
+        is_repeat: bool,
+        sink: &mut S,
+    ) -> Result<(), PutFault>
+        requires { is_some (payload packet.now) ≡ true }
+        ensures leads { S.leads sink.old sink.new }
+        ensures ok { (start : Option (List ℕ)) (ps : List (List ℕ)) (k : Setting) (past : List (List ℕ)) → S.holds sink.old start ps →
+            PlaysBefore self.old k packet.now past → IsPacketOf k stream is_repeat packet.now past →
+            OnOk result (S.holds sink.new start (ps ++ place_at k packet.now past)) }
+        ensures plays { (k : Setting) (past : List (List ℕ)) → PlaysBefore self.old k packet.now past → IsPacketOf k stream is_repeat packet.now past →
+            OnOk result (PlaysBehind self.new k packet.now past) }
+        ensures err { (start : Option (List ℕ)) (ps : List (List ℕ)) (k : Setting) (past : List (List ℕ)) → S.holds sink.old start ps →
+            PlaysBefore self.old k packet.now past → IsPacketOf k stream is_repeat packet.now past →
+            IfErr result (λ f. FrontFails (place_at k packet.now past) (λ put q. S.fails sink.new start (ps ++ put) q f)) }
+        ensures well { OnOk result (WentWell (S.counts sink.old) (S.counts sink.new)) }
+        ensures blamed { IfErr result (λ f. Blamed f (S.counts sink.old) (S.counts sink.new) (S.is_full sink.new)) }
+    {
+        let mut of = self.streams[stream % 8];
+        let put = if of.is_leaving {
+            of.leave(packet, is_repeat, sink)
+        } else {
+            of.keep(packet, sink)
+        };
+        self.streams[stream % 8] = of;
+        put
+    }
+
+    /// Puts a packet of the stream of this number that stays whatever is played: one without payload, or one before the first unit.
+    pub(crate) fn keep<S: PacketSink>(
+        &mut self,
+        stream: usize,
+        packet: &Packet,
+        sink: &mut S,
+    ) -> Result<(), PutFault>
+        ensures leads { S.leads sink.old sink.new }
+        ensures ok { (start : Option (List ℕ)) (ps : List (List ℕ)) (k : Setting) (past : List (List ℕ)) → S.holds sink.old start ps →
+            PlaysBefore self.old k packet.now past → IsKeptOf k stream packet.now past →
+            OnOk result (S.holds sink.new start (ps ++ place_at k packet.now past)) }
+        ensures plays { (k : Setting) (past : List (List ℕ)) → PlaysBefore self.old k packet.now past → IsKeptOf k stream packet.now past →
+            OnOk result (PlaysBehind self.new k packet.now past) }
+        ensures err { (start : Option (List ℕ)) (ps : List (List ℕ)) (k : Setting) (past : List (List ℕ)) → S.holds sink.old start ps →
+            PlaysBefore self.old k packet.now past → IsKeptOf k stream packet.now past →
+            IfErr result (λ f. FrontFails (place_at k packet.now past) (λ put q. S.fails sink.new start (ps ++ put) q f)) }
+        ensures well { OnOk result (WentWell (S.counts sink.old) (S.counts sink.new)) }
+        ensures blamed { IfErr result (λ f. Blamed f (S.counts sink.old) (S.counts sink.new) (S.is_full sink.new)) }
+    {
+        let mut of = self.streams[stream % 8];
+        let put = of.keep(packet, sink);
+        self.streams[stream % 8] = of;
+        put
+    }
+
+    /// Takes this as the greatest time behind the packet that was put, and counts the events that are forgotten by it.
+    pub(crate) fn advance(&mut self, high: &Option<Time33>, streams: &[Stream], library: &AdLibrary)
+        ensures { (k : Setting) (number : ℕ) (time : Option ℕ) (p : List ℕ) (past : List (List ℕ)) → PlaysBehind self.old k p past →
+            BeginsIn k (held library.now) streams.now number time high.now p past → PlaysFor self.new k (p ∷ past) }
+    {
+        let Some(high) = *high else {
+            return;
+        };
+        self.forgotten = with_forgotten(
+            self.forgotten,
+            self.events.table(),
+            high,
+            streams,
+            library,
+        );
+        if self.events.table().can_advance(high) {
+            self.events.advance(high);
+        }
+    }
+
+    /// What became of all events.
+    pub(crate) fn report(&self, streams: &[Stream], library: &AdLibrary) -> SwitchReport
+        ensures { (k : Setting) (past : List (List ℕ)) → Reports self.now k past → EndsWith k (held library.now) streams.now past →
+            ReportIs result (report_of k past) }
+    {
+        let mut report = with_all(self.forgotten, self.events.table(), streams, library);
+        report.ignored = self.events.ignored();
+        report
+    }
+}
+
+/// The report with each event more that is forgotten at this greatest time.
+fn with_forgotten(
+    report: SwitchReport,
+    table: &Table<Plan>,
+    high: Time33,
+    streams: &[Stream],
+    library: &AdLibrary,
+) -> SwitchReport {
+    let mut counted = report;
+    for at in 0..table.standing().len() {
+        let entry = table.standing()[at];
+        if entry.event.is_forgotten_at(high) {
+            let fits = library.fits(entry.event.program, streams, entry.event.asked);
+            counted = counted.with_event(entry.event.cancelled, fits, entry.value.is_crossed);
+        }
+    }
+    counted
+}
+
+/// The report with each event more that stands.
+fn with_all(
+    report: SwitchReport,
+    table: &Table<Plan>,
+    streams: &[Stream],
+    library: &AdLibrary,
+) -> SwitchReport {
+    let mut counted = report;
+    for at in 0..table.standing().len() {
+        let entry = table.standing()[at];
+        let fits = library.fits(entry.event.program, streams, entry.event.asked);
+        counted = counted.with_event(entry.event.cancelled, fits, entry.value.is_crossed);
+    }
+    counted
+}
