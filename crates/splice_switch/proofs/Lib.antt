@@ -11,4 +11,5 @@ pub mod AdvertLemmas
 mod PartLemmas
 mod AllTurnedLemmas
 mod RunLemmas
+mod ClosingLemmas
 pub mod SelectLemmas

@@ -133,7 +133,7 @@ fn reached_in(table: &Table<Plan>, place: usize, high: &Option<Time33>) -> Optio
             if is_before(*high, start) {
                 return Some(0);
             }
-            Some(high.signed_from(start) as u64)
+            Some(high.signed_from(start).unsigned_abs())
         }
     }
 }

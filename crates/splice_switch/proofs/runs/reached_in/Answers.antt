@@ -7,7 +7,7 @@ use Rattle.event_table.specs.Rings.{is_before_on_ring}
 use Rattle.pes_time.specs.Line.{signed}
 use Rattle.splice_switch.specs.declared.plan.Plan.{Plan}
 use Rattle.splice_switch.specs.Parts.{IsReached}
-use Rattle.splice_switch.proofs.RunLemmas.{reached-below, reached-past, entry-on, e-within, abs-past}
+use Rattle.splice_switch.proofs.RunLemmas.{reached-below, reached-past, entry-on, e-within, abs-past, way-back}
 use Rattle.splice_switch.proofs.runs.reached_in.Goals as goal
 
 pub returns-then-is_before : goal.returns-then-is_before
@@ -26,6 +26,6 @@ returns-else-is_before c = λ line high_line es e s is there.
     let start = ap (λ (x : Entry Plan). x.event.start) (sym c.index-standing-place.is) ∙ ap (λ (x : Event). x.start) on in
     reached-past line high_line c.in-Some.high e _ within (subst (λ h. IsReached line h high_line) c.in-Some.is is) (sym (ap (is_before_on_ring c.in-Some.high) start) ∙ sym c.is_before.ensures ∙ c.if-is_before.false)
     (sym (ap (signed c.in-Some.high) start) ∙ sym c.signed_from.ensures.way
-    ∙ (let low = c.signed_from.ensures.low in let high = c.signed_from.ensures.high in let way = c.signed_from.ensures.way in
-    abs-past c.signed_from.result (ap (λ w. int_lt w (pos 0)) way ∙ sym c.is_before.ensures ∙ c.if-is_before.false)
-    ∙ ?)
+    ∙ (let ahead = ap (λ w. int_lt w (pos 0)) c.signed_from.ensures.way ∙ sym c.is_before.ensures ∙ c.if-is_before.false in
+    abs-past c.signed_from.result ahead ∙ ap (λ z. pos (unsigned_abs z)) (sym (way-back c.signed_from.result ahead c.signed_from.ensures.high)))
+    ∙ ap pos (sym c.unsigned_abs.ensures.value))
