@@ -132,7 +132,7 @@ module _ (filed : ℕ → Option Advertisement) (streams : List Stream) (stream 
   apart-there : (line : Option ℤ) (t : Table Plan) (es : List Standing) → StandsFor t line es → (at other : ℕ) → at < length es → other < length es → (other ≡ at → ⊥)
       → meets (slice_index_or es at no_standing) (slice_index_or es other no_standing) ≡ false
   apart-there line t es s at other here there differ =
-      ⊎_elim (λ before. meets-other _ _ ((s.apart other at no_standing before here).times))
+      ⊎_elim (λ before. meets-other (slice_index_or es at no_standing) (slice_index_or es other no_standing) ((s.apart other at no_standing before here).times))
       (λ le. (s.apart at other no_standing (behind le) there).times)
       (cases_lt other at)
     where
@@ -274,8 +274,7 @@ module _ (filed : ℕ → Option Advertisement) (streams : List Stream) (stream 
           put = λ steps.
               let done = (i.put steps).0 in
               let behind = put_in done steps in
-              let more = pair_packets filed streams stream of None behind x in
-              (
+              let more = pair_packets filed streams stream of None behind x in (
                 done ++ more,
                 all-is steps ∙ sym (append_assoc done more (rest (put_in more behind) es plans-now))
                     ∙ ap (λ st. (done ++ more) ++ rest st es plans-now) (sym (put_in-append done more steps))

@@ -37,7 +37,7 @@ behind-sorted start [] h = tt
 behind-sorted start (x ∷ xs) h = behind-put start x (pairs_by_start xs) h.0 (behind-sorted start xs h.1)
 
 module _ (stream : ℕ) where
-  abbrev closes : Standing × Plan → Bool
+  abbrev pub closes : Standing × Plan → Bool
   closes x = closes_in stream x.1
 
   filter-true : (x : Standing × Plan) (xs : List (Standing × Plan)) → closes x ≡ true → filter closes (x ∷ xs) ≡ x ∷ filter closes xs

@@ -1,4 +1,4 @@
-use Rattle.std.proofs.Common.{◌≡◌, ◌<◌, ◌≤◌, ◌++◌, ◌∙◌, ap, sym, subst, append_assoc, List, ℕ, length, Option, None, Some}
+use Rattle.std.proofs.Common.{◌≡◌, ◌<◌, ◌≤◌, ◌++◌, ◌∙◌, ap, sym, subst, refl, false, append_assoc, List, ℕ, length, Option, None, Some}
 use Rattle.std.specs.Prelude.{slice_index_or}
 use Rattle.std.specs.List.{list_any}
 use Rattle.std.proofs.lemmas.List.{get_or_default}
@@ -19,8 +19,8 @@ loop-turn-init g c = record {
   leads = g.met.S.PacketSink.leads_refl c.args.sink.now;
   well = well-refl _;
   keeps = keeps-same c.args.events.now;
-  size = ?;
-  closed = λ of line es of_is s. nothing-closed (held c.args.library.now) c.args.streams.now c.args.stream of c.args.events.now.obeyed.table _ _ _ line es s ?;
+  size = ap length (c.standing-turn-end.ensures.entries ∙ ap (λ (t : Table Plan). t.entries.items) c.table.ensures.same);
+  closed = λ of line es of_is s. nothing-closed (held c.args.library.now) c.args.streams.now c.args.stream of c.args.events.now.obeyed.table _ _ _ line es s (ap length (c.standing-turn-end.ensures.entries ∙ ap (λ (t : Table Plan). t.entries.items) c.table.ensures.same));
 }
 
 pub returns-in_default-clause-leads : goal.returns-in_default-clause-leads
@@ -34,19 +34,19 @@ returns-in_default-clause-keeps g c = c.loop-turn.invariant.keeps
 
 pub returns-in_default-clause-ok : goal.returns-in_default-clause-ok
 returns-in_default-clause-ok g c = λ of line es begin ps steps of_is s h k.
-    let none = subst (λ (t : Table Plan). list_any (closes_in c.args.stream) (values_of t) ≡ false) c.table.ensures.same (c.in_default.ensures.none refl) in
+    let none = subst (λ (t : Table Plan). list_any (closes_in c.args.stream) (values_of t) ≡ false) c.table-in-loop-turn.ensures.same (c.in_default.ensures.none refl) in
     let i = c.loop-turn.invariant.closed of line es of_is s in
     closed-holds (held c.args.library.now) c.args.streams.now c.args.stream of _ _ _ _ _ _ _ _ es i (none-over (held c.args.library.now) c.args.streams.now c.args.stream of c.loop-turn.events.obeyed.table es none) steps begin ps h k
 
 pub returns-in_default-clause-counted : goal.returns-in_default-clause-counted
 returns-in_default-clause-counted g c = λ of line es steps of_is s k.
-    let none = subst (λ (t : Table Plan). list_any (closes_in c.args.stream) (values_of t) ≡ false) c.table.ensures.same (c.in_default.ensures.none refl) in
+    let none = subst (λ (t : Table Plan). list_any (closes_in c.args.stream) (values_of t) ≡ false) c.table-in-loop-turn.ensures.same (c.in_default.ensures.none refl) in
     let i = c.loop-turn.invariant.closed of line es of_is s in
     closed-counts (held c.args.library.now) c.args.streams.now c.args.stream of _ _ _ _ _ _ _ _ es i (none-over (held c.args.library.now) c.args.streams.now c.args.stream of c.loop-turn.events.obeyed.table es none) steps k
 
 pub returns-in_default-clause-values : goal.returns-in_default-clause-values
 returns-in_default-clause-values g c = λ of line es of_is s.
-    let none = subst (λ (t : Table Plan). list_any (closes_in c.args.stream) (values_of t) ≡ false) c.table.ensures.same (c.in_default.ensures.none refl) in
+    let none = subst (λ (t : Table Plan). list_any (closes_in c.args.stream) (values_of t) ≡ false) c.table-in-loop-turn.ensures.same (c.in_default.ensures.none refl) in
     let i = c.loop-turn.invariant.closed of line es of_is s in
     let k = c.loop-turn.invariant.keeps in
     let stands = same-stands c.args.events.now.obeyed.table c.loop-turn.events.obeyed.table line es k.high k.events s in
@@ -98,8 +98,8 @@ returns-in-Err-clause-err g c = λ of line es begin ps steps of_is s h k.
     let i = c.loop-turn.invariant.closed of line es of_is s in
     let kept = c.loop-turn.invariant.keeps in
     let stands = same-stands c.args.events.now.obeyed.table now line es kept.high kept.events s in
-    let below = subst (λ (t : Table Plan). c.in-Some.place < length t.entries.items) c.table.ensures.same c.in-Some.ensures.below in
-    let first = subst (λ (t : Table Plan). IsFirstClosing c.args.stream es (values_of t) c.in-Some.place) c.table.ensures.same (c.in-Some.ensures.some line es (rw c.table.ensures.same stands)) in
+    let below = subst (λ (t : Table Plan). c.in-Some.place < length t.entries.items) c.table-in-loop-turn.ensures.same c.in-Some.ensures.below in
+    let first = subst (λ (t : Table Plan). IsFirstClosing c.args.stream es (values_of t) c.in-Some.place) c.table-in-loop-turn.ensures.same (c.in-Some.ensures.some line es (rw c.table-in-loop-turn.ensures.same stands)) in
     one-fails (held c.args.library.now) c.args.streams.now c.args.stream of c.args.events.now.obeyed.table now _ _ _ _ _ _ line es stands i c.in-Some.place first
     (λ qs put p. g.S.PacketSink.fails c.put_part.new.sink begin (qs ++ put) p c.in-Err.fault) steps begin ps h k
     (λ qs st held_now counts_now. c.in-Err.ensures.err (slice_index_or now.entries.items c.in-Some.place no_entry) of begin qs st (get_or_default now.entries.items c.in-Some.place no_entry _ below) of_is held_now counts_now)
@@ -110,7 +110,7 @@ loop-turn-preserved g c =
     let now = c.loop-turn.events.obeyed.table in
     let kept = c.loop-turn.invariant.keeps in
     let e = c.in-Ok.ensures in
-    let below = subst (λ (t : Table Plan). c.in-Some.place < length t.entries.items) c.table.ensures.same c.in-Some.ensures.below in
+    let below = subst (λ (t : Table Plan). c.in-Some.place < length t.entries.items) c.table-in-loop-turn.ensures.same c.in-Some.ensures.below in
     record {
       leads = g.met.S.PacketSink.leads_trans c.args.sink.now c.loop-turn.sink c.put_part.new.sink c.loop-turn.invariant.leads e.leads;
       well = well-trans _ _ _ c.loop-turn.invariant.well e.well;
@@ -120,7 +120,7 @@ loop-turn-preserved g c =
           let stands = same-stands c.args.events.now.obeyed.table now line es kept.high kept.events s in
           let entry = slice_index_or now.entries.items c.in-Some.place no_entry in
           let there = get_or_default now.entries.items c.in-Some.place no_entry entry below in
-          let first = subst (λ (t : Table Plan). IsFirstClosing c.args.stream es (values_of t) c.in-Some.place) c.table.ensures.same (c.in-Some.ensures.some line es (rw c.table.ensures.same stands)) in
+          let first = subst (λ (t : Table Plan). IsFirstClosing c.args.stream es (values_of t) c.in-Some.place) c.table-in-loop-turn.ensures.same (c.in-Some.ensures.some line es (rw c.table-in-loop-turn.ensures.same stands)) in
           one-closed (held c.args.library.now) c.args.streams.now c.args.stream of c.args.events.now.obeyed.table now _ _ _ _ _ _ line es stands
           (c.loop-turn.invariant.closed of line es of_is s) c.in-Some.place first c.put_part.new.events.obeyed.table _ _
           (e.values entry of there of_is) (λ steps k. e.counted entry of steps there of_is k) (λ begin ps steps h k. e.ok entry of begin ps steps there of_is h k);

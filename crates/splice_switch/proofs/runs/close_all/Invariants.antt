@@ -16,8 +16,8 @@ invariant-loop-turn g l = record {
   leads : g.S.PacketSink.leads l.initial.sink l.sink;
   well : WentWell (g.S.PacketSink.counts l.initial.sink) (g.S.PacketSink.counts l.sink);
   keeps : KeepsEvents l.initial.events l.events;
-  size : l.turn-end ≡ length l.initial.events.obeyed.table.entries.items;
+  size : l._turn-end ≡ length l.initial.events.obeyed.table.entries.items;
   closed : (of : Stream) (line : Option ℤ) (es : List Standing) → of ≡ slice_index_or l.streams l.stream of → StandsFor l.initial.events.obeyed.table line es
       → ClosedSoFar (held l.library) l.streams l.stream of l.initial.events.obeyed.table l.events.obeyed.table (Counts l.initial.counter) (Counts l.counter)
-      (g.S.PacketSink.holds l.initial.sink) (g.S.PacketSink.holds l.sink) l.turn l.turn-end es;
+      (g.S.PacketSink.holds l.initial.sink) (g.S.PacketSink.holds l.sink) l._turn l._turn-end es;
 }
