@@ -12,4 +12,5 @@ mod PartLemmas
 mod AllTurnedLemmas
 mod RunLemmas
 mod ClosingLemmas
+mod FrontLemmas
 pub mod SelectLemmas

@@ -8,6 +8,7 @@ pub mod Slicing
 pub mod Turning
 pub mod Adverts
 pub mod Parts
+pub mod Fronts
 pub mod Known
 pub mod Ready
 pub mod Standing

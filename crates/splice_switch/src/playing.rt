@@ -1,6 +1,12 @@
 //! The events in the switched streams: which have begun, which are over, and what has gone out of their slices.
 
-ghost use Rattle.std.specs.Prelude.{◌≡◌, ◌<◌, ◌++◌, ◌∷◌, [], ℕ, List, length, Option, None, OnOk, IfErr, true, false, is_some};
+ghost use Rattle.std.specs.Prelude.{◌≡◌, ◌<◌, ◌%◌, ◌++◌, ◌∷◌, [], ℕ, ℤ, List, length, slice_index_or, Option, None, OnOk, IfErr, true, false, is_some};
+ghost use Rattle.ts_packet.specs.Numbering.{Step, Counts};
+ghost use Rattle.unit_stream.specs.UnitPackets.{put_in};
+ghost use Rattle.event_table.specs.Standing.{Standing};
+ghost use Rattle.event_table.specs.Tables.{StandsFor, values_of};
+ghost use Rattle.splice_switch.specs.Parts.{KeepsEvents};
+ghost use Rattle.splice_switch.specs.Fronts.{IsNearTime, IsOther, closing_packets, closed_plans, is_left};
 ghost use Rattle.ts_packet.specs.Sinks.{Blamed};
 ghost use Rattle.ts_packet.specs.Fields.{on, payload};
 ghost use Rattle.ts_packet.specs.Transfers.{WentWell};
@@ -99,12 +105,35 @@ impl Playing {
     ) -> Result<(), PutFault>
         requires { stream < length streams.now }
         ensures leads { S.leads sink.old sink.new }
+        ensures ok { (of : Stream) (line : Option ℤ) (es : List Standing) (s : SwitchedStream) (begin : Option (List ℕ)) (ps : List (List ℕ)) (steps : List Step) →
+            of ≡ slice_index_or streams.now stream of → StandsFor self.old.events.obeyed.table line es → IsNearTime line time.now →
+            s ≡ slice_index_or self.old.streams (stream % 8) s → S.holds sink.old begin ps → Counts s.counter steps →
+            OnOk result (S.holds sink.new begin (ps ++ closing_packets (held library.now) streams.now stream of line time.now steps es (values_of self.old.events.obeyed.table))) }
+        ensures counted { (of : Stream) (line : Option ℤ) (es : List Standing) (s t : SwitchedStream) (steps : List Step) →
+            of ≡ slice_index_or streams.now stream of → StandsFor self.old.events.obeyed.table line es → IsNearTime line time.now →
+            s ≡ slice_index_or self.old.streams (stream % 8) s → t ≡ slice_index_or self.new.streams (stream % 8) t → Counts s.counter steps →
+            OnOk result (Counts t.counter (put_in (closing_packets (held library.now) streams.now stream of line time.now steps es (values_of self.old.events.obeyed.table)) steps)) }
+        ensures leaving { (line : Option ℤ) (es : List Standing) (s t : SwitchedStream) → StandsFor self.old.events.obeyed.table line es →
+            s ≡ slice_index_or self.old.streams (stream % 8) s → t ≡ slice_index_or self.new.streams (stream % 8) t →
+            OnOk result (t.is_leaving ≡ is_left stream line time.now s.is_leaving es (values_of self.new.events.obeyed.table)) }
+        ensures others { (i : ℕ) (s : SwitchedStream) → IsOther i (stream % 8) → slice_index_or self.new.streams i s ≡ slice_index_or self.old.streams i s }
+        ensures plans { (of : Stream) (line : Option ℤ) (es : List Standing) →
+            of ≡ slice_index_or streams.now stream of → StandsFor self.old.events.obeyed.table line es → IsNearTime line time.now →
+            OnOk result (values_of self.new.events.obeyed.table ≡ closed_plans (held library.now) streams.now stream of line time.now es (values_of self.old.events.obeyed.table)) }
+        ensures keeps { KeepsEvents self.old.events self.new.events }
+        ensures forgotten { self.new.forgotten ≡ self.old.forgotten }
+        ensures err { (of : Stream) (line : Option ℤ) (es : List Standing) (s : SwitchedStream) (begin : Option (List ℕ)) (ps : List (List ℕ)) (steps : List Step) →
+            of ≡ slice_index_or streams.now stream of → StandsFor self.old.events.obeyed.table line es → IsNearTime line time.now →
+            s ≡ slice_index_or self.old.streams (stream % 8) s → S.holds sink.old begin ps → Counts s.counter steps →
+            IfErr result (λ f. FrontFails (closing_packets (held library.now) streams.now stream of line time.now steps es (values_of self.old.events.obeyed.table))
+            (λ put p. S.fails sink.new begin (ps ++ put) p f)) }
         ensures well { OnOk result (WentWell (S.counts sink.old) (S.counts sink.new)) }
         ensures blamed { IfErr result (λ f. Blamed f (S.counts sink.old) (S.counts sink.new) (S.is_full sink.new)) }
     {
         let Some(time) = *time else {
             return Ok(());
         };
+        let _ticks = time.ticks();
         turn_all(&mut self.events, stream, time, streams, library);
         let mut of = self.streams[stream % 8];
         let mut counter = of.counter;

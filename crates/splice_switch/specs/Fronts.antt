@@ -1,0 +1,36 @@
+-- What goes out before a packet that begins a unit, by the plans beside the events, and what becomes of the plans.
+use Rattle.std.specs.Prelude.{◌≡◌, ℕ, ◌+◌, ◌++◌, List, [], ◌∷◌, map, Bool, not, ◌&&◌, ℤ, Option, None, Some}
+use Rattle.std.specs.List.{list_any}
+use Rattle.pes_time.specs.Line.{place}
+use Rattle.ts_packet.specs.Numbering.{Step}
+use Rattle.psi_tables.specs.declared.stream.Stream.{Stream}
+use Rattle.event_table.specs.Standing.{Standing, covers}
+use Rattle.ad_library.specs.Advertisements.{Advertisement}
+use Rattle.splice_switch.specs.declared.plan.Plan.{Plan}
+use Rattle.splice_switch.specs.Adverts.{adverts_of}
+use Rattle.splice_switch.specs.Turning.{IsNearHigh, part_of}
+use Rattle.splice_switch.specs.Parts.{all_turned, is_waiting, beside, closing_pairs, rest_packets, closed_plan, running_packets, ran_plans}
+
+-- the unit has no stamp, or may begin at this time
+abbrev pub IsNearTime : Option ℤ → Option ℕ → Type 0
+IsNearTime line None = Unit {0}
+IsNearTime line (Some t) = IsNearHigh line (place line t)
+
+abbrev pub IsOther : ℕ → ℕ → Type 0
+IsOther i number = i ≡ number → ⊥
+
+module _ (filed : ℕ → Option Advertisement) (streams : List Stream) (stream : ℕ) (of : Stream) where
+  -- what goes out of the events that a unit of this time in the stream closes, behind these steps of its counter
+  abbrev pub closing_packets : Option ℤ → Option ℕ → List Step → List Standing → List Plan → List (List ℕ)
+  closing_packets line None steps es plans = []
+  closing_packets line (Some t) steps es plans = rest_packets filed streams stream of steps (closing_pairs stream (beside es (all_turned (adverts_of filed streams) stream (place line t) es plans)))
+
+  -- each event comes as far as it does with the unit, and those that it closes are over
+  abbrev pub closed_plans : Option ℤ → Option ℕ → List Standing → List Plan → List Plan
+  closed_plans line None es plans = plans
+  closed_plans line (Some t) es plans = map (closed_plan filed streams stream of) (beside es (all_turned (adverts_of filed streams) stream (place line t) es plans))
+
+-- a played event holds the unit, of which a stamp says so; a unit without one lies where that before it does
+abbrev pub is_left : ℕ → Option ℤ → Option ℕ → Bool → List Standing → List Plan → Bool
+is_left stream line None was es plans = was
+is_left stream line (Some t) was es plans = list_any (λ x. covers (place line t) x.0 && not (is_waiting (part_of x.1 stream).stage)) (beside es plans)
