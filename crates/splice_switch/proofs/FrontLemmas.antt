@@ -1,6 +1,8 @@
 -- What goes out before a unit start, by the events that stand and the plans beside them.
 use Rattle.std.proofs.Common.{◌≡◌, ℕ, suc, ◌^◌, ◌<◌, refl, sym, ap, ◌∙◌, subst, arith, List, [], ◌∷◌, length, Bool, not, ◌&&◌, ◌||◌}
-use Rattle.std.specs.Prelude.{ℤ, Option, None, Some, map, All, slice_index_or, slice_set}
+use Rattle.std.specs.Prelude.{ℤ, Option, None, Some, map, All, replicate, slice_index_or}
+use Rattle.std.proofs.lemmas.List.{get_or-replicate}
+use Rattle.splice_switch.specs.declared.stream.SwitchedStream.{SwitchedStream}
 use Rattle.std.specs.List.{list_any}
 use Rattle.pes_time.specs.Line.{place}
 use Rattle.event_table.specs.declared.event.Event.{Event}
@@ -51,3 +53,7 @@ module _ (stream : ℕ) (line : Option ℤ) (p : ℕ) (fits : p < 2 ^ 33) where
 
   pub inside-pairs : (t : Table Plan) (es : List Standing) → StandsFor t line es → list_any holds-there t.entries.items ≡ list_any holds-pair (beside es (values_of t))
   inside-pairs t es s = any-pairs es t.entries.items s.events s.within
+
+-- each of eight streams is that one
+pub each-new : (new : SwitchedStream) (i : ℕ) (s : SwitchedStream) → i < 8 → slice_index_or (replicate 8 new) i s ≡ new
+each-new new i s below = get_or-replicate 8 i new s below

@@ -13,4 +13,5 @@ mod AllTurnedLemmas
 mod RunLemmas
 mod ClosingLemmas
 mod FrontLemmas
+mod ReportLemmas
 pub mod SelectLemmas

@@ -1,11 +1,12 @@
 -- What a switch reports of a network: counts over the events that were armed in it.
-use Rattle.std.specs.Prelude.{◌≡◌, ℕ, ◌+◌, if◌then◌else◌, List, Bool, not, ◌&&◌, ◌||◌, count_by, Some}
+use Rattle.std.specs.Prelude.{◌≡◌, ℕ, ◌+◌, if◌then◌else◌, List, Bool, true, not, ◌&&◌, ◌||◌, count_by, Some, ℤ, int_lt}
 use Rattle.std.specs.List.{list_any}
-use Rattle.event_table.specs.Standing.{Standing, end_of}
+use Rattle.event_table.specs.Standing.{Standing, end_of, forgotten_at}
 use Rattle.armed_events.specs.Arming.{ignored}
 use Rattle.program_follower.specs.Program.{behind_head}
 use Rattle.psi_section.specs.Assembling.{capped}
 use Rattle.splice_laws.specs.Splicing.{stream}
+use Rattle.splice_switch.specs.declared.plan.Plan.{Plan}
 use Rattle.splice_switch.specs.declared.report.SwitchReport.{SwitchReport}
 use Rattle.splice_switch.specs.Playing.{Adverts, is_played, is_crossed}
 use Rattle.splice_switch.specs.Switching.{Setting, switched_at, streams_at, high_at, events_at}
@@ -39,6 +40,22 @@ with_one cancelled fits crossed c = record {
   unconditioned = one_if ((not cancelled && fits) && crossed) + c.unconditioned;
   ignored = c.ignored;
 }
+
+-- with those events more, each beside what is known of it, that the test takes
+abbrev pub with_counted : (Standing → Bool) → Adverts → List (Standing × Plan) → Counts → Counts
+with_counted takes ads xs c = record {
+  played = count_by (λ x. takes x.0 && is_played ads x.0) xs + c.played;
+  not_fitted = count_by (λ x. takes x.0 && is_not_fitted ads x.0) xs + c.not_fitted;
+  unconditioned = count_by (λ x. takes x.0 && (is_played ads x.0 && x.1.is_crossed)) xs + c.unconditioned;
+  ignored = c.ignored;
+}
+
+-- it stands no longer at this greatest time
+abbrev pub is_out_at : ℤ → Standing → Bool
+is_out_at high e = not (int_lt high (forgotten_at e))
+
+abbrev pub is_any : Standing → Bool
+is_any e = true
 
 -- each count stops at the greatest u64
 pub record ReportIs (report : SwitchReport) (c : Counts) : Type 0 where

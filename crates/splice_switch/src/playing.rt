@@ -3,9 +3,10 @@
 ghost use Rattle.std.specs.Prelude.{◌≡◌, ◌<◌, ◌%◌, ◌++◌, ◌∷◌, [], ℕ, ℤ, List, length, slice_index_or, Option, None, OnOk, IfErr, true, false, is_some};
 ghost use Rattle.ts_packet.specs.Numbering.{Step, Counts};
 ghost use Rattle.unit_stream.specs.UnitPackets.{put_in};
-ghost use Rattle.event_table.specs.Standing.{Standing};
-ghost use Rattle.event_table.specs.Tables.{StandsFor, values_of};
-ghost use Rattle.splice_switch.specs.Parts.{KeepsEvents};
+ghost use Rattle.event_table.specs.Standing.{Standing, IsTimeAt};
+ghost use Rattle.event_table.specs.Rings.{CanAdvance};
+ghost use Rattle.event_table.specs.Tables.{StandsFor, high_of, values_of};
+ghost use Rattle.splice_switch.specs.Parts.{KeepsEvents, beside};
 ghost use Rattle.splice_switch.specs.Fronts.{IsNearTime, IsOther, closing_packets, closed_plans, is_left};
 ghost use Rattle.ts_packet.specs.Sinks.{Blamed};
 ghost use Rattle.ts_packet.specs.Fields.{on, payload};
@@ -13,7 +14,8 @@ ghost use Rattle.ts_packet.specs.Transfers.{WentWell};
 ghost use Rattle.outgoing_packets.specs.Numbers.{FrontFails};
 ghost use Rattle.ad_library.specs.Library.{held};
 ghost use Rattle.splice_switch.specs.Switching.{Setting, front_at, place_at, rest_at, is_switched, switched_at};
-ghost use Rattle.splice_switch.specs.Reporting.{ReportIs, report_of};
+ghost use Rattle.splice_switch.specs.Adverts.{adverts_of};
+ghost use Rattle.splice_switch.specs.Reporting.{Counts as Reported, ReportIs, report_of, with_counted, is_out_at, is_any};
 ghost use Rattle.splice_switch.specs.Ready.{is_ready};
 
 use crate::plan::Plan;
@@ -302,7 +304,11 @@ fn with_forgotten(
     high: Time33,
     streams: &[Stream],
     library: &AdLibrary,
-) -> SwitchReport {
+) -> SwitchReport
+    ensures { (line : Option ℤ) (later : ℤ) (es : List Standing) (counts : Reported) → StandsFor table.now line es → CanAdvance (high_of table.now) high →
+        IsTimeAt line high later → ReportIs report counts →
+        ReportIs result (with_counted (is_out_at later) (adverts_of (held library.now) streams.now) (beside es (values_of table.now)) counts) }
+{
     let mut counted = report;
     for at in 0..table.standing().len() {
         let entry = table.standing()[at];
@@ -320,7 +326,10 @@ fn with_all(
     table: &Table<Plan>,
     streams: &[Stream],
     library: &AdLibrary,
-) -> SwitchReport {
+) -> SwitchReport
+    ensures { (line : Option ℤ) (es : List Standing) (counts : Reported) → StandsFor table.now line es → ReportIs report counts →
+        ReportIs result (with_counted is_any (adverts_of (held library.now) streams.now) (beside es (values_of table.now)) counts) }
+{
     let mut counted = report;
     for at in 0..table.standing().len() {
         let entry = table.standing()[at];
