@@ -1,6 +1,6 @@
 //! The events in the switched streams: which have begun, which are over, and what has gone out of their slices.
 
-ghost use Rattle.std.specs.Prelude.{◌≡◌, ◌<◌, ◌%◌, ◌++◌, ◌∷◌, [], ℕ, ℤ, List, length, slice_index_or, Option, None, OnOk, IfErr, true, false, is_some};
+ghost use Rattle.std.specs.Prelude.{◌≡◌, ◌<◌, ◌+◌, ◌%◌, ◌++◌, ◌∷◌, [], ℕ, ℤ, List, length, take, slice_index_or, Option, None, OnOk, IfErr, true, false, is_some};
 ghost use Rattle.ts_packet.specs.Numbering.{Step, Counts};
 ghost use Rattle.unit_stream.specs.UnitPackets.{put_in};
 ghost use Rattle.event_table.specs.Standing.{Standing, IsTimeAt};
@@ -311,13 +311,31 @@ fn with_forgotten(
 {
     let mut counted = report;
     for at in 0..table.standing().len() {
-        let entry = table.standing()[at];
-        if entry.event.is_forgotten_at(high) {
-            let fits = library.fits(entry.event.program, streams, entry.event.asked);
-            counted = counted.with_event(entry.event.cancelled, fits, entry.value.is_crossed);
-        }
+        counted = with_one_forgotten(counted, table, at, high, streams, library);
     }
     counted
+}
+
+/// The report of the events before this place, with that at this place where it is forgotten at this greatest time.
+fn with_one_forgotten(
+    report: SwitchReport,
+    table: &Table<Plan>,
+    at: usize,
+    high: Time33,
+    streams: &[Stream],
+    library: &AdLibrary,
+) -> SwitchReport
+    requires { at < length table.now.entries.items }
+    ensures { (line : Option ℤ) (later : ℤ) (es : List Standing) (counts : Reported) → StandsFor table.now line es → CanAdvance (high_of table.now) high →
+        IsTimeAt line high later → ReportIs report (with_counted (is_out_at later) (adverts_of (held library.now) streams.now) (take at (beside es (values_of table.now))) counts) →
+        ReportIs result (with_counted (is_out_at later) (adverts_of (held library.now) streams.now) (take (at + 1) (beside es (values_of table.now))) counts) }
+{
+    let entry = table.standing()[at];
+    if !entry.event.is_forgotten_at(high) {
+        return report;
+    }
+    let fits = library.fits(entry.event.program, streams, entry.event.asked);
+    report.with_event(entry.event.cancelled, fits, entry.value.is_crossed)
 }
 
 /// The report with each event more that stands.

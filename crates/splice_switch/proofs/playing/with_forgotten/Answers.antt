@@ -7,36 +7,12 @@ use Rattle.splice_switch.specs.declared.plan.Plan.{Plan}
 use Rattle.splice_switch.specs.Adverts.{adverts_of}
 use Rattle.splice_switch.specs.Parts.{beside}
 use Rattle.splice_switch.specs.Reporting.{ReportIs, with_counted, is_out_at}
-use Rattle.splice_switch.proofs.ReportLemmas.{one-more, none-more, one-same, all-pairs, in-pairs, pair, event-is, value-is, out-is}
+use Rattle.splice_switch.proofs.ReportLemmas.{all-pairs}
 use Rattle.splice_switch.proofs.playing.with_forgotten.Goals as goal
 
-pub loop-at-preserved-then-is_forgotten_at : goal.loop-at-preserved-then-is_forgotten_at
-loop-at-preserved-then-is_forgotten_at c = λ line later es counts s can is before.
-    let t = c.args.table.now in
-    let ads = adverts_of (held c.args.library.now) c.args.streams.now in
-    let entry = c.index-standing-at.result in
-    let below = subst (λ xs. c.loop-at.at < length xs) c.standing-at-end.ensures.entries c.loop-at-test.true in
-    let there = c.index-standing-at.is ∙ ap (λ xs. slice_index_or xs c.loop-at.at entry) c.standing.ensures.entries in
-    let on = event-is t line es s c.loop-at.at below entry there in
-    let fits : c.args.high < 2 ^ 33 = search rules in
-    let out = sym (out-is t line es s c.args.high later fits can is c.loop-at.at below entry there) ∙ sym c.is_forgotten_at.ensures ∙ c.if-is_forgotten_at.true in
-    one-more (is_out_at later) ads (beside es (values_of t)) counts c.loop-at.at (in-pairs t line es s c.loop-at.at below entry there) _ out
-    (subst (λ n. ReportIs c.with_event-counted.result n)
-    (one-same _ _ _ _ _ _ _ (ap (λ (e : Event). e.cancelled) on) (c.fits-fits.ensures ∙ ap (λ (e : Event). fits_held (held c.args.library.now e.program) c.args.streams.now e.asked) on)
-    (ap (λ (plan : Plan). plan.is_crossed) (value-is t line es s c.loop-at.at below entry there)))
-    (c.with_event-counted.ensures _ (c.loop-at.invariant line later es counts s can is before)))
-
-pub loop-at-preserved-else-is_forgotten_at : goal.loop-at-preserved-else-is_forgotten_at
-loop-at-preserved-else-is_forgotten_at c = λ line later es counts s can is before.
-    let t = c.args.table.now in
-    let ads = adverts_of (held c.args.library.now) c.args.streams.now in
-    let entry = c.index-standing-at.result in
-    let below = subst (λ xs. c.loop-at.at < length xs) c.standing-at-end.ensures.entries c.loop-at-test.true in
-    let there = c.index-standing-at.is ∙ ap (λ xs. slice_index_or xs c.loop-at.at entry) c.standing.ensures.entries in
-    let fits : c.args.high < 2 ^ 33 = search rules in
-    let out = sym (out-is t line es s c.args.high later fits can is c.loop-at.at below entry there) ∙ sym c.is_forgotten_at.ensures ∙ c.if-is_forgotten_at.false in
-    none-more (is_out_at later) ads (beside es (values_of t)) counts c.loop-at.at (in-pairs t line es s c.loop-at.at below entry there) _ out
-    (c.loop-at.invariant line later es counts s can is before)
+pub loop-at-preserved : goal.loop-at-preserved
+loop-at-preserved c = λ line later es counts s can is before.
+    c.with_one_forgotten-counted.ensures line later es counts s can is (c.loop-at.invariant line later es counts s can is before)
 
 pub returns : goal.returns
 returns c = λ line later es counts s can is before.
