@@ -14,4 +14,5 @@ mod RunLemmas
 mod ClosingLemmas
 mod FrontLemmas
 mod ReportLemmas
+mod StreamLemmas
 pub mod SelectLemmas

@@ -1,12 +1,13 @@
 -- What goes out before a packet that begins a unit, by the plans beside the events, and what becomes of the plans.
-use Rattle.std.specs.Prelude.{◌≡◌, ℕ, ◌+◌, ◌++◌, List, [], ◌∷◌, map, Bool, not, ◌&&◌, ℤ, Option, None, Some}
+use Rattle.std.specs.Prelude.{◌≡◌, ◌<◌, ◌==◌, if◌then◌else◌, slice_index_or, ℕ, ◌+◌, ◌++◌, List, [], ◌∷◌, map, Bool, not, ◌&&◌, ℤ, Option, None, Some}
 use Rattle.std.specs.List.{list_any}
 use Rattle.pes_time.specs.Line.{place}
-use Rattle.ts_packet.specs.Numbering.{Step}
+use Rattle.ts_packet.specs.Numbering.{Step, Counts}
 use Rattle.psi_tables.specs.declared.stream.Stream.{Stream}
 use Rattle.event_table.specs.Standing.{Standing, covers}
 use Rattle.ad_library.specs.Advertisements.{Advertisement}
 use Rattle.splice_switch.specs.declared.plan.Plan.{Plan}
+use Rattle.splice_switch.specs.declared.stream.SwitchedStream.{SwitchedStream}
 use Rattle.splice_switch.specs.Adverts.{adverts_of}
 use Rattle.splice_switch.specs.Turning.{IsNearHigh, part_of}
 use Rattle.splice_switch.specs.Parts.{all_turned, is_waiting, beside, closing_pairs, rest_packets, closed_plan, running_packets, ran_plans}
@@ -29,6 +30,28 @@ module _ (filed : ℕ → Option Advertisement) (streams : List Stream) (stream 
   abbrev pub closed_plans : Option ℤ → Option ℕ → List Standing → List Plan → List Plan
   closed_plans line None es plans = plans
   closed_plans line (Some t) es plans = map (closed_plan filed streams stream of) (beside es (all_turned (adverts_of filed streams) stream (place line t) es plans))
+
+module _ (filed : ℕ → Option Advertisement) (streams : List Stream) (high : Option ℤ) (es : List Standing) where
+  -- what goes out of the events that run in these streams, from this number on, each behind the steps of its counter
+  abbrev pub all_running : (ℕ → List Step) → List Plan → ℕ → List Stream → List (List ℕ)
+  all_running steps plans number [] = []
+  all_running steps plans number (of ∷ rest) =
+      running_packets filed streams number of high (steps number) (beside es plans) ++ all_running steps (ran_plans filed streams number of high (beside es plans)) (number + 1) rest
+
+  -- in one of them
+  abbrev pub running_of : (ℕ → List Step) → List Plan → ℕ → List Stream → ℕ → List (List ℕ)
+  running_of steps plans number [] i = []
+  running_of steps plans number (of ∷ rest) i =
+      if number == i then running_packets filed streams number of high (steps number) (beside es plans) else running_of steps (ran_plans filed streams number of high (beside es plans)) (number + 1) rest i
+
+  -- the plans behind that
+  abbrev pub all_ran : List Plan → ℕ → List Stream → List Plan
+  all_ran plans number [] = plans
+  all_ran plans number (of ∷ rest) = all_ran (ran_plans filed streams number of high (beside es plans)) (number + 1) rest
+
+-- each of the eight counters has counted these steps
+abbrev pub AllCount : List SwitchedStream → (ℕ → List Step) → Type 0
+AllCount streams steps = (i : ℕ) (s : SwitchedStream) → i < 8 → Counts (slice_index_or streams i s).counter (steps i)
 
 -- a played event holds the unit, of which a stamp says so; a unit without one lies where that before it does
 abbrev pub is_left : ℕ → Option ℤ → Option ℕ → Bool → List Standing → List Plan → Bool

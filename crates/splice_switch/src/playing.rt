@@ -1,13 +1,13 @@
 //! The events in the switched streams: which have begun, which are over, and what has gone out of their slices.
 
-ghost use Rattle.std.specs.Prelude.{◌≡◌, ◌<◌, ◌+◌, ◌%◌, ◌++◌, ◌∷◌, [], ℕ, ℤ, List, length, take, slice_index_or, Option, None, OnOk, IfErr, true, false, is_some};
+ghost use Rattle.std.specs.Prelude.{◌≡◌, ◌<◌, ◌≤◌, ◌+◌, ◌%◌, ◌++◌, ◌∷◌, [], ℕ, ℤ, List, length, take, slice_index_or, Option, None, OnOk, IfErr, true, false, is_some};
 ghost use Rattle.ts_packet.specs.Numbering.{Step, Counts};
 ghost use Rattle.unit_stream.specs.UnitPackets.{put_in};
 ghost use Rattle.event_table.specs.Standing.{Standing, IsTimeAt};
 ghost use Rattle.event_table.specs.Rings.{CanAdvance};
 ghost use Rattle.event_table.specs.Tables.{StandsFor, high_of, values_of};
-ghost use Rattle.splice_switch.specs.Parts.{KeepsEvents, beside};
-ghost use Rattle.splice_switch.specs.Fronts.{IsNearTime, IsOther, closing_packets, closed_plans, is_left};
+ghost use Rattle.splice_switch.specs.Parts.{KeepsEvents, beside, IsReached};
+ghost use Rattle.splice_switch.specs.Fronts.{IsNearTime, IsOther, closing_packets, closed_plans, is_left, AllCount, all_running, running_of, all_ran};
 ghost use Rattle.ts_packet.specs.Sinks.{Blamed};
 ghost use Rattle.ts_packet.specs.Fields.{on, payload};
 ghost use Rattle.ts_packet.specs.Transfers.{WentWell};
@@ -165,6 +165,21 @@ impl Playing {
         sink: &mut S,
     ) -> Result<(), PutFault>
         ensures leads { S.leads sink.old sink.new }
+        ensures ok { (line high_line : Option ℤ) (es : List Standing) (begin : Option (List ℕ)) (ps : List (List ℕ)) (steps : ℕ → List Step) → length streams.now ≤ 8 →
+            StandsFor self.old.events.obeyed.table line es → IsReached line high.now high_line → S.holds sink.old begin ps → AllCount self.old.streams steps →
+            OnOk result (S.holds sink.new begin (ps ++ all_running (held library.now) streams.now high_line es steps (values_of self.old.events.obeyed.table) 0 streams.now)) }
+        ensures counted { (line high_line : Option ℤ) (es : List Standing) (steps : ℕ → List Step) → length streams.now ≤ 8 →
+            StandsFor self.old.events.obeyed.table line es → IsReached line high.now high_line → AllCount self.old.streams steps →
+            OnOk result (AllCount self.new.streams (λ i. put_in (running_of (held library.now) streams.now high_line es steps (values_of self.old.events.obeyed.table) 0 streams.now i) (steps i))) }
+        ensures leaving { (i : ℕ) (s : SwitchedStream) → (slice_index_or self.new.streams i s).is_leaving ≡ (slice_index_or self.old.streams i s).is_leaving }
+        ensures plans { (line high_line : Option ℤ) (es : List Standing) → StandsFor self.old.events.obeyed.table line es → IsReached line high.now high_line →
+            OnOk result (values_of self.new.events.obeyed.table ≡ all_ran (held library.now) streams.now high_line es (values_of self.old.events.obeyed.table) 0 streams.now) }
+        ensures keeps { KeepsEvents self.old.events self.new.events }
+        ensures forgotten { self.new.forgotten ≡ self.old.forgotten }
+        ensures err { (line high_line : Option ℤ) (es : List Standing) (begin : Option (List ℕ)) (ps : List (List ℕ)) (steps : ℕ → List Step) → length streams.now ≤ 8 →
+            StandsFor self.old.events.obeyed.table line es → IsReached line high.now high_line → S.holds sink.old begin ps → AllCount self.old.streams steps →
+            IfErr result (λ f. FrontFails (all_running (held library.now) streams.now high_line es steps (values_of self.old.events.obeyed.table) 0 streams.now)
+            (λ put p. S.fails sink.new begin (ps ++ put) p f)) }
         ensures well { OnOk result (WentWell (S.counts sink.old) (S.counts sink.new)) }
         ensures blamed { IfErr result (λ f. Blamed f (S.counts sink.old) (S.counts sink.new) (S.is_full sink.new)) }
     {
