@@ -1,4 +1,4 @@
-use Rattle.std.proofs.Common.{◌≡◌, ◌<◌, ◌≤◌, ◌%◌, ◌^◌, ◌∙◌, refl, rules, sym, ap, subst, List, length, take, Bool, true, false}
+use Rattle.std.proofs.Common.{◌<◌, ◌≤◌, ◌∙◌, refl, ap, subst, length}
 use Rattle.std.specs.Prelude.{slice_index_or}
 use Rattle.event_table.specs.declared.event.Event.{Event}
 use Rattle.event_table.specs.Tables.{values_of}

@@ -1,11 +1,6 @@
-use Rattle.std.proofs.Common.{◌≡◌, ◌<◌, ◌≤◌, ◌%◌, ◌^◌, ◌∙◌, refl, rules, sym, ap, subst, List, length, take, Bool, true, false}
-use Rattle.std.specs.Prelude.{slice_index_or}
-use Rattle.event_table.specs.declared.event.Event.{Event}
-use Rattle.event_table.specs.Tables.{values_of}
-use Rattle.ad_library.specs.Library.{held, fits_held}
-use Rattle.splice_switch.specs.declared.plan.Plan.{Plan}
+use Rattle.std.proofs.Common.{◌≤◌, subst, length}
+use Rattle.ad_library.specs.Library.{held}
 use Rattle.splice_switch.specs.Adverts.{adverts_of}
-use Rattle.splice_switch.specs.Parts.{beside}
 use Rattle.splice_switch.specs.Reporting.{ReportIs, with_counted, is_out_at}
 use Rattle.splice_switch.proofs.ReportLemmas.{all-pairs}
 use Rattle.splice_switch.proofs.playing.with_forgotten.Goals as goal

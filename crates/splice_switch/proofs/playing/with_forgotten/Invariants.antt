@@ -1,4 +1,4 @@
-use Rattle.std.proofs.Common.{◌≡◌, List, length, Option, take}
+use Rattle.std.proofs.Common.{List, Option, take}
 use Rattle.std.specs.Prelude.{ℤ}
 use Rattle.event_table.specs.Rings.{CanAdvance}
 use Rattle.event_table.specs.Standing.{Standing, IsTimeAt}

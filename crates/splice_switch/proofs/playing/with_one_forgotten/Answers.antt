@@ -1,4 +1,4 @@
-use Rattle.std.proofs.Common.{◌≡◌, ◌<◌, ◌≤◌, ◌%◌, ◌^◌, ◌∙◌, refl, rules, sym, ap, subst, List, length, take, Bool, true, false}
+use Rattle.std.proofs.Common.{◌<◌, ◌^◌, ◌∙◌, rules, sym, ap, subst}
 use Rattle.std.specs.Prelude.{slice_index_or}
 use Rattle.event_table.specs.declared.event.Event.{Event}
 use Rattle.event_table.specs.Tables.{values_of}
@@ -6,7 +6,7 @@ use Rattle.ad_library.specs.Library.{held, fits_held}
 use Rattle.splice_switch.specs.declared.plan.Plan.{Plan}
 use Rattle.splice_switch.specs.Adverts.{adverts_of}
 use Rattle.splice_switch.specs.Parts.{beside}
-use Rattle.splice_switch.specs.Reporting.{ReportIs, with_counted, is_out_at}
+use Rattle.splice_switch.specs.Reporting.{ReportIs, is_out_at}
 use Rattle.splice_switch.proofs.ReportLemmas.{one-more, none-more, one-same, in-pairs, event-is, value-is, out-is}
 use Rattle.splice_switch.proofs.playing.with_one_forgotten.Goals as goal
 

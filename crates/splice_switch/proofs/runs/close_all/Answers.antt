@@ -1,8 +1,7 @@
-use Rattle.std.proofs.Common.{◌≡◌, ◌<◌, ◌≤◌, ◌++◌, ◌∙◌, ap, sym, subst, refl, false, append_assoc, List, ℕ, length, Option, None, Some}
+use Rattle.std.proofs.Common.{◌≡◌, ◌<◌, ◌++◌, ◌∙◌, ap, subst, refl, false, append_assoc, length}
 use Rattle.std.specs.Prelude.{slice_index_or}
 use Rattle.std.specs.List.{list_any}
 use Rattle.std.proofs.lemmas.List.{get_or_default}
-use Rattle.ts_packet.specs.Numbering.{Counts}
 use Rattle.ts_packet.proofs.CountLemmas.{well-refl, well-trans, blamed-after}
 use Rattle.event_table.specs.declared.table.Table.{Table}
 use Rattle.event_table.specs.Tables.{values_of}

@@ -1,6 +1,6 @@
-use Rattle.std.proofs.Common.{◌≡◌, ◌++◌, ℕ, List, length, Option}
+use Rattle.std.proofs.Common.{◌≡◌, List, length, Option}
 use Rattle.std.specs.Prelude.{ℤ, slice_index_or}
-use Rattle.ts_packet.specs.Numbering.{Step, Counts}
+use Rattle.ts_packet.specs.Numbering.{Counts}
 use Rattle.ts_packet.specs.Transfers.{WentWell}
 use Rattle.psi_tables.specs.declared.stream.Stream.{Stream}
 use Rattle.event_table.specs.Standing.{Standing}

@@ -1,4 +1,4 @@
-use Rattle.std.proofs.Common.{◌≡◌, ◌<◌, ◌++◌, ◌∙◌, ap, sym, subst, List, length, Option, None, Some, OnOk, IfErr}
+use Rattle.std.proofs.Common.{◌≡◌, ◌<◌, ◌++◌, sym, subst, length, None, Some, OnOk, IfErr}
 use Rattle.std.specs.Prelude.{position, slice_index_or}
 use Rattle.std.proofs.lemmas.List.{append-nil, get_or_default}
 use Rattle.ts_packet.specs.Numbering.{Counts}

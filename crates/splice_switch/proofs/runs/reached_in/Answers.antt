@@ -1,6 +1,5 @@
-use Rattle.std.proofs.Common.{◌≡◌, ◌∙◌, ap, sym, subst, arith, w64}
+use Rattle.std.proofs.Common.{◌∙◌, ap, sym, subst}
 use Rattle.std.specs.Prelude.{slice_index_or, pos, int_lt, unsigned_abs}
-use Rattle.std.proofs.lemmas.Int.{ints}
 use Rattle.event_table.specs.declared.event.Event.{Event}
 use Rattle.event_table.specs.declared.table.Entry.{Entry}
 use Rattle.event_table.specs.Rings.{is_before_on_ring}

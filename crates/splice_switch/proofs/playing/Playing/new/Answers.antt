@@ -1,4 +1,4 @@
-use Rattle.std.proofs.Common.{refl, false, ◌≡◌, sym, subst, [], slice_index_or}
+use Rattle.std.proofs.Common.{refl, false, ◌≡◌, sym, subst, []}
 use Rattle.ts_packet.specs.Numbering.{Counts}
 use Rattle.splice_switch.specs.declared.stream.SwitchedStream.{SwitchedStream}
 use Rattle.splice_switch.specs.Switching.{high_at}

@@ -1,4 +1,4 @@
-use Rattle.std.proofs.Common.{◌≡◌, ◌<◌, ◌≤◌, ◌%◌, ◌++◌, ◌∙◌, refl, rules, arith, ap, sym, subst, append_assoc, List, ℕ, length, drop, Option}
+use Rattle.std.proofs.Common.{◌<◌, ◌%◌, ◌++◌, ◌∙◌, refl, rules, arith, ap, sym, subst, append_assoc, length}
 use Rattle.std.specs.Prelude.{slice_index_or}
 use Rattle.ts_packet.specs.Numbering.{Counts}
 use Rattle.ts_packet.proofs.CountLemmas.{well-refl, well-trans}

@@ -1,5 +1,4 @@
-use Rattle.std.proofs.Common.{◌≡◌, ◌<◌, ◌%◌, ◌^◌, ◌++◌, ◌&&◌, not, map, rules, arith, ◌∙◌, ap, sym, subst, List, ℕ, length, Option, Some}
-use Rattle.std.specs.Prelude.{slice_index_or}
+use Rattle.std.proofs.Common.{◌<◌, ◌%◌, ◌^◌, ◌++◌, ◌&&◌, not, map, rules, arith, ◌∙◌, ap, sym, subst, List, ℕ, length}
 use Rattle.std.specs.List.{list_any}
 use Rattle.std.proofs.lemmas.List.{get_or-set_same}
 use Rattle.ts_packet.specs.Numbering.{Counts}
