@@ -148,7 +148,7 @@ stream_line library Io line ls e entry h b = absurd b
 stream_line library Turns line ls e entry h b = absurd b
 stream_line library (Ad fault) line ls e entry h b =
     (e, entry, subst (λ t. BlamesAd fault t (length (numbers_of ls))) (h.numbers e.0) (subst (λ n. BlamesAd fault (is_some (held library e.0)) n) h.size b))
-stream_line library OutOfMemory line ls e entry h b = tt
+stream_line library OutOfMemory line ls e entry h b = ap is_some entry
 
 -- nothing was read
 pub nothing_read : (l : Loading) → ((id : ℕ) → held l.library id ≡ None) → index_map_len l.library.adverts ≡ 0 → l.line.items ≡ [] → IsRead l []

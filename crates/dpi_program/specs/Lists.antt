@@ -12,6 +12,7 @@ use Rattle.ad_library.specs.declared.library.AdLibrary.{AdLibrary}
 use Rattle.ad_library.specs.declared.fault.AdFault.{AdFault}
 use Rattle.ad_library.specs.declared.fault.AdFault.TheVariants as ad
 use Rattle.ad_library.specs.Advertisements.{Advertisement, advertisement}
+use Rattle.ad_library.specs.Faults.{Says}
 use Rattle.ad_library.specs.Library.{held, filed}
 use Rattle.dpi_program.specs.Numbers.{number_below}
 use Rattle.dpi_program.specs.declared.ad_list.Loading.{Loading}
@@ -118,6 +119,15 @@ abbrev pub BlamesAd : AdFault → Bool → ℕ → Type 0
 BlamesAd fault there count =
     (fault ≡ ad.Exists ↔ there ≡ true) × (fault ≡ ad.Many ↔ ((there ≡ false) × (64 ≤ count)))
 
+-- of a stream's bytes: what is wrong with them is the first that is
+abbrev pub SaysOf : ListFault → List ℕ → Type 0
+SaysOf BadList bs = Unit {0}
+SaysOf File bs = Unit {0}
+SaysOf Io bs = Unit {0}
+SaysOf Turns bs = Unit {0}
+SaysOf (Ad fault) bs = Says fault bs
+SaysOf OutOfMemory bs = Unit {0}
+
 -- of a stream: what of the library's state each fault tells
 abbrev pub BlamesStream : ListFault → Bool → ℕ → Type 0
 BlamesStream BadList there count = ⊥
@@ -127,7 +137,7 @@ BlamesStream Turns there count = ⊥
 BlamesStream (Ad fault) there count = BlamesAd fault there count
 BlamesStream OutOfMemory there count = Unit {0}
 
--- of a line behind these numbers: a bad one is neither blank nor an entry; the others come at entries
+-- of a line behind these numbers: a bad one is neither blank nor an entry; the other faults come at entries
 abbrev pub BlamesLine : ListFault → List ℕ → List ℕ → Type 0
 BlamesLine BadList line ns = is_good line ≡ false
 BlamesLine File line ns = IsSome (entry_of line)
@@ -135,7 +145,7 @@ BlamesLine Io line ns = ⊥
 BlamesLine Turns line ns = ⊥
 BlamesLine (Ad fault) line ns =
     (e : ℕ × List ℕ) × (entry_of line ≡ Some e) × BlamesAd fault (has_number e.0 ns) (length ns)
-BlamesLine OutOfMemory line ns = Unit {0}
+BlamesLine OutOfMemory line ns = IsSome (entry_of line)
 
 -- the line ends before these bytes
 abbrev pub EndsLine : List ℕ → Type 0

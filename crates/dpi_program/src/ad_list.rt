@@ -5,7 +5,7 @@ ghost use Rattle.indexmap.specs.IndexMap.{index_map_len};
 ghost use Rattle.ts_packet.specs.Transfers.{LastMovedNone};
 ghost use Rattle.ad_library.specs.Library.{held};
 ghost use Rattle.dpi_program.specs.Lists.{is_blank, entry_of, numbers_of, Adds, IsFiled, IsRead, IsListed};
-ghost use Rattle.dpi_program.specs.Lists.{BlamesStream, BlamesLine, StopsAt, ListBlamed, IsOfLine};
+ghost use Rattle.dpi_program.specs.Lists.{SaysOf, BlamesStream, BlamesLine, StopsAt, ListBlamed, IsOfLine};
 
 use crate::ends::open_input;
 use crate::numbers::number_below;
@@ -245,6 +245,7 @@ fn file_stream<F: Read + Drop>(
     file: F,
 ) -> Result<(), ListFault>
     ensures ok { OnOk result (Adds (F.remaining file) library.old library.new id) }
+    ensures says { IfErr result (λ f. IfSome (F.remaining file) (SaysOf f)) }
     ensures stops { IfErr result (λ f. BlamesStream f (is_some (held library.old id)) (index_map_len library.old.adverts)) }
     ensures refused { IfErr result IsOfLine }
 {
@@ -257,36 +258,5 @@ fn file_stream<F: Read + Drop>(
         Ok(()) => Ok(()),
         Err(AdFault::OutOfMemory) => Err(ListFault::OutOfMemory),
         Err(fault) => Err(ListFault::Ad(fault)),
-    }
-}
-
-#[cfg(test)]
-mod tests {
-    use super::*;
-    use std::io::Cursor;
-    use std::test::*;
-    use ts_packet::Device;
-
-    /// What a list of this text comes to.
-    fn fault_of(rt: &HostRuntime, text: &[u8]) -> Option<ListFault> {
-        let mut device = Device::new(Cursor::new(text));
-        match load_list(rt, rt.alloc(), &mut device) {
-            Ok(_) => None,
-            Err(fault) => Some(fault),
-        }
-    }
-
-    #[test]
-    fn lines_are_judged(rt: HostRuntime) -> Result<(), Fail> {
-        assert_eq!(rt; fault_of(&rt, b""), None);
-        assert_eq!(rt; fault_of(&rt, b"\n\n"), None);
-        assert_eq!(rt; fault_of(&rt, b"7\n"), Some(ListFault::BadList));
-        assert_eq!(rt; fault_of(&rt, b"7 \n"), Some(ListFault::BadList));
-        assert_eq!(rt; fault_of(&rt, b"x none.ts\n"), Some(ListFault::BadList));
-        assert_eq!(rt; fault_of(&rt, b"65536 none.ts\n"), Some(ListFault::BadList));
-        assert_eq!(rt; fault_of(&rt, b"\xFF none.ts\n"), Some(ListFault::BadList));
-        assert_eq!(rt; fault_of(&rt, b"7 none.ts\nx"), Some(ListFault::File));
-        assert_eq!(rt; fault_of(&rt, b"\n7 none.ts"), Some(ListFault::File));
-        Ok(())
     }
 }

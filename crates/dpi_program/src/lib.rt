@@ -29,6 +29,8 @@ pub use script::{Script, ScriptFault};
 pub use unit_cut::{CutFault, cut};
 
 #[cfg(test)]
+mod ad_list_tests;
+#[cfg(test)]
 mod inject_tests;
 #[cfg(test)]
 mod script_tests;

@@ -16,6 +16,9 @@ loop-byte-preserved g c =
     let first : c.loop-byte.rest.now ≡ c.in-Some.byte.now ∷ c.in-Some.behind.now = search rules in
     let byte = c.in-Some.byte.now in
     record {
-      read = (done ++ byte ∷ [], takes_on [] done c.args.part.now c.loop-byte.rest.now c.in-Some.behind.now byte e first,
-      λ text h. subst (IsRead c.take.new.self) (append_assoc text done (byte ∷ [])) (c.in-Ok.ensures.ok (text ++ done) (r text h)));
+      read = (
+        done ++ byte ∷ [],
+        takes_on [] done c.args.part.now c.loop-byte.rest.now c.in-Some.behind.now byte e first,
+        λ text h. subst (IsRead c.take.new.self) (append_assoc text done (byte ∷ [])) (c.in-Ok.ensures.ok (text ++ done) (r text h)),
+      );
     }
