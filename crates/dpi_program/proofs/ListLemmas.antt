@@ -2,7 +2,7 @@
 use Rattle.std.proofs.Common.{◌≡◌, ◌≢◌, ℕ, ◌+◌, ◌^◌, ◌<◌, List, [], ◌∷◌, ◌++◌, length, Bool, true, false, not, ◌&&◌, ◌||◌, ◌==◌, cond, nat_lt, Option, Some, None, is_some, refl, sym, ap, ◌∙◌, subst, append_assoc, arith}
 use Rattle.std.specs.Prelude.{if◌then◌else◌, IfSome, IfErr, OnOk, Result, Ok, Err}
 use Rattle.std.proofs.lemmas.List.{append-nil}
-use Rattle.std.specs.Io.KnownBytes.{Consumes, IsAtEnd}
+use Rattle.std.specs.Io.KnownBytes.{Consumes, IsAtEnd, prepend_known}
 use Rattle.std.specs.List.{list_all}
 use Rattle.indexmap.specs.IndexMap.{index_map_len}
 use Rattle.ad_library.specs.declared.library.AdLibrary.{AdLibrary}
@@ -212,3 +212,17 @@ pub stops_behind : (f : ListFault) (a b : Option (List ℕ)) (bs : List ℕ) →
 stops_behind f None b bs p h = tt
 stops_behind f (Some x) None bs p h = absurd p
 stops_behind f (Some x) (Some y) bs p h = subst (StopsAt f) (sym p) (h y)
+
+-- ---- a buffer that has read nothing
+
+nothing_before : (o : Option (List ℕ)) (P : List ℕ → Type 0) → IfSome (prepend_known [] o) P → IfSome o P
+nothing_before None P h = tt
+nothing_before (Some bs) P h = h
+
+-- what is said of its bytes is said of those below it
+pub said_below : {T : Type 0} (remaining : T → Option (List ℕ)) (inner file : T) (capacity : ℕ) (buffer : List ℕ) (P : List ℕ → Type 0)
+    → capacity ≡ 131072 → buffer ≡ [] → inner ≡ file → IfSome (if capacity == 0 then None else prepend_known buffer (remaining inner)) P → IfSome (remaining file) P
+said_below remaining inner file capacity buffer P size empty same h =
+    let e : (if capacity == 0 then None else prepend_known buffer (remaining inner)) ≡ prepend_known [] (remaining file)
+    = λ i. if size i == 0 then None else prepend_known (empty i) (remaining (same i)) in
+    nothing_before (remaining file) P (subst (λ o. IfSome o P) e h)

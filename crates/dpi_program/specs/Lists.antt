@@ -121,12 +121,12 @@ BlamesAd fault there count =
 
 -- of a stream's bytes: what is wrong with them is the first that is
 abbrev pub SaysOf : ListFault → List ℕ → Type 0
-SaysOf BadList bs = Unit {0}
-SaysOf File bs = Unit {0}
-SaysOf Io bs = Unit {0}
-SaysOf Turns bs = Unit {0}
-SaysOf (Ad fault) bs = Says fault bs
-SaysOf OutOfMemory bs = Unit {0}
+SaysOf BadList = λ bs. Unit {0}
+SaysOf File = λ bs. Unit {0}
+SaysOf Io = λ bs. Unit {0}
+SaysOf Turns = λ bs. Unit {0}
+SaysOf (Ad fault) = Says fault
+SaysOf OutOfMemory = λ bs. Unit {0}
 
 -- of a stream: what of the library's state each fault tells
 abbrev pub BlamesStream : ListFault → Bool → ℕ → Type 0
