@@ -1,15 +1,14 @@
 -- Lines of a list, read and loaded one after another.
-use Rattle.std.proofs.Common.{◌≡◌, ◌≢◌, ℕ, ◌+◌, ◌^◌, ◌<◌, List, [], ◌∷◌, ◌++◌, length, Bool, true, false, not, ◌&&◌, ◌||◌, ◌==◌, cond, nat_lt, Option, Some, None, is_some, refl, sym, ap, ◌∙◌, subst, append_assoc, arith}
+use Rattle.std.proofs.Common.{◌≡◌, ◌≢◌, ℕ, ◌^◌, ◌<◌, List, [], ◌∷◌, ◌++◌, length, Bool, true, false, not, ◌&&◌, ◌||◌, ◌==◌, cond, nat_lt, Option, Some, None, is_some, refl, sym, ap, ◌∙◌, subst, append_assoc, arith}
 use Rattle.std.specs.Prelude.{if◌then◌else◌, IfSome, IfErr, OnOk, Result, Ok, Err}
 use Rattle.std.proofs.lemmas.List.{append-nil}
 use Rattle.std.specs.Io.KnownBytes.{Consumes, IsAtEnd, prepend_known}
-use Rattle.std.specs.List.{list_all}
 use Rattle.indexmap.specs.IndexMap.{index_map_len}
 use Rattle.ad_library.specs.declared.library.AdLibrary.{AdLibrary}
 use Rattle.ad_library.specs.Advertisements.{Advertisement}
 use Rattle.ad_library.specs.Library.{held}
 use Rattle.dpi_program.specs.Numbers.{number_below}
-use Rattle.dpi_program.specs.Lists.{is_blank, entry_of, paired, is_good, is_line, text_of, with_number, numbers_of, has_number, are_apart, IsAdvert, Adds, IsFiled, IsRead, IsListed, BlamesAd, BlamesStream, BlamesLine, EndsLine, Blames, StopsAt}
+use Rattle.dpi_program.specs.Lists.{is_blank, entry_of, paired, is_good, is_line, text_of, with_number, numbers_of, has_number, are_apart, IsAdvert, Adds, IsFiled, IsRead, BlamesAd, BlamesStream, BlamesLine, EndsLine, Blames, StopsAt}
 use Rattle.dpi_program.specs.declared.ad_list.Loading.{Loading}
 use Rattle.dpi_program.specs.declared.ad_list.ListFault.{ListFault}
 use Rattle.dpi_program.specs.declared.ad_list.ListFault.TheVariants.{BadList, File, Io, Turns, Ad, OutOfMemory}
