@@ -225,7 +225,8 @@ fn load_stream<R: Files>(
     path: &str,
 ) -> Result<(), ListFault>
     ensures ok { OnOk result ((known : Option (List ℕ)) × Adds known library.old library.new id) }
-    ensures stops { IfErr result (λ f. BlamesStream f (is_some (held library.old id)) (index_map_len library.old.adverts)) }
+    ensures stops { IfErr result (λ f. BlamesStream f (is_some (held library.old id))
+        (index_map_len library.old.adverts)) }
     ensures refused { IfErr result IsOfLine }
 {
     match open_input(rt, path) {
@@ -246,7 +247,8 @@ fn file_stream<F: Read + Drop>(
 ) -> Result<(), ListFault>
     ensures ok { OnOk result (Adds (F.remaining file) library.old library.new id) }
     ensures says { IfErr result (λ f. IfSome (F.remaining file) (SaysOf f)) }
-    ensures stops { IfErr result (λ f. BlamesStream f (is_some (held library.old id)) (index_map_len library.old.adverts)) }
+    ensures stops { IfErr result (λ f. BlamesStream f (is_some (held library.old id))
+        (index_map_len library.old.adverts)) }
     ensures refused { IfErr result IsOfLine }
 {
     let Ok(reader) = BufReader::with_capacity(alloc, BUFFER_SIZE, file) else {
