@@ -1,10 +1,1 @@
-pub mod Playing
-pub mod Switching
-pub mod Reporting
-pub mod Laws
-pub mod Counting
-pub mod Histories
-pub mod Slicing
-pub mod Turning
-pub mod Adverts
-pub mod Parts
+pub mod Standing

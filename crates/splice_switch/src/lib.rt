@@ -1,14 +1,9 @@
 //! The switch: advertisements in the place of the network's units, in the events that cues arm.
-//! It stands on `program_follower`, for the network, `armed_events`, for the events, `ad_library`, for the units of advertisements, and
-//! `unit_packing` and `outgoing_packets`, for what goes out. It takes no memory.
+//! It stands on `program_follower`, for the network, `splice_playing`, for the events in its streams, and `outgoing_packets`, for what else
+//! goes out. It takes no memory.
 #![tactic(auto)]
 
-pub mod laws;
-mod parts;
-mod plan;
-mod report;
-mod slices;
-mod stream;
-mod turns;
+mod switch;
 
-pub use report::SwitchReport;
+pub use splice_plans::SwitchReport;
+pub use switch::Switch;

@@ -6,8 +6,8 @@ use Rattle.unit_stream.specs.Times.{begins_one}
 use Rattle.unit_stream.specs.Fates.{is_left_out}
 use Rattle.splice_laws.specs.Splicing.{SliceUnit, stream}
 use Rattle.output_laws.specs.Output.{Move, Keep, Leave, Put, network}
-use Rattle.splice_switch.specs.Playing.{Adverts, History, played, as_played, end_known, is_inside, closing_at, running_at, left_at_end}
-use Rattle.splice_switch.specs.Switching.{puts_by, puts_before, fate}
+use Rattle.splice_plans.specs.Playing.{Adverts, History, played, as_played, end_known, is_inside, closing_at, running_at, left_at_end}
+use Rattle.splice_plans.specs.Switching.{puts_by, puts_before, fate}
 use Rattle.switch_laws.specs.Moving.{moves_from}
 use Rattle.switch_laws.specs.Laws.{MovesBringTheNetwork}
 

@@ -17,7 +17,7 @@ use Rattle.program_laws.proofs.FaultLemmas.{Sound, MapSound, all_sound}
 use Rattle.program_laws.proofs.ReadingLemmas.{no_tables}
 use Rattle.splice_laws.specs.Streams.{is_among, IsOnce}
 use Rattle.output_laws.proofs.GaplessLemmas.{test-true}
-use Rattle.splice_switch.specs.Switching.{Setting, switched_at}
+use Rattle.splice_plans.specs.Switching.{Setting, switched_at}
 use Rattle.switch_laws.specs.Standing.{IsSound, FaultlessIsSound}
 use Rattle.switch_laws.proofs.WholeLemmas.{none-switched}
 

@@ -9,7 +9,7 @@ use Rattle.event_table.specs.Standing.{Standing, end_of}
 use Rattle.armed_laws.specs.Laws.{AreApart, IsApartOf, NoneMeet}
 use Rattle.splice_laws.specs.Splicing.{holds, outside}
 use Rattle.splice_laws.specs.Laws.{IsBefore, AreOrdered}
-use Rattle.splice_switch.specs.Playing.{Adverts, is_played, put_by_start, by_start, as_played}
+use Rattle.splice_plans.specs.Playing.{Adverts, is_played, put_by_start, by_start, as_played}
 use Rattle.switch_laws.specs.Moving.{intervals, meant_by}
 
 -- ---- which is meant

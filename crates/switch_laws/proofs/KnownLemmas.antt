@@ -14,8 +14,8 @@ use Rattle.splice_laws.specs.Laws.{Risen}
 use Rattle.splice_laws.specs.Settled.{IsAhead, holds_now, stands_now, begun_now, closed_now}
 use Rattle.splice_laws.specs.Ends.{longest_front}
 use Rattle.splice_laws.proofs.SettledLemmas.{early, early-out}
-use Rattle.splice_switch.specs.Playing.{Adverts, Turns, is_played, as_played, up_to_known, sent_known, sent_of_begun}
-use Rattle.splice_switch.specs.Histories.{AreSteady}
+use Rattle.splice_plans.specs.Playing.{Adverts, Turns, is_played, as_played, up_to_known, sent_known, sent_of_begun}
+use Rattle.splice_plans.specs.Histories.{AreSteady}
 
 -- ---- played then, and in the end
 

@@ -17,10 +17,10 @@ use Rattle.splice_laws.proofs.PidLemmas.{pids_are_streams}
 use Rattle.splice_laws.proofs.SettledLemmas.{switched_pids_are_within}
 use Rattle.output_laws.specs.Output.{Keep, Leave}
 use Rattle.output_laws.specs.Spliced.{puts_on, puts_each, puts_at, moves_after}
-use Rattle.splice_switch.specs.Playing.{Adverts, History, is_played, played, put_by_start, as_played, end_known, is_inside, sent_known, left_at_end}
-use Rattle.splice_switch.specs.Switching.{puts_by, puts_before, fate}
-use Rattle.splice_switch.specs.Histories.{IsHistory, AreSteady, IsSettledAt}
-use Rattle.splice_switch.proofs.KnownLemmas.{ends_never_rise, played_settle}
+use Rattle.splice_plans.specs.Playing.{Adverts, History, is_played, played, put_by_start, as_played, end_known, is_inside, sent_known, left_at_end}
+use Rattle.splice_plans.specs.Switching.{puts_by, puts_before, fate}
+use Rattle.splice_plans.specs.Histories.{IsHistory, AreSteady, IsSettledAt}
+use Rattle.splice_plans.proofs.KnownLemmas.{ends_never_rise, played_settle}
 use Rattle.switch_laws.specs.Moving.{intervals, meant_by, units_for, sent_in_all, sent_count, moves_from}
 use Rattle.switch_laws.proofs.BringLemmas.{closing_rule, running_rule, end_rule}
 use Rattle.switch_laws.proofs.IntervalLemmas.{IsMeant, all-meant, intervals-ordered, outside-any}

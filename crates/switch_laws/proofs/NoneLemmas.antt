@@ -27,10 +27,10 @@ use Rattle.output_laws.proofs.Unchanged.{same_packet}
 use Rattle.output_laws.proofs.OtherLemmas.{off_on}
 use Rattle.output_laws.proofs.StepLemmas.{test-same}
 use Rattle.program_laws.proofs.ReadingLemmas.{no_tables}
-use Rattle.splice_switch.specs.Playing.{Adverts, History, played, as_played}
-use Rattle.splice_switch.specs.Switching.{Setting, switched_at, events_at, head_at, history_at, front_at, place_at, rest_at, switching, switched_past, is_switched, moves, puts_before, puts_at_end, puts_by, fate, place_of, front_of, end_of_run}
-use Rattle.splice_switch.specs.Histories.{IsHistory, AreSteady}
-use Rattle.splice_switch.proofs.HistoryLemmas.{armed_is_history}
+use Rattle.splice_plans.specs.Playing.{Adverts, History, played, as_played}
+use Rattle.splice_plans.specs.Switching.{Setting, switched_at, events_at, head_at, history_at, front_at, place_at, rest_at, switching, switched_past, is_switched, moves, puts_before, puts_at_end, puts_by, fate, place_of, front_of, end_of_run}
+use Rattle.splice_plans.specs.Histories.{IsHistory, AreSteady}
+use Rattle.splice_plans.proofs.HistoryLemmas.{armed_is_history}
 use Rattle.switch_laws.specs.Moving.{sent_in_all, sent_count}
 use Rattle.switch_laws.specs.Laws.{ArePackets}
 use Rattle.switch_laws.specs.Whole.{adverts_at, table_pids, pmt_pids, NothingIsPlayed, NoPacketChanges, NoProgram}

@@ -5,7 +5,7 @@ use Rattle.std.proofs.lemmas.Int.{ints}
 use Rattle.ts_packet.proofs.Cases.{by_test}
 use Rattle.event_table.specs.Standing.{Standing}
 use Rattle.splice_laws.specs.Splicing.{SliceUnit}
-use Rattle.splice_switch.specs.Playing.{put_by_start, by_start}
+use Rattle.splice_plans.specs.Playing.{put_by_start, by_start}
 
 -- what goes out at a start
 pub record Piece : Type 0 where

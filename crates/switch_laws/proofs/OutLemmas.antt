@@ -7,9 +7,9 @@ use Rattle.splice_laws.specs.Splicing.{PlayedEvent, SliceUnit, Stream, begun, cl
 use Rattle.splice_laws.specs.Laws.{IsStream, Counts, CountsAt}
 use Rattle.splice_laws.specs.Settled.{begun_now, closed_now}
 use Rattle.splice_laws.proofs.EndLemmas.{IsFront, front-trans, front-take, front-length, drop-front}
-use Rattle.splice_switch.specs.Playing.{Turns, sent_known, sent_of_begun, due_at, left_at_end, up_to_known}
-use Rattle.splice_switch.specs.Laws.{EndsFall}
-use Rattle.splice_switch.proofs.SentLemmas.{none-unbegun, sent-grows}
+use Rattle.splice_plans.specs.Playing.{Turns, sent_known, sent_of_begun, due_at, left_at_end, up_to_known}
+use Rattle.splice_plans.specs.Laws.{EndsFall}
+use Rattle.splice_plans.proofs.SentLemmas.{none-unbegun, sent-grows}
 use Rattle.std.specs.Prelude.{ℤ}
 
 pub drop-all : (us : List SliceUnit) → drop (length us) us ≡ []

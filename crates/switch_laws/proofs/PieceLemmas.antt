@@ -12,11 +12,11 @@ use Rattle.splice_laws.specs.Laws.{IsStream}
 use Rattle.splice_laws.specs.Settled.{IsAhead, begun_now, closed_now}
 use Rattle.splice_laws.proofs.PidLemmas.{pids_are_streams}
 use Rattle.splice_laws.proofs.SettledLemmas.{switched_pids_are_within}
-use Rattle.splice_switch.specs.Playing.{Adverts, History, Turns, is_played, played, as_played, end_known, due_at, left_at_end, sent_known}
-use Rattle.splice_switch.specs.Laws.{EndsFall}
-use Rattle.splice_switch.specs.Histories.{IsHistory, AreSteady, IsSettledAt}
-use Rattle.splice_switch.proofs.SentLemmas.{none-unbegun}
-use Rattle.splice_switch.proofs.KnownLemmas.{begun-past, ends_never_rise}
+use Rattle.splice_plans.specs.Playing.{Adverts, History, Turns, is_played, played, as_played, end_known, due_at, left_at_end, sent_known}
+use Rattle.splice_plans.specs.Laws.{EndsFall}
+use Rattle.splice_plans.specs.Histories.{IsHistory, AreSteady, IsSettledAt}
+use Rattle.splice_plans.proofs.SentLemmas.{none-unbegun}
+use Rattle.splice_plans.proofs.KnownLemmas.{begun-past, ends_never_rise}
 use Rattle.switch_laws.specs.Moving.{intervals, meant_by, units_for, sent_in_all, sent_count}
 use Rattle.switch_laws.proofs.OrderLemmas.{pieces, with_piece, gated, same-by-start}
 use Rattle.switch_laws.proofs.IntervalLemmas.{IsMeant}

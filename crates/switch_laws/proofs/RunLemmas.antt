@@ -19,7 +19,7 @@ use Rattle.output_laws.specs.Spliced.{puts_each, moves_after, placed_payloads}
 use Rattle.output_laws.proofs.OtherLemmas.{others_pass as others-pass}
 use Rattle.output_laws.proofs.SplicedLemmas.{network_moves, acts_after, counted_carries, counted_has_units}
 use Rattle.output_laws.proofs.SplicedOthers.{within}
-use Rattle.splice_switch.specs.Playing.{Adverts, History, as_played}
+use Rattle.splice_plans.specs.Playing.{Adverts, History, as_played}
 use Rattle.switch_laws.specs.Moving.{intervals, sent_in_all, sent_count, run_moves}
 use Rattle.switch_laws.specs.Laws.{IsPlayable, AreSound, RunsAreSettled, RowsArePlaced, RowsAreSpliced, RunsCarry, RunsHaveUnits, OthersPass, NothingPlayed}
 use Rattle.switch_laws.proofs.MoveLemmas.{ordered, same-moves, all-counted}

@@ -18,11 +18,11 @@ use Rattle.splice_laws.proofs.TimeLemmas.{not-below, timed_past}
 use Rattle.splice_laws.proofs.PidLemmas.{pids_are_streams}
 use Rattle.splice_laws.proofs.SettledLemmas.{switched_pids_are_within}
 use Rattle.splice_laws.proofs.EndLemmas.{run_of, IsFront, front-trans, run-front, drop-front}
-use Rattle.splice_switch.specs.Playing.{Adverts, History, Turns, is_played, as_played, end_known, up_to_known, sent_of_begun, sent_known, left_at_end}
-use Rattle.splice_switch.specs.Laws.{EndsFall}
-use Rattle.splice_switch.proofs.SentLemmas.{none-unbegun, sent-due}
-use Rattle.splice_switch.specs.Histories.{IsHistory, AreSteady, IsSettledAt}
-use Rattle.splice_switch.proofs.KnownLemmas.{begun-past, ends_never_rise, played_settle, all-settled}
+use Rattle.splice_plans.specs.Playing.{Adverts, History, Turns, is_played, as_played, end_known, up_to_known, sent_of_begun, sent_known, left_at_end}
+use Rattle.splice_plans.specs.Laws.{EndsFall}
+use Rattle.splice_plans.proofs.SentLemmas.{none-unbegun, sent-due}
+use Rattle.splice_plans.specs.Histories.{IsHistory, AreSteady, IsSettledAt}
+use Rattle.splice_plans.proofs.KnownLemmas.{begun-past, ends_never_rise, played_settle, all-settled}
 use Rattle.switch_laws.specs.Moving.{meant_by, units_for, sent_in_all}
 use Rattle.switch_laws.specs.Slices.{SlicesAreWhole}
 use Rattle.switch_laws.proofs.IntervalLemmas.{IsMeant, all-meant}

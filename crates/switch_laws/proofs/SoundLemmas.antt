@@ -15,8 +15,8 @@ use Rattle.splice_laws.specs.Settled.{begun_now, closed_now}
 use Rattle.splice_laws.specs.Ends.{longest_front}
 use Rattle.output_laws.specs.Output.{Move, Keep, Leave, Put, Packing, Sound, Along}
 use Rattle.output_laws.proofs.StepLemmas.{onto_moves}
-use Rattle.splice_switch.specs.Playing.{Adverts, History, Turns, played, as_played, end_known, is_inside, up_to_known, sent_of_begun, sent_known, due_at, closing_at, running_at, left_at_end}
-use Rattle.splice_switch.specs.Switching.{puts_by, puts_before, puts_at_end, fate}
+use Rattle.splice_plans.specs.Playing.{Adverts, History, Turns, played, as_played, end_known, is_inside, up_to_known, sent_of_begun, sent_known, due_at, closing_at, running_at, left_at_end}
+use Rattle.splice_plans.specs.Switching.{puts_by, puts_before, puts_at_end, fate}
 use Rattle.switch_laws.specs.Moving.{moves_from}
 use Rattle.switch_laws.specs.Whole.{ArePacked, HavePids, RunsAreSound}
 use Rattle.switch_laws.proofs.BringLemmas.{closing_rule, running_rule, end_rule}

@@ -8,7 +8,7 @@ use Rattle.program_follower.specs.declared.purpose.Listed.{Listed}
 use Rattle.program_follower.specs.Program.{listed, tables, behind_head}
 use Rattle.program_laws.specs.Writing.{body}
 use Rattle.output_laws.specs.Output.{Keep, Leave, out_at}
-use Rattle.splice_switch.specs.Switching.{Setting, switched_at, history_at, switching, switched_past, is_switched, place_at, place_of}
+use Rattle.splice_plans.specs.Switching.{Setting, switched_at, history_at, switching, switched_past, is_switched, place_at, place_of}
 use Rattle.switch_laws.specs.Whole.{adverts_at, stands_for}
 use Rattle.switch_laws.specs.Standing.{IsNoTable, is_left, done_before, steps_before, PacketsStandAs}
 

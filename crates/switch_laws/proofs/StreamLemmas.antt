@@ -13,8 +13,8 @@ use Rattle.program_follower.specs.Program.{known_map, behind_head}
 use Rattle.splice_laws.specs.Streams.{is_among, IsOnce}
 use Rattle.output_laws.proofs.StepLemmas.{test-same}
 use Rattle.output_laws.specs.Spliced.{placed_payloads}
-use Rattle.splice_switch.specs.Switching.{Setting, switched_at, head_at, history_at, events_at, spliced_network}
-use Rattle.splice_switch.proofs.HistoryLemmas.{armed_is_history}
+use Rattle.splice_plans.specs.Switching.{Setting, switched_at, head_at, history_at, events_at, spliced_network}
+use Rattle.splice_plans.proofs.HistoryLemmas.{armed_is_history}
 use Rattle.switch_laws.specs.Moving.{intervals, sent_in_all}
 use Rattle.switch_laws.specs.Laws.{IsPlayable}
 use Rattle.switch_laws.specs.Whole.{adverts_at, breaks, placed_in, StreamsCarry}

@@ -12,8 +12,8 @@ use Rattle.program_follower.specs.Program.{listed, known_map, behind_head, progr
 use Rattle.program_follower.proofs.StepLemmas.{listed_stays}
 use Rattle.program_laws.specs.Writing.{Along, block}
 use Rattle.program_laws.proofs.HeadLemmas.{known_stays}
-use Rattle.splice_switch.specs.Playing.{Adverts}
-use Rattle.splice_switch.specs.Switching.{Setting, switched_at, head_at, is_behind_head, front_at, rest_at, switching, switched_past}
+use Rattle.splice_plans.specs.Playing.{Adverts}
+use Rattle.splice_plans.specs.Switching.{Setting, switched_at, head_at, is_behind_head, front_at, rest_at, switching, switched_past}
 use Rattle.switch_laws.specs.Whole.{adverts_at, stands_for, OutputIsInOrder}
 
 -- ---- in order

@@ -12,8 +12,8 @@ use Rattle.splice_laws.specs.Streams.{IsOnce, of_stream}
 use Rattle.output_laws.specs.Output.{Move, Keep, acts, network, Packing, output, Sound, IsFed, Along}
 use Rattle.output_laws.specs.Others.{is_off}
 use Rattle.output_laws.specs.Spliced.{moves_after, placed_payloads}
-use Rattle.splice_switch.specs.Playing.{Adverts, History, played}
-use Rattle.splice_switch.specs.Histories.{IsHistory, AreSteady}
+use Rattle.splice_plans.specs.Playing.{Adverts, History, played}
+use Rattle.splice_plans.specs.Histories.{IsHistory, AreSteady}
 use Rattle.switch_laws.specs.Moving.{run_moves, intervals, sent_in_all, sent_count}
 
 -- THE MOVES BRING THE NETWORK: each of its packets once, in order

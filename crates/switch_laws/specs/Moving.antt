@@ -5,8 +5,8 @@ use Rattle.unit_stream.specs.Times.{begins_one}
 use Rattle.event_table.specs.Standing.{Standing}
 use Rattle.splice_laws.specs.Splicing.{PlayedEvent, SliceUnit, stream}
 use Rattle.output_laws.specs.Output.{Move}
-use Rattle.splice_switch.specs.Playing.{Adverts, History, is_played, played, as_played, end_known, sent_known, left_at_end}
-use Rattle.splice_switch.specs.Switching.{puts_before, puts_at_end, fate}
+use Rattle.splice_plans.specs.Playing.{Adverts, History, is_played, played, as_played, end_known, sent_known, left_at_end}
+use Rattle.splice_plans.specs.Switching.{puts_before, puts_at_end, fate}
 
 -- at packets behind a past: before each what is put in, and then the packet, kept or left out; and what is put in at the end
 abbrev pub moves_from : List ℕ → Adverts → History → List (List ℕ) → List (List ℕ) → List Move

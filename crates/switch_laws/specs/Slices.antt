@@ -5,7 +5,7 @@ use Rattle.event_table.specs.Standing.{Standing, end_of}
 use Rattle.splice_laws.specs.Splicing.{stream, begun}
 use Rattle.splice_laws.specs.Laws.{IsCrossedOnce}
 use Rattle.splice_laws.specs.Ends.{up_to_end}
-use Rattle.splice_switch.specs.Playing.{Adverts, History, is_played, as_played}
+use Rattle.splice_plans.specs.Playing.{Adverts, History, is_played, as_played}
 use Rattle.switch_laws.specs.Moving.{sent_in_all}
 use Rattle.switch_laws.specs.Laws.{IsPlayable}
 

@@ -12,8 +12,8 @@ use Rattle.splice_laws.specs.Streams.{is_among, IsOnce}
 use Rattle.program_laws.specs.Writing.{section_out, packets_out}
 use Rattle.output_laws.specs.Output.{Move, Leave, counter_steps, clock_alone}
 use Rattle.output_laws.specs.Others.{is_off}
-use Rattle.splice_switch.specs.Playing.{is_inside}
-use Rattle.splice_switch.specs.Switching.{Setting, switched_at, history_at, switched_past, spliced_network, is_switched, moves, puts_before}
+use Rattle.splice_plans.specs.Playing.{is_inside}
+use Rattle.splice_plans.specs.Switching.{Setting, switched_at, history_at, switched_past, spliced_network, is_switched, moves, puts_before}
 use Rattle.switch_laws.specs.Whole.{adverts_at, stands_for, table_pids, ArePacked, HavePids, IsApart}
 
 -- it is not on the PID of the PMT, behind the PAT

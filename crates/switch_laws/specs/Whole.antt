@@ -16,9 +16,9 @@ use Rattle.program_laws.specs.Cued.{stripping}
 use Rattle.output_laws.specs.Output.{Packing, output}
 use Rattle.output_laws.specs.Others.{is_off}
 use Rattle.output_laws.specs.Spliced.{placed_payloads}
-use Rattle.splice_switch.specs.Playing.{Adverts, History, played}
-use Rattle.splice_switch.specs.Switching.{Setting, switched_at, streams_at, events_at, head_at, history_at, front_at, rest_at, switching, switched_past, spliced_network}
-use Rattle.splice_switch.specs.Histories.{AreSteady}
+use Rattle.splice_plans.specs.Playing.{Adverts, History, played}
+use Rattle.splice_plans.specs.Switching.{Setting, switched_at, streams_at, events_at, head_at, history_at, front_at, rest_at, switching, switched_past, spliced_network}
+use Rattle.splice_plans.specs.Histories.{AreSteady}
 use Rattle.switch_laws.specs.Moving.{run_moves, intervals, sent_in_all}
 use Rattle.switch_laws.specs.Laws.{ArePackets, AreSound}
 

@@ -1,0 +1,12 @@
+pub mod Playing
+pub mod Switching
+pub mod Reporting
+pub mod Laws
+pub mod Counting
+pub mod Histories
+pub mod Slicing
+pub mod Turning
+pub mod Adverts
+pub mod Parts
+pub mod Fronts
+pub mod Known

@@ -1,0 +1,108 @@
+//! How far the events that stand come with a unit.
+
+ghost use Rattle.std.specs.Prelude.{◌≡◌, ◌<◌, ◌&&◌, not, length, ℤ, List, Option, None, IfSome, position, false};
+ghost use Rattle.std.specs.List.{list_any};
+ghost use Rattle.pes_time.specs.Line.{place};
+ghost use Rattle.event_table.specs.Events.{covers_on_ring};
+ghost use Rattle.event_table.specs.Standing.{Standing, on_ring};
+ghost use Rattle.event_table.specs.Tables.{StandsFor, values_of};
+ghost use Rattle.ad_library.specs.Library.{held};
+ghost use Rattle.splice_plans.specs.Playing.{is_played};
+ghost use Rattle.splice_plans.specs.Adverts.{adverts_of};
+ghost use Rattle.splice_plans.specs.Turning.{IsNearHigh, part_of};
+ghost use Rattle.splice_plans.specs.Parts.{KeepsEvents, IsFirstClosing, starts_first, sooner, all_turned, is_waiting, is_running, closes_in};
+
+use crate::plan::{Plan, Stage};
+use ad_library::AdLibrary;
+use armed_events::ArmedEvents;
+use event_table::{Event, Table, is_before};
+use pes_time::Time33;
+use psi_tables::Stream;
+
+/// The event is played: not cancelled, and its advertisement fits the length first asked for.
+pub(crate) fn is_played(event: &Event, streams: &[Stream], library: &AdLibrary) -> bool
+    ensures { (e : Standing) → event.now ≡ on_ring e → result ≡ is_played (adverts_of (held library.now) streams.now) e }
+{
+    !event.cancelled && library.fits(event.program, streams, event.asked)
+}
+
+/// A unit of this time begins in the stream of this number: each event that stands comes as far as it does there.
+pub fn turn_all(
+    events: &mut ArmedEvents<Plan>,
+    stream: usize,
+    time: Time33,
+    streams: &[Stream],
+    library: &AdLibrary,
+)
+    ensures values { (line : Option ℤ) (es : List Standing) → StandsFor events.old.obeyed.table line es → IsNearHigh line (place line time) →
+        values_of events.new.obeyed.table ≡ all_turned (adverts_of (held library.now) streams.now) stream (place line time) es (values_of events.old.obeyed.table) }
+    ensures keeps { KeepsEvents events.old events.new }
+{
+    for at in 0..events.table().standing().len() {
+        let entry = events.table().standing()[at];
+        let plays = is_played(&entry.event, streams, library);
+        events.set_value(at, entry.value.turned(stream, &entry.event, time, plays));
+    }
+}
+
+/// A played event that stands holds the time, which is that of the unit that has begun last in the stream of this number.
+pub fn is_inside(table: &Table<Plan>, stream: usize, time: Time33) -> bool
+    ensures { result ≡ list_any (λ entry. covers_on_ring entry.event time && not (is_waiting (part_of entry.value stream).stage)) table.now.entries.items }
+{
+    table.standing().iter().any(|entry| entry.event.covers(time)
+        && entry.value.part(stream).stage != Stage::Waiting)
+}
+
+/// Where the event that runs in the stream of this number stands.
+pub(crate) fn running(table: &Table<Plan>, stream: usize) -> Option<usize>
+    ensures place { result ≡ position (λ entry. is_running (part_of entry.value stream).stage) table.now.entries.items }
+    ensures below { IfSome result (λ at. at < length table.now.entries.items) }
+{
+    table
+        .standing()
+        .iter()
+        .position(|entry| entry.value.part(stream).stage == Stage::Running)
+}
+
+/// Where that event stands of which the rest is to go out in the stream of this number, and which starts first of them.
+pub(crate) fn first_closing(table: &Table<Plan>, stream: usize) -> Option<usize>
+    ensures none { result ≡ None → list_any (closes_in stream) (values_of table.now) ≡ false }
+    ensures below { IfSome result (λ at. at < length table.now.entries.items) }
+    ensures some { (line : Option ℤ) (es : List Standing) → StandsFor table.now line es →
+        IfSome result (λ at. IsFirstClosing stream es (values_of table.now) at) }
+{
+    let mut first: Option<usize> = None;
+    for at in 0..table.standing().len() {
+        first = sooner(table, stream, at, first);
+    }
+    first
+}
+
+/// Of an event and the one that starts first of those before it, if there is one, that which starts first and is to close.
+fn sooner(table: &Table<Plan>, stream: usize, at: usize, first: Option<usize>) -> Option<usize>
+    requires at { at < length table.now.entries.items }
+    requires first { IfSome first (λ o. o < length table.now.entries.items) }
+    ensures { result ≡ sooner table.now.entries.items stream at first }
+{
+    let closes = table.standing()[at].value.part(stream).stage == Stage::Closing;
+    if closes && starts_before(table, at, first) {
+        Some(at)
+    } else {
+        first
+    }
+}
+
+/// The event at this place starts before that at another one, if there is one.
+fn starts_before(table: &Table<Plan>, at: usize, other: Option<usize>) -> bool
+    requires at { at < length table.now.entries.items }
+    requires other { IfSome other (λ o. o < length table.now.entries.items) }
+    ensures { result ≡ starts_first table.now.entries.items at other }
+{
+    match other {
+        None => true,
+        Some(other) => {
+            let standing = table.standing();
+            is_before(standing[at].event.start, standing[other].event.start)
+        }
+    }
+}

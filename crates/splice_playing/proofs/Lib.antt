@@ -1,0 +1,3 @@
+pub mod FrontLemmas
+pub mod ReportLemmas
+pub mod StreamLemmas

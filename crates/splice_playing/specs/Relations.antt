@@ -1,0 +1,98 @@
+-- What the events and streams of a switch stand for: behind a past, before a packet that begins a unit, and behind it.
+use Rattle.std.specs.Prelude.{◌≡◌, ℕ, ◌-◌, ◌<◌, List, [], ◌∷◌, ◌++◌, length, map, reverse, replicate, count_by, find, Bool, true, false, not, ◌&&◌, ◌||◌, if◌then◌else◌, slice_index_or, slice_get, ℤ, Option, None, Some, option_map}
+use Rattle.std.specs.List.{list_any}
+use Rattle.std.specs.Ordering.{int_eq}
+use Rattle.ts_packet.specs.Fields.{on, payload_on}
+use Rattle.ts_packet.specs.Duplicates.{original}
+use Rattle.ts_packet.specs.Numbering.{Counts}
+use Rattle.pes_time.specs.Line.{ring_of}
+use Rattle.unit_stream.specs.Times.{begins, begins_one, in_unit, stamp, unit_time}
+use Rattle.unit_stream.specs.Faults.{unit_fault}
+use Rattle.psi_tables.specs.declared.stream.Stream.{Stream as ListedStream}
+use Rattle.event_table.specs.Standing.{Standing}
+use Rattle.event_table.specs.Tables.{values_of}
+use Rattle.armed_events.specs.Arming.{stands, standing}
+use Rattle.armed_events.specs.Obeying.{Obeys}
+use Rattle.armed_events.specs.Valuing.{values_by}
+use Rattle.program_follower.specs.Program.{behind_head}
+use Rattle.splice_laws.specs.Splicing.{PlayedEvent, SliceUnit, Stream, stream, below}
+use Rattle.splice_laws.specs.Streams.{IsOnce}
+use Rattle.splice_laws.specs.Settled.{begun_now, closed_now}
+use Rattle.output_laws.specs.Output.{Packing, Move, counter_steps}
+use Rattle.ad_library.specs.Advertisements.{Advertisement}
+use Rattle.splice_plans.specs.declared.plan.Stage.{Stage}
+use Rattle.splice_plans.specs.declared.plan.Stage.TheVariants.{Waiting, Running, Closing, Over}
+use Rattle.splice_plans.specs.declared.plan.Part.{Part}
+use Rattle.splice_plans.specs.declared.plan.Plan.{Plan}
+use Rattle.splice_plans.specs.declared.stream.SwitchedStream.{SwitchedStream}
+use Rattle.splice_playing.specs.declared.playing.Playing.{Playing}
+use Rattle.splice_plans.specs.Playing.{Turns, Adverts, History, is_played, as_played, end_known, is_inside, sent_known}
+use Rattle.splice_plans.specs.Switching.{Setting, puts_before, fate, moves, switched_at, streams_at, high_at, events_at, history_at}
+use Rattle.splice_plans.specs.Reporting.{Counts as Reported, ReportIs, is_not_fitted}
+use Rattle.splice_plans.specs.Turning.{waiting}
+use Rattle.splice_plans.specs.Adverts.{adverts_of, packed_units}
+use Rattle.splice_plans.specs.Known.{nothing_known, plan_known, part_known, is_crossed_known, AllGo, adverts_at, behind_at, plans_at, inside_at, moves_at, puts_at, counts_known, is_forgotten}
+
+-- WHAT IT STANDS FOR, behind a past
+pub record PlaysFor (playing : Playing) (k : Setting) (past : List (List ℕ)) : Type 0 where
+  pub events : Obeys playing.events k.cue_pid (high_at k) past
+  pub plans : values_of playing.events.obeyed.table ≡ values_by (plans_at k past (behind_at k past)) (standing k.cue_pid (high_at k) past)
+  pub streams : AllGo playing.streams k.packed (inside_at k past (behind_at k past)) (moves_at k past) (switched_at k past)
+  pub forgotten : ReportIs playing.forgotten (counts_known k past (is_forgotten (high_at k past)))
+
+-- the packet begins a unit in the stream of this number, with this stamp; behind it this is the greatest time
+pub record BeginsIn (k : Setting) (filed : ℕ → Option Advertisement) (listed : List ListedStream) (number : ℕ) (time high : Option ℕ) (p : List ℕ) (past : List (List ℕ)) : Type 0 where
+  pub pid : ℕ
+  pub of : slice_get (switched_at k past) number ≡ Some pid
+  pub begins_it : begins pid p (behind_at k past) ≡ true
+  pub stamp_is : stamp p ≡ time
+  pub high_is : high ≡ option_map ring_of (high_at k (p ∷ past))
+  pub sound : unit_fault (switched_at k past) p (behind_at k past) ≡ None
+  pub listed_is : listed ≡ streams_at k past
+  pub adverts_are : k.adverts ≡ adverts_of filed
+  pub packed_is : k.packed ≡ packed_units
+
+-- what it stands for once all is out that goes out before a packet that begins a unit
+pub record PlaysBefore (playing : Playing) (k : Setting) (p : List ℕ) (past : List (List ℕ)) : Type 0 where
+  pub events : Obeys playing.events k.cue_pid (high_at k) past
+  pub plans : values_of playing.events.obeyed.table ≡ values_by (plans_at k past (p ∷ behind_at k past)) (standing k.cue_pid (high_at k) past)
+  pub streams : AllGo playing.streams k.packed (inside_at k past (p ∷ behind_at k past)) (reverse (puts_at k p past) ++ moves_at k past) (switched_at k past)
+  pub forgotten : ReportIs playing.forgotten (counts_known k past (is_forgotten (high_at k past)))
+
+-- and once the packet is out, or what stands in its place, before the greatest time rises
+pub record PlaysBehind (playing : Playing) (k : Setting) (p : List ℕ) (past : List (List ℕ)) : Type 0 where
+  pub events : Obeys playing.events k.cue_pid (high_at k) past
+  pub plans : values_of playing.events.obeyed.table ≡ values_by (plans_at k past (p ∷ behind_at k past)) (standing k.cue_pid (high_at k) past)
+  pub streams : AllGo playing.streams k.packed (inside_at k past (p ∷ behind_at k past)) (fate (switched_at k past) (adverts_at k past) (history_at k past) p (behind_at k past) ∷ (reverse (puts_at k p past) ++ moves_at k past)) (switched_at k past)
+  pub forgotten : ReportIs playing.forgotten (counts_known k past (is_forgotten (high_at k past)))
+
+-- the packet is of the stream of this number and carries payload of a unit, a duplicate or not
+pub record IsPacketOf (k : Setting) (number : ℕ) (is_repeat : Bool) (p : List ℕ) (past : List (List ℕ)) : Type 0 where
+  pub pid : ℕ
+  pub of : slice_get (switched_at k past) number ≡ Some pid
+  pub alone : IsOnce pid (switched_at k past)
+  pub payload_is : payload_on pid p ≡ true
+  pub repeat : is_repeat ≡ not (original pid p (behind_at k past))
+  pub cue : on k.cue_pid p ≡ false
+
+-- it carries none, or stands before the first unit of the stream
+pub record IsKeptOf (k : Setting) (number : ℕ) (p : List ℕ) (past : List (List ℕ)) : Type 0 where
+  pub pid : ℕ
+  pub of : slice_get (switched_at k past) number ≡ Some pid
+  pub alone : IsOnce pid (switched_at k past)
+  pub on_pid : on pid p ≡ true
+  pub stays : (payload_on pid p && in_unit pid (p ∷ behind_at k past)) ≡ false
+  pub cue : on k.cue_pid p ≡ false
+
+-- the network ends with these streams, and with these advertisements for them
+pub record EndsWith (k : Setting) (filed : ℕ → Option Advertisement) (listed : List ListedStream) (past : List (List ℕ)) : Type 0 where
+  pub listed_is : listed ≡ streams_at k past
+  pub adverts_are : k.adverts ≡ adverts_of filed
+  pub packed_is : k.packed ≡ packed_units
+
+-- what is left of the relation once the rest of all events is out: all that a report needs
+pub record Reports (playing : Playing) (k : Setting) (past : List (List ℕ)) : Type 0 where
+  pub events : Obeys playing.events k.cue_pid (high_at k) past
+  pub crossed : map (λ (plan : Plan). plan.is_crossed) (values_of playing.events.obeyed.table)
+      ≡ map (is_crossed_known (switched_at k past) (adverts_at k past) (history_at k past) (behind_at k past)) (standing k.cue_pid (high_at k) past)
+  pub forgotten : ReportIs playing.forgotten (counts_known k past (is_forgotten (high_at k past)))

@@ -1,0 +1,369 @@
+//! The events in the switched streams: which have begun, which are over, and what has gone out of their slices.
+
+ghost use Rattle.std.specs.Prelude.{◌≡◌, ◌<◌, ◌≤◌, ◌+◌, ◌%◌, ◌++◌, ◌∷◌, [], ℕ, ℤ, List, length, take, slice_index_or, Option, None, OnOk, IfErr, true, false, is_some};
+ghost use Rattle.ts_packet.specs.Numbering.{Step, Counts};
+ghost use Rattle.unit_stream.specs.UnitPackets.{put_in};
+ghost use Rattle.event_table.specs.Standing.{Standing, IsTimeAt};
+ghost use Rattle.event_table.specs.Rings.{CanAdvance};
+ghost use Rattle.event_table.specs.Tables.{StandsFor, high_of, values_of};
+ghost use Rattle.splice_plans.specs.Parts.{KeepsEvents, beside, IsReached};
+ghost use Rattle.splice_plans.specs.Fronts.{IsNearTime, IsOther, closing_packets, closed_plans, is_left, AllCount, all_running, running_of, all_ran};
+ghost use Rattle.ts_packet.specs.Sinks.{Blamed};
+ghost use Rattle.ts_packet.specs.Fields.{on, payload};
+ghost use Rattle.ts_packet.specs.Transfers.{WentWell};
+ghost use Rattle.outgoing_packets.specs.Numbers.{FrontFails};
+ghost use Rattle.ad_library.specs.Library.{held};
+ghost use Rattle.splice_plans.specs.Switching.{Setting, front_at, place_at, rest_at, is_switched, switched_at};
+ghost use Rattle.splice_plans.specs.Adverts.{adverts_of};
+ghost use Rattle.splice_plans.specs.Reporting.{Counts as Reported, ReportIs, report_of, with_counted, is_out_at, is_any};
+ghost use Rattle.splice_playing.specs.Ready.{is_ready};
+
+use ad_library::AdLibrary;
+use armed_events::ArmedEvents;
+use event_table::Table;
+use pes_time::Time33;
+use psi_tables::Stream;
+use splice_plans::{Plan, SwitchReport, SwitchedStream, close_all, is_inside, put_running, turn_all};
+use ts_packet::{Packet, PacketSink, PutFault};
+
+/// The events that stand, with their plans, the streams, and what became of the events that are forgotten.
+#[derive(Drop)]
+pub struct Playing {
+    events: ArmedEvents<Plan>,
+    streams: [SwitchedStream; 8],
+    forgotten: SwitchReport,
+    ghost ready: { is_ready events.assembler ≡ true },
+}
+
+impl Playing {
+    ghost use Rattle.splice_playing.specs.Relations.{PlaysFor, PlaysBefore, PlaysBehind, BeginsIn, IsPacketOf, IsKeptOf, EndsWith, Reports};
+
+    /// No event, and nothing is out.
+    pub fn new() -> Playing
+        ensures { (k : Setting) → PlaysFor result k [] }
+    {
+        Playing {
+            events: ArmedEvents::new(),
+            streams: [SwitchedStream::new(); 8],
+            forgotten: SwitchReport::new(),
+        }
+    }
+
+    /// Obeys the cues that a packet of their PID finishes.
+    pub fn obey(&mut self, packet: &Packet)
+        ensures { (k : Setting) (past : List (List ℕ)) → on k.cue_pid packet.now ≡ true → is_switched (switched_at k past) packet.now ≡ false →
+            PlaysFor self.old k past → PlaysFor self.new k (packet.now ∷ past) }
+    {
+        self.events.feed(packet, Plan::new());
+    }
+
+    /// A unit begins in the stream of this number, of this time where it has one, behind which `high` is the greatest time: puts what goes
+    /// out before it.
+    pub fn begin<S: PacketSink>(
+        &mut self,
+        stream: usize,
+        time: &Option<Time33>,
+        high: &Option<Time33>,
+        streams: &[Stream],
+        library: &AdLibrary,
+        sink: &mut S,
+    ) -> Result<(), PutFault>
+        requires { stream < length streams.now }
+        ensures leads { S.leads sink.old sink.new }
+        ensures ok { (start : Option (List ℕ)) (ps : List (List ℕ)) (k : Setting) (p : List ℕ) (past : List (List ℕ)) → S.holds sink.old start ps →
+            PlaysFor self.old k past → BeginsIn k (held library.now) streams.now stream time.now high.now p past →
+            OnOk result (S.holds sink.new start (ps ++ front_at k p past)) }
+        ensures plays { (k : Setting) (p : List ℕ) (past : List (List ℕ)) →
+            PlaysFor self.old k past → BeginsIn k (held library.now) streams.now stream time.now high.now p past →
+            OnOk result (PlaysBefore self.new k p past) }
+        ensures err { (start : Option (List ℕ)) (ps : List (List ℕ)) (k : Setting) (p : List ℕ) (past : List (List ℕ)) → S.holds sink.old start ps →
+            PlaysFor self.old k past → BeginsIn k (held library.now) streams.now stream time.now high.now p past →
+            IfErr result (λ f. FrontFails (front_at k p past) (λ put q. S.fails sink.new start (ps ++ put) q f)) }
+        ensures well { OnOk result (WentWell (S.counts sink.old) (S.counts sink.new)) }
+        ensures blamed { IfErr result (λ f. Blamed f (S.counts sink.old) (S.counts sink.new) (S.is_full sink.new)) }
+    {
+        match self.turn(stream, time, streams, library, sink) {
+            Ok(()) => {}
+            Err(fault) => return Err(fault),
+        }
+        match high {
+            None => Ok(()),
+            Some(_) => self.put_running(high, streams, library, sink),
+        }
+    }
+
+    /// Lets each event come as far as it does with a unit of this time, and puts the rest of those that it closes, in order of start.
+    fn turn<S: PacketSink>(
+        &mut self,
+        stream: usize,
+        time: &Option<Time33>,
+        streams: &[Stream],
+        library: &AdLibrary,
+        sink: &mut S,
+    ) -> Result<(), PutFault>
+        requires { stream < length streams.now }
+        ensures leads { S.leads sink.old sink.new }
+        ensures ok { (of : Stream) (line : Option ℤ) (es : List Standing) (s : SwitchedStream) (begin : Option (List ℕ)) (ps : List (List ℕ)) (steps : List Step) →
+            of ≡ slice_index_or streams.now stream of → StandsFor self.old.events.obeyed.table line es → IsNearTime line time.now →
+            s ≡ slice_index_or self.old.streams (stream % 8) s → S.holds sink.old begin ps → Counts s.counter steps →
+            OnOk result (S.holds sink.new begin (ps ++ closing_packets (held library.now) streams.now stream of line time.now steps es (values_of self.old.events.obeyed.table))) }
+        ensures counted { (of : Stream) (line : Option ℤ) (es : List Standing) (s t : SwitchedStream) (steps : List Step) →
+            of ≡ slice_index_or streams.now stream of → StandsFor self.old.events.obeyed.table line es → IsNearTime line time.now →
+            s ≡ slice_index_or self.old.streams (stream % 8) s → t ≡ slice_index_or self.new.streams (stream % 8) t → Counts s.counter steps →
+            OnOk result (Counts t.counter (put_in (closing_packets (held library.now) streams.now stream of line time.now steps es (values_of self.old.events.obeyed.table)) steps)) }
+        ensures leaving { (line : Option ℤ) (es : List Standing) (s t : SwitchedStream) → StandsFor self.old.events.obeyed.table line es →
+            s ≡ slice_index_or self.old.streams (stream % 8) s → t ≡ slice_index_or self.new.streams (stream % 8) t →
+            OnOk result (t.is_leaving ≡ is_left stream line time.now s.is_leaving es (values_of self.new.events.obeyed.table)) }
+        ensures others { (i : ℕ) (s : SwitchedStream) → IsOther i (stream % 8) → slice_index_or self.new.streams i s ≡ slice_index_or self.old.streams i s }
+        ensures plans { (of : Stream) (line : Option ℤ) (es : List Standing) →
+            of ≡ slice_index_or streams.now stream of → StandsFor self.old.events.obeyed.table line es → IsNearTime line time.now →
+            OnOk result (values_of self.new.events.obeyed.table ≡ closed_plans (held library.now) streams.now stream of line time.now es (values_of self.old.events.obeyed.table)) }
+        ensures keeps { KeepsEvents self.old.events self.new.events }
+        ensures forgotten { self.new.forgotten ≡ self.old.forgotten }
+        ensures err { (of : Stream) (line : Option ℤ) (es : List Standing) (s : SwitchedStream) (begin : Option (List ℕ)) (ps : List (List ℕ)) (steps : List Step) →
+            of ≡ slice_index_or streams.now stream of → StandsFor self.old.events.obeyed.table line es → IsNearTime line time.now →
+            s ≡ slice_index_or self.old.streams (stream % 8) s → S.holds sink.old begin ps → Counts s.counter steps →
+            IfErr result (λ f. FrontFails (closing_packets (held library.now) streams.now stream of line time.now steps es (values_of self.old.events.obeyed.table))
+            (λ put p. S.fails sink.new begin (ps ++ put) p f)) }
+        ensures well { OnOk result (WentWell (S.counts sink.old) (S.counts sink.new)) }
+        ensures blamed { IfErr result (λ f. Blamed f (S.counts sink.old) (S.counts sink.new) (S.is_full sink.new)) }
+    {
+        let Some(time) = *time else {
+            return Ok(());
+        };
+        let _ticks = time.ticks();
+        turn_all(&mut self.events, stream, time, streams, library);
+        let mut of = self.streams[stream % 8];
+        let mut counter = of.counter;
+        match close_all(
+            &mut self.events,
+            stream,
+            streams,
+            library,
+            &mut counter,
+            sink,
+        ) {
+            Ok(()) => {}
+            Err(fault) => return Err(fault),
+        }
+        of.counter = counter;
+        of.is_leaving = is_inside(self.events.table(), stream, time);
+        self.streams[stream % 8] = of;
+        Ok(())
+    }
+
+    /// Puts of the events that run what is due where this is the greatest time, or all that is left, by stream.
+    fn put_running<S: PacketSink>(
+        &mut self,
+        high: &Option<Time33>,
+        streams: &[Stream],
+        library: &AdLibrary,
+        sink: &mut S,
+    ) -> Result<(), PutFault>
+        ensures leads { S.leads sink.old sink.new }
+        ensures ok { (line high_line : Option ℤ) (es : List Standing) (begin : Option (List ℕ)) (ps : List (List ℕ)) (steps : ℕ → List Step) → length streams.now ≤ 8 →
+            StandsFor self.old.events.obeyed.table line es → IsReached line high.now high_line → S.holds sink.old begin ps → AllCount self.old.streams steps →
+            OnOk result (S.holds sink.new begin (ps ++ all_running (held library.now) streams.now high_line es steps (values_of self.old.events.obeyed.table) 0 streams.now)) }
+        ensures counted { (line high_line : Option ℤ) (es : List Standing) (steps : ℕ → List Step) → length streams.now ≤ 8 →
+            StandsFor self.old.events.obeyed.table line es → IsReached line high.now high_line → AllCount self.old.streams steps →
+            OnOk result (AllCount self.new.streams (λ i. put_in (running_of (held library.now) streams.now high_line es steps (values_of self.old.events.obeyed.table) 0 streams.now i) (steps i))) }
+        ensures leaving { (i : ℕ) (s : SwitchedStream) → (slice_index_or self.new.streams i s).is_leaving ≡ (slice_index_or self.old.streams i s).is_leaving }
+        ensures plans { (line high_line : Option ℤ) (es : List Standing) → StandsFor self.old.events.obeyed.table line es → IsReached line high.now high_line →
+            OnOk result (values_of self.new.events.obeyed.table ≡ all_ran (held library.now) streams.now high_line es (values_of self.old.events.obeyed.table) 0 streams.now) }
+        ensures keeps { KeepsEvents self.old.events self.new.events }
+        ensures forgotten { self.new.forgotten ≡ self.old.forgotten }
+        ensures err { (line high_line : Option ℤ) (es : List Standing) (begin : Option (List ℕ)) (ps : List (List ℕ)) (steps : ℕ → List Step) → length streams.now ≤ 8 →
+            StandsFor self.old.events.obeyed.table line es → IsReached line high.now high_line → S.holds sink.old begin ps → AllCount self.old.streams steps →
+            IfErr result (λ f. FrontFails (all_running (held library.now) streams.now high_line es steps (values_of self.old.events.obeyed.table) 0 streams.now)
+            (λ put p. S.fails sink.new begin (ps ++ put) p f)) }
+        ensures well { OnOk result (WentWell (S.counts sink.old) (S.counts sink.new)) }
+        ensures blamed { IfErr result (λ f. Blamed f (S.counts sink.old) (S.counts sink.new) (S.is_full sink.new)) }
+    {
+        for stream in 0..streams.len() {
+            let mut of = self.streams[stream % 8];
+            let mut counter = of.counter;
+            match put_running(
+                &mut self.events,
+                high,
+                stream,
+                streams,
+                library,
+                &mut counter,
+                sink,
+            ) {
+                Ok(()) => {}
+                Err(fault) => return Err(fault),
+            }
+            of.counter = counter;
+            self.streams[stream % 8] = of;
+        }
+        Ok(())
+    }
+
+    /// Puts what is left of the events that run, by stream.
+    pub fn finish<S: PacketSink>(
+        &mut self,
+        streams: &[Stream],
+        library: &AdLibrary,
+        sink: &mut S,
+    ) -> Result<(), PutFault>
+        ensures leads { S.leads sink.old sink.new }
+        ensures ok { (start : Option (List ℕ)) (ps : List (List ℕ)) (k : Setting) (past : List (List ℕ)) → S.holds sink.old start ps →
+            PlaysFor self.old k past → EndsWith k (held library.now) streams.now past → OnOk result (S.holds sink.new start (ps ++ rest_at k past)) }
+        ensures reports { (k : Setting) (past : List (List ℕ)) → PlaysFor self.old k past → EndsWith k (held library.now) streams.now past →
+            OnOk result (Reports self.new k past) }
+        ensures err { (start : Option (List ℕ)) (ps : List (List ℕ)) (k : Setting) (past : List (List ℕ)) → S.holds sink.old start ps →
+            PlaysFor self.old k past → EndsWith k (held library.now) streams.now past →
+            IfErr result (λ f. FrontFails (rest_at k past) (λ put q. S.fails sink.new start (ps ++ put) q f)) }
+        ensures well { OnOk result (WentWell (S.counts sink.old) (S.counts sink.new)) }
+        ensures blamed { IfErr result (λ f. Blamed f (S.counts sink.old) (S.counts sink.new) (S.is_full sink.new)) }
+    {
+        self.put_running(&None, streams, library, sink)
+    }
+
+    /// Puts a payload packet of the stream of this number, a duplicate or not, or its clock reference where its unit lies in a played event.
+    pub fn put_packet<S: PacketSink>(
+        &mut self,
+        stream: usize,
+        packet: &Packet,
+        is_repeat: bool,
+        sink: &mut S,
+    ) -> Result<(), PutFault>
+        requires { is_some (payload packet.now) ≡ true }
+        ensures leads { S.leads sink.old sink.new }
+        ensures ok { (start : Option (List ℕ)) (ps : List (List ℕ)) (k : Setting) (past : List (List ℕ)) → S.holds sink.old start ps →
+            PlaysBefore self.old k packet.now past → IsPacketOf k stream is_repeat packet.now past →
+            OnOk result (S.holds sink.new start (ps ++ place_at k packet.now past)) }
+        ensures plays { (k : Setting) (past : List (List ℕ)) → PlaysBefore self.old k packet.now past → IsPacketOf k stream is_repeat packet.now past →
+            OnOk result (PlaysBehind self.new k packet.now past) }
+        ensures err { (start : Option (List ℕ)) (ps : List (List ℕ)) (k : Setting) (past : List (List ℕ)) → S.holds sink.old start ps →
+            PlaysBefore self.old k packet.now past → IsPacketOf k stream is_repeat packet.now past →
+            IfErr result (λ f. FrontFails (place_at k packet.now past) (λ put q. S.fails sink.new start (ps ++ put) q f)) }
+        ensures well { OnOk result (WentWell (S.counts sink.old) (S.counts sink.new)) }
+        ensures blamed { IfErr result (λ f. Blamed f (S.counts sink.old) (S.counts sink.new) (S.is_full sink.new)) }
+    {
+        let mut of = self.streams[stream % 8];
+        let put = if of.is_leaving {
+            of.leave(packet, is_repeat, sink)
+        } else {
+            of.keep(packet, sink)
+        };
+        self.streams[stream % 8] = of;
+        put
+    }
+
+    /// Puts a packet of the stream of this number that stays whatever is played: one without payload, or one before the first unit.
+    pub fn keep<S: PacketSink>(
+        &mut self,
+        stream: usize,
+        packet: &Packet,
+        sink: &mut S,
+    ) -> Result<(), PutFault>
+        ensures leads { S.leads sink.old sink.new }
+        ensures ok { (start : Option (List ℕ)) (ps : List (List ℕ)) (k : Setting) (past : List (List ℕ)) → S.holds sink.old start ps →
+            PlaysBefore self.old k packet.now past → IsKeptOf k stream packet.now past →
+            OnOk result (S.holds sink.new start (ps ++ place_at k packet.now past)) }
+        ensures plays { (k : Setting) (past : List (List ℕ)) → PlaysBefore self.old k packet.now past → IsKeptOf k stream packet.now past →
+            OnOk result (PlaysBehind self.new k packet.now past) }
+        ensures err { (start : Option (List ℕ)) (ps : List (List ℕ)) (k : Setting) (past : List (List ℕ)) → S.holds sink.old start ps →
+            PlaysBefore self.old k packet.now past → IsKeptOf k stream packet.now past →
+            IfErr result (λ f. FrontFails (place_at k packet.now past) (λ put q. S.fails sink.new start (ps ++ put) q f)) }
+        ensures well { OnOk result (WentWell (S.counts sink.old) (S.counts sink.new)) }
+        ensures blamed { IfErr result (λ f. Blamed f (S.counts sink.old) (S.counts sink.new) (S.is_full sink.new)) }
+    {
+        let mut of = self.streams[stream % 8];
+        let put = of.keep(packet, sink);
+        self.streams[stream % 8] = of;
+        put
+    }
+
+    /// Takes this as the greatest time behind the packet that was put, and counts the events that are forgotten by it.
+    pub fn advance(&mut self, high: &Option<Time33>, streams: &[Stream], library: &AdLibrary)
+        ensures { (k : Setting) (number : ℕ) (time : Option ℕ) (p : List ℕ) (past : List (List ℕ)) → PlaysBehind self.old k p past →
+            BeginsIn k (held library.now) streams.now number time high.now p past → PlaysFor self.new k (p ∷ past) }
+    {
+        let Some(high) = *high else {
+            return;
+        };
+        self.forgotten = with_forgotten(
+            self.forgotten,
+            self.events.table(),
+            high,
+            streams,
+            library,
+        );
+        if self.events.table().can_advance(high) {
+            self.events.advance(high);
+        }
+    }
+
+    /// What became of all events.
+    pub fn report(&self, streams: &[Stream], library: &AdLibrary) -> SwitchReport
+        ensures { (k : Setting) (past : List (List ℕ)) → Reports self.now k past → EndsWith k (held library.now) streams.now past →
+            ReportIs result (report_of k past) }
+    {
+        let mut report = with_all(self.forgotten, self.events.table(), streams, library);
+        report.ignored = self.events.ignored();
+        report
+    }
+}
+
+/// The report with each event more that is forgotten at this greatest time.
+fn with_forgotten(
+    report: SwitchReport,
+    table: &Table<Plan>,
+    high: Time33,
+    streams: &[Stream],
+    library: &AdLibrary,
+) -> SwitchReport
+    ensures { (line : Option ℤ) (later : ℤ) (es : List Standing) (counts : Reported) → StandsFor table.now line es → CanAdvance (high_of table.now) high →
+        IsTimeAt line high later → ReportIs report counts →
+        ReportIs result (with_counted (is_out_at later) (adverts_of (held library.now) streams.now) (beside es (values_of table.now)) counts) }
+{
+    let mut counted = report;
+    for at in 0..table.standing().len() {
+        counted = with_one_forgotten(counted, table, at, high, streams, library);
+    }
+    counted
+}
+
+/// The report of the events before this place, with that at this place where it is forgotten at this greatest time.
+fn with_one_forgotten(
+    report: SwitchReport,
+    table: &Table<Plan>,
+    at: usize,
+    high: Time33,
+    streams: &[Stream],
+    library: &AdLibrary,
+) -> SwitchReport
+    requires { at < length table.now.entries.items }
+    ensures { (line : Option ℤ) (later : ℤ) (es : List Standing) (counts : Reported) → StandsFor table.now line es → CanAdvance (high_of table.now) high →
+        IsTimeAt line high later → ReportIs report (with_counted (is_out_at later) (adverts_of (held library.now) streams.now) (take at (beside es (values_of table.now))) counts) →
+        ReportIs result (with_counted (is_out_at later) (adverts_of (held library.now) streams.now) (take (at + 1) (beside es (values_of table.now))) counts) }
+{
+    let entry = table.standing()[at];
+    if !entry.event.is_forgotten_at(high) {
+        return report;
+    }
+    let fits = library.fits(entry.event.program, streams, entry.event.asked);
+    report.with_event(entry.event.cancelled, fits, entry.value.is_crossed)
+}
+
+/// The report with each event more that stands.
+fn with_all(
+    report: SwitchReport,
+    table: &Table<Plan>,
+    streams: &[Stream],
+    library: &AdLibrary,
+) -> SwitchReport
+    ensures { (line : Option ℤ) (es : List Standing) (counts : Reported) → StandsFor table.now line es → ReportIs report counts →
+        ReportIs result (with_counted is_any (adverts_of (held library.now) streams.now) (beside es (values_of table.now)) counts) }
+{
+    let mut counted = report;
+    for at in 0..table.standing().len() {
+        let entry = table.standing()[at];
+        let fits = library.fits(entry.event.program, streams, entry.event.asked);
+        counted = counted.with_event(entry.event.cancelled, fits, entry.value.is_crossed);
+    }
+    counted
+}

@@ -1,5 +1,0 @@
-use Rattle.splice_switch.proofs.HistoryLemmas.{armed_is_history}
-use Rattle.splice_switch.proofs.laws.armed_is_history.Goals as goal
-
-pub returns : goal.returns
-returns c = armed_is_history

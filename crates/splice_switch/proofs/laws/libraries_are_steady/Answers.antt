@@ -1,5 +1,0 @@
-use Rattle.splice_switch.proofs.AdvertLemmas.{libraries_are_steady}
-use Rattle.splice_switch.proofs.laws.libraries_are_steady.Goals as goal
-
-pub returns : goal.returns
-returns c = libraries_are_steady

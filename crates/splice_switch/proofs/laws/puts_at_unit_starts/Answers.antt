@@ -1,5 +1,0 @@
-use Rattle.splice_switch.proofs.PutLemmas.{puts_at_unit_starts}
-use Rattle.splice_switch.proofs.laws.puts_at_unit_starts.Goals as goal
-
-pub returns : goal.returns
-returns c = puts_at_unit_starts

@@ -1,5 +1,0 @@
-use Rattle.splice_switch.proofs.SentLemmas.{sent_grows}
-use Rattle.splice_switch.proofs.laws.sent_grows.Goals as goal
-
-pub returns : goal.returns
-returns c = sent_grows

@@ -1,5 +1,0 @@
-use Rattle.splice_switch.proofs.GrowLemmas.{switch_grows}
-use Rattle.splice_switch.proofs.laws.switch_grows.Goals as goal
-
-pub returns : goal.returns
-returns c = switch_grows

@@ -1,6 +1,0 @@
-use Rattle.splice_switch.proofs.TurnLemmas.{FirstUpTo}
-use Rattle.splice_switch.proofs.turns.first_closing.Given as goal
-
--- the first of those up to here
-abbrev pub invariant-loop-at : goal.invariant-loop-at
-invariant-loop-at l = FirstUpTo l.table l.stream l.at l.first

@@ -1,0 +1,89 @@
+-- What a switch stands for.
+use Rattle.std.specs.Prelude.{◌≡◌, ℕ, ◌++◌, List, [], ◌∷◌, Bool, true, false, Option, None, Some, option_map, Result, Ok, Err}
+use Rattle.ts_packet.specs.declared.tally.Tally.{Tally}
+use Rattle.ts_packet.specs.declared.sink.PutFault.{PutFault}
+use Rattle.ts_packet.specs.Sinks.{Blamed}
+use Rattle.psi_tables.specs.declared.config.Config.{Config}
+use Rattle.psi_tables.specs.declared.network.FeedFault.{FeedFault}
+use Rattle.psi_tables.specs.declared.network.FeedFault.TheVariants.{Network, Sink, Failed}
+use Rattle.program_follower.specs.declared.follower.Place.{Place}
+use Rattle.program_follower.specs.declared.follower.Place.TheVariants as places
+use Rattle.program_follower.specs.declared.streams.StreamPacket.TheVariants.{Start}
+use Rattle.unit_stream.specs.declared.clock.Begun.{Begun}
+use Rattle.program_follower.specs.declared.purpose.Listed.{Listed}
+use Rattle.program_follower.specs.Purposes.{reading_cues}
+use Rattle.program_follower.specs.Program.{listed}
+use Rattle.program_follower.specs.Following.{FollowerStandsFor, IsPlace}
+use Rattle.program_follower.specs.Faults.{network_fault}
+use Rattle.program_laws.specs.Writing.{number_on}
+use Rattle.outgoing_packets.specs.Numbers.{HasPut, FrontFails}
+use Rattle.ad_library.specs.Advertisements.{Advertisement}
+use Rattle.splice_switch.specs.declared.switch.Switch.{Switch}
+use Rattle.splice_plans.specs.Switching.{switched_past, switched_at_packet, rest_at}
+use Rattle.splice_plans.specs.Adverts.{setting_of}
+use Rattle.splice_playing.specs.Relations.{PlaysFor}
+
+-- The same counters go on: of each PID before the PAT, and of the map's PID behind it.
+abbrev pub GoOnAs : Option Listed → List (List ℕ) → List (List ℕ) → Type 0
+GoOnAs None passed out = (pid : ℕ) → number_on pid passed ≡ number_on pid out
+GoOnAs (Some l) passed out = number_on l.pid passed ≡ number_on l.pid out
+
+-- what the numbers of outgoing packets stand for: packets whose counters go on as those of all that is out
+pub record Numbers (s : Switch) (l : Option Listed) (out : List (List ℕ)) : Type 0 where
+  pub passed : List (List ℕ)
+  pub put : HasPut s.out passed
+  pub go_on : GoOnAs l passed out
+
+-- It has been given this past, with this library, and answered no fault.
+pub record SwitchStandsFor (s : Switch) (c : Config) (filed : ℕ → Option Advertisement) (past : List (List ℕ)) : Type 0 where
+  pub cue_pid : s.cue_pid ≡ c.cue_pid
+  pub follower : FollowerStandsFor s.follower (reading_cues c) past
+  pub playing : PlaysFor s.playing (setting_of c filed) past
+  pub numbers : Numbers s (listed (Some c.program) past) (switched_past (setting_of c filed) past)
+  pub whole : s.is_spent ≡ false
+
+-- Why a packet was not taken: what is wrong with it behind those before it, before anything was put; or the sink failed behind a front of
+-- what the packet puts.
+abbrev pub FeedFails : FeedFault → Config → (ℕ → Option Advertisement) → List ℕ → List (List ℕ) → (List (List ℕ) → List ℕ → PutFault → Type 0) → Type 0
+FeedFails (Network fault) c filed p past fails = network_fault (reading_cues c) p past ≡ Some fault
+FeedFails (Sink fault) c filed p past fails = FrontFails (switched_at_packet (setting_of c filed) p past) (λ put q. fails put q fault)
+FeedFails Failed c filed p past fails = ⊥
+
+-- at the end the network is not at fault
+abbrev pub FinishFails : FeedFault → Config → (ℕ → Option Advertisement) → List (List ℕ) → (List (List ℕ) → List ℕ → PutFault → Type 0) → Type 0
+FinishFails (Network fault) c filed past fails = ⊥
+FinishFails (Sink fault) c filed past fails = FrontFails (rest_at (setting_of c filed) past) (λ put q. fails put q fault)
+FinishFails Failed c filed past fails = ⊥
+
+-- what the calls of the sink's device came to
+abbrev pub FeedBlamed : FeedFault → Tally → Tally → Bool → Type 0
+FeedBlamed (Network fault) old new full = new ≡ old
+FeedBlamed (Sink fault) old new full = Blamed fault old new full
+FeedBlamed Failed old new full = new ≡ old
+
+-- where the network is at fault, or a fault was answered before, the sink is as it was
+abbrev pub KeepsSink : {S : Type 0} → FeedFault → S → S → Type 0
+KeepsSink (Network fault) old new = new ≡ old
+KeepsSink (Sink fault) old new = Unit {0}
+KeepsSink Failed old new = new ≡ old
+
+-- once a fault was answered it stays so
+abbrev pub is_err_or : Result (Unit {0}) FeedFault → Bool → Bool
+is_err_or (Ok u) before = before
+is_err_or (Err e) before = true
+
+-- the follower has been given the packet, which is of this place, and nothing was put yet
+pub record IsFollowedAs (s : Switch) (place : Place) (c : Config) (filed : ℕ → Option Advertisement) (p : List ℕ) (past : List (List ℕ)) : Type 0 where
+  pub cue_pid : s.cue_pid ≡ c.cue_pid
+  pub follower : FollowerStandsFor s.follower (reading_cues c) (p ∷ past)
+  pub sound : network_fault (reading_cues c) p past ≡ None
+  pub place_is : IsPlace place (reading_cues c) p past
+  pub playing : PlaysFor s.playing (setting_of c filed) past
+  pub numbers : Numbers s (listed (Some c.program) past) (switched_past (setting_of c filed) past)
+  pub whole : s.is_spent ≡ false
+
+-- the same, of a packet that begins a unit with this stamp, in the stream of this number
+pub record IsStart (s : Switch) (number : ℕ) (time : Option ℕ) (c : Config) (filed : ℕ → Option Advertisement) (p : List ℕ) (past : List (List ℕ)) : Type 0 where
+  pub begun : Option Begun
+  pub followed : IsFollowedAs s (places.Stream number (Start begun)) c filed p past
+  pub time_is : time ≡ option_map (λ (b : Begun). b.pts) begun

@@ -1,0 +1,273 @@
+//! The switch.
+
+ghost use Rattle.std.specs.Prelude.{◌≡◌, ◌<◌, ◌++◌, ◌∷◌, [], ℕ, List, length, Option, None, Err, OnOk, IfOk, IfErr, true};
+ghost use Rattle.ts_packet.specs.Sinks.{Blamed};
+ghost use Rattle.ts_packet.specs.Transfers.{WentWell};
+ghost use Rattle.program_follower.specs.Faults.{network_fault};
+ghost use Rattle.program_follower.specs.Purposes.{reading_cues};
+ghost use Rattle.outgoing_packets.specs.Numbers.{FrontFails};
+ghost use Rattle.ad_library.specs.Advertisements.{Advertisement};
+ghost use Rattle.ad_library.specs.Library.{held};
+ghost use Rattle.splice_plans.specs.Adverts.{setting_of};
+ghost use Rattle.splice_plans.specs.Switching.{switched_at_packet, rest_at};
+ghost use Rattle.splice_plans.specs.Reporting.{ReportIs, report_of};
+ghost use Rattle.splice_switch.specs.Standing.{SwitchStandsFor, FeedFails, FeedBlamed, FinishFails, KeepsSink, IsFollowedAs, IsStart, is_err_or};
+
+use ad_library::AdLibrary;
+use outgoing_packets::{CueEntry, Outgoing};
+use pes_time::Time33;
+use program_follower::{FollowFault, Place, ProgramFollower, Purpose, StreamPacket};
+use psi_tables::{Config, FeedFault};
+use splice_plans::SwitchReport;
+use splice_playing::Playing;
+use ts_packet::{Packet, PacketSink, Pid, PutFault};
+
+/// Plays advertisements in the place of the units of a network, in the events that its cues arm. It holds no packet and takes no memory.
+#[derive(Drop)]
+pub struct Switch {
+    cue_pid: Pid,
+    follower: ProgramFollower,
+    playing: Playing,
+    out: Outgoing,
+    is_spent: bool,
+}
+
+impl Switch {
+    /// A switch that was given no packet.
+    pub fn new(config: Config) -> Switch
+        ensures { (filed : ℕ → Option Advertisement) → SwitchStandsFor result config filed [] }
+    {
+        Switch {
+            cue_pid: config.cue_pid,
+            follower: ProgramFollower::new(Purpose::reading_cues(&config)),
+            playing: Playing::new(),
+            out: Outgoing::new(),
+            is_spent: false,
+        }
+    }
+
+    /// Takes the next packet of the network, and puts the units of advertisements that go out before it, and then the packet, or what goes
+    /// out in its place. The library is to be the same at each call.
+    ///
+    /// # Errors
+    ///
+    /// `Network` with what is wrong with the packet behind those before it: nothing was put then. `Sink` where the sink failed: it has a
+    /// front of what the packet puts. `Failed` once a fault was answered, or after [`Switch::finish`].
+    pub fn feed<S: PacketSink>(
+        &mut self,
+        packet: &Packet,
+        library: &AdLibrary,
+        sink: &mut S,
+    ) -> Result<(), FeedFault>
+        ensures leads { S.leads sink.old sink.new }
+        ensures ok { (start : Option (List ℕ)) (ps : List (List ℕ)) (c : Config) (past : List (List ℕ)) → S.holds sink.old start ps →
+            SwitchStandsFor self.old c (held library.now) past →
+            OnOk result (S.holds sink.new start (ps ++ switched_at_packet (setting_of c (held library.now)) packet.now past)) }
+        ensures stands { (c : Config) (past : List (List ℕ)) → SwitchStandsFor self.old c (held library.now) past →
+            OnOk result (SwitchStandsFor self.new c (held library.now) (packet.now ∷ past)) }
+        ensures sound { (c : Config) (past : List (List ℕ)) → SwitchStandsFor self.old c (held library.now) past →
+            OnOk result (network_fault (reading_cues c) packet.now past ≡ None) }
+        ensures err { (start : Option (List ℕ)) (ps : List (List ℕ)) (c : Config) (past : List (List ℕ)) → S.holds sink.old start ps →
+            SwitchStandsFor self.old c (held library.now) past →
+            IfErr result (λ f. FeedFails f c (held library.now) packet.now past (λ put q x. S.fails sink.new start (ps ++ put) q x)) }
+        ensures well { OnOk result (WentWell (S.counts sink.old) (S.counts sink.new)) }
+        ensures blamed { IfErr result (λ f. FeedBlamed f (S.counts sink.old) (S.counts sink.new) (S.is_full sink.new)) }
+        ensures kept { IfErr result (λ f. KeepsSink f sink.old sink.new) }
+        ensures failed { self.old.is_spent ≡ true → result ≡ Err FeedFault.Failed }
+        ensures spent { self.new.is_spent ≡ is_err_or result self.old.is_spent }
+    {
+        if self.is_spent {
+            return Err(FeedFault::Failed);
+        }
+        match self.take(packet, library, sink) {
+            Ok(()) => Ok(()),
+            Err(fault) => {
+                self.is_spent = true;
+                Err(fault)
+            }
+        }
+    }
+
+    /// Puts what is left of the advertisements that run, and reports. No packet is taken any more.
+    ///
+    /// # Errors
+    ///
+    /// `Sink` where the sink failed: it has a front of what was left. `Failed` once a fault was answered, or after this call.
+    pub fn finish<S: PacketSink>(
+        &mut self,
+        library: &AdLibrary,
+        sink: &mut S,
+    ) -> Result<SwitchReport, FeedFault>
+        ensures leads { S.leads sink.old sink.new }
+        ensures ok { (start : Option (List ℕ)) (ps : List (List ℕ)) (c : Config) (past : List (List ℕ)) → S.holds sink.old start ps →
+            SwitchStandsFor self.old c (held library.now) past →
+            OnOk result (S.holds sink.new start (ps ++ rest_at (setting_of c (held library.now)) past)) }
+        ensures report { (c : Config) (past : List (List ℕ)) → SwitchStandsFor self.old c (held library.now) past →
+            IfOk result (λ r. ReportIs r (report_of (setting_of c (held library.now)) past)) }
+        ensures err { (start : Option (List ℕ)) (ps : List (List ℕ)) (c : Config) (past : List (List ℕ)) → S.holds sink.old start ps →
+            SwitchStandsFor self.old c (held library.now) past →
+            IfErr result (λ f. FinishFails f c (held library.now) past (λ put q x. S.fails sink.new start (ps ++ put) q x)) }
+        ensures well { OnOk result (WentWell (S.counts sink.old) (S.counts sink.new)) }
+        ensures blamed { IfErr result (λ f. FeedBlamed f (S.counts sink.old) (S.counts sink.new) (S.is_full sink.new)) }
+        ensures kept { IfErr result (λ f. KeepsSink f sink.old sink.new) }
+        ensures failed { self.old.is_spent ≡ true → result ≡ Err FeedFault.Failed }
+        ensures spent { self.new.is_spent ≡ true }
+    {
+        if self.is_spent {
+            return Err(FeedFault::Failed);
+        }
+        self.is_spent = true;
+        let streams = self.follower.streams();
+        match self.playing.finish(streams, library, sink) {
+            Ok(()) => Ok(self.playing.report(streams, library)),
+            Err(fault) => Err(FeedFault::Sink(fault)),
+        }
+    }
+
+    /// Takes a packet.
+    fn take<S: PacketSink>(
+        &mut self,
+        packet: &Packet,
+        library: &AdLibrary,
+        sink: &mut S,
+    ) -> Result<(), FeedFault>
+        ensures leads { S.leads sink.old sink.new }
+        ensures ok { (start : Option (List ℕ)) (ps : List (List ℕ)) (c : Config) (past : List (List ℕ)) → S.holds sink.old start ps →
+            SwitchStandsFor self.old c (held library.now) past →
+            OnOk result (S.holds sink.new start (ps ++ switched_at_packet (setting_of c (held library.now)) packet.now past)) }
+        ensures stands { (c : Config) (past : List (List ℕ)) → SwitchStandsFor self.old c (held library.now) past →
+            OnOk result (SwitchStandsFor self.new c (held library.now) (packet.now ∷ past)) }
+        ensures sound { (c : Config) (past : List (List ℕ)) → SwitchStandsFor self.old c (held library.now) past →
+            OnOk result (network_fault (reading_cues c) packet.now past ≡ None) }
+        ensures err { (start : Option (List ℕ)) (ps : List (List ℕ)) (c : Config) (past : List (List ℕ)) → S.holds sink.old start ps →
+            SwitchStandsFor self.old c (held library.now) past →
+            IfErr result (λ f. FeedFails f c (held library.now) packet.now past (λ put q x. S.fails sink.new start (ps ++ put) q x)) }
+        ensures well { OnOk result (WentWell (S.counts sink.old) (S.counts sink.new)) }
+        ensures blamed { IfErr result (λ f. FeedBlamed f (S.counts sink.old) (S.counts sink.new) (S.is_full sink.new)) }
+        ensures kept { IfErr result (λ f. KeepsSink f sink.old sink.new) }
+        ensures spent { self.new.is_spent ≡ self.old.is_spent }
+    {
+        match self.follower.feed(packet) {
+            Ok(place) => match self.put(&place, packet, library, sink) {
+                Ok(()) => Ok(()),
+                Err(fault) => Err(FeedFault::Sink(fault)),
+            },
+            Err(FollowFault::Network(fault)) => Err(FeedFault::Network(fault)),
+            Err(FollowFault::Failed) => Err(FeedFault::Failed),
+        }
+    }
+
+    /// Puts what goes out for a packet that was followed, and is of this place.
+    fn put<S: PacketSink>(
+        &mut self,
+        place: &Place,
+        packet: &Packet,
+        library: &AdLibrary,
+        sink: &mut S,
+    ) -> Result<(), PutFault>
+        ensures leads { S.leads sink.old sink.new }
+        ensures ok { (start : Option (List ℕ)) (ps : List (List ℕ)) (c : Config) (past : List (List ℕ)) → S.holds sink.old start ps →
+            IsFollowedAs self.old place.now c (held library.now) packet.now past →
+            OnOk result (S.holds sink.new start (ps ++ switched_at_packet (setting_of c (held library.now)) packet.now past)) }
+        ensures stands { (c : Config) (past : List (List ℕ)) → IsFollowedAs self.old place.now c (held library.now) packet.now past →
+            OnOk result (SwitchStandsFor self.new c (held library.now) (packet.now ∷ past)) }
+        ensures err { (start : Option (List ℕ)) (ps : List (List ℕ)) (c : Config) (past : List (List ℕ)) → S.holds sink.old start ps →
+            IsFollowedAs self.old place.now c (held library.now) packet.now past →
+            IfErr result (λ f. FrontFails (switched_at_packet (setting_of c (held library.now)) packet.now past) (λ put q. S.fails sink.new start (ps ++ put) q f)) }
+        ensures well { OnOk result (WentWell (S.counts sink.old) (S.counts sink.new)) }
+        ensures blamed { IfErr result (λ f. Blamed f (S.counts sink.old) (S.counts sink.new) (S.is_full sink.new)) }
+        ensures spent { self.new.is_spent ≡ self.old.is_spent }
+    {
+        match place {
+            Place::Marked | Place::Other => self.out.pass(packet, sink),
+            Place::Cue => {
+                self.playing.obey(packet);
+                Ok(())
+            }
+            Place::Map => {
+                let change = CueEntry::Stripped(self.cue_pid);
+                let tables = self.follower.tables();
+                self.out.put_tables(packet.pid(), tables, &change, sink)
+            }
+            Place::Stream(stream, part) => self.put_of_stream(*stream, part, packet, library, sink),
+        }
+    }
+
+    /// Puts what goes out for a packet of the switched stream of this number.
+    fn put_of_stream<S: PacketSink>(
+        &mut self,
+        stream: usize,
+        part: &StreamPacket,
+        packet: &Packet,
+        library: &AdLibrary,
+        sink: &mut S,
+    ) -> Result<(), PutFault>
+        ensures leads { S.leads sink.old sink.new }
+        ensures ok { (start : Option (List ℕ)) (ps : List (List ℕ)) (c : Config) (past : List (List ℕ)) → S.holds sink.old start ps →
+            IsFollowedAs self.old (Place.Stream stream part.now) c (held library.now) packet.now past →
+            OnOk result (S.holds sink.new start (ps ++ switched_at_packet (setting_of c (held library.now)) packet.now past)) }
+        ensures stands { (c : Config) (past : List (List ℕ)) → IsFollowedAs self.old (Place.Stream stream part.now) c (held library.now) packet.now past →
+            OnOk result (SwitchStandsFor self.new c (held library.now) (packet.now ∷ past)) }
+        ensures err { (start : Option (List ℕ)) (ps : List (List ℕ)) (c : Config) (past : List (List ℕ)) → S.holds sink.old start ps →
+            IsFollowedAs self.old (Place.Stream stream part.now) c (held library.now) packet.now past →
+            IfErr result (λ f. FrontFails (switched_at_packet (setting_of c (held library.now)) packet.now past) (λ put q. S.fails sink.new start (ps ++ put) q f)) }
+        ensures well { OnOk result (WentWell (S.counts sink.old) (S.counts sink.new)) }
+        ensures blamed { IfErr result (λ f. Blamed f (S.counts sink.old) (S.counts sink.new) (S.is_full sink.new)) }
+        ensures spent { self.new.is_spent ≡ self.old.is_spent }
+    {
+        match part {
+            StreamPacket::Start(begun) => {
+                let time = match begun {
+                    None => None,
+                    Some(begun) => Some(begun.pts),
+                };
+                self.put_start(stream, &time, packet, library, sink)
+            }
+            StreamPacket::More => self.playing.put_packet(stream, packet, false, sink),
+            StreamPacket::Repeat => self.playing.put_packet(stream, packet, true, sink),
+            StreamPacket::Lead | StreamPacket::NoPayload => self.playing.keep(stream, packet, sink),
+        }
+    }
+
+    /// Puts what goes out for a packet that begins a unit in the stream of this number, of this time where it has one.
+    fn put_start<S: PacketSink>(
+        &mut self,
+        stream: usize,
+        time: &Option<Time33>,
+        packet: &Packet,
+        library: &AdLibrary,
+        sink: &mut S,
+    ) -> Result<(), PutFault>
+        ensures leads { S.leads sink.old sink.new }
+        ensures ok { (start : Option (List ℕ)) (ps : List (List ℕ)) (c : Config) (past : List (List ℕ)) → S.holds sink.old start ps →
+            IsStart self.old stream time.now c (held library.now) packet.now past →
+            OnOk result (S.holds sink.new start (ps ++ switched_at_packet (setting_of c (held library.now)) packet.now past)) }
+        ensures stands { (c : Config) (past : List (List ℕ)) → IsStart self.old stream time.now c (held library.now) packet.now past →
+            OnOk result (SwitchStandsFor self.new c (held library.now) (packet.now ∷ past)) }
+        ensures err { (start : Option (List ℕ)) (ps : List (List ℕ)) (c : Config) (past : List (List ℕ)) → S.holds sink.old start ps →
+            IsStart self.old stream time.now c (held library.now) packet.now past →
+            IfErr result (λ f. FrontFails (switched_at_packet (setting_of c (held library.now)) packet.now past) (λ put q. S.fails sink.new start (ps ++ put) q f)) }
+        ensures well { OnOk result (WentWell (S.counts sink.old) (S.counts sink.new)) }
+        ensures blamed { IfErr result (λ f. Blamed f (S.counts sink.old) (S.counts sink.new) (S.is_full sink.new)) }
+        ensures spent { self.new.is_spent ≡ self.old.is_spent }
+    {
+        let high = self.follower.high();
+        let streams = self.follower.streams();
+        if stream >= streams.len() {
+            return Ok(());
+        }
+        match self
+            .playing
+            .begin(stream, time, &high, streams, library, sink)
+        {
+            Ok(()) => {}
+            Err(fault) => return Err(fault),
+        }
+        match self.playing.put_packet(stream, packet, false, sink) {
+            Ok(()) => {}
+            Err(fault) => return Err(fault),
+        }
+        self.playing.advance(&high, streams, library);
+        Ok(())
+    }
+}
