@@ -28,10 +28,10 @@ step_given s (step.Message size) = message (take size s.message.items)
 step_given s step.Closed = closed
 
 -- a message of a step lies in the session, and used some of the piece
-abbrev pub IsWithin : ℕ → Step → Type 0
-IsWithin used step.Nothing = Unit {0}
-IsWithin used (step.Message size) = (size ≤ 65535) × (0 < used)
-IsWithin used step.Closed = Unit {0}
+abbrev pub MessageFits : ℕ → Step → Type 0
+MessageFits used step.Nothing = Unit {0}
+MessageFits used (step.Message size) = (size ≤ 65535) × (0 < used)
+MessageFits used step.Closed = Unit {0}
 
 -- a message that is lent is whole, so that it can be read, and used some of the piece
 abbrev pub LendsWhole : ℕ → Got → Type 0

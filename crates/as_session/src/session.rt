@@ -79,7 +79,7 @@ impl<A: Allocator> Session<A> {
     ghost use Rattle.std.specs.Borrow.{sem};
     ghost use Rattle.std.specs.Io.BufRead.{Rests};
     ghost use Rattle.as_session.specs.contracts.session.Session.{the_row};
-    ghost use Rattle.as_session.specs.Session.{state_of, step_given, given, IsFed, IsWithin, LendsWhole};
+    ghost use Rattle.as_session.specs.Session.{state_of, step_given, given, IsFed, MessageFits, LendsWhole};
     ghost use Rattle.as_session.specs.Feeding.{feed_of, end_of, shut};
 
     /// Takes the bytes in, and moves a whole message to the place that it is lent from.
@@ -87,7 +87,7 @@ impl<A: Allocator> Session<A> {
         ensures used { result.0 ≡ (feed_of (state_of self.old) piece.now).used }
         ensures given { step_given self.new result.1 ≡ (feed_of (state_of self.old) piece.now).gives }
         ensures after { state_of self.new ≡ (feed_of (state_of self.old) piece.now).after }
-        ensures room { IsWithin result.0 result.1 }
+        ensures room { MessageFits result.0 result.1 }
     {
         if self.is_closed {
             return (0, Step::Closed);

@@ -17,14 +17,14 @@ IsAheadOf None time = ⊥
 IsAheadOf (Some high) time = IsAheadOnRing high time
 
 -- the next high time is not below the last one, and at most 900,000 ticks (ten seconds) past it
-pub record IsNext (high next : ℕ) : Type 0 where
+pub record IsNextHigh (high next : ℕ) : Type 0 where
   pub above : pos 0 ≤ℤ signed next high
   pub below : signed next high ≤ℤ pos 900000
 
 -- a time may be the next high time: the first may be any
 abbrev pub CanAdvance : Option ℕ → ℕ → Type 0
 CanAdvance None next = Unit {0}
-CanAdvance (Some high) next = IsNext high next
+CanAdvance (Some high) next = IsNextHigh high next
 
 -- the high time is at or past this time
 abbrev pub has_reached_on_ring : Option ℕ → ℕ → Bool

@@ -5,13 +5,14 @@ use Rattle.std.specs.List.{AllByRecursion}
 use Rattle.std.proofs.lemmas.List.{append-nil}
 use Rattle.std.proofs.lemmas.Bool.Decides.{nat_tests}
 use Rattle.std.proofs.lemmas.Bool.{eqb-true}
+use Rattle.ts_packet.specs.Filling.{packets_for}
 use Rattle.ts_packet.specs.Fields.{in_error, pid_of, on, number}
 use Rattle.ts_packet.specs.Numbering.{one_past}
 use Rattle.std.proofs.lemmas.List.Elements.{All-head, All-tail}
 use Rattle.ts_packet.specs.Runs.{onto}
 use Rattle.ts_packet.proofs.RunLemmas.{onto-append}
 use Rattle.ts_packet.proofs.FieldLemmas.{payload_on-on}
-use Rattle.psi_section.specs.Packetising.{packets_for, first_packet, next_packet, later_packets, section_packets, packets_in_turn}
+use Rattle.psi_section.specs.Packetising.{first_packet, next_packet, later_packets, section_packets, packets_in_turn}
 use Rattle.psi_section.proofs.ReadBackLemmas.{first_number, next_number, next_on, section_carry}
 use Rattle.program_follower.specs.Program.{Table}
 use Rattle.program_laws.specs.Writing.{number_on, packets_out, section_out, Off}

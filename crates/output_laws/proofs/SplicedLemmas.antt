@@ -9,7 +9,7 @@ use Rattle.ts_packet.proofs.RunLemmas.{onto}
 use Rattle.unit_stream.specs.Times.{begins, unit_time}
 use Rattle.unit_stream.specs.Carrying.{CarriesUnits}
 use Rattle.unit_stream.specs.Units.{is_original, rest_of_unit, lead_in, units, payloads}
-use Rattle.splice_laws.specs.Splicing.{PlayedEvent, SliceUnit, Out, Network, Inserted, Stream, stream, begun, closed, out_of, inserted, rest, holds, outside, all_inserted, all_rest, all_slices_at}
+use Rattle.splice_laws.specs.Splicing.{PlayedEvent, SliceUnit, Out, Network, Inserted, TimedStream, stream, begun, closed, out_of, inserted, rest, holds, outside, all_inserted, all_rest, all_slices_at}
 use Rattle.splice_laws.specs.Laws.{AreOrdered, IsStream, Counts}
 use Rattle.splice_laws.specs.Streams.{Act, Through, Insert, all_closing, all_running, insert_on, on_each, is_dropped, spliced_at, of_stream, IsOnce}
 use Rattle.splice_laws.proofs.PidLemmas.{pids_are_streams}
@@ -115,7 +115,7 @@ payloads-append (Inserted u ∷ a) b = ap (λ l. u.payload ∷ l) (payloads-appe
 
 -- ---- where a unit outside all events goes on, nothing is put in
 
-module _ (r : Stream) (k : IsStream r) (slice : PlayedEvent → List SliceUnit) (out : PlayedEvent → List (List ℕ) → ℕ) where
+module _ (r : TimedStream) (k : IsStream r) (slice : PlayedEvent → List SliceUnit) (out : PlayedEvent → List (List ℕ) → ℕ) where
   none_put_one : (x : PlayedEvent) (p : List ℕ) (past : List (List ℕ)) → Counts r x (slice x) (out x) (record { packet = p; past = past }) → r.begins p past ≡ false → holds x (r.time past) ≡ false → inserted (slice x) (out x) p past ≡ []
   none_put_one x p past n b h =
       nothing_new (slice x) (out x past) (out x (p ∷ past)) (
@@ -162,7 +162,7 @@ module _ (sw : List ℕ) (xs : List PlayedEvent) (slice : ℕ → PlayedEvent �
       ∙ fate_network (is_dropped sw xs p past sw) p (moves_after sw xs slice out (p ∷ past) ps) ∙ ap (λ l. p ∷ l) (network_moves (p ∷ past) ps)
 
   module _ (o : AreOrdered xs) (pid : ℕ) (h : IsOnce pid sw) where
-    abbrev r : Stream
+    abbrev r : TimedStream
     r = stream sw pid
 
     abbrev k : IsStream (stream sw pid)

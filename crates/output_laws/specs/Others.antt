@@ -9,12 +9,12 @@ abbrev pub is_off : List ℕ → List ℕ → Bool
 is_off pids p = in_error p || not (is_among (pid_of p) pids)
 
 -- packets are left out, and units put in, on these PIDs alone
-abbrev pub IsWithin : List ℕ → Move → List Move → Type 0
-IsWithin pids (Keep p) past = Unit {0}
-IsWithin pids (Leave p) past = is_off pids p ≡ false
-IsWithin pids (Put q u) past = is_among q pids ≡ true
+abbrev pub ChangesOnly : List ℕ → Move → List Move → Type 0
+ChangesOnly pids (Keep p) past = Unit {0}
+ChangesOnly pids (Leave p) past = is_off pids p ≡ false
+ChangesOnly pids (Put q u) past = is_among q pids ≡ true
 
 -- THE PACKETS OF ALL OTHER PIDS, and those marked in error, are the same list, byte for byte
 abbrev pub OthersPass : Type 0
-OthersPass = (packed : Packing) (pids : List ℕ) (moves : List Move) → Along (λ (s : Move) (past : List Move). Sound packed s) (reverse moves) → Along (IsWithin pids) (reverse moves) →
+OthersPass = (packed : Packing) (pids : List ℕ) (moves : List Move) → Along (λ (s : Move) (past : List Move). Sound packed s) (reverse moves) → Along (ChangesOnly pids) (reverse moves) →
     All (λ (p : List ℕ). length p ≡ 188) (network moves) → filter (is_off pids) (output packed moves) ≡ filter (is_off pids) (network moves)

@@ -9,10 +9,11 @@ use Rattle.std.proofs.Math.Nat.{min_comm, le_refl}
 use Rattle.std.proofs.Math.ListN.{drop_of_length-le}
 use Rattle.std.specs.Prelude.{slice_set}
 use borrow.Rule.Slice.PartMut.{put_mid}
+use Rattle.ts_packet.specs.Filling.{packets_for}
 use Rattle.ts_packet.specs.Fields.{in_error}
 use Rattle.ts_packet.specs.Packets.{packet_fault}
 use Rattle.ts_packet.proofs.Cases.{by_test}
-use Rattle.psi_section.specs.Packetising.{Puts, PutsAfter, PutFails, padded, first_packet, next_packet, packets_for, later_packets, rest_packets, section_packets}
+use Rattle.psi_section.specs.Packetising.{Puts, PutsAfter, PutFails, padded, first_packet, next_packet, later_packets, rest_packets, section_packets}
 
 pub no_fault : (p : List ℕ) → slice_index p 0 ≡ 71 → slice_index p 3 / 16 % 4 ≡ 1 → packet_fault p ≡ None
 unfolding packet_fault

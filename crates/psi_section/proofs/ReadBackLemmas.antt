@@ -4,6 +4,7 @@ use Rattle.std.specs.Prelude.{filter, count_by}
 use Rattle.std.proofs.lemmas.Bool.{eq-eqb, ne_eqb, cases_lt, le-leb}
 use Rattle.std.proofs.lemmas.List.{append-nil, length-take-le, length-drop, take_at, take_all, take-append-drop, drop-drop}
 use Rattle.std.proofs.Math.Seq.{take-length, take-add}
+use Rattle.ts_packet.specs.Filling.{packets_for}
 use Rattle.ts_packet.specs.declared.follower.Last.{Last}
 use Rattle.ts_packet.specs.Fields.{in_error, unit_start, pid_of, number, payload, on, payload_on, bytes, or_none, alike}
 use Rattle.ts_packet.specs.Duplicates.{original, repeats, last_of, repeats_last, follows_on}
@@ -13,7 +14,7 @@ use Rattle.ts_packet.proofs.HistoryLemmas.{walk_is_last}
 use Rattle.psi_section.specs.declared.front.Front.{Front}
 use Rattle.psi_section.specs.declared.front.Front.TheVariants.{Nothing, Whole, Part}
 use Rattle.psi_section.specs.Sections.{front_of, Assembled, nothing, with_section, taken_past, taken, continued, started, payload_taken, unbroken, packet_taken, held, given, failed, is_good, is_bad, sections_after}
-use Rattle.psi_section.specs.Packetising.{padded, first_packet, next_packet, packets_for, later_packets, rest_packets, section_packets}
+use Rattle.psi_section.specs.Packetising.{padded, first_packet, next_packet, later_packets, rest_packets, section_packets}
 use Rattle.psi_section.specs.Assembling.{IsPart}
 use Rattle.psi_section.specs.Laws.{CanBeGiven, NothingIsLeft}
 use Rattle.psi_section.proofs.FrontLemmas.{whole_and, whole_stays, part_alone, part_of, by_front, by_front_joined, joined_front}

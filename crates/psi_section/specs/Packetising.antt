@@ -1,6 +1,7 @@
 -- The packets in which a section goes out (ISO/IEC 13818-1, 2.4.3.2 and 2.4.4.1): payload alone, the first with
 -- payload_unit_start_indicator and a pointer_field of 0, the last filled with 0xFF.
 use Rattle.std.specs.Prelude.{◌≡◌, ℕ, zero, suc, ◌+◌, ◌-◌, ◌/◌, ◌%◌, List, [], ◌∷◌, ◌++◌, length, take, drop, replicate}
+use Rattle.ts_packet.specs.Filling.{packets_for}
 use Rattle.psi_section.specs.declared.packetiser.Packetiser.{Packetiser}
 
 -- the first so many bytes, filled with 0xFF
@@ -14,10 +15,6 @@ first_packet pid n bs = 0x47 ∷ (pid / 256 + 64) ∷ pid % 256 ∷ (16 + n) ∷
 -- a packet in which it goes on
 abbrev pub next_packet : ℕ → ℕ → List ℕ → List ℕ
 next_packet pid n bs = 0x47 ∷ (pid / 256) ∷ pid % 256 ∷ (16 + n) ∷ padded 184 bs
-
--- the number of packets in which so many bytes go on
-abbrev pub packets_for : ℕ → ℕ
-packets_for size = (size + 183) / 184
 
 -- so many packets in which a section goes on with these bytes
 abbrev pub later_packets : ℕ → ℕ → ℕ → List ℕ → List (List ℕ)

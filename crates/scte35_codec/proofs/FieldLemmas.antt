@@ -16,7 +16,7 @@ bind_some (Some x) f y e = (x, refl, e)
 bind_some None f y e = absurd cc
 
 -- what was taken from the front of some bytes
-pub record BeginsWith (Is : List ℕ → Type 0) (bytes rest : List ℕ) : Type 0 where
+pub record HasFront (Is : List ℕ → Type 0) (bytes rest : List ℕ) : Type 0 where
   pub text : List ℕ
   pub whole : bytes ≡ text ++ rest
   pub is : Is text
@@ -35,7 +35,7 @@ number_of-take n bytes le =
 abbrev numbered : ℕ → List ℕ → ℕ × List ℕ
 numbered n bytes = (number_of n bytes, drop n bytes)
 
-number_sound_by : (b : Bool) (n v : ℕ) (bytes rest : List ℕ) → nat_lt (length bytes) n ≡ b → (if b then None else Some (numbered n bytes)) ≡ Some (v, rest) → BeginsWith (IsNumber n v) bytes rest
+number_sound_by : (b : Bool) (n v : ℕ) (bytes rest : List ℕ) → nat_lt (length bytes) n ≡ b → (if b then None else Some (numbered n bytes)) ≡ Some (v, rest) → HasFront (IsNumber n v) bytes rest
 number_sound_by true n v bytes rest t h = absurd cc
 number_sound_by false n v bytes rest t h =
     let parts = some_pair_parts (numbered n bytes).0 v (numbered n bytes).1 rest h in
@@ -47,7 +47,7 @@ number_sound_by false n v bytes rest t h =
       is = record { size = size; worth = number_of-take n bytes long ∙ parts.0 };
     }
 
-pub number_sound : (n v : ℕ) (bytes rest : List ℕ) → number_at n bytes ≡ Some (v, rest) → BeginsWith (IsNumber n v) bytes rest
+pub number_sound : (n v : ℕ) (bytes rest : List ℕ) → number_at n bytes ≡ Some (v, rest) → HasFront (IsNumber n v) bytes rest
 unfolding number_at
 number_sound n v bytes rest h = number_sound_by (nat_lt (length bytes) n) n v bytes rest refl h
 
@@ -70,7 +70,7 @@ first_of : (n : ℕ) (bytes : List ℕ) → 5 ≤ length bytes → slice_index (
 first_of n [] le = absurd (omega arith)
 first_of n (b ∷ bytes) le = refl
 
-ticks_sound_by : (b : Bool) (p : Bool × ℕ) (bytes rest : List ℕ) → nat_lt (length bytes) 5 ≡ b → (if b then None else Some (ticked bytes)) ≡ Some (p, rest) → BeginsWith (IsTicksOf p) bytes rest
+ticks_sound_by : (b : Bool) (p : Bool × ℕ) (bytes rest : List ℕ) → nat_lt (length bytes) 5 ≡ b → (if b then None else Some (ticked bytes)) ≡ Some (p, rest) → HasFront (IsTicksOf p) bytes rest
 ticks_sound_by true p bytes rest t h = absurd cc
 ticks_sound_by false p bytes rest t h =
     let parts = some_pair_parts (ticked bytes).0 p (ticked bytes).1 rest h in
@@ -86,7 +86,7 @@ ticks_sound_by false p bytes rest t h =
       };
     }
 
-pub ticks_sound : (p : Bool × ℕ) (bytes rest : List ℕ) → ticks_at bytes ≡ Some (p, rest) → BeginsWith (IsTicksOf p) bytes rest
+pub ticks_sound : (p : Bool × ℕ) (bytes rest : List ℕ) → ticks_at bytes ≡ Some (p, rest) → HasFront (IsTicksOf p) bytes rest
 unfolding ticks_at
 ticks_sound p bytes rest h = ticks_sound_by (nat_lt (length bytes) 5) p bytes rest refl h
 

@@ -13,7 +13,7 @@ use Rattle.scte35_codec.specs.Insert.{splice_insert_at, later}
 use Rattle.psi_section.specs.Sections.{section_length}
 use Rattle.scte35_codec.specs.Reading.{CueReading, insert, cancel, null, other, bad, pts_adjustment, splice_command_length, command_part, behind_command, with_loop, told_by, splice_insert_of, cue_of}
 use Rattle.scte35_codec.specs.Grammar.{IsInsert, IsCancel, HasLoop, HasCommand, SpellsInsert, SpellsInsertIn, IsCue, IsWhole, IsVersioned, IsClear, Spells}
-use Rattle.scte35_codec.proofs.FieldLemmas.{BeginsWith}
+use Rattle.scte35_codec.proofs.FieldLemmas.{HasFront}
 use Rattle.scte35_codec.proofs.InsertLemmas.{insert_sound, cancel_back, insert_back, components_back}
 use Rattle.scte35_codec.proofs.LoopLemmas.{loop_sound, loop_back}
 
@@ -43,7 +43,7 @@ behind_back stated size rest ds (inl e) loop = rw e (loop_back rest ds loop)
 behind_back stated size rest ds (inr e) loop =
     rw (eq-eqb (stated + length rest) size e, or_right (stated == 4095)) (loop_back rest ds loop)
 
-has_command : (stated : ℕ) (Is : List ℕ → Type 0) (ds : List SpliceDescriptor) (part rest : List ℕ) → BeginsWith Is part rest → Behind stated (length part) rest ds → HasCommand stated Is ds part
+has_command : (stated : ℕ) (Is : List ℕ → Type 0) (ds : List SpliceDescriptor) (part rest : List ℕ) → HasFront Is part rest → Behind stated (length part) rest ds → HasCommand stated Is ds part
 has_command stated Is ds part rest taken behind = record {
   command = taken.text;
   rest = rest;
@@ -66,12 +66,12 @@ abbrev Told : ℕ → ℕ → List ℕ → CueReading → Type 0
 Told adjustment stated part read = (read ≡ bad faults.Command) ⊎ SpellsInsert read adjustment stated part
 
 module _ (adjustment stated : ℕ) (part : List ℕ) where
-  cancel_told : (event : ℕ) (rest : List ℕ) (o : Option (List SpliceDescriptor)) → BeginsWith (IsCancel event) part rest → behind_command stated (length part) rest ≡ o
+  cancel_told : (event : ℕ) (rest : List ℕ) (o : Option (List SpliceDescriptor)) → HasFront (IsCancel event) part rest → behind_command stated (length part) rest ≡ o
       → Told adjustment stated part (with_loop (λ ds. cancel event) o)
   cancel_told event rest None taken e = inl refl
   cancel_told event rest (Some ds) taken e = inr (ds, has_command stated (IsCancel event) ds part rest taken (behind_sound stated (length part) rest ds e))
 
-  insert_told : (i : SpliceInsert) (rest : List ℕ) (o : Option (List SpliceDescriptor)) → BeginsWith (IsInsert i) part rest → behind_command stated (length part) rest ≡ o
+  insert_told : (i : SpliceInsert) (rest : List ℕ) (o : Option (List SpliceDescriptor)) → HasFront (IsInsert i) part rest → behind_command stated (length part) rest ≡ o
       → Told adjustment stated part (with_loop (λ ds. insert (later adjustment i) (avails_of ds)) o)
   insert_told i rest None taken e = inl refl
   insert_told i rest (Some ds) taken e = inr (i, ds, has_command stated (IsInsert i) ds part rest taken (behind_sound stated (length part) rest ds e), refl, refl)

@@ -10,7 +10,7 @@ use Rattle.scte35_codec.specs.declared.insert.Command.{Command}
 use Rattle.scte35_codec.specs.declared.insert.Command.TheVariants.{Cancelled, Components, Inserted}
 use Rattle.scte35_codec.specs.Insert.{splice_time_at, time_unless_at, duration_if_at, inserted_at, splice_insert_at}
 use Rattle.scte35_codec.specs.Grammar.{IsNumber, IsTicks, IsSpliceTime, IsTime, IsDuration, IsInsert, IsCancel, BeginsComponents}
-use Rattle.scte35_codec.proofs.FieldLemmas.{bind_some, BeginsWith, number_sound, number_back, IsTicksOf, ticks_sound, ticks_back, byte_sound}
+use Rattle.scte35_codec.proofs.FieldLemmas.{bind_some, HasFront, number_sound, number_back, IsTicksOf, ticks_sound, ticks_back, byte_sound}
 
 -- ---- splice_time()
 
@@ -21,7 +21,7 @@ abbrev no_time : List ℕ → Option ℕ × List ℕ
 no_time rest = (None, rest)
 
 -- a time's flag is the first bit of its bytes
-flag_is : (p : Bool × ℕ) (bytes rest : List ℕ) (first : ℕ) (others : List ℕ) → bytes ≡ first ∷ others → (t : BeginsWith (IsTicksOf p) bytes rest) → bit_of 7 first ≡ p.0
+flag_is : (p : Bool × ℕ) (bytes rest : List ℕ) (first : ℕ) (others : List ℕ) → bytes ≡ first ∷ others → (t : HasFront (IsTicksOf p) bytes rest) → bit_of 7 first ≡ p.0
 flag_is p bytes rest first others e t =
     flag_in t.text rest first others (sym t.whole ∙ e) t.is.size ∙ t.is.flagged where
       flag_in : (text rest : List ℕ) (first : ℕ) (others : List ℕ) → text ++ rest ≡ first ∷ others → length text ≡ 5 → bit_of 7 first ≡ bit_of 7 (slice_index text 0)
@@ -29,21 +29,21 @@ flag_is p bytes rest first others e t =
       flag_in (x ∷ text) rest first others e size = let same : x ≡ first = cc in ap (bit_of 7) (sym same)
 
 time_sound_by : (b : Bool) (bytes : List ℕ) (first : ℕ) (others : List ℕ) (time : Option ℕ) (rest : List ℕ) → bytes ≡ first ∷ others → bit_of 7 first ≡ b
-    → (if not b then Some (no_time others) else (ticks_at bytes >>= λ t. Some (time_with t))) ≡ Some (time, rest) → BeginsWith (IsSpliceTime time) bytes rest
+    → (if not b then Some (no_time others) else (ticks_at bytes >>= λ t. Some (time_with t))) ≡ Some (time, rest) → HasFront (IsSpliceTime time) bytes rest
 time_sound_by false bytes first others time rest e f h =
     let parts = some_pair_parts (no_time others).0 time others rest h in
-    let made : BeginsWith (IsSpliceTime None) bytes others = record { text = first ∷ []; whole = e; is = (first, refl, f) } in
-    subst (λ (o : Option ℕ). BeginsWith (IsSpliceTime o) bytes rest) parts.0 (subst (λ (r : List ℕ). BeginsWith (IsSpliceTime None) bytes r) parts.1 made)
+    let made : HasFront (IsSpliceTime None) bytes others = record { text = first ∷ []; whole = e; is = (first, refl, f) } in
+    subst (λ (o : Option ℕ). HasFront (IsSpliceTime o) bytes rest) parts.0 (subst (λ (r : List ℕ). HasFront (IsSpliceTime None) bytes r) parts.1 made)
 time_sound_by true bytes first others time rest e f h =
     let step = bind_some (ticks_at bytes) (λ (t : (Bool × ℕ) × List ℕ). Some (time_with t)) (time, rest) h in
     let parts = some_pair_parts (time_with step.0).0 time (time_with step.0).1 rest step.2 in
     let taken = ticks_sound step.0.0 bytes step.0.1 step.1 in
     let set : step.0.0.0 ≡ true = sym (flag_is step.0.0 bytes step.0.1 first others e taken) ∙ f in
     let is : IsTicks true step.0.0.1 taken.text = subst (λ (b : Bool). IsTicks b step.0.0.1 taken.text) set taken.is in
-    let made : BeginsWith (IsSpliceTime (Some step.0.0.1)) bytes step.0.1 = record { text = taken.text; whole = taken.whole; is = is } in
-    subst (λ (o : Option ℕ). BeginsWith (IsSpliceTime o) bytes rest) parts.0 (subst (λ (r : List ℕ). BeginsWith (IsSpliceTime (Some step.0.0.1)) bytes r) parts.1 made)
+    let made : HasFront (IsSpliceTime (Some step.0.0.1)) bytes step.0.1 = record { text = taken.text; whole = taken.whole; is = is } in
+    subst (λ (o : Option ℕ). HasFront (IsSpliceTime o) bytes rest) parts.0 (subst (λ (r : List ℕ). HasFront (IsSpliceTime (Some step.0.0.1)) bytes r) parts.1 made)
 
-pub time_sound : (time : Option ℕ) (bytes rest : List ℕ) → splice_time_at bytes ≡ Some (time, rest) → BeginsWith (IsSpliceTime time) bytes rest
+pub time_sound : (time : Option ℕ) (bytes rest : List ℕ) → splice_time_at bytes ≡ Some (time, rest) → HasFront (IsSpliceTime time) bytes rest
 unfolding splice_time_at
 time_sound time [] rest h = absurd cc
 time_sound time (first ∷ others) rest h = time_sound_by (bit_of 7 first) (first ∷ others) first others time rest refl refl h
@@ -66,12 +66,12 @@ time_back None text rest is = ap (λ (xs : List ℕ). splice_time_at (xs ++ rest
 
 -- ---- where there is one
 
-unless_sound : (immediate : Bool) (time : Option ℕ) (bytes rest : List ℕ) → time_unless_at immediate bytes ≡ Some (time, rest) → BeginsWith (IsTime immediate time) bytes rest
+unless_sound : (immediate : Bool) (time : Option ℕ) (bytes rest : List ℕ) → time_unless_at immediate bytes ≡ Some (time, rest) → HasFront (IsTime immediate time) bytes rest
 unfolding time_unless_at
 unless_sound true time bytes rest h =
     let parts = some_pair_parts (no_time bytes).0 time bytes rest h in
-    let made : BeginsWith (IsTime true None) bytes bytes = record { text = []; whole = refl; is = refl } in
-    subst (λ (o : Option ℕ). BeginsWith (IsTime true o) bytes rest) parts.0 (subst (λ (r : List ℕ). BeginsWith (IsTime true None) bytes r) parts.1 made)
+    let made : HasFront (IsTime true None) bytes bytes = record { text = []; whole = refl; is = refl } in
+    subst (λ (o : Option ℕ). HasFront (IsTime true o) bytes rest) parts.0 (subst (λ (r : List ℕ). HasFront (IsTime true None) bytes r) parts.1 made)
 unless_sound false time bytes rest h = time_sound time bytes rest h
 
 unless_back : (immediate : Bool) (time : Option ℕ) (text rest : List ℕ) → IsTime immediate time text → time_unless_at immediate (text ++ rest) ≡ Some (time, rest)
@@ -88,18 +88,18 @@ duration_with t = (Some (t.0.0, t.0.1), t.1)
 abbrev no_duration : List ℕ → Option (Bool × ℕ) × List ℕ
 no_duration rest = (None, rest)
 
-if_sound : (given : Bool) (duration : Option (Bool × ℕ)) (bytes rest : List ℕ) → duration_if_at given bytes ≡ Some (duration, rest) → BeginsWith (IsDuration given duration) bytes rest
+if_sound : (given : Bool) (duration : Option (Bool × ℕ)) (bytes rest : List ℕ) → duration_if_at given bytes ≡ Some (duration, rest) → HasFront (IsDuration given duration) bytes rest
 unfolding duration_if_at
 if_sound false duration bytes rest h =
     let parts = some_pair_parts (no_duration bytes).0 duration bytes rest h in
-    let made : BeginsWith (IsDuration false None) bytes bytes = record { text = []; whole = refl; is = refl } in
-    subst (λ (o : Option (Bool × ℕ)). BeginsWith (IsDuration false o) bytes rest) parts.0 (subst (λ (r : List ℕ). BeginsWith (IsDuration false None) bytes r) parts.1 made)
+    let made : HasFront (IsDuration false None) bytes bytes = record { text = []; whole = refl; is = refl } in
+    subst (λ (o : Option (Bool × ℕ)). HasFront (IsDuration false o) bytes rest) parts.0 (subst (λ (r : List ℕ). HasFront (IsDuration false None) bytes r) parts.1 made)
 if_sound true duration bytes rest h =
     let step = bind_some (ticks_at bytes) (λ (t : (Bool × ℕ) × List ℕ). Some (duration_with t)) (duration, rest) h in
     let parts = some_pair_parts (duration_with step.0).0 duration (duration_with step.0).1 rest step.2 in
     let taken = ticks_sound step.0.0 bytes step.0.1 step.1 in
-    let made : BeginsWith (IsDuration true (Some (step.0.0.0, step.0.0.1))) bytes step.0.1 = record { text = taken.text; whole = taken.whole; is = taken.is } in
-    subst (λ (o : Option (Bool × ℕ)). BeginsWith (IsDuration true o) bytes rest) parts.0 (subst (λ (r : List ℕ). BeginsWith (IsDuration true (Some (step.0.0.0, step.0.0.1))) bytes r) parts.1 made)
+    let made : HasFront (IsDuration true (Some (step.0.0.0, step.0.0.1))) bytes step.0.1 = record { text = taken.text; whole = taken.whole; is = taken.is } in
+    subst (λ (o : Option (Bool × ℕ)). HasFront (IsDuration true o) bytes rest) parts.0 (subst (λ (r : List ℕ). HasFront (IsDuration true (Some (step.0.0.0, step.0.0.1))) bytes r) parts.1 made)
 
 if_back : (given : Bool) (duration : Option (Bool × ℕ)) (text rest : List ℕ) → IsDuration given duration text → duration_if_at given (text ++ rest) ≡ Some (duration, rest)
 unfolding duration_if_at
@@ -184,9 +184,9 @@ inserted_back flags i time duration program rest out t d p =
 -- ---- the whole command
 
 abbrev pub IsRead : Command → List ℕ → List ℕ → Type 0
-IsRead (Cancelled event) bytes rest = BeginsWith (IsCancel event) bytes rest
+IsRead (Cancelled event) bytes rest = HasFront (IsCancel event) bytes rest
 IsRead Components bytes rest = BeginsComponents bytes
-IsRead (Inserted i) bytes rest = BeginsWith (IsInsert i) bytes rest
+IsRead (Inserted i) bytes rest = HasFront (IsInsert i) bytes rest
 
 abbrev cancelled_with : ℕ → List ℕ → Command × List ℕ
 cancelled_with event rest = (Cancelled event, rest)
@@ -203,7 +203,7 @@ record Before (event indicator flags : ℕ) (bytes behind : List ℕ) : Type 0 w
   pub is : IsNumber 4 event id
   pub standing : bit_of 7 indicator ≡ false
 
-whole_insert : (event indicator flags : ℕ) (i : SpliceInsert) (bytes behind rest : List ℕ) → Before event indicator flags bytes behind → bit_of 6 flags ≡ true → Parts event flags i behind rest → BeginsWith (IsInsert i) bytes rest
+whole_insert : (event indicator flags : ℕ) (i : SpliceInsert) (bytes behind rest : List ℕ) → Before event indicator flags bytes behind → bit_of 6 flags ≡ true → Parts event flags i behind rest → HasFront (IsInsert i) bytes rest
 whole_insert event indicator flags i bytes behind rest before program parts =
     let text = before.id ++ indicator ∷ flags ∷ behind_flags parts.time parts.duration parts.program i in
     let whole : bytes ≡ text ++ rest = before.whole ∙ ap (λ (xs : List ℕ). before.id ++ indicator ∷ flags ∷ xs) parts.whole ∙ sym (append_assoc before.id (indicator ∷ flags ∷ behind_flags parts.time parts.duration parts.program i) rest) in

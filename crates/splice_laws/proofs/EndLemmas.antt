@@ -8,7 +8,7 @@ use lib.Signed.{lt_z}
 use Rattle.ts_packet.specs.Runs.{Seen, seen_after}
 use Rattle.ts_packet.proofs.Cases.{by_test}
 use Rattle.ts_packet.proofs.RunLemmas.{onto}
-use Rattle.splice_laws.specs.Splicing.{PlayedEvent, SliceUnit, Out, Stream, at_or_past, begun, closed, due, put_in, kept, inserted, rest, all_inserted, all_rest}
+use Rattle.splice_laws.specs.Splicing.{PlayedEvent, SliceUnit, Out, TimedStream, at_or_past, begun, closed, due, put_in, kept, inserted, rest, all_inserted, all_rest}
 use Rattle.splice_laws.specs.Laws.{Risen, IsStream, CountsAt, Counts}
 use Rattle.splice_laws.specs.Settled.{IsAhead, IsSettled}
 use Rattle.splice_laws.specs.Ends.{up_to_end, longest_front, sent, sent_at, unsent, sent_whole, EndsAt, EndSoon, SentIsPlaced}
@@ -120,7 +120,7 @@ pub drop-front : {A : Type 0} (a b : List A) → drop (length a) (a ++ b) ≡ b
 drop-front [] b = refl
 drop-front (u ∷ a) b = drop-front a b
 
-module _ (r : Stream) (k : IsStream r) (x : PlayedEvent) (units : List SliceUnit) (stop : List (List ℕ) → ℤ) where
+module _ (r : TimedStream) (k : IsStream r) (x : PlayedEvent) (units : List SliceUnit) (stop : List (List ℕ) → ℤ) where
   abbrev pub Since : List (List ℕ) → Type 0
   Since [] = Unit {0}
   Since (p ∷ past) = EndsAt r x stop (record { packet = p; past = past }) × Since past
@@ -215,7 +215,7 @@ module _ (r : Stream) (k : IsStream r) (x : PlayedEvent) (units : List SliceUnit
 
 -- ---- all events
 
-module _ (r : Stream) (k : IsStream r) (units : PlayedEvent → List SliceUnit) (stop : PlayedEvent → List (List ℕ) → ℤ) where
+module _ (r : TimedStream) (k : IsStream r) (units : PlayedEvent → List SliceUnit) (stop : PlayedEvent → List (List ℕ) → ℤ) where
   abbrev pub slice : List (List ℕ) → PlayedEvent → List SliceUnit
   slice end x = sent_whole r x (units x) (stop x) end
 

@@ -3,7 +3,7 @@ use Rattle.std.specs.Prelude.{ℤ, pos}
 use Rattle.std.specs.Int.{int_max}
 use Rattle.std.proofs.Common.{◌≡◌, ℕ, zero, suc, List, [], ◌∷◌, Bool, true, false, refl, Option, None, Some}
 use Rattle.splice_laws.specs.Ends.{carried_now}
-use Rattle.splice_laws.specs.Splicing.{PlayedEvent, SliceUnit, Out, Network, Inserted, Stream, carried, splice}
+use Rattle.splice_laws.specs.Splicing.{PlayedEvent, SliceUnit, Out, Network, Inserted, TimedStream, carried, splice}
 
 abbrev is_own : List ℕ → Bool
 is_own [] = false
@@ -26,7 +26,7 @@ abbrev high_of : List (List ℕ) → Option ℤ
 high_of [] = None
 high_of (p ∷ past) = more (high_of past) (told p)
 
-abbrev toy : Stream
+abbrev toy : TimedStream
 toy = record { begins = λ p past. is_own p; time = time_of; high = high_of; carries = is_own }
 
 abbrev x1 : PlayedEvent

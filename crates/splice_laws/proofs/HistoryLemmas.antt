@@ -2,7 +2,7 @@
 use Rattle.std.specs.Prelude.{ℤ, ◌≤ℤ◌}
 use Rattle.std.proofs.Common.{◌≡◌, ℕ, ◌≤◌, List, [], ◌∷◌, length, true, false, not, ◌&&◌, ap, Option, arith}
 use Rattle.ts_packet.proofs.Cases.{by_test}
-use Rattle.splice_laws.specs.Splicing.{PlayedEvent, SliceUnit, Stream, at_or_past, holds, stands, comes, passed, opens, begun, closed, due, front, out_of}
+use Rattle.splice_laws.specs.Splicing.{PlayedEvent, SliceUnit, TimedStream, at_or_past, holds, stands, comes, passed, opens, begun, closed, due, front, out_of}
 use Rattle.splice_laws.specs.Laws.{Risen, IsStream, OutGrows}
 use Rattle.splice_laws.proofs.TimeLemmas.{stands-later, past_lower, holds-past, holds-below, due-later}
 use Rattle.splice_laws.proofs.StepLemmas.{true_or_false, step_passed, step_lower, step_dead, step_begun, step_inside, count-grows}
@@ -21,7 +21,7 @@ front-within (u ∷ us) h =
     let i = front-within us h in
     by_test (due u.time h) (λ d. simp d (omega arith)) (λ d. simp d (omega arith))
 
-module _ (r : Stream) (k : IsStream r) where
+module _ (r : TimedStream) (k : IsStream r) where
   pub passed-lower : (a b : ℤ) → a ≤ℤ b → (past : List (List ℕ)) → passed r b past ≡ true → passed r a past ≡ true
   passed-lower a b l [] h = h
   passed-lower a b l (p ∷ past) h =

@@ -6,9 +6,9 @@ use Rattle.std.proofs.lemmas.List.Elements.{All-head, All-tail}
 use Rattle.ts_packet.specs.Runs.{Seen, seen_after}
 use Rattle.ts_packet.proofs.Cases.{by_test}
 use Rattle.ts_packet.proofs.RunLemmas.{onto}
-use Rattle.splice_laws.specs.Splicing.{PlayedEvent, SliceUnit, Out, Stream, at_or_past, holds, passed, opens, begun, closed, put_in, kept, slice_at, all_slices_at}
+use Rattle.splice_laws.specs.Splicing.{PlayedEvent, SliceUnit, Out, TimedStream, at_or_past, holds, passed, opens, begun, closed, put_in, kept, slice_at, all_slices_at}
 use Rattle.splice_laws.specs.Laws.{IsStream, IsCrossedOnce, IsConditioned}
-use Rattle.splice_laws.specs.Settled.{IsAhead, IsWithin}
+use Rattle.splice_laws.specs.Settled.{IsAhead, NeverPassesHigh}
 use Rattle.splice_laws.specs.Ends.{up_to_end, sent, unsent, sent_whole, EndsAt, EndSoon, EndsMayComeEarlier}
 use Rattle.splice_laws.proofs.TimeLemmas.{holds-past, holds-or_past, not-below, timed_past}
 use Rattle.splice_laws.proofs.StepLemmas.{true_or_false}
@@ -16,7 +16,7 @@ use Rattle.splice_laws.proofs.HistoryLemmas.{begun-passed, running-inside}
 use Rattle.splice_laws.proofs.SpliceLemmas.{Crossed, begun-stays}
 use Rattle.splice_laws.proofs.EndLemmas.{not-ahead, settled-or, run_of, run-front, drop-front, Since, sent-running, sent-closing, sent_is_placed}
 
-module _ (r : Stream) (k : IsStream r) (w : IsWithin r) (x : PlayedEvent) (units : List SliceUnit) (stop : List (List ℕ) → ℤ) where
+module _ (r : TimedStream) (k : IsStream r) (w : NeverPassesHigh r) (x : PlayedEvent) (units : List SliceUnit) (stop : List (List ℕ) → ℤ) where
   abbrev CrossedSince : List (List ℕ) → Type 0
   CrossedSince [] = Unit {0}
   CrossedSince (p ∷ past) = Crossed r k x.start (record { packet = p; past = past }) × CrossedSince past
@@ -92,7 +92,7 @@ module _ (r : Stream) (k : IsStream r) (w : IsWithin r) (x : PlayedEvent) (units
 
 -- ---- slices that agree where their event begins stand in place alike
 
-module _ (r : Stream) (k : IsStream r) (one other : PlayedEvent → List SliceUnit) where
+module _ (r : TimedStream) (k : IsStream r) (one other : PlayedEvent → List SliceUnit) where
   abbrev pub Agree : List PlayedEvent → List (List ℕ) → Type 0
   Agree [] past = Unit {0}
   Agree (x ∷ xs) past = (begun r x past ≡ true → one x ≡ other x) × Agree xs past
@@ -124,7 +124,7 @@ module _ (r : Stream) (k : IsStream r) (one other : PlayedEvent → List SliceUn
         ap (λ l. (l ++ kept r xs p past) ++ flat_map (places one) (seen_after (p ∷ past) ps)) (agree_all xs p past ps h)
         ∙ ap (λ l. places other (record { packet = p; past = past }) ++ l) (placed-same (p ∷ past) ps h)
 
-agree_last : (r : Stream) (k : IsStream r) (w : IsWithin r) (units : PlayedEvent → List SliceUnit) (stop : PlayedEvent → List (List ℕ) → ℤ) (ps : List (List ℕ)) (xs : List PlayedEvent) →
+agree_last : (r : TimedStream) (k : IsStream r) (w : NeverPassesHigh r) (units : PlayedEvent → List SliceUnit) (stop : PlayedEvent → List (List ℕ) → ℤ) (ps : List (List ℕ)) (xs : List PlayedEvent) →
     EndSoon r xs stop ps → All (λ (x : PlayedEvent). stop x (reverse ps) ≡ x.stop) xs → IsConditioned r xs ps →
     Agree r k (λ (x : PlayedEvent). sent_whole r x (units x) (stop x) (reverse ps)) (λ (x : PlayedEvent). up_to_end x.stop (units x)) xs (reverse ps)
 agree_last r k w units stop ps [] n l d = tt

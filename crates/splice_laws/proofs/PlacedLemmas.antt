@@ -6,13 +6,13 @@ use Rattle.std.proofs.lemmas.List.Elements.{All-head, All-tail, All-cons, All-ni
 use Rattle.ts_packet.specs.Runs.{Seen, seen_after}
 use Rattle.ts_packet.proofs.Cases.{by_test}
 use Rattle.ts_packet.proofs.RunLemmas.{onto}
-use Rattle.splice_laws.specs.Splicing.{PlayedEvent, SliceUnit, Out, Stream, Network, Inserted, holds, outside, comes, passed, opens, begun, closed, out_of, inserted, rest, put_in, kept, all_inserted, all_rest, slice_at, all_slices_at, placed}
+use Rattle.splice_laws.specs.Splicing.{PlayedEvent, SliceUnit, Out, TimedStream, Network, Inserted, holds, outside, comes, passed, opens, begun, closed, out_of, inserted, rest, put_in, kept, all_inserted, all_rest, slice_at, all_slices_at, placed}
 use Rattle.splice_laws.specs.Laws.{IsStream, IsBefore, AreOrdered, CountsAt, Counts, CountedIsPlaced, CarriedIsPlaced}
 use Rattle.splice_laws.proofs.TimeLemmas.{starts_ordered, holds-below}
 use Rattle.splice_laws.proofs.StepLemmas.{true_or_false, or_left, both, drop-all, drop-take, joined_one}
 use Rattle.splice_laws.proofs.HistoryLemmas.{passed-lower, begun-passed, passed-dead, closed-begun, running-inside, out-grows, alone}
 
-module _ (r : Stream) (k : IsStream r) where
+module _ (r : TimedStream) (k : IsStream r) where
   -- where it opens, and had not begun, no unit had passed its start
   pub opens-first : (x : PlayedEvent) (p : List ℕ) (past : List (List ℕ)) → begun r x past ≡ false → opens r x p past ≡ true → passed r x.start past ≡ false
   opens-first x p past b o = by_test (passed r x.start past)
@@ -47,7 +47,7 @@ put_nil a b (inr e) = rw e (append-nil (put_in a))
 pub nothing_new : (units : List SliceUnit) (m n : ℕ) → m ≡ n → drop m (take n units) ≡ []
 nothing_new units m n e = rw e (drop-take n units)
 
-module _ (r : Stream) (k : IsStream r) (slice : PlayedEvent → List SliceUnit) (out : PlayedEvent → List (List ℕ) → ℕ) where
+module _ (r : TimedStream) (k : IsStream r) (slice : PlayedEvent → List SliceUnit) (out : PlayedEvent → List (List ℕ) → ℕ) where
   abbrev pub CountedAt : PlayedEvent → Seen → Type 0
   CountedAt x s = Counts r x (slice x) (out x) s
 
@@ -196,7 +196,7 @@ module _ (r : Stream) (k : IsStream r) (slice : PlayedEvent → List SliceUnit) 
         ∙ ap (λ l. puts s ++ l) (placed_after (p ∷ past) ps (counted_tail xs s (seen_after (p ∷ past) ps) n))
         ∙ sym (append_assoc (puts s) (flat_map puts (seen_after (p ∷ past) ps)) (all_rest r xs slice out (onto (p ∷ past) ps)))
 
-pub none_at_first : (r : Stream) (xs : List PlayedEvent) (slice : PlayedEvent → List SliceUnit) (out : PlayedEvent → List (List ℕ) → ℕ) → all_rest r xs slice out [] ≡ []
+pub none_at_first : (r : TimedStream) (xs : List PlayedEvent) (slice : PlayedEvent → List SliceUnit) (out : PlayedEvent → List (List ℕ) → ℕ) → all_rest r xs slice out [] ≡ []
 none_at_first r [] slice out = refl
 none_at_first r (x ∷ xs) slice out = none_at_first r xs slice out
 
@@ -206,7 +206,7 @@ counted_is_placed r k xs o slice out ps n =
 
 -- ---- the count by the greatest time
 
-module _ (r : Stream) (k : IsStream r) where
+module _ (r : TimedStream) (k : IsStream r) where
   out_counts : (x : PlayedEvent) (units : List SliceUnit) (past : List (List ℕ)) → CountsAt r x units (out_of r x units) past
   out_counts x units past = record {
     starts = λ b. by_test (closed r x past) (λ c. true_or_false (begun r x past) (closed-begun r k x past c) b) (λ c. simp (c, b));
@@ -224,7 +224,7 @@ all_of : {A : Type 0} (P : A → Type 0) → ((x : A) → P x) → (xs : List A)
 all_of P h [] = All-nil P
 all_of P h (x ∷ xs) = All-cons P x xs (h x) (all_of P h xs)
 
-pub out_counts_all : (r : Stream) → IsStream r → (xs : List PlayedEvent) (slice : PlayedEvent → List SliceUnit) (ps : List (List ℕ)) →
+pub out_counts_all : (r : TimedStream) → IsStream r → (xs : List PlayedEvent) (slice : PlayedEvent → List SliceUnit) (ps : List (List ℕ)) →
     All (λ (x : PlayedEvent). All (Counts r x (slice x) (out_of r x (slice x))) (seen_after [] ps)) xs
 out_counts_all r k xs slice ps =
     all_of (λ (x : PlayedEvent). All (Counts r x (slice x) (out_of r x (slice x))) (seen_after [] ps)) (λ (x : PlayedEvent). all_of (Counts r x (slice x) (out_of r x (slice x))) (out_is_count r k x (slice x)) (seen_after [] ps)) xs

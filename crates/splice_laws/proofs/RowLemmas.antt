@@ -8,7 +8,7 @@ use Rattle.ts_packet.specs.Runs.{Seen, seen_after}
 use Rattle.ts_packet.proofs.Cases.{by_test}
 use Rattle.unit_stream.specs.Times.{begins, unit_time}
 use Rattle.unit_stream.specs.Units.{Row, has_payload, rest_of_row, rows_of, rows, lead_in}
-use Rattle.splice_laws.specs.Splicing.{PlayedEvent, SliceUnit, Out, Network, Inserted, Stream, stream, slice_at, all_slices_at, put_in, kept, outside, parts, placed}
+use Rattle.splice_laws.specs.Splicing.{PlayedEvent, SliceUnit, Out, Network, Inserted, TimedStream, stream, slice_at, all_slices_at, put_in, kept, outside, parts, placed}
 use Rattle.splice_laws.proofs.PidLemmas.{pids_are_streams}
 use Rattle.splice_laws.specs.Rows.{Item, Own, Played, out_items, own_items, slice_items, slices_before, placed_units_of, is_between, units_between, unit_parts, carried_items}
 
@@ -86,7 +86,7 @@ module _ (sw : List ℕ) (pid : ℕ) (slice : PlayedEvent → List SliceUnit) (r
 
 -- ---- placed
 
-none_placed : (r : Stream) (xs : List PlayedEvent) (slice : PlayedEvent → List SliceUnit) (p : List ℕ) (past : List (List ℕ)) → r.begins p past ≡ false → all_slices_at r xs slice p past ≡ []
+none_placed : (r : TimedStream) (xs : List PlayedEvent) (slice : PlayedEvent → List SliceUnit) (p : List ℕ) (past : List (List ℕ)) → r.begins p past ≡ false → all_slices_at r xs slice p past ≡ []
 none_placed r [] slice p past b = refl
 none_placed r (x ∷ xs) slice p past b = let e : slice_at r x (slice x) p past ≡ [] = simp b in ap (λ l. put_in l ++ all_slices_at r xs slice p past) e ∙ none_placed r xs slice p past b
 

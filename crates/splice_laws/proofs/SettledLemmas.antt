@@ -5,9 +5,9 @@ use Rattle.std.proofs.Common.{◌≡◌, ℕ, List, [], ◌∷◌, Bool, true, f
 use Rattle.std.proofs.lemmas.Int.{ints}
 use Rattle.ts_packet.proofs.Cases.{by_test}
 use Rattle.unit_stream.specs.Times.{begins, begins_one, stamp, timed, raised, high, unit_time}
-use Rattle.splice_laws.specs.Splicing.{PlayedEvent, at_or_past, holds, stands, begun, Stream, opens, comes}
+use Rattle.splice_laws.specs.Splicing.{PlayedEvent, at_or_past, holds, stands, begun, TimedStream, opens, comes}
 use Rattle.splice_laws.specs.Laws.{Risen, IsStream}
-use Rattle.splice_laws.specs.Settled.{ending, holds_now, stands_now, begun_now, IsAhead, IsSettled, FlagsSettle, HoldsSettle, SwitchedPidsAreWithin, IsWithin, IsForgotten}
+use Rattle.splice_laws.specs.Settled.{ending, holds_now, stands_now, begun_now, IsAhead, IsSettled, FlagsSettle, HoldsSettle, SwitchedPidsNeverPassHigh, NeverPassesHigh, IsForgotten}
 use Rattle.splice_laws.proofs.PidLemmas.{raised-risen}
 
 -- a time below the start
@@ -46,12 +46,12 @@ stands-settled x (Some stop) t h h' b w g (inl e) = rw e refl
 stands-settled x (Some stop) t h h' b w g (inr k) = ap (λ s. (b && at_or_past x.start t) && s) (stood x stop h h' g k.0 k.1)
 
 -- whether the packet begins the event, and whether it begins a unit outside it
-opens-now : (r : Stream) → IsStream r → IsWithin r → (x : PlayedEvent) (known : Option ℤ) (p : List ℕ) (past : List (List ℕ)) → IsSettled x known (r.high (p ∷ past)) ⊎ IsForgotten r x known p past →
+opens-now : (r : TimedStream) → IsStream r → NeverPassesHigh r → (x : PlayedEvent) (known : Option ℤ) (p : List ℕ) (past : List (List ℕ)) → IsSettled x known (r.high (p ∷ past)) ⊎ IsForgotten r x known p past →
     comes r x.start p past && stands_now x known (r.high past) ≡ opens r x p past
 opens-now r k w x known p past (inl s) = stands-settled x known (r.time (p ∷ past)) (r.high past) (r.high (p ∷ past)) (r.begins p past) (w (p ∷ past)) (k.rises p past) s
 opens-now r k w x known p past (inr f) = ap (λ (a : Option ℤ). comes r x.start p past && stands_now x a (r.high past)) f.unknown ∙ ap (λ b. comes r x.start p past && b) (sym f.stands_not)
 
-leaves-now : (r : Stream) → IsWithin r → (x : PlayedEvent) (known : Option ℤ) (p : List ℕ) (past : List (List ℕ)) → IsSettled x known (r.high (p ∷ past)) ⊎ IsForgotten r x known p past →
+leaves-now : (r : TimedStream) → NeverPassesHigh r → (x : PlayedEvent) (known : Option ℤ) (p : List ℕ) (past : List (List ℕ)) → IsSettled x known (r.high (p ∷ past)) ⊎ IsForgotten r x known p past →
     r.begins p past && not (holds_now x known (r.time (p ∷ past))) ≡ r.begins p past && not (holds x (r.time (p ∷ past)))
 leaves-now r w x known p past (inl s) = ap (λ b. r.begins p past && not b) (holds-settled x known (r.time (p ∷ past)) (r.high (p ∷ past)) (w (p ∷ past)) s)
 leaves-now r w x known p past (inr f) =
@@ -121,5 +121,5 @@ within sw pid c (p ∷ past) =
     (λ o. simp (b, o) (risen-trans _ _ _ i (raised-risen (high sw past) (stamp p))))
     (λ o. simp (b, o) i))
 
-pub switched_pids_are_within : SwitchedPidsAreWithin
+pub switched_pids_are_within : SwitchedPidsNeverPassHigh
 switched_pids_are_within sw pid c past = within sw pid c past

@@ -6,7 +6,7 @@ use Rattle.std.proofs.lemmas.List.Elements.{All-head, All-tail}
 use Rattle.ts_packet.specs.Runs.{Seen, seen_after}
 use Rattle.ts_packet.proofs.Cases.{by_test}
 use Rattle.ts_packet.proofs.RunLemmas.{onto}
-use Rattle.splice_laws.specs.Splicing.{PlayedEvent, SliceUnit, Out, Stream, Network, at_or_past, below, holds, outside, comes, passed, opens, begun, put_in, kept, slice_at, all_slices_at, from, between, part, parts}
+use Rattle.splice_laws.specs.Splicing.{PlayedEvent, SliceUnit, Out, TimedStream, Network, at_or_past, below, holds, outside, comes, passed, opens, begun, put_in, kept, slice_at, all_slices_at, from, between, part, parts}
 use Rattle.splice_laws.specs.Laws.{IsStream, IsBefore, AreOrdered, IsCrossedOnce, IsConditioned, PlacedIsSplice}
 use Rattle.splice_laws.proofs.TimeLemmas.{starts_ordered, past_lower, holds-or_past, holds-past, not-below, timed_past}
 use Rattle.splice_laws.proofs.StepLemmas.{true_or_false}
@@ -42,7 +42,7 @@ glue_below : {A : Type 0} (F G D U W S P T C E Z : List A) → F ≡ D ++ G → 
     F ++ (U ++ P) ≡ (S ++ T) ++ (C ++ (G ++ (W ++ Z)))
 glue_below F G D U W S P T C E Z f u p s t e c = simp (f, u, p, s, t, e, c, append_assoc)
 
-module _ (r : Stream) (k : IsStream r) where
+module _ (r : TimedStream) (k : IsStream r) where
   -- the running unit is at or past the edge where one was
   abbrev Side : ℤ → List (List ℕ) → Type 0
   Side edge past = at_or_past edge (r.time past) ≡ passed r edge past

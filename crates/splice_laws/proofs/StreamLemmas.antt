@@ -10,7 +10,7 @@ use Rattle.ts_packet.proofs.Cases.{by_test}
 use Rattle.ts_packet.proofs.FieldLemmas.{payload_on-on}
 use Rattle.ts_packet.proofs.RunLemmas.{onto}
 use Rattle.unit_stream.specs.Times.{unit_time}
-use Rattle.splice_laws.specs.Splicing.{PlayedEvent, SliceUnit, Out, Network, Inserted, Stream, stream, begun, closed, out_of, inserted, rest, put_in, kept, outside}
+use Rattle.splice_laws.specs.Splicing.{PlayedEvent, SliceUnit, Out, Network, Inserted, TimedStream, stream, begun, closed, out_of, inserted, rest, put_in, kept, outside}
 use Rattle.splice_laws.specs.Laws.{IsStream, IsBefore, AreOrdered, Counts}
 use Rattle.splice_laws.specs.Streams.{Act, Through, Insert, closing, running, insert_on, all_closing, all_running, on_each, is_dropped, spliced_at, of_stream, is_among, IsOnce, StreamsCarryByCount, StreamsCarry, StreamsAreSpliced, StreamsCarryNow}
 use Rattle.splice_laws.proofs.StepLemmas.{true_or_false, or_left}
@@ -36,7 +36,7 @@ same-pid q pid p h g = let a = payload_on-on q p h in let b = payload_on-on pid 
 
 -- ---- before one packet
 
-module _ (r : Stream) (k : IsStream r) (slice : PlayedEvent → List SliceUnit) (out : PlayedEvent → List (List ℕ) → ℕ) where
+module _ (r : TimedStream) (k : IsStream r) (slice : PlayedEvent → List SliceUnit) (out : PlayedEvent → List (List ℕ) → ℕ) where
   abbrev all_units : List PlayedEvent → List ℕ → List (List ℕ) → List SliceUnit
   all_units xs p past = flat_map (λ (x : PlayedEvent). inserted (slice x) (out x) p past) xs
 
@@ -159,7 +159,7 @@ module _ (sw : List ℕ) (xs : List PlayedEvent) (p : List ℕ) (past : List (Li
 -- ---- all packets
 
 module _ (sw : List ℕ) (xs : List PlayedEvent) (piece : ℕ → PlayedEvent → List ℕ → List (List ℕ) → List SliceUnit) (left : ℕ → PlayedEvent → List (List ℕ) → List SliceUnit) (pid : ℕ) (h : IsOnce pid sw) where
-  abbrev r : Stream
+  abbrev r : TimedStream
   r = stream sw pid
 
   -- what is closed and what runs on is all that goes out
@@ -200,7 +200,7 @@ module _ (sw : List ℕ) (xs : List PlayedEvent) (piece : ℕ → PlayedEvent �
 
 -- ---- by a count
 
-module _ (r : Stream) (k : IsStream r) (xs : List PlayedEvent) (o : AreOrdered xs) (slice : PlayedEvent → List SliceUnit) (out : PlayedEvent → List (List ℕ) → ℕ) where
+module _ (r : TimedStream) (k : IsStream r) (xs : List PlayedEvent) (o : AreOrdered xs) (slice : PlayedEvent → List SliceUnit) (out : PlayedEvent → List (List ℕ) → ℕ) where
   abbrev PhasedBy : Seen → Type 0
   PhasedBy s = all_closing r xs (λ (y : PlayedEvent). inserted (slice y) (out y)) s.packet s.past ++ all_running r xs (λ (y : PlayedEvent). inserted (slice y) (out y)) s.packet s.past ≡ flat_map (λ (x : PlayedEvent). inserted (slice x) (out x) s.packet s.past) xs
 
@@ -227,7 +227,7 @@ streams_are_spliced sw xs o slice ps pid h d = streams_carry sw xs o slice ps pi
 
 -- ---- by the ends in force
 
-module _ (r : Stream) (k : IsStream r) (units : PlayedEvent → List SliceUnit) (stop : PlayedEvent → List (List ℕ) → ℤ) where
+module _ (r : TimedStream) (k : IsStream r) (units : PlayedEvent → List SliceUnit) (stop : PlayedEvent → List (List ℕ) → ℤ) where
   abbrev now : PlayedEvent → List ℕ → List (List ℕ) → List SliceUnit
   now x = sent_at r x (units x) (stop x)
 

@@ -4,9 +4,9 @@ use Rattle.std.proofs.Common.{◌≡◌, ℕ, suc, List, [], ◌∷◌, Bool, tr
 use Rattle.std.proofs.lemmas.Int.{ints}
 use Rattle.std.proofs.lemmas.List.Elements.{All-head, All-tail}
 use Rattle.ts_packet.proofs.Cases.{by_test}
-use Rattle.splice_laws.specs.Splicing.{PlayedEvent, SliceUnit, Stream, holds, stands, comes, opens, begun, closed, due, front}
+use Rattle.splice_laws.specs.Splicing.{PlayedEvent, SliceUnit, TimedStream, holds, stands, comes, opens, begun, closed, due, front}
 use Rattle.splice_laws.specs.Laws.{Risen, IsStream}
-use Rattle.splice_laws.specs.Settled.{IsAhead, IsWithin, NothingEarly, NothingLate, NearIsPastForgotten}
+use Rattle.splice_laws.specs.Settled.{IsAhead, NeverPassesHigh, NothingEarly, NothingLate, NearIsPastForgotten}
 use Rattle.splice_laws.proofs.TimeLemmas.{stands-later}
 use Rattle.splice_laws.proofs.HistoryLemmas.{closed-begun}
 use Rattle.splice_laws.proofs.SettledLemmas.{early, early-out}
@@ -16,7 +16,7 @@ ahead-before None h' edge g a = tt
 ahead-before (Some h) None edge g a = absurd g
 ahead-before (Some h) (Some h') edge g a = grind (arith, ints)
 
-not_begun : (r : Stream) → IsStream r → IsWithin r → (x : PlayedEvent) (past : List (List ℕ)) → IsAhead (r.high past) x.start → begun r x past ≡ false
+not_begun : (r : TimedStream) → IsStream r → NeverPassesHigh r → (x : PlayedEvent) (past : List (List ℕ)) → IsAhead (r.high past) x.start → begun r x past ≡ false
 not_begun r k w x [] a = refl
 not_begun r k w x (p ∷ past) a =
     let i = not_begun r k w x past (ahead-before (r.high past) (r.high (p ∷ past)) x.start (k.rises p past) a) in

@@ -3,7 +3,7 @@ use Rattle.std.specs.Prelude.{◌≡◌, ℕ, ◌==◌, ◌++◌, ◌∷◌, ◌
 use Rattle.ts_packet.specs.Fields.{payload_on}
 use Rattle.ts_packet.specs.Runs.{Seen, seen_after}
 use Rattle.unit_stream.specs.Fates.{is_left_out}
-use Rattle.splice_laws.specs.Splicing.{PlayedEvent, SliceUnit, Out, Network, Inserted, Stream, stream, closed, out_of, inserted, rest, outside, carried, carried_by}
+use Rattle.splice_laws.specs.Splicing.{PlayedEvent, SliceUnit, Out, Network, Inserted, TimedStream, stream, closed, out_of, inserted, rest, outside, carried, carried_by}
 use Rattle.splice_laws.specs.Laws.{AreOrdered, IsConditioned, Counts}
 use Rattle.splice_laws.specs.Ends.{sent_at, unsent, carried_now, EndSoon}
 use Rattle.splice_laws.specs.Rows.{carried_items, splice_units}
@@ -14,20 +14,20 @@ pub data Act : Type 0 where
   Insert : ℕ → SliceUnit → Act
 
 -- What goes out of a slice before the packet that closes it, and of one that runs on; `piece` is what goes out before a packet.
-abbrev pub closing : Stream → PlayedEvent → (List ℕ → List (List ℕ) → List SliceUnit) → List ℕ → List (List ℕ) → List SliceUnit
+abbrev pub closing : TimedStream → PlayedEvent → (List ℕ → List (List ℕ) → List SliceUnit) → List ℕ → List (List ℕ) → List SliceUnit
 closing r x piece p past = if closed r x (p ∷ past) then piece p past else []
 
-abbrev pub running : Stream → PlayedEvent → (List ℕ → List (List ℕ) → List SliceUnit) → List ℕ → List (List ℕ) → List SliceUnit
+abbrev pub running : TimedStream → PlayedEvent → (List ℕ → List (List ℕ) → List SliceUnit) → List ℕ → List (List ℕ) → List SliceUnit
 running r x piece p past = if closed r x (p ∷ past) then [] else piece p past
 
 abbrev pub insert_on : ℕ → List SliceUnit → List Act
 insert_on pid us = map (λ (u : SliceUnit). Insert pid u) us
 
 -- of all events, in order of start
-abbrev pub all_closing : Stream → List PlayedEvent → (PlayedEvent → List ℕ → List (List ℕ) → List SliceUnit) → List ℕ → List (List ℕ) → List SliceUnit
+abbrev pub all_closing : TimedStream → List PlayedEvent → (PlayedEvent → List ℕ → List (List ℕ) → List SliceUnit) → List ℕ → List (List ℕ) → List SliceUnit
 all_closing r xs piece p past = flat_map (λ (x : PlayedEvent). closing r x (piece x) p past) xs
 
-abbrev pub all_running : Stream → List PlayedEvent → (PlayedEvent → List ℕ → List (List ℕ) → List SliceUnit) → List ℕ → List (List ℕ) → List SliceUnit
+abbrev pub all_running : TimedStream → List PlayedEvent → (PlayedEvent → List ℕ → List (List ℕ) → List SliceUnit) → List ℕ → List (List ℕ) → List SliceUnit
 all_running r xs piece p past = flat_map (λ (x : PlayedEvent). running r x (piece x) p past) xs
 
 -- on each PID of some

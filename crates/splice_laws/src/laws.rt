@@ -2,7 +2,7 @@
 
 ghost use Rattle.splice_laws.specs.Laws.{OutGrows, CountedIsPlaced, CarriedIsPlaced, PlacedIsSplice, PidsAreStreams};
 ghost use Rattle.splice_laws.specs.Rows.{CarriesPlacedUnits, CarriesSpliceUnits};
-ghost use Rattle.splice_laws.specs.Settled.{FlagsSettle, HoldsSettle, SwitchedPidsAreWithin, NothingEarly, NothingLate, NearIsPastForgotten};
+ghost use Rattle.splice_laws.specs.Settled.{FlagsSettle, HoldsSettle, SwitchedPidsNeverPassHigh, NothingEarly, NothingLate, NearIsPastForgotten};
 ghost use Rattle.splice_laws.specs.Ends.{SentIsPlaced, EndsMayComeEarlier};
 ghost use Rattle.splice_laws.specs.Streams.{StreamsCarryByCount, StreamsCarry, StreamsAreSpliced, StreamsCarryNow};
 
@@ -58,7 +58,7 @@ pub fn holds_settle()
 
 /// A switched PID has no time past the greatest.
 pub fn switched_pids_are_within()
-    ensures { SwitchedPidsAreWithin }
+    ensures { SwitchedPidsNeverPassHigh }
 {}
 
 /// Where ends come to be earlier while their slices run, what has gone out of each slice stands

@@ -4,7 +4,7 @@ use Rattle.std.specs.Prelude.{ℤ, pos}
 use Rattle.std.specs.Int.{int_max}
 use Rattle.std.proofs.Common.{◌≡◌, ℕ, zero, suc, List, [], ◌∷◌, Bool, true, false, not, refl, Option, None, Some}
 use Rattle.event_table.specs.Standing.{Standing}
-use Rattle.splice_laws.specs.Splicing.{SliceUnit, Stream}
+use Rattle.splice_laws.specs.Splicing.{SliceUnit, TimedStream}
 use Rattle.splice_plans.specs.Playing.{Adverts, History, played, as_played, end_known, is_inside, due_at, closing_at, left_at_end, is_crossed}
 
 abbrev is_own : List ℕ → Bool
@@ -35,7 +35,7 @@ abbrev high_of : List (List ℕ) → Option ℤ
 high_of [] = None
 high_of (p ∷ past) = more (high_of past) (told p)
 
-abbrev toy : Stream
+abbrev toy : TimedStream
 toy = record { begins = λ p past. is_own p; time = time_of; high = high_of; carries = is_own }
 
 -- [10, 30), and the same ended at 20

@@ -9,9 +9,9 @@ use Rattle.ts_packet.proofs.Cases.{by_test}
 use Rattle.unit_stream.specs.Times.{high}
 use Rattle.event_table.specs.Standing.{Standing, end_of}
 use Rattle.armed_laws.specs.Laws.{Becomes, Grows, AreApart, IsApartOf, NoneMeet}
-use Rattle.splice_laws.specs.Splicing.{PlayedEvent, Stream, stream, at_or_past}
+use Rattle.splice_laws.specs.Splicing.{PlayedEvent, TimedStream, stream, at_or_past}
 use Rattle.splice_laws.specs.Laws.{IsStream, Risen}
-use Rattle.splice_laws.specs.Settled.{IsAhead, IsSettled, IsSettledSince, IsWithin, begun_now, stands_now}
+use Rattle.splice_laws.specs.Settled.{IsAhead, IsSettled, IsSettledSince, NeverPassesHigh, begun_now, stands_now}
 use Rattle.splice_laws.proofs.EndLemmas.{not-ahead}
 use Rattle.splice_laws.proofs.PidLemmas.{pids_are_streams}
 use Rattle.splice_laws.proofs.SettledLemmas.{flags_settle, switched_pids_are_within}
@@ -146,7 +146,7 @@ ahead-earlier None b edge r h = tt
 ahead-earlier (Some a) None edge r h = absurd r
 ahead-earlier (Some a) (Some b) edge r h = omega (arith, ints, r, h)
 
-module _ (r : Stream) (k : IsStream r) (w : IsWithin r) (x : PlayedEvent) (known : List (List ℕ) → Option ℤ) where
+module _ (r : TimedStream) (k : IsStream r) (w : NeverPassesHigh r) (x : PlayedEvent) (known : List (List ℕ) → Option ℤ) where
   begun-by : (a b c s : Bool) (edge : ℤ) (t : Option ℤ) → (a || ((b && c) && s)) ≡ true → (a ≡ true) ⊎ (c ≡ true)
   begun-by true b c s edge t h = inl refl
   begun-by false true true s edge t h = inr refl
@@ -172,7 +172,7 @@ ends_never_rise switched pid c ads steady events h x = λ p past b.
     (events past) (events (p ∷ past)) (h.grows one past)
 
 -- at each past of a run
-module _ (ads : Adverts) (steady : AreSteady ads) (r : Stream) (events : History) (h : IsHistory r.high events) where
+module _ (ads : Adverts) (steady : AreSteady ads) (r : TimedStream) (events : History) (h : IsHistory r.high events) where
   abbrev Since : List (List ℕ) → Standing → Type 0
   Since past e = is_played ads e ≡ true → IsSettledSince r (as_played e) (end_known ads events e.start) past
 

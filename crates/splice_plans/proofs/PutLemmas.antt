@@ -4,7 +4,7 @@ use Rattle.std.specs.Prelude.{ℤ, Option, map, flat_map}
 use Rattle.std.proofs.lemmas.Bool.{true≢false}
 use Rattle.unit_stream.specs.Times.{begins_one}
 use Rattle.event_table.specs.Standing.{Standing}
-use Rattle.splice_laws.specs.Splicing.{PlayedEvent, SliceUnit, Stream, stream}
+use Rattle.splice_laws.specs.Splicing.{PlayedEvent, SliceUnit, TimedStream, stream}
 use Rattle.splice_laws.specs.Settled.{begun_now, closed_now}
 use Rattle.output_laws.specs.Output.{Put}
 use Rattle.splice_plans.specs.Playing.{Turns, played, as_played, end_known, sent_of_begun, sent_known, due_at, closing_at, running_at}
@@ -23,7 +23,7 @@ none-or : (b : Bool) (us : List SliceUnit) → us ≡ [] → (if b then [] else 
 none-or true us h = refl
 none-or false us h = h
 
-module _ (turns : Turns) (r : Stream) (x : PlayedEvent) (known : List (List ℕ) → Option ℤ) (units : List SliceUnit) (p : List ℕ) (past : List (List ℕ)) (h : turns p past ≡ false) where
+module _ (turns : Turns) (r : TimedStream) (x : PlayedEvent) (known : List (List ℕ) → Option ℤ) (units : List SliceUnit) (p : List ℕ) (past : List (List ℕ)) (h : turns p past ≡ false) where
   same : sent_known turns r x known units (p ∷ past) ≡ sent_known turns r x known units past
   same = pick (turns p past) (not (closed_now r x known past) && begun_now r x known (p ∷ past)) (sent_of_begun turns r x known units p past) (sent_known turns r x known units past) h
     where

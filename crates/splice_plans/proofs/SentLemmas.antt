@@ -3,7 +3,7 @@ use Rattle.std.proofs.Common.{◌≡◌, ℕ, List, [], ◌∷◌, ◌++◌, Boo
 use Rattle.std.specs.Prelude.{ℤ}
 use Rattle.std.proofs.lemmas.Bool.{true≢false}
 use Rattle.ts_packet.proofs.Cases.{by_test}
-use Rattle.splice_laws.specs.Splicing.{PlayedEvent, SliceUnit, Stream, due}
+use Rattle.splice_laws.specs.Splicing.{PlayedEvent, SliceUnit, TimedStream, due}
 use Rattle.splice_laws.specs.Laws.{IsStream, Risen}
 use Rattle.splice_laws.specs.Settled.{begun_now, closed_now}
 use Rattle.splice_laws.specs.Ends.{longest_front}
@@ -45,7 +45,7 @@ or-first : (a b : Bool) → (a || b) ≡ false → a ≡ false
 or-first true b h = absurd (true≢false h)
 or-first false b h = refl
 
-module _ (turns : Turns) (r : Stream) (k : IsStream r) (x : PlayedEvent) (known : List (List ℕ) → Option ℤ) (units : List SliceUnit) (falls : EndsFall r x known) where
+module _ (turns : Turns) (r : TimedStream) (k : IsStream r) (x : PlayedEvent) (known : List (List ℕ) → Option ℤ) (units : List SliceUnit) (falls : EndsFall r x known) where
   abbrev sent : List (List ℕ) → List SliceUnit
   sent = sent_known turns r x known units
 

@@ -15,7 +15,7 @@ use Rattle.armed_events.specs.Arming.{stands, standing}
 use Rattle.armed_events.specs.Obeying.{Obeys}
 use Rattle.armed_events.specs.Valuing.{values_by}
 use Rattle.program_follower.specs.Program.{behind_head}
-use Rattle.splice_laws.specs.Splicing.{PlayedEvent, SliceUnit, Stream, stream, below}
+use Rattle.splice_laws.specs.Splicing.{PlayedEvent, SliceUnit, TimedStream, stream, below}
 use Rattle.splice_laws.specs.Streams.{is_among, IsOnce}
 use Rattle.splice_laws.specs.Settled.{begun_now, closed_now}
 use Rattle.output_laws.specs.Output.{Packing, Move, counter_steps}
@@ -33,7 +33,7 @@ use Rattle.splice_plans.specs.Adverts.{adverts_of, packed_units}
 
 -- ---- one event in one stream
 
-module _ (r : Stream) (x : PlayedEvent) (known : List (List ℕ) → Option ℤ) where
+module _ (r : TimedStream) (x : PlayedEvent) (known : List (List ℕ) → Option ℤ) where
   abbrev pub stage_known : List (List ℕ) → Stage
   stage_known past = if closed_now r x known past then Over else (if begun_now r x known past then Running else Waiting)
 

@@ -1,7 +1,7 @@
 -- What holds of every switch.
 use Rattle.std.specs.Prelude.{◌≡◌, ℕ, ◌∷◌, ◌++◌, ◌⊎◌, List, [], true, false, Option, None, Some, ℤ, ◌≤ℤ◌}
 use Rattle.unit_stream.specs.Times.{begins_one}
-use Rattle.splice_laws.specs.Splicing.{PlayedEvent, SliceUnit, Stream}
+use Rattle.splice_laws.specs.Splicing.{PlayedEvent, SliceUnit, TimedStream}
 use Rattle.splice_laws.specs.Laws.{IsStream}
 use Rattle.splice_laws.specs.Settled.{IsAhead, begun_now}
 use Rattle.splice_plans.specs.Playing.{Adverts, History, Turns, sent_known}
@@ -24,10 +24,10 @@ EndFalls high (Some before) None = ⊥
 EndFalls high (Some before) (Some after) = (after ≤ℤ before) × ((before ≡ after) ⊎ IsAhead high after)
 
 -- so it is with each packet once the event has begun
-abbrev pub EndsFall : Stream → PlayedEvent → (List (List ℕ) → Option ℤ) → Type 0
+abbrev pub EndsFall : TimedStream → PlayedEvent → (List (List ℕ) → Option ℤ) → Type 0
 EndsFall r x known = (p : List ℕ) (past : List (List ℕ)) → begun_now r x known past ≡ true → EndFalls (r.high past) (known past) (known (p ∷ past))
 
 -- THE LAW OF GROWTH, FOR ONE EVENT: its units that are out stay out, in their order
 abbrev pub SentGrows : Type 0
-SentGrows = (turns : Turns) (r : Stream) → IsStream r → (x : PlayedEvent) (known : List (List ℕ) → Option ℤ) (units : List SliceUnit) → EndsFall r x known →
+SentGrows = (turns : Turns) (r : TimedStream) → IsStream r → (x : PlayedEvent) (known : List (List ℕ) → Option ℤ) (units : List SliceUnit) → EndsFall r x known →
     (p : List ℕ) (past : List (List ℕ)) → (more : List SliceUnit) × (sent_known turns r x known units (p ∷ past) ≡ sent_known turns r x known units past ++ more)

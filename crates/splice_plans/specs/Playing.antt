@@ -4,7 +4,7 @@ use Rattle.std.specs.Prelude.{ℕ, ◌∷◌, List, [], Bool, false, not, ◌&&�
 use Rattle.std.specs.List.{list_any}
 use Rattle.std.specs.Ordering.{int_eq}
 use Rattle.event_table.specs.Standing.{Standing, end_of}
-use Rattle.splice_laws.specs.Splicing.{PlayedEvent, SliceUnit, Stream, holds, below, passed}
+use Rattle.splice_laws.specs.Splicing.{PlayedEvent, SliceUnit, TimedStream, holds, below, passed}
 use Rattle.splice_laws.specs.Settled.{begun_now, closed_now}
 use Rattle.splice_laws.specs.Ends.{up_to_end, longest_front}
 
@@ -57,7 +57,7 @@ up_to_known (Some stop) units = up_to_end stop units
 abbrev pub Turns : Type 0
 Turns = List ℕ → List (List ℕ) → Bool
 
-module _ (turns : Turns) (r : Stream) (x : PlayedEvent) (known : List (List ℕ) → Option ℤ) (units : List SliceUnit) where
+module _ (turns : Turns) (r : TimedStream) (x : PlayedEvent) (known : List (List ℕ) → Option ℤ) (units : List SliceUnit) where
   -- what is out of an event that has begun and was not closed before, with a unit start
   abbrev pub sent_of_begun : List ℕ → List (List ℕ) → List SliceUnit
   sent_of_begun p past = if closed_now r x known (p ∷ past) then up_to_known (known (p ∷ past)) units
@@ -85,6 +85,6 @@ module _ (turns : Turns) (r : Stream) (x : PlayedEvent) (known : List (List ℕ)
   left_at_end past = if begun_now r x known past && not (closed_now r x known past) then drop (length (sent_known past)) (up_to_known (known past) units) else []
 
 -- a unit below the edge began after one at or past it
-abbrev pub is_crossed : Stream → ℤ → List (List ℕ) → Bool
+abbrev pub is_crossed : TimedStream → ℤ → List (List ℕ) → Bool
 is_crossed r edge [] = false
 is_crossed r edge (p ∷ past) = is_crossed r edge past || (r.begins p past && (passed r edge past && below edge (r.time (p ∷ past))))

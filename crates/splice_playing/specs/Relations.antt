@@ -15,7 +15,7 @@ use Rattle.armed_events.specs.Arming.{stands, standing}
 use Rattle.armed_events.specs.Obeying.{Obeys}
 use Rattle.armed_events.specs.Valuing.{values_by}
 use Rattle.program_follower.specs.Program.{behind_head}
-use Rattle.splice_laws.specs.Splicing.{PlayedEvent, SliceUnit, Stream, stream, below}
+use Rattle.splice_laws.specs.Splicing.{PlayedEvent, SliceUnit, TimedStream, stream, below}
 use Rattle.splice_laws.specs.Settled.{begun_now, closed_now}
 use Rattle.output_laws.specs.Output.{Packing, Move, counter_steps}
 use Rattle.ad_library.specs.Advertisements.{Advertisement}

@@ -9,7 +9,7 @@ use Rattle.std.specs.Prelude.{All}
 use Rattle.std.proofs.lemmas.List.Elements.{All-head, All-tail}
 use Rattle.event_table.specs.Standing.{Standing, end_of}
 use Rattle.armed_laws.specs.Laws.{Becomes, Grows}
-use Rattle.splice_laws.specs.Splicing.{PlayedEvent, SliceUnit, Stream, holds, comes}
+use Rattle.splice_laws.specs.Splicing.{PlayedEvent, SliceUnit, TimedStream, holds, comes}
 use Rattle.splice_laws.specs.Laws.{Risen}
 use Rattle.splice_laws.specs.Settled.{IsAhead, holds_now, stands_now, begun_now, closed_now}
 use Rattle.splice_laws.specs.Ends.{longest_front}
@@ -89,7 +89,7 @@ module _ (ads : Adverts) (steady : AreSteady ads) (line : Option ℤ) (t : Optio
 
 -- ---- an event's own end counts for nothing, where one is known
 
-module _ (r : Stream) (start : ℤ) (stop other : ℤ) (name called : ℕ) (known : List (List ℕ) → Option ℤ) where
+module _ (r : TimedStream) (start : ℤ) (stop other : ℤ) (name called : ℕ) (known : List (List ℕ) → Option ℤ) where
   abbrev a : PlayedEvent
   a = record { start = start; stop = stop; name = name }
 

@@ -3,7 +3,7 @@ use Rattle.std.proofs.Common.{◌≡◌, ℕ, List, [], ◌∷◌, ◌++◌, Boo
 use Rattle.std.proofs.lemmas.List.{append-nil}
 use Rattle.std.proofs.lemmas.Bool.{true≢false}
 use Rattle.ts_packet.proofs.Cases.{by_test}
-use Rattle.splice_laws.specs.Splicing.{PlayedEvent, SliceUnit, Stream, begun, closed, rest}
+use Rattle.splice_laws.specs.Splicing.{PlayedEvent, SliceUnit, TimedStream, begun, closed, rest}
 use Rattle.splice_laws.specs.Laws.{IsStream, Counts, CountsAt}
 use Rattle.splice_laws.specs.Settled.{begun_now, closed_now}
 use Rattle.splice_laws.proofs.EndLemmas.{IsFront, front-trans, front-take, front-length, drop-front}
@@ -16,7 +16,7 @@ pub drop-all : (us : List SliceUnit) → drop (length us) us ≡ []
 drop-all [] = refl
 drop-all (u ∷ us) = drop-all us
 
-module _ (turns : Turns) (r : Stream) (k : IsStream r) (x : PlayedEvent) (known : List (List ℕ) → Option ℤ) (units : List SliceUnit) (falls : EndsFall r x known) where
+module _ (turns : Turns) (r : TimedStream) (k : IsStream r) (x : PlayedEvent) (known : List (List ℕ) → Option ℤ) (units : List SliceUnit) (falls : EndsFall r x known) where
   abbrev sent : List (List ℕ) → List SliceUnit
   sent = sent_known turns r x known units
 

@@ -7,7 +7,7 @@ use Rattle.ts_packet.proofs.Cases.{by_test}
 use Rattle.unit_stream.specs.Times.{begins_one, high}
 use Rattle.event_table.specs.Standing.{Standing, end_of}
 use Rattle.armed_laws.specs.Laws.{Becomes, Grows}
-use Rattle.splice_laws.specs.Splicing.{PlayedEvent, SliceUnit, Stream, stream, closed, inserted, rest}
+use Rattle.splice_laws.specs.Splicing.{PlayedEvent, SliceUnit, TimedStream, stream, closed, inserted, rest}
 use Rattle.splice_laws.specs.Laws.{IsStream}
 use Rattle.splice_laws.specs.Settled.{IsAhead, begun_now, closed_now}
 use Rattle.splice_laws.proofs.PidLemmas.{pids_are_streams}
@@ -46,7 +46,7 @@ flat-map f [] = refl
 flat-map f (e ∷ es) = ap (λ l. f (as_played e) ++ l) (flat-map f es)
 
 module _ (switched : List ℕ) (ads : Adverts) (steady : AreSteady ads) (events : History) (h : IsHistory (high switched) events) (pid : ℕ) (c : Contains switched pid) (whole : List (List ℕ)) where
-  abbrev r : Stream
+  abbrev r : TimedStream
   r = stream switched pid
 
   abbrev k : IsStream (stream switched pid)

@@ -10,9 +10,9 @@ use Rattle.ts_packet.specs.Runs.{Seen, seen_after, onto}
 use Rattle.ts_packet.proofs.Cases.{by_test}
 use Rattle.unit_stream.specs.Times.{begins, begins_one, high}
 use Rattle.event_table.specs.Standing.{Standing, end_of}
-use Rattle.splice_laws.specs.Splicing.{PlayedEvent, SliceUnit, Stream, stream, at_or_past, below, passed, comes, begun}
+use Rattle.splice_laws.specs.Splicing.{PlayedEvent, SliceUnit, TimedStream, stream, at_or_past, below, passed, comes, begun}
 use Rattle.splice_laws.specs.Laws.{IsStream, IsCrossedOnce, Risen}
-use Rattle.splice_laws.specs.Settled.{IsAhead, IsSettled, IsWithin, begun_now, closed_now, holds_now, stands_now}
+use Rattle.splice_laws.specs.Settled.{IsAhead, IsSettled, NeverPassesHigh, begun_now, closed_now, holds_now, stands_now}
 use Rattle.splice_laws.specs.Ends.{up_to_end, longest_front}
 use Rattle.splice_laws.proofs.TimeLemmas.{not-below, timed_past}
 use Rattle.splice_laws.proofs.PidLemmas.{pids_are_streams}
@@ -49,7 +49,7 @@ held x stop None h w a l s = absurd (true≢false (sym s))
 held x stop (Some t) None w a l s = absurd w
 held x stop (Some t) (Some h) w a l s = grind (arith, ints)
 
-module _ (turns : Turns) (r : Stream) (k : IsStream r) (w : IsWithin r) (x : PlayedEvent) (known : List (List ℕ) → Option ℤ) (units : List SliceUnit) (falls : EndsFall r x known)
+module _ (turns : Turns) (r : TimedStream) (k : IsStream r) (w : NeverPassesHigh r) (x : PlayedEvent) (known : List (List ℕ) → Option ℤ) (units : List SliceUnit) (falls : EndsFall r x known)
     (turned : (p : List ℕ) (past : List (List ℕ)) → r.begins p past ≡ true → turns p past ≡ true) where
   abbrev sent : List (List ℕ) → List SliceUnit
   sent = sent_known turns r x known units

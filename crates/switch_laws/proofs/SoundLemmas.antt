@@ -10,7 +10,7 @@ use Rattle.unit_stream.specs.Times.{begins_one}
 use Rattle.unit_stream.specs.Fates.{is_left_out}
 use Rattle.unit_stream.specs.UnitPackets.{IsPacked}
 use Rattle.event_table.specs.Standing.{Standing}
-use Rattle.splice_laws.specs.Splicing.{PlayedEvent, SliceUnit, Stream, stream, front}
+use Rattle.splice_laws.specs.Splicing.{PlayedEvent, SliceUnit, TimedStream, stream, front}
 use Rattle.splice_laws.specs.Settled.{begun_now, closed_now}
 use Rattle.splice_laws.specs.Ends.{longest_front}
 use Rattle.output_laws.specs.Output.{Move, Keep, Leave, Put, Packing, Sound, Along}
@@ -53,7 +53,7 @@ module _ (P : SliceUnit → Type 0) where
   each-known None us a = tt
   each-known (Some stop) us a = each-filter (λ (u : SliceUnit). lt_z u.time stop) us a
 
-  module _ (turns : Turns) (r : Stream) (x : PlayedEvent) (known : List (List ℕ) → Option ℤ) (units : List SliceUnit) (a : AllByRecursion P units) where
+  module _ (turns : Turns) (r : TimedStream) (x : PlayedEvent) (known : List (List ℕ) → Option ℤ) (units : List SliceUnit) (a : AllByRecursion P units) where
     each-begun : (p : List ℕ) (past : List (List ℕ)) → Each (sent_of_begun turns r x known units p past)
     each-begun p past =
         let us = up_to_known (known (p ∷ past)) units in

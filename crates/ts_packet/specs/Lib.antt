@@ -9,3 +9,4 @@ pub mod Following
 pub mod Numbering
 pub mod Clock
 pub mod FirstFault
+pub mod Filling

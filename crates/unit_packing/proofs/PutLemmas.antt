@@ -5,12 +5,13 @@ use Rattle.std.specs.Prelude.{OnOk, IfErr}
 use Rattle.std.proofs.Math.ListN.{drop_of_length-le}
 use Rattle.std.proofs.Math.Nat.{le_refl, min_comm}
 use Rattle.std.proofs.lemmas.Bool.{cases_lt}
+use Rattle.ts_packet.specs.Filling.{packets_for}
 use Rattle.ts_packet.specs.Numbering.{Step, Inserted, Counts}
 use Rattle.ts_packet.specs.declared.counter.Counter.{Counter}
 use Rattle.ts_packet.specs.Packets.{packet_fault}
 use Rattle.unit_stream.specs.UnitPackets.{put_in}
-use Rattle.unit_packing.specs.Packing.{room, unit_packet, packets_for, later_packets, rest_packets, unit_packets}
-use Rattle.unit_packing.specs.Putting.{next_number, PutFails}
+use Rattle.unit_packing.specs.Packing.{room, unit_packet, later_packets, rest_packets, unit_packets}
+use Rattle.unit_packing.specs.Putting.{next_number, UnitPutFails}
 use borrow.Rule.Slice.PartMut.{put_mid}
 use Rattle.pes_time.specs.declared.head.PesHead.{PesHead}
 use Rattle.pes_time.specs.Stamps.{head_of, is_split, restamped}
@@ -86,7 +87,7 @@ pub same_counts : (a b : Counter) (steps : List Step) → a ≡ b → Counts b s
 same_counts a b steps e h = rw e h
 
 pub fails_because : (counter : Counter) (steps : List Step) (packets put : List (List ℕ)) (packet : List ℕ) (left : List (List ℕ)) (F : List (List ℕ) → List ℕ → Type 0)
-    → packets ≡ put ++ packet ∷ left → F put packet → Counts counter (put_in put steps) → PutFails counter steps packets F
+    → packets ≡ put ++ packet ∷ left → F put packet → Counts counter (put_in put steps) → UnitPutFails counter steps packets F
 fails_because counter steps packets put packet left F e f h = record { put = put; packet = packet; left = left; all = e; fault = f; counted = h }
 
 -- ---- a unit whole: its first packet, and the rest
@@ -100,7 +101,7 @@ if_err_more (Ok x) f h = h
 if_err_more (Err e) f h = f e h
 
 pub fails_more : (counter : Counter) (steps : List Step) (first : List ℕ) (rest all : List (List ℕ)) (F G : List (List ℕ) → List ℕ → Type 0) → all ≡ first ∷ rest
-    → ((put : List (List ℕ)) (p : List ℕ) → F put p → G (first ∷ put) p) → PutFails counter (Inserted ∷ steps) rest F → PutFails counter steps all G
+    → ((put : List (List ℕ)) (p : List ℕ) → F put p → G (first ∷ put) p) → UnitPutFails counter (Inserted ∷ steps) rest F → UnitPutFails counter steps all G
 fails_more counter steps first rest all F G e f k = record {
   put = first ∷ k.put;
   packet = k.packet;

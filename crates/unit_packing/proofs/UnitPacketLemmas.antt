@@ -5,9 +5,10 @@ use Rattle.std.proofs.lemmas.Grind.{common_steps}
 use Rattle.std.proofs.lemmas.Bool.{eq-eqb}
 use Rattle.std.proofs.lemmas.List.{length-drop, length-take, take-append-drop}
 use Rattle.std.proofs.lemmas.List.Elements.{All-cons, All-nil}
+use Rattle.ts_packet.specs.Filling.{packets_for}
 use Rattle.ts_packet.specs.Fields.{on, payload_on, bytes, or_none, random_access}
 use Rattle.unit_stream.specs.UnitPackets.{AllOn, GoOn, CountsFrom, IsPacked}
-use Rattle.unit_packing.specs.Packing.{room, unit_packet, packets_for, later_packets, rest_packets, unit_packets}
+use Rattle.unit_packing.specs.Packing.{room, unit_packet, later_packets, rest_packets, unit_packets}
 use Rattle.unit_packing.specs.Laws.{IsPlain}
 use Rattle.unit_packing.proofs.SaidLemmas.{Says, said, said_access, size}
 

@@ -2,6 +2,7 @@
 -- unit as fit, the first alone with payload_unit_start_indicator. A packet that the bytes don't fill has an adaptation field before
 -- them, and so has the first where random access is marked.
 use Rattle.std.specs.Prelude.{ℕ, zero, suc, ◌+◌, ◌-◌, ◌/◌, ◌%◌, ◌==◌, List, [], ◌∷◌, ◌++◌, Bool, true, false, if◌then◌else◌, length, take, drop, replicate}
+use Rattle.ts_packet.specs.Filling.{packets_for}
 
 -- how many bytes of the unit fit: random access takes adaptation_field_length and a byte of flags
 abbrev pub room : Bool → ℕ
@@ -23,10 +24,6 @@ front pid n start access size = 71 ∷ (pid / 256 + (if start then 64 else 0)) �
 -- a packet of a unit with this counter and these bytes of it
 unfoldable pub unit_packet : ℕ → ℕ → Bool → Bool → List ℕ → List ℕ
 unit_packet pid n start access part = front pid n start access (length part) ++ part
-
--- the number of packets in which so many bytes go on
-abbrev pub packets_for : ℕ → ℕ
-packets_for size = (size + 183) / 184
 
 -- so many packets in which a unit goes on with these bytes
 abbrev pub later_packets : ℕ → ℕ → ℕ → List ℕ → List (List ℕ)

@@ -9,7 +9,7 @@ abbrev pub next_number : List Step → ℕ
 next_number steps = one_past (last_number steps)
 
 -- Some of the packets went out, and the next failed so; the counter has counted those that went out, and that one not.
-pub record PutFails (counter : Counter) (steps : List Step) (packets : List (List ℕ)) (fails : List (List ℕ) → List ℕ → Type 0) : Type 0 where
+pub record UnitPutFails (counter : Counter) (steps : List Step) (packets : List (List ℕ)) (fails : List (List ℕ) → List ℕ → Type 0) : Type 0 where
   pub put : List (List ℕ)
   pub packet : List ℕ
   pub left : List (List ℕ)

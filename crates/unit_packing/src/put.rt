@@ -7,7 +7,7 @@ ghost use Rattle.ts_packet.specs.Transfers.{WentWell};
 ghost use Rattle.pes_time.specs.Stamps.{head_of, restamped};
 ghost use Rattle.unit_stream.specs.UnitPackets.{put_in};
 ghost use Rattle.unit_packing.specs.Packing.{rest_packets, unit_packets};
-ghost use Rattle.unit_packing.specs.Putting.{next_number, PutFails};
+ghost use Rattle.unit_packing.specs.Putting.{next_number, UnitPutFails};
 
 use crate::packet::{packet_of, room, unit_bytes};
 use pes_time::{PesHead, Time33, restamp};
@@ -35,7 +35,7 @@ pub fn put_unit<S: PacketSink>(
     ensures counted { (steps : List Step) → Counts counter.old steps →
         OnOk result (Counts counter.new (put_in (unit_packets pid random_access (next_number steps) bytes.now) steps)) }
     ensures err { (start : Option (List ℕ)) (ps : List (List ℕ)) (steps : List Step) → S.holds sink.old start ps
-        → Counts counter.old steps → IfErr result (λ f. PutFails counter.new steps
+        → Counts counter.old steps → IfErr result (λ f. UnitPutFails counter.new steps
         (unit_packets pid random_access (next_number steps) bytes.now)
         (λ put p. S.fails sink.new start (ps ++ put) p f)) }
     ensures well { OnOk result (WentWell (S.counts sink.old) (S.counts sink.new)) }
@@ -78,7 +78,7 @@ pub fn put_moved<S: PacketSink>(
         OnOk result (Counts counter.new
         (put_in (unit_packets pid random_access (next_number steps) (restamped bytes.now delta)) steps)) }
     ensures err { (start : Option (List ℕ)) (ps : List (List ℕ)) (steps : List Step) → S.holds sink.old start ps
-        → Counts counter.old steps → IfErr result (λ f. PutFails counter.new steps
+        → Counts counter.old steps → IfErr result (λ f. UnitPutFails counter.new steps
         (unit_packets pid random_access (next_number steps) (restamped bytes.now delta))
         (λ put p. S.fails sink.new start (ps ++ put) p f)) }
     ensures well { OnOk result (WentWell (S.counts sink.old) (S.counts sink.new)) }
@@ -110,7 +110,7 @@ fn put_rest<S: PacketSink>(
     ensures counted { (steps : List Step) → Counts counter.old steps →
         OnOk result (Counts counter.new (put_in (rest_packets pid (next_number steps) bytes.now) steps)) }
     ensures err { (start : Option (List ℕ)) (ps : List (List ℕ)) (steps : List Step) → S.holds sink.old start ps
-        → Counts counter.old steps → IfErr result (λ f. PutFails counter.new steps
+        → Counts counter.old steps → IfErr result (λ f. UnitPutFails counter.new steps
         (rest_packets pid (next_number steps) bytes.now)
         (λ put p. S.fails sink.new start (ps ++ put) p f)) }
     ensures well { OnOk result (WentWell (S.counts sink.old) (S.counts sink.new)) }
