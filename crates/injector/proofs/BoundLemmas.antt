@@ -10,7 +10,7 @@ use Rattle.event_table.specs.Standing.{Standing, on_ring, IsWithin}
 use Rattle.event_table.proofs.TimeLemmas.{ring-plus}
 use Rattle.injector.specs.Turns.{Turn, Judged, Passed, high}
 use Rattle.injector.specs.Senders.{Sender, is_none, limit, is_repeated, chosen, stands_now, standing_senders, IsIdle}
-use Rattle.injector.specs.Noting.{ring_limit, ring_next, ring_earlier, ring_reached, next_by, next_of, AtOrAfter, IsAhead, Rests, StaysAtRest, LastIn, IsKept, Rises}
+use Rattle.injector.specs.Noting.{ring_limit, ring_next, ring_earlier, ring_reached, next_by, next_of, AtOrAfter, IsDueWithinASecond, Rests, StaysAtRest, LastIn, IsKept, Rises}
 use Rattle.injector.specs.Steps.{outcome, is_accepted}
 use Rattle.injector.specs.Injecting.{RestsAt}
 use Rattle.injector.proofs.CueLemmas.{ring-limit, limit-bounds, before-within}
@@ -24,7 +24,7 @@ earlier_of None b = b
 earlier_of (Some a) None = Some a
 earlier_of (Some a) (Some b) = cond (int_lt b a) (Some b) (Some a)
 
-ring-earlier : (h : ℤ) (a b : Option ℤ) → IsAhead a (Some h) → IsAhead b (Some h) → ring_earlier (option_map ring_of a) (option_map ring_of b) ≡ option_map ring_of (earlier_of a b)
+ring-earlier : (h : ℤ) (a b : Option ℤ) → IsDueWithinASecond a (Some h) → IsDueWithinASecond b (Some h) → ring_earlier (option_map ring_of a) (option_map ring_of b) ≡ option_map ring_of (earlier_of a b)
 ring-earlier h None b x y = refl
 ring-earlier h (Some a) None x y = refl
 ring-earlier h (Some a) (Some b) x y =
@@ -39,12 +39,12 @@ ring-earlier h (Some a) (Some b) x y =
     by true = refl
     by false = refl
 
-earlier-ahead : (high a b : Option ℤ) → IsAhead a high → IsAhead b high → IsAhead (earlier_of a b) high
+earlier-ahead : (high a b : Option ℤ) → IsDueWithinASecond a high → IsDueWithinASecond b high → IsDueWithinASecond (earlier_of a b) high
 earlier-ahead high None b x y = y
 earlier-ahead high (Some a) None x y = x
 earlier-ahead high (Some a) (Some b) x y = by (int_lt b a)
   where
-    by : (t : Bool) → IsAhead (cond t (Some b) (Some a)) high
+    by : (t : Bool) → IsDueWithinASecond (cond t (Some b) (Some a)) high
     by true = y
     by false = x
 
@@ -94,14 +94,14 @@ ring-next-by e (Some l) (Some h) within =
     by true = refl
     by false = refl
 
-next-ahead : (h : ℤ) (x : Sender) → IsKept (Some h) x → is_none (chosen x (Some h) (Some h)) ≡ true → IsAhead (next_of (Some h) x) (Some h)
+next-ahead : (h : ℤ) (x : Sender) → IsKept (Some h) x → is_none (chosen x (Some h) (Some h)) ≡ true → IsDueWithinASecond (next_of (Some h) x) (Some h)
 next-ahead h x kept none = by x.last kept.last (chosen-none x (Some h) (Some h) none).1
   where
-    by : (last : Option ℤ) → LastIn (Some h) x.event.start last → is_repeated x.event last (Some h) (Some h) ≡ false → IsAhead (next_by x.event last (Some h)) (Some h)
+    by : (last : Option ℤ) → LastIn (Some h) x.event.start last → is_repeated x.event last (Some h) (Some h) ≡ false → IsDueWithinASecond (next_by x.event last (Some h)) (Some h)
     by None inside free = tt
     by (Some l) inside free = step (int_lt h (limit x.event)) free
       where
-        step : (t : Bool) → t && int_le (l +ℤ pos 90000) h ≡ false → IsAhead (cond t (Some (l +ℤ pos 90000)) None) (Some h)
+        step : (t : Bool) → t && int_le (l +ℤ pos 90000) h ≡ false → IsDueWithinASecond (cond t (Some (l +ℤ pos 90000)) None) (Some h)
         step true free = let below = inside.0 in (grind (arith, ints), omega (arith, ints))
         step false free = tt
 
@@ -138,7 +138,7 @@ NotReached None later = Unit {0}
 NotReached (Some bound) None = Unit {0}
 NotReached (Some bound) (Some later) = later <ℤ bound
 
-not-reached : (bound line later : Option ℤ) → Rises line later → IsAhead bound line → ring_reached (option_map ring_of bound) (option_map ring_of later) ≡ false → NotReached bound later
+not-reached : (bound line later : Option ℤ) → Rises line later → IsDueWithinASecond bound line → ring_reached (option_map ring_of bound) (option_map ring_of later) ≡ false → NotReached bound later
 not-reached None line later rises ahead free = tt
 not-reached (Some b) line None rises ahead free = tt
 not-reached (Some b) None (Some t) rises ahead free = absurd ahead
@@ -151,7 +151,7 @@ not-reached (Some b) (Some h) (Some t) rises ahead free =
     let is : not (int_lt t b) ≡ false = ap not (sym same) ∙ free in
     grind (arith, ints)
 
-ahead-later : (bound line later : Option ℤ) → Rises line later → IsAhead bound line → NotReached bound later → IsAhead bound later
+ahead-later : (bound line later : Option ℤ) → Rises line later → IsDueWithinASecond bound line → NotReached bound later → IsDueWithinASecond bound later
 ahead-later None line later rises ahead below = tt
 ahead-later (Some b) None later rises ahead below = absurd ahead
 ahead-later (Some b) (Some h) None rises ahead below = absurd rises

@@ -158,16 +158,16 @@ AtOrAfter None (Some next) = ⊥
 AtOrAfter (Some bound) (Some next) = bound ≤ℤ next
 
 -- a second past the greatest time at most
-abbrev pub IsAhead : Option ℤ → Option ℤ → Type 0
-IsAhead None high = Unit {0}
-IsAhead (Some bound) None = ⊥
-IsAhead (Some bound) (Some high) = (high <ℤ bound) × (bound ≤ℤ (high +ℤ pos 90000))
+abbrev pub IsDueWithinASecond : Option ℤ → Option ℤ → Type 0
+IsDueWithinASecond None high = Unit {0}
+IsDueWithinASecond (Some bound) None = ⊥
+IsDueWithinASecond (Some bound) (Some high) = (high <ℤ bound) × (bound ≤ℤ (high +ℤ pos 90000))
 
 -- No cue of these events is repeated before the time that is kept, or ever where none is kept.
 pub record Rests (rest : Option ℕ) (high : Option ℤ) (xs : List Sender) : Type 0 where
   pub bound : Option ℤ
   pub kept : rest ≡ option_map ring_of bound
-  pub ahead : IsAhead bound high
+  pub ahead : IsDueWithinASecond bound high
   pub waits : All (λ x. AtOrAfter bound (next_of high x)) xs
 
 -- the same by a history: also behind a packet before which no cue is due
@@ -187,7 +187,7 @@ pub record IsBefore
   pub idle : is_due ≡ false → IsIdle index line past
 
 -- The cues of this event are next.
-pub record IsNext
+pub record IsCuedNext
     (requests : Requests) (place : ℕ) (later : Option ℕ) (line after : Option ℤ) (done : List Sender) (x : Sender)
     (left : List Sender) : Type 0 where
   pub sending : Sending requests line after done (x ∷ left)

@@ -11,7 +11,7 @@ ghost use Rattle.injector.specs.Turns.{Turn};
 ghost use Rattle.injector.specs.Requests.{RequestsStandFor};
 ghost use Rattle.injector.specs.Senders.{Sender, start_cue, end_cue, cancel_cue, when, cues_by, cues_of, cues_before};
 ghost use Rattle.injector.specs.Senders.{packed};
-ghost use Rattle.injector.specs.Noting.{IsShown, Sending, NotesTold, IsBefore, IsNext};
+ghost use Rattle.injector.specs.Noting.{IsShown, Sending, NotesTold, IsBefore, IsCuedNext};
 
 use crate::choice::{Choice, chosen};
 use crate::notes::Notes;
@@ -129,6 +129,8 @@ fn put_cues<S: PacketSink>(
 }
 
 /// Puts the cues of the event that stands at this place, before a packet that lifts the greatest time from `high` to `later`.
+#[cold]
+#[inline(never)]
 fn put_one<S: PacketSink>(
     requests: &mut Requests,
     place: usize,
@@ -141,20 +143,20 @@ fn put_one<S: PacketSink>(
     ensures leads { S.leads sink.old sink.new }
     ensures ok { (start : Option (List ℕ)) (ps puts : List (List ℕ)) (line after : Option ℤ) (done : List Sender)
         (x : Sender) (left : List Sender) → S.holds sink.old start ps → HasPut out.old puts →
-        IsNext requests.old place later.now line after done x left →
+        IsCuedNext requests.old place later.now line after done x left →
         OnOk result (S.holds sink.new start (ps ++ packed pid puts (cues_of line after x))) }
     ensures numbers { (puts : List (List ℕ)) (line after : Option ℤ) (done : List Sender) (x : Sender)
-        (left : List Sender) → HasPut out.old puts → IsNext requests.old place later.now line after done x left →
+        (left : List Sender) → HasPut out.old puts → IsCuedNext requests.old place later.now line after done x left →
         OnOk result (HasPut out.new (onto puts (packed pid puts (cues_of line after x)))) }
     ensures err { (start : Option (List ℕ)) (ps puts : List (List ℕ)) (line after : Option ℤ) (done : List Sender)
         (x : Sender) (left : List Sender) → S.holds sink.old start ps → HasPut out.old puts →
-        IsNext requests.old place later.now line after done x left →
+        IsCuedNext requests.old place later.now line after done x left →
         IfErr result (λ f. FrontFails (packed pid puts (cues_of line after x))
         (λ put p. S.fails sink.new start (ps ++ put) p f)) }
     ensures well { OnOk result (WentWell (S.counts sink.old) (S.counts sink.new)) }
     ensures blamed { IfErr result (λ f. Blamed f (S.counts sink.old) (S.counts sink.new) (S.is_full sink.new)) }
     ensures sending { (line after : Option ℤ) (done : List Sender) (x : Sender) (left : List Sender) →
-        IsNext requests.old place later.now line after done x left →
+        IsCuedNext requests.old place later.now line after done x left →
         OnOk result (Sending requests.new line after (done ++ x ∷ []) left) }
     ensures stands { (line : Option ℤ) (standing : List Standing) → StandsFor requests.old.table line standing →
         StandsFor requests.new.table line standing }
@@ -183,6 +185,7 @@ fn put_one<S: PacketSink>(
 
 /// Puts the cues that are due before a packet behind which this is the greatest time. Where it is known that none is, no event is
 /// looked at.
+#[inline(always)]
 pub(crate) fn put_due<S: PacketSink>(
     is_due: bool,
     requests: &mut Requests,

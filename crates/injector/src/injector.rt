@@ -97,6 +97,7 @@ impl Injector {
     ///
     /// `Network` with what is wrong with the packet behind those before it: nothing was put then. `Sink` where the sink failed: it has
     /// a front of what the packet sends. `Failed` once a fault was answered.
+    #[inline(always)]
     pub fn feed<S: PacketSink>(&mut self, packet: &Packet, sink: &mut S) -> Result<(), FeedFault>
         ensures leads { S.leads sink.old sink.new }
         ensures ok { (start : Option (List ℕ)) (ps : List (List ℕ)) (c : Config) (past : List Step) →
@@ -130,6 +131,7 @@ impl Injector {
     }
 
     /// Takes a packet.
+    #[inline(always)]
     fn take<S: PacketSink>(&mut self, packet: &Packet, sink: &mut S) -> Result<(), FeedFault>
         ensures leads { S.leads sink.old sink.new }
         ensures ok { (start : Option (List ℕ)) (ps : List (List ℕ)) (c : Config) (past : List Step) →
@@ -160,6 +162,7 @@ impl Injector {
     }
 
     /// Puts what goes out for a packet that was followed, which is on the PID of the map or not.
+    #[inline(always)]
     fn put<S: PacketSink>(
         &mut self,
         is_map: bool,
@@ -203,6 +206,7 @@ impl Injector {
 
     /// Whether a cue may be due before a packet that was followed, behind which this is the greatest time: where it has come to the
     /// time that is kept, or a request was accepted since the last packet. It looks at no event.
+    #[inline(always)]
     fn is_due(&self, later: &Option<Time33>) -> bool
         ensures { (is_map : Bool) (c : Config) (p : List ℕ) (past : List Step) → IsFed self.now is_map c p past →
             later.now ≡ option_map ring_of (high_of c.program (p ∷ packets_in past)) → result ≡ false →
@@ -212,6 +216,7 @@ impl Injector {
     }
 
     /// The time until which no cue is due behind a packet: that from before where none was due, and else by each event.
+    #[inline(always)]
     fn rest_behind(&self, is_due: bool) -> Option<Time33>
         ensures { (c : Config) (p : List ℕ) (past : List Step) →
             RequestsStandFor self.now.requests c.index (turns_in c.program (PacketStep p ∷ past)) →
@@ -226,6 +231,7 @@ impl Injector {
     }
 
     /// Puts the packet, or the sections that it finishes on the PID of the map.
+    #[inline(always)]
     fn put_body<S: PacketSink>(
         &mut self,
         is_map: bool,
@@ -259,6 +265,7 @@ impl Injector {
 }
 
 /// The packet is on the PID of the map.
+#[inline(always)]
 fn is_map(place: &Place) -> bool
     ensures { result ≡ is_map_place place.now }
 {

@@ -35,6 +35,7 @@ impl Outgoing {
     }
 
     /// Puts the packet as it is.
+    #[inline(always)]
     pub fn pass<S: PacketSink>(&mut self, packet: &Packet, sink: &mut S) -> Result<(), PutFault>
         ensures leads { S.leads sink.old sink.new }
         ensures ok { (start : Option (List ℕ)) (ps : List (List ℕ)) → S.holds sink.old start ps →
@@ -91,6 +92,7 @@ impl Outgoing {
 
     /// Puts the sections of a map's PID in packets of that PID, the maps of the program with their entry for cues changed. A map without
     /// room for the entry goes out as it is.
+    #[inline(never)]
     pub fn put_tables<S: PacketSink>(
         &mut self,
         pid: Pid,
@@ -158,6 +160,7 @@ impl Outgoing {
     }
 
     /// Takes this as the continuity_counter of the PID's next packet.
+    #[inline(always)]
     fn set_upcoming(&mut self, pid: Pid, counter: u8)
         ensures here { slice_index_or self.new.upcoming pid 0 ≡ counter }
         ensures others { (other : ℕ) → other ≢ pid →

@@ -79,6 +79,7 @@ impl ProgramFollower {
     /// # Errors
     ///
     /// `Network` with what is wrong with the packet behind those before it; `Failed` once a fault was answered.
+    #[inline(always)]
     pub fn feed(&mut self, packet: &Packet) -> Result<Place, FollowFault>
         ensures stands { OfPast self.old (λ c past. OnOk result (FollowerStandsFor self.new c (packet.now ∷ past))) }
         ensures sound { OfPast self.old (λ c past. OnOk result (network_fault c packet.now past ≡ None)) }
@@ -111,6 +112,7 @@ impl ProgramFollower {
     }
 
     /// The greatest time of the units that have begun behind the head, on the ring.
+    #[inline(always)]
     pub fn high(&self) -> Option<Time33>
         ensures { OfPast self.now (λ c past. result ≡ option_map ring_of (high_of c.program past)) }
     {
@@ -156,6 +158,7 @@ impl ProgramFollower {
     }
 
     /// Takes a packet, and answers what it is, or the first thing that is wrong with it.
+    #[inline(always)]
     fn take(&mut self, packet: &Packet) -> Result<Place, NetworkFault>
         ensures stands { OfRun self.old (λ past. OnOk result
             (FollowerStandsFor self.new self.old.purpose (packet.now ∷ past))) }
@@ -185,6 +188,7 @@ impl ProgramFollower {
 }
 
 /// Takes a packet behind the head, and begins to follow the streams at the end of the head. `known` is what is known behind the packet.
+#[inline(always)]
 fn follow_streams(
     streams: &mut Option<Streams>,
     known: Option<&KnownProgram>,
@@ -226,6 +230,7 @@ fn begin(streams: &mut Option<Streams>, switched: &[Stream])
 }
 
 /// The packet is on the PID of cues that are to be written.
+#[inline(always)]
 fn is_refused(purpose: &Purpose, packet: &Packet) -> bool
     ensures { result ≡ (purpose.now.writes_cues && on_cue purpose.now.cue_pid packet.now) }
 {
@@ -233,6 +238,7 @@ fn is_refused(purpose: &Purpose, packet: &Packet) -> bool
 }
 
 /// The packet is on this PID, where there is one.
+#[inline(always)]
 fn is_on_pid(pid: Option<Pid>, packet: &Packet) -> bool
     ensures { result ≡ on_cue pid packet.now }
 {
@@ -243,6 +249,7 @@ fn is_on_pid(pid: Option<Pid>, packet: &Packet) -> bool
 }
 
 /// The packet is on the PID of the map.
+#[inline(always)]
 fn is_on_map(listed: &Option<Listed>, packet: &Packet) -> bool
     ensures { result ≡ on_map listed.now packet.now }
 {
@@ -253,6 +260,7 @@ fn is_on_map(listed: &Option<Listed>, packet: &Packet) -> bool
 }
 
 /// What a packet is, by the stream that it is of.
+#[inline(always)]
 fn place_of(
     cue_pid: Option<Pid>,
     is_map: bool,

@@ -1,6 +1,7 @@
 //! The maps of the program: which streams it has (ISO/IEC 13818-1, 2.4.4.8).
 
-ghost use Rattle.std.specs.Prelude.{◌≡◌, ℕ, List, [], ◌∷◌, map, Option, None, Some, option_map, OnOk, IfErr};
+ghost use Rattle.std.specs.Prelude.{◌≡◌, ℕ, List, [], ◌∷◌, map, Option, None, Some, option_map, OnOk, IfErr, true};
+ghost use Rattle.ts_packet.specs.Fields.{on};
 ghost use Rattle.psi_section.specs.SectionsLeft.{sections_left};
 ghost use Rattle.psi_tables.specs.ProgramMap.{ProgramMap};
 ghost use Rattle.program_follower.specs.Program.{listed, table_of, program_in, program_of};
@@ -63,6 +64,7 @@ impl MapReader {
     /// # Errors
     ///
     /// The first fault of the maps that the packet finishes.
+    #[inline(always)]
     pub fn feed(
         &mut self,
         purpose: &Purpose,
@@ -79,17 +81,41 @@ impl MapReader {
             → MapsRead self.old purpose.now.program past
             → IfErr result (λ f. maps_fault_at purpose.now packet.now past ≡ Some f) }
     {
-        self.is_on_map = false;
         let Some(listed) = at else {
+            self.is_on_map = false;
             return Ok(());
         };
         if !packet.is_on(listed.pid) {
+            self.is_on_map = false;
             return Ok(());
         }
+        self.take(purpose, listed, packet)
+    }
+
+    /// Takes a packet of the PID of the map. It stands by itself so that no other packet pays for the room that it takes.
+    #[cold]
+    #[inline(never)]
+    fn take(
+        &mut self,
+        purpose: &Purpose,
+        at: Listed,
+        packet: &Packet,
+    ) -> Result<(), NetworkFault>
+        requires { on at.pid packet.now ≡ true }
+        ensures reads { (past : List (List ℕ)) → Some at ≡ listed purpose.now.program past
+            → MapsRead self.old purpose.now.program past
+            → OnOk result (MapsRead self.new purpose.now.program (packet.now ∷ past)) }
+        ensures ok { (past : List (List ℕ)) → Some at ≡ listed purpose.now.program past
+            → MapsRead self.old purpose.now.program past
+            → OnOk result (maps_fault_at purpose.now packet.now past ≡ None) }
+        ensures err { (past : List (List ℕ)) → Some at ≡ listed purpose.now.program past
+            → MapsRead self.old purpose.now.program past
+            → IfErr result (λ f. maps_fault_at purpose.now packet.now past ≡ Some f) }
+    {
         self.is_on_map = true;
         self.assembler.pass_over();
         self.assembler.feed(packet);
-        match judge_sections(&mut self.known, purpose, &listed, self.assembler.sections()) {
+        match judge_sections(&mut self.known, purpose, &at, self.assembler.sections()) {
             Ok(()) => Ok(()),
             Err(fault) => Err(fault),
         }

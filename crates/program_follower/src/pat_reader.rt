@@ -1,7 +1,8 @@
 //! The PATs of a network: which PID carries the map of the program (ISO/IEC 13818-1, 2.4.4.3).
 
 ghost use Rattle.std.specs.Option.{option_or};
-ghost use Rattle.std.specs.Prelude.{◌≡◌, ℕ, List, [], ◌∷◌, Option, Some, None, not, OnOk, IfOk, IfErr};
+ghost use Rattle.std.specs.Prelude.{◌≡◌, ℕ, List, [], ◌∷◌, Option, Some, None, true, not, OnOk, IfOk, IfErr};
+ghost use Rattle.ts_packet.specs.Fields.{on};
 ghost use Rattle.psi_section.specs.Assembling.{left};
 ghost use Rattle.psi_tables.specs.Association.{pat, pid_of_program};
 ghost use Rattle.program_follower.specs.Program.{listed, lists, pairs_in, listed_in, first_listed};
@@ -45,6 +46,7 @@ impl PatReader {
     /// # Errors
     ///
     /// The first fault of the PATs that the packet finishes.
+    #[inline(always)]
     pub fn feed(&mut self, purpose: &Purpose, packet: &Packet) -> Result<(), NetworkFault>
         ensures reads { (past : List (List ℕ)) → PatsRead self.old purpose.now.program past
             → OnOk result (PatsRead self.new purpose.now.program (packet.now ∷ past)) }
@@ -56,6 +58,21 @@ impl PatReader {
         if !packet.is_on(Pid::of_bits(0, 0)) {
             return Ok(());
         }
+        self.take(purpose, packet)
+    }
+
+    /// Takes a packet of PID 0. It stands by itself so that no other packet pays for the room that it takes.
+    #[cold]
+    #[inline(never)]
+    fn take(&mut self, purpose: &Purpose, packet: &Packet) -> Result<(), NetworkFault>
+        requires { on 0 packet.now ≡ true }
+        ensures reads { (past : List (List ℕ)) → PatsRead self.old purpose.now.program past
+            → OnOk result (PatsRead self.new purpose.now.program (packet.now ∷ past)) }
+        ensures ok { (past : List (List ℕ)) → PatsRead self.old purpose.now.program past
+            → OnOk result (pats_fault_at purpose.now packet.now past ≡ None) }
+        ensures err { (past : List (List ℕ)) → PatsRead self.old purpose.now.program past
+            → IfErr result (λ f. pats_fault_at purpose.now packet.now past ≡ Some f) }
+    {
         self.assembler.pass_over();
         self.assembler.feed(packet);
         match self.judged(purpose) {

@@ -51,6 +51,7 @@ impl Streams {
     }
 
     /// The greatest time of the units that have begun; `None` where none with a PTS has.
+    #[inline(always)]
     pub fn high(&self) -> Option<Time33>
         ensures { (pids : List ℕ) (past : List (List ℕ)) → StreamsRead self.now pids past
             → result ≡ option_map ring_of (high pids past) }
@@ -64,6 +65,7 @@ impl Streams {
     /// # Errors
     ///
     /// The first of `Scrambled`, `HeaderSplit` and `TimeJump` that applies.
+    #[inline(always)]
     pub fn feed(
         &mut self,
         streams: &[Stream],
@@ -95,6 +97,7 @@ impl Streams {
 
 /// What a packet of a stream is, by what it brings to the stream's units. The clock passes the begin of a unit.
 #[tactic(auto, using(crate::proofs::PieceLemmas::high_start, crate::proofs::PieceLemmas::high_other, crate::proofs::PieceLemmas::no_begin, crate::proofs::PieceLemmas::repeat_begins_none, crate::proofs::PieceLemmas::empty_begins_none, crate::proofs::PieceLemmas::stamp_in, crate::proofs::PieceLemmas::splits_in))]
+#[inline(always)]
 fn stream_packet(clock: &mut Clock, piece: Piece<'_>) -> Result<StreamPacket, UnitFault>
     ensures clock { (pids : List ℕ) (pid : ℕ) (p : List ℕ) (past : List (List ℕ)) → IsOne pids pid p past
         → ClockAt clock.old (high pids past) → Brings piece.entry pid p past
@@ -124,6 +127,7 @@ fn stream_packet(clock: &mut Clock, piece: Piece<'_>) -> Result<StreamPacket, Un
 
 /// The first stream on whose PID the packet is: its number and that PID.
 #[tactic(auto, using(crate::proofs::StreamLemmas::not_shifted, crate::proofs::StreamLemmas::first_here, crate::proofs::StreamLemmas::first_later, crate::proofs::StreamLemmas::first_never))]
+#[inline(always)]
 fn first_on(streams: &[Stream], packet: &Packet) -> Option<(usize, Pid)>
     requires { length streams.now ≤ 8 }
     ensures { result ≡ first_on (pids_in streams.now) packet.now }
@@ -141,6 +145,7 @@ fn first_on(streams: &[Stream], packet: &Packet) -> Option<(usize, Pid)>
 }
 
 /// Whether there is a payload, and it is scrambled.
+#[inline(always)]
 fn has_scrambled_payload(packet: &Packet) -> bool
     ensures { result ≡ (is_some (payload packet.now) && scrambled packet.now) }
 {
@@ -148,6 +153,7 @@ fn has_scrambled_payload(packet: &Packet) -> bool
 }
 
 /// Feeds the reader of one stream.
+#[inline(always)]
 fn feed_at<'a>(readers: &mut [UnitReader; 8], index: usize, packet: &'a Packet) -> Piece<'a>
     requires { index < 8 }
     ensures others { (i : ℕ) (d : UnitReader) → i ≢ index

@@ -179,6 +179,7 @@ impl Packet {
 
     /// The payload, 1 to 184 bytes. A packet that is marked in error has none, nor has one of
     /// adaptation_field_control 00 or 10.
+    #[inline(always)]
     #[tactic(auto, unfolding(crate::specs::Fields::payload))]
     pub fn payload(&self) -> Option<&[u8]>
         ensures { option_map (λ x. x.now) result ≡ payload self.now }

@@ -99,6 +99,7 @@ impl UnitReader {
     }
 
     /// What the next packet brings.
+    #[inline(always)]
     pub fn feed<'a>(&mut self, packet: &'a Packet) -> Piece<'a>
         ensures reads { OfReader self.old (λ pid past. Reads self.new pid (packet.now ∷ past)) }
         ensures brings { OfReader self.old (λ pid past. Brings result pid packet.now past) }

@@ -9,7 +9,7 @@ use Rattle.outgoing_packets.specs.Numbers.{HasPut}
 use Rattle.outgoing_packets.proofs.NumberLemmas.{fails-behind}
 use Rattle.injector.specs.Turns.{high, standing}
 use Rattle.injector.specs.Senders.{Sender, cues_of, standing_senders, packed}
-use Rattle.injector.specs.Noting.{Sending, IsBefore, IsNext}
+use Rattle.injector.specs.Noting.{Sending, IsBefore, IsCuedNext}
 use Rattle.injector.proofs.SendingLemmas.{next-left, none-left, sending-first, sending-last, packed-push, packed-seam}
 use Rattle.injector.proofs.RestLemmas.{idle-cues, idle-told}
 use Rattle.injector.proofs.cues.put_due.Goals as goal
@@ -49,7 +49,7 @@ loop-place-preserved g c = record {
       let x = m.0 in
       let rest = m.1 in
       let sending : Sending c.loop-place.requests (high past) line done (x ∷ rest) = subst (Sending c.loop-place.requests (high past) line done) m.2 s.4 in
-      let next : IsNext c.loop-place.requests c.loop-place.place c.args.later.now (high past) line done x rest = record { sending = sending; place_is = s.3; rises = b.rises; time = b.time } in
+      let next : IsCuedNext c.loop-place.requests c.loop-place.place c.args.later.now (high past) line done x rest = record { sending = sending; place_is = s.3; rises = b.rises; time = b.time } in
       let f : Sender → List CueOut = cues_of (high past) line in
       let put = packed c.args.pid puts (flat_map f done) in
       let out1 = onto puts put in
@@ -80,7 +80,7 @@ returns-in-Err-clause-err g c = λ start ps puts index past line held h b.
     let x = m.0 in
     let rest = m.1 in
     let sending : Sending c.loop-place.requests (high past) line done (x ∷ rest) = subst (Sending c.loop-place.requests (high past) line done) m.2 s.4 in
-    let next : IsNext c.loop-place.requests c.loop-place.place c.args.later.now (high past) line done x rest = record { sending = sending; place_is = s.3; rises = b.rises; time = b.time } in
+    let next : IsCuedNext c.loop-place.requests c.loop-place.place c.args.later.now (high past) line done x rest = record { sending = sending; place_is = s.3; rises = b.rises; time = b.time } in
     let f : Sender → List CueOut = cues_of (high past) line in
     let put = packed c.args.pid puts (flat_map f done) in
     let out1 = onto puts put in
