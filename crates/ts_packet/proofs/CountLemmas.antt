@@ -1,14 +1,13 @@
 -- What counts come to over several calls, and over several packets.
-use Rattle.std.proofs.Common.{◌≡◌, ℕ, zero, suc, ◌+◌, ◌-◌, ◌^◌, ◌≤◌, ◌<◌, ◌⊎◌, inl, inr, Bool, true, false, arith, Result, Ok, Err, IfOk, IfErr, ◌∙◌, le_refl, refl}
+use Rattle.std.proofs.Common.{◌≡◌, ℕ, zero, suc, ◌-◌, ◌^◌, ◌≤◌, inl, inr, Bool, true, false, arith, Result, Ok, Err, IfOk, IfErr, ◌∙◌, le_refl, refl}
 use Rattle.std.proofs.Math.Nat.{le_trans}
 use Rattle.ts_packet.specs.declared.device.DeviceFault.{DeviceFault}
-use Rattle.ts_packet.specs.declared.device.DeviceFault.TheVariants as device_faults
 use Rattle.ts_packet.specs.declared.sink.PutFault.{PutFault}
 use Rattle.ts_packet.specs.declared.sink.PutFault.TheVariants as put_faults
 use Rattle.ts_packet.specs.declared.transfer.FillFault.{FillFault}
 use Rattle.ts_packet.specs.declared.transfer.FillFault.TheVariants as fill_faults
 use Rattle.ts_packet.specs.declared.tally.Tally.{Tally}
-use Rattle.ts_packet.specs.Transfers.{IsCounted, Rose, CountsFailure, CountsZero, WentWell, LastMovedNone, LastFailed, TookTurns, FillCounts}
+use Rattle.ts_packet.specs.Transfers.{IsCounted, Rose, CountsZero, WentWell, LastMovedNone, LastFailed, TookTurns, FillCounts}
 use Rattle.ts_packet.specs.Sinks.{Later, Blamed}
 use Rattle.ts_packet.specs.declared.reader.ReadFault.{ReadFault}
 use Rattle.ts_packet.specs.declared.reader.ReadFault.TheVariants as read_faults

@@ -1,5 +1,5 @@
 -- What a read into the rest of a buffer leaves in it.
-use Rattle.std.proofs.Common.{◌≡◌, ℕ, ◌+◌, ◌-◌, ◌≤◌, ◌<◌, List, Option, ◌++◌, arith, length, take, drop, ap, ◌∙◌, le_refl, drop_at, length-take-le, length-append, length-drop}
+use Rattle.std.proofs.Common.{◌≡◌, ℕ, ◌+◌, ◌-◌, ◌≤◌, List, Option, ◌++◌, arith, length, take, drop, ap, ◌∙◌, le_refl, drop_at, length-take-le, length-append, length-drop}
 use Rattle.std.proofs.lemmas.Slice.{take-put_mid_below}
 use Rattle.std.specs.Io.KnownBytes.{Consumes}
 use Rattle.std.proofs.KnownBytes.{Consumes-trans}

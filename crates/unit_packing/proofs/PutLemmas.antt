@@ -10,7 +10,7 @@ use Rattle.ts_packet.specs.Numbering.{Step, Inserted, Counts}
 use Rattle.ts_packet.specs.declared.counter.Counter.{Counter}
 use Rattle.ts_packet.specs.Packets.{packet_fault}
 use Rattle.unit_stream.specs.UnitPackets.{put_in}
-use Rattle.unit_packing.specs.Packing.{room, unit_packet, later_packets, rest_packets, unit_packets}
+use Rattle.unit_packing.specs.Packing.{room, unit_packet, later_unit_packets, rest_unit_packets, unit_packets}
 use Rattle.unit_packing.specs.Putting.{next_number, UnitPutFails}
 use borrow.Rule.Slice.PartMut.{put_mid}
 use Rattle.pes_time.specs.declared.head.PesHead.{PesHead}
@@ -29,13 +29,13 @@ put_in-more (p ∷ qs) q steps = put_in-more qs q (Inserted ∷ steps)
 count-more : (size : ℕ) → 0 < size → packets_for size ≡ suc (packets_for (size - 184))
 count-more size h = omega arith
 
-pub rest-none : (pid n : ℕ) (bs : List ℕ) → length bs ≡ 0 → rest_packets pid n bs ≡ []
-rest-none pid n bs h = ap (λ k. later_packets (packets_for k) pid n bs) h
+pub rest-none : (pid n : ℕ) (bs : List ℕ) → length bs ≡ 0 → rest_unit_packets pid n bs ≡ []
+rest-none pid n bs h = ap (λ k. later_unit_packets (packets_for k) pid n bs) h
 
-pub rest-more : (pid n : ℕ) (bs : List ℕ) → 0 < length bs → rest_packets pid n bs ≡ unit_packet pid n false false (take 184 bs) ∷ rest_packets pid ((n + 1) % 16) (drop 184 bs)
+pub rest-more : (pid n : ℕ) (bs : List ℕ) → 0 < length bs → rest_unit_packets pid n bs ≡ unit_packet pid n false false (take 184 bs) ∷ rest_unit_packets pid ((n + 1) % 16) (drop 184 bs)
 rest-more pid n bs h =
-    ap (λ k. later_packets k pid n bs) (count-more (length bs) h)
-    ∙ ap (λ k. unit_packet pid n false false (take 184 bs) ∷ later_packets (packets_for k) pid ((n + 1) % 16) (drop 184 bs)) (sym (length-drop 184 bs))
+    ap (λ k. later_unit_packets k pid n bs) (count-more (length bs) h)
+    ∙ ap (λ k. unit_packet pid n false false (take 184 bs) ∷ later_unit_packets (packets_for k) pid ((n + 1) % 16) (drop 184 bs)) (sym (length-drop 184 bs))
 
 -- no fault in a packet of a unit
 pub no_fault : (pid n : ℕ) (start access : Bool) (part p : List ℕ) → p ≡ unit_packet pid n start access part → pid < 8192 → n < 16 → length part ≤ 184 → 0 < length part → packet_fault p ≡ None
@@ -55,22 +55,22 @@ drop-min n bs = ⊎_elim (λ h. ap (λ x. drop x bs) (min_right n (length bs) h)
 
 module _ (pid n0 n at next : ℕ) (bs packet : List ℕ) (put : List (List ℕ)) (steps : List Step) (within : at < length bs)
     (least : next ≡ min (length bs) (at + 184)) (made : packet ≡ unit_packet pid n false false (take (next - at) (drop at bs)))
-    (so_far : rest_packets pid n0 bs ≡ put ++ rest_packets pid (next_number (put_in put steps)) (drop at bs)) (numbered : n ≡ next_number (put_in put steps)) where
+    (so_far : rest_unit_packets pid n0 bs ≡ put ++ rest_unit_packets pid (next_number (put_in put steps)) (drop at bs)) (numbered : n ≡ next_number (put_in put steps)) where
   part_is : take (next - at) (drop at bs) ≡ take 184 (drop at bs)
   part_is = cut 184 (next - at) (drop at bs) (rw (length-drop at bs) (omega (arith, least)))
 
-  pub one_put : rest_packets pid n0 bs ≡ put ++ packet ∷ rest_packets pid ((n + 1) % 16) (drop 184 (drop at bs))
+  pub one_put : rest_unit_packets pid n0 bs ≡ put ++ packet ∷ rest_unit_packets pid ((n + 1) % 16) (drop 184 (drop at bs))
   one_put =
       let l : 0 < length (drop at bs) = rw (length-drop at bs) (omega arith) in
-      so_far ∙ ap (λ x. put ++ rest_packets pid x (drop at bs)) (sym numbered)
-      ∙ ap (λ x. put ++ x) (rest-more pid n (drop at bs) l ∙ ap (λ x. x ∷ rest_packets pid ((n + 1) % 16) (drop 184 (drop at bs))) (sym (made ∙ ap (unit_packet pid n false false) part_is)))
+      so_far ∙ ap (λ x. put ++ rest_unit_packets pid x (drop at bs)) (sym numbered)
+      ∙ ap (λ x. put ++ x) (rest-more pid n (drop at bs) l ∙ ap (λ x. x ∷ rest_unit_packets pid ((n + 1) % 16) (drop 184 (drop at bs))) (sym (made ∙ ap (unit_packet pid n false false) part_is)))
 
-  pub one_more_put : rest_packets pid n0 bs ≡ (put ++ packet ∷ []) ++ rest_packets pid (next_number (put_in (put ++ packet ∷ []) steps)) (drop next bs)
+  pub one_more_put : rest_unit_packets pid n0 bs ≡ (put ++ packet ∷ []) ++ rest_unit_packets pid (next_number (put_in (put ++ packet ∷ []) steps)) (drop next bs)
   one_more_put =
       let d : drop next bs ≡ drop 184 (drop at bs) = ap (λ x. drop x bs) least ∙ drop-min (at + 184) bs ∙ sym (drop-drop 184 at bs) in
       let e : next_number (put_in (put ++ packet ∷ []) steps) ≡ (n + 1) % 16 = ap next_number (put_in-more put packet steps) ∙ ap (λ x. (x + 1) % 16) (sym numbered) in
-      one_put ∙ sym (append_assoc put (packet ∷ []) (rest_packets pid (next_number (put_in (put ++ packet ∷ []) steps)) (drop next bs))
-      ∙ ap (λ x. put ++ packet ∷ x) (ap (λ x. rest_packets pid x (drop next bs)) e ∙ ap (rest_packets pid ((n + 1) % 16)) d))
+      one_put ∙ sym (append_assoc put (packet ∷ []) (rest_unit_packets pid (next_number (put_in (put ++ packet ∷ []) steps)) (drop next bs))
+      ∙ ap (λ x. put ++ packet ∷ x) (ap (λ x. rest_unit_packets pid x (drop next bs)) e ∙ ap (rest_unit_packets pid ((n + 1) % 16)) d))
 
 pub part_fits : (at next : ℕ) (bs : List ℕ) → at < length bs → next ≡ min (length bs) (at + 184) → (length (take (next - at) (drop at bs)) ≤ 184) × (0 < length (take (next - at) (drop at bs)))
 part_fits at next bs h e =
@@ -80,7 +80,7 @@ part_fits at next bs h e =
 pub counted_more : (counter : Counter) (put : List (List ℕ)) (packet : List ℕ) (steps : List Step) → Counts counter (Inserted ∷ put_in put steps) → Counts counter (put_in (put ++ packet ∷ []) steps)
 counted_more counter put packet steps h = rw (put_in-more put packet steps) h
 
-pub rest_done : (pid n m at : ℕ) (bs : List ℕ) (put : List (List ℕ)) → length bs ≤ at → rest_packets pid n bs ≡ put ++ rest_packets pid m (drop at bs) → rest_packets pid n bs ≡ put
+pub rest_done : (pid n m at : ℕ) (bs : List ℕ) (put : List (List ℕ)) → length bs ≤ at → rest_unit_packets pid n bs ≡ put ++ rest_unit_packets pid m (drop at bs) → rest_unit_packets pid n bs ≡ put
 rest_done pid n m at bs put h e = e ∙ ap (λ x. put ++ x) (rest-none pid m (drop at bs) (length-drop at bs ∙ omega arith)) ∙ append-nil put
 
 pub same_counts : (a b : Counter) (steps : List Step) → a ≡ b → Counts b steps → Counts a steps
@@ -131,19 +131,19 @@ module _ (pid n r size : ℕ) (access : Bool) (bs first : List ℕ) (steps : Lis
   part_of : take size bs ≡ take (room access) bs
   part_of = cut (room access) size bs least_room
 
-  pub whole_put : first ≡ unit_packet pid n true access (take size bs) → unit_packets pid access (next_number steps) bs ≡ first ∷ rest_packets pid (next_number (Inserted ∷ steps)) behind
+  pub whole_put : first ≡ unit_packet pid n true access (take size bs) → unit_packets pid access (next_number steps) bs ≡ first ∷ rest_unit_packets pid (next_number (Inserted ∷ steps)) behind
   whole_put made =
-      ap (λ x. x ∷ rest_packets pid (next_number (Inserted ∷ steps)) (drop (room access) bs)) (sym (made ∙ ap (λ x. unit_packet pid x true access (take size bs)) numbered ∙ ap (unit_packet pid (next_number steps) true access) part_of))
-      ∙ ap (λ x. first ∷ rest_packets pid (next_number (Inserted ∷ steps)) x) (sym behind_is)
+      ap (λ x. x ∷ rest_unit_packets pid (next_number (Inserted ∷ steps)) (drop (room access) bs)) (sym (made ∙ ap (λ x. unit_packet pid x true access (take size bs)) numbered ∙ ap (unit_packet pid (next_number steps) true access) part_of))
+      ∙ ap (λ x. first ∷ rest_unit_packets pid (next_number (Inserted ∷ steps)) x) (sym behind_is)
 
   pub whole_moved : (delta : ℕ) → slice_index bs 7 < 256 → is_split bs ≡ false → first ≡ unit_packet pid n true access (restamped (take size bs) delta)
-      → unit_packets pid access (next_number steps) (restamped bs delta) ≡ first ∷ rest_packets pid (next_number (Inserted ∷ steps)) behind
+      → unit_packets pid access (next_number steps) (restamped bs delta) ≡ first ∷ rest_unit_packets pid (next_number (Inserted ∷ steps)) behind
   whole_moved delta byte whole made =
       let f = first_moved access bs delta byte whole in
       let m = rest_same access bs delta byte whole in
-      ap (λ x. unit_packet pid (next_number steps) true access x ∷ rest_packets pid (next_number (Inserted ∷ steps)) (drop (room access) (restamped bs delta))) f
-      ∙ ap (λ x. unit_packet pid (next_number steps) true access (restamped (take (room access) bs) delta) ∷ rest_packets pid (next_number (Inserted ∷ steps)) x) (m ∙ sym behind_is)
-      ∙ ap (λ x. x ∷ rest_packets pid (next_number (Inserted ∷ steps)) behind) (sym (made ∙ ap (λ x. unit_packet pid x true access (restamped (take size bs) delta)) numbered ∙ ap (λ x. unit_packet pid (next_number steps) true access (restamped x delta)) part_of))
+      ap (λ x. unit_packet pid (next_number steps) true access x ∷ rest_unit_packets pid (next_number (Inserted ∷ steps)) (drop (room access) (restamped bs delta))) f
+      ∙ ap (λ x. unit_packet pid (next_number steps) true access (restamped (take (room access) bs) delta) ∷ rest_unit_packets pid (next_number (Inserted ∷ steps)) x) (m ∙ sym behind_is)
+      ∙ ap (λ x. x ∷ rest_unit_packets pid (next_number (Inserted ∷ steps)) behind) (sym (made ∙ ap (λ x. unit_packet pid x true access (restamped (take size bs) delta)) numbered ∙ ap (λ x. unit_packet pid (next_number steps) true access (restamped x delta)) part_of))
 
 -- ---- the first packet of a moved unit
 

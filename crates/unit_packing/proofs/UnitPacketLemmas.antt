@@ -8,7 +8,7 @@ use Rattle.std.proofs.lemmas.List.Elements.{All-cons, All-nil}
 use Rattle.ts_packet.specs.Filling.{packets_for}
 use Rattle.ts_packet.specs.Fields.{on, payload_on, bytes, or_none, random_access}
 use Rattle.unit_stream.specs.UnitPackets.{AllOn, GoOn, CountsFrom, IsPacked}
-use Rattle.unit_packing.specs.Packing.{room, unit_packet, later_packets, rest_packets, unit_packets}
+use Rattle.unit_packing.specs.Packing.{room, unit_packet, later_unit_packets, rest_unit_packets, unit_packets}
 use Rattle.unit_packing.specs.Laws.{IsPlain}
 use Rattle.unit_packing.proofs.SaidLemmas.{Says, said, said_access, size}
 
@@ -45,7 +45,7 @@ unmarked_one pid n part h k m z = said_access pid n false false part h k m z ∙
     and_false true = refl
     and_false false = refl
 
-rest_said : (count pid n : ℕ) (bs : List ℕ) → packets_for (length bs) ≡ count → pid < 8192 → n < 16 → Rest pid n bs (later_packets count pid n bs)
+rest_said : (count pid n : ℕ) (bs : List ℕ) → packets_for (length bs) ≡ count → pid < 8192 → n < 16 → Rest pid n bs (later_unit_packets count pid n bs)
 rest_said zero pid n bs e h k = record {
   on_pid = tt;
   goes_on = tt;
@@ -66,9 +66,9 @@ rest_said (suc count) pid n bs e h k =
       on_pid = (said_on pid n false part p s, r.on_pid);
       goes_on = (s.begins, r.goes_on);
       counted = (s.counter, r.counted);
-      joined = ap (λ x. x ++ flat_map bytes (later_packets count pid ((n + 1) % 16) (drop 184 bs))) (said_bytes pid n false part p s) ∙ ap (λ x. part ++ x) r.joined ∙ take-append-drop 184 bs;
-      plain = All-cons IsPlain p (later_packets count pid ((n + 1) % 16) (drop 184 bs)) (plain pid n false false part h k m z) r.plain;
-      unmarked = All-cons (λ (p : List ℕ). random_access p ≡ false) p (later_packets count pid ((n + 1) % 16) (drop 184 bs)) (unmarked_one pid n part h k m z) r.unmarked;
+      joined = ap (λ x. x ++ flat_map bytes (later_unit_packets count pid ((n + 1) % 16) (drop 184 bs))) (said_bytes pid n false part p s) ∙ ap (λ x. part ++ x) r.joined ∙ take-append-drop 184 bs;
+      plain = All-cons IsPlain p (later_unit_packets count pid ((n + 1) % 16) (drop 184 bs)) (plain pid n false false part h k m z) r.plain;
+      unmarked = All-cons (λ (p : List ℕ). random_access p ≡ false) p (later_unit_packets count pid ((n + 1) % 16) (drop 184 bs)) (unmarked_one pid n part h k m z) r.unmarked;
     }
 
 pub room_184 : (access : Bool) → room access ≤ 184
@@ -91,7 +91,7 @@ module _ (pid n : ℕ) (access : Bool) (bs : List ℕ) (h : pid < 8192) (k : n <
   first = unit_packet pid n true access part
 
   abbrev rest : List (List ℕ)
-  rest = rest_packets pid ((n + 1) % 16) (drop (room access) bs)
+  rest = rest_unit_packets pid ((n + 1) % 16) (drop (room access) bs)
 
   fits : length part ≤ room access
   fits = rw (length-take (room access) bs) (omega arith)

@@ -26,14 +26,14 @@ unfoldable pub unit_packet : ℕ → ℕ → Bool → Bool → List ℕ → List
 unit_packet pid n start access part = front pid n start access (length part) ++ part
 
 -- so many packets in which a unit goes on with these bytes
-abbrev pub later_packets : ℕ → ℕ → ℕ → List ℕ → List (List ℕ)
-later_packets zero pid n bs = []
-later_packets (suc count) pid n bs = unit_packet pid n false false (take 184 bs) ∷ later_packets count pid ((n + 1) % 16) (drop 184 bs)
+abbrev pub later_unit_packets : ℕ → ℕ → ℕ → List ℕ → List (List ℕ)
+later_unit_packets zero pid n bs = []
+later_unit_packets (suc count) pid n bs = unit_packet pid n false false (take 184 bs) ∷ later_unit_packets count pid ((n + 1) % 16) (drop 184 bs)
 
 -- the packets behind the first
-abbrev pub rest_packets : ℕ → ℕ → List ℕ → List (List ℕ)
-rest_packets pid n bs = later_packets (packets_for (length bs)) pid n bs
+abbrev pub rest_unit_packets : ℕ → ℕ → List ℕ → List (List ℕ)
+rest_unit_packets pid n bs = later_unit_packets (packets_for (length bs)) pid n bs
 
 -- THE PACKETS OF A UNIT, where the first has this counter
 abbrev pub unit_packets : ℕ → Bool → ℕ → List ℕ → List (List ℕ)
-unit_packets pid access n bs = unit_packet pid n true access (take (room access) bs) ∷ rest_packets pid ((n + 1) % 16) (drop (room access) bs)
+unit_packets pid access n bs = unit_packet pid n true access (take (room access) bs) ∷ rest_unit_packets pid ((n + 1) % 16) (drop (room access) bs)

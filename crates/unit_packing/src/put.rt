@@ -6,7 +6,7 @@ ghost use Rattle.ts_packet.specs.Sinks.{Blamed};
 ghost use Rattle.ts_packet.specs.Transfers.{WentWell};
 ghost use Rattle.pes_time.specs.Stamps.{head_of, restamped};
 ghost use Rattle.unit_stream.specs.UnitPackets.{put_in};
-ghost use Rattle.unit_packing.specs.Packing.{rest_packets, unit_packets};
+ghost use Rattle.unit_packing.specs.Packing.{rest_unit_packets, unit_packets};
 ghost use Rattle.unit_packing.specs.Putting.{next_number, UnitPutFails};
 
 use crate::packet::{packet_of, room, unit_bytes};
@@ -106,12 +106,12 @@ fn put_rest<S: PacketSink>(
     ensures leads { S.leads sink.old sink.new }
     ensures ok { (start : Option (List ℕ)) (ps : List (List ℕ)) (steps : List Step) → S.holds sink.old start ps
         → Counts counter.old steps → OnOk result (S.holds sink.new start
-        (ps ++ rest_packets pid (next_number steps) bytes.now)) }
+        (ps ++ rest_unit_packets pid (next_number steps) bytes.now)) }
     ensures counted { (steps : List Step) → Counts counter.old steps →
-        OnOk result (Counts counter.new (put_in (rest_packets pid (next_number steps) bytes.now) steps)) }
+        OnOk result (Counts counter.new (put_in (rest_unit_packets pid (next_number steps) bytes.now) steps)) }
     ensures err { (start : Option (List ℕ)) (ps : List (List ℕ)) (steps : List Step) → S.holds sink.old start ps
         → Counts counter.old steps → IfErr result (λ f. UnitPutFails counter.new steps
-        (rest_packets pid (next_number steps) bytes.now)
+        (rest_unit_packets pid (next_number steps) bytes.now)
         (λ put p. S.fails sink.new start (ps ++ put) p f)) }
     ensures well { OnOk result (WentWell (S.counts sink.old) (S.counts sink.new)) }
     ensures blamed { IfErr result (λ f. Blamed f (S.counts sink.old) (S.counts sink.new) (S.is_full sink.new)) }

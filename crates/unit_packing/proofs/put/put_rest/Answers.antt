@@ -1,5 +1,5 @@
 use Rattle.std.proofs.Common.{ℕ, List, ◌+◌, ◌%◌, [], ◌∷◌, ◌++◌, ◌∙◌, arith, drop, append_assoc, subst, sym}
-use Rattle.unit_packing.specs.Packing.{rest_packets}
+use Rattle.unit_packing.specs.Packing.{rest_unit_packets}
 use Rattle.unit_packing.specs.Putting.{next_number}
 use Rattle.unit_stream.specs.UnitPackets.{put_in}
 use Rattle.ts_packet.specs.Numbering.{Counts}
@@ -20,7 +20,7 @@ returns-in-Err-clause-err g c = λ start ps steps h k.
     record {
       put = i.put.0;
       packet = c.packet_of-packet.result;
-      left = rest_packets c.args.pid ((c.fresh.result + 1) % 16) (drop 184 (drop c.loop-at.at c.args.bytes.now));
+      left = rest_unit_packets c.args.pid ((c.fresh.result + 1) % 16) (drop 184 (drop c.loop-at.at c.args.bytes.now));
       all = one_put c.args.pid (next_number steps) c.fresh.result c.loop-at.at c.min-next.result c.args.bytes.now c.packet_of-packet.result i.put.0 steps c.loop-at-test.true c.min-next.ensures
           (c.packet_of-packet.ensures ∙ c.unit_bytes-raw.ensures.value) now.0 (c.fresh.ensures.number (put_in i.put.0 steps) now.1);
       fault = e.err start (ps ++ i.put.0) (i.put.2 start ps h);

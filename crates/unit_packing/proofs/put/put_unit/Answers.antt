@@ -1,6 +1,6 @@
 use Rattle.std.proofs.Common.{ℕ, List, ◌-◌, [], ◌∷◌, ◌++◌, ◌∙◌, arith, drop, take, append_assoc, subst, ap, sym, length}
 use Rattle.std.proofs.lemmas.List.{append-nil}
-use Rattle.unit_packing.specs.Packing.{rest_packets}
+use Rattle.unit_packing.specs.Packing.{rest_unit_packets}
 use Rattle.unit_packing.specs.Putting.{next_number}
 use Rattle.unit_stream.specs.UnitPackets.{put_in}
 use Rattle.ts_packet.specs.Numbering.{Inserted, Counts}
@@ -19,7 +19,7 @@ returns-in-Err-clause-err g c = λ start ps steps h k.
     record {
       put = [];
       packet = c.packet_of-first.result;
-      left = rest_packets c.args.pid (next_number (Inserted ∷ steps)) (take (length c.args.bytes.now - c.min-size.result) (drop c.min-size.result c.args.bytes.now));
+      left = rest_unit_packets c.args.pid (next_number (Inserted ∷ steps)) (take (length c.args.bytes.now - c.min-size.result) (drop c.min-size.result c.args.bytes.now));
       all = whole_put c.args.pid c.fresh.result c.room.result c.min-size.result c.args.random_access c.args.bytes.now c.packet_of-first.result steps c.room.ensures.value c.min-size.ensures (c.fresh.ensures.number steps k) (c.packet_of-first.ensures ∙ c.unit_bytes-raw.ensures.value);
       fault = rw append-nil (e.err start ps h);
       counted = same_counts c.put_packet.new.counter c.args.counter.now steps e.same k;
