@@ -2,11 +2,8 @@
 //! writes the last packets to standard output: the program by which `bench/library` times the library of advertisements and `put_moved`.
 #![tactic(auto)]
 
-ghost use Rattle.std.specs.Prelude.{◌≡◌, IfErr, IfOk, IfSome, OnOk, Option, List, ℕ};
-ghost use Rattle.std.specs.Io.KnownBytes.{Appends};
-ghost use Rattle.ad_library.specs.Faults.{Says, advertisement_fault};
+ghost use Rattle.std.specs.Prelude.{◌≡◌, OnOk};
 ghost use Rattle.ts_packet.specs.Transfers.{WentWell};
-ghost use Rattle.ts_packet.specs.Sinks.{Blamed};
 
 use ad_library::{AdFault, AdLibrary};
 use pes_time::Time33;
@@ -27,8 +24,7 @@ const ID: u16 = 1;
 const STREAMS: [(u8, u8); 2] = [(0x1B, 0), (0x0F, 1)];
 
 /// Files the advertisement of a stream.
-fn file<I: Read + Drop>(alloc: Global, library: &mut AdLibrary, input: I) -> Result<(), AdFault>
-{
+fn file<I: Read + Drop>(alloc: Global, library: &mut AdLibrary, input: I) -> Result<(), AdFault> {
     let Ok(reader) = BufReader::with_capacity(alloc, BUFFER_SIZE, input) else {
         return Err(AdFault::OutOfMemory);
     };
