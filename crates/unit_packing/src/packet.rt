@@ -24,30 +24,36 @@ fn indicator(is_set: bool) -> u8
     if is_set { 0x40 } else { 0 }
 }
 
-/// The bytes before a packet's payload of so many bytes, and 0xFF in its place.
-fn front(pid: Pid, counter: u8, start: bool, random_access: bool, size: usize) -> [u8; 188]
+/// Writes what stands before a packet's payload of so many bytes over a packet of 0xFF alone.
+fn write_front(
+    bytes: &mut [u8; 188],
+    pid: Pid,
+    counter: u8,
+    start: bool,
+    random_access: bool,
+    size: usize,
+)
+    requires blank { bytes.old ≡ replicate 188 0xFF }
     requires number { counter < 16 }
     requires some { 0 < size }
     requires fits { size ≤ 184 }
-    ensures value { result ≡ front pid counter start random_access size ++ replicate size 0xFF }
+    ensures value { bytes.new ≡ front pid counter start random_access size ++ replicate size 0xFF }
     ensures below { pid < 8192 }
 {
     let number = pid.get();
-    let mut bytes = [0xFF; 188];
     bytes[0] = SYNC_BYTE;
     bytes[1] = (number / 256) as u8 + indicator(start);
     bytes[2] = (number % 256) as u8;
     if size == 184 {
         bytes[3] = 0x10 + counter;
-        return bytes;
+        return;
     }
     bytes[3] = 0x30 + counter;
     bytes[4] = (183 - size) as u8;
     if size == 183 {
-        return bytes;
+        return;
     }
     bytes[5] = indicator(random_access);
-    bytes
 }
 
 /// The bytes of a packet of a unit: its counter, whether the unit begins in it and whether random access is marked, and these bytes
@@ -65,7 +71,8 @@ pub(crate) fn unit_bytes(
     ensures value { result ≡ unit_packet pid counter start random_access part.now }
     ensures below { pid < 8192 }
 {
-    let mut bytes = front(pid, counter, start, random_access, part.len());
+    let mut bytes = [0xFF; 188];
+    write_front(&mut bytes, pid, counter, start, random_access, part.len());
     bytes[PACKET_SIZE - part.len()..].copy_from_slice(part);
     bytes
 }
