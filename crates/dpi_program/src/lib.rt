@@ -27,6 +27,10 @@ pub use script::{Script, ScriptFault};
 pub use unit_cut::{CutFault, cut};
 
 #[cfg(test)]
+mod fail_devices;
+#[cfg(test)]
+mod inject_fail_tests;
+#[cfg(test)]
 mod inject_tests;
 #[cfg(test)]
 mod script_tests;
