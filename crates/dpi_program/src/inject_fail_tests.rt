@@ -9,7 +9,7 @@ use std::alloc::{AllocError, Allocator, Global};
 use std::net::Net;
 use std::path::PathBuf;
 use std::process::Abort;
-use std::rt::Files;
+use std::rt::{Env, Files};
 use std::test::Fail;
 use std::{env, fs};
 use ts_packet::Device;
@@ -149,7 +149,7 @@ fn expect_run<R: Files + Net + AllocGlobal + Abort>(
 }
 
 /// The name of a script's file.
-fn write_script<R: Files + AllocGlobal>(rt: &R, name: &str, text: &[u8]) -> Result<PathBuf, Fail> {
+fn write_script<R: Env + Files + AllocGlobal>(rt: &R, name: &str, text: &[u8]) -> Result<PathBuf, Fail> {
     let script = env::temp_dir(rt)?.join(rt.alloc(), name)?;
     fs::write(rt, script.to_str().ok_or("a name")?, text)?;
     Ok(script)
