@@ -105,12 +105,7 @@ impl MapReader {
     /// Takes a packet of the PID of the map. It stands by itself so that no other packet pays for the room that it takes.
     #[cold]
     #[inline(never)]
-    fn take(
-        &mut self,
-        purpose: &Purpose,
-        at: Listed,
-        packet: &Packet,
-    ) -> Result<(), NetworkFault>
+    fn take(&mut self, purpose: &Purpose, at: Listed, packet: &Packet) -> Result<(), NetworkFault>
         requires { on at.pid packet.now ≡ true }
         ensures reads { (past : List (List ℕ)) → Some at ≡ listed purpose.now.program past
             → MapsRead self.old purpose.now.program past
