@@ -17,7 +17,7 @@ const ALIVE_REPLY: [u8; 13] = [0, 4, 0, 0x0D, 0, 0x64, 0xFF, 0xFF, 0, 0, 7, 0, 1
 
 /// An automation whose bytes come in pieces of one size. It may fail at a take, and lose a reply.
 #[derive(Drop)]
-struct Pieces<'a> {
+struct FailAutomation<'a> {
     rest: &'a [u8],
     size: usize,
     /// How many takes go well before one fails.
@@ -28,10 +28,10 @@ struct Pieces<'a> {
     failures: u64,
 }
 
-impl<'a> Pieces<'a> {
+impl<'a> FailAutomation<'a> {
     /// These bytes, in pieces of this size, from an automation that does not fail.
-    fn of(alloc: Global, bytes: &'a [u8], size: usize) -> Pieces<'a> {
-        Pieces {
+    fn of(alloc: Global, bytes: &'a [u8], size: usize) -> FailAutomation<'a> {
+        FailAutomation {
             rest: bytes,
             size,
             good_takes: usize::MAX,
@@ -42,7 +42,7 @@ impl<'a> Pieces<'a> {
     }
 }
 
-impl Automation for Pieces<'_> {
+impl Automation for FailAutomation<'_> {
     ghost use Rattle.std.specs.Prelude.{None};
 
     ghost takes = { λ s. None };
@@ -100,7 +100,7 @@ fn config() -> Result<Config, Fail> {
 fn run(
     alloc: Global,
     bytes: &[u8],
-    automation: &mut Pieces<'_>,
+    automation: &mut FailAutomation<'_>,
     room: usize,
 ) -> Result<(Result<Report, RunFault>, usize), Fail> {
     let Ok(chain) = Chain::new(alloc, config()?) else {
@@ -117,7 +117,7 @@ fn run(
 fn expect_run<R: AllocGlobal + Abort>(
     rt: &R,
     packets: usize,
-    automation: &mut Pieces<'_>,
+    automation: &mut FailAutomation<'_>,
     messages: u64,
     refused: u64,
 ) -> Result<(), Fail> {
@@ -147,7 +147,7 @@ fn five_messages(alloc: Global) -> Result<Vec<u8>, AllocError> {
 fn pieces_of_any_size_are_messages(rt: HostRuntime) -> Result<(), Fail> {
     let bytes = five_messages(rt.alloc())?;
     for size in [1, 2, 7, 13, 14, 26, 65, 4_096] {
-        let mut automation = Pieces::of(rt.alloc(), bytes.as_slice(), size);
+        let mut automation = FailAutomation::of(rt.alloc(), bytes.as_slice(), size);
         expect_run(&rt, 65, &mut automation, 5, 0)?;
         let replies = automation.replies.as_slice();
         assert_eq!(rt; replies.len(), 65);
@@ -164,7 +164,7 @@ fn pieces_of_any_size_are_messages(rt: HostRuntime) -> Result<(), Fail> {
 fn messages_behind_the_last_packet_are_not_judged(rt: HostRuntime) -> Result<(), Fail> {
     let bytes = five_messages(rt.alloc())?;
     for packets in 0..6 {
-        let mut automation = Pieces::of(rt.alloc(), bytes.as_slice(), 13);
+        let mut automation = FailAutomation::of(rt.alloc(), bytes.as_slice(), 13);
         let judged = packets.min(5);
         expect_run(&rt, packets, &mut automation, judged as u64, 0)?;
         assert_eq!(rt; automation.replies.len(), 13 * judged);
@@ -176,7 +176,7 @@ fn messages_behind_the_last_packet_are_not_judged(rt: HostRuntime) -> Result<(),
 fn takes_that_fail_end_the_session(rt: HostRuntime) -> Result<(), Fail> {
     let bytes = five_messages(rt.alloc())?;
     for good in 0..5 {
-        let mut automation = Pieces::of(rt.alloc(), bytes.as_slice(), 13);
+        let mut automation = FailAutomation::of(rt.alloc(), bytes.as_slice(), 13);
         automation.good_takes = good;
         expect_run(&rt, 8, &mut automation, good as u64, 0)?;
         assert_eq!(rt;
@@ -192,7 +192,7 @@ fn replies_that_are_lost_end_the_session(rt: HostRuntime) -> Result<(), Fail> {
     let bytes = five_messages(rt.alloc())?;
     for size in [13, 65] {
         for good in 0..5 {
-            let mut automation = Pieces::of(rt.alloc(), bytes.as_slice(), size);
+            let mut automation = FailAutomation::of(rt.alloc(), bytes.as_slice(), size);
             automation.good_answers = good;
             expect_run(&rt, 8, &mut automation, good as u64 + 1, 0)?;
             assert_eq!(rt;
@@ -217,7 +217,7 @@ fn expect_size<R: AllocGlobal + Abort>(
         bytes.push(0)?;
     }
     bytes.extend_from_slice(&ALIVE)?;
-    let mut automation = Pieces::of(rt.alloc(), bytes.as_slice(), 4_096);
+    let mut automation = FailAutomation::of(rt.alloc(), bytes.as_slice(), 4_096);
     expect_run(rt, 20, &mut automation, messages, refused)
 }
 
@@ -235,7 +235,7 @@ fn an_output_that_fails_ends_the_run(rt: HostRuntime) -> Result<(), Fail> {
     let messages = five_messages(rt.alloc())?;
     let bytes = null_packets(rt.alloc(), 5)?;
     for room in 0..5 {
-        let mut automation = Pieces::of(rt.alloc(), messages.as_slice(), 13);
+        let mut automation = FailAutomation::of(rt.alloc(), messages.as_slice(), 13);
         let (outcome, count) = run(rt.alloc(), bytes.as_slice(), &mut automation, room)?;
         assert!(rt; outcome == Err(RunFault::Feed(FeedFault::Sink(PutFault::Stuck))));
         assert_eq!(rt; (count, automation.replies.len()), (room, 13 * (room + 1)));
@@ -249,7 +249,7 @@ fn a_network_that_ends_in_a_packet_ends_the_run(rt: HostRuntime) -> Result<(), F
     for size in [1, 187, 189, 939] {
         let mut bytes = null_packets(rt.alloc(), 5)?;
         bytes.truncate(size);
-        let mut automation = Pieces::of(rt.alloc(), messages.as_slice(), 13);
+        let mut automation = FailAutomation::of(rt.alloc(), messages.as_slice(), 13);
         let (outcome, count) = run(rt.alloc(), bytes.as_slice(), &mut automation, 5)?;
         assert!(rt; outcome == Err(RunFault::Read(ReadFault::Truncated)));
         assert_eq!(rt;

@@ -381,7 +381,7 @@ fn script_from<R: Read + Drop, W: Drop>(
     reader: R,
     replies: W,
 ) -> Result<Script<W>, Stopped> {
-    let mut reading = Reading::new(alloc);
+    let mut reading = Reading::new_in(alloc);
     let mut reader = Device::new(Attended::new(reader));
     match load_into(&mut reading, &mut reader) {
         Ok(()) => Ok(Script::of(reading, replies)),

@@ -31,6 +31,10 @@ pub use unit_cut::{CutFault, cut};
 #[cfg(test)]
 mod ad_list_tests;
 #[cfg(test)]
+mod fail_devices;
+#[cfg(test)]
+mod inject_fail_tests;
+#[cfg(test)]
 mod inject_tests;
 #[cfg(test)]
 mod script_tests;

@@ -7,7 +7,7 @@ ghost use Rattle.dpi_program.specs.Scripts.{ScriptBlamed};
 use crate::script_text::{Line, Reading};
 use chain_engine::{Automation, Taken};
 use hex_digits::Digits;
-use std::alloc::Global;
+use std::alloc::{Allocator, Global};
 use std::io::Write;
 use thiserror::Error;
 use ts_packet::{DeviceFault, Source};
@@ -37,9 +37,9 @@ pub enum ScriptFault {
 
 /// An automation that gives the bytes of a script, and prints the replies. After the script's last line it has nothing more.
 #[derive(Drop)]
-pub struct Script<W> {
-    bytes: Vec<u8>,
-    lines: Vec<Line>,
+pub struct Script<W, M: Allocator = Global> {
+    bytes: Vec<u8, M>,
+    lines: Vec<Line, M>,
     /// The line that comes next.
     next: usize,
     /// Where what is left of its bytes begins.
@@ -69,13 +69,34 @@ impl<W> Script<W> {
         ensures blamed { IfErr result (λ f. ScriptBlamed f (S.counts reader.old) (S.counts reader.new)) }
         ensures ended { OnOk result (LastMovedNone (S.counts reader.old) (S.counts reader.new)) }
     {
-        let mut reading = Reading::new(alloc);
+        Script::load_in(alloc, reader, replies)
+    }
+}
+
+impl<W, M: Allocator> Script<W, M> {
+    /// Loads a script whose memory is this allocator's.
+    ///
+    /// # Errors
+    ///
+    /// As for [`Script::load`].
+    pub fn load_in<S: Source>(
+        alloc: M,
+        reader: &mut S,
+        replies: W,
+    ) -> Result<Script<W, M>, ScriptFault>
+    where
+        M: Copy,
+        W: Drop,
+        ensures blamed { IfErr result (λ f. ScriptBlamed f (S.counts reader.old) (S.counts reader.new)) }
+        ensures ended { OnOk result (LastMovedNone (S.counts reader.old) (S.counts reader.new)) }
+    {
+        let mut reading = Reading::new_in(alloc);
         load_into(&mut reading, reader)?;
         Ok(Script::of(reading, replies))
     }
 
     /// The script of a text that was read to its end.
-    pub(crate) fn of(reading: Reading, replies: W) -> Script<W> {
+    pub(crate) fn of(reading: Reading<M>, replies: W) -> Script<W, M> {
         let (bytes, lines) = reading.into_parts();
         Script {
             bytes,
@@ -108,7 +129,10 @@ impl<W> Script<W> {
 }
 
 /// Reads a text to its end. An interrupted read is tried again.
-pub(crate) fn load_into<S: Source>(reading: &mut Reading, reader: &mut S) -> Result<(), ScriptFault>
+pub(crate) fn load_into<M: Allocator, S: Source>(
+    reading: &mut Reading<M>,
+    reader: &mut S,
+) -> Result<(), ScriptFault>
     ensures blamed { IfErr result (λ f. ScriptBlamed f (S.counts reader.old) (S.counts reader.new)) }
     ensures ended { OnOk result (LastMovedNone (S.counts reader.old) (S.counts reader.new)) }
 {
@@ -127,7 +151,7 @@ pub(crate) fn load_into<S: Source>(reading: &mut Reading, reader: &mut S) -> Res
     Err(ScriptFault::Turns)
 }
 
-impl<W: Write> Automation for Script<W> {
+impl<W: Write, M: Allocator> Automation for Script<W, M> {
     ghost use Rattle.std.specs.Prelude.{None};
 
     ghost takes = { λ s. None };

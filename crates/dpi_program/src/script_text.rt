@@ -5,7 +5,7 @@ ghost use Rattle.dpi_program.specs.Scripts.{IsOfText};
 
 use crate::script::ScriptFault;
 use hex_digits::value_of;
-use std::alloc::Global;
+use std::alloc::{Allocator, Global};
 
 /// The most bytes of a line.
 const MOST: usize = 4_096;
@@ -34,9 +34,9 @@ enum Place {
 
 /// The lines of a script, as far as it was read.
 #[derive(Drop)]
-pub(crate) struct Reading {
-    bytes: Vec<u8>,
-    lines: Vec<Line>,
+pub(crate) struct Reading<M: Allocator = Global> {
+    bytes: Vec<u8, M>,
+    lines: Vec<Line, M>,
     place: Place,
 }
 
@@ -59,32 +59,34 @@ fn with_digit(number: u64, digit: u8) -> Result<u64, ScriptFault>
     }
 }
 
-impl Reading {
-    /// Nothing was read.
-    pub(crate) fn new(alloc: Global) -> Reading {
+/// The value of a hexadecimal digit.
+fn half(byte: u8) -> Result<u8, ScriptFault>
+    ensures below { IfOk result (λ value. value < 16) }
+    ensures refused { IfErr result IsOfText }
+{
+    match value_of(byte) {
+        Some(value) => Ok(value),
+        None => Err(ScriptFault::BadScript),
+    }
+}
+
+impl<M: Allocator + Copy> Reading<M> {
+    /// Nothing was read; its memory is this allocator's.
+    pub(crate) fn new_in(alloc: M) -> Reading<M> {
         Reading {
             bytes: Vec::new(alloc),
             lines: Vec::new(alloc),
             place: Place::Start,
         }
     }
+}
 
+impl<M: Allocator> Reading<M> {
     /// Whether lines with this number rise from those before.
     fn rises(&self, packet: u64) -> bool {
         match self.lines.last() {
             Some(line) => line.packet < packet,
             None => true,
-        }
-    }
-
-    /// The value of a hexadecimal digit.
-    fn half(byte: u8) -> Result<u8, ScriptFault>
-        ensures below { IfOk result (λ value. value < 16) }
-        ensures refused { IfErr result IsOfText }
-    {
-        match value_of(byte) {
-            Some(value) => Ok(value),
-            None => Err(ScriptFault::BadScript),
         }
     }
 
@@ -126,10 +128,10 @@ impl Reading {
                 if count == MOST {
                     return Err(ScriptFault::BadScript);
                 }
-                Ok(Place::Half(packet, count, Reading::half(byte)?))
+                Ok(Place::Half(packet, count, half(byte)?))
             }
             Place::Half(packet, count, high) => {
-                let low = Reading::half(byte)?;
+                let low = half(byte)?;
                 let Ok(()) = self.bytes.push(high % 16 * 16 + low) else {
                     return Err(ScriptFault::OutOfMemory);
                 };
@@ -166,7 +168,7 @@ impl Reading {
     }
 
     /// The bytes of all lines, and the lines.
-    pub(crate) fn into_parts(self) -> (Vec<u8>, Vec<Line>) {
+    pub(crate) fn into_parts(self) -> (Vec<u8, M>, Vec<Line, M>) {
         let Reading {
             bytes,
             lines,

@@ -2,6 +2,7 @@
 
 use super::program::program;
 use super::{LinesFault, cut_lines};
+use crate::fail_devices::{FailSource, FailTarget};
 use pes_time::Time33;
 use std::alloc::{AllocError, Global};
 use std::io::{self, Cursor, ErrorKind, Read, Write};
@@ -511,61 +512,6 @@ fn more_is_told_where_it_is_asked_for(rt: HostRuntime) -> Result<(), Fail> {
     Ok(())
 }
 
-/// Gives a byte every second read, and is interrupted at the others; past its bytes it ends, or fails.
-#[derive(Drop)]
-struct Slow<'a> {
-    bytes: &'a [u8],
-    fails: bool,
-    is_late: bool,
-}
-
-impl Read for Slow<'_> {
-    fn read(&mut self, buf: &mut [u8]) -> io::Result<usize> {
-        self.is_late = !self.is_late;
-        if self.is_late {
-            return Err(io::Error::from(ErrorKind::Interrupted));
-        }
-        if let Some((first, rest)) = self.bytes.split_first()
-            && let Some(place) = buf.first_mut()
-        {
-            *place = *first;
-            self.bytes = rest;
-            return Ok(1);
-        }
-        if self.fails {
-            return Err(io::Error::from(ErrorKind::Other));
-        }
-        Ok(0)
-    }
-}
-
-/// Takes a byte a write, as many as there is room for; then it takes none, or fails.
-#[derive(Drop)]
-struct Small {
-    taken: Vec<u8>,
-    room: usize,
-    fails: bool,
-}
-
-impl Write for Small {
-    fn write(&mut self, buf: &[u8]) -> io::Result<usize> {
-        if let Some(first) = buf.first()
-            && self.taken.len() < self.room
-        {
-            self.taken.push(*first)?;
-            return Ok(1);
-        }
-        if self.fails {
-            return Err(io::Error::from(ErrorKind::Other));
-        }
-        Ok(0)
-    }
-
-    fn flush(&mut self) -> io::Result<()> {
-        Ok(())
-    }
-}
-
 /// Cuts nothing of PID 256 on lines.
 fn copy_lines<I: Read, O: Write>(input: &mut I, output: &mut O) -> Option<Result<(), LinesFault>> {
     let (mut input, mut output) = (Device::new(input), Device::new(output));
@@ -583,12 +529,12 @@ fn slow_devices_change_nothing(rt: HostRuntime) -> Result<(), Fail> {
         (false, 377, false, Some(CutFault::Sink(PutFault::Stuck))),
         (false, 753, false, Some(CutFault::Sink(PutFault::Stuck))),
     ] {
-        let mut input = Slow {
+        let mut input = FailSource {
             bytes: text.as_slice(),
             fails: input_fails,
             is_late: false,
         };
-        let mut output = Small {
+        let mut output = FailTarget {
             taken: Vec::new(rt.alloc()),
             room,
             fails: output_fails,

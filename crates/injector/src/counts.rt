@@ -4,7 +4,7 @@ ghost use Rattle.std.specs.Prelude.{◌≡◌, ℕ, List, ◌∷◌};
 ghost use Rattle.scte104_codec.specs.Reading.{MessageReading};
 ghost use Rattle.injector.specs.Turns.{Turn, Judged};
 ghost use Rattle.injector.specs.Replies.{reply_to};
-ghost use Rattle.injector.specs.Steps.{outcome, is_accepted};
+ghost use Rattle.injector.specs.Steps.{outcome, is_accepted, has_news};
 ghost use Rattle.injector.specs.Injecting.{CountsAre};
 
 use crate::reply::SUCCESS;
@@ -30,6 +30,14 @@ pub(crate) fn accepts(reply: &Reply) -> bool
     reply.op == INJECT_RESPONSE && reply.result == SUCCESS
 }
 
+/// Whether a request was accepted since the last packet, behind a message more, which was answered so.
+pub(crate) fn has_news_behind(before: bool, reply: &Reply) -> bool
+    ensures { (index : ℕ) (m : MessageReading) (past : List Turn) → before ≡ has_news index past →
+        reply.now ≡ reply_to index m past → result ≡ has_news index (Judged m ∷ past) }
+{
+    before || accepts(reply)
+}
+
 /// The counts with one message more, which was answered so.
 pub(crate) fn counted(before: MessageCounts, reply: &Reply) -> MessageCounts
     ensures { (index : ℕ) (m : MessageReading) (past : List Turn) → CountsAre before index past →
@@ -38,7 +46,7 @@ pub(crate) fn counted(before: MessageCounts, reply: &Reply) -> MessageCounts
     let mut counts = before;
     counts.messages = counts.messages.saturating_add(1);
     if reply.op == INJECT_RESPONSE {
-        if reply.result == SUCCESS {
+        if accepts(reply) {
             counts.accepted = counts.accepted.saturating_add(1);
         } else {
             counts.refused = counts.refused.saturating_add(1);

@@ -11,6 +11,8 @@ ghost use Rattle.program_follower.specs.Faults.{network_fault};
 ghost use Rattle.outgoing_packets.specs.Numbers.{HasPut, FrontFails};
 ghost use Rattle.injector.specs.Replies.{reply_to};
 ghost use Rattle.injector.specs.Requests.{RequestsStandFor};
+ghost use Rattle.injector.specs.Turns.{Turn, high};
+ghost use Rattle.injector.specs.Senders.{IsIdle};
 ghost use Rattle.injector.specs.Noting.{NotesStandFor, StaysAtRest};
 ghost use Rattle.injector.specs.Steps.{Step, Message as MessageStep, Packet as PacketStep, packets_in, turns_in};
 ghost use Rattle.injector.specs.Steps.{high_of};
@@ -19,7 +21,7 @@ ghost use Rattle.injector.specs.Injecting.{InjectorStandsFor, JudgesBy, FeedFail
 ghost use Rattle.injector.specs.Injecting.{IsFed, IsBodyOf, RestsAt, KeepsRest, is_map_place, is_err_or};
 
 use crate::choice::is_reached;
-use crate::counts::{MessageCounts, accepts, counted};
+use crate::counts::{MessageCounts, counted, has_news_behind};
 use crate::cues::put_due;
 use crate::requests::Requests;
 use outgoing_packets::{CueEntry, Outgoing};
@@ -78,7 +80,7 @@ impl Injector {
     {
         let reply = self.requests.ask(message);
         self.counts = counted(self.counts, &reply);
-        self.has_news = self.has_news || accepts(&reply);
+        self.has_news = has_news_behind(self.has_news, &reply);
         reply
     }
 
@@ -218,11 +220,9 @@ impl Injector {
     /// The time until which no cue is due behind a packet: that from before where none was due, and else by each event.
     #[inline(always)]
     fn rest_behind(&self, is_due: bool) -> Option<Time33>
-        ensures { (c : Config) (p : List ℕ) (past : List Step) →
-            RequestsStandFor self.now.requests c.index (turns_in c.program (PacketStep p ∷ past)) →
-            NotesStandFor self.now.requests c.index (turns_in c.program (PacketStep p ∷ past)) →
-            (is_due ≡ false → RestsAt self.now.rest c.index (turns_in c.program (PacketStep p ∷ past))) →
-            RestsAt result c.index (turns_in c.program (PacketStep p ∷ past)) }
+        ensures { (index : ℕ) (past : List Turn) → RequestsStandFor self.now.requests index past →
+            NotesStandFor self.now.requests index past → IsIdle index (high past) past →
+            (is_due ≡ false → RestsAt self.now.rest index past) → RestsAt result index past }
     {
         if is_due {
             return self.requests.rest();

@@ -171,7 +171,6 @@ impl ProgramFollower {
             return Err(NetworkFault::CuePidUsed);
         }
         let listed = self.pats.listed();
-        let is_map = is_on_map(&listed, packet);
         match self.pats.feed(&self.purpose, packet) {
             Ok(()) => {}
             Err(fault) => return Err(fault),
@@ -180,6 +179,7 @@ impl ProgramFollower {
             Ok(()) => {}
             Err(fault) => return Err(fault),
         }
+        let is_map = self.maps.is_on_map();
         match follow_streams(&mut self.streams, self.maps.known(), packet) {
             Ok(of_stream) => Ok(place_of(self.purpose.cue_pid, is_map, of_stream, packet)),
             Err(fault) => Err(of_unit(fault)),
@@ -245,17 +245,6 @@ fn is_on_pid(pid: Option<Pid>, packet: &Packet) -> bool
     match pid {
         None => false,
         Some(pid) => packet.is_on(pid),
-    }
-}
-
-/// The packet is on the PID of the map.
-#[inline(always)]
-fn is_on_map(listed: &Option<Listed>, packet: &Packet) -> bool
-    ensures { result ≡ on_map listed.now packet.now }
-{
-    match listed {
-        None => false,
-        Some(listed) => packet.is_on(listed.pid),
     }
 }
 

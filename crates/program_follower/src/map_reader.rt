@@ -8,6 +8,7 @@ ghost use Rattle.program_follower.specs.Program.{listed, table_of, program_in, p
 ghost use Rattle.program_follower.specs.Faults.{maps_fault_at};
 ghost use Rattle.program_follower.specs.Judging.{fault_of_section, known_behind, fault_of_sections, known_behind_all};
 ghost use Rattle.program_follower.specs.Standing.{known_seen};
+ghost use Rattle.program_follower.specs.Following.{on_map};
 
 use crate::judging::judge_map;
 use crate::known::KnownProgram;
@@ -48,6 +49,14 @@ impl MapReader {
         self.known.as_ref()
     }
 
+    /// The last packet was on the PID of the map.
+    #[inline(always)]
+    pub fn is_on_map(&self) -> bool
+        ensures { result ≡ self.now.is_on_map }
+    {
+        self.is_on_map
+    }
+
     /// The sections that the last packet finished on the PID of the map, as tables of a program.
     pub fn tables(&self, program: u16) -> Tables<'_>
         ensures { tables_left result ≡ map (table_of program) (shown self.now) }
@@ -80,6 +89,7 @@ impl MapReader {
         ensures err { (past : List (List ℕ)) → at ≡ listed purpose.now.program past
             → MapsRead self.old purpose.now.program past
             → IfErr result (λ f. maps_fault_at purpose.now packet.now past ≡ Some f) }
+        ensures on { OnOk result (self.new.is_on_map ≡ on_map at packet.now) }
     {
         let Some(listed) = at else {
             self.is_on_map = false;
@@ -95,12 +105,7 @@ impl MapReader {
     /// Takes a packet of the PID of the map. It stands by itself so that no other packet pays for the room that it takes.
     #[cold]
     #[inline(never)]
-    fn take(
-        &mut self,
-        purpose: &Purpose,
-        at: Listed,
-        packet: &Packet,
-    ) -> Result<(), NetworkFault>
+    fn take(&mut self, purpose: &Purpose, at: Listed, packet: &Packet) -> Result<(), NetworkFault>
         requires { on at.pid packet.now ≡ true }
         ensures reads { (past : List (List ℕ)) → Some at ≡ listed purpose.now.program past
             → MapsRead self.old purpose.now.program past
@@ -111,6 +116,7 @@ impl MapReader {
         ensures err { (past : List (List ℕ)) → Some at ≡ listed purpose.now.program past
             → MapsRead self.old purpose.now.program past
             → IfErr result (λ f. maps_fault_at purpose.now packet.now past ≡ Some f) }
+        ensures on { OnOk result (self.new.is_on_map ≡ true) }
     {
         self.is_on_map = true;
         self.assembler.pass_over();

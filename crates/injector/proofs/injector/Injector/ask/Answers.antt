@@ -1,22 +1,17 @@
-use Rattle.std.proofs.Common.{◌≡◌, ◌||◌, Bool, sym, ap, ◌∙◌, ◌∷◌}
+use Rattle.std.proofs.Common.{sym, ◌∙◌, ◌∷◌}
 use Rattle.scte104_codec.specs.Views.{reading_of}
 use Rattle.injector.specs.Turns.{Judged}
 use Rattle.injector.specs.Steps.{turns_in, outcome, is_accepted, has_news}
 use Rattle.injector.proofs.BoundLemmas.{rests-asked, neither}
-use Rattle.injector.proofs.injector.Injector.ask.Goals.{then-self, else-self}
 use Rattle.injector.proofs.injector.Injector.ask.Goals as goal
 
 pub returns-clause-stands : goal.returns-clause-stands
 returns-clause-stands c = λ cfg past b.
     let m = reading_of c.args.message in
     let turns = turns_in cfg.program past in
-    let acc : Bool = is_accepted (outcome cfg.index m turns) in
+    let acc = is_accepted (outcome cfg.index m turns) in
     let answer = c.ask-reply.ensures.answer cfg.index turns b.judges.requests in
-    let has : c.if-self.self ≡ has_news cfg.index (Judged m ∷ turns)
-    = elim c.if-self.branch [
-      | then-self w ↦ w.self-is ∙ w.if-self.true ∙ sym (ap (λ h. h || acc) (sym b.news ∙ w.if-self.true))
-      | else-self w ↦ w.self-is ∙ w.accepts-self.ensures cfg.index m turns answer ∙ sym (ap (λ h. h || acc) (sym b.news ∙ w.if-self.false))
-    ] in
+    let has = c.has_news_behind-self.ensures cfg.index m turns b.news answer in
     record {
       judges = record {
         requests = c.ask-reply.ensures.turn cfg.index turns b.judges.requests;

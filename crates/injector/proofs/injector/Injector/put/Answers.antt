@@ -11,9 +11,10 @@ use Rattle.injector.specs.Turns.{high, Passed}
 use Rattle.injector.specs.Senders.{standing_senders}
 use Rattle.injector.specs.Noting.{Rests, Rises, NotesStandFor, IsBefore}
 use Rattle.injector.specs.Requests.{RequestsStandFor}
-use Rattle.injector.specs.Steps.{packets_in, turns_in, high_of, purpose_of, cued, cue_packets, body_at, sent_at}
+use Rattle.injector.specs.Steps.{Packet as PacketStep, packets_in, turns_in, high_of, purpose_of, cued, cue_packets, body_at, sent_at}
 use Rattle.injector.specs.Injecting.{IsFed, IsBodyOf, InjectorStandsFor, JudgesBy}
 use Rattle.injector.proofs.FeedLemmas.{rises-at, turns-high}
+use Rattle.injector.proofs.RestLemmas.{idle-between}
 use Rattle.injector.proofs.injector.Injector.put.Goals as goal
 
 pub returns-in-Err-clause-err : goal.returns-in-Err-clause-err
@@ -103,7 +104,8 @@ returns-clause-stands g c = λ cfg past b.
       cue_pid = k.cue_pid ∙ b.body.cue_pid;
       notes = c.rise.ensures.notes cfg.index turns line requests noted rises is;
       news = refl;
-      rest = λ quiet. c.rest_behind-self.ensures cfg p past (c.rise.ensures.stands cfg.index turns line requests rises is) (c.rise.ensures.notes cfg.index turns line requests noted rises is)
+      rest = λ quiet. c.rest_behind-self.ensures cfg.index (Passed line ∷ turns) (c.rise.ensures.stands cfg.index turns line requests rises is) (c.rise.ensures.notes cfg.index turns line requests noted rises is)
+          (idle-between cfg (PacketStep p ∷ past) line refl refl)
           (λ none. subst (λ r. Rests r line (standing_senders cfg.index (Passed line ∷ turns))) (sym k.rest) (c.is_due-is_due.ensures c.args.is_map cfg p past b is none).rests);
       follower = subst (λ f. Rattle.program_follower.specs.Following.FollowerStandsFor f (purpose_of cfg) (p ∷ packets_in past)) (sym k.follower) b.body.follower;
       out = subst (HasPut c.put_body.new.self.out) (sym (onto-append out cues more) ∙ ap (onto out) (sym sent))

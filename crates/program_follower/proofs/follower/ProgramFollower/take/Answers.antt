@@ -39,7 +39,7 @@ returns-in-Ok-follow_streams-clause-place c = λ past h.
     let at = c.listed-listed.ensures w past h.pats in
     let maps = c.in-Ok-feed.ensures.reads past at h.maps in
     let goes = goes_to w p past (lent_program c.known.result) (c.known.ensures w (p ∷ past) maps) in
-    c.place_of.ensures c.args.self.now.purpose past refl (c.is_on_map-is_map.ensures ∙ ap (λ l. on_map l p) at) (c.in-Ok-follow_streams.ensures.is (program_of w past) (behind_head w past) goes h.streams)
+    c.place_of.ensures c.args.self.now.purpose past refl (c.is_on_map-is_map.ensures ∙ c.in-Ok-feed.ensures.on ∙ ap (λ l. on_map l p) at) (c.in-Ok-follow_streams.ensures.is (program_of w past) (behind_head w past) goes h.streams)
 
 pub returns-in-Err-follow_streams-clause-err : goal.returns-in-Err-follow_streams-clause-err
 returns-in-Err-follow_streams-clause-err c = λ past h.
