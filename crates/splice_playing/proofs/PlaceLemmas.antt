@@ -98,7 +98,7 @@ none-put : (pids : List ℕ) (es : List Standing) (rule : ℕ → Standing → L
 none-put [] es rule = refl
 none-put (pid ∷ pids) es rule = none-append (map (λ (u : SliceUnit). Put pid u) (flat_map (rule pid) es)) (puts_by pids es rule) (none-on pid (flat_map (rule pid) es)) (none-put pids es rule)
 
-is-none : List (List ℕ) → Bool
+abbrev is-none : List (List ℕ) → Bool
 is-none [] = true
 is-none (p ∷ ps) = false
 
