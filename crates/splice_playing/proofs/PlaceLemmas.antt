@@ -46,7 +46,7 @@ or-right false b h = h
 pub same-test : (a b : ℕ) → a ≡ b → (a == b) ≡ true
 same-test a b h = rw h (test-same b)
 
-clash : (b : Bool) → b ≡ true → b ≡ false → ⊥
+pub clash : (b : Bool) → b ≡ true → b ≡ false → ⊥
 clash b h k = true≢false (sym h ∙ k)
 
 pub among-by : (pid : ℕ) (pids : List ℕ) (n : ℕ) → slice_get pids n ≡ Some pid → is_among pid pids ≡ true
