@@ -21,7 +21,7 @@ use Rattle.splice_plans.specs.Turning.{waiting}
 use Rattle.splice_plans.specs.Known.{stage_known, crosses_known, crossed_known, nothing_known, padded, part_known, is_crossed_known, plan_known}
 use Rattle.splice_plans.proofs.KnownLemmas.{begun-past}
 use Rattle.known_laws.proofs.HeadLemmas.{or-none as or-false}
-use Rattle.known_laws.proofs.QuietLemmas.{stage_of, same-stage, same-part}
+use Rattle.known_laws.proofs.QuietLemmas.{same-stage, same-part, same-plan}
 
 pub ahead-earlier : (a b : Option ℤ) (edge : ℤ) → Risen a b → IsAhead b edge → IsAhead a edge
 ahead-earlier None b edge r h = tt
@@ -122,6 +122,3 @@ module _ (switched : List ℕ) (few : length switched ≤ 8) (ads : Adverts) (ev
 
   pub plan-ahead : plan_known switched ads events past e ≡ nothing_known
   plan-ahead = same-plan (ap padded (parts-ahead switched (all-in switched)) ∙ filled (length switched) few) crossed-none
-    where
-      same-plan : {a b : List Part} {c d : Bool} → a ≡ b → c ≡ d → record { parts = a; is_crossed = c } ≡ record { parts = b; is_crossed = d }
-      same-plan h k = rw (h, k) refl

@@ -28,7 +28,7 @@ pub or-parts : (a b : Bool) → (a || b) ≡ false → (a ≡ false) × (b ≡ f
 or-parts true b h = absurd (true≢false h)
 or-parts false b h = (refl, h)
 
-or-none : (a b : Bool) → a ≡ false → b ≡ false → (a || b) ≡ false
+pub or-none : (a b : Bool) → a ≡ false → b ≡ false → (a || b) ≡ false
 or-none true b h k = h
 or-none false b h k = k
 

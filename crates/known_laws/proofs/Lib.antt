@@ -1,2 +1,4 @@
 pub mod HeadLemmas
 pub mod QuietLemmas
+pub mod AheadLemmas
+pub mod SameLemmas

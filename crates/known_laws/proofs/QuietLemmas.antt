@@ -37,8 +37,17 @@ stage_of closed begun = if closed then Over else (if begun then Running else Wai
 pub same-stage : {a b c d : Bool} → a ≡ b → c ≡ d → stage_of a c ≡ stage_of b d
 same-stage {a} {b} {c} {d} h k = ap (λ x. stage_of x c) h ∙ ap (λ x. stage_of b x) k
 
-pub same-part : {s t : Stage} {m n : ℕ} → s ≡ t → m ≡ n → record { stage = s; sent = m } ≡ record { stage = t; sent = n }
+abbrev pub a_part : Stage → ℕ → Part
+a_part stage sent = record { stage = stage; sent = sent }
+
+pub same-part : {s t : Stage} {m n : ℕ} → s ≡ t → m ≡ n → a_part s m ≡ a_part t n
 same-part h k = rw (h, k) refl
+
+abbrev pub a_plan : List Part → Bool → Plan
+a_plan parts is_crossed = record { parts = parts; is_crossed = is_crossed }
+
+pub same-plan : {a b : List Part} {c d : Bool} → a ≡ b → c ≡ d → a_plan a c ≡ a_plan b d
+same-plan h k = rw (h, k) refl
 
 module _ (r : Stream) (x : PlayedEvent) (known : List (List ℕ) → Option ℤ) (p : List ℕ) (past : List (List ℕ)) (none : r.begins p past ≡ false) where
   begun-still : begun_now r x known (p ∷ past) ≡ begun_now r x known past
@@ -89,7 +98,4 @@ module _ (switched : List ℕ) (ads : Adverts) (events : History) (e : Standing)
   any-crossed-still = any-still switched none
 
   pub plan-still : plan_known switched ads events (p ∷ past) e ≡ plan_known switched ads events past e
-  plan-still = same-plan (parts-still switched none) any-crossed-still
-    where
-      same-plan : {a b : List Part} {c d : Bool} → a ≡ b → c ≡ d → record { parts = padded a; is_crossed = c } ≡ record { parts = padded b; is_crossed = d }
-      same-plan h k = rw (h, k) refl
+  plan-still = same-plan (ap padded (parts-still switched none)) any-crossed-still

@@ -1,5 +1,5 @@
 -- What is known of an event goes by its start and by its ends as they were known: what becomes of it changes nothing of that.
-use Rattle.std.proofs.Common.{◌≡◌, ℕ, List, [], ◌∷◌, Bool, true, false, not, ◌&&◌, ◌||◌, ◌⊎◌, inl, inr, refl, sym, ap, ◌∙◌, Option, None, Some, length, map, if◌then◌else◌, arith}
+use Rattle.std.proofs.Common.{◌≡◌, ℕ, ◌≤◌, List, [], ◌∷◌, Bool, true, false, not, ◌&&◌, ◌||◌, ◌⊎◌, inl, inr, refl, sym, ap, ◌∙◌, Option, None, Some, length, map, if◌then◌else◌, arith}
 use Rattle.std.specs.Prelude.{ℤ, pos, ◌+ℤ◌, ◌≤ℤ◌, All, find, int_lt}
 use Rattle.std.specs.List.{list_any}
 use Rattle.std.specs.Ordering.{int_eq}
@@ -16,12 +16,13 @@ use Rattle.splice_laws.specs.Settled.{IsAhead, holds_now, stands_now, begun_now,
 use Rattle.splice_laws.specs.Ends.{longest_front}
 use Rattle.splice_laws.proofs.SettledLemmas.{early, early-out}
 use Rattle.splice_plans.specs.declared.plan.Stage.{Stage}
+use Rattle.splice_plans.specs.declared.plan.Stage.TheVariants.{Waiting, Running, Closing, Over}
 use Rattle.splice_plans.specs.declared.plan.Part.{Part}
 use Rattle.splice_plans.specs.declared.plan.Plan.{Plan}
 use Rattle.splice_plans.specs.Playing.{Adverts, History, Turns, is_played, as_played, end_known, up_to_known, sent_known, sent_of_begun}
 use Rattle.splice_plans.specs.Histories.{AreSteady}
 use Rattle.splice_plans.specs.Known.{stage_known, crosses_known, crossed_known, nothing_known, padded, part_known, is_crossed_known, plan_known, plan_found}
-use Rattle.known_laws.proofs.QuietLemmas.{same-stage, same-part}
+use Rattle.known_laws.proofs.QuietLemmas.{same-stage, same-part, same-plan}
 use Rattle.known_laws.proofs.AheadLemmas.{plan-ahead}
 
 -- ---- an event's own end counts for nothing
@@ -60,7 +61,10 @@ module _ (r : Stream) (start : ℤ) (stop other : ℤ) (name called : ℕ) (know
   stage-alike past = same-stage (closed-alike past) (begun-alike past)
 
   crosses-alike : (s : Stage) (stop t : Option ℤ) → crosses_known r a known s stop t ≡ crosses_known r b known s stop t
-  crosses-alike s stop t = elim s as (λ s. crosses_known r a known s stop t ≡ crosses_known r b known s stop t) [ Waiting ↦ refl | Running ↦ refl | Closing ↦ refl | Over ↦ refl ]
+  crosses-alike Waiting stop t = refl
+  crosses-alike Running stop t = refl
+  crosses-alike Closing stop t = refl
+  crosses-alike Over stop t = refl
 
   crossed-alike : (past : List (List ℕ)) → crossed_known r a known past ≡ crossed_known r b known past
   crossed-alike [] = refl
@@ -126,10 +130,7 @@ module _ (switched : List ℕ) (ads : Adverts) (events : History) (past : List (
     any-crossed-same = any-same switched
 
     plan-same : plan_known switched ads events past x ≡ plan_known switched ads events past e
-    plan-same = same-plan (parts-same switched) any-crossed-same
-      where
-        same-plan : {a b : List Part} {c d : Bool} → a ≡ b → c ≡ d → record { parts = padded a; is_crossed = c } ≡ record { parts = padded b; is_crossed = d }
-        same-plan h k = rw (h, k) refl
+    plan-same = same-plan (ap padded (parts-same switched)) any-crossed-same
 
   -- of the event that starts then
   module _ (few : length switched ≤ 8) (steady : AreSteady ads) where
