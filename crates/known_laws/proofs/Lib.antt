@@ -5,3 +5,5 @@ pub mod SameLemmas
 pub mod HeldLemmas
 pub mod CountLemmas
 pub mod OtherLemmas
+pub mod CrossLemmas
+pub mod PassLemmas
