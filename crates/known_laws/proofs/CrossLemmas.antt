@@ -61,7 +61,7 @@ or-later : (a c : Bool) → c ≡ true → (a || (true && c)) ≡ true
 or-later true c h = refl
 or-later false c h = h
 
-or-first : (a b : Bool) → a ≡ true → (a || b) ≡ true
+pub or-first : (a b : Bool) → a ≡ true → (a || b) ≡ true
 or-first a b h = rw h refl
 
 still-closed : (a b g d : Bool) → g ≡ false → (a || (b && (g && d))) ≡ true → a ≡ true
@@ -70,14 +70,14 @@ still-closed true b false d n h = refl
 still-closed false true false d n h = h
 still-closed false false false d n h = h
 
-new-closed : (a b g d : Bool) → a ≡ false → (a || (b && (g && not d))) ≡ true → d ≡ false
+pub new-closed : (a b g d : Bool) → a ≡ false → (a || (b && (g && not d))) ≡ true → d ≡ false
 new-closed true b g d n h = absurd (true≢false n)
 new-closed false true true true n h = absurd (true≢false (sym h))
 new-closed false true true false n h = refl
 new-closed false true false d n h = absurd (true≢false (sym h))
 new-closed false false g d n h = absurd (true≢false (sym h))
 
-new-begun : (a b c d : Bool) → a ≡ false → (a || ((b && c) && d)) ≡ true → c ≡ true
+pub new-begun : (a b c d : Bool) → a ≡ false → (a || ((b && c) && d)) ≡ true → c ≡ true
 new-begun true b c d n h = absurd (true≢false n)
 new-begun false true true d n h = refl
 new-begun false true false d n h = absurd (true≢false (sym h))
@@ -105,7 +105,7 @@ module _ (r : Stream) (k : IsStream r) (w : IsWithin r) (x : PlayedEvent) (known
   stage-settled past s = let f = flags_settle r k w x known past (since past s) in same-stage f.1 f.0
 
   -- an event that has begun has its start behind
-  begun-behind : (past : List (List ℕ)) → begun r x past ≡ true → IsAhead (r.high past) x.start → ⊥
+  pub begun-behind : (past : List (List ℕ)) → begun r x past ≡ true → IsAhead (r.high past) x.start → ⊥
   begun-behind [] b a = true≢false (sym b)
   begun-behind (p ∷ past) b a = by_test (begun r x past)
       (λ y. begun-behind past y (ahead-earlier (r.high past) (r.high (p ∷ past)) x.start (k.rises p past) a))

@@ -7,3 +7,4 @@ pub mod CountLemmas
 pub mod OtherLemmas
 pub mod CrossLemmas
 pub mod PassLemmas
+pub mod CrossedLemmas
