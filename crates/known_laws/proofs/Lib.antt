@@ -8,3 +8,4 @@ pub mod OtherLemmas
 pub mod CrossLemmas
 pub mod PassLemmas
 pub mod CrossedLemmas
+pub mod ReportLemmas

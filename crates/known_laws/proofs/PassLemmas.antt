@@ -109,6 +109,12 @@ module _ (switched : List ℕ) (pid : ℕ) (c : Contains switched pid) (ads : Ad
       subst (λ (l : List (List ℕ)). AllByRecursion (IsSettledIn past) (events l)) (append_assoc more (p ∷ []) past) (settled-all (more ++ p ∷ []) past) in
       one-settled p past (events (more ++ (p ∷ past))) all before
 
+pub ordered : (e : Standing) → e.start ≤ℤ end_of e
+ordered e = at e.start e.length
+  where
+    at : (s : ℤ) (n : ℕ) → s ≤ℤ (s +ℤ pos n)
+    at s n = omega (arith, ints)
+
 -- ---- events that are forgotten are crossed no more
 
 module _ (switched : List ℕ) (ads : Adverts) (steady : AreSteady ads) (events : History) (h : IsHistory (high switched) events) (p : List ℕ) (past : List (List ℕ)) (sound : unit_fault switched p past ≡ None) where
@@ -121,12 +127,6 @@ module _ (switched : List ℕ) (ads : Adverts) (steady : AreSteady ads) (events 
     where
       at : (high stop : ℤ) → not (int_lt high (stop +ℤ pos 900000)) ≡ true → Rattle.splice_laws.specs.Splicing.stands (record { start = stop; stop = stop; name = 0 }) (Some high) ≡ false
       at high stop gone = grind (arith, ints)
-
-  ordered : (e : Standing) → e.start ≤ℤ end_of e
-  ordered e = at e.start e.length
-    where
-      at : (s : ℤ) (n : ℕ) → s ≤ℤ (s +ℤ pos n)
-      at s n = omega (arith, ints)
 
   crossed-on : (pid : ℕ) (c : Contains switched pid) (e : Standing) → IsSettledIn switched pid c ads steady events h (p ∷ past) e → is_played ads e ≡ true → is_forgotten (high switched past) e ≡ true → IsCrossedOn e pid
   crossed-on pid c e s plays gone =
