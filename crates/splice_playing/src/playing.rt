@@ -1,6 +1,6 @@
 //! The events in the switched streams: which have begun, which are over, and what has gone out of their slices.
 
-ghost use Rattle.std.specs.Prelude.{◌≡◌, ◌<◌, ◌≤◌, ◌+◌, ◌%◌, ◌++◌, ◌∷◌, [], ℕ, ℤ, List, length, take, slice_index_or, Option, None, OnOk, IfErr, true, false};
+ghost use Rattle.std.specs.Prelude.{◌≡◌, ◌<◌, ◌≤◌, ◌+◌, ◌%◌, ◌++◌, ◌∷◌, [], ℕ, ℤ, List, length, take, slice_index_or, Option, None, Some, OnOk, IfErr, true, false};
 ghost use Rattle.ts_packet.specs.Numbering.{Step, Counts};
 ghost use Rattle.unit_stream.specs.UnitPackets.{put_in};
 ghost use Rattle.event_table.specs.Standing.{Standing, IsTimeAt};
@@ -12,6 +12,8 @@ ghost use Rattle.ts_packet.specs.Sinks.{Blamed};
 ghost use Rattle.ts_packet.specs.Fields.{on};
 ghost use Rattle.ts_packet.specs.Transfers.{WentWell};
 ghost use Rattle.outgoing_packets.specs.Numbers.{FrontFails};
+ghost use Rattle.program_follower.specs.Program.{listed};
+ghost use Rattle.program_follower.specs.Following.{on_map};
 ghost use Rattle.ad_library.specs.Library.{held};
 ghost use Rattle.splice_plans.specs.Switching.{Setting, front_at, place_at, rest_at, is_switched, switched_at};
 ghost use Rattle.splice_plans.specs.Adverts.{adverts_of};
@@ -52,7 +54,7 @@ impl Playing {
     /// Obeys the cues that a packet of their PID finishes.
     pub fn obey(&mut self, packet: &Packet)
         ensures { (k : Setting) (past : List (List ℕ)) → on k.cue_pid packet.now ≡ true → is_switched (switched_at k past) packet.now ≡ false →
-            PlaysFor self.old k past → PlaysFor self.new k (packet.now ∷ past) }
+            on_map (listed (Some k.program) past) packet.now ≡ false → PlaysFor self.old k past → PlaysFor self.new k (packet.now ∷ past) }
     {
         self.events.feed(packet, Plan::new());
     }
