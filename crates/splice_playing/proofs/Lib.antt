@@ -1,3 +1,4 @@
 pub mod FrontLemmas
 pub mod ReportLemmas
 pub mod StreamLemmas
+pub mod PlaceLemmas

@@ -244,11 +244,12 @@ impl Playing {
         ensures blamed { IfErr result (λ f. Blamed f (S.counts sink.old) (S.counts sink.new) (S.is_full sink.new)) }
     {
         let mut of = self.streams[stream % 8];
-        let put = if of.is_leaving {
-            of.leave(packet, is_repeat, sink)
-        } else {
-            of.keep(packet, sink)
-        };
+        if of.is_leaving {
+            let put = of.leave(packet, is_repeat, sink);
+            self.streams[stream % 8] = of;
+            return put;
+        }
+        let put = of.keep(packet, sink);
         self.streams[stream % 8] = of;
         put
     }
