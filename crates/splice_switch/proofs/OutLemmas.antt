@@ -37,7 +37,9 @@ use Rattle.switch_laws.proofs.FaultlessLemmas.{faultless_is_sound, unlisted}
 use Rattle.switch_laws.proofs.StandingLemmas.{is-place, packets_stand_as}
 use Rattle.splice_switch.proofs.QuietLemmas.{or-parts}
 use Rattle.splice_switch.proofs.PlayLemmas.{off-begins}
+use Rattle.splice_switch.specs.Standing.{GoOnAs}
 use Rattle.splice_switch.proofs.PremiseLemmas.{no-table}
+use Rattle.splice_switch.proofs.NumberLemmas.{go-on-later, go-on-others}
 
 -- ---- before the packet
 
@@ -184,7 +186,7 @@ pub stream-apart : (c : Config) (filed : ℕ → Option Advertisement) (p : List
     → on_map (listed (Some c.program) past) p ≡ false → is_switched (switched_at (setting_of c filed) past) p ≡ true → MapApart c filed p past
 stream-apart c filed p past good cue map own = by (known_map (Some c.program) past) refl
   where
-    abbrev k : Setting
+    k : Setting
     k = setting_of c filed
 
     by : (o : Option ProgramMap) → known_map (Some c.program) past ≡ o → MapApart c filed p past
@@ -208,3 +210,12 @@ stream-apart c filed p past good cue map own = by (known_map (Some c.program) pa
         front-by : (other : ℕ) (b : Bool) (xs : List (List ℕ)) → AllByRecursion (Off other) xs → AllByRecursion (Off other) (if b then xs else [])
         front-by other true xs h = h
         front-by other false xs h = tt
+
+-- and the counters go on
+pub stream-goes-on : (c : Config) (filed : ℕ → Option Advertisement) (p : List ℕ) (past : List (List ℕ)) → first_fault (reading_cues c) past ≡ None → on c.cue_pid p ≡ false
+    → on_map (listed (Some c.program) past) p ≡ false → is_switched (switched_at (setting_of c filed) past) p ≡ true → (passed : List (List ℕ))
+    → GoOnAs (listed (Some c.program) past) passed (switched_past (setting_of c filed) past) → GoOnAs (listed (Some c.program) (p ∷ past)) passed (switched_past (setting_of c filed) (p ∷ past))
+stream-goes-on c filed p past good cue map own passed h =
+    let k = setting_of c filed in
+    let a = stream-apart c filed p past good cue map own in
+    go-on-later (Some c.program) p past passed (switched_past k (p ∷ past)) (go-on-others (listed (Some c.program) past) a.listed_as (switched_at_packet k p past) passed (switched_past k past) a.is a.off h)

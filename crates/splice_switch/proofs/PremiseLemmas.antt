@@ -27,23 +27,25 @@ use Rattle.program_follower.specs.declared.streams.StreamPacket.{StreamPacket}
 use Rattle.program_follower.specs.declared.streams.StreamPacket.TheVariants.{Start, More, Repeat, Lead, NoPayload}
 use Rattle.program_follower.specs.declared.follower.Place.TheVariants as places
 use Rattle.program_follower.specs.Purposes.{reading_cues}
-use Rattle.program_follower.specs.Program.{listed, all_tables, known_map, program_in, program_of, pids_of}
+use Rattle.program_follower.specs.Program.{listed, all_tables, known_map, Program, program_in, program_of, pids_of}
 use Rattle.program_follower.specs.Faults.{network_fault, first_fault, cue_fault, pats_fault_at, maps_fault_at, unit_fault_at, as_network, is_pid, pmt_pid_fault, if_bad}
 use Rattle.psi_tables.specs.declared.network.NetworkFault.TheVariants.{CuePidUsed, BadPids}
 use Rattle.program_follower.specs.Following.{IsPlace, on_map, streams_of_program}
 use Rattle.program_follower.specs.Streaming.{first_on, next_place, IsStreamPacket}
 use Rattle.program_follower.proofs.OptionLemmas.{none_both}
-use Rattle.program_follower.proofs.StreamLemmas.{first_is_on, first_of, none_of, one_of, begins_is, begins_needs}
+use Rattle.program_follower.proofs.StreamLemmas.{first_is_on, first_within, first_of, none_of, one_of, begins_is, begins_needs}
+use Rattle.pes_time.specs.Line.{ring_of}
+use Rattle.program_laws.proofs.HeadLemmas.{known_stays}
 use Rattle.program_laws.proofs.FaultLemmas.{all_sound, pid_good, not_if_bad}
 use Rattle.splice_laws.specs.Streams.{is_among, IsOnce}
 use Rattle.output_laws.proofs.StepLemmas.{pid_is, test-same}
 use Rattle.ad_library.specs.Advertisements.{Advertisement}
-use Rattle.splice_plans.specs.Switching.{Setting, switched_at, is_switched}
+use Rattle.splice_plans.specs.Switching.{Setting, switched_at, streams_at, high_at, is_switched}
 use Rattle.splice_plans.specs.Adverts.{setting_of}
 use Rattle.splice_plans.specs.Known.{AreSeparate, behind_at}
 use Rattle.switch_laws.proofs.FaultlessLemmas.{faultless_is_sound, first-sound, unlisted}
 use Rattle.switch_laws.proofs.StandingLemmas.{error-off}
-use Rattle.splice_playing.specs.Relations.{IsPacketOf, IsKeptOf}
+use Rattle.splice_playing.specs.Relations.{BeginsIn, IsPacketOf, IsKeptOf}
 use Rattle.splice_switch.proofs.QuietLemmas.{or-parts}
 
 -- ---- the streams of a network without fault
@@ -72,9 +74,9 @@ clean-more c p past h k = ap (λ o. option_or o (network_fault c p past)) h ∙ 
 
 no-unit : (o : Option UnitFault) → as_network o ≡ None → o ≡ None
 no-unit None h = refl
-no-unit (Some Scrambled) h = absurd (let no : as_network (Some Scrambled) ≡ None = h in cc)
-no-unit (Some HeaderSplit) h = absurd (let no : as_network (Some HeaderSplit) ≡ None = h in cc)
-no-unit (Some TimeJump) h = absurd (let no : as_network (Some TimeJump) ≡ None = h in cc)
+no-unit (Some Scrambled) h = absurd (let none : as_network (Some Scrambled) ≡ None = h in cc)
+no-unit (Some HeaderSplit) h = absurd (let none : as_network (Some HeaderSplit) ≡ None = h in cc)
+no-unit (Some TimeJump) h = absurd (let none : as_network (Some TimeJump) ≡ None = h in cc)
 
 pub sound-unit : (c : Config) (filed : ℕ → Option Advertisement) (p : List ℕ) (past : List (List ℕ)) → network_fault (reading_cues c) p past ≡ None
     → unit_fault (switched_at (setting_of c filed) past) p (behind_at (setting_of c filed) past) ≡ None
@@ -116,26 +118,28 @@ pub one-first : (pids : List ℕ) (p : List ℕ) (i pid : ℕ) → first_on pids
 one-first pids p i pid h = switched-one pids p ∙ first_of (λ pid. on pid p) p (λ pid o. o) pids (i, pid) h ∙ first_is_on pids p (i, pid) h
 
 -- the first of the PIDs has its place
-pairs-first : (a b x y : ℕ) → Some (a, b) ≡ Some (x, y) → (a ≡ x) × (b ≡ y)
-pairs-first a b x y h = (cc, cc)
+same-pair : (z w : ℕ × ℕ) → Some z ≡ Some w → z ≡ w
+same-pair z w h = cc
 
-pub first-there : (pids : List ℕ) (p : List ℕ) (i pid : ℕ) → first_on pids p ≡ Some (i, pid) → slice_get pids i ≡ Some pid
-first-there [] p i pid h = absurd (let no : None ≡ Some (i, pid) = h in cc)
-first-there (q ∷ qs) p i pid h = by_test (on q p)
-    (λ y. let e : Some (0, q) ≡ Some (i, pid) = simp y at h in
-    let r = pairs-first 0 q i pid e in
-    subst (λ n. slice_get (q ∷ qs) n ≡ Some pid) r.0 (ap (λ n. let o : Option ℕ = Some n in o) r.1))
-    (λ n. by (first_on qs p) refl (simp n at h))
-  where
-    by : (o : Option (ℕ × ℕ)) → first_on qs p ≡ o → option_map next_place o ≡ Some (i, pid) → slice_get (q ∷ qs) i ≡ Some pid
-    by None e k = absurd (let no : None ≡ Some (i, pid) = k in cc)
-    by (Some x) e k =
-        let r = pairs-first (x.0 + 1) x.1 i pid k in
-        let next : suc x.0 ≡ i = sym (add-one x.0) ∙ r.0 in
-        subst (λ n. slice_get (q ∷ qs) n ≡ Some pid) next (first-there qs p x.0 x.1 e ∙ ap (λ n. let o : Option ℕ = Some n in o) r.1)
+moved-there : (q : ℕ) (qs : List ℕ) (p : List ℕ) (x : ℕ × ℕ) (o : Option (ℕ × ℕ)) → first_on qs p ≡ o → option_map next_place o ≡ Some x
+    → ((y : ℕ × ℕ) → first_on qs p ≡ Some y → slice_get qs y.0 ≡ Some y.1) → slice_get (q ∷ qs) x.0 ≡ Some x.1
+moved-there q qs p x None e k later = absurd (let none : None ≡ Some x = k in cc)
+moved-there q qs p x (Some y) e k later =
+    let r = same-pair (next_place y) x k in
+    let next : suc y.0 ≡ x.0 = sym (add-one y.0) ∙ ap (λ (z : ℕ × ℕ). z.0) r in
+    subst (λ n. slice_get (q ∷ qs) n ≡ Some x.1) next (later y e ∙ ap (λ (z : ℕ × ℕ). let o : Option ℕ = Some z.1 in o) r)
+
+pub first-there : (pids : List ℕ) (p : List ℕ) (x : ℕ × ℕ) → first_on pids p ≡ Some x → slice_get pids x.0 ≡ Some x.1
+first-there [] p x h = absurd (let none : None ≡ Some x = h in cc)
+first-there (q ∷ qs) p x h = by_test (on q p)
+    (λ y. let z : ℕ × ℕ = (0, q) in
+    let e : Some z ≡ Some x = simp y at h in
+    let r = same-pair z x e in
+    subst (λ n. slice_get (q ∷ qs) n ≡ Some x.1) (ap (λ (z : ℕ × ℕ). z.0) r) (ap (λ (z : ℕ × ℕ). let o : Option ℕ = Some z.1 in o) r))
+    (λ n. moved-there q qs p x (first_on qs p) refl (simp n at h) (λ y e. first-there qs p y e))
 
 pub there-among : (pids : List ℕ) (i pid : ℕ) → slice_get pids i ≡ Some pid → is_among pid pids ≡ true
-there-among [] i pid h = absurd (let no : None ≡ Some pid = h in cc)
+there-among [] i pid h = absurd (let none : None ≡ Some pid = h in cc)
 there-among (q ∷ qs) zero pid h = let is : q ≡ pid = (let e : Some q ≡ Some pid = h in cc) in subst (λ x. (q == x) || is_among x qs ≡ true) is (ap (λ b. b || is_among q qs) (test-same q))
 there-among (q ∷ qs) (suc i) pid h = or-second (q == pid) (is_among pid qs) (there-among qs i pid h)
   where
@@ -192,45 +196,45 @@ module _ (c : Config) (filed : ℕ → Option Advertisement) (p : List ℕ) (pas
 
   -- what the follower says of it, where it begins no unit
   pub quiet-one : (x : StreamPacket) → IsPlace (places.Stream i x) (reading_cues c) p past → ((begun : Option Begun) → x ≡ Start begun → ⊥) → begins_one (switched_at k past) p behind ≡ false
-  quiet-one (Start begun) h no = absurd (no begun refl)
-  quiet-one More h no =
-      begins-one-is (switched_at k past) p behind i h.1.1.0 h.1.1.1.0 ∙ begins_not h.1.1.0 p behind h.1.1.1.1.1.0
-  quiet-one Repeat h no =
-      begins-one-is (switched_at k past) p behind i h.1.1.0 h.1.1.1.0 ∙ begins_repeat h.1.1.0 p behind h.1.1.1.1.1
-  quiet-one Lead h no =
-      begins-one-is (switched_at k past) p behind i h.1.1.0 h.1.1.1.0 ∙ begins_not h.1.1.0 p behind h.1.1.1.1.1.0
-  quiet-one NoPayload h no =
-      begins-one-is (switched_at k past) p behind i h.1.1.0 h.1.1.1.0 ∙ begins_off h.1.1.0 p behind h.1.1.1.1
+  quiet-one (Start begun) h never = absurd (never begun refl)
+  quiet-one More h never =
+      begins-one-is (switched_at k past) p behind i h.2.0 h.2.1.0 ∙ begins_not h.2.0 p behind h.2.1.1.1
+  quiet-one Repeat h never =
+      begins-one-is (switched_at k past) p behind i h.2.0 h.2.1.0 ∙ begins_repeat h.2.0 p behind h.2.1.1.1
+  quiet-one Lead h never =
+      begins-one-is (switched_at k past) p behind i h.2.0 h.2.1.0 ∙ begins_not h.2.0 p behind h.2.1.1.1
+  quiet-one NoPayload h never =
+      begins-one-is (switched_at k past) p behind i h.2.0 h.2.1.0 ∙ begins_off h.2.0 p behind h.2.1.1
 
   pub packet-start : (begun : Option Begun) → IsPlace (places.Stream i (Start begun)) (reading_cues c) p past → IsPacketOf k i false p past
   packet-start begun h =
-      let original-is = (both-parts (original h.1.1.0 p behind) (unit_start p) h.1.1.1.1.0).0 in
+      let original-is = (both-parts (original h.2.0 p behind) (unit_start p) h.2.1.1.0).0 in
       record {
-        pid = h.1.1.0;
-        of = first-there (switched_at k past) p i h.1.1.0 h.1.1.1.0;
+        pid = h.2.0;
+        of = first-there (switched_at k past) p (i, h.2.0) h.2.1.0;
         separate = separate k past good;
-        payload_is = (both-parts (payload_on h.1.1.0 p) (not (repeats h.1.1.0 p behind)) original-is).0;
+        payload_is = (both-parts (payload_on h.2.0 p) (not (repeats h.2.0 p behind)) original-is).0;
         repeat = sym (ap not original-is);
         cue = h.0;
       }
 
   pub packet-more : IsPlace (places.Stream i More) (reading_cues c) p past → IsPacketOf k i false p past
   packet-more h = record {
-    pid = h.1.1.0;
-    of = first-there (switched_at k past) p i h.1.1.0 h.1.1.1.0;
+    pid = h.2.0;
+    of = first-there (switched_at k past) p (i, h.2.0) h.2.1.0;
     separate = separate k past good;
-    payload_is = (both-parts (payload_on h.1.1.0 p) (not (repeats h.1.1.0 p behind)) h.1.1.1.1.0).0;
-    repeat = sym (ap not h.1.1.1.1.0);
+    payload_is = (both-parts (payload_on h.2.0 p) (not (repeats h.2.0 p behind)) h.2.1.1.0).0;
+    repeat = sym (ap not h.2.1.1.0);
     cue = h.0;
   }
 
   pub packet-repeat : IsPlace (places.Stream i Repeat) (reading_cues c) p past → IsPacketOf k i true p past
   packet-repeat h = record {
-    pid = h.1.1.0;
-    of = first-there (switched_at k past) p i h.1.1.0 h.1.1.1.0;
+    pid = h.2.0;
+    of = first-there (switched_at k past) p (i, h.2.0) h.2.1.0;
     separate = separate k past good;
-    payload_is = h.1.1.1.1.0;
-    repeat = sym (ap not (ap (λ b. b && not (repeats h.1.1.0 p behind)) h.1.1.1.1.0 ∙ ap not h.1.1.1.1.1));
+    payload_is = h.2.1.1.0;
+    repeat = sym (ap not (ap (λ b. b && not (repeats h.2.0 p behind)) h.2.1.1.0 ∙ ap not h.2.1.1.1));
     cue = h.0;
   }
 
@@ -240,21 +244,21 @@ module _ (c : Config) (filed : ℕ → Option Advertisement) (p : List ℕ) (pas
 
   pub kept-lead : IsPlace (places.Stream i Lead) (reading_cues c) p past → IsKeptOf k i p past
   kept-lead h = record {
-    pid = h.1.1.0;
-    of = first-there (switched_at k past) p i h.1.1.0 h.1.1.1.0;
+    pid = h.2.0;
+    of = first-there (switched_at k past) p (i, h.2.0) h.2.1.0;
     separate = separate k past good;
-    on_pid = first_is_on (switched_at k past) p (i, h.1.1.0) h.1.1.1.0;
-    stays = none-in (payload_on h.1.1.0 p) (begins h.1.1.0 p behind) (in_unit h.1.1.0 behind) h.1.1.1.1.1.1 (begins_not h.1.1.0 p behind h.1.1.1.1.1.0);
+    on_pid = first_is_on (switched_at k past) p (i, h.2.0) h.2.1.0;
+    stays = none-in (payload_on h.2.0 p) (begins h.2.0 p behind) (in_unit h.2.0 behind) h.2.1.1.2 (begins_not h.2.0 p behind h.2.1.1.1);
     cue = h.0;
   }
 
   pub kept-empty : IsPlace (places.Stream i NoPayload) (reading_cues c) p past → IsKeptOf k i p past
   kept-empty h = record {
-    pid = h.1.1.0;
-    of = first-there (switched_at k past) p i h.1.1.0 h.1.1.1.0;
+    pid = h.2.0;
+    of = first-there (switched_at k past) p (i, h.2.0) h.2.1.0;
     separate = separate k past good;
-    on_pid = first_is_on (switched_at k past) p (i, h.1.1.0) h.1.1.1.0;
-    stays = ap (λ b. b && in_unit h.1.1.0 (p ∷ behind)) h.1.1.1.1;
+    on_pid = first_is_on (switched_at k past) p (i, h.2.0) h.2.1.0;
+    stays = ap (λ b. b && in_unit h.2.0 (p ∷ behind)) h.2.1.1;
     cue = h.0;
   }
 
@@ -262,3 +266,48 @@ module _ (c : Config) (filed : ℕ → Option Advertisement) (p : List ℕ) (pas
 pub stamp-told : (begun : Option Begun) (high : Option Rattle.std.specs.Prelude.ℤ) (s : Option ℕ) → Tells begun high s → s ≡ option_map (λ (b : Begun). b.pts) begun
 stamp-told None high s h = h
 stamp-told (Some b) high s h = h.0
+
+-- its streams stay
+streams-stay : (k : Setting) (p : List ℕ) (past : List (List ℕ)) (i pid : ℕ) → slice_get (switched_at k past) i ≡ Some pid → streams_at k (p ∷ past) ≡ streams_at k past
+streams-stay k p past i pid h = by (known_map (Some k.program) past) refl
+  where
+    by : (o : Option ProgramMap) → known_map (Some k.program) past ≡ o → streams_at k (p ∷ past) ≡ streams_at k past
+    by None known = absurd (let none : None ≡ Some pid = sym (ap (λ o. slice_get (pids_of (option_map program_in o)) i) known) ∙ h in cc)
+    by (Some m) known = ap (λ o. streams_of_program (option_map program_in o)) (known_stays (Some k.program) p past m known ∙ sym known)
+
+as-many : (o : Option Program) → length (pids_of o) ≡ length (streams_of_program o)
+as-many None = refl
+as-many (Some r) = length-map r.streams (λ (s : ListedStream). s.pid)
+
+module _ (c : Config) (filed : ℕ → Option Advertisement) (p : List ℕ) (past : List (List ℕ)) (i : ℕ) (x : StreamPacket) (h : IsPlace (places.Stream i x) (reading_cues c) p past) where
+  pub own-stream : is_switched (switched_at (setting_of c filed) past) p ≡ true
+  own-stream = one-first (switched_at (setting_of c filed) past) p i h.2.0 h.2.1.0
+
+  listed-now : streams_at (setting_of c filed) (p ∷ past) ≡ streams_at (setting_of c filed) past
+  listed-now = streams-stay (setting_of c filed) p past i h.2.0 (first-there (switched_at (setting_of c filed) past) p (i, h.2.0) h.2.1.0)
+
+  pub within-streams : (streams : List ListedStream) → streams ≡ streams_at (setting_of c filed) (p ∷ past) → i < length streams
+  within-streams streams is =
+      let w : i < length (switched_at (setting_of c filed) past) = first_within (switched_at (setting_of c filed) past) p (i, h.2.0) h.2.1.0 in
+      let n = as-many (program_of (Some c.program) past) in
+      let e : length streams ≡ length (streams_at (setting_of c filed) past) = ap length (is ∙ listed-now) in
+      omega (arith, w, n, e)
+
+-- a unit begins
+pub begins-in : (c : Config) (filed : ℕ → Option Advertisement) (p : List ℕ) (past : List (List ℕ)) (i : ℕ) (begun : Option Begun) (time now : Option ℕ) (streams : List ListedStream)
+    → first_fault (reading_cues c) past ≡ None → network_fault (reading_cues c) p past ≡ None → IsPlace (places.Stream i (Start begun)) (reading_cues c) p past
+    → time ≡ option_map (λ (b : Begun). b.pts) begun → now ≡ option_map ring_of (high_at (setting_of c filed) (p ∷ past)) → streams ≡ streams_at (setting_of c filed) (p ∷ past)
+    → BeginsIn (setting_of c filed) filed streams i time now p past
+begins-in c filed p past i begun time now streams good sound h time-is now-is streams-is = record {
+  pid = h.2.0;
+  of = first-there (switched_at (setting_of c filed) past) p (i, h.2.0) h.2.1.0;
+  begins_it = h.2.1.1.0;
+  stamp_is = stamp-told begun (high (switched_at (setting_of c filed) past) (behind_at (setting_of c filed) past)) (stamp p) h.2.1.1.1 ∙ sym time-is;
+  high_is = now-is;
+  sound = sound-unit c filed p past sound;
+  cue = h.0;
+  separate = separate (setting_of c filed) past good;
+  listed_is = streams-is ∙ listed-now c filed p past i (Start begun) h;
+  adverts_are = refl;
+  packed_is = refl;
+}

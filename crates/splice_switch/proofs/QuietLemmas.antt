@@ -1,7 +1,8 @@
 -- A packet that begins no unit changes nothing of what is known of the events.
 use Rattle.std.proofs.Common.{◌≡◌, ℕ, zero, suc, ◌+◌, List, [], ◌∷◌, ◌++◌, length, Bool, true, false, not, ◌&&◌, ◌||◌, if◌then◌else◌, refl, sym, ap, subst, ◌∙◌}
 use Rattle.std.specs.Prelude.{ℤ, Option, None, Some, map, count_by, slice_get, option_map, cond}
-use Rattle.std.specs.List.{list_any, AllByRecursion, sum_by}
+use Rattle.std.specs.List.{list_any, AllByRecursion}
+use Rattle.std.proofs.lemmas.List.Sums.{sum_by-cons}
 use Rattle.std.proofs.lemmas.Bool.{true≢false}
 use Rattle.unit_stream.specs.Times.{begins, begins_one, unit_time, high}
 use Rattle.event_table.specs.Standing.{Standing}
@@ -51,11 +52,12 @@ any-none f (x ∷ xs) h = ap (λ b. b || list_any f xs) (h x) ∙ any-none f xs 
 
 pub count-same : {X : Type 0} (f g : X → Bool) (xs : List X) → ((x : X) → f x ≡ g x) → count_by f xs ≡ count_by g xs
 count-same f g [] h = refl
-count-same f g (x ∷ xs) h = ap (λ b. cond b 1 0 + count_by f xs) (h x) ∙ ap (λ n. cond (g x) 1 0 + n) (count-same f g xs h)
+count-same f g (x ∷ xs) h =
+    sum_by-cons (λ y. cond (f y) 1 0) x xs ∙ ap (λ b. cond b 1 0 + count_by f xs) (h x) ∙ ap (λ n. cond (g x) 1 0 + n) (count-same f g xs h) ∙ sym (sum_by-cons (λ y. cond (g y) 1 0) x xs)
 
 pub count-none : {X : Type 0} (f : X → Bool) (xs : List X) → ((x : X) → f x ≡ false) → count_by f xs ≡ 0
 count-none f [] h = refl
-count-none f (x ∷ xs) h = ap (λ b. cond b 1 0 + count_by f xs) (h x) ∙ count-none f xs h
+count-none f (x ∷ xs) h = sum_by-cons (λ y. cond (f y) 1 0) x xs ∙ ap (λ b. cond b 1 0 + count_by f xs) (h x) ∙ ap (λ n. 0 + n) (count-none f xs h)
 
 pub values-same : {T : Type 0} (f g : ℤ → T) (es : List Standing) → ((start : ℤ) → f start ≡ g start) → values_by f es ≡ values_by g es
 values-same f g [] h = refl
