@@ -2,6 +2,8 @@
 use Rattle.std.proofs.Common.{◌≡◌, ℕ, ◌+◌, ◌%◌, ◌/◌, ◌<◌, ◌==◌, zero, suc, List, [], ◌∷◌, ◌++◌, length, map, take, drop, Bool, true, false, not, ◌&&◌, if◌then◌else◌, refl, sym, ap, subst, ◌∙◌, arith}
 use Rattle.std.specs.Prelude.{Option, None, Some, option_map, flat_map, slice_index, reverse}
 use Rattle.std.specs.List.{AllByRecursion}
+use Rattle.std.specs.Prelude.{All}
+use Rattle.std.proofs.lemmas.List.Elements.{All-nil, All-cons, All-head, All-tail}
 use Rattle.std.proofs.lemmas.Bool.{true≢false}
 use Rattle.ts_packet.specs.Fields.{on, in_error, pid_of, pcr}
 use Rattle.ts_packet.specs.Numbering.{number_out, one_past, last_number}
@@ -18,10 +20,16 @@ use Rattle.psi_tables.specs.Cue.{without_cue_entry}
 use Rattle.event_table.specs.Standing.{Standing}
 use Rattle.program_follower.specs.declared.purpose.Listed.{Listed}
 use Rattle.program_follower.specs.Purposes.{reading_cues}
-use Rattle.program_follower.specs.Program.{listed, tables, Table, known_map, program_in, pids_of}
+use Rattle.program_follower.specs.Program.{listed, since_pat, tables, tables_on, Table, table_of, known_map, program_in, pids_of}
 use Rattle.program_follower.specs.Faults.{first_fault, pids_in}
 use Rattle.program_follower.specs.Following.{on_map}
-use Rattle.program_laws.specs.Writing.{Off, packets_out, section_out}
+use Rattle.program_laws.specs.Writing.{Off, packets_out, section_out, number_on}
+use Rattle.psi_section.specs.Packetising.{packets_in_turn}
+use Rattle.psi_section.specs.Sections.{given}
+use Rattle.psi_section.specs.Laws.{CanBeGiven}
+use Rattle.psi_section.proofs.GivenLemmas.{given_can, sound}
+use Rattle.outgoing_packets.specs.declared.entry.CueEntry.TheVariants.{Stripped}
+use Rattle.outgoing_packets.specs.Entries.{change_of, tables_out, HasRoom, GoesOut, AllGoOut}
 use Rattle.splice_laws.specs.Splicing.{SliceUnit}
 use Rattle.splice_laws.specs.Streams.{is_among}
 use Rattle.output_laws.specs.Output.{Move, Keep, Leave, Put, Packing, counter_steps, clock_alone, out_at, out_after}
@@ -38,8 +46,8 @@ use Rattle.switch_laws.proofs.StandingLemmas.{is-place, packets_stand_as}
 use Rattle.splice_switch.proofs.QuietLemmas.{or-parts}
 use Rattle.splice_switch.proofs.PlayLemmas.{off-begins}
 use Rattle.splice_switch.specs.Standing.{GoOnAs}
-use Rattle.splice_switch.proofs.PremiseLemmas.{no-table}
-use Rattle.splice_switch.proofs.NumberLemmas.{go-on-later, go-on-others}
+use Rattle.splice_switch.proofs.PremiseLemmas.{no-table, map-switched, OnMap}
+use Rattle.splice_switch.proofs.NumberLemmas.{go-on-later, go-on-others, go-on-same}
 
 -- ---- before the packet
 
@@ -219,3 +227,45 @@ stream-goes-on c filed p past good cue map own passed h =
     let k = setting_of c filed in
     let a = stream-apart c filed p past good cue map own in
     go-on-later (Some c.program) p past passed (switched_past k (p ∷ past)) (go-on-others (listed (Some c.program) past) a.listed_as (switched_at_packet k p past) passed (switched_past k past) a.is a.off h)
+
+-- ---- packets that the switch itself puts
+
+-- of which it keeps the counters
+pub passed-goes-on : (k : Setting) (p : List ℕ) (past qs passed : List (List ℕ)) → switched_at_packet k p past ≡ qs
+    → GoOnAs (listed (Some k.program) past) passed (switched_past k past) → GoOnAs (listed (Some k.program) (p ∷ past)) (onto passed qs) (switched_past k (p ∷ past))
+passed-goes-on k p past qs passed is h =
+    subst (λ l. GoOnAs (listed (Some k.program) (p ∷ past)) (onto passed qs) (onto (switched_past k past) l)) (sym is)
+    (go-on-later (Some k.program) p past (onto passed qs) (onto (switched_past k past) qs) (go-on-same (listed (Some k.program) past) qs passed (switched_past k past) h))
+
+no-room : (cue : ℕ) (o : Option ProgramMap) → HasRoom (Stripped cue) o
+no-room cue None = tt
+no-room cue (Some m) = tt
+
+all-strip : (cue program : ℕ) (ss : List (List ℕ)) → All CanBeGiven ss → All (GoesOut (Stripped cue)) (map (table_of program) ss)
+all-strip cue program [] can = All-nil (GoesOut (Stripped cue))
+all-strip cue program (s ∷ ss) can =
+    let t : Table = table_of program s in
+    let some = (sound s (All-head CanBeGiven s ss can)).least in
+    All-cons (GoesOut (Stripped cue)) t (map (table_of program) ss) (record { some = omega arith; room = no-room cue t.program_map }) (all-strip cue program ss (All-tail CanBeGiven s ss can))
+
+-- each table can go out
+pub tables-strip : (cue : ℕ) (wanted : Option ℕ) (p : List ℕ) (past : List (List ℕ)) → AllGoOut (Stripped cue) (tables wanted p past)
+tables-strip cue wanted p past = by (listed wanted past)
+  where
+    by : (o : Option Listed) → AllGoOut (Stripped cue) (tables_on o p (since_pat wanted past))
+    by None = All-nil (GoesOut (Stripped cue))
+    by (Some l) = all-strip cue l.program (given l.pid p (since_pat wanted past)) (given_can l.pid p (since_pat wanted past))
+
+-- the sections in the place of a packet on the PID of the map
+pub map-same : (c : Config) (filed : ℕ → Option Advertisement) (p : List ℕ) (past : List (List ℕ)) (m : OnMap (listed (Some c.program) past) p) → first_fault (reading_cues c) past ≡ None
+    → (cue pid : ℕ) (ts : List Table) (passed : List (List ℕ)) → cue ≡ c.cue_pid → pid ≡ pid_of p → ts ≡ tables (Some c.program) p past
+    → GoOnAs (listed (Some c.program) past) passed (switched_past (setting_of c filed) past) → tables_out (Stripped cue) pid passed ts ≡ switched_at_packet (setting_of c filed) p past
+map-same c filed p past m good cue pid ts passed cue-is pid-is-now ts-is h =
+    let k = setting_of c filed in
+    let l = m.listed_as in
+    let same : number_on l.pid passed ≡ number_on l.pid (switched_past k past) = subst (λ o. GoOnAs o passed (switched_past k past)) m.is h in
+    ap (λ q. tables_out (Stripped q) pid passed ts) cue-is
+    ∙ ap (λ q. tables_out (Stripped c.cue_pid) q passed ts) (pid-is-now ∙ pid_is l.pid p m.here)
+    ∙ ap (tables_out (Stripped c.cue_pid) l.pid passed) ts-is
+    ∙ ap (λ n. packets_in_turn l.pid (one_past n) (map (section_out (without_cue_entry c.cue_pid)) (tables (Some c.program) p past))) same
+    ∙ sym (map-out k p past l m.is m.here (map-switched c filed p past l good m.is m.here))

@@ -326,3 +326,12 @@ plays-quiet playing k p past off other few h = by (known_map (Some k.program) pa
     by (Some m) known =
         let none = off-begins (switched_at k past) p (behind_at k past) other in
         plays-behind k p past m known off none playing (plays-passed playing k p past other (plays-before playing k p past none h))
+
+-- and behind a packet of one of the streams
+pub plays-after : (playing : Playing) (k : Setting) (p : List ℕ) (past : List (List ℕ)) → on k.cue_pid p ≡ false → is_switched (switched_at k past) p ≡ true
+    → begins_one (switched_at k past) p (behind_at k past) ≡ false → PlaysBehind playing k p past → PlaysFor playing k (p ∷ past)
+plays-after playing k p past off own none h = by (known_map (Some k.program) past) refl
+  where
+    by : (o : Option ProgramMap) → known_map (Some k.program) past ≡ o → PlaysFor playing k (p ∷ past)
+    by None known = absurd (true≢false (sym own ∙ ap (λ o. is_switched (pids_of (option_map program_in o)) p) known))
+    by (Some m) known = plays-behind k p past m known off none playing h

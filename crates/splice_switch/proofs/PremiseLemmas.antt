@@ -1,5 +1,5 @@
 -- What a packet of a network without fault is to the switch.
-use Rattle.std.proofs.Common.{◌≡◌, ℕ, zero, suc, ◌+◌, ◌≤◌, ◌<◌, ◌==◌, List, [], ◌∷◌, length, Bool, true, false, not, ◌&&◌, ◌||◌, refl, sym, ap, subst, ◌∙◌, arith, add-one}
+use Rattle.std.proofs.Common.{◌≡◌, ℕ, zero, suc, ◌+◌, ◌≤◌, ◌<◌, ◌==◌, List, [], ◌∷◌, length, Bool, true, false, not, ◌&&◌, ◌||◌, refl, sym, ap, subst, ◌∙◌, arith, add-one, ◌⊎◌, inl, inr}
 use Rattle.std.specs.Prelude.{Option, None, Some, option_map, slice_get, nat_lt}
 use Rattle.std.specs.Option.{option_or}
 use Rattle.std.specs.List.{AllByRecursion}
@@ -25,6 +25,7 @@ use Rattle.program_follower.specs.declared.purpose.Purpose.{Purpose}
 use Rattle.program_follower.specs.declared.purpose.Listed.{Listed}
 use Rattle.program_follower.specs.declared.streams.StreamPacket.{StreamPacket}
 use Rattle.program_follower.specs.declared.streams.StreamPacket.TheVariants.{Start, More, Repeat, Lead, NoPayload}
+use Rattle.program_follower.specs.declared.follower.Place.{Place}
 use Rattle.program_follower.specs.declared.follower.Place.TheVariants as places
 use Rattle.program_follower.specs.Purposes.{reading_cues}
 use Rattle.program_follower.specs.Program.{listed, all_tables, known_map, Program, program_in, program_of, pids_of}
@@ -44,7 +45,7 @@ use Rattle.splice_plans.specs.Switching.{Setting, switched_at, streams_at, high_
 use Rattle.splice_plans.specs.Adverts.{setting_of}
 use Rattle.splice_plans.specs.Known.{AreSeparate, behind_at}
 use Rattle.switch_laws.proofs.FaultlessLemmas.{faultless_is_sound, first-sound, unlisted}
-use Rattle.switch_laws.proofs.StandingLemmas.{error-off}
+use Rattle.switch_laws.proofs.StandingLemmas.{error-off, error-none}
 use Rattle.splice_playing.specs.Relations.{BeginsIn, IsPacketOf, IsKeptOf}
 use Rattle.splice_switch.proofs.QuietLemmas.{or-parts}
 
@@ -187,6 +188,13 @@ both-parts : (a b : Bool) → (a && b) ≡ true → (a ≡ true) × (b ≡ true)
 both-parts true b h = (refl, h)
 both-parts false b h = absurd (true≢false (sym h))
 
+abbrev pub is-start : StreamPacket → Bool
+is-start (Start begun) = true
+is-start More = false
+is-start Repeat = false
+is-start Lead = false
+is-start NoPayload = false
+
 module _ (c : Config) (filed : ℕ → Option Advertisement) (p : List ℕ) (past : List (List ℕ)) (good : first_fault (reading_cues c) past ≡ None) (i : ℕ) where
   abbrev k : Setting
   k = setting_of c filed
@@ -195,15 +203,15 @@ module _ (c : Config) (filed : ℕ → Option Advertisement) (p : List ℕ) (pas
   behind = behind_at (setting_of c filed) past
 
   -- what the follower says of it, where it begins no unit
-  pub quiet-one : (x : StreamPacket) → IsPlace (places.Stream i x) (reading_cues c) p past → ((begun : Option Begun) → x ≡ Start begun → ⊥) → begins_one (switched_at k past) p behind ≡ false
-  quiet-one (Start begun) h never = absurd (never begun refl)
-  quiet-one More h never =
+  pub quiet-one : (x : StreamPacket) → is-start x ≡ false → IsPlace (places.Stream i x) (reading_cues c) p past → begins_one (switched_at k past) p behind ≡ false
+  quiet-one (Start begun) no-start h = absurd (true≢false no-start)
+  quiet-one More no-start h =
       begins-one-is (switched_at k past) p behind i h.2.0 h.2.1.0 ∙ begins_not h.2.0 p behind h.2.1.1.1
-  quiet-one Repeat h never =
+  quiet-one Repeat no-start h =
       begins-one-is (switched_at k past) p behind i h.2.0 h.2.1.0 ∙ begins_repeat h.2.0 p behind h.2.1.1.1
-  quiet-one Lead h never =
+  quiet-one Lead no-start h =
       begins-one-is (switched_at k past) p behind i h.2.0 h.2.1.0 ∙ begins_not h.2.0 p behind h.2.1.1.1
-  quiet-one NoPayload h never =
+  quiet-one NoPayload no-start h =
       begins-one-is (switched_at k past) p behind i h.2.0 h.2.1.0 ∙ begins_off h.2.0 p behind h.2.1.1
 
   pub packet-start : (begun : Option Begun) → IsPlace (places.Stream i (Start begun)) (reading_cues c) p past → IsPacketOf k i false p past
@@ -262,6 +270,15 @@ module _ (c : Config) (filed : ℕ → Option Advertisement) (p : List ℕ) (pas
     cue = h.0;
   }
 
+  -- it stays whatever is played
+  pub kept-of : (x : StreamPacket) → (x ≡ Lead) ⊎ (x ≡ NoPayload) → IsPlace (places.Stream i x) (reading_cues c) p past → IsKeptOf k i p past
+  kept-of x (inl e) h = kept-lead (subst (λ y. IsPlace (places.Stream i y) (reading_cues c) p past) e h)
+  kept-of x (inr e) h = kept-empty (subst (λ y. IsPlace (places.Stream i y) (reading_cues c) p past) e h)
+
+pub no-start-kept : (x : StreamPacket) → (x ≡ Lead) ⊎ (x ≡ NoPayload) → is-start x ≡ false
+no-start-kept x (inl e) = ap is-start e
+no-start-kept x (inr e) = ap is-start e
+
 -- the stamp of a unit that begins
 pub stamp-told : (begun : Option Begun) (high : Option Rattle.std.specs.Prelude.ℤ) (s : Option ℕ) → Tells begun high s → s ≡ option_map (λ (b : Begun). b.pts) begun
 stamp-told None high s h = h
@@ -311,3 +328,28 @@ begins-in c filed p past i begun time now streams good sound h time-is now-is st
   adverts_are = refl;
   packed_is = refl;
 }
+
+-- a packet that passes as it is: one marked in error, or of no PID that the switch touches
+pub record Passes (c : Config) (filed : ℕ → Option Advertisement) (p : List ℕ) (past : List (List ℕ)) : Type 0 where
+  pub cue : on c.cue_pid p ≡ false
+  pub map : on_map (listed (Some c.program) past) p ≡ false
+  pub other : is_switched (switched_at (setting_of c filed) past) p ≡ false
+
+pub passes : (c : Config) (filed : ℕ → Option Advertisement) (p : List ℕ) (past : List (List ℕ)) (place : Place) → (place ≡ places.Marked) ⊎ (place ≡ places.Other) → IsPlace place (reading_cues c) p past
+    → Passes c filed p past
+passes c filed p past place (inl e) h =
+    let marked : in_error p ≡ true = subst (λ x. IsPlace x (reading_cues c) p past) e h in
+    record { cue = error-off c.cue_pid p marked; map = marked-map (Some c.program) p past marked; other = error-none (switched_at (setting_of c filed) past) p marked }
+passes c filed p past place (inr e) h =
+    let other : IsPlace places.Other (reading_cues c) p past = subst (λ x. IsPlace x (reading_cues c) p past) e h in
+    record { cue = other.1; map = other.2; other = none-first (switched_at (setting_of c filed) past) p other.3 }
+
+-- the map's PID, where the packet is on it
+pub record OnMap (o : Option Listed) (p : List ℕ) : Type 0 where
+  pub listed_as : Listed
+  pub is : o ≡ Some listed_as
+  pub here : on listed_as.pid p ≡ true
+
+pub on-map : (o : Option Listed) (p : List ℕ) → on_map o p ≡ true → OnMap o p
+on-map None p h = absurd (true≢false (sym h))
+on-map (Some l) p h = record { listed_as = l; is = refl; here = h }
