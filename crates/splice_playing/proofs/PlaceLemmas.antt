@@ -46,7 +46,7 @@ or-right false b h = h
 pub same-test : (a b : ℕ) → a ≡ b → (a == b) ≡ true
 same-test a b h = rw h (test-same b)
 
-clash : (b : Bool) → b ≡ true → b ≡ false → ⊥
+pub clash : (b : Bool) → b ≡ true → b ≡ false → ⊥
 clash b h k = true≢false (sym h ∙ k)
 
 pub among-by : (pid : ℕ) (pids : List ℕ) (n : ℕ) → slice_get pids n ≡ Some pid → is_among pid pids ≡ true
@@ -98,7 +98,7 @@ none-put : (pids : List ℕ) (es : List Standing) (rule : ℕ → Standing → L
 none-put [] es rule = refl
 none-put (pid ∷ pids) es rule = none-append (map (λ (u : SliceUnit). Put pid u) (flat_map (rule pid) es)) (puts_by pids es rule) (none-on pid (flat_map (rule pid) es)) (none-put pids es rule)
 
-is-none : List (List ℕ) → Bool
+abbrev is-none : List (List ℕ) → Bool
 is-none [] = true
 is-none (p ∷ ps) = false
 

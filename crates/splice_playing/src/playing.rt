@@ -1,6 +1,6 @@
 //! The events in the switched streams: which have begun, which are over, and what has gone out of their slices.
 
-ghost use Rattle.std.specs.Prelude.{◌≡◌, ◌<◌, ◌≤◌, ◌+◌, ◌%◌, ◌++◌, ◌∷◌, [], ℕ, ℤ, List, length, take, slice_index_or, Option, None, Some, OnOk, IfErr, true, false};
+ghost use Rattle.std.specs.Prelude.{◌≡◌, ◌<◌, ◌≤◌, ◌+◌, ◌%◌, ◌++◌, ◌∷◌, [], ℕ, ℤ, List, length, take, slice_index_or, Option, None, OnOk, IfErr, true, false};
 ghost use Rattle.ts_packet.specs.Numbering.{Step, Counts};
 ghost use Rattle.unit_stream.specs.UnitPackets.{put_in};
 ghost use Rattle.event_table.specs.Standing.{Standing, IsTimeAt};
@@ -9,13 +9,10 @@ ghost use Rattle.event_table.specs.Tables.{StandsFor, high_of, values_of};
 ghost use Rattle.splice_plans.specs.Parts.{KeepsEvents, beside, IsReached};
 ghost use Rattle.splice_plans.specs.Fronts.{IsNearTime, IsOther, closing_packets, closed_plans, is_left, AllCount, all_running, running_of, all_ran};
 ghost use Rattle.ts_packet.specs.Sinks.{Blamed};
-ghost use Rattle.ts_packet.specs.Fields.{on};
 ghost use Rattle.ts_packet.specs.Transfers.{WentWell};
 ghost use Rattle.outgoing_packets.specs.Numbers.{FrontFails};
-ghost use Rattle.program_follower.specs.Program.{listed};
-ghost use Rattle.program_follower.specs.Following.{on_map};
 ghost use Rattle.ad_library.specs.Library.{held};
-ghost use Rattle.splice_plans.specs.Switching.{Setting, front_at, place_at, rest_at, is_switched, switched_at};
+ghost use Rattle.splice_plans.specs.Switching.{Setting, front_at, place_at, rest_at};
 ghost use Rattle.splice_plans.specs.Adverts.{adverts_of};
 ghost use Rattle.splice_plans.specs.Reporting.{Counts as Reported, ReportIs, report_of, with_counted, is_out_at, is_any};
 ghost use Rattle.splice_playing.specs.Ready.{is_ready};
@@ -38,7 +35,7 @@ pub struct Playing {
 }
 
 impl Playing {
-    ghost use Rattle.splice_playing.specs.Relations.{PlaysFor, PlaysBefore, PlaysBehind, BeginsIn, IsPacketOf, IsKeptOf, EndsWith, Reports};
+    ghost use Rattle.splice_playing.specs.Relations.{PlaysFor, PlaysBefore, PlaysBehind, BeginsIn, IsCueOf, IsPacketOf, IsKeptOf, EndsWith, Reports};
 
     /// No event, and nothing is out.
     pub fn new() -> Playing
@@ -53,8 +50,7 @@ impl Playing {
 
     /// Obeys the cues that a packet of their PID finishes.
     pub fn obey(&mut self, packet: &Packet)
-        ensures { (k : Setting) (past : List (List ℕ)) → on k.cue_pid packet.now ≡ true → is_switched (switched_at k past) packet.now ≡ false →
-            on_map (listed (Some k.program) past) packet.now ≡ false → PlaysFor self.old k past → PlaysFor self.new k (packet.now ∷ past) }
+        ensures { (k : Setting) (past : List (List ℕ)) → IsCueOf k packet.now past → PlaysFor self.old k past → PlaysFor self.new k (packet.now ∷ past) }
     {
         self.events.feed(packet, Plan::new());
     }

@@ -1,6 +1,6 @@
 -- What a packet of a network without fault is to the switch.
-use Rattle.std.proofs.Common.{◌≡◌, ℕ, zero, suc, ◌+◌, ◌≤◌, ◌<◌, ◌==◌, List, [], ◌∷◌, length, Bool, true, false, not, ◌&&◌, ◌||◌, refl, sym, ap, subst, ◌∙◌, arith, add-one, ◌⊎◌, inl, inr}
-use Rattle.std.specs.Prelude.{Option, None, Some, option_map, slice_get, nat_lt}
+use Rattle.std.proofs.Common.{◌≡◌, ℕ, zero, suc, ◌+◌, ◌≤◌, ◌<◌, ◌==◌, List, [], ◌∷◌, length, Bool, true, false, not, ◌&&◌, ◌||◌, if◌then◌else◌, refl, sym, ap, subst, ◌∙◌, arith, add-one, ◌⊎◌, inl, inr}
+use Rattle.std.specs.Prelude.{Option, None, Some, option_map, is_some, slice_get, nat_lt}
 use Rattle.std.specs.Option.{option_or}
 use Rattle.std.specs.List.{AllByRecursion}
 use Rattle.std.proofs.lemmas.Bool.{true≢false}
@@ -28,7 +28,7 @@ use Rattle.program_follower.specs.declared.streams.StreamPacket.TheVariants.{Sta
 use Rattle.program_follower.specs.declared.follower.Place.{Place}
 use Rattle.program_follower.specs.declared.follower.Place.TheVariants as places
 use Rattle.program_follower.specs.Purposes.{reading_cues}
-use Rattle.program_follower.specs.Program.{listed, all_tables, known_map, Program, program_in, program_of, pids_of}
+use Rattle.program_follower.specs.Program.{listed, all_tables, known_map, behind_head, Program, program_in, program_of, pids_of}
 use Rattle.program_follower.specs.Faults.{network_fault, first_fault, cue_fault, pats_fault_at, maps_fault_at, unit_fault_at, as_network, is_pid, pmt_pid_fault, if_bad}
 use Rattle.psi_tables.specs.declared.network.NetworkFault.TheVariants.{CuePidUsed, BadPids}
 use Rattle.program_follower.specs.Following.{IsPlace, on_map, streams_of_program}
@@ -43,10 +43,12 @@ use Rattle.output_laws.proofs.StepLemmas.{pid_is, test-same}
 use Rattle.ad_library.specs.Advertisements.{Advertisement}
 use Rattle.splice_plans.specs.Switching.{Setting, switched_at, streams_at, high_at, is_switched}
 use Rattle.splice_plans.specs.Adverts.{setting_of}
+use Rattle.splice_plans.proofs.AdvertLemmas.{libraries_are_steady}
 use Rattle.splice_plans.specs.Known.{AreSeparate, behind_at}
 use Rattle.switch_laws.proofs.FaultlessLemmas.{faultless_is_sound, first-sound, unlisted}
 use Rattle.switch_laws.proofs.StandingLemmas.{error-off, error-none}
-use Rattle.splice_playing.specs.Relations.{BeginsIn, IsPacketOf, IsKeptOf}
+use Rattle.known_laws.specs.Laws.{AreFaultless}
+use Rattle.splice_playing.specs.Relations.{IsCueOf, BeginsIn, IsPacketOf, IsKeptOf, EndsWith}
 use Rattle.splice_switch.proofs.QuietLemmas.{or-parts}
 
 -- ---- the streams of a network without fault
@@ -86,6 +88,32 @@ sound-unit c filed p past h =
     let b = none_both (pats_fault_at (reading_cues c) p past) _ a.1 in
     let d = none_both (maps_fault_at (reading_cues c) p past) (unit_fault_at (reading_cues c) p past) b.1 in
     no-unit (unit_fault (pids_of (program_of (Some c.program) past)) p (behind_at (setting_of c filed) past)) d.1
+
+-- no packet behind the head has a fault
+faultless : (c : Config) (filed : ℕ → Option Advertisement) (past : List (List ℕ)) → first_fault (reading_cues c) past ≡ None
+    → AreFaultless (switched_at (setting_of c filed) past) (behind_at (setting_of c filed) past)
+faultless c filed [] h = tt
+faultless c filed (p ∷ past) h =
+    let r = none_both (first_fault (reading_cues c) past) (network_fault (reading_cues c) p past) h in
+    faultless-by c filed p past r.1 (known_map (Some c.program) past) refl (faultless c filed past r.0)
+  where
+    faultless-by : (c : Config) (filed : ℕ → Option Advertisement) (p : List ℕ) (past : List (List ℕ)) → network_fault (reading_cues c) p past ≡ None
+        → (o : Option ProgramMap) → known_map (Some c.program) past ≡ o → AreFaultless (switched_at (setting_of c filed) past) (behind_at (setting_of c filed) past)
+        → AreFaultless (switched_at (setting_of c filed) (p ∷ past)) (behind_at (setting_of c filed) (p ∷ past))
+    faultless-by c filed p past sound None known before =
+        subst (AreFaultless (switched_at (setting_of c filed) (p ∷ past))) (sym (ap (λ o. if is_some o then p ∷ behind_head (Some c.program) past else []) known)) tt
+    faultless-by c filed p past sound (Some m) known before =
+        let behind : behind_at (setting_of c filed) (p ∷ past) ≡ p ∷ behind_at (setting_of c filed) past = ap (λ o. if is_some o then p ∷ behind_head (Some c.program) past else []) known in
+        let same : switched_at (setting_of c filed) (p ∷ past) ≡ switched_at (setting_of c filed) past
+        = ap (λ o. pids_of (option_map program_in o)) (known_stays (Some c.program) p past m known ∙ sym known) in
+        subst (λ sw. AreFaultless sw (behind_at (setting_of c filed) (p ∷ past))) (sym same)
+        (subst (AreFaultless (switched_at (setting_of c filed) past)) (sym behind) (sound-unit c filed p past sound, before))
+
+-- the network ends
+pub ends-with : (c : Config) (filed : ℕ → Option Advertisement) (past : List (List ℕ)) (streams : List ListedStream) → first_fault (reading_cues c) past ≡ None
+    → streams ≡ streams_at (setting_of c filed) past → EndsWith (setting_of c filed) filed streams past
+ends-with c filed past streams good is =
+    record { faultless = faultless c filed past good; separate = separate (setting_of c filed) past good; listed_is = is; adverts_are = refl; packed_is = refl }
 
 -- ---- PIDs
 
@@ -174,6 +202,15 @@ cue-off-map c p past good h = cue-not-map c.cue_pid (reading_cues c) (listed (So
 pub cue-switched : (c : Config) (filed : ℕ → Option Advertisement) (p : List ℕ) (past : List (List ℕ)) → first_fault (reading_cues c) past ≡ None → on c.cue_pid p ≡ true
     → is_switched (switched_at (setting_of c filed) past) p ≡ false
 cue-switched c filed p past good h = not-among c.cue_pid p (switched_at (setting_of c filed) past) h (faultless_is_sound (setting_of c filed) past good).apart.cue
+
+-- a packet of cues
+pub cue-of : (c : Config) (filed : ℕ → Option Advertisement) (p : List ℕ) (past : List (List ℕ)) → first_fault (reading_cues c) past ≡ None → on c.cue_pid p ≡ true → IsCueOf (setting_of c filed) p past
+cue-of c filed p past good h = record {
+  cue = h;
+  other = cue-switched c filed p past good h;
+  separate = separate (setting_of c filed) past good;
+  steady = libraries_are_steady filed (streams_at (setting_of c filed) past);
+}
 
 pub map-switched : (c : Config) (filed : ℕ → Option Advertisement) (p : List ℕ) (past : List (List ℕ)) (l : Listed) → first_fault (reading_cues c) past ≡ None → listed (Some c.program) past ≡ Some l
     → on l.pid p ≡ true → is_switched (switched_at (setting_of c filed) past) p ≡ false

@@ -15,7 +15,7 @@ use Rattle.splice_plans.specs.Adverts.{setting_of}
 use Rattle.splice_plans.specs.Switching.{switched_at_packet}
 use Rattle.splice_switch.specs.Standing.{SwitchStandsFor, IsFollowedAs}
 use Rattle.splice_switch.proofs.PlayLemmas.{plays-quiet}
-use Rattle.splice_switch.proofs.PremiseLemmas.{passes, on-map, separate, clean-more, cue-off-map, cue-switched, map-switched}
+use Rattle.splice_switch.proofs.PremiseLemmas.{passes, on-map, separate, clean-more, cue-off-map, cue-switched, cue-of, map-switched}
 use Rattle.splice_switch.proofs.OutLemmas.{other-out, cue-out, tables-strip, map-same, passed-goes-on}
 use Rattle.splice_switch.proofs.switch.Switch.put.Goals as goal
 
@@ -43,7 +43,7 @@ returns-in-Cue-clause-stands g c = λ cfg past b.
       cue_pid = b'.cue_pid;
       follower = b'.follower;
       clean = clean-more (reading_cues cfg) p past b'.clean b'.sound;
-      playing = c.obey.ensures k past b'.place_is other map b'.playing;
+      playing = c.obey.ensures k past (cue-of cfg filed p past b'.clean b'.place_is) b'.playing;
       numbers = record { passed = b'.numbers.passed; put = b'.numbers.put; go_on = passed-goes-on k p past [] b'.numbers.passed out b'.numbers.go_on };
       whole = b'.whole;
     }
