@@ -5,3 +5,4 @@ pub mod PlaceLemmas
 pub mod Awaited
 pub mod PacketLemmas
 pub mod BeginLemmas
+pub mod RestLemmas

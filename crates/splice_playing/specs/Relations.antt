@@ -49,7 +49,8 @@ pub record IsCueOf (k : Setting) (p : List ℕ) (past : List (List ℕ)) : Type 
   pub steady : AreSteady (adverts_at k past)
 
 -- the packet begins a unit in the stream of this number, with this stamp; behind it this is the greatest time
-pub record BeginsIn (k : Setting) (filed : ℕ → Option Advertisement) (listed : List ListedStream) (number : ℕ) (time high : Option ℕ) (p : List ℕ) (past : List (List ℕ)) : Type 0 where
+pub record BeginsIn (k : Setting) (filed : ℕ → Option Advertisement) (listed : List ListedStream) (number : ℕ) (time high : Option ℕ)
+    (p : List ℕ) (past : List (List ℕ)) : Type 0 where
   pub pid : ℕ
   pub of : slice_get (switched_at k past) number ≡ Some pid
   pub begins_it : begins pid p (behind_at k past) ≡ true
@@ -62,18 +63,25 @@ pub record BeginsIn (k : Setting) (filed : ℕ → Option Advertisement) (listed
   pub adverts_are : k.adverts ≡ adverts_of filed
   pub packed_is : k.packed ≡ packed_units
 
+-- the moves behind which a packet goes out, and what becomes of it
+abbrev pub moves_before : Setting → List ℕ → List (List ℕ) → List Move
+moves_before k p past = reverse (puts_at k p past) ++ moves_at k past
+
+abbrev pub fate_at : Setting → List ℕ → List (List ℕ) → Move
+fate_at k p past = fate (switched_at k past) (adverts_at k past) (history_at k past) p (behind_at k past)
+
 -- what it stands for once all is out that goes out before a packet that begins a unit
 pub record PlaysBefore (playing : Playing) (k : Setting) (p : List ℕ) (past : List (List ℕ)) : Type 0 where
   pub events : Obeys playing.events k.cue_pid (high_at k) past
   pub plans : values_of playing.events.obeyed.table ≡ values_by (plans_at k past (p ∷ behind_at k past)) (standing k.cue_pid (high_at k) past)
-  pub streams : AllGo playing.streams k.packed (inside_at k past (p ∷ behind_at k past)) (reverse (puts_at k p past) ++ moves_at k past) (switched_at k past)
+  pub streams : AllGo playing.streams k.packed (inside_at k past (p ∷ behind_at k past)) (moves_before k p past) (switched_at k past)
   pub forgotten : ReportIs playing.forgotten (counts_known k past (is_forgotten (high_at k past)))
 
 -- and once the packet is out, or what stands in its place, before the greatest time rises
 pub record PlaysBehind (playing : Playing) (k : Setting) (p : List ℕ) (past : List (List ℕ)) : Type 0 where
   pub events : Obeys playing.events k.cue_pid (high_at k) past
   pub plans : values_of playing.events.obeyed.table ≡ values_by (plans_at k past (p ∷ behind_at k past)) (standing k.cue_pid (high_at k) past)
-  pub streams : AllGo playing.streams k.packed (inside_at k past (p ∷ behind_at k past)) (fate (switched_at k past) (adverts_at k past) (history_at k past) p (behind_at k past) ∷ (reverse (puts_at k p past) ++ moves_at k past)) (switched_at k past)
+  pub streams : AllGo playing.streams k.packed (inside_at k past (p ∷ behind_at k past)) (fate_at k p past ∷ moves_before k p past) (switched_at k past)
   pub forgotten : ReportIs playing.forgotten (counts_known k past (is_forgotten (high_at k past)))
 
 -- the packet is of the stream of this number and carries payload of a unit, a duplicate or not
