@@ -14,7 +14,7 @@ use Rattle.program_follower.specs.declared.purpose.Listed.{Listed}
 use Rattle.program_follower.specs.Purposes.{reading_cues}
 use Rattle.program_follower.specs.Program.{listed}
 use Rattle.program_follower.specs.Following.{FollowerStandsFor, IsPlace}
-use Rattle.program_follower.specs.Faults.{network_fault}
+use Rattle.program_follower.specs.Faults.{network_fault, first_fault}
 use Rattle.program_laws.specs.Writing.{number_on}
 use Rattle.outgoing_packets.specs.Numbers.{HasPut, FrontFails}
 use Rattle.ad_library.specs.Advertisements.{Advertisement}
@@ -38,6 +38,7 @@ pub record Numbers (s : Switch) (l : Option Listed) (out : List (List ℕ)) : Ty
 pub record SwitchStandsFor (s : Switch) (c : Config) (filed : ℕ → Option Advertisement) (past : List (List ℕ)) : Type 0 where
   pub cue_pid : s.cue_pid ≡ c.cue_pid
   pub follower : FollowerStandsFor s.follower (reading_cues c) past
+  pub clean : first_fault (reading_cues c) past ≡ None
   pub playing : PlaysFor s.playing (setting_of c filed) past
   pub numbers : Numbers s (listed (Some c.program) past) (switched_past (setting_of c filed) past)
   pub whole : s.is_spent ≡ false
@@ -76,6 +77,7 @@ is_err_or (Err e) before = true
 pub record IsFollowedAs (s : Switch) (place : Place) (c : Config) (filed : ℕ → Option Advertisement) (p : List ℕ) (past : List (List ℕ)) : Type 0 where
   pub cue_pid : s.cue_pid ≡ c.cue_pid
   pub follower : FollowerStandsFor s.follower (reading_cues c) (p ∷ past)
+  pub clean : first_fault (reading_cues c) past ≡ None
   pub sound : network_fault (reading_cues c) p past ≡ None
   pub place_is : IsPlace place (reading_cues c) p past
   pub playing : PlaysFor s.playing (setting_of c filed) past

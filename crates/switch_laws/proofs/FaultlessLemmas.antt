@@ -73,7 +73,7 @@ sound-or : (c : Purpose) (pid : ℕ) (m : ProgramMap) (o rest : Option ProgramMa
 sound-or c pid m None rest s h later = later h
 sound-or c pid m (Some n) rest s h later = subst (Sound c pid) (same-map n m h) s
 
-first-sound : (c : Purpose) (pid : ℕ) (m : ProgramMap) (ts : List Table) → AllByRecursion (λ (t : Table). MapSound c pid t.program_map) ts → first_map ts ≡ Some m → Sound c pid m
+pub first-sound : (c : Purpose) (pid : ℕ) (m : ProgramMap) (ts : List Table) → AllByRecursion (λ (t : Table). MapSound c pid t.program_map) ts → first_map ts ≡ Some m → Sound c pid m
 first-sound c pid m [] a h = cc
 first-sound c pid m (t ∷ ts) a h = sound-or c pid m t.program_map (first_map ts) a.0 h (first-sound c pid m ts a.1)
 
@@ -81,7 +81,7 @@ module _ (k : Setting) (past : List (List ℕ)) (h : first_fault (reading_cues (
   abbrev purpose : Purpose
   purpose = reading_cues (Some k.program) k.cue_pid
 
-  unlisted : (o : Option Listed) → listed (Some k.program) past ≡ o → (m : ProgramMap) → known_map (Some k.program) past ≡ Some m → (l : Listed) × (listed (Some k.program) past ≡ Some l)
+  pub unlisted : (o : Option Listed) → listed (Some k.program) past ≡ o → (m : ProgramMap) → known_map (Some k.program) past ≡ Some m → (l : Listed) × (listed (Some k.program) past ≡ Some l)
   unlisted (Some l) e m known = (l, e)
   unlisted None e m known = absurd (no-map m (sym (ap first_map (no_tables (Some k.program) past e)) ∙ known))
     where

@@ -12,11 +12,11 @@ use Rattle.splice_plans.specs.Switching.{Setting, switched_at, history_at, switc
 use Rattle.switch_laws.specs.Whole.{adverts_at, stands_for}
 use Rattle.switch_laws.specs.Standing.{IsNoTable, is_left, done_before, steps_before, PacketsStandAs}
 
-error-off : (pid : ℕ) (p : List ℕ) → in_error p ≡ true → on pid p ≡ false
+pub error-off : (pid : ℕ) (p : List ℕ) → in_error p ≡ true → on pid p ≡ false
 unfolding on
 error-off pid p e = simp e refl
 
-error-none : (pids : List ℕ) (p : List ℕ) → in_error p ≡ true → is_switched pids p ≡ false
+pub error-none : (pids : List ℕ) (p : List ℕ) → in_error p ≡ true → is_switched pids p ≡ false
 error-none [] p e = refl
 error-none (pid ∷ pids) p e = let n = error-off pid p e in simp n (error-none pids p e)
 
@@ -35,7 +35,7 @@ module _ (k : Setting) (p : List ℕ) (past : List (List ℕ)) where
   no-table None h n = refl
   no-table (Some l) h n = let f = n l h in simp f refl
 
-  is-place : IsNoTable k p past → stands_for k p past ≡ place_at k p past
+  pub is-place : IsNoTable k p past → stands_for k p past ≡ place_at k p past
   is-place n = no-table (listed (Some k.program) past) refl n
 
   other-place : on k.cue_pid p ≡ false → is_switched (switched_at k past) p ≡ false → place_at k p past ≡ p ∷ []

@@ -1,0 +1,5 @@
+pub mod QuietLemmas
+pub mod PlayLemmas
+pub mod PremiseLemmas
+pub mod NumberLemmas
+pub mod OutLemmas

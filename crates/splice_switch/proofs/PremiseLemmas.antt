@@ -1,0 +1,392 @@
+-- What a packet of a network without fault is to the switch.
+use Rattle.std.proofs.Common.{◌≡◌, ℕ, zero, suc, ◌+◌, ◌≤◌, ◌<◌, ◌==◌, List, [], ◌∷◌, length, Bool, true, false, not, ◌&&◌, ◌||◌, if◌then◌else◌, refl, sym, ap, subst, ◌∙◌, arith, add-one, ◌⊎◌, inl, inr}
+use Rattle.std.specs.Prelude.{Option, None, Some, option_map, is_some, slice_get, nat_lt}
+use Rattle.std.specs.Option.{option_or}
+use Rattle.std.specs.List.{AllByRecursion}
+use Rattle.std.proofs.lemmas.Bool.{true≢false}
+use Rattle.std.proofs.lemmas.Bool.Decides.{nat_tests}
+use Rattle.std.proofs.lemmas.List.{length-map}
+use Rattle.ts_packet.specs.Fields.{on, payload_on, in_error, pid_of, unit_start}
+use Rattle.ts_packet.specs.Duplicates.{original, repeats}
+use Rattle.ts_packet.proofs.Cases.{by_test}
+use Rattle.ts_packet.proofs.FieldLemmas.{payload_on-on}
+use Rattle.unit_stream.specs.declared.fault.UnitFault.{UnitFault}
+use Rattle.unit_stream.specs.declared.fault.UnitFault.TheVariants.{Scrambled, HeaderSplit, TimeJump}
+use Rattle.unit_stream.specs.declared.clock.Begun.{Begun}
+use Rattle.unit_stream.specs.Times.{begins, begins_one, in_unit, high, stamp}
+use Rattle.unit_stream.specs.Clocks.{Tells}
+use Rattle.unit_stream.specs.Faults.{unit_fault}
+use Rattle.unit_stream.proofs.ClockLemmas.{begins_off, begins_not, begins_repeat}
+use Rattle.psi_tables.specs.declared.config.Config.{Config}
+use Rattle.psi_tables.specs.declared.stream.Stream.{Stream as ListedStream}
+use Rattle.psi_tables.specs.ProgramMap.{ProgramMap, streams_of}
+use Rattle.psi_tables.specs.Streams.{switched_of}
+use Rattle.program_follower.specs.declared.purpose.Purpose.{Purpose}
+use Rattle.program_follower.specs.declared.purpose.Listed.{Listed}
+use Rattle.program_follower.specs.declared.streams.StreamPacket.{StreamPacket}
+use Rattle.program_follower.specs.declared.streams.StreamPacket.TheVariants.{Start, More, Repeat, Lead, NoPayload}
+use Rattle.program_follower.specs.declared.follower.Place.{Place}
+use Rattle.program_follower.specs.declared.follower.Place.TheVariants as places
+use Rattle.program_follower.specs.Purposes.{reading_cues}
+use Rattle.program_follower.specs.Program.{listed, all_tables, known_map, behind_head, Program, program_in, program_of, pids_of}
+use Rattle.program_follower.specs.Faults.{network_fault, first_fault, cue_fault, pats_fault_at, maps_fault_at, unit_fault_at, as_network, is_pid, pmt_pid_fault, if_bad}
+use Rattle.psi_tables.specs.declared.network.NetworkFault.TheVariants.{CuePidUsed, BadPids}
+use Rattle.program_follower.specs.Following.{IsPlace, on_map, streams_of_program}
+use Rattle.program_follower.specs.Streaming.{first_on, next_place, IsStreamPacket}
+use Rattle.program_follower.proofs.OptionLemmas.{none_both}
+use Rattle.program_follower.proofs.StreamLemmas.{first_is_on, first_within, first_of, none_of, one_of, begins_is, begins_needs}
+use Rattle.pes_time.specs.Line.{ring_of}
+use Rattle.program_laws.proofs.HeadLemmas.{known_stays}
+use Rattle.program_laws.proofs.FaultLemmas.{all_sound, pid_good, not_if_bad}
+use Rattle.splice_laws.specs.Streams.{is_among, IsOnce}
+use Rattle.output_laws.proofs.StepLemmas.{pid_is, test-same}
+use Rattle.ad_library.specs.Advertisements.{Advertisement}
+use Rattle.splice_plans.specs.Switching.{Setting, switched_at, streams_at, high_at, is_switched}
+use Rattle.splice_plans.specs.Adverts.{setting_of}
+use Rattle.splice_plans.proofs.AdvertLemmas.{libraries_are_steady}
+use Rattle.splice_plans.specs.Known.{AreSeparate, behind_at}
+use Rattle.switch_laws.proofs.FaultlessLemmas.{faultless_is_sound, first-sound, unlisted}
+use Rattle.switch_laws.proofs.StandingLemmas.{error-off, error-none}
+use Rattle.known_laws.specs.Laws.{AreFaultless}
+use Rattle.splice_playing.specs.Relations.{IsCueOf, BeginsIn, IsPacketOf, IsKeptOf, EndsWith}
+use Rattle.splice_switch.proofs.QuietLemmas.{or-parts}
+
+-- ---- the streams of a network without fault
+
+not-below : (n : ℕ) → nat_lt 8 n ≡ false → n ≤ 8
+not-below n h = grind (arith, nat_tests, h)
+
+module _ (k : Setting) (past : List (List ℕ)) (h : first_fault (Rattle.program_laws.specs.Spliced.reading_cues (Some k.program) k.cue_pid) past ≡ None) where
+  few-by : (o : Option ProgramMap) → known_map (Some k.program) past ≡ o → length (switched_at k past) ≤ 8
+  few-by None known = let n : length (switched_at k past) ≡ 0 = ap (λ o. length (pids_of (option_map program_in o))) known in omega (arith, n)
+  few-by (Some m) known =
+      let l = unlisted k past h (listed (Some k.program) past) refl m known in
+      let s = first-sound (Rattle.program_laws.specs.Spliced.reading_cues (Some k.program) k.cue_pid) l.0.pid m (all_tables (Some k.program) past)
+      (all_sound (Rattle.program_laws.specs.Spliced.reading_cues (Some k.program) k.cue_pid) past l.0 h l.1) known in
+      let few : length (switched_of (streams_of m)) ≤ 8 = not-below (length (switched_of (streams_of m))) s.few in
+      let n : length (switched_at k past) ≡ length (switched_of (streams_of m))
+      = ap (λ o. length (pids_of (option_map program_in o))) known ∙ length-map (switched_of (streams_of m)) (λ (s : ListedStream). s.pid) in
+      omega (arith, n, few)
+
+  pub separate : AreSeparate (switched_at k past)
+  separate = record { few = few-by (known_map (Some k.program) past) refl; alone = λ pid a. (faultless_is_sound k past h).once pid a }
+
+-- one packet more
+pub clean-more : (c : Purpose) (p : List ℕ) (past : List (List ℕ)) → first_fault c past ≡ None → network_fault c p past ≡ None → first_fault c (p ∷ past) ≡ None
+clean-more c p past h k = ap (λ o. option_or o (network_fault c p past)) h ∙ k
+
+no-unit : (o : Option UnitFault) → as_network o ≡ None → o ≡ None
+no-unit None h = refl
+no-unit (Some Scrambled) h = absurd (let none : as_network (Some Scrambled) ≡ None = h in cc)
+no-unit (Some HeaderSplit) h = absurd (let none : as_network (Some HeaderSplit) ≡ None = h in cc)
+no-unit (Some TimeJump) h = absurd (let none : as_network (Some TimeJump) ≡ None = h in cc)
+
+pub sound-unit : (c : Config) (filed : ℕ → Option Advertisement) (p : List ℕ) (past : List (List ℕ)) → network_fault (reading_cues c) p past ≡ None
+    → unit_fault (switched_at (setting_of c filed) past) p (behind_at (setting_of c filed) past) ≡ None
+sound-unit c filed p past h =
+    let a = none_both (cue_fault (reading_cues c) p) _ h in
+    let b = none_both (pats_fault_at (reading_cues c) p past) _ a.1 in
+    let d = none_both (maps_fault_at (reading_cues c) p past) (unit_fault_at (reading_cues c) p past) b.1 in
+    no-unit (unit_fault (pids_of (program_of (Some c.program) past)) p (behind_at (setting_of c filed) past)) d.1
+
+-- no packet behind the head has a fault
+faultless : (c : Config) (filed : ℕ → Option Advertisement) (past : List (List ℕ)) → first_fault (reading_cues c) past ≡ None
+    → AreFaultless (switched_at (setting_of c filed) past) (behind_at (setting_of c filed) past)
+faultless c filed [] h = tt
+faultless c filed (p ∷ past) h =
+    let r = none_both (first_fault (reading_cues c) past) (network_fault (reading_cues c) p past) h in
+    faultless-by c filed p past r.1 (known_map (Some c.program) past) refl (faultless c filed past r.0)
+  where
+    faultless-by : (c : Config) (filed : ℕ → Option Advertisement) (p : List ℕ) (past : List (List ℕ)) → network_fault (reading_cues c) p past ≡ None
+        → (o : Option ProgramMap) → known_map (Some c.program) past ≡ o → AreFaultless (switched_at (setting_of c filed) past) (behind_at (setting_of c filed) past)
+        → AreFaultless (switched_at (setting_of c filed) (p ∷ past)) (behind_at (setting_of c filed) (p ∷ past))
+    faultless-by c filed p past sound None known before =
+        subst (AreFaultless (switched_at (setting_of c filed) (p ∷ past))) (sym (ap (λ o. if is_some o then p ∷ behind_head (Some c.program) past else []) known)) tt
+    faultless-by c filed p past sound (Some m) known before =
+        let behind : behind_at (setting_of c filed) (p ∷ past) ≡ p ∷ behind_at (setting_of c filed) past = ap (λ o. if is_some o then p ∷ behind_head (Some c.program) past else []) known in
+        let same : switched_at (setting_of c filed) (p ∷ past) ≡ switched_at (setting_of c filed) past
+        = ap (λ o. pids_of (option_map program_in o)) (known_stays (Some c.program) p past m known ∙ sym known) in
+        subst (λ sw. AreFaultless sw (behind_at (setting_of c filed) (p ∷ past))) (sym same)
+        (subst (AreFaultless (switched_at (setting_of c filed) past)) (sym behind) (sound-unit c filed p past sound, before))
+
+-- the network ends
+pub ends-with : (c : Config) (filed : ℕ → Option Advertisement) (past : List (List ℕ)) (streams : List ListedStream) → first_fault (reading_cues c) past ≡ None
+    → streams ≡ streams_at (setting_of c filed) past → EndsWith (setting_of c filed) filed streams past
+ends-with c filed past streams good is =
+    record { faultless = faultless c filed past good; separate = separate (setting_of c filed) past good; listed_is = is; adverts_are = refl; packed_is = refl }
+
+-- ---- PIDs
+
+apart-pid : (a b : ℕ) (p : List ℕ) → (a == b) ≡ false → on a p ≡ true → on b p ≡ false
+apart-pid a b p n h = by_test (on b p)
+    (λ y. absurd (let same : a ≡ b = sym (pid_is a p h) ∙ pid_is b p y in true≢false (sym (test-same b) ∙ ap (λ x. x == b) (sym same) ∙ n)))
+    (λ z. z)
+
+back-test : (a b : ℕ) → (a == b) ≡ false → (b == a) ≡ false
+back-test a b h = grind (arith, nat_tests, h)
+
+or-both : (a b : Bool) → a ≡ false → b ≡ false → (a || b) ≡ false
+or-both true b h k = h
+or-both false b h k = k
+
+-- a packet of another PID than theirs
+pub not-among : (x : ℕ) (p : List ℕ) (pids : List ℕ) → on x p ≡ true → is_among x pids ≡ false → is_switched pids p ≡ false
+not-among x p [] h a = refl
+not-among x p (pid ∷ pids) h a =
+    let r = or-parts (pid == x) (is_among x pids) a in
+    or-both (on pid p) (is_switched pids p) (apart-pid x pid p (back-test pid x r.0) h) (not-among x p pids h r.1)
+
+switched-one : (pids : List ℕ) (p : List ℕ) → is_switched pids p ≡ one_of (λ pid. on pid p) pids
+switched-one [] p = refl
+switched-one (pid ∷ pids) p = ap (λ b. on pid p || b) (switched-one pids p)
+
+pub none-first : (pids : List ℕ) (p : List ℕ) → first_on pids p ≡ None → is_switched pids p ≡ false
+none-first pids p h = switched-one pids p ∙ none_of (λ pid. on pid p) p (λ pid o. o) pids h
+
+pub one-first : (pids : List ℕ) (p : List ℕ) (i pid : ℕ) → first_on pids p ≡ Some (i, pid) → is_switched pids p ≡ true
+one-first pids p i pid h = switched-one pids p ∙ first_of (λ pid. on pid p) p (λ pid o. o) pids (i, pid) h ∙ first_is_on pids p (i, pid) h
+
+-- the first of the PIDs has its place
+same-pair : (z w : ℕ × ℕ) → Some z ≡ Some w → z ≡ w
+same-pair z w h = cc
+
+moved-there : (q : ℕ) (qs : List ℕ) (p : List ℕ) (x : ℕ × ℕ) (o : Option (ℕ × ℕ)) → first_on qs p ≡ o → option_map next_place o ≡ Some x
+    → ((y : ℕ × ℕ) → first_on qs p ≡ Some y → slice_get qs y.0 ≡ Some y.1) → slice_get (q ∷ qs) x.0 ≡ Some x.1
+moved-there q qs p x None e k later = absurd (let none : None ≡ Some x = k in cc)
+moved-there q qs p x (Some y) e k later =
+    let r = same-pair (next_place y) x k in
+    let next : suc y.0 ≡ x.0 = sym (add-one y.0) ∙ ap (λ (z : ℕ × ℕ). z.0) r in
+    subst (λ n. slice_get (q ∷ qs) n ≡ Some x.1) next (later y e ∙ ap (λ (z : ℕ × ℕ). let o : Option ℕ = Some z.1 in o) r)
+
+pub first-there : (pids : List ℕ) (p : List ℕ) (x : ℕ × ℕ) → first_on pids p ≡ Some x → slice_get pids x.0 ≡ Some x.1
+first-there [] p x h = absurd (let none : None ≡ Some x = h in cc)
+first-there (q ∷ qs) p x h = by_test (on q p)
+    (λ y. let z : ℕ × ℕ = (0, q) in
+    let e : Some z ≡ Some x = simp y at h in
+    let r = same-pair z x e in
+    subst (λ n. slice_get (q ∷ qs) n ≡ Some x.1) (ap (λ (z : ℕ × ℕ). z.0) r) (ap (λ (z : ℕ × ℕ). let o : Option ℕ = Some z.1 in o) r))
+    (λ n. moved-there q qs p x (first_on qs p) refl (simp n at h) (λ y e. first-there qs p y e))
+
+pub there-among : (pids : List ℕ) (i pid : ℕ) → slice_get pids i ≡ Some pid → is_among pid pids ≡ true
+there-among [] i pid h = absurd (let none : None ≡ Some pid = h in cc)
+there-among (q ∷ qs) zero pid h = let is : q ≡ pid = (let e : Some q ≡ Some pid = h in cc) in subst (λ x. (q == x) || is_among x qs ≡ true) is (ap (λ b. b || is_among q qs) (test-same q))
+there-among (q ∷ qs) (suc i) pid h = or-second (q == pid) (is_among pid qs) (there-among qs i pid h)
+  where
+    or-second : (a b : Bool) → b ≡ true → (a || b) ≡ true
+    or-second true b h = refl
+    or-second false b h = h
+
+-- ---- places
+
+pub no-table : (o : Option Listed) (p : List ℕ) → on_map o p ≡ false → (l : Listed) → o ≡ Some l → on l.pid p ≡ false
+no-table o p h l e = ap (λ o. on_map o p) (sym e) ∙ h
+
+marked-off : (o : Option Listed) (p : List ℕ) → in_error p ≡ true → on_map o p ≡ false
+marked-off None p e = refl
+marked-off (Some l) p e = error-off l.pid p e
+
+pub marked-map : (wanted : Option ℕ) (p : List ℕ) (past : List (List ℕ)) → in_error p ≡ true → on_map (listed wanted past) p ≡ false
+marked-map wanted p past e = marked-off (listed wanted past) p e
+
+-- the PID of the cues is not that of the map
+cue-not-map : (cue : ℕ) (c : Purpose) (o : Option Listed) (p : List ℕ) → c.cue_pid ≡ Some cue → pmt_pid_fault c o ≡ None → on cue p ≡ true → on_map o p ≡ false
+cue-not-map cue c None p is good h = refl
+cue-not-map cue c (Some l) p is good h =
+    let r = none_both (if_bad ((l.pid == 0) || (l.pid == 8191)) BadPids) (if_bad (is_pid c.cue_pid l.pid) CuePidUsed) good in
+    let n : (l.pid == cue) ≡ false = ap (λ o. is_pid o l.pid) (sym is) ∙ not_if_bad (is_pid c.cue_pid l.pid) CuePidUsed r.1 in
+    apart-pid cue l.pid p (back-test l.pid cue n) h
+
+pub cue-off-map : (c : Config) (p : List ℕ) (past : List (List ℕ)) → first_fault (reading_cues c) past ≡ None → on c.cue_pid p ≡ true → on_map (listed (Some c.program) past) p ≡ false
+cue-off-map c p past good h = cue-not-map c.cue_pid (reading_cues c) (listed (Some c.program) past) p refl (pid_good (reading_cues c) past good) h
+
+pub cue-switched : (c : Config) (filed : ℕ → Option Advertisement) (p : List ℕ) (past : List (List ℕ)) → first_fault (reading_cues c) past ≡ None → on c.cue_pid p ≡ true
+    → is_switched (switched_at (setting_of c filed) past) p ≡ false
+cue-switched c filed p past good h = not-among c.cue_pid p (switched_at (setting_of c filed) past) h (faultless_is_sound (setting_of c filed) past good).apart.cue
+
+-- a packet of cues
+pub cue-of : (c : Config) (filed : ℕ → Option Advertisement) (p : List ℕ) (past : List (List ℕ)) → first_fault (reading_cues c) past ≡ None → on c.cue_pid p ≡ true → IsCueOf (setting_of c filed) p past
+cue-of c filed p past good h = record {
+  cue = h;
+  other = cue-switched c filed p past good h;
+  separate = separate (setting_of c filed) past good;
+  steady = libraries_are_steady filed (streams_at (setting_of c filed) past);
+}
+
+pub map-switched : (c : Config) (filed : ℕ → Option Advertisement) (p : List ℕ) (past : List (List ℕ)) (l : Listed) → first_fault (reading_cues c) past ≡ None → listed (Some c.program) past ≡ Some l
+    → on l.pid p ≡ true → is_switched (switched_at (setting_of c filed) past) p ≡ false
+map-switched c filed p past l good e h = not-among l.pid p (switched_at (setting_of c filed) past) h ((faultless_is_sound (setting_of c filed) past good).apart.pmt l e)
+
+-- ---- a packet of a stream
+
+begins-one-is : (pids : List ℕ) (p : List ℕ) (past : List (List ℕ)) (i pid : ℕ) → first_on pids p ≡ Some (i, pid) → begins_one pids p past ≡ begins pid p past
+begins-one-is pids p past i pid h = begins_is p past pids ∙ first_of (λ q. begins q p past) p (begins_needs p past) pids (i, pid) h
+
+both-parts : (a b : Bool) → (a && b) ≡ true → (a ≡ true) × (b ≡ true)
+both-parts true b h = (refl, h)
+both-parts false b h = absurd (true≢false (sym h))
+
+abbrev pub is-start : StreamPacket → Bool
+is-start (Start begun) = true
+is-start More = false
+is-start Repeat = false
+is-start Lead = false
+is-start NoPayload = false
+
+module _ (c : Config) (filed : ℕ → Option Advertisement) (p : List ℕ) (past : List (List ℕ)) (good : first_fault (reading_cues c) past ≡ None) (i : ℕ) where
+  abbrev k : Setting
+  k = setting_of c filed
+
+  abbrev behind : List (List ℕ)
+  behind = behind_at (setting_of c filed) past
+
+  -- what the follower says of it, where it begins no unit
+  pub quiet-one : (x : StreamPacket) → is-start x ≡ false → IsPlace (places.Stream i x) (reading_cues c) p past → begins_one (switched_at k past) p behind ≡ false
+  quiet-one (Start begun) no-start h = absurd (true≢false no-start)
+  quiet-one More no-start h =
+      begins-one-is (switched_at k past) p behind i h.2.0 h.2.1.0 ∙ begins_not h.2.0 p behind h.2.1.1.1
+  quiet-one Repeat no-start h =
+      begins-one-is (switched_at k past) p behind i h.2.0 h.2.1.0 ∙ begins_repeat h.2.0 p behind h.2.1.1.1
+  quiet-one Lead no-start h =
+      begins-one-is (switched_at k past) p behind i h.2.0 h.2.1.0 ∙ begins_not h.2.0 p behind h.2.1.1.1
+  quiet-one NoPayload no-start h =
+      begins-one-is (switched_at k past) p behind i h.2.0 h.2.1.0 ∙ begins_off h.2.0 p behind h.2.1.1
+
+  pub packet-start : (begun : Option Begun) → IsPlace (places.Stream i (Start begun)) (reading_cues c) p past → IsPacketOf k i false p past
+  packet-start begun h =
+      let original-is = (both-parts (original h.2.0 p behind) (unit_start p) h.2.1.1.0).0 in
+      record {
+        pid = h.2.0;
+        of = first-there (switched_at k past) p (i, h.2.0) h.2.1.0;
+        separate = separate k past good;
+        payload_is = (both-parts (payload_on h.2.0 p) (not (repeats h.2.0 p behind)) original-is).0;
+        repeat = sym (ap not original-is);
+        cue = h.0;
+      }
+
+  pub packet-more : IsPlace (places.Stream i More) (reading_cues c) p past → IsPacketOf k i false p past
+  packet-more h = record {
+    pid = h.2.0;
+    of = first-there (switched_at k past) p (i, h.2.0) h.2.1.0;
+    separate = separate k past good;
+    payload_is = (both-parts (payload_on h.2.0 p) (not (repeats h.2.0 p behind)) h.2.1.1.0).0;
+    repeat = sym (ap not h.2.1.1.0);
+    cue = h.0;
+  }
+
+  pub packet-repeat : IsPlace (places.Stream i Repeat) (reading_cues c) p past → IsPacketOf k i true p past
+  packet-repeat h = record {
+    pid = h.2.0;
+    of = first-there (switched_at k past) p (i, h.2.0) h.2.1.0;
+    separate = separate k past good;
+    payload_is = h.2.1.1.0;
+    repeat = sym (ap not (ap (λ b. b && not (repeats h.2.0 p behind)) h.2.1.1.0 ∙ ap not h.2.1.1.1));
+    cue = h.0;
+  }
+
+  none-in : (a b d : Bool) → d ≡ false → b ≡ false → (a && (b || d)) ≡ false
+  none-in true b d h m = ap (λ x. x || d) m ∙ h
+  none-in false b d h m = refl
+
+  pub kept-lead : IsPlace (places.Stream i Lead) (reading_cues c) p past → IsKeptOf k i p past
+  kept-lead h = record {
+    pid = h.2.0;
+    of = first-there (switched_at k past) p (i, h.2.0) h.2.1.0;
+    separate = separate k past good;
+    on_pid = first_is_on (switched_at k past) p (i, h.2.0) h.2.1.0;
+    stays = none-in (payload_on h.2.0 p) (begins h.2.0 p behind) (in_unit h.2.0 behind) h.2.1.1.2 (begins_not h.2.0 p behind h.2.1.1.1);
+    cue = h.0;
+  }
+
+  pub kept-empty : IsPlace (places.Stream i NoPayload) (reading_cues c) p past → IsKeptOf k i p past
+  kept-empty h = record {
+    pid = h.2.0;
+    of = first-there (switched_at k past) p (i, h.2.0) h.2.1.0;
+    separate = separate k past good;
+    on_pid = first_is_on (switched_at k past) p (i, h.2.0) h.2.1.0;
+    stays = ap (λ b. b && in_unit h.2.0 (p ∷ behind)) h.2.1.1;
+    cue = h.0;
+  }
+
+  -- it stays whatever is played
+  pub kept-of : (x : StreamPacket) → (x ≡ Lead) ⊎ (x ≡ NoPayload) → IsPlace (places.Stream i x) (reading_cues c) p past → IsKeptOf k i p past
+  kept-of x (inl e) h = kept-lead (subst (λ y. IsPlace (places.Stream i y) (reading_cues c) p past) e h)
+  kept-of x (inr e) h = kept-empty (subst (λ y. IsPlace (places.Stream i y) (reading_cues c) p past) e h)
+
+pub no-start-kept : (x : StreamPacket) → (x ≡ Lead) ⊎ (x ≡ NoPayload) → is-start x ≡ false
+no-start-kept x (inl e) = ap is-start e
+no-start-kept x (inr e) = ap is-start e
+
+-- the stamp of a unit that begins
+pub stamp-told : (begun : Option Begun) (high : Option Rattle.std.specs.Prelude.ℤ) (s : Option ℕ) → Tells begun high s → s ≡ option_map (λ (b : Begun). b.pts) begun
+stamp-told None high s h = h
+stamp-told (Some b) high s h = h.0
+
+-- its streams stay
+streams-stay : (k : Setting) (p : List ℕ) (past : List (List ℕ)) (i pid : ℕ) → slice_get (switched_at k past) i ≡ Some pid → streams_at k (p ∷ past) ≡ streams_at k past
+streams-stay k p past i pid h = by (known_map (Some k.program) past) refl
+  where
+    by : (o : Option ProgramMap) → known_map (Some k.program) past ≡ o → streams_at k (p ∷ past) ≡ streams_at k past
+    by None known = absurd (let none : None ≡ Some pid = sym (ap (λ o. slice_get (pids_of (option_map program_in o)) i) known) ∙ h in cc)
+    by (Some m) known = ap (λ o. streams_of_program (option_map program_in o)) (known_stays (Some k.program) p past m known ∙ sym known)
+
+as-many : (o : Option Program) → length (pids_of o) ≡ length (streams_of_program o)
+as-many None = refl
+as-many (Some r) = length-map r.streams (λ (s : ListedStream). s.pid)
+
+module _ (c : Config) (filed : ℕ → Option Advertisement) (p : List ℕ) (past : List (List ℕ)) (i : ℕ) (x : StreamPacket) (h : IsPlace (places.Stream i x) (reading_cues c) p past) where
+  pub own-stream : is_switched (switched_at (setting_of c filed) past) p ≡ true
+  own-stream = one-first (switched_at (setting_of c filed) past) p i h.2.0 h.2.1.0
+
+  listed-now : streams_at (setting_of c filed) (p ∷ past) ≡ streams_at (setting_of c filed) past
+  listed-now = streams-stay (setting_of c filed) p past i h.2.0 (first-there (switched_at (setting_of c filed) past) p (i, h.2.0) h.2.1.0)
+
+  pub within-streams : (streams : List ListedStream) → streams ≡ streams_at (setting_of c filed) (p ∷ past) → i < length streams
+  within-streams streams is =
+      let w : i < length (switched_at (setting_of c filed) past) = first_within (switched_at (setting_of c filed) past) p (i, h.2.0) h.2.1.0 in
+      let n = as-many (program_of (Some c.program) past) in
+      let e : length streams ≡ length (streams_at (setting_of c filed) past) = ap length (is ∙ listed-now) in
+      omega (arith, w, n, e)
+
+-- a unit begins
+pub begins-in : (c : Config) (filed : ℕ → Option Advertisement) (p : List ℕ) (past : List (List ℕ)) (i : ℕ) (begun : Option Begun) (time now : Option ℕ) (streams : List ListedStream)
+    → first_fault (reading_cues c) past ≡ None → network_fault (reading_cues c) p past ≡ None → IsPlace (places.Stream i (Start begun)) (reading_cues c) p past
+    → time ≡ option_map (λ (b : Begun). b.pts) begun → now ≡ option_map ring_of (high_at (setting_of c filed) (p ∷ past)) → streams ≡ streams_at (setting_of c filed) (p ∷ past)
+    → BeginsIn (setting_of c filed) filed streams i time now p past
+begins-in c filed p past i begun time now streams good sound h time-is now-is streams-is = record {
+  pid = h.2.0;
+  of = first-there (switched_at (setting_of c filed) past) p (i, h.2.0) h.2.1.0;
+  begins_it = h.2.1.1.0;
+  stamp_is = stamp-told begun (high (switched_at (setting_of c filed) past) (behind_at (setting_of c filed) past)) (stamp p) h.2.1.1.1 ∙ sym time-is;
+  high_is = now-is;
+  sound = sound-unit c filed p past sound;
+  cue = h.0;
+  separate = separate (setting_of c filed) past good;
+  listed_is = streams-is ∙ listed-now c filed p past i (Start begun) h;
+  adverts_are = refl;
+  packed_is = refl;
+}
+
+-- a packet that passes as it is: one marked in error, or of no PID that the switch touches
+pub record Passes (c : Config) (filed : ℕ → Option Advertisement) (p : List ℕ) (past : List (List ℕ)) : Type 0 where
+  pub cue : on c.cue_pid p ≡ false
+  pub map : on_map (listed (Some c.program) past) p ≡ false
+  pub other : is_switched (switched_at (setting_of c filed) past) p ≡ false
+
+pub passes : (c : Config) (filed : ℕ → Option Advertisement) (p : List ℕ) (past : List (List ℕ)) (place : Place) → (place ≡ places.Marked) ⊎ (place ≡ places.Other) → IsPlace place (reading_cues c) p past
+    → Passes c filed p past
+passes c filed p past place (inl e) h =
+    let marked : in_error p ≡ true = subst (λ x. IsPlace x (reading_cues c) p past) e h in
+    record { cue = error-off c.cue_pid p marked; map = marked-map (Some c.program) p past marked; other = error-none (switched_at (setting_of c filed) past) p marked }
+passes c filed p past place (inr e) h =
+    let other : IsPlace places.Other (reading_cues c) p past = subst (λ x. IsPlace x (reading_cues c) p past) e h in
+    record { cue = other.1; map = other.2; other = none-first (switched_at (setting_of c filed) past) p other.3 }
+
+-- the map's PID, where the packet is on it
+pub record OnMap (o : Option Listed) (p : List ℕ) : Type 0 where
+  pub listed_as : Listed
+  pub is : o ≡ Some listed_as
+  pub here : on listed_as.pid p ≡ true
+
+pub on-map : (o : Option Listed) (p : List ℕ) → on_map o p ≡ true → OnMap o p
+on-map None p h = absurd (true≢false (sym h))
+on-map (Some l) p h = record { listed_as = l; is = refl; here = h }

@@ -1,0 +1,19 @@
+use Rattle.std.proofs.Common.{refl, [], subst}
+use Rattle.program_follower.specs.Following.{FollowerStandsFor}
+use Rattle.splice_plans.specs.Adverts.{setting_of}
+use Rattle.splice_switch.proofs.QuietLemmas.{count-same}
+use Rattle.splice_switch.proofs.PlayLemmas.{plays-quiet}
+use Rattle.splice_switch.proofs.PremiseLemmas.{separate}
+use Rattle.splice_switch.proofs.NumberLemmas.{go-on-same}
+use Rattle.splice_switch.proofs.OutLemmas.{stream-apart}
+use Rattle.splice_switch.proofs.switch.Switch.new.Goals as goal
+
+pub returns : goal.returns
+returns c = λ filed. record {
+  cue_pid = refl;
+  follower = subst (λ purpose. FollowerStandsFor c.new.result purpose []) c.reading_cues.ensures c.new.ensures;
+  clean = refl;
+  playing = c.new-2.ensures (setting_of c.args.config filed);
+  numbers = record { passed = []; put = c.new-3.ensures; go_on = λ pid. refl };
+  whole = refl;
+}
