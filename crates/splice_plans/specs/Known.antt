@@ -1,5 +1,5 @@
 -- What is known of a network: how far the events have come in each stream, and what is counted of those that are forgotten.
-use Rattle.std.specs.Prelude.{◌≡◌, ℕ, ◌-◌, ◌<◌, List, [], ◌∷◌, ◌++◌, length, map, reverse, replicate, count_by, find, Bool, true, false, not, ◌&&◌, ◌||◌, if◌then◌else◌, slice_index_or, slice_get, ℤ, Option, None, Some, option_map}
+use Rattle.std.specs.Prelude.{◌≡◌, ℕ, ◌-◌, ◌<◌, ◌≤◌, List, [], ◌∷◌, ◌++◌, length, map, reverse, replicate, count_by, find, Bool, true, false, not, ◌&&◌, ◌||◌, if◌then◌else◌, slice_index_or, slice_get, ℤ, Option, None, Some, option_map}
 use Rattle.std.specs.List.{list_any}
 use Rattle.std.specs.Ordering.{int_eq}
 use Rattle.ts_packet.specs.Fields.{on, payload_on}
@@ -16,7 +16,7 @@ use Rattle.armed_events.specs.Obeying.{Obeys}
 use Rattle.armed_events.specs.Valuing.{values_by}
 use Rattle.program_follower.specs.Program.{behind_head}
 use Rattle.splice_laws.specs.Splicing.{PlayedEvent, SliceUnit, Stream, stream, below}
-use Rattle.splice_laws.specs.Streams.{IsOnce}
+use Rattle.splice_laws.specs.Streams.{is_among, IsOnce}
 use Rattle.splice_laws.specs.Settled.{begun_now, closed_now}
 use Rattle.output_laws.specs.Output.{Packing, Move, counter_steps}
 use Rattle.ad_library.specs.Advertisements.{Advertisement}
@@ -83,6 +83,11 @@ module _ (switched : List ℕ) (ads : Adverts) (events : History) where
   plan_at past es start = plan_found past (find (λ e. int_eq e.start start) es)
 
 -- ---- one stream
+
+-- the switched streams: at most eight, each on a PID of its own
+pub record AreSeparate (switched : List ℕ) : Type 0 where
+  pub few : length switched ≤ 8
+  pub alone : (pid : ℕ) → is_among pid switched ≡ true → IsOnce pid switched
 
 pub record Goes (s : SwitchedStream) (packed : Packing) (pid : ℕ) (moves : List Move) (is_in : Bool) : Type 0 where
   pub counter : Counts s.counter (counter_steps packed pid moves)

@@ -1,13 +1,11 @@
 //! One switched stream on its way out.
 
-ghost use Rattle.std.specs.Prelude.{◌≡◌, ◌<◌, ◌++◌, ◌∷◌, [], ℕ, List, Option, Some, is_some, true, false, OnOk, IfErr};
-ghost use Rattle.ts_packet.specs.Fields.{payload, pcr, pid_of, renumbered};
-ghost use Rattle.ts_packet.specs.Clock.{clock_packet};
+ghost use Rattle.std.specs.Prelude.{◌≡◌, ◌<◌, ◌++◌, ◌∷◌, [], ℕ, List, Option, is_some, true, false, OnOk, IfErr};
+ghost use Rattle.ts_packet.specs.Fields.{payload, renumbered};
 ghost use Rattle.ts_packet.specs.Numbering.{Step, Kept, Counts, moved, number_out};
 ghost use Rattle.ts_packet.specs.Sinks.{Blamed};
 ghost use Rattle.ts_packet.specs.Transfers.{WentWell};
-ghost use Rattle.output_laws.specs.Output.{clock_alone};
-ghost use Rattle.splice_plans.specs.Counting.{left_steps};
+ghost use Rattle.splice_plans.specs.Counting.{left_steps, steps_behind, left_place};
 
 use ts_packet::pcr_only::pcr_only;
 use ts_packet::{Counter, Packet, PacketSink, PutFault};
@@ -57,25 +55,27 @@ impl SwitchedStream {
         sink.put(&packet.with_counter(number))
     }
 
-    /// Leaves out a payload packet, and puts its clock reference alone, where it has one. A duplicate that is left out is not counted.
+    /// Leaves out a packet, and puts its clock reference alone, where it has one. A packet without payload is kept, and a duplicate that is
+    /// left out is not counted.
     pub fn leave<S: PacketSink>(
         &mut self,
         packet: &Packet,
         is_repeat: bool,
         sink: &mut S,
     ) -> Result<(), PutFault>
-        requires { is_some (payload packet.now) ≡ true }
         ensures leads { S.leads sink.old sink.new }
         ensures ok { (start : Option (List ℕ)) (ps : List (List ℕ)) (steps : List Step) → S.holds sink.old start ps → Counts self.old.counter steps →
-            OnOk result (S.holds sink.new start (ps ++ clock_alone (pid_of packet.now) (number_out packet.now (left_steps is_repeat packet.now steps)) (pcr packet.now))) }
-        ensures counts { (steps : List Step) → Counts self.old.counter steps → Counts self.new.counter (left_steps is_repeat packet.now steps) }
+            OnOk result (S.holds sink.new start (ps ++ left_place is_repeat packet.now steps)) }
+        ensures counts { (steps : List Step) → Counts self.old.counter steps → Counts self.new.counter (steps_behind is_repeat packet.now steps) }
         ensures leaving { self.new.is_leaving ≡ self.old.is_leaving }
         ensures err { (start : Option (List ℕ)) (ps : List (List ℕ)) (steps : List Step) → S.holds sink.old start ps → Counts self.old.counter steps →
-            IfErr result (λ f. (clock : List ℕ) × (pcr packet.now ≡ Some clock)
-            × S.fails sink.new start ps (clock_packet (pid_of packet.now) (number_out packet.now (left_steps is_repeat packet.now steps)) clock) f) }
+            IfErr result (λ f. (q : List ℕ) × (left_place is_repeat packet.now steps ≡ q ∷ []) × S.fails sink.new start ps q f) }
         ensures well { OnOk result (WentWell (S.counts sink.old) (S.counts sink.new)) }
         ensures blamed { IfErr result (λ f. Blamed f (S.counts sink.old) (S.counts sink.new) (S.is_full sink.new)) }
     {
+        if !packet.has_payload() {
+            return self.keep(packet, sink);
+        }
         let number = self.number_left(packet, is_repeat);
         match pcr_only(packet, number) {
             None => Ok(()),

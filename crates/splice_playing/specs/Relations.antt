@@ -16,7 +16,6 @@ use Rattle.armed_events.specs.Obeying.{Obeys}
 use Rattle.armed_events.specs.Valuing.{values_by}
 use Rattle.program_follower.specs.Program.{behind_head}
 use Rattle.splice_laws.specs.Splicing.{PlayedEvent, SliceUnit, Stream, stream, below}
-use Rattle.splice_laws.specs.Streams.{IsOnce}
 use Rattle.splice_laws.specs.Settled.{begun_now, closed_now}
 use Rattle.output_laws.specs.Output.{Packing, Move, counter_steps}
 use Rattle.ad_library.specs.Advertisements.{Advertisement}
@@ -31,7 +30,7 @@ use Rattle.splice_plans.specs.Switching.{Setting, puts_before, fate, moves, swit
 use Rattle.splice_plans.specs.Reporting.{Counts as Reported, ReportIs, is_not_fitted}
 use Rattle.splice_plans.specs.Turning.{waiting}
 use Rattle.splice_plans.specs.Adverts.{adverts_of, packed_units}
-use Rattle.splice_plans.specs.Known.{nothing_known, plan_known, part_known, is_crossed_known, AllGo, adverts_at, behind_at, plans_at, inside_at, moves_at, puts_at, counts_known, is_forgotten}
+use Rattle.splice_plans.specs.Known.{nothing_known, plan_known, part_known, is_crossed_known, AllGo, AreSeparate, adverts_at, behind_at, plans_at, inside_at, moves_at, puts_at, counts_known, is_forgotten}
 
 -- WHAT IT STANDS FOR, behind a past
 pub record PlaysFor (playing : Playing) (k : Setting) (past : List (List ℕ)) : Type 0 where
@@ -48,6 +47,8 @@ pub record BeginsIn (k : Setting) (filed : ℕ → Option Advertisement) (listed
   pub stamp_is : stamp p ≡ time
   pub high_is : high ≡ option_map ring_of (high_at k (p ∷ past))
   pub sound : unit_fault (switched_at k past) p (behind_at k past) ≡ None
+  pub cue : on k.cue_pid p ≡ false
+  pub separate : AreSeparate (switched_at k past)
   pub listed_is : listed ≡ streams_at k past
   pub adverts_are : k.adverts ≡ adverts_of filed
   pub packed_is : k.packed ≡ packed_units
@@ -70,7 +71,7 @@ pub record PlaysBehind (playing : Playing) (k : Setting) (p : List ℕ) (past : 
 pub record IsPacketOf (k : Setting) (number : ℕ) (is_repeat : Bool) (p : List ℕ) (past : List (List ℕ)) : Type 0 where
   pub pid : ℕ
   pub of : slice_get (switched_at k past) number ≡ Some pid
-  pub alone : IsOnce pid (switched_at k past)
+  pub separate : AreSeparate (switched_at k past)
   pub payload_is : payload_on pid p ≡ true
   pub repeat : is_repeat ≡ not (original pid p (behind_at k past))
   pub cue : on k.cue_pid p ≡ false
@@ -79,13 +80,14 @@ pub record IsPacketOf (k : Setting) (number : ℕ) (is_repeat : Bool) (p : List 
 pub record IsKeptOf (k : Setting) (number : ℕ) (p : List ℕ) (past : List (List ℕ)) : Type 0 where
   pub pid : ℕ
   pub of : slice_get (switched_at k past) number ≡ Some pid
-  pub alone : IsOnce pid (switched_at k past)
+  pub separate : AreSeparate (switched_at k past)
   pub on_pid : on pid p ≡ true
   pub stays : (payload_on pid p && in_unit pid (p ∷ behind_at k past)) ≡ false
   pub cue : on k.cue_pid p ≡ false
 
 -- the network ends with these streams, and with these advertisements for them
 pub record EndsWith (k : Setting) (filed : ℕ → Option Advertisement) (listed : List ListedStream) (past : List (List ℕ)) : Type 0 where
+  pub separate : AreSeparate (switched_at k past)
   pub listed_is : listed ≡ streams_at k past
   pub adverts_are : k.adverts ≡ adverts_of filed
   pub packed_is : k.packed ≡ packed_units

@@ -1,6 +1,6 @@
 //! The events in the switched streams: which have begun, which are over, and what has gone out of their slices.
 
-ghost use Rattle.std.specs.Prelude.{◌≡◌, ◌<◌, ◌≤◌, ◌+◌, ◌%◌, ◌++◌, ◌∷◌, [], ℕ, ℤ, List, length, take, slice_index_or, Option, None, OnOk, IfErr, true, false, is_some};
+ghost use Rattle.std.specs.Prelude.{◌≡◌, ◌<◌, ◌≤◌, ◌+◌, ◌%◌, ◌++◌, ◌∷◌, [], ℕ, ℤ, List, length, take, slice_index_or, Option, None, OnOk, IfErr, true, false};
 ghost use Rattle.ts_packet.specs.Numbering.{Step, Counts};
 ghost use Rattle.unit_stream.specs.UnitPackets.{put_in};
 ghost use Rattle.event_table.specs.Standing.{Standing, IsTimeAt};
@@ -9,7 +9,7 @@ ghost use Rattle.event_table.specs.Tables.{StandsFor, high_of, values_of};
 ghost use Rattle.splice_plans.specs.Parts.{KeepsEvents, beside, IsReached};
 ghost use Rattle.splice_plans.specs.Fronts.{IsNearTime, IsOther, closing_packets, closed_plans, is_left, AllCount, all_running, running_of, all_ran};
 ghost use Rattle.ts_packet.specs.Sinks.{Blamed};
-ghost use Rattle.ts_packet.specs.Fields.{on, payload};
+ghost use Rattle.ts_packet.specs.Fields.{on};
 ghost use Rattle.ts_packet.specs.Transfers.{WentWell};
 ghost use Rattle.outgoing_packets.specs.Numbers.{FrontFails};
 ghost use Rattle.ad_library.specs.Library.{held};
@@ -229,7 +229,6 @@ impl Playing {
         is_repeat: bool,
         sink: &mut S,
     ) -> Result<(), PutFault>
-        requires { is_some (payload packet.now) ≡ true }
         ensures leads { S.leads sink.old sink.new }
         ensures ok { (start : Option (List ℕ)) (ps : List (List ℕ)) (k : Setting) (past : List (List ℕ)) → S.holds sink.old start ps →
             PlaysBefore self.old k packet.now past → IsPacketOf k stream is_repeat packet.now past →
