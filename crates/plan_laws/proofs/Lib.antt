@@ -1,1 +1,3 @@
-mod StageLemmas
+pub mod StageLemmas
+pub mod ToldLemmas
+pub mod UnitLemmas

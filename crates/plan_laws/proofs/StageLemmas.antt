@@ -54,7 +54,7 @@ turned_by plays s v Running = entered_by v
 turned_by plays s v Closing = Over
 turned_by plays s v Over = Over
 
-turned-is : (e : Standing) (t : ℤ) (plays : Bool) (stage : Stage) → turned e t plays stage ≡ turned_by plays (int_le e.start t) (covers t e) stage
+pub turned-is : (e : Standing) (t : ℤ) (plays : Bool) (stage : Stage) → turned e t plays stage ≡ turned_by plays (int_le e.start t) (covers t e) stage
 turned-is e t plays Waiting = refl
 turned-is e t plays Running = refl
 turned-is e t plays Closing = refl
@@ -65,7 +65,7 @@ module _ (s l : Bool) where
   abbrev v : Bool
   v = s && l
 
-  step-stage : (c b : Bool) → (c ≡ true → b ≡ true) → stage_by (c || ((b || s) && not v)) (b || s) ≡ shut (turned_by true s v (stage_by c b))
+  pub step-stage : (c b : Bool) → (c ≡ true → b ≡ true) → stage_by (c || ((b || s) && not v)) (b || s) ≡ shut (turned_by true s v (stage_by c b))
   step-stage true true h = refl
   step-stage true false h = absurd (true≢false (sym (h refl)))
   step-stage false true h = by s l
@@ -81,7 +81,7 @@ module _ (s l : Bool) where
       by true false = refl
       by false l = refl
 
-  step-closing : (c b : Bool) → (c ≡ true → b ≡ true) → is_closing (turned_by true s v (stage_by c b)) ≡ ((c || ((b || s) && not v)) && not c)
+  pub step-closing : (c b : Bool) → (c ≡ true → b ≡ true) → is_closing (turned_by true s v (stage_by c b)) ≡ ((c || ((b || s) && not v)) && not c)
   step-closing true true h = refl
   step-closing true false h = absurd (true≢false (sym (h refl)))
   step-closing false true h = by s l

@@ -1,0 +1,3 @@
+use Rattle.plan_laws.proofs.UnitLemmas.{stamped-stage}
+use Rattle.plan_laws.proofs.ToldLemmas.{all-told}
+use Rattle.plan_laws.proofs.laws.others_lie_as_before.Goals as goal
