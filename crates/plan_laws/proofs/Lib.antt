@@ -1,3 +1,4 @@
 pub mod StageLemmas
 pub mod ToldLemmas
 pub mod UnitLemmas
+pub mod UnstampedLemmas
