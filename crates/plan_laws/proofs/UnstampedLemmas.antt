@@ -130,14 +130,14 @@ module _ (r : Stream) (k : IsStream r) (x : PlayedEvent) (known : List (List ℕ
   now-inside : (past : List (List ℕ)) → begun_now r x known past ≡ true → closed_now r x known past ≡ false → at_or_past x.start (r.time past) ≡ true
   now-inside [] b c = absurd (true≢false (sym b))
   now-inside (p ∷ past) b c = by_test (r.begins p past)
-      (λ g. held-past x (known (p ∷ past)) (r.time (p ∷ past)) (open (closed_now r x known past) (begun_now r x known (p ∷ past)) (r.begins p past) (holds_now x (known (p ∷ past)) (r.time (p ∷ past))) b g c))
+      (λ g. held-past x (known (p ∷ past)) (r.time (p ∷ past)) (opened (closed_now r x known past) (begun_now r x known (p ∷ past)) (r.begins p past) (holds_now x (known (p ∷ past)) (r.time (p ∷ past))) b g c))
       (λ g. ap (at_or_past x.start) (k.steady p past g) ∙ now-inside past (sym (begun-stays r x known p past g) ∙ b) (sym (closed-stays r x known p past g) ∙ c))
     where
-      open : (c b g h : Bool) → b ≡ true → g ≡ true → (c || (b && (g && not h))) ≡ false → h ≡ true
-      open true b g h i j l = absurd (true≢false l)
-      open false true true h i j l = flip-back h l
-      open false true false h i j l = absurd (true≢false (sym j))
-      open false false g h i j l = absurd (true≢false (sym i))
+      opened : (c b g h : Bool) → b ≡ true → g ≡ true → (c || (b && (g && not h))) ≡ false → h ≡ true
+      opened true b g h i j l = absurd (true≢false l)
+      opened false true true h i j l = flip-back h l
+      opened false true false h i j l = absurd (true≢false (sym j))
+      opened false false g h i j l = absurd (true≢false (sym i))
 
   below-was : (p : List ℕ) (past : List (List ℕ)) (t : Option ℤ) → begun_now r x known past ≡ true → below_known r x known (known (p ∷ past)) t ≡ true → below_known r x known (known past) t ≡ true
   below-was p past t b h = by (below-earlier r x known (known past) (known (p ∷ past)) t (r.high past) (falls p past b) h)
@@ -205,25 +205,25 @@ module _ (r : Stream) (k : IsStream r) (ads : Adverts) (e : Standing) (known : L
   pub unstamped-stage : stage_known r x known (p ∷ past) ≡ stage_known r x known past
   unstamped-stage = ap (λ c. stage_by c (begun_now r x known (p ∷ past))) unstamped-closed ∙ ap (stage_by (closed_now r x known past)) unstamped-begun
 
+  abbrev crosses_at : Stage → Bool
+  crosses_at s = crosses_known r x known s (known (p ∷ past)) (r.time (p ∷ past))
+
   pub unstamped-crossed : crossed_known r x known (p ∷ past) ≡ crossed_known r x known past
   unstamped-crossed = by_test (crossed_known r x known past)
       (λ y. or-one (crossed_known r x known past) _ y ∙ sym y)
-      (λ n. none (crossed_known r x known past) (r.begins p past) _ (by_test (closed_now r x known past) (over n) open))
+      (λ n. none (crossed_known r x known past) (r.begins p past) _ (by_test (closed_now r x known past) (over n) opened))
     where
       none : (c g z : Bool) → z ≡ false → (c || (g && z)) ≡ c
       none true g z h = refl
       none false true z h = h
       none false false z h = refl
 
-      abbrev crosses_at : Stage → Bool
-      crosses_at s = crosses_known r x known s (known (p ∷ past)) (r.time (p ∷ past))
-
       over : crossed_known r x known past ≡ false → closed_now r x known past ≡ true → crosses_at (stage_known r x known past) ≡ false
       over n c = ap crosses_at (ap (λ c. stage_by c (begun_now r x known past)) c)
           ∙ ap (λ o. below_known r x known o (r.time (p ∷ past))) (now ∙ sym before) ∙ ap (below_known r x known (known past)) same
           ∙ by_test (below_known r x known (known past) (r.time past)) (λ y. absurd (true≢false (sym (crossed-already r k x known falls past c y) ∙ n))) (λ z. z)
 
-      open : closed_now r x known past ≡ false → crosses_at (stage_known r x known past) ≡ false
-      open c = ap crosses_at (ap (λ c. stage_by c (begun_now r x known past)) c) ∙ by_test (begun_now r x known past)
+      opened : closed_now r x known past ≡ false → crosses_at (stage_known r x known past) ≡ false
+      opened c = ap crosses_at (ap (λ c. stage_by c (begun_now r x known past)) c) ∙ by_test (begun_now r x known past)
           (λ b. ap crosses_at (ap (stage_by false) b) ∙ ap (below x.start) same ∙ past-not-below x.start (r.time past) (now-inside r k x known falls past b c))
           (λ b. ap crosses_at (ap (stage_by false) b))
