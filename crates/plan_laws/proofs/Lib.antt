@@ -4,3 +4,4 @@ pub mod UnitLemmas
 pub mod UnstampedLemmas
 pub mod DueLemmas
 pub mod PlayedLemmas
+pub mod EventLemmas
