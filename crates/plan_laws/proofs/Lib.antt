@@ -5,3 +5,5 @@ pub mod UnstampedLemmas
 pub mod DueLemmas
 pub mod PlayedLemmas
 pub mod EventLemmas
+pub mod PartLemmas
+pub mod PlanLemmas
