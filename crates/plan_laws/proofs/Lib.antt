@@ -7,3 +7,4 @@ pub mod PlayedLemmas
 pub mod EventLemmas
 pub mod PartLemmas
 pub mod PlanLemmas
+pub mod RunningLemmas

@@ -47,7 +47,7 @@ get-or (y ∷ xs) (suc n) x h = get-or xs n x h
 pub contained : (xs : List ℕ) (n x : ℕ) → slice_get xs n ≡ Some x → Contains xs x
 contained xs n x h = (n, get-within xs n x h, get-or xs n x h)
 
-make : Stage → ℕ → Part
+abbrev make : Stage → ℕ → Part
 make stage sent = record { stage = stage; sent = sent }
 
 -- a unit begins in some stream where it does in one of them
@@ -125,7 +125,7 @@ pick-second : {A : Type 0} (x y : A) (b : Bool) → b ≡ false → (if b then x
 pick-second x y true h = absurd (true≢false h)
 pick-second x y false h = refl
 
-shut-flags : (a b : Bool) → (a && not b) ≡ true → (a ≡ true) × (b ≡ false)
+pub shut-flags : (a b : Bool) → (a && not b) ≡ true → (a ≡ true) × (b ≡ false)
 shut-flags true true h = absurd (true≢false (sym h))
 shut-flags true false h = (refl, refl)
 shut-flags false b h = absurd (true≢false (sym h))
@@ -216,7 +216,7 @@ module _ (filed : ℕ → Option Advertisement) (streams : List Stream) (events 
     pub pid_is : of.pid ≡ q
     pub placed : kind_and_place q [] streams ≡ Some (of.kind, count_of_kind of.kind (take i streams))
 
-  falls : IsHistory (high switched) events → (e : Standing) (i q : ℕ) → slice_get switched i ≡ Some q → EndsFall (stream switched q) (as_played e) (known e)
+  pub falls : IsHistory (high switched) events → (e : Standing) (i q : ℕ) → slice_get switched i ≡ Some q → EndsFall (stream switched q) (as_played e) (known e)
   falls h e i q is = ends_never_rise switched q (contained switched i q is) ads (libraries_are_steady filed streams) events h (as_played e)
 
   slice-is : (e : Standing) (i q : ℕ) (of : Stream) → IsOf i q of → up_to_end (end_of e) (ads.units e q) ≡ as_played_units e.start (filed e.program) (slice_filed e.start of.kind (count_of_kind of.kind (take i streams)) e.length (filed e.program))
