@@ -8,3 +8,4 @@ pub mod EventLemmas
 pub mod PartLemmas
 pub mod PlanLemmas
 pub mod RunningLemmas
+pub mod StandingLemmas
