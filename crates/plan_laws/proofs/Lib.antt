@@ -9,3 +9,5 @@ pub mod PartLemmas
 pub mod PlanLemmas
 pub mod RunningLemmas
 pub mod StandingLemmas
+pub mod RunLemmas
+pub mod JoinedLemmas

@@ -46,7 +46,7 @@ module _ (filed : ℕ → Option Advertisement) (streams : List Stream) (events 
   abbrev pids : List ℕ
   pids = switched filed streams events p past
 
-  abbrev TellsOf : Standing → Type 0
+  abbrev pub TellsOf : Standing → Type 0
   TellsOf e = Told pids (ads filed streams events p past) events p past e
 
   abbrev pub runs_on : ℕ → Standing → Bool

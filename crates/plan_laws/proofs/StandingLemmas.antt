@@ -31,7 +31,7 @@ module _ (test : Standing → Bool) (P : Standing → Type 0) where
 
 pub all-pass : (test : Standing → Bool) (es : List Standing) → AllByRecursion (λ e. test e ≡ true) (filter test es)
 all-pass test [] = tt
-all-pass test (e ∷ es) = by_test (test e) (λ y. simp y (y, all-pass test es)) (λ y. simp y (all-pass test es))
+all-pass test (e ∷ es) = by_test (test e) (λ y. simp y (refl, all-pass test es)) (λ y. simp y (all-pass test es))
 
 -- ---- the plan of each, by its start
 
