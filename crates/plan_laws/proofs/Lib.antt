@@ -11,3 +11,5 @@ pub mod RunningLemmas
 pub mod StandingLemmas
 pub mod RunLemmas
 pub mod JoinedLemmas
+pub mod TimeLemmas
+pub mod PacketLemmas

@@ -74,7 +74,7 @@ module _ (filed : ℕ → Option Advertisement) (streams : List Stream) (n : ℕ
   abbrev closed_part : Standing → Stage → Part → Part
   closed_part e stage part = if is_closing stage then record { stage = Over; sent = part.sent + left_of e part.sent None } else at_stage stage part
 
-  part-there : (ps : List Part) (c : Bool) → n < length ps → part_of (record { parts = padded ps; is_crossed = c }) n ≡ slice_index_or ps n waiting
+  pub part-there : (ps : List Part) (c : Bool) → n < length ps → part_of (record { parts = padded ps; is_crossed = c }) n ≡ slice_index_or ps n waiting
   part-there ps c l = ap (λ m. slice_index_or (padded ps) m waiting) small ∙ padded-get ps n waiting l
 
   closed-by : (e : Standing) (ps : List Part) (c : Bool) (stage : Stage) (part : Part) → n < length ps
@@ -121,7 +121,7 @@ pick-first : {A : Type 0} (x y : A) (b : Bool) → b ≡ true → (if b then x e
 pick-first x y true h = refl
 pick-first x y false h = absurd (true≢false (sym h))
 
-pick-second : {A : Type 0} (x y : A) (b : Bool) → b ≡ false → (if b then x else y) ≡ y
+pub pick-second : {A : Type 0} (x y : A) (b : Bool) → b ≡ false → (if b then x else y) ≡ y
 pick-second x y true h = absurd (true≢false h)
 pick-second x y false h = refl
 
@@ -219,20 +219,20 @@ module _ (filed : ℕ → Option Advertisement) (streams : List Stream) (events 
   pub falls : IsHistory (high switched) events → (e : Standing) (i q : ℕ) → slice_get switched i ≡ Some q → EndsFall (stream switched q) (as_played e) (known e)
   falls h e i q is = ends_never_rise switched q (contained switched i q is) ads (libraries_are_steady filed streams) events h (as_played e)
 
-  slice-is : (e : Standing) (i q : ℕ) (of : Stream) → IsOf i q of → up_to_end (end_of e) (ads.units e q) ≡ as_played_units e.start (filed e.program) (slice_filed e.start of.kind (count_of_kind of.kind (take i streams)) e.length (filed e.program))
+  pub slice-is : (e : Standing) (i q : ℕ) (of : Stream) → IsOf i q of → up_to_end (end_of e) (ads.units e q) ≡ as_played_units e.start (filed e.program) (slice_filed e.start of.kind (count_of_kind of.kind (take i streams)) e.length (filed e.program))
   slice-is e i q of o =
       ap (λ w. up_to_end (end_of e) (units_at e.start (filed e.program) w)) o.placed ∙ whole-slice e.start of.kind (count_of_kind of.kind (take i streams)) e.length (filed e.program)
 
   module _ (h : IsHistory (high switched) events) (turn : begins_one switched p past ≡ true) (e : Standing) (told : Told switched ads events p past e) where
-    now-end : (q : ℕ) (i : ℕ) → slice_get switched i ≡ Some q → flag_begun e q (p ∷ past) ≡ true → known e (p ∷ past) ≡ Some (end_of e)
+    pub now-end : (q : ℕ) (i : ℕ) → slice_get switched i ≡ Some q → flag_begun e q (p ∷ past) ≡ true → known e (p ∷ past) ≡ Some (end_of e)
     now-end q i is b = by_test (is_played ads e)
         (λ y. told.now ∙ simp y refl)
         (λ n. absurd (true≢false (sym b ∙ none-begun (stream switched q) (as_played e) (known e) (falls h e i q is) (p ∷ past) (told.now ∙ simp n refl))))
 
-    unturned : (i q : ℕ) → slice_get switched i ≡ Some q → (p : List ℕ) (past : List (List ℕ)) → begins_one switched p past ≡ false → begins q p past ≡ false
+    pub unturned : (i q : ℕ) → slice_get switched i ≡ Some q → (p : List ℕ) (past : List (List ℕ)) → begins_one switched p past ≡ false → begins q p past ≡ false
     unturned i q is p past b = none-begins switched i q p past is b
 
-    still : (q : ℕ) (p : List ℕ) (past : List (List ℕ)) → begins_one switched p past ≡ false → high switched (p ∷ past) ≡ high switched past
+    pub still : (q : ℕ) (p : List ℕ) (past : List (List ℕ)) → begins_one switched p past ≡ false → high switched (p ∷ past) ≡ high switched past
     still q p past b = simp b refl
 
     -- the part stays where the stage does
@@ -347,7 +347,7 @@ module _ (filed : ℕ → Option Advertisement) (streams : List Stream) (events 
       in-mixed : i < length (mixed_parts i e)
       in-mixed = let l = length-mixed (map (now_part e) switched) (map (mid_part e) switched) i as-many in let w = in-now in omega (arith, l, w)
 
-      mid-there : part_of (mixed_plan i e) i ≡ mid_part e q
+      pub mid-there : part_of (mixed_plan i e) i ≡ mid_part e q
       mid-there = part-there filed streams i of small (mixed_parts i e) (is_crossed_known switched ads events (p ∷ past) e) in-mixed
           ∙ get-mixed (map (now_part e) switched) (map (mid_part e) switched) i waiting in-now as-many ∙ get-map (mid_part e) switched i q waiting o.there
 

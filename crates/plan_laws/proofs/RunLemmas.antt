@@ -151,5 +151,5 @@ module _ (filed : ℕ → Option Advertisement) (streams : List Stream) (events 
     behind-are of is =
         ap (λ plans. all_ran filed streams (high pids (p ∷ past)) es plans 0 streams) (between-are of is)
         ∙ all-streams filed streams events p past h turn streams 0 (all-of [] streams 0 refl refl) es told apart
-        ∙ all-last filed streams events p past h turn (0 + length streams) (sym (length-map streams (λ (x : Stream). x.pid))) es told
+        ∙ all-last filed streams events p past h turn (0 + length streams) (let m = length-map streams (λ (x : Stream). x.pid) in omega (arith, m)) es told
         ∙ sym (plans-are pids ads events (p ∷ past) (events past) (h.apart past) (stands (high pids past)))

@@ -33,10 +33,10 @@ stands-is : (e : Standing) (o h : Option ℤ) → o ≡ Some (end_of e) → stan
 stands-is e o None h s = rw h refl
 stands-is e o (Some a) h s = rw h (lt-same a (forgotten_at e) ∙ s)
 
-holds-is : (e : Standing) (o : Option ℤ) (t : ℤ) (u : Option ℤ) → o ≡ Some (end_of e) → u ≡ Some t → holds_now (as_played e) o u ≡ (int_le e.start t && int_lt t (end_of e))
+pub holds-is : (e : Standing) (o : Option ℤ) (t : ℤ) (u : Option ℤ) → o ≡ Some (end_of e) → u ≡ Some t → holds_now (as_played e) o u ≡ (int_le e.start t && int_lt t (end_of e))
 holds-is e o t u h k = rw (h, k) (ap (λ b. b && lt_z t (end_of e)) (le-same e.start t) ∙ ap (λ b. int_le e.start t && b) (lt-same t (end_of e)))
 
-covers-is : (e : Standing) (t : ℤ) (f : Bool) → (not e.cancelled && f) ≡ true → covers t e ≡ (int_le e.start t && int_lt t (end_of e))
+pub covers-is : (e : Standing) (t : ℤ) (f : Bool) → (not e.cancelled && f) ≡ true → covers t e ≡ (int_le e.start t && int_lt t (end_of e))
 covers-is e t f h = by e.cancelled (int_le e.start t) (int_lt t (end_of e)) h
   where
     by : (c s l : Bool) → (not c && f) ≡ true → (not c && s && l) ≡ (s && l)
@@ -65,7 +65,7 @@ module _ (r : Stream) (ads : Adverts) (e : Standing) (known : List (List ℕ) �
   x = as_played e
 
   module _ (up : stands (r.high past) e ≡ true) where
-    played-begun : is_played ads e ≡ true → begun_now r x known (p ∷ past) ≡ (begun_now r x known past || int_le e.start t)
+    pub played-begun : is_played ads e ≡ true → begun_now r x known (p ∷ past) ≡ (begun_now r x known past || int_le e.start t)
     played-begun y =
         ap (λ s. begun_now r x known past || s)
         (and-true (comes r e.start p past) (stands_now x (known (p ∷ past)) (r.high past)) (stands-is e (known (p ∷ past)) (r.high past) (now ∙ end-played ads e y) up)
@@ -93,7 +93,7 @@ module _ (r : Stream) (ads : Adverts) (e : Standing) (known : List (List ℕ) �
     never-closed : (qs : List (List ℕ)) → known qs ≡ end_if ads e → is_played ads e ≡ false → closed_now r x known qs ≡ false
     never-closed qs k n = none-closed r x known falls qs (k ∙ end-none ads e n)
 
-    never-staged : (qs : List (List ℕ)) → known qs ≡ end_if ads e → is_played ads e ≡ false → stage_known r x known qs ≡ Waiting
+    pub never-staged : (qs : List (List ℕ)) → known qs ≡ end_if ads e → is_played ads e ≡ false → stage_known r x known qs ≡ Waiting
     never-staged qs k n = ap (λ c. stage_by c (begun_now r x known qs)) (never-closed qs k n) ∙ ap (stage_by false) (never-begun qs k n)
 
     waits : is_played ads e ≡ false → turned e t (is_played ads e) (stage_known r x known past) ≡ Waiting
