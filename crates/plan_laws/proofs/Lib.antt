@@ -13,3 +13,4 @@ pub mod RunLemmas
 pub mod JoinedLemmas
 pub mod TimeLemmas
 pub mod PacketLemmas
+pub mod LyingLemmas

@@ -103,7 +103,7 @@ module _ (filed : ℕ → Option Advertisement) (streams : List Stream) (events 
     pub all-found : (es : List Standing) → AllByRecursion Tells es → NoneMeet es
         → (found es ≡ out_after packed_units done (put_on q (flat_map (rule q) es))) × (counter_steps packed_units q (pushed done (put_on q (flat_map (rule q) es))) ≡ put_in (found es) steps)
     all-found [] told m = (refl, refl)
-    all-found (e ∷ es) told m = by_test (runs_on filed streams events p past h turn q e) runs idle
+    all-found (e ∷ es) told m = by_test (runs_on filed streams events p past h turn q e) runs (idle (all-found es told.1 m.2))
       where
         here : runs_on filed streams events p past h turn q e ≡ true → found (e ∷ es) ≡ pair_packets filed streams i of (reached_by top e) steps (e, plan i e)
         here y = ap (found_packets filed streams i of top steps) (pick-first _ _ (runs_in filed streams i of (e, plan i e)) (runs-is filed streams events p past h turn e told.0 i q small of o ∙ y))
@@ -130,9 +130,9 @@ module _ (filed : ℕ → Option Advertisement) (streams : List Stream) (events 
         runs y = (here y ∙ one-out e told.0 y ∙ ap (λ us. out_after packed_units done (put_on q us)) (sym (only y)),
           ap (λ us. counter_steps packed_units q (pushed done (put_on q us))) (only y) ∙ one-steps e told.0 y ∙ ap (λ ps. put_in ps steps) (sym (here y)))
 
-        idle : runs_on filed streams events p past h turn q e ≡ false
+        idle : (found es ≡ out_after packed_units done (put_on q (flat_map (rule q) es))) × (counter_steps packed_units q (pushed done (put_on q (flat_map (rule q) es))) ≡ put_in (found es) steps)
+            → runs_on filed streams events p past h turn q e ≡ false
             → (found (e ∷ es) ≡ out_after packed_units done (put_on q (flat_map (rule q) (e ∷ es)))) × (counter_steps packed_units q (pushed done (put_on q (flat_map (rule q) (e ∷ es)))) ≡ put_in (found (e ∷ es)) steps)
-        idle y =
-            let i = all-found es told.1 m.2 in
+        idle i y =
             (later y ∙ i.0 ∙ ap (λ us. out_after packed_units done (put_on q us)) (sym (rest y)),
             ap (λ us. counter_steps packed_units q (pushed done (put_on q us))) (rest y) ∙ i.1 ∙ ap (λ ps. put_in ps steps) (sym (later y)))

@@ -123,7 +123,7 @@ module _ (filed : ℕ → Option Advertisement) (streams : List Stream) (events 
         longer : (done : List Stream) (of : Stream) (i : ℕ) → i ≡ length done → i + 1 ≡ length (done ++ of ∷ [])
         longer done of i at = let l = length-append done (of ∷ []) in omega (arith, l, at)
 
-    time-same : (st : Option ℕ) → stamp p ≡ st → unit_time pids pid (p ∷ past) ≡ timed (high pids past) st (unit_time pids pid past)
+    pub time-same : (st : Option ℕ) → stamp p ≡ st → unit_time pids pid (p ∷ past) ≡ timed (high pids past) st (unit_time pids pid past)
     time-same st e = pick (begins pid p past) b ∙ ap (λ s. timed (high pids past) s (unit_time pids pid past)) e
       where
         pick : (c : Bool) → c ≡ true → (if c then timed (high pids past) (stamp p) (unit_time pids pid past) else unit_time pids pid past) ≡ timed (high pids past) (stamp p) (unit_time pids pid past)
