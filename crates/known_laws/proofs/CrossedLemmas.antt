@@ -5,7 +5,7 @@ use Rattle.std.proofs.lemmas.Int.{ints}
 use Rattle.std.proofs.lemmas.Bool.{true≢false}
 use Rattle.ts_packet.proofs.Cases.{by_test}
 use Rattle.unit_stream.specs.Times.{begins, high}
-use Rattle.splice_laws.specs.Splicing.{PlayedEvent, Stream, stream, at_or_past, below, holds, stands, comes, passed, begun, closed}
+use Rattle.splice_laws.specs.Splicing.{PlayedEvent, TimedStream, stream, at_or_past, below, holds, stands, comes, passed, begun, closed}
 use Rattle.splice_laws.specs.Laws.{Risen, IsStream}
 use Rattle.splice_laws.specs.Settled.{IsAhead, IsSettled, IsWithin}
 use Rattle.splice_laws.proofs.EndLemmas.{not-ahead}
@@ -103,7 +103,7 @@ quiet-sum c false false a b h i j = rw (i, j, h) refl
 
 -- ---- an edge
 
-module _ (r : Stream) (k : IsStream r) where
+module _ (r : TimedStream) (k : IsStream r) where
   -- a unit below an edge that the stream has passed has crossed it
   edge-crossed : (edge : ℤ) (past : List (List ℕ)) → passed r edge past ≡ true → below edge (r.time past) ≡ true → is_crossed r edge past ≡ true
   edge-crossed edge [] h b = h

@@ -5,7 +5,7 @@ use Rattle.std.specs.List.{list_any}
 use Rattle.std.proofs.lemmas.Bool.{true≢false}
 use Rattle.unit_stream.specs.Times.{begins, begins_one}
 use Rattle.event_table.specs.Standing.{Standing}
-use Rattle.splice_laws.specs.Splicing.{PlayedEvent, SliceUnit, Stream, stream, at_or_past}
+use Rattle.splice_laws.specs.Splicing.{PlayedEvent, SliceUnit, TimedStream, stream, at_or_past}
 use Rattle.splice_laws.specs.Settled.{begun_now, closed_now, stands_now, holds_now}
 use Rattle.splice_plans.specs.declared.plan.Stage.{Stage}
 use Rattle.splice_plans.specs.declared.plan.Stage.TheVariants.{Waiting, Running, Over}
@@ -49,7 +49,7 @@ a_plan parts is_crossed = record { parts = parts; is_crossed = is_crossed }
 pub same-plan : {a b : List Part} {c d : Bool} → a ≡ b → c ≡ d → a_plan a c ≡ a_plan b d
 same-plan h k = rw (h, k) refl
 
-module _ (r : Stream) (x : PlayedEvent) (known : List (List ℕ) → Option ℤ) (p : List ℕ) (past : List (List ℕ)) (none : r.begins p past ≡ false) where
+module _ (r : TimedStream) (x : PlayedEvent) (known : List (List ℕ) → Option ℤ) (p : List ℕ) (past : List (List ℕ)) (none : r.begins p past ≡ false) where
   begun-still : begun_now r x known (p ∷ past) ≡ begun_now r x known past
   begun-still = or-alone (begun_now r x known past) (r.begins p past) (at_or_past x.start (r.time (p ∷ past))) (stands_now x (known (p ∷ past)) (r.high past)) none
 
@@ -62,7 +62,7 @@ module _ (r : Stream) (x : PlayedEvent) (known : List (List ℕ) → Option ℤ)
   pub crossed-still : crossed_known r x known (p ∷ past) ≡ crossed_known r x known past
   crossed-still = or-none (crossed_known r x known past) (r.begins p past) (crosses_known r x known (stage_known r x known past) (known (p ∷ past)) (r.time (p ∷ past))) none
 
-pub sent-still : (turns : Turns) (r : Stream) (x : PlayedEvent) (known : List (List ℕ) → Option ℤ) (units : List SliceUnit) (p : List ℕ) (past : List (List ℕ)) → turns p past ≡ false
+pub sent-still : (turns : Turns) (r : TimedStream) (x : PlayedEvent) (known : List (List ℕ) → Option ℤ) (units : List SliceUnit) (p : List ℕ) (past : List (List ℕ)) → turns p past ≡ false
     → sent_known turns r x known units (p ∷ past) ≡ sent_known turns r x known units past
 sent-still turns r x known units p past h =
     pick (turns p past) (not (closed_now r x known past) && begun_now r x known (p ∷ past)) (sent_of_begun turns r x known units p past) (sent_known turns r x known units past) h

@@ -7,7 +7,7 @@ use Rattle.std.proofs.lemmas.Bool.{true≢false}
 use Rattle.unit_stream.specs.Times.{begins, begins_one, unit_time, high}
 use Rattle.event_table.specs.Standing.{Standing}
 use Rattle.armed_events.specs.Valuing.{values_by}
-use Rattle.splice_laws.specs.Splicing.{PlayedEvent, SliceUnit, Stream, stream, at_or_past}
+use Rattle.splice_laws.specs.Splicing.{PlayedEvent, SliceUnit, TimedStream, stream, at_or_past}
 use Rattle.splice_laws.specs.Settled.{begun_now, closed_now, stands_now, holds_now}
 use Rattle.splice_plans.specs.declared.plan.Stage.{Stage}
 use Rattle.splice_plans.specs.declared.plan.Part.{Part}
@@ -82,7 +82,7 @@ begins-none (pid ∷ pids) p past h = let r = or-parts (begins pid p past) (begi
 
 -- ---- one event in one stream
 
-module _ (r : Stream) (x : PlayedEvent) (known : List (List ℕ) → Option ℤ) (p : List ℕ) (past : List (List ℕ)) (n : r.begins p past ≡ false) where
+module _ (r : TimedStream) (x : PlayedEvent) (known : List (List ℕ) → Option ℤ) (p : List ℕ) (past : List (List ℕ)) (n : r.begins p past ≡ false) where
   begun-same : begun_now r x known (p ∷ past) ≡ begun_now r x known past
   begun-same = or-deep (begun_now r x known past) (r.begins p past) (at_or_past x.start (r.time (p ∷ past))) (stands_now x (known (p ∷ past)) (r.high past)) n
 
@@ -97,7 +97,7 @@ module _ (r : Stream) (x : PlayedEvent) (known : List (List ℕ) → Option ℤ)
   crossed-same : crossed_known r x known (p ∷ past) ≡ crossed_known r x known past
   crossed-same = or-first (crossed_known r x known past) (r.begins p past) (crosses_known r x known (stage_known r x known past) (known (p ∷ past)) (r.time (p ∷ past))) n
 
-sent-same : (turns : Turns) (r : Stream) (x : PlayedEvent) (known : List (List ℕ) → Option ℤ) (units : List SliceUnit) (p : List ℕ) (past : List (List ℕ)) → turns p past ≡ false
+sent-same : (turns : Turns) (r : TimedStream) (x : PlayedEvent) (known : List (List ℕ) → Option ℤ) (units : List SliceUnit) (p : List ℕ) (past : List (List ℕ)) → turns p past ≡ false
     → sent_known turns r x known units (p ∷ past) ≡ sent_known turns r x known units past
 sent-same turns r x known units p past h =
     if-not (turns p past) (not (closed_now r x known past) && begun_now r x known (p ∷ past)) (sent_of_begun turns r x known units p past) (sent_known turns r x known units past) h

@@ -1,0 +1,16 @@
+pub mod StageLemmas
+pub mod ToldLemmas
+pub mod UnitLemmas
+pub mod UnstampedLemmas
+pub mod DueLemmas
+pub mod PlayedLemmas
+pub mod EventLemmas
+pub mod PartLemmas
+pub mod PlanLemmas
+pub mod RunningLemmas
+pub mod StandingLemmas
+pub mod RunLemmas
+pub mod JoinedLemmas
+pub mod TimeLemmas
+pub mod PacketLemmas
+pub mod LyingLemmas
