@@ -1,9 +1,8 @@
 -- Slices for two lengths.
 use Rattle.std.specs.List.{AllByRecursion}
-use Rattle.std.specs.Prelude.{pos, ◌≤ℤ◌, filter}
+use Rattle.std.specs.Prelude.{◌≤ℤ◌}
 use Rattle.std.proofs.Common.{◌≡◌, ℕ, ◌≤◌, List, [], ◌∷◌, ◌++◌, Bool, true, false, refl, sym, ap, ◌∙◌, arith, if◌then◌else◌}
 use Rattle.std.proofs.lemmas.Int.{ints}
-use lib.Signed.{lt_z}
 use Rattle.ts_packet.proofs.Cases.{by_test}
 use Rattle.ad_library.specs.Advertisements.{AdvertUnit, is_below, slice_of}
 use Rattle.ad_library.specs.Laws.{ShorterIsFilter, Rises, ShorterIsFront}
