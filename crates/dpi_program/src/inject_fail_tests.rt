@@ -143,13 +143,23 @@ fn expect_run<R: Files + Net + AllocGlobal + Abort>(
     let want = if last.starts_with("fault") { 1 } else { 0 };
     assert_eq!(rt; status, want, "{size} bytes: {last}");
     let cued = cued(rt.alloc())?;
-    assert!(rt; output.taken.as_slice() == &cued[..size.min(cued.len())], "{size} bytes: {last}");
-    assert!(rt; faults.taken.as_slice().ends_with(last.as_bytes()), "{size} bytes: {last}");
+    assert!(rt;
+        output.taken.as_slice() == &cued[..size.min(cued.len())],
+        "{size} bytes: {last}"
+    );
+    assert!(rt;
+        faults.taken.as_slice().ends_with(last.as_bytes()),
+        "{size} bytes: {last}"
+    );
     Ok(())
 }
 
 /// The name of a script's file.
-fn write_script<R: Env + Files + AllocGlobal>(rt: &R, name: &str, text: &[u8]) -> Result<PathBuf, Fail> {
+fn write_script<R: Env + Files + AllocGlobal>(
+    rt: &R,
+    name: &str,
+    text: &[u8],
+) -> Result<PathBuf, Fail> {
     let script = env::temp_dir(rt)?.join(rt.alloc(), name)?;
     fs::write(rt, script.to_str().ok_or("a name")?, text)?;
     Ok(script)
@@ -166,7 +176,11 @@ fn each_read_fails_in_turn(rt: HostRuntime) -> Result<(), Fail> {
         let mut output = target(rt.alloc(), usize::MAX, false);
         expect_run(&rt, script, front, true, &mut output, out, "fault: Io\n")?;
         let mut output = target(rt.alloc(), usize::MAX, false);
-        let last = if size % 188 == 0 { "refused 0\n" } else { "fault: Truncated\n" };
+        let last = if size % 188 == 0 {
+            "refused 0\n"
+        } else {
+            "fault: Truncated\n"
+        };
         expect_run(&rt, script, front, false, &mut output, out, last)?;
     }
     fs::remove_file(&rt, script)?;
@@ -180,13 +194,37 @@ fn each_write_fails_in_turn(rt: HostRuntime) -> Result<(), Fail> {
     let network = network(rt.alloc())?;
     for room in 0..940 {
         let mut output = target(rt.alloc(), room, true);
-        expect_run(&rt, script, network.as_slice(), false, &mut output, room, "fault: Io\n")?;
+        expect_run(
+            &rt,
+            script,
+            network.as_slice(),
+            false,
+            &mut output,
+            room,
+            "fault: Io\n",
+        )?;
         let mut output = target(rt.alloc(), room, false);
-        expect_run(&rt, script, network.as_slice(), false, &mut output, room, "fault: Stuck\n")?;
+        expect_run(
+            &rt,
+            script,
+            network.as_slice(),
+            false,
+            &mut output,
+            room,
+            "fault: Stuck\n",
+        )?;
     }
     let mut output = target(rt.alloc(), 940, true);
     let last = "messages 1\naccepted 1\nrefused 0\n";
-    expect_run(&rt, script, network.as_slice(), false, &mut output, 940, last)?;
+    expect_run(
+        &rt,
+        script,
+        network.as_slice(),
+        false,
+        &mut output,
+        940,
+        last,
+    )?;
     fs::remove_file(&rt, script)?;
     Ok(())
 }
@@ -201,7 +239,14 @@ fn each_reply_is_lost_in_turn(rt: HostRuntime) -> Result<(), Fail> {
     for room in 0..35 {
         let mut output = target(rt.alloc(), usize::MAX, false);
         let mut faults = target(rt.alloc(), room, true);
-        let status = inject(&rt, script, network.as_slice(), false, &mut output, &mut faults);
+        let status = inject(
+            &rt,
+            script,
+            network.as_slice(),
+            false,
+            &mut output,
+            &mut faults,
+        );
         assert_eq!(rt; status, 1, "room {room}");
         assert!(rt; output.taken.as_slice() == cued.as_slice(), "room {room}");
     }

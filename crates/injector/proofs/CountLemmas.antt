@@ -1,15 +1,14 @@
 -- Messages counted by their replies.
-use Rattle.std.proofs.Common.{◌≡◌, ℕ, ◌+◌, ◌-◌, ◌^◌, ◌<◌, Bool, true, false, cond, List, [], ◌∷◌, length, refl, ap, sym, ◌∙◌, arith}
+use Rattle.std.proofs.Common.{◌≡◌, ℕ, ◌+◌, ◌-◌, ◌^◌, Bool, true, false, cond, List, [], ◌∷◌, length, refl, ap, sym, ◌∙◌, arith}
 use Rattle.std.specs.Prelude.{min, nat_lt, Option, None, Some, Result, Ok, Err}
 use Rattle.scte104_codec.specs.declared.reply.Reply.{Reply}
 use Rattle.scte104_codec.specs.Reading.{MessageReading, init, alive, other, multiple, bad}
 use Rattle.psi_section.specs.Assembling.{capped}
 use Rattle.injector.specs.declared.counts.MessageCounts.{MessageCounts}
 use Rattle.injector.specs.declared.refusal.Refusal.{Refusal}
-use Rattle.injector.specs.declared.refusal.Refusal.TheVariants.{BadSyntax, WrongVersion, WrongIndex, TimeType, UnknownOp, NoRequest, TwoRequests, BadType, Unsupported, TooManyAvails, NoDuration, NoReturn, NoPreRoll, NoClock, InUse, Full, Overlap, NoSuchEvent, TooLate, BadEnd}
-use Rattle.injector.specs.Verdicts.{number_of}
+use Rattle.injector.specs.declared.refusal.Refusal.TheVariants.{BadSyntax}
 use Rattle.injector.specs.Turns.{Turn, Judged, verdict}
-use Rattle.injector.specs.Replies.{reply_with, result_of, reply_to}
+use Rattle.injector.specs.Replies.{reply_with, reply_to}
 use Rattle.injector.specs.Steps.{outcome, is_accepted, is_refused, one_if, messages_in, accepted_in, refused_in}
 use Rattle.injector.specs.Injecting.{CountsAre}
 

@@ -1,6 +1,5 @@
-use Rattle.std.proofs.Common.{sym, ◌∙◌, ◌∷◌}
+use Rattle.std.proofs.Common.{sym, ◌∙◌}
 use Rattle.scte104_codec.specs.Views.{reading_of}
-use Rattle.injector.specs.Turns.{Judged}
 use Rattle.injector.specs.Steps.{turns_in, outcome, is_accepted, has_news}
 use Rattle.injector.proofs.BoundLemmas.{rests-asked, neither}
 use Rattle.injector.proofs.injector.Injector.ask.Goals as goal

@@ -9,10 +9,9 @@ use Rattle.outgoing_packets.specs.Numbers.{HasPut}
 use Rattle.outgoing_packets.proofs.NumberLemmas.{fails-behind}
 use Rattle.injector.specs.Turns.{high, Passed}
 use Rattle.injector.specs.Senders.{standing_senders}
-use Rattle.injector.specs.Noting.{Rests, Rises, NotesStandFor, IsBefore}
+use Rattle.injector.specs.Noting.{Rests, Rises, IsBefore}
 use Rattle.injector.specs.Requests.{RequestsStandFor}
 use Rattle.injector.specs.Steps.{Packet as PacketStep, packets_in, turns_in, high_of, purpose_of, cued, cue_packets, body_at, sent_at}
-use Rattle.injector.specs.Injecting.{IsFed, IsBodyOf, InjectorStandsFor, JudgesBy}
 use Rattle.injector.proofs.FeedLemmas.{rises-at, turns-high}
 use Rattle.injector.proofs.RestLemmas.{idle-between}
 use Rattle.injector.proofs.injector.Injector.put.Goals as goal
