@@ -6,3 +6,4 @@ pub mod Awaited
 pub mod PacketLemmas
 pub mod BeginLemmas
 pub mod RestLemmas
+pub mod AloneLemmas
