@@ -7,3 +7,4 @@ pub mod PacketLemmas
 pub mod BeginLemmas
 pub mod RestLemmas
 pub mod AloneLemmas
+pub mod FrameLemmas
