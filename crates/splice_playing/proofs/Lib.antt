@@ -8,3 +8,4 @@ pub mod BeginLemmas
 pub mod RestLemmas
 pub mod AloneLemmas
 pub mod FrameLemmas
+pub mod RestOutLemmas
