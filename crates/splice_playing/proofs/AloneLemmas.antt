@@ -40,7 +40,7 @@ module _ (rule : Standing → List SliceUnit) where
 
   among-put : (x e : Standing) (es : List Standing) → ((rule x ≡ []) ⊎ (rule e ≡ [])) → AloneAmong x es → AloneAmong x (put_by_start e es)
   among-put x e [] a b = (a, tt)
-  among-put x e (y ∷ es) a b = by_test (int_lt e.start y.start) (λ h. simp h (a, b.0, b.1)) (λ h. simp h (b.0, among-put x e es a b.1))
+  among-put x e (y ∷ es) a b = by_test (int_lt e.start y.start) (λ h. simp h (a, b)) (λ h. simp h (b.0, among-put x e es a b.1))
 
   among-sorted : (x : Standing) (es : List Standing) → AloneAmong x es → AloneAmong x (by_start es)
   among-sorted x [] a = tt

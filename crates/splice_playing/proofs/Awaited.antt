@@ -1,18 +1,5 @@
--- Laws that are proved beside this crate.
-use Rattle.known_laws.specs.Laws.{OthersChangeNothing, PacketsPass, ReportsAreWhole, PlansTellCrossings}
+-- Laws that are proved beside this crate, in plan_laws: open here until that crate is merged.
 use Rattle.plan_laws.specs.Laws.{StartsAreNear, HighIsReached, FrontGoesOut, PlansGoOn, CountersGoOn, NothingStands, UnitsLieAsLeft, OthersLieAsBefore}
-
-pub others_change_nothing : OthersChangeNothing
-others_change_nothing = ?
-
-pub packets_pass : PacketsPass
-packets_pass = ?
-
-pub reports_are_whole : ReportsAreWhole
-reports_are_whole = ?
-
-pub plans_tell_crossings : PlansTellCrossings
-plans_tell_crossings = ?
 
 pub starts_are_near : StartsAreNear
 starts_are_near = ?

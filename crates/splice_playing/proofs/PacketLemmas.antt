@@ -32,7 +32,7 @@ use Rattle.splice_plans.proofs.AdvertLemmas.{libraries_are_steady}
 use Rattle.known_laws.specs.Laws.{Passes}
 use Rattle.splice_playing.specs.declared.playing.Playing.{Playing}
 use Rattle.splice_playing.specs.Relations.{PlaysFor, PlaysBehind, BeginsIn}
-use Rattle.splice_playing.proofs.Awaited.{packets_pass}
+use Rattle.known_laws.proofs.PassLemmas.{packets_pass}
 
 -- an event that nothing is known of
 pub new-is : (plan : Plan) → plan.parts ≡ replicate 8 waiting → plan.is_crossed ≡ false → plan ≡ nothing_known

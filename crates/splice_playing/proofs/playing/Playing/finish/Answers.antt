@@ -12,7 +12,7 @@ use Rattle.splice_plans.specs.Reporting.{ReportIs}
 use Rattle.splice_plans.specs.Switching.{high_at}
 use Rattle.splice_plans.specs.Known.{moves_at, plans_at, behind_at, inside_at, counts_known, is_forgotten}
 use Rattle.plan_laws.specs.Laws.{steps_known}
-use Rattle.splice_playing.proofs.Awaited.{plans_tell_crossings}
+use Rattle.known_laws.proofs.ReportLemmas.{plans_tell_crossings}
 use Rattle.splice_playing.proofs.BeginLemmas.{all-count}
 use Rattle.splice_playing.proofs.RestLemmas.{crossings, crossings-stay, few-at-end, rest-is}
 use Rattle.splice_playing.proofs.playing.Playing.finish.Goals as goal

@@ -2,7 +2,7 @@ use Rattle.std.proofs.Common.{◌∷◌, sym, subst, ◌∙◌}
 use Rattle.splice_plans.specs.Reporting.{ReportIs}
 use Rattle.splice_plans.specs.Switching.{high_at}
 use Rattle.splice_plans.specs.Known.{plans_at, behind_at}
-use Rattle.splice_playing.proofs.Awaited.{others_change_nothing}
+use Rattle.known_laws.proofs.OtherLemmas.{others_change_nothing}
 use Rattle.splice_playing.proofs.PacketLemmas.{new-is, of-pid}
 use Rattle.splice_playing.proofs.playing.Playing.obey.Goals as goal
 
