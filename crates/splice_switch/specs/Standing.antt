@@ -45,13 +45,15 @@ pub record SwitchStandsFor (s : Switch) (c : Config) (filed : ℕ → Option Adv
 
 -- Why a packet was not taken: what is wrong with it behind those before it, before anything was put; or the sink failed behind a front of
 -- what the packet puts.
-abbrev pub FeedFails : FeedFault → Config → (ℕ → Option Advertisement) → List ℕ → List (List ℕ) → (List (List ℕ) → List ℕ → PutFault → Type 0) → Type 0
+abbrev pub FeedFails : FeedFault → Config → (ℕ → Option Advertisement) → List ℕ → List (List ℕ)
+    → (List (List ℕ) → List ℕ → PutFault → Type 0) → Type 0
 FeedFails (Network fault) c filed p past fails = network_fault (reading_cues c) p past ≡ Some fault
 FeedFails (Sink fault) c filed p past fails = FrontFails (switched_at_packet (setting_of c filed) p past) (λ put q. fails put q fault)
 FeedFails Failed c filed p past fails = ⊥
 
 -- at the end the network is not at fault
-abbrev pub FinishFails : FeedFault → Config → (ℕ → Option Advertisement) → List (List ℕ) → (List (List ℕ) → List ℕ → PutFault → Type 0) → Type 0
+abbrev pub FinishFails : FeedFault → Config → (ℕ → Option Advertisement) → List (List ℕ)
+    → (List (List ℕ) → List ℕ → PutFault → Type 0) → Type 0
 FinishFails (Network fault) c filed past fails = ⊥
 FinishFails (Sink fault) c filed past fails = FrontFails (rest_at (setting_of c filed) past) (λ put q. fails put q fault)
 FinishFails Failed c filed past fails = ⊥
@@ -74,7 +76,8 @@ is_err_or (Ok u) before = before
 is_err_or (Err e) before = true
 
 -- the follower has been given the packet, which is of this place, and nothing was put yet
-pub record IsFollowedAs (s : Switch) (place : Place) (c : Config) (filed : ℕ → Option Advertisement) (p : List ℕ) (past : List (List ℕ)) : Type 0 where
+pub record IsFollowedAs (s : Switch) (place : Place) (c : Config) (filed : ℕ → Option Advertisement)
+    (p : List ℕ) (past : List (List ℕ)) : Type 0 where
   pub cue_pid : s.cue_pid ≡ c.cue_pid
   pub follower : FollowerStandsFor s.follower (reading_cues c) (p ∷ past)
   pub clean : first_fault (reading_cues c) past ≡ None
@@ -85,7 +88,8 @@ pub record IsFollowedAs (s : Switch) (place : Place) (c : Config) (filed : ℕ �
   pub whole : s.is_spent ≡ false
 
 -- the same, of a packet that begins a unit with this stamp, in the stream of this number
-pub record IsStart (s : Switch) (number : ℕ) (time : Option ℕ) (c : Config) (filed : ℕ → Option Advertisement) (p : List ℕ) (past : List (List ℕ)) : Type 0 where
+pub record IsStart (s : Switch) (number : ℕ) (time : Option ℕ) (c : Config) (filed : ℕ → Option Advertisement)
+    (p : List ℕ) (past : List (List ℕ)) : Type 0 where
   pub begun : Option Begun
   pub followed : IsFollowedAs s (places.Stream number (Start begun)) c filed p past
   pub time_is : time ≡ option_map (λ (b : Begun). b.pts) begun

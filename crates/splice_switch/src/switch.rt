@@ -173,7 +173,8 @@ impl Switch {
             OnOk result (SwitchStandsFor self.new c (held library.now) (packet.now ∷ past)) }
         ensures err { (start : Option (List ℕ)) (ps : List (List ℕ)) (c : Config) (past : List (List ℕ)) → S.holds sink.old start ps →
             IsFollowedAs self.old place.now c (held library.now) packet.now past →
-            IfErr result (λ f. FrontFails (switched_at_packet (setting_of c (held library.now)) packet.now past) (λ put q. S.fails sink.new start (ps ++ put) q f)) }
+            IfErr result (λ f. FrontFails (switched_at_packet (setting_of c (held library.now)) packet.now past)
+            (λ put q. S.fails sink.new start (ps ++ put) q f)) }
         ensures well { OnOk result (WentWell (S.counts sink.old) (S.counts sink.new)) }
         ensures blamed { IfErr result (λ f. Blamed f (S.counts sink.old) (S.counts sink.new) (S.is_full sink.new)) }
         ensures spent { self.new.is_spent ≡ self.old.is_spent }
@@ -206,11 +207,13 @@ impl Switch {
         ensures ok { (start : Option (List ℕ)) (ps : List (List ℕ)) (c : Config) (past : List (List ℕ)) → S.holds sink.old start ps →
             IsFollowedAs self.old (Place.Stream stream part.now) c (held library.now) packet.now past →
             OnOk result (S.holds sink.new start (ps ++ switched_at_packet (setting_of c (held library.now)) packet.now past)) }
-        ensures stands { (c : Config) (past : List (List ℕ)) → IsFollowedAs self.old (Place.Stream stream part.now) c (held library.now) packet.now past →
+        ensures stands { (c : Config) (past : List (List ℕ)) →
+            IsFollowedAs self.old (Place.Stream stream part.now) c (held library.now) packet.now past →
             OnOk result (SwitchStandsFor self.new c (held library.now) (packet.now ∷ past)) }
         ensures err { (start : Option (List ℕ)) (ps : List (List ℕ)) (c : Config) (past : List (List ℕ)) → S.holds sink.old start ps →
             IsFollowedAs self.old (Place.Stream stream part.now) c (held library.now) packet.now past →
-            IfErr result (λ f. FrontFails (switched_at_packet (setting_of c (held library.now)) packet.now past) (λ put q. S.fails sink.new start (ps ++ put) q f)) }
+            IfErr result (λ f. FrontFails (switched_at_packet (setting_of c (held library.now)) packet.now past)
+            (λ put q. S.fails sink.new start (ps ++ put) q f)) }
         ensures well { OnOk result (WentWell (S.counts sink.old) (S.counts sink.new)) }
         ensures blamed { IfErr result (λ f. Blamed f (S.counts sink.old) (S.counts sink.new) (S.is_full sink.new)) }
         ensures spent { self.new.is_spent ≡ self.old.is_spent }
@@ -246,7 +249,8 @@ impl Switch {
             OnOk result (SwitchStandsFor self.new c (held library.now) (packet.now ∷ past)) }
         ensures err { (start : Option (List ℕ)) (ps : List (List ℕ)) (c : Config) (past : List (List ℕ)) → S.holds sink.old start ps →
             IsStart self.old stream time.now c (held library.now) packet.now past →
-            IfErr result (λ f. FrontFails (switched_at_packet (setting_of c (held library.now)) packet.now past) (λ put q. S.fails sink.new start (ps ++ put) q f)) }
+            IfErr result (λ f. FrontFails (switched_at_packet (setting_of c (held library.now)) packet.now past)
+            (λ put q. S.fails sink.new start (ps ++ put) q f)) }
         ensures well { OnOk result (WentWell (S.counts sink.old) (S.counts sink.new)) }
         ensures blamed { IfErr result (λ f. Blamed f (S.counts sink.old) (S.counts sink.new) (S.is_full sink.new)) }
         ensures spent { self.new.is_spent ≡ self.old.is_spent }
