@@ -17,3 +17,4 @@ pub mod LyingLemmas
 pub mod OrderLemmas
 pub mod StreamsLemmas
 pub mod NothingLemmas
+pub mod CountersLemmas

@@ -41,22 +41,22 @@ module _ (filed : ℕ → Option Advertisement) (streams : List Stream) (events 
   abbrev pids : List ℕ
   pids = pids_in streams
 
-  abbrev ads : Adverts
+  abbrev pub ads : Adverts
   ads = adverts_of filed streams
 
-  abbrev es : List Standing
+  abbrev pub es : List Standing
   es = standing_at (high pids past) (events past)
 
-  abbrev turned : begins_one pids p past ≡ true
+  abbrev pub turned : begins_one pids p past ≡ true
   turned = turn filed streams events p past h stay s n pid there b
 
   abbrev told_all : AllByRecursion (Told pids ads events p past) (events past)
   told_all = all-are-told filed streams events p past h stay s n pid there b
 
-  abbrev plan : ℕ → Standing → Plan
+  abbrev pub plan : ℕ → Standing → Plan
   plan i e = mixed filed streams events p past h turned i e
 
-  abbrev put : ℕ → Standing → List SliceUnit
+  abbrev pub put : ℕ → Standing → List SliceUnit
   put q e = rule filed streams events p past h turned q e
 
   -- ---- of one stream

@@ -1,3 +1,4 @@
+use Rattle.plan_laws.proofs.CountersLemmas.{all-counted}
 use Rattle.plan_laws.proofs.StreamsLemmas.{all-put}
 use Rattle.plan_laws.proofs.OrderLemmas.{sorted-same}
 use Rattle.plan_laws.proofs.PacketLemmas.{all-found}
