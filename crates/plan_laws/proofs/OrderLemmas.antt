@@ -41,11 +41,11 @@ module _ (f : Standing → List SliceUnit) where
 
   sorted-one : (es : List Standing) → AreAlone es → flat_map f (by_start es) ≡ flat_map f es
   sorted-one [] a = refl
-  sorted-one (e ∷ es) a = put-one e (by_start es) (by a.0) ∙ ap (λ us. f e ++ us) (sorted-one es a.1)
+  sorted-one (e ∷ es) a = let i = sorted-one es a.1 in put-one e (by_start es) (by i a.0) ∙ ap (λ us. f e ++ us) i
     where
-      by : (f e ≡ []) ⊎ (flat_map f es ≡ []) → (f e ≡ []) ⊎ (flat_map f (by_start es) ≡ [])
-      by (inl k) = inl k
-      by (inr k) = inr (sorted-one es a.1 ∙ k)
+      by : flat_map f (by_start es) ≡ flat_map f es → (f e ≡ []) ⊎ (flat_map f es ≡ []) → (f e ≡ []) ⊎ (flat_map f (by_start es) ≡ [])
+      by i (inl k) = inl k
+      by i (inr k) = inr (i ∙ k)
 
   -- those that put nothing in may be left away
   pub filter-left : (test : Standing → Bool) (es : List Standing) → AllByRecursion (λ e. test e ≡ false → f e ≡ []) es → flat_map f (filter test es) ≡ flat_map f es
