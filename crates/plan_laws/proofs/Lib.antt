@@ -14,3 +14,7 @@ pub mod JoinedLemmas
 pub mod TimeLemmas
 pub mod PacketLemmas
 pub mod LyingLemmas
+pub mod OrderLemmas
+pub mod StreamsLemmas
+pub mod NothingLemmas
+pub mod CountersLemmas

@@ -88,12 +88,12 @@ module _ (filed : ℕ → Option Advertisement) (streams : List Stream) (events 
         ∙ rest-steps e.start of.kind (count_of_kind of.kind (take i streams)) e.length (filed e.program) (out e) (reached_by top e) q done
         ∙ ap (λ ps. put_in ps steps) (sym (packets-are e told y))
 
-    rule-none : (e : Standing) → runs_on filed streams events p past h turn q e ≡ false → rule q e ≡ []
+    pub rule-none : (e : Standing) → runs_on filed streams events p past h turn q e ≡ false → rule q e ≡ []
     rule-none e y =
         running-none (begins_one pids) (stream pids q) (pids_are_streams pids q) (as_played e) (known filed streams events p past e) ((ads filed streams events p past).units e q)
         (falls filed streams events p past h e i q o.there) (λ p past b. none-begins pids i q p past o.there b) (λ p past b. simp b refl) p past y
 
-    none-rules : (es : List Standing) → NoneRun filed streams events p past h turn i q o.there es → flat_map (rule q) es ≡ []
+    pub none-rules : (es : List Standing) → NoneRun filed streams events p past h turn i q o.there es → flat_map (rule q) es ≡ []
     none-rules [] n = refl
     none-rules (e ∷ es) n = ap (λ us. us ++ flat_map (rule q) es) (rule-none e n.0) ∙ none-rules es n.1
 

@@ -81,7 +81,7 @@ module _ (filed : ℕ → Option Advertisement) (streams : List Stream) (events 
   -- ---- two events never run together
 
   module _ (i q : ℕ) (there : slice_get pids i ≡ Some q) where
-    played-run : (e : Standing) → TellsOf e → runs_on q e ≡ true → is_played (ads filed streams events p past) e ≡ true
+    pub played-run : (e : Standing) → TellsOf e → runs_on q e ≡ true → is_played (ads filed streams events p past) e ≡ true
     played-run e told y = by_test (is_played (ads filed streams events p past) e) (λ z. z)
         (λ z. absurd (true≢false (sym (shut-flags _ _ y).0 ∙ none-begun (stream pids q) (as_played e) (known filed streams events p past e) (falls filed streams events p past h e i q there) (p ∷ past) (told.now ∙ simp z refl))))
 

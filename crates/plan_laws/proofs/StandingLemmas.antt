@@ -67,7 +67,7 @@ among-get (y ∷ xs) (suc n) x h = or-two (y == x) (is_among x xs) (among-get xs
     or-two true b h = refl
     or-two false b h = h
 
-once-place : (xs : List ℕ) (x j n : ℕ) → IsOnce x xs → slice_get xs j ≡ Some x → slice_get xs n ≡ Some x → j ≡ n
+pub once-place : (xs : List ℕ) (x j n : ℕ) → IsOnce x xs → slice_get xs j ≡ Some x → slice_get xs n ≡ Some x → j ≡ n
 once-place [] x j n o h k = absurd o
 once-place (y ∷ xs) x zero zero o h k = refl
 once-place (y ∷ xs) x zero (suc n) (inl o) h k = absurd (true≢false (sym (among-get xs n x k) ∙ o.1))

@@ -1,6 +1,6 @@
 //! What a packet that begins a unit does in a switch.
 
-ghost use Rattle.plan_laws.specs.Laws.{StartsAreNear, HighIsReached, FrontGoesOut, PlansGoOn, CountersGoOn, NothingStands};
+ghost use Rattle.plan_laws.specs.Laws.{StartsAreNear, HighIsReached, PlansGoOn, NothingStands};
 ghost use Rattle.plan_laws.specs.Laws.{UnitsLieAsLeft, OthersLieAsBefore};
 
 /// A unit that begins is near the greatest time.
@@ -13,19 +13,9 @@ pub fn high_is_reached()
     ensures { HighIsReached }
 {}
 
-/// What goes out before the packet is the rest of the events that it closes, and then what is due of those that run on, by stream.
-pub fn front_goes_out()
-    ensures { FrontGoesOut }
-{}
-
 /// The plans once that is out are those by the past with the packet.
 pub fn plans_go_on()
     ensures { PlansGoOn }
-{}
-
-/// The counter of each stream has counted what went out in the stream.
-pub fn counters_go_on()
-    ensures { CountersGoOn }
 {}
 
 /// Where there is no greatest time with the packet either, nothing goes out of events that run.
