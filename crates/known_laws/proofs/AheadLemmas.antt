@@ -10,7 +10,7 @@ use Rattle.unit_stream.specs.Times.{begins_one, high}
 use Rattle.event_table.specs.Standing.{Standing}
 use Rattle.splice_laws.specs.Splicing.{PlayedEvent, SliceUnit, TimedStream, stream}
 use Rattle.splice_laws.specs.Laws.{Risen, IsStream}
-use Rattle.splice_laws.specs.Settled.{IsAhead, IsWithin, begun_now, closed_now, holds_now}
+use Rattle.splice_laws.specs.Settled.{IsAhead, NeverPassesHigh, begun_now, closed_now, holds_now}
 use Rattle.splice_laws.proofs.PidLemmas.{pids_are_streams}
 use Rattle.splice_laws.proofs.SettledLemmas.{switched_pids_are_within}
 use Rattle.splice_plans.specs.declared.plan.Stage.{Stage}
@@ -28,7 +28,7 @@ ahead-earlier None b edge r h = tt
 ahead-earlier (Some a) None edge r h = absurd r
 ahead-earlier (Some a) (Some b) edge r h = omega (arith, ints, r, h)
 
-module _ (r : TimedStream) (k : IsStream r) (w : IsWithin r) (x : PlayedEvent) (known : List (List ℕ) → Option ℤ) where
+module _ (r : TimedStream) (k : IsStream r) (w : NeverPassesHigh r) (x : PlayedEvent) (known : List (List ℕ) → Option ℤ) where
   earlier : (p : List ℕ) (past : List (List ℕ)) → IsAhead (r.high (p ∷ past)) x.start → IsAhead (r.high past) x.start
   earlier p past a = ahead-earlier (r.high past) (r.high (p ∷ past)) x.start (k.rises p past) a
 

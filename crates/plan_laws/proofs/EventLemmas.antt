@@ -9,7 +9,7 @@ use Rattle.event_table.specs.Standing.{Standing, end_of}
 use Rattle.ad_library.specs.Advertisements.{Advertisement}
 use Rattle.splice_laws.specs.Splicing.{PlayedEvent, SliceUnit, TimedStream, stream}
 use Rattle.splice_laws.specs.Laws.{IsStream}
-use Rattle.splice_laws.specs.Settled.{IsAhead, IsWithin, begun_now, closed_now}
+use Rattle.splice_laws.specs.Settled.{IsAhead, NeverPassesHigh, begun_now, closed_now}
 use Rattle.splice_laws.specs.Ends.{up_to_end, longest_front}
 use Rattle.splice_laws.proofs.EndLemmas.{run_of, longest-run, IsFront, drop-front}
 use Rattle.splice_plans.specs.Playing.{Turns, as_played, up_to_known, sent_of_begun, sent_known, due_at, closing_at, running_at}
@@ -40,7 +40,7 @@ reached-far e h past = by_test (int_lt h e.start)
     far : (s h : ℤ) → int_lt h s ≡ false → s +ℤ pos (unsigned_abs (h -ℤ s)) ≡ h
     far s h n = grind (arith, ints, n)
 
-module _ (turns : Turns) (r : TimedStream) (k : IsStream r) (w : IsWithin r) (e : Standing) (known : List (List ℕ) → Option ℤ) (units : List SliceUnit) (falls : EndsFall r (as_played e) known)
+module _ (turns : Turns) (r : TimedStream) (k : IsStream r) (w : NeverPassesHigh r) (e : Standing) (known : List (List ℕ) → Option ℤ) (units : List SliceUnit) (falls : EndsFall r (as_played e) known)
     (p : List ℕ) (past : List (List ℕ)) (turn : turns p past ≡ true) (now : begun_now r (as_played e) known (p ∷ past) ≡ true → known (p ∷ past) ≡ Some (end_of e))
     (o : Option Advertisement) (kind place : ℕ) (slice_is : up_to_end (end_of e) units ≡ as_played_units e.start o (slice_filed e.start kind place e.length o)) where
   abbrev x : PlayedEvent
