@@ -73,10 +73,11 @@ pub itself : (es : List Standing) → NoneMeet es → AllByRecursion (IsFound es
 itself [] n = tt
 itself (e ∷ es) n =
     let same = equal e.start in
-    let other : Standing → Type 0 = λ x. int_eq e.start x.start ≡ false in
-    (simp same refl,
-    each-map (λ x. other x × IsFound es x) (IsFound (e ∷ es)) (λ x h. let no = h.0 in simp no h.1) es
-    (each-both other (IsFound es) es (all-differ e es n.0 n.1 n.2) (itself es n.2)))
+    let other : Standing → Type 0 = λ x. int_eq e.start x.start ≡ false in (
+      simp same refl,
+      each-map (λ x. other x × IsFound es x) (IsFound (e ∷ es)) (λ x h. let no = h.0 in simp no h.1) es
+          (each-both other (IsFound es) es (all-differ e es n.0 n.1 n.2) (itself es n.2)),
+    )
   where
     equal : (a : ℤ) → int_eq a a ≡ true
     equal a = grind (arith, ints)
@@ -312,8 +313,9 @@ module _ (k : Setting) (p : List ℕ) (past : List (List ℕ)) (m : ProgramMap) 
 
     fact : (e : Standing) → IsOverNow e × IsFound es e → IsCounted line later rises v crossed crossed_before told e
     fact e h = (
-        (λ _. ap (λ o. is_played ads e && (plan_found sw ads hist next o).is_crossed) (sym h.1)),
-        (λ gone. by (is_played ads e) (is_crossed_known sw ads hist next e) (is_crossed_known sw ads hist (behind_at k past) e) (λ q. h.0 q (ap not gone))))
+      (λ _. ap (λ o. is_played ads e && (plan_found sw ads hist next o).is_crossed) (sym h.1)),
+      (λ gone. by (is_played ads e) (is_crossed_known sw ads hist next e) (is_crossed_known sw ads hist (behind_at k past) e) (λ q. h.0 q (ap not gone))),
+    )
       where
         by : (q a b : Bool) → (q ≡ true → a ≡ b) → (q && a) ≡ (q && b)
         by true a b h = h refl

@@ -140,8 +140,11 @@ module _ (switched : List ℕ) (ads : Adverts) (steady : AreSteady ads) (events 
     as-on (pid ∷ pids) all =
         let settled = IsSettledIn switched pid all.0 ads steady events h past in
         each-map (λ e. settled e × IsAsOn pids e) (IsAsOn (pid ∷ pids))
-        (λ e s. λ plays. (crossed-as (stream switched pid) (pids_are_streams switched pid) (as_played e) (ordered e) (switched_pids_are_within switched pid all.0)
-        (end_known ads events e.start) past (s.0 plays) (near-all pid all.0 e past f), s.1 plays)) (events past)
+        (λ e s. λ plays. (
+          crossed-as (stream switched pid) (pids_are_streams switched pid) (as_played e) (ordered e) (switched_pids_are_within switched pid all.0)
+              (end_known ads events e.start) past (s.0 plays) (near-all pid all.0 e past f),
+          s.1 plays,
+        )) (events past)
         (each-both settled (IsAsOn pids) (events past) (settled-all switched pid all.0 ads steady events h [] past) (as-on pids all.1))
 
     pub all-as : AllByRecursion IsAsAll (events past)
