@@ -1,6 +1,6 @@
 -- Which units cross an event's start or its end, by the flags that its last end gives.
 use Rattle.std.proofs.Common.{◌≡◌, ℕ, zero, suc, ◌<◌, List, [], ◌∷◌, Bool, true, false, not, ◌&&◌, ◌||◌, ◌⊎◌, inl, inr, refl, sym, ap, ◌∙◌, Option, None, Some, if◌then◌else◌, arith, length}
-use Rattle.std.specs.Prelude.{ℤ, pos, ◌+ℤ◌, ◌-ℤ◌, ◌≤ℤ◌, is_some, Contains, slice_index_or}
+use Rattle.std.specs.Prelude.{ℤ, pos, ◌+ℤ◌, ◌-ℤ◌, ◌≤ℤ◌, Contains, slice_index_or}
 use Rattle.std.proofs.lemmas.Int.{ints}
 use Rattle.std.proofs.lemmas.Bool.{true≢false}
 use Rattle.ts_packet.proofs.Cases.{by_test}
@@ -9,7 +9,7 @@ use Rattle.unit_stream.specs.Times.{begins, begins_one, high, unit_time, stamp, 
 use Rattle.unit_stream.specs.Faults.{unit_fault, scrambled_one, start_fault, jumps, is_far}
 use Rattle.unit_stream.specs.declared.fault.UnitFault.{UnitFault}
 use Rattle.unit_stream.specs.declared.fault.UnitFault.TheVariants.{Scrambled, HeaderSplit, TimeJump}
-use Rattle.splice_laws.specs.Splicing.{PlayedEvent, Stream, stream, at_or_past, below, holds, stands, passed, opens, begun, closed}
+use Rattle.splice_laws.specs.Splicing.{PlayedEvent, Stream, at_or_past, below, holds, stands, begun, closed}
 use Rattle.splice_laws.specs.Laws.{Risen, IsStream}
 use Rattle.splice_laws.specs.Settled.{IsAhead, IsSettled, IsSettledSince, IsWithin}
 use Rattle.splice_laws.proofs.SettledLemmas.{flags_settle}

@@ -1,12 +1,11 @@
 -- Which events a stream has crossed, as it was known then and as the last ends say.
 use Rattle.std.proofs.Common.{◌≡◌, ℕ, List, [], ◌∷◌, Bool, true, false, not, ◌&&◌, ◌||◌, ◌⊎◌, inl, inr, refl, sym, ap, ◌∙◌, Option, None, Some, arith}
-use Rattle.std.specs.Prelude.{ℤ, ◌≤ℤ◌, is_some, Contains}
+use Rattle.std.specs.Prelude.{ℤ, ◌≤ℤ◌, is_some}
 use Rattle.std.proofs.lemmas.Int.{ints}
 use Rattle.std.proofs.lemmas.Bool.{true≢false}
 use Rattle.ts_packet.proofs.Cases.{by_test}
-use Rattle.unit_stream.specs.Times.{begins, high}
-use Rattle.splice_laws.specs.Splicing.{PlayedEvent, Stream, stream, at_or_past, below, holds, stands, comes, passed, begun, closed}
-use Rattle.splice_laws.specs.Laws.{Risen, IsStream}
+use Rattle.splice_laws.specs.Splicing.{PlayedEvent, Stream, at_or_past, below, holds, stands, comes, passed, begun, closed}
+use Rattle.splice_laws.specs.Laws.{IsStream}
 use Rattle.splice_laws.specs.Settled.{IsAhead, IsSettled, IsWithin}
 use Rattle.splice_laws.proofs.EndLemmas.{not-ahead}
 use Rattle.splice_laws.proofs.TimeLemmas.{holds-below, not-below, timed_past}
@@ -15,10 +14,9 @@ use Rattle.splice_plans.specs.declared.plan.Stage.{Stage}
 use Rattle.splice_plans.specs.declared.plan.Stage.TheVariants.{Waiting, Running, Over}
 use Rattle.splice_plans.specs.Playing.{is_crossed}
 use Rattle.splice_plans.specs.Known.{stage_known, below_known, crosses_known, crossed_known}
-use Rattle.known_laws.specs.Laws.{AreFaultless}
-use Rattle.known_laws.proofs.QuietLemmas.{stage_of, crossed-still, or-none}
+use Rattle.known_laws.proofs.QuietLemmas.{stage_of, crossed-still}
 use Rattle.known_laws.proofs.AheadLemmas.{ahead-earlier}
-use Rattle.known_laws.proofs.CrossLemmas.{SettledAll, stage-settled, begun-behind, below-more, below-less, out-below, past-below, unit-near, new-closed, new-begun, or-first}
+use Rattle.known_laws.proofs.CrossLemmas.{SettledAll, stage-settled, begun-behind, below-more, below-less, out-below, past-below, new-closed, new-begun, or-first}
 
 or-second : (a b : Bool) → b ≡ true → (a || b) ≡ true
 or-second true b h = refl

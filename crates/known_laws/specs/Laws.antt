@@ -1,5 +1,5 @@
 -- What one packet more does to what is known of a network, and what it comes to in the end.
-use Rattle.std.specs.Prelude.{◌≡◌, ℕ, ◌≤◌, List, [], ◌∷◌, ◌++◌, length, map, reverse, true, false, ◌&&◌, ℤ, Option, None, Some, count_by}
+use Rattle.std.specs.Prelude.{◌≡◌, ℕ, ◌≤◌, List, [], ◌∷◌, ◌++◌, length, map, reverse, true, false, ℤ, None, Some}
 use Rattle.ts_packet.specs.Fields.{on}
 use Rattle.unit_stream.specs.Faults.{unit_fault}
 use Rattle.event_table.specs.Standing.{Standing}
@@ -8,7 +8,6 @@ use Rattle.armed_events.specs.Arming.{standing}
 use Rattle.armed_events.specs.Valuing.{values_by, IsFreshAhead}
 use Rattle.splice_plans.specs.declared.plan.Plan.{Plan}
 use Rattle.splice_plans.specs.declared.stream.SwitchedStream.{SwitchedStream}
-use Rattle.splice_plans.specs.Playing.{is_played}
 use Rattle.splice_plans.specs.Switching.{Setting, fate, switched_at, high_at, events_at, history_at, is_behind_head, is_switched}
 use Rattle.splice_plans.specs.Histories.{AreSteady}
 use Rattle.splice_plans.specs.Parts.{beside}
