@@ -1,7 +1,7 @@
 -- One packet more: in the head of a network, at its end, and behind it.
 use Rattle.std.proofs.Common.{◌≡◌, ℕ, List, [], ◌∷◌, ◌++◌, Bool, true, false, ◌&&◌, ◌||◌, refl, sym, ap, ◌∙◌, Option, None, Some, if◌then◌else◌, length, drop}
 use Rattle.std.specs.Option.{option_or}
-use Rattle.std.specs.Prelude.{ℤ, is_some, option_map, Result}
+use Rattle.std.specs.Prelude.{is_some, option_map, Result}
 use Rattle.std.proofs.lemmas.Bool.{true≢false}
 use Rattle.ts_packet.specs.Fields.{on}
 use Rattle.ts_packet.proofs.FieldLemmas.{off_payload}

@@ -1,14 +1,13 @@
 -- A packet of no switched stream, as one with cues, changes nothing.
-use Rattle.std.proofs.Common.{◌≡◌, ℕ, ◌^◌, zero, suc, ◌<◌, ◌≤◌, List, [], ◌∷◌, ◌++◌, Bool, true, false, not, ◌&&◌, ◌||◌, refl, sym, ap, ◌∙◌, subst, Option, None, Some, length, map, reverse, if◌then◌else◌, arith}
+use Rattle.std.proofs.Common.{◌≡◌, ℕ, ◌^◌, zero, suc, ◌≤◌, List, [], ◌∷◌, ◌++◌, Bool, true, false, ◌&&◌, refl, sym, ap, ◌∙◌, subst, Option, None, Some, length, reverse, if◌then◌else◌, arith}
 use Rattle.std.specs.Prelude.{ℤ, pos, ◌+ℤ◌, ◌<ℤ◌, Contains, slice_index_or, slice_get, filter, find, int_lt, int_le}
 use Rattle.std.specs.Ordering.{int_eq}
 use Rattle.std.proofs.lemmas.Int.{ints}
-use Rattle.std.proofs.lemmas.Bool.{true≢false}
 use Rattle.std.proofs.lemmas.Option.{slice_get_within, get_or_from_slice_get}
-use Rattle.ts_packet.specs.Fields.{on, payload_on}
-use Rattle.ts_packet.specs.Numbering.{Step, Kept, Counts}
+use Rattle.ts_packet.specs.Fields.{on}
+use Rattle.ts_packet.specs.Numbering.{Kept, Counts}
 use Rattle.ts_packet.proofs.FieldLemmas.{off_payload}
-use Rattle.unit_stream.specs.Times.{begins, begins_one, high, unit_time, raised, timed, stamp}
+use Rattle.unit_stream.specs.Times.{begins_one, high, unit_time, raised, timed, stamp}
 use Rattle.unit_stream.specs.Fates.{is_left_out}
 use Rattle.unit_stream.proofs.ClockLemmas.{begins_off}
 use Rattle.psi_tables.specs.ProgramMap.{ProgramMap}
@@ -20,16 +19,16 @@ use Rattle.armed_laws.specs.Laws.{Grows}
 use Rattle.armed_laws.proofs.GrowLemmas.{packet-grows}
 use Rattle.splice_laws.specs.Settled.{IsAhead}
 use Rattle.splice_laws.proofs.SettledLemmas.{switched_pids_are_within}
-use Rattle.output_laws.specs.Output.{Move, Keep, Leave, Packing, network, counter_steps}
+use Rattle.output_laws.specs.Output.{Move, Keep, Leave, Packing, counter_steps}
 use Rattle.splice_plans.specs.declared.plan.Plan.{Plan}
 use Rattle.splice_plans.specs.declared.stream.SwitchedStream.{SwitchedStream}
 use Rattle.splice_plans.specs.Playing.{Adverts, History, is_inside}
-use Rattle.splice_plans.specs.Switching.{Setting, puts_before, fate, moves, switched_at, high_at, events_at, history_at, is_switched}
+use Rattle.splice_plans.specs.Switching.{Setting, puts_before, moves, switched_at, high_at, events_at, history_at, is_switched}
 use Rattle.splice_plans.specs.Histories.{AreSteady}
-use Rattle.splice_plans.specs.Known.{nothing_known, plan_known, plan_found, plan_at, GoesAs, AllGo, is_crossed_known, adverts_at, behind_at, plans_at, inside_at, moves_at, counts_known, is_forgotten}
+use Rattle.splice_plans.specs.Known.{plan_found, plan_at, GoesAs, AllGo, adverts_at, behind_at, plans_at, inside_at, moves_at, counts_known, is_forgotten}
 use Rattle.splice_plans.proofs.PutLemmas.{puts_at_unit_starts}
 use Rattle.known_laws.specs.Laws.{ChangesNothing, OthersChangeNothing}
-use Rattle.known_laws.proofs.HeadLemmas.{or-parts, or-none, off-one, none-switched, none-behind, none-high, first-behind, first-high, none-armed, first-armed, same-switched, same-adverts, more-behind, same-history, high-next}
+use Rattle.known_laws.proofs.HeadLemmas.{or-parts, or-none, off-one, none-switched, none-high, first-behind, first-high, none-armed, first-armed, same-switched, same-adverts, more-behind, same-history, high-next}
 use Rattle.known_laws.proofs.QuietLemmas.{plan-still, any-crossed-still}
 use Rattle.known_laws.proofs.SameLemmas.{found-same, found-ahead}
 use Rattle.known_laws.proofs.HeldLemmas.{inside-same}

@@ -1,11 +1,11 @@
 -- Behind a packet that is none of the cues.
-use Rattle.std.proofs.Common.{◌≡◌, ℕ, ◌+◌, ◌<◌, List, [], ◌∷◌, ◌++◌, Bool, true, false, not, ◌&&◌, ◌||◌, ◌⊎◌, inl, inr, refl, sym, ap, ◌∙◌, subst, Option, None, Some, if◌then◌else◌, arith, append_assoc, reverse}
+use Rattle.std.proofs.Common.{◌≡◌, ℕ, ◌+◌, ◌<◌, List, [], ◌∷◌, ◌++◌, Bool, true, false, not, ◌&&◌, ◌||◌, inl, inr, refl, sym, ap, ◌∙◌, subst, Option, None, Some, arith, append_assoc}
 use Rattle.std.specs.Prelude.{ℤ, pos, ◌+ℤ◌, ◌≤ℤ◌, int_lt, All, Contains, filter, find, count_by, is_some, option_map}
 use Rattle.std.specs.List.{list_any, AllByRecursion}
 use Rattle.std.specs.Ordering.{int_eq}
 use Rattle.std.proofs.lemmas.Int.{ints}
 use Rattle.std.proofs.lemmas.Bool.{true≢false}
-use Rattle.std.proofs.lemmas.List.Elements.{All-cons, All-nil, All-head, All-tail}
+use Rattle.std.proofs.lemmas.List.Elements.{All-head, All-tail}
 use Rattle.ts_packet.proofs.Cases.{by_test}
 use Rattle.ts_packet.specs.Fields.{on}
 use Rattle.unit_stream.specs.Times.{begins, high, unit_time}
@@ -13,9 +13,8 @@ use Rattle.unit_stream.specs.Faults.{unit_fault}
 use Rattle.psi_tables.specs.ProgramMap.{ProgramMap}
 use Rattle.program_follower.specs.Program.{known_map, program_in}
 use Rattle.event_table.specs.Standing.{Standing, end_of, forgotten_at}
-use Rattle.event_table.specs.Laws.{MayAdvance}
 use Rattle.event_table.proofs.AdvanceLemmas.{may-advance}
-use Rattle.armed_events.specs.Arming.{stands, standing, armed, Heard}
+use Rattle.armed_events.specs.Arming.{stands, standing, Heard}
 use Rattle.armed_events.specs.Valuing.{values_by}
 use Rattle.armed_events.proofs.PastLemmas.{heard-off}
 use Rattle.armed_laws.specs.Laws.{AreApart, IsApartOf, NoneMeet}
@@ -27,15 +26,15 @@ use Rattle.splice_laws.proofs.PidLemmas.{pids_are_streams}
 use Rattle.splice_laws.proofs.SettledLemmas.{switched_pids_are_within}
 use Rattle.splice_plans.specs.declared.plan.Plan.{Plan}
 use Rattle.splice_plans.specs.Playing.{Adverts, History, is_played, as_played, end_known, is_inside}
-use Rattle.splice_plans.specs.Switching.{Setting, fate, moves, switched_at, high_at, events_at, history_at, is_behind_head}
+use Rattle.splice_plans.specs.Switching.{Setting, moves, switched_at, high_at, events_at, history_at, is_behind_head}
 use Rattle.splice_plans.specs.Histories.{IsHistory, AreSteady}
 use Rattle.splice_plans.specs.Parts.{beside}
-use Rattle.splice_plans.specs.Known.{plan_found, plan_at, crossed_known, is_crossed_known, adverts_at, behind_at, plans_at, inside_at, moves_at, puts_at, counts_known, is_forgotten}
-use Rattle.splice_plans.specs.Reporting.{Counts, one_if, is_not_fitted, with_counted, is_out_at}
+use Rattle.splice_plans.specs.Known.{plan_found, plan_at, crossed_known, is_crossed_known, adverts_at, behind_at, plans_at, counts_known, is_forgotten}
+use Rattle.splice_plans.specs.Reporting.{one_if, is_not_fitted, with_counted, is_out_at}
 use Rattle.splice_plans.proofs.KnownLemmas.{all-settled}
 use Rattle.splice_plans.proofs.HistoryLemmas.{armed_is_history, never-falls}
-use Rattle.known_laws.specs.Laws.{Passes, PacketsPass, PlansTellCrossings, plans_beside}
-use Rattle.known_laws.proofs.HeadLemmas.{same-switched, same-adverts, more-behind, same-history, high-next, history-next, history-now}
+use Rattle.known_laws.specs.Laws.{Passes, PacketsPass}
+use Rattle.known_laws.proofs.HeadLemmas.{same-switched, same-adverts, more-behind, same-history, high-next, history-next}
 use Rattle.known_laws.proofs.QuietLemmas.{crossed-still}
 use Rattle.known_laws.proofs.AheadLemmas.{each-map, all-in}
 use Rattle.known_laws.proofs.CountLemmas.{count-cons, same-count, counts_of, same-counts}
@@ -73,10 +72,11 @@ pub itself : (es : List Standing) → NoneMeet es → AllByRecursion (IsFound es
 itself [] n = tt
 itself (e ∷ es) n =
     let same = equal e.start in
-    let other : Standing → Type 0 = λ x. int_eq e.start x.start ≡ false in
-    (simp same refl,
-    each-map (λ x. other x × IsFound es x) (IsFound (e ∷ es)) (λ x h. let no = h.0 in simp no h.1) es
-    (each-both other (IsFound es) es (all-differ e es n.0 n.1 n.2) (itself es n.2)))
+    let other : Standing → Type 0 = λ x. int_eq e.start x.start ≡ false in (
+      simp same refl,
+      each-map (λ x. other x × IsFound es x) (IsFound (e ∷ es)) (λ x h. let no = h.0 in simp no h.1) es
+          (each-both other (IsFound es) es (all-differ e es n.0 n.1 n.2) (itself es n.2)),
+    )
   where
     equal : (a : ℤ) → int_eq a a ≡ true
     equal a = grind (arith, ints)
@@ -312,8 +312,9 @@ module _ (k : Setting) (p : List ℕ) (past : List (List ℕ)) (m : ProgramMap) 
 
     fact : (e : Standing) → IsOverNow e × IsFound es e → IsCounted line later rises v crossed crossed_before told e
     fact e h = (
-        (λ _. ap (λ o. is_played ads e && (plan_found sw ads hist next o).is_crossed) (sym h.1)),
-        (λ gone. by (is_played ads e) (is_crossed_known sw ads hist next e) (is_crossed_known sw ads hist (behind_at k past) e) (λ q. h.0 q (ap not gone))))
+      (λ _. ap (λ o. is_played ads e && (plan_found sw ads hist next o).is_crossed) (sym h.1)),
+      (λ gone. by (is_played ads e) (is_crossed_known sw ads hist next e) (is_crossed_known sw ads hist (behind_at k past) e) (λ q. h.0 q (ap not gone))),
+    )
       where
         by : (q a b : Bool) → (q ≡ true → a ≡ b) → (q && a) ≡ (q && b)
         by true a b h = h refl

@@ -1,10 +1,10 @@
 -- What is known at the end is the report.
-use Rattle.std.proofs.Common.{◌≡◌, ℕ, ◌+◌, List, [], ◌∷◌, ◌++◌, Bool, true, false, not, ◌&&◌, ◌||◌, refl, sym, ap, ◌∙◌, subst, Option, None, Some, arith, map}
+use Rattle.std.proofs.Common.{◌≡◌, ℕ, ◌+◌, List, [], ◌∷◌, Bool, true, false, not, ◌&&◌, ◌||◌, refl, sym, ap, ◌∙◌, subst, Option, None, Some, arith, map}
 use Rattle.std.specs.Prelude.{ℤ, filter, count_by, Contains, is_some, option_map}
 use Rattle.std.specs.List.{list_any, AllByRecursion}
 use Rattle.std.proofs.lemmas.Bool.{true≢false}
 use Rattle.ts_packet.proofs.Cases.{by_test}
-use Rattle.unit_stream.specs.Times.{begins, high}
+use Rattle.unit_stream.specs.Times.{high}
 use Rattle.psi_tables.specs.ProgramMap.{ProgramMap}
 use Rattle.program_follower.specs.Program.{known_map, program_in}
 use Rattle.event_table.specs.Standing.{Standing, end_of}
@@ -22,7 +22,7 @@ use Rattle.splice_plans.specs.Parts.{beside}
 use Rattle.splice_plans.specs.Known.{plan_found, crossed_known, is_crossed_known, adverts_at, behind_at, plans_at, is_forgotten}
 use Rattle.splice_plans.specs.Reporting.{one_if, is_not_fitted, is_unconditioned, is_any}
 use Rattle.splice_plans.proofs.HistoryLemmas.{armed_is_history}
-use Rattle.known_laws.specs.Laws.{plans_beside, AreFaultless, IsWhole, ReportsAreWhole, PlansTellCrossings}
+use Rattle.known_laws.specs.Laws.{AreFaultless, IsWhole, ReportsAreWhole, PlansTellCrossings}
 use Rattle.known_laws.proofs.HeadLemmas.{none-armed, history-now}
 use Rattle.known_laws.proofs.AheadLemmas.{each-map, all-in}
 use Rattle.known_laws.proofs.CountLemmas.{count-cons, same-count}
@@ -140,8 +140,11 @@ module _ (switched : List ℕ) (ads : Adverts) (steady : AreSteady ads) (events 
     as-on (pid ∷ pids) all =
         let settled = IsSettledIn switched pid all.0 ads steady events h past in
         each-map (λ e. settled e × IsAsOn pids e) (IsAsOn (pid ∷ pids))
-        (λ e s. λ plays. (crossed-as (stream switched pid) (pids_are_streams switched pid) (as_played e) (ordered e) (switched_pids_are_within switched pid all.0)
-        (end_known ads events e.start) past (s.0 plays) (near-all pid all.0 e past f), s.1 plays)) (events past)
+        (λ e s. λ plays. (
+          crossed-as (stream switched pid) (pids_are_streams switched pid) (as_played e) (ordered e) (switched_pids_are_within switched pid all.0)
+              (end_known ads events e.start) past (s.0 plays) (near-all pid all.0 e past f),
+          s.1 plays,
+        )) (events past)
         (each-both settled (IsAsOn pids) (events past) (settled-all switched pid all.0 ads steady events h [] past) (as-on pids all.1))
 
     pub all-as : AllByRecursion IsAsAll (events past)

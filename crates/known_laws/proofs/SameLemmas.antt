@@ -1,25 +1,22 @@
 -- What is known of an event goes by its start and by its ends as they were known: what becomes of it changes nothing of that.
-use Rattle.std.proofs.Common.{◌≡◌, ℕ, ◌≤◌, List, [], ◌∷◌, Bool, true, false, not, ◌&&◌, ◌||◌, ◌⊎◌, inl, inr, refl, sym, ap, ◌∙◌, Option, None, Some, length, map, if◌then◌else◌, arith}
-use Rattle.std.specs.Prelude.{ℤ, pos, ◌+ℤ◌, ◌≤ℤ◌, All, find, int_lt}
+use Rattle.std.proofs.Common.{◌≡◌, ℕ, ◌≤◌, List, [], ◌∷◌, Bool, true, false, not, ◌&&◌, ◌||◌, refl, ap, ◌∙◌, Option, None, Some, length, map, if◌then◌else◌, arith}
+use Rattle.std.specs.Prelude.{ℤ, All, find}
 use Rattle.std.specs.List.{list_any}
 use Rattle.std.specs.Ordering.{int_eq}
 use Rattle.std.proofs.lemmas.Int.{ints}
-use Rattle.std.proofs.lemmas.Bool.{true≢false}
 use Rattle.std.proofs.lemmas.List.Elements.{All-head, All-tail}
 use Rattle.ts_packet.proofs.Cases.{by_test}
 use Rattle.unit_stream.specs.Times.{begins_one, high}
 use Rattle.event_table.specs.Standing.{Standing, end_of}
 use Rattle.armed_laws.specs.Laws.{Becomes, Grows}
-use Rattle.splice_laws.specs.Splicing.{PlayedEvent, SliceUnit, TimedStream, stream, holds, comes}
-use Rattle.splice_laws.specs.Laws.{Risen}
+use Rattle.splice_laws.specs.Splicing.{PlayedEvent, SliceUnit, Stream, stream, comes}
 use Rattle.splice_laws.specs.Settled.{IsAhead, holds_now, stands_now, begun_now, closed_now}
 use Rattle.splice_laws.specs.Ends.{longest_front}
-use Rattle.splice_laws.proofs.SettledLemmas.{early, early-out}
 use Rattle.splice_plans.specs.declared.plan.Stage.{Stage}
 use Rattle.splice_plans.specs.declared.plan.Stage.TheVariants.{Waiting, Running, Closing, Over}
 use Rattle.splice_plans.specs.declared.plan.Part.{Part}
 use Rattle.splice_plans.specs.declared.plan.Plan.{Plan}
-use Rattle.splice_plans.specs.Playing.{Adverts, History, Turns, is_played, as_played, end_known, up_to_known, sent_known, sent_of_begun}
+use Rattle.splice_plans.specs.Playing.{Adverts, History, Turns, as_played, end_known, up_to_known, sent_known, sent_of_begun}
 use Rattle.splice_plans.specs.Histories.{AreSteady}
 use Rattle.splice_plans.specs.Known.{stage_known, crosses_known, crossed_known, nothing_known, padded, part_known, is_crossed_known, plan_known, plan_found}
 use Rattle.known_laws.proofs.QuietLemmas.{same-stage, same-part, same-plan}
@@ -27,7 +24,7 @@ use Rattle.known_laws.proofs.AheadLemmas.{plan-ahead}
 
 -- ---- an event's own end counts for nothing
 
-module _ (r : TimedStream) (start : ℤ) (stop other : ℤ) (name called : ℕ) (known : List (List ℕ) → Option ℤ) where
+module _ (r : Stream) (start : ℤ) (stop other : ℤ) (name called : ℕ) (known : List (List ℕ) → Option ℤ) where
   abbrev a : PlayedEvent
   a = record { start = start; stop = stop; name = name }
 
