@@ -1,7 +1,6 @@
 -- The plan of an event that stands: before the packet, once the packet has closed what it closes, and as each stream runs on.
-use Rattle.std.proofs.Common.{◌≡◌, ℕ, zero, suc, ◌+◌, ◌-◌, ◌%◌, ◌<◌, ◌≤◌, List, [], ◌∷◌, ◌++◌, Bool, true, false, not, ◌&&◌, ◌||◌, ◌⊎◌, ⊎_elim, refl, sym, ap, ◌∙◌, subst, Option, None, Some, arith, if◌then◌else◌, length, take, drop, map}
+use Rattle.std.proofs.Common.{◌≡◌, ℕ, zero, suc, ◌+◌, ◌%◌, ◌<◌, List, [], ◌∷◌, ◌++◌, Bool, true, false, not, ◌&&◌, ◌||◌, ⊎_elim, refl, sym, ap, ◌∙◌, subst, Option, None, Some, arith, if◌then◌else◌, length, take, drop, map}
 use Rattle.std.specs.Prelude.{ℤ, slice_get, slice_index_or, slice_set, Contains}
-use Rattle.std.specs.List.{list_any}
 use Rattle.std.proofs.lemmas.Bool.{true≢false, cases_order}
 use Rattle.std.proofs.lemmas.List.{length-map}
 use Rattle.ts_packet.proofs.Cases.{by_test}
@@ -10,8 +9,7 @@ use Rattle.psi_tables.specs.declared.stream.Stream.{Stream}
 use Rattle.event_table.specs.Standing.{Standing, end_of, on_ring}
 use Rattle.armed_events.specs.Arming.{stands}
 use Rattle.ad_library.specs.Advertisements.{Advertisement, count_of_kind}
-use Rattle.splice_laws.specs.Splicing.{SliceUnit, stream, Stream as Read}
-use Rattle.splice_laws.specs.Laws.{IsStream}
+use Rattle.splice_laws.specs.Splicing.{SliceUnit, stream}
 use Rattle.splice_laws.specs.Settled.{begun_now, closed_now}
 use Rattle.splice_laws.specs.Ends.{up_to_end}
 use Rattle.splice_laws.proofs.PidLemmas.{pids_are_streams}
@@ -20,7 +18,7 @@ use Rattle.splice_plans.specs.declared.plan.Stage.{Stage}
 use Rattle.splice_plans.specs.declared.plan.Stage.TheVariants.{Waiting, Running, Closing, Over}
 use Rattle.splice_plans.specs.declared.plan.Part.{Part}
 use Rattle.splice_plans.specs.declared.plan.Plan.{Plan}
-use Rattle.splice_plans.specs.Playing.{Adverts, History, is_played, as_played, end_known, sent_known, closing_at, running_at}
+use Rattle.splice_plans.specs.Playing.{Adverts, History, is_played, as_played, end_known, sent_known}
 use Rattle.splice_plans.specs.Histories.{IsHistory}
 use Rattle.splice_plans.specs.Laws.{EndsFall}
 use Rattle.splice_plans.specs.Adverts.{adverts_of, kind_and_place, units_at}
@@ -30,13 +28,13 @@ use Rattle.splice_plans.specs.Known.{stage_known, crossed_known, padded, part_kn
 use Rattle.splice_plans.proofs.AdvertLemmas.{libraries_are_steady}
 use Rattle.splice_plans.proofs.KnownLemmas.{ends_never_rise}
 use Rattle.splice_plans.proofs.AllTurnedLemmas.{set-mixed, get-mixed, all-mixed}
-use Rattle.plan_laws.proofs.StageLemmas.{shut, stage_by, stage-stays, begun-stays, closed-stays, crossed-stays, begun-some, none-begun, now-closed-begun}
-use Rattle.plan_laws.proofs.ToldLemmas.{Told, end_if}
+use Rattle.plan_laws.proofs.StageLemmas.{shut, stage_by, stage-stays, closed-stays, crossed-stays, none-begun}
+use Rattle.plan_laws.proofs.ToldLemmas.{Told}
 use Rattle.plan_laws.proofs.UnitLemmas.{stamped-stage, stamped-closing, stamped-crossed}
-use Rattle.plan_laws.proofs.UnstampedLemmas.{unstamped-begun, unstamped-closed, unstamped-stage, unstamped-crossed}
+use Rattle.plan_laws.proofs.UnstampedLemmas.{unstamped-closed, unstamped-stage, unstamped-crossed}
 use Rattle.plan_laws.proofs.DueLemmas.{sent-closed, sent-unbegun}
-use Rattle.plan_laws.proofs.PlayedLemmas.{as_played_units, slice_filed, rest_filed, whole-slice}
-use Rattle.plan_laws.proofs.EventLemmas.{closing-is, closing-length, running-is, running-length}
+use Rattle.plan_laws.proofs.PlayedLemmas.{as_played_units, slice_filed, whole-slice}
+use Rattle.plan_laws.proofs.EventLemmas.{closing-length, running-length}
 use Rattle.plan_laws.proofs.PartLemmas.{get-within, get-map, padded-set, padded-get, get-set, set-twice, length-set, map-set, map-same, any-set, any-same}
 
 get-or : (xs : List ℕ) (n x : ℕ) → slice_get xs n ≡ Some x → slice_index_or xs n x ≡ x
