@@ -9,9 +9,9 @@ use Rattle.unit_stream.specs.Times.{begins, begins_one, high, unit_time, stamp, 
 use Rattle.unit_stream.specs.Faults.{unit_fault, scrambled_one, start_fault, jumps, is_far}
 use Rattle.unit_stream.specs.declared.fault.UnitFault.{UnitFault}
 use Rattle.unit_stream.specs.declared.fault.UnitFault.TheVariants.{Scrambled, HeaderSplit, TimeJump}
-use Rattle.splice_laws.specs.Splicing.{PlayedEvent, Stream, at_or_past, below, holds, stands, begun, closed}
+use Rattle.splice_laws.specs.Splicing.{PlayedEvent, TimedStream, at_or_past, below, holds, stands, begun, closed}
 use Rattle.splice_laws.specs.Laws.{Risen, IsStream}
-use Rattle.splice_laws.specs.Settled.{IsAhead, IsSettled, IsSettledSince, IsWithin}
+use Rattle.splice_laws.specs.Settled.{IsAhead, IsSettled, IsSettledSince, NeverPassesHigh}
 use Rattle.splice_laws.proofs.SettledLemmas.{flags_settle}
 use Rattle.splice_laws.proofs.EndLemmas.{not-ahead}
 use Rattle.splice_laws.proofs.HistoryLemmas.{closed-begun, running-inside}
@@ -92,7 +92,7 @@ or-true a c h = rw h refl
 
 -- ---- an event in a stream, of which all ends were settled
 
-module _ (r : Stream) (k : IsStream r) (w : IsWithin r) (x : PlayedEvent) (known : List (List ℕ) → Option ℤ) where
+module _ (r : TimedStream) (k : IsStream r) (w : NeverPassesHigh r) (x : PlayedEvent) (known : List (List ℕ) → Option ℤ) where
   abbrev pub SettledAll : List (List ℕ) → Type 0
   SettledAll [] = Unit {0}
   SettledAll (p ∷ past) = IsSettled x (known (p ∷ past)) (r.high (p ∷ past)) × SettledAll past

@@ -4,9 +4,9 @@ use Rattle.std.specs.Prelude.{ℤ, ◌≤ℤ◌, is_some}
 use Rattle.std.proofs.lemmas.Int.{ints}
 use Rattle.std.proofs.lemmas.Bool.{true≢false}
 use Rattle.ts_packet.proofs.Cases.{by_test}
-use Rattle.splice_laws.specs.Splicing.{PlayedEvent, Stream, at_or_past, below, holds, stands, comes, passed, begun, closed}
+use Rattle.splice_laws.specs.Splicing.{PlayedEvent, TimedStream, at_or_past, below, holds, stands, comes, passed, begun, closed}
 use Rattle.splice_laws.specs.Laws.{IsStream}
-use Rattle.splice_laws.specs.Settled.{IsAhead, IsSettled, IsWithin}
+use Rattle.splice_laws.specs.Settled.{IsAhead, IsSettled, NeverPassesHigh}
 use Rattle.splice_laws.proofs.EndLemmas.{not-ahead}
 use Rattle.splice_laws.proofs.TimeLemmas.{holds-below, not-below, timed_past}
 use Rattle.splice_laws.proofs.HistoryLemmas.{passed-lower, begun-passed, passed-dead}
@@ -101,7 +101,7 @@ quiet-sum c false false a b h i j = rw (i, j, h) refl
 
 -- ---- an edge
 
-module _ (r : Stream) (k : IsStream r) where
+module _ (r : TimedStream) (k : IsStream r) where
   -- a unit below an edge that the stream has passed has crossed it
   edge-crossed : (edge : ℤ) (past : List (List ℕ)) → passed r edge past ≡ true → below edge (r.time past) ≡ true → is_crossed r edge past ≡ true
   edge-crossed edge [] h b = h
@@ -116,7 +116,7 @@ module _ (r : Stream) (k : IsStream r) where
       only false true c n h = absurd (true≢false n)
       only false false c n h = h
 
-  passed-behind : IsWithin r → (edge : ℤ) (past : List (List ℕ)) → passed r edge past ≡ true → IsAhead (r.high past) edge → ⊥
+  passed-behind : NeverPassesHigh r → (edge : ℤ) (past : List (List ℕ)) → passed r edge past ≡ true → IsAhead (r.high past) edge → ⊥
   passed-behind w edge [] h a = true≢false (sym h)
   passed-behind w edge (p ∷ past) h a = by_test (passed r edge past)
       (λ was. passed-behind w edge past was (ahead-earlier (r.high past) (r.high (p ∷ past)) edge (k.rises p past) a))
@@ -186,7 +186,7 @@ module _ (r : Stream) (k : IsStream r) where
     AllNear [] = Unit {0}
     AllNear (p ∷ past) = (r.begins p past ≡ true → stands x (r.high past) ≡ false → (r.time (p ∷ past) ≡ r.time past) ⊎ (below x.stop (r.time (p ∷ past)) ≡ false)) × AllNear past
 
-    module _ (w : IsWithin r) (known : List (List ℕ) → Option ℤ) where
+    module _ (w : NeverPassesHigh r) (known : List (List ℕ) → Option ℤ) where
       abbrev crossed_in_all : List (List ℕ) → Bool
       crossed_in_all past = is_crossed r x.start past || is_crossed r x.stop past
 

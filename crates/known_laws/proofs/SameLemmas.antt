@@ -9,7 +9,7 @@ use Rattle.ts_packet.proofs.Cases.{by_test}
 use Rattle.unit_stream.specs.Times.{begins_one, high}
 use Rattle.event_table.specs.Standing.{Standing, end_of}
 use Rattle.armed_laws.specs.Laws.{Becomes, Grows}
-use Rattle.splice_laws.specs.Splicing.{PlayedEvent, SliceUnit, Stream, stream, comes}
+use Rattle.splice_laws.specs.Splicing.{PlayedEvent, SliceUnit, TimedStream, stream, comes}
 use Rattle.splice_laws.specs.Settled.{IsAhead, holds_now, stands_now, begun_now, closed_now}
 use Rattle.splice_laws.specs.Ends.{longest_front}
 use Rattle.splice_plans.specs.declared.plan.Stage.{Stage}
@@ -24,7 +24,7 @@ use Rattle.known_laws.proofs.AheadLemmas.{plan-ahead}
 
 -- ---- an event's own end counts for nothing
 
-module _ (r : Stream) (start : ℤ) (stop other : ℤ) (name called : ℕ) (known : List (List ℕ) → Option ℤ) where
+module _ (r : TimedStream) (start : ℤ) (stop other : ℤ) (name called : ℕ) (known : List (List ℕ) → Option ℤ) where
   abbrev a : PlayedEvent
   a = record { start = start; stop = stop; name = name }
 

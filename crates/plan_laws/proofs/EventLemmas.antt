@@ -1,13 +1,12 @@
 -- What goes out of an event that stands, in one stream, where the packet closes it there, and where it runs on.
-use Rattle.std.proofs.Common.{◌≡◌, ℕ, ◌+◌, List, [], ◌∷◌, ◌++◌, Bool, true, false, not, ◌&&◌, ◌||◌, ◌⊎◌, inl, inr, refl, sym, ap, ◌∙◌, Option, None, Some, arith, if◌then◌else◌, length, drop, length-append}
-use Rattle.std.specs.Prelude.{ℤ, pos, ◌+ℤ◌, ◌-ℤ◌, ◌≤ℤ◌, int_lt, unsigned_abs, Contains}
+use Rattle.std.proofs.Common.{◌≡◌, ℕ, ◌+◌, List, [], ◌∷◌, Bool, true, false, ◌||◌, refl, sym, ap, ◌∙◌, Option, None, Some, arith, if◌then◌else◌, length, drop, length-append}
+use Rattle.std.specs.Prelude.{ℤ, pos, ◌+ℤ◌, ◌-ℤ◌, int_lt, unsigned_abs}
 use Rattle.std.proofs.lemmas.Int.{ints}
 use Rattle.std.proofs.lemmas.Bool.{true≢false}
 use Rattle.ts_packet.proofs.Cases.{by_test}
-use Rattle.unit_stream.specs.Times.{begins_one, high}
 use Rattle.event_table.specs.Standing.{Standing, end_of}
 use Rattle.ad_library.specs.Advertisements.{Advertisement}
-use Rattle.splice_laws.specs.Splicing.{PlayedEvent, SliceUnit, TimedStream, stream}
+use Rattle.splice_laws.specs.Splicing.{PlayedEvent, SliceUnit, TimedStream}
 use Rattle.splice_laws.specs.Laws.{IsStream}
 use Rattle.splice_laws.specs.Settled.{IsAhead, NeverPassesHigh, begun_now, closed_now}
 use Rattle.splice_laws.specs.Ends.{up_to_end, longest_front}

@@ -1,7 +1,7 @@
 -- The joined laws of a unit start: the plans.
-use Rattle.std.proofs.Common.{◌≡◌, ℕ, List, [], ◌∷◌, ◌++◌, refl, sym, ap, ◌∙◌, subst, Option, Some, map}
+use Rattle.std.proofs.Common.{◌≡◌, ℕ, List, ◌∷◌, sym, ap, ◌∙◌, subst, Option, Some}
 use Rattle.std.specs.Prelude.{ℤ, slice_get, slice_index_or}
-use Rattle.unit_stream.specs.Times.{begins, stamp, high}
+use Rattle.unit_stream.specs.Times.{stamp, high}
 use Rattle.psi_tables.specs.declared.stream.Stream.{Stream}
 use Rattle.event_table.specs.Standing.{Standing}
 use Rattle.armed_events.specs.Arming.{standing_at}
@@ -14,7 +14,7 @@ use Rattle.splice_plans.specs.Adverts.{adverts_of}
 use Rattle.splice_plans.specs.Fronts.{closed_plans, all_ran}
 use Rattle.splice_plans.specs.Known.{AreSeparate, plan_at, behind_at}
 use Rattle.splice_plans.proofs.HistoryLemmas.{armed_is_history}
-use Rattle.plan_laws.specs.Laws.{Starts, IsReady, PlansGoOn}
+use Rattle.plan_laws.specs.Laws.{Starts, PlansGoOn}
 use Rattle.plan_laws.proofs.StandingLemmas.{pids_in}
 use Rattle.plan_laws.proofs.RunLemmas.{events-are, events-stay, pids-are, has-head, high-is, behind-are}
 

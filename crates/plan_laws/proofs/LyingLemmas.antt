@@ -1,5 +1,5 @@
 -- Whether the packet's unit lies in a played event, as the plans and the table say.
-use Rattle.std.proofs.Common.{◌≡◌, ℕ, ◌%◌, List, [], ◌∷◌, Bool, true, false, not, ◌&&◌, ◌||◌, refl, sym, ap, ◌∙◌, subst, Option, None, Some, arith, if◌then◌else◌, map, length}
+use Rattle.std.proofs.Common.{◌≡◌, ℕ, ◌%◌, List, [], ◌∷◌, Bool, true, false, not, ◌&&◌, ◌||◌, refl, sym, ap, ◌∙◌, subst, Option, None, Some, arith, map}
 use Rattle.std.specs.Prelude.{ℤ, pos, ◌+ℤ◌, ◌≤ℤ◌, int_le, int_lt, slice_get, slice_index_or, filter}
 use Rattle.std.specs.List.{list_any, AllByRecursion}
 use Rattle.std.proofs.lemmas.Int.{ints}
@@ -8,33 +8,31 @@ use Rattle.std.proofs.lemmas.List.{length-map}
 use lib.Signed.{le_z, lt_z}
 use Rattle.ts_packet.proofs.Cases.{by_test}
 use Rattle.pes_time.specs.Line.{place}
-use Rattle.unit_stream.specs.Times.{begins, begins_one, stamp, high, unit_time}
+use Rattle.unit_stream.specs.Times.{begins, stamp, high, unit_time}
 use Rattle.psi_tables.specs.declared.stream.Stream.{Stream}
 use Rattle.event_table.specs.Standing.{Standing, end_of, covers}
 use Rattle.armed_events.specs.Arming.{stands, standing_at}
 use Rattle.armed_events.specs.Valuing.{values_by}
 use Rattle.ad_library.specs.Advertisements.{Advertisement}
 use Rattle.splice_laws.specs.Splicing.{holds, stream}
-use Rattle.splice_plans.specs.declared.plan.Stage.{Stage}
-use Rattle.splice_plans.specs.declared.plan.Stage.TheVariants.{Waiting}
 use Rattle.splice_plans.specs.declared.plan.Part.{Part}
 use Rattle.splice_plans.specs.declared.plan.Plan.{Plan}
 use Rattle.splice_plans.specs.Playing.{Adverts, History, is_played, as_played, is_inside}
-use Rattle.splice_plans.specs.Switching.{Setting, switched_at, high_at, events_at}
+use Rattle.splice_plans.specs.Switching.{Setting, switched_at, events_at}
 use Rattle.splice_plans.specs.Histories.{IsHistory}
 use Rattle.splice_plans.specs.Adverts.{adverts_of}
 use Rattle.splice_plans.specs.Turning.{IsNearHigh, part_of}
 use Rattle.splice_plans.specs.Parts.{beside, is_waiting}
 use Rattle.splice_plans.specs.Fronts.{IsNearTime, closed_plans, is_left}
 use Rattle.splice_plans.specs.Known.{AreSeparate, plan_at, is_crossed_known}
-use Rattle.plan_laws.specs.Laws.{Starts, IsReady, UnitsLieAsLeft}
+use Rattle.plan_laws.specs.Laws.{Starts, UnitsLieAsLeft}
 use Rattle.plan_laws.proofs.StageLemmas.{stage_by}
 use Rattle.plan_laws.proofs.ToldLemmas.{Told}
 use Rattle.plan_laws.proofs.UnitLemmas.{holds-is, covers-is, played-begun, never-staged}
 use Rattle.plan_laws.proofs.PartLemmas.{get-within, get-map}
 use Rattle.plan_laws.proofs.PlanLemmas.{known, flag_begun, flag_closed, stage_at, mid_part, mixed_parts, mixed_plan, part-there, falls}
 use Rattle.plan_laws.proofs.StandingLemmas.{pids_in}
-use Rattle.plan_laws.proofs.RunLemmas.{events-are, pids-are, turn, small, all-are-told, between-are, time-same}
+use Rattle.plan_laws.proofs.RunLemmas.{events-are, pids-are, small, all-are-told, between-are, time-same}
 use Rattle.plan_laws.proofs.JoinedLemmas.{streams, behind, hist, adverts-are, there, separate, history, stay}
 use Rattle.plan_laws.proofs.TimeLemmas.{starts_are_near}
 use Rattle.splice_plans.specs.Turning.{waiting}

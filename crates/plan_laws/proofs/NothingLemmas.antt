@@ -1,10 +1,9 @@
 -- Where there is no greatest time, no event stands, and nothing goes out.
-use Rattle.std.proofs.Common.{◌≡◌, ℕ, ◌+◌, ◌==◌, List, [], ◌∷◌, ◌++◌, Bool, true, false, refl, sym, ap, ◌∙◌, subst, Option, None, Some, if◌then◌else◌}
+use Rattle.std.proofs.Common.{◌≡◌, ℕ, ◌+◌, ◌==◌, List, [], ◌∷◌, refl, sym, ap, ◌∙◌, subst, Option, None, Some}
 use Rattle.std.specs.Prelude.{ℤ, All}
 use Rattle.std.proofs.lemmas.List.Elements.{All-head}
 use Rattle.ts_packet.proofs.Cases.{by_test}
 use Rattle.ts_packet.specs.Numbering.{Step}
-use Rattle.pes_time.specs.Line.{place, raise}
 use Rattle.unit_stream.specs.Times.{stamp, raised}
 use Rattle.psi_tables.specs.declared.stream.Stream.{Stream}
 use Rattle.event_table.specs.Standing.{Standing, IsWithin}
@@ -13,7 +12,7 @@ use Rattle.ad_library.specs.Advertisements.{Advertisement}
 use Rattle.splice_plans.specs.Switching.{streams_at, high_at}
 use Rattle.splice_plans.specs.Fronts.{closing_packets, closed_plans, all_running, running_of, all_ran}
 use Rattle.splice_plans.specs.Known.{behind_at, plans_at}
-use Rattle.plan_laws.specs.Laws.{IsReady, NothingStands, standing_before, steps_before, steps_with}
+use Rattle.plan_laws.specs.Laws.{NothingStands, standing_before, steps_before, steps_with}
 use Rattle.plan_laws.proofs.TimeLemmas.{high-raised}
 
 module _ (filed : ℕ → Option Advertisement) (streams : List Stream) (top : Option ℤ) (steps : ℕ → List Step) where
@@ -55,7 +54,8 @@ nothing_stands k filed n pid of p past r none =
     let steps : List Standing → ℕ → List Step = λ es. steps_with n (closing_packets filed ss n of line (stamp p) (before n) es (values_by v es)) before in
     subst (λ es. (all_running filed ss top es (steps es) (closed_plans filed ss n of line (stamp p) es (values_by v es)) 0 ss ≡ [])
     × ((i : ℕ) → running_of filed ss top es (steps es) (closed_plans filed ss n of line (stamp p) es (values_by v es)) 0 ss i ≡ [])
-    × (all_ran filed ss top es (closed_plans filed ss n of line (stamp p) es (values_by v es)) 0 ss ≡ closed_plans filed ss n of line (stamp p) es (values_by v es))) (sym empty)
-    (ap (λ plans. all_running filed ss top [] (steps []) plans 0 ss) closed ∙ none-running filed ss top (steps []) ss 0,
-    λ i. ap (λ plans. running_of filed ss top [] (steps []) plans 0 ss i) closed ∙ none-in filed ss top (steps []) ss 0 i,
-    ap (λ plans. all_ran filed ss top [] plans 0 ss) closed ∙ none-ran filed ss top (steps []) ss 0 ∙ sym closed)
+    × (all_ran filed ss top es (closed_plans filed ss n of line (stamp p) es (values_by v es)) 0 ss ≡ closed_plans filed ss n of line (stamp p) es (values_by v es))) (sym empty) (
+      ap (λ plans. all_running filed ss top [] (steps []) plans 0 ss) closed ∙ none-running filed ss top (steps []) ss 0,
+      λ i. ap (λ plans. running_of filed ss top [] (steps []) plans 0 ss i) closed ∙ none-in filed ss top (steps []) ss 0 i,
+      ap (λ plans. all_ran filed ss top [] plans 0 ss) closed ∙ none-ran filed ss top (steps []) ss 0 ∙ sym closed,
+    )

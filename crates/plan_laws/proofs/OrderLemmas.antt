@@ -1,5 +1,5 @@
 -- Of events of which at most one puts something in, what goes out in order of start is what goes out in order of arming.
-use Rattle.std.proofs.Common.{◌≡◌, List, [], ◌∷◌, ◌++◌, Bool, true, false, ◌⊎◌, inl, inr, refl, sym, ap, ◌∙◌, if◌then◌else◌}
+use Rattle.std.proofs.Common.{◌≡◌, List, [], ◌∷◌, ◌++◌, Bool, false, ◌⊎◌, inl, inr, refl, sym, ap, ◌∙◌}
 use Rattle.std.specs.Prelude.{int_lt, filter, flat_map}
 use Rattle.std.specs.List.{AllByRecursion}
 use Rattle.ts_packet.proofs.Cases.{by_test}

@@ -1,6 +1,6 @@
 -- The packets of the event that runs in a stream are those of the moves that put it in.
-use Rattle.std.proofs.Common.{◌≡◌, ℕ, ◌+◌, ◌%◌, List, [], ◌∷◌, ◌++◌, Bool, true, false, not, ◌&&◌, refl, sym, ap, ◌∙◌, subst, Option, None, Some, if◌then◌else◌, length, take, map}
-use Rattle.std.specs.Prelude.{ℤ, slice_get, find, flat_map}
+use Rattle.std.proofs.Common.{◌≡◌, ℕ, ◌%◌, List, [], ◌∷◌, ◌++◌, Bool, true, false, refl, sym, ap, ◌∙◌, Option, if◌then◌else◌, length, take, map}
+use Rattle.std.specs.Prelude.{ℤ, flat_map}
 use Rattle.std.specs.List.{AllByRecursion}
 use Rattle.std.proofs.lemmas.Bool.{true≢false}
 use Rattle.std.proofs.lemmas.List.{append-nil}
@@ -23,12 +23,11 @@ use Rattle.splice_plans.specs.Playing.{History, as_played, running_at}
 use Rattle.splice_plans.specs.Histories.{IsHistory}
 use Rattle.splice_plans.specs.Adverts.{packed_units}
 use Rattle.splice_plans.specs.Slicing.{slice_packets}
-use Rattle.splice_plans.specs.Turning.{part_of}
 use Rattle.splice_plans.specs.Parts.{beside, delta_in, packets_in, pair_packets, found_packets, running_packets, runs_in, reached_by}
 use Rattle.plan_laws.proofs.DueLemmas.{running-none}
 use Rattle.plan_laws.proofs.PlayedLemmas.{pushed, put_on, as_played_units, rest_filed, rest-packets, rest-steps}
 use Rattle.plan_laws.proofs.EventLemmas.{running-is}
-use Rattle.plan_laws.proofs.PlanLemmas.{switched, ads, known, sent_at, flag_closed, IsOf, contained, falls, slice-is, now-end, unturned, still, mid-there, runs-is, pick-second, shut-flags, none-begins}
+use Rattle.plan_laws.proofs.PlanLemmas.{switched, ads, known, sent_at, flag_closed, IsOf, contained, falls, slice-is, now-end, mid-there, runs-is, pick-second, shut-flags, none-begins}
 use Rattle.plan_laws.proofs.RunningLemmas.{TellsOf, runs_on, mixed, NoneRun, others-idle}
 
 module _ (filed : ℕ → Option Advertisement) (streams : List Stream) (events : History) (p : List ℕ) (past : List (List ℕ))
@@ -127,12 +126,15 @@ module _ (filed : ℕ → Option Advertisement) (streams : List Stream) (events 
 
         runs : runs_on filed streams events p past h turn q e ≡ true
             → (found (e ∷ es) ≡ out_after packed_units done (put_on q (flat_map (rule q) (e ∷ es)))) × (counter_steps packed_units q (pushed done (put_on q (flat_map (rule q) (e ∷ es)))) ≡ put_in (found (e ∷ es)) steps)
-        runs y = (here y ∙ one-out e told.0 y ∙ ap (λ us. out_after packed_units done (put_on q us)) (sym (only y)),
-          ap (λ us. counter_steps packed_units q (pushed done (put_on q us))) (only y) ∙ one-steps e told.0 y ∙ ap (λ ps. put_in ps steps) (sym (here y)))
+        runs y = (
+          here y ∙ one-out e told.0 y ∙ ap (λ us. out_after packed_units done (put_on q us)) (sym (only y)),
+          ap (λ us. counter_steps packed_units q (pushed done (put_on q us))) (only y) ∙ one-steps e told.0 y ∙ ap (λ ps. put_in ps steps) (sym (here y)),
+        )
 
         idle : (found es ≡ out_after packed_units done (put_on q (flat_map (rule q) es))) × (counter_steps packed_units q (pushed done (put_on q (flat_map (rule q) es))) ≡ put_in (found es) steps)
             → runs_on filed streams events p past h turn q e ≡ false
             → (found (e ∷ es) ≡ out_after packed_units done (put_on q (flat_map (rule q) (e ∷ es)))) × (counter_steps packed_units q (pushed done (put_on q (flat_map (rule q) (e ∷ es)))) ≡ put_in (found (e ∷ es)) steps)
-        idle i y =
-            (later y ∙ i.0 ∙ ap (λ us. out_after packed_units done (put_on q us)) (sym (rest y)),
-            ap (λ us. counter_steps packed_units q (pushed done (put_on q us))) (rest y) ∙ i.1 ∙ ap (λ ps. put_in ps steps) (sym (later y)))
+        idle i y = (
+          later y ∙ i.0 ∙ ap (λ us. out_after packed_units done (put_on q us)) (sym (rest y)),
+          ap (λ us. counter_steps packed_units q (pushed done (put_on q us))) (rest y) ∙ i.1 ∙ ap (λ ps. put_in ps steps) (sym (later y)),
+        )

@@ -1,7 +1,6 @@
 -- The plan of an event that stands: before the packet, once the packet has closed what it closes, and as each stream runs on.
-use Rattle.std.proofs.Common.{◌≡◌, ℕ, zero, suc, ◌+◌, ◌-◌, ◌%◌, ◌<◌, ◌≤◌, List, [], ◌∷◌, ◌++◌, Bool, true, false, not, ◌&&◌, ◌||◌, ◌⊎◌, ⊎_elim, refl, sym, ap, ◌∙◌, subst, Option, None, Some, arith, if◌then◌else◌, length, take, drop, map}
+use Rattle.std.proofs.Common.{◌≡◌, ℕ, zero, suc, ◌+◌, ◌%◌, ◌<◌, List, [], ◌∷◌, ◌++◌, Bool, true, false, not, ◌&&◌, ◌||◌, ⊎_elim, refl, sym, ap, ◌∙◌, subst, Option, None, Some, arith, if◌then◌else◌, length, take, drop, map}
 use Rattle.std.specs.Prelude.{ℤ, slice_get, slice_index_or, slice_set, Contains}
-use Rattle.std.specs.List.{list_any}
 use Rattle.std.proofs.lemmas.Bool.{true≢false, cases_order}
 use Rattle.std.proofs.lemmas.List.{length-map}
 use Rattle.ts_packet.proofs.Cases.{by_test}
@@ -10,8 +9,7 @@ use Rattle.psi_tables.specs.declared.stream.Stream.{Stream}
 use Rattle.event_table.specs.Standing.{Standing, end_of, on_ring}
 use Rattle.armed_events.specs.Arming.{stands}
 use Rattle.ad_library.specs.Advertisements.{Advertisement, count_of_kind}
-use Rattle.splice_laws.specs.Splicing.{SliceUnit, stream, TimedStream as Read}
-use Rattle.splice_laws.specs.Laws.{IsStream}
+use Rattle.splice_laws.specs.Splicing.{SliceUnit, stream}
 use Rattle.splice_laws.specs.Settled.{begun_now, closed_now}
 use Rattle.splice_laws.specs.Ends.{up_to_end}
 use Rattle.splice_laws.proofs.PidLemmas.{pids_are_streams}
@@ -20,7 +18,7 @@ use Rattle.splice_plans.specs.declared.plan.Stage.{Stage}
 use Rattle.splice_plans.specs.declared.plan.Stage.TheVariants.{Waiting, Running, Closing, Over}
 use Rattle.splice_plans.specs.declared.plan.Part.{Part}
 use Rattle.splice_plans.specs.declared.plan.Plan.{Plan}
-use Rattle.splice_plans.specs.Playing.{Adverts, History, is_played, as_played, end_known, sent_known, closing_at, running_at}
+use Rattle.splice_plans.specs.Playing.{Adverts, History, is_played, as_played, end_known, sent_known}
 use Rattle.splice_plans.specs.Histories.{IsHistory}
 use Rattle.splice_plans.specs.Laws.{EndsFall}
 use Rattle.splice_plans.specs.Adverts.{adverts_of, kind_and_place, units_at}
@@ -30,13 +28,13 @@ use Rattle.splice_plans.specs.Known.{stage_known, crossed_known, padded, part_kn
 use Rattle.splice_plans.proofs.AdvertLemmas.{libraries_are_steady}
 use Rattle.splice_plans.proofs.KnownLemmas.{ends_never_rise}
 use Rattle.splice_plans.proofs.AllTurnedLemmas.{set-mixed, get-mixed, all-mixed}
-use Rattle.plan_laws.proofs.StageLemmas.{shut, stage_by, stage-stays, begun-stays, closed-stays, crossed-stays, begun-some, none-begun, now-closed-begun}
-use Rattle.plan_laws.proofs.ToldLemmas.{Told, end_if}
+use Rattle.plan_laws.proofs.StageLemmas.{shut, stage_by, stage-stays, closed-stays, crossed-stays, none-begun}
+use Rattle.plan_laws.proofs.ToldLemmas.{Told}
 use Rattle.plan_laws.proofs.UnitLemmas.{stamped-stage, stamped-closing, stamped-crossed}
-use Rattle.plan_laws.proofs.UnstampedLemmas.{unstamped-begun, unstamped-closed, unstamped-stage, unstamped-crossed}
+use Rattle.plan_laws.proofs.UnstampedLemmas.{unstamped-closed, unstamped-stage, unstamped-crossed}
 use Rattle.plan_laws.proofs.DueLemmas.{sent-closed, sent-unbegun}
-use Rattle.plan_laws.proofs.PlayedLemmas.{as_played_units, slice_filed, rest_filed, whole-slice}
-use Rattle.plan_laws.proofs.EventLemmas.{closing-is, closing-length, running-is, running-length}
+use Rattle.plan_laws.proofs.PlayedLemmas.{as_played_units, slice_filed, whole-slice}
+use Rattle.plan_laws.proofs.EventLemmas.{closing-length, running-length}
 use Rattle.plan_laws.proofs.PartLemmas.{get-within, get-map, padded-set, padded-get, get-set, set-twice, length-set, map-set, map-same, any-set, any-same}
 
 get-or : (xs : List ℕ) (n x : ℕ) → slice_get xs n ≡ Some x → slice_index_or xs n x ≡ x
@@ -66,7 +64,7 @@ none-begins (y ∷ xs) (suc n) pid p past h b = none-begins xs n pid p past h (o
 
 -- ---- one part changed
 
-module _ (filed : ℕ → Option Advertisement) (streams : List TimedStream) (n : ℕ) (of : TimedStream) (small : n % 8 ≡ n) where
+module _ (filed : ℕ → Option Advertisement) (streams : List Stream) (n : ℕ) (of : Stream) (small : n % 8 ≡ n) where
   -- what is left of an event in its part
   abbrev left_of : Standing → ℕ → Option ℕ → ℕ
   left_of e sent reached = length (units_in filed streams n of (on_ring e) sent reached)
@@ -171,9 +169,9 @@ set-same (y ∷ xs) (suc i) d x l h = ap (λ z. y ∷ z) (set-same xs i d x (ome
 
 -- ---- in a run
 
-module _ (filed : ℕ → Option Advertisement) (streams : List TimedStream) (events : History) (p : List ℕ) (past : List (List ℕ)) where
+module _ (filed : ℕ → Option Advertisement) (streams : List Stream) (events : History) (p : List ℕ) (past : List (List ℕ)) where
   abbrev pub switched : List ℕ
-  switched = map (λ (s : TimedStream). s.pid) streams
+  switched = map (λ (s : Stream). s.pid) streams
 
   abbrev pub ads : Adverts
   ads = adverts_of filed streams
@@ -211,7 +209,7 @@ module _ (filed : ℕ → Option Advertisement) (streams : List TimedStream) (ev
   mixed_plan i e = record { parts = padded (mixed_parts i e); is_crossed = is_crossed_known switched ads events (p ∷ past) e }
 
   -- what is played on the PID is the slice of this stream of the advertisement
-  pub record IsOf (i q : ℕ) (of : TimedStream) : Type 0 where
+  pub record IsOf (i q : ℕ) (of : Stream) : Type 0 where
     pub there : slice_get switched i ≡ Some q
     pub pid_is : of.pid ≡ q
     pub placed : kind_and_place q [] streams ≡ Some (of.kind, count_of_kind of.kind (take i streams))
@@ -219,7 +217,7 @@ module _ (filed : ℕ → Option Advertisement) (streams : List TimedStream) (ev
   pub falls : IsHistory (high switched) events → (e : Standing) (i q : ℕ) → slice_get switched i ≡ Some q → EndsFall (stream switched q) (as_played e) (known e)
   falls h e i q is = ends_never_rise switched q (contained switched i q is) ads (libraries_are_steady filed streams) events h (as_played e)
 
-  pub slice-is : (e : Standing) (i q : ℕ) (of : TimedStream) → IsOf i q of → up_to_end (end_of e) (ads.units e q) ≡ as_played_units e.start (filed e.program) (slice_filed e.start of.kind (count_of_kind of.kind (take i streams)) e.length (filed e.program))
+  pub slice-is : (e : Standing) (i q : ℕ) (of : Stream) → IsOf i q of → up_to_end (end_of e) (ads.units e q) ≡ as_played_units e.start (filed e.program) (slice_filed e.start of.kind (count_of_kind of.kind (take i streams)) e.length (filed e.program))
   slice-is e i q of o =
       ap (λ w. up_to_end (end_of e) (units_at e.start (filed e.program) w)) o.placed ∙ whole-slice e.start of.kind (count_of_kind of.kind (take i streams)) e.length (filed e.program)
 
@@ -276,7 +274,7 @@ module _ (filed : ℕ → Option Advertisement) (streams : List TimedStream) (ev
     -- ---- where it has one
 
     module _ (n pid : ℕ) (there : slice_get switched n ≡ Some pid) (small : n % 8 ≡ n) (others : (j q : ℕ) → slice_get switched j ≡ Some q → (j ≡ n → ⊥) → begins q p past ≡ false)
-        (b : begins pid p past ≡ true) (t : ℤ) (time_is : unit_time switched pid (p ∷ past) ≡ Some t) (up : stands (high switched past) e ≡ true) (of : TimedStream) (o : IsOf n pid of) where
+        (b : begins pid p past ≡ true) (t : ℤ) (time_is : unit_time switched pid (p ∷ past) ≡ Some t) (up : stands (high switched past) e ≡ true) (of : Stream) (o : IsOf n pid of) where
       abbrev turn_stage : Stage
       turn_stage = turned e t (is_played ads e) (stage_at e pid past)
 
@@ -337,7 +335,7 @@ module _ (filed : ℕ → Option Advertisement) (streams : List TimedStream) (ev
 
     -- ---- one stream runs on
 
-    module _ (i q : ℕ) (small : i % 8 ≡ i) (of : TimedStream) (o : IsOf i q of) where
+    module _ (i q : ℕ) (small : i % 8 ≡ i) (of : Stream) (o : IsOf i q of) where
       as-many : length (map (now_part e) switched) ≡ length (map (mid_part e) switched)
       as-many = length-map switched (now_part e) ∙ sym (length-map switched (mid_part e))
 

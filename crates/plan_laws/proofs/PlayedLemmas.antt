@@ -1,28 +1,27 @@
 -- The units of an advertisement that are due of an event are those of its slice that are, and their packets are those of the moves.
-use Rattle.std.proofs.Common.{◌≡◌, ℕ, zero, suc, ◌+◌, ◌-◌, ◌%◌, ◌^◌, ◌==◌, ◌<◌, List, [], ◌∷◌, ◌++◌, Bool, true, false, ◌||◌, ◌⊎◌, inl, inr, refl, sym, ap, ◌∙◌, append_assoc, Option, None, Some, arith, if◌then◌else◌, length, drop, take, map, reverse}
-use Rattle.std.specs.Prelude.{ℤ, pos, negsuc, ◌+ℤ◌, ◌-ℤ◌, ◌≤ℤ◌, slice_index_or, option_map}
+use Rattle.std.proofs.Common.{◌≡◌, ℕ, zero, suc, ◌==◌, ◌<◌, List, [], ◌∷◌, ◌++◌, Bool, true, false, ◌||◌, inl, inr, refl, sym, ap, ◌∙◌, append_assoc, Option, None, Some, arith, length, drop, take, map, reverse}
+use Rattle.std.specs.Prelude.{ℤ, pos, negsuc, ◌+ℤ◌, ◌-ℤ◌, slice_index_or, option_map}
 use Rattle.std.proofs.lemmas.Int.{ints}
 use Rattle.std.proofs.lemmas.Bool.{true≢false}
 use Rattle.std.proofs.lemmas.Bool.Decides.{nat_tests}
 use Rattle.std.proofs.lemmas.List.{append-nil, reverse-append, length-map}
 use lib.Signed.{le_z, lt_z}
 use Rattle.ts_packet.proofs.Cases.{by_test}
-use Rattle.ts_packet.specs.Numbering.{Step}
 use Rattle.pes_time.specs.Line.{ring_of}
 use Rattle.pes_time.specs.Stamps.{restamped}
 use Rattle.psi_tables.specs.declared.stream.Stream.{Stream}
 use Rattle.unit_stream.specs.UnitPackets.{put_in}
 use Rattle.unit_packing.specs.Packing.{unit_packets}
 use Rattle.unit_packing.specs.Putting.{next_number}
-use Rattle.splice_laws.specs.Splicing.{SliceUnit, due}
+use Rattle.splice_laws.specs.Splicing.{SliceUnit}
 use Rattle.splice_laws.specs.Streams.{is_among, IsOnce}
 use Rattle.splice_laws.specs.Ends.{up_to_end}
 use Rattle.splice_laws.proofs.EndLemmas.{run_of}
 use Rattle.output_laws.specs.Output.{Move, Put, Packing, counter_steps, out_at, out_after}
-use Rattle.ad_library.specs.Advertisements.{AdvertUnit, AdvertStream, Advertisement, stream_at, count_of_kind, slice_of, played_bytes}
+use Rattle.ad_library.specs.Advertisements.{AdvertUnit, AdvertStream, Advertisement, stream_at, count_of_kind, slice_of}
 use Rattle.ad_library.specs.Library.{slice_held}
 use Rattle.splice_plans.specs.Adverts.{slice_unit, units_of, kind_and_place, units_at, packed_units}
-use Rattle.splice_plans.specs.Slicing.{is_due, due_units, delta_at, moved_packets, slice_packets}
+use Rattle.splice_plans.specs.Slicing.{due_units, delta_at, moved_packets, slice_packets}
 use Rattle.splice_plans.specs.Parts.{units_or, delta_in}
 use Rattle.splice_plans.proofs.SliceLemmas.{put_in-append}
 

@@ -1,39 +1,37 @@
 -- A past behind a head, and the plans of the events that stand there, through a unit start.
-use Rattle.std.proofs.Common.{◌≡◌, ℕ, zero, suc, ◌+◌, ◌%◌, ◌<◌, ◌≤◌, List, [], ◌∷◌, ◌++◌, Bool, true, false, not, ◌&&◌, ◌||◌, refl, sym, ap, ◌∙◌, subst, append_assoc, Option, None, Some, arith, add-one, if◌then◌else◌, length, take, drop, map, length-append}
-use Rattle.std.specs.Prelude.{ℤ, slice_get, slice_index_or, filter, is_some, option_map}
+use Rattle.std.proofs.Common.{◌≡◌, ℕ, ◌+◌, ◌%◌, ◌<◌, ◌≤◌, List, [], ◌∷◌, ◌++◌, Bool, true, false, refl, sym, ap, ◌∙◌, subst, append_assoc, Option, None, Some, arith, if◌then◌else◌, length, drop, map, length-append}
+use Rattle.std.specs.Prelude.{slice_get, slice_index_or, is_some, option_map}
 use Rattle.std.specs.List.{AllByRecursion}
 use Rattle.std.proofs.lemmas.Bool.{true≢false}
-use Rattle.std.proofs.lemmas.List.{length-map, append-nil}
+use Rattle.std.proofs.lemmas.List.{length-map}
 use Rattle.ts_packet.proofs.Cases.{by_test}
 use Rattle.ts_packet.specs.Fields.{on}
 use Rattle.pes_time.specs.Line.{place}
-use Rattle.unit_stream.specs.Times.{begins, begins_one, stamp, timed, raised, high, unit_time}
+use Rattle.unit_stream.specs.Times.{begins, begins_one, stamp, timed, high, unit_time}
 use Rattle.psi_tables.specs.declared.stream.Stream.{Stream}
 use Rattle.psi_tables.specs.ProgramMap.{ProgramMap}
 use Rattle.program_follower.specs.Program.{Program, known_map, program_in, program_of, behind_head, pids_of}
 use Rattle.program_follower.specs.Following.{streams_of_program}
 use Rattle.program_laws.proofs.HeadLemmas.{known_stays}
 use Rattle.event_table.specs.Standing.{Standing}
-use Rattle.armed_events.specs.Arming.{Heard, stands, standing_at, heard, armed}
+use Rattle.armed_events.specs.Arming.{Heard, stands, standing_at}
 use Rattle.armed_events.specs.Valuing.{values_by}
 use Rattle.armed_laws.specs.Laws.{NoneMeet}
 use Rattle.armed_events.proofs.PastLemmas.{heard-off}
-use Rattle.ad_library.specs.Advertisements.{Advertisement, count_of_kind}
+use Rattle.ad_library.specs.Advertisements.{Advertisement}
 use Rattle.splice_plans.specs.declared.plan.Plan.{Plan}
 use Rattle.splice_plans.specs.Playing.{Adverts, History}
 use Rattle.splice_plans.specs.Switching.{Setting, switched_at, streams_at, high_at, events_at, head_at, history_at, is_behind_head}
 use Rattle.splice_plans.specs.Histories.{IsHistory}
 use Rattle.splice_plans.specs.Adverts.{adverts_of}
 use Rattle.splice_plans.specs.Fronts.{closed_plans, all_ran}
-use Rattle.splice_plans.specs.Known.{AreSeparate, plan_at, plan_known, behind_at, plans_at}
+use Rattle.splice_plans.specs.Known.{AreSeparate, plan_at, behind_at}
 use Rattle.splice_plans.proofs.AdvertLemmas.{libraries_are_steady}
-use Rattle.splice_plans.proofs.HistoryLemmas.{armed_is_history}
-use Rattle.plan_laws.specs.Laws.{Starts, IsReady, PlansGoOn, standing_before, plans_before, plans_between, plans_behind}
 use Rattle.plan_laws.proofs.ToldLemmas.{Told, all-told}
 use Rattle.plan_laws.proofs.PartLemmas.{get-within, small-number}
 use Rattle.plan_laws.proofs.PlayedLemmas.{placed-at}
 use Rattle.plan_laws.proofs.PlanLemmas.{IsOf}
-use Rattle.plan_laws.proofs.RunningLemmas.{TellsOf, AllOf, mixed, first, last, none-filter, all-unstamped, all-stamped, all-streams, all-last}
+use Rattle.plan_laws.proofs.RunningLemmas.{AllOf, mixed, first, none-filter, all-unstamped, all-stamped, all-streams, all-last}
 use Rattle.plan_laws.proofs.StandingLemmas.{all-filter, all-pass, plans-are, others-begin-not, begins-some, among-get, pids_in, get-done, or-done, in-done, get-stream}
 
 -- ---- a past behind a head
@@ -116,9 +114,11 @@ module _ (filed : ℕ → Option Advertisement) (streams : List Stream) (events 
         let below : length done < length streams = subst (λ ss. length done < length ss) (sym is) (in-done done of rest) in
         let here : of ≡ slice_index_or streams (length done) of = subst (λ ss. of ≡ slice_index_or ss (length done) of) (sym is) (or-done done of rest) in
         let got : slice_get pids (length done) ≡ Some of.pid = subst (λ ss. slice_get (pids_in ss) (length done) ≡ Some of.pid) (sym is) (get-done done of rest) in
-        let f = few in
-        (omega (arith, below, f, at), subst (λ j. IsOf filed streams events p past j of.pid of) (sym at) (is-of (length done) of below here got),
-        all-of (done ++ of ∷ []) rest (i + 1) (longer done of i at) (is ∙ sym (append_assoc done (of ∷ []) rest)))
+        let f = few in (
+          omega (arith, below, f, at),
+          subst (λ j. IsOf filed streams events p past j of.pid of) (sym at) (is-of (length done) of below here got),
+          all-of (done ++ of ∷ []) rest (i + 1) (longer done of i at) (is ∙ sym (append_assoc done (of ∷ []) rest)),
+        )
       where
         longer : (done : List Stream) (of : Stream) (i : ℕ) → i ≡ length done → i + 1 ≡ length (done ++ of ∷ [])
         longer done of i at = let l = length-append done (of ∷ []) in omega (arith, l, at)

@@ -1,32 +1,27 @@
 -- The plans of all events that stand, through a unit start.
-use Rattle.std.proofs.Common.{◌≡◌, ℕ, zero, suc, ◌+◌, ◌%◌, ◌<◌, ◌≤◌, List, [], ◌∷◌, ◌++◌, Bool, true, false, not, ◌&&◌, ◌||◌, ◌⊎◌, inl, inr, refl, sym, ap, ◌∙◌, subst, Option, None, Some, arith, add-one, if◌then◌else◌, length, take, drop, map}
-use Rattle.std.specs.Prelude.{ℤ, slice_get, slice_index_or, find, filter, flat_map, Contains}
+use Rattle.std.proofs.Common.{◌≡◌, ℕ, suc, ◌+◌, ◌%◌, ◌<◌, List, [], ◌∷◌, Bool, true, false, not, ◌&&◌, inl, inr, refl, sym, ap, ◌∙◌, Option, Some, arith, if◌then◌else◌, length, map}
+use Rattle.std.specs.Prelude.{ℤ, slice_get, filter}
 use Rattle.std.specs.List.{AllByRecursion}
 use Rattle.std.proofs.lemmas.Bool.{true≢false}
-use Rattle.std.proofs.lemmas.List.{append-nil, length-map}
 use Rattle.ts_packet.proofs.Cases.{by_test}
-use Rattle.ts_packet.specs.Numbering.{Step}
-use Rattle.pes_time.specs.Line.{place}
 use Rattle.unit_stream.specs.Times.{begins, begins_one, high, unit_time}
-use Rattle.unit_stream.specs.UnitPackets.{put_in}
 use Rattle.psi_tables.specs.declared.stream.Stream.{Stream}
-use Rattle.event_table.specs.Standing.{Standing, end_of, on_ring}
+use Rattle.event_table.specs.Standing.{Standing}
 use Rattle.armed_events.specs.Arming.{stands}
 use Rattle.armed_laws.specs.Laws.{AreApart, IsApartOf, NoneMeet}
 use Rattle.ad_library.specs.Advertisements.{Advertisement}
-use Rattle.splice_laws.specs.Splicing.{SliceUnit, stream, begun, closed}
+use Rattle.splice_laws.specs.Splicing.{stream, begun, closed}
 use Rattle.splice_laws.proofs.PidLemmas.{pids_are_streams}
 use Rattle.splice_laws.proofs.HistoryLemmas.{alone}
 use Rattle.splice_plans.specs.declared.plan.Plan.{Plan}
 use Rattle.splice_plans.specs.Playing.{History, is_played, as_played}
 use Rattle.splice_plans.specs.Histories.{IsHistory}
-use Rattle.splice_plans.specs.Turning.{plan_turned}
-use Rattle.splice_plans.specs.Parts.{beside, all_turned, closed_plan, ran_plans, runs_in, ran_plan}
+use Rattle.splice_plans.specs.Parts.{beside, all_turned, closed_plan, ran_plans, runs_in}
 use Rattle.splice_plans.specs.Fronts.{all_ran}
 use Rattle.splice_plans.specs.Known.{plan_known}
 use Rattle.plan_laws.proofs.StageLemmas.{none-begun}
 use Rattle.plan_laws.proofs.ToldLemmas.{Told}
-use Rattle.plan_laws.proofs.PartLemmas.{get-within, small-number}
+use Rattle.plan_laws.proofs.PartLemmas.{small-number}
 use Rattle.plan_laws.proofs.PlanLemmas.{switched, ads, known, flag_begun, flag_closed, mixed_plan, IsOf, contained, plan-unstamped, plan-stamped, runs-is, plan-runs, plan-idle, plan-end, falls, shut-flags}
 
 seconds : (f : Standing → Plan) (es : List Standing) → map (λ (y : Standing × Plan). y.1) (beside es (map f es)) ≡ map f es

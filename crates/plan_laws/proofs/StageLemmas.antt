@@ -1,23 +1,19 @@
 -- What a unit does to one event in the stream in which it begins, and that it does nothing in the others.
 use Rattle.std.proofs.Common.{◌≡◌, ℕ, List, [], ◌∷◌, Bool, true, false, not, ◌&&◌, ◌||◌, ◌⊎◌, inl, inr, refl, sym, ap, ◌∙◌, Option, None, Some, arith, if◌then◌else◌}
-use Rattle.std.specs.Prelude.{ℤ, pos, ◌+ℤ◌, ◌≤ℤ◌, int_le, int_lt, is_some, Contains}
+use Rattle.std.specs.Prelude.{ℤ, int_le, int_lt, is_some}
 use Rattle.std.proofs.lemmas.Int.{ints}
 use Rattle.std.proofs.lemmas.Bool.{true≢false}
 use lib.Signed.{le_z, lt_z}
 use Rattle.ts_packet.proofs.Cases.{by_test}
-use Rattle.event_table.specs.Standing.{Standing, end_of, covers, forgotten_at}
-use Rattle.armed_events.specs.Arming.{stands}
-use Rattle.splice_laws.specs.Splicing.{PlayedEvent, TimedStream, at_or_past, below, holds, comes, passed, begun, closed}
-use Rattle.splice_laws.specs.Laws.{IsStream, Risen}
+use Rattle.event_table.specs.Standing.{Standing, covers}
+use Rattle.splice_laws.specs.Splicing.{PlayedEvent, TimedStream, comes}
 use Rattle.splice_laws.specs.Settled.{begun_now, closed_now, stands_now, holds_now}
-use Rattle.splice_laws.proofs.HistoryLemmas.{passed-dead, running-inside, closed-begun}
 use Rattle.splice_plans.specs.declared.plan.Stage.{Stage}
 use Rattle.splice_plans.specs.declared.plan.Stage.TheVariants.{Waiting, Running, Closing, Over}
-use Rattle.splice_plans.specs.Playing.{Adverts, is_played, as_played}
 use Rattle.splice_plans.specs.Laws.{EndFalls, EndsFall}
-use Rattle.splice_plans.specs.Turning.{entered, turned, crosses}
+use Rattle.splice_plans.specs.Turning.{turned}
 use Rattle.splice_plans.specs.Parts.{is_closing}
-use Rattle.splice_plans.specs.Known.{stage_known, below_known, crosses_known, crossed_known}
+use Rattle.splice_plans.specs.Known.{stage_known, crossed_known}
 
 pub or-cases : (a b : Bool) → (a || b) ≡ true → (a ≡ true) ⊎ (b ≡ true)
 or-cases true b h = inl refl

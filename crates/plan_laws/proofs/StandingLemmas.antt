@@ -1,11 +1,10 @@
 -- The events that stand, the streams, and what is said of each.
-use Rattle.std.proofs.Common.{◌≡◌, ℕ, zero, suc, ◌+◌, ◌==◌, ◌<◌, ◌≤◌, List, [], ◌∷◌, ◌++◌, Bool, true, false, not, ◌&&◌, ◌||◌, ◌⊎◌, inl, inr, refl, sym, ap, ◌∙◌, subst, append_assoc, Option, None, Some, arith, if◌then◌else◌, length, take, drop, map, length-append}
-use Rattle.std.specs.Prelude.{ℤ, slice_get, slice_index_or, find, filter}
+use Rattle.std.proofs.Common.{◌≡◌, ℕ, zero, suc, ◌==◌, ◌<◌, List, [], ◌∷◌, ◌++◌, Bool, true, false, not, ◌&&◌, ◌||◌, inl, inr, refl, sym, ap, ◌∙◌, Option, Some, arith, length, map}
+use Rattle.std.specs.Prelude.{slice_get, slice_index_or, find, filter}
 use Rattle.std.specs.List.{AllByRecursion}
 use Rattle.std.specs.Ordering.{int_eq}
 use Rattle.std.proofs.lemmas.Bool.{true≢false}
 use Rattle.std.proofs.lemmas.Bool.Decides.{nat_tests}
-use Rattle.std.proofs.lemmas.List.{append-nil}
 use Rattle.ts_packet.proofs.Cases.{by_test}
 use Rattle.ts_packet.specs.Fields.{payload_on, unit_start}
 use Rattle.ts_packet.specs.Duplicates.{repeats}
@@ -16,7 +15,6 @@ use Rattle.armed_events.specs.Valuing.{values_by}
 use Rattle.armed_laws.specs.Laws.{NoneMeet}
 use Rattle.splice_laws.specs.Streams.{is_among, IsOnce}
 use Rattle.splice_laws.proofs.StreamLemmas.{same-pid}
-use Rattle.splice_plans.specs.declared.plan.Plan.{Plan}
 use Rattle.splice_plans.specs.Playing.{Adverts, History}
 use Rattle.splice_plans.specs.Known.{AreSeparate, plan_at, plan_found, plan_known}
 use Rattle.plan_laws.proofs.StageLemmas.{and-both}

@@ -1,20 +1,18 @@
 -- What goes out of the events that run, stream by stream, is what the moves put in.
-use Rattle.std.proofs.Common.{◌≡◌, ℕ, suc, ◌+◌, ◌==◌, ◌%◌, ◌<◌, ◌≤◌, List, [], ◌∷◌, ◌++◌, Bool, true, false, not, ◌&&◌, ◌⊎◌, inl, inr, refl, sym, ap, ◌∙◌, subst, Option, Some, arith, if◌then◌else◌, map}
-use Rattle.std.specs.Prelude.{ℤ, slice_get, filter, flat_map}
+use Rattle.std.proofs.Common.{◌≡◌, ℕ, ◌+◌, ◌==◌, ◌%◌, ◌≤◌, List, [], ◌∷◌, ◌++◌, true, false, inl, inr, refl, sym, ap, ◌∙◌, Option, Some, arith, map}
+use Rattle.std.specs.Prelude.{slice_get, flat_map}
 use Rattle.std.specs.List.{AllByRecursion}
 use Rattle.std.proofs.lemmas.Bool.{true≢false}
 use Rattle.std.proofs.lemmas.Bool.Decides.{nat_tests}
 use Rattle.ts_packet.proofs.Cases.{by_test}
 use Rattle.ts_packet.specs.Numbering.{Step}
 use Rattle.unit_stream.specs.Times.{begins, begins_one, high}
-use Rattle.unit_stream.specs.UnitPackets.{put_in}
 use Rattle.psi_tables.specs.declared.stream.Stream.{Stream}
 use Rattle.event_table.specs.Standing.{Standing}
 use Rattle.armed_events.specs.Arming.{stands, standing_at}
 use Rattle.armed_laws.specs.Laws.{NoneMeet}
 use Rattle.ad_library.specs.Advertisements.{Advertisement}
 use Rattle.splice_laws.specs.Splicing.{SliceUnit, stream}
-use Rattle.splice_laws.specs.Streams.{IsOnce}
 use Rattle.splice_laws.proofs.PidLemmas.{pids_are_streams}
 use Rattle.output_laws.specs.Output.{Move, counter_steps, out_after}
 use Rattle.splice_plans.specs.declared.plan.Plan.{Plan}
@@ -33,7 +31,7 @@ use Rattle.plan_laws.proofs.PlanLemmas.{known, falls, none-begins, IsOf}
 use Rattle.plan_laws.proofs.RunningLemmas.{runs_on, mixed, AllOf, others-idle, played-run, all-run}
 use Rattle.plan_laws.proofs.PacketLemmas.{rule, all-found, none-rules, rule-none}
 use Rattle.plan_laws.proofs.OrderLemmas.{AreAlone, sorted-same}
-use Rattle.plan_laws.proofs.StandingLemmas.{pids_in, once-place, among-get, all-filter}
+use Rattle.plan_laws.proofs.StandingLemmas.{pids_in, once-place, among-get}
 use Rattle.plan_laws.proofs.RunLemmas.{turn, told, apart, all-are-told}
 
 module _ (filed : ℕ → Option Advertisement) (streams : List Stream) (events : History) (p : List ℕ) (past : List (List ℕ))
@@ -71,18 +69,20 @@ module _ (filed : ℕ → Option Advertisement) (streams : List Stream) (events 
 
     not-standing : (evs : List Standing) → AllByRecursion (Told pids ads events p past) evs → AllByRecursion (λ e. stands (high pids past) e ≡ false → put q e ≡ []) evs
     not-standing [] t = tt
-    not-standing (e ∷ evs) t =
-        (λ out. forgotten-running (begins_one pids) (stream pids q) (pids_are_streams pids q) (as_played e) (known filed streams events p past e) (ads.units e q) (falls filed streams events p past h e i q o.there)
-        (λ p past b. none-begins pids i q p past o.there b) (λ p past b. simp b refl) p past ads e refl (t.0).before (t.0).now out,
-        not-standing evs t.1)
+    not-standing (e ∷ evs) t = (
+      λ out. forgotten-running (begins_one pids) (stream pids q) (pids_are_streams pids q) (as_played e) (known filed streams events p past e) (ads.units e q) (falls filed streams events p past h e i q o.there)
+          (λ p past b. none-begins pids i q p past o.there b) (λ p past b. simp b refl) p past ads e refl (t.0).before (t.0).now out,
+      not-standing evs t.1,
+    )
 
     alone-all : (evs : List Standing) → AllByRecursion (Told pids ads events p past) evs → NoneMeet evs → AreAlone (put q) evs
     alone-all [] t m = tt
-    alone-all (e ∷ evs) t m =
-        (by_test (runs_on filed streams events p past h turned q e)
-        (λ y. inr (none-rules filed streams events p past h turned i q small of o [] evs (others-idle filed streams events p past h turned i q o.there e t.0 y evs t.1 m.1)))
-        (λ y. inl (none-idle e y)),
-        alone-all evs t.1 m.2)
+    alone-all (e ∷ evs) t m = (
+      by_test (runs_on filed streams events p past h turned q e)
+          (λ y. inr (none-rules filed streams events p past h turned i q small of o [] evs (others-idle filed streams events p past h turned i q o.there e t.0 y evs t.1 m.1)))
+          (λ y. inl (none-idle e y)),
+      alone-all evs t.1 m.2,
+    )
 
     pub puts-same : flat_map (put q) (played ads (events past)) ≡ flat_map (put q) es
     puts-same = sorted-same (put q) (is_played ads) (stands (high pids past)) (events past) (not-played (events past) told_all) (not-standing (events past) told_all) (alone-all (events past) told_all (h.apart past))

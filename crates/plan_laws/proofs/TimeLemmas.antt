@@ -1,26 +1,19 @@
 -- The time of a sound unit, and whether units lie in played events.
-use Rattle.std.proofs.Common.{◌≡◌, ℕ, ◌%◌, ◌^◌, List, [], ◌∷◌, Bool, true, false, not, ◌&&◌, ◌||◌, refl, sym, ap, ◌∙◌, subst, Option, None, Some, arith, if◌then◌else◌, map, length}
-use Rattle.std.specs.Prelude.{ℤ, pos, negsuc, ◌+ℤ◌, ◌-ℤ◌, ◌≤ℤ◌, int_le, int_lt, slice_get, slice_index_or, option_map, filter}
-use Rattle.std.specs.List.{list_any, AllByRecursion}
+use Rattle.std.proofs.Common.{◌≡◌, ℕ, List, ◌∷◌, Bool, true, false, ◌||◌, refl, sym, ap, ◌∙◌, subst, Option, None, Some, arith, if◌then◌else◌}
+use Rattle.std.specs.Prelude.{ℤ, pos, negsuc, ◌+ℤ◌, ◌-ℤ◌, ◌≤ℤ◌, option_map}
 use Rattle.std.specs.Int.{int_max}
 use Rattle.std.proofs.lemmas.Int.{ints}
 use Rattle.std.proofs.lemmas.Bool.{true≢false}
-use lib.Signed.{le_z, lt_z}
-use Rattle.ts_packet.proofs.Cases.{by_test}
-use Rattle.pes_time.specs.Line.{ring_of, place, raise}
-use Rattle.unit_stream.specs.Times.{begins, begins_one, stamp, splits, raised, timed, high, unit_time}
+use lib.Signed.{lt_z}
+use Rattle.pes_time.specs.Line.{ring_of, place}
+use Rattle.unit_stream.specs.Times.{begins_one, stamp, splits, raised, high}
 use Rattle.unit_stream.specs.Faults.{unit_fault, scrambled_one, jumps, is_far}
-use Rattle.unit_stream.specs.declared.fault.UnitFault.{UnitFault}
 use Rattle.unit_stream.specs.declared.fault.UnitFault.TheVariants.{Scrambled, HeaderSplit, TimeJump}
-use Rattle.event_table.specs.Standing.{Standing, end_of, forgotten_at, covers}
-use Rattle.armed_events.specs.Arming.{stands}
 use Rattle.ad_library.specs.Advertisements.{Advertisement}
-use Rattle.splice_laws.specs.Splicing.{holds, stream}
 use Rattle.splice_laws.proofs.PidLemmas.{pids_are_streams}
-use Rattle.splice_plans.specs.Playing.{Adverts, is_played, as_played, is_inside}
+use Rattle.splice_plans.specs.Playing.{is_inside}
 use Rattle.splice_plans.specs.Switching.{Setting, switched_at, high_at, events_at}
 use Rattle.splice_plans.specs.Parts.{IsReached}
-use Rattle.splice_plans.specs.Turning.{IsNearHigh}
 use Rattle.splice_plans.specs.Fronts.{IsNearTime}
 use Rattle.splice_plans.specs.Known.{behind_at, adverts_at}
 use Rattle.plan_laws.specs.Laws.{Starts, StartsAreNear, HighIsReached, OthersLieAsBefore}

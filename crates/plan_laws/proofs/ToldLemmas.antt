@@ -1,10 +1,9 @@
 -- What is known of the events of a past, with a packet behind which they are the same.
-use Rattle.std.proofs.Common.{◌≡◌, ℕ, ◌<◌, List, [], ◌∷◌, ◌++◌, Bool, true, false, not, ◌&&◌, ◌||◌, ◌⊎◌, inl, inr, refl, sym, ap, ◌∙◌, subst, Option, None, Some, arith, if◌then◌else◌}
+use Rattle.std.proofs.Common.{◌≡◌, ℕ, ◌<◌, List, [], ◌∷◌, Bool, true, false, ◌&&◌, inl, inr, refl, ap, ◌∙◌, subst, Option, None, Some, arith, if◌then◌else◌}
 use Rattle.std.specs.Prelude.{ℤ, pos, ◌+ℤ◌, ◌≤ℤ◌, find, option_map, All, Contains}
 use Rattle.std.specs.List.{AllByRecursion}
 use Rattle.std.specs.Ordering.{int_eq}
 use Rattle.std.proofs.lemmas.Int.{ints}
-use Rattle.std.proofs.lemmas.Bool.{true≢false}
 use Rattle.std.proofs.lemmas.List.Elements.{All-head, All-tail}
 use Rattle.ts_packet.proofs.Cases.{by_test}
 use Rattle.unit_stream.specs.Times.{high}
@@ -85,14 +84,15 @@ module _ (switched : List ℕ) (ads : Adverts) (events : History) (p : List ℕ)
         → ((pid : ℕ) → Contains switched pid → AllByRecursion (IsSettledAt switched pid ads events past) es)
         → ((pid : ℕ) → Contains switched pid → AllByRecursion (IsSettledAt switched pid ads events (p ∷ past)) es) → AllByRecursion Told es
     told-each [] f s t = tt
-    told-each (e ∷ es) f s t =
-        (record {
-          before = end-found (events past) e f.0;
-          now = ap (λ l. option_map end_of (find (λ y. int_eq y.start e.start && is_played ads y) l)) stays ∙ end-found (events past) e f.0;
-          settled = λ pid c. (s pid c).0;
-          settled_now = λ pid c. (t pid c).0;
-        },
-        told-each es f.1 (λ pid c. (s pid c).1) (λ pid c. (t pid c).1))
+    told-each (e ∷ es) f s t = (
+      record {
+        before = end-found (events past) e f.0;
+        now = ap (λ l. option_map end_of (find (λ y. int_eq y.start e.start && is_played ads y) l)) stays ∙ end-found (events past) e f.0;
+        settled = λ pid c. (s pid c).0;
+        settled_now = λ pid c. (t pid c).0;
+      },
+      told-each es f.1 (λ pid c. (s pid c).1) (λ pid c. (t pid c).1),
+    )
 
     pub all-told : AllByRecursion Told (events past)
     all-told = told-each (events past) (all-found (is_played ads) (events past) (h.apart past))

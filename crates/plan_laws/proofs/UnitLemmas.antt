@@ -1,30 +1,22 @@
 -- A unit that begins, of each event that is known: its stage in the stream, and whether the unit crosses it.
-use Rattle.std.proofs.Common.{◌≡◌, ℕ, List, [], ◌∷◌, Bool, true, false, not, ◌&&◌, ◌||◌, ◌⊎◌, inl, inr, refl, sym, ap, ◌∙◌, Option, None, Some, arith, if◌then◌else◌}
-use Rattle.std.specs.Prelude.{ℤ, pos, ◌+ℤ◌, ◌≤ℤ◌, int_le, int_lt, is_some, Contains}
-use Rattle.std.proofs.lemmas.Int.{ints}
+use Rattle.std.proofs.Common.{◌≡◌, ℕ, List, ◌∷◌, Bool, true, false, not, ◌&&◌, ◌||◌, refl, sym, ap, ◌∙◌, Option, None, Some}
+use Rattle.std.specs.Prelude.{ℤ, int_le, int_lt}
 use Rattle.std.proofs.lemmas.Bool.{true≢false}
 use lib.Signed.{le_z, lt_z}
 use Rattle.ts_packet.proofs.Cases.{by_test}
-use Rattle.pes_time.specs.Line.{place}
-use Rattle.unit_stream.specs.Times.{begins, begins_one, stamp, raised, timed, high, unit_time}
 use Rattle.event_table.specs.Standing.{Standing, end_of, covers, forgotten_at}
 use Rattle.armed_events.specs.Arming.{stands}
-use Rattle.splice_laws.specs.Splicing.{PlayedEvent, TimedStream, stream, at_or_past, below, holds, comes, opens, passed, begun, closed, stands as stands_in}
-use Rattle.splice_laws.specs.Laws.{IsStream, Risen}
+use Rattle.splice_laws.specs.Splicing.{PlayedEvent, TimedStream, at_or_past, below, comes}
 use Rattle.splice_laws.specs.Settled.{begun_now, closed_now, stands_now, holds_now}
-use Rattle.splice_laws.proofs.HistoryLemmas.{passed-dead, running-inside, closed-begun}
-use Rattle.splice_laws.proofs.PidLemmas.{pids_are_streams}
 use Rattle.splice_plans.specs.declared.plan.Stage.{Stage}
 use Rattle.splice_plans.specs.declared.plan.Stage.TheVariants.{Waiting, Running, Closing, Over}
-use Rattle.splice_plans.specs.Playing.{Adverts, History, is_played, as_played, end_known}
-use Rattle.splice_plans.specs.Histories.{IsHistory, AreSteady}
-use Rattle.splice_plans.specs.Laws.{EndFalls, EndsFall}
-use Rattle.splice_plans.proofs.KnownLemmas.{ends_never_rise}
-use Rattle.splice_plans.specs.Turning.{entered, turned, crosses}
+use Rattle.splice_plans.specs.Playing.{Adverts, is_played, as_played}
+use Rattle.splice_plans.specs.Laws.{EndsFall}
+use Rattle.splice_plans.specs.Turning.{turned, crosses}
 use Rattle.splice_plans.specs.Parts.{is_closing}
 use Rattle.splice_plans.specs.Known.{stage_known, below_known, crosses_known, crossed_known}
-use Rattle.plan_laws.proofs.StageLemmas.{or-cases, and-both, le-same, lt-same, stage_by, shut, turned_by, turned-is, step-stage, step-closing, now-closed-begun, begun-some, none-begun, none-closed}
-use Rattle.plan_laws.proofs.ToldLemmas.{Told, end_if}
+use Rattle.plan_laws.proofs.StageLemmas.{le-same, lt-same, stage_by, shut, turned_by, turned-is, step-stage, step-closing, now-closed-begun, none-begun, none-closed}
+use Rattle.plan_laws.proofs.ToldLemmas.{end_if}
 
 comes-is : (start t : ℤ) (b : Bool) (o : Option ℤ) → b ≡ true → o ≡ Some t → (b && at_or_past start o) ≡ int_le start t
 comes-is start t b o h k = rw (h, k) (le-same start t)

@@ -1,21 +1,21 @@
 -- A unit without a stamp has the time of the one before it, and changes nothing.
-use Rattle.std.proofs.Common.{◌≡◌, ℕ, List, [], ◌∷◌, Bool, true, false, not, ◌&&◌, ◌||◌, ◌⊎◌, inl, inr, refl, sym, ap, ◌∙◌, Option, None, Some, arith, if◌then◌else◌}
-use Rattle.std.specs.Prelude.{ℤ, ◌≤ℤ◌, Contains}
+use Rattle.std.proofs.Common.{◌≡◌, ℕ, List, [], ◌∷◌, Bool, true, false, not, ◌&&◌, ◌||◌, ◌⊎◌, inl, inr, refl, sym, ap, ◌∙◌, Option, None, Some, arith}
+use Rattle.std.specs.Prelude.{ℤ, ◌≤ℤ◌}
 use Rattle.std.proofs.lemmas.Int.{ints}
 use Rattle.std.proofs.lemmas.Bool.{true≢false}
 use lib.Signed.{le_z, lt_z}
 use Rattle.ts_packet.proofs.Cases.{by_test}
-use Rattle.event_table.specs.Standing.{Standing, end_of}
+use Rattle.event_table.specs.Standing.{Standing}
 use Rattle.splice_laws.specs.Splicing.{PlayedEvent, TimedStream, at_or_past, below, holds, comes, opens, passed, begun, closed, stands}
 use Rattle.splice_laws.specs.Laws.{IsStream}
-use Rattle.splice_laws.specs.Settled.{IsAhead, begun_now, closed_now, stands_now, holds_now}
-use Rattle.splice_laws.proofs.HistoryLemmas.{passed-dead, running-inside, closed-begun}
+use Rattle.splice_laws.specs.Settled.{begun_now, closed_now, stands_now, holds_now}
+use Rattle.splice_laws.proofs.HistoryLemmas.{passed-dead, running-inside}
 use Rattle.splice_plans.specs.declared.plan.Stage.{Stage}
-use Rattle.splice_plans.specs.declared.plan.Stage.TheVariants.{Waiting, Running, Closing, Over}
+use Rattle.splice_plans.specs.declared.plan.Stage.TheVariants.{Running, Over}
 use Rattle.splice_plans.specs.Playing.{Adverts, is_played, as_played}
 use Rattle.splice_plans.specs.Laws.{EndFalls, EndsFall}
 use Rattle.splice_plans.specs.Known.{stage_known, below_known, crosses_known, crossed_known}
-use Rattle.plan_laws.proofs.StageLemmas.{or-cases, and-both, stage_by, now-closed-begun, none-begun, none-closed, begun-stays, closed-stays, crossed-stays}
+use Rattle.plan_laws.proofs.StageLemmas.{and-both, stage_by, now-closed-begun, none-begun, none-closed, begun-stays, closed-stays}
 use Rattle.plan_laws.proofs.ToldLemmas.{end_if}
 
 flip : (b : Bool) → not b ≡ true → b ≡ false

@@ -1,5 +1,5 @@
 -- What a packet that begins a unit does in a switch, by the plans beside the events that stand.
-use Rattle.std.specs.Prelude.{◌≡◌, ◌<◌, ◌==◌, ℕ, ◌++◌, ◌∷◌, [], List, Bool, if◌then◌else◌, slice_get, slice_index_or, reverse, All, ℤ, Option, None, Some, option_map, true, false}
+use Rattle.std.specs.Prelude.{◌≡◌, ◌==◌, ℕ, ◌++◌, ◌∷◌, [], List, if◌then◌else◌, slice_get, slice_index_or, reverse, All, Option, None, Some, option_map, true, false}
 use Rattle.pes_time.specs.Line.{ring_of}
 use Rattle.ts_packet.specs.Fields.{on}
 use Rattle.ts_packet.specs.Numbering.{Step}
