@@ -1,3 +1,11 @@
 pub mod FrontLemmas
 pub mod ReportLemmas
 pub mod StreamLemmas
+pub mod PlaceLemmas
+pub mod Awaited
+pub mod PacketLemmas
+pub mod BeginLemmas
+pub mod RestLemmas
+pub mod AloneLemmas
+pub mod FrameLemmas
+pub mod RestOutLemmas

@@ -1,2 +1,4 @@
 pub mod Ready
 pub mod Relations
+pub mod Going
+pub mod Forgetting

@@ -26,11 +26,13 @@ use Rattle.splice_plans.specs.declared.plan.Plan.{Plan}
 use Rattle.splice_plans.specs.declared.stream.SwitchedStream.{SwitchedStream}
 use Rattle.splice_playing.specs.declared.playing.Playing.{Playing}
 use Rattle.splice_plans.specs.Playing.{Turns, Adverts, History, is_played, as_played, end_known, is_inside, sent_known}
-use Rattle.splice_plans.specs.Switching.{Setting, puts_before, fate, moves, switched_at, streams_at, high_at, events_at, history_at}
+use Rattle.splice_plans.specs.Switching.{Setting, puts_before, fate, moves, is_switched, switched_at, streams_at, high_at, events_at, history_at}
+use Rattle.splice_plans.specs.Histories.{AreSteady}
 use Rattle.splice_plans.specs.Reporting.{Counts as Reported, ReportIs, is_not_fitted}
 use Rattle.splice_plans.specs.Turning.{waiting}
 use Rattle.splice_plans.specs.Adverts.{adverts_of, packed_units}
 use Rattle.splice_plans.specs.Known.{nothing_known, plan_known, part_known, is_crossed_known, AllGo, AreSeparate, adverts_at, behind_at, plans_at, inside_at, moves_at, puts_at, counts_known, is_forgotten}
+use Rattle.known_laws.specs.Laws.{AreFaultless}
 
 -- WHAT IT STANDS FOR, behind a past
 pub record PlaysFor (playing : Playing) (k : Setting) (past : List (List ℕ)) : Type 0 where
@@ -39,8 +41,16 @@ pub record PlaysFor (playing : Playing) (k : Setting) (past : List (List ℕ)) :
   pub streams : AllGo playing.streams k.packed (inside_at k past (behind_at k past)) (moves_at k past) (switched_at k past)
   pub forgotten : ReportIs playing.forgotten (counts_known k past (is_forgotten (high_at k past)))
 
+-- the packet is of the PID of cues, and of no switched stream
+pub record IsCueOf (k : Setting) (p : List ℕ) (past : List (List ℕ)) : Type 0 where
+  pub cue : on k.cue_pid p ≡ true
+  pub other : is_switched (switched_at k past) p ≡ false
+  pub separate : AreSeparate (switched_at k past)
+  pub steady : AreSteady (adverts_at k past)
+
 -- the packet begins a unit in the stream of this number, with this stamp; behind it this is the greatest time
-pub record BeginsIn (k : Setting) (filed : ℕ → Option Advertisement) (listed : List ListedStream) (number : ℕ) (time high : Option ℕ) (p : List ℕ) (past : List (List ℕ)) : Type 0 where
+pub record BeginsIn (k : Setting) (filed : ℕ → Option Advertisement) (listed : List ListedStream) (number : ℕ) (time high : Option ℕ)
+    (p : List ℕ) (past : List (List ℕ)) : Type 0 where
   pub pid : ℕ
   pub of : slice_get (switched_at k past) number ≡ Some pid
   pub begins_it : begins pid p (behind_at k past) ≡ true
@@ -53,18 +63,25 @@ pub record BeginsIn (k : Setting) (filed : ℕ → Option Advertisement) (listed
   pub adverts_are : k.adverts ≡ adverts_of filed
   pub packed_is : k.packed ≡ packed_units
 
+-- the moves behind which a packet goes out, and what becomes of it
+abbrev pub moves_before : Setting → List ℕ → List (List ℕ) → List Move
+moves_before k p past = reverse (puts_at k p past) ++ moves_at k past
+
+abbrev pub fate_at : Setting → List ℕ → List (List ℕ) → Move
+fate_at k p past = fate (switched_at k past) (adverts_at k past) (history_at k past) p (behind_at k past)
+
 -- what it stands for once all is out that goes out before a packet that begins a unit
 pub record PlaysBefore (playing : Playing) (k : Setting) (p : List ℕ) (past : List (List ℕ)) : Type 0 where
   pub events : Obeys playing.events k.cue_pid (high_at k) past
   pub plans : values_of playing.events.obeyed.table ≡ values_by (plans_at k past (p ∷ behind_at k past)) (standing k.cue_pid (high_at k) past)
-  pub streams : AllGo playing.streams k.packed (inside_at k past (p ∷ behind_at k past)) (reverse (puts_at k p past) ++ moves_at k past) (switched_at k past)
+  pub streams : AllGo playing.streams k.packed (inside_at k past (p ∷ behind_at k past)) (moves_before k p past) (switched_at k past)
   pub forgotten : ReportIs playing.forgotten (counts_known k past (is_forgotten (high_at k past)))
 
 -- and once the packet is out, or what stands in its place, before the greatest time rises
 pub record PlaysBehind (playing : Playing) (k : Setting) (p : List ℕ) (past : List (List ℕ)) : Type 0 where
   pub events : Obeys playing.events k.cue_pid (high_at k) past
   pub plans : values_of playing.events.obeyed.table ≡ values_by (plans_at k past (p ∷ behind_at k past)) (standing k.cue_pid (high_at k) past)
-  pub streams : AllGo playing.streams k.packed (inside_at k past (p ∷ behind_at k past)) (fate (switched_at k past) (adverts_at k past) (history_at k past) p (behind_at k past) ∷ (reverse (puts_at k p past) ++ moves_at k past)) (switched_at k past)
+  pub streams : AllGo playing.streams k.packed (inside_at k past (p ∷ behind_at k past)) (fate_at k p past ∷ moves_before k p past) (switched_at k past)
   pub forgotten : ReportIs playing.forgotten (counts_known k past (is_forgotten (high_at k past)))
 
 -- the packet is of the stream of this number and carries payload of a unit, a duplicate or not
@@ -85,8 +102,9 @@ pub record IsKeptOf (k : Setting) (number : ℕ) (p : List ℕ) (past : List (Li
   pub stays : (payload_on pid p && in_unit pid (p ∷ behind_at k past)) ≡ false
   pub cue : on k.cue_pid p ≡ false
 
--- the network ends with these streams, and with these advertisements for them
+-- the network ends with these streams, and with these advertisements for them, and no packet behind its head had a fault
 pub record EndsWith (k : Setting) (filed : ℕ → Option Advertisement) (listed : List ListedStream) (past : List (List ℕ)) : Type 0 where
+  pub faultless : AreFaultless (switched_at k past) (behind_at k past)
   pub separate : AreSeparate (switched_at k past)
   pub listed_is : listed ≡ streams_at k past
   pub adverts_are : k.adverts ≡ adverts_of filed

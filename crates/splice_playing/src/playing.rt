@@ -1,21 +1,20 @@
 //! The events in the switched streams: which have begun, which are over, and what has gone out of their slices.
 
-ghost use Rattle.std.specs.Prelude.{◌≡◌, ◌<◌, ◌≤◌, ◌+◌, ◌%◌, ◌++◌, ◌∷◌, [], ℕ, ℤ, List, length, take, slice_index_or, Option, None, OnOk, IfErr, true, false};
+ghost use Rattle.std.specs.Prelude.{◌≡◌, ◌<◌, ◌≤◌, ◌+◌, ◌%◌, ◌++◌, ◌∷◌, [], ℕ, ℤ, List, length, slice_index_or, Option, OnOk, IfErr, true};
 ghost use Rattle.ts_packet.specs.Numbering.{Step, Counts};
 ghost use Rattle.unit_stream.specs.UnitPackets.{put_in};
 ghost use Rattle.event_table.specs.Standing.{Standing, IsTimeAt};
 ghost use Rattle.event_table.specs.Rings.{CanAdvance};
-ghost use Rattle.event_table.specs.Tables.{StandsFor, high_of, values_of};
-ghost use Rattle.splice_plans.specs.Parts.{KeepsEvents, beside, IsReached};
-ghost use Rattle.splice_plans.specs.Fronts.{IsNearTime, IsOther, closing_packets, closed_plans, is_left, AllCount, all_running, running_of, all_ran};
+ghost use Rattle.event_table.specs.Tables.{StandsFor, high_of};
+ghost use Rattle.splice_plans.specs.Parts.{KeepsEvents, IsReached};
+ghost use Rattle.splice_plans.specs.Fronts.{IsNearTime, IsOther, is_left};
 ghost use Rattle.ts_packet.specs.Sinks.{Blamed};
-ghost use Rattle.ts_packet.specs.Fields.{on};
 ghost use Rattle.ts_packet.specs.Transfers.{WentWell};
 ghost use Rattle.outgoing_packets.specs.Numbers.{FrontFails};
 ghost use Rattle.ad_library.specs.Library.{held};
-ghost use Rattle.splice_plans.specs.Switching.{Setting, front_at, place_at, rest_at, is_switched, switched_at};
-ghost use Rattle.splice_plans.specs.Adverts.{adverts_of};
-ghost use Rattle.splice_plans.specs.Reporting.{Counts as Reported, ReportIs, report_of, with_counted, is_out_at, is_any};
+ghost use Rattle.splice_plans.specs.Switching.{Setting, front_at, place_at, rest_at};
+ghost use Rattle.splice_plans.specs.Reporting.{Counts as Reported, ReportIs, report_of};
+ghost use Rattle.splice_playing.specs.Forgetting.{with_out, with_first_out, with_standing};
 ghost use Rattle.splice_playing.specs.Ready.{is_ready};
 
 use ad_library::AdLibrary;
@@ -23,7 +22,9 @@ use armed_events::ArmedEvents;
 use event_table::Table;
 use pes_time::Time33;
 use psi_tables::Stream;
-use splice_plans::{Plan, SwitchReport, SwitchedStream, close_all, is_inside, put_running, turn_all};
+use splice_plans::{
+    Plan, SwitchReport, SwitchedStream, close_all, is_inside, put_running, turn_all,
+};
 use ts_packet::{Packet, PacketSink, PutFault};
 
 /// The events that stand, with their plans, the streams, and what became of the events that are forgotten.
@@ -36,7 +37,9 @@ pub struct Playing {
 }
 
 impl Playing {
-    ghost use Rattle.splice_playing.specs.Relations.{PlaysFor, PlaysBefore, PlaysBehind, BeginsIn, IsPacketOf, IsKeptOf, EndsWith, Reports};
+    ghost use Rattle.splice_playing.specs.Going.{plans_in, HasEvents, IsStreamAt, stream_at, HasCounted, steps_with};
+    ghost use Rattle.splice_playing.specs.Going.{closing_in, closed_in, running_in_all, running_in_one, ran_in_all};
+    ghost use Rattle.splice_playing.specs.Relations.{PlaysFor, PlaysBefore, PlaysBehind, BeginsIn, IsCueOf, IsPacketOf, IsKeptOf, EndsWith, Reports};
 
     /// No event, and nothing is out.
     pub fn new() -> Playing
@@ -51,8 +54,8 @@ impl Playing {
 
     /// Obeys the cues that a packet of their PID finishes.
     pub fn obey(&mut self, packet: &Packet)
-        ensures { (k : Setting) (past : List (List ℕ)) → on k.cue_pid packet.now ≡ true → is_switched (switched_at k past) packet.now ≡ false →
-            PlaysFor self.old k past → PlaysFor self.new k (packet.now ∷ past) }
+        ensures { (k : Setting) (past : List (List ℕ)) → IsCueOf k packet.now past → PlaysFor self.old k past →
+            PlaysFor self.new k (packet.now ∷ past) }
     {
         self.events.feed(packet, Plan::new());
     }
@@ -103,27 +106,29 @@ impl Playing {
     ) -> Result<(), PutFault>
         requires { stream < length streams.now }
         ensures leads { S.leads sink.old sink.new }
-        ensures ok { (of : Stream) (line : Option ℤ) (es : List Standing) (s : SwitchedStream) (begin : Option (List ℕ)) (ps : List (List ℕ)) (steps : List Step) →
-            of ≡ slice_index_or streams.now stream of → StandsFor self.old.events.obeyed.table line es → IsNearTime line time.now →
-            s ≡ slice_index_or self.old.streams (stream % 8) s → S.holds sink.old begin ps → Counts s.counter steps →
-            OnOk result (S.holds sink.new begin (ps ++ closing_packets (held library.now) streams.now stream of line time.now steps es (values_of self.old.events.obeyed.table))) }
+        ensures ok { (of : Stream) (line : Option ℤ) (es : List Standing) (s : SwitchedStream)
+            (begin : Option (List ℕ)) (ps : List (List ℕ)) (steps : List Step) →
+            of ≡ slice_index_or streams.now stream of → HasEvents self.old line es → IsNearTime line time.now →
+            IsStreamAt self.old stream s → S.holds sink.old begin ps → Counts s.counter steps →
+            OnOk result (S.holds sink.new begin (ps ++ closing_in self.old (held library.now) streams.now stream of line time.now steps es)) }
         ensures counted { (of : Stream) (line : Option ℤ) (es : List Standing) (s t : SwitchedStream) (steps : List Step) →
-            of ≡ slice_index_or streams.now stream of → StandsFor self.old.events.obeyed.table line es → IsNearTime line time.now →
-            s ≡ slice_index_or self.old.streams (stream % 8) s → t ≡ slice_index_or self.new.streams (stream % 8) t → Counts s.counter steps →
-            OnOk result (Counts t.counter (put_in (closing_packets (held library.now) streams.now stream of line time.now steps es (values_of self.old.events.obeyed.table)) steps)) }
-        ensures leaving { (line : Option ℤ) (es : List Standing) (s t : SwitchedStream) → StandsFor self.old.events.obeyed.table line es →
-            s ≡ slice_index_or self.old.streams (stream % 8) s → t ≡ slice_index_or self.new.streams (stream % 8) t →
-            OnOk result (t.is_leaving ≡ is_left stream line time.now s.is_leaving es (values_of self.new.events.obeyed.table)) }
-        ensures others { (i : ℕ) (s : SwitchedStream) → IsOther i (stream % 8) → slice_index_or self.new.streams i s ≡ slice_index_or self.old.streams i s }
+            of ≡ slice_index_or streams.now stream of → HasEvents self.old line es → IsNearTime line time.now →
+            IsStreamAt self.old stream s → IsStreamAt self.new stream t → Counts s.counter steps →
+            OnOk result (Counts t.counter (put_in (closing_in self.old (held library.now) streams.now stream of line time.now steps es) steps)) }
+        ensures leaving { (line : Option ℤ) (es : List Standing) (s t : SwitchedStream) → HasEvents self.old line es →
+            IsStreamAt self.old stream s → IsStreamAt self.new stream t →
+            OnOk result (t.is_leaving ≡ is_left stream line time.now s.is_leaving es (plans_in self.new)) }
+        ensures others { (i : ℕ) (s : SwitchedStream) → IsOther i (stream % 8) → stream_at self.new i s ≡ stream_at self.old i s }
         ensures plans { (of : Stream) (line : Option ℤ) (es : List Standing) →
-            of ≡ slice_index_or streams.now stream of → StandsFor self.old.events.obeyed.table line es → IsNearTime line time.now →
-            OnOk result (values_of self.new.events.obeyed.table ≡ closed_plans (held library.now) streams.now stream of line time.now es (values_of self.old.events.obeyed.table)) }
+            of ≡ slice_index_or streams.now stream of → HasEvents self.old line es → IsNearTime line time.now →
+            OnOk result (plans_in self.new ≡ closed_in self.old (held library.now) streams.now stream of line time.now es) }
         ensures keeps { KeepsEvents self.old.events self.new.events }
         ensures forgotten { self.new.forgotten ≡ self.old.forgotten }
-        ensures err { (of : Stream) (line : Option ℤ) (es : List Standing) (s : SwitchedStream) (begin : Option (List ℕ)) (ps : List (List ℕ)) (steps : List Step) →
-            of ≡ slice_index_or streams.now stream of → StandsFor self.old.events.obeyed.table line es → IsNearTime line time.now →
-            s ≡ slice_index_or self.old.streams (stream % 8) s → S.holds sink.old begin ps → Counts s.counter steps →
-            IfErr result (λ f. FrontFails (closing_packets (held library.now) streams.now stream of line time.now steps es (values_of self.old.events.obeyed.table))
+        ensures err { (of : Stream) (line : Option ℤ) (es : List Standing) (s : SwitchedStream)
+            (begin : Option (List ℕ)) (ps : List (List ℕ)) (steps : List Step) →
+            of ≡ slice_index_or streams.now stream of → HasEvents self.old line es → IsNearTime line time.now →
+            IsStreamAt self.old stream s → S.holds sink.old begin ps → Counts s.counter steps →
+            IfErr result (λ f. FrontFails (closing_in self.old (held library.now) streams.now stream of line time.now steps es)
             (λ put p. S.fails sink.new begin (ps ++ put) p f)) }
         ensures well { OnOk result (WentWell (S.counts sink.old) (S.counts sink.new)) }
         ensures blamed { IfErr result (λ f. Blamed f (S.counts sink.old) (S.counts sink.new) (S.is_full sink.new)) }
@@ -161,20 +166,22 @@ impl Playing {
         sink: &mut S,
     ) -> Result<(), PutFault>
         ensures leads { S.leads sink.old sink.new }
-        ensures ok { (line high_line : Option ℤ) (es : List Standing) (begin : Option (List ℕ)) (ps : List (List ℕ)) (steps : ℕ → List Step) → length streams.now ≤ 8 →
-            StandsFor self.old.events.obeyed.table line es → IsReached line high.now high_line → S.holds sink.old begin ps → AllCount self.old.streams steps →
-            OnOk result (S.holds sink.new begin (ps ++ all_running (held library.now) streams.now high_line es steps (values_of self.old.events.obeyed.table) 0 streams.now)) }
+        ensures ok { (line high_line : Option ℤ) (es : List Standing)
+            (begin : Option (List ℕ)) (ps : List (List ℕ)) (steps : ℕ → List Step) → length streams.now ≤ 8 →
+            HasEvents self.old line es → IsReached line high.now high_line → S.holds sink.old begin ps → HasCounted self.old steps →
+            OnOk result (S.holds sink.new begin (ps ++ running_in_all self.old (held library.now) streams.now high_line es steps)) }
         ensures counted { (line high_line : Option ℤ) (es : List Standing) (steps : ℕ → List Step) → length streams.now ≤ 8 →
-            StandsFor self.old.events.obeyed.table line es → IsReached line high.now high_line → AllCount self.old.streams steps →
-            OnOk result (AllCount self.new.streams (λ i. put_in (running_of (held library.now) streams.now high_line es steps (values_of self.old.events.obeyed.table) 0 streams.now i) (steps i))) }
-        ensures leaving { (i : ℕ) (s : SwitchedStream) → (slice_index_or self.new.streams i s).is_leaving ≡ (slice_index_or self.old.streams i s).is_leaving }
-        ensures plans { (line high_line : Option ℤ) (es : List Standing) → StandsFor self.old.events.obeyed.table line es → IsReached line high.now high_line →
-            OnOk result (values_of self.new.events.obeyed.table ≡ all_ran (held library.now) streams.now high_line es (values_of self.old.events.obeyed.table) 0 streams.now) }
+            HasEvents self.old line es → IsReached line high.now high_line → HasCounted self.old steps →
+            OnOk result (HasCounted self.new (steps_with (running_in_one self.old (held library.now) streams.now high_line es steps) steps)) }
+        ensures leaving { (i : ℕ) (s : SwitchedStream) → (stream_at self.new i s).is_leaving ≡ (stream_at self.old i s).is_leaving }
+        ensures plans { (line high_line : Option ℤ) (es : List Standing) → HasEvents self.old line es → IsReached line high.now high_line →
+            OnOk result (plans_in self.new ≡ ran_in_all self.old (held library.now) streams.now high_line es) }
         ensures keeps { KeepsEvents self.old.events self.new.events }
         ensures forgotten { self.new.forgotten ≡ self.old.forgotten }
-        ensures err { (line high_line : Option ℤ) (es : List Standing) (begin : Option (List ℕ)) (ps : List (List ℕ)) (steps : ℕ → List Step) → length streams.now ≤ 8 →
-            StandsFor self.old.events.obeyed.table line es → IsReached line high.now high_line → S.holds sink.old begin ps → AllCount self.old.streams steps →
-            IfErr result (λ f. FrontFails (all_running (held library.now) streams.now high_line es steps (values_of self.old.events.obeyed.table) 0 streams.now)
+        ensures err { (line high_line : Option ℤ) (es : List Standing)
+            (begin : Option (List ℕ)) (ps : List (List ℕ)) (steps : ℕ → List Step) → length streams.now ≤ 8 →
+            HasEvents self.old line es → IsReached line high.now high_line → S.holds sink.old begin ps → HasCounted self.old steps →
+            IfErr result (λ f. FrontFails (running_in_all self.old (held library.now) streams.now high_line es steps)
             (λ put p. S.fails sink.new begin (ps ++ put) p f)) }
         ensures well { OnOk result (WentWell (S.counts sink.old) (S.counts sink.new)) }
         ensures blamed { IfErr result (λ f. Blamed f (S.counts sink.old) (S.counts sink.new) (S.is_full sink.new)) }
@@ -233,7 +240,8 @@ impl Playing {
         ensures ok { (start : Option (List ℕ)) (ps : List (List ℕ)) (k : Setting) (past : List (List ℕ)) → S.holds sink.old start ps →
             PlaysBefore self.old k packet.now past → IsPacketOf k stream is_repeat packet.now past →
             OnOk result (S.holds sink.new start (ps ++ place_at k packet.now past)) }
-        ensures plays { (k : Setting) (past : List (List ℕ)) → PlaysBefore self.old k packet.now past → IsPacketOf k stream is_repeat packet.now past →
+        ensures plays { (k : Setting) (past : List (List ℕ)) →
+            PlaysBefore self.old k packet.now past → IsPacketOf k stream is_repeat packet.now past →
             OnOk result (PlaysBehind self.new k packet.now past) }
         ensures err { (start : Option (List ℕ)) (ps : List (List ℕ)) (k : Setting) (past : List (List ℕ)) → S.holds sink.old start ps →
             PlaysBefore self.old k packet.now past → IsPacketOf k stream is_repeat packet.now past →
@@ -242,11 +250,12 @@ impl Playing {
         ensures blamed { IfErr result (λ f. Blamed f (S.counts sink.old) (S.counts sink.new) (S.is_full sink.new)) }
     {
         let mut of = self.streams[stream % 8];
-        let put = if of.is_leaving {
-            of.leave(packet, is_repeat, sink)
-        } else {
-            of.keep(packet, sink)
-        };
+        if of.is_leaving {
+            let put = of.leave(packet, is_repeat, sink);
+            self.streams[stream % 8] = of;
+            return put;
+        }
+        let put = of.keep(packet, sink);
         self.streams[stream % 8] = of;
         put
     }
@@ -315,9 +324,9 @@ fn with_forgotten(
     streams: &[Stream],
     library: &AdLibrary,
 ) -> SwitchReport
-    ensures { (line : Option ℤ) (later : ℤ) (es : List Standing) (counts : Reported) → StandsFor table.now line es → CanAdvance (high_of table.now) high →
-        IsTimeAt line high later → ReportIs report counts →
-        ReportIs result (with_counted (is_out_at later) (adverts_of (held library.now) streams.now) (beside es (values_of table.now)) counts) }
+    ensures { (line : Option ℤ) (later : ℤ) (es : List Standing) (counts : Reported) →
+        StandsFor table.now line es → CanAdvance (high_of table.now) high → IsTimeAt line high later → ReportIs report counts →
+        ReportIs result (with_out (held library.now) streams.now table.now es later counts) }
 {
     let mut counted = report;
     for at in 0..table.standing().len() {
@@ -336,9 +345,10 @@ fn with_one_forgotten(
     library: &AdLibrary,
 ) -> SwitchReport
     requires { at < length table.now.entries.items }
-    ensures { (line : Option ℤ) (later : ℤ) (es : List Standing) (counts : Reported) → StandsFor table.now line es → CanAdvance (high_of table.now) high →
-        IsTimeAt line high later → ReportIs report (with_counted (is_out_at later) (adverts_of (held library.now) streams.now) (take at (beside es (values_of table.now))) counts) →
-        ReportIs result (with_counted (is_out_at later) (adverts_of (held library.now) streams.now) (take (at + 1) (beside es (values_of table.now))) counts) }
+    ensures { (line : Option ℤ) (later : ℤ) (es : List Standing) (counts : Reported) →
+        StandsFor table.now line es → CanAdvance (high_of table.now) high → IsTimeAt line high later →
+        ReportIs report (with_first_out (held library.now) streams.now table.now es at later counts) →
+        ReportIs result (with_first_out (held library.now) streams.now table.now es (at + 1) later counts) }
 {
     let entry = table.standing()[at];
     if !entry.event.is_forgotten_at(high) {
@@ -356,7 +366,7 @@ fn with_all(
     library: &AdLibrary,
 ) -> SwitchReport
     ensures { (line : Option ℤ) (es : List Standing) (counts : Reported) → StandsFor table.now line es → ReportIs report counts →
-        ReportIs result (with_counted is_any (adverts_of (held library.now) streams.now) (beside es (values_of table.now)) counts) }
+        ReportIs result (with_standing (held library.now) streams.now table.now es counts) }
 {
     let mut counted = report;
     for at in 0..table.standing().len() {

@@ -1,0 +1,11 @@
+pub mod HeadLemmas
+pub mod QuietLemmas
+pub mod AheadLemmas
+pub mod SameLemmas
+pub mod HeldLemmas
+pub mod CountLemmas
+pub mod OtherLemmas
+pub mod CrossLemmas
+pub mod PassLemmas
+pub mod CrossedLemmas
+pub mod ReportLemmas

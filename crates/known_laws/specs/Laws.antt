@@ -1,0 +1,84 @@
+-- What one packet more does to what is known of a network, and what it comes to in the end.
+use Rattle.std.specs.Prelude.{◌≡◌, ℕ, ◌≤◌, List, [], ◌∷◌, ◌++◌, length, map, reverse, true, false, ◌&&◌, ℤ, Option, None, Some, count_by}
+use Rattle.ts_packet.specs.Fields.{on}
+use Rattle.unit_stream.specs.Faults.{unit_fault}
+use Rattle.event_table.specs.Standing.{Standing}
+use Rattle.event_table.specs.Laws.{MayAdvance}
+use Rattle.armed_events.specs.Arming.{standing}
+use Rattle.armed_events.specs.Valuing.{values_by, IsFreshAhead}
+use Rattle.splice_plans.specs.declared.plan.Plan.{Plan}
+use Rattle.splice_plans.specs.declared.stream.SwitchedStream.{SwitchedStream}
+use Rattle.splice_plans.specs.Playing.{is_played}
+use Rattle.splice_plans.specs.Switching.{Setting, fate, switched_at, high_at, events_at, history_at, is_behind_head, is_switched}
+use Rattle.splice_plans.specs.Histories.{AreSteady}
+use Rattle.splice_plans.specs.Parts.{beside}
+use Rattle.splice_plans.specs.Known.{nothing_known, is_crossed_known, AllGo, adverts_at, behind_at, plans_at, inside_at, moves_at, puts_at, counts_known, is_forgotten}
+use Rattle.splice_plans.specs.Reporting.{Counts, with_counted, is_out_at, is_any, report_of}
+
+-- the plans beside the events that stand
+abbrev pub plans_beside : Setting → List (List ℕ) → List Plan
+plans_beside k past = values_by (plans_at k past (behind_at k past)) (standing k.cue_pid (high_at k) past)
+
+-- ---- a packet of no switched stream, as one with cues
+
+pub record ChangesNothing (k : Setting) (p : List ℕ) (past : List (List ℕ)) : Type 0 where
+  pub high : high_at k (p ∷ past) ≡ high_at k past
+  pub fresh : IsFreshAhead (plans_at k (p ∷ past) (behind_at k (p ∷ past))) (high_at k past) nothing_known
+  pub plans : plans_beside k past ≡ values_by (plans_at k (p ∷ past) (behind_at k (p ∷ past))) (standing k.cue_pid (high_at k) past)
+  pub streams : (streams : List SwitchedStream) → AllGo streams k.packed (inside_at k past (behind_at k past)) (moves_at k past) (switched_at k past) →
+      AllGo streams k.packed (inside_at k (p ∷ past) (behind_at k (p ∷ past))) (moves_at k (p ∷ past)) (switched_at k (p ∷ past))
+  pub forgotten : counts_known k (p ∷ past) (is_forgotten (high_at k (p ∷ past))) ≡ counts_known k past (is_forgotten (high_at k past))
+
+-- THE LAW OF OTHER PACKETS: where the advertisements are steady, and no more than eight streams are switched
+abbrev pub OthersChangeNothing : Type 0
+OthersChangeNothing = (k : Setting) (p : List ℕ) (past : List (List ℕ)) → is_switched (switched_at k past) p ≡ false →
+    AreSteady (adverts_at k past) → length (switched_at k past) ≤ 8 → ChangesNothing k p past
+
+-- ---- a packet behind the head that is none of the cues
+
+-- the counts of those that are forgotten, and of those that stand and are forgotten now
+pub record Passes (k : Setting) (p : List ℕ) (past : List (List ℕ)) : Type 0 where
+  pub plans : plans_at k (p ∷ past) (behind_at k (p ∷ past)) ≡ plans_at k past (p ∷ behind_at k past)
+  pub inside : inside_at k (p ∷ past) (behind_at k (p ∷ past)) ≡ inside_at k past (p ∷ behind_at k past)
+  pub moves : moves_at k (p ∷ past) ≡ fate (switched_at k past) (adverts_at k past) (history_at k past) p (behind_at k past) ∷ (reverse (puts_at k p past) ++ moves_at k past)
+  pub switched : switched_at k (p ∷ past) ≡ switched_at k past
+  pub events : events_at k (p ∷ past) ≡ events_at k past
+  pub unheard : high_at k (p ∷ past) ≡ None → high_at k past ≡ None
+  pub higher : (later : ℤ) → high_at k (p ∷ past) ≡ Some later → MayAdvance (high_at k past) later
+  pub same : high_at k (p ∷ past) ≡ high_at k past → counts_known k (p ∷ past) (is_forgotten (high_at k (p ∷ past))) ≡ counts_known k past (is_forgotten (high_at k past))
+  pub counted : (later : ℤ) → high_at k (p ∷ past) ≡ Some later → counts_known k (p ∷ past) (is_forgotten (high_at k (p ∷ past)))
+      ≡ with_counted (is_out_at later) (adverts_at k past) (beside (standing k.cue_pid (high_at k) past) (values_by (plans_at k past (p ∷ behind_at k past)) (standing k.cue_pid (high_at k) past)))
+      (counts_known k past (is_forgotten (high_at k past)))
+
+abbrev pub PacketsPass : Type 0
+PacketsPass = (k : Setting) (p : List ℕ) (past : List (List ℕ)) → is_behind_head k past ≡ true → on k.cue_pid p ≡ false →
+    AreSteady (adverts_at k past) → unit_fault (switched_at k past) p (behind_at k past) ≡ None → Passes k p past
+
+-- ---- the report
+
+-- no packet behind the head has a fault
+abbrev pub AreFaultless : List ℕ → List (List ℕ) → Type 0
+AreFaultless switched [] = Unit {0}
+AreFaultless switched (p ∷ past) = (unit_fault switched p past ≡ None) × AreFaultless switched past
+
+-- counts over the events that stand, each beside its plan, on top of those over the events that are forgotten
+abbrev pub counted_in_all : Setting → List (List ℕ) → List Plan → Counts
+counted_in_all k past plans = with_counted is_any (adverts_at k past) (beside (standing k.cue_pid (high_at k) past) plans) (counts_known k past (is_forgotten (high_at k past)))
+
+-- they are the report's; the ignored cues are the table's
+pub record IsWhole (k : Setting) (past : List (List ℕ)) (plans : List Plan) : Type 0 where
+  pub played : (counted_in_all k past plans).played ≡ (report_of k past).played
+  pub not_fitted : (counted_in_all k past plans).not_fitted ≡ (report_of k past).not_fitted
+  pub unconditioned : (counted_in_all k past plans).unconditioned ≡ (report_of k past).unconditioned
+
+-- THE LAW OF REPORTS, on a network whose times do not jump
+abbrev pub ReportsAreWhole : Type 0
+ReportsAreWhole = (k : Setting) (past : List (List ℕ)) (plans : List Plan) → AreSteady (adverts_at k past) → AreFaultless (switched_at k past) (behind_at k past) →
+    map (λ (plan : Plan). plan.is_crossed) plans
+    ≡ map (is_crossed_known (switched_at k past) (adverts_at k past) (history_at k past) (behind_at k past)) (standing k.cue_pid (high_at k) past) →
+    IsWhole k past plans
+
+-- THE LAW OF CROSSINGS: the plans beside the events that stand say which of these a stream has crossed
+abbrev pub PlansTellCrossings : Type 0
+PlansTellCrossings = (k : Setting) (past : List (List ℕ)) → map (λ (plan : Plan). plan.is_crossed) (plans_beside k past)
+    ≡ map (is_crossed_known (switched_at k past) (adverts_at k past) (history_at k past) (behind_at k past)) (standing k.cue_pid (high_at k) past)

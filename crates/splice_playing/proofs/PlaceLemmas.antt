@@ -1,0 +1,353 @@
+-- A packet of a switched stream on its way out: what stands in its place, what its counter counts, and that the other streams stay.
+use Rattle.std.proofs.Common.{◌≡◌, ℕ, zero, suc, ◌%◌, ◌<◌, ◌≤◌, List, [], ◌∷◌, ◌++◌, reverse, length, drop, Bool, true, false, not, ◌&&◌, ◌||◌, ◌==◌, inl, inr, refl, sym, ap, ◌∙◌, subst, arith, if◌then◌else◌, nat_eq, Option, None, Some}
+use Rattle.std.specs.Prelude.{ℤ, is_some, map, flat_map, slice_get, slice_index_or, slice_set, option_map}
+use Rattle.std.specs.List.{list_any}
+use Rattle.std.proofs.lemmas.Bool.{true≢false}
+use Rattle.std.proofs.lemmas.List.{append-nil, reverse-append}
+use Rattle.std.proofs.lemmas.Option.{none-some, same_Some, slice_get_within}
+use Rattle.ts_packet.specs.Fields.{on, payload, payload_on, pid_of, pcr, renumbered}
+use Rattle.ts_packet.specs.Duplicates.{original}
+use Rattle.ts_packet.specs.Numbering.{Step, Kept, Dropped, moved, number_out, Counts}
+use Rattle.ts_packet.proofs.Cases.{by_test}
+use Rattle.ts_packet.proofs.FieldLemmas.{payload_on-on, off_payload}
+use Rattle.unit_stream.specs.Times.{begins, in_unit, unit_time}
+use Rattle.unit_stream.specs.Fates.{is_left_out, steps_after}
+use Rattle.event_table.specs.Standing.{Standing}
+use Rattle.psi_tables.specs.ProgramMap.{ProgramMap}
+use Rattle.program_follower.specs.Program.{known_map, behind_head}
+use Rattle.armed_events.specs.Arming.{heard, Heard}
+use Rattle.armed_events.proofs.PastLemmas.{heard-off}
+use Rattle.splice_laws.specs.Splicing.{SliceUnit}
+use Rattle.splice_laws.specs.Streams.{is_among, IsOnce}
+use Rattle.output_laws.specs.Output.{Move, Keep, Leave, Put, network, Packing, counter_steps, out_at, clock_alone}
+use Rattle.output_laws.proofs.StepLemmas.{test-same, pid_is, payload-some, payload-none, kept_on}
+use Rattle.outgoing_packets.specs.Numbers.{FrontFails}
+use Rattle.splice_plans.specs.declared.stream.SwitchedStream.{SwitchedStream}
+use Rattle.splice_plans.specs.Playing.{Adverts, History, played, is_inside, is_played, as_played}
+use Rattle.splice_plans.specs.Counting.{left_steps, steps_behind, left_place}
+use Rattle.splice_plans.specs.Switching.{Setting, puts_by, puts_before, fate, moves, place_at, is_switched, switched_at, head_at, history_at, events_at}
+use Rattle.splice_plans.specs.Known.{Goes, GoesAs, AllGo, AreSeparate, adverts_at, behind_at, inside_at, moves_at, puts_at}
+use Rattle.splice_playing.proofs.StreamLemmas.{slot-new, slot-old, slot-other}
+
+-- ---- PIDs by their numbers
+
+or-true : (a b : Bool) → b ≡ true → (a || b) ≡ true
+or-true true b h = refl
+or-true false b h = h
+
+or-left : (a b : Bool) → (a || b) ≡ false → a ≡ false
+or-left true b h = h
+or-left false b h = refl
+
+or-right : (a b : Bool) → (a || b) ≡ false → b ≡ false
+or-right true b h = absurd (true≢false h)
+or-right false b h = h
+
+pub same-test : (a b : ℕ) → a ≡ b → (a == b) ≡ true
+same-test a b h = rw h (test-same b)
+
+pub clash : (b : Bool) → b ≡ true → b ≡ false → ⊥
+clash b h k = true≢false (sym h ∙ k)
+
+pub among-by : (pid : ℕ) (pids : List ℕ) (n : ℕ) → slice_get pids n ≡ Some pid → is_among pid pids ≡ true
+among-by pid [] n h = absurd (none-some pid h)
+among-by pid (q ∷ pids) zero h = ap (λ b. b || is_among pid pids) (same-test q pid (same_Some q pid h))
+among-by pid (q ∷ pids) (suc n) h = or-true (q == pid) (is_among pid pids) (among-by pid pids n h)
+
+not-among : (pid q : ℕ) (pids : List ℕ) (i : ℕ) → is_among pid pids ≡ false → slice_get pids i ≡ Some q → (q == pid) ≡ false
+not-among pid q [] i none h = absurd (none-some q h)
+not-among pid q (r ∷ pids) zero none h = ap (λ n. n == pid) (sym (same_Some r q h)) ∙ or-left (r == pid) (is_among pid pids) none
+not-among pid q (r ∷ pids) (suc i) none h = not-among pid q pids i (or-right (r == pid) (is_among pid pids) none) h
+
+-- another stream has another PID
+pub other-pid : (pid q : ℕ) (pids : List ℕ) (n i : ℕ) → IsOnce pid pids → slice_get pids n ≡ Some pid → slice_get pids i ≡ Some q → (n ≡ i → ⊥) → (q == pid) ≡ false
+other-pid pid q [] n i once h k differ = absurd once
+other-pid pid q (r ∷ pids) zero zero once h k differ = absurd (differ refl)
+other-pid pid q (r ∷ pids) zero (suc i) (inl once) h k differ = not-among pid q pids i once.1 k
+other-pid pid q (r ∷ pids) zero (suc i) (inr once) h k differ = absurd (clash (r == pid) (same-test r pid (same_Some r pid h)) once.0)
+other-pid pid q (r ∷ pids) (suc n) zero (inl once) h k differ = absurd (clash (is_among pid pids) (among-by pid pids n h) once.1)
+other-pid pid q (r ∷ pids) (suc n) zero (inr once) h k differ = ap (λ m. m == pid) (sym (same_Some r q k)) ∙ once.0
+other-pid pid q (r ∷ pids) (suc n) (suc i) (inl once) h k differ = absurd (clash (is_among pid pids) (among-by pid pids n h) once.1)
+other-pid pid q (r ∷ pids) (suc n) (suc i) (inr once) h k differ = other-pid pid q pids n i once.1 h k (λ is. differ (ap suc is))
+
+-- a packet of one PID is on no other
+pub off-other : (pid q : ℕ) (p : List ℕ) → on pid p ≡ true → (q == pid) ≡ false → on q p ≡ false
+off-other pid q p o differ = by_test (on q p) (λ h. absurd (clash (q == pid) (same-test q pid (sym (pid_is q p h) ∙ pid_is pid p o)) differ)) (λ h. h)
+
+pub on-switched : (pid : ℕ) (pids : List ℕ) (n : ℕ) (p : List ℕ) → slice_get pids n ≡ Some pid → on pid p ≡ true → is_switched pids p ≡ true
+on-switched pid [] n p h o = absurd (none-some pid h)
+on-switched pid (q ∷ pids) zero p h o = ap (λ b. b || is_switched pids p) (ap (λ r. on r p) (same_Some q pid h) ∙ o)
+on-switched pid (q ∷ pids) (suc n) p h o = or-true (on q p) (is_switched pids p) (on-switched pid pids n p h o)
+
+-- ---- what the network has brought
+
+pub network-append : (a b : List Move) → network (a ++ b) ≡ network a ++ network b
+network-append [] b = refl
+network-append (Keep p ∷ a) b = ap (λ l. p ∷ l) (network-append a b)
+network-append (Leave p ∷ a) b = ap (λ l. p ∷ l) (network-append a b)
+network-append (Put q u ∷ a) b = network-append a b
+
+none-append : (a b : List Move) → network a ≡ [] → network b ≡ [] → network (a ++ b) ≡ []
+none-append a b h k = network-append a b ∙ ap (λ l. l ++ network b) h ∙ k
+
+none-on : (pid : ℕ) (us : List SliceUnit) → network (map (λ (u : SliceUnit). Put pid u) us) ≡ []
+none-on pid [] = refl
+none-on pid (u ∷ us) = none-on pid us
+
+none-put : (pids : List ℕ) (es : List Standing) (rule : ℕ → Standing → List SliceUnit) → network (puts_by pids es rule) ≡ []
+none-put [] es rule = refl
+none-put (pid ∷ pids) es rule = none-append (map (λ (u : SliceUnit). Put pid u) (flat_map (rule pid) es)) (puts_by pids es rule) (none-on pid (flat_map (rule pid) es)) (none-put pids es rule)
+
+abbrev is-none : List (List ℕ) → Bool
+is-none [] = true
+is-none (p ∷ ps) = false
+
+none-back : (a : List Move) → network a ≡ [] → network (reverse a) ≡ []
+none-back [] h = refl
+none-back (Keep p ∷ a) h = absurd (true≢false (sym (ap is-none h)))
+none-back (Leave p ∷ a) h = absurd (true≢false (sym (ap is-none h)))
+none-back (Put q u ∷ a) h = ap network (reverse-append (Put q u ∷ []) a) ∙ none-append (reverse a) (Put q u ∷ []) (none-back a h) refl
+
+module _ (switched : List ℕ) (ads : Adverts) (events : History) where
+  puts-none : (p : List ℕ) (past : List (List ℕ)) → network (puts_before switched ads events p past) ≡ []
+  puts-none p past =
+      let es = played ads (events (p ∷ past)) in
+      none-append (puts_by switched es _) (puts_by switched es _) (none-put switched es _) (none-put switched es _)
+
+  pub before-is : (p : List ℕ) (past : List (List ℕ)) (M : List Move) → network (reverse (puts_before switched ads events p past) ++ M) ≡ network M
+  before-is p past M = network-append (reverse (puts_before switched ads events p past)) M ∙ ap (λ l. l ++ network M) (none-back (puts_before switched ads events p past) (puts-none p past))
+
+  fate-is : (b : Bool) (p : List ℕ) (M : List Move) → network ((if b then Leave p else Keep p) ∷ M) ≡ p ∷ network M
+  fate-is true p M = refl
+  fate-is false p M = refl
+
+  pub moves-are : (past : List (List ℕ)) → network (moves switched ads events past) ≡ past
+  moves-are [] = refl
+  moves-are (p ∷ past) =
+      fate-is (is_left_out (λ pid time. is_inside ads (events (p ∷ past)) time) switched p past switched) p (reverse (puts_before switched ads events p past) ++ moves switched ads events past)
+      ∙ ap (λ l. p ∷ l) (before-is p past (moves switched ads events past) ∙ moves-are past)
+
+-- ---- what the counters count
+
+steps-other : (out : Bool) (q : ℕ) (p : List ℕ) (past : List (List ℕ)) (steps : List Step) → on q p ≡ false → steps_after out q p past steps ≡ steps
+steps-other true q p past steps o = let n = off_payload q p o in simp n refl
+steps-other false q p past steps o = simp o refl
+
+module _ (packed : Packing) (p : List ℕ) (M : List Move) where
+  pub count-other : (b : Bool) (q : ℕ) → on q p ≡ false → counter_steps packed q ((if b then Leave p else Keep p) ∷ M) ≡ counter_steps packed q M
+  count-other true q o = steps-other true q p (network M) (counter_steps packed q M) o
+  count-other false q o = steps-other false q p (network M) (counter_steps packed q M) o
+
+  pub count-kept : (pid : ℕ) → on pid p ≡ true → counter_steps packed pid (Keep p ∷ M) ≡ Kept p ∷ counter_steps packed pid M
+  count-kept pid o = simp o refl
+
+  left-by : (o r : Bool) (steps : List Step) → r ≡ not o → (if o then Dropped p ∷ steps else steps) ≡ left_steps r p steps
+  left-by true r steps h = rw h refl
+  left-by false r steps h = rw h refl
+
+  count-left : (pid : ℕ) (past : List (List ℕ)) (is_repeat : Bool) → network M ≡ past → is_repeat ≡ not (original pid p past) →
+      counter_steps packed pid (Leave p ∷ M) ≡ left_steps is_repeat p (counter_steps packed pid M)
+  count-left pid past is_repeat net is =
+      ap (λ ps. steps_after true pid p ps (counter_steps packed pid M)) net ∙ left-by (original pid p past) is_repeat (counter_steps packed pid M) is
+
+  with-payload : (is_repeat : Bool) (steps : List Step) → is_some (payload p) ≡ true → left_steps is_repeat p steps ≡ steps_behind is_repeat p steps
+  with-payload is_repeat steps some = simp some refl
+
+  pub count-gone : (pid : ℕ) (past : List (List ℕ)) (is_repeat : Bool) → payload_on pid p ≡ true → network M ≡ past → is_repeat ≡ not (original pid p past) →
+      counter_steps packed pid (Leave p ∷ M) ≡ steps_behind is_repeat p (counter_steps packed pid M)
+  count-gone pid past is_repeat y net is = count-left pid past is_repeat net is ∙ with-payload is_repeat (counter_steps packed pid M) (payload-some pid p y)
+
+  -- what goes out in its place
+  pub place-kept : (pid : ℕ) → on pid p ≡ true → out_at packed (Keep p) M ≡ renumbered (moved (counter_steps packed pid M)) p ∷ []
+  place-kept pid o = ap (λ q. q ∷ []) (kept_on packed pid p M o)
+
+  gone-by : (is_repeat : Bool) (steps : List Step) → is_some (payload p) ≡ true →
+      clock_alone (pid_of p) (number_out p (left_steps is_repeat p steps)) (pcr p) ≡ left_place is_repeat p steps
+  gone-by is_repeat steps some = simp some refl
+
+  pub place-gone : (pid : ℕ) (past : List (List ℕ)) (is_repeat : Bool) → payload_on pid p ≡ true → network M ≡ past → is_repeat ≡ not (original pid p past) →
+      out_at packed (Leave p) M ≡ left_place is_repeat p (counter_steps packed pid M)
+  place-gone pid past is_repeat y net is =
+      ap (λ n. clock_alone (pid_of p) (number_out p (counter_steps packed n (Leave p ∷ M))) (pcr p)) (pid_is pid p (payload_on-on pid p y))
+      ∙ ap (λ steps. clock_alone (pid_of p) (number_out p steps) (pcr p)) (count-left pid past is_repeat net is)
+      ∙ gone-by is_repeat (counter_steps packed pid M) (payload-some pid p y)
+
+-- ---- whether it is left out
+
+module _ (goes : ℕ → Option ℤ → Bool) (sw : List ℕ) (p : List ℕ) (past : List (List ℕ)) where
+  not-payload : (q : ℕ) → payload_on q p ≡ false → (payload_on q p && goes q (unit_time sw q (p ∷ past))) ≡ false
+  not-payload q n = ap (λ b. b && goes q (unit_time sw q (p ∷ past))) n
+
+  first-out : (a b c : Bool) → a ≡ true → c ≡ false → ((a && b) || c) ≡ b
+  first-out true true c h k = refl
+  first-out true false c h k = k
+  first-out false b c h k = absurd (true≢false (sym h))
+
+  other-out : (a c : Bool) → a ≡ false → (a || c) ≡ c
+  other-out true c h = absurd (true≢false h)
+  other-out false c h = refl
+
+  none-out : (pid : ℕ) (pids : List ℕ) → on pid p ≡ true → is_among pid pids ≡ false → is_left_out goes sw p past pids ≡ false
+  none-out pid [] o none = refl
+  none-out pid (q ∷ pids) o none =
+      other-out (payload_on q p && goes q (unit_time sw q (p ∷ past))) (is_left_out goes sw p past pids) (not-payload q (off_payload q p (off-other pid q p o (or-left (q == pid) (is_among pid pids) none))))
+      ∙ none-out pid pids o (or-right (q == pid) (is_among pid pids) none)
+
+  pub out-is : (pid : ℕ) (pids : List ℕ) → payload_on pid p ≡ true → IsOnce pid pids → is_left_out goes sw p past pids ≡ goes pid (unit_time sw pid (p ∷ past))
+  out-is pid [] y once = absurd once
+  out-is pid (q ∷ pids) y (inl once) =
+      ap (λ n. (payload_on n p && goes n (unit_time sw n (p ∷ past))) || is_left_out goes sw p past pids) once.0
+      ∙ first-out (payload_on pid p) (goes pid (unit_time sw pid (p ∷ past))) (is_left_out goes sw p past pids) y (none-out pid pids (payload_on-on pid p y) once.1)
+  out-is pid (q ∷ pids) y (inr once) =
+      other-out (payload_on q p && goes q (unit_time sw q (p ∷ past))) (is_left_out goes sw p past pids) (not-payload q (off_payload q p (off-other pid q p (payload_on-on pid p y) once.0)))
+      ∙ out-is pid pids y once.1
+
+  -- where it has no payload, or the test does not take the unit
+  no-payload : (q : ℕ) → is_some (payload p) ≡ false → payload_on q p ≡ false
+  no-payload q none = by_test (payload_on q p) (λ h. absurd (clash (is_some (payload p)) (payload-some q p h) none)) (λ h. h)
+
+  pub none-left : (pids : List ℕ) → is_some (payload p) ≡ false → is_left_out goes sw p past pids ≡ false
+  none-left [] none = refl
+  none-left (q ∷ pids) none = other-out (payload_on q p && goes q (unit_time sw q (p ∷ past))) (is_left_out goes sw p past pids) (not-payload q (no-payload q none)) ∙ none-left pids none
+
+-- a stream has no time before its first unit
+no-time : (sw : List ℕ) (pid : ℕ) (past : List (List ℕ)) → in_unit pid past ≡ false → unit_time sw pid past ≡ None
+no-time sw pid [] h = refl
+no-time sw pid (p ∷ past) h =
+    let n = or-left (begins pid p past) (in_unit pid past) h in
+    simp n (no-time sw pid past (or-right (begins pid p past) (in_unit pid past) h))
+
+nothing-holds : (ads : Adverts) (es : List Standing) → is_inside ads es None ≡ false
+nothing-holds ads [] = refl
+nothing-holds ads (e ∷ es) = none (is_played ads e) (is_inside ads es None) (nothing-holds ads es)
+  where
+    none : (a b : Bool) → b ≡ false → ((a && false) || b) ≡ false
+    none true b h = h
+    none false b h = h
+
+-- ---- behind the head
+
+module _ (k : Setting) where
+  joined-by : (p : List ℕ) (past : List (List ℕ)) (o : Option ProgramMap) → known_map (Some k.program) past ≡ o → behind_at k past ++ head_at k past ≡ past → behind_at k (p ∷ past) ++ head_at k (p ∷ past) ≡ p ∷ past
+  joined-by p past None is before = ap (λ l. l ++ drop (length l) (p ∷ past)) (ap (λ o. if is_some o then p ∷ behind_head (Some k.program) past else []) is)
+  joined-by p past (Some m) is before =
+      ap (λ l. l ++ drop (length l) (p ∷ past)) (ap (λ o. if is_some o then p ∷ behind_head (Some k.program) past else []) is) ∙ ap (λ l. p ∷ l) before
+
+  -- a past is its head, and what stands behind it
+  pub joined : (past : List (List ℕ)) → behind_at k past ++ head_at k past ≡ past
+  joined [] = refl
+  joined (p ∷ past) = joined-by p past (known_map (Some k.program) past) refl (joined past)
+
+  -- a packet that is no cue arms nothing
+  pub same-events : (p : List ℕ) (past : List (List ℕ)) → on k.cue_pid p ≡ false → history_at k past (p ∷ behind_at k past) ≡ events_at k past
+  same-events p past cue = ap (λ l. events_at k (p ∷ l)) (joined past) ∙ ap (λ (h : Heard). h.events) (heard-off k.cue_pid _ p past cue)
+
+  module _ (p : List ℕ) (past : List (List ℕ)) where
+    abbrev pub is_gone : Bool
+    is_gone = is_left_out (λ pid time. is_inside (adverts_at k past) (history_at k past (p ∷ behind_at k past)) time) (switched_at k past) p (behind_at k past) (switched_at k past)
+
+    abbrev pub before : List Move
+    before = reverse (puts_at k p past) ++ moves_at k past
+
+    pub brought : network before ≡ behind_at k past
+    brought = before-is (switched_at k past) (adverts_at k past) (history_at k past) p (behind_at k past) (moves_at k past)
+        ∙ moves-are (switched_at k past) (adverts_at k past) (history_at k past) (behind_at k past)
+
+    pub place-is : (pid n : ℕ) → on k.cue_pid p ≡ false → slice_get (switched_at k past) n ≡ Some pid → on pid p ≡ true → place_at k p past ≡ out_at k.packed (if is_gone then Leave p else Keep p) before
+    place-is pid n cue of o = let s = on-switched pid (switched_at k past) n p of o in simp (cue, s) refl
+
+    pub gone-is : (pid : ℕ) → on k.cue_pid p ≡ false → IsOnce pid (switched_at k past) → payload_on pid p ≡ true → is_gone ≡ inside_at k past (p ∷ behind_at k past) pid
+    gone-is pid cue once y =
+        out-is (λ pid time. is_inside (adverts_at k past) (history_at k past (p ∷ behind_at k past)) time) (switched_at k past) p (behind_at k past) pid (switched_at k past) y once
+        ∙ ap (λ es. is_inside (adverts_at k past) es (unit_time (switched_at k past) pid (p ∷ behind_at k past))) (same-events p past cue)
+
+    stays-by : (pid : ℕ) → IsOnce pid (switched_at k past) → on pid p ≡ true → (y u : Bool) → payload_on pid p ≡ y → in_unit pid (p ∷ behind_at k past) ≡ u → (y && u) ≡ false → is_gone ≡ false
+    stays-by pid once o true true y u h = absurd (true≢false h)
+    stays-by pid once o true false y u h =
+        out-is (λ pid time. is_inside (adverts_at k past) (history_at k past (p ∷ behind_at k past)) time) (switched_at k past) p (behind_at k past) pid (switched_at k past) y once
+        ∙ ap (λ t. is_inside (adverts_at k past) (history_at k past (p ∷ behind_at k past)) t) (no-time (switched_at k past) pid (p ∷ behind_at k past) u)
+        ∙ nothing-holds (adverts_at k past) (history_at k past (p ∷ behind_at k past))
+    stays-by pid once o false u y is h =
+        none-left (λ pid time. is_inside (adverts_at k past) (history_at k past (p ∷ behind_at k past)) time) (switched_at k past) p (behind_at k past) (switched_at k past) (payload-none pid p o y)
+
+    pub stays-is : (pid : ℕ) → IsOnce pid (switched_at k past) → on pid p ≡ true → (payload_on pid p && in_unit pid (p ∷ behind_at k past)) ≡ false → is_gone ≡ false
+    stays-is pid once o h = stays-by pid once o (payload_on pid p) (in_unit pid (p ∷ behind_at k past)) refl refl h
+
+-- ---- the streams
+
+goes-other : (s : SwitchedStream) (packed : Packing) (is_in : ℕ → Bool) (m : Move) (M : List Move) (o : Option ℕ) → ((q : ℕ) → o ≡ Some q → counter_steps packed q (m ∷ M) ≡ counter_steps packed q M)
+    → GoesAs s packed is_in M o → GoesAs s packed is_in (m ∷ M) o
+goes-other s packed is_in m M None same g = g
+goes-other s packed is_in m M (Some q) same g = record { counter = subst (Counts s.counter) (sym (same q refl)) g.counter; leaving = g.leaving }
+
+module _ (streams : List SwitchedStream) (y : SwitchedStream) (n : ℕ) (below : n % 8 < length streams) (low : n < 8) (packed : Packing) (is_in : ℕ → Bool) (m : Move) (M : List Move) (switched : List ℕ) (pid : ℕ) where
+  -- one stream goes on, and the others stay
+  pub one-goes : slice_get switched n ≡ Some pid → IsOnce pid switched → ((q : ℕ) → (q == pid) ≡ false → counter_steps packed q (m ∷ M) ≡ counter_steps packed q M)
+      → Goes y packed pid (m ∷ M) (is_in pid) → AllGo streams packed is_in M switched → AllGo (slice_set streams (n % 8) y) packed is_in (m ∷ M) switched
+  one-goes of once same goes all = λ i s l. slot i s l (n == i) refl
+    where
+      slot : (i : ℕ) (s : SwitchedStream) → i < 8 → (b : Bool) → (n == i) ≡ b → GoesAs (slice_index_or (slice_set streams (n % 8) y) i s) packed is_in (m ∷ M) (slice_get switched i)
+      slot i s l true h =
+          let is : n ≡ i = grind (arith, h) in
+          subst (λ j. GoesAs (slice_index_or (slice_set streams (n % 8) y) j s) packed is_in (m ∷ M) (slice_get switched j)) is
+          (subst (λ o. GoesAs (slice_index_or (slice_set streams (n % 8) y) n s) packed is_in (m ∷ M) o) (sym of)
+          (subst (λ (t : SwitchedStream). Goes t packed pid (m ∷ M) (is_in pid)) (sym (slot-new streams n y below s low)) goes))
+      slot i s l false h =
+          let differ : n ≡ i → ⊥ = λ is. clash (n == i) (same-test n i is) h in
+          subst (λ (t : SwitchedStream). GoesAs t packed is_in (m ∷ M) (slice_get switched i)) (sym (slot-other streams n y below i s low differ))
+          (goes-other (slice_index_or streams i s) packed is_in m M (slice_get switched i) (λ q h. same q (other-pid pid q switched n i once of h differ)) (all i s l))
+
+module _ (k : Setting) (number : ℕ) (p : List ℕ) (past : List (List ℕ)) (pid : ℕ) (of : slice_get (switched_at k past) number ≡ Some pid) (separate : AreSeparate (switched_at k past)) (o : on pid p ≡ true)
+    (cue : on k.cue_pid p ≡ false) where
+  pub once-of : IsOnce pid (switched_at k past)
+  once-of = separate.alone pid (among-by pid (switched_at k past) number of)
+
+  pub low-of : number < 8
+  low-of = let within = slice_get_within (switched_at k past) number pid of in let few = separate.few in omega (arith, within, few)
+
+  abbrev pub steps-of : List Step
+  steps-of = counter_steps k.packed pid (before k p past)
+
+  abbrev pub Go : List SwitchedStream → List Move → Type 0
+  Go streams M = AllGo streams k.packed (inside_at k past (p ∷ behind_at k past)) M (switched_at k past)
+
+  pub place-by : (b : Bool) → is_gone k p past ≡ b → place_at k p past ≡ out_at k.packed (if b then Leave p else Keep p) (before k p past)
+  place-by b is = place-is k p past pid number cue of o ∙ ap (λ d. out_at k.packed (if d then Leave p else Keep p) (before k p past)) is
+
+  pub stream-was : (streams : List SwitchedStream) (r : SwitchedStream) → number % 8 < length streams → Go streams (before k p past)
+      → Goes (slice_index_or streams (number % 8) r) k.packed pid (before k p past) (inside_at k past (p ∷ behind_at k past) pid)
+  stream-was streams r below all =
+      subst (λ (t : SwitchedStream). Goes t k.packed pid (before k p past) (inside_at k past (p ∷ behind_at k past) pid)) (slot-old streams number r below r r low-of)
+      (subst (λ x. GoesAs (slice_index_or streams number r) k.packed (inside_at k past (p ∷ behind_at k past)) (before k p past) x) of (all number r low-of))
+
+  pub all-behind : (b : Bool) (steps : List Step) → is_gone k p past ≡ b → counter_steps k.packed pid ((if b then Leave p else Keep p) ∷ before k p past) ≡ steps
+      → (streams : List SwitchedStream) (y : SwitchedStream) → number % 8 < length streams → Counts y.counter steps → y.is_leaving ≡ inside_at k past (p ∷ behind_at k past) pid → Go streams (before k p past)
+      → Go (slice_set streams (number % 8) y) (fate (switched_at k past) (adverts_at k past) (history_at k past) p (behind_at k past) ∷ before k p past)
+  all-behind b steps is count streams y below counts leaving all =
+      one-goes streams y number below low-of k.packed (inside_at k past (p ∷ behind_at k past)) (if is_gone k p past then Leave p else Keep p) (before k p past) (switched_at k past) pid of once-of
+      (λ q differ. count-other k.packed p (before k p past) (is_gone k p past) q (off-other pid q p o differ))
+      (record {
+        counter = subst (Counts y.counter) (sym (ap (λ d. counter_steps k.packed pid ((if d then Leave p else Keep p) ∷ before k p past)) is ∙ count)) counts;
+        leaving = leaving;
+      }) all
+
+  -- ---- one that is kept
+
+  pub kept-place : is_gone k p past ≡ false → place_at k p past ≡ renumbered (moved steps-of) p ∷ []
+  kept-place is = place-by false is ∙ place-kept k.packed p (before k p past) pid o
+
+  pub kept-count : counter_steps k.packed pid (Keep p ∷ before k p past) ≡ Kept p ∷ steps-of
+  kept-count = count-kept k.packed p (before k p past) pid o
+
+  -- ---- one that is left out
+
+  pub gone-place : (is_repeat : Bool) → is_gone k p past ≡ true → payload_on pid p ≡ true → is_repeat ≡ not (original pid p (behind_at k past)) → place_at k p past ≡ left_place is_repeat p steps-of
+  gone-place is_repeat is y repeat = place-by true is ∙ place-gone k.packed p (before k p past) pid (behind_at k past) is_repeat y (brought k p past) repeat
+
+  pub gone-count : (is_repeat : Bool) → payload_on pid p ≡ true → is_repeat ≡ not (original pid p (behind_at k past))
+      → counter_steps k.packed pid (Leave p ∷ before k p past) ≡ steps_behind is_repeat p steps-of
+  gone-count is_repeat y repeat = count-gone k.packed p (before k p past) pid (behind_at k past) is_repeat y (brought k p past) repeat
+
+-- the only packet failed
+pub one-fails : (F : List (List ℕ) → List ℕ → Type 0) (place : List (List ℕ)) (q : List ℕ) → place ≡ q ∷ [] → F [] q → FrontFails place F
+one-fails F place q is fails = record { put = []; packet = q; left = []; all = is; fault = fails }
