@@ -27,7 +27,6 @@ use Rattle.splice_plans.specs.Turning.{plan_turned}
 use Rattle.splice_plans.specs.Parts.{beside, all_turned, closes_in, put_pair, pairs_by_start, closing_pairs, delta_in, packets_in, pair_packets, rest_packets}
 use Rattle.splice_plans.proofs.SliceLemmas.{put_in-append}
 use Rattle.plan_laws.proofs.StageLemmas.{none-closed, closed-stays}
-use Rattle.plan_laws.proofs.ToldLemmas.{Told}
 use Rattle.plan_laws.proofs.UnstampedLemmas.{unstamped-closed}
 use Rattle.plan_laws.proofs.DueLemmas.{closing-none, forgotten-closing}
 use Rattle.plan_laws.proofs.PlayedLemmas.{pushed, put_on, pushed-append, out-append, as_played_units, rest_filed, rest-packets, rest-steps}
@@ -89,14 +88,14 @@ module _ (filed : ℕ → Option Advertisement) (streams : List Stream) (n : ℕ
       let next = rest-put es a.1 (pushed done X) in
       let split : put_on pid (left e ++ flat_map left es) ≡ X ++ later = map-append _ (left e) (flat_map left es) in (
         ap (λ s. one st e ++ rest s es) (sym now.1)
-        ∙ ap (λ ps. one st e ++ ps) next.0
-        ∙ ap (λ ps. ps ++ out_after packed_units (pushed done X) later) now.0
-        ∙ sym (ap (out_after packed_units done) split ∙ out-append packed_units done X later),
+            ∙ ap (λ ps. one st e ++ ps) next.0
+            ∙ ap (λ ps. ps ++ out_after packed_units (pushed done X) later) now.0
+            ∙ sym (ap (out_after packed_units done) split ∙ out-append packed_units done X later),
         ap (λ ms. steps_behind (pushed done ms)) split
-        ∙ ap steps_behind (pushed-append done X later)
-        ∙ next.1
-        ∙ ap (λ s. put_in (rest s es) s) now.1
-        ∙ sym (put_in-append (one st e) (rest (put_in (one st e) st) es) st),
+            ∙ ap steps_behind (pushed-append done X later)
+            ∙ next.1
+            ∙ ap (λ s. put_in (rest s es) s) now.1
+            ∙ sym (put_in-append (one st e) (rest (put_in (one st e) st) es) st),
       )
 
 -- ---- in a run
@@ -143,7 +142,7 @@ module _ (filed : ℕ → Option Advertisement) (streams : List Stream) (events 
     unstamped-each same [] told = tt
     unstamped-each same (e ∷ es) told = (
       close-none n pid there e (shut-alike _ _ (unstamped-closed (stream pids pid) (pids_are_streams pids pid) adverts e (known filed streams events p past e) (falls filed streams events p past h e n pid there) p past
-      (told.0).before (told.0).now same ((told.0).settled pid (contained pids n pid there)) ((told.0).settled_now pid (contained pids n pid there)))),
+          (told.0).before (told.0).now same ((told.0).settled pid (contained pids n pid there)) ((told.0).settled_now pid (contained pids n pid there)))),
       unstamped-each same es told.1,
     )
 

@@ -1,10 +1,11 @@
 -- What goes out before a packet that begins a unit, and what the counters have counted then: the rest of what the packet closes, and then what is due of what runs on.
-use Rattle.std.proofs.Common.{◌≡◌, ℕ, zero, suc, ◌+◌, ◌==◌, ◌<◌, ◌≤◌, List, [], ◌∷◌, ◌++◌, Bool, true, false, refl, sym, ap, ◌∙◌, subst, Option, None, Some, arith, if◌then◌else◌, length, map, reverse}
+use Rattle.std.proofs.Common.{◌≡◌, ℕ, zero, suc, ◌+◌, ◌==◌, ◌<◌, ◌≤◌, List, [], ◌∷◌, ◌++◌, Bool, true, false, ◌⊎◌, inl, inr, refl, sym, ap, ◌∙◌, subst, Option, None, Some, arith, if◌then◌else◌, length, map, reverse}
 use Rattle.std.specs.Prelude.{ℤ, slice_get, slice_index_or, flat_map}
-use Rattle.std.specs.List.{AllByRecursion}
 use Rattle.std.proofs.lemmas.Bool.{true≢false}
 use Rattle.std.proofs.lemmas.Bool.Decides.{nat_tests}
 use Rattle.std.proofs.lemmas.List.{append-nil, length-map}
+use Rattle.std.proofs.lemmas.Option.{slice_get_cases}
+use Rattle.std.proofs.Math.ListN.{get_or}
 use Rattle.ts_packet.proofs.Cases.{by_test}
 use Rattle.ts_packet.specs.Numbering.{Step}
 use Rattle.pes_time.specs.Line.{place}
@@ -29,12 +30,18 @@ use Rattle.plan_laws.specs.Laws.{steps_of, steps_with}
 use Rattle.plan_laws.proofs.PartLemmas.{get-within}
 use Rattle.plan_laws.proofs.PlayedLemmas.{pushed, put_on, pushed-is, pushed-append, out-append, steps-other}
 use Rattle.plan_laws.proofs.PlanLemmas.{IsOf, pick-second}
-use Rattle.plan_laws.proofs.RunningLemmas.{first, mixed}
+use Rattle.plan_laws.proofs.RunningLemmas.{first}
 use Rattle.plan_laws.proofs.StandingLemmas.{pids_in, plans-are, all-pass, others-begin-not, get-stream, once-place, among-get}
 use Rattle.plan_laws.proofs.RunLemmas.{small, all-are-told, told, is-of, all-of, time-same, between-are}
 use Rattle.plan_laws.proofs.StreamsLemmas.{ads, es, turned, put, Counted, all-put}
 use Rattle.plan_laws.proofs.CountersLemmas.{all-counted}
 use Rattle.plan_laws.proofs.ClosingLemmas.{close, other-none, unstamped-none, closing-put}
+
+test-true : (a c : ℕ) → (a == c) ≡ true → a ≡ c
+test-true a c k = grind (arith, nat_tests)
+
+test-same : (a : ℕ) → (a == a) ≡ true
+test-same a = grind (arith, nat_tests)
 
 -- ---- in one stream alone
 
@@ -52,11 +59,6 @@ puts-one f (y ∷ xs) zero pid is h =
 puts-one f (y ∷ xs) (suc n) pid is h =
     ap (λ us. put_on y us ++ flat_map (λ (q : ℕ). put_on q (f q)) xs) (h 0 y refl (λ z. absurd (omega (arith, z))))
     ∙ puts-one f xs n pid is (λ j q k differ. h (suc j) q k (λ z. differ (omega (arith, z))))
-
-get-past : (xs : List ℕ) (i : ℕ) → slice_get xs i ≡ None → length xs ≤ i
-get-past [] i h = omega arith
-get-past (x ∷ xs) zero h = absurd (cc)
-get-past (x ∷ xs) (suc i) h = let l = get-past xs i h in omega (arith, l)
 
 -- nothing runs where no stream is
 running-past : (filed : ℕ → Option Advertisement) (streams : List Stream) (top : Option ℤ) (es : List Standing) (steps : ℕ → List Step) (i : ℕ) (plans : List Plan) (number : ℕ) (rest : List Stream)
@@ -176,12 +178,6 @@ module _ (filed : ℕ → Option Advertisement) (streams : List Stream) (events 
         ∙ ap (steps_of packed_units now) is
         ∙ sym (ap (λ ms. counter_steps packed_units q (pushed now ms)) closing-one ∙ steps-other packed_units pid q now left (differ j q is e)))
       where
-        test-true : (a c : ℕ) → (a == c) ≡ true → a ≡ c
-        test-true a c k = grind (arith, nat_tests)
-
-        test-same : (a : ℕ) → (a == a) ≡ true
-        test-same a = grind (arith, nat_tests)
-
         pick-first : (x y : List Step) (c : Bool) → c ≡ true → (if c then x else y) ≡ x
         pick-first x y true k = refl
         pick-first x y false k = absurd (true≢false (sym k))
@@ -229,15 +225,12 @@ module _ (filed : ℕ → Option Advertisement) (streams : List Stream) (events 
         (let l = get-within pids i q is in let m = length-map streams (λ (x : Stream). x.pid) in omega (arith, l, m))
         ∙ ap (counter_steps packed_units q) (sym (pushed-append now closing running) ∙ ap (pushed now) (sym puts-are) ∙ pushed-is now (puts_before pids (ads filed streams events p past h stay s n pid there b) events p past))
 
-    none-there : (i : ℕ) → slice_get pids i ≡ None → put_in (running_in i) (steps_next i) ≡ []
-    none-there i is =
+    none-there : (i : ℕ) → length pids ≤ i → slice_get pids i ≡ None → put_in (running_in i) (steps_next i) ≡ []
+    none-there i beyond is =
         ap (λ ps. put_in ps (steps_next i)) (running-past filed streams (high pids (p ∷ past)) standing steps_next i plans_next 0 streams
-        (let l = get-past pids i is in let m = length-map streams (λ (x : Stream). x.pid) in omega (arith, l, m)))
+        (let m = length-map streams (λ (x : Stream). x.pid) in omega (arith, beyond, m)))
         ∙ pick-second _ _ (i == n) (other (i == n) refl) ∙ ap (steps_of packed_units now) is
       where
-        test-true : (a c : ℕ) → (a == c) ≡ true → a ≡ c
-        test-true a c k = grind (arith, nat_tests)
-
         other : (c : Bool) → (i == n) ≡ c → (i == n) ≡ false
         other true e =
             let o : Some pid ≡ None = sym there ∙ ap (slice_get pids) (sym (test-true i n e)) ∙ is in
@@ -245,8 +238,8 @@ module _ (filed : ℕ → Option Advertisement) (streams : List Stream) (events 
         other false e = e
 
     pub counters-are : (i : ℕ) → put_in (running_in i) (steps_next i) ≡ steps_of packed_units all_moves (slice_get pids i)
-    counters-are i = by (slice_get pids i) refl
+    counters-are i = by (slice_get_cases pids i).1
       where
-        by : (o : Option ℕ) → slice_get pids i ≡ o → put_in (running_in i) (steps_next i) ≡ steps_of packed_units all_moves (slice_get pids i)
-        by None is = none-there i is ∙ sym (ap (steps_of packed_units all_moves) is)
-        by (Some q) is = counted-there i q is ∙ sym (ap (steps_of packed_units all_moves) is)
+        by : ((q : ℕ) × (i < length pids) × (slice_get pids i ≡ Some q) × (get_or pids i q ≡ q)) ⊎ ((length pids ≤ i) × (slice_get pids i ≡ None)) → put_in (running_in i) (steps_next i) ≡ steps_of packed_units all_moves (slice_get pids i)
+        by (inl (q, l, is, at)) = counted-there i q is ∙ sym (ap (steps_of packed_units all_moves) is)
+        by (inr (l, is)) = none-there i l is ∙ sym (ap (steps_of packed_units all_moves) is)
