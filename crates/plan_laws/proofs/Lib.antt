@@ -18,3 +18,5 @@ pub mod OrderLemmas
 pub mod StreamsLemmas
 pub mod NothingLemmas
 pub mod CountersLemmas
+pub mod ClosingLemmas
+pub mod FrontLemmas

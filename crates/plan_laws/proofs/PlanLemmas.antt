@@ -23,7 +23,7 @@ use Rattle.splice_plans.specs.Histories.{IsHistory}
 use Rattle.splice_plans.specs.Laws.{EndsFall}
 use Rattle.splice_plans.specs.Adverts.{adverts_of, kind_and_place, units_at}
 use Rattle.splice_plans.specs.Turning.{turned, crosses, waiting, at_stage, part_of, plan_turned}
-use Rattle.splice_plans.specs.Parts.{is_closing, is_running, units_in, closed_plan, runs_in, ran_plan, reached_by}
+use Rattle.splice_plans.specs.Parts.{is_closing, is_running, closes_in, units_in, closed_plan, runs_in, ran_plan, reached_by}
 use Rattle.splice_plans.specs.Known.{stage_known, crossed_known, padded, part_known, is_crossed_known, plan_known}
 use Rattle.splice_plans.proofs.AdvertLemmas.{libraries_are_steady}
 use Rattle.splice_plans.proofs.KnownLemmas.{ends_never_rise}
@@ -275,7 +275,7 @@ module _ (filed : ℕ → Option Advertisement) (streams : List Stream) (events 
 
     module _ (n pid : ℕ) (there : slice_get switched n ≡ Some pid) (small : n % 8 ≡ n) (others : (j q : ℕ) → slice_get switched j ≡ Some q → (j ≡ n → ⊥) → begins q p past ≡ false)
         (b : begins pid p past ≡ true) (t : ℤ) (time_is : unit_time switched pid (p ∷ past) ≡ Some t) (up : stands (high switched past) e ≡ true) (of : Stream) (o : IsOf n pid of) where
-      abbrev turn_stage : Stage
+      abbrev pub turn_stage : Stage
       turn_stage = turned e t (is_played ads e) (stage_at e pid past)
 
       stage-turned : stage_at e pid (p ∷ past) ≡ shut turn_stage
@@ -319,6 +319,16 @@ module _ (filed : ℕ → Option Advertisement) (streams : List Stream) (events 
           ap (λ (x : Part). record { parts = slice_set (padded (map (before_part e) switched)) (n % 8) (at_stage (turned e t (is_played ads e) x.stage) x); is_crossed = is_crossed_known switched ads events past e || crosses e t x.stage }) part-before
           ∙ ap (λ m. record { parts = slice_set (padded (map (before_part e) switched)) m (at_stage turn_stage (before_part e pid)); is_crossed = crossed_then }) small
           ∙ ap (λ ps. record { parts = ps; is_crossed = crossed_then }) (padded-set (map (before_part e) switched) n (at_stage turn_stage (before_part e pid)) within)
+
+      pub turned-there : part_of (plan_turned e t (is_played ads e) n (plan_known switched ads events past e)) n ≡ at_stage turn_stage (before_part e pid)
+      turned-there =
+          ap (λ plan. part_of plan n) turned-plan
+          ∙ part-there filed streams n of small (slice_set (map (before_part e) switched) n (at_stage turn_stage (before_part e pid))) crossed_then
+          (let l = length-set (map (before_part e) switched) n (at_stage turn_stage (before_part e pid)) in let w = within in omega (arith, l, w))
+          ∙ get-set (map (before_part e) switched) n (at_stage turn_stage (before_part e pid)) waiting within
+
+      pub closes-is : closes_in n (plan_turned e t (is_played ads e) n (plan_known switched ads events past e)) ≡ (flag_closed e pid (p ∷ past) && not (flag_closed e pid past))
+      closes-is = ap (λ (x : Part). is_closing x.stage) turned-there ∙ closing-turned
 
       crossed-is : crossed_then ≡ is_crossed_known switched ads events (p ∷ past) e
       crossed-is = any-set switched n pid (λ q. crossed_known (stream switched q) (as_played e) (known e) past) (λ q. crossed_known (stream switched q) (as_played e) (known e) (p ∷ past)) (crosses e t (stage_at e pid past)) there

@@ -1,7 +1,7 @@
 //! What a packet that begins a unit does in a switch.
 
-ghost use Rattle.plan_laws.specs.Laws.{StartsAreNear, HighIsReached, PlansGoOn, NothingStands};
-ghost use Rattle.plan_laws.specs.Laws.{UnitsLieAsLeft, OthersLieAsBefore};
+ghost use Rattle.plan_laws.specs.Laws.{StartsAreNear, HighIsReached, FrontGoesOut, PlansGoOn, CountersGoOn};
+ghost use Rattle.plan_laws.specs.Laws.{NothingStands, UnitsLieAsLeft, OthersLieAsBefore};
 
 /// A unit that begins is near the greatest time.
 pub fn starts_are_near()
@@ -13,9 +13,19 @@ pub fn high_is_reached()
     ensures { HighIsReached }
 {}
 
+/// What goes out before it is the rest of the events that it closes, and then what is due of those that run on.
+pub fn front_goes_out()
+    ensures { FrontGoesOut }
+{}
+
 /// The plans once that is out are those by the past with the packet.
 pub fn plans_go_on()
     ensures { PlansGoOn }
+{}
+
+/// Each stream's counter has counted what went out in the stream.
+pub fn counters_go_on()
+    ensures { CountersGoOn }
 {}
 
 /// Where there is no greatest time with the packet either, nothing goes out of events that run.

@@ -13,3 +13,4 @@ pub mod AllTurnedLemmas
 pub mod RunLemmas
 pub mod ClosingLemmas
 pub mod SelectLemmas
+pub mod OrderLemmas

@@ -21,4 +21,3 @@ module _ (filed : ℕ → Option Advertisement) (streams : List Stream) (table :
   -- with all that stand
   abbrev pub with_standing : Counts → Counts
   with_standing counts = with_counted is_any (adverts_of filed streams) (beside es (values_of table)) counts
-

@@ -22,7 +22,9 @@ use armed_events::ArmedEvents;
 use event_table::Table;
 use pes_time::Time33;
 use psi_tables::Stream;
-use splice_plans::{Plan, SwitchReport, SwitchedStream, close_all, is_inside, put_running, turn_all};
+use splice_plans::{
+    Plan, SwitchReport, SwitchedStream, close_all, is_inside, put_running, turn_all,
+};
 use ts_packet::{Packet, PacketSink, PutFault};
 
 /// The events that stand, with their plans, the streams, and what became of the events that are forgotten.

@@ -1,4 +1,3 @@
-pub mod OrderLemmas
 pub mod BringLemmas
 pub mod IntervalLemmas
 pub mod KnownLemmas

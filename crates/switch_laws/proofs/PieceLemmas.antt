@@ -18,7 +18,7 @@ use Rattle.splice_plans.specs.Histories.{IsHistory, AreSteady, IsSettledAt}
 use Rattle.splice_plans.proofs.SentLemmas.{none-unbegun}
 use Rattle.splice_plans.proofs.KnownLemmas.{begun-past, ends_never_rise}
 use Rattle.switch_laws.specs.Moving.{intervals, meant_by, units_for, sent_in_all, sent_count}
-use Rattle.switch_laws.proofs.OrderLemmas.{pieces, with_piece, gated, same-by-start}
+use Rattle.splice_plans.proofs.OrderLemmas.{pieces, with_piece, gated, same-by-start}
 use Rattle.switch_laws.proofs.IntervalLemmas.{IsMeant}
 use Rattle.switch_laws.proofs.KnownLemmas.{played-before, taken-back, closed-alike, sent-alike}
 use Rattle.switch_laws.proofs.OutLemmas.{piece-is, rest-is}

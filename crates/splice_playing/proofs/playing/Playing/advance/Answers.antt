@@ -38,9 +38,9 @@ returns-then-can_advance c = λ k number time p past b i.
     let counts = counts_known k past (is_forgotten (high_at k past)) in
     let told = c.with_forgotten-self.ensures (high_at k past) later.0 es counts stands can at b.forgotten in
     let mine = subst (λ a. ReportIs c.with_forgotten-self.result (with_counted (is_out_at later.0) a (beside es (values_of c.table.result.now)) counts))
-        (adverts-are k filed listed number time c.args.high.now p past i) told in
+    (adverts-are k filed listed number time c.args.high.now p past i) told in
     let counted = subst (λ vs. ReportIs c.with_forgotten-self.result (with_counted (is_out_at later.0) (adverts_at k past) (beside es vs) counts))
-        (ap (λ (t : Table Plan). values_of t) c.table.ensures.same ∙ b.plans) mine in
+    (ap (λ (t : Table Plan). values_of t) c.table.ensures.same ∙ b.plans) mine in
     record {
       events = c.advance.ensures.obeys k.cue_pid (high_at k) p past later.0 i.cue at later.1 b.events;
       plans = values-pass k filed listed number time c.args.high.now p past i (values_of c.advance.new.self.obeyed.table) (standing k.cue_pid (high_at k) (p ∷ past))

@@ -74,7 +74,7 @@ returns-in-None-clause-plays g c = λ k p past f i.
     let turn = c.in-Ok.ensures in
     let planned = turn.plans of.0 (high_at k past) es of.1 stands around ∙ closed-are k filed listed n c.args.time.now c.args.high.now p past i stands.within of.0 of.1 (values_of old) f.plans in
     let between = counts-between k filed listed n c.args.time.now c.args.high.now p past i stands.within of.0 of.1 c.args.self.now.streams c.turn.new.self.streams turn.others (all-count k past c.args.self.now.streams (inside_at k past (behind_at k past)) (moves_at k past) f.streams)
-        (λ t t_is. subst (λ qs. Counts t.counter (put_in qs steps)) closing (turn.counted of.0 (high_at k past) es s.0 t steps of.1 stands around s.1 t_is counts)) in
+    (λ t t_is. subst (λ qs. Counts t.counter (put_in qs steps)) closing (turn.counted of.0 (high_at k past) es s.0 t steps of.1 stands around s.1 t_is counts)) in
     let left : (t : SwitchedStream) → t ≡ slice_index_or c.turn.new.self.streams (n % 8) t → t.is_leaving ≡ inside_at k past (p ∷ behind_at k past) i.pid = λ t t_is. turn.leaving (high_at k past) es s.0 t stands s.1 t_is ∙ left-is k filed listed n c.args.time.now c.args.high.now p past i stands.within of.0 of.1 c.args.self.now.streams size f.streams s.0 s.1 (values_of c.turn.new.self.events.obeyed.table) planned in
     let none = none-high k filed listed n c.args.time.now c.args.high.now p past i c.in-None.is in
     record {
@@ -103,7 +103,7 @@ returns-in-Some-clause-ok g c = λ start ps k p past h f i.
     let turn = c.in-Ok.ensures in
     let planned = turn.plans of.0 (high_at k past) es of.1 stands around ∙ closed-are k filed listed n c.args.time.now c.args.high.now p past i stands.within of.0 of.1 (values_of old) f.plans in
     let between = counts-between k filed listed n c.args.time.now c.args.high.now p past i stands.within of.0 of.1 c.args.self.now.streams c.turn.new.self.streams turn.others (all-count k past c.args.self.now.streams (inside_at k past (behind_at k past)) (moves_at k past) f.streams)
-        (λ t t_is. subst (λ qs. Counts t.counter (put_in qs steps)) closing (turn.counted of.0 (high_at k past) es s.0 t steps of.1 stands around s.1 t_is counts)) in
+    (λ t t_is. subst (λ qs. Counts t.counter (put_in qs steps)) closing (turn.counted of.0 (high_at k past) es s.0 t steps of.1 stands around s.1 t_is counts)) in
     let later = same-stands old c.turn.new.self.events.obeyed.table (high_at k past) es turn.keeps.high turn.keeps.events stands in
     let few = few-listed k filed listed n c.args.time.now c.args.high.now p past i in
     let reach = reached k filed listed n c.args.time.now c.args.high.now p past i in
@@ -133,7 +133,7 @@ returns-in-Some-clause-plays g c = λ k p past f i.
     let turn = c.in-Ok.ensures in
     let planned = turn.plans of.0 (high_at k past) es of.1 stands around ∙ closed-are k filed listed n c.args.time.now c.args.high.now p past i stands.within of.0 of.1 (values_of old) f.plans in
     let between = counts-between k filed listed n c.args.time.now c.args.high.now p past i stands.within of.0 of.1 c.args.self.now.streams c.turn.new.self.streams turn.others (all-count k past c.args.self.now.streams (inside_at k past (behind_at k past)) (moves_at k past) f.streams)
-        (λ t t_is. subst (λ qs. Counts t.counter (put_in qs steps)) closing (turn.counted of.0 (high_at k past) es s.0 t steps of.1 stands around s.1 t_is counts)) in
+    (λ t t_is. subst (λ qs. Counts t.counter (put_in qs steps)) closing (turn.counted of.0 (high_at k past) es s.0 t steps of.1 stands around s.1 t_is counts)) in
     let left : (t : SwitchedStream) → t ≡ slice_index_or c.turn.new.self.streams (n % 8) t → t.is_leaving ≡ inside_at k past (p ∷ behind_at k past) i.pid = λ t t_is. turn.leaving (high_at k past) es s.0 t stands s.1 t_is ∙ left-is k filed listed n c.args.time.now c.args.high.now p past i stands.within of.0 of.1 c.args.self.now.streams size f.streams s.0 s.1 (values_of c.turn.new.self.events.obeyed.table) planned in
     let later = same-stands old c.turn.new.self.events.obeyed.table (high_at k past) es turn.keeps.high turn.keeps.events stands in
     let few = few-listed k filed listed n c.args.time.now c.args.high.now p past i in
@@ -167,7 +167,7 @@ returns-in-Some-clause-err g c = λ start ps k p past h f i.
     let turn = c.in-Ok.ensures in
     let planned = turn.plans of.0 (high_at k past) es of.1 stands around ∙ closed-are k filed listed n c.args.time.now c.args.high.now p past i stands.within of.0 of.1 (values_of old) f.plans in
     let between = counts-between k filed listed n c.args.time.now c.args.high.now p past i stands.within of.0 of.1 c.args.self.now.streams c.turn.new.self.streams turn.others (all-count k past c.args.self.now.streams (inside_at k past (behind_at k past)) (moves_at k past) f.streams)
-        (λ t t_is. subst (λ qs. Counts t.counter (put_in qs steps)) closing (turn.counted of.0 (high_at k past) es s.0 t steps of.1 stands around s.1 t_is counts)) in
+    (λ t t_is. subst (λ qs. Counts t.counter (put_in qs steps)) closing (turn.counted of.0 (high_at k past) es s.0 t steps of.1 stands around s.1 t_is counts)) in
     let later = same-stands old c.turn.new.self.events.obeyed.table (high_at k past) es turn.keeps.high turn.keeps.events stands in
     let few = few-listed k filed listed n c.args.time.now c.args.high.now p past i in
     let reach = reached k filed listed n c.args.time.now c.args.high.now p past i in

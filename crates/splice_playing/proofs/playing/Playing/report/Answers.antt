@@ -23,7 +23,7 @@ returns c = λ k past r e.
     let ads = ap (adverts_of filed) e.listed_is ∙ ap (λ f. f (streams_at k past)) (sym e.adverts_are) in
     let told = c.with_all-report.ensures (high_at k past) es counts (c.table.ensures.stands k.cue_pid (high_at k) past r.events) r.forgotten in
     let counted = subst (λ a. ReportIs c.with_all-report.result (with_counted is_any a (beside es (values_of t)) counts)) ads
-        (subst (λ (x : Table Plan). ReportIs c.with_all-report.result (with_counted is_any (adverts_of filed c.args.streams.now) (beside es (values_of x)) counts)) c.table.ensures.same told) in
+    (subst (λ (x : Table Plan). ReportIs c.with_all-report.result (with_counted is_any (adverts_of filed c.args.streams.now) (beside es (values_of x)) counts)) c.table.ensures.same told) in
     let whole = reports_are_whole k past (values_of t) (steady-by k filed past e.adverts_are) e.faultless r.crossed in
     record {
       played = counted.played ∙ ap capped whole.played;
