@@ -9,3 +9,4 @@ pub mod RestLemmas
 pub mod AloneLemmas
 pub mod FrameLemmas
 pub mod RestOutLemmas
+pub mod LeftLemmas
