@@ -10,3 +10,4 @@ pub mod AloneLemmas
 pub mod FrameLemmas
 pub mod RestOutLemmas
 pub mod LeftLemmas
+pub mod LeftAllLemmas
