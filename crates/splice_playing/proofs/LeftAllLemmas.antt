@@ -1,20 +1,20 @@
 -- What is left at the end goes out stream by stream, and so does that of a whole network.
-use Rattle.std.proofs.Common.{◌≡◌, ℕ, ◌+◌, ◌%◌, ◌<◌, ◌≤◌, ◌==◌, List, [], ◌∷◌, ◌++◌, Bool, true, false, ◌||◌, inl, inr, refl, sym, ap, ◌∙◌, subst, append_assoc, Option, None, Some, arith, length, map, length-append}
-use Rattle.std.specs.Prelude.{ℤ, slice_get, slice_index_or}
+use Rattle.std.proofs.Common.{◌≡◌, ℕ, ◌+◌, ◌<◌, ◌≤◌, ◌==◌, List, [], ◌∷◌, ◌++◌, Bool, true, false, ◌||◌, inl, inr, refl, sym, ap, ◌∙◌, subst, append_assoc, Option, None, Some, arith, length, map, length-append}
+use Rattle.std.specs.Prelude.{slice_get, slice_index_or, is_some}
 use Rattle.std.proofs.lemmas.Bool.{true≢false}
 use Rattle.std.proofs.lemmas.Bool.Decides.{nat_tests}
 use Rattle.std.proofs.lemmas.List.{length-map}
 use Rattle.ts_packet.specs.Numbering.{Step}
 use Rattle.unit_stream.specs.Times.{high}
 use Rattle.psi_tables.specs.declared.stream.Stream.{Stream}
-use Rattle.program_follower.specs.Program.{Program, program_of, pids_of}
+use Rattle.program_follower.specs.Program.{Program, program_of}
 use Rattle.program_follower.specs.Following.{streams_of_program}
 use Rattle.event_table.specs.Standing.{Standing}
 use Rattle.armed_events.specs.Arming.{standing, standing_at, stands}
 use Rattle.armed_events.specs.Valuing.{values_by}
 use Rattle.ad_library.specs.Advertisements.{Advertisement}
 use Rattle.splice_laws.specs.Streams.{is_among, IsOnce}
-use Rattle.output_laws.specs.Output.{Move, Packing, counter_steps}
+use Rattle.output_laws.specs.Output.{Move, Packing}
 use Rattle.splice_plans.specs.declared.plan.Plan.{Plan}
 use Rattle.splice_plans.specs.Playing.{Adverts, History, played}
 use Rattle.splice_plans.specs.Switching.{Setting, moves, end_of_run, switched_at, streams_at, high_at, events_at, history_at, is_behind_head, rest_at}
@@ -116,16 +116,18 @@ module _ (filed : ℕ → Option Advertisement) (streams : List Stream) (events 
       let below : length done < length streams = subst (λ ss. length done < length ss) (sym is) (in-done done of rest) in
       let within : i < length streams = omega (arith, below, at) in
       let here : of ≡ slice_index_or streams i of = subst (λ j. of ≡ slice_index_or streams j of) (sym at) (subst (λ ss. of ≡ slice_index_or ss (length done) of) (sym is) (or-done done of rest)) in
-      let f = few in
-      (λ past_moves. stream-out filed streams events past h i of.pid (small-number i (omega (arith, within, f))) of (is-of i of within here (got-at done of rest i at is)) past_moves,
-      all-put (done ++ of ∷ []) rest (i + 1) (longer done of i at) (is ∙ sym (append_assoc done (of ∷ []) rest)))
+      let f = few in (
+        λ past_moves. stream-out filed streams events past h i of.pid (small-number i (omega (arith, within, f))) of (is-of i of within here (got-at done of rest i at is)) past_moves,
+        all-put (done ++ of ∷ []) rest (i + 1) (longer done of i at) (is ∙ sym (append_assoc done (of ∷ []) rest)),
+      )
 
   all-behind : (done rest : List Stream) (i : ℕ) → i ≡ length done → streams ≡ done ++ rest
       → AllBehind filed streams None packed_units steps xs (played ads (events past)) (left filed streams events past h) done_moves i rest
   all-behind done [] i at is = tt
-  all-behind done (of ∷ rest) i at is =
-      (ap (steps_of packed_units done_moves) (got-at done of rest i at is),
-      all-behind (done ++ of ∷ []) rest (i + 1) (longer done of i at) (is ∙ sym (append_assoc done (of ∷ []) rest)))
+  all-behind done (of ∷ rest) i at is = (
+    ap (steps_of packed_units done_moves) (got-at done of rest i at is),
+    all-behind (done ++ of ∷ []) rest (i + 1) (longer done of i at) (is ∙ sym (append_assoc done (of ∷ []) rest)),
+  )
 
   -- what runs without a limit is the end of the run
   pub end-is : all_running filed streams None es steps (values_by (plan_at pids ads events past (events past)) es) 0 streams ≡ end_of_run pids ads events packed_units past
@@ -168,7 +170,7 @@ module _ (k : Setting) (filed : ℕ → Option Advertisement) (past : List (List
   no-streams : is_behind_head k past ≡ false → streams ≡ []
   no-streams b = by (program_of (Some k.program) past) b
     where
-      by : (o : Option Program) → Rattle.std.specs.Prelude.is_some o ≡ false → streams_of_program o ≡ []
+      by : (o : Option Program) → is_some o ≡ false → streams_of_program o ≡ []
       by None h = refl
       by (Some r) h = absurd (true≢false h)
 

@@ -1,6 +1,6 @@
 -- What is left at the end of the events of a past: in each stream at most one event runs, and the rest of its slice goes out.
 use Rattle.std.proofs.Common.{◌≡◌, ℕ, ◌%◌, ◌<◌, List, [], ◌∷◌, ◌++◌, Bool, true, false, not, ◌&&◌, inl, inr, refl, sym, ap, ◌∙◌, Option, None, Some, arith, if◌then◌else◌, length, drop, take, map}
-use Rattle.std.specs.Prelude.{ℤ, pos, ◌+ℤ◌, int_lt, slice_get, slice_index_or, find, filter, flat_map, option_map, All, Contains}
+use Rattle.std.specs.Prelude.{ℤ, pos, ◌+ℤ◌, int_lt, slice_get, find, flat_map, option_map, All, Contains}
 use Rattle.std.specs.List.{AllByRecursion}
 use Rattle.std.specs.Ordering.{int_eq}
 use Rattle.std.proofs.lemmas.Int.{ints}
@@ -38,7 +38,7 @@ use Rattle.splice_plans.proofs.KnownLemmas.{played_settle}
 use Rattle.plan_laws.proofs.StageLemmas.{stage_by, none-begun}
 use Rattle.plan_laws.proofs.ToldLemmas.{IsFoundIn, all-found, end_if}
 use Rattle.plan_laws.proofs.PartLemmas.{get-within, get-map}
-use Rattle.plan_laws.proofs.PlayedLemmas.{put_on, as_played_units, slice_filed, rest_filed, rest-all, rest-packets}
+use Rattle.plan_laws.proofs.PlayedLemmas.{put_on, as_played_units, rest_filed, rest-all, rest-packets}
 use Rattle.plan_laws.proofs.DueLemmas.{all-out}
 use Rattle.plan_laws.proofs.PlanLemmas.{IsOf, contained, none-begins, part-there, falls, slice-is, shut-flags}
 use Rattle.plan_laws.proofs.RunningLemmas.{none-filter}
@@ -179,7 +179,7 @@ module _ (filed : ℕ → Option Advertisement) (streams : List Stream) (events 
         let flags = shut-flags (is_begun q e) (is_closed q e) y in
         let all : sent q e ≡ up_to_end (end_of e) (ads.units e q)
         = all-out (begins_one pids) (stream pids q) (pids_are_streams pids q) (as_played e) (end_at e) (ads.units e q) (ends-fall e)
-            (λ p past b. none-begins pids i q p past there b) (λ p past b. simp b refl) past (end_of e) flags.0 flags.1 (end-is e knows flags.0) (end-reached e (high pids past) out) in
+        (λ p past b. none-begins pids i q p past there b) (λ p past b. simp b refl) past (end_of e) flags.0 flags.1 (end-is e knows flags.0) (end-reached e (high pids past) out) in
         run-left e knows y ∙ ap (drop (length (sent q e))) (sym all) ∙ drop-all (sent q e))
         (idle-left e)
 

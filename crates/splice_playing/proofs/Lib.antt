@@ -6,7 +6,6 @@ pub mod Awaited
 pub mod PacketLemmas
 pub mod BeginLemmas
 pub mod RestLemmas
-pub mod AloneLemmas
 pub mod FrameLemmas
 pub mod RestOutLemmas
 pub mod LeftLemmas

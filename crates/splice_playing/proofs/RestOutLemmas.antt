@@ -1,5 +1,5 @@
 -- What goes out of the events that run in each stream is what the moves of all streams put, one stream after another.
-use Rattle.std.proofs.Common.{◌≡◌, ℕ, ◌+◌, ◌==◌, List, [], ◌∷◌, ◌++◌, map, Bool, true, false, refl, sym, ap, ◌∙◌}
+use Rattle.std.proofs.Common.{◌≡◌, ℕ, ◌+◌, ◌==◌, List, [], ◌∷◌, ◌++◌, map, false, refl, sym, ap, ◌∙◌}
 use Rattle.std.specs.Prelude.{ℤ, Option, flat_map}
 use Rattle.ts_packet.specs.Numbering.{Step}
 use Rattle.psi_tables.specs.declared.stream.Stream.{Stream}
