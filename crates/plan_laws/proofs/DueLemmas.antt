@@ -98,7 +98,7 @@ module _ (turns : Turns) (r : TimedStream) (k : IsStream r) (x : PlayedEvent) (k
       (longest-run (up_to_known (known (p ∷ past)) units) (r.high (p ∷ past)) ∙ ap (λ us. run_of us (r.high (p ∷ past))) all ∙ all-due units stop (r.high (p ∷ past)) h ∙ sym all)
       ∙ all
 
-  all-out : (past : List (List ℕ)) (stop : ℤ) → begun_now r x known past ≡ true → closed_now r x known past ≡ false → known past ≡ Some stop → at_or_past stop (r.high past) ≡ true → sent past ≡ up_to_end stop units
+  pub all-out : (past : List (List ℕ)) (stop : ℤ) → begun_now r x known past ≡ true → closed_now r x known past ≡ false → known past ≡ Some stop → at_or_past stop (r.high past) ≡ true → sent past ≡ up_to_end stop units
   all-out [] stop b c e h = absurd (true≢false (sym b))
   all-out (p ∷ past) stop b c e h = by_test (turns p past)
       (λ t. goes-on (of-begun p past) (sent past) (turns p past) (closed_now r x known past) (begun_now r x known (p ∷ past)) t (or-first (closed_now r x known past) _ c) b ∙ of-reached p past stop e h)

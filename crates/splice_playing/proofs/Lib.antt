@@ -6,6 +6,7 @@ pub mod Awaited
 pub mod PacketLemmas
 pub mod BeginLemmas
 pub mod RestLemmas
-pub mod AloneLemmas
 pub mod FrameLemmas
 pub mod RestOutLemmas
+pub mod LeftLemmas
+pub mod LeftAllLemmas

@@ -1,5 +1,5 @@
 -- The end of a network: the rest of the events that run.
-use Rattle.std.proofs.Common.{◌≡◌, ℕ, suc, ◌+◌, ◌≤◌, List, [], ◌∷◌, length, map, Bool, true, false, refl, sym, ap, ◌∙◌, arith, Option, None}
+use Rattle.std.proofs.Common.{◌≡◌, ℕ, ◌+◌, ◌≤◌, List, [], ◌∷◌, length, map, Bool, true, false, refl, sym, ap, ◌∙◌, arith, Option, None}
 use Rattle.std.specs.Prelude.{ℤ}
 use Rattle.std.proofs.lemmas.List.{length-map}
 use Rattle.psi_tables.specs.declared.stream.Stream.{Stream}
@@ -15,6 +15,7 @@ use Rattle.splice_plans.specs.Known.{behind_at, plans_at, moves_at}
 use Rattle.plan_laws.specs.Laws.{steps_known}
 use Rattle.splice_playing.specs.Relations.{EndsWith}
 use Rattle.splice_playing.proofs.BeginLemmas.{as-many}
+use Rattle.splice_playing.proofs.LeftAllLemmas.{rest-is-all}
 
 abbrev pub crossings : List Plan → List Bool
 crossings plans = map (λ (plan : Plan). plan.is_crossed) plans
@@ -60,4 +61,6 @@ module _ (k : Setting) (filed : ℕ → Option Advertisement) (listed : List Str
 
   pub rest-is : all_running filed listed None (standing k.cue_pid (high_at k) past) (steps_known k past (moves_at k past))
       (values_by (plans_at k past (behind_at k past)) (standing k.cue_pid (high_at k) past)) 0 listed ≡ rest_at k past
-  rest-is = ?
+  rest-is =
+      ap (λ l. all_running filed l None (standing k.cue_pid (high_at k) past) (steps_known k past (moves_at k past)) (values_by (plans_at k past (behind_at k past)) (standing k.cue_pid (high_at k) past)) 0 l) e.listed_is
+      ∙ rest-is-all k filed past e.separate e.adverts_are e.packed_is

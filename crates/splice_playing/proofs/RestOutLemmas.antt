@@ -1,5 +1,5 @@
 -- What goes out of the events that run in each stream is what the moves of all streams put, one stream after another.
-use Rattle.std.proofs.Common.{◌≡◌, ℕ, ◌+◌, ◌==◌, List, [], ◌∷◌, ◌++◌, map, Bool, true, false, refl, sym, ap, ◌∙◌}
+use Rattle.std.proofs.Common.{◌≡◌, ℕ, ◌+◌, ◌==◌, List, [], ◌∷◌, ◌++◌, map, false, refl, sym, ap, ◌∙◌}
 use Rattle.std.specs.Prelude.{ℤ, Option, flat_map}
 use Rattle.ts_packet.specs.Numbering.{Step}
 use Rattle.psi_tables.specs.declared.stream.Stream.{Stream}
@@ -13,6 +13,15 @@ use Rattle.splice_plans.specs.Switching.{puts_by}
 use Rattle.plan_laws.proofs.PlayedLemmas.{pushed, put_on, out-append, steps-other}
 use Rattle.splice_playing.proofs.FrameLemmas.{each_running}
 
+-- none of them has this PID, and each has its own
+abbrev pub AllDiffer : ℕ → List Stream → Type 0
+AllDiffer pid [] = Unit {0}
+AllDiffer pid (of ∷ rest) = ((pid == of.pid) ≡ false) × AllDiffer pid rest
+
+abbrev pub AllDistinct : List Stream → Type 0
+AllDistinct [] = Unit {0}
+AllDistinct (of ∷ rest) = AllDiffer of.pid rest × AllDistinct rest
+
 module _ (filed : ℕ → Option Advertisement) (streams : List Stream) (high : Option ℤ) (packed : Packing) (steps : ℕ → List Step) (xs : List (Standing × Plan)) (es : List Standing) (rule : ℕ → Standing → List SliceUnit) where
   -- in each of these streams, the first of which has this number, what runs puts what the rule says, behind any moves
   abbrev pub AllPut : ℕ → List Stream → Type 0
@@ -24,15 +33,6 @@ module _ (filed : ℕ → Option Advertisement) (streams : List Stream) (high : 
   abbrev pub AllBehind : List Move → ℕ → List Stream → Type 0
   AllBehind past number [] = Unit {0}
   AllBehind past number (of ∷ rest) = (steps number ≡ counter_steps packed of.pid past) × AllBehind past (number + 1) rest
-
-  -- none of them has this PID, and each has its own
-  abbrev pub AllDiffer : ℕ → List Stream → Type 0
-  AllDiffer pid [] = Unit {0}
-  AllDiffer pid (of ∷ rest) = ((pid == of.pid) ≡ false) × AllDiffer pid rest
-
-  abbrev pub AllDistinct : List Stream → Type 0
-  AllDistinct [] = Unit {0}
-  AllDistinct (of ∷ rest) = AllDiffer of.pid rest × AllDistinct rest
 
   still-behind : (pid : ℕ) (us : List SliceUnit) (past : List Move) (number : ℕ) (rest : List Stream) → AllDiffer pid rest → AllBehind past number rest → AllBehind (pushed past (put_on pid us)) number rest
   still-behind pid us past number [] d b = tt

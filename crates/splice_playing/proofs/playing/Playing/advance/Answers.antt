@@ -1,15 +1,14 @@
-use Rattle.std.proofs.Common.{◌≡◌, ◌∷◌, ◌++◌, ℕ, List, Some, true, false, refl, rules, sym, ap, subst, ◌∙◌}
-use Rattle.std.specs.Prelude.{ℤ, option_map}
+use Rattle.std.proofs.Common.{◌∷◌, sym, ap, subst, ◌∙◌}
+use Rattle.std.specs.Prelude.{option_map}
 use Rattle.std.proofs.lemmas.Bool.{true≢false}
 use Rattle.pes_time.specs.Line.{ring_of}
 use Rattle.event_table.specs.declared.table.Table.{Table}
 use Rattle.event_table.specs.Rings.{CanAdvance}
 use Rattle.event_table.specs.Standing.{IsTimeAt}
-use Rattle.event_table.specs.Tables.{StandsFor, high_of, values_of}
+use Rattle.event_table.specs.Tables.{values_of}
 use Rattle.armed_events.specs.Arming.{standing}
 use Rattle.ad_library.specs.Library.{held}
 use Rattle.splice_plans.specs.declared.plan.Plan.{Plan}
-use Rattle.splice_plans.specs.Adverts.{adverts_of}
 use Rattle.splice_plans.specs.Parts.{beside}
 use Rattle.splice_plans.specs.Reporting.{ReportIs, with_counted, is_out_at}
 use Rattle.splice_plans.specs.Switching.{high_at}

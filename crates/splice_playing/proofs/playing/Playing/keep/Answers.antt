@@ -1,11 +1,9 @@
-use Rattle.std.proofs.Common.{◌≡◌, ◌<◌, ◌%◌, ◌++◌, ◌∷◌, [], length, true, false, rules, sym, subst, ◌∙◌}
+use Rattle.std.proofs.Common.{◌<◌, ◌%◌, ◌++◌, ◌∷◌, length, false, rules, sym, subst, ◌∙◌}
 use Rattle.std.specs.Prelude.{OnOk}
 use Rattle.std.proofs.lemmas.List.{append-nil}
 use Rattle.std.proofs.lemmas.Result.{on_ok_weaker, IfErr-weaker}
 use Rattle.ts_packet.specs.Numbering.{Kept}
-use Rattle.ts_packet.proofs.FieldLemmas.{payload_on-on}
-use Rattle.splice_plans.specs.Counting.{steps_behind}
-use Rattle.splice_playing.proofs.PlaceLemmas.{gone-is, stays-is, once-of, steps-of, stream-was, all-behind, kept-place, kept-count, gone-place, gone-count, one-fails}
+use Rattle.splice_playing.proofs.PlaceLemmas.{stays-is, once-of, steps-of, stream-was, all-behind, kept-place, kept-count, one-fails}
 use Rattle.splice_playing.proofs.playing.Playing.keep.Goals as goal
 
 pub returns-clause-ok : goal.returns-clause-ok

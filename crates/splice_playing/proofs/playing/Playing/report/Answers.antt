@@ -9,7 +9,7 @@ use Rattle.splice_plans.specs.Adverts.{adverts_of}
 use Rattle.splice_plans.specs.Parts.{beside}
 use Rattle.splice_plans.specs.Reporting.{ReportIs, with_counted, is_any}
 use Rattle.splice_plans.specs.Switching.{high_at, streams_at}
-use Rattle.splice_plans.specs.Known.{adverts_at, counts_known, is_forgotten}
+use Rattle.splice_plans.specs.Known.{counts_known, is_forgotten}
 use Rattle.known_laws.proofs.ReportLemmas.{reports_are_whole}
 use Rattle.splice_playing.proofs.PacketLemmas.{steady-by}
 use Rattle.splice_playing.proofs.playing.Playing.report.Goals as goal
