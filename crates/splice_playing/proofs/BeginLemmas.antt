@@ -26,7 +26,10 @@ use Rattle.plan_laws.specs.Laws.{steps_of, steps_known, steps_with, Starts, IsRe
 use Rattle.splice_playing.specs.Relations.{BeginsIn}
 use Rattle.splice_playing.proofs.StreamLemmas.{slot-old}
 use Rattle.splice_playing.proofs.PlaceLemmas.{clash, same-test}
-use Rattle.splice_playing.proofs.Awaited.{starts_are_near, high_is_reached, front_goes_out, plans_go_on, counters_go_on, nothing_stands, units_lie_as_left, others_lie_as_before}
+use Rattle.plan_laws.proofs.TimeLemmas.{starts_are_near, high_is_reached, others_lie_as_before}
+use Rattle.plan_laws.proofs.JoinedLemmas.{front_goes_out, plans_go_on, counters_go_on}
+use Rattle.plan_laws.proofs.NothingLemmas.{nothing_stands}
+use Rattle.plan_laws.proofs.LyingLemmas.{units_lie_as_left}
 
 -- ---- answers
 

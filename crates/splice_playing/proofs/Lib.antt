@@ -2,7 +2,6 @@ pub mod FrontLemmas
 pub mod ReportLemmas
 pub mod StreamLemmas
 pub mod PlaceLemmas
-pub mod Awaited
 pub mod PacketLemmas
 pub mod BeginLemmas
 pub mod RestLemmas
