@@ -12,7 +12,8 @@ use Rattle.ts_packet.specs.Runs.{onto}
 use Rattle.ts_packet.proofs.Cases.{by_test}
 use Rattle.unit_stream.specs.Times.{begins_one}
 use Rattle.unit_stream.specs.Fates.{is_left_out}
-use Rattle.unit_packing.specs.Packing.{unit_packet, later_packets, unit_packets, packets_for, room}
+use Rattle.ts_packet.specs.Filling.{packets_for}
+use Rattle.unit_packing.specs.Packing.{unit_packet, later_unit_packets, unit_packets, room}
 use Rattle.psi_tables.specs.declared.config.Config.{Config}
 use Rattle.psi_tables.specs.Streams.{Entry, stream_of, pid_in, switched_of, is_switched as is_switched_kind}
 use Rattle.psi_tables.specs.ProgramMap.{ProgramMap, streams_of}
@@ -107,7 +108,7 @@ IsApart other pid = (pid < 8192) × ((pid == other) ≡ false)
 off-unit : (other pid n : ℕ) (start access : Bool) (part : List ℕ) → IsApart other pid → on other (unit_packet pid n start access part) ≡ false
 off-unit other pid n start access part a = off-of other (unit_packet pid n start access part) (ap (λ x. x == other) (pid-unit pid n start access part a.0) ∙ a.1)
 
-off-later : (other pid : ℕ) (count n : ℕ) (bs : List ℕ) → IsApart other pid → AllByRecursion (Off other) (later_packets count pid n bs)
+off-later : (other pid : ℕ) (count n : ℕ) (bs : List ℕ) → IsApart other pid → AllByRecursion (Off other) (later_unit_packets count pid n bs)
 off-later other pid zero n bs a = tt
 off-later other pid (suc count) n bs a = (off-unit other pid n false false (take 184 bs) a, off-later other pid count ((n + 1) % 16) (drop 184 bs) a)
 
