@@ -1,10 +1,10 @@
 -- The events that are to close in a stream, closed one by one in order of start.
-use Rattle.std.proofs.Common.{◌≡◌, ℕ, zero, suc, ◌+◌, ◌%◌, ◌<◌, ◌≤◌, refl, sym, ap, ◌∙◌, subst, arith, append_assoc, List, [], ◌∷◌, ◌++◌, length, Bool, true, false, ◌&&◌, ◌||◌, if◌then◌else◌, ◌⊎◌, ⊎_elim}
-use Rattle.std.specs.Prelude.{ℤ, pos, ◌+ℤ◌, ◌≤ℤ◌, ◌<ℤ◌, int_lt, Option, None, Some, slice_index_or, slice_set, map, filter, AllPairs}
+use Rattle.std.proofs.Common.{◌≡◌, ℕ, zero, suc, ◌+◌, ◌%◌, ◌<◌, ◌≤◌, refl, sym, ap, ◌∙◌, subst, arith, append_assoc, List, [], ◌∷◌, ◌++◌, length, Bool, true, false, ◌&&◌, ⊎_elim}
+use Rattle.std.specs.Prelude.{ℤ, ◌≤ℤ◌, ◌<ℤ◌, int_lt, Option, None, Some, slice_index_or, slice_set, map, filter}
 use Rattle.std.specs.List.{list_any}
 use Rattle.std.proofs.lemmas.Int.{ints}
 use Rattle.std.proofs.lemmas.Bool.{true≢false, cases_lt}
-use Rattle.std.proofs.lemmas.List.{append-nil, get_or_default, length-map}
+use Rattle.std.proofs.lemmas.List.{append-nil, length-map}
 use Rattle.psi_tables.specs.declared.stream.Stream.{Stream}
 use Rattle.ts_packet.specs.Numbering.{Step}
 use Rattle.unit_stream.specs.UnitPackets.{put_in}
@@ -12,16 +12,15 @@ use Rattle.outgoing_packets.specs.Numbers.{FrontFails}
 use Rattle.event_table.specs.declared.event.Event.{Event}
 use Rattle.event_table.specs.declared.table.Entry.{Entry}
 use Rattle.event_table.specs.declared.table.Table.{Table}
-use Rattle.event_table.specs.Standing.{Standing, on_ring, end_of, meets, IsWithin, IsInReach, IsApart}
+use Rattle.event_table.specs.Standing.{Standing, on_ring, end_of, meets, IsWithin, IsInReach}
 use Rattle.event_table.specs.Tables.{StandsFor, values_of}
 use Rattle.event_table.proofs.TableLemmas.{length-entries}
 use Rattle.armed_events.specs.declared.obeying.ArmedEvents.{ArmedEvents}
 use Rattle.ad_library.specs.Advertisements.{Advertisement}
-use Rattle.splice_plans.specs.declared.plan.Stage.{Stage}
 use Rattle.splice_plans.specs.declared.plan.Stage.TheVariants.{Over}
 use Rattle.splice_plans.specs.declared.plan.Part.{Part}
 use Rattle.splice_plans.specs.declared.plan.Plan.{Plan}
-use Rattle.splice_plans.specs.Turning.{part_of, with_part, waiting}
+use Rattle.splice_plans.specs.Turning.{part_of, waiting}
 use Rattle.splice_plans.specs.Parts.{no_entry, no_standing, beside, is_closing, closes_in, pairs_by_start, closing_pairs, KeepsEvents, IsFirstClosing, pair_packets, put_plan, part_put, packets_in, rest_packets, closed_plan}
 use Rattle.splice_plans.proofs.SliceLemmas.{put_in-append}
 use Rattle.splice_plans.proofs.TurnLemmas.{event-there, within-there}

@@ -1,6 +1,6 @@
 -- Of the events that are to close the one that starts first is the first in order of start.
-use Rattle.std.proofs.Common.{◌≡◌, ℕ, zero, suc, ◌+◌, ◌<◌, ◌≤◌, refl, sym, ap, ◌∙◌, subst, arith, List, [], ◌∷◌, length, Bool, true, false, if◌then◌else◌}
-use Rattle.std.specs.Prelude.{ℤ, ◌≤ℤ◌, ◌<ℤ◌, int_lt, filter, slice_index_or, slice_set}
+use Rattle.std.proofs.Common.{◌≡◌, ℕ, zero, suc, ◌<◌, refl, sym, ap, ◌∙◌, arith, List, [], ◌∷◌, length, Bool, true, false}
+use Rattle.std.specs.Prelude.{ℤ, ◌<ℤ◌, int_lt, filter, slice_index_or, slice_set}
 use Rattle.std.proofs.lemmas.Int.{ints}
 use Rattle.event_table.specs.Standing.{Standing}
 use Rattle.splice_plans.specs.declared.plan.Plan.{Plan}

@@ -1,35 +1,25 @@
 -- What is known of a network: how far the events have come in each stream, and what is counted of those that are forgotten.
-use Rattle.std.specs.Prelude.{◌≡◌, ℕ, ◌-◌, ◌<◌, ◌≤◌, List, [], ◌∷◌, ◌++◌, length, map, reverse, replicate, count_by, find, Bool, true, false, not, ◌&&◌, ◌||◌, if◌then◌else◌, slice_index_or, slice_get, ℤ, Option, None, Some, option_map}
+use Rattle.std.specs.Prelude.{◌≡◌, ℕ, ◌-◌, ◌<◌, ◌≤◌, List, [], ◌∷◌, ◌++◌, length, map, replicate, count_by, find, Bool, true, false, not, ◌&&◌, ◌||◌, if◌then◌else◌, slice_index_or, slice_get, ℤ, Option, None, Some}
 use Rattle.std.specs.List.{list_any}
 use Rattle.std.specs.Ordering.{int_eq}
-use Rattle.ts_packet.specs.Fields.{on, payload_on}
-use Rattle.ts_packet.specs.Duplicates.{original}
 use Rattle.ts_packet.specs.Numbering.{Counts}
-use Rattle.pes_time.specs.Line.{ring_of}
-use Rattle.unit_stream.specs.Times.{begins, begins_one, in_unit, stamp, unit_time}
-use Rattle.unit_stream.specs.Faults.{unit_fault}
-use Rattle.psi_tables.specs.declared.stream.Stream.{Stream as ListedStream}
+use Rattle.unit_stream.specs.Times.{begins_one, unit_time}
 use Rattle.event_table.specs.Standing.{Standing}
-use Rattle.event_table.specs.Tables.{values_of}
-use Rattle.armed_events.specs.Arming.{stands, standing}
-use Rattle.armed_events.specs.Obeying.{Obeys}
-use Rattle.armed_events.specs.Valuing.{values_by}
+use Rattle.armed_events.specs.Arming.{stands}
 use Rattle.program_follower.specs.Program.{behind_head}
-use Rattle.splice_laws.specs.Splicing.{PlayedEvent, SliceUnit, TimedStream, stream, below}
+use Rattle.splice_laws.specs.Splicing.{PlayedEvent, TimedStream, stream, below}
 use Rattle.splice_laws.specs.Streams.{is_among, IsOnce}
 use Rattle.splice_laws.specs.Settled.{begun_now, closed_now}
 use Rattle.output_laws.specs.Output.{Packing, Move, counter_steps}
-use Rattle.ad_library.specs.Advertisements.{Advertisement}
 use Rattle.splice_plans.specs.declared.plan.Stage.{Stage}
 use Rattle.splice_plans.specs.declared.plan.Stage.TheVariants.{Waiting, Running, Closing, Over}
 use Rattle.splice_plans.specs.declared.plan.Part.{Part}
 use Rattle.splice_plans.specs.declared.plan.Plan.{Plan}
 use Rattle.splice_plans.specs.declared.stream.SwitchedStream.{SwitchedStream}
-use Rattle.splice_plans.specs.Playing.{Turns, Adverts, History, is_played, as_played, end_known, is_inside, sent_known}
-use Rattle.splice_plans.specs.Switching.{Setting, puts_before, fate, moves, switched_at, streams_at, high_at, events_at, history_at}
-use Rattle.splice_plans.specs.Reporting.{Counts as Reported, ReportIs, is_not_fitted}
+use Rattle.splice_plans.specs.Playing.{Adverts, History, is_played, as_played, end_known, is_inside, sent_known}
+use Rattle.splice_plans.specs.Switching.{Setting, puts_before, moves, switched_at, streams_at, events_at, history_at}
+use Rattle.splice_plans.specs.Reporting.{Counts as Reported, is_not_fitted}
 use Rattle.splice_plans.specs.Turning.{waiting}
-use Rattle.splice_plans.specs.Adverts.{adverts_of, packed_units}
 
 -- ---- one event in one stream
 

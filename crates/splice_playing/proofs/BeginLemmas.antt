@@ -1,10 +1,9 @@
 -- A unit start: what goes out before it, the plans behind it, and the streams.
-use Rattle.std.proofs.Common.{◌≡◌, ℕ, zero, suc, ◌%◌, ◌<◌, ◌≤◌, List, [], ◌∷◌, ◌++◌, length, reverse, Bool, true, false, if◌then◌else◌, ◌==◌, refl, sym, ap, ◌∙◌, subst, arith, nat_eq, append_assoc, Option, None, Some}
+use Rattle.std.proofs.Common.{◌≡◌, ℕ, zero, suc, ◌%◌, ◌<◌, ◌≤◌, List, [], ◌∷◌, ◌++◌, length, reverse, Bool, true, false, if◌then◌else◌, ◌==◌, refl, sym, ap, ◌∙◌, subst, arith, append_assoc, Option, None, Some}
 use Rattle.std.specs.Prelude.{ℤ, All, slice_get, slice_index_or, Result, Ok, Err, OnOk}
 use Rattle.std.proofs.lemmas.List.{append-nil, length-map}
 use Rattle.std.proofs.lemmas.Option.{none-some, same_Some, slice_get_within}
 use Rattle.ts_packet.specs.Numbering.{Step, Counts}
-use Rattle.ts_packet.proofs.Cases.{by_test}
 use Rattle.unit_stream.specs.Times.{stamp}
 use Rattle.unit_stream.specs.UnitPackets.{put_in}
 use Rattle.psi_tables.specs.declared.stream.Stream.{Stream}
@@ -22,7 +21,7 @@ use Rattle.splice_plans.specs.Parts.{IsReached}
 use Rattle.splice_plans.specs.Fronts.{IsNearTime, IsOther, closing_packets, closed_plans, is_left, AllCount, all_running, running_of, all_ran}
 use Rattle.splice_plans.specs.Switching.{Setting, front_at, switched_at, streams_at, high_at}
 use Rattle.splice_plans.specs.Known.{GoesAs, AllGo, behind_at, plans_at, inside_at, moves_at, puts_at}
-use Rattle.plan_laws.specs.Laws.{steps_of, steps_known, steps_with, Starts, IsReady, plans_before, steps_before, closing_before, plans_between, steps_between, running_before, running_in, plans_behind}
+use Rattle.plan_laws.specs.Laws.{steps_of, steps_known, Starts, IsReady, closing_before, plans_between, steps_between, running_before, running_in}
 use Rattle.splice_playing.specs.Relations.{BeginsIn}
 use Rattle.splice_playing.proofs.StreamLemmas.{slot-old}
 use Rattle.splice_playing.proofs.PlaceLemmas.{clash, same-test}

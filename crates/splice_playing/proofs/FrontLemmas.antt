@@ -1,5 +1,5 @@
 -- What goes out before a unit start, by the events that stand and the plans beside them.
-use Rattle.std.proofs.Common.{◌≡◌, ℕ, suc, ◌^◌, ◌<◌, refl, sym, ap, ◌∙◌, subst, arith, List, [], ◌∷◌, length, Bool, not, ◌&&◌, ◌||◌}
+use Rattle.std.proofs.Common.{◌≡◌, ℕ, suc, ◌^◌, ◌<◌, refl, ap, ◌∙◌, arith, List, [], ◌∷◌, length, Bool, not, ◌&&◌, ◌||◌}
 use Rattle.std.specs.Prelude.{ℤ, Option, None, Some, map, All, replicate, slice_index_or}
 use Rattle.std.proofs.lemmas.List.{get_or-replicate}
 use Rattle.splice_plans.specs.declared.stream.SwitchedStream.{SwitchedStream}

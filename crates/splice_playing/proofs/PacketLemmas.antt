@@ -1,16 +1,15 @@
 -- What the relation comes to with one packet more.
-use Rattle.std.proofs.Common.{◌≡◌, ℕ, ◌∷◌, ◌++◌, List, Bool, true, false, not, reverse, refl, sym, ap, ◌∙◌, subst, Option, None, Some, replicate}
+use Rattle.std.proofs.Common.{◌≡◌, ℕ, ◌∷◌, ◌++◌, List, true, false, reverse, refl, sym, ap, ◌∙◌, subst, Option, None, Some, replicate}
 use Rattle.std.specs.Prelude.{ℤ, option_map, is_some, slice_get}
-use Rattle.std.proofs.lemmas.Bool.{true≢false}
 use Rattle.std.proofs.lemmas.Option.{none-some, same_Some}
 use Rattle.pes_time.specs.Line.{ring_of}
-use Rattle.ts_packet.specs.Fields.{on, in_error, pid_of}
+use Rattle.ts_packet.specs.Fields.{on}
 use Rattle.psi_section.specs.Assembling.{IsOf}
 use Rattle.psi_section.proofs.AssemblerLemmas.{waits_off}
 use Rattle.output_laws.proofs.StepLemmas.{pid_is}
 use Rattle.program_follower.specs.Program.{Program, program_of, pids_of}
-use Rattle.event_table.specs.Standing.{Standing, IsTimeAt}
-use Rattle.event_table.specs.Tables.{StandsFor, values_of}
+use Rattle.event_table.specs.Standing.{Standing}
+use Rattle.event_table.specs.Tables.{values_of}
 use Rattle.armed_events.specs.Arming.{Heard, heard, standing, standing_at, armed}
 use Rattle.armed_events.specs.declared.obeying.ArmedEvents.{ArmedEvents}
 use Rattle.armed_events.specs.Obeying.{Obeys, ObeyedFor}
@@ -20,14 +19,13 @@ use Rattle.ad_library.specs.Advertisements.{Advertisement}
 use Rattle.psi_tables.specs.declared.stream.Stream.{Stream as ListedStream}
 use Rattle.splice_plans.specs.declared.plan.Plan.{Plan}
 use Rattle.splice_plans.specs.declared.stream.SwitchedStream.{SwitchedStream}
-use Rattle.splice_plans.specs.declared.report.SwitchReport.{SwitchReport}
 use Rattle.splice_plans.specs.Turning.{waiting}
 use Rattle.splice_plans.specs.Playing.{Adverts}
 use Rattle.splice_plans.specs.Histories.{AreSteady}
 use Rattle.splice_plans.specs.Adverts.{adverts_of}
-use Rattle.splice_plans.specs.Reporting.{Counts, ReportIs}
+use Rattle.splice_plans.specs.Reporting.{ReportIs}
 use Rattle.splice_plans.specs.Switching.{Setting, fate, switched_at, streams_at, high_at, history_at, is_behind_head}
-use Rattle.splice_plans.specs.Known.{nothing_known, AllGo, adverts_at, behind_at, plans_at, inside_at, moves_at, puts_at, counts_known, is_forgotten}
+use Rattle.splice_plans.specs.Known.{nothing_known, AllGo, adverts_at, behind_at, plans_at, inside_at, moves_at, puts_at}
 use Rattle.splice_plans.proofs.AdvertLemmas.{libraries_are_steady}
 use Rattle.known_laws.specs.Laws.{Passes}
 use Rattle.splice_playing.specs.declared.playing.Playing.{Playing}

@@ -1,9 +1,8 @@
 -- A packet of a switched stream on its way out: what stands in its place, what its counter counts, and that the other streams stay.
-use Rattle.std.proofs.Common.{◌≡◌, ℕ, zero, suc, ◌%◌, ◌<◌, ◌≤◌, List, [], ◌∷◌, ◌++◌, reverse, length, drop, Bool, true, false, not, ◌&&◌, ◌||◌, ◌==◌, inl, inr, refl, sym, ap, ◌∙◌, subst, arith, if◌then◌else◌, nat_eq, Option, None, Some}
-use Rattle.std.specs.Prelude.{ℤ, is_some, map, flat_map, slice_get, slice_index_or, slice_set, option_map}
-use Rattle.std.specs.List.{list_any}
+use Rattle.std.proofs.Common.{◌≡◌, ℕ, zero, suc, ◌%◌, ◌<◌, List, [], ◌∷◌, ◌++◌, reverse, length, drop, Bool, true, false, not, ◌&&◌, ◌||◌, ◌==◌, inl, inr, refl, sym, ap, ◌∙◌, subst, arith, if◌then◌else◌, Option, None, Some}
+use Rattle.std.specs.Prelude.{ℤ, is_some, map, flat_map, slice_get, slice_index_or, slice_set}
 use Rattle.std.proofs.lemmas.Bool.{true≢false}
-use Rattle.std.proofs.lemmas.List.{append-nil, reverse-append}
+use Rattle.std.proofs.lemmas.List.{reverse-append}
 use Rattle.std.proofs.lemmas.Option.{none-some, same_Some, slice_get_within}
 use Rattle.ts_packet.specs.Fields.{on, payload, payload_on, pid_of, pcr, renumbered}
 use Rattle.ts_packet.specs.Duplicates.{original}
@@ -15,7 +14,7 @@ use Rattle.unit_stream.specs.Fates.{is_left_out, steps_after}
 use Rattle.event_table.specs.Standing.{Standing}
 use Rattle.psi_tables.specs.ProgramMap.{ProgramMap}
 use Rattle.program_follower.specs.Program.{known_map, behind_head}
-use Rattle.armed_events.specs.Arming.{heard, Heard}
+use Rattle.armed_events.specs.Arming.{Heard}
 use Rattle.armed_events.proofs.PastLemmas.{heard-off}
 use Rattle.splice_laws.specs.Splicing.{SliceUnit}
 use Rattle.splice_laws.specs.Streams.{is_among, IsOnce}
@@ -23,7 +22,7 @@ use Rattle.output_laws.specs.Output.{Move, Keep, Leave, Put, network, Packing, c
 use Rattle.output_laws.proofs.StepLemmas.{test-same, pid_is, payload-some, payload-none, kept_on}
 use Rattle.outgoing_packets.specs.Numbers.{FrontFails}
 use Rattle.splice_plans.specs.declared.stream.SwitchedStream.{SwitchedStream}
-use Rattle.splice_plans.specs.Playing.{Adverts, History, played, is_inside, is_played, as_played}
+use Rattle.splice_plans.specs.Playing.{Adverts, History, played, is_inside, is_played}
 use Rattle.splice_plans.specs.Counting.{left_steps, steps_behind, left_place}
 use Rattle.splice_plans.specs.Switching.{Setting, puts_by, puts_before, fate, moves, place_at, is_switched, switched_at, head_at, history_at, events_at}
 use Rattle.splice_plans.specs.Known.{Goes, GoesAs, AllGo, AreSeparate, adverts_at, behind_at, inside_at, moves_at, puts_at}

@@ -1,5 +1,5 @@
 -- What goes out of the events that stand, and what is kept of them, by the state of the code.
-use Rattle.std.specs.Prelude.{◌≡◌, ℕ, ◌%◌, List, Bool, slice_index_or, ℤ, Option}
+use Rattle.std.specs.Prelude.{◌≡◌, ℕ, ◌%◌, List, slice_index_or, ℤ, Option}
 use Rattle.ts_packet.specs.Numbering.{Step}
 use Rattle.unit_stream.specs.UnitPackets.{put_in}
 use Rattle.psi_tables.specs.declared.stream.Stream.{Stream}

@@ -1,37 +1,24 @@
 -- What the events and streams of a switch stand for: behind a past, before a packet that begins a unit, and behind it.
-use Rattle.std.specs.Prelude.{◌≡◌, ℕ, ◌-◌, ◌<◌, List, [], ◌∷◌, ◌++◌, length, map, reverse, replicate, count_by, find, Bool, true, false, not, ◌&&◌, ◌||◌, if◌then◌else◌, slice_index_or, slice_get, ℤ, Option, None, Some, option_map}
-use Rattle.std.specs.List.{list_any}
-use Rattle.std.specs.Ordering.{int_eq}
+use Rattle.std.specs.Prelude.{◌≡◌, ℕ, List, ◌∷◌, ◌++◌, map, reverse, Bool, true, false, not, ◌&&◌, slice_get, Option, None, Some, option_map}
 use Rattle.ts_packet.specs.Fields.{on, payload_on}
 use Rattle.ts_packet.specs.Duplicates.{original}
-use Rattle.ts_packet.specs.Numbering.{Counts}
 use Rattle.pes_time.specs.Line.{ring_of}
-use Rattle.unit_stream.specs.Times.{begins, begins_one, in_unit, stamp, unit_time}
+use Rattle.unit_stream.specs.Times.{begins, in_unit, stamp}
 use Rattle.unit_stream.specs.Faults.{unit_fault}
 use Rattle.psi_tables.specs.declared.stream.Stream.{Stream as ListedStream}
-use Rattle.event_table.specs.Standing.{Standing}
 use Rattle.event_table.specs.Tables.{values_of}
-use Rattle.armed_events.specs.Arming.{stands, standing}
+use Rattle.armed_events.specs.Arming.{standing}
 use Rattle.armed_events.specs.Obeying.{Obeys}
 use Rattle.armed_events.specs.Valuing.{values_by}
-use Rattle.program_follower.specs.Program.{behind_head}
-use Rattle.splice_laws.specs.Splicing.{PlayedEvent, SliceUnit, TimedStream, stream, below}
-use Rattle.splice_laws.specs.Settled.{begun_now, closed_now}
-use Rattle.output_laws.specs.Output.{Packing, Move, counter_steps}
+use Rattle.output_laws.specs.Output.{Move}
 use Rattle.ad_library.specs.Advertisements.{Advertisement}
-use Rattle.splice_plans.specs.declared.plan.Stage.{Stage}
-use Rattle.splice_plans.specs.declared.plan.Stage.TheVariants.{Waiting, Running, Closing, Over}
-use Rattle.splice_plans.specs.declared.plan.Part.{Part}
 use Rattle.splice_plans.specs.declared.plan.Plan.{Plan}
-use Rattle.splice_plans.specs.declared.stream.SwitchedStream.{SwitchedStream}
 use Rattle.splice_playing.specs.declared.playing.Playing.{Playing}
-use Rattle.splice_plans.specs.Playing.{Turns, Adverts, History, is_played, as_played, end_known, is_inside, sent_known}
-use Rattle.splice_plans.specs.Switching.{Setting, puts_before, fate, moves, is_switched, switched_at, streams_at, high_at, events_at, history_at}
+use Rattle.splice_plans.specs.Switching.{Setting, fate, is_switched, switched_at, streams_at, high_at, history_at}
 use Rattle.splice_plans.specs.Histories.{AreSteady}
-use Rattle.splice_plans.specs.Reporting.{Counts as Reported, ReportIs, is_not_fitted}
-use Rattle.splice_plans.specs.Turning.{waiting}
+use Rattle.splice_plans.specs.Reporting.{ReportIs}
 use Rattle.splice_plans.specs.Adverts.{adverts_of, packed_units}
-use Rattle.splice_plans.specs.Known.{nothing_known, plan_known, part_known, is_crossed_known, AllGo, AreSeparate, adverts_at, behind_at, plans_at, inside_at, moves_at, puts_at, counts_known, is_forgotten}
+use Rattle.splice_plans.specs.Known.{is_crossed_known, AllGo, AreSeparate, adverts_at, behind_at, plans_at, inside_at, moves_at, puts_at, counts_known, is_forgotten}
 use Rattle.known_laws.specs.Laws.{AreFaultless}
 
 -- WHAT IT STANDS FOR, behind a past

@@ -1,8 +1,8 @@
 -- The counters that the switch itself gives go on as those of all that is out.
-use Rattle.std.proofs.Common.{◌≡◌, ℕ, List, [], ◌∷◌, ◌++◌, true, false, refl, sym, ap, subst, ◌∙◌}
+use Rattle.std.proofs.Common.{◌≡◌, ℕ, List, [], ◌∷◌, refl, sym, subst, ◌∙◌}
 use Rattle.std.specs.Prelude.{Option, None, Some}
 use Rattle.std.specs.List.{AllByRecursion}
-use Rattle.ts_packet.specs.Fields.{on, number}
+use Rattle.ts_packet.specs.Fields.{on}
 use Rattle.ts_packet.specs.Runs.{onto}
 use Rattle.ts_packet.proofs.Cases.{by_test}
 use Rattle.program_follower.specs.declared.purpose.Listed.{Listed}

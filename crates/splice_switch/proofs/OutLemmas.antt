@@ -1,22 +1,21 @@
 -- What goes out for a packet.
-use Rattle.std.proofs.Common.{◌≡◌, ℕ, ◌+◌, ◌%◌, ◌/◌, ◌<◌, ◌==◌, zero, suc, List, [], ◌∷◌, ◌++◌, length, map, take, drop, Bool, true, false, not, ◌&&◌, if◌then◌else◌, refl, sym, ap, subst, ◌∙◌, arith}
-use Rattle.std.specs.Prelude.{Option, None, Some, option_map, flat_map, slice_index, reverse}
+use Rattle.std.proofs.Common.{◌≡◌, ℕ, ◌+◌, ◌%◌, ◌<◌, ◌==◌, zero, suc, List, [], ◌∷◌, ◌++◌, length, map, take, drop, Bool, true, false, not, ◌&&◌, if◌then◌else◌, refl, sym, ap, subst, ◌∙◌, arith}
+use Rattle.std.specs.Prelude.{Option, None, Some, option_map, flat_map, reverse}
 use Rattle.std.specs.List.{AllByRecursion}
 use Rattle.std.specs.Prelude.{All}
 use Rattle.std.proofs.lemmas.List.Elements.{All-nil, All-cons, All-head, All-tail}
 use Rattle.std.proofs.lemmas.Bool.{true≢false}
 use Rattle.ts_packet.specs.Fields.{on, in_error, pid_of, pcr}
 use Rattle.ts_packet.specs.Numbering.{number_out, one_past, last_number}
-use Rattle.ts_packet.specs.Clock.{clock_packet}
 use Rattle.ts_packet.specs.Runs.{onto}
 use Rattle.ts_packet.proofs.Cases.{by_test}
 use Rattle.unit_stream.specs.Times.{begins_one}
 use Rattle.unit_stream.specs.Fates.{is_left_out}
 use Rattle.ts_packet.specs.Filling.{packets_for}
-use Rattle.unit_packing.specs.Packing.{unit_packet, later_unit_packets, unit_packets, room}
+use Rattle.unit_packing.specs.Packing.{unit_packet, later_unit_packets, room}
 use Rattle.psi_tables.specs.declared.config.Config.{Config}
 use Rattle.psi_tables.specs.Streams.{Entry, stream_of, pid_in, switched_of, is_switched as is_switched_kind}
-use Rattle.psi_tables.specs.ProgramMap.{ProgramMap, streams_of}
+use Rattle.psi_tables.specs.ProgramMap.{ProgramMap}
 use Rattle.psi_tables.specs.Cue.{without_cue_entry}
 use Rattle.event_table.specs.Standing.{Standing}
 use Rattle.program_follower.specs.declared.purpose.Listed.{Listed}
@@ -30,16 +29,16 @@ use Rattle.psi_section.specs.Sections.{given}
 use Rattle.psi_section.specs.Laws.{CanBeGiven}
 use Rattle.psi_section.proofs.GivenLemmas.{given_can, sound}
 use Rattle.outgoing_packets.specs.declared.entry.CueEntry.TheVariants.{Stripped}
-use Rattle.outgoing_packets.specs.Entries.{change_of, tables_out, HasRoom, GoesOut, AllGoOut}
+use Rattle.outgoing_packets.specs.Entries.{tables_out, HasRoom, GoesOut, AllGoOut}
 use Rattle.splice_laws.specs.Splicing.{SliceUnit}
 use Rattle.splice_laws.specs.Streams.{is_among}
-use Rattle.output_laws.specs.Output.{Move, Keep, Leave, Put, Packing, counter_steps, clock_alone, out_at, out_after}
-use Rattle.output_laws.proofs.StepLemmas.{pid_is, on-kept, on-clock, test-same}
+use Rattle.output_laws.specs.Output.{Move, Keep, Leave, Put, counter_steps, clock_alone, out_at, out_after}
+use Rattle.output_laws.proofs.StepLemmas.{pid_is, on-kept, on-clock}
 use Rattle.ad_library.specs.Advertisements.{Advertisement}
 use Rattle.splice_plans.specs.Playing.{Adverts, History, played, is_inside}
-use Rattle.splice_plans.specs.Switching.{Setting, puts_by, puts_before, moves, fate, front_of, place_of, is_behind_head, front_at, place_at, switched_at, history_at, is_switched, switched_past, switched_at_packet}
+use Rattle.splice_plans.specs.Switching.{Setting, puts_by, puts_before, moves, front_of, place_of, is_behind_head, front_at, place_at, switched_at, history_at, is_switched, switched_past, switched_at_packet}
 use Rattle.splice_plans.specs.Adverts.{setting_of, packed_units}
-use Rattle.splice_plans.specs.Known.{adverts_at, behind_at, moves_at, puts_at}
+use Rattle.splice_plans.specs.Known.{adverts_at, behind_at, moves_at}
 use Rattle.splice_plans.proofs.PutLemmas.{puts_at_unit_starts}
 use Rattle.switch_laws.proofs.BringLemmas.{closing_rule, running_rule}
 use Rattle.switch_laws.proofs.FaultlessLemmas.{faultless_is_sound, unlisted}
@@ -113,9 +112,10 @@ off-later other pid zero n bs a = tt
 off-later other pid (suc count) n bs a = (off-unit other pid n false false (take 184 bs) a, off-later other pid count ((n + 1) % 16) (drop 184 bs) a)
 
 off-units : (other pid n : ℕ) (u : SliceUnit) → IsApart other pid → AllByRecursion (Off other) (packed_units pid u n)
-off-units other pid n u a =
-    (off-unit other pid n true u.random_access (take (room u.random_access) u.payload) a,
-    off-later other pid (packets_for (length (drop (room u.random_access) u.payload))) ((n + 1) % 16) (drop (room u.random_access) u.payload) a)
+off-units other pid n u a = (
+  off-unit other pid n true u.random_access (take (room u.random_access) u.payload) a,
+  off-later other pid (packets_for (length (drop (room u.random_access) u.payload))) ((n + 1) % 16) (drop (room u.random_access) u.payload) a,
+)
 
 off-append : (other : ℕ) (a b : List (List ℕ)) → AllByRecursion (Off other) a → AllByRecursion (Off other) b → AllByRecursion (Off other) (a ++ b)
 off-append other [] b h k = k

@@ -3,8 +3,8 @@ use Rattle.std.proofs.Common.{◌≡◌, ℕ, zero, suc, ◌+◌, ◌-◌, ◌�
 use Rattle.std.specs.Prelude.{ℤ, Option, None, Some, option_map, is_some, map, replicate, reverse, drop, count_by, slice_get, slice_index_or}
 use Rattle.std.specs.List.{AllByRecursion}
 use Rattle.std.proofs.lemmas.Bool.{true≢false}
-use Rattle.ts_packet.specs.Fields.{on, payload_on}
-use Rattle.ts_packet.specs.Numbering.{Step, Counts}
+use Rattle.ts_packet.specs.Fields.{on}
+use Rattle.ts_packet.specs.Numbering.{Counts}
 use Rattle.ts_packet.proofs.FieldLemmas.{off_payload}
 use Rattle.unit_stream.specs.Times.{begins, begins_one, high, unit_time}
 use Rattle.unit_stream.proofs.ClockLemmas.{high_same, begins_off}
@@ -26,9 +26,9 @@ use Rattle.splice_plans.specs.declared.plan.Plan.{Plan}
 use Rattle.splice_plans.specs.declared.stream.SwitchedStream.{SwitchedStream}
 use Rattle.splice_plans.specs.Turning.{waiting}
 use Rattle.splice_plans.specs.Playing.{Adverts, History, is_played, is_inside}
-use Rattle.splice_plans.specs.Switching.{Setting, moves, fate, switched_at, streams_at, high_at, events_at, head_at, history_at, is_switched}
+use Rattle.splice_plans.specs.Switching.{Setting, moves, fate, switched_at, streams_at, high_at, events_at, history_at, is_switched}
 use Rattle.splice_plans.specs.Reporting.{Counts as Reported, ReportIs, is_not_fitted, no_counts}
-use Rattle.splice_plans.specs.Known.{nothing_known, padded, part_known, plan_known, plan_found, plan_at, is_crossed_known, crossed_known, GoesAs, AllGo, adverts_at, behind_at, plans_at, inside_at, moves_at, puts_at, counts_known, is_forgotten}
+use Rattle.splice_plans.specs.Known.{nothing_known, padded, part_known, plan_known, plan_found, plan_at, is_crossed_known, GoesAs, adverts_at, behind_at, plans_at, inside_at, moves_at, puts_at, counts_known, is_forgotten}
 use Rattle.splice_plans.proofs.PutLemmas.{puts_at_unit_starts}
 use Rattle.splice_playing.specs.declared.playing.Playing.{Playing}
 use Rattle.splice_playing.specs.Relations.{PlaysFor, PlaysBefore, PlaysBehind}

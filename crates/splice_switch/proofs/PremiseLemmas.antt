@@ -1,15 +1,14 @@
 -- What a packet of a network without fault is to the switch.
-use Rattle.std.proofs.Common.{◌≡◌, ℕ, zero, suc, ◌+◌, ◌≤◌, ◌<◌, ◌==◌, List, [], ◌∷◌, length, Bool, true, false, not, ◌&&◌, ◌||◌, if◌then◌else◌, refl, sym, ap, subst, ◌∙◌, arith, add-one, ◌⊎◌, inl, inr}
+use Rattle.std.proofs.Common.{◌≡◌, ℕ, zero, suc, ◌≤◌, ◌<◌, ◌==◌, List, [], ◌∷◌, length, Bool, true, false, not, ◌&&◌, ◌||◌, if◌then◌else◌, refl, sym, ap, subst, ◌∙◌, arith, add-one, ◌⊎◌, inl, inr}
 use Rattle.std.specs.Prelude.{Option, None, Some, option_map, is_some, slice_get, nat_lt}
 use Rattle.std.specs.Option.{option_or}
 use Rattle.std.specs.List.{AllByRecursion}
 use Rattle.std.proofs.lemmas.Bool.{true≢false}
 use Rattle.std.proofs.lemmas.Bool.Decides.{nat_tests}
 use Rattle.std.proofs.lemmas.List.{length-map}
-use Rattle.ts_packet.specs.Fields.{on, payload_on, in_error, pid_of, unit_start}
+use Rattle.ts_packet.specs.Fields.{on, payload_on, in_error, unit_start}
 use Rattle.ts_packet.specs.Duplicates.{original, repeats}
 use Rattle.ts_packet.proofs.Cases.{by_test}
-use Rattle.ts_packet.proofs.FieldLemmas.{payload_on-on}
 use Rattle.unit_stream.specs.declared.fault.UnitFault.{UnitFault}
 use Rattle.unit_stream.specs.declared.fault.UnitFault.TheVariants.{Scrambled, HeaderSplit, TimeJump}
 use Rattle.unit_stream.specs.declared.clock.Begun.{Begun}
@@ -32,13 +31,13 @@ use Rattle.program_follower.specs.Program.{listed, all_tables, known_map, behind
 use Rattle.program_follower.specs.Faults.{network_fault, first_fault, cue_fault, pats_fault_at, maps_fault_at, unit_fault_at, as_network, is_pid, pmt_pid_fault, if_bad}
 use Rattle.psi_tables.specs.declared.network.NetworkFault.TheVariants.{CuePidUsed, BadPids}
 use Rattle.program_follower.specs.Following.{IsPlace, on_map, streams_of_program}
-use Rattle.program_follower.specs.Streaming.{first_on, next_place, IsStreamPacket}
+use Rattle.program_follower.specs.Streaming.{first_on, next_place}
 use Rattle.program_follower.proofs.OptionLemmas.{none_both}
 use Rattle.program_follower.proofs.StreamLemmas.{first_is_on, first_within, first_of, none_of, one_of, begins_is, begins_needs}
 use Rattle.pes_time.specs.Line.{ring_of}
 use Rattle.program_laws.proofs.HeadLemmas.{known_stays}
 use Rattle.program_laws.proofs.FaultLemmas.{all_sound, pid_good, not_if_bad}
-use Rattle.splice_laws.specs.Streams.{is_among, IsOnce}
+use Rattle.splice_laws.specs.Streams.{is_among}
 use Rattle.output_laws.proofs.StepLemmas.{pid_is, test-same}
 use Rattle.ad_library.specs.Advertisements.{Advertisement}
 use Rattle.splice_plans.specs.Switching.{Setting, switched_at, streams_at, high_at, is_switched}

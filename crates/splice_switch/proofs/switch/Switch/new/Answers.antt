@@ -1,11 +1,6 @@
 use Rattle.std.proofs.Common.{refl, [], subst}
 use Rattle.program_follower.specs.Following.{FollowerStandsFor}
 use Rattle.splice_plans.specs.Adverts.{setting_of}
-use Rattle.splice_switch.proofs.QuietLemmas.{count-same}
-use Rattle.splice_switch.proofs.PlayLemmas.{plays-quiet}
-use Rattle.splice_switch.proofs.PremiseLemmas.{separate}
-use Rattle.splice_switch.proofs.NumberLemmas.{go-on-same}
-use Rattle.splice_switch.proofs.OutLemmas.{stream-apart}
 use Rattle.splice_switch.proofs.switch.Switch.new.Goals as goal
 
 pub returns : goal.returns

@@ -1,4 +1,4 @@
-use Rattle.std.proofs.Common.{◌≡◌, ◌∷◌, ◌++◌, [], OnOk, IfErr, refl, sym, ap, subst, ◌∙◌, Some}
+use Rattle.std.proofs.Common.{◌≡◌, ◌∷◌, ◌++◌, [], OnOk, IfErr, sym, ap, subst, ◌∙◌, Some}
 use Rattle.std.proofs.lemmas.List.{append-nil}
 use Rattle.ts_packet.specs.Runs.{onto}
 use Rattle.psi_section.proofs.PacketiserLemmas.{if_err_more}
@@ -13,7 +13,7 @@ use Rattle.outgoing_packets.specs.Entries.{AllGoOut, tables_out}
 use Rattle.outgoing_packets.specs.Numbers.{FrontFails}
 use Rattle.splice_plans.specs.Adverts.{setting_of}
 use Rattle.splice_plans.specs.Switching.{switched_at_packet}
-use Rattle.splice_switch.specs.Standing.{SwitchStandsFor, IsFollowedAs}
+use Rattle.splice_switch.specs.Standing.{IsFollowedAs}
 use Rattle.splice_switch.proofs.PlayLemmas.{plays-quiet}
 use Rattle.splice_switch.proofs.PremiseLemmas.{passes, on-map, separate, clean-more, cue-off-map, cue-switched, cue-of, map-switched}
 use Rattle.splice_switch.proofs.OutLemmas.{other-out, cue-out, tables-strip, map-same, passed-goes-on}

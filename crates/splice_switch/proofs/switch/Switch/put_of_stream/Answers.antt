@@ -1,15 +1,15 @@
-use Rattle.std.proofs.Common.{◌≡◌, ◌∷◌, ◌++◌, OnOk, IfErr, refl, sym, ap, subst, ◌∙◌}
+use Rattle.std.proofs.Common.{◌≡◌, ◌++◌, OnOk, IfErr, refl, sym, ap, subst, ◌∙◌}
 use Rattle.std.specs.Prelude.{option_map}
 use Rattle.unit_packing.proofs.PutLemmas.{on_ok_more}
 use Rattle.unit_stream.specs.declared.clock.Begun.{Begun}
 use Rattle.ad_library.specs.Library.{held}
 use Rattle.program_follower.specs.declared.follower.Place.TheVariants as places
-use Rattle.program_follower.specs.declared.streams.StreamPacket.TheVariants.{Start, More, Repeat}
+use Rattle.program_follower.specs.declared.streams.StreamPacket.TheVariants.{More, Repeat}
 use Rattle.program_follower.specs.Purposes.{reading_cues}
 use Rattle.outgoing_packets.specs.Numbers.{FrontFails}
 use Rattle.splice_plans.specs.Adverts.{setting_of}
 use Rattle.splice_plans.specs.Switching.{place_at, switched_at_packet}
-use Rattle.splice_switch.specs.Standing.{SwitchStandsFor, IsFollowedAs, IsStart}
+use Rattle.splice_switch.specs.Standing.{IsFollowedAs, IsStart}
 use Rattle.splice_switch.proofs.PlayLemmas.{plays-before, plays-after}
 use Rattle.splice_switch.proofs.PremiseLemmas.{quiet-one, no-start-kept, packet-more, packet-repeat, kept-of, own-stream, clean-more}
 use Rattle.splice_switch.proofs.OutLemmas.{quiet-out, stream-goes-on}
