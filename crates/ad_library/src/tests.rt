@@ -1,10 +1,11 @@
 //! Streams made by hand, as the standard spells them.
 
 use super::*;
+use linked_list_allocator::LocalHeap;
 use psi_section::crc;
 use psi_tables::Stream;
-use std::alloc::{AllocError, Global};
-use std::io::Cursor;
+use std::alloc::{AllocError, Allocator, Global};
+use std::io::{self, Cursor, ErrorKind, Read};
 use std::test::*;
 use ts_packet::{Device, PacketReader, Pid, ReadFault};
 
@@ -119,7 +120,11 @@ fn video(alloc: Global, first: u32, count: u16) -> Result<Vec<u8>, AllocError> {
 }
 
 /// Adds the advertisement of these bytes.
-fn add(library: &mut AdLibrary, id: u16, bytes: &[u8]) -> Result<(), AdFault> {
+fn add<A: Allocator + Copy>(
+    library: &mut AdLibrary<A>,
+    id: u16,
+    bytes: &[u8],
+) -> Result<(), AdFault> {
     let mut device = Device::new(Cursor::new(bytes));
     let mut reader = PacketReader::new(&mut device);
     library.add(id, &mut reader)
@@ -300,5 +305,291 @@ fn out_of_order_and_round_the_clock(rt: HostRuntime) -> Result<(), Fail> {
         unit_of(library.slice(1, 0x0F, 0, 10_000), 0),
         (9_000, 200, turn - 3_000)
     );
+    Ok(())
+}
+
+#[test]
+fn files_64(rt: HostRuntime) -> Result<(), Fail> {
+    let mut bytes = head(rt.alloc())?;
+    put_packet(&mut bytes, 0x100, 0, true, &timed(0))?;
+    let mut library = AdLibrary::new(rt.alloc());
+    for id in 0..64 {
+        assert_eq!(rt; add(&mut library, id, bytes.as_slice()), Ok(()));
+    }
+    assert_eq!(rt; add(&mut library, 64, bytes.as_slice()), Err(AdFault::Many));
+    assert_eq!(rt; add(&mut library, 64, &[]), Err(AdFault::Many));
+    assert_eq!(rt;
+        add(&mut library, 63, bytes.as_slice()),
+        Err(AdFault::Exists)
+    );
+    assert_eq!(rt; told(library.slice(63, 0x1B, 0, 1)), (1, 0));
+    assert_eq!(rt; told(library.slice(64, 0x1B, 0, 1)), (u64::MAX, 0));
+    Ok(())
+}
+
+/// Gives its bytes, and then fails, or is interrupted for ever.
+#[derive(Drop)]
+struct Ending<'a> {
+    bytes: &'a [u8],
+    kind: ErrorKind,
+}
+
+impl Read for Ending<'_> {
+    fn read(&mut self, buf: &mut [u8]) -> io::Result<usize> {
+        let count = buf.len().min(self.bytes.len());
+        if count == 0 {
+            return Err(io::Error::from(self.kind));
+        }
+        let (front, rest) = self.bytes.split_at(count);
+        buf[..count].copy_from_slice(front);
+        self.bytes = rest;
+        Ok(count)
+    }
+}
+
+#[test]
+fn faults_of_the_device(rt: HostRuntime) -> Result<(), Fail> {
+    let bytes = video(rt.alloc(), 0, 3)?;
+    for (kind, fault) in [
+        (ErrorKind::ConnectionReset, AdFault::Io),
+        (ErrorKind::Interrupted, AdFault::Packets(ReadFault::Turns)),
+    ] {
+        for size in [0, 188, 500, bytes.len()] {
+            let mut library = AdLibrary::new(rt.alloc());
+            let mut device = Device::new(Ending {
+                bytes: &bytes.as_slice()[..size.min(bytes.len())],
+                kind,
+            });
+            let mut reader = PacketReader::new(&mut device);
+            assert_eq!(rt; library.add(7, &mut reader), Err(fault));
+            assert_eq!(rt; library.fits(7, &[], 1), false);
+        }
+    }
+    Ok(())
+}
+
+#[test]
+fn faults_of_the_program(rt: HostRuntime) -> Result<(), Fail> {
+    let alloc = rt.alloc();
+    let mut bytes = Vec::new(alloc);
+    let pat = [0, 0xB0, 0x0D, 0, 1, 0xC1, 0, 1, 0, 1, 0xE0, 0x20];
+    put_section(&mut bytes, alloc, 0, 0, &pat)?;
+    assert_eq!(rt; fault_of(alloc, bytes.as_slice()), Err(AdFault::Sections));
+    let mut bytes = Vec::new(alloc);
+    let pat = [0, 0xB0, 0x0D, 0, 1, 0xC1, 0, 0, 0, 1, 0xFF, 0xFF];
+    put_section(&mut bytes, alloc, 0, 0, &pat)?;
+    assert_eq!(rt; fault_of(alloc, bytes.as_slice()), Err(AdFault::BadPids));
+    let mut bytes = head(alloc)?;
+    let pat = [0, 0xB0, 0x0D, 0, 1, 0xC3, 0, 0, 0, 1, 0xE0, 0x21];
+    put_section(&mut bytes, alloc, 0, 1, &pat)?;
+    assert_eq!(rt;
+        fault_of(alloc, bytes.as_slice()),
+        Err(AdFault::ProgramChanged)
+    );
+    for (count, fault) in [(8, AdFault::NoTime), (9, AdFault::TooManyStreams)] {
+        let mut bytes = Vec::new(alloc);
+        put_pat(&mut bytes, alloc, 0)?;
+        let size = 13 + 5 * count;
+        let mut map = Vec::from_slice(alloc, &[2, 0xB0, size, 0, 1, 0xC1, 0, 0, 0xE1, 0, 0xF0, 0])?;
+        for pid in 0..count {
+            map.extend_from_slice(&[0x1B, 0xE1, pid, 0xF0, 0])?;
+        }
+        put_section(&mut bytes, alloc, 0x20, 0, map.as_slice())?;
+        assert_eq!(rt; fault_of(alloc, bytes.as_slice()), Err(fault));
+    }
+    Ok(())
+}
+
+#[test]
+fn bad_adaptation(rt: HostRuntime) -> Result<(), Fail> {
+    let mut bytes = head(rt.alloc())?;
+    bytes.extend_from_slice(&[0x47, 0x01, 0x00, 0x30, 184])?;
+    bytes.extend_from_slice(&[0; 183])?;
+    assert_eq!(rt;
+        fault_of(rt.alloc(), bytes.as_slice()),
+        Err(AdFault::Packets(ReadFault::BadAdaptation))
+    );
+    Ok(())
+}
+
+#[test]
+fn nothing_is_missed_in_the_head(rt: HostRuntime) -> Result<(), Fail> {
+    let alloc = rt.alloc();
+    for (counter, answer) in [(10, Ok(())), (11, Err(AdFault::Loss))] {
+        let mut bytes = Vec::new(alloc);
+        put_packet(&mut bytes, 0x100, 5, true, &timed(0))?;
+        put_pat(&mut bytes, alloc, 0)?;
+        put_packet(&mut bytes, 0x100, 8, true, &timed(0))?;
+        put_map(&mut bytes, alloc, 0)?;
+        put_packet(&mut bytes, 0x100, 9, true, &timed(0))?;
+        put_packet(&mut bytes, 0x100, counter, true, &timed(3_000))?;
+        assert_eq!(rt; fault_of(alloc, bytes.as_slice()), answer);
+    }
+    Ok(())
+}
+
+#[test]
+fn the_first_of_two_programs(rt: HostRuntime) -> Result<(), Fail> {
+    let alloc = rt.alloc();
+    let mut bytes = Vec::new(alloc);
+    let pat = [
+        0, 0xB0, 0x11, 0, 1, 0xC1, 0, 0, 0, 1, 0xE0, 0x20, 0, 2, 0xE0, 0x30,
+    ];
+    put_section(&mut bytes, alloc, 0, 0, &pat)?;
+    let map = [
+        2, 0xB0, 0x12, 0, 2, 0xC1, 0, 0, 0xE2, 0, 0xF0, 0, 0x02, 0xE2, 0, 0xF0, 0,
+    ];
+    put_section(&mut bytes, alloc, 0x30, 0, &map)?;
+    put_map(&mut bytes, alloc, 0)?;
+    put_packet(&mut bytes, 0x200, 0, true, &timed(0))?;
+    put_packet(&mut bytes, 0x100, 0, true, &timed(90_000))?;
+    put_packet(&mut bytes, 0x200, 7, true, &timed(5_000_000))?;
+    let mut library = AdLibrary::new(alloc);
+    assert_eq!(rt; add(&mut library, 1, bytes.as_slice()), Ok(()));
+    assert_eq!(rt; unit_of(library.slice(1, 0x1B, 0, 1), 0), (0, 16, 90_000));
+    assert_eq!(rt; told(library.slice(1, 0x1B, 0, 9_000_000)), (1, 0));
+    assert_eq!(rt; told(library.slice(1, 0x02, 0, 9_000_000)), (u64::MAX, 0));
+    Ok(())
+}
+
+/// How many advertisements of these bytes a library of this memory takes, until one is refused.
+fn taken<A: Allocator + Copy>(alloc: A, bytes: &[u8]) -> (u16, Result<(), AdFault>) {
+    let mut library = AdLibrary::new_in(alloc);
+    for id in 0..3 {
+        if let Err(fault) = add(&mut library, id, bytes) {
+            if library.fits(id, &[], 1) {
+                return (u16::MAX, Err(fault));
+            }
+            return (id, Err(fault));
+        }
+    }
+    (3, Ok(()))
+}
+
+#[test]
+fn refused_memory(rt: HostRuntime) -> Result<(), Fail> {
+    let bytes = video(rt.alloc(), 0, 300)?;
+    for (size, count, answer) in [
+        (16, 0, Err(AdFault::OutOfMemory)),
+        (50_000, 0, Err(AdFault::OutOfMemory)),
+        (4_000_000, 3, Ok(())),
+    ] {
+        let heap = LocalHeap::new(rt.alloc(), size)?;
+        assert_eq!(rt; taken(&heap, bytes.as_slice()), (count, answer));
+        assert_eq!(rt; heap.used(), 0);
+    }
+    Ok(())
+}
+
+/// Gives its bytes, and then the same packet so many times.
+#[derive(Drop)]
+struct Repeating<'a> {
+    rest: &'a [u8],
+    packet: &'a [u8],
+    times: u32,
+}
+
+impl Read for Repeating<'_> {
+    fn read(&mut self, buf: &mut [u8]) -> io::Result<usize> {
+        if self.rest.is_empty() && self.times > 0 {
+            self.times -= 1;
+            self.rest = self.packet;
+        }
+        let count = buf.len().min(self.rest.len());
+        let (front, rest) = self.rest.split_at(count);
+        buf[..count].copy_from_slice(front);
+        self.rest = rest;
+        Ok(count)
+    }
+}
+
+#[test]
+fn no_longer_than_64_mib(rt: HostRuntime) -> Result<(), Fail> {
+    let bytes = video(rt.alloc(), 0, 1)?;
+    let mut other = Vec::new(rt.alloc());
+    put_packet(&mut other, 0x102, 0, false, &[7; 184])?;
+    for (times, answer) in [
+        (356_958, Ok(())),
+        (356_959, Err(AdFault::Large)),
+        (400_000, Err(AdFault::Large)),
+    ] {
+        let mut library = AdLibrary::new(rt.alloc());
+        let mut device = Device::new(Repeating {
+            rest: bytes.as_slice(),
+            packet: other.as_slice(),
+            times,
+        });
+        let mut reader = PacketReader::new(&mut device);
+        assert_eq!(rt; library.add(7, &mut reader), answer);
+        assert_eq!(rt; library.fits(7, &[], 1), answer.is_ok());
+    }
+    Ok(())
+}
+
+#[test]
+fn offsets_past_a_turn_of_the_clock(rt: HostRuntime) -> Result<(), Fail> {
+    let mut bytes = head(rt.alloc())?;
+    for unit in 0..9_546 {
+        put_packet(&mut bytes, 0x100, (unit % 16) as u8, true, &timed(900_000 * unit))?;
+    }
+    let mut library = AdLibrary::new(rt.alloc());
+    assert_eq!(rt; add(&mut library, 7, bytes.as_slice()), Ok(()));
+    for (length, count, greatest) in [
+        (1 << 33, 9_545, 8_589_600_000),
+        (8_590_500_000, 9_545, 8_589_600_000),
+        (8_590_500_001, 9_546, 8_590_500_000),
+    ] {
+        assert_eq!(rt; told(library.slice(7, 0x1B, 0, length)), (count, greatest));
+    }
+    for (length, fits) in [(8_590_545_000, true), (8_590_545_001, false)] {
+        assert_eq!(rt; library.fits(7, &[stream(Pid::of_bits(3, 0))], length), fits);
+    }
+    Ok(())
+}
+
+/// How many units the slice of 9 seconds of each of two advertisements gives.
+fn counts(library: &AdLibrary<&LocalHeap>) -> (u64, u64) {
+    let (first, _) = told(library.slice(1, 0x1B, 0, 810_000));
+    let (second, _) = told(library.slice(2, 0x1B, 0, 810_000));
+    (first, second)
+}
+
+/// How many units are there where an advertisement of nine was taken, and `u64::MAX` where memory was refused.
+fn count_of(answer: Result<(), AdFault>) -> u64 {
+    match answer {
+        Ok(()) => 9,
+        Err(AdFault::OutOfMemory) => u64::MAX,
+        Err(_) => 0,
+    }
+}
+
+#[test]
+fn each_request_refused(rt: HostRuntime) -> Result<(), Fail> {
+    let bytes = video(rt.alloc(), 0, 9)?;
+    let bytes = bytes.as_slice();
+    let heap = LocalHeap::new(rt.alloc(), 40_000)?;
+    let (mut both_refused, mut one_refused) = (0, 0);
+    for step in 1..=1_000 {
+        let taken: Vec<u8, &LocalHeap> = Vec::with_capacity(&heap, 40_000 - 16 * step)?;
+        let mut library = AdLibrary::new_in(&heap);
+        let answers = (add(&mut library, 1, bytes), add(&mut library, 2, bytes));
+        assert_eq!(rt; counts(&library), (count_of(answers.0), count_of(answers.1)));
+        if answers.0.is_err() {
+            both_refused += 1;
+        } else if answers.1.is_err() {
+            one_refused += 1;
+        }
+        drop(taken);
+        if answers.0.is_err() {
+            assert_eq!(rt; add(&mut library, 1, bytes), Ok(()));
+        }
+        if answers.1.is_err() {
+            assert_eq!(rt; add(&mut library, 2, bytes), Ok(()));
+        }
+        assert_eq!(rt; counts(&library), (9, 9));
+        drop(library);
+        assert_eq!(rt; heap.used(), 0);
+    }
+    assert!(rt; both_refused > 100 && one_refused > 100 && both_refused + one_refused < 1_000);
     Ok(())
 }

@@ -1,3 +1,4 @@
 pub mod CuttingLemmas
 pub mod InjectingLemmas
+pub mod ListLemmas
 pub mod NumberLemmas

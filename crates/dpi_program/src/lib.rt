@@ -3,6 +3,7 @@
 //! What a caller uses: `cut` says which bytes come out, `cut_lines` is it over lines, and `program` answers 0, 1 or 2.
 #![tactic(auto)]
 
+mod ad_list;
 mod attended;
 pub mod command;
 mod connection;
@@ -20,12 +21,15 @@ mod script_text;
 mod tell;
 mod watch;
 
+pub use ad_list::{ListFault, load_list};
 pub use fault::ProgramFault;
 pub use listening::{ListenFault, inject_listening};
 pub use packet_lines::{LinesFault, cut_lines};
 pub use script::{Script, ScriptFault};
 pub use unit_cut::{CutFault, cut};
 
+#[cfg(test)]
+mod ad_list_tests;
 #[cfg(test)]
 mod inject_tests;
 #[cfg(test)]
