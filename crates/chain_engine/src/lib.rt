@@ -11,6 +11,7 @@ mod chain;
 mod hearing;
 pub mod judge;
 mod report;
+mod splice;
 mod talk;
 #[cfg(test)]
 mod tests;
@@ -20,3 +21,4 @@ pub use chain::{Chain, OutOfMemory, RunFault, run_inject};
 pub use hearing::SessionEnd;
 pub use judge::Judge;
 pub use report::Report;
+pub use splice::run_splice;

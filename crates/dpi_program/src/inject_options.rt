@@ -14,13 +14,13 @@ use std::fmt;
 use ts_packet::Pid;
 
 /// The first number that two bytes do not hold.
-const NUMBER_LIMIT: u64 = 0x1_0000;
+pub(crate) const NUMBER_LIMIT: u64 = 0x1_0000;
 
 /// The first PID that is not reserved.
-const LEAST_PID: u64 = 0x10;
+pub(crate) const LEAST_PID: u64 = 0x10;
 
 /// The PID of null packets.
-const NULL_PID: u64 = 0x1FFF;
+pub(crate) const NULL_PID: u64 = 0x1FFF;
 
 const INJECT_ABOUT: &str =
     "Puts cues (SCTE 35) into a transport stream, as an automation asks for them (SCTE 104)";

@@ -18,6 +18,8 @@ pub mod numbers;
 pub mod program;
 mod script;
 mod script_text;
+mod splice_options;
+mod splicing;
 mod tell;
 mod watch;
 
