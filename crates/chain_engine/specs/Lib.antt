@@ -5,3 +5,4 @@ pub mod Talks
 pub mod Chains
 pub mod Runs
 pub mod Splices
+pub mod Nested

@@ -11,6 +11,7 @@ mod chain;
 mod hearing;
 pub mod judge;
 mod report;
+mod running;
 mod splice;
 mod talk;
 #[cfg(test)]
@@ -21,4 +22,5 @@ pub use chain::{Chain, OutOfMemory, RunFault, run_inject};
 pub use hearing::SessionEnd;
 pub use judge::Judge;
 pub use report::Report;
+pub use running::run;
 pub use splice::run_splice;

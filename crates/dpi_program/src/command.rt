@@ -5,7 +5,7 @@ ghost use Rattle.dpi_program.specs.Numbers.{number_below};
 ghost use Rattle.dpi_program.specs.Command.{IsRefused};
 
 use crate::ends::End;
-use crate::inject_options::{INJECT_USAGE, inject_command};
+use crate::inject_options::{INJECT_USAGE, inject_command, run_command};
 use crate::splice_options::{SPLICE_USAGE, splice_command};
 use crate::numbers::number_below;
 use clap::{Arg, ArgAction, ArgMatches, Command};
@@ -245,7 +245,8 @@ pub fn command<'a>(alloc: Global) -> Result<Command<'a>, AllocError> {
         .subcommand_required(true)
         .subcommand(cut_command(alloc)?)?
         .subcommand(inject_command(alloc)?)?
-        .subcommand(splice_command(alloc)?)
+        .subcommand(splice_command(alloc)?)?
+        .subcommand(run_command(alloc)?)
 }
 
 /// The numbers of a cut: its PID, its start and its length. The first of them that is not in its range is answered.

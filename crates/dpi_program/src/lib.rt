@@ -25,7 +25,7 @@ mod watch;
 
 pub use ad_list::{ListFault, load_list};
 pub use fault::ProgramFault;
-pub use listening::{ListenFault, inject_listening};
+pub use listening::{ListenFault, inject_listening, run_listening};
 pub use packet_lines::{LinesFault, cut_lines};
 pub use script::{Script, ScriptFault};
 pub use unit_cut::{CutFault, cut};

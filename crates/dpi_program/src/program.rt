@@ -6,12 +6,13 @@ ghost use Rattle.clap.specs.Values.{kind_of};
 use crate::command::{CutOptions, command, cut_options};
 use crate::cutting::run_cut;
 use crate::fault::{ProgramFault, fault_name};
-use crate::inject_options::{InjectOptions, inject_options};
+use crate::inject_options::{InjectOptions, inject_options, run_options};
 use crate::injecting::{Injected, run_inject_command};
 use crate::splice_options::{SpliceOptions, splice_options};
-use crate::splicing::{Spliced, run_splice_command};
+use crate::splicing::run_splice_command;
 use crate::tell::{Side, Stopped, Trouble};
 use clap::Error;
+use splice_plans::SwitchReport;
 use clap::error::ErrorKind;
 use std::io::{Read, Write};
 use std::net::Net;
@@ -59,7 +60,10 @@ fn print_report<W: Write>(printed: &mut W, injected: &Injected) -> bool {
         printed,
         "messages {messages}\naccepted {accepted}\nrefused {refused}\n"
     );
-    text.is_ok() && printed.flush().is_ok()
+    if text.is_err() || !injected.plays {
+        return text.is_ok() && printed.flush().is_ok();
+    }
+    print_switched(printed, &injected.report.switch)
 }
 
 /// Prints the fault's line of a run with cues, and behind it what is known of it where that is asked for.
@@ -115,10 +119,10 @@ where
     DONE
 }
 
-/// Prints the report of a run with advertisements, and answers whether it is out.
-fn print_spliced<W: Write>(printed: &mut W, spliced: &Spliced) -> bool {
-    let (played, not_fitted) = (spliced.report.played, spliced.report.not_fitted);
-    let (unconditioned, ignored) = (spliced.report.unconditioned, spliced.report.ignored);
+/// Prints the report of a switch, and answers whether it is out.
+fn print_switched<W: Write>(printed: &mut W, report: &SwitchReport) -> bool {
+    let (played, not_fitted) = (report.played, report.not_fitted);
+    let (unconditioned, ignored) = (report.unconditioned, report.ignored);
     let text = write!(
         printed,
         "played {played}\nnot-fitted {not_fitted}\nunconditioned {unconditioned}\nignored {ignored}\n"
@@ -163,9 +167,9 @@ where
         Err(stopped) => return report_splice(faults, options, &stopped),
     };
     let is_out = if options.has_standard_output() {
-        print_spliced(faults, &spliced)
+        print_switched(faults, &spliced.report)
     } else {
-        print_spliced(output, &spliced)
+        print_switched(output, &spliced.report)
     };
     if !is_out {
         return report(faults, ProgramFault::Print);
@@ -238,6 +242,15 @@ where
         Ok(matches) => matches,
         Err(error) => return answer(faults, &error),
     };
+    if let Some(given) = matches.subcommand_matches("run") {
+        return match run_options(given) {
+            Ok(options) => inject(rt, &options, input, output, faults),
+            Err(bad) => {
+                let _ = write!(faults, "{bad}");
+                USAGE
+            }
+        };
+    }
     if let Some(given) = matches.subcommand_matches("inject") {
         return match inject_options(given) {
             Ok(options) => inject(rt, &options, input, output, faults),

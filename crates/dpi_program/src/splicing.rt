@@ -8,7 +8,7 @@ ghost use Rattle.chain_engine.specs.Splices.{SplicesAll};
 use crate::ad_list::{ListFault, load_list};
 use crate::attended::Attended;
 use crate::cutting::{BUFFER_SIZE, Reasons, out_of_memory, unopened};
-use crate::ends::{Unopened, create_output, open_input};
+use crate::ends::{End, Unopened, create_output, open_input};
 use crate::fault::ProgramFault;
 use crate::flushing::{finish, finish_buffer};
 use crate::splice_options::SpliceOptions;
@@ -270,16 +270,16 @@ fn library_from<F: Files, R: Read + Drop>(
 }
 
 /// Loads the list that the options name, and answers where it is a file what the system says of that.
-fn open_library<R, I>(
+pub(crate) fn open_library_at<R, I>(
     rt: &R,
-    options: &SpliceOptions<'_>,
+    adverts: End<'_>,
     input: &mut I,
 ) -> Result<(AdLibrary, Option<Metadata>), Stopped>
 where
     R: Files + AllocGlobal,
     I: Read,
 {
-    let Some(path) = options.adverts.path() else {
+    let Some(path) = adverts.path() else {
         return Ok((library_from(rt, rt.alloc(), input)?, None));
     };
     match open_input(rt, path) {
@@ -330,7 +330,7 @@ where
         },
         None => None,
     };
-    let (library, list) = open_library(rt, options, input)?;
+    let (library, list) = open_library_at(rt, options.adverts, input)?;
     let about = opened.as_ref().map(|(_, about)| about);
     let is_live = !about.is_some_and(|about| about.is_file());
     let alloc = rt.alloc();
