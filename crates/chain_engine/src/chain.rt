@@ -12,6 +12,7 @@ use crate::report::Report;
 use crate::talk::Talk;
 use injector::Injector;
 use psi_tables::{Config, FeedFault};
+use splice_switch::Switch;
 use std::alloc::{Allocator, Global};
 use thiserror::Error;
 use ts_packet::{Packet, PacketSink, PacketSource, ReadFault};
@@ -34,8 +35,9 @@ pub enum RunFault {
 /// 65,535 bytes for the automation's messages.
 #[derive(Drop)]
 pub struct Chain<M: Allocator = Global> {
-    talk: Talk<M>,
-    injector: Injector,
+    pub(crate) talk: Talk<M>,
+    pub(crate) injector: Injector,
+    pub(crate) switch: Switch,
 }
 
 impl Chain {
@@ -66,6 +68,7 @@ impl<M: Allocator + Copy> Chain<M> {
         Ok(Chain {
             talk,
             injector: Injector::new(config),
+            switch: Switch::new(config),
         })
     }
 }
@@ -106,6 +109,7 @@ pub fn run_inject<M: Allocator, P: PacketSource, U: Automation, K: PacketSink>(
     let Chain {
         mut talk,
         mut injector,
+        switch: _,
     } = chain;
     let mut packet = Packet::null();
     loop {
