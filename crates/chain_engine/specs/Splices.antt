@@ -1,11 +1,14 @@
 -- Whole runs of the switch: what is put, by the network's bytes and the library; what a fault says, and what the output did there.
-use Rattle.std.specs.Prelude.{◌≡◌, ℕ, List, [], ◌∷◌, ◌++◌, Bool, Option, None, Some, IfSome, reverse}
+use Rattle.std.specs.Prelude.{◌≡◌, ℕ, ◌⊎◌, List, [], ◌∷◌, ◌++◌, Bool, false, Option, None, Some, IfSome, reverse}
 use Rattle.ts_packet.specs.Packets.{packets_of}
-use Rattle.ts_packet.specs.FirstFault.{SaysBy}
+use Rattle.ts_packet.specs.Sources.{ReadSo, SourceCounts, RunBlamed}
+use Rattle.ts_packet.specs.declared.tally.Tally.{Tally}
+use Rattle.ts_packet.specs.Runs.{seen_after}
+use Rattle.ts_packet.specs.FirstFault.{SaysBy, first_of, fault_of}
 use Rattle.ts_packet.specs.declared.sink.PutFault.{PutFault}
 use Rattle.psi_tables.specs.declared.config.Config.{Config}
 use Rattle.psi_tables.specs.declared.network.FeedFault.TheVariants.{Network, Sink, Failed}
-use Rattle.program_follower.specs.FirstFault.{first_network_fault, before_network_fault}
+use Rattle.program_follower.specs.FirstFault.{network_test, first_network_fault, before_network_fault}
 use Rattle.program_follower.specs.Purposes.{reading_cues}
 use Rattle.outgoing_packets.specs.Numbers.{FrontFails}
 use Rattle.ad_library.specs.Advertisements.{Advertisement}
@@ -39,30 +42,43 @@ SplicesAll c filed input is_out report = IfSome input (λ bs. Spliced c filed bs
 abbrev pub sent_by : Config → (ℕ → Option Advertisement) → List (List ℕ) → List (List ℕ)
 sent_by c filed passed = reverse (switched_past (setting_of c filed) (reverse passed))
 
--- what the next packet sends, or where there is none the end
-abbrev pub sent_next : Config → (ℕ → Option Advertisement) → List (List ℕ) → List (List ℕ) → List (List ℕ)
-sent_next c filed passed [] = rest_at (setting_of c filed) (reverse passed)
-sent_next c filed passed (p ∷ more) = switched_at_packet (setting_of c filed) p (reverse passed)
+-- none of these packets is at fault behind those before it
+abbrev pub AreSound : Config → List (List ℕ) → Type 0
+AreSound c ps = first_of (fault_of Read (network_test as_run_fault (reading_cues c))) (seen_after [] ps) ≡ None
 
--- What is out where a run stops so, with these packets passed and those left: all that the passed ones send; or, where the sink failed, with
--- it a front of what the next packet, or the end, sends.
-abbrev pub Leaves : RunFault → Config → (ℕ → Option Advertisement) → List (List ℕ) → List (List ℕ) → (List (List ℕ) → Type 0)
-    → (List (List ℕ) → List ℕ → PutFault → Type 0) → Type 0
-Leaves (Read fault) c filed passed rest is_out fails = is_out (sent_by c filed passed)
-Leaves (Feed (Network fault)) c filed passed rest is_out fails = is_out (sent_by c filed passed)
-Leaves (Feed (Sink fault)) c filed passed rest is_out fails = FrontFails (sent_next c filed passed rest) (λ put q. fails (sent_by c filed passed ++ put) q fault)
-Leaves (Feed Failed) c filed passed rest is_out fails = ⊥
+-- Of what was to go out next a front went out, and then the sink failed: of what the next packet sends, or, where all packets of a
+-- network without a fault are passed, of what is left at its end.
+abbrev pub FailsNext : Config → (ℕ → Option Advertisement) → List ℕ → List (List ℕ) → List (List ℕ) → (List (List ℕ) → List ℕ → Type 0) → Type 0
+FailsNext c filed bs passed [] fails = (first_fault c bs ≡ None) × FrontFails (rest_at (setting_of c filed) (reverse passed)) fails
+FailsNext c filed bs passed (p ∷ more) fails = FrontFails (switched_at_packet (setting_of c filed) p (reverse passed)) fails
+
+-- What is out where a run over these bytes stops so, with these packets passed and those left: all that the passed ones send; or, where the
+-- sink failed, with it a front of what goes out next.
+abbrev pub Leaves : RunFault → Config → (ℕ → Option Advertisement) → List ℕ → List (List ℕ) → List (List ℕ)
+    → (List (List ℕ) → Type 0) → (List (List ℕ) → List ℕ → PutFault → Type 0) → Type 0
+Leaves (Read fault) c filed bs passed rest is_out fails = is_out (sent_by c filed passed)
+Leaves (Feed (Network fault)) c filed bs passed rest is_out fails = is_out (sent_by c filed passed)
+Leaves (Feed (Sink fault)) c filed bs passed rest is_out fails =
+    FailsNext c filed bs passed rest (λ put q. fails (sent_by c filed passed ++ put) q fault)
+Leaves (Feed Failed) c filed bs passed rest is_out fails = ⊥
 
 -- THE THEOREM FOR FAULTS: a fault of the network is the first one of its bytes, and the packets before it were passed on; a device's says
--- nothing of them.
+-- nothing of those left; and none of the packets that were passed on is at fault.
 pub record Stopped (c : Config) (filed : ℕ → Option Advertisement) (fault : RunFault) (bs : List ℕ) (is_out : List (List ℕ) → Type 0)
     (fails : List (List ℕ) → List ℕ → PutFault → Type 0) : Type 0 where
   pub passed : List (List ℕ)
   pub rest : List (List ℕ)
   pub parts : packets_of bs ≡ passed ++ rest
+  pub sound : AreSound c passed
   pub says : SaysBy (run_cause fault) ((first_fault c bs ≡ Some fault) × (before_fault c bs ≡ passed))
-  pub leaves : Leaves fault c filed passed rest is_out fails
+  pub leaves : Leaves fault c filed bs passed rest is_out fails
 
 abbrev pub StopsAt : Config → (ℕ → Option Advertisement) → RunFault → Option (List ℕ) → (List (List ℕ) → Type 0)
     → (List (List ℕ) → List ℕ → PutFault → Type 0) → Type 0
 StopsAt c filed fault input is_out fails = IfSome input (λ bs. Stopped c filed fault bs is_out fails)
+
+-- What the network's device counted where a run stops so, by whether it had told the end before, and has now: up to a packet; or, where what
+-- is left is not taken, up to the end.
+abbrev pub NetworkBlamed : RunFault → Bool → Bool → Tally → Tally → Type 0
+NetworkBlamed (Read fault) before ended old new = RunBlamed fault old new
+NetworkBlamed (Feed fault) before ended old new = ReadSo ended old new ⊎ SourceCounts false before ended old new

@@ -4,8 +4,8 @@ ghost use Rattle.std.specs.Prelude.{◌≡◌, ℕ, ◌⊎◌, List, ◌++◌, O
 ghost use Rattle.ts_packet.specs.Sources.{SourceCounts, Stalled, Exhausted};
 ghost use Rattle.ts_packet.specs.Transfers.{WentWell};
 ghost use Rattle.ad_library.specs.Library.{held};
-ghost use Rattle.chain_engine.specs.Runs.{NetworkBlamed, OutputBlamed};
-ghost use Rattle.chain_engine.specs.Splices.{SplicesAll, StopsAt};
+ghost use Rattle.chain_engine.specs.Runs.{OutputBlamed};
+ghost use Rattle.chain_engine.specs.Splices.{SplicesAll, StopsAt, NetworkBlamed};
 
 use crate::chain::RunFault;
 use ad_library::AdLibrary;
@@ -36,7 +36,7 @@ pub fn run_splice<P: PacketSource, K: PacketSink>(
     ensures read { OnOk result (SourceCounts false (P.has_ended network.old) (P.has_ended network.new)
         (P.counts network.old) (P.counts network.new)) }
     ensures wrote { OnOk result (WentWell (K.counts out.old) (K.counts out.new)) }
-    ensures reading { IfErr result (λ f. NetworkBlamed f (P.has_ended network.new)
+    ensures reading { IfErr result (λ f. NetworkBlamed f (P.has_ended network.old) (P.has_ended network.new)
         (P.counts network.old) (P.counts network.new)) }
     ensures writing { IfErr result (λ f. OutputBlamed f (K.counts out.old) (K.counts out.new) (K.is_full out.new)) }
     ensures turns { result ≡ Err (RunFault.Read ReadFault.Turns)
