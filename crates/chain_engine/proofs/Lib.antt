@@ -4,4 +4,5 @@ pub mod StepsLemmas
 pub mod StopLemmas
 pub mod RunLemmas
 pub mod SpliceLemmas
+pub mod NestedLemmas
 pub mod ForgetLemmas

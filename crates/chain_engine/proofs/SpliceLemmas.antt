@@ -42,6 +42,12 @@ module _ (c : Config) (filed : ℕ → Option Advertisement) where
   pub begun : (switch : Switch) (is_out : List (List ℕ) → Type 0) → SwitchStandsFor switch c filed [] → is_out [] → HasSpliced c filed switch is_out []
   begun switch is_out s o = record { sound = All-nil _; stands = s; out = o }
 
+  -- one packet more was passed on
+  pub sent_more : (ps : List (List ℕ)) (p : List ℕ) → sent_by c filed ps ++ switched_at_packet (setting_of c filed) p (reverse ps) ≡ sent_by c filed (ps ++ p ∷ [])
+  sent_more ps p =
+      let k = setting_of c filed in
+      sym (reverse_onto (switched_past k (reverse ps)) (switched_at_packet k p (reverse ps))) ∙ ap (λ q. reverse (switched_past k q)) (sym (reverse-append ps (p ∷ [])))
+
   module _ (ps : List (List ℕ)) where
     none_at_fault : All (λ p. packet_fault p ≡ None) ps → All (λ (s : Seen). network_test as_run_fault (reading_cues c) s ≡ None) (seen_after [] ps) → AreSound c ps
     none_at_fault a b = (sound_all Read (network_test as_run_fault (reading_cues c)) ps a b).0
@@ -51,11 +57,10 @@ module _ (c : Config) (filed : ℕ → Option Advertisement) where
         → network_fault (reading_cues c) p (reverse ps) ≡ None → SwitchStandsFor switch' c filed (p ∷ reverse ps)
         → is_out' (sent_by c filed ps ++ switched_at_packet (setting_of c filed) p (reverse ps)) → HasSpliced c filed switch' is_out' (ps ++ p ∷ [])
     passed switch switch' is_out is_out' p h none s o =
-        let k = setting_of c filed in
         let now : reverse (ps ++ p ∷ []) ≡ p ∷ reverse ps = reverse-append ps (p ∷ []) in record {
           sound = sound_more (network_test as_run_fault (reading_cues c)) ps p h.sound (ap (option_map as_run_fault) none);
           stands = subst (SwitchStandsFor switch' c filed) (sym now) s;
-          out = subst is_out' (sym (reverse_onto (switched_past k (reverse ps)) (switched_at_packet k p (reverse ps))) ∙ ap (λ q. reverse (switched_past k q)) (sym now)) o;
+          out = subst is_out' (sent_more ps p) o;
         }
 
     -- ---- the end

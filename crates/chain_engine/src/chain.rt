@@ -38,6 +38,7 @@ pub struct Chain<M: Allocator = Global> {
     pub(crate) talk: Talk<M>,
     pub(crate) injector: Injector,
     pub(crate) switch: Switch,
+    pub(crate) config: Config,
 }
 
 impl Chain {
@@ -69,6 +70,7 @@ impl<M: Allocator + Copy> Chain<M> {
             talk,
             injector: Injector::new(config),
             switch: Switch::new(config),
+            config,
         })
     }
 }
@@ -110,6 +112,7 @@ pub fn run_inject<M: Allocator, P: PacketSource, U: Automation, K: PacketSink>(
         mut talk,
         mut injector,
         switch: _,
+        config: _,
     } = chain;
     let mut packet = Packet::null();
     loop {

@@ -1,34 +1,42 @@
 //! Whole runs of the chain: the cues that the injector puts in are obeyed by the switch, in one pass over the network.
 
+ghost use Rattle.std.specs.Prelude.{◌≡◌, ℕ, List, ◌∷◌, ◌++◌, Option, None, false, OnOk, IfErr};
+ghost use Rattle.ts_packet.specs.Transfers.{WentWell};
+ghost use Rattle.program_follower.specs.Faults.{network_fault};
+ghost use Rattle.injector.specs.Injecting.{InjectorStandsFor};
+ghost use Rattle.injector.specs.Steps.{Step, Packet as PacketStep, packets_in, purpose_of, sent_at};
+ghost use Rattle.ad_library.specs.Library.{held};
+ghost use Rattle.chain_engine.specs.Runs.{OutputBlamed};
+ghost use Rattle.chain_engine.specs.Nested.{WasFed, PassFails};
+
 use crate::automation::Automation;
 use crate::chain::{Chain, RunFault};
 use crate::report::Report;
 use ad_library::AdLibrary;
-use psi_tables::FeedFault;
+use injector::Injector;
+use psi_tables::{Config, FeedFault};
 use splice_switch::Switch;
 use std::alloc::Allocator;
 use ts_packet::{Packet, PacketSink, PacketSource, PutFault};
 
-/// A sink that feeds a switch. It keeps the switch's fault, and answers `Failed` from then on.
+/// A sink that feeds a switch. It keeps the fault of the switch, and answers `Failed` from then on.
 struct Feeding<'a, K: PacketSink> {
     switch: &'a mut Switch,
+    config: Config,
     library: &'a AdLibrary,
     out: &'a mut K,
     fault: Option<FeedFault>,
 }
 
 impl<K: PacketSink> PacketSink for Feeding<'_, K> {
-    ghost use Rattle.std.specs.Prelude.{◌≡◌};
-    ghost use Rattle.std.specs.Prelude.{true, is_some};
+    ghost use Rattle.std.specs.Prelude.{◌≡◌, true};
     ghost use Rattle.std.proofs.Common.{refl, ap, ◌∙◌};
     ghost use Rattle.ad_library.specs.Library.{held};
-    ghost use Rattle.chain_engine.specs.Nested.{FeedingHolds};
-    ghost use Rattle.ts_packet.specs.declared.sink.PutFault.TheVariants.{Failed};
+    ghost use Rattle.chain_engine.specs.Nested.{FeedingHolds, FeedingFails, FaultKept, FaultKept-refl, FaultKept-trans};
 
+    ghost holds = { λ g start ps. FeedingHolds K.holds g.switch.now g.config (held g.library.now) g.out.now start ps };
 
-    ghost holds = { λ g start ps. FeedingHolds K.holds g.switch.now (held g.library.now) g.out.now start ps };
-
-    ghost fails = { λ g start ps p f. (f ≡ Failed) × (is_some g.fault ≡ true) };
+    ghost fails = { λ g start ps p f. FeedingFails K.holds K.fails g.fault g.config (held g.library.now) g.out.now start ps p f };
 
     ghost is_broken = { λ g. g.switch.now.is_spent };
 
@@ -37,29 +45,91 @@ impl<K: PacketSink> PacketSink for Feeding<'_, K> {
     ghost is_full = { λ g. K.is_full g.out.now };
 
     ghost leads = { λ g h. (h.switch.ghost_name ≡ g.switch.ghost_name) × (h.out.ghost_name ≡ g.out.ghost_name)
-        × (h.library.now ≡ g.library.now) × K.leads g.out.now h.out.now
-        × (g.switch.now.is_spent ≡ true → h ≡ g) };
+        × (h.library.now ≡ g.library.now) × (h.config ≡ g.config) × K.leads g.out.now h.out.now
+        × (g.switch.now.is_spent ≡ true → h ≡ g)
+        × FaultKept g.fault h.fault h.switch.now.is_spent (K.counts g.out.now) (K.counts h.out.now) (K.is_full h.out.now) };
 
-    ghost leads_refl = { λ s. (refl, refl, refl, K.leads_refl s.out.now, λ b. refl) };
+    ghost leads_refl = { λ s. (refl, refl, refl, refl, K.leads_refl s.out.now, λ b. refl, FaultKept-refl _ _ _ _) };
 
-    ghost leads_trans = { λ s t u h k. (k.0 ∙ h.0, k.1 ∙ h.1, k.2 ∙ h.2, K.leads_trans s.out.now t.out.now u.out.now h.3 k.3,
-      λ b. k.4 (ap (λ w. w.switch.now.is_spent) (h.4 b) ∙ b) ∙ h.4 b) };
+    ghost leads_trans = { λ s t u h k. (k.0 ∙ h.0, k.1 ∙ h.1, k.2 ∙ h.2, k.3 ∙ h.3, K.leads_trans s.out.now t.out.now u.out.now h.4 k.4,
+        λ b. k.5 (ap (λ w. w.switch.now.is_spent) (h.5 b) ∙ b) ∙ h.5 b,
+        FaultKept-trans s.fault t.fault u.fault t.switch.now.is_spent u.switch.now.is_spent (K.counts s.out.now) (K.counts t.out.now)
+        (K.counts u.out.now) (K.is_full t.out.now) (K.is_full u.out.now) h.6 k.6 (λ b. record {
+        fault = ap (λ w. w.fault) (k.5 b);
+        spent = ap (λ w. w.switch.now.is_spent) (k.5 b);
+        counts = ap (λ w. K.counts w.out.now) (k.5 b);
+        is_full = ap (λ w. K.is_full w.out.now) (k.5 b) })) };
 
-    ghost leads_later = { λ s t h. K.leads_later s.out.now t.out.now h.3 };
+    ghost leads_later = { λ s t h. K.leads_later s.out.now t.out.now h.4 };
 
-    ghost leads_full = { λ s t h. K.leads_full s.out.now t.out.now h.3 };
+    ghost leads_full = { λ s t h. K.leads_full s.out.now t.out.now h.4 };
 
-    ghost leads_spent = { λ s t h. h.4 };
+    ghost leads_spent = { λ s t h. h.5 };
 
     fn put(&mut self, packet: &Packet) -> Result<(), PutFault> {
         match self.switch.feed(packet, self.library, self.out) {
             Ok(()) => Ok(()),
             Err(FeedFault::Failed) => Err(PutFault::Failed),
-            Err(fault) => {
-                self.fault = Some(fault);
+            Err(FeedFault::Network(fault)) => {
+                self.fault = Some(FeedFault::Network(fault));
+                Err(PutFault::Failed)
+            }
+            Err(FeedFault::Sink(fault)) => {
+                self.fault = Some(FeedFault::Sink(fault));
                 Err(PutFault::Failed)
             }
         }
+    }
+}
+
+/// Takes the next packet of the network: the injector sends it on to the switch, with the cues that are due, and the switch puts what goes
+/// out.
+///
+/// # Errors
+///
+/// The fault of the injector, or that of the switch at one of the packets that it was sent.
+fn pass_on<K: PacketSink>(
+    injector: &mut Injector,
+    switch: &mut Switch,
+    config: Config,
+    packet: &Packet,
+    library: &AdLibrary,
+    out: &mut K,
+) -> Result<(), FeedFault>
+    ensures leads { K.leads out.old out.new }
+    ensures ok { (steps : List Step) (start : Option (List ℕ)) (before fed : List (List ℕ)) → InjectorStandsFor injector.old config steps
+        → WasFed switch.old config (held library.now) (λ qs. K.holds out.old start (before ++ qs)) fed
+        → OnOk result (WasFed switch.new config (held library.now) (λ qs. K.holds out.new start (before ++ qs))
+        (fed ++ sent_at config packet.now steps)) }
+    ensures stands { (steps : List Step) → InjectorStandsFor injector.old config steps
+        → OnOk result (InjectorStandsFor injector.new config (PacketStep packet.now ∷ steps)) }
+    ensures sound { (steps : List Step) → InjectorStandsFor injector.old config steps
+        → OnOk result (network_fault (purpose_of config) packet.now (packets_in steps) ≡ None) }
+    ensures err { (steps : List Step) (start : Option (List ℕ)) (before fed : List (List ℕ)) → InjectorStandsFor injector.old config steps
+        → WasFed switch.old config (held library.now) (λ qs. K.holds out.old start (before ++ qs)) fed
+        → IfErr result (λ f. PassFails f config (held library.now) packet.now steps fed
+        (λ qs. K.holds out.new start (before ++ qs)) (λ qs q x. K.fails out.new start (before ++ qs) q x)) }
+    ensures well { OnOk result (WentWell (K.counts out.old) (K.counts out.new)) }
+    ensures blamed { IfErr result (λ f. OutputBlamed (RunFault.Feed f) (K.counts out.old) (K.counts out.new) (K.is_full out.new)) }
+{
+    let mut feeding = Feeding {
+        switch,
+        config,
+        library,
+        out,
+        fault: None,
+    };
+    let fed = injector.feed(packet, &mut feeding);
+    let Feeding {
+        switch: _,
+        config: _,
+        library: _,
+        out: _,
+        fault: kept,
+    } = feeding;
+    match fed {
+        Ok(()) => Ok(()),
+        Err(fault) => Err(kept.unwrap_or(fault)),
     }
 }
 
@@ -78,23 +148,14 @@ impl<M: Allocator> Chain<M> {
         out: &mut K,
     ) -> Result<(), FeedFault> {
         self.talk.listen(&mut self.injector, automation);
-        let mut feeding = Feeding {
-            switch: &mut self.switch,
+        pass_on(
+            &mut self.injector,
+            &mut self.switch,
+            self.config,
+            packet,
             library,
             out,
-            fault: None,
-        };
-        let fed = self.injector.feed(packet, &mut feeding);
-        let Feeding {
-            switch: _,
-            library: _,
-            out: _,
-            fault: kept,
-        } = feeding;
-        match fed {
-            Ok(()) => Ok(()),
-            Err(fault) => Err(kept.unwrap_or(fault)),
-        }
+        )
     }
 }
 
