@@ -5,4 +5,5 @@ pub mod StopLemmas
 pub mod RunLemmas
 pub mod SpliceLemmas
 pub mod NestedLemmas
+pub mod ChainLemmas
 pub mod ForgetLemmas

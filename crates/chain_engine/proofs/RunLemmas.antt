@@ -68,7 +68,7 @@ pub record HasHeard {M : Type 0} (c : Config) (injector : Injector) (talk : Talk
   pub out : is_out (sent_by c (steps_before (length rs) ts (reverse ps)))
 
 -- at most one take was made for each packet
-few_takes : (end : Option SessionEnd) (ts : List Take) (n k : ℕ) → HasTalked end ts n k → length ts ≤ k
+pub few_takes : (end : Option SessionEnd) (ts : List Take) (n k : ℕ) → HasTalked end ts n k → length ts ≤ k
 few_takes None ts n k t = omega (arith, t.0)
 few_takes (Some end) ts n k t = t.0
 

@@ -6,3 +6,4 @@ pub mod Chains
 pub mod Runs
 pub mod Splices
 pub mod Nested
+pub mod ChainRuns

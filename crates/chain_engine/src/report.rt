@@ -5,6 +5,7 @@ ghost use Rattle.psi_tables.specs.declared.config.Config.{Config};
 ghost use Rattle.injector.specs.Injecting.{CountsAre};
 ghost use Rattle.injector.specs.Steps.{Step, turns_in};
 ghost use Rattle.chain_engine.specs.Runs.{report_of};
+ghost use Rattle.chain_engine.specs.ChainRuns.{MessagesAre};
 
 use injector::MessageCounts;
 use splice_switch::SwitchReport;
@@ -37,7 +38,11 @@ impl Report {
     }
 
     /// The report of a run in which the injector counted so, and the switch so.
-    pub(crate) fn of_chain(counts: MessageCounts, switch: SwitchReport) -> Report {
+    pub(crate) fn of_chain(counts: MessageCounts, switch: SwitchReport) -> Report
+        ensures messages { (c : Config) (steps : List Step) → CountsAre counts c.index (turns_in c.program steps)
+            → MessagesAre result c steps }
+        ensures events { result.switch ≡ switch }
+    {
         let mut report = Report::of(counts);
         report.switch = switch;
         report

@@ -1,13 +1,17 @@
 //! Whole runs of the chain: the cues that the injector puts in are obeyed by the switch, in one pass over the network.
 
-ghost use Rattle.std.specs.Prelude.{◌≡◌, ℕ, List, ◌∷◌, ◌++◌, Option, None, false, OnOk, IfErr};
+ghost use Rattle.std.specs.Prelude.{◌≡◌, ℕ, ◌⊎◌, List, ◌∷◌, ◌++◌, Option, None, Err, false, OnOk, IfOk, IfErr};
+ghost use Rattle.ts_packet.specs.Sources.{SourceCounts, Stalled, Exhausted};
 ghost use Rattle.ts_packet.specs.Transfers.{WentWell};
 ghost use Rattle.program_follower.specs.Faults.{network_fault};
 ghost use Rattle.injector.specs.Injecting.{InjectorStandsFor};
 ghost use Rattle.injector.specs.Steps.{Step, Packet as PacketStep, packets_in, purpose_of, sent_at};
 ghost use Rattle.ad_library.specs.Library.{held};
-ghost use Rattle.chain_engine.specs.Runs.{OutputBlamed};
+ghost use Rattle.chain_engine.specs.Chains.{ChainStandsFor};
+ghost use Rattle.chain_engine.specs.Runs.{Exchanged, OutputBlamed};
+ghost use Rattle.chain_engine.specs.Splices.{NetworkBlamed};
 ghost use Rattle.chain_engine.specs.Nested.{WasFed, PassFails};
+ghost use Rattle.chain_engine.specs.ChainRuns.{RunsAll, StopsAt};
 
 use crate::automation::Automation;
 use crate::chain::{Chain, RunFault};
@@ -17,7 +21,7 @@ use injector::Injector;
 use psi_tables::{Config, FeedFault};
 use splice_switch::Switch;
 use std::alloc::Allocator;
-use ts_packet::{Packet, PacketSink, PacketSource, PutFault};
+use ts_packet::{Packet, PacketSink, PacketSource, PutFault, ReadFault};
 
 /// A sink that feeds a switch. It keeps the fault of the switch, and answers `Failed` from then on.
 struct Feeding<'a, K: PacketSink> {
@@ -91,30 +95,30 @@ impl<K: PacketSink> PacketSink for Feeding<'_, K> {
 fn pass_on<K: PacketSink>(
     injector: &mut Injector,
     switch: &mut Switch,
-    config: Config,
+    config: &Config,
     packet: &Packet,
     library: &AdLibrary,
     out: &mut K,
 ) -> Result<(), FeedFault>
     ensures leads { K.leads out.old out.new }
-    ensures ok { (steps : List Step) (start : Option (List ℕ)) (before fed : List (List ℕ)) → InjectorStandsFor injector.old config steps
-        → WasFed switch.old config (held library.now) (λ qs. K.holds out.old start (before ++ qs)) fed
-        → OnOk result (WasFed switch.new config (held library.now) (λ qs. K.holds out.new start (before ++ qs))
-        (fed ++ sent_at config packet.now steps)) }
-    ensures stands { (steps : List Step) → InjectorStandsFor injector.old config steps
-        → OnOk result (InjectorStandsFor injector.new config (PacketStep packet.now ∷ steps)) }
-    ensures sound { (steps : List Step) → InjectorStandsFor injector.old config steps
-        → OnOk result (network_fault (purpose_of config) packet.now (packets_in steps) ≡ None) }
-    ensures err { (steps : List Step) (start : Option (List ℕ)) (before fed : List (List ℕ)) → InjectorStandsFor injector.old config steps
-        → WasFed switch.old config (held library.now) (λ qs. K.holds out.old start (before ++ qs)) fed
-        → IfErr result (λ f. PassFails f config (held library.now) packet.now steps fed
+    ensures ok { (steps : List Step) (start : Option (List ℕ)) (before fed : List (List ℕ)) → InjectorStandsFor injector.old config.now steps
+        → WasFed switch.old config.now (held library.now) (λ qs. K.holds out.old start (before ++ qs)) fed
+        → OnOk result (WasFed switch.new config.now (held library.now) (λ qs. K.holds out.new start (before ++ qs))
+        (fed ++ sent_at config.now packet.now steps)) }
+    ensures stands { (steps : List Step) → InjectorStandsFor injector.old config.now steps
+        → OnOk result (InjectorStandsFor injector.new config.now (PacketStep packet.now ∷ steps)) }
+    ensures sound { (steps : List Step) → InjectorStandsFor injector.old config.now steps
+        → OnOk result (network_fault (purpose_of config.now) packet.now (packets_in steps) ≡ None) }
+    ensures err { (steps : List Step) (start : Option (List ℕ)) (before fed : List (List ℕ)) → InjectorStandsFor injector.old config.now steps
+        → WasFed switch.old config.now (held library.now) (λ qs. K.holds out.old start (before ++ qs)) fed
+        → IfErr result (λ f. PassFails f config.now (held library.now) packet.now steps fed
         (λ qs. K.holds out.new start (before ++ qs)) (λ qs q x. K.fails out.new start (before ++ qs) q x)) }
     ensures well { OnOk result (WentWell (K.counts out.old) (K.counts out.new)) }
     ensures blamed { IfErr result (λ f. OutputBlamed (RunFault.Feed f) (K.counts out.old) (K.counts out.new) (K.is_full out.new)) }
 {
     let mut feeding = Feeding {
         switch,
-        config,
+        config: *config,
         library,
         out,
         fault: None,
@@ -151,7 +155,7 @@ impl<M: Allocator> Chain<M> {
         pass_on(
             &mut self.injector,
             &mut self.switch,
-            self.config,
+            &self.config,
             packet,
             library,
             out,
@@ -174,8 +178,30 @@ pub fn run<M: Allocator, P: PacketSource, U: Automation, K: PacketSink>(
     out: &mut K,
 ) -> Result<Report, RunFault>
     requires { P.is_broken network.old ≡ false }
+    ensures ok { (c : Config) (start : Option (List ℕ)) (before : List (List ℕ)) → ChainStandsFor chain c
+        → K.holds out.old start before → IfOk result (RunsAll c (held library.now) (P.left network.old)
+        (λ ps. K.holds out.new start (before ++ ps)) (Exchanged U.takes U.answers U.failures automation.old automation.new)) }
+    ensures err { (c : Config) (start : Option (List ℕ)) (before : List (List ℕ)) → ChainStandsFor chain c
+        → K.holds out.old start before → IfErr result (λ f. StopsAt c (held library.now) f (P.left network.old)
+        (λ ps. K.holds out.new start (before ++ ps)) (λ ps. K.fails out.new start (before ++ ps))
+        (Exchanged U.takes U.answers U.failures automation.old automation.new)) }
+    ensures read { OnOk result (SourceCounts false (P.has_ended network.old) (P.has_ended network.new)
+        (P.counts network.old) (P.counts network.new)) }
+    ensures wrote { OnOk result (WentWell (K.counts out.old) (K.counts out.new)) }
+    ensures reading { IfErr result (λ f. NetworkBlamed f (P.has_ended network.old) (P.has_ended network.new)
+        (P.counts network.old) (P.counts network.new)) }
+    ensures writing { IfErr result (λ f. OutputBlamed f (K.counts out.old) (K.counts out.new) (K.is_full out.new)) }
+    ensures turns { result ≡ Err (RunFault.Read ReadFault.Turns)
+        → Stalled P.leads P.counts P.falls_short network.old network.new ⊎ Exhausted P.left P.given network.old }
+    ensures reads { P.leads network.old network.new }
+    ensures leads { K.leads out.old out.new }
 {
-    let mut chain = chain;
+    let Chain {
+        mut talk,
+        mut injector,
+        mut switch,
+        config,
+    } = chain;
     let mut packet = Packet::null();
     loop {
         match network.read_packet(&mut packet) {
@@ -183,13 +209,14 @@ pub fn run<M: Allocator, P: PacketSource, U: Automation, K: PacketSink>(
             Ok(false) => break,
             Err(fault) => return Err(RunFault::Read(fault)),
         }
-        match chain.step(&packet, automation, library, out) {
+        talk.listen(&mut injector, automation);
+        match pass_on(&mut injector, &mut switch, &config, &packet, library, out) {
             Ok(()) => {}
             Err(fault) => return Err(RunFault::Feed(fault)),
         }
     }
-    match chain.switch.finish(library, out) {
-        Ok(switch) => Ok(Report::of_chain(chain.injector.counts(), switch)),
+    match switch.finish(library, out) {
+        Ok(events) => Ok(Report::of_chain(injector.counts(), events)),
         Err(fault) => Err(RunFault::Feed(fault)),
     }
 }

@@ -9,7 +9,7 @@ use Rattle.chain_engine.proofs.running.pass_on.Goals as goal
 
 pub returns-in-Ok-clause-ok : goal.returns-in-Ok-clause-ok
 returns-in-Ok-clause-ok g c = λ steps start before fed s h.
-    let d = c.args.config in
+    let d = c.args.config.now in
     let sink = c.feed-fed.new.sink in
     let leads = c.in-Ok.ensures.leads in
     let sent = sent_at d c.args.packet.now steps in
@@ -25,7 +25,7 @@ returns-in-Ok-clause-ok g c = λ steps start before fed s h.
 
 pub returns-in-Err-clause-err : goal.returns-in-Err-clause-err
 returns-in-Err-clause-err g c = λ steps start before fed s h.
-    let d = c.args.config in
+    let d = c.args.config.now in
     let sink = c.feed-fed.new.sink in
     let leads = c.in-Err.ensures.leads in
     let fault = c.in-Err.fault in
