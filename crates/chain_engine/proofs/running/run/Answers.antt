@@ -15,13 +15,14 @@ use Rattle.chain_engine.specs.Runs.{Exchanged}
 use Rattle.chain_engine.specs.Splices as splices
 use Rattle.chain_engine.specs.Nested.{WasFed}
 use Rattle.chain_engine.specs.ChainRuns.{RunsAll, StopsAt}
+use Rattle.chain_engine.specs.declared.chain.RunFault.TheVariants.{Read, Feed}
 use Rattle.chain_engine.proofs.SpliceLemmas.{finish_fails_so}
 use Rattle.chain_engine.proofs.RunLemmas.{begun, heard, passed}
 use Rattle.chain_engine.proofs.ChainLemmas.{ends, finish_stops, read_stops, pass_stops}
 use Rattle.chain_engine.proofs.running.run.Goals as goal
 
-pub loop-switch-init : goal.loop-switch-init
-loop-switch-init g c = record {
+pub loop-fault-init : goal.loop-fault-init
+loop-fault-init g c = record {
   whole = c.requires;
   reads = g.met.P.PacketSource.leads_refl _;
   leads = g.met.K.PacketSink.leads_refl _;
@@ -38,15 +39,15 @@ loop-switch-init g c = record {
 
 pub returns-in-Err-clause-err : goal.returns-in-Err-clause-err
 returns-in-Err-clause-err g c = λ d start before h held_first.
-    let (ps, n, run) = c.loop-switch.invariant.passed in
-    let refuses = subst (λ b. Refuses b (g.P.PacketSource.left c.loop-switch.network) c.in-Err.fault) c.loop-switch.invariant.whole c.in-Err.ensures.err in
+    let (ps, n, run) = c.loop-fault.invariant.passed in
+    let refuses = subst (λ b. Refuses b (g.P.PacketSource.left c.loop-fault.network) c.in-Err.fault) c.loop-fault.invariant.whole c.in-Err.ensures.err in
     let own = subst (ChainStandsFor c.args.chain) (sym h.config) h in
-    subst (λ w. StopsAt w (held c.args.library.now) _ _ _ _ _) h.config
-    (read_stops c.args.chain.config (held c.args.library.now) _ ps c.loop-switch.injector c.loop-switch.talk c.loop-switch.switch _ (λ qs. g.K.PacketSink.fails c.loop-switch.out start (before ++ qs)) _ _ n.read (run start before own held_first) c.in-Err.fault refuses)
+    subst (λ w. StopsAt w (held c.args.library.now) (Read c.in-Err.fault) (g.P.PacketSource.left c.args.network.now) (λ qs. g.K.PacketSink.holds c.loop-fault.out start (before ++ qs)) (λ qs. g.K.PacketSink.fails c.loop-fault.out start (before ++ qs)) (Exchanged g.U.Automation.takes g.U.Automation.answers g.U.Automation.failures c.args.automation.now c.loop-fault.automation)) h.config
+    (read_stops c.args.chain.config (held c.args.library.now) _ ps c.loop-fault.injector c.loop-fault.talk c.loop-fault.switch _ (λ qs. g.K.PacketSink.fails c.loop-fault.out start (before ++ qs)) _ _ n.read (run start before own held_first) c.in-Err.fault refuses)
 
-pub loop-switch-preserved : goal.loop-switch-preserved
-loop-switch-preserved g c =
-    let (ps, n, run) = c.loop-switch.invariant.passed in
+pub loop-fault-preserved : goal.loop-fault-preserved
+loop-fault-preserved g c =
+    let (ps, n, run) = c.loop-fault.invariant.passed in
     let d = c.args.chain.config in
     let filed = held c.args.library.now in
     let p = c.read_packet.new.packet in
@@ -54,18 +55,18 @@ loop-switch-preserved g c =
     let given = rw c.in-Ok-true.field-0-test at c.in-Ok-true.ensures.given in
     record {
       whole = c.in-Ok-true.ensures.broken;
-      reads = g.met.P.PacketSource.leads_trans _ _ _ c.loop-switch.invariant.reads c.in-Ok-true.ensures.leads;
-      leads = g.met.K.PacketSink.leads_trans _ _ _ c.loop-switch.invariant.leads c.in-Ok.ensures.leads;
-      well = on-more _ _ _ _ _ _ c.loop-switch.invariant.well (rw c.in-Ok-true.field-0-test at c.in-Ok-true.ensures.counts);
-      wrote = well-trans _ _ _ c.loop-switch.invariant.wrote c.in-Ok.ensures.well;
+      reads = g.met.P.PacketSource.leads_trans _ _ _ c.loop-fault.invariant.reads c.in-Ok-true.ensures.leads;
+      leads = g.met.K.PacketSink.leads_trans _ _ _ c.loop-fault.invariant.leads c.in-Ok.ensures.leads;
+      well = on-more _ _ _ _ _ _ c.loop-fault.invariant.well (rw c.in-Ok-true.field-0-test at c.in-Ok-true.ensures.counts);
+      wrote = well-trans _ _ _ c.loop-fault.invariant.wrote c.in-Ok.ensures.well;
       passed = (
         ps ++ p ∷ [],
         given_more _ _ _ _ _ _ ps p n r given.1,
         λ start before own held_first.
-            let is_out = WasFed c.loop-switch.switch d filed (λ qs. g.K.PacketSink.holds c.loop-switch.out start (before ++ qs)) in
+            let is_out = WasFed c.loop-fault.switch d filed (λ qs. g.K.PacketSink.holds c.loop-fault.out start (before ++ qs)) in
             let is_out' = WasFed c.pass_on.new.switch d filed (λ qs. g.K.PacketSink.holds c.pass_on.new.out start (before ++ qs)) in
             let before_packet = heard g.U.Automation.takes g.U.Automation.answers g.U.Automation.failures d is_out ps c.args.automation.now
-            c.loop-switch.automation c.listen.new.automation c.loop-switch.injector c.listen.new.judge c.loop-switch.talk c.listen.new.self (run start before own held_first)
+            c.loop-fault.automation c.listen.new.automation c.loop-fault.injector c.listen.new.judge c.loop-fault.talk c.listen.new.self (run start before own held_first)
             c.listen.ensures.talk c.listen.ensures.closed c.listen.ensures.failures in
             passed d _ ps c.listen.new.judge c.pass_on.new.injector c.listen.new.self is_out is_out' p before_packet
             (λ steps s o. (
@@ -78,33 +79,33 @@ loop-switch-preserved g c =
 
 pub returns-in-Err-pass_on-clause-err : goal.returns-in-Err-pass_on-clause-err
 returns-in-Err-pass_on-clause-err g c = λ d start before h held_first.
-    let (ps, n, run) = c.loop-switch.invariant.passed in
+    let (ps, n, run) = c.loop-fault.invariant.passed in
     let k = c.args.chain.config in
     let filed = held c.args.library.now in
     let p = c.read_packet.new.packet in
     let r = rw c.in-Ok-true.field-0-test at c.in-Ok-true.ensures.ok in
     let own = subst (ChainStandsFor c.args.chain) (sym h.config) h in
-    let is_out = WasFed c.loop-switch.switch k filed (λ qs. g.K.PacketSink.holds c.loop-switch.out start (before ++ qs)) in
+    let is_out = WasFed c.loop-fault.switch k filed (λ qs. g.K.PacketSink.holds c.loop-fault.out start (before ++ qs)) in
     let before_packet = heard g.U.Automation.takes g.U.Automation.answers g.U.Automation.failures k is_out ps c.args.automation.now
-    c.loop-switch.automation c.listen.new.automation c.loop-switch.injector c.listen.new.judge c.loop-switch.talk c.listen.new.self (run start before own held_first)
+    c.loop-fault.automation c.listen.new.automation c.loop-fault.injector c.listen.new.judge c.loop-fault.talk c.listen.new.self (run start before own held_first)
     c.listen.ensures.talk c.listen.ensures.closed c.listen.ensures.failures in
-    subst (λ w. StopsAt w filed _ _ _ _ _) h.config
-    (pass_stops k filed _ ps c.listen.new.judge c.listen.new.self c.loop-switch.switch (λ s qs. g.K.PacketSink.holds s start (before ++ qs)) (λ qs. g.K.PacketSink.fails c.pass_on.new.out start (before ++ qs))
-    c.loop-switch.out c.pass_on.new.out _ _ _ p n.read r before_packet c.in-Err-pass_on.fault
+    subst (λ w. StopsAt w filed (Feed c.in-Err-pass_on.fault) (g.P.PacketSource.left c.args.network.now) (λ qs. g.K.PacketSink.holds c.pass_on.new.out start (before ++ qs)) (λ qs. g.K.PacketSink.fails c.pass_on.new.out start (before ++ qs)) (Exchanged g.U.Automation.takes g.U.Automation.answers g.U.Automation.failures c.args.automation.now c.listen.new.automation)) h.config
+    (pass_stops k filed _ ps c.listen.new.judge c.listen.new.self c.loop-fault.switch (λ s qs. g.K.PacketSink.holds s start (before ++ qs)) (λ qs. g.K.PacketSink.fails c.pass_on.new.out start (before ++ qs))
+    c.loop-fault.out c.pass_on.new.out _ _ _ p n.read r before_packet c.in-Err-pass_on.fault
     (λ steps s o. c.in-Err-pass_on.ensures.err steps start before _ s o))
 
 pub returns-in-Err-pass_on-clause-reading : goal.returns-in-Err-pass_on-clause-reading
-returns-in-Err-pass_on-clause-reading g c = inl (on-told _ _ _ _ _ _ c.loop-switch.invariant.well (rw c.in-Ok-true.field-0-test at c.in-Ok-true.ensures.counts))
+returns-in-Err-pass_on-clause-reading g c = inl (on-told _ _ _ _ _ _ c.loop-fault.invariant.well (rw c.in-Ok-true.field-0-test at c.in-Ok-true.ensures.counts))
 
 pub returns-in-Ok-finish-clause-ok : goal.returns-in-Ok-finish-clause-ok
 returns-in-Ok-finish-clause-ok g c = λ d start before h held_first.
-    let (ps, n, run) = c.loop-switch.invariant.passed in
+    let (ps, n, run) = c.loop-fault.invariant.passed in
     let k = c.args.chain.config in
     let filed = held c.args.library.now in
     let r = rw c.in-Ok-false.field-0-test at c.in-Ok-false.ensures.ok in
     let own = subst (ChainStandsFor c.args.chain) (sym h.config) h in
-    subst (λ w. RunsAll w filed _ _ _ _) h.config
-    (ends k filed _ ps c.loop-switch.injector c.loop-switch.talk c.loop-switch.switch (λ qs. g.K.PacketSink.holds c.loop-switch.out start (before ++ qs)) (λ qs. g.K.PacketSink.holds c.finish.new.sink start (before ++ qs)) _ _ _ n.read r.0
+    subst (λ w. RunsAll w filed (g.P.PacketSource.left c.args.network.now) (λ qs. g.K.PacketSink.holds c.finish.new.sink start (before ++ qs)) (Exchanged g.U.Automation.takes g.U.Automation.answers g.U.Automation.failures c.args.automation.now c.loop-fault.automation) c.of_chain.result) h.config
+    (ends k filed _ ps c.loop-fault.injector c.loop-fault.talk c.loop-fault.switch (λ qs. g.K.PacketSink.holds c.loop-fault.out start (before ++ qs)) (λ qs. g.K.PacketSink.holds c.finish.new.sink start (before ++ qs)) _ _ _ n.read r.0
     (run start before own held_first)
     (λ steps j. c.of_chain.ensures.messages k steps (c.counts.ensures k steps j))
     (λ fed o. (
@@ -113,18 +114,15 @@ returns-in-Ok-finish-clause-ok g c = λ d start before h held_first.
       subst (λ w. ReportIs w (report_of (setting_of k filed) (reverse fed))) (sym c.of_chain.ensures.events) (c.in-Ok-finish.ensures.report k (reverse fed) o.stands),
     )))
 
-pub returns-in-Err-finish-clause-err : goal.returns-in-Err-finish-clause-err
-returns-in-Err-finish-clause-err g c = λ d start before h held_first.
-    let (ps, n, run) = c.loop-switch.invariant.passed in
+pub returns-clause-err : goal.returns-clause-err
+returns-clause-err g c = λ d start before h held_first.
+    let (ps, n, run) = c.loop-fault.invariant.passed in
     let k = c.args.chain.config in
     let filed = held c.args.library.now in
     let r = rw c.in-Ok-false.field-0-test at c.in-Ok-false.ensures.ok in
     let own = subst (ChainStandsFor c.args.chain) (sym h.config) h in
-    subst (λ w. StopsAt w filed _ _ _ _ _) h.config
-    (finish_stops k filed _ ps c.loop-switch.injector c.loop-switch.talk c.loop-switch.switch (λ s qs. g.K.PacketSink.holds s start (before ++ qs)) (λ qs. g.K.PacketSink.fails c.finish.new.sink start (before ++ qs))
-    c.loop-switch.out c.finish.new.sink _ _ n.read r.0 (run start before own held_first) c.in-Err-finish.fault
+    subst (λ w. StopsAt w filed (Feed c.in-Err-finish.fault) (g.P.PacketSource.left c.args.network.now) (λ qs. g.K.PacketSink.holds c.finish.new.sink start (before ++ qs)) (λ qs. g.K.PacketSink.fails c.finish.new.sink start (before ++ qs)) (Exchanged g.U.Automation.takes g.U.Automation.answers g.U.Automation.failures c.args.automation.now c.loop-fault.automation)) h.config
+    (finish_stops k filed _ ps c.loop-fault.injector c.loop-fault.talk c.loop-fault.switch (λ s qs. g.K.PacketSink.holds s start (before ++ qs)) (λ qs. g.K.PacketSink.fails c.finish.new.sink start (before ++ qs))
+    c.loop-fault.out c.finish.new.sink _ _ n.read r.0 (run start before own held_first) c.in-Err-finish.fault
     (λ fed o. finish_fails_so c.in-Err-finish.fault k filed (reverse fed) (λ put q f. g.K.PacketSink.fails c.finish.new.sink start ((before ++ splices.sent_by k filed fed) ++ put) q f) (λ put q f. g.K.PacketSink.fails c.finish.new.sink start (before ++ (splices.sent_by k filed fed ++ put)) q f)
     (λ put q f. subst (λ l. g.K.PacketSink.fails c.finish.new.sink start l q f) (append_assoc before (splices.sent_by k filed fed) put)) (c.in-Err-finish.ensures.err start (before ++ splices.sent_by k filed fed) k (reverse fed) o.sent o.stands)))
-
-pub returns-in-Err-finish-clause-reading : goal.returns-in-Err-finish-clause-reading
-returns-in-Err-finish-clause-reading g c = inr (on-end _ _ _ _ _ _ c.loop-switch.invariant.well (rw c.in-Ok-false.field-0-test at c.in-Ok-false.ensures.counts))

@@ -8,8 +8,8 @@ use Rattle.chain_engine.specs.Nested.{WasFed}
 use Rattle.chain_engine.proofs.RunLemmas.{HasRun}
 use Rattle.chain_engine.proofs.running.run.Given as goal
 
-abbrev pub invariant-loop-switch : goal.invariant-loop-switch
-invariant-loop-switch g l = record {
+abbrev pub invariant-loop-fault : goal.invariant-loop-fault
+invariant-loop-fault g l = record {
   whole : g.P.PacketSource.is_broken l.network ≡ false;
   reads : g.P.PacketSource.leads l.initial.network l.network;
   leads : g.K.PacketSink.leads l.initial.out l.out;
@@ -21,5 +21,5 @@ invariant-loop-switch g l = record {
       (Exchanged g.U.Automation.takes g.U.Automation.answers g.U.Automation.failures l.initial.automation l.automation) ps);
 }
 
-abbrev pub decreases-loop-switch : goal.decreases-loop-switch
-decreases-loop-switch g l = 2 ^ 64 - g.P.PacketSource.given l.network
+abbrev pub decreases-loop-fault : goal.decreases-loop-fault
+decreases-loop-fault g l = 2 ^ 64 - g.P.PacketSource.given l.network
