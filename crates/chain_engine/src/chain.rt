@@ -66,11 +66,12 @@ impl<M: Allocator + Copy> Chain<M> {
         let Ok(talk) = Talk::new_in(alloc) else {
             return Err(OutOfMemory);
         };
+        let given = &config;
         Ok(Chain {
             talk,
-            injector: Injector::new(config),
-            switch: Switch::new(config),
-            config,
+            injector: Injector::new(*given),
+            switch: Switch::new(*given),
+            config: *given,
         })
     }
 }
