@@ -1,7 +1,7 @@
 -- A whole run of the chain, from its first packet to its end or its fault.
 use Rattle.std.specs.Prelude.{All, option_map}
 use Rattle.std.specs.Io.KnownBytes.{IsAtEnd}
-use Rattle.std.proofs.Common.{◌≡◌, ℕ, ◌≤◌, ◌⊎◌, false, suc, List, [], ◌∷◌, ◌++◌, length, reverse, Option, None, Some, refl, sym, ap, subst, ◌∙◌, inl, inr, arith, append_assoc}
+use Rattle.std.proofs.Common.{◌≡◌, ℕ, ◌+◌, ◌≤◌, ◌⊎◌, Bool, false, suc, List, [], ◌∷◌, ◌++◌, length, reverse, Option, None, Some, refl, sym, ap, subst, ◌∙◌, inl, inr, arith, append_assoc}
 use Rattle.std.proofs.lemmas.List.{append-nil, length-reverse}
 use Rattle.ts_packet.specs.Packets.{packets_of}
 use Rattle.ts_packet.specs.Sources.{Given, HasRead, Refuses}
@@ -19,7 +19,7 @@ use Rattle.program_follower.specs.FirstFault.{network_test}
 use Rattle.program_follower.proofs.RunLemmas.{ends_sound, reader_stops, packet_stops}
 use Rattle.scte104_codec.specs.declared.reply.Reply.{Reply}
 use Rattle.injector.specs.declared.injector.Injector.{Injector}
-use Rattle.injector.specs.Steps.{Step, packets_in, purpose_of, sent_at}
+use Rattle.injector.specs.Steps.{Step, Packet, packets_in, purpose_of, cued, sent_at}
 use Rattle.injector.specs.Injecting.{InjectorStandsFor, JudgesBy}
 use Rattle.ad_library.specs.Advertisements.{Advertisement}
 use Rattle.splice_plans.specs.Adverts.{setting_of}
@@ -27,18 +27,21 @@ use Rattle.splice_plans.specs.Switching.{spliced_network}
 use Rattle.splice_plans.specs.Reporting as events
 use Rattle.splice_switch.specs.declared.switch.Switch.{Switch}
 use Rattle.splice_switch.specs.Standing.{FinishFails}
-use Rattle.chain_engine.specs.Automation.{Take}
-use Rattle.chain_engine.specs.Runs.{as_run_fault, steps_of, steps_before, replies_in, sent_by, first_fault, before_fault, Serves}
+use Rattle.chain_engine.specs.Automation.{Take, Answer, Told}
+use Rattle.chain_engine.specs.Hearing.{Replied}
+use Rattle.chain_engine.specs.Judging.{InjectorJudges}
+use Rattle.chain_engine.specs.Talks.{judged_before}
+use Rattle.chain_engine.specs.Runs.{as_run_fault, asked, steps_of, steps_before, replies_in, sent_by, first_fault, before_fault, Serves}
 use Rattle.chain_engine.specs.Splices as splices
 use Rattle.chain_engine.specs.Nested.{WasFed, PassFails}
-use Rattle.chain_engine.specs.ChainRuns.{MessagesAre, AreSound, RunsAll, Stopped, StopsAt}
+use Rattle.chain_engine.specs.ChainRuns.{MessagesAre, AreSound, RunsAll, Stopped, StopsAt, Hears, heard_steps}
 use Rattle.chain_engine.specs.declared.hearing.SessionEnd.{SessionEnd}
 use Rattle.chain_engine.specs.declared.report.Report.{Report}
 use Rattle.chain_engine.specs.declared.talk.Talk.{Talk}
 use Rattle.chain_engine.specs.declared.chain.RunFault.TheVariants.{Read, Feed}
-use Rattle.chain_engine.proofs.StepsLemmas.{none_asked, before_packets}
+use Rattle.chain_engine.proofs.StepsLemmas.{none_asked, before_packets, asked_cued, asked_packets, asked_judged}
 use Rattle.chain_engine.proofs.StopLemmas as stops
-use Rattle.chain_engine.proofs.StopLemmas.{both_said, before_at, before_read}
+use Rattle.chain_engine.proofs.StopLemmas.{both_said, reverse_onto, before_at, before_read}
 use Rattle.chain_engine.proofs.RunLemmas.{HasRun, HasHeard, few_takes}
 
 module _ (c : Config) (filed : ℕ → Option Advertisement) (exchanged : Option SessionEnd → List Take → List Reply → Type 0) (ps : List (List ℕ)) where
@@ -166,3 +169,18 @@ module _ (c : Config) (filed : ℕ → Option Advertisement) (exchanged : Option
       by (Network f) (inr k) = record { passed = ps; rest = p ∷ packets_of rest; parts = parts; sound = none_at_fault (Some bs) left r h.sound; ts = h.ts; rs = h.rs; serves = serves; leaves = inr k }
       by (Sink f) k = record { passed = ps; rest = p ∷ packets_of rest; parts = parts; sound = none_at_fault (Some bs) left r h.sound; ts = h.ts; rs = h.rs; serves = serves; leaves = k }
       by Failed k = absurd k
+
+-- ---- one packet
+
+pub sent_step : (c : Config) (ms : List (List ℕ)) (steps : List Step) (p : List ℕ) → sent_by c steps ++ sent_at c p (asked ms steps) ≡ sent_by c (Packet p ∷ asked ms steps)
+sent_step c ms steps p = ap (λ l. reverse l ++ sent_at c p (asked ms steps)) (sym (asked_cued c ms steps)) ∙ sym (reverse_onto (cued c (asked ms steps)) (sent_at c p (asked ms steps)))
+
+pub same_packets : (c : Config) (ms : List (List ℕ)) (steps : List Step) (p : List ℕ) → network_fault (purpose_of c) p (packets_in (asked ms steps)) ≡ None → network_fault (purpose_of c) p (packets_in steps) ≡ None
+same_packets c ms steps p = subst (λ q. network_fault (purpose_of c) p q ≡ None) (asked_packets ms steps)
+
+module _ {X : Type 0} (takes : X → Option (List Take)) (answers : X → Option (List Answer)) (old new : X) (lost : Bool) (c : Config) (ts : List Take) (n k : ℕ) (steps : List Step) (more : List Take) (rs : List Reply) where
+  pub hears_so : (i j : Injector) → Told (takes old) (takes new) more → Replied InjectorJudges i j (judged_before (n + length rs) (ts ++ more) k) rs lost (answers old) (answers new) → InjectorStandsFor i c steps
+      → Hears takes answers old new lost c ts n k steps more rs × InjectorStandsFor j c (heard_steps (ts ++ more) (n + length rs) k steps)
+  hears_so i j told replied s =
+      let done = asked_judged c (judged_before (n + length rs) (ts ++ more) k) rs i j steps replied.judged s in
+      (record { took = told; answered = replied.told; replies = done.1 }, done.0)

@@ -1,6 +1,6 @@
 -- Whole runs of the chain: what is put and answered, by the network's bytes, the library and what the automation gave; what a fault says, and
 -- what the devices did there.
-use Rattle.std.specs.Prelude.{◌≡◌, ℕ, suc, ◌⊎◌, List, [], ◌∷◌, ◌++◌, Option, None, Some, IfSome, length, reverse}
+use Rattle.std.specs.Prelude.{◌≡◌, ℕ, suc, ◌+◌, ◌⊎◌, Bool, List, [], ◌∷◌, ◌++◌, Option, None, Some, IfSome, length, reverse}
 use Rattle.ts_packet.specs.Packets.{packets_of}
 use Rattle.ts_packet.specs.Runs.{seen_after}
 use Rattle.ts_packet.specs.FirstFault.{SaysBy, first_of, fault_of, read_cause}
@@ -9,21 +9,26 @@ use Rattle.psi_section.specs.Assembling.{capped}
 use Rattle.psi_tables.specs.declared.config.Config.{Config}
 use Rattle.psi_tables.specs.declared.network.FeedFault.{FeedFault}
 use Rattle.psi_tables.specs.declared.network.FeedFault.TheVariants.{Network, Sink, Failed}
+use Rattle.program_follower.specs.Faults.{network_fault}
 use Rattle.program_follower.specs.FirstFault.{network_test}
 use Rattle.scte104_codec.specs.declared.reply.Reply.{Reply}
 use Rattle.outgoing_packets.specs.Numbers.{FrontFails}
-use Rattle.injector.specs.Steps.{Step, turns_in, purpose_of, sent_at, messages_in, accepted_in, refused_in}
+use Rattle.injector.specs.Injecting.{InjectorStandsFor}
+use Rattle.injector.specs.Steps.{Step, Packet, packets_in, turns_in, purpose_of, sent_at, messages_in, accepted_in, refused_in}
 use Rattle.ad_library.specs.Advertisements.{Advertisement}
 use Rattle.splice_plans.specs.Adverts.{setting_of}
 use Rattle.splice_plans.specs.Switching.{spliced_network}
 use Rattle.splice_plans.specs.Reporting as events
 use Rattle.splice_switch.specs.Standing.{FinishFails}
-use Rattle.chain_engine.specs.Automation.{Take}
-use Rattle.chain_engine.specs.Runs.{as_run_fault, first_fault, before_fault, steps_of, steps_before, sent_by, Serves}
+use Rattle.chain_engine.specs.Automation.{Take, Answer, Told}
+use Rattle.chain_engine.specs.Hearing.{answers_to}
+use Rattle.chain_engine.specs.Talks.{TalkStandsFor, judged_before, loses}
+use Rattle.chain_engine.specs.Runs.{as_run_fault, first_fault, before_fault, asked, steps_of, steps_before, replies_in, sent_by, Serves}
 use Rattle.chain_engine.specs.Splices as splices
-use Rattle.chain_engine.specs.Nested.{SwitchFails}
+use Rattle.chain_engine.specs.Nested.{WasFed, SwitchFails, PassFails}
 use Rattle.chain_engine.specs.declared.hearing.SessionEnd.{SessionEnd}
 use Rattle.chain_engine.specs.declared.report.Report.{Report}
+use Rattle.chain_engine.specs.declared.chain.Chain.{Chain}
 use Rattle.chain_engine.specs.declared.chain.RunFault.{RunFault}
 use Rattle.chain_engine.specs.declared.chain.RunFault.TheVariants.{Read, Feed}
 
@@ -111,3 +116,44 @@ pub record Stopped (c : Config) (filed : ℕ → Option Advertisement) (fault : 
 abbrev pub StopsAt : Config → (ℕ → Option Advertisement) → RunFault → Option (List ℕ) → (List (List ℕ) → Type 0)
     → (List (List ℕ) → List ℕ → PutFault → Type 0) → (Option SessionEnd → List Take → List Reply → Type 0) → Type 0
 StopsAt c filed fault input is_out fails exchanged = IfSome input (λ bs. Stopped c filed fault bs is_out fails exchanged)
+
+-- ---- one packet
+
+-- A chain has gone these steps by its configuration: with these takes so many replies were given, before so many packets; and what the steps
+-- send is out.
+pub record HasStepped {M : Type 0} (chain : Chain M) (filed : ℕ → Option Advertisement) (is_out : List (List ℕ) → Type 0)
+    (ts : List Take) (n k : ℕ) (steps : List Step) : Type 0 where
+  pub talk : TalkStandsFor chain.talk ts n k
+  pub injector : InjectorStandsFor chain.injector chain.config steps
+  pub switch : WasFed chain.switch chain.config filed is_out (sent_by chain.config steps)
+
+-- the steps before the next packet, where these takes and so many replies came
+abbrev pub heard_steps : List Take → ℕ → ℕ → List Step → List Step
+heard_steps ts n k steps = asked (judged_before n ts k) steps
+
+-- Before a packet these takes and replies came, each reply by the history; the last reply was lost, or none. The functions are an
+-- automation's.
+pub record Hears {X : Type 0} (takes : X → Option (List Take)) (answers : X → Option (List Answer)) (old new : X) (lost : Bool)
+    (c : Config) (ts : List Take) (n k : ℕ) (steps : List Step) (more : List Take) (rs : List Reply) : Type 0 where
+  pub took : Told (takes old) (takes new) more
+  pub answered : Told (answers old) (answers new) (answers_to lost rs)
+  pub replies : replies_in c (heard_steps (ts ++ more) (n + length rs) k steps) ≡ replies_in c steps ++ rs
+
+-- THE STEP: the automation was heard, and then the packet, which is without fault, was passed on
+pub record Stepped {M X : Type 0} (takes : X → Option (List Take)) (answers : X → Option (List Answer)) (before now : X) (old new : Chain M)
+    (filed : ℕ → Option Advertisement) (is_out : List (List ℕ) → Type 0) (ts : List Take) (n k : ℕ) (p : List ℕ) (steps : List Step) : Type 0 where
+  pub config : new.config ≡ old.config
+  pub more : List Take
+  pub rs : List Reply
+  pub hears : Hears takes answers before now (loses old.talk.end new.talk.end) old.config ts n k steps more rs
+  pub sound : network_fault (purpose_of old.config) p (packets_in steps) ≡ None
+  pub stands : HasStepped new filed is_out (ts ++ more) (n + length rs) (suc k) (Packet p ∷ heard_steps (ts ++ more) (n + length rs) k steps)
+
+-- the automation was heard, and then the packet was not passed on
+pub record StepStops {M X : Type 0} (takes : X → Option (List Take)) (answers : X → Option (List Answer)) (before now : X) (old new : Chain M) (fault : FeedFault)
+    (filed : ℕ → Option Advertisement) (is_out : List (List ℕ) → Type 0) (fails : List (List ℕ) → List ℕ → PutFault → Type 0)
+    (ts : List Take) (n k : ℕ) (p : List ℕ) (steps : List Step) : Type 0 where
+  pub more : List Take
+  pub rs : List Reply
+  pub hears : Hears takes answers before now (loses old.talk.end new.talk.end) old.config ts n k steps more rs
+  pub why : PassFails fault old.config filed p (heard_steps (ts ++ more) (n + length rs) k steps) (sent_by old.config steps) is_out fails

@@ -7,11 +7,12 @@ ghost use Rattle.program_follower.specs.Faults.{network_fault};
 ghost use Rattle.injector.specs.Injecting.{InjectorStandsFor};
 ghost use Rattle.injector.specs.Steps.{Step, Packet as PacketStep, packets_in, purpose_of, sent_at};
 ghost use Rattle.ad_library.specs.Library.{held};
+ghost use Rattle.chain_engine.specs.Automation.{Take};
 ghost use Rattle.chain_engine.specs.Chains.{ChainStandsFor};
 ghost use Rattle.chain_engine.specs.Runs.{Exchanged, OutputBlamed};
 ghost use Rattle.chain_engine.specs.Splices.{NetworkBlamed};
 ghost use Rattle.chain_engine.specs.Nested.{WasFed, PassFails};
-ghost use Rattle.chain_engine.specs.ChainRuns.{RunsAll, StopsAt};
+ghost use Rattle.chain_engine.specs.ChainRuns.{RunsAll, StopsAt, HasStepped, Stepped, StepStops};
 
 use crate::automation::Automation;
 use crate::chain::{Chain, RunFault};
@@ -150,16 +151,32 @@ impl<M: Allocator> Chain<M> {
         automation: &mut U,
         library: &AdLibrary,
         out: &mut K,
-    ) -> Result<(), FeedFault> {
+    ) -> Result<(), FeedFault>
+        ensures leads { K.leads out.old out.new }
+        ensures ok { (ts : List Take) (n k : ℕ) (steps : List Step) (start : Option (List ℕ)) (before : List (List ℕ))
+            → HasStepped self.old (held library.now) (λ qs. K.holds out.old start (before ++ qs)) ts n k steps
+            → OnOk result (Stepped U.takes U.answers automation.old automation.new self.old self.new (held library.now)
+            (λ qs. K.holds out.new start (before ++ qs)) ts n k packet.now steps) }
+        ensures err { (ts : List Take) (n k : ℕ) (steps : List Step) (start : Option (List ℕ)) (before : List (List ℕ))
+            → HasStepped self.old (held library.now) (λ qs. K.holds out.old start (before ++ qs)) ts n k steps
+            → IfErr result (λ f. StepStops U.takes U.answers automation.old automation.new self.old self.new f (held library.now)
+            (λ qs. K.holds out.new start (before ++ qs)) (λ qs q x. K.fails out.new start (before ++ qs) q x) ts n k packet.now steps) }
+        ensures well { OnOk result (WentWell (K.counts out.old) (K.counts out.new)) }
+        ensures blamed { IfErr result (λ f. OutputBlamed (RunFault.Feed f) (K.counts out.old) (K.counts out.new) (K.is_full out.new)) }
+    {
         self.talk.listen(&mut self.injector, automation);
-        pass_on(
+        let config = &self.config;
+        match pass_on(
             &mut self.injector,
             &mut self.switch,
-            &self.config,
+            config,
             packet,
             library,
             out,
-        )
+        ) {
+            Ok(()) => Ok(()),
+            Err(fault) => Err(fault),
+        }
     }
 }
 
