@@ -1,7 +1,7 @@
 -- A whole run of the chain, from its first packet to its end or its fault.
-use Rattle.std.specs.Prelude.{All, option_map}
+use Rattle.std.specs.Prelude.{option_map}
 use Rattle.std.specs.Io.KnownBytes.{IsAtEnd}
-use Rattle.std.proofs.Common.{◌≡◌, ℕ, ◌+◌, ◌≤◌, ◌⊎◌, Bool, false, suc, List, [], ◌∷◌, ◌++◌, length, reverse, Option, None, Some, refl, sym, ap, subst, ◌∙◌, inl, inr, arith, append_assoc}
+use Rattle.std.proofs.Common.{◌≡◌, ℕ, ◌+◌, Bool, false, suc, List, [], ◌∷◌, ◌++◌, length, reverse, Option, None, Some, sym, ap, subst, ◌∙◌, inl, inr, arith, append_assoc}
 use Rattle.std.proofs.lemmas.List.{append-nil, length-reverse}
 use Rattle.ts_packet.specs.Packets.{packets_of}
 use Rattle.ts_packet.specs.Sources.{Given, HasRead, Refuses}
@@ -11,7 +11,6 @@ use Rattle.ts_packet.specs.declared.sink.PutFault.{PutFault}
 use Rattle.ts_packet.proofs.FirstFaultLemmas.{sound_all}
 use Rattle.ts_packet.proofs.PacketsLemmas.{read_more, read_to_end, packets_of-append}
 use Rattle.psi_tables.specs.declared.config.Config.{Config}
-use Rattle.psi_tables.specs.declared.network.NetworkFault.{NetworkFault}
 use Rattle.psi_tables.specs.declared.network.FeedFault.{FeedFault}
 use Rattle.psi_tables.specs.declared.network.FeedFault.TheVariants.{Network, Sink, Failed}
 use Rattle.program_follower.specs.Faults.{network_fault}

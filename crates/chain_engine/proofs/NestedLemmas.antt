@@ -1,9 +1,9 @@
 -- A sink that feeds a switch: a packet is taken, or not; and what an injector before it learns.
 use Rattle.std.specs.Prelude.{IsSomeAnd, map}
-use Rattle.std.proofs.Common.{◌≡◌, ℕ, List, [], ◌∷◌, ◌++◌, length, take, drop, reverse, Bool, true, false, Option, None, Some, refl, sym, ap, subst, ◌∙◌, append_assoc, unwrap_or, inl, inr}
+use Rattle.std.proofs.Common.{◌≡◌, ℕ, List, [], ◌∷◌, ◌++◌, length, take, drop, reverse, Option, None, Some, refl, sym, ap, subst, ◌∙◌, append_assoc, unwrap_or, inl, inr}
 use Rattle.std.proofs.Math.Seq.{take-append_seam, drop-append_seam}
 use Rattle.std.proofs.Math.ListN.{length-map}
-use Rattle.std.proofs.lemmas.List.{append-nil, reverse-append}
+use Rattle.std.proofs.lemmas.List.{reverse-append}
 use Rattle.ts_packet.specs.declared.sink.PutFault.{PutFault}
 use Rattle.ts_packet.specs.declared.sink.PutFault.TheVariants as put_faults
 use Rattle.psi_tables.specs.declared.config.Config.{Config}

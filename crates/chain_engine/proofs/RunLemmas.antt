@@ -1,19 +1,18 @@
 -- A whole run with an automation, from its first packet to its end or its fault.
 use Rattle.std.specs.Prelude.{All, option_map}
 use Rattle.std.specs.Io.KnownBytes.{IsAtEnd}
-use Rattle.std.proofs.Common.{◌≡◌, ℕ, suc, ◌+◌, ◌≤◌, ◌<◌, Bool, true, false, List, [], ◌∷◌, ◌++◌, length, reverse, take, drop, Option, None, Some, refl, sym, ap, subst, ◌∙◌, arith, append_assoc, length-append}
+use Rattle.std.proofs.Common.{◌≡◌, ℕ, suc, ◌+◌, ◌≤◌, ◌<◌, Bool, true, false, List, [], ◌∷◌, ◌++◌, length, reverse, Option, None, Some, refl, sym, ap, subst, ◌∙◌, arith, append_assoc, length-append}
 use Rattle.std.specs.Option.{is_some}
-use Rattle.std.proofs.lemmas.List.{append-nil, reverse-append, length-reverse}
+use Rattle.std.proofs.lemmas.List.{reverse-append, length-reverse}
 use Rattle.std.proofs.lemmas.List.Elements.{All-nil}
-use Rattle.ts_packet.specs.Packets.{packets_of, packet_fault}
+use Rattle.ts_packet.specs.Packets.{packets_of}
 use Rattle.ts_packet.specs.Sources.{Given, HasRead, Refuses}
-use Rattle.ts_packet.specs.Runs.{Seen, seen_after, onto}
-use Rattle.ts_packet.specs.FirstFault.{fault_of, named, or_then, sound_front, Cause, OfInput, OfDevice, OfNothing, read_cause, SaysBy}
+use Rattle.ts_packet.specs.Runs.{Seen, seen_after}
+use Rattle.ts_packet.specs.FirstFault.{named, or_then, read_cause}
 use Rattle.ts_packet.specs.declared.reader.ReadFault.{ReadFault}
-use Rattle.ts_packet.specs.declared.reader.ReadFault.TheVariants as read_faults
 use Rattle.ts_packet.specs.declared.sink.PutFault.{PutFault}
-use Rattle.ts_packet.proofs.FirstFaultLemmas.{sound_all, sound_more, fault_behind_sound}
-use Rattle.ts_packet.proofs.PacketsLemmas.{read_more, read_all, read_before, read_to_end, packets_of-append}
+use Rattle.ts_packet.proofs.FirstFaultLemmas.{sound_more}
+use Rattle.ts_packet.proofs.PacketsLemmas.{read_more, read_to_end, packets_of-append}
 use Rattle.psi_tables.specs.declared.config.Config.{Config}
 use Rattle.psi_tables.specs.declared.network.FeedFault.{FeedFault}
 use Rattle.psi_tables.specs.declared.network.FeedFault.TheVariants.{Network, Sink, Failed}
@@ -36,7 +35,6 @@ use Rattle.chain_engine.specs.declared.hearing.SessionEnd.TheVariants.{Ended, Ta
 use Rattle.chain_engine.specs.declared.report.Report.{Report}
 use Rattle.chain_engine.specs.declared.talk.Talk.{Talk}
 use Rattle.chain_engine.specs.declared.chain.Chain.{Chain}
-use Rattle.chain_engine.specs.declared.chain.RunFault.{RunFault}
 use Rattle.chain_engine.specs.declared.chain.RunFault.TheVariants.{Read, Feed}
 use Rattle.chain_engine.proofs.StopLemmas.{both_said, reverse_onto, before_at, before_read}
 use Rattle.chain_engine.proofs.HearingLemmas.{told_none, told_more, answers_more}

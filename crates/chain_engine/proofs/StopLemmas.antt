@@ -1,6 +1,6 @@
 -- What a run that stops has passed on: the packets before the first fault of its network, for any purpose that the network is followed for.
 use Rattle.std.specs.Prelude.{All}
-use Rattle.std.proofs.Common.{◌≡◌, ℕ, ◌≤◌, false, List, [], ◌∷◌, ◌++◌, reverse, take, drop, Option, None, Some, sym, ap, ◌∙◌, append_assoc, length}
+use Rattle.std.proofs.Common.{◌≡◌, ℕ, ◌≤◌, false, List, [], ◌∷◌, ◌++◌, reverse, take, drop, None, Some, sym, ap, ◌∙◌, append_assoc, length}
 use Rattle.std.proofs.lemmas.List.{append-nil, reverse-append}
 use Rattle.ts_packet.specs.Packets.{packets_of, packet_fault}
 use Rattle.ts_packet.specs.Sources.{HasRead, Refuses}

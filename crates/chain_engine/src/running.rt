@@ -56,14 +56,21 @@ impl<K: PacketSink> PacketSink for Feeding<'_, K> {
 
     ghost leads_refl = { λ s. (refl, refl, refl, refl, K.leads_refl s.out.now, λ b. refl, FaultKept-refl _ _ _ _) };
 
-    ghost leads_trans = { λ s t u h k. (k.0 ∙ h.0, k.1 ∙ h.1, k.2 ∙ h.2, k.3 ∙ h.3, K.leads_trans s.out.now t.out.now u.out.now h.4 k.4,
-        λ b. k.5 (ap (λ w. w.switch.now.is_spent) (h.5 b) ∙ b) ∙ h.5 b,
-        FaultKept-trans s.fault t.fault u.fault t.switch.now.is_spent u.switch.now.is_spent (K.counts s.out.now) (K.counts t.out.now)
-        (K.counts u.out.now) (K.is_full t.out.now) (K.is_full u.out.now) h.6 k.6 (λ b. record {
-        fault = ap (λ w. w.fault) (k.5 b);
-        spent = ap (λ w. w.switch.now.is_spent) (k.5 b);
-        counts = ap (λ w. K.counts w.out.now) (k.5 b);
-        is_full = ap (λ w. K.is_full w.out.now) (k.5 b) })) };
+    ghost leads_trans = { λ s t u h k. (
+      k.0 ∙ h.0,
+      k.1 ∙ h.1,
+      k.2 ∙ h.2,
+      k.3 ∙ h.3,
+      K.leads_trans s.out.now t.out.now u.out.now h.4 k.4,
+      λ b. k.5 (ap (λ w. w.switch.now.is_spent) (h.5 b) ∙ b) ∙ h.5 b,
+      FaultKept-trans s.fault t.fault u.fault t.switch.now.is_spent u.switch.now.is_spent (K.counts s.out.now) (K.counts t.out.now)
+          (K.counts u.out.now) (K.is_full t.out.now) (K.is_full u.out.now) h.6 k.6 (λ b. record {
+            fault = ap (λ w. w.fault) (k.5 b);
+            spent = ap (λ w. w.switch.now.is_spent) (k.5 b);
+            counts = ap (λ w. K.counts w.out.now) (k.5 b);
+            is_full = ap (λ w. K.is_full w.out.now) (k.5 b);
+          }),
+    ) };
 
     ghost leads_later = { λ s t h. K.leads_later s.out.now t.out.now h.4 };
 

@@ -1,15 +1,14 @@
-use Rattle.std.proofs.Common.{ℕ, List, [], ◌∷◌, ◌++◌, inl, inr, sym, subst, append_assoc, rules}
+use Rattle.std.proofs.Common.{[], ◌∷◌, ◌++◌, inl, sym, subst, append_assoc}
 use Rattle.std.specs.Prelude.{reverse}
 use Rattle.std.proofs.lemmas.List.{append-nil}
 use Rattle.ts_packet.specs.Sources.{Refuses}
 use Rattle.ts_packet.proofs.CountLemmas.{well-refl, well-trans}
 use Rattle.ts_packet.proofs.RunBlameLemmas.{given_none, given_more}
-use Rattle.ts_packet.proofs.RunBlameLemmas.{on-refl, on-more, on-told, on-end}
+use Rattle.ts_packet.proofs.RunBlameLemmas.{on-refl, on-more, on-told}
 use Rattle.ad_library.specs.Library.{held}
 use Rattle.splice_plans.specs.Adverts.{setting_of}
 use Rattle.splice_plans.specs.Switching.{rest_at}
 use Rattle.splice_plans.specs.Reporting.{ReportIs, report_of}
-use Rattle.injector.specs.Steps.{sent_at}
 use Rattle.chain_engine.specs.Chains.{ChainStandsFor}
 use Rattle.chain_engine.specs.Runs.{Exchanged}
 use Rattle.chain_engine.specs.Splices as splices

@@ -56,7 +56,7 @@ loop-fault-preserved g c =
             (c.in-Ok.ensures.sound d (reverse ps) k.stands)
             (c.in-Ok.ensures.stands d (reverse ps) k.stands)
             (subst (g.K.PacketSink.holds c.feed.new.sink start) (append_assoc before (sent_by d filed ps) (switched_at_packet (setting_of d filed) p (reverse ps)))
-                (c.in-Ok.ensures.ok start (before ++ sent_by d filed ps) d (reverse ps) k.out k.stands)),
+            (c.in-Ok.ensures.ok start (before ++ sent_by d filed ps) d (reverse ps) k.out k.stands)),
       );
     }
 
@@ -82,7 +82,7 @@ returns-in-Ok-finish-clause-ok g c = λ start before h.
     let k = run start before h in
     ends d filed ps c.loop-fault.switch (λ qs. g.K.PacketSink.holds c.loop-fault.out start (before ++ qs)) (λ qs. g.K.PacketSink.holds c.finish.new.sink start (before ++ qs)) _ _ c.in-Ok-finish.report n.read r.0 k
     (subst (g.K.PacketSink.holds c.finish.new.sink start) (append_assoc before (sent_by d filed ps) (rest_at (setting_of d filed) (reverse ps)))
-        (c.in-Ok-finish.ensures.ok start (before ++ sent_by d filed ps) d (reverse ps) k.out k.stands))
+    (c.in-Ok-finish.ensures.ok start (before ++ sent_by d filed ps) d (reverse ps) k.out k.stands))
     (c.in-Ok-finish.ensures.report d (reverse ps) k.stands)
 
 pub returns-in-Err-finish-clause-err : goal.returns-in-Err-finish-clause-err
