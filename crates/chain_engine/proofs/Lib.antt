@@ -1,5 +1,9 @@
 pub mod HearingLemmas
 pub mod TalkLemmas
 pub mod StepsLemmas
+pub mod StopLemmas
 pub mod RunLemmas
+pub mod SpliceLemmas
+pub mod NestedLemmas
+pub mod ChainLemmas
 pub mod ForgetLemmas

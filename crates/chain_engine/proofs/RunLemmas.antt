@@ -1,19 +1,18 @@
 -- A whole run with an automation, from its first packet to its end or its fault.
 use Rattle.std.specs.Prelude.{All, option_map}
 use Rattle.std.specs.Io.KnownBytes.{IsAtEnd}
-use Rattle.std.proofs.Common.{◌≡◌, ℕ, suc, ◌+◌, ◌≤◌, ◌<◌, Bool, true, false, List, [], ◌∷◌, ◌++◌, length, reverse, take, drop, Option, None, Some, refl, sym, ap, subst, ◌∙◌, arith, append_assoc, length-append}
+use Rattle.std.proofs.Common.{◌≡◌, ℕ, suc, ◌+◌, ◌≤◌, ◌<◌, Bool, true, false, List, [], ◌∷◌, ◌++◌, length, reverse, Option, None, Some, refl, sym, ap, subst, ◌∙◌, arith, append_assoc, length-append}
 use Rattle.std.specs.Option.{is_some}
-use Rattle.std.proofs.lemmas.List.{append-nil, reverse-append, length-reverse}
+use Rattle.std.proofs.lemmas.List.{reverse-append, length-reverse}
 use Rattle.std.proofs.lemmas.List.Elements.{All-nil}
-use Rattle.ts_packet.specs.Packets.{packets_of, packet_fault}
+use Rattle.ts_packet.specs.Packets.{packets_of}
 use Rattle.ts_packet.specs.Sources.{Given, HasRead, Refuses}
-use Rattle.ts_packet.specs.Runs.{Seen, seen_after, onto}
-use Rattle.ts_packet.specs.FirstFault.{fault_of, named, or_then, sound_front, Cause, OfInput, OfDevice, OfNothing, read_cause, SaysBy}
+use Rattle.ts_packet.specs.Runs.{Seen, seen_after}
+use Rattle.ts_packet.specs.FirstFault.{named, or_then, read_cause}
 use Rattle.ts_packet.specs.declared.reader.ReadFault.{ReadFault}
-use Rattle.ts_packet.specs.declared.reader.ReadFault.TheVariants as read_faults
 use Rattle.ts_packet.specs.declared.sink.PutFault.{PutFault}
-use Rattle.ts_packet.proofs.FirstFaultLemmas.{sound_all, sound_more, fault_behind_sound}
-use Rattle.ts_packet.proofs.PacketsLemmas.{read_more, read_all, read_before, read_to_end, packets_of-append}
+use Rattle.ts_packet.proofs.FirstFaultLemmas.{sound_more}
+use Rattle.ts_packet.proofs.PacketsLemmas.{read_more, read_to_end, packets_of-append}
 use Rattle.psi_tables.specs.declared.config.Config.{Config}
 use Rattle.psi_tables.specs.declared.network.FeedFault.{FeedFault}
 use Rattle.psi_tables.specs.declared.network.FeedFault.TheVariants.{Network, Sink, Failed}
@@ -36,8 +35,8 @@ use Rattle.chain_engine.specs.declared.hearing.SessionEnd.TheVariants.{Ended, Ta
 use Rattle.chain_engine.specs.declared.report.Report.{Report}
 use Rattle.chain_engine.specs.declared.talk.Talk.{Talk}
 use Rattle.chain_engine.specs.declared.chain.Chain.{Chain}
-use Rattle.chain_engine.specs.declared.chain.RunFault.{RunFault}
 use Rattle.chain_engine.specs.declared.chain.RunFault.TheVariants.{Read, Feed}
+use Rattle.chain_engine.proofs.StopLemmas.{both_said, reverse_onto, before_at, before_read}
 use Rattle.chain_engine.proofs.HearingLemmas.{told_none, told_more, answers_more}
 use Rattle.chain_engine.proofs.TalkLemmas.{goes_closed, open_end}
 use Rattle.chain_engine.proofs.StepsLemmas.{steps_stay, none_asked, asked_cued, before_packets, asked_judged}
@@ -67,14 +66,9 @@ pub record HasHeard {M : Type 0} (c : Config) (injector : Injector) (talk : Talk
   pub out : is_out (sent_by c (steps_before (length rs) ts (reverse ps)))
 
 -- at most one take was made for each packet
-few_takes : (end : Option SessionEnd) (ts : List Take) (n k : ℕ) → HasTalked end ts n k → length ts ≤ k
+pub few_takes : (end : Option SessionEnd) (ts : List Take) (n k : ℕ) → HasTalked end ts n k → length ts ≤ k
 few_takes None ts n k t = omega (arith, t.0)
 few_takes (Some end) ts n k t = t.0
-
-both_said : (A B : Type 0) (cause : Cause) → SaysBy cause A → SaysBy cause B → SaysBy cause (A × B)
-both_said A B OfInput a b = (a, b)
-both_said A B OfDevice a b = tt
-both_said A B OfNothing a b = a
 
 -- ---- the begin
 
@@ -184,10 +178,6 @@ module _ {X : Type 0} (takes : X → Option (List Take)) (answers : X → Option
 
 -- ---- a packet is passed on
 
-reverse_onto : (past ps : List (List ℕ)) → reverse (onto past ps) ≡ reverse past ++ ps
-reverse_onto past [] = sym (append-nil (reverse past))
-reverse_onto past (p ∷ ps) = reverse_onto (p ∷ past) ps ∙ ap (λ l. l ++ ps) (reverse-append (p ∷ []) past) ∙ append_assoc (reverse past) (p ∷ []) ps
-
 module _ (c : Config) (exchanged : Option SessionEnd → List Take → List Reply → Type 0) (ps : List (List ℕ)) where
   pub passed : {M : Type 0} (injector injector' : Injector) (talk : Talk M) (is_out is_out' : List (List ℕ) → Type 0) (p : List ℕ) → HasHeard c injector talk is_out exchanged ps
       → ((steps : List Step) → InjectorStandsFor injector c steps → is_out (sent_by c steps)
@@ -227,30 +217,6 @@ module _ (c : Config) (exchanged : Option SessionEnd → List Take → List Repl
 
   -- ---- the network stops the run
 
-  abbrev AreSound : Type 0
-  AreSound = All (λ (s : Seen). network_test as_run_fault (purpose_of c) s ≡ None) (seen_after [] ps)
-
-  before_at : (bs p : List ℕ) (qs : List (List ℕ)) (f : RunFault) → packets_of bs ≡ ps ++ p ∷ qs → All (λ q. packet_fault q ≡ None) ps → AreSound
-      → fault_of Read (network_test as_run_fault (purpose_of c)) (record { packet = p; past = reverse ps }) ≡ Some f → before_fault c bs ≡ ps
-  before_at bs p qs f e a b at =
-      ap (λ l. sound_front (fault_of Read (network_test as_run_fault (purpose_of c))) (seen_after [] l)) e ∙ (fault_behind_sound Read (network_test as_run_fault (purpose_of c)) ps p qs f a b at).1
-
-  module _ (bs rest : List ℕ) (r : HasRead (Some bs) (Some rest) ps) (sound : AreSound) where
-    refused : (f : RunFault) → 188 ≤ length rest → named Read (packet_fault (take 188 rest)) ≡ Some f → before_fault c bs ≡ ps
-    refused f long e =
-        before_at bs (take 188 rest) (packets_of (drop 188 rest)) f (read_before (Some bs) (Some rest) ps r long) r.sound sound
-        (ap (λ o. or_then o (network_test as_run_fault (purpose_of c) (record { packet = take 188 rest; past = reverse ps }))) e)
-
-    before_read : (fault : ReadFault) → Refuses false (Some rest) fault → SaysBy (read_cause fault) (before_fault c bs ≡ ps)
-    before_read read_faults.Truncated k =
-        ap (λ l. sound_front (fault_of Read (network_test as_run_fault (purpose_of c))) (seen_after [] l)) (read_all (Some bs) (Some rest) ps r k.1).0
-        ∙ (sound_all Read (network_test as_run_fault (purpose_of c)) ps r.sound sound).1
-    before_read read_faults.SyncLost k = refused (Read read_faults.SyncLost) k.0 (ap (named Read) k.1)
-    before_read read_faults.BadAdaptation k = refused (Read read_faults.BadAdaptation) k.0 (ap (named Read) k.1)
-    before_read read_faults.Io k = tt
-    before_read read_faults.Turns k = tt
-    before_read read_faults.Failed k = absurd (cc)
-
   pub read_stops : {M : Type 0} (injector : Injector) (talk : Talk M) (is_out : List (List ℕ) → Type 0) (fails : List (List ℕ) → List ℕ → PutFault → Type 0) (input left : Option (List ℕ)) → HasRead input left ps
       → HasRun c injector talk is_out exchanged ps → (fault : ReadFault) → Refuses false left fault → StopsAt c (Read fault) input is_out fails exchanged
   read_stops injector talk is_out fails None left r h fault k = tt
@@ -262,7 +228,7 @@ module _ (c : Config) (exchanged : Option SessionEnd → List Take → List Repl
         passed = ps;
         rest = packets_of rest;
         parts = ap packets_of r.bytes ∙ packets_of-append ps rest r.sizes;
-        says = both_said (first_fault c bs ≡ Some (Read fault)) (before_fault c bs ≡ ps) (read_cause fault) (reader_stops Read (network_test as_run_fault (purpose_of c)) (Some bs) (Some rest) ps r h.sound fault k) (before_read bs rest r h.sound fault k);
+        says = both_said (first_fault c bs ≡ Some (Read fault)) (before_fault c bs ≡ ps) (read_cause fault) (reader_stops Read (network_test as_run_fault (purpose_of c)) (Some bs) (Some rest) ps r h.sound fault k) (before_read (purpose_of c) ps bs rest r h.sound fault k);
         ts = h.ts;
         rs = h.rs;
         serves = record { ending = talk.end; talked = h.talks.talked; exchanges = h.exchanges; replies = h.replies ∙ ap (replies_in c) (sym same) };
@@ -295,7 +261,7 @@ module _ (c : Config) (exchanged : Option SessionEnd → List Take → List Repl
             parts = parts;
             says = (
               packet_stops Read (network_test as_run_fault (purpose_of c)) (Some bs) left (Some rest) ps p (Feed (Network f)) r h.sound g test,
-              before_at bs p (packets_of rest) (Feed (Network f)) parts r.sound h.sound at,
+              before_at (purpose_of c) ps bs p (packets_of rest) (Feed (Network f)) parts r.sound h.sound at,
             );
             ts = h.ts;
             rs = h.rs;

@@ -4,3 +4,6 @@ pub mod Hearing
 pub mod Talks
 pub mod Chains
 pub mod Runs
+pub mod Splices
+pub mod Nested
+pub mod ChainRuns

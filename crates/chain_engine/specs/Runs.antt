@@ -16,6 +16,7 @@ use Rattle.program_follower.specs.FirstFault.{first_network_fault, before_networ
 use Rattle.scte104_codec.specs.declared.reply.Reply.{Reply}
 use Rattle.scte104_codec.specs.Reading.{message_of}
 use Rattle.outgoing_packets.specs.Numbers.{FrontFails}
+use Rattle.splice_plans.specs.declared.report.SwitchReport.{SwitchReport}
 use Rattle.injector.specs.Replies.{reply_to}
 use Rattle.injector.specs.Steps.{Step, Message, Packet, turns_in, purpose_of, cued, sent_at, messages_in, accepted_in}
 use Rattle.injector.specs.Steps.{refused_in}
@@ -50,11 +51,16 @@ replies_in c [] = []
 replies_in c (Message m ∷ past) = replies_in c past ++ reply_to c.index m (turns_in c.program past) ∷ []
 replies_in c (Packet p ∷ past) = replies_in c past
 
+-- of the events nothing is counted, since no switch runs
+abbrev pub no_events : SwitchReport
+no_events = record { played = 0; not_fitted = 0; unconditioned = 0; ignored = 0 }
+
 abbrev pub report_of : Config → List Step → Report
 report_of c steps = record {
   messages = capped (messages_in (turns_in c.program steps));
   accepted = capped (accepted_in c.index (turns_in c.program steps));
   refused = capped (refused_in c.index (turns_in c.program steps));
+  switch = no_events;
 }
 
 -- the packets that go out by them, in order

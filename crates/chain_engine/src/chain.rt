@@ -12,6 +12,7 @@ use crate::report::Report;
 use crate::talk::Talk;
 use injector::Injector;
 use psi_tables::{Config, FeedFault};
+use splice_switch::Switch;
 use std::alloc::{Allocator, Global};
 use thiserror::Error;
 use ts_packet::{Packet, PacketSink, PacketSource, ReadFault};
@@ -34,8 +35,10 @@ pub enum RunFault {
 /// 65,535 bytes for the automation's messages.
 #[derive(Drop)]
 pub struct Chain<M: Allocator = Global> {
-    talk: Talk<M>,
-    injector: Injector,
+    pub(crate) talk: Talk<M>,
+    pub(crate) injector: Injector,
+    pub(crate) switch: Switch,
+    pub(crate) config: Config,
 }
 
 impl Chain {
@@ -63,9 +66,12 @@ impl<M: Allocator + Copy> Chain<M> {
         let Ok(talk) = Talk::new_in(alloc) else {
             return Err(OutOfMemory);
         };
+        let given = &config;
         Ok(Chain {
             talk,
-            injector: Injector::new(config),
+            injector: Injector::new(*given),
+            switch: Switch::new(*given),
+            config: *given,
         })
     }
 }
@@ -106,6 +112,8 @@ pub fn run_inject<M: Allocator, P: PacketSource, U: Automation, K: PacketSink>(
     let Chain {
         mut talk,
         mut injector,
+        switch: _,
+        config: _,
     } = chain;
     let mut packet = Packet::null();
     loop {

@@ -11,6 +11,8 @@ mod chain;
 mod hearing;
 pub mod judge;
 mod report;
+mod running;
+mod splice;
 mod talk;
 #[cfg(test)]
 mod tests;
@@ -20,3 +22,5 @@ pub use chain::{Chain, OutOfMemory, RunFault, run_inject};
 pub use hearing::SessionEnd;
 pub use judge::Judge;
 pub use report::Report;
+pub use running::run;
+pub use splice::run_splice;

@@ -5,8 +5,10 @@ ghost use Rattle.psi_tables.specs.declared.config.Config.{Config};
 ghost use Rattle.injector.specs.Injecting.{CountsAre};
 ghost use Rattle.injector.specs.Steps.{Step, turns_in};
 ghost use Rattle.chain_engine.specs.Runs.{report_of};
+ghost use Rattle.chain_engine.specs.ChainRuns.{MessagesAre};
 
 use injector::MessageCounts;
+use splice_switch::SwitchReport;
 
 /// What a run counted. Each count stops at the greatest u64.
 #[derive(Clone, Copy, Debug, PartialEq, Eq, Drop)]
@@ -17,6 +19,8 @@ pub struct Report {
     pub accepted: u64,
     /// The multiple operations among them that were refused.
     pub refused: u64,
+    /// What became of the events that were cued; nothing is counted in a run without a switch.
+    pub switch: SwitchReport,
 }
 
 impl Report {
@@ -29,6 +33,18 @@ impl Report {
             messages: counts.messages,
             accepted: counts.accepted,
             refused: counts.refused,
+            switch: SwitchReport::new(),
         }
+    }
+
+    /// The report of a run in which the injector counted so, and the switch so.
+    pub(crate) fn of_chain(counts: MessageCounts, switch: SwitchReport) -> Report
+        ensures messages { (c : Config) (steps : List Step) → CountsAre counts c.index (turns_in c.program steps)
+            → MessagesAre result c steps }
+        ensures events { result.switch ≡ switch }
+    {
+        let mut report = Report::of(counts);
+        report.switch = switch;
+        report
     }
 }

@@ -8,7 +8,7 @@ use Rattle.unit_cut.specs.declared.run.CutFault.{CutFault}
 use Rattle.unit_cut.specs.declared.run.CutFault.TheVariants.{Read, Scrambled, HeaderSplit, TimeJump, Sink}
 use Rattle.packet_lines.specs.declared.lines.LinesFault.TheVariants.{BadLine, Cut}
 use Rattle.dpi_program.specs.declared.fault.ProgramFault.{ProgramFault}
-use Rattle.dpi_program.specs.declared.fault.ProgramFault.TheVariants.{Lines, Run, Script, Accept, Print, File}
+use Rattle.dpi_program.specs.declared.fault.ProgramFault.TheVariants.{Lines, Run, Script, List as OfList, Accept, Print, File}
 use Rattle.dpi_program.specs.declared.fault.ProgramFault.TheVariants.{OutOfMemory}
 use Rattle.chain_engine.specs.declared.chain.RunFault.{RunFault}
 use Rattle.chain_engine.specs.declared.chain.RunFault.TheVariants as run
@@ -17,6 +17,10 @@ use Rattle.psi_tables.specs.declared.network.NetworkFault.{NetworkFault}
 use Rattle.psi_tables.specs.declared.network.NetworkFault.TheVariants as network
 use Rattle.dpi_program.specs.declared.script.ScriptFault.{ScriptFault}
 use Rattle.dpi_program.specs.declared.script.ScriptFault.TheVariants as script
+use Rattle.ad_library.specs.declared.fault.AdFault.{AdFault}
+use Rattle.ad_library.specs.declared.fault.AdFault.TheVariants as ad
+use Rattle.dpi_program.specs.declared.ad_list.ListFault.{ListFault}
+use Rattle.dpi_program.specs.declared.ad_list.ListFault.TheVariants as list
 
 abbrev pub read_name : ReadFault → List ℕ
 read_name read.Truncated = codes "Truncated"
@@ -62,11 +66,38 @@ script_name script.Io = codes "Io"
 script_name script.Turns = codes "Turns"
 script_name script.OutOfMemory = codes "OutOfMemory"
 
+abbrev pub ad_name : AdFault → List ℕ
+ad_name ad.Exists = codes "Exists"
+ad_name ad.Many = codes "Many"
+ad_name (ad.Packets fault) = read_name fault
+ad_name ad.Io = codes "Io"
+ad_name ad.Large = codes "Large"
+ad_name ad.NoProgram = codes "NoProgram"
+ad_name ad.Sections = codes "Sections"
+ad_name ad.TooManyStreams = codes "TooManyStreams"
+ad_name ad.BadPids = codes "BadPids"
+ad_name ad.ProgramChanged = codes "ProgramChanged"
+ad_name ad.Scrambled = codes "Scrambled"
+ad_name ad.HeaderSplit = codes "HeaderSplit"
+ad_name ad.TimeJump = codes "TimeJump"
+ad_name ad.Loss = codes "Loss"
+ad_name ad.NoTime = codes "NoTime"
+ad_name ad.OutOfMemory = codes "OutOfMemory"
+
+abbrev pub list_name : ListFault → List ℕ
+list_name list.BadList = codes "BadList"
+list_name list.File = codes "File"
+list_name list.Io = codes "Io"
+list_name list.Turns = codes "Turns"
+list_name (list.Ad fault) = ad_name fault
+list_name list.OutOfMemory = codes "OutOfMemory"
+
 abbrev pub fault_name : ProgramFault → List ℕ
 fault_name (Lines BadLine) = codes "BadLine"
 fault_name (Lines (Cut fault)) = cut_name fault
 fault_name (Run fault) = run_name fault
 fault_name (Script fault) = script_name fault
+fault_name (OfList fault) = list_name fault
 fault_name Accept = codes "Accept"
 -- what prints failed, as a device
 fault_name Print = codes "Io"

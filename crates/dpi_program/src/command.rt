@@ -5,7 +5,8 @@ ghost use Rattle.dpi_program.specs.Numbers.{number_below};
 ghost use Rattle.dpi_program.specs.Command.{IsRefused};
 
 use crate::ends::End;
-use crate::inject_options::{INJECT_USAGE, inject_command};
+use crate::inject_options::{INJECT_USAGE, inject_command, run_command};
+use crate::splice_options::{SPLICE_USAGE, splice_command};
 use crate::numbers::number_below;
 use clap::{Arg, ArgAction, ArgMatches, Command};
 use pes_time::Time33;
@@ -86,6 +87,8 @@ pub enum NumberOption {
     CuePid,
     Index,
     Port,
+    SpliceProgram,
+    SpliceCuePid,
 }
 
 impl NumberOption {
@@ -97,6 +100,7 @@ impl NumberOption {
             | NumberOption::CuePid
             | NumberOption::Index
             | NumberOption::Port => INJECT_USAGE,
+            NumberOption::SpliceProgram | NumberOption::SpliceCuePid => SPLICE_USAGE,
         }
     }
 }
@@ -123,11 +127,11 @@ impl fmt::Display for NumberOption {
                 f,
                 "'--length <TICKS>': a length is a decimal number of 90 kHz ticks from 0 to 4294967295 (2^32 - 1)"
             ),
-            NumberOption::Program => write!(
+            NumberOption::Program | NumberOption::SpliceProgram => write!(
                 f,
                 "'--program <N>': a program's number is a decimal number from 1 to 65535"
             ),
-            NumberOption::CuePid => write!(
+            NumberOption::CuePid | NumberOption::SpliceCuePid => write!(
                 f,
                 "'--cue-pid <PID>': a PID for cues is a decimal number from 16 to 8190"
             ),
@@ -240,7 +244,9 @@ pub fn command<'a>(alloc: Global) -> Result<Command<'a>, AllocError> {
         .no_binary_name(true)
         .subcommand_required(true)
         .subcommand(cut_command(alloc)?)?
-        .subcommand(inject_command(alloc)?)
+        .subcommand(inject_command(alloc)?)?
+        .subcommand(splice_command(alloc)?)?
+        .subcommand(run_command(alloc)?)
 }
 
 /// The numbers of a cut: its PID, its start and its length. The first of them that is not in its range is answered.

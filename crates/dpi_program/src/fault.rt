@@ -1,9 +1,11 @@
 //! Why a run of the program stopped, and the name that is printed.
 
 ghost use Rattle.std.specs.Prelude.{◌≡◌};
-ghost use Rattle.dpi_program.specs.Names.{read_name, put_name, cut_name, network_name, run_name, script_name, fault_name};
+ghost use Rattle.dpi_program.specs.Names.{read_name, put_name, cut_name, network_name, run_name, script_name, ad_name, list_name, fault_name};
 
+use crate::ad_list::ListFault;
 use crate::script::ScriptFault;
+use ad_library::AdFault;
 use chain_engine::RunFault;
 use packet_lines::LinesFault;
 use psi_tables::{FeedFault, NetworkFault};
@@ -19,6 +21,8 @@ pub enum ProgramFault {
     Run(RunFault),
     /// The script was not loaded.
     Script(ScriptFault),
+    /// The list of the advertisements was not loaded.
+    List(ListFault),
     /// No automation system could connect.
     Accept,
     /// A reply or the report could not be printed.
@@ -109,6 +113,44 @@ fn script_name(fault: ScriptFault) -> &'static str
     }
 }
 
+/// The name of a fault of an advertisement.
+fn ad_name(fault: AdFault) -> &'static str
+    ensures { result.now ≡ ad_name fault }
+{
+    match fault {
+        AdFault::Exists => "Exists",
+        AdFault::Many => "Many",
+        AdFault::Packets(inner) => read_name(inner),
+        AdFault::Io => "Io",
+        AdFault::Large => "Large",
+        AdFault::NoProgram => "NoProgram",
+        AdFault::Sections => "Sections",
+        AdFault::TooManyStreams => "TooManyStreams",
+        AdFault::BadPids => "BadPids",
+        AdFault::ProgramChanged => "ProgramChanged",
+        AdFault::Scrambled => "Scrambled",
+        AdFault::HeaderSplit => "HeaderSplit",
+        AdFault::TimeJump => "TimeJump",
+        AdFault::Loss => "Loss",
+        AdFault::NoTime => "NoTime",
+        AdFault::OutOfMemory => "OutOfMemory",
+    }
+}
+
+/// The name of a list's fault.
+fn list_name(fault: ListFault) -> &'static str
+    ensures { result.now ≡ list_name fault }
+{
+    match fault {
+        ListFault::BadList => "BadList",
+        ListFault::File => "File",
+        ListFault::Io => "Io",
+        ListFault::Turns => "Turns",
+        ListFault::Ad(inner) => ad_name(inner),
+        ListFault::OutOfMemory => "OutOfMemory",
+    }
+}
+
 /// The innermost name of a fault.
 pub fn fault_name(fault: ProgramFault) -> &'static str
     ensures { result.now ≡ fault_name fault }
@@ -118,6 +160,7 @@ pub fn fault_name(fault: ProgramFault) -> &'static str
         ProgramFault::Lines(LinesFault::Cut(inner)) => cut_name(inner),
         ProgramFault::Run(inner) => run_name(inner),
         ProgramFault::Script(inner) => script_name(inner),
+        ProgramFault::List(inner) => list_name(inner),
         ProgramFault::Accept => "Accept",
         ProgramFault::Print => "Io",
         ProgramFault::File => "File",

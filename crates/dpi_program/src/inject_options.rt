@@ -14,13 +14,13 @@ use std::fmt;
 use ts_packet::Pid;
 
 /// The first number that two bytes do not hold.
-const NUMBER_LIMIT: u64 = 0x1_0000;
+pub(crate) const NUMBER_LIMIT: u64 = 0x1_0000;
 
 /// The first PID that is not reserved.
-const LEAST_PID: u64 = 0x10;
+pub(crate) const LEAST_PID: u64 = 0x10;
 
 /// The PID of null packets.
-const NULL_PID: u64 = 0x1FFF;
+pub(crate) const NULL_PID: u64 = 0x1FFF;
 
 const INJECT_ABOUT: &str =
     "Puts cues (SCTE 35) into a transport stream, as an automation asks for them (SCTE 104)";
@@ -82,6 +82,8 @@ pub struct InjectOptions<'a> {
     pub network: End<'a>,
     /// Where the messages come from.
     pub asking: Asking<'a>,
+    /// The list of the advertisements, where they are to be played.
+    pub adverts: Option<End<'a>>,
     /// What is written.
     pub output: End<'a>,
     /// Whether more is told than the fault's line.
@@ -112,6 +114,8 @@ pub enum BadInject<'a> {
     Asking,
     /// The network and the script are both standard input.
     Input,
+    /// Two of the network, the script and the list are standard input.
+    ListInput,
 }
 
 impl fmt::Display for BadInject<'_> {
@@ -125,6 +129,10 @@ impl fmt::Display for BadInject<'_> {
             BadInject::Input => write!(
                 f,
                 "error: '--network <FILE>' and '--script <FILE>' cannot both be standard input"
+            )?,
+            BadInject::ListInput => write!(
+                f,
+                "error: only one of '--network <FILE>', '--script <FILE>' and '--adverts <FILE>' can be standard input"
             )?,
         }
         write!(
@@ -272,7 +280,33 @@ pub fn inject_options<'a>(matches: &ArgMatches<'a>) -> Result<InjectOptions<'a>,
         config,
         network,
         asking,
+        adverts: None,
         output: End::named(matches.get_str("out")),
         is_verbose: matches.get_flag("verbose"),
     })
+}
+
+/// The subcommand `run`.
+pub fn run_command<'a>(alloc: Global) -> Result<Command<'a>, AllocError> {
+    let adverts = option(
+        alloc,
+        "adverts",
+        "FILE",
+        "The list of the advertisements, lines of a number, a space and a path; - is standard input",
+    )
+    .required(true);
+    inject_command(alloc)?.name("run").arg(adverts)
+}
+
+/// What the options of `run` say.
+pub fn run_options<'a>(matches: &ArgMatches<'a>) -> Result<InjectOptions<'a>, BadInject<'a>> {
+    let mut options = inject_options(matches)?;
+    let adverts = End::named(matches.get_str("adverts"));
+    if adverts == End::Standard
+        && (options.network == End::Standard || options.asking == Asking::Script(End::Standard))
+    {
+        return Err(BadInject::ListInput);
+    }
+    options.adverts = Some(adverts);
+    Ok(options)
 }

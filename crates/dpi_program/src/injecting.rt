@@ -13,12 +13,14 @@ use crate::ends::{Unopened, create_output, open_input};
 use crate::fault::ProgramFault;
 use crate::flushing::{finish, finish_buffer};
 use crate::inject_options::{Asking, InjectOptions};
-use crate::listening::{ListenFault, inject_listening};
+use crate::listening::{ListenFault, inject_listening, run_listening};
+use crate::splicing::open_library_at;
+use ad_library::AdLibrary;
 use crate::script::{Script, ScriptFault, load_into};
 use crate::script_text::Reading;
 use crate::tell::{CueAccount, Side, Stopped};
 use crate::watch::{Watch, Watched};
-use chain_engine::{Chain, Report, RunFault, run_inject};
+use chain_engine::{Chain, Report, RunFault, run, run_inject};
 use psi_tables::FeedFault;
 use std::alloc::{AllocError, Global};
 use std::fs::Metadata;
@@ -60,6 +62,7 @@ fn run_by<P, K, W, L>(
     chain: Chain,
     network: &mut P,
     asker: &mut Asker<W, L>,
+    library: Option<&AdLibrary>,
     out: &mut K,
 ) -> Result<Report, ListenFault>
 where
@@ -76,6 +79,15 @@ where
     ensures reads { P.leads network.old network.new }
     ensures leads { K.leads out.old out.new }
 {
+    if let Some(library) = library {
+        return match asker {
+            Asker::Script(script) => match run(chain, network, script, library, out) {
+                Ok(report) => Ok(report),
+                Err(fault) => Err(ListenFault::Run(fault)),
+            },
+            Asker::Port(listener) => run_listening(chain, network, listener, library, out),
+        };
+    }
     match asker {
         Asker::Script(script) => match run_inject(chain, network, script, out) {
             Ok(report) => Ok(report),
@@ -98,6 +110,7 @@ fn run_by_options<P, K, W, L>(
     chain: Chain,
     network: &mut P,
     asker: &mut Asker<W, L>,
+    library: Option<&AdLibrary>,
     out: &mut K,
 ) -> Passed
 where
@@ -114,7 +127,7 @@ where
     ensures leads { K.leads out.old out.new }
 {
     if !options.is_verbose {
-        let outcome = run_by(chain, network, asker, out);
+        let outcome = run_by(chain, network, asker, library, out);
         return Passed {
             outcome,
             seen: None,
@@ -123,7 +136,7 @@ where
     let cue_pid = options.config.cue_pid;
     let mut watched = Watched::new(network, cue_pid);
     let mut watched_out = Watched::new(out, cue_pid);
-    let outcome = run_by(chain, &mut watched, asker, &mut watched_out);
+    let outcome = run_by(chain, &mut watched, asker, library, &mut watched_out);
     let seen = Some((watched.seen(), watched_out.seen()));
     Passed { outcome, seen }
 }
@@ -142,6 +155,7 @@ fn run_to_packets<P, O, W, L>(
     chain: Chain,
     network: &mut P,
     asker: &mut Asker<W, L>,
+    library: Option<&AdLibrary>,
     output: O,
 ) -> Finished<O>
 where
@@ -157,7 +171,7 @@ where
 {
     let mut target = Device::new(Attended::new(output));
     let mut writer = PacketWriter::new(&mut target);
-    let Passed { outcome, seen } = run_by_options(options, chain, network, asker, &mut writer);
+    let Passed { outcome, seen } = run_by_options(options, chain, network, asker, library, &mut writer);
     let mut output = target.into_inner();
     let outcome = finish(outcome, &mut output, unflushed());
     Finished {
@@ -174,6 +188,7 @@ fn run_to_blocks<P, O, W, L>(
     chain: Chain,
     network: &mut P,
     asker: &mut Asker<W, L>,
+    library: Option<&AdLibrary>,
     output: O,
 ) -> Result<Finished<O>, AllocError>
 where
@@ -192,7 +207,7 @@ where
     };
     let mut target = Device::new(buffer);
     let mut writer = PacketWriter::new(&mut target);
-    let Passed { outcome, seen } = run_by_options(options, chain, network, asker, &mut writer);
+    let Passed { outcome, seen } = run_by_options(options, chain, network, asker, library, &mut writer);
     let (outcome, output) = finish_buffer(outcome, target.into_inner(), unflushed());
     Ok(Finished {
         outcome,
@@ -233,6 +248,7 @@ fn run_to<P, O, W, L>(
     chain: Chain,
     network: &mut P,
     asker: &mut Asker<W, L>,
+    library: Option<&AdLibrary>,
     output: O,
 ) -> Result<Ended, AllocError>
 where
@@ -245,9 +261,9 @@ where
     requires stands { ChainStandsFor chain options.now.config }
 {
     if is_live {
-        return Ok(let_go(run_to_packets(options, chain, network, asker, output)));
+        return Ok(let_go(run_to_packets(options, chain, network, asker, library, output)));
     }
-    match run_to_blocks(alloc, options, chain, network, asker, output) {
+    match run_to_blocks(alloc, options, chain, network, asker, library, output) {
         Ok(finished) => Ok(let_go(finished)),
         Err(error) => Err(error),
     }
@@ -256,6 +272,8 @@ where
 /// What a run that went through has done.
 #[derive(Clone, Copy, Debug)]
 pub struct Injected {
+    /// Whether advertisements were played.
+    pub plays: bool,
     /// What it counted.
     pub report: Report,
     /// What `--verbose` tells, where that was asked for.
@@ -323,7 +341,7 @@ fn told(
         read,
         written,
     });
-    Ok(Injected { report, account })
+    Ok(Injected { plays: false, report, account })
 }
 
 /// Runs from a reader.
@@ -333,6 +351,7 @@ fn run_from<R, O, W, L>(
     is_live: bool,
     input: R,
     asker: Asker<W, L>,
+    library: Option<AdLibrary>,
     output: O,
 ) -> Result<Injected, Stopped>
 where
@@ -358,6 +377,7 @@ where
         chain,
         &mut packets,
         &mut asker,
+        library.as_ref(),
         output,
     ) else {
         return Err(out_of_memory());
@@ -372,7 +392,10 @@ where
         writing: reason,
     };
     let cue_pid = options.config.cue_pid;
-    told(cue_pid, outcome, asker.has_lost_a_reply(), reasons, seen)
+    let has_lost_a_reply = asker.has_lost_a_reply();
+    let mut injected = told(cue_pid, outcome, has_lost_a_reply, reasons, seen)?;
+    injected.plays = options.adverts.is_some();
+    Ok(injected)
 }
 
 /// Loads a script.
@@ -441,6 +464,7 @@ fn run_ends<F, I, O, W, L>(
     input: &mut I,
     is_live: bool,
     asker: Asker<W, L>,
+    library: Option<AdLibrary>,
     output: O,
 ) -> Result<Injected, Stopped>
 where
@@ -452,8 +476,8 @@ where
     L::Stream: OpenStream + Read + Write + Drop,
 {
     match network {
-        Some(file) => run_from(alloc, options, is_live, file, asker, output),
-        None => run_from(alloc, options, is_live, input, asker, output),
+        Some(file) => run_from(alloc, options, is_live, file, asker, library, output),
+        None => run_from(alloc, options, is_live, input, asker, library, output),
     }
 }
 
@@ -479,18 +503,22 @@ where
         None => None,
     };
     let (asker, script) = open_asker(rt, options, input, replies)?;
+    let library = match options.adverts {
+        Some(adverts) => Some(open_library_at(rt, adverts, input)?.0),
+        None => None,
+    };
     let about = opened.as_ref().map(|(_, about)| about);
     let is_live = !about.is_some_and(|about| about.is_file());
     let alloc = rt.alloc();
     if let Some(standard) = standard {
         let network = opened.map(|(file, _)| file);
-        return run_ends(alloc, options, network, input, is_live, asker, standard);
+        return run_ends(alloc, options, network, input, is_live, asker, library, standard);
     }
     let path = options.output.path().unwrap_or("");
     match create_output(rt, path, about, script.as_ref()) {
         Ok(file) => {
             let network = opened.map(|(file, _)| file);
-            run_ends(alloc, options, network, input, is_live, asker, file)
+            run_ends(alloc, options, network, input, is_live, asker, library, file)
         }
         Err(reason) => Err(unopened(Unopened::Output(reason))),
     }

@@ -18,12 +18,14 @@ pub mod numbers;
 pub mod program;
 mod script;
 mod script_text;
+mod splice_options;
+mod splicing;
 mod tell;
 mod watch;
 
 pub use ad_list::{ListFault, load_list};
 pub use fault::ProgramFault;
-pub use listening::{ListenFault, inject_listening};
+pub use listening::{ListenFault, inject_listening, run_listening};
 pub use packet_lines::{LinesFault, cut_lines};
 pub use script::{Script, ScriptFault};
 pub use unit_cut::{CutFault, cut};

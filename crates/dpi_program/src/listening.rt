@@ -6,7 +6,8 @@ ghost use Rattle.chain_engine.specs.Chains.{ChainStandsFor};
 ghost use Rattle.dpi_program.specs.Runs.{CuesAll, CuesStop};
 
 use crate::connection::accept;
-use chain_engine::{Chain, Report, RunFault, run_inject};
+use ad_library::AdLibrary;
+use chain_engine::{Chain, Report, RunFault, run, run_inject};
 use std::alloc::Allocator;
 use std::io::{Read, Write};
 use std::net::{OpenListener, OpenStream};
@@ -50,6 +51,31 @@ where
         return Err(ListenFault::Accept);
     };
     match run_inject(chain, network, &mut connection, out) {
+        Ok(report) => Ok(report),
+        Err(fault) => Err(ListenFault::Run(fault)),
+    }
+}
+
+/// Waits for one client of the listener, and then runs [`run`] with it as the automation, likewise.
+pub fn run_listening<M, P, L, K>(
+    chain: Chain<M>,
+    network: &mut P,
+    listener: &L,
+    library: &AdLibrary,
+    out: &mut K,
+) -> Result<Report, ListenFault>
+where
+    M: Allocator,
+    P: PacketSource,
+    L: OpenListener,
+    L::Stream: OpenStream + Read + Write + Drop,
+    K: PacketSink,
+    requires { P.is_broken network.old ≡ false }
+{
+    let Some(mut connection) = accept(listener) else {
+        return Err(ListenFault::Accept);
+    };
+    match run(chain, network, &mut connection, library, out) {
         Ok(report) => Ok(report),
         Err(fault) => Err(ListenFault::Run(fault)),
     }

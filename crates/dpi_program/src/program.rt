@@ -6,10 +6,13 @@ ghost use Rattle.clap.specs.Values.{kind_of};
 use crate::command::{CutOptions, command, cut_options};
 use crate::cutting::run_cut;
 use crate::fault::{ProgramFault, fault_name};
-use crate::inject_options::{InjectOptions, inject_options};
+use crate::inject_options::{InjectOptions, inject_options, run_options};
 use crate::injecting::{Injected, run_inject_command};
+use crate::splice_options::{SpliceOptions, splice_options};
+use crate::splicing::run_splice_command;
 use crate::tell::{Side, Stopped, Trouble};
 use clap::Error;
+use splice_plans::SwitchReport;
 use clap::error::ErrorKind;
 use std::io::{Read, Write};
 use std::net::Net;
@@ -57,7 +60,10 @@ fn print_report<W: Write>(printed: &mut W, injected: &Injected) -> bool {
         printed,
         "messages {messages}\naccepted {accepted}\nrefused {refused}\n"
     );
-    text.is_ok() && printed.flush().is_ok()
+    if text.is_err() || !injected.plays {
+        return text.is_ok() && printed.flush().is_ok();
+    }
+    print_switched(printed, &injected.report.switch)
 }
 
 /// Prints the fault's line of a run with cues, and behind it what is known of it where that is asked for.
@@ -71,6 +77,7 @@ fn report_inject<E: Write>(faults: &mut E, options: &InjectOptions<'_>, stopped:
             Side::Writing => options.output.output_name(),
             Side::Scripting => options.asking_name(),
             Side::Listening => options.asking_name(),
+            Side::Filing => "the list",
             Side::Printing => "the standard stream",
         };
         let trouble = Trouble { stopped, name };
@@ -107,6 +114,67 @@ where
         return report(faults, ProgramFault::Print);
     }
     if let Some(account) = injected.account {
+        let _ = write!(faults, "{account}");
+    }
+    DONE
+}
+
+/// Prints the report of a switch, and answers whether it is out.
+fn print_switched<W: Write>(printed: &mut W, report: &SwitchReport) -> bool {
+    let (played, not_fitted) = (report.played, report.not_fitted);
+    let (unconditioned, ignored) = (report.unconditioned, report.ignored);
+    let text = write!(
+        printed,
+        "played {played}\nnot-fitted {not_fitted}\nunconditioned {unconditioned}\nignored {ignored}\n"
+    );
+    text.is_ok() && printed.flush().is_ok()
+}
+
+/// Prints the fault's line of a run with advertisements, and behind it what is known of it where that is asked for.
+fn report_splice<E: Write>(faults: &mut E, options: &SpliceOptions<'_>, stopped: &Stopped) -> u8
+    ensures { result ≡ 1 }
+{
+    let status = report(faults, stopped.fault);
+    if options.is_verbose && stopped.fault != ProgramFault::OutOfMemory {
+        let name = match stopped.side {
+            Side::Reading => options.network.input_name(),
+            Side::Writing => options.output.output_name(),
+            _ => options.adverts.input_name(),
+        };
+        let trouble = Trouble { stopped, name };
+        let _ = write!(faults, "{trouble}");
+    }
+    status
+}
+
+/// Runs `splice`, and answers the exit status.
+fn splice<R, I, O, E>(
+    rt: &R,
+    options: &SpliceOptions<'_>,
+    input: &mut I,
+    output: &mut O,
+    faults: &mut E,
+) -> u8
+where
+    R: Files + AllocGlobal,
+    I: Read,
+    O: Write,
+    E: Write,
+    ensures { result ≤ 1 }
+{
+    let spliced = match run_splice_command(rt, options, input, output) {
+        Ok(spliced) => spliced,
+        Err(stopped) => return report_splice(faults, options, &stopped),
+    };
+    let is_out = if options.has_standard_output() {
+        print_switched(faults, &spliced.report)
+    } else {
+        print_switched(output, &spliced.report)
+    };
+    if !is_out {
+        return report(faults, ProgramFault::Print);
+    }
+    if let Some(account) = spliced.account {
         let _ = write!(faults, "{account}");
     }
     DONE
@@ -174,9 +242,27 @@ where
         Ok(matches) => matches,
         Err(error) => return answer(faults, &error),
     };
+    if let Some(given) = matches.subcommand_matches("run") {
+        return match run_options(given) {
+            Ok(options) => inject(rt, &options, input, output, faults),
+            Err(bad) => {
+                let _ = write!(faults, "{bad}");
+                USAGE
+            }
+        };
+    }
     if let Some(given) = matches.subcommand_matches("inject") {
         return match inject_options(given) {
             Ok(options) => inject(rt, &options, input, output, faults),
+            Err(bad) => {
+                let _ = write!(faults, "{bad}");
+                USAGE
+            }
+        };
+    }
+    if let Some(given) = matches.subcommand_matches("splice") {
+        return match splice_options(given) {
+            Ok(options) => splice(rt, &options, input, output, faults),
             Err(bad) => {
                 let _ = write!(faults, "{bad}");
                 USAGE

@@ -20,6 +20,8 @@ pub enum Side {
     Scripting,
     /// It waited for an automation system.
     Listening,
+    /// It loaded the list of the advertisements.
+    Filing,
     /// It printed replies or the report.
     Printing,
 }
@@ -129,6 +131,7 @@ impl fmt::Display for Trouble<'_> {
             Side::Writing => write!(f, "writing {name}")?,
             Side::Scripting => write!(f, "reading the script {name}")?,
             Side::Listening => write!(f, "listening on {name}")?,
+            Side::Filing => write!(f, "loading the list {name}")?,
             Side::Printing => write!(f, "printing to {name}")?,
         }
         self.write_place(f)?;
@@ -184,5 +187,21 @@ impl fmt::Display for CueAccount {
             f,
             "inject: {cues} cues on {pid}, {read} packets read, {written} written"
         )
+    }
+}
+
+/// What a run with advertisements that went through has done.
+#[derive(Clone, Copy, Debug)]
+pub struct SpliceAccount {
+    /// What was read.
+    pub read: Watch,
+    /// What was written.
+    pub written: Watch,
+}
+
+impl fmt::Display for SpliceAccount {
+    fn fmt<W: fmt::Write>(&self, f: &mut fmt::Formatter<W>) -> fmt::Result {
+        let (read, written) = (self.read.packets(), self.written.packets());
+        writeln!(f, "splice: {read} packets read, {written} written")
     }
 }

@@ -75,6 +75,7 @@ impl Switch {
         ensures kept { IfErr result (λ f. KeepsSink f sink.old sink.new) }
         ensures failed { self.old.is_spent ≡ true → result ≡ Err FeedFault.Failed }
         ensures spent { self.new.is_spent ≡ is_err_or result self.old.is_spent }
+        ensures unchanged { self.old.is_spent ≡ true → self.new ≡ self.old }
     {
         if self.is_spent {
             return Err(FeedFault::Failed);

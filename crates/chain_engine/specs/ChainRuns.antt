@@ -1,0 +1,159 @@
+-- Whole runs of the chain: what is put and answered, by the network's bytes, the library and what the automation gave; what a fault says, and
+-- what the devices did there.
+use Rattle.std.specs.Prelude.{◌≡◌, ℕ, suc, ◌+◌, ◌⊎◌, Bool, List, [], ◌∷◌, ◌++◌, Option, None, Some, IfSome, length, reverse}
+use Rattle.ts_packet.specs.Packets.{packets_of}
+use Rattle.ts_packet.specs.Runs.{seen_after}
+use Rattle.ts_packet.specs.FirstFault.{SaysBy, first_of, fault_of, read_cause}
+use Rattle.ts_packet.specs.declared.sink.PutFault.{PutFault}
+use Rattle.psi_section.specs.Assembling.{capped}
+use Rattle.psi_tables.specs.declared.config.Config.{Config}
+use Rattle.psi_tables.specs.declared.network.FeedFault.{FeedFault}
+use Rattle.psi_tables.specs.declared.network.FeedFault.TheVariants.{Network, Sink, Failed}
+use Rattle.program_follower.specs.Faults.{network_fault}
+use Rattle.program_follower.specs.FirstFault.{network_test}
+use Rattle.scte104_codec.specs.declared.reply.Reply.{Reply}
+use Rattle.outgoing_packets.specs.Numbers.{FrontFails}
+use Rattle.injector.specs.Injecting.{InjectorStandsFor}
+use Rattle.injector.specs.Steps.{Step, Packet, packets_in, turns_in, purpose_of, sent_at, messages_in, accepted_in, refused_in}
+use Rattle.ad_library.specs.Advertisements.{Advertisement}
+use Rattle.splice_plans.specs.Adverts.{setting_of}
+use Rattle.splice_plans.specs.Switching.{spliced_network}
+use Rattle.splice_plans.specs.Reporting as events
+use Rattle.splice_switch.specs.Standing.{FinishFails}
+use Rattle.chain_engine.specs.Automation.{Take, Answer, Told}
+use Rattle.chain_engine.specs.Hearing.{answers_to}
+use Rattle.chain_engine.specs.Talks.{TalkStandsFor, judged_before, loses}
+use Rattle.chain_engine.specs.Runs.{as_run_fault, first_fault, before_fault, asked, steps_of, steps_before, replies_in, sent_by, Serves}
+use Rattle.chain_engine.specs.Splices as splices
+use Rattle.chain_engine.specs.Nested.{WasFed, SwitchFails, PassFails}
+use Rattle.chain_engine.specs.declared.hearing.SessionEnd.{SessionEnd}
+use Rattle.chain_engine.specs.declared.report.Report.{Report}
+use Rattle.chain_engine.specs.declared.chain.Chain.{Chain}
+use Rattle.chain_engine.specs.declared.chain.RunFault.{RunFault}
+use Rattle.chain_engine.specs.declared.chain.RunFault.TheVariants.{Read, Feed}
+
+-- THE OUTPUT of these steps, in order: what the switch sends by what the injector sends
+abbrev pub spliced_by : Config → (ℕ → Option Advertisement) → List Step → List (List ℕ)
+spliced_by c filed steps = splices.sent_by c filed (sent_by c steps)
+
+-- ---- the report
+
+-- the messages of these steps, counted; each count stops at the greatest u64
+pub record MessagesAre (report : Report) (c : Config) (steps : List Step) : Type 0 where
+  pub messages : report.messages ≡ capped (messages_in (turns_in c.program steps))
+  pub accepted : report.accepted ≡ capped (accepted_in c.index (turns_in c.program steps))
+  pub refused : report.refused ≡ capped (refused_in c.index (turns_in c.program steps))
+
+-- and the events that the switch was cued
+pub record Counted (report : Report) (c : Config) (filed : ℕ → Option Advertisement) (steps : List Step) : Type 0 where
+  pub messages : MessagesAre report c steps
+  pub events : events.ReportIs report.switch (events.report_of (setting_of c filed) (reverse (sent_by c steps)))
+
+-- ---- the theorems
+
+-- THE THEOREM: the network's bytes have no fault; out is the spliced network of the cued stream, which is that of the network and of the
+-- requests that were accepted; the replies are those to the messages of all pieces joined; and the report counts messages and events.
+-- `is_out` says of packets that they stand behind what was there.
+pub record Ran (c : Config) (filed : ℕ → Option Advertisement) (bs : List ℕ) (is_out : List (List ℕ) → Type 0)
+    (exchanged : Option SessionEnd → List Take → List Reply → Type 0) (report : Report) : Type 0 where
+  pub sound : first_fault c bs ≡ None
+  pub ts : List Take
+  pub rs : List Reply
+  pub serves : Serves c exchanged ts rs (length (packets_of bs)) (steps_of (length rs) ts (reverse (packets_of bs)))
+  pub written : is_out (spliced_network (setting_of c filed) (sent_by c (steps_of (length rs) ts (reverse (packets_of bs)))))
+  pub counted : Counted report c filed (steps_of (length rs) ts (reverse (packets_of bs)))
+
+abbrev pub RunsAll : Config → (ℕ → Option Advertisement) → Option (List ℕ) → (List (List ℕ) → Type 0)
+    → (Option SessionEnd → List Take → List Reply → Type 0) → Report → Type 0
+RunsAll c filed input is_out exchanged report = IfSome input (λ bs. Ran c filed bs is_out exchanged report)
+
+-- ---- faults
+
+-- none of these packets is at fault behind those before it
+abbrev pub AreSound : Config → List (List ℕ) → Type 0
+AreSound c ps = first_of (fault_of Read (network_test as_run_fault (purpose_of c))) (seen_after [] ps) ≡ None
+
+-- The automation is heard before a packet that is not passed on, and not where none was read.
+abbrev pub heard_at : RunFault → List (List ℕ) → ℕ → ℕ
+heard_at (Read fault) rest k = k
+heard_at (Feed fault) [] k = k
+heard_at (Feed fault) (p ∷ more) k = suc k
+
+-- The switch stopped so behind these steps, with these packets left: at one of the packets that the injector sends for the next one, or,
+-- where all packets of a network without a fault are passed, at what was left at the end.
+abbrev pub SwitchStops : FeedFault → Config → (ℕ → Option Advertisement) → List ℕ → List Step → List (List ℕ) → (List (List ℕ) → Type 0)
+    → (List (List ℕ) → List ℕ → PutFault → Type 0) → Type 0
+SwitchStops fault c filed bs steps [] is_out fails =
+    (first_fault c bs ≡ None) × FinishFails fault c filed (reverse (sent_by c steps)) (λ put q x. fails (spliced_by c filed steps ++ put) q x)
+SwitchStops fault c filed bs steps (p ∷ more) is_out fails =
+    FrontFails (sent_at c p steps) (λ put q. SwitchFails fault c filed q (sent_by c steps ++ put) is_out fails)
+
+-- What a fault says, and what is out: a fault of the network is the first one of its bytes, the packets before it were passed on, and all
+-- that they send is out; or the switch stopped.
+abbrev pub Leaves : RunFault → Config → (ℕ → Option Advertisement) → List ℕ → List Step → List (List ℕ) → List (List ℕ)
+    → (List (List ℕ) → Type 0) → (List (List ℕ) → List ℕ → PutFault → Type 0) → Type 0
+Leaves (Read fault) c filed bs steps passed rest is_out fails =
+    SaysBy (read_cause fault) ((first_fault c bs ≡ Some (Read fault)) × (before_fault c bs ≡ passed)) × is_out (spliced_by c filed steps)
+Leaves (Feed (Network fault)) c filed bs steps passed rest is_out fails =
+    ((first_fault c bs ≡ Some (Feed (Network fault))) × (before_fault c bs ≡ passed) × is_out (spliced_by c filed steps))
+    ⊎ SwitchStops (Network fault) c filed bs steps rest is_out fails
+Leaves (Feed (Sink fault)) c filed bs steps passed rest is_out fails = SwitchStops (Sink fault) c filed bs steps rest is_out fails
+Leaves (Feed Failed) c filed bs steps passed rest is_out fails = ⊥
+
+-- THE THEOREM FOR FAULTS: none of the packets that were passed on is at fault; and what is out and answered is that of these packets, and of
+-- the messages before the next.
+pub record Stopped (c : Config) (filed : ℕ → Option Advertisement) (fault : RunFault) (bs : List ℕ) (is_out : List (List ℕ) → Type 0)
+    (fails : List (List ℕ) → List ℕ → PutFault → Type 0) (exchanged : Option SessionEnd → List Take → List Reply → Type 0) : Type 0 where
+  pub passed : List (List ℕ)
+  pub rest : List (List ℕ)
+  pub parts : packets_of bs ≡ passed ++ rest
+  pub sound : AreSound c passed
+  pub ts : List Take
+  pub rs : List Reply
+  pub serves : Serves c exchanged ts rs (heard_at fault rest (length passed)) (steps_before (length rs) ts (reverse passed))
+  pub leaves : Leaves fault c filed bs (steps_before (length rs) ts (reverse passed)) passed rest is_out fails
+
+abbrev pub StopsAt : Config → (ℕ → Option Advertisement) → RunFault → Option (List ℕ) → (List (List ℕ) → Type 0)
+    → (List (List ℕ) → List ℕ → PutFault → Type 0) → (Option SessionEnd → List Take → List Reply → Type 0) → Type 0
+StopsAt c filed fault input is_out fails exchanged = IfSome input (λ bs. Stopped c filed fault bs is_out fails exchanged)
+
+-- ---- one packet
+
+-- A chain has gone these steps by its configuration: with these takes so many replies were given, before so many packets; and what the steps
+-- send is out.
+pub record HasStepped {M : Type 0} (chain : Chain M) (filed : ℕ → Option Advertisement) (is_out : List (List ℕ) → Type 0)
+    (ts : List Take) (n k : ℕ) (steps : List Step) : Type 0 where
+  pub talk : TalkStandsFor chain.talk ts n k
+  pub injector : InjectorStandsFor chain.injector chain.config steps
+  pub switch : WasFed chain.switch chain.config filed is_out (sent_by chain.config steps)
+
+-- the steps before the next packet, where these takes and so many replies came
+abbrev pub heard_steps : List Take → ℕ → ℕ → List Step → List Step
+heard_steps ts n k steps = asked (judged_before n ts k) steps
+
+-- Before a packet these takes and replies came, each reply by the history; the last reply was lost, or none. The functions are an
+-- automation's.
+pub record Hears {X : Type 0} (takes : X → Option (List Take)) (answers : X → Option (List Answer)) (old new : X) (lost : Bool)
+    (c : Config) (ts : List Take) (n k : ℕ) (steps : List Step) (more : List Take) (rs : List Reply) : Type 0 where
+  pub took : Told (takes old) (takes new) more
+  pub answered : Told (answers old) (answers new) (answers_to lost rs)
+  pub replies : replies_in c (heard_steps (ts ++ more) (n + length rs) k steps) ≡ replies_in c steps ++ rs
+
+-- THE STEP: the automation was heard, and then the packet, which is without fault, was passed on
+pub record Stepped {M X : Type 0} (takes : X → Option (List Take)) (answers : X → Option (List Answer)) (before now : X) (old new : Chain M)
+    (filed : ℕ → Option Advertisement) (is_out : List (List ℕ) → Type 0) (ts : List Take) (n k : ℕ) (p : List ℕ) (steps : List Step) : Type 0 where
+  pub config : new.config ≡ old.config
+  pub more : List Take
+  pub rs : List Reply
+  pub hears : Hears takes answers before now (loses old.talk.end new.talk.end) old.config ts n k steps more rs
+  pub sound : network_fault (purpose_of old.config) p (packets_in steps) ≡ None
+  pub stands : HasStepped new filed is_out (ts ++ more) (n + length rs) (suc k) (Packet p ∷ heard_steps (ts ++ more) (n + length rs) k steps)
+
+-- the automation was heard, and then the packet was not passed on
+pub record StepStops {M X : Type 0} (takes : X → Option (List Take)) (answers : X → Option (List Answer)) (before now : X) (old new : Chain M) (fault : FeedFault)
+    (filed : ℕ → Option Advertisement) (is_out : List (List ℕ) → Type 0) (fails : List (List ℕ) → List ℕ → PutFault → Type 0)
+    (ts : List Take) (n k : ℕ) (p : List ℕ) (steps : List Step) : Type 0 where
+  pub more : List Take
+  pub rs : List Reply
+  pub hears : Hears takes answers before now (loses old.talk.end new.talk.end) old.config ts n k steps more rs
+  pub why : PassFails fault old.config filed p (heard_steps (ts ++ more) (n + length rs) k steps) (sent_by old.config steps) is_out fails

@@ -1,0 +1,246 @@
+//! Whole runs of the chain: the cues that the injector puts in are obeyed by the switch, in one pass over the network.
+
+ghost use Rattle.std.specs.Prelude.{◌≡◌, ℕ, ◌⊎◌, List, ◌∷◌, ◌++◌, Option, None, Err, false, OnOk, IfOk, IfErr};
+ghost use Rattle.ts_packet.specs.Sources.{SourceCounts, Stalled, Exhausted};
+ghost use Rattle.ts_packet.specs.Transfers.{WentWell};
+ghost use Rattle.program_follower.specs.Faults.{network_fault};
+ghost use Rattle.injector.specs.Injecting.{InjectorStandsFor};
+ghost use Rattle.injector.specs.Steps.{Step, Packet as PacketStep, packets_in, purpose_of, sent_at};
+ghost use Rattle.ad_library.specs.Library.{held};
+ghost use Rattle.chain_engine.specs.Automation.{Take};
+ghost use Rattle.chain_engine.specs.Chains.{ChainStandsFor};
+ghost use Rattle.chain_engine.specs.Runs.{Exchanged, OutputBlamed};
+ghost use Rattle.chain_engine.specs.Splices.{NetworkBlamed};
+ghost use Rattle.chain_engine.specs.Nested.{WasFed, PassFails};
+ghost use Rattle.chain_engine.specs.ChainRuns.{RunsAll, StopsAt, HasStepped, Stepped, StepStops};
+
+use crate::automation::Automation;
+use crate::chain::{Chain, RunFault};
+use crate::report::Report;
+use ad_library::AdLibrary;
+use injector::Injector;
+use psi_tables::{Config, FeedFault};
+use splice_switch::Switch;
+use std::alloc::Allocator;
+use ts_packet::{Packet, PacketSink, PacketSource, PutFault, ReadFault};
+
+/// A sink that feeds a switch. It keeps the fault of the switch, and answers `Failed` from then on.
+struct Feeding<'a, K: PacketSink> {
+    switch: &'a mut Switch,
+    config: Config,
+    library: &'a AdLibrary,
+    out: &'a mut K,
+    fault: Option<FeedFault>,
+}
+
+impl<K: PacketSink> PacketSink for Feeding<'_, K> {
+    ghost use Rattle.std.specs.Prelude.{◌≡◌, true};
+    ghost use Rattle.std.proofs.Common.{refl, ap, ◌∙◌};
+    ghost use Rattle.ad_library.specs.Library.{held};
+    ghost use Rattle.chain_engine.specs.Nested.{FeedingHolds, FeedingFails, FaultKept, FaultKept-refl, FaultKept-trans};
+
+    ghost holds = { λ g start ps. FeedingHolds K.holds g.switch.now g.config (held g.library.now) g.out.now start ps };
+
+    ghost fails = { λ g start ps p f. FeedingFails K.holds K.fails g.fault g.config (held g.library.now) g.out.now start ps p f };
+
+    ghost is_broken = { λ g. g.switch.now.is_spent };
+
+    ghost counts = { λ g. K.counts g.out.now };
+
+    ghost is_full = { λ g. K.is_full g.out.now };
+
+    ghost leads = { λ g h. (h.switch.ghost_name ≡ g.switch.ghost_name) × (h.out.ghost_name ≡ g.out.ghost_name)
+        × (h.library.now ≡ g.library.now) × (h.config ≡ g.config) × K.leads g.out.now h.out.now
+        × (g.switch.now.is_spent ≡ true → h ≡ g)
+        × FaultKept g.fault h.fault h.switch.now.is_spent (K.counts g.out.now) (K.counts h.out.now) (K.is_full h.out.now) };
+
+    ghost leads_refl = { λ s. (refl, refl, refl, refl, K.leads_refl s.out.now, λ b. refl, FaultKept-refl _ _ _ _) };
+
+    ghost leads_trans = { λ s t u h k. (
+      k.0 ∙ h.0,
+      k.1 ∙ h.1,
+      k.2 ∙ h.2,
+      k.3 ∙ h.3,
+      K.leads_trans s.out.now t.out.now u.out.now h.4 k.4,
+      λ b. k.5 (ap (λ w. w.switch.now.is_spent) (h.5 b) ∙ b) ∙ h.5 b,
+      FaultKept-trans s.fault t.fault u.fault t.switch.now.is_spent u.switch.now.is_spent (K.counts s.out.now) (K.counts t.out.now)
+          (K.counts u.out.now) (K.is_full t.out.now) (K.is_full u.out.now) h.6 k.6 (λ b. record {
+            fault = ap (λ w. w.fault) (k.5 b);
+            spent = ap (λ w. w.switch.now.is_spent) (k.5 b);
+            counts = ap (λ w. K.counts w.out.now) (k.5 b);
+            is_full = ap (λ w. K.is_full w.out.now) (k.5 b);
+          }),
+    ) };
+
+    ghost leads_later = { λ s t h. K.leads_later s.out.now t.out.now h.4 };
+
+    ghost leads_full = { λ s t h. K.leads_full s.out.now t.out.now h.4 };
+
+    ghost leads_spent = { λ s t h. h.5 };
+
+    fn put(&mut self, packet: &Packet) -> Result<(), PutFault> {
+        match self.switch.feed(packet, self.library, self.out) {
+            Ok(()) => Ok(()),
+            Err(FeedFault::Failed) => Err(PutFault::Failed),
+            Err(FeedFault::Network(fault)) => {
+                self.fault = Some(FeedFault::Network(fault));
+                Err(PutFault::Failed)
+            }
+            Err(FeedFault::Sink(fault)) => {
+                self.fault = Some(FeedFault::Sink(fault));
+                Err(PutFault::Failed)
+            }
+        }
+    }
+}
+
+/// Takes the next packet of the network: the injector sends it on to the switch, with the cues that are due, and the switch puts what goes
+/// out.
+///
+/// # Errors
+///
+/// The fault of the injector, or that of the switch at one of the packets that it was sent.
+fn pass_on<K: PacketSink>(
+    injector: &mut Injector,
+    switch: &mut Switch,
+    config: &Config,
+    packet: &Packet,
+    library: &AdLibrary,
+    out: &mut K,
+) -> Result<(), FeedFault>
+    ensures leads { K.leads out.old out.new }
+    ensures ok { (steps : List Step) (start : Option (List ℕ)) (before fed : List (List ℕ)) → InjectorStandsFor injector.old config.now steps
+        → WasFed switch.old config.now (held library.now) (λ qs. K.holds out.old start (before ++ qs)) fed
+        → OnOk result (WasFed switch.new config.now (held library.now) (λ qs. K.holds out.new start (before ++ qs))
+        (fed ++ sent_at config.now packet.now steps)) }
+    ensures stands { (steps : List Step) → InjectorStandsFor injector.old config.now steps
+        → OnOk result (InjectorStandsFor injector.new config.now (PacketStep packet.now ∷ steps)) }
+    ensures sound { (steps : List Step) → InjectorStandsFor injector.old config.now steps
+        → OnOk result (network_fault (purpose_of config.now) packet.now (packets_in steps) ≡ None) }
+    ensures err { (steps : List Step) (start : Option (List ℕ)) (before fed : List (List ℕ)) → InjectorStandsFor injector.old config.now steps
+        → WasFed switch.old config.now (held library.now) (λ qs. K.holds out.old start (before ++ qs)) fed
+        → IfErr result (λ f. PassFails f config.now (held library.now) packet.now steps fed
+        (λ qs. K.holds out.new start (before ++ qs)) (λ qs q x. K.fails out.new start (before ++ qs) q x)) }
+    ensures well { OnOk result (WentWell (K.counts out.old) (K.counts out.new)) }
+    ensures blamed { IfErr result (λ f. OutputBlamed (RunFault.Feed f) (K.counts out.old) (K.counts out.new) (K.is_full out.new)) }
+{
+    let mut feeding = Feeding {
+        switch,
+        config: *config,
+        library,
+        out,
+        fault: None,
+    };
+    let fed = injector.feed(packet, &mut feeding);
+    let Feeding {
+        switch: _,
+        config: _,
+        library: _,
+        out: _,
+        fault: kept,
+    } = feeding;
+    match fed {
+        Ok(()) => Ok(()),
+        Err(fault) => Err(kept.unwrap_or(fault)),
+    }
+}
+
+impl<M: Allocator> Chain<M> {
+    /// Takes the next packet of the network: hears the automation first, and puts what goes out.
+    ///
+    /// # Errors
+    ///
+    /// The first fault of the injector or of the switch behind it: what was put is a front of what the packet puts. `Failed` once a fault
+    /// was answered.
+    pub fn step<U: Automation, K: PacketSink>(
+        &mut self,
+        packet: &Packet,
+        automation: &mut U,
+        library: &AdLibrary,
+        out: &mut K,
+    ) -> Result<(), FeedFault>
+        ensures leads { K.leads out.old out.new }
+        ensures ok { (ts : List Take) (n k : ℕ) (steps : List Step) (start : Option (List ℕ)) (before : List (List ℕ))
+            → HasStepped self.old (held library.now) (λ qs. K.holds out.old start (before ++ qs)) ts n k steps
+            → OnOk result (Stepped U.takes U.answers automation.old automation.new self.old self.new (held library.now)
+            (λ qs. K.holds out.new start (before ++ qs)) ts n k packet.now steps) }
+        ensures err { (ts : List Take) (n k : ℕ) (steps : List Step) (start : Option (List ℕ)) (before : List (List ℕ))
+            → HasStepped self.old (held library.now) (λ qs. K.holds out.old start (before ++ qs)) ts n k steps
+            → IfErr result (λ f. StepStops U.takes U.answers automation.old automation.new self.old self.new f (held library.now)
+            (λ qs. K.holds out.new start (before ++ qs)) (λ qs q x. K.fails out.new start (before ++ qs) q x) ts n k packet.now steps) }
+        ensures well { OnOk result (WentWell (K.counts out.old) (K.counts out.new)) }
+        ensures blamed { IfErr result (λ f. OutputBlamed (RunFault.Feed f) (K.counts out.old) (K.counts out.new) (K.is_full out.new)) }
+    {
+        self.talk.listen(&mut self.injector, automation);
+        let config = &self.config;
+        match pass_on(
+            &mut self.injector,
+            &mut self.switch,
+            config,
+            packet,
+            library,
+            out,
+        ) {
+            Ok(()) => Ok(()),
+            Err(fault) => Err(fault),
+        }
+    }
+}
+
+/// Passes a network on, with advertisements in the breaks that the automation asks for. Before each packet the automation is asked for one
+/// piece, for as long as its session is open, and each message that becomes whole in it is judged and answered.
+///
+/// # Errors
+///
+/// The first fault of the network, once what the packets before it send is out; or the device's fault, at the packet where it came. After
+/// a fault nothing more of the advertisements is put.
+pub fn run<M: Allocator, P: PacketSource, U: Automation, K: PacketSink>(
+    chain: Chain<M>,
+    network: &mut P,
+    automation: &mut U,
+    library: &AdLibrary,
+    out: &mut K,
+) -> Result<Report, RunFault>
+    requires { P.is_broken network.old ≡ false }
+    ensures ok { (c : Config) (start : Option (List ℕ)) (before : List (List ℕ)) → ChainStandsFor chain c
+        → K.holds out.old start before → IfOk result (RunsAll c (held library.now) (P.left network.old)
+        (λ ps. K.holds out.new start (before ++ ps)) (Exchanged U.takes U.answers U.failures automation.old automation.new)) }
+    ensures err { (c : Config) (start : Option (List ℕ)) (before : List (List ℕ)) → ChainStandsFor chain c
+        → K.holds out.old start before → IfErr result (λ f. StopsAt c (held library.now) f (P.left network.old)
+        (λ ps. K.holds out.new start (before ++ ps)) (λ ps. K.fails out.new start (before ++ ps))
+        (Exchanged U.takes U.answers U.failures automation.old automation.new)) }
+    ensures read { OnOk result (SourceCounts false (P.has_ended network.old) (P.has_ended network.new)
+        (P.counts network.old) (P.counts network.new)) }
+    ensures wrote { OnOk result (WentWell (K.counts out.old) (K.counts out.new)) }
+    ensures reading { IfErr result (λ f. NetworkBlamed f (P.has_ended network.old) (P.has_ended network.new)
+        (P.counts network.old) (P.counts network.new)) }
+    ensures writing { IfErr result (λ f. OutputBlamed f (K.counts out.old) (K.counts out.new) (K.is_full out.new)) }
+    ensures turns { result ≡ Err (RunFault.Read ReadFault.Turns)
+        → Stalled P.leads P.counts P.falls_short network.old network.new ⊎ Exhausted P.left P.given network.old }
+    ensures reads { P.leads network.old network.new }
+    ensures leads { K.leads out.old out.new }
+{
+    let Chain {
+        mut talk,
+        mut injector,
+        mut switch,
+        config,
+    } = chain;
+    let mut packet = Packet::null();
+    loop {
+        match network.read_packet(&mut packet) {
+            Ok(true) => {}
+            Ok(false) => break,
+            Err(fault) => return Err(RunFault::Read(fault)),
+        }
+        talk.listen(&mut injector, automation);
+        match pass_on(&mut injector, &mut switch, &config, &packet, library, out) {
+            Ok(()) => {}
+            Err(fault) => return Err(RunFault::Feed(fault)),
+        }
+    }
+    match switch.finish(library, out) {
+        Ok(events) => Ok(Report::of_chain(injector.counts(), events)),
+        Err(fault) => Err(RunFault::Feed(fault)),
+    }
+}
