@@ -1,0 +1,3 @@
+pub mod UnitSpliceLemmas
+pub mod TakenLemmas
+pub mod BreakLemmas

@@ -1,0 +1,2 @@
+pub mod UnitSplices
+pub mod Breaks
