@@ -41,7 +41,7 @@ line_push (x ∷ bs) b h other =
     both false q e = absurd (grind (arith, e))
 
 -- a byte more of a line
-pub pushed : (old new : Loading) (b : ℕ) (text : List ℕ) → (b == 10) ≡ false → new.library ≡ old.library → new.line.items ≡ old.line.items ++ b ∷ []
+pub pushed : {A : Type 0} (old new : Loading A) (b : ℕ) (text : List ℕ) → (b == 10) ≡ false → new.library ≡ old.library → new.line.items ≡ old.line.items ++ b ∷ []
     → IsRead old text → IsRead new (text ++ b ∷ [])
 pushed old new b text other same items h = record {
   before = h.before;
@@ -52,7 +52,7 @@ pushed old new b text other same items h = record {
 }
 
 -- the end of a line
-pub ended : (old new : Loading) (b : ℕ) (text : List ℕ) → b ≡ 10 → new.line.items ≡ [] → (h : IsRead old text) → IsFiled new.library (old.line.items ∷ h.before)
+pub ended : {A : Type 0} (old new : Loading A) (b : ℕ) (text : List ℕ) → b ≡ 10 → new.line.items ≡ [] → (h : IsRead old text) → IsFiled new.library (old.line.items ∷ h.before)
     → IsRead new (text ++ b ∷ [])
 ended old new b text end items h filed = record {
   before = old.line.items ∷ h.before;
@@ -74,7 +74,7 @@ whole (Ad fault) line rest ns e b = (e, b)
 whole OutOfMemory line rest ns e b = tt
 
 -- behind what was read
-pub stops : (l : Loading) (f : ListFault) (text rest : List ℕ) → (h : IsRead l text) → Blames f l.line.items rest (numbers_of h.before) → StopsAt f (text ++ rest)
+pub stops : {A : Type 0} (l : Loading A) (f : ListFault) (text rest : List ℕ) → (h : IsRead l text) → Blames f l.line.items rest (numbers_of h.before) → StopsAt f (text ++ rest)
 stops l f text rest h blamed = record {
   before = h.before;
   part = l.line.items;
@@ -88,12 +88,12 @@ stops l f text rest h blamed = record {
 }
 
 -- at a line's end
-pub stops_line : (l : Loading) (f : ListFault) (text more : List ℕ) (b : ℕ) → b ≡ 10 → (h : IsRead l text) → BlamesLine f l.line.items (numbers_of h.before)
+pub stops_line : {A : Type 0} (l : Loading A) (f : ListFault) (text more : List ℕ) (b : ℕ) → b ≡ 10 → (h : IsRead l text) → BlamesLine f l.line.items (numbers_of h.before)
     → StopsAt f (text ++ b ∷ more)
 stops_line l f text more b end h blamed = stops l f text (b ∷ more) h (whole f l.line.items (b ∷ more) (numbers_of h.before) end blamed)
 
 -- at the end of the list
-pub stops_end : (l : Loading) (f : ListFault) (text : List ℕ) → (h : IsRead l text) → BlamesLine f l.line.items (numbers_of h.before) → StopsAt f text
+pub stops_end : {A : Type 0} (l : Loading A) (f : ListFault) (text : List ℕ) → (h : IsRead l text) → BlamesLine f l.line.items (numbers_of h.before) → StopsAt f text
 stops_end l f text h blamed =
     subst (StopsAt f) (append-nil text) (stops l f text [] h (whole f l.line.items [] (numbers_of h.before) tt blamed))
 
@@ -150,7 +150,7 @@ stream_line library (Ad fault) line ls e entry h b =
 stream_line library OutOfMemory line ls e entry h b = ap is_some entry
 
 -- nothing was read
-pub nothing_read : (l : Loading) → ((id : ℕ) → held l.library id ≡ None) → index_map_len l.library.adverts ≡ 0 → l.line.items ≡ [] → IsRead l []
+pub nothing_read : {A : Type 0} (l : Loading A) → ((id : ℕ) → held l.library id ≡ None) → index_map_len l.library.adverts ≡ 0 → l.line.items ≡ [] → IsRead l []
 nothing_read l empty size items = record {
   before = [];
   text_is = sym items;

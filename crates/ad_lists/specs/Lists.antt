@@ -96,7 +96,7 @@ pub record IsFiled {A : Type 0} (library : AdLibrary A) (ls : List (List ℕ)) :
   pub size : index_map_len library.adverts ≡ length (numbers_of ls)
 
 -- the list was read so far
-pub record IsRead (loading : Loading) (text : List ℕ) : Type 0 where
+pub record IsRead {A : Type 0} (loading : Loading A) (text : List ℕ) : Type 0 where
   pub before : List (List ℕ)
   pub text_is : text ≡ text_of before ++ loading.line.items
   pub line : is_line loading.line.items ≡ true

@@ -10,11 +10,11 @@ ghost use Rattle.ad_lists.specs.Lists.{SaysOf, BlamesStream, BlamesLine, StopsAt
 use ad_library::{AdFault, AdLibrary};
 use decimal_numbers::number_below;
 use run_ends::open_input;
-use std::alloc::Global;
+use std::alloc::Allocator;
 use std::io::{BufReader, Read};
 use std::rt::Files;
 use thiserror::Error;
-use ts_packet::{Buffered, DeviceFault, PacketReader, Source};
+use ts_packet::{Device, DeviceFault, PacketReader, Source};
 
 /// The most reads of a list.
 const READS: u64 = 1 << 32;
@@ -49,16 +49,16 @@ pub enum ListFault {
 }
 
 /// Loads a list, whose lines are the number of an advertisement in decimal digits alone, a space, and the path of its stream; lines of white
-/// space alone are passed over. Each line is judged, and its stream read to the end, before the next one.
+/// space alone are passed over. Each line is judged, and its stream read to the end, before the next one. All memory is this allocator's.
 ///
 /// # Errors
 ///
 /// The first fault, by its line.
-pub fn load_list<R: Files, S: Source>(
+pub fn load_list<R: Files, M: Allocator + Copy, S: Source>(
     rt: &R,
-    alloc: Global,
+    alloc: M,
     list: &mut S,
-) -> Result<AdLibrary, ListFault>
+) -> Result<AdLibrary<M>, ListFault>
     ensures lists { IfOk result (λ library. (text : List ℕ) × IfSome (S.remaining list.old) (λ bs. bs ≡ text)
         × IsListed library text) }
     ensures stops { IfErr result (λ f. IfSome (S.remaining list.old) (StopsAt f)) }
@@ -66,7 +66,7 @@ pub fn load_list<R: Files, S: Source>(
     ensures ended { OnOk result (LastMovedNone (S.counts list.old) (S.counts list.new)) }
 {
     let mut loading = Loading {
-        library: AdLibrary::new(alloc),
+        library: AdLibrary::new_in(alloc),
         line: Vec::new(alloc),
     };
     match read_to_end(rt, alloc, &mut loading, list) {
@@ -76,10 +76,10 @@ pub fn load_list<R: Files, S: Source>(
 }
 
 /// Reads a list to its end. An interrupted read is tried again.
-fn read_to_end<R: Files, S: Source>(
+fn read_to_end<R: Files, M: Allocator + Copy, S: Source>(
     rt: &R,
-    alloc: Global,
-    loading: &mut Loading,
+    alloc: M,
+    loading: &mut Loading<M>,
     list: &mut S,
 ) -> Result<(), ListFault>
     requires { IsRead loading.old [] }
@@ -106,15 +106,15 @@ fn read_to_end<R: Files, S: Source>(
 
 /// A list that is being loaded.
 #[derive(Drop)]
-pub(crate) struct Loading {
-    library: AdLibrary,
+pub(crate) struct Loading<M: Allocator> {
+    library: AdLibrary<M>,
     /// The line that is being read, as far as it came.
-    line: Vec<u8>,
+    line: Vec<u8, M>,
 }
 
-impl Loading {
+impl<M: Allocator + Copy> Loading<M> {
     /// Takes bytes of the list.
-    fn take_in<R: Files>(&mut self, rt: &R, alloc: Global, part: &[u8]) -> Result<(), ListFault>
+    fn take_in<R: Files>(&mut self, rt: &R, alloc: M, part: &[u8]) -> Result<(), ListFault>
         ensures ok { (text : List ℕ) → IsRead self.old text → OnOk result (IsRead self.new (text ++ part.now)) }
         ensures stops { (text : List ℕ) → IsRead self.old text
             → IfErr result (λ f. (more : List ℕ) → StopsAt f (text ++ (part.now ++ more))) }
@@ -132,7 +132,7 @@ impl Loading {
     }
 
     /// Takes a byte of the list: where it ends a line, that is loaded.
-    fn take<R: Files>(&mut self, rt: &R, alloc: Global, byte: u8) -> Result<(), ListFault>
+    fn take<R: Files>(&mut self, rt: &R, alloc: M, byte: u8) -> Result<(), ListFault>
         ensures ok { (text : List ℕ) → IsRead self.old text → OnOk result (IsRead self.new (text ++ byte ∷ [])) }
         ensures stops { (text : List ℕ) → IsRead self.old text
             → IfErr result (λ f. (more : List ℕ) → StopsAt f (text ++ (byte ∷ more))) }
@@ -154,7 +154,7 @@ impl Loading {
     }
 
     /// The end of the list, behind which the end of the last line may be missing.
-    fn finish<R: Files>(&mut self, rt: &R, alloc: Global) -> Result<(), ListFault>
+    fn finish<R: Files>(&mut self, rt: &R, alloc: M) -> Result<(), ListFault>
         ensures ok { (text : List ℕ) → IsRead self.old text → OnOk result (IsListed self.new.library text) }
         ensures stops { (text : List ℕ) → IsRead self.old text → IfErr result (λ f. StopsAt f text) }
         ensures refused { IfErr result IsOfLine }
@@ -193,10 +193,10 @@ fn entry_of(line: &[u8]) -> Option<(u16, &str)>
 }
 
 /// Loads the advertisement of a line.
-fn load_line<R: Files>(
+fn load_line<R: Files, M: Allocator + Copy>(
     rt: &R,
-    alloc: Global,
-    library: &mut AdLibrary,
+    alloc: M,
+    library: &mut AdLibrary<M>,
     line: &[u8],
 ) -> Result<(), ListFault>
     ensures ok { (ls : List (List ℕ)) → IsFiled library.old ls → OnOk result (IsFiled library.new (line.now ∷ ls)) }
@@ -217,10 +217,10 @@ fn load_line<R: Files>(
 }
 
 /// Files the advertisement of the stream at this path.
-fn load_stream<R: Files>(
+fn load_stream<R: Files, M: Allocator + Copy>(
     rt: &R,
-    alloc: Global,
-    library: &mut AdLibrary,
+    alloc: M,
+    library: &mut AdLibrary<M>,
     id: u16,
     path: &str,
 ) -> Result<(), ListFault>
@@ -239,9 +239,9 @@ fn load_stream<R: Files>(
 }
 
 /// Files the advertisement that a reader gives.
-fn file_stream<F: Read + Drop>(
-    alloc: Global,
-    library: &mut AdLibrary,
+fn file_stream<F: Read + Drop, M: Allocator + Copy>(
+    alloc: M,
+    library: &mut AdLibrary<M>,
     id: u16,
     file: F,
 ) -> Result<(), ListFault>
@@ -254,7 +254,7 @@ fn file_stream<F: Read + Drop>(
     let Ok(reader) = BufReader::with_capacity(alloc, BUFFER_SIZE, file) else {
         return Err(ListFault::OutOfMemory);
     };
-    let mut device = Buffered::new(reader);
+    let mut device = Device::new(reader);
     let mut packets = PacketReader::new(&mut device);
     match library.add(id, &mut packets) {
         Ok(()) => Ok(()),

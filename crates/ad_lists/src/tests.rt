@@ -1,9 +1,12 @@
-//! Lists of advertisements: which lines are taken, and lists of files.
+//! Lists of advertisements: which lines are taken, lists of files, and refused memory.
 
 use crate::list::{ListFault, load_list};
-use ad_library::AdFault;
-use std::alloc::{AllocError, Global};
+use ad_library::{AdFault, AdLibrary};
+use linked_list_allocator::LocalHeap;
+use std::alloc::{AllocError, Allocator, Global};
 use std::io::{self, Cursor, ErrorKind, Read};
+use std::process::Abort;
+use std::rt::Files;
 use std::test::*;
 use std::{env, fs};
 use ts_packet::Device;
@@ -123,6 +126,16 @@ fn advert(alloc: Global) -> Result<Vec<u8>, AllocError> {
     Ok(out)
 }
 
+/// Whether the library holds the advertisement under 7 and 65,535, and under no number beside them.
+fn is_whole<M: Allocator + Copy>(library: &AdLibrary<M>) -> bool {
+    [(7, true), (65_535, true), (0, false), (8, false)]
+        .iter()
+        .all(|(id, is_there)| {
+            library.fits(*id, &[], 1) == *is_there
+                && library.slice(*id, 0x1B, 0, 1).is_some() == *is_there
+        })
+}
+
 #[test]
 fn lists_of_files(rt: HostRuntime) -> Result<(), Fail> {
     let folder = env::temp_dir(&rt)?;
@@ -135,10 +148,7 @@ fn lists_of_files(rt: HostRuntime) -> Result<(), Fail> {
     let Ok(library) = load_list(&rt, rt.alloc(), &mut device) else {
         return Err(Fail::from("a good list"));
     };
-    for (id, is_there) in [(7, true), (65_535, true), (0, false), (8, false)] {
-        assert_eq!(rt; library.fits(id, &[], 1), is_there);
-        assert_eq!(rt; library.slice(id, 0x1B, 0, 1).is_some(), is_there);
-    }
+    assert!(rt; is_whole(&library));
     let text = format!(in rt.alloc(); "7 {path}\n8 {path}\n07 {path}\nx")?;
     assert_eq!(rt;
         fault_of(&rt, text.as_bytes()),
@@ -154,5 +164,67 @@ fn lists_of_files(rt: HostRuntime) -> Result<(), Fail> {
     );
     fs::remove_file(&rt, path)?;
     assert_eq!(rt; fault_of(&rt, text.as_bytes()), Some(ListFault::File));
+    Ok(())
+}
+
+/// How many bytes of memory there are.
+const HEAP: usize = 200_000;
+
+/// Whether a list is loaded whole, and why not.
+fn is_loaded<R: Files, M: Allocator + Copy>(
+    rt: &R,
+    alloc: M,
+    text: &[u8],
+) -> Result<bool, ListFault> {
+    let mut device = Device::new(Cursor::new(text));
+    match load_list(rt, alloc, &mut device) {
+        Ok(library) => Ok(is_whole(&library)),
+        Err(fault) => Err(fault),
+    }
+}
+
+/// In so much memory, the list is loaded whole or memory is refused, which is told; and it is loaded where the rest of the memory is given
+/// back. Answers whether it was refused.
+fn is_refused<R: Files + Abort>(
+    rt: &R,
+    heap: &LocalHeap,
+    text: &[u8],
+    free: usize,
+) -> Result<bool, Fail> {
+    let taken: Vec<u8, &LocalHeap> = Vec::with_capacity(heap, HEAP.saturating_sub(free))?;
+    let answer = is_loaded(rt, heap, text);
+    assert!(rt;
+        answer == Ok(true) || answer == Err(ListFault::OutOfMemory),
+        "with {free} bytes"
+    );
+    drop(taken);
+    assert!(rt;
+        is_loaded(rt, heap, text) == Ok(true),
+        "behind {free} bytes"
+    );
+    assert_eq!(rt; heap.used(), 0);
+    Ok(answer.is_err())
+}
+
+#[test]
+fn each_request_refused(rt: HostRuntime) -> Result<(), Fail> {
+    let folder = env::temp_dir(&rt)?;
+    let path = folder.join(rt.alloc(), "ad_lists_memory.ts")?;
+    let path = path.to_str().ok_or("a name")?;
+    let bytes = advert(rt.alloc())?;
+    fs::write(&rt, path, bytes.as_slice())?;
+    let text = format!(in rt.alloc(); "7 {path}\n\n65535 {path}")?;
+    let heap = LocalHeap::new(rt.alloc(), HEAP)?;
+    for step in 0..12 {
+        assert!(rt; is_refused(&rt, &heap, text.as_bytes(), 16 * step)?);
+    }
+    let mut refused: u32 = 0;
+    for step in 0..130 {
+        if is_refused(&rt, &heap, text.as_bytes(), 131_072 + 16 * step)? {
+            refused = refused.saturating_add(1);
+        }
+    }
+    assert!(rt; refused > 100 && refused < 130);
+    fs::remove_file(&rt, path)?;
     Ok(())
 }
