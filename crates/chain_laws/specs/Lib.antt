@@ -1,2 +1,6 @@
-pub mod UnitSplices
 pub mod Breaks
+pub mod Runs
+pub mod UnitSplices
+pub mod Streams
+pub mod Others
+pub mod Reports
