@@ -15,3 +15,4 @@ pub mod OtherLemmas
 pub mod FaultlessLemmas
 pub mod SliceLemmas
 pub mod ClockLemmas
+pub mod SectionLemmas

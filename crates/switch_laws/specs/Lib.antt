@@ -4,3 +4,4 @@ pub mod Whole
 pub mod Standing
 pub mod Slices
 pub mod Clocks
+pub mod Sections
