@@ -4,3 +4,6 @@ pub mod BreakLemmas
 pub mod RunLemmas
 pub mod CarriedLemmas
 pub mod UnchangedLemmas
+pub mod HeadlineLemmas
+pub mod TableLemmas
+pub mod LibraryLemmas

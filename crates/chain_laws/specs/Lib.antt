@@ -4,3 +4,6 @@ pub mod UnitSplices
 pub mod Streams
 pub mod Others
 pub mod Reports
+pub mod Tables
+pub mod Libraries
+pub mod Headline

@@ -1,9 +1,12 @@
 //! The headline, piece by piece: each law on a function of its own.
 
 ghost use Rattle.chain_laws.specs.Breaks.{BreaksAreArmed};
+ghost use Rattle.chain_laws.specs.Headline.{HistoriesAreSo};
+ghost use Rattle.chain_laws.specs.Libraries.{LibrariesArePacked};
 ghost use Rattle.chain_laws.specs.Others.{OthersAreUnchanged, NoProgramIsNoChange, NoBreakIsNoChange};
 ghost use Rattle.chain_laws.specs.Reports.{BreaksAreCounted};
 ghost use Rattle.chain_laws.specs.Streams.{StreamsCarryPlaced, StreamsCarrySplice};
+ghost use Rattle.chain_laws.specs.Tables.{TablesAreTheNetworks};
 ghost use Rattle.chain_laws.specs.UnitSplices.{PlacedIsUnitSplice};
 
 /// In a stream that is conditioned at the starts of the breaks, what is placed is the splice of its units.
@@ -47,4 +50,20 @@ pub fn no_break_is_no_change()
 /// The report counts the accepted requests that were not cancelled, by the advertisements and the network's units.
 pub fn breaks_are_counted()
     ensures { BreaksAreCounted }
+{}
+
+/// Of a network without a fault, whatever was taken from an automation and answered, the output and the report of a run are as the headline
+/// says.
+pub fn histories_are_so()
+    ensures { HistoriesAreSo }
+{}
+
+/// Each unit of an advertisement that has a byte is packed, whatever the first counter.
+pub fn libraries_are_packed()
+    ensures { LibrariesArePacked }
+{}
+
+/// On any network without a fault a reader of the output finds the network's PAT and sections, and no unmarked packet of the cue PID.
+pub fn tables_are_the_networks()
+    ensures { TablesAreTheNetworks }
 {}
