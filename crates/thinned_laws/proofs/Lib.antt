@@ -5,3 +5,4 @@ pub mod Moves
 pub mod Tables
 pub mod Runs
 pub mod Reports
+pub mod Traces

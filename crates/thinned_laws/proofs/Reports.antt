@@ -129,4 +129,4 @@ module _ (k : Setting) (rows : List Beside) (a : CuesAreApart k (one_run rows)) 
         ∙ sym (ap (λ (ps : List (List ℕ)). reverse (switched_past k ps) ++ rest_at k ps) (reverse-reverse (other_run rows)))
 
 pub same_events_same_network : SameEventsSameNetwork
-same_events_same_network k rows a d g last = (network-same k rows a d last g, counted-alike k rows a d last)
+same_events_same_network k rows a d g last = record { output = network-same k rows a d last g; counted = counted-alike k rows a d last }
