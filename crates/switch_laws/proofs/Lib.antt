@@ -16,3 +16,4 @@ pub mod FaultlessLemmas
 pub mod SliceLemmas
 pub mod ClockLemmas
 pub mod SectionLemmas
+pub mod MapLemmas

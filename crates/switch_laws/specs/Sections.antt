@@ -6,7 +6,8 @@ use Rattle.program_follower.specs.declared.purpose.Listed.{Listed}
 use Rattle.program_follower.specs.Program.{listed, all_tables}
 use Rattle.program_follower.specs.Faults.{first_fault}
 use Rattle.program_laws.specs.Spliced.{reading_cues}
-use Rattle.program_laws.specs.Writing.{GoesOut, table_out}
+use Rattle.wire_fields.specs.Numbers.{AreBytes}
+use Rattle.program_laws.specs.Writing.{Along, GoesOut, table_out}
 use Rattle.splice_plans.specs.Switching.{Setting, spliced_network}
 use Rattle.switch_laws.specs.Whole.{adverts_at, ArePacked, HavePids}
 
@@ -27,3 +28,7 @@ abbrev pub SectionsStay : Type 0
 SectionsStay = (k : Setting) (network : List (List ℕ)) → first_fault (reading_cues (Some k.program) k.cue_pid) (reverse network) ≡ None →
     (k.cue_pid ≡ 0 → ⊥) → MapsGoOut k (reverse network) → ArePacked k.packed (adverts_at k (reverse network)) → HavePids network →
     ReadsStripped k network
+
+-- so it is in every network of bytes
+abbrev pub BytesGoOut : Type 0
+BytesGoOut = (k : Setting) (past : List (List ℕ)) → Along (λ p past. AreBytes p) past → MapsGoOut k past

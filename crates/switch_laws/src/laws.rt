@@ -7,7 +7,7 @@ ghost use Rattle.switch_laws.specs.Whole.{RunsAreSound, StreamsGoByThemselves, S
 ghost use Rattle.switch_laws.specs.Standing.{PacketsStandAs, OthersStay, FaultlessIsSound};
 ghost use Rattle.switch_laws.specs.Slices.{SlicesAreWhole};
 ghost use Rattle.switch_laws.specs.Clocks.{ClocksStay};
-ghost use Rattle.switch_laws.specs.Sections.{SectionsStay};
+ghost use Rattle.switch_laws.specs.Sections.{SectionsStay, BytesGoOut};
 
 /// What a switch does to a run has each packet of the run once, in order, kept or left out.
 pub fn moves_bring_the_network()
@@ -117,4 +117,9 @@ pub fn clocks_stay()
 /// output, the program's maps without the entry for the cues.
 pub fn sections_stay()
     ensures { SectionsStay }
+{}
+
+/// In every network of bytes the program's maps can be sent without the entry for the cues, and are read back.
+pub fn bytes_go_out()
+    ensures { BytesGoOut }
 {}
