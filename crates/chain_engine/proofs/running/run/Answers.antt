@@ -30,10 +30,12 @@ loop-fault-init g c = record {
   passed = (
     [],
     given_none _ _,
-    λ start before h held_first. (begun g.U.Automation.takes g.U.Automation.answers g.U.Automation.failures c.args.chain.config c.args.chain
-        (WasFed c.args.chain.switch c.args.chain.config (held c.args.library.now) (λ qs. g.K.PacketSink.holds c.args.out.now start (before ++ qs))) c.args.automation.now h
-        (record { stands = h.switch (held c.args.library.now); sent = subst (g.K.PacketSink.holds c.args.out.now start) (sym (append-nil before)) held_first }),
-        record { bytes = tt; sound = refl }),
+    λ start before h held_first. (
+      begun g.U.Automation.takes g.U.Automation.answers g.U.Automation.failures c.args.chain.config c.args.chain
+          (WasFed c.args.chain.switch c.args.chain.config (held c.args.library.now) (λ qs. g.K.PacketSink.holds c.args.out.now start (before ++ qs))) c.args.automation.now h
+          (record { stands = h.switch (held c.args.library.now); sent = subst (g.K.PacketSink.holds c.args.out.now start) (sym (append-nil before)) held_first }),
+      record { bytes = tt; sound = refl },
+    ),
   );
 }
 
@@ -67,8 +69,7 @@ loop-fault-preserved g c =
             let is_out' = WasFed c.pass_on.new.switch d filed (λ qs. g.K.PacketSink.holds c.pass_on.new.out start (before ++ qs)) in
             let before_packet = heard g.U.Automation.takes g.U.Automation.answers g.U.Automation.failures d is_out ps c.args.automation.now
             c.loop-fault.automation c.listen.new.automation c.loop-fault.injector c.listen.new.judge c.loop-fault.talk c.listen.new.self (run start before own held_first).0
-            c.listen.ensures.talk c.listen.ensures.closed c.listen.ensures.failures in
-            (
+            c.listen.ensures.talk c.listen.ensures.closed c.listen.ensures.failures in (
               passed d _ ps c.listen.new.judge c.pass_on.new.injector c.listen.new.self is_out is_out' p before_packet
                   (λ steps s o. (
                     c.in-Ok.ensures.sound steps s,
