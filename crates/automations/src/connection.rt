@@ -85,6 +85,10 @@ fn send<W: Write>(stream: &mut W, bytes: &[u8]) -> bool {
 }
 
 /// Listens on a port of 127.0.0.1.
+///
+/// # Errors
+///
+/// The system's, where the port cannot be bound.
 pub fn listen<R: Net>(rt: &R, port: u16) -> io::Result<R::Listener> {
     TcpListener::bind(rt, SocketAddr::from(([127, 0, 0, 1], port)))
 }

@@ -129,6 +129,10 @@ impl<W, M: Allocator> Script<W, M> {
 }
 
 /// Reads a text to its end. An interrupted read is tried again.
+///
+/// # Errors
+///
+/// As for [`Script::load`]. Then the reading stands in the line that is at fault, where one is.
 pub fn load_into<M: Allocator, S: Source>(
     reading: &mut Reading<M>,
     reader: &mut S,

@@ -141,6 +141,10 @@ impl<M: Allocator> Reading<M> {
     }
 
     /// Reads bytes of the text.
+    ///
+    /// # Errors
+    ///
+    /// `BadScript` in the first line that is none, `OutOfMemory` where memory was refused.
     pub fn take_in(&mut self, text: &[u8]) -> Result<(), ScriptFault>
         ensures refused { IfErr result IsOfText }
     {
@@ -151,6 +155,10 @@ impl<M: Allocator> Reading<M> {
     }
 
     /// The end of the text, behind which the end of the last line may be missing.
+    ///
+    /// # Errors
+    ///
+    /// As for [`Reading::take_in`].
     pub fn finish(&mut self) -> Result<(), ScriptFault>
         ensures refused { IfErr result IsOfText }
     {

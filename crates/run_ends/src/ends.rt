@@ -1,5 +1,9 @@
 //! Where the streams of a run come from and go to: files, the standard streams in bytes, or lines of digits on them.
 
+ghost use Rattle.std.specs.Prelude.{◌≡◌, codes, option_map, IfErr, IfOk};
+ghost use Rattle.std.specs.Fs.{file_type, IsDir};
+ghost use Rattle.run_ends.specs.Ends.{IsNamed, path_of, name_of, AreOpened, IsUnopened};
+
 use std::fs::{self, Metadata, OpenFile};
 use std::io;
 use std::os::unix::fs::MetadataExt;
@@ -18,7 +22,9 @@ pub enum End<'a> {
 
 impl<'a> End<'a> {
     /// The end that an option's text names.
-    pub fn named(text: Option<&'a str>) -> End<'a> {
+    pub fn named(text: Option<&'a str>) -> End<'a>
+        ensures { IsNamed (option_map (λ t. t.now) text.entry) result }
+    {
         match text {
             None => End::Lines,
             Some("-") => End::Standard,
@@ -27,17 +33,23 @@ impl<'a> End<'a> {
     }
 
     /// What an input is called.
-    pub fn input_name(&self) -> &'a str {
+    pub fn input_name(&self) -> &'a str
+        ensures { result.now ≡ name_of (codes "standard input") self.now }
+    {
         self.path().unwrap_or("standard input")
     }
 
     /// What an output is called.
-    pub fn output_name(&self) -> &'a str {
+    pub fn output_name(&self) -> &'a str
+        ensures { result.now ≡ name_of (codes "standard output") self.now }
+    {
         self.path().unwrap_or("standard output")
     }
 
     /// The path, where the end is a file.
-    pub fn path(&self) -> Option<&'a str> {
+    pub fn path(&self) -> Option<&'a str>
+        ensures { option_map (λ p. p.now) result ≡ path_of self.now }
+    {
         match *self {
             End::File(path) => Some(path),
             End::Lines => None,
@@ -70,7 +82,9 @@ fn is_same_file(one: &Metadata, other: &Metadata) -> bool {
 }
 
 /// Opens a file to read, with what the system says of it. A directory is refused.
-pub fn open_input<R: Files>(rt: &R, path: &str) -> io::Result<(R::File, Metadata)> {
+pub fn open_input<R: Files>(rt: &R, path: &str) -> io::Result<(R::File, Metadata)>
+    ensures { IfOk result (λ opened. ¬ IsDir (file_type opened.1)) }
+{
     let file = fs::open(rt, path)?;
     let about = file.metadata()?;
     if about.is_dir() {
@@ -107,7 +121,10 @@ pub fn open_ends<R: Files>(
     rt: &R,
     input: End<'_>,
     output: End<'_>,
-) -> Result<OpenedEnds<R::File>, Unopened> {
+) -> Result<OpenedEnds<R::File>, Unopened>
+    ensures opened { IfOk result (AreOpened input.entry output.entry) }
+    ensures unopened { IfErr result (λ end. IsUnopened end input.entry output.entry) }
+{
     let opened = match input.path() {
         Some(path) => Some(open_input(rt, path).map_err(Unopened::Input)?),
         None => None,
