@@ -1,11 +1,11 @@
 -- The events that a switch is armed with are the accepted ones.
-use Rattle.std.specs.Prelude.{◌<ℤ◌, ◌≤ℤ◌, ◌+ℤ◌, ℤ, pos, int_lt, filter, count_by, not}
-use Rattle.std.proofs.Common.{◌≡◌, ◌⊎◌, inl, inr, refl, sym, ap, ◌∙◌, subst, ℕ, ◌<◌, List, [], ◌∷◌, ◌++◌, length, Bool, true, false, arith}
+use Rattle.std.specs.Prelude.{◌<ℤ◌, ◌≤ℤ◌, ◌+ℤ◌, ℤ, pos, int_lt, filter, count_by}
+use Rattle.std.proofs.Common.{◌≡◌, ◌⊎◌, inl, inr, refl, sym, ap, ◌∙◌, subst, ℕ, ◌<◌, List, [], ◌∷◌, ◌++◌, length, Bool, true, arith}
 use Rattle.std.proofs.lemmas.Int.{ints}
 use Rattle.std.proofs.lemmas.List.Sums.{length-filter}
 use Rattle.psi_tables.specs.declared.config.Config.{Config}
-use Rattle.event_table.specs.Standing.{Standing, end_of}
-use Rattle.armed_laws.specs.Laws.{AreApart, IsApartOf, NoneMeet}
+use Rattle.event_table.specs.Standing.{Standing}
+use Rattle.armed_laws.specs.Laws.{IsApartOf, NoneMeet}
 use Rattle.armed_laws.proofs.MeetLemmas.{none-meet}
 use Rattle.splice_plans.specs.Playing.{put_by_start, by_start}
 use Rattle.injector.specs.Turns.{Turn, high, events}
@@ -22,12 +22,12 @@ use Rattle.cue_laws.proofs.Fair.{stand}
 use Rattle.path_laws.specs.Path.{asked_line, IsHistory}
 use Rattle.path_laws.specs.Packets.{IsRunOf}
 use Rattle.path_laws.proofs.Alike.{Alike, In-pushed, alike-in}
-use Rattle.path_laws.proofs.Switch.{view, IsView}
+use Rattle.path_laws.proofs.Switch.{IsView}
 use Rattle.path_laws.proofs.Requests.{stood}
 use Rattle.path_laws.proofs.Senders.{view-senders}
 use Rattle.path_laws.proofs.Packets.{run-history}
 use Rattle.path_laws.proofs.Whole.{cued_stream_arms}
-use Rattle.chain_laws.specs.Breaks.{accepted_by, armed_by, EndsWithPacket, SameTaken, TakesBreaks, BreaksAreArmed}
+use Rattle.chain_laws.specs.Breaks.{accepted_by, armed_by, SameTaken, BreaksAreArmed}
 
 -- ---- no two have one start
 

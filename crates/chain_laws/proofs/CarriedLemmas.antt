@@ -28,11 +28,11 @@ use Rattle.splice_laws.specs.Streams.{is_among, IsOnce}
 use Rattle.splice_laws.specs.Ends.{up_to_end}
 use Rattle.output_laws.specs.Spliced.{placed_payloads}
 use Rattle.output_laws.proofs.GaplessLemmas.{test-true}
-use Rattle.output_laws.proofs.StepLemmas.{pid_is, test-same}
+use Rattle.output_laws.proofs.StepLemmas.{test-same}
 use Rattle.splice_plans.specs.Playing.{Adverts, is_played, is_crossed, put_by_start, by_start, played, as_played}
 use Rattle.splice_plans.specs.Histories.{AreSteady}
 use Rattle.splice_plans.specs.Adverts.{adverts_of, packed_units, setting_of}
-use Rattle.splice_plans.specs.Switching.{Setting, switched_at, streams_at, events_at, head_at, history_at, is_behind_head, spliced_network}
+use Rattle.splice_plans.specs.Switching.{Setting, switched_at, streams_at, events_at, head_at, history_at, spliced_network}
 use Rattle.splice_plans.proofs.AdvertLemmas.{libraries_are_steady}
 use Rattle.splice_plans.proofs.HistoryLemmas.{armed_is_history}
 use Rattle.switch_laws.specs.Laws.{ArePackets, IsPlayable}
@@ -45,9 +45,9 @@ use Rattle.switch_laws.proofs.StreamLemmas.{streams_carry, all-reversed}
 use Rattle.switch_laws.proofs.WholeLemmas.{head-joined}
 use Rattle.armed_laws.proofs.MeetLemmas.{none-meet}
 use Rattle.chain_laws.specs.Breaks.{accepted_by, armed_by, SameTaken}
-use Rattle.chain_laws.specs.Runs.{switched_by, program_by, behind_by, run_by, head_by, lead_by, adverts_by, played_by, output_by, IsWholeRun}
+use Rattle.chain_laws.specs.Runs.{switched_by, program_by, behind_by, run_by, head_by, adverts_by, played_by, IsWholeRun}
 use Rattle.chain_laws.specs.UnitSplices.{splice_from, slice_payloads, payloads_between, IsConditionedAt}
-use Rattle.chain_laws.specs.Streams.{slice_of, is_reached, GoesOutWhole, CarriesPlaced, StreamsCarryPlaced, break_splice, splice_by, CarriesSplice, StreamsCarrySplice}
+use Rattle.chain_laws.specs.Streams.{slice_of, is_reached, GoesOutWhole, CarriesPlaced, StreamsCarryPlaced, break_splice, CarriesSplice, StreamsCarrySplice}
 use Rattle.chain_laws.proofs.BreakLemmas.{breaks_are_armed}
 use Rattle.chain_laws.proofs.TakenLemmas.{filter-within, begun_both, crossed_both, placed_both, lead_both}
 use Rattle.chain_laws.proofs.RunLemmas.{reads, sound, others, cued-long, cued-pids}

@@ -1,17 +1,15 @@
 -- From what a run answers to the headline.
-use Rattle.std.proofs.Common.{◌≡◌, ℕ, zero, suc, ◌+◌, ◌*◌, ◌/◌, ◌-◌, ◌<◌, ◌≤◌, List, [], ◌∷◌, refl, sym, ap, ◌∙◌, subst, Option, None, Some, length, take, drop, reverse, min, arith}
-use Rattle.std.specs.Prelude.{All, option_map}
+use Rattle.std.proofs.Common.{◌≡◌, ℕ, zero, suc, ◌*◌, ◌/◌, ◌-◌, ◌≤◌, List, [], ◌∷◌, refl, sym, ap, ◌∙◌, subst, Option, None, Some, length, drop, reverse, min, arith}
+use Rattle.std.specs.Prelude.{option_map}
 use Rattle.std.specs.Option.{option_or}
 use Rattle.std.specs.List.{AllByRecursion}
 use Rattle.std.proofs.lemmas.List.{reverse-reverse, length-take, length-drop}
 use Rattle.ts_packet.specs.Packets.{packets_of, last_part, packet_fault, parts}
 use Rattle.ts_packet.specs.Runs.{Seen, seen_after, onto}
 use Rattle.ts_packet.specs.FirstFault.{or_then, first_of, named, fault_of, fault_behind}
-use Rattle.ts_packet.specs.declared.reader.ReadFault.{ReadFault}
 use Rattle.wire_fields.specs.Numbers.{AreBytes}
 use Rattle.wire_fields.proofs.Cells.{AreBytes-take, AreBytes-drop}
 use Rattle.psi_tables.specs.declared.config.Config.{Config}
-use Rattle.psi_tables.specs.declared.network.NetworkFault.{NetworkFault}
 use Rattle.program_follower.specs.declared.purpose.Purpose.{Purpose}
 use Rattle.program_follower.specs.Faults.{first_fault, network_fault}
 use Rattle.program_follower.specs.FirstFault.{network_test}
@@ -21,21 +19,17 @@ use Rattle.scte104_codec.specs.declared.reply.Reply.{Reply}
 use Rattle.injector.specs.Steps.{Step, packets_in, purpose_of, cued}
 use Rattle.splice_plans.specs.Adverts.{setting_of}
 use Rattle.splice_plans.specs.Reporting.{ReportIs, report_of}
-use Rattle.path_laws.specs.Packets.{IsRunOf}
 use Rattle.switch_laws.specs.Laws.{ArePackets}
 use Rattle.switch_laws.proofs.StreamLemmas.{all-reversed}
 use Rattle.chain_engine.specs.Automation.{Take}
 use Rattle.chain_engine.specs.Talks.{judged_before}
 use Rattle.chain_engine.specs.Runs.{asked, steps_of, as_run_fault}
 use Rattle.chain_engine.specs.Runs.{first_fault as fault_in}
-use Rattle.chain_engine.specs.ChainRuns.{Ran}
-use Rattle.chain_engine.specs.declared.hearing.SessionEnd.{SessionEnd}
-use Rattle.chain_engine.specs.declared.report.Report.{Report}
 use Rattle.chain_engine.specs.declared.chain.RunFault.{RunFault}
-use Rattle.chain_engine.specs.declared.chain.RunFault.TheVariants.{Read, Feed}
+use Rattle.chain_engine.specs.declared.chain.RunFault.TheVariants.{Read}
 use Rattle.chain_laws.specs.Breaks.{EndsWithPacket}
 use Rattle.chain_laws.specs.Runs.{IsWholeRun}
-use Rattle.chain_laws.specs.Headline.{history_of, IsGiven, IsSpliced, Headline, RunsAreSo, HistoriesAreSo}
+use Rattle.chain_laws.specs.Headline.{history_of, IsGiven, IsSpliced, RunsAreSo, HistoriesAreSo}
 use Rattle.chain_laws.proofs.LibraryLemmas.{libraries_are_packed}
 use Rattle.chain_laws.proofs.TableLemmas.{has-tables}
 use Rattle.chain_laws.proofs.RunLemmas.{each-all}

@@ -1,12 +1,10 @@
 -- The units of advertisements can be packed.
-use Rattle.std.proofs.Common.{◌≡◌, ℕ, ℤ, zero, suc, ◌<◌, ◌%◌, List, [], ◌∷◌, ◌++◌, Bool, true, false, refl, sym, ap, ◌∙◌, subst, Option, None, Some, length, map, arith}
+use Rattle.std.proofs.Common.{◌≡◌, ℕ, ℤ, zero, suc, ◌<◌, ◌%◌, List, [], ◌∷◌, ◌++◌, refl, sym, subst, Option, None, Some, length, map, arith}
 use Rattle.std.specs.Prelude.{◌-ℤ◌, filter, slice_get, option_map, ◌==◌}
 use Rattle.std.specs.List.{AllByRecursion}
 use Rattle.ts_packet.proofs.Cases.{by_test}
-use Rattle.pes_time.specs.Stamps.{restamped}
 use Rattle.pes_time.proofs.ReadLemmas.{restamp_moves_alone}
 use Rattle.pes_time.specs.Line.{ring_of}
-use Rattle.psi_tables.specs.declared.config.Config.{Config}
 use Rattle.psi_tables.specs.declared.stream.Stream.{Stream}
 use Rattle.psi_tables.specs.Streams.{Entry, stream_of, switched_of, is_switched}
 use Rattle.psi_tables.specs.ProgramMap.{ProgramMap}
@@ -14,9 +12,8 @@ use Rattle.program_follower.specs.Program.{program_in, known_map}
 use Rattle.program_follower.specs.Following.{streams_of_program}
 use Rattle.unit_stream.specs.UnitPackets.{IsPacked}
 use Rattle.unit_packing.proofs.UnitPacketLemmas.{packed}
-use Rattle.event_table.specs.Standing.{Standing}
 use Rattle.ad_library.specs.Advertisements.{AdvertUnit, AdvertStream, Advertisement, is_of_kind, stream_at, played_bytes}
-use Rattle.injector.specs.Steps.{Step, packets_in}
+use Rattle.injector.specs.Steps.{packets_in}
 use Rattle.splice_laws.specs.Splicing.{SliceUnit}
 use Rattle.output_laws.proofs.GaplessLemmas.{test-true}
 use Rattle.splice_plans.specs.Adverts.{slice_unit, units_of, kind_and_place, units_at, packed_units}

@@ -1,44 +1,40 @@
 -- What the cued stream of a whole run has, beside its network.
-use Rattle.std.proofs.Common.{◌≡◌, ℕ, zero, suc, ◌+◌, ◌-◌, ◌<◌, ◌%◌, ◌*◌, List, [], ◌∷◌, ◌++◌, Bool, true, false, not, ◌&&◌, ◌||◌, refl, sym, ap, ◌∙◌, subst, Option, None, Some, if◌then◌else◌, length, take, drop, map, reverse, min, arith, append_assoc}
-use Rattle.std.specs.Prelude.{filter, replicate, All, slice_index, ◌==◌}
+use Rattle.std.proofs.Common.{◌≡◌, ℕ, zero, suc, ◌+◌, ◌-◌, ◌<◌, ◌%◌, ◌*◌, List, [], ◌∷◌, ◌++◌, Bool, true, false, refl, sym, ap, ◌∙◌, subst, Option, None, Some, length, take, drop, map, min, arith}
+use Rattle.std.specs.Prelude.{filter, replicate, All, slice_index}
 use Rattle.std.specs.List.{AllByRecursion}
-use Rattle.std.proofs.lemmas.List.{length-append, length-take, length-replicate, append_cancel_left}
-use Rattle.std.proofs.lemmas.List.Elements.{All-nil, All-cons, All-head, All-tail, filter-append}
-use Rattle.ts_packet.specs.Fields.{pid_of, on, payload_on}
+use Rattle.std.proofs.lemmas.List.{length-append, length-take, length-replicate}
+use Rattle.std.proofs.lemmas.List.Elements.{All-nil, All-cons, All-head, All-tail}
+use Rattle.ts_packet.specs.Fields.{pid_of, on}
 use Rattle.ts_packet.specs.Runs.{onto}
 use Rattle.ts_packet.proofs.Cases.{by_test}
-use Rattle.ts_packet.proofs.FieldLemmas.{payload_on-on, off_payload}
+use Rattle.ts_packet.proofs.FieldLemmas.{payload_on-on}
 use Rattle.wire_fields.specs.Numbers.{AreBytes}
-use Rattle.psi_section.specs.Packetising.{padded, first_packet, next_packet, later_packets, rest_packets, section_packets, packets_in_turn}
+use Rattle.psi_section.specs.Packetising.{padded, later_packets, section_packets, packets_in_turn}
 use Rattle.psi_section.proofs.ReadBackLemmas.{IsPayloadOn, turn_carry}
 use Rattle.psi_tables.specs.declared.config.Config.{Config}
 use Rattle.program_follower.specs.declared.purpose.Listed.{Listed}
-use Rattle.program_follower.specs.Program.{Program, Table, listed, tables, program_of, behind_head, pids_of}
+use Rattle.program_follower.specs.Program.{Table, listed, tables}
 use Rattle.program_follower.proofs.StepLemmas.{listed_stays}
-use Rattle.program_laws.specs.Writing.{Along, number_on, section_out, packets_out, body, Writing}
-use Rattle.program_laws.specs.Behind.{Passes, TakesAll}
-use Rattle.program_laws.specs.Cued.{On, on_one, cueing, CuedReads}
-use Rattle.program_laws.specs.Cued.{cued as network_with}
+use Rattle.program_laws.specs.Writing.{Along, number_on, section_out, body}
+use Rattle.program_laws.specs.Behind.{Passes}
+use Rattle.program_laws.specs.Cued.{On, cueing, CuedReads}
 use Rattle.program_laws.proofs.PacketLemmas.{one_past-below}
 use Rattle.program_laws.proofs.WritingLemmas.{listed_below}
 use Rattle.program_laws.proofs.FaultLemmas.{Each-map}
 use Rattle.program_laws.proofs.HeadLemmas.{others_pass}
 use Rattle.output_laws.proofs.StepLemmas.{pid_is}
 use Rattle.injector.specs.Steps.{Step, Message, Packet, packets_in, sections_before, cue_packets, body_at, cued}
-use Rattle.injector.specs.Laws.{fronts, IsCuedNetwork}
+use Rattle.injector.specs.Laws.{fronts}
 use Rattle.injector.proofs.CuedLemmas.{cued-is-written, cued-reads-again}
 use Rattle.ad_library.specs.Advertisements.{Advertisement}
-use Rattle.splice_plans.specs.Switching.{Setting}
 use Rattle.splice_plans.specs.Adverts.{setting_of}
 use Rattle.path_laws.specs.Packets.{IsRunOf}
-use Rattle.path_laws.proofs.Packets.{run-message, run-packet}
 use Rattle.cued_laws.proofs.CuedLemmas.{injected_is_faultless}
 use Rattle.switch_laws.specs.Laws.{ArePackets}
 use Rattle.switch_laws.specs.Whole.{HavePids}
 use Rattle.switch_laws.specs.Standing.{IsSound}
 use Rattle.switch_laws.proofs.FaultlessLemmas.{faultless_is_sound}
-use Rattle.chain_laws.specs.Runs.{program_by, switched_by, behind_by}
-use Rattle.chain_laws.proofs.TakenLemmas.{filter-within}
+use Rattle.chain_laws.specs.Runs.{switched_by}
 
 -- ---- lists
 

@@ -1,19 +1,18 @@
 -- The tables of the output, and the PID of the cues.
-use Rattle.std.proofs.Common.{◌≡◌, ℕ, ◌<◌, List, [], ◌∷◌, ◌++◌, Bool, true, false, not, ◌&&◌, ◌||◌, refl, sym, ap, ◌∙◌, subst, Option, None, Some, if◌then◌else◌, append_assoc, length, map, reverse}
-use Rattle.std.specs.Prelude.{filter, All, option_map, ◌==◌}
+use Rattle.std.proofs.Common.{◌≡◌, ℕ, ◌<◌, List, [], ◌∷◌, ◌++◌, Bool, true, false, not, ◌||◌, refl, sym, ap, ◌∙◌, subst, Option, None, Some, if◌then◌else◌, append_assoc, map, reverse}
+use Rattle.std.specs.Prelude.{filter, option_map, ◌==◌}
 use Rattle.std.specs.Option.{option_or}
 use Rattle.std.specs.List.{AllByRecursion, list_any}
 use Rattle.std.proofs.lemmas.Bool.{true≢false, eq-eqb}
 use Rattle.std.proofs.lemmas.List.{reverse-reverse, append-nil}
-use Rattle.std.proofs.lemmas.List.Elements.{All-head, All-tail}
+use Rattle.std.proofs.lemmas.List.Elements.{All-head}
 use Rattle.ts_packet.specs.Fields.{in_error, on, pid_of}
 use Rattle.ts_packet.specs.Runs.{onto}
 use Rattle.ts_packet.proofs.Cases.{by_test}
 use Rattle.ts_packet.proofs.RunLemmas.{filter-reverse}
-use Rattle.psi_section.specs.Sections.{sections_after}
 use Rattle.psi_section.specs.Laws.{CanBeGiven}
 use Rattle.psi_section.proofs.RunLemmas.{others_give}
-use Rattle.psi_section.proofs.ReadBackLemmas.{IsPayloadOn, turn_carry}
+use Rattle.psi_section.proofs.ReadBackLemmas.{turn_carry}
 use Rattle.wire_fields.specs.Numbers.{AreBytes}
 use Rattle.psi_tables.specs.declared.config.Config.{Config}
 use Rattle.psi_tables.specs.declared.stream.Stream.{Stream}
@@ -22,13 +21,12 @@ use Rattle.psi_tables.specs.Streams.{is_switched as is_kind_switched}
 use Rattle.psi_tables.specs.ProgramMap.{ProgramMap, pmt, pmt_section, streams_of}
 use Rattle.psi_tables.specs.Cue.{with_cue_entry, without_cue_entry, lists_pid}
 use Rattle.program_follower.specs.declared.purpose.Listed.{Listed}
-use Rattle.program_follower.specs.Program.{listed, first_listed, Table, table_of, map_read, tables, all_tables, first_map, known_map, program_in, program_of, behind_head, pids_of}
+use Rattle.program_follower.specs.Program.{listed, first_listed, Table, table_of, map_read, tables, all_tables, first_map, known_map, program_in, behind_head, pids_of}
 use Rattle.program_follower.specs.Faults.{is_pid, pids_in, bad_pid, bad_switched, pmt_pid_fault, if_bad}
 use Rattle.psi_tables.specs.declared.network.NetworkFault.TheVariants.{BadPids, CuePidUsed}
 use Rattle.program_follower.proofs.OptionLemmas.{none_both}
-use Rattle.program_follower.proofs.StepLemmas.{listed_stays}
 use Rattle.program_follower.proofs.StreamLemmas.{one_pid}
-use Rattle.program_laws.specs.Writing.{Along, number_on, section_out, table_out, packets_out, body, Off, MapGoesOut, GoesOut, IsClear, written, ReadsAgain, block}
+use Rattle.program_laws.specs.Writing.{Along, number_on, section_out, table_out, packets_out, body, Off, MapGoesOut, GoesOut, IsClear, ReadsAgain, block}
 use Rattle.program_laws.specs.CueEntry.{EntryGoes}
 use Rattle.program_laws.proofs.ByteLemmas.{all_bytes}
 use Rattle.program_laws.proofs.CuedLemmas.{IsRead, all_read}
@@ -47,12 +45,12 @@ use Rattle.output_laws.proofs.OtherLemmas.{off_on}
 use Rattle.output_laws.proofs.GaplessLemmas.{test-true}
 use Rattle.output_laws.proofs.StepLemmas.{test-same, pid_is}
 use Rattle.splice_plans.specs.Adverts.{packed_units, setting_of}
-use Rattle.splice_plans.specs.Switching.{Setting, switched_at, history_at, front_at, place_at, place_of, front_of, rest_at, switching, switched_past, is_switched, spliced_network, end_of_run}
+use Rattle.splice_plans.specs.Switching.{Setting, switched_at, history_at, front_at, place_at, place_of, front_of, rest_at, switching, switched_past, is_switched, end_of_run}
 use Rattle.switch_laws.specs.Whole.{adverts_at, ArePacked, HavePids}
 use Rattle.switch_laws.proofs.FaultlessLemmas.{first-sound}
 use Rattle.switch_laws.proofs.OtherLemmas.{front-off, end-off, place-off}
 use Rattle.switch_laws.proofs.WholeLemmas.{reverse-onto, packets-each, listed-later, known-later, adverts-same, switched-same, none-switched, not-behind, is-behind}
-use Rattle.chain_laws.specs.Runs.{switched_by, adverts_by, output_by, IsWholeRun}
+use Rattle.chain_laws.specs.Runs.{switched_by, output_by, IsWholeRun}
 use Rattle.chain_laws.specs.Tables.{HasTables, TablesAreTheNetworks}
 use Rattle.chain_laws.proofs.RunLemmas.{reads, cued-pids}
 use Rattle.chain_laws.proofs.CarriedLemmas.{same-switched, same-adverts, cue-apart, map-apart}

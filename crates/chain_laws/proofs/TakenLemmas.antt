@@ -1,10 +1,10 @@
 -- Packets that are no payload packets of switched PIDs change nothing of what is placed in a stream.
-use Rattle.std.proofs.Common.{◌≡◌, ℕ, ℤ, List, [], ◌∷◌, ◌++◌, Bool, true, false, not, ◌&&◌, ◌||◌, refl, sym, ap, ◌∙◌, Option, if◌then◌else◌}
+use Rattle.std.proofs.Common.{◌≡◌, ℕ, ℤ, List, [], ◌∷◌, ◌++◌, Bool, true, false, not, ◌&&◌, ◌||◌, refl, sym, ap, ◌∙◌, if◌then◌else◌}
 use Rattle.std.specs.List.{AllByRecursion}
 use Rattle.std.specs.Prelude.{filter}
 use Rattle.ts_packet.specs.Fields.{payload_on, bytes, unit_start}
 use Rattle.ts_packet.specs.Duplicates.{repeats, original}
-use Rattle.ts_packet.specs.Runs.{Seen, seen_after}
+use Rattle.ts_packet.specs.Runs.{seen_after}
 use Rattle.ts_packet.proofs.Cases.{by_test}
 use Rattle.unit_stream.specs.Times.{begins, high, unit_time}
 use Rattle.unit_stream.specs.Units.{is_original, rest_of_unit, has_payload, rest_of_row, lead_in}

@@ -1,5 +1,5 @@
 -- What the output leaves as it was, and what is reported.
-use Rattle.std.proofs.Common.{◌≡◌, ℕ, ℤ, ◌<◌, List, [], ◌∷◌, ◌++◌, Bool, true, false, ◌&&◌, ◌||◌, refl, sym, ap, ◌∙◌, subst, Option, None, Some, length, map, reverse}
+use Rattle.std.proofs.Common.{◌≡◌, ℕ, ◌<◌, List, [], ◌∷◌, ◌++◌, Bool, true, false, ◌&&◌, ◌||◌, refl, sym, ap, ◌∙◌, subst, Option, None, Some, length, map, reverse}
 use Rattle.std.specs.Prelude.{filter, not, count_by, ◌==◌}
 use Rattle.std.specs.List.{AllByRecursion, list_any}
 use Rattle.std.proofs.lemmas.Bool.{true≢false}
@@ -12,7 +12,7 @@ use Rattle.psi_tables.specs.declared.config.Config.{Config}
 use Rattle.program_follower.specs.declared.purpose.Listed.{Listed}
 use Rattle.program_follower.specs.Program.{listed, all_tables, behind_head}
 use Rattle.program_laws.specs.Writing.{Along, written}
-use Rattle.program_laws.specs.Cued.{stripping, on_one, cued}
+use Rattle.program_laws.specs.Cued.{stripping, on_one}
 use Rattle.program_laws.specs.Behind.{TakesAll}
 use Rattle.program_laws.proofs.FaultLemmas.{no_cue_packets}
 use Rattle.event_table.specs.Standing.{Standing, end_of}
@@ -20,18 +20,16 @@ use Rattle.ad_library.specs.Advertisements.{Advertisement}
 use Rattle.armed_events.specs.Arming.{ignored}
 use Rattle.injector.specs.Steps.{Step, packets_in, purpose_of, high_of}
 use Rattle.injector.specs.Steps.{cued as sent_cues}
-use Rattle.injector.specs.Laws.{fronts}
-use Rattle.injector.proofs.CuedLemmas.{cued-is-written}
 use Rattle.splice_laws.specs.Splicing.{stream}
 use Rattle.splice_laws.specs.Streams.{is_among}
 use Rattle.output_laws.specs.Others.{is_off}
 use Rattle.output_laws.proofs.OtherLemmas.{off_on}
 use Rattle.output_laws.proofs.StepLemmas.{test-same}
 use Rattle.splice_plans.specs.Playing.{Adverts, is_played, is_crossed, played, as_played}
-use Rattle.splice_plans.specs.Adverts.{packed_units, setting_of, adverts_of}
+use Rattle.splice_plans.specs.Adverts.{packed_units, setting_of}
 use Rattle.splice_plans.specs.Histories.{AreSteady}
 use Rattle.splice_plans.specs.Reporting.{Counts, is_not_fitted, is_unconditioned, report_of}
-use Rattle.splice_plans.specs.Switching.{Setting, switched_at, streams_at, events_at, high_at, spliced_network}
+use Rattle.splice_plans.specs.Switching.{Setting, switched_at, streams_at, events_at, spliced_network}
 use Rattle.splice_plans.proofs.AdvertLemmas.{libraries_are_steady}
 use Rattle.switch_laws.specs.Laws.{ArePackets}
 use Rattle.switch_laws.specs.Whole.{adverts_at, ArePacked, HavePids, pmt_pids, table_pids}
@@ -43,7 +41,7 @@ use Rattle.chain_laws.specs.Breaks.{accepted_by, armed_by}
 use Rattle.chain_laws.specs.Runs.{network_of, switched_by, behind_by, adverts_by, played_by, output_by, IsWholeRun}
 use Rattle.chain_laws.specs.Others.{table_pids_by, touched_by, OthersAreUnchanged, NoProgramIsNoChange, IsUnplayed, NoBreakIsNoChange}
 use Rattle.chain_laws.specs.Reports.{counts_by, BreaksAreCounted}
-use Rattle.chain_laws.proofs.BreakLemmas.{breaks_are_armed, count-sorted}
+use Rattle.chain_laws.proofs.BreakLemmas.{breaks_are_armed}
 use Rattle.chain_laws.proofs.TakenLemmas.{crossed_both}
 use Rattle.chain_laws.proofs.RunLemmas.{reads, others, cued-long, cued-pids}
 use Rattle.chain_laws.proofs.CarriedLemmas.{same-switched, same-adverts, same-behind, same-taken, takes-own}

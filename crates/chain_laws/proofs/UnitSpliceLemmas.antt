@@ -1,15 +1,15 @@
 -- In a conditioned stream what is placed is the splice of its units.
-use Rattle.std.specs.Prelude.{ℤ, ◌≤ℤ◌, flat_map, filter, if◌then◌else◌}
-use Rattle.std.proofs.Common.{◌≡◌, ℕ, List, [], ◌∷◌, ◌++◌, map, reverse, Bool, true, false, not, ◌&&◌, ◌||◌, refl, sym, ap, ◌∙◌, Option, None, Some, append_assoc}
+use Rattle.std.specs.Prelude.{ℤ, ◌≤ℤ◌, filter, if◌then◌else◌}
+use Rattle.std.proofs.Common.{◌≡◌, ℕ, List, [], ◌∷◌, ◌++◌, reverse, Bool, true, false, not, ◌&&◌, ◌||◌, refl, sym, ap, ◌∙◌, Option, None, Some, append_assoc}
 use Rattle.std.specs.List.{AllByRecursion}
-use Rattle.std.proofs.lemmas.List.{append-nil, map-append}
-use Rattle.ts_packet.specs.Fields.{payload_on, unit_start, bytes}
+use Rattle.std.proofs.lemmas.List.{append-nil}
+use Rattle.ts_packet.specs.Fields.{unit_start, bytes}
 use Rattle.ts_packet.specs.Duplicates.{original}
-use Rattle.ts_packet.specs.Runs.{Seen, seen_after}
+use Rattle.ts_packet.specs.Runs.{seen_after}
 use Rattle.ts_packet.proofs.Cases.{by_test}
 use Rattle.ts_packet.proofs.RunLemmas.{onto}
-use Rattle.unit_stream.specs.Times.{begins, unit_time}
-use Rattle.unit_stream.specs.Units.{TimedUnit, units, units_of, payloads, is_original, rest_of_unit}
+use Rattle.unit_stream.specs.Times.{unit_time}
+use Rattle.unit_stream.specs.Units.{units, units_of, is_original, rest_of_unit}
 use Rattle.splice_laws.specs.Splicing.{PlayedEvent, SliceUnit, Out, Network, Inserted, TimedStream, stream, at_or_past, below, holds, outside, comes, passed, opens, begun, put_in, slice_at, all_slices_at, from, up_to}
 use Rattle.splice_laws.specs.Laws.{IsStream, IsBefore, AreOrdered}
 use Rattle.splice_laws.specs.Rows.{is_between}
@@ -20,7 +20,7 @@ use Rattle.splice_laws.proofs.PlacedLemmas.{opens-first}
 use Rattle.splice_laws.proofs.PidLemmas.{pids_are_streams}
 use Rattle.output_laws.specs.Spliced.{placed_payloads, inserted_payloads, unit_at}
 use Rattle.splice_plans.specs.Playing.{is_crossed}
-use Rattle.chain_laws.specs.UnitSplices.{payloads_between, slice_payloads, splice_from, unit_splice, IsConditionedAt, PlacedIsUnitSplice}
+use Rattle.chain_laws.specs.UnitSplices.{payloads_between, slice_payloads, splice_from, PlacedIsUnitSplice}
 
 not_between : (c f a : Bool) → a ≡ true → c && (f && not a) ≡ false
 not_between false f a h = refl

@@ -1,5 +1,5 @@
 -- THE BREAKS of a run: what the requests of its history have come to.
-use Rattle.std.specs.Prelude.{◌≡◌, ℕ, List, [], ◌∷◌, Bool, true, false, not, filter, count_by}
+use Rattle.std.specs.Prelude.{◌≡◌, List, [], ◌∷◌, Bool, true, false, not, filter, count_by}
 use Rattle.psi_tables.specs.declared.config.Config.{Config}
 use Rattle.event_table.specs.Standing.{Standing}
 use Rattle.armed_events.specs.Arming.{armed}

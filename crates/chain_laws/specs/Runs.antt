@@ -1,5 +1,5 @@
 -- THE RUN of a chain: its history of requests judged and packets passed, newest first, and what is read off the network's packets.
-use Rattle.std.specs.Prelude.{◌≡◌, ℕ, ◌++◌, List, Option, Some, length, drop, filter, map, reverse, All}
+use Rattle.std.specs.Prelude.{ℕ, ◌++◌, List, Option, Some, length, drop, filter, reverse}
 use Rattle.ts_packet.specs.Fields.{payload_on}
 use Rattle.unit_stream.specs.Units.{lead_in}
 use Rattle.psi_tables.specs.declared.config.Config.{Config}
@@ -9,7 +9,7 @@ use Rattle.ad_library.specs.Advertisements.{Advertisement}
 use Rattle.injector.specs.Steps.{Step, packets_in, cued}
 use Rattle.path_laws.specs.Packets.{IsRunOf}
 use Rattle.splice_laws.specs.Splicing.{PlayedEvent}
-use Rattle.splice_plans.specs.Playing.{Adverts, played}
+use Rattle.splice_plans.specs.Playing.{Adverts}
 use Rattle.splice_plans.specs.Adverts.{adverts_of, packed_units, setting_of}
 use Rattle.splice_plans.specs.Switching.{spliced_network}
 use Rattle.switch_laws.specs.Laws.{ArePackets}
