@@ -14,3 +14,4 @@ pub mod StandingLemmas
 pub mod OtherLemmas
 pub mod FaultlessLemmas
 pub mod SliceLemmas
+pub mod ClockLemmas

@@ -3,3 +3,4 @@ pub mod Laws
 pub mod Whole
 pub mod Standing
 pub mod Slices
+pub mod Clocks

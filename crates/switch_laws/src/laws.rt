@@ -6,6 +6,7 @@ ghost use Rattle.switch_laws.specs.Whole.{OutputIsInOrder, NothingIsPlayed, NoPa
 ghost use Rattle.switch_laws.specs.Whole.{RunsAreSound, StreamsGoByThemselves, StreamsCarry};
 ghost use Rattle.switch_laws.specs.Standing.{PacketsStandAs, OthersStay, FaultlessIsSound};
 ghost use Rattle.switch_laws.specs.Slices.{SlicesAreWhole};
+ghost use Rattle.switch_laws.specs.Clocks.{ClocksStay};
 
 /// What a switch does to a run has each packet of the run once, in order, kept or left out.
 pub fn moves_bring_the_network()
@@ -104,4 +105,9 @@ pub fn faultless_is_sound()
 /// is reached.
 pub fn slices_are_whole()
     ensures { SlicesAreWhole }
+{}
+
+/// The clock references of a switched stream are the network's, as one list in their order, also where its packets are left out.
+pub fn clocks_stay()
+    ensures { ClocksStay }
 {}
