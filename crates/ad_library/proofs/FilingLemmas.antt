@@ -12,7 +12,7 @@ use Rattle.pes_time.specs.Stamps.{is_split}
 use Rattle.unit_stream.specs.Units.{TimedUnit}
 use Rattle.ad_library.specs.declared.store.UnitPlace.{UnitPlace}
 use Rattle.ad_library.specs.Advertisements.{KeptUnit, with_unit, kept, KeptStream, lower, lower_of, least_of, zero_of, AdvertUnit, unit_from}
-use Rattle.ad_library.specs.Storing.{StoredUnit, kept_unit, on_line, joined, places_of, place_of, greatest_of, IsWhole}
+use Rattle.ad_library.specs.Storing.{StoredUnit, kept_unit, on_line, joined, places_of, place_of, greatest_of, StampsAreWhole}
 use Rattle.ad_library.specs.Placing.{start_or, unit_at, units_at, is_placed, are_placed, tops_are}
 use Rattle.ad_library.specs.Filing.{kept_of, ArePast, least_of_places}
 use Rattle.ad_library.proofs.PlacingLemmas.{both_true, both, last_top}
@@ -121,12 +121,12 @@ newest_placed least u us le w =
     (both (nat_le least u.time) (not (is_split (slice_range bs (length (joined us)) (length bs)))) (le-leb least u.time le)
     (ap (λ x. not (is_split x)) (range_last (joined us) u.payload) ∙ ap not w)))
 
-pub stored_placed : (least : ℕ) (us : List StoredUnit) → ArePast least us → All IsWhole us
+pub stored_placed : (least : ℕ) (us : List StoredUnit) → ArePast least us → All StampsAreWhole us
     → (are_placed least (places_of us) (joined us) ≡ true) × (units_at least (places_of us) (joined us) ≡ map (unit_from (on_line least)) (kept_of us))
 stored_placed least [] a w = (refl, refl)
 stored_placed least (u ∷ us) a w =
-    let rest = stored_placed least us a.1 (All-tail IsWhole u us w) in
-    let more = snoc_placed least (joined us) u.payload (places_of us) (place_of u us) rest.0 refl (newest_placed least u us a.0 (All-head IsWhole u us w).whole) in
+    let rest = stored_placed least us a.1 (All-tail StampsAreWhole u us w) in
+    let more = snoc_placed least (joined us) u.payload (places_of us) (place_of u us) rest.0 refl (newest_placed least u us a.0 (All-head StampsAreWhole u us w).whole) in
     let f = unit_from (on_line least) in (
       more.0,
       more.1 ∙ ap (λ vs. vs ++ unit_at least (place_of u us) (length (joined us ++ u.payload)) (joined us ++ u.payload) ∷ []) rest.1 ∙ ap (λ v. map f (kept_of us) ++ v ∷ []) (same_unit least u us a.0)

@@ -14,14 +14,14 @@ use Rattle.program_follower.specs.Streaming.{IsStreamPacket}
 use Rattle.program_follower.proofs.StreamLemmas.{first_is_on}
 use Rattle.ad_library.specs.declared.gathered.Gathered.{Gathered}
 use Rattle.ad_library.specs.Storing.{on_line}
-use Rattle.ad_library.specs.Gathering.{AllGathered, GathersStream, IsGathered, IsTold, IsStart, StreamsStand, IsOfOne}
+use Rattle.ad_library.specs.Gathering.{AllGathered, GathersStream, IsGathered, IsTold, IsUnitStart, StreamsStand, IsOfOne}
 use Rattle.ad_library.proofs.StreamsLemmas.{found, all_set, begins_first}
 
 -- what the greatest time has become, and the time of the unit that begins
 pub record Passed (old new : Option ℕ) (part : StreamPacket) (time : Option ℕ) : Type 0 where
   pub own : (s : Option ℕ) → IsTold part (option_map on_line old) s → option_map on_line time ≡ option_map (place (option_map on_line old)) s
   pub raised_so : (s : Option ℕ) → IsTold part (option_map on_line old) s → option_map on_line new ≡ raised (option_map on_line old) s
-  pub other : IsStart part ≡ false → new ≡ old
+  pub other : IsUnitStart part ≡ false → new ≡ old
 
 not_both : {P : Type 0} (b : Bool) → b ≡ true → b ≡ false → P
 not_both b h k = absurd (let e : true ≡ false = sym h ∙ k in cc)
@@ -36,7 +36,7 @@ module _ (pids : List ℕ) (pid : ℕ) (p : List ℕ) (past : List (List ℕ)) (
   own_is Lead is t b = not_both _ b (begins_not pid p past is.1)
   own_is NoPayload is t b = not_both _ b (begins_off pid p past is)
 
-  same_high : IsStart (Start None) ≡ true → new ≡ old → begins_one pids p past ≡ false → option_map on_line new ≡ high pids (p ∷ past)
+  same_high : IsUnitStart (Start None) ≡ true → new ≡ old → begins_one pids p past ≡ false → option_map on_line new ≡ high pids (p ∷ past)
   same_high u e n = ap (option_map on_line) e ∙ line ∙ sym (high_same pids p past n)
 
   high_next : (part : StreamPacket) → IsStreamPacket part pids pid p past → Passed old new part time → begins_one pids p past ≡ begins pid p past → option_map on_line new ≡ high pids (p ∷ past)

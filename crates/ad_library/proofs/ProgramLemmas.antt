@@ -18,7 +18,7 @@ use Rattle.program_follower.specs.Streaming.{next_place, first_on}
 use Rattle.program_follower.proofs.StreamLemmas.{one_pid, off_payload}
 use Rattle.program_laws.proofs.FaultLemmas.{Each-map, MapSound, all_sound}
 use Rattle.program_laws.proofs.ReadingLemmas.{no_tables}
-use Rattle.ad_library.specs.Gathering.{AreApart}
+use Rattle.ad_library.specs.Gathering.{AreDistinct}
 
 pub or_none : (a b : Bool) → a || b ≡ false → (a ≡ false) × (b ≡ false)
 or_none true b h = absurd (cc)
@@ -67,7 +67,7 @@ once_rest y all (x ∷ xs) i h =
     (λ n. let t : is_twice x (y ∷ all) ≡ is_twice x all = ap (λ c. if c then is_in x all else is_twice x all) n in sym t ∙ b.1) in
     or_false (bad_switched all x) (list_any (bad_switched all) xs) (or_false (x == 8191) (is_twice x all) b.0 here) (once_rest y all xs i.1 r.1)
 
-apart_switched : (ss : List Stream) → list_any (bad_switched (pids_in ss)) (pids_in (switched_of ss)) ≡ false → AreApart (pids_in (switched_of ss))
+apart_switched : (ss : List Stream) → list_any (bad_switched (pids_in ss)) (pids_in (switched_of ss)) ≡ false → AreDistinct (pids_in (switched_of ss))
 apart_switched [] h = tt
 apart_switched (s ∷ ss) h =
     by_test (is_switched s.kind)
@@ -90,7 +90,7 @@ in_bad pid (x ∷ xs) h =
 -- ---- of a program
 
 pub record StreamsApart (pid : ℕ) (ss : List Stream) : Type 0 where
-  pub apart : AreApart (pids_in ss)
+  pub apart : AreDistinct (pids_in ss)
   pub off_map : is_in pid (pids_in ss) ≡ false
 
 same_program : (m : ProgramMap) (r : Program) → Some (program_in m) ≡ Some r → switched_of (streams_of m) ≡ r.streams

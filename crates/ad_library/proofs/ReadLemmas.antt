@@ -4,7 +4,7 @@ use Rattle.std.specs.Io.KnownBytes.{IsAtEnd}
 use Rattle.std.proofs.Common.{◌≡◌, ℕ, List, [], ◌∷◌, ◌++◌, Bool, true, false, refl, sym, ap, ◌∙◌, subst, ◌⊎◌, inl, inr, Option, Some, None, if◌then◌else◌}
 use Rattle.std.proofs.lemmas.List.{reverse-append, reverse-reverse}
 use Rattle.ts_packet.specs.Packets.{packets_of}
-use Rattle.ts_packet.specs.Sources.{Given, HasRead, Refuses, ReadSo, SourceCounts, SourceBlamed}
+use Rattle.ts_packet.specs.Sources.{WasGiven, HasRead, Refuses, ReadSo, SourceCounts, SourceBlamed}
 use Rattle.ts_packet.specs.FirstFault as firsts
 use Rattle.ts_packet.specs.FirstFault.{or_then, Cause, OfInput, OfDevice, OfNothing, SaysBy, read_cause}
 use Rattle.ts_packet.specs.Transfers.{WentWell}
@@ -116,7 +116,7 @@ every_some : {X : Type 0} (P : X → Type 0) (o : Option X) → ((x : X) → P x
 every_some P None f = tt
 every_some P (Some x) f = f x
 
-pub take_says : {A : Type 0} (input left left' : Option (List ℕ)) (first given : ℕ) (g : Gathering A) (p : List ℕ) (f : AdFault) (h : HasTaken input left first given g) → Given left left' p
+pub take_says : {A : Type 0} (input left left' : Option (List ℕ)) (first given : ℕ) (g : Gathering A) (p : List ℕ) (f : AdFault) (h : HasTaken input left first given g) → WasGiven left left' p
     → (f ≡ ad_faults.OutOfMemory) ⊎ (packet_fault p (reverse h.packets) ≡ Some f) → IfSome input (Says f) × (is_of_library f ≡ false)
 take_says input left left' first given g p f h r (inl e) = subst (λ (x : AdFault). IfSome input (Says x) × (is_of_library x ≡ false)) (sym e) (every_some (Says ad_faults.OutOfMemory) input (λ bs. tt), refl)
 take_says input left left' first given g p f h r (inr e) =

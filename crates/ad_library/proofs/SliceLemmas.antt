@@ -5,7 +5,7 @@ use Rattle.std.proofs.Common.{◌≡◌, ℕ, ◌≤◌, List, [], ◌∷◌, �
 use Rattle.std.proofs.lemmas.Int.{ints}
 use Rattle.ts_packet.proofs.Cases.{by_test}
 use Rattle.ad_library.specs.Advertisements.{AdvertUnit, is_below, slice_of}
-use Rattle.ad_library.specs.Laws.{ShorterIsFilter, Rises, ShorterIsFront}
+use Rattle.ad_library.specs.Laws.{ShorterIsFilter, OffsetsRise, ShorterIsFront}
 
 module _ (short long : ℕ) (le : short ≤ long) where
   below_longer : (u : AdvertUnit) → is_below short u ≡ true → is_below long u ≡ true
@@ -31,7 +31,7 @@ module _ (short long : ℕ) (le : short ≤ long) where
   none_behind u [] h n = refl
   none_behind u (v ∷ vs) h n = ap (one_more short v vs) (past_shorter u v h.0 n) ∙ none_behind u vs h.1 n
 
-  front_is : (us : List AdvertUnit) → Rises us → (more : List AdvertUnit) × (slice_of long us ≡ slice_of short us ++ more)
+  front_is : (us : List AdvertUnit) → OffsetsRise us → (more : List AdvertUnit) × (slice_of long us ≡ slice_of short us ++ more)
   front_is [] r = ([], refl)
   front_is (u ∷ us) r =
       by_test (is_below short u)

@@ -8,7 +8,7 @@ use Rattle.pes_time.specs.Stamps.{is_split}
 use Rattle.pes_time.proofs.ReadLemmas as reads
 use Rattle.ad_library.specs.declared.store.UnitPlace.{UnitPlace}
 use Rattle.ad_library.specs.declared.store.UnitStore.{UnitStore}
-use Rattle.ad_library.specs.Storing.{StoredUnit, Stores, joined, places_of, place_of, greatest_of, longer_stored, IsWhole}
+use Rattle.ad_library.specs.Storing.{StoredUnit, Stores, joined, places_of, place_of, greatest_of, longer_stored, StampsAreWhole}
 
 pub get_snoc : {X : Type 0} (xs : List X) (x : X) → slice_get (xs ++ x ∷ []) (length (xs ++ x ∷ []) - 1) ≡ Some x
 get_snoc [] x = refl
@@ -39,7 +39,7 @@ pub begun : {A : Type 0} (old new : UnitStore A) (us : List StoredUnit) (u : Sto
 begun old new us u p h b q e w = record {
   bytes = b ∙ ap (λ xs. xs ++ u.payload) h.bytes;
   places = q ∙ ap (λ xs. xs ++ p ∷ []) h.places ∙ ap (λ (x : UnitPlace). places_of us ++ x ∷ []) e;
-  whole = All-cons IsWhole u us (record { whole = w }) h.whole;
+  whole = All-cons StampsAreWhole u us (record { whole = w }) h.whole;
 }
 
 pub some_there : (n : ℕ) → false ≡ (n == 0) → 0 < n
@@ -56,6 +56,6 @@ gone_on old new [] bs h b q some = let e : length old.places.items ≡ 0 = ap le
 gone_on old new (u ∷ us) bs h b q some = record {
   bytes = b ∙ ap (λ xs. xs ++ bs) h.bytes ∙ append_assoc (joined us) u.payload bs;
   places = q ∙ h.places;
-  whole = All-cons IsWhole (record { time = u.time; payload = u.payload ++ bs; random_access = u.random_access }) us (record { whole = (reads.more_reads_the_same u.payload bs (All-head IsWhole u us h.whole).whole).2 })
-      (All-tail IsWhole u us h.whole);
+  whole = All-cons StampsAreWhole (record { time = u.time; payload = u.payload ++ bs; random_access = u.random_access }) us (record { whole = (reads.more_reads_the_same u.payload bs (All-head StampsAreWhole u us h.whole).whole).2 })
+      (All-tail StampsAreWhole u us h.whole);
 }

@@ -14,7 +14,7 @@ use Rattle.program_follower.specs.Streaming.{next_place, first_on}
 use Rattle.program_follower.proofs.StreamLemmas.{one_of, NeedsOn, first_of, off_payload, one_pid, begins_is, begins_needs}
 use Rattle.ad_library.specs.declared.gathered.Gathered.{Gathered}
 use Rattle.ad_library.specs.Faults.{gap_on_one}
-use Rattle.ad_library.specs.Gathering.{AllGathered, AreApart, GathersStream}
+use Rattle.ad_library.specs.Gathering.{AllGathered, AreDistinct, GathersStream}
 use Rattle.ad_library.proofs.GatheredLemmas.{off, no_gap}
 use Rattle.ad_library.proofs.ProgramLemmas.{or_none, or_false, NoPayload}
 
@@ -109,7 +109,7 @@ module _ (p : List ℕ) (past : List (List ℕ)) where
       (t, ap (λ k. slice_get (g ∷ gs) k) (sym place) ∙ at, subst (λ k. GathersStream t pids k past) l.pid_is is))
 
   -- it has taken the packet, and all others are off it
-  pub all_set : {A : Type 0} (gs : List (Gathered A)) (ss : List Stream) (pids : List ℕ) (x : ℕ × ℕ) (old new : Gathered A) → AllGathered gs ss pids past → AreApart (pids_in ss)
+  pub all_set : {A : Type 0} (gs : List (Gathered A)) (ss : List Stream) (pids : List ℕ) (x : ℕ × ℕ) (old new : Gathered A) → AllGathered gs ss pids past → AreDistinct (pids_in ss)
       → first_on (pids_in ss) p ≡ Some x → slice_get gs x.0 ≡ Some old → new.kind ≡ old.kind → GathersStream new pids x.1 (p ∷ past) → AllGathered (set gs x.0 new) ss pids (p ∷ past)
   all_set [] [] pids x old new h a f e k w = absurd (cc)
   all_set [] (s ∷ ss) pids x old new h a f e k w = absurd h

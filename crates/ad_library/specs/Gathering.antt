@@ -126,12 +126,12 @@ IsTold Repeat line stamp = ⊥
 IsTold Lead line stamp = ⊥
 IsTold NoPayload line stamp = ⊥
 
-abbrev pub IsStart : StreamPacket → Bool
-IsStart (Start begun) = true
-IsStart More = false
-IsStart Repeat = false
-IsStart Lead = false
-IsStart NoPayload = false
+abbrev pub IsUnitStart : StreamPacket → Bool
+IsUnitStart (Start begun) = true
+IsUnitStart More = false
+IsUnitStart Repeat = false
+IsUnitStart Lead = false
+IsUnitStart NoPayload = false
 
 -- THE STREAMS, with the greatest time, by the packets behind the head
 pub record StreamsStand {A Z : Type 0} (streams : Option (Vec (Gathered A) Z)) (high' : Option ℕ) (ss : List Stream) (past : List (List ℕ)) : Type 0 where
@@ -139,14 +139,14 @@ pub record StreamsStand {A Z : Type 0} (streams : Option (Vec (Gathered A) Z)) (
   pub high_is : option_map on_line high' ≡ high (pids_in ss) past
 
 -- no PID stands twice
-abbrev pub AreApart : List ℕ → Type 0
-AreApart [] = Unit {0}
-AreApart (pid ∷ pids) = (is_in pid pids ≡ false) × AreApart pids
+abbrev pub AreDistinct : List ℕ → Type 0
+AreDistinct [] = Unit {0}
+AreDistinct (pid ∷ pids) = (is_in pid pids ≡ false) × AreDistinct pids
 
 -- the packet is of this one of them
 pub record IsOfOne {A Z : Type 0} (streams : Option (Vec (Gathered A) Z)) (high' : Option ℕ) (part : StreamPacket) (index : ℕ) (one : ℕ × ℕ) (ss : List Stream) (p : List ℕ) (past : List (List ℕ)) : Type 0 where
   pub stand : StreamsStand streams high' ss past
-  pub apart : AreApart (pids_in ss)
+  pub apart : AreDistinct (pids_in ss)
   pub place_is : one.0 ≡ index
   pub first_is : first_on (pids_in ss) p ≡ Some one
   pub is : IsStreamPacket part (pids_in ss) one.1 p past

@@ -8,10 +8,10 @@ abbrev pub ShorterIsFilter : Type 0
 ShorterIsFilter = (short long : ℕ) (us : List AdvertUnit) → short ≤ long → slice_of short (slice_of long us) ≡ slice_of short us
 
 -- no unit lies before one that comes earlier
-abbrev pub Rises : List AdvertUnit → Type 0
-Rises [] = Unit {0}
-Rises (u ∷ us) = AllByRecursion (λ (v : AdvertUnit). u.offset ≤ℤ v.offset) us × Rises us
+abbrev pub OffsetsRise : List AdvertUnit → Type 0
+OffsetsRise [] = Unit {0}
+OffsetsRise (u ∷ us) = AllByRecursion (λ (v : AdvertUnit). u.offset ≤ℤ v.offset) us × OffsetsRise us
 
 -- where the offsets rise it is a front of that one
 abbrev pub ShorterIsFront : Type 0
-ShorterIsFront = (short long : ℕ) (us : List AdvertUnit) → short ≤ long → Rises us → (more : List AdvertUnit) × (slice_of long us ≡ slice_of short us ++ more)
+ShorterIsFront = (short long : ℕ) (us : List AdvertUnit) → short ≤ long → OffsetsRise us → (more : List AdvertUnit) × (slice_of long us ≡ slice_of short us ++ more)

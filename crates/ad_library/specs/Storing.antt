@@ -46,11 +46,11 @@ last_time [] = None
 last_time (u ∷ us) = Some u.time
 
 -- the stamps of the unit can be read
-pub record IsWhole (u : StoredUnit) : Type 0 where
+pub record StampsAreWhole (u : StoredUnit) : Type 0 where
   pub whole : is_split u.payload ≡ false
 
 -- THE STORE of these units, newest first
 pub record Stores {A : Type 0} (s : UnitStore A) (us : List StoredUnit) : Type 0 where
   pub bytes : s.bytes.items ≡ joined us
   pub places : s.places.items ≡ places_of us
-  pub whole : All IsWhole us
+  pub whole : All StampsAreWhole us

@@ -5,7 +5,7 @@ ghost use Rattle.pes_time.specs.Line.{place, raise};
 ghost use Rattle.unit_stream.specs.Clocks.{Tells, IsNear, way_from};
 ghost use Rattle.unit_stream.specs.Times.{raised};
 ghost use Rattle.ad_library.specs.Storing.{on_line};
-ghost use Rattle.ad_library.specs.Gathering.{IsNearStart, IsTold, IsStart, HasWay, IsHeld};
+ghost use Rattle.ad_library.specs.Gathering.{IsNearStart, IsTold, IsUnitStart, HasWay, IsHeld};
 
 use program_follower::StreamPacket;
 use unit_stream::Begun;
@@ -22,7 +22,7 @@ pub(crate) fn pass(high: &mut Option<u64>, part: &StreamPacket) -> Option<u64>
         → option_map on_line result ≡ option_map (place (option_map on_line high.old)) stamp }
     ensures high { (stamp : Option ℕ) → IsTold part.now (option_map on_line high.old) stamp
         → option_map on_line high.new ≡ raised (option_map on_line high.old) stamp }
-    ensures other { IsStart part.now ≡ false → high.new ≡ high.old }
+    ensures other { IsUnitStart part.now ≡ false → high.new ≡ high.old }
     ensures held { (count : ℕ) → IfSome high.old (IsHeld count) → IfSome high.new (IsHeld (count + 1)) }
 {
     match part {

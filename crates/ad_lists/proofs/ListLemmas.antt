@@ -8,7 +8,7 @@ use Rattle.ad_library.specs.declared.library.AdLibrary.{AdLibrary}
 use Rattle.ad_library.specs.Advertisements.{Advertisement}
 use Rattle.ad_library.specs.Library.{held}
 use Rattle.decimal_numbers.specs.Numbers.{number_below}
-use Rattle.ad_lists.specs.Lists.{is_blank, entry_of, paired, is_good, is_line, text_of, with_number, numbers_of, has_number, are_apart, IsAdvert, Adds, IsFiled, IsRead, BlamesAd, BlamesStream, BlamesLine, EndsLine, Blames, StopsAt}
+use Rattle.ad_lists.specs.Lists.{is_blank, entry_of, paired, is_good, is_line, text_of, with_number, numbers_of, has_number, are_apart, IsAdvert, FilesOne, IsFiled, IsRead, BlamesAd, BlamesStream, BlamesLine, EndsLine, Blames, StopsAt}
 use Rattle.ad_lists.specs.declared.list.Loading.{Loading}
 use Rattle.ad_lists.specs.declared.list.ListFault.{ListFault}
 use Rattle.ad_lists.specs.declared.list.ListFault.TheVariants.{BadList, File, Io, Turns, Ad, OutOfMemory}
@@ -121,7 +121,7 @@ either false x y p q = q
 
 -- an entry files its advertisement
 pub entry_filed : {A : Type 0} (old new : AdLibrary A) (line : List ℕ) (ls : List (List ℕ)) (e : ℕ × List ℕ) (known : Option (List ℕ)) → is_blank line ≡ false
-    → entry_of line ≡ Some e → IsFiled old ls → Adds known old new e.0 → IsFiled new (line ∷ ls)
+    → entry_of line ≡ Some e → IsFiled old ls → FilesOne known old new e.0 → IsFiled new (line ∷ ls)
 entry_filed old new line ls e known blank entry h a =
     let ns = numbers_of ls in
     let same : numbers_of (line ∷ ls) ≡ e.0 ∷ ns = ap (λ b. cond b ns (with_number (entry_of line) ns)) blank ∙ ap (λ o. with_number o ns) entry in

@@ -78,7 +78,7 @@ abbrev pub IsAdvert : Advertisement → Type 0
 IsAdvert a = (ps : List (List ℕ)) × (advertisement ps ≡ Some a)
 
 -- one more was filed, of packets which are those of the stream's bytes where these are known
-pub record Adds {A : Type 0} (known : Option (List ℕ)) (old new : AdLibrary A) (id : ℕ) : Type 0 where
+pub record FilesOne {A : Type 0} (known : Option (List ℕ)) (old new : AdLibrary A) (id : ℕ) : Type 0 where
   pub packets : List (List ℕ)
   pub advert : Advertisement
   pub known_is : IfSome known (λ bs. packets ≡ packets_of bs)

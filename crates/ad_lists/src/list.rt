@@ -4,7 +4,7 @@ ghost use Rattle.std.specs.Prelude.{◌≡◌, ◌++◌, ◌∷◌, [], ℕ, Lis
 ghost use Rattle.indexmap.specs.IndexMap.{index_map_len};
 ghost use Rattle.ts_packet.specs.Transfers.{LastMovedNone};
 ghost use Rattle.ad_library.specs.Library.{held};
-ghost use Rattle.ad_lists.specs.Lists.{is_blank, entry_of, numbers_of, Adds, IsFiled, IsRead, IsListed};
+ghost use Rattle.ad_lists.specs.Lists.{is_blank, entry_of, numbers_of, FilesOne, IsFiled, IsRead, IsListed};
 ghost use Rattle.ad_lists.specs.Lists.{SaysOf, BlamesStream, BlamesLine, StopsAt, ListBlamed, IsOfLine};
 
 use ad_library::{AdFault, AdLibrary};
@@ -224,7 +224,7 @@ fn load_stream<R: Files, M: Allocator + Copy>(
     id: u16,
     path: &str,
 ) -> Result<(), ListFault>
-    ensures ok { OnOk result ((known : Option (List ℕ)) × Adds known library.old library.new id) }
+    ensures ok { OnOk result ((known : Option (List ℕ)) × FilesOne known library.old library.new id) }
     ensures stops { IfErr result (λ f. BlamesStream f (is_some (held library.old id))
         (index_map_len library.old.adverts)) }
     ensures refused { IfErr result IsOfLine }
@@ -245,7 +245,7 @@ fn file_stream<F: Read + Drop, M: Allocator + Copy>(
     id: u16,
     file: F,
 ) -> Result<(), ListFault>
-    ensures ok { OnOk result (Adds (F.remaining file) library.old library.new id) }
+    ensures ok { OnOk result (FilesOne (F.remaining file) library.old library.new id) }
     ensures says { IfErr result (λ f. IfSome (F.remaining file) (SaysOf f)) }
     ensures stops { IfErr result (λ f. BlamesStream f (is_some (held library.old id))
         (index_map_len library.old.adverts)) }

@@ -18,13 +18,13 @@ pub enum Asked {
     Cancel(u32),
     /// What no splicer of whole events can do: a splice without a time, or one out of the network without automatic return.
     Unfit,
-    /// Nothing: it is no `splice_insert()` of the whole programme, or none that can be read.
+    /// Nothing: it is no `splice_insert()` of the whole program, or none that can be read.
     Nothing,
 }
 
 ghost use Rattle.armed_events.specs.Asking.{asked_of, insert_asks};
 
-/// What a `splice_insert()` of the whole programme asks for.
+/// What a `splice_insert()` of the whole program asks for.
 fn insert_asks(insert: &SpliceInsert) -> Asked
     ensures { result ≡ insert_asks insert.now.event insert.now.out insert.now.time insert.now.length insert.now.program }
 {

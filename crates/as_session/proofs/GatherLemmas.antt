@@ -5,7 +5,7 @@ use Rattle.std.proofs.lemmas.Bool.{cases_lt}
 use Rattle.std.proofs.lemmas.List.{length-append, length-take, take-append-drop, take_all}
 use Rattle.scte104_codec.specs.declared.framing.Frame.TheVariants.{NeedMore, Whole, BadSize}
 use Rattle.scte104_codec.specs.Framing.{size_in, frame_of}
-use Rattle.as_session.specs.Pending.{is_partial, Gathers}
+use Rattle.as_session.specs.Pending.{is_partial, TakesIn}
 use Rattle.as_session.proofs.FrameLemmas.{size_goes_on, frame_short, frame_bad, frame_below, frame_whole, partial_below}
 
 -- the ring after the first part
@@ -83,7 +83,7 @@ module _ (pending piece ring : List ℕ) (used : ℕ) (first : First pending pie
               omega arith
         ]
 
-    pub gathers : is_partial pending ≡ true → 12 ≤ size → size < 65536 → size ≤ length next → Gathers pending piece (used + more) next (Whole size)
+    pub gathers : is_partial pending ≡ true → 12 ≤ size → size < 65536 → size ≤ length next → TakesIn pending piece (used + more) next (Whole size)
     gathers partial least most fits =
         let long = length_first in
         let long-next = length_next in

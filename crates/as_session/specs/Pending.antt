@@ -14,7 +14,7 @@ abbrev pub is_partial : List ℕ → Bool
 is_partial bytes = needs_more (frame_of bytes)
 
 -- from what was there, the first `used` bytes of the piece were added
-abbrev pub Gathers : List ℕ → List ℕ → ℕ → List ℕ → Frame → Type 0
-Gathers old piece used new (NeedMore n) = (used ≡ length piece) × (new ≡ old ++ piece)
-Gathers old piece used new (Whole size) = (used ≡ size - length old) × (new ≡ take size (old ++ piece)) × (length new ≡ size) × (size ≤ 65535)
-Gathers old piece used new BadSize = (used ≡ 4 - length old)
+abbrev pub TakesIn : List ℕ → List ℕ → ℕ → List ℕ → Frame → Type 0
+TakesIn old piece used new (NeedMore n) = (used ≡ length piece) × (new ≡ old ++ piece)
+TakesIn old piece used new (Whole size) = (used ≡ size - length old) × (new ≡ take size (old ++ piece)) × (length new ≡ size) × (size ≤ 65535)
+TakesIn old piece used new BadSize = (used ≡ 4 - length old)

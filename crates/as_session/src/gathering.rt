@@ -3,7 +3,7 @@
 ghost use Rattle.std.specs.Prelude.{◌≡◌, ◌+◌, ◌-◌, ◌<◌, ◌≤◌, ◌++◌, length, take, min, slice_index, true, IfSome};
 ghost use Rattle.circular_buffer.specs.Buffer.{buffer};
 ghost use Rattle.scte104_codec.specs.Framing.{frame_of, size_in};
-ghost use Rattle.as_session.specs.Pending.{is_partial, Gathers};
+ghost use Rattle.as_session.specs.Pending.{is_partial, TakesIn};
 
 use circular_buffer::HeapCircularBuffer;
 use scte104_codec::{Frame, frame_size};
@@ -50,7 +50,7 @@ pub fn gather<A: Allocator>(ring: &mut HeapCircularBuffer<u8, A>, piece: &[u8]) 
     requires partial { is_partial ring.old.items ≡ true }
     ensures capacity { ring.new.capacity ≡ 65535 }
     ensures frame { result.1 ≡ frame_of (ring.old.items ++ piece.now) }
-    ensures gathers { Gathers ring.old.items piece.now result.0 ring.new.items result.1 }
+    ensures gathers { TakesIn ring.old.items piece.now result.0 ring.new.items result.1 }
 {
     let first = fill_to(ring, 4, piece);
     if ring.len() < 4 {

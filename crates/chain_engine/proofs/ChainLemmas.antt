@@ -4,7 +4,7 @@ use Rattle.std.specs.Io.KnownBytes.{IsAtEnd}
 use Rattle.std.proofs.Common.{◌≡◌, ℕ, ◌+◌, Bool, false, suc, List, [], ◌∷◌, ◌++◌, length, reverse, Option, None, Some, sym, ap, subst, ◌∙◌, arith, append_assoc}
 use Rattle.std.proofs.lemmas.List.{append-nil, length-reverse, reverse-append}
 use Rattle.ts_packet.specs.Packets.{packets_of}
-use Rattle.ts_packet.specs.Sources.{Given, HasRead, Refuses}
+use Rattle.ts_packet.specs.Sources.{WasGiven, HasRead, Refuses}
 use Rattle.ts_packet.specs.FirstFault.{named, or_then, read_cause}
 use Rattle.ts_packet.specs.declared.reader.ReadFault.{ReadFault}
 use Rattle.ts_packet.specs.declared.sink.PutFault.{PutFault}
@@ -133,7 +133,7 @@ module _ (c : Config) (filed : ℕ → Option Advertisement) (exchanged : Option
   -- ---- a packet is not passed on
 
   pub pass_stops : {M S : Type 0} (injector : Injector) (talk : Talk M) (switch : Switch) (is_out : S → List (List ℕ) → Type 0) (fails : List (List ℕ) → List ℕ → PutFault → Type 0) (s t : S)
-      (input left left' : Option (List ℕ)) (p : List ℕ) → HasRead input left ps → Given left left' p → HasHeard c injector talk (WasFed switch c filed (is_out s)) exchanged ps → IsSoundNetwork c (reverse ps) → (fault : FeedFault)
+      (input left left' : Option (List ℕ)) (p : List ℕ) → HasRead input left ps → WasGiven left left' p → HasHeard c injector talk (WasFed switch c filed (is_out s)) exchanged ps → IsSoundNetwork c (reverse ps) → (fault : FeedFault)
       → ((steps : List Step) → InjectorStandsFor injector c steps → IsSoundNetwork c (packets_in steps) → WasFed switch c filed (is_out s) (sent_by c steps) → PassFails fault c filed p steps (sent_by c steps) (is_out t) fails)
       → StopsAt c filed (Feed fault) input (is_out t) fails exchanged
   pass_stops injector talk switch is_out fails s t None left left' p r g h network fault feeds = tt

@@ -6,7 +6,7 @@ use Rattle.std.specs.Option.{is_some}
 use Rattle.std.proofs.lemmas.List.{reverse-append, length-reverse}
 use Rattle.std.proofs.lemmas.List.Elements.{All-nil}
 use Rattle.ts_packet.specs.Packets.{packets_of}
-use Rattle.ts_packet.specs.Sources.{Given, HasRead, Refuses}
+use Rattle.ts_packet.specs.Sources.{WasGiven, HasRead, Refuses}
 use Rattle.ts_packet.specs.Runs.{Seen, seen_after}
 use Rattle.ts_packet.specs.FirstFault.{named, or_then, read_cause}
 use Rattle.ts_packet.specs.declared.reader.ReadFault.{ReadFault}
@@ -238,7 +238,7 @@ module _ (c : Config) (exchanged : Option SessionEnd → List Take → List Repl
   -- ---- a packet is not passed on
 
   pub feed_stops : {M S : Type 0} (injector : Injector) (talk : Talk M) (is_out : S → List (List ℕ) → Type 0) (fails : List (List ℕ) → List ℕ → PutFault → Type 0) (s t : S)
-      (input left left' : Option (List ℕ)) (p : List ℕ) → HasRead input left ps → Given left left' p → HasHeard c injector talk (is_out s) exchanged ps → (fault : FeedFault) → KeepsSink fault s t
+      (input left left' : Option (List ℕ)) (p : List ℕ) → HasRead input left ps → WasGiven left left' p → HasHeard c injector talk (is_out s) exchanged ps → (fault : FeedFault) → KeepsSink fault s t
       → ((steps : List Step) → InjectorStandsFor injector c steps → is_out s (sent_by c steps) → FeedFails fault c p steps (λ put q f. fails (sent_by c steps ++ put) q f))
       → StopsAt c (Feed fault) input (is_out t) fails exchanged
   feed_stops injector talk is_out fails s t None left left' p r g h fault kept feeds = tt

@@ -5,7 +5,7 @@ use Rattle.std.proofs.Common.{◌≡◌, ℕ, List, [], ◌∷◌, ◌++◌, fal
 use Rattle.std.proofs.lemmas.List.{append-nil, reverse-append}
 use Rattle.std.proofs.lemmas.List.Elements.{All-nil}
 use Rattle.ts_packet.specs.Packets.{packets_of, packet_fault}
-use Rattle.ts_packet.specs.Sources.{Given, HasRead, Refuses}
+use Rattle.ts_packet.specs.Sources.{WasGiven, HasRead, Refuses}
 use Rattle.ts_packet.specs.Runs.{Seen, seen_after}
 use Rattle.ts_packet.specs.FirstFault.{named, or_then, read_cause}
 use Rattle.ts_packet.specs.declared.reader.ReadFault.{ReadFault}
@@ -116,7 +116,7 @@ module _ (c : Config) (filed : ℕ → Option Advertisement) where
     -- ---- a packet is not passed on
 
     pub feed_stops : {S : Type 0} (switch : Switch) (is_out : S → List (List ℕ) → Type 0) (fails : List (List ℕ) → List ℕ → PutFault → Type 0) (s t : S)
-        (input left left' : Option (List ℕ)) (p : List ℕ) → HasRead input left ps → Given left left' p → HasSpliced c filed switch (is_out s) ps → (fault : FeedFault) → KeepsSink fault s t
+        (input left left' : Option (List ℕ)) (p : List ℕ) → HasRead input left ps → WasGiven left left' p → HasSpliced c filed switch (is_out s) ps → (fault : FeedFault) → KeepsSink fault s t
         → FeedFails fault c filed p (reverse ps) (λ put q f. fails (sent_by c filed ps ++ put) q f) → StopsAt c filed (Feed fault) input (is_out t) fails
     feed_stops switch is_out fails s t None left left' p r g h fault kept k = tt
     feed_stops switch is_out fails s t (Some bs) left None p r g h fault kept k = absurd (read_more (Some bs) left None ps p r g).bytes

@@ -79,7 +79,7 @@ Blamed-behind (Sink f) a b c full w h = blamed-after f a b c full w h
 Blamed-behind Failed a b c full w h = well-trans a b c w h
 
 -- what a spent switch keeps
-pub record Stays (x y : Option FeedFault) (s t : Bool) (a b : Tally) (full more : Bool) : Type 0 where
+pub record StaysSpent (x y : Option FeedFault) (s t : Bool) (a b : Tally) (full more : Bool) : Type 0 where
   pub fault : y ≡ x
   pub spent : t ≡ s
   pub counts : b ≡ a
@@ -87,7 +87,7 @@ pub record Stays (x y : Option FeedFault) (s t : Bool) (a b : Tally) (full more 
 
 -- and one thing after another, where nothing changes once the switch is spent
 pub FaultKept-trans : (x y z : Option FeedFault) (s t : Bool) (a b c : Tally) (full more : Bool) → FaultKept x y s a b full → FaultKept y z t b c more
-    → (s ≡ true → Stays y z s t b c full more) → FaultKept x z t a c more
+    → (s ≡ true → StaysSpent y z s t b c full more) → FaultKept x z t a c more
 FaultKept-trans x y z s t a b c full more (inl h) (inl k) stays = inl (k.0 ∙ h.0, well-trans a b c h.1 k.1)
 FaultKept-trans x y z s t a b c full more (inl h) (inr (f, e, spent, k)) stays = inr (f, e, spent, Blamed-behind f a b c more h.1 k)
 FaultKept-trans x y z s t a b c full more (inr (f, e, spent, h)) k stays =

@@ -19,7 +19,7 @@ use Rattle.cue_laws.proofs.Settling.{by_test, lt-test, ge-test}
 use Rattle.cue_laws.proofs.Lists.{In-filter, In-filtered}
 use Rattle.cue_laws.proofs.Lists.{Distinct as LineDistinct}
 use Rattle.cue_laws.proofs.Fair.{stand}
-use Rattle.path_laws.specs.Path.{asked_line, IsHistory}
+use Rattle.path_laws.specs.Path.{asked_line, IsSteadyHistory}
 use Rattle.path_laws.specs.Packets.{IsRunOf}
 use Rattle.path_laws.proofs.Alike.{Alike, In-pushed, alike-in}
 use Rattle.path_laws.proofs.Switch.{IsView}
@@ -59,7 +59,7 @@ distinct-alike xs (y ∷ ys) a d =
     d.0 r.0 r.1 (ap (λ (e : LineEvent). e.start) (sym r.2) ∙ is ∙ ap (λ (e : LineEvent). e.start) a.3)))
 
 -- the injector's events on the line
-events-alike : (index : ℕ) (past : List Turn) → IsHistory index past → Alike IsView (events index past) (line_events (asked_line index past))
+events-alike : (index : ℕ) (past : List Turn) → IsSteadyHistory index past → Alike IsView (events index past) (line_events (asked_line index past))
 events-alike index past i =
     let s = stood index past i in
     subst (λ xs. Alike IsView xs (line_events (asked_line index past))) (senders-events index past)

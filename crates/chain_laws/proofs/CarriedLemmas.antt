@@ -37,7 +37,7 @@ use Rattle.splice_plans.proofs.AdvertLemmas.{libraries_are_steady}
 use Rattle.splice_plans.proofs.HistoryLemmas.{armed_is_history}
 use Rattle.switch_laws.specs.Laws.{ArePackets, IsPlayable}
 use Rattle.switch_laws.specs.Moving.{intervals, sent_in_all}
-use Rattle.switch_laws.specs.Whole.{adverts_at, ArePacked, HavePids, IsApart, IsSwitchedOnce, breaks, slices, placed_in}
+use Rattle.switch_laws.specs.Whole.{adverts_at, ArePacked, HavePids, TablesAreApart, IsSwitchedOnce, breaks, slices, placed_in}
 use Rattle.switch_laws.specs.Slices.{IsWholeSlice}
 use Rattle.switch_laws.proofs.IntervalLemmas.{intervals-ordered}
 use Rattle.switch_laws.proofs.SliceLemmas.{slices_are_whole}
@@ -111,12 +111,12 @@ once-contained pid (q ∷ qs) (inr o) =
 
 -- ---- streams
 
-streams-at : (k : Setting) (back : List (List ℕ)) → IsApart k back → AreSteady (adverts_at k back) → ArePacked k.packed (adverts_at k back) → ArePackets (reverse back) → HavePids (reverse back) → (pid : ℕ) → IsSwitchedOnce k back pid →
+streams-at : (k : Setting) (back : List (List ℕ)) → TablesAreApart k back → AreSteady (adverts_at k back) → ArePacked k.packed (adverts_at k back) → ArePackets (reverse back) → HavePids (reverse back) → (pid : ℕ) → IsSwitchedOnce k back pid →
     (carried : List (List ℕ)) × (filter (payload_on pid) (spliced_network k (reverse back))
     ≡ filter (payload_on pid) (reverse (head_at k back)) ++ (lead_in pid (reverse (behind_head (Some k.program) back)) ++ carried))
     × CarriesUnits carried (placed_in k back pid)
 streams-at k back =
-    subst (λ past. IsApart k past → AreSteady (adverts_at k past) → ArePacked k.packed (adverts_at k past) → ArePackets (reverse back) → HavePids (reverse back) → (pid : ℕ) → IsSwitchedOnce k past pid →
+    subst (λ past. TablesAreApart k past → AreSteady (adverts_at k past) → ArePacked k.packed (adverts_at k past) → ArePackets (reverse back) → HavePids (reverse back) → (pid : ℕ) → IsSwitchedOnce k past pid →
     (carried : List (List ℕ)) × (filter (payload_on pid) (spliced_network k (reverse back))
     ≡ filter (payload_on pid) (reverse (head_at k past)) ++ (lead_in pid (reverse (behind_head (Some k.program) past)) ++ carried))
     × CarriesUnits carried (placed_in k past pid)) (reverse-reverse back) (λ a s g l h pid o. streams_carry k (reverse back) a s g l h pid o)
@@ -179,7 +179,7 @@ module _ (c : Config) (filed : ℕ → Option Advertisement) (steps : List Step)
   pub same-adverts : adverts_at (setting_of c filed) (cued c steps) ≡ adverts_by c filed steps
   same-adverts = ap (λ o. adverts_of filed (streams_of_program o)) same-program
 
-  pub apart : IsApart (setting_of c filed) (cued c steps)
+  pub apart : TablesAreApart (setting_of c filed) (cued c steps)
   apart = (sound c filed steps w.run).apart
 
   pub cue-apart : is_among c.cue_pid (switched_by c steps) ≡ false

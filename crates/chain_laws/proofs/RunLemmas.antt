@@ -32,7 +32,7 @@ use Rattle.path_laws.specs.Packets.{IsRunOf}
 use Rattle.cued_laws.proofs.CuedLemmas.{injected_is_faultless}
 use Rattle.switch_laws.specs.Laws.{ArePackets}
 use Rattle.switch_laws.specs.Whole.{HavePids}
-use Rattle.switch_laws.specs.Standing.{IsSound}
+use Rattle.switch_laws.specs.Standing.{IsSwitchable}
 use Rattle.switch_laws.proofs.FaultlessLemmas.{faultless_is_sound}
 use Rattle.chain_laws.specs.Runs.{switched_by}
 
@@ -133,7 +133,7 @@ module _ (c : Config) (filed : ℕ → Option Advertisement) (steps : List Step)
   pub reads : CuedReads (Some c.program) c.cue_pid (cued c steps) (packets_in steps) (switched_by c steps)
   reads = cued-reads-again c steps r.faultless r.bytes
 
-  pub sound : IsSound (setting_of c filed) (cued c steps)
+  pub sound : IsSwitchable (setting_of c filed) (cued c steps)
   sound = faultless_is_sound (setting_of c filed) (cued c steps) (injected_is_faultless c steps r.faultless r.bytes)
 
   -- packets that are neither of the cue PID nor of the map's

@@ -26,7 +26,7 @@ use Rattle.program_follower.specs.Faults.{is_pid, pids_in, bad_pid, bad_switched
 use Rattle.psi_tables.specs.declared.network.NetworkFault.TheVariants.{BadPids, CuePidUsed}
 use Rattle.program_follower.proofs.OptionLemmas.{none_both}
 use Rattle.program_follower.proofs.StreamLemmas.{one_pid}
-use Rattle.program_laws.specs.Writing.{Along, number_on, section_out, table_out, packets_out, body, Off, MapGoesOut, GoesOut, IsClear, ReadsAgain, block}
+use Rattle.program_laws.specs.Writing.{Along, number_on, section_out, table_out, packets_out, body, Off, MapGoesOut, ChangedGoesOut, IsClear, ReadsAgain, block}
 use Rattle.program_laws.specs.CueEntry.{EntryGoes}
 use Rattle.program_laws.proofs.ByteLemmas.{all_bytes}
 use Rattle.program_laws.proofs.CuedLemmas.{IsRead, all_read}
@@ -244,7 +244,7 @@ module _ (c : Config) (filed : ℕ → Option Advertisement) (steps : List Step)
     back-by s None h = tt
     back-by s (Some m) h = let e = h.undone in rw e h.back
 
-    backs : (ts : List Table) → AllByRecursion Goes ts → AllByRecursion (GoesOut (without_cue_entry c.cue_pid) l.program) (map (table_out (with_cue_entry c.cue_pid)) ts)
+    backs : (ts : List Table) → AllByRecursion Goes ts → AllByRecursion (ChangedGoesOut (without_cue_entry c.cue_pid) l.program) (map (table_out (with_cue_entry c.cue_pid)) ts)
     backs [] h = tt
     backs (t ∷ ts) h = (back-by t.section t.program_map h.0, backs ts h.1)
 
@@ -261,8 +261,8 @@ module _ (c : Config) (filed : ℕ → Option Advertisement) (steps : List Step)
         ap (λ u. u ∷ map (table_out (without_cue_entry c.cue_pid)) (map (table_out (with_cue_entry c.cue_pid)) ts)) (same-by t.section t.program_map h.0)
         ∙ ap (λ us. t ∷ us) (sames ts h.1)
 
-    maps-go : AllByRecursion (GoesOut (without_cue_entry c.cue_pid) l.program) (all_tables (Some c.program) (sent_cues c steps))
-    maps-go = subst (AllByRecursion (GoesOut (without_cue_entry c.cue_pid) l.program)) (sym (reads c filed steps w.run).tables) (backs (all_tables (Some c.program) net) all-go)
+    maps-go : AllByRecursion (ChangedGoesOut (without_cue_entry c.cue_pid) l.program) (all_tables (Some c.program) (sent_cues c steps))
+    maps-go = subst (AllByRecursion (ChangedGoesOut (without_cue_entry c.cue_pid) l.program)) (sym (reads c filed steps w.run).tables) (backs (all_tables (Some c.program) net) all-go)
 
     -- ---- PIDs
 
@@ -337,7 +337,7 @@ module _ (c : Config) (filed : ℕ → Option Advertisement) (steps : List Step)
             pid = not-zero l g;
             front = front-clear l.pid (map-apart c filed steps w l g) p past more is;
             place = place-clear l.pid (map-apart c filed steps w l g) p past more is;
-            maps = parts-here (GoesOut (without_cue_entry c.cue_pid) l.program) p past more is (maps-go l g);
+            maps = parts-here (ChangedGoesOut (without_cue_entry c.cue_pid) l.program) p past more is (maps-go l g);
           };
         },
         clear-from past (more ++ p ∷ []) there,

@@ -28,7 +28,7 @@ use Rattle.output_laws.proofs.StepLemmas.{test-same}
 use Rattle.splice_plans.specs.Playing.{Adverts, is_played, is_crossed, played, as_played}
 use Rattle.splice_plans.specs.Adverts.{packed_units, setting_of}
 use Rattle.splice_plans.specs.Histories.{AreSteady}
-use Rattle.splice_plans.specs.Reporting.{Counts, is_not_fitted, is_unconditioned, report_of}
+use Rattle.splice_plans.specs.Reporting.{EventCounts, is_not_fitted, is_unconditioned, report_of}
 use Rattle.splice_plans.specs.Switching.{Setting, switched_at, streams_at, events_at, spliced_network}
 use Rattle.splice_plans.proofs.AdvertLemmas.{libraries_are_steady}
 use Rattle.switch_laws.specs.Laws.{ArePackets}
@@ -207,7 +207,7 @@ module _ (c : Config) (filed : ℕ → Option Advertisement) (steps : List Step)
       (λ e. ap (λ x. is_played (adverts_by c filed steps) e && x) (crossed-same (switched_by c steps) (takes-own (switched_by c steps)) e)) (armed_by c steps)
       ∙ (breaks_are_armed c steps w.run w.whole is_bad (λ e h. not-first e.cancelled (ads.fits e) (and-first (is_played ads e) _ h))).counted
 
-  abbrev counts : ℕ → ℕ → ℕ → ℕ → Counts
+  abbrev counts : ℕ → ℕ → ℕ → ℕ → EventCounts
   counts a b d i = record { played = a; not_fitted = b; unconditioned = d; ignored = i }
 
   pub breaks-counted : report_of (setting_of c filed) (sent_cues c steps) ≡ counts_by c filed steps

@@ -11,7 +11,7 @@ use Rattle.ts_packet.proofs.RunLemmas.{onto}
 use Rattle.unit_stream.specs.Times.{unit_time}
 use Rattle.unit_stream.specs.Units.{units, units_of, is_original, rest_of_unit}
 use Rattle.splice_laws.specs.Splicing.{PlayedEvent, SliceUnit, Out, Network, Inserted, TimedStream, stream, at_or_past, below, holds, outside, comes, passed, opens, begun, put_in, slice_at, all_slices_at, from, up_to}
-use Rattle.splice_laws.specs.Laws.{IsStream, IsBefore, AreOrdered}
+use Rattle.splice_laws.specs.Laws.{IsStream, EndsBeforeAll, AreOrdered}
 use Rattle.splice_laws.specs.Rows.{is_between}
 use Rattle.splice_laws.proofs.TimeLemmas.{starts_ordered, past_lower, holds-or_past, holds-past, not-below, timed_past}
 use Rattle.splice_laws.proofs.StepLemmas.{true_or_false}
@@ -122,7 +122,7 @@ module _ (r : TimedStream) (k : IsStream r) (unit : List ℕ → List (List ℕ)
 
   -- ---- one packet more
 
-  outside-below : (x : PlayedEvent) (xs : List PlayedEvent) (t : Option ℤ) → x.start ≤ℤ x.stop → IsBefore x xs → at_or_past x.start t ≡ false → outside xs t ≡ true
+  outside-below : (x : PlayedEvent) (xs : List PlayedEvent) (t : Option ℤ) → x.start ≤ℤ x.stop → EndsBeforeAll x xs → at_or_past x.start t ≡ false → outside xs t ≡ true
   outside-below x [] t l b a = refl
   outside-below x (y ∷ ys) t l b a = by_test (holds y t)
       (λ h. true_or_false (at_or_past x.start t) (past_lower x.start y.start t (starts_ordered x y l b.0) (holds-past y t h)) a)
@@ -133,7 +133,7 @@ module _ (r : TimedStream) (k : IsStream r) (unit : List ℕ → List (List ℕ)
   slices_at [] slice p past = []
   slices_at (x ∷ xs) slice p past = slice_payloads (slice_at r x (slice x) p past) ++ slices_at xs slice p past
 
-  no_slices : (x : PlayedEvent) (slice : PlayedEvent → List SliceUnit) (xs : List PlayedEvent) (p : List ℕ) (past : List (List ℕ)) → x.start ≤ℤ x.stop → IsBefore x xs → at_or_past x.start (r.time (p ∷ past)) ≡ false → slices_at xs slice p past ≡ []
+  no_slices : (x : PlayedEvent) (slice : PlayedEvent → List SliceUnit) (xs : List PlayedEvent) (p : List ℕ) (past : List (List ℕ)) → x.start ≤ℤ x.stop → EndsBeforeAll x xs → at_or_past x.start (r.time (p ∷ past)) ≡ false → slices_at xs slice p past ≡ []
   no_slices x slice [] p past l b a = refl
   no_slices x slice (y ∷ ys) p past l b a = by_test (at_or_past y.start (r.time (p ∷ past)))
       (λ h. true_or_false (at_or_past x.start (r.time (p ∷ past))) (past_lower x.start y.start (r.time (p ∷ past)) (starts_ordered x y l b.0) h) a)
@@ -162,7 +162,7 @@ module _ (r : TimedStream) (k : IsStream r) (unit : List ℕ → List (List ℕ)
   AllCrossed [] past ps = Unit {0}
   AllCrossed (x ∷ xs) past ps = CrossedIn x.start past ps × AllCrossed xs past ps
 
-  low_of : (x : PlayedEvent) (xs : List PlayedEvent) → IsBefore x xs → IsLow (Some x.stop) xs
+  low_of : (x : PlayedEvent) (xs : List PlayedEvent) → EndsBeforeAll x xs → IsLow (Some x.stop) xs
   low_of x [] b = tt
   low_of x (y ∷ ys) b = b.0
 

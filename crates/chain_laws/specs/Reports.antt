@@ -6,13 +6,13 @@ use Rattle.armed_events.specs.Arming.{ignored}
 use Rattle.injector.specs.Steps.{Step, high_of, cued}
 use Rattle.splice_plans.specs.Adverts.{setting_of}
 use Rattle.splice_plans.specs.Playing.{is_played}
-use Rattle.splice_plans.specs.Reporting.{Counts, is_not_fitted, is_unconditioned, report_of}
+use Rattle.splice_plans.specs.Reporting.{EventCounts, is_not_fitted, is_unconditioned, report_of}
 use Rattle.chain_laws.specs.Breaks.{accepted_by}
 use Rattle.chain_laws.specs.Runs.{switched_by, behind_by, adverts_by, IsWholeRun}
 
 -- THE COUNTS: the breaks that are played; those without an advertisement that fits; the played ones at whose start or last end some switched
 -- stream is not conditioned; and, of the cued stream, the cues that were ignored
-abbrev pub counts_by : Config → (ℕ → Option Advertisement) → List Step → Counts
+abbrev pub counts_by : Config → (ℕ → Option Advertisement) → List Step → EventCounts
 counts_by c filed steps = record {
   played = count_by (is_played (adverts_by c filed steps)) (accepted_by c steps);
   not_fitted = count_by (is_not_fitted (adverts_by c filed steps)) (accepted_by c steps);

@@ -2,14 +2,14 @@
 use Rattle.std.proofs.Common.{◌≡◌, ℕ, true, false, ◌⊎◌, inl, inr, refl, sym, ap, ◌∙◌, subst, List, [], ◌∷◌, ◌++◌, Option}
 use Rattle.std.specs.Prelude.{ℤ, map, is_some, if◌then◌else◌}
 use Rattle.cue_laws.specs.Events.{Turn, LineEvent, Started, Cancelled, Ended, high, before, events, stands, is_of, can_start, fresh, can_cancel, cancel_by, can_end, end_by, In}
-use Rattle.cue_laws.specs.Thinning.{IsSound, Repeats}
+use Rattle.cue_laws.specs.Thinning.{MayAllCome, Repeats}
 use Rattle.cue_laws.proofs.Settling.{by_test, can_start-parts, and_off}
 use Rattle.cue_laws.proofs.Lists.{any-false}
 use Rattle.cue_laws.proofs.Orders.{is_of-parts, is_of-is, or-neither}
 
 -- a stream that may come, with the greatest time and the events after it
 pub record Goes (h : Option ℤ) (stream : List Turn) (es : List LineEvent) : Type 0 where
-  pub sound : IsSound stream
+  pub sound : MayAllCome stream
   pub clock : high stream ≡ h
   pub list : events stream ≡ es
 

@@ -3,7 +3,7 @@ use Rattle.std.proofs.Common.{◌≡◌, ◌↔◌, ℕ, Bool, true, false, not,
 use Rattle.std.specs.Prelude.{ℤ, ◌<ℤ◌, ◌≤ℤ◌, int_le, int_lt, filter, map}
 use Rattle.std.proofs.lemmas.Int.{ints}
 use Rattle.cue_laws.specs.Events.{Turn, LineEvent, Name, Started, Cancelled, Ended, Passed, high, before, events, can_start, fresh, can_cancel, cancel_by, can_end, end_by, or_so, In, upon, covers, name_of, holders}
-use Rattle.cue_laws.specs.Thinning.{IsSound, thinned, KeepsStart, KeepsCancel, KeepsEnds}
+use Rattle.cue_laws.specs.Thinning.{MayAllCome, thinned, KeepsStart, KeepsCancel, KeepsEnds}
 use Rattle.cue_laws.specs.Cueing.{IsRun, cued}
 use Rattle.cue_laws.specs.Laws.{CuePathHolders, NothingLostIsEnough, Invariant, NoStartRefused, CuedIsSound}
 use Rattle.cue_laws.proofs.Settling.{by_test, both, lt-test, not_true}
@@ -86,7 +86,7 @@ nothing_lost_is_enough h past r = record {
     all : List Turn
     all = cued (Passed h ∷ past)
 
-    sound : IsSound all
+    sound : MayAllCome all
     sound = (cued_goes (Passed h ∷ past) r).sound
 
     which : (x : LineEvent) → In x (events (Passed h ∷ past)) → x.cancelled ≡ true → ((e : LineEvent) × In e (events all) × (e.start ≡ x.start)) ⊎ ((e : LineEvent) → In e (events all) → e.start ≡ x.start → ⊥)

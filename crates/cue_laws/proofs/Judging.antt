@@ -3,7 +3,7 @@ use Rattle.std.specs.Prelude.{ℤ, pos, ◌+ℤ◌, map}
 use Rattle.std.proofs.Common.{◌≡◌, ℕ, zero, suc, true, sym, ap, ◌∙◌, subst, List, [], ◌∷◌, arith}
 use Rattle.std.proofs.lemmas.Int.{ints}
 use Rattle.cue_laws.specs.Events.{Turn, Started, Cancelled, Ended, Passed, high, before, events, Rises, NeverFalls, stands, covers, name_of, holders, upon}
-use Rattle.cue_laws.specs.Thinning.{IsSound, times, thinned}
+use Rattle.cue_laws.specs.Thinning.{MayAllCome, times, thinned}
 use Rattle.cue_laws.specs.Cueing.{IsRun, cued}
 use Rattle.cue_laws.specs.Tables.{standing}
 use Rattle.cue_laws.specs.Laws.{TableIsJudged}
@@ -26,7 +26,7 @@ falls-ends : (n id : ℕ) (time : ℤ) (rest : List Turn) → NeverFalls rest �
 falls-ends zero id time rest f = f
 falls-ends (suc n) id time rest f = falls-ends n id time rest f
 
-falls-thinned : (copies : List Turn → ℕ) (all : List Turn) → IsSound all → NeverFalls (thinned copies all)
+falls-thinned : (copies : List Turn → ℕ) (all : List Turn) → MayAllCome all → NeverFalls (thinned copies all)
 falls-thinned copies [] s = tt
 falls-thinned copies (Started id start end ∷ past) s = falls-starts (copies (Started id start end ∷ past)) id start end (thinned copies past) (falls-thinned copies past s.1)
 falls-thinned copies (Cancelled id ∷ past) s = falls-cancels (copies (Cancelled id ∷ past)) id (thinned copies past) (falls-thinned copies past s.1)

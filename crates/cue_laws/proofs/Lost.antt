@@ -3,7 +3,7 @@ use Rattle.std.proofs.Common.{◌≡◌, ℕ, ◌<◌, zero, suc, Bool, true, fa
 use Rattle.std.specs.Prelude.{ℤ, pos, ◌+ℤ◌, ◌<ℤ◌, map}
 use Rattle.std.proofs.lemmas.Int.{ints}
 use Rattle.cue_laws.specs.Events.{Turn, LineEvent, Name, Started, Cancelled, Ended, Passed, high, before, events, taken, NeverFalls, stands, is_of, can_start, fresh, can_cancel, cancel_by, end_by, or_so, name_of, In, upon}
-use Rattle.cue_laws.specs.Thinning.{MayCome, IsSound, times, thinned, KeepsEnds, KeepsStart, KeepsCancel, Knows}
+use Rattle.cue_laws.specs.Thinning.{MayCome, MayAllCome, times, thinned, KeepsEnds, KeepsStart, KeepsCancel, Knows}
 use Rattle.cue_laws.specs.Laws.{LostCues, LostCuesAtTheEnd}
 use Rattle.cue_laws.proofs.Settling.{by_test, reached_upon}
 use Rattle.cue_laws.proofs.Lists.{In-map, In-mapped, has_start}
@@ -76,7 +76,7 @@ module _ (copies : List Turn → ℕ) where
           let can = start_taken (high past) id start end es (events (Started id start end ∷ past)) x.0 (orderly_step (Started id start end) past m o) x.1 c none in
           simp can (fresh id start end, inl refl, refl)
 
-  pub kept_armed : (all : List Turn) → IsSound all → KeepsEnds copies all → (id : ℕ) (start end : ℤ) → In (Started id start end) (thinned copies all) → Has start (events (thinned copies all))
+  pub kept_armed : (all : List Turn) → MayAllCome all → KeepsEnds copies all → (id : ℕ) (start end : ℤ) → In (Started id start end) (thinned copies all) → Has start (events (thinned copies all))
   kept_armed [] s k id start end i = absurd i
   kept_armed (Started id' start' end' ∷ past) s k id start end i =
       which (In-times (Started id start end) (Started id' start' end') (copies (Started id' start' end' ∷ past)) (thinned copies past) i)
@@ -219,7 +219,7 @@ module _ (copies : List Turn → ℕ) where
           let h = high (times (suc n) (Cancelled id) (thinned copies past)) in
           cancelled-map (cancel_by h id) (cancel-shrinks h id) x.start (events (times (suc n) (Cancelled id) (thinned copies past))) (here (suc n) (omega arith))
 
-  gone : (x : LineEvent) (all : List Turn) → IsSound all → KeepsEnds copies all → KeepsCancel copies x all → Gone x all
+  gone : (x : LineEvent) (all : List Turn) → MayAllCome all → KeepsEnds copies all → KeepsCancel copies x all → Gone x all
   gone x [] s k c = absurd c
   gone x (Started id start end ∷ past) s k c = gone_starts x id start end past s.0 (orderly past s.1) (gone x past s.1 k c)
   gone x (Cancelled id ∷ past) s k (inl c) =
@@ -242,14 +242,14 @@ module _ (copies : List Turn → ℕ) where
 
 -- ---- fronts
 
-falls : (all : List Turn) → IsSound all → NeverFalls all
+falls : (all : List Turn) → MayAllCome all → NeverFalls all
 falls [] s = tt
 falls (Started id start end ∷ past) s = falls past s.1
 falls (Cancelled id ∷ past) s = falls past s.1
 falls (Ended id time ∷ past) s = falls past s.1
 falls (Passed h ∷ past) s = (s.0, falls past s.1)
 
-sound_front : (front later : List Turn) → IsSound (upon later front) → IsSound front
+sound_front : (front later : List Turn) → MayAllCome (upon later front) → MayAllCome front
 sound_front front [] s = s
 sound_front front (x ∷ later) s = sound_front front later s.1
 
@@ -268,7 +268,7 @@ kept_later copies x front (Ended id time ∷ later) i = In-under x _ (copies (En
 kept_later copies x front (Passed h ∷ later) i = inr (kept_later copies x front later i)
 
 -- a start cue of an event that has begun came before
-kept_before : (copies : List Turn → ℕ) (id : ℕ) (start end : ℤ) (front later : List Turn) → IsSound (upon later front) → before (high front) start ≡ false
+kept_before : (copies : List Turn → ℕ) (id : ℕ) (start end : ℤ) (front later : List Turn) → MayAllCome (upon later front) → before (high front) start ≡ false
     → In (Started id start end) (thinned copies (upon later front)) → In (Started id start end) (thinned copies front)
 kept_before copies id start end front [] s b i = i
 kept_before copies id start end front (Started id' start' end' ∷ later) s b i =
@@ -303,7 +303,7 @@ kept_before copies id start end front (Passed h ∷ later) s b (inl is) = cc
 kept_before copies id start end front (Passed h ∷ later) s b (inr i) = kept_before copies id start end front later s.1 b i
 
 -- and so did its cancel
-cancel_before : (copies : List Turn → ℕ) (x : LineEvent) (front later : List Turn) → IsSound (upon later front) → before (high front) x.start ≡ false
+cancel_before : (copies : List Turn → ℕ) (x : LineEvent) (front later : List Turn) → MayAllCome (upon later front) → before (high front) x.start ≡ false
     → KeepsCancel copies x (upon later front) → KeepsCancel copies x front
 cancel_before copies x front [] s b k = k
 cancel_before copies x front (Started id start end ∷ later) s b k = cancel_before copies x front later s.1 b k
@@ -360,7 +360,7 @@ equal_events a t p q r s u =
 matched_equal : (a t : LineEvent) → Match a t → a.cancelled ≡ t.cancelled → a ≡ t
 matched_equal a t m c = equal_events a t m.id m.start m.asked m.end c
 
-module _ (copies : List Turn → ℕ) (front : List Turn) (sound : IsSound front) (ends : KeepsEnds copies front) where
+module _ (copies : List Turn → ℕ) (front : List Turn) (sound : MayAllCome front) (ends : KeepsEnds copies front) where
   -- from what is left: `no_cancel` says that the event there is not cancelled
   forth : (x : LineEvent) → x.cancelled ≡ false → ((t : LineEvent) → In t (events front) → name_of t ≡ name_of x → t.cancelled ≡ true → ⊥)
       → In x (events (thinned copies front)) → In x (events front)
@@ -396,7 +396,7 @@ pub lost_cues : LostCues
 lost_cues copies front later s k x c b =
     (λ i. forth copies front sound ends x c (none i) i, λ i. back copies front sound ends x c (starts i) i)
   where
-    sound : IsSound front
+    sound : MayAllCome front
     sound = sound_front front later s
 
     ends : KeepsEnds copies front

@@ -4,7 +4,7 @@ use Rattle.std.specs.Prelude.{ℤ, pos, ◌+ℤ◌, ◌<ℤ◌, ◌≤ℤ◌, in
 use Rattle.std.proofs.lemmas.Int.{ints}
 use Rattle.std.proofs.lemmas.Bool.Decides.{nat_tests}
 use Rattle.cue_laws.specs.Events.{Turn, LineEvent, Started, Cancelled, Ended, Passed, high, before, events, Rises, stands, is_of, bars, count, can_start, fresh, can_cancel, cancel_by, can_end, end_by, or_so, In}
-use Rattle.cue_laws.specs.Thinning.{MayCome, IsSound}
+use Rattle.cue_laws.specs.Thinning.{MayCome, MayAllCome}
 use Rattle.cue_laws.proofs.Settling.{by_test, both, ge-test, can_start-parts, CanStart, can_end-parts}
 use Rattle.cue_laws.proofs.Lists.{In-mapped, any-false, Distinct, distinct-map}
 
@@ -269,6 +269,6 @@ orderly_step (Cancelled id) past m o = orderly-map (high past) (cancel_by (high 
 orderly_step (Ended id time) past m o = orderly-map (high past) (end_by (high past) id time) (end-shrinks (high past) id time) (events past) o
 orderly_step (Passed h) past m o = orderly-passed (high past) h m (events past) o
 
-pub orderly : (all : List Turn) → IsSound all → Orderly (high all) (events all)
+pub orderly : (all : List Turn) → MayAllCome all → Orderly (high all) (events all)
 orderly [] s = orderly-none
 orderly (x ∷ past) s = orderly_step x past s.0 (orderly past s.1)

@@ -3,7 +3,7 @@ use Rattle.std.proofs.Common.{◌≡◌, ◌↔◌, ℕ, Bool, true, false, ◌�
 use Rattle.std.specs.Prelude.{ℤ, pos, ◌+ℤ◌, int_lt, map, if◌then◌else◌}
 use Rattle.std.proofs.lemmas.Int.{ints}
 use Rattle.cue_laws.specs.Events.{Turn, LineEvent, Started, Cancelled, Ended, Passed, high, events, Rises, stands, cancel_by, end_by, In, upon}
-use Rattle.cue_laws.specs.Thinning.{IsSound, KeepsEnough}
+use Rattle.cue_laws.specs.Thinning.{MayAllCome, KeepsEnough}
 use Rattle.cue_laws.specs.Cueing.{IsRun, Told, Untold, Known, Never, Sender, is_cancel_new, is_news, current, is_due, end_on, told_on, block_on, told_now, tell, change, senders, cued}
 use Rattle.cue_laws.specs.Laws.{KeepsEnoughOf, CuePath, CuePathAtTheEnd}
 use Rattle.cue_laws.proofs.Settling.{by_test, ge-test, lt-test}
@@ -233,7 +233,7 @@ pub cue_path : CuePath
 cue_path copies h past later last r k x c b =
     let run = upon later (Passed h ∷ past) in
     let f = front_whole h last past later in
-    let sound = subst IsSound f.1 (cued_goes (Passed last ∷ run) r).sound in
+    let sound = subst MayAllCome f.1 (cued_goes (Passed last ∷ run) r).sound in
     let kept = subst (KeepsEnough copies) f.1 (enough copies last run r k) in
     let lost = lost_cues copies (cued (Passed h ∷ past)) f.0 sound kept x c b in
     let whole = nothing_lost h past (run_front (Passed h ∷ past) later r.1) x c in

@@ -3,7 +3,7 @@ use Rattle.std.proofs.Common.{◌≡◌, ℕ, ◌<◌, zero, suc, true, false, �
 use Rattle.std.specs.Prelude.{ℤ, map, if◌then◌else◌}
 use Rattle.std.proofs.lemmas.Int.{ints}
 use Rattle.cue_laws.specs.Events.{Turn, LineEvent, Started, Cancelled, Ended, Passed, high, events, taken, is_of, can_start, fresh, can_cancel, cancel_by, can_end, end_by, In}
-use Rattle.cue_laws.specs.Thinning.{MayCome, IsSound, Repeats, times, thinned, KeepsEnds}
+use Rattle.cue_laws.specs.Thinning.{MayCome, MayAllCome, Repeats, times, thinned, KeepsEnds}
 use Rattle.cue_laws.proofs.Settling.{by_test, can_end-parts}
 use Rattle.cue_laws.proofs.Lists.{In-mapped}
 use Rattle.cue_laws.proofs.Orders.{Orderly, orderly, orderly_step, or-right, end-shrinks, stands-back, is_of-parts, is_of-is}
@@ -117,7 +117,7 @@ module _ (copies : List Turn → ℕ) where
   below_end zero id time past m (inr same) b = subst (λ all. Below (events (thinned copies past)) all) (sym same) b
   below_end (suc n) id time past m keeps b = below_ends n id time past m b
 
-  pub below : (all : List Turn) → IsSound all → KeepsEnds copies all → Below (events (thinned copies all)) (events all)
+  pub below : (all : List Turn) → MayAllCome all → KeepsEnds copies all → Below (events (thinned copies all)) (events all)
   below [] s k = below-none
   below (Started id start end ∷ past) s k =
       below_starts (copies (Started id start end ∷ past)) id start end past s.0 (orderly past s.1) (below past s.1 k)

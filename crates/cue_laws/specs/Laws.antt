@@ -1,7 +1,7 @@
 -- The laws, over the definitions alone.
 use Rattle.std.specs.Prelude.{◌≡◌, ◌↔◌, ◌⊎◌, ℕ, true, false, List, ◌∷◌, ℤ, Option, pos, ◌+ℤ◌}
 use Rattle.cue_laws.specs.Events.{Turn, Started, Passed, LineEvent, high, before, events, NeverFalls, holders, upon, In}
-use Rattle.cue_laws.specs.Thinning.{IsSound, thinned, IsThinned, KeepsEnough, KeepsStart, KeepsCancel, KeepsEnds}
+use Rattle.cue_laws.specs.Thinning.{MayAllCome, thinned, IsThinned, KeepsEnough, KeepsStart, KeepsCancel, KeepsEnds}
 use Rattle.cue_laws.specs.Cueing.{IsRun, cued}
 use Rattle.cue_laws.specs.Tables.{standing, uncancelled_events}
 
@@ -12,12 +12,12 @@ Settlement = (past later : List Turn) (time : ℤ) → NeverFalls (upon later pa
 
 -- LOST CUES, at every front: the uncancelled events whose start is reached are the same, in all fields, with cues lost as without
 abbrev pub LostCues : Type 0
-LostCues = (copies : List Turn → ℕ) (front later : List Turn) → IsSound (upon later front) → KeepsEnough copies (upon later front) →
+LostCues = (copies : List Turn → ℕ) (front later : List Turn) → MayAllCome (upon later front) → KeepsEnough copies (upon later front) →
     (x : LineEvent) → x.cancelled ≡ false → before (high front) x.start ≡ false → In x (events (thinned copies front)) ↔ In x (events front)
 
 -- and at the end all uncancelled events are
 abbrev pub LostCuesAtTheEnd : Type 0
-LostCuesAtTheEnd = (copies : List Turn → ℕ) (all : List Turn) → IsSound all → KeepsEnough copies all →
+LostCuesAtTheEnd = (copies : List Turn → ℕ) (all : List Turn) → MayAllCome all → KeepsEnough copies all →
     (x : LineEvent) → x.cancelled ≡ false → In x (events (thinned copies all)) ↔ In x (events all)
 
 -- THE PREMISE OF THINNING, in the injector's words: each event never cancelled keeps a start cue, each cancelled one a cancel cue or none of
@@ -29,7 +29,7 @@ pub record KeepsEnoughOf (copies : List Turn → ℕ) (run : List Turn) : Type 0
 
 -- WITH NOTHING LOST: every cue of a run may come, so a splicer refuses none
 abbrev pub CuedIsSound : Type 0
-CuedIsSound = (run : List Turn) → IsRun run → IsSound (cued run)
+CuedIsSound = (run : List Turn) → IsRun run → MayAllCome (cued run)
 
 -- THE CUE PATH: behind each packet of a run, the uncancelled events whose start is reached are the same on both sides, in all fields,
 -- whatever cues were lost

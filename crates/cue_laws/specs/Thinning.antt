@@ -21,9 +21,9 @@ MayCome (Ended id time) past = (e : LineEvent) → In e (events past) → is_of 
 MayCome (Passed h) past = Rises (high past) h
 
 -- so all of them
-abbrev pub IsSound : List Turn → Type 0
-IsSound [] = Unit {0}
-IsSound (s ∷ past) = MayCome s past × IsSound past
+abbrev pub MayAllCome : List Turn → Type 0
+MayAllCome [] = Unit {0}
+MayAllCome (s ∷ past) = MayCome s past × MayAllCome past
 
 -- so many of it
 abbrev pub times : {X : Type 0} → ℕ → X → List X → List X

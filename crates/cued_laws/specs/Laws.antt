@@ -17,7 +17,7 @@ ArePacketsOfBytes past = Along (λ p past. AreBytes p) past
 
 -- THE LAW OF THE CUED STREAM'S FAULTS. A network without fault for those who write cues on this PID, whatever packets of it are put in front
 -- of the network's, is with the entry for cues in its maps without fault for those who read cues there. So no time jumps, no header is split,
--- nothing is scrambled, the tables list what they listed, and the entry takes no PID that the programme has.
+-- nothing is scrambled, the tables list what they listed, and the entry takes no PID that the program has.
 abbrev pub CuedIsFaultless : Type 0
 CuedIsFaultless = (wanted : Option ℕ) (cue : ℕ) (cues : List ℕ → List (List ℕ) → List (List ℕ)) (past : List (List ℕ)) →
     (cue ≡ 0 → ⊥) → cue < 8192 → first_fault (purposes.writing_cues wanted cue) past ≡ None → ArePacketsOfBytes past →

@@ -60,7 +60,7 @@ covers time s = not s.cancelled && int_le s.start time && int_lt time (end_of s)
 abbrev pub meets : Standing → Standing → Bool
 meets a b = int_lt a.start (end_of b) && int_lt b.start (end_of a)
 
--- the same request: equal in id, start, length first asked and programme
+-- the same request: equal in id, start, length first asked and program
 abbrev pub repeats : Standing → Standing → Bool
 repeats a b = a.id == b.id && int_eq a.start b.start && a.asked == b.asked && a.program == b.program
 

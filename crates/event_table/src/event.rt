@@ -108,7 +108,7 @@ impl Event {
         is_before(self.start, other.end()) && is_before(other.start, self.end())
     }
 
-    /// Whether the two are the same request: in id, start, length first asked and programme.
+    /// Whether the two are the same request: in id, start, length first asked and program.
     pub(crate) fn repeats(&self, other: &Event) -> bool
         ensures { result ≡ repeats_on_ring self.now other.now }
     {

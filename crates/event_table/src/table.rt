@@ -172,7 +172,7 @@ impl<T: Copy + Default> Table<T> {
         }
     }
 
-    /// Whether the event repeats one that stands, cancelled or not: equal in id, start, length first asked and programme. It may lie
+    /// Whether the event repeats one that stands, cancelled or not: equal in id, start, length first asked and program. It may lie
     /// anywhere, also before the high time, where `arm` takes none.
     pub fn is_repeat(&self, event: &Event) -> bool
         ensures { (line : Option ℤ) (standing : List Standing) → StandsFor self.now line standing →

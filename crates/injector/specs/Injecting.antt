@@ -96,7 +96,7 @@ pub record IsBodyOf (i : Injector) (is_map : Bool) (c : Config) (p : List ℕ) (
   pub sound : network_fault (purpose_of c) p past ≡ None
   pub map : is_map ≡ on_map (listed (Some c.program) past) p
 
-pub record IsFed (i : Injector) (is_map : Bool) (c : Config) (p : List ℕ) (past : List Step) : Type 0 where
+pub record IsFollowed (i : Injector) (is_map : Bool) (c : Config) (p : List ℕ) (past : List Step) : Type 0 where
   pub judges : JudgesBy i c past
   pub notes : NotesStandFor i.requests c.index (turns_in c.program past)
   pub news : i.has_news ≡ has_news c.index (turns_in c.program past)

@@ -24,7 +24,7 @@ fronts c (Packet q ∷ past) p ps =
     if length ps == length (packets_in past) then cue_packets c q past (cued c past) else fronts c past p ps
 
 -- THE LAW OF THE TWO CUED STREAMS. What goes out for a history is the network of its packets with its cues in front of them, and with the
--- entry for cues in each map of the programme. So it holds of a network without fault: where a packet on the PID of the map was one on the
+-- entry for cues in each map of the program. So it holds of a network without fault: where a packet on the PID of the map was one on the
 -- PID of the cues, the sections of the maps would go on with the counter of the cues before them in the one, and not in the other.
 pub record IsCuedNetwork (c : Config) (past : List Step) : Type 0 where
   pub stream : cued c past ≡ cued_network (Some c.program) c.cue_pid (fronts c past) (packets_in past)
@@ -34,7 +34,7 @@ abbrev pub CuedIsWritten : Type 0
 CuedIsWritten = (c : Config) (past : List Step) → first_fault (purpose_of c) (packets_in past) ≡ None →
     IsCuedNetwork c past
 
--- and so it has the network's PAT, programme and units, and stripped again its sections
+-- and so it has the network's PAT, program and units, and stripped again its sections
 abbrev pub CuedReadsAgain : Type 0
 CuedReadsAgain = (c : Config) (past : List Step) → first_fault (purpose_of c) (packets_in past) ≡ None →
     Along (λ p ps. AreBytes p) (packets_in past) →

@@ -18,7 +18,7 @@ ghost use Rattle.injector.specs.Steps.{Step, Message as MessageStep, Packet as P
 ghost use Rattle.injector.specs.Steps.{high_of};
 ghost use Rattle.injector.specs.Steps.{purpose_of, body_at, sent_at};
 ghost use Rattle.injector.specs.Injecting.{InjectorStandsFor, JudgesBy, FeedFails, FeedBlamed, KeepsSink, CountsAre, network_answer};
-ghost use Rattle.injector.specs.Injecting.{IsFed, IsBodyOf, RestsAt, KeepsRest, is_map_place, is_err_or};
+ghost use Rattle.injector.specs.Injecting.{IsFollowed, IsBodyOf, RestsAt, KeepsRest, is_map_place, is_err_or};
 
 use crate::choice::is_reached;
 use crate::counts::{MessageCounts, counted, has_news_behind};
@@ -178,13 +178,13 @@ impl Injector {
         ensures leads { S.leads sink.old sink.new }
         ensures ok { (start : Option (List ℕ)) (ps : List (List ℕ)) (c : Config) (past : List Step) →
             S.holds sink.old start ps →
-            IsFed self.old is_map c packet.now past →
+            IsFollowed self.old is_map c packet.now past →
             OnOk result (S.holds sink.new start (ps ++ sent_at c packet.now past)) }
-        ensures stands { (c : Config) (past : List Step) → IsFed self.old is_map c packet.now past →
+        ensures stands { (c : Config) (past : List Step) → IsFollowed self.old is_map c packet.now past →
             OnOk result (InjectorStandsFor self.new c (PacketStep packet.now ∷ past)) }
         ensures err { (start : Option (List ℕ)) (ps : List (List ℕ)) (c : Config) (past : List Step) →
             S.holds sink.old start ps →
-            IsFed self.old is_map c packet.now past →
+            IsFollowed self.old is_map c packet.now past →
             IfErr result (λ f. FrontFails (sent_at c packet.now past)
             (λ put p. S.fails sink.new start (ps ++ put) p f)) }
         ensures judges { (c : Config) (past : List Step) → JudgesBy self.old c past →
@@ -214,7 +214,7 @@ impl Injector {
     /// time that is kept, or a request was accepted since the last packet. It looks at no event.
     #[inline(always)]
     fn is_due(&self, later: &Option<Time33>) -> bool
-        ensures { (is_map : Bool) (c : Config) (p : List ℕ) (past : List Step) → IsFed self.now is_map c p past →
+        ensures { (is_map : Bool) (c : Config) (p : List ℕ) (past : List Step) → IsFollowed self.now is_map c p past →
             later.now ≡ option_map ring_of (high_of c.program (p ∷ packets_in past)) → result ≡ false →
             StaysAtRest self.now.rest c.index (high_of c.program (p ∷ packets_in past)) (turns_in c.program past) }
     {

@@ -12,7 +12,7 @@ pub fn cued_is_written()
     ensures { CuedIsWritten }
 {}
 
-/// Of a network without fault it has the PAT, the programme and the units, and stripped again the sections.
+/// Of a network without fault it has the PAT, the program and the units, and stripped again the sections.
 pub fn cued_reads_again()
     ensures { CuedReadsAgain }
 {}

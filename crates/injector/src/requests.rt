@@ -32,7 +32,7 @@ const MILLISECOND: u64 = 90;
 /// Ticks of 90 kHz in a tenth of a second, the unit of `break_duration`.
 const TENTH: u64 = 9_000;
 
-/// The requests of one programme: they are judged by the greatest time of the network, of which they are told, and the events that stand.
+/// The requests of one program: they are judged by the greatest time of the network, of which they are told, and the events that stand.
 #[derive(Drop)]
 pub struct Requests {
     index: u16,

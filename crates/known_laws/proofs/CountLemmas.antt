@@ -12,7 +12,7 @@ use Rattle.armed_laws.specs.Laws.{Becomes, Grows}
 use Rattle.splice_laws.specs.Settled.{IsAhead}
 use Rattle.splice_plans.specs.Playing.{Adverts, History, is_played}
 use Rattle.splice_plans.specs.Histories.{AreSteady}
-use Rattle.splice_plans.specs.Reporting.{Counts, one_if, is_not_fitted}
+use Rattle.splice_plans.specs.Reporting.{EventCounts, one_if, is_not_fitted}
 use Rattle.splice_plans.specs.Known.{is_crossed_known, is_forgotten}
 use Rattle.known_laws.proofs.SameLemmas.{any-crossed-same}
 
@@ -78,7 +78,7 @@ module _ (line : Option ℤ) (a b : Standing → Bool) (same : (e x : Standing) 
       count-grows line (λ e. is_forgotten line e && a e) (λ x. is_forgotten line x && b x) both-same (λ x ahead. ap (λ f. f && b x) (new-stands line x ahead)) es later g
 
 -- counts over the events that the test takes
-abbrev pub counts_of : List ℕ → Adverts → History → List (List ℕ) → List Standing → (Standing → Bool) → Counts
+abbrev pub counts_of : List ℕ → Adverts → History → List (List ℕ) → List Standing → (Standing → Bool) → EventCounts
 counts_of switched ads events behind es takes = record {
   played = count_by (λ e. takes e && is_played ads e) es;
   not_fitted = count_by (λ e. takes e && is_not_fitted ads e) es;
@@ -86,7 +86,7 @@ counts_of switched ads events behind es takes = record {
   ignored = 0;
 }
 
-abbrev pub three_counts : ℕ → ℕ → ℕ → Counts
+abbrev pub three_counts : ℕ → ℕ → ℕ → EventCounts
 three_counts a b c = record { played = a; not_fitted = b; unconditioned = c; ignored = 0 }
 
 pub same-counts : {a b c d e f : ℕ} → a ≡ b → c ≡ d → e ≡ f → three_counts a c e ≡ three_counts b d f

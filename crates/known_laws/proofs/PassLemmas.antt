@@ -33,7 +33,7 @@ use Rattle.splice_plans.specs.Known.{plan_found, plan_at, crossed_known, is_cros
 use Rattle.splice_plans.specs.Reporting.{one_if, is_not_fitted, with_counted, is_out_at}
 use Rattle.splice_plans.proofs.KnownLemmas.{all-settled}
 use Rattle.splice_plans.proofs.HistoryLemmas.{armed_is_history, never-falls}
-use Rattle.known_laws.specs.Laws.{Passes, PacketsPass}
+use Rattle.known_laws.specs.Laws.{PassesOn, PacketsPass}
 use Rattle.known_laws.proofs.HeadLemmas.{same-switched, same-adverts, more-behind, same-history, high-next, history-next}
 use Rattle.known_laws.proofs.QuietLemmas.{crossed-still}
 use Rattle.known_laws.proofs.AheadLemmas.{each-map, all-in}
@@ -334,7 +334,7 @@ module _ (k : Setting) (p : List ℕ) (past : List (List ℕ)) (m : ProgramMap) 
   risen-to : (later : ℤ) → high_at k (p ∷ past) ≡ Some later → Risen line (Some later)
   risen-to later h = subst (λ l. Risen line l) h (never-falls k p past)
 
-  pub passes : Passes k p past
+  pub passes : PassesOn k p past
   passes = record {
     plans = five (λ s a h b es. λ (start : ℤ). plan_at s a h b es start);
     inside = five (λ s a h b es. λ (pid : ℕ). is_inside a es (unit_time s pid b));
@@ -350,6 +350,6 @@ module _ (k : Setting) (p : List ℕ) (past : List (List ℕ)) (m : ProgramMap) 
 pub packets_pass : PacketsPass
 packets_pass k p past behind off steady sound = by (known_map (Some k.program) past) refl
   where
-    by : (o : Option ProgramMap) → known_map (Some k.program) past ≡ o → Passes k p past
+    by : (o : Option ProgramMap) → known_map (Some k.program) past ≡ o → PassesOn k p past
     by None none = absurd (true≢false (sym behind ∙ ap (λ o. is_some (option_map program_in o)) none))
     by (Some m) is = passes k p past m is behind off steady sound

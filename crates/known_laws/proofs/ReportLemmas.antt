@@ -22,7 +22,7 @@ use Rattle.splice_plans.specs.Parts.{beside}
 use Rattle.splice_plans.specs.Known.{plan_found, crossed_known, is_crossed_known, adverts_at, behind_at, plans_at, is_forgotten}
 use Rattle.splice_plans.specs.Reporting.{one_if, is_not_fitted, is_unconditioned, is_any}
 use Rattle.splice_plans.proofs.HistoryLemmas.{armed_is_history}
-use Rattle.known_laws.specs.Laws.{AreFaultless, IsWhole, ReportsAreWhole, PlansTellCrossings}
+use Rattle.known_laws.specs.Laws.{AreFaultless, IsWholeReport, ReportsAreWhole, PlansTellCrossings}
 use Rattle.known_laws.proofs.HeadLemmas.{none-armed, history-now}
 use Rattle.known_laws.proofs.AheadLemmas.{each-map, all-in}
 use Rattle.known_laws.proofs.CountLemmas.{count-cons, same-count}
@@ -179,7 +179,7 @@ module _ (k : Setting) (past : List (List ℕ)) (plans : List Plan) (steady : Ar
       by true a b h = h refl
       by false a b h = refl
 
-  whole : map (λ (plan : Plan). plan.is_crossed) plans ≡ map known (standing k.cue_pid (high_at k) past) → IsWhole k past plans
+  whole : map (λ (plan : Plan). plan.is_crossed) plans ≡ map known (standing k.cue_pid (high_at k) past) → IsWholeReport k past plans
   whole h =
       let es = events_at k past in
       let some = standing k.cue_pid (high_at k) past in

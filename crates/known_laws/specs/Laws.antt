@@ -12,7 +12,7 @@ use Rattle.splice_plans.specs.Switching.{Setting, fate, switched_at, high_at, ev
 use Rattle.splice_plans.specs.Histories.{AreSteady}
 use Rattle.splice_plans.specs.Parts.{beside}
 use Rattle.splice_plans.specs.Known.{nothing_known, is_crossed_known, AllGo, adverts_at, behind_at, plans_at, inside_at, moves_at, puts_at, counts_known, is_forgotten}
-use Rattle.splice_plans.specs.Reporting.{Counts, with_counted, is_out_at, is_any, report_of}
+use Rattle.splice_plans.specs.Reporting.{EventCounts, with_counted, is_out_at, is_any, report_of}
 
 -- the events that stand behind a past
 abbrev pub standing_behind : Setting → List (List ℕ) → List Standing
@@ -27,7 +27,7 @@ abbrev pub plans_with : Setting → List ℕ → List (List ℕ) → List Plan
 plans_with k p past = values_by (plans_at k past (p ∷ behind_at k past)) (standing_behind k past)
 
 -- the counts over the events that are forgotten
-abbrev pub forgotten_counts : Setting → List (List ℕ) → Counts
+abbrev pub forgotten_counts : Setting → List (List ℕ) → EventCounts
 forgotten_counts k past = counts_known k past (is_forgotten (high_at k past))
 
 -- ---- a packet of no switched stream, as one with cues
@@ -49,7 +49,7 @@ OthersChangeNothing = (k : Setting) (p : List ℕ) (past : List (List ℕ)) → 
 -- ---- a packet behind the head that is none of the cues
 
 -- what is known is what was known with it; with the events that were forgotten count those that stand no longer
-pub record Passes (k : Setting) (p : List ℕ) (past : List (List ℕ)) : Type 0 where
+pub record PassesOn (k : Setting) (p : List ℕ) (past : List (List ℕ)) : Type 0 where
   pub plans : plans_at k (p ∷ past) (behind_at k (p ∷ past)) ≡ plans_at k past (p ∷ behind_at k past)
   pub inside : inside_at k (p ∷ past) (behind_at k (p ∷ past)) ≡ inside_at k past (p ∷ behind_at k past)
   pub moves : moves_at k (p ∷ past) ≡
@@ -64,7 +64,7 @@ pub record Passes (k : Setting) (p : List ℕ) (past : List (List ℕ)) : Type 0
 
 abbrev pub PacketsPass : Type 0
 PacketsPass = (k : Setting) (p : List ℕ) (past : List (List ℕ)) → is_behind_head k past ≡ true → on k.cue_pid p ≡ false →
-    AreSteady (adverts_at k past) → unit_fault (switched_at k past) p (behind_at k past) ≡ None → Passes k p past
+    AreSteady (adverts_at k past) → unit_fault (switched_at k past) p (behind_at k past) ≡ None → PassesOn k p past
 
 -- ---- the report
 
@@ -74,11 +74,11 @@ AreFaultless switched [] = Unit {0}
 AreFaultless switched (p ∷ past) = (unit_fault switched p past ≡ None) × AreFaultless switched past
 
 -- counts over the events that stand, each beside its plan, on top of those over the events that are forgotten
-abbrev pub counted_in_all : Setting → List (List ℕ) → List Plan → Counts
+abbrev pub counted_in_all : Setting → List (List ℕ) → List Plan → EventCounts
 counted_in_all k past plans = with_counted is_any (adverts_at k past) (beside (standing_behind k past) plans) (forgotten_counts k past)
 
 -- they are the report's; the ignored cues are the table's
-pub record IsWhole (k : Setting) (past : List (List ℕ)) (plans : List Plan) : Type 0 where
+pub record IsWholeReport (k : Setting) (past : List (List ℕ)) (plans : List Plan) : Type 0 where
   pub played : (counted_in_all k past plans).played ≡ (report_of k past).played
   pub not_fitted : (counted_in_all k past plans).not_fitted ≡ (report_of k past).not_fitted
   pub unconditioned : (counted_in_all k past plans).unconditioned ≡ (report_of k past).unconditioned
@@ -89,7 +89,7 @@ ReportsAreWhole = (k : Setting) (past : List (List ℕ)) (plans : List Plan) →
     AreFaultless (switched_at k past) (behind_at k past) →
     map (λ (plan : Plan). plan.is_crossed) plans
     ≡ map (is_crossed_known (switched_at k past) (adverts_at k past) (history_at k past) (behind_at k past)) (standing_behind k past) →
-    IsWhole k past plans
+    IsWholeReport k past plans
 
 -- THE LAW OF CROSSINGS: the plans beside the events that stand say which of these a stream has crossed
 abbrev pub PlansTellCrossings : Type 0

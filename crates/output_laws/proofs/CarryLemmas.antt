@@ -15,7 +15,7 @@ use Rattle.unit_stream.specs.UnitPackets.{AllOn}
 use Rattle.unit_stream.proofs.PackedLemmas.{carries_one}
 use Rattle.unit_cut.proofs.CutCarries.{row_joins}
 use Rattle.splice_laws.specs.Splicing.{SliceUnit}
-use Rattle.output_laws.specs.Output.{Move, Keep, Leave, Put, network, Packing, counter_steps, clock_alone, out_after, Sound, Place, Keeping, Leaving, Between, behind_put, place, IsWhole, Along, units_out}
+use Rattle.output_laws.specs.Output.{Move, Keep, Leave, Put, network, Packing, counter_steps, clock_alone, out_after, Sound, Place, Keeping, Leaving, Between, behind_put, place, KeepsUnitsWhole, AlongMoves, units_out}
 use Rattle.output_laws.specs.Laws.{OutputCarriesUnits}
 use Rattle.output_laws.proofs.StepLemmas.{onto_moves, along_past, test-same, kept_on, payload_on-kept, payload_on-clock}
 use Rattle.output_laws.proofs.GaplessLemmas.{test-true, below_16, one_below, other_pid, es}
@@ -50,10 +50,10 @@ module _ (pid : ℕ) where
   abbrev pub row_of : List Move → List Move → List (List ℕ)
   row_of past ss = rest_of_row pid (filter (has_payload pid) (seen_after (network past) (network ss)))
 
-  no_more_row : (past ss : List Move) → Along (IsWhole pid) (onto_moves past ss) → place pid past ≡ Between → row_of past ss ≡ []
+  no_more_row : (past ss : List Move) → AlongMoves (KeepsUnitsWhole pid) (onto_moves past ss) → place pid past ≡ Between → row_of past ss ≡ []
   no_more_row past [] w h = refl
   no_more_row past (Keep p ∷ ss) w h =
-      let here = (along_past (IsWhole pid) (Keep p ∷ past) ss w).0 in
+      let here = (along_past (KeepsUnitsWhole pid) (Keep p ∷ past) ss w).0 in
       by_test (payload_on pid p)
       (λ y. by_test (repeats pid p (network past))
       (λ r. between (place pid past) h (here y (simp (y, r))))
@@ -62,7 +62,7 @@ module _ (pid : ℕ) where
       (λ s. between (place pid past) h (here y (simp (y, r, s))))))
       (λ y. let i = no_more_row (Keep p ∷ past) ss w in let f = simp y at i in simp y (f h))
   no_more_row past (Leave p ∷ ss) w h =
-      let here = (along_past (IsWhole pid) (Leave p ∷ past) ss w).0 in
+      let here = (along_past (KeepsUnitsWhole pid) (Leave p ∷ past) ss w).0 in
       by_test (payload_on pid p)
       (λ y. by_test (repeats pid p (network past))
       (λ r. between_left (place pid past) h (here y (simp (y, r))))
@@ -94,7 +94,7 @@ module _ (packed : Packing) (pid : ℕ) where
       × (filter (payload_on pid) (out_after packed past ss) ≡ row_at (place pid past) (map (renumbered (moved (es packed pid past))) (row_of pid past ss)) ++ left)
       × CarriesUnits left (units_out pid past ss)
 
-  carried_keep : (p : List ℕ) (past ss : List Move) → IsWhole pid (Keep p) past → CarriedAfter (Keep p ∷ past) ss → CarriedAfter past (Keep p ∷ ss)
+  carried_keep : (p : List ℕ) (past ss : List Move) → KeepsUnitsWhole pid (Keep p) past → CarriedAfter (Keep p ∷ past) ss → CarriedAfter past (Keep p ∷ ss)
   carried_keep p past ss w h =
       let n = moved (es packed pid past) in
       by_test (payload_on pid p)
@@ -116,7 +116,7 @@ module _ (packed : Packing) (pid : ℕ) where
       (λ o. let f = simp (y, o) at h in simp (y, payload_on-kept) f)
       (λ o. let f = simp (y, o) at h in simp (y, payload_on-kept) f))
 
-  carried_leave : (p : List ℕ) (past ss : List Move) → IsWhole pid (Leave p) past → CarriedAfter (Leave p ∷ past) ss → CarriedAfter past (Leave p ∷ ss)
+  carried_leave : (p : List ℕ) (past ss : List Move) → KeepsUnitsWhole pid (Leave p) past → CarriedAfter (Leave p ∷ past) ss → CarriedAfter past (Leave p ∷ ss)
   carried_leave p past ss w h =
       let c = filter_clock pid (pid_of p) (number_out p (counter_steps packed (pid_of p) (Leave p ∷ past))) (pcr p) (out_after packed (Leave p ∷ past) ss) (below_16 _) in
       by_test (payload_on pid p)
@@ -127,7 +127,7 @@ module _ (packed : Packing) (pid : ℕ) where
       (λ s. let st = w y (simp (y, r, s)) in let f = simp y at h in simp st (f.0, c ∙ f.1, f.2))))
       (λ y. let f = simp y at h in simp y (f.0, c ∙ f.1, f.2))
 
-  carried_put_same : (u : SliceUnit) (past ss : List Move) → Sound packed (Put pid u) → Along (IsWhole pid) (onto_moves (Put pid u ∷ past) ss) → CarriedAfter (Put pid u ∷ past) ss → CarriedAfter past (Put pid u ∷ ss)
+  carried_put_same : (u : SliceUnit) (past ss : List Move) → Sound packed (Put pid u) → AlongMoves (KeepsUnitsWhole pid) (onto_moves (Put pid u ∷ past) ss) → CarriedAfter (Put pid u ∷ past) ss → CarriedAfter past (Put pid u ∷ ss)
   carried_put_same u past ss s w h =
       let E = es packed pid past in
       let qs = packed pid u (one_past (last_number E)) in
@@ -138,10 +138,10 @@ module _ (packed : Packing) (pid : ℕ) where
       let f = simp (t, row_behind) at h in
       (qs ++ f.0, filter_on pid qs (out_after packed (Put pid u ∷ past) ss) k.on_pid ∙ ap (λ l. qs ++ l) f.1 ∙ sym (ap (λ l. l ++ (qs ++ f.0)) z), simp t (qs, f.0, refl, carries_one qs u.payload k.starts k.joined, f.2))
 
-  carried_after : (past ss : List Move) → Along (λ (s : Move) (before : List Move). Sound packed s) (onto_moves past ss) → Along (IsWhole pid) (onto_moves past ss) → CarriedAfter past ss
+  carried_after : (past ss : List Move) → AlongMoves (λ (s : Move) (before : List Move). Sound packed s) (onto_moves past ss) → AlongMoves (KeepsUnitsWhole pid) (onto_moves past ss) → CarriedAfter past ss
   carried_after past [] s w = ([], sym (ap (λ l. l ++ []) (row_none (place pid past))), refl)
-  carried_after past (Keep p ∷ ss) s w = carried_keep p past ss (along_past (IsWhole pid) (Keep p ∷ past) ss w).0 (carried_after (Keep p ∷ past) ss s w)
-  carried_after past (Leave p ∷ ss) s w = carried_leave p past ss (along_past (IsWhole pid) (Leave p ∷ past) ss w).0 (carried_after (Leave p ∷ past) ss s w)
+  carried_after past (Keep p ∷ ss) s w = carried_keep p past ss (along_past (KeepsUnitsWhole pid) (Keep p ∷ past) ss w).0 (carried_after (Keep p ∷ past) ss s w)
+  carried_after past (Leave p ∷ ss) s w = carried_leave p past ss (along_past (KeepsUnitsWhole pid) (Leave p ∷ past) ss w).0 (carried_after (Leave p ∷ past) ss s w)
   carried_after past (Put q u ∷ ss) s w =
       let i = carried_after (Put q u ∷ past) ss s w in
       let v = (along_past (λ (s : Move) (before : List Move). Sound packed s) (Put q u ∷ past) ss s).0 in

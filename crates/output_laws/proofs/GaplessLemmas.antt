@@ -14,7 +14,7 @@ use Rattle.ts_packet.proofs.RunLemmas.{onto, packet_or, nearest_is_last, gapless
 use Rattle.unit_stream.specs.Times.{begins}
 use Rattle.unit_stream.specs.UnitPackets.{AllOn, BeginsAlone, CountsFrom}
 use Rattle.splice_laws.specs.Splicing.{SliceUnit}
-use Rattle.output_laws.specs.Output.{Move, Keep, Leave, Put, network, Packing, counter_steps, kept_packet, clock_alone, output, Sound, Place, Keeping, Leaving, Between, behind_put, place, IsWhole, has_come, IsFed, Along}
+use Rattle.output_laws.specs.Output.{Move, Keep, Leave, Put, network, Packing, counter_steps, kept_packet, clock_alone, output, Sound, Place, Keeping, Leaving, Between, behind_put, place, KeepsUnitsWhole, has_come, HasComeBefore, AlongMoves}
 use Rattle.output_laws.specs.Laws.{OutputStaysGapless}
 use Rattle.output_laws.proofs.StepLemmas.{network_onto, out_back, out_onto, test-same, pid_is, payload-some, payload-none, kept_on, on-kept, payload_on-kept, payload_on-clock, on-clock, number-clock, pcr-error, on-same, moved-dropped, moved-put}
 use Rattle.output_laws.proofs.MatchLemmas.{and_left, Matched, repeats_kept, next_kept, next_moved, same_moved, left_moved, next_left, repeat_left, repeats_same}
@@ -132,7 +132,7 @@ module _ (packed : Packing) (pid : ℕ) (b : Option (List ℕ)) where
   same_of p past h = rw (← nearest_is_last b pid past) h
 
   -- in the output a kept packet repeats where it did
-  pub kept_repeats : (p : List ℕ) (past : List Move) → IsWhole pid (Keep p) past → Here past → payload_on pid p ≡ true → repeats pid p (network past) ≡ true →
+  pub kept_repeats : (p : List ℕ) (past : List Move) → KeepsUnitsWhole pid (Keep p) past → Here past → payload_on pid p ≡ true → repeats pid p (network past) ≡ true →
       repeats pid (renumbered (moved (es packed pid past)) p) (out_back packed past) ≡ true
   kept_repeats p past w h y r =
       let g : begins pid p (network past) ≡ false = simp (y, r) in
@@ -145,7 +145,7 @@ module _ (packed : Packing) (pid : ℕ) (b : Option (List ℕ)) where
       walk_is_last pid (renumbered (moved (es packed pid past)) p) (out_back packed past)
       ∙ next_kept b (moved (es packed pid past)) (place pid past) p _ _ h (next_of p (network past) (k.next (simp (y, r))))
 
-  here_keep : (p : List ℕ) (past : List Move) → IsWhole pid (Keep p) past → InStep b pid p (network past) → Here past → Here (Keep p ∷ past)
+  here_keep : (p : List ℕ) (past : List Move) → KeepsUnitsWhole pid (Keep p) past → InStep b pid p (network past) → Here past → Here (Keep p ∷ past)
   here_keep p past w k h =
       by_test (payload_on pid p)
       (λ y. let o = payload_on-on pid p y in let e = kept_on packed pid p past o in by_test (repeats pid p (network past))
@@ -183,7 +183,7 @@ module _ (packed : Packing) (pid : ℕ) (b : Option (List ℕ)) where
   not_on q [] O e a = refl
   not_on q (p ∷ qs) O e a = let n = other_pid q pid p e a.0 in not_on q qs (p ∷ O) e a.1 ∙ simp n
 
-  here_put : (q : ℕ) (u : SliceUnit) (past : List Move) → Sound packed (Put q u) → IsFed pid (Put q u) past → Here past → Here (Put q u ∷ past)
+  here_put : (q : ℕ) (u : SliceUnit) (past : List Move) → Sound packed (Put q u) → HasComeBefore pid (Put q u) past → Here past → Here (Put q u ∷ past)
   here_put q u past s f h =
       by_test (q == pid)
       (λ e. let i = test-true q pid e in rw i (here_put_same u past (rw i at s) (f e) h))
@@ -194,13 +194,13 @@ module _ (packed : Packing) (pid : ℕ) (b : Option (List ℕ)) where
 
   -- ---- all of it
 
-  pub here : (past : List Move) → Along (λ (s : Move) (before : List Move). Sound packed s) past → Along (IsWhole pid) past → Along (IsFed pid) past → Gapless b pid (network past) → Here past
+  pub here : (past : List Move) → AlongMoves (λ (s : Move) (before : List Move). Sound packed s) past → AlongMoves (KeepsUnitsWhole pid) past → AlongMoves (HasComeBefore pid) past → Gapless b pid (network past) → Here past
   here [] s w f g = refl
   here (Keep p ∷ past) s w f g = here_keep p past w.0 g.0 (here past s.1 w.1 f.1 g.1)
   here (Leave p ∷ past) s w f g = here_leave p past g.0 (here past s.1 w.1 f.1 g.1)
   here (Put q u ∷ past) s w f g = here_put q u past s.0 f.0 (here past s.1 w.1 f.1 g)
 
-  step_keep : (p : List ℕ) (past : List Move) → IsWhole pid (Keep p) past → InStep b pid p (network past) → Here past → InStep b pid (kept_packet packed p past) (out_back packed past)
+  step_keep : (p : List ℕ) (past : List Move) → KeepsUnitsWhole pid (Keep p) past → InStep b pid p (network past) → Here past → InStep b pid (kept_packet packed p past) (out_back packed past)
   step_keep p past w k h =
       let n = moved (es packed pid past) in
       let O = out_back packed past in
@@ -272,7 +272,7 @@ module _ (packed : Packing) (pid : ℕ) (b : Option (List ℕ)) where
       let m = other_on q pid p e a.0 in
       not_steps q qs (p ∷ O) e a.1 (record { next = λ z. let f = simp n at z in cc; same = λ z _. cc }, g)
 
-  gapless_out : (past : List Move) → Along (λ (s : Move) (before : List Move). Sound packed s) past → Along (IsWhole pid) past → Along (IsFed pid) past → Gapless b pid (network past) → Gapless b pid (out_back packed past)
+  gapless_out : (past : List Move) → AlongMoves (λ (s : Move) (before : List Move). Sound packed s) past → AlongMoves (KeepsUnitsWhole pid) past → AlongMoves (HasComeBefore pid) past → Gapless b pid (network past) → Gapless b pid (out_back packed past)
   gapless_out [] s w f g = tt
   gapless_out (Keep p ∷ past) s w f g = (step_keep p past w.0 g.0 (here past s.1 w.1 f.1 g.1), gapless_out past s.1 w.1 f.1 g.1)
   gapless_out (Leave p ∷ past) s w f g = step_clock p past (pcr p) refl s.0 g.0 (here past s.1 w.1 f.1 g.1) (gapless_out past s.1 w.1 f.1 g.1)

@@ -10,7 +10,7 @@ use Rattle.ts_packet.proofs.FieldLemmas.{error-with, pid-with, payload_on-on}
 use Rattle.ts_packet.proofs.Renumbered.{renumbered-zero}
 use Rattle.unit_stream.specs.UnitPackets.{AllOn}
 use Rattle.splice_laws.specs.Streams.{is_among}
-use Rattle.output_laws.specs.Output.{Move, Keep, Leave, Put, network, Packing, counter_steps, kept_packet, clock_alone, out_after, Sound, Along}
+use Rattle.output_laws.specs.Output.{Move, Keep, Leave, Put, network, Packing, counter_steps, kept_packet, clock_alone, out_after, Sound, AlongMoves}
 use Rattle.output_laws.specs.Others.{is_off, ChangesOnly, OthersPass}
 use Rattle.output_laws.proofs.StepLemmas.{onto_moves, along_past, pid_is, error_is, error-clock, pid-clock}
 use Rattle.output_laws.proofs.GaplessLemmas.{test-true, one_below}
@@ -39,7 +39,7 @@ module _ (packed : Packing) (pids : List ℕ) where
   pub off_on : (q : ℕ) (p : List ℕ) → is_among q pids ≡ true → on q p ≡ true → is_off pids p ≡ false
   off_on q p a o = on_off (in_error p) (is_among (pid_of p) pids) (error_is q p o) (ap (λ n. is_among n pids) (pid_is q p o) ∙ a)
 
-  unmoved : (pid : ℕ) (past : List Move) → is_among pid pids ≡ false → Along (ChangesOnly pids) past → moved (counter_steps packed pid past) ≡ 0
+  unmoved : (pid : ℕ) (past : List Move) → is_among pid pids ≡ false → AlongMoves (ChangesOnly pids) past → moved (counter_steps packed pid past) ≡ 0
   unmoved pid [] a w = refl
   unmoved pid (Keep p ∷ past) a w = by_test (on pid p) (λ o. simp o (unmoved pid past a w.1)) (λ o. simp o (unmoved pid past a w.1))
   unmoved pid (Leave p ∷ past) a w =
@@ -60,7 +60,7 @@ module _ (packed : Packing) (pids : List ℕ) where
     by_kept true = refl
     by_kept false = off-renumbered pids (moved (counter_steps packed (pid_of p) past)) p
 
-  kept-off : (p : List ℕ) (past : List Move) → length p ≡ 188 → Along (ChangesOnly pids) past → is_off pids p ≡ true → kept_packet packed p past ≡ p
+  kept-off : (p : List ℕ) (past : List Move) → length p ≡ 188 → AlongMoves (ChangesOnly pids) past → is_off pids p ≡ true → kept_packet packed p past ≡ p
   kept-off p past l w f =
       by_test (in_error p)
       (λ e. simp e)
@@ -90,7 +90,7 @@ module _ (packed : Packing) (pids : List ℕ) where
     both true f = let g = f refl in rw (g, h) refl
     both false f = h
 
-  others_after : (past ss : List Move) → Along (λ (s : Move) (before : List Move). Sound packed s) (onto_moves past ss) → Along (ChangesOnly pids) (onto_moves past ss) →
+  others_after : (past ss : List Move) → AlongMoves (λ (s : Move) (before : List Move). Sound packed s) (onto_moves past ss) → AlongMoves (ChangesOnly pids) (onto_moves past ss) →
       All (λ (p : List ℕ). length p ≡ 188) (network ss) → filter (is_off pids) (out_after packed past ss) ≡ filter (is_off pids) (network ss)
   others_after past [] s w l = refl
   others_after past (Keep p ∷ ss) s w l =

@@ -10,15 +10,15 @@ use Rattle.unit_stream.specs.Times.{begins, unit_time}
 use Rattle.unit_stream.specs.Carrying.{CarriesUnits}
 use Rattle.unit_stream.specs.Units.{is_original, rest_of_unit, lead_in, units, payloads}
 use Rattle.splice_laws.specs.Splicing.{PlayedEvent, SliceUnit, Out, Network, Inserted, TimedStream, stream, begun, closed, out_of, inserted, rest, holds, outside, all_inserted, all_rest, all_slices_at}
-use Rattle.splice_laws.specs.Laws.{AreOrdered, IsStream, Counts}
+use Rattle.splice_laws.specs.Laws.{AreOrdered, IsStream, CountsOver}
 use Rattle.splice_laws.specs.Streams.{Act, Through, Insert, all_closing, all_running, insert_on, on_each, is_dropped, spliced_at, of_stream, IsOnce}
 use Rattle.splice_laws.proofs.PidLemmas.{pids_are_streams}
 use Rattle.splice_laws.proofs.HistoryLemmas.{running-inside}
 use Rattle.splice_laws.proofs.PlacedLemmas.{nothing_new, put_in-append, swap, AllAt, AllCounted, counted_head, counted_tail, all_counted, all_joined, left_inside, none_at_first, out_counts_all}
 use Rattle.splice_laws.proofs.StreamLemmas.{of_stream-append, once_on, phases, put_in-flat, dropped_is}
-use Rattle.output_laws.specs.Output.{Move, Keep, Leave, Put, acts, network, Place, Keeping, Leaving, place, IsWhole, Packing, output, Sound, IsFed, Along, units_out}
+use Rattle.output_laws.specs.Output.{Move, Keep, Leave, Put, acts, network, Place, Keeping, Leaving, place, KeepsUnitsWhole, Packing, output, Sound, HasComeBefore, AlongMoves, units_out}
 use Rattle.output_laws.specs.Spliced.{puts_on, puts_each, puts_at, fate, moves_after, MovesAreSpliced, inserted_payloads, unit_at, placed_payloads, SplicedCarries, SplicedHasUnits}
-use Rattle.output_laws.specs.Laws.{IsRun}
+use Rattle.output_laws.specs.Laws.{AreSoundMoves}
 use Rattle.output_laws.proofs.StepLemmas.{onto_moves}
 use Rattle.output_laws.proofs.GaplessLemmas.{output_stays_gapless}
 use Rattle.output_laws.proofs.UnitLemmas.{output_has_units}
@@ -98,7 +98,7 @@ module _ (pid : ℕ) where
       (λ e. simp e (ap (λ l. u.payload ∷ l) i))
       (λ e. simp e i)
 
-  whole_puts : (a S : List Move) → IsPuts a → Along (IsWhole pid) S → Along (IsWhole pid) (onto_moves S a)
+  whole_puts : (a S : List Move) → IsPuts a → AlongMoves (KeepsUnitsWhole pid) S → AlongMoves (KeepsUnitsWhole pid) (onto_moves S a)
   whole_puts [] S h w = w
   whole_puts (Keep p ∷ a) S h w = absurd h
   whole_puts (Leave p ∷ a) S h w = absurd h
@@ -116,7 +116,7 @@ payloads-append (Inserted u ∷ a) b = ap (λ l. u.payload ∷ l) (payloads-appe
 -- ---- where a unit outside all events goes on, nothing is put in
 
 module _ (r : TimedStream) (k : IsStream r) (slice : PlayedEvent → List SliceUnit) (out : PlayedEvent → List (List ℕ) → ℕ) where
-  none_put_one : (x : PlayedEvent) (p : List ℕ) (past : List (List ℕ)) → Counts r x (slice x) (out x) (record { packet = p; past = past }) → r.begins p past ≡ false → holds x (r.time past) ≡ false → inserted (slice x) (out x) p past ≡ []
+  none_put_one : (x : PlayedEvent) (p : List ℕ) (past : List (List ℕ)) → CountsOver r x (slice x) (out x) (record { packet = p; past = past }) → r.begins p past ≡ false → holds x (r.time past) ≡ false → inserted (slice x) (out x) p past ≡ []
   none_put_one x p past n b h =
       nothing_new (slice x) (out x past) (out x (p ∷ past)) (
       by_test (begun r x past)
@@ -186,7 +186,7 @@ module _ (sw : List ℕ) (xs : List PlayedEvent) (slice : ℕ → PlayedEvent �
     record Inv (S : List Move) (past : List (List ℕ)) : Type 0 where
       pub net : network S ≡ past
       pub at : place pid S ≡ fate_place (outside xs (unit_time sw pid past))
-      pub whole : Along (IsWhole pid) S
+      pub whole : AlongMoves (KeepsUnitsWhole pid) S
 
     module _ (p : List ℕ) (past : List (List ℕ)) (S : List Move) (n : At p past) (i : Inv S past) where
       abbrev behind : List Move
@@ -195,7 +195,7 @@ module _ (sw : List ℕ) (xs : List PlayedEvent) (slice : ℕ → PlayedEvent �
       net_behind : network behind ≡ past
       net_behind = network_puts (puts_at sw xs slice out p past) S (puts_are p past) ∙ i.net
 
-      whole_behind : Along (IsWhole pid) behind
+      whole_behind : AlongMoves (KeepsUnitsWhole pid) behind
       whole_behind = whole_puts pid (puts_at sw xs slice out p past) S (puts_are p past) i.whole
 
       place_behind : begins pid p past ≡ false → place pid behind ≡ fate_place (outside xs (unit_time sw pid (p ∷ past)))
@@ -259,7 +259,7 @@ module _ (sw : List ℕ) (xs : List PlayedEvent) (slice : ℕ → PlayedEvent �
 
     -- ---- all moves
 
-    whole_after : (past ps : List (List ℕ)) (S : List Move) → AllCounted (stream sw pid) (pids_are_streams sw pid) (slice pid) (out pid) xs (seen_after past ps) → Inv S past → Along (IsWhole pid) (onto_moves S (moves_after sw xs slice out past ps))
+    whole_after : (past ps : List (List ℕ)) (S : List Move) → AllCounted (stream sw pid) (pids_are_streams sw pid) (slice pid) (out pid) xs (seen_after past ps) → Inv S past → AlongMoves (KeepsUnitsWhole pid) (onto_moves S (moves_after sw xs slice out past ps))
     whole_after past [] S n i =
         let f : ℕ → List SliceUnit = λ (q : ℕ). flat_map (λ (x : PlayedEvent). rest (stream sw q) x (slice q x) (out q x) past) xs in
         whole_puts pid (puts_each sw f) S (puts_each_are sw f) i.whole
@@ -270,7 +270,7 @@ module _ (sw : List ℕ) (xs : List PlayedEvent) (slice : ℕ → PlayedEvent �
         let A = puts_at sw xs slice out p past in
         let F = fate sw xs p past in
         let w = whole_after (p ∷ past) ps (F ∷ onto_moves S A) t (inv_more p past S a i) in
-        subst (Along (IsWhole pid)) (sym (onto_moves-append S A (F ∷ moves_after sw xs slice out (p ∷ past) ps))) w
+        subst (AlongMoves (KeepsUnitsWhole pid)) (sym (onto_moves-append S A (F ∷ moves_after sw xs slice out (p ∷ past) ps))) w
 
     -- what a packet adds
     keep_units : (p : List ℕ) (past ps : List (List ℕ)) (S rest : List Move) → network S ≡ past → network rest ≡ ps → outside xs (unit_time sw pid (p ∷ past)) ≡ true →
@@ -366,15 +366,15 @@ outside-none (x ∷ xs) = outside-none xs
 -- ---- for any count
 
 module _ (packed : Packing) (sw : List ℕ) (xs : List PlayedEvent) (o : AreOrdered xs) (slice : ℕ → PlayedEvent → List SliceUnit) (out : ℕ → PlayedEvent → List (List ℕ) → ℕ)
-    (ps : List (List ℕ)) (pid : ℕ) (h : IsOnce pid sw) (c : All (λ (x : PlayedEvent). All (Counts (stream sw pid) x (slice pid x) (out pid x)) (seen_after [] ps)) xs)
-    (s : Along (λ (s : Move) (past : List Move). Sound packed s) (reverse (moves_after sw xs slice out [] ps))) where
+    (ps : List (List ℕ)) (pid : ℕ) (h : IsOnce pid sw) (c : All (λ (x : PlayedEvent). All (CountsOver (stream sw pid) x (slice pid x) (out pid x)) (seen_after [] ps)) xs)
+    (s : AlongMoves (λ (s : Move) (past : List Move). Sound packed s) (reverse (moves_after sw xs slice out [] ps))) where
   abbrev counted : AllCounted (stream sw pid) (pids_are_streams sw pid) (slice pid) (out pid) xs (seen_after [] ps)
   counted = all_counted (stream sw pid) (pids_are_streams sw pid) (slice pid) (out pid) xs (seen_after [] ps) c
 
   abbrev first : Inv sw xs slice out o pid h [] []
   first = record { net = refl; at = sym (ap fate_place (outside-none xs)); whole = tt }
 
-  abbrev run : IsRun packed pid (moves_after sw xs slice out [] ps)
+  abbrev run : AreSoundMoves packed pid (moves_after sw xs slice out [] ps)
   run = record { sound = s; whole = whole_after sw xs slice out o pid h [] ps [] counted first }
 
   placed_is : placed_payloads sw pid xs (slice pid) [] ps ≡ units_out pid [] (moves_after sw xs slice out [] ps)
@@ -390,7 +390,7 @@ module _ (packed : Packing) (sw : List ℕ) (xs : List PlayedEvent) (o : AreOrde
       let c = output_carries_units packed pid (moves_after sw xs slice out [] ps) run (subst (λ q. All (λ (p : List ℕ). length p ≡ 188) q) (sym e) l) in
       (c.0, c.1 ∙ ap (λ q. lead_in pid q ++ c.0) e, subst (CarriesUnits c.0) (sym placed_is) c.2)
 
-  pub counted_has_units : Along (IsFed pid) (reverse (moves_after sw xs slice out [] ps)) → (before : Option (List ℕ)) → IsGaplessAfter before pid ps → (switched : List ℕ) →
+  pub counted_has_units : AlongMoves (HasComeBefore pid) (reverse (moves_after sw xs slice out [] ps)) → (before : Option (List ℕ)) → IsGaplessAfter before pid ps → (switched : List ℕ) →
       IsGaplessAfter before pid (output packed (moves_after sw xs slice out [] ps))
       × (payloads (units switched pid (output packed (moves_after sw xs slice out [] ps))) ≡ placed_payloads sw pid xs (slice pid) [] ps)
   counted_has_units f b g switched =

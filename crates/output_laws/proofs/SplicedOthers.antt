@@ -6,7 +6,7 @@ use Rattle.ts_packet.proofs.Cases.{by_test}
 use Rattle.ts_packet.proofs.FieldLemmas.{payload_on-on}
 use Rattle.splice_laws.specs.Splicing.{PlayedEvent, SliceUnit, stream, out_of, inserted, rest}
 use Rattle.splice_laws.specs.Streams.{all_closing, all_running, is_dropped, is_among}
-use Rattle.output_laws.specs.Output.{Move, Keep, Leave, Put, Packing, Along}
+use Rattle.output_laws.specs.Output.{Move, Keep, Leave, Put, Packing, AlongMoves}
 use Rattle.output_laws.specs.Others.{is_off, ChangesOnly}
 use Rattle.output_laws.specs.Spliced.{puts_on, puts_each, puts_at, fate, moves_after, splice_moves, SplicedOthersPass}
 use Rattle.output_laws.proofs.StepLemmas.{onto_moves, test-same}
@@ -35,7 +35,7 @@ sub_self (q ∷ sw) = (or_first (q == q) (is_among q sw) (test-same q), sub_more
 
 module _ (packed : Packing) (sw : List ℕ) where
   abbrev Here : List Move → Type 0
-  Here S = Along (ChangesOnly sw) S
+  Here S = AlongMoves (ChangesOnly sw) S
 
   on_one : (q : ℕ) (us : List SliceUnit) (S : List Move) → is_among q sw ≡ true → Here S → Here (onto_moves S (puts_on q us))
   on_one q [] S a h = h

@@ -10,7 +10,7 @@ use Rattle.ts_packet.proofs.Cases.{by_test}
 use Rattle.ts_packet.proofs.FieldLemmas.{on-renumbered, payload_on-renumbered}
 use Rattle.ts_packet.proofs.RunLemmas.{onto}
 use Rattle.unit_stream.specs.UnitPackets.{put_in}
-use Rattle.output_laws.specs.Output.{Move, Keep, Leave, Put, network, Packing, counter_steps, kept_packet, out_at, out_after, Along}
+use Rattle.output_laws.specs.Output.{Move, Keep, Leave, Put, network, Packing, counter_steps, kept_packet, out_at, out_after, AlongMoves}
 
 -- ---- lists, newest first
 
@@ -38,7 +38,7 @@ out_onto packed past [] = refl
 out_onto packed past (s ∷ ss) = out_onto packed (s ∷ past) ss ∙ sym (onto-append (out_back packed past) (out_at packed s past) (out_after packed (s ∷ past) ss))
 
 -- what holds along all moves holds along those before
-pub along_past : (f : Move → List Move → Type 0) (past ss : List Move) → Along f (onto_moves past ss) → Along f past
+pub along_past : (f : Move → List Move → Type 0) (past ss : List Move) → AlongMoves f (onto_moves past ss) → AlongMoves f past
 along_past f past [] h = h
 along_past f past (s ∷ ss) h = (along_past f (s ∷ past) ss h).1
 

@@ -12,7 +12,7 @@ use Rattle.ts_packet.proofs.RunLemmas.{onto, gapless_glue, gapless_back}
 use Rattle.unit_stream.specs.Units.{is_original, rest_of_unit, units_of, payloads}
 use Rattle.unit_stream.specs.UnitPackets.{AllOn, GoOn, BeginsAlone}
 use Rattle.splice_laws.specs.Splicing.{SliceUnit}
-use Rattle.output_laws.specs.Output.{Move, Keep, Leave, Put, network, Packing, counter_steps, clock_alone, out_after, Sound, Place, Keeping, Leaving, Between, behind_put, place, IsWhole, has_come, IsFed, Along, units_out}
+use Rattle.output_laws.specs.Output.{Move, Keep, Leave, Put, network, Packing, counter_steps, clock_alone, out_after, Sound, Place, Keeping, Leaving, Between, behind_put, place, KeepsUnitsWhole, has_come, HasComeBefore, AlongMoves, units_out}
 use Rattle.output_laws.specs.Laws.{OutputHasUnits}
 use Rattle.unit_stream.proofs.PackedLemmas.{AllOriginal}
 use Rattle.output_laws.proofs.StepLemmas.{onto_moves, network_onto, out_back, along_past, test-same, kept_on, payload_on-kept, payload_on-clock}
@@ -55,10 +55,10 @@ module _ (pid : ℕ) where
   rest_of past ss = rest_of_unit (filter (is_original pid) (seen_after (network past) (network ss)))
 
   -- behind a unit put in there are none
-  pub no_more : (past ss : List Move) → Along (IsWhole pid) (onto_moves past ss) → place pid past ≡ Between → rest_of past ss ≡ []
+  pub no_more : (past ss : List Move) → AlongMoves (KeepsUnitsWhole pid) (onto_moves past ss) → place pid past ≡ Between → rest_of past ss ≡ []
   no_more past [] w h = refl
   no_more past (Keep p ∷ ss) w h =
-      let here = (along_past (IsWhole pid) (Keep p ∷ past) ss w).0 in
+      let here = (along_past (KeepsUnitsWhole pid) (Keep p ∷ past) ss w).0 in
       by_test (payload_on pid p)
       (λ y. by_test (repeats pid p (network past))
       (λ r. between (place pid past) h (here y (simp (y, r))))
@@ -67,7 +67,7 @@ module _ (pid : ℕ) where
       (λ s. between (place pid past) h (here y (simp (y, r, s))))))
       (λ y. let i = no_more (Keep p ∷ past) ss w in let f = simp y at i in simp y (f h))
   no_more past (Leave p ∷ ss) w h =
-      let here = (along_past (IsWhole pid) (Leave p ∷ past) ss w).0 in
+      let here = (along_past (KeepsUnitsWhole pid) (Leave p ∷ past) ss w).0 in
       by_test (payload_on pid p)
       (λ y. by_test (repeats pid p (network past))
       (λ r. between_left (place pid past) h (here y (simp (y, r))))
@@ -124,9 +124,9 @@ module _ (pid : ℕ) where
 
 module _ (packed : Packing) (pid : ℕ) (b : Option (List ℕ)) where
   pub record Good (past : List Move) : Type 0 where
-    pub sound : Along (λ (s : Move) (before : List Move). Sound packed s) past
-    pub whole : Along (IsWhole pid) past
-    pub fed : Along (IsFed pid) past
+    pub sound : AlongMoves (λ (s : Move) (before : List Move). Sound packed s) past
+    pub whole : AlongMoves (KeepsUnitsWhole pid) past
+    pub fed : AlongMoves (HasComeBefore pid) past
     pub gapless : Gapless b pid (network past)
 
   good_past : (past ss : List Move) → Good (onto_moves past ss) → Good past
@@ -140,7 +140,7 @@ module _ (packed : Packing) (pid : ℕ) (b : Option (List ℕ)) where
   abbrev out_rest : List Move → List Move → List ℕ
   out_rest past ss = rest_of_unit (filter (is_original pid) (seen_after (out_back packed past) (out_after packed past ss)))
 
-  rest_put_same : (u : SliceUnit) (past ss : List Move) → Sound packed (Put pid u) → has_come pid (network past) ≡ true → Here packed pid b past → Along (IsWhole pid) (onto_moves (Put pid u ∷ past) ss)
+  rest_put_same : (u : SliceUnit) (past ss : List Move) → Sound packed (Put pid u) → has_come pid (network past) ≡ true → Here packed pid b past → AlongMoves (KeepsUnitsWhole pid) (onto_moves (Put pid u ∷ past) ss)
       → out_rest past (Put pid u ∷ ss) ≡ rest_at (place pid past) (rest_of pid past (Put pid u ∷ ss))
   rest_put_same u past ss s f h w =
       let E = counter_steps packed pid past in

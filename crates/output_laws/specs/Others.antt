@@ -2,7 +2,7 @@
 use Rattle.std.specs.Prelude.{◌≡◌, ℕ, List, Bool, true, false, not, ◌||◌, filter, reverse, length, All}
 use Rattle.ts_packet.specs.Fields.{in_error, pid_of}
 use Rattle.splice_laws.specs.Streams.{is_among}
-use Rattle.output_laws.specs.Output.{Move, Keep, Leave, Put, network, Packing, output, Sound, Along}
+use Rattle.output_laws.specs.Output.{Move, Keep, Leave, Put, network, Packing, output, Sound, AlongMoves}
 
 -- a packet marked in error, or of none of these PIDs
 abbrev pub is_off : List ℕ → List ℕ → Bool
@@ -16,5 +16,5 @@ ChangesOnly pids (Put q u) past = is_among q pids ≡ true
 
 -- THE PACKETS OF ALL OTHER PIDS, and those marked in error, are the same list, byte for byte
 abbrev pub OthersPass : Type 0
-OthersPass = (packed : Packing) (pids : List ℕ) (moves : List Move) → Along (λ (s : Move) (past : List Move). Sound packed s) (reverse moves) → Along (ChangesOnly pids) (reverse moves) →
+OthersPass = (packed : Packing) (pids : List ℕ) (moves : List Move) → AlongMoves (λ (s : Move) (past : List Move). Sound packed s) (reverse moves) → AlongMoves (ChangesOnly pids) (reverse moves) →
     All (λ (p : List ℕ). length p ≡ 188) (network moves) → filter (is_off pids) (output packed moves) ≡ filter (is_off pids) (network moves)

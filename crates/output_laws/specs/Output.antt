@@ -91,10 +91,10 @@ place pid (Leave p ∷ past) = if payload_on pid p then Leaving else place pid p
 place pid (Put q u ∷ past) = if q == pid then behind_put (place pid past) else place pid past
 
 -- A packet that begins no unit shares the fate of the payload packet before it, and nothing is put in between two that are kept.
-abbrev pub IsWhole : ℕ → Move → List Move → Type 0
-IsWhole pid (Keep p) past = payload_on pid p ≡ true → begins pid p (network past) ≡ false → place pid past ≡ Keeping
-IsWhole pid (Leave p) past = payload_on pid p ≡ true → begins pid p (network past) ≡ false → place pid past ≡ Leaving
-IsWhole pid (Put q u) past = Unit {0}
+abbrev pub KeepsUnitsWhole : ℕ → Move → List Move → Type 0
+KeepsUnitsWhole pid (Keep p) past = payload_on pid p ≡ true → begins pid p (network past) ≡ false → place pid past ≡ Keeping
+KeepsUnitsWhole pid (Leave p) past = payload_on pid p ≡ true → begins pid p (network past) ≡ false → place pid past ≡ Leaving
+KeepsUnitsWhole pid (Put q u) past = Unit {0}
 
 -- some payload packet of the PID has come
 abbrev pub has_come : ℕ → List (List ℕ) → Bool
@@ -102,15 +102,15 @@ has_come pid [] = false
 has_come pid (p ∷ past) = payload_on pid p || has_come pid past
 
 -- a unit is put in on the PID only behind a payload packet of it
-abbrev pub IsFed : ℕ → Move → List Move → Type 0
-IsFed pid (Keep p) past = Unit {0}
-IsFed pid (Leave p) past = Unit {0}
-IsFed pid (Put q u) past = (q == pid) ≡ true → has_come pid (network past) ≡ true
+abbrev pub HasComeBefore : ℕ → Move → List Move → Type 0
+HasComeBefore pid (Keep p) past = Unit {0}
+HasComeBefore pid (Leave p) past = Unit {0}
+HasComeBefore pid (Put q u) past = (q == pid) ≡ true → has_come pid (network past) ≡ true
 
 -- of moves, newest first: each is so, behind those before it
-abbrev pub Along : (Move → List Move → Type 0) → List Move → Type 0
-Along f [] = Unit {0}
-Along f (s ∷ past) = f s past × Along f past
+abbrev pub AlongMoves : (Move → List Move → Type 0) → List Move → Type 0
+AlongMoves f [] = Unit {0}
+AlongMoves f (s ∷ past) = f s past × AlongMoves f past
 
 -- ---- the units that go out, in order: those of the network that are kept, and those put in
 

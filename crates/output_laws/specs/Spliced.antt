@@ -8,7 +8,7 @@ use Rattle.unit_stream.specs.Carrying.{CarriesUnits}
 use Rattle.splice_laws.specs.Splicing.{PlayedEvent, SliceUnit, Out, Network, Inserted, stream, out_of, inserted, rest, outside, all_slices_at}
 use Rattle.splice_laws.specs.Laws.{AreOrdered}
 use Rattle.splice_laws.specs.Streams.{all_closing, all_running, is_dropped, spliced, IsOnce}
-use Rattle.output_laws.specs.Output.{Move, Keep, Leave, Put, acts, network, Packing, output, Sound, IsFed, Along}
+use Rattle.output_laws.specs.Output.{Move, Keep, Leave, Put, acts, network, Packing, output, Sound, HasComeBefore, AlongMoves}
 use Rattle.output_laws.specs.Others.{is_off}
 
 abbrev pub puts_on : ℕ → List SliceUnit → List Move
@@ -61,14 +61,14 @@ placed_payloads switched pid xs slice past (p ∷ ps) =
 -- THE OUTPUT OF A SPLICE CARRIES WHAT IS PLACED, on any network
 abbrev pub SplicedCarries : Type 0
 SplicedCarries = (packed : Packing) (switched : List ℕ) (xs : List PlayedEvent) → AreOrdered xs → (slice : ℕ → PlayedEvent → List SliceUnit) (ps : List (List ℕ)) (pid : ℕ) → IsOnce pid switched →
-    Along (λ (s : Move) (past : List Move). Sound packed s) (reverse (splice_moves switched xs slice ps)) → All (λ (p : List ℕ). length p ≡ 188) ps →
+    AlongMoves (λ (s : Move) (past : List Move). Sound packed s) (reverse (splice_moves switched xs slice ps)) → All (λ (p : List ℕ). length p ≡ 188) ps →
     (carried : List (List ℕ)) × (filter (payload_on pid) (output packed (splice_moves switched xs slice ps)) ≡ lead_in pid ps ++ carried)
     × CarriesUnits carried (placed_payloads switched pid xs (slice pid) [] ps)
 
 -- WHERE THE NETWORK IS GAPLESS on the PID, and it has a payload packet before its first unit put in, so is the output, and its units are what is placed
 abbrev pub SplicedHasUnits : Type 0
 SplicedHasUnits = (packed : Packing) (switched : List ℕ) (xs : List PlayedEvent) → AreOrdered xs → (slice : ℕ → PlayedEvent → List SliceUnit) (ps : List (List ℕ)) (pid : ℕ) → IsOnce pid switched →
-    Along (λ (s : Move) (past : List Move). Sound packed s) (reverse (splice_moves switched xs slice ps)) → Along (IsFed pid) (reverse (splice_moves switched xs slice ps)) →
+    AlongMoves (λ (s : Move) (past : List Move). Sound packed s) (reverse (splice_moves switched xs slice ps)) → AlongMoves (HasComeBefore pid) (reverse (splice_moves switched xs slice ps)) →
     (before : Option (List ℕ)) → IsGaplessAfter before pid ps → (switched' : List ℕ) →
     IsGaplessAfter before pid (output packed (splice_moves switched xs slice ps))
     × (payloads (units switched' pid (output packed (splice_moves switched xs slice ps))) ≡ placed_payloads switched pid xs (slice pid) [] ps)
@@ -76,5 +76,5 @@ SplicedHasUnits = (packed : Packing) (switched : List ℕ) (xs : List PlayedEven
 -- in the output of a splice the packets of all but the switched PIDs, and those marked in error, are the run's
 abbrev pub SplicedOthersPass : Type 0
 SplicedOthersPass = (packed : Packing) (switched : List ℕ) (xs : List PlayedEvent) (slice : ℕ → PlayedEvent → List SliceUnit) (ps : List (List ℕ)) →
-    Along (λ (s : Move) (past : List Move). Sound packed s) (reverse (splice_moves switched xs slice ps)) → All (λ (p : List ℕ). length p ≡ 188) ps →
+    AlongMoves (λ (s : Move) (past : List Move). Sound packed s) (reverse (splice_moves switched xs slice ps)) → All (λ (p : List ℕ). length p ≡ 188) ps →
     filter (is_off switched) (output packed (splice_moves switched xs slice ps)) ≡ filter (is_off switched) ps

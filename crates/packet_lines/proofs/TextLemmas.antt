@@ -7,7 +7,7 @@ use Rattle.std.specs.Io.KnownBytes.{Consumes, Appends, IsAtEnd}
 use lib.Seq.{take_all, take-append-le}
 use Rattle.ts_packet.specs.Packets.{packet_fault, or_fault}
 use Rattle.std.specs.Prelude.{option_map, Ok, Err, ◌⊎◌, nat_lt}
-use Rattle.ts_packet.specs.Sources.{Given, ReadSo}
+use Rattle.ts_packet.specs.Sources.{WasGiven, ReadSo}
 use Rattle.ts_packet.specs.declared.tally.Tally.{Tally}
 use Rattle.ts_packet.proofs.Cases.{by_test}
 use Rattle.ts_packet.specs.Transfers.{Filled, WentWell, LastMovedNone}
@@ -138,7 +138,7 @@ left_by false ys h = refl
 
 -- a packet was read
 pub line_given : (old new : Option (List ℕ)) (buf : List ℕ) (n : ℕ) (p : List ℕ) (ended : Bool) → length buf ≡ 377 → 0 < n → Filled old new buf n → (ended ≡ true → n < 377)
-    → packet_in (take n buf) ≡ Some p → packet_fault p ≡ None → Given (left_in false old) (left_in ended new) p
+    → packet_in (take n buf) ≡ Some p → packet_fault p ≡ None → WasGiven (left_in false old) (left_in ended new) p
 line_given None new buf n p ended size some h e is sound = record { bytes = tt; size = packet_in_size (take n buf) p is; sound = sound }
 line_given (Some xs) None buf n p ended size some h e is sound = absurd h.bytes
 line_given (Some xs) (Some ys) buf n p ended size some h e is sound =

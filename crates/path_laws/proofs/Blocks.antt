@@ -20,7 +20,7 @@ use Rattle.cue_laws.specs.Cueing.{Sender as LineSender, Told, Untold, Known, Nev
 use Rattle.cue_laws.specs.Cueing.{senders as line_senders, limit as line_limit}
 use Rattle.cue_laws.proofs.Settling.{by_test, lt-test}
 use Rattle.cue_laws.proofs.Fair.{IsFair, IsKnown, Fair, stand}
-use Rattle.path_laws.specs.Path.{Item, Sent, sent_onto, path, with_asked, with_verdict, asked_line, IsHistory}
+use Rattle.path_laws.specs.Path.{Item, Sent, sent_onto, path, with_asked, with_verdict, asked_line, IsSteadyHistory}
 use Rattle.path_laws.proofs.Alike.{Alike, In-last, In-front}
 use Rattle.path_laws.proofs.Switch.{view}
 use Rattle.path_laws.proofs.Senders.{IsSender, fair-in}
@@ -135,7 +135,7 @@ abbrev pub AlwaysNamed : (ℤ → ℕ) → ℕ → List Turn → Type 0
 AlwaysNamed program index [] = Unit {0}
 AlwaysNamed program index (t ∷ past) = SendersNamed program (senders index past) × AlwaysNamed program index past
 
-pub path-tells : (program : ℤ → ℕ) (index : ℕ) (past : List Turn) → IsHistory index past → AlwaysNamed program index past → Tells program (high past) (path index past) (cued (asked_line index past))
+pub path-tells : (program : ℤ → ℕ) (index : ℕ) (past : List Turn) → IsSteadyHistory index past → AlwaysNamed program index past → Tells program (high past) (path index past) (cued (asked_line index past))
 path-tells program index [] i n = record { clock = refl; line_is = refl; near = tt; named = tt }
 path-tells program index (Judged m ∷ past) i n =
     subst (λ l. Tells program (high past) (path index past) l) (sym (cued-asked (high past) (standing index past) (asked_of index m) (λ a. a.request) (asked_line index past))) (path-tells program index past i.1 n.1)

@@ -34,7 +34,7 @@ use Rattle.injector.specs.Steps.{Step, Message, Packet, packets_in, high_of, tur
 use Rattle.injector.proofs.FeedLemmas.{rises-at, turns-high}
 use Rattle.cue_laws.specs.Events.{Rises}
 use Rattle.cue_laws.proofs.Settling.{by_test}
-use Rattle.path_laws.specs.Path.{Item, Sent, sent_onto, IsHistory}
+use Rattle.path_laws.specs.Path.{Item, Sent, sent_onto, IsSteadyHistory}
 use Rattle.path_laws.specs.Packets.{IsRunOf, SectionsReadBack, cues_at, sent_in}
 use Rattle.path_laws.proofs.Reading.{AreNear}
 use Rattle.path_laws.proofs.Proofs.{tells}
@@ -51,7 +51,7 @@ pub run-packet : (c : Config) (p : List ℕ) (past : List Step) → IsRunOf c (P
 run-packet c p past r = record { cue_pid = r.cue_pid; not_pat = r.not_pat; faultless = (fault-parts c p (packets_in past) r.faultless).0; bytes = (r.bytes).1; requests = r.requests }
 
 -- the turns of a run are a history
-pub run-history : (c : Config) (past : List Step) → IsRunOf c past → IsHistory c.index (turns_in c.program past)
+pub run-history : (c : Config) (past : List Step) → IsRunOf c past → IsSteadyHistory c.index (turns_in c.program past)
 run-history c [] r = tt
 run-history c (Message m ∷ past) r = ((r.requests).0, run-history c past (run-message c m past r))
 run-history c (Packet p ∷ past) r = (

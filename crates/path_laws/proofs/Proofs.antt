@@ -18,7 +18,7 @@ use Rattle.cue_laws.specs.Cueing.{senders as line_senders}
 use Rattle.cue_laws.specs.Laws.{KeepsEnoughOf}
 use Rattle.cue_laws.proofs.Path.{cue_path, cue_path_at_the_end}
 use Rattle.cue_laws.proofs.Fair.{stand}
-use Rattle.path_laws.specs.Path.{Item, path, line, left, armed_on, line_asked, with_verdict, with_asked, asked_line, IsHistory}
+use Rattle.path_laws.specs.Path.{Item, path, line, left, armed_on, line_asked, with_verdict, with_asked, asked_line, IsSteadyHistory}
 use Rattle.path_laws.specs.Laws.{RequestsAreARun, CuesTellTheLine, CuePathOfEvents, CuePathOfEventsAtTheEnd}
 use Rattle.path_laws.proofs.Alike.{Alike, alike-in, alike-back}
 use Rattle.path_laws.proofs.Switch.{view, IsView}
@@ -31,7 +31,7 @@ use Rattle.path_laws.proofs.Programs.{Named, program_at, programs-known, always-
 
 -- ---- the injector's events on the line
 
-events-alike : (index : ℕ) (past : List Turn) → IsHistory index past → Alike IsView (events index past) (line_events (asked_line index past))
+events-alike : (index : ℕ) (past : List Turn) → IsSteadyHistory index past → Alike IsView (events index past) (line_events (asked_line index past))
 events-alike index past i =
     let s = stood index past i in
     subst (λ xs. Alike IsView xs (line_events (asked_line index past))) (senders-events index past)
@@ -40,7 +40,7 @@ events-alike index past i =
 abbrev programs : ℕ → List Turn → ℤ → ℕ
 programs index past = program_at (events index past)
 
-events-named : (index : ℕ) (past : List Turn) → IsHistory index past → Named (programs index past) (events index past)
+events-named : (index : ℕ) (past : List Turn) → IsSteadyHistory index past → Named (programs index past) (events index past)
 events-named index past i =
     programs-known (events index past) (line_events (asked_line index past)) (events-alike index past i) (stand (asked_line index past) (stood index past i).accepted).order.distinct
 
@@ -49,10 +49,10 @@ event-in x [] i = absurd i
 event-in x (y ∷ xs) (inl is) = inl (ap (λ (z : Sender). z.event) is)
 event-in x (y ∷ xs) (inr i) = inr (event-in x xs i)
 
-senders-named : (index : ℕ) (past : List Turn) → IsHistory index past → SendersNamed (programs index past) (senders index past)
+senders-named : (index : ℕ) (past : List Turn) → IsSteadyHistory index past → SendersNamed (programs index past) (senders index past)
 senders-named index past i x j = events-named index past i x.event (subst (In x.event) (senders-events index past) (event-in x (senders index past) j))
 
-pub tells : (index : ℕ) (past : List Turn) → IsHistory index past → Tells (programs index past) (high past) (path index past) (cued (asked_line index past))
+pub tells : (index : ℕ) (past : List Turn) → IsSteadyHistory index past → Tells (programs index past) (high past) (path index past) (cued (asked_line index past))
 tells index past i = path-tells (programs index past) index past i (always-named (programs index past) index past (senders-named index past i))
 
 -- ---- one event on both sides
@@ -80,7 +80,7 @@ moved program xs ys a named e mine i =
 seen : (xs : List Standing) (ys : List LineEvent) → Alike IsView xs ys → (e : Standing) → In e xs → In (view e) ys
 seen xs ys a e i = let r = alike-in IsView e xs ys a i in subst (λ z. In z ys) (sym r.2) r.1
 
-module _ (index : ℕ) (copies : List LineTurn → ℕ) (h : Option ℤ) (past : List Turn) (i : IsHistory index (Passed h ∷ past)) where
+module _ (index : ℕ) (copies : List LineTurn → ℕ) (h : Option ℤ) (past : List Turn) (i : IsSteadyHistory index (Passed h ∷ past)) where
   abbrev all_here : List Turn
   all_here = Passed h ∷ past
 
@@ -108,7 +108,7 @@ module _ (index : ℕ) (copies : List LineTurn → ℕ) (h : Option ℤ) (past :
 
 -- ---- fronts
 
-history-front : (index : ℕ) (later front : List Turn) → IsHistory index (later ++ front) → IsHistory index front
+history-front : (index : ℕ) (later front : List Turn) → IsSteadyHistory index (later ++ front) → IsSteadyHistory index front
 history-front index [] front i = i
 history-front index (Judged m ∷ later) front i = history-front index later front i.1
 history-front index (Passed h ∷ later) front i = history-front index later front i.1

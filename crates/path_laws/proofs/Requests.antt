@@ -20,7 +20,7 @@ use Rattle.cue_laws.proofs.Settling.{by_test, both}
 use Rattle.cue_laws.proofs.Fair.{IsFair, Fair, stand, event_of}
 use Rattle.cue_laws.proofs.Lists.{In-map}
 use Rattle.cue_laws.proofs.Orders.{Orderly}
-use Rattle.path_laws.specs.Path.{FieldsFit, FitsIn, IsHistory, with_verdict, with_asked, asked_line}
+use Rattle.path_laws.specs.Path.{FieldsFit, FitsIn, IsSteadyHistory, with_verdict, with_asked, asked_line}
 use Rattle.path_laws.proofs.Alike.{Alike, AtMostOnce, alike-in, find-some}
 use Rattle.path_laws.proofs.Switch.{view, IsView, find-filter, is_of-view, at-most-once, the-one, used-is, meets-is, full-is, some-is}
 use Rattle.path_laws.proofs.Facts.{IsServed, ServedBy, asked-facts}
@@ -230,7 +230,7 @@ judged-stood (Some h) xs run s (Ok a) after same f v = by (verdict_of (Some h) (
         (λ d. let w = simp (c, d) at is in simp (c, d) (cancel-stood h xs run s a.request.splice_event_id w)))
 
 -- THE HISTORY
-pub stood : (index : ℕ) (past : List Turn) → IsHistory index past → Stood (high past) (senders index past) (asked_line index past)
+pub stood : (index : ℕ) (past : List Turn) → IsSteadyHistory index past → Stood (high past) (senders index past) (asked_line index past)
 stood index [] i = record { clock = refl; accepted = tt; alike = refl }
 stood index (Judged m ∷ past) i =
     subst (λ l. Stood (high past) (with_request (high past) (senders index past) (asked_of index m)) (with_asked (high past) l (asked_of index m) (λ a. a.request) (asked_line index past)))

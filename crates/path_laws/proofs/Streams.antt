@@ -38,7 +38,7 @@ use Rattle.cue_laws.specs.Events.{Turn as LineTurn}
 use Rattle.cue_laws.specs.Thinning.{times}
 use Rattle.cue_laws.proofs.Settling.{by_test}
 use Rattle.path_laws.specs.Path.{Item, Sent, high_on, sent_onto, line, left, heard_on}
-use Rattle.path_laws.specs.Packets.{IsRunOf, cues_at, sent_in, kept, stream, Brings, StreamArms}
+use Rattle.path_laws.specs.Packets.{IsRunOf, cues_at, sent_in, kept, stream, BringsCues, StreamArms}
 use Rattle.path_laws.proofs.Reading.{high-left}
 use Rattle.path_laws.proofs.Packets.{run-message, run-packet, run-history, map-pid, place-off}
 use Rattle.path_laws.proofs.Proofs.{tells}
@@ -195,13 +195,13 @@ steady c out (q ∷ qs) h not_pat calm is on_cue =
 
 -- ---- the stream
 
-brings-on : (c : Config) (copies : List LineTurn → ℕ) (fronts : List ℕ → List (List ℕ) → List (List ℕ)) (past : List Step) → Brings c copies fronts past
+brings-on : (c : Config) (copies : List LineTurn → ℕ) (fronts : List ℕ → List (List ℕ) → List (List ℕ)) (past : List Step) → BringsCues c copies fronts past
     → Along (λ p back. AllByRecursion (On c.cue_pid) (fronts p back)) (packets_in past)
 brings-on c copies fronts [] b = tt
 brings-on c copies fronts (Message m ∷ past) b = brings-on c copies fronts past b
 brings-on c copies fronts (Packet p ∷ past) b = (b.0, brings-on c copies fronts past b.2)
 
-module _ (c : Config) (copies : List LineTurn → ℕ) (fronts : List ℕ → List (List ℕ) → List (List ℕ)) (past : List Step) (r : IsRunOf c past) (b : Brings c copies fronts past) where
+module _ (c : Config) (copies : List LineTurn → ℕ) (fronts : List ℕ → List (List ℕ) → List (List ℕ)) (past : List Step) (r : IsRunOf c past) (b : BringsCues c copies fronts past) where
   reads : CuedReads (Some c.program) c.cue_pid (stream c fronts past) (packets_in past) (pids_of (program_of (Some c.program) (packets_in past)))
   reads = cued_stream_reads (purpose_of c) c.cue_pid fronts (packets_in past) refl refl r.not_pat r.cue_pid r.faultless r.bytes (brings-on c copies fronts past b)
 

@@ -26,8 +26,8 @@ use Rattle.injector.specs.Steps.{Step, Message, Packet, packets_in, high_of, tur
 use Rattle.cue_laws.specs.Events.{In}
 use Rattle.cue_laws.specs.Laws.{KeepsEnoughOf}
 use Rattle.cue_laws.proofs.Enough.{nothing_lost_is_enough}
-use Rattle.path_laws.specs.Path.{Item, Sent, left, armed_on, asked_line, IsHistory}
-use Rattle.path_laws.specs.Packets.{IsRunOf, cues_at, sent_in, kept, stream, Brings, CuePathInPackets, CuePathInPacketsAtTheEnd, own_fronts, CuedStreamBrings, CuedStreamArms}
+use Rattle.path_laws.specs.Path.{Item, Sent, left, armed_on, asked_line, IsSteadyHistory}
+use Rattle.path_laws.specs.Packets.{IsRunOf, cues_at, sent_in, kept, stream, BringsCues, CuePathInPackets, CuePathInPacketsAtTheEnd, own_fronts, CuedStreamBrings, CuedStreamArms}
 use Rattle.path_laws.proofs.Packets.{run-message, run-packet, run-history, map-pid, cues-back}
 use Rattle.path_laws.proofs.Streams.{stream_arms}
 use Rattle.path_laws.proofs.Proofs.{requests_are_a_run, cue_path_of_events, cue_path_of_events_at_the_end}
@@ -58,7 +58,7 @@ cue_path_in_packets c copies fronts p last past later r b k e un reached =
     let same : turns_in c.program whole ≡ Passed top ∷ (u.0 ++ turns_in c.program front) = ap (λ l. Passed top ∷ l) u.1 in
     let law : In e (armed_on (left copies (sent_in c front))) ↔ In e (events c.index (turns_in c.program front)) =
     cue_path_of_events c.index copies h top (turns_in c.program past) u.0
-    (subst (IsHistory c.index) same (run-history c whole r)) (subst (λ l. KeepsEnoughOf copies (asked_line c.index l)) same k) e un reached in
+    (subst (IsSteadyHistory c.index) same (run-history c whole r)) (subst (λ l. KeepsEnoughOf copies (asked_line c.index l)) same k) e un reached in
     let arms : armed c.cue_pid (high_of c.program) (stream c fronts front) ≡ armed_on (left copies (sent_in c front)) = ap (λ (x : Heard). x.events) (stream_arms c copies fronts front here b) in
     (λ i. law.0 (subst (In e) arms i), λ i. subst (In e) (sym arms) (law.1 i))
 
@@ -136,7 +136,7 @@ carries-on : (pid : ℕ) (qs : List (List ℕ)) → AllByRecursion (IsPayloadOn 
 carries-on pid [] all = tt
 carries-on pid (q ∷ qs) all = (payload_on-on pid q all.0, carries-on pid qs all.1)
 
-stream-brings : (c : Config) (fronts : List ℕ → List (List ℕ) → List (List ℕ)) (past : List Step) → IsRunOf c past → Agrees c fronts past → Brings c (λ t. 1) fronts past
+stream-brings : (c : Config) (fronts : List ℕ → List (List ℕ) → List (List ℕ)) (past : List Step) → IsRunOf c past → Agrees c fronts past → BringsCues c (λ t. 1) fronts past
 stream-brings c fronts [] r a = tt
 stream-brings c fronts (Message m ∷ past) r a = stream-brings c fronts past (run-message c m past r) a
 stream-brings c fronts (Packet p ∷ past) r a =

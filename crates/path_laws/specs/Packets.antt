@@ -68,24 +68,24 @@ stream c fronts past = network_with (Some c.program) c.cue_pid fronts (packets_i
 
 -- The packets in front are of the cue PID, and the reader of that PID finds in them the sections of the cues that are left: none of
 -- those that are lost, and of one that comes twice, in packets that are no duplicates, both.
-abbrev pub Brings : Config → (List LineTurn → ℕ) → (List ℕ → List (List ℕ) → List (List ℕ)) → List Step → Type 0
-Brings c copies fronts [] = Unit {0}
-Brings c copies fronts (Message m ∷ past) = Brings c copies fronts past
-Brings c copies fronts (Packet p ∷ past) =
+abbrev pub BringsCues : Config → (List LineTurn → ℕ) → (List ℕ → List (List ℕ) → List (List ℕ)) → List Step → Type 0
+BringsCues c copies fronts [] = Unit {0}
+BringsCues c copies fronts (Message m ∷ past) = BringsCues c copies fronts past
+BringsCues c copies fronts (Packet p ∷ past) =
     AllByRecursion (On c.cue_pid) (fronts p (packets_in past))
     × (sections_after (stream c fronts past) c.cue_pid (fronts p (packets_in past)) ≡ map cue_bytes (kept copies (sent_in c past) (cues_at c p past)))
-    × Brings c copies fronts past
+    × BringsCues c copies fronts past
 
 -- WHAT A STREAM ARMS is what the path of its cues does
 abbrev pub StreamArms : Type 0
-StreamArms = (c : Config) (copies : List LineTurn → ℕ) (fronts : List ℕ → List (List ℕ) → List (List ℕ)) (past : List Step) → IsRunOf c past → Brings c copies fronts past →
+StreamArms = (c : Config) (copies : List LineTurn → ℕ) (fronts : List ℕ → List (List ℕ) → List (List ℕ)) (past : List Step) → IsRunOf c past → BringsCues c copies fronts past →
     heard c.cue_pid (high_of c.program) (stream c fronts past) ≡ heard_on (left copies (sent_in c past))
 
 -- THE CUE PATH IN PACKETS: behind each packet of a network without fault, a switch that reads what is left of the cues has armed an
 -- uncancelled event whose start is reached exactly where the injector has accepted it, whatever cues were lost or doubled
 abbrev pub CuePathInPackets : Type 0
 CuePathInPackets = (c : Config) (copies : List LineTurn → ℕ) (fronts : List ℕ → List (List ℕ) → List (List ℕ)) (p last : List ℕ) (past later : List Step) →
-    IsRunOf c (Packet last ∷ (later ++ Packet p ∷ past)) → Brings c copies fronts (Packet p ∷ past) →
+    IsRunOf c (Packet last ∷ (later ++ Packet p ∷ past)) → BringsCues c copies fronts (Packet p ∷ past) →
     KeepsEnoughOf copies (asked_line c.index (turns_in c.program (Packet last ∷ (later ++ Packet p ∷ past)))) →
     (e : Standing) → e.cancelled ≡ false → before (high_of c.program (p ∷ packets_in past)) e.start ≡ false →
     In e (armed c.cue_pid (high_of c.program) (stream c fronts (Packet p ∷ past))) ↔ In e (events c.index (turns_in c.program (Packet p ∷ past)))
@@ -93,7 +93,7 @@ CuePathInPackets = (c : Config) (copies : List LineTurn → ℕ) (fronts : List 
 -- and behind the last packet it is so for all uncancelled events
 abbrev pub CuePathInPacketsAtTheEnd : Type 0
 CuePathInPacketsAtTheEnd = (c : Config) (copies : List LineTurn → ℕ) (fronts : List ℕ → List (List ℕ) → List (List ℕ)) (p : List ℕ) (past : List Step) →
-    IsRunOf c (Packet p ∷ past) → Brings c copies fronts (Packet p ∷ past) → KeepsEnoughOf copies (asked_line c.index (turns_in c.program (Packet p ∷ past))) →
+    IsRunOf c (Packet p ∷ past) → BringsCues c copies fronts (Packet p ∷ past) → KeepsEnoughOf copies (asked_line c.index (turns_in c.program (Packet p ∷ past))) →
     (e : Standing) → e.cancelled ≡ false →
     In e (armed c.cue_pid (high_of c.program) (stream c fronts (Packet p ∷ past))) ↔ In e (events c.index (turns_in c.program (Packet p ∷ past)))
 
@@ -108,7 +108,7 @@ own_fronts c (Packet q ∷ past) p before_it = if length before_it == length (pa
 -- THE CUED STREAM ITSELF is such a stream, with one copy of each cue
 abbrev pub CuedStreamBrings : Type 0
 CuedStreamBrings = (c : Config) (past : List Step) → IsRunOf c past →
-    (stream c (own_fronts c past) past ≡ cued c past) × Brings c (λ t. 1) (own_fronts c past) past
+    (stream c (own_fronts c past) past ≡ cued c past) × BringsCues c (λ t. 1) (own_fronts c past) past
 
 -- so of the cued stream itself a switch has armed, behind each packet of the network, all uncancelled events that were accepted, and no
 -- others that are not cancelled

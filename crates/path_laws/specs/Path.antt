@@ -115,7 +115,7 @@ abbrev pub RequestFits : ℕ → MessageReading → Type 0
 RequestFits index m = FitsIn (asked_of index m) (λ a. a.request) (λ a. a.avails.items)
 
 -- the requests fit, and the greatest time never falls and rises by ten seconds at most
-abbrev pub IsHistory : ℕ → List Turn → Type 0
-IsHistory index [] = Unit {0}
-IsHistory index (Judged m ∷ past) = RequestFits index m × IsHistory index past
-IsHistory index (Passed h ∷ past) = Rises (high past) h × IsHistory index past
+abbrev pub IsSteadyHistory : ℕ → List Turn → Type 0
+IsSteadyHistory index [] = Unit {0}
+IsSteadyHistory index (Judged m ∷ past) = RequestFits index m × IsSteadyHistory index past
+IsSteadyHistory index (Passed h ∷ past) = Rises (high past) h × IsSteadyHistory index past

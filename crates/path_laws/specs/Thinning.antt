@@ -15,7 +15,7 @@ use Rattle.cue_laws.specs.Events.{Turn as LineTurn, before, In}
 use Rattle.cue_laws.specs.Laws.{KeepsEnoughOf}
 use Rattle.cue_laws.specs.Thinning.{times}
 use Rattle.path_laws.specs.Path.{Item, Sent, line, asked_line}
-use Rattle.path_laws.specs.Packets.{IsRunOf, cues_at, sent_in, stream, Brings}
+use Rattle.path_laws.specs.Packets.{IsRunOf, cues_at, sent_in, stream, BringsCues}
 
 -- so many copies of the packet of each cue, the counters those of the cued stream
 abbrev pub thin : ℕ → (List LineTurn → ℕ) → List Item → ℕ → List CueOut → List (List ℕ)
@@ -51,7 +51,7 @@ sections_given (suc (suc n)) = suc (sections_given n)
 -- THINNED PACKETS: where those that are left are no duplicates of one another, the reader finds the section of each that is left
 abbrev pub ThinnedBrings : Type 0
 ThinnedBrings = (c : Config) (copies : List LineTurn → ℕ) (fronts : List ℕ → List (List ℕ) → List (List ℕ)) (past : List Step) → IsRunOf c past →
-    IsThinned c copies fronts past → Brings c (λ t. sections_given (copies t)) fronts past
+    IsThinned c copies fronts past → BringsCues c (λ t. sections_given (copies t)) fronts past
 
 -- the injector's own packets are those of which one copy is left
 abbrev pub ThinnedOfAll : Type 0

@@ -5,7 +5,7 @@ use Rattle.std.specs.Prelude.{option_map}
 use Rattle.ts_packet.specs.Fields.{on}
 use Rattle.psi_section.specs.declared.assembler.Assembler.{Assembler}
 use Rattle.psi_section.specs.Sections.{given}
-use Rattle.psi_section.specs.Assembling.{Gives, left}
+use Rattle.psi_section.specs.Assembling.{StillGives, left}
 use Rattle.psi_section.proofs.AssemblerLemmas.{gives_off}
 use Rattle.psi_section.proofs.RunLemmas.{given_off}
 use Rattle.psi_tables.specs.declared.network.NetworkFault.{NetworkFault}
@@ -72,12 +72,12 @@ module _ (c : Purpose) (r : MapReader) (l : Listed) (p : List ℕ) (past : List 
   abbrev since : List (List ℕ)
   since = since_pat c.program past
 
-  pub gives_at : Gives r.assembler l.pid since h.todo
+  pub gives_at : StillGives r.assembler l.pid since h.todo
   gives_at = let P : Option Listed → Type 0 = λ x. GivesSince r.assembler x since h.todo in subst P (sym at) h.assembler
 
-  gives_next : (a : Assembler) (todo : List (List ℕ)) → Gives a l.pid (p ∷ since) todo → GivesSince a (listed c.program (p ∷ past)) (since_pat c.program (p ∷ past)) todo
+  gives_next : (a : Assembler) (todo : List (List ℕ)) → StillGives a l.pid (p ∷ since) todo → GivesSince a (listed c.program (p ∷ past)) (since_pat c.program (p ∷ past)) todo
   gives_next a todo g =
-      let P : List (List ℕ) → Type 0 = λ ps. Gives a l.pid ps todo in
+      let P : List (List ℕ) → Type 0 = λ ps. StillGives a l.pid ps todo in
       let Q : Option Listed → Type 0 = λ x. GivesSince a x (since_pat c.program (p ∷ past)) todo in
       subst Q (sym (listed_stays c.program p past l (sym at))) (subst P (sym (since_stays c.program p past l (sym at))) g)
 
@@ -97,7 +97,7 @@ module _ (c : Purpose) (r : MapReader) (l : Listed) (p : List ℕ) (past : List 
       ap (maps_fault c (listed c.program past) (known_map c.program past)) (tables_off c.program p past l (sym at) o)
       ∙ ap (λ x. maps_fault c x (known_map c.program past) []) (sym at)
 
-  module _ (a : Assembler) (g : Gives a l.pid (p ∷ since) (given l.pid p since)) (ss : List (List ℕ)) (ss_is : ss ≡ left a) where
+  module _ (a : Assembler) (g : StillGives a l.pid (p ∷ since) (given l.pid p since)) (ss : List (List ℕ)) (ss_is : ss ≡ left a) where
     tables_are : tables_in l ss ≡ tables c.program p past
     tables_are = ap (tables_in l) (ss_is ∙ g.todo_left) ∙ sym (tables_at c.program p past l (sym at))
 

@@ -4,7 +4,7 @@ use Rattle.std.proofs.Common.{◌≡◌, ℕ, List, [], ◌∷◌, false, Option
 use Rattle.ts_packet.specs.Fields.{on}
 use Rattle.psi_section.specs.declared.assembler.Assembler.{Assembler}
 use Rattle.psi_section.specs.Sections.{given}
-use Rattle.psi_section.specs.Assembling.{Gives, left}
+use Rattle.psi_section.specs.Assembling.{StillGives, left}
 use Rattle.psi_section.proofs.AssemblerLemmas.{gives_off}
 use Rattle.psi_section.proofs.RunLemmas.{given_off}
 use Rattle.psi_tables.specs.declared.network.NetworkFault.{NetworkFault}
@@ -48,7 +48,7 @@ pats_off r wanted p past o h = record {
 pub pats_clean_off : (c : Purpose) (p : List ℕ) (past : List (List ℕ)) → on 0 p ≡ false → pats_fault c (listed c.program past) (given 0 p past) ≡ None
 pats_clean_off c p past o = ap (pats_fault c (listed c.program past)) (given_off 0 p past o)
 
-module _ (c : Purpose) (r : PatReader) (a : Assembler) (p : List ℕ) (past : List (List ℕ)) (h : PatsRead r c.program past) (g : Gives a 0 (p ∷ past) (given 0 p past)) where
+module _ (c : Purpose) (r : PatReader) (a : Assembler) (p : List ℕ) (past : List (List ℕ)) (h : PatsRead r c.program past) (g : StillGives a 0 (p ∷ past) (given 0 p past)) where
   pub pats_on : (o : Option Listed) → o ≡ option_or r.listed (first_listed c.program (left a)) → PatsRead (record { assembler = a; listed = o }) c.program (p ∷ past)
   pats_on o e = record {
     todo = given 0 p past;

@@ -4,7 +4,7 @@ use Rattle.std.specs.Prelude.{All}
 use Rattle.std.specs.Io.KnownBytes.{IsAtEnd}
 use Rattle.std.proofs.Common.{◌≡◌, ℕ, ◌≤◌, List, [], ◌∷◌, ◌++◌, false, ap, ◌∙◌, append_assoc, Option, Some, None, IfSome, reverse, length, take, drop}
 use Rattle.ts_packet.specs.Packets.{packets_of, last_part, packet_fault}
-use Rattle.ts_packet.specs.Sources.{Given, HasRead, Refuses}
+use Rattle.ts_packet.specs.Sources.{WasGiven, HasRead, Refuses}
 use Rattle.ts_packet.specs.Runs.{Seen, seen_after}
 use Rattle.ts_packet.specs.FirstFault.{or_then, first_of, named, fault_of, fault_behind, first_fault, read_cause, SaysBy}
 use Rattle.ts_packet.specs.declared.reader.ReadFault.{ReadFault}
@@ -62,7 +62,7 @@ module _ {F : Type 0} (name : ReadFault → F) (test : Seen → Option F) where
   reader_stops (Some bs) (Some rest) ps h b fault k = says bs rest ps h b fault k
 
   -- a packet stops the run
-  pub packet_stops : (input left left' : Option (List ℕ)) (ps : List (List ℕ)) (p : List ℕ) (f : F) → HasRead input left ps → AreSound ps → Given left left' p
+  pub packet_stops : (input left left' : Option (List ℕ)) (ps : List (List ℕ)) (p : List ℕ) (f : F) → HasRead input left ps → AreSound ps → WasGiven left left' p
       → test (record { packet = p; past = reverse ps }) ≡ Some f → IfSome input (λ bs. first_fault name test bs ≡ Some f)
   packet_stops None left left' ps p f h b g e = tt
   packet_stops (Some bs) left None ps p f h b g e = absurd (read_more (Some bs) left None ps p h g).bytes

@@ -3,7 +3,7 @@ use Rattle.std.specs.Prelude.{◌≡◌, ℕ, List, [], ◌∷◌, if◌then◌e
 use Rattle.std.specs.Borrow.{Bor}
 use Rattle.psi_section.specs.declared.assembler.Assembler.{Assembler}
 use Rattle.psi_section.specs.Sections.{given}
-use Rattle.psi_section.specs.Assembling.{Gives, left}
+use Rattle.psi_section.specs.Assembling.{StillGives, left}
 use Rattle.psi_section.specs.SectionsLeft.{sections_left}
 use Rattle.psi_tables.specs.ProgramMap.{map_of}
 use Rattle.program_follower.specs.declared.purpose.Listed.{Listed}
@@ -17,7 +17,7 @@ use Rattle.program_follower.specs.Program.{listed, since_pat, Table, table_of, P
 -- The reader of PATs has been fed this past; its assembler may still give what was judged.
 pub record PatsRead (r : PatReader) (wanted : Option ℕ) (past : List (List ℕ)) : Type 0 where
   pub todo : List (List ℕ)
-  pub assembler : Gives r.assembler 0 past todo
+  pub assembler : StillGives r.assembler 0 past todo
   pub listed_is : r.listed ≡ listed wanted past
 
 -- ---- maps
@@ -43,8 +43,8 @@ tables_left t = map (table_of t.program) (sections_left t.sections)
 
 -- the assembler has been fed the packets since the PAT, of the PID that it lists
 abbrev pub GivesSince : Assembler → Option Listed → List (List ℕ) → List (List ℕ) → Type 0
-GivesSince a None since todo = (pid : ℕ) → Gives a pid [] todo
-GivesSince a (Some l) since todo = Gives a l.pid since todo
+GivesSince a None since todo = (pid : ℕ) → StillGives a pid [] todo
+GivesSince a (Some l) since todo = StillGives a l.pid since todo
 
 -- the sections that the newest packet finishes on the PMT's PID
 abbrev pub sections_on : Option Listed → List ℕ → List (List ℕ) → List (List ℕ)

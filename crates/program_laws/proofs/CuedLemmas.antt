@@ -19,7 +19,7 @@ use Rattle.program_follower.specs.declared.purpose.Purpose.{Purpose}
 use Rattle.program_follower.specs.declared.purpose.Listed.{Listed}
 use Rattle.program_follower.specs.Program.{listed, since_pat, Table, table_of, map_read, tables, all_tables, first_map, known_map, Program, program_in, program_of, behind_head, pids_of}
 use Rattle.program_follower.specs.Faults.{is_pid, if_bad, pmt_pid_fault, pids_in, bad_pid, bad_switched, too_long, first_fault}
-use Rattle.program_laws.specs.Writing.{Along, Writing, written, table_out, Off, MapGoesOut, GoesOut, IsClear, ReadsAgain}
+use Rattle.program_laws.specs.Writing.{Along, Writing, written, table_out, Off, MapGoesOut, ChangedGoesOut, IsClear, ReadsAgain}
 use Rattle.program_laws.specs.Behind.{Passes, TakesAll, SameUnits}
 use Rattle.program_laws.specs.CueEntry.{EntryGoes}
 use Rattle.program_laws.specs.Cued.{on_one, On, cueing, stripping, CuedReads, CuedStreamReads}
@@ -53,7 +53,7 @@ pub record OnOnePid (w : Writing) (cue : ℕ) : Type 0 where
 pub record Fits (w : Writing) (wanted : Option ℕ) (cue : ℕ) (past : List (List ℕ)) (l : Listed) : Type 0 where
   pub zero : l.pid ≡ 0 → ⊥
   pub clear : cue ≡ l.pid → ⊥
-  pub maps : AllByRecursion (GoesOut w.change l.program) (all_tables wanted past)
+  pub maps : AllByRecursion (ChangedGoesOut w.change l.program) (all_tables wanted past)
 
 module _ (w : Writing) (wanted : Option ℕ) (cue : ℕ) (no : cue ≡ 0 → ⊥) (one : OnOnePid w cue) where
   abbrev Front : List ℕ → List (List ℕ) → Type 0
@@ -76,13 +76,13 @@ module _ (w : Writing) (wanted : Option ℕ) (cue : ℕ) (no : cue ≡ 0 → ⊥
         pid = g.zero;
         front = ons_off cue l.pid (w.front p past) g.clear f.0;
         place = λ n. place_off l.pid p past g.clear n;
-        maps = (Each-parts (GoesOut w.change l.program) (all_tables wanted past) (tables wanted p past) g.maps).1;
+        maps = (Each-parts (ChangedGoesOut w.change l.program) (all_tables wanted past) (tables wanted p past) g.maps).1;
       };
     },
     clear_along past f.1 (λ l known. let g = h l (listed_stays wanted p past l known) in record {
       zero = g.zero;
       clear = g.clear;
-      maps = (Each-parts (GoesOut w.change l.program) (all_tables wanted past) (tables wanted p past) g.maps).0;
+      maps = (Each-parts (ChangedGoesOut w.change l.program) (all_tables wanted past) (tables wanted p past) g.maps).0;
     }),
   )
 
@@ -192,7 +192,7 @@ module _ (c : Purpose) (cue : ℕ) (past : List (List ℕ)) (is_cue : c.cue_pid 
     back_by s None h = tt
     back_by s (Some m) h = let e = h.undone in rw e h.back
 
-    backs : (ts : List Table) → AllByRecursion Goes ts → AllByRecursion (GoesOut (without_cue_entry cue) l.program) (map (table_out (with_cue_entry cue)) ts)
+    backs : (ts : List Table) → AllByRecursion Goes ts → AllByRecursion (ChangedGoesOut (without_cue_entry cue) l.program) (map (table_out (with_cue_entry cue)) ts)
     backs [] h = tt
     backs (t ∷ ts) h = (back_by t.section t.program_map h.0, backs ts h.1)
 
@@ -209,7 +209,7 @@ module _ (c : Purpose) (cue : ℕ) (past : List (List ℕ)) (is_cue : c.cue_pid 
         ap (λ u. u ∷ map (table_out (without_cue_entry cue)) (map (table_out (with_cue_entry cue)) ts)) (same_by t.section t.program_map h.0)
         ∙ ap (λ us. t ∷ us) (sames ts h.1)
 
-    -- the programme
+    -- the program
     same_first : (s : List ℕ) (o x : Option ProgramMap) → Entry-goes s o → option_map program_in (option_map (with_cue_entry cue) x) ≡ option_map program_in x
         → option_map program_in (option_map (with_cue_entry cue) (option_or o x)) ≡ option_map program_in (option_or o x)
     same_first s None x g k = k
@@ -284,7 +284,7 @@ module _ (c : Purpose) (cue : ℕ) (past : List (List ℕ)) (is_cue : c.cue_pid 
           (λ l known. record {
             zero = not_zero l known;
             clear = not_cue l known;
-            maps = Each-map (Goes l known) (GoesOut (with_cue_entry cue) l.program) (λ t g. out_by l known t.section t.program_map g) (all_tables c.program past) (all_go l known bytes);
+            maps = Each-map (Goes l known) (ChangedGoesOut (with_cue_entry cue) l.program) (λ t g. out_by l known t.section t.program_map g) (all_tables c.program past) (all_go l known bytes);
           })
 
       again : ReadsAgain w c.program past

@@ -19,7 +19,7 @@ use Rattle.psi_tables.specs.Streams.{pid_in}
 use Rattle.psi_tables.specs.ProgramMap.{ProgramMap, pmt, pmt_section}
 use Rattle.program_follower.specs.declared.purpose.Listed.{Listed}
 use Rattle.program_follower.specs.Program.{listed_as, listed_in, pairs_of, listed_by, lists, first_listed, listed, since_pat, Table, map_read, table_of, tables, all_tables, first_map}
-use Rattle.program_laws.specs.Writing.{Along, number_on, Writing, section_by, section_out, table_out, packets_out, body, written, Off, MapGoesOut, GoesOut, IsClearBehind, IsClear, WrittenReadsAgain}
+use Rattle.program_laws.specs.Writing.{Along, number_on, Writing, section_by, section_out, table_out, packets_out, body, written, Off, MapGoesOut, ChangedGoesOut, IsClearBehind, IsClear, WrittenReadsAgain}
 use Rattle.ts_packet.specs.Runs.{onto}
 use Rattle.psi_section.proofs.GivenLemmas.{All-both, given_can_each}
 use Rattle.program_laws.proofs.PacketLemmas.{Meets, one_past-below, fresh, meets_others, meets_own}
@@ -87,7 +87,7 @@ module _ (change : ProgramMap → ProgramMap) (program : ℕ) where
   one_out s None h g = ap (λ o. let t : Table = record { section = s; program_map = o } in t) h
   one_out s (Some m) h g = ap (λ o. let t : Table = record { section = pmt_section (change m); program_map = o } in t) g.reads
 
-  all_out : (ss : List (List ℕ)) → AllByRecursion (GoesOut change program) (map (table_of program) ss)
+  all_out : (ss : List (List ℕ)) → AllByRecursion (ChangedGoesOut change program) (map (table_of program) ss)
       → map (table_of program) (map (section_out change) (map (table_of program) ss)) ≡ map (table_out change) (map (table_of program) ss)
   all_out [] h = refl
   all_out (s ∷ ss) h =
@@ -98,7 +98,7 @@ module _ (change : ProgramMap → ProgramMap) (program : ℕ) where
   one_can s None g k = k
   one_can s (Some m) g k = g.given
 
-  all_can : (ss : List (List ℕ)) → AllByRecursion (GoesOut change program) (map (table_of program) ss) → AllByRecursion CanBeGiven ss → All CanBeGiven (map (section_out change) (map (table_of program) ss))
+  all_can : (ss : List (List ℕ)) → AllByRecursion (ChangedGoesOut change program) (map (table_of program) ss) → AllByRecursion CanBeGiven ss → All CanBeGiven (map (section_out change) (map (table_of program) ss))
   all_can [] h k = All-nil CanBeGiven
   all_can (s ∷ ss) h k =
       All-cons CanBeGiven (section_out change (table_of program s)) (map (section_out change) (map (table_of program) ss))
@@ -201,7 +201,7 @@ module _ (w : Writing) (wanted : Option ℕ) (p : List ℕ) (past out : List (Li
         let off = off_other pid 0 p b.pid is in
         let g = given pid p (since_pat wanted past) in
         let here : tables wanted p past ≡ map (table_of l.program) g = tables_at wanted p past l known in
-        let maps : AllByRecursion (GoesOut w.change l.program) (map (table_of l.program) g) = rw here at b.maps in
+        let maps : AllByRecursion (ChangedGoesOut w.change l.program) (map (table_of l.program) g) = rw here at b.maps in
         let can : All CanBeGiven ss = rw here (all_can w.change l.program g maps (given_can_each pid p (since_pat wanted past))) in
         let m : Meets pid out (last_of pid (onto since front)) = rw (others_alike pid front since since b.front (alike_none pid since)).last (r.counters l known) in
         let back : sections_after (onto since front) pid qs ≡ ss = read_back_in_turn pid n ss (onto since front) pb nb can (fresh pid out (onto since front) pb m) in

@@ -17,7 +17,7 @@ pub record TakesEntry (program pid : ℕ) (s : List ℕ) (m : ProgramMap) : Type
   pub room : too_long (Some pid) m ≡ false
   pub free : list_any (lists_pid pid) m.entries ≡ false
 
--- it goes out with the entry, is of the same programme, and comes back
+-- it goes out with the entry, is of the same program, and comes back
 pub record EntryGoes (program pid : ℕ) (s : List ℕ) (m : ProgramMap) : Type 0 where
   pub out : IsReadable program (with_cue_entry pid m)
   pub same : program_in (with_cue_entry pid m) ≡ program_in m

@@ -24,12 +24,12 @@ PairsAgree l (Some pairs) = pid_of_program l.program pairs ≡ Some l.pid
 abbrev pub PatsAgree : Option ℕ → List ℕ → List (List ℕ) → Type 0
 PatsAgree wanted p past = (l : Listed) → listed wanted past ≡ Some l → AllByRecursion (λ s. PairsAgree l (pairs_of (pat s))) (given 0 p past)
 
--- a map of the programme says the same
+-- a map of the program says the same
 abbrev pub MapAgrees : Option ProgramMap → Option ProgramMap → Type 0
 MapAgrees known None = Unit {0}
 MapAgrees known (Some m) = option_map program_in known ≡ Some (program_in m)
 
--- THE LAW OF STABILITY: without fault every later PAT gives the programme the same PID, and every later map of it has the same
+-- THE LAW OF STABILITY: without fault every later PAT gives the program the same PID, and every later map of it has the same
 -- switched streams and PCR PID.
 pub record Agrees (c : Purpose) (past : List (List ℕ)) : Type 0 where
   pub pats : Along (PatsAgree c.program) past
@@ -52,7 +52,7 @@ on_one (pid ∷ pids) q = on pid q || on_one pids q
 abbrev pub On : ℕ → List ℕ → Type 0
 On pid q = on pid q ≡ true
 
--- packets are put in front of packets, and each map of the programme lists the PID of the cues
+-- packets are put in front of packets, and each map of the program lists the PID of the cues
 abbrev pub cueing : ℕ → (List ℕ → List (List ℕ) → List (List ℕ)) → Writing
 cueing cue cues = record { change = with_cue_entry cue; front = cues; place = λ p past. p ∷ [] }
 
@@ -74,7 +74,7 @@ pub record CuedReads (wanted : Option ℕ) (cue : ℕ) (out past : List (List �
   pub stripped : all_tables wanted (written (stripping cue) wanted out) ≡ all_tables wanted past
 
 -- THE LAW OF THE CUED STREAM. A network without fault, whatever packets of the cue PID are put in front of its packets, has its PAT,
--- programme and units, and stripped again its sections.
+-- program and units, and stripped again its sections.
 abbrev pub CuedStreamReads : Type 0
 CuedStreamReads = (c : Purpose) (cue : ℕ) (cues : List ℕ → List (List ℕ) → List (List ℕ)) (past : List (List ℕ)) →
     c.cue_pid ≡ Some cue → c.writes_cues ≡ true → (cue ≡ 0 → ⊥) → cue < 8192 → first_fault c past ≡ None →

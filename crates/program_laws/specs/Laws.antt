@@ -1,4 +1,4 @@
--- What holds of a programme.
+-- What holds of a program.
 use Rattle.std.specs.Option.{option_or}
 use Rattle.std.specs.Prelude.{◌≡◌, ℕ, List, ◌∷◌, Option, Some}
 use Rattle.program_follower.specs.Program.{since_pat, tables, known_map, Program, program_of, behind_head, first_map, pmt_pid_of}

@@ -1,5 +1,5 @@
 -- Streams that are written from a network: packets are put in, packets are left out or changed, and on the PID of the PMT the
--- sections go out in packets of their own, the programme's maps changed.
+-- sections go out in packets of their own, the program's maps changed.
 use Rattle.std.specs.Prelude.{◌≡◌, ℕ, List, [], ◌∷◌, ◌++◌, map, true, false, if◌then◌else◌, Option, Some, None, option_map}
 use Rattle.std.specs.List.{AllByRecursion}
 use Rattle.ts_packet.specs.Fields.{on, number}
@@ -21,7 +21,7 @@ abbrev pub number_on : ℕ → List (List ℕ) → Option ℕ
 number_on pid [] = None
 number_on pid (p ∷ past) = if on pid p then Some (number p) else number_on pid past
 
--- What is written: the change of the programme's maps, the packets put in front of a packet, and those in its place where it is not
+-- What is written: the change of the program's maps, the packets put in front of a packet, and those in its place where it is not
 -- on the PID of the PMT behind the PAT.
 pub record Writing : Type 0 where
   pub change : ProgramMap → ProgramMap
@@ -71,15 +71,15 @@ abbrev pub MapGoesOut : (ProgramMap → ProgramMap) → ℕ → Option ProgramMa
 MapGoesOut change program None = Unit {0}
 MapGoesOut change program (Some m) = IsReadable program (change m)
 
-abbrev pub GoesOut : (ProgramMap → ProgramMap) → ℕ → Table → Type 0
-GoesOut change program t = MapGoesOut change program t.program_map
+abbrev pub ChangedGoesOut : (ProgramMap → ProgramMap) → ℕ → Table → Type 0
+ChangedGoesOut change program t = MapGoesOut change program t.program_map
 
 -- Behind the PAT: the PID of the PMT is not that of the PAT, nothing else is put on it, and its changed maps can be read.
 pub record IsClearBehind (w : Writing) (wanted : Option ℕ) (p : List ℕ) (past : List (List ℕ)) (l : Listed) : Type 0 where
   pub pid : l.pid ≡ 0 → ⊥
   pub front : AllByRecursion (Off l.pid) (w.front p past)
   pub place : on l.pid p ≡ false → AllByRecursion (Off l.pid) (w.place p past)
-  pub maps : AllByRecursion (GoesOut w.change l.program) (tables wanted p past)
+  pub maps : AllByRecursion (ChangedGoesOut w.change l.program) (tables wanted p past)
 
 -- Nothing is put on PID 0, whose packets pass.
 pub record IsClear (w : Writing) (wanted : Option ℕ) (p : List ℕ) (past : List (List ℕ)) : Type 0 where

@@ -1,4 +1,4 @@
-//! What holds of a programme and of streams that are written from a network, over the definitions alone.
+//! What holds of a program and of streams that are written from a network, over the definitions alone.
 
 ghost use Rattle.program_laws.specs.Laws.{TablesGrow, Stays};
 ghost use Rattle.program_laws.specs.Writing.{WrittenReadsAgain};
@@ -13,12 +13,12 @@ pub fn tables_grow()
     ensures { TablesGrow }
 {}
 
-/// Once known, the programme's PMT PID, the programme and the end of the head stay.
+/// Once known, the program's PMT PID, the program and the end of the head stay.
 pub fn stays()
     ensures { Stays }
 {}
 
-/// A stream that is written from a network has its PAT, its head and its sections, the programme's
+/// A stream that is written from a network has its PAT, its head and its sections, the program's
 /// maps changed.
 pub fn written_reads_again()
     ensures { WrittenReadsAgain }
@@ -36,19 +36,19 @@ pub fn others_are_no_units()
 {}
 
 /// A map that has room for an entry for cues, and lists nothing on their PID, goes out with the
-/// entry, is of the same programme, and comes back.
+/// entry, is of the same program, and comes back.
 pub fn entry_goes_out()
     ensures { EntryGoesOut }
 {}
 
-/// Without fault every later PAT gives the programme the same PID, and every later map of it has
+/// Without fault every later PAT gives the program the same PID, and every later map of it has
 /// the same switched streams and PCR PID.
 pub fn nothing_changes()
     ensures { NothingChanges }
 {}
 
 /// A network without fault, whatever packets of the cue PID are put in front of its packets, has its
-/// PAT, programme and units, and stripped again its sections.
+/// PAT, program and units, and stripped again its sections.
 pub fn cued_stream_reads()
     ensures { CuedStreamReads }
 {}

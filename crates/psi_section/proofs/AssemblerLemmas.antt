@@ -13,7 +13,7 @@ use Rattle.psi_section.specs.declared.front.Front.TheVariants.{Nothing, Whole, P
 use Rattle.psi_section.specs.declared.assembler.Assembler.{Assembler}
 use Rattle.psi_section.specs.Sections.{front_by, front_of, Assembled, taken, with_section, packet_taken, held, given, failed, is_good, is_bad}
 use Rattle.psi_section.specs.Storing.{content}
-use Rattle.psi_section.specs.Assembling.{IsOf, IsPart, Waits, Gives, capped, left}
+use Rattle.psi_section.specs.Assembling.{IsOf, IsPart, Waits, StillGives, capped, left}
 use Rattle.psi_section.proofs.FrontLemmas.{whole_first, part_alone, nothing_alone}
 
 -- ---- a packet and its payload
@@ -74,7 +74,7 @@ part_size bs (inr h) = front_part bs h
 -- ---- one packet more
 
 module _ (a b : Assembler) (pid : ℕ) (p : List ℕ) (past : List (List ℕ)) (h : Waits a pid past) where
-  pub passes_over : payload_on pid p ≡ false → Gives a pid (p ∷ past) (given pid p past)
+  pub passes_over : payload_on pid p ≡ false → StillGives a pid (p ∷ past) (given pid p past)
   passes_over y =
       let t = ready_taken (content a.store) h.ready in
       record {
@@ -87,7 +87,7 @@ module _ (a b : Assembler) (pid : ℕ) (p : List ℕ) (past : List (List ℕ)) (
       }
 
   pub passes_repeat : payload_on pid p ≡ true → repeats_last p a.last ≡ true → b.last ≡ Some (record { packet = p; is_repeat = true }) → b.store ≡ a.store → b.bad ≡ a.bad
-      → Gives b pid (p ∷ past) (given pid p past)
+      → StillGives b pid (p ∷ past) (given pid p past)
   passes_repeat y r l s n =
       let w : repeats pid p past ≡ true = walk_is_last pid p past ∙ ap (repeats_last p) (sym h.last) ∙ r in
       let t : taken (content b.store) ≡ record { finished = []; part = content a.store } = ap (λ x. taken (content x)) s ∙ ready_taken (content a.store) h.ready in
@@ -101,7 +101,7 @@ module _ (a b : Assembler) (pid : ℕ) (p : List ℕ) (past : List (List ℕ)) (
       }
 
   pub takes_in : payload_on pid p ≡ true → repeats_last p a.last ≡ false → b.last ≡ Some (record { packet = p; is_repeat = false })
-      → taken (content b.store) ≡ packet_taken p a.last (content a.store) → b.bad ≡ a.bad → Gives b pid (p ∷ past) (given pid p past)
+      → taken (content b.store) ≡ packet_taken p a.last (content a.store) → b.bad ≡ a.bad → StillGives b pid (p ∷ past) (given pid p past)
   takes_in y r l s n =
       let w : repeats pid p past ≡ false = walk_is_last pid p past ∙ ap (repeats_last p) (sym h.last) ∙ r in
       let t : taken (content b.store) ≡ packet_taken p (last_of pid past) (held pid past) = s ∙ ap (λ x. packet_taken p x (content a.store)) h.last ∙ ap (packet_taken p (last_of pid past)) h.part in
@@ -143,10 +143,10 @@ capped-more : (c : ℕ) → capped (capped c + 1) ≡ capped (c + 1)
 capped-more c = omega arith
 
 -- where nothing is passed over yet, what is still to be given is what is left
-pub gives_left : (a : Assembler) (pid : ℕ) (past todo : List (List ℕ)) → Gives a pid past todo → Gives a pid past (left a)
+pub gives_left : (a : Assembler) (pid : ℕ) (past todo : List (List ℕ)) → StillGives a pid past todo → StillGives a pid past (left a)
 gives_left a pid past todo h = record { last = h.last; part = h.part; todo_left = refl; counted = h.counted; all = h.all; bad = h.bad }
 
-module _ (a b : Assembler) (pid : ℕ) (past : List (List ℕ)) (h : Gives a pid past (left a)) where
+module _ (a b : Assembler) (pid : ℕ) (past : List (List ℕ)) (h : StillGives a pid past (left a)) where
   none_left : (part : List ℕ) → b.last ≡ a.last → b.bad ≡ a.bad → content b.store ≡ part → IsPart part → taken (content a.store) ≡ record { finished = []; part = part } → Waits b pid past
   none_left part l m s r t =
       record {
@@ -166,7 +166,7 @@ module _ (a b : Assembler) (pid : ℕ) (past : List (List ℕ)) (h : Gives a pid
     first_taken : taken (content a.store) ≡ with_section (take n (content a.store)) (taken (content b.store))
     first_taken = whole_first (content a.store) n f ∙ ap (λ x. with_section (take n (content a.store)) (taken x)) (sym s)
 
-    pub passes_bad : is_bad (take n (content a.store)) ≡ true → b.bad ≡ capped (a.bad + 1) → Gives b pid past (left b)
+    pub passes_bad : is_bad (take n (content a.store)) ≡ true → b.bad ≡ capped (a.bad + 1) → StillGives b pid past (left b)
     passes_bad y m =
         let s0 = take n (content a.store) in
         let fs = (taken (content b.store)).finished in
@@ -182,7 +182,7 @@ module _ (a b : Assembler) (pid : ℕ) (past : List (List ℕ)) (h : Gives a pid
           bad = m ∙ ap (λ x. capped (x + 1)) h.bad ∙ capped-more c;
         }
 
-    pub passes_good : is_bad (take n (content a.store)) ≡ false → b.bad ≡ a.bad → Gives b pid past (left b)
+    pub passes_good : is_bad (take n (content a.store)) ≡ false → b.bad ≡ a.bad → StillGives b pid past (left b)
     passes_good y m =
         let s0 = take n (content a.store) in
         let fs = (taken (content b.store)).finished in
@@ -199,7 +199,7 @@ module _ (a b : Assembler) (pid : ℕ) (past : List (List ℕ)) (h : Gives a pid
 -- ---- between packets
 
 -- where it waits, nothing is left
-pub waits_gives : (a : Assembler) (pid : ℕ) (past : List (List ℕ)) → Waits a pid past → Gives a pid past []
+pub waits_gives : (a : Assembler) (pid : ℕ) (past : List (List ℕ)) → Waits a pid past → StillGives a pid past []
 waits_gives a pid past h =
     let t = ready_taken (content a.store) h.ready in
     record {
@@ -224,7 +224,7 @@ waits_off a pid p past o h =
 
 -- ---- packets of other PIDs
 
-pub gives_off : (a : Assembler) (pid : ℕ) (p : List ℕ) (past todo : List (List ℕ)) → on pid p ≡ false → Gives a pid past todo → Gives a pid (p ∷ past) todo
+pub gives_off : (a : Assembler) (pid : ℕ) (p : List ℕ) (past todo : List (List ℕ)) → on pid p ≡ false → StillGives a pid past todo → StillGives a pid (p ∷ past) todo
 gives_off a pid p past todo o h =
     let y = off_payload pid p o in
     record {

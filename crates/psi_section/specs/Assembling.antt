@@ -39,7 +39,7 @@ pub record Waits (a : Assembler) (pid : ℕ) (past : List (List ℕ)) : Type 0 w
   pub bad : a.bad ≡ capped (failed pid past)
 
 -- The assembler has been fed this past, and these of its sections are still to be given.
-pub record Gives (a : Assembler) (pid : ℕ) (past todo : List (List ℕ)) : Type 0 where
+pub record StillGives (a : Assembler) (pid : ℕ) (past todo : List (List ℕ)) : Type 0 where
   pub last : a.last ≡ last_of pid past
   pub part : (taken (content a.store)).part ≡ held pid past
   pub todo_left : left a ≡ todo

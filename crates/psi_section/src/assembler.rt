@@ -7,7 +7,7 @@ use crate::sections::Sections;
 use crate::store::Store;
 use ts_packet::{Last, Packet};
 
-/// Gives the sections in the packets of one PID (ISO/IEC 13818-1, 2.4.4). It takes no memory.
+/// StillGives the sections in the packets of one PID (ISO/IEC 13818-1, 2.4.4). It takes no memory.
 #[derive(Drop)]
 pub struct Assembler {
     /// The last payload packet.
@@ -23,7 +23,7 @@ impl Assembler {
     ghost use Rattle.ts_packet.specs.Duplicates.{repeats_last, follows_on};
     ghost use Rattle.psi_section.specs.Sections.{given, taken, failed, packet_taken};
     ghost use Rattle.psi_section.specs.Storing.{content};
-    ghost use Rattle.psi_section.specs.Assembling.{IsOf, IsReady, Waits, Gives, capped, bad_left, left};
+    ghost use Rattle.psi_section.specs.Assembling.{IsOf, IsReady, Waits, StillGives, capped, bad_left, left};
     ghost use Rattle.psi_section.specs.SectionsLeft.{sections_left};
 
     /// An assembler that was fed no packet.
@@ -43,7 +43,7 @@ impl Assembler {
     pub fn feed(&mut self, packet: &Packet)
         requires { IsReady self.old }
         ensures { (pid : ℕ) (past : List (List ℕ)) → IsOf pid packet.now → Waits self.old pid past →
-            Gives self.new pid (packet.now ∷ past) (given pid packet.now past) }
+            StillGives self.new pid (packet.now ∷ past) (given pid packet.now past) }
     {
         let Some(payload) = packet.payload() else {
             return;
@@ -104,7 +104,7 @@ impl Assembler {
 
     /// Passes over the sections that the last packet fed finished, and counts those whose CRC_32 fails.
     pub fn pass_over(&mut self)
-        ensures waits { (pid : ℕ) (past todo : List (List ℕ)) → Gives self.old pid past todo → Waits self.new pid past }
+        ensures waits { (pid : ℕ) (past todo : List (List ℕ)) → StillGives self.old pid past todo → Waits self.new pid past }
         ensures ready { IsReady self.new }
     {
         loop {
@@ -128,7 +128,7 @@ impl Assembler {
     /// The number of sections passed over whose CRC_32 failed; it stops at the greatest.
     pub fn bad(&self) -> u64
         ensures waits { (pid : ℕ) (past : List (List ℕ)) → Waits self.now pid past → result ≡ capped (failed pid past) }
-        ensures gives { (pid : ℕ) (past todo : List (List ℕ)) → Gives self.now pid past todo →
+        ensures gives { (pid : ℕ) (past todo : List (List ℕ)) → StillGives self.now pid past todo →
             result ≡ capped (failed pid past - bad_left self.now) }
     {
         self.bad

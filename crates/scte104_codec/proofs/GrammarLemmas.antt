@@ -11,7 +11,7 @@ use Rattle.scte104_codec.specs.Head.{head_at}
 use Rattle.scte104_codec.specs.Operations.{Operation, AreOperations, operation_bytes, operations_bytes, operations_in}
 use Rattle.scte104_codec.specs.Spelling.{SingleOperation, single_operation_message, MultipleOperation, multiple_operation_message}
 use Rattle.scte104_codec.specs.Reading.{MessageReading, single_fields_of, init, alive, other, multiple, bad, Multiple, multiple_with, multiple_operation_of, message_of}
-use Rattle.scte104_codec.specs.Grammar.{Single, Several, Holds, Spells}
+use Rattle.scte104_codec.specs.Grammar.{Single, Several, HoldsFields, Spells}
 use Rattle.scte104_codec.proofs.FrameLemmas.{is_whole, is_size, whole_single, whole_multiple}
 use Rattle.wire_fields.proofs.Cells.{AreBytes-drop}
 use Rattle.scte104_codec.proofs.SingleLemmas.{SingleFields, single_fields, single_is, single_fits, single_reading, single_read}
@@ -69,7 +69,7 @@ contents_bytes bytes m e h = subst (λ (xs : List ℕ). AreBytes xs) (ap (λ (xs
 multiple_same : (bytes : List ℕ) (read : Multiple) (os : List Operation) → head_at bytes 5 ≡ read.head → slice_index bytes 4 ≡ read.version → slice_index bytes 9 ≡ read.cue_version → slice_index bytes 10 ≡ read.time_kind → os ≡ read.operations → multiple_with bytes (Some os) ≡ multiple read
 multiple_same bytes read os a b c d e = rw (a, b, c, d, e) refl
 
-multiple_read : (bytes : List ℕ) (read : Multiple) (m : MultipleOperation) → Several bytes read.head m → Holds read m → message_of bytes ≡ multiple read
+multiple_read : (bytes : List ℕ) (read : Multiple) (m : MultipleOperation) → Several bytes read.head m → HoldsFields read m → message_of bytes ≡ multiple read
 multiple_read bytes read m s h =
     let t = several_told bytes read.head m s in
     let version = t.0.protocol_version ∙ sym h.version in

@@ -18,7 +18,7 @@ pub record Several (bytes : List ℕ) (head : Head) (m : MultipleOperation) : Ty
   pub whole : bytes ≡ multiple_operation_message m
 
 -- without a time the contents are the operations, and with one they aren't read
-pub record Holds (read : Multiple) (m : MultipleOperation) : Type 0 where
+pub record HoldsFields (read : Multiple) (m : MultipleOperation) : Type 0 where
   pub version : read.version ≡ m.protocol_version
   pub cue_version : read.cue_version ≡ m.cue_version
   pub time_kind : read.time_kind ≡ m.time_type
@@ -29,7 +29,7 @@ abbrev pub Spells : MessageReading → List ℕ → Type 0
 Spells (init head) bytes = (m : SingleOperation) × Single bytes head m × (m.op ≡ 0x0001)
 Spells (alive head body) bytes = (m : SingleOperation) × Single bytes head m × (m.op ≡ 0x0003) × (body ≡ m.body) × (length body ≤ 8)
 Spells (other head) bytes = (m : SingleOperation) × Single bytes head m × (m.op ≢ 0x0001) × (m.op ≢ 0x0003)
-Spells (multiple read) bytes = (m : MultipleOperation) × Several bytes read.head m × Holds read m
+Spells (multiple read) bytes = (m : MultipleOperation) × Several bytes read.head m × HoldsFields read m
 -- an alive_request with too many data
 Spells (bad false head) bytes = (m : SingleOperation) × Single bytes head m × (m.op ≡ 0x0003) × (8 < length m.body)
 -- no operations without a time are the contents

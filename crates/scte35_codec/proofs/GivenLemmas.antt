@@ -16,7 +16,7 @@ use Rattle.scte35_codec.specs.declared.cue_out.CueOut.{CueOut}
 use Rattle.scte35_codec.specs.declared.cue_out.CueOut.TheVariants.{Start, Cancel, End}
 use Rattle.scte35_codec.specs.Reading.{CueReading, cue_of}
 use Rattle.scte35_codec.specs.Spelling.{head_bytes, loop_bytes, start_bytes, end_bytes, unchecked_bytes, cue_bytes, told_of, Fits}
-use Rattle.scte35_codec.specs.Grammar.{IsClear, Spells}
+use Rattle.scte35_codec.specs.Grammar.{IsClearCommand, Spells}
 use Rattle.scte35_codec.specs.Laws.{FitsAPacket}
 use Rattle.psi_section.proofs.CrcLemmas.{crc_closed}
 use Rattle.scte35_codec.proofs.WrittenLemmas.{section, section_grouped, loop_length, cue_spelled, cue_back}
@@ -78,7 +78,7 @@ unfolding cue_bytes
 checked_cue cue = crc_closed (unchecked_bytes cue)
 
 -- what is spelled is clear, and so its section_length is that of its bytes
-clear_of : (cue : CueOut) → Spells (told_of cue) (cue_bytes cue) → IsClear 5 (cue_bytes cue)
+clear_of : (cue : CueOut) → Spells (told_of cue) (cue_bytes cue) → IsClearCommand 5 (cue_bytes cue)
 clear_of (Start event time duration program avail expected avails) s = s.0
 clear_of (Cancel event) s = s.0
 clear_of (End event time) s = s.0

@@ -12,7 +12,7 @@ use Rattle.scte35_codec.specs.Descriptors.{SpliceDescriptor, descriptor_loop_at,
 use Rattle.scte35_codec.specs.Insert.{splice_insert_at, later}
 use Rattle.psi_section.specs.Sections.{section_length}
 use Rattle.scte35_codec.specs.Reading.{CueReading, insert, cancel, null, other, bad, pts_adjustment, splice_command_length, command_part, behind_command, with_loop, told_by, splice_insert_of, cue_of}
-use Rattle.scte35_codec.specs.Grammar.{IsInsert, IsCancel, HasLoop, HasCommand, SpellsInsert, SpellsInsertIn, IsCue, IsWhole, IsVersioned, IsClear, Spells}
+use Rattle.scte35_codec.specs.Grammar.{IsInsert, IsCancel, HasLoop, HasCommand, SpellsInsert, SpellsInsertIn, IsCue, IsWhole, IsVersioned, IsClearCommand, Spells}
 use Rattle.scte35_codec.proofs.FieldLemmas.{HasFront}
 use Rattle.scte35_codec.proofs.InsertLemmas.{insert_sound, cancel_back, insert_back, components_back}
 use Rattle.scte35_codec.proofs.LoopLemmas.{loop_sound, loop_back}
@@ -139,7 +139,7 @@ at_encrypted : (bytes : List ℕ) → IsVersioned bytes → bit_of 7 (slice_inde
 unfolding cue_of
 at_encrypted bytes is e = rw (cue_first bytes is.section.cue, eq-eqb (section_length bytes + 3) (length bytes) is.section.size, eq-eqb (slice_index bytes 3) 0 is.protocol_version, e) refl
 
-at_clear : (kind : ℕ) (bytes : List ℕ) → IsClear kind bytes → cue_of bytes ≡ kind_told kind bytes
+at_clear : (kind : ℕ) (bytes : List ℕ) → IsClearCommand kind bytes → cue_of bytes ≡ kind_told kind bytes
 unfolding cue_of
 at_clear kind bytes is =
     let v = is.section in
@@ -160,7 +160,7 @@ cue_told bytes =
 
 -- ---- what is read is spelled so
 
-spelled_of : (bytes : List ℕ) (read : CueReading) → IsClear 5 bytes → splice_insert_of bytes ≡ read → (read ≡ bad faults.Command) ⊎ SpellsInsertIn bytes read → Spells read bytes
+spelled_of : (bytes : List ℕ) (read : CueReading) → IsClearCommand 5 bytes → splice_insert_of bytes ≡ read → (read ≡ bad faults.Command) ⊎ SpellsInsertIn bytes read → Spells read bytes
 spelled_of bytes (insert i avails) is e (inl c) = absurd cc
 spelled_of bytes (insert i avails) is e (inr s) = (is, s)
 spelled_of bytes (cancel event) is e (inl c) = absurd cc
@@ -182,13 +182,13 @@ spelled_of bytes (bad faults.Length) is e (inl c) = absurd cc
 spelled_of bytes (bad faults.Version) is e (inl c) = absurd cc
 spelled_of bytes (bad faults.Encrypted) is e (inl c) = absurd cc
 
-clear_spelled : (kind : ℕ) (bytes : List ℕ) → IsClear kind bytes → (kind ≡ 0) ⊎ (kind ≢ 0) → (kind ≡ 5) ⊎ (kind ≢ 5) → Spells (kind_told kind bytes) bytes
+clear_spelled : (kind : ℕ) (bytes : List ℕ) → IsClearCommand kind bytes → (kind ≡ 0) ⊎ (kind ≢ 0) → (kind ≡ 5) ⊎ (kind ≢ 5) → Spells (kind_told kind bytes) bytes
 clear_spelled kind bytes is (inl zero_kind) five =
     let told : kind_told kind bytes ≡ null = rw zero_kind refl in
-    subst (λ (read : CueReading). Spells read bytes) (sym told) (subst (λ (k : ℕ). IsClear k bytes) zero_kind is)
+    subst (λ (read : CueReading). Spells read bytes) (sym told) (subst (λ (k : ℕ). IsClearCommand k bytes) zero_kind is)
 clear_spelled kind bytes is (inr some) (inl five) =
     let told : kind_told kind bytes ≡ splice_insert_of bytes = rw five refl in
-    let is5 : IsClear 5 bytes = subst (λ (k : ℕ). IsClear k bytes) five is in
+    let is5 : IsClearCommand 5 bytes = subst (λ (k : ℕ). IsClearCommand k bytes) five is in
     subst (λ (read : CueReading). Spells read bytes) (sym told) (spelled_of bytes (splice_insert_of bytes) is5 refl (of_sound bytes))
 clear_spelled kind bytes is (inr some) (inr unlike) =
     let told : kind_told kind bytes ≡ other = rw (ne_eqb kind 0 some, ne_eqb kind 5 unlike) refl in
@@ -198,7 +198,7 @@ versioned_spelled : (b : Bool) (bytes : List ℕ) → IsVersioned bytes → bit_
 versioned_spelled true bytes is e = subst (λ (read : CueReading). Spells read bytes) (sym (at_encrypted bytes is e)) (is, e)
 versioned_spelled false bytes is e =
     let kind = slice_index bytes 13 in
-    let clear : IsClear kind bytes = record { section = is; encrypted_packet = e; splice_command_type = refl } in
+    let clear : IsClearCommand kind bytes = record { section = is; encrypted_packet = e; splice_command_type = refl } in
     subst (λ (read : CueReading). Spells read bytes) (sym (at_clear kind bytes clear)) (clear_spelled kind bytes clear (cases_eq kind 0) (cases_eq kind 5))
 
 whole_spelled : (bytes : List ℕ) → IsWhole bytes → Spells (cue_of bytes) bytes

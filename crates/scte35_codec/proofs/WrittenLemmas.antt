@@ -15,7 +15,7 @@ use Rattle.scte35_codec.specs.Descriptors.{SpliceDescriptor, descriptor_bytes, a
 use Rattle.scte35_codec.specs.Insert.{later}
 use Rattle.psi_section.specs.Sections.{section_length}
 use Rattle.scte35_codec.specs.Reading.{CueReading, insert, cancel, cue_of, pts_adjustment, splice_command_length, command_part}
-use Rattle.scte35_codec.specs.Grammar.{IsNumber, IsTicks, IsInsert, IsCancel, HasLoop, HasCommand, SpellsInsert, SpellsInsertIn, IsCue, IsWhole, IsVersioned, IsClear, Spells}
+use Rattle.scte35_codec.specs.Grammar.{IsNumber, IsTicks, IsInsert, IsCancel, HasLoop, HasCommand, SpellsInsert, SpellsInsertIn, IsCue, IsWhole, IsVersioned, IsClearCommand, Spells}
 use Rattle.scte35_codec.specs.Spelling.{head_bytes, ticks_bytes, avail_descriptor_bytes, loop_bytes, start_bytes, end_bytes, unchecked_bytes, cue_bytes, told_of, Fits}
 use Rattle.scte35_codec.proofs.DescriptorLemmas.{avail_is}
 use Rattle.scte35_codec.proofs.SpellingLemmas.{avails_length}
@@ -59,7 +59,7 @@ module _ (command descriptors : ℕ) (rest : List ℕ) (c : command ≤ 20) (d :
       let read = number_written 3 n (drop 13 (head_bytes command descriptors ++ rest)) (omega arith) in
       ap (λ (x : ℕ). x % 4096) read ∙ omega arith
 
-  clear_written : IsClear 5 (head_bytes command descriptors ++ rest)
+  clear_written : IsClearCommand 5 (head_bytes command descriptors ++ rest)
   clear_written =
       let long : length (head_bytes command descriptors ++ rest) ≡ 14 + length rest = omega arith in
       let stated = length_written in
@@ -87,7 +87,7 @@ section_grouped command descriptors text loop check =
     sym (append_assoc (head_bytes command descriptors) (text ++ loop) check) ∙ ap (λ (xs : List ℕ). xs ++ check) (sym (append_assoc (head_bytes command descriptors) text loop))
 
 pub section_spelled : (read : CueReading) (command descriptors : ℕ) (text loop check : List ℕ) → command ≤ 20 → descriptors ≤ 140 → length text ≡ command → length loop ≡ 2 + descriptors → length check ≡ 4
-    → SpellsInsert read 0 command (text ++ loop) → IsClear 5 (section command descriptors text loop check) × SpellsInsertIn (section command descriptors text loop check) read
+    → SpellsInsert read 0 command (text ++ loop) → IsClearCommand 5 (section command descriptors text loop check) × SpellsInsertIn (section command descriptors text loop check) read
 section_spelled read command descriptors text loop check c d t l four s =
     let rest = (text ++ loop) ++ check in
     let grouped = section_grouped command descriptors text loop check in
@@ -100,7 +100,7 @@ section_spelled read command descriptors text loop check c d t l four s =
     subst (λ (n : ℕ). SpellsInsert read n (splice_command_length (head_bytes command descriptors ++ rest)) (command_part (head_bytes command descriptors ++ rest))) (sym adjustment)
     (subst (λ (n : ℕ). SpellsInsert read 0 n (command_part (head_bytes command descriptors ++ rest))) (sym stated)
     (subst (λ (xs : List ℕ). SpellsInsert read 0 command xs) (sym part) s)) in
-    subst (λ (xs : List ℕ). IsClear 5 xs × SpellsInsertIn xs read) grouped (clear, told)
+    subst (λ (xs : List ℕ). IsClearCommand 5 xs × SpellsInsertIn xs read) grouped (clear, told)
 
 -- ---- the loop
 

@@ -121,19 +121,19 @@ pub record IsVersioned (bytes : List ℕ) : Type 0 where
   pub protocol_version : slice_index bytes 3 ≡ 0
 
 -- a section that is read on, with this splice_command_type
-pub record IsClear (kind : ℕ) (bytes : List ℕ) : Type 0 where
+pub record IsClearCommand (kind : ℕ) (bytes : List ℕ) : Type 0 where
   pub section : IsVersioned bytes
   pub encrypted_packet : bit_of 7 (slice_index bytes 4) ≡ false
   pub splice_command_type : slice_index bytes 13 ≡ kind
 
 abbrev pub Spells : CueReading → List ℕ → Type 0
-Spells (insert i avails) bytes = IsClear 5 bytes × SpellsInsertIn bytes (insert i avails)
-Spells (cancel event) bytes = IsClear 5 bytes × SpellsInsertIn bytes (cancel event)
-Spells null bytes = IsClear 0 bytes
-Spells other bytes = (IsClear 5 bytes × SpellsInsertIn bytes other) ⊎ ((kind : ℕ) × IsClear kind bytes × (kind ≢ 0) × (kind ≢ 5))
+Spells (insert i avails) bytes = IsClearCommand 5 bytes × SpellsInsertIn bytes (insert i avails)
+Spells (cancel event) bytes = IsClearCommand 5 bytes × SpellsInsertIn bytes (cancel event)
+Spells null bytes = IsClearCommand 0 bytes
+Spells other bytes = (IsClearCommand 5 bytes × SpellsInsertIn bytes other) ⊎ ((kind : ℕ) × IsClearCommand kind bytes × (kind ≢ 0) × (kind ≢ 5))
 Spells (bad faults.NotCue) bytes = ¬ IsCue bytes
 Spells (bad faults.Length) bytes = IsCue bytes × (¬ IsWhole bytes)
 Spells (bad faults.Version) bytes = IsWhole bytes × (¬ IsVersioned bytes)
 Spells (bad faults.Encrypted) bytes = IsVersioned bytes × (bit_of 7 (slice_index bytes 4) ≡ true)
 -- a splice_insert() that spells nothing
-Spells (bad faults.Command) bytes = IsClear 5 bytes × ((read : CueReading) → ¬ SpellsInsertIn bytes read)
+Spells (bad faults.Command) bytes = IsClearCommand 5 bytes × ((read : CueReading) → ¬ SpellsInsertIn bytes read)

@@ -9,7 +9,7 @@ use Rattle.ts_packet.specs.Runs.{Seen, seen_after}
 use Rattle.ts_packet.proofs.Cases.{by_test}
 use Rattle.ts_packet.proofs.RunLemmas.{onto}
 use Rattle.splice_laws.specs.Splicing.{PlayedEvent, SliceUnit, Out, TimedStream, at_or_past, begun, closed, due, put_in, kept, inserted, rest, all_inserted, all_rest}
-use Rattle.splice_laws.specs.Laws.{Risen, IsStream, CountsAt, Counts}
+use Rattle.splice_laws.specs.Laws.{Risen, IsStream, CountsAt, CountsOver}
 use Rattle.splice_laws.specs.Settled.{IsAhead, IsSettled}
 use Rattle.splice_laws.specs.Ends.{up_to_end, longest_front, sent, sent_at, unsent, sent_whole, EndsAt, EndSoon, SentIsPlaced}
 use Rattle.splice_laws.proofs.TimeLemmas.{due-later}
@@ -187,17 +187,17 @@ module _ (r : TimedStream) (k : IsStream r) (x : PlayedEvent) (units : List Slic
   sent-counts : (past ps : List (List ℕ)) → CountsAt r x (whole (onto past ps)) number_out past
   sent-counts past ps = record { starts = λ b. ap length (sent-none past b); ends = λ c. sym (ap length (whole-closed past ps c)) }
 
-  pub counted_on : (past ps : List (List ℕ)) → Since past → All (EndsAt r x stop) (seen_after past ps) → All (Counts r x (whole (onto past ps)) number_out) (seen_after past ps)
-  counted_on past [] s n = All-nil (Counts r x (whole past) number_out)
+  pub counted_on : (past ps : List (List ℕ)) → Since past → All (EndsAt r x stop) (seen_after past ps) → All (CountsOver r x (whole (onto past ps)) number_out) (seen_after past ps)
+  counted_on past [] s n = All-nil (CountsOver r x (whole past) number_out)
   counted_on past (p ∷ ps) s n =
       let t : Seen = record { packet = p; past = past } in
       let s' : Since (p ∷ past) = (All-head (EndsAt r x stop) t (seen_after (p ∷ past) ps) n, s) in
-      let c : Counts r x (whole (onto (p ∷ past) ps)) number_out t = record {
+      let c : CountsOver r x (whole (onto (p ∷ past) ps)) number_out t = record {
         before = sent-counts past (p ∷ ps);
         grows = front-length (out past) (out (p ∷ past)) (sent-grows p past s');
         after = sent-counts (p ∷ past) ps;
       } in
-      All-cons (Counts r x (whole (onto (p ∷ past) ps)) number_out) t (seen_after (p ∷ past) ps) c (counted_on (p ∷ past) ps s' (All-tail (EndsAt r x stop) t (seen_after (p ∷ past) ps) n))
+      All-cons (CountsOver r x (whole (onto (p ∷ past) ps)) number_out) t (seen_after (p ∷ past) ps) c (counted_on (p ∷ past) ps s' (All-tail (EndsAt r x stop) t (seen_after (p ∷ past) ps) n))
 
   -- what goes out is by this count
   pub same-at : (p : List ℕ) (past ps : List (List ℕ)) → Since (p ∷ past) → All (EndsAt r x stop) (seen_after (p ∷ past) ps) → sent_at r x units stop p past ≡ inserted (whole (onto (p ∷ past) ps)) number_out p past
@@ -277,9 +277,9 @@ module _ (r : TimedStream) (k : IsStream r) (units : PlayedEvent → List SliceU
       let m = all_ends xs ps (All-tail f x xs n) in
       ((All-head f x xs n, m.0), (tt, m.1))
 
-  pub ends_counted : (xs : List PlayedEvent) (ps : List (List ℕ)) → AllEnds xs (seen_after [] ps) → All (λ (x : PlayedEvent). All (Counts r x (slice (reverse ps) x) (count x)) (seen_after [] ps)) xs
-  ends_counted [] ps n = All-nil (λ (x : PlayedEvent). All (Counts r x (slice (reverse ps) x) (count x)) (seen_after [] ps))
-  ends_counted (x ∷ xs) ps n = All-cons (λ (x : PlayedEvent). All (Counts r x (slice (reverse ps) x) (count x)) (seen_after [] ps)) x xs (counted_on r k x (units x) (stop x) [] ps tt n.0) (ends_counted xs ps n.1)
+  pub ends_counted : (xs : List PlayedEvent) (ps : List (List ℕ)) → AllEnds xs (seen_after [] ps) → All (λ (x : PlayedEvent). All (CountsOver r x (slice (reverse ps) x) (count x)) (seen_after [] ps)) xs
+  ends_counted [] ps n = All-nil (λ (x : PlayedEvent). All (CountsOver r x (slice (reverse ps) x) (count x)) (seen_after [] ps))
+  ends_counted (x ∷ xs) ps n = All-cons (λ (x : PlayedEvent). All (CountsOver r x (slice (reverse ps) x) (count x)) (seen_after [] ps)) x xs (counted_on r k x (units x) (stop x) [] ps tt n.0) (ends_counted xs ps n.1)
 
 pub sent_is_placed : SentIsPlaced
 sent_is_placed r k xs o units stop ps n =

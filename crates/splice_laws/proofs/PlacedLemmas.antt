@@ -7,7 +7,7 @@ use Rattle.ts_packet.specs.Runs.{Seen, seen_after}
 use Rattle.ts_packet.proofs.Cases.{by_test}
 use Rattle.ts_packet.proofs.RunLemmas.{onto}
 use Rattle.splice_laws.specs.Splicing.{PlayedEvent, SliceUnit, Out, TimedStream, Network, Inserted, holds, outside, comes, passed, opens, begun, closed, out_of, inserted, rest, put_in, kept, all_inserted, all_rest, slice_at, all_slices_at, placed}
-use Rattle.splice_laws.specs.Laws.{IsStream, IsBefore, AreOrdered, CountsAt, Counts, CountedIsPlaced, CarriedIsPlaced}
+use Rattle.splice_laws.specs.Laws.{IsStream, EndsBeforeAll, AreOrdered, CountsAt, CountsOver, CountedIsPlaced, CarriedIsPlaced}
 use Rattle.splice_laws.proofs.TimeLemmas.{starts_ordered, holds-below}
 use Rattle.splice_laws.proofs.StepLemmas.{true_or_false, or_left, both, drop-all, drop-take, joined_one}
 use Rattle.splice_laws.proofs.HistoryLemmas.{passed-lower, begun-passed, passed-dead, closed-begun, running-inside, out-grows, alone}
@@ -49,7 +49,7 @@ nothing_new units m n e = rw e (drop-take n units)
 
 module _ (r : TimedStream) (k : IsStream r) (slice : PlayedEvent → List SliceUnit) (out : PlayedEvent → List (List ℕ) → ℕ) where
   abbrev pub CountedAt : PlayedEvent → Seen → Type 0
-  CountedAt x s = Counts r x (slice x) (out x) s
+  CountedAt x s = CountsOver r x (slice x) (out x) s
 
   -- ---- one event
 
@@ -62,7 +62,7 @@ module _ (r : TimedStream) (k : IsStream r) (slice : PlayedEvent → List SliceU
   -- ---- an event and those behind it
 
   -- no unit has passed its start: none of those behind it has begun
-  none_begun : (x : PlayedEvent) (xs : List PlayedEvent) → x.start ≤ℤ x.stop → IsBefore x xs → (past : List (List ℕ)) → passed r x.start past ≡ false → all_rest r xs slice out past ≡ []
+  none_begun : (x : PlayedEvent) (xs : List PlayedEvent) → x.start ≤ℤ x.stop → EndsBeforeAll x xs → (past : List (List ℕ)) → passed r x.start past ≡ false → all_rest r xs slice out past ≡ []
   none_begun x [] l b past e = refl
   none_begun x (y ∷ ys) l b past e =
       let n : begun r y past ≡ false = by_test (begun r y past)
@@ -92,7 +92,7 @@ module _ (r : TimedStream) (k : IsStream r) (slice : PlayedEvent → List SliceU
   AllAt [] s = Unit {0}
   AllAt (x ∷ xs) s = CountedAt x s × AllAt xs s
 
-  silent_all : (x : PlayedEvent) (xs : List PlayedEvent) → x.start ≤ℤ x.stop → IsBefore x xs → (p : List ℕ) (past : List (List ℕ)) → AllAt xs (record { packet = p; past = past }) → begun r x (p ∷ past) ≡ true → closed r x (p ∷ past) ≡ false →
+  silent_all : (x : PlayedEvent) (xs : List PlayedEvent) → x.start ≤ℤ x.stop → EndsBeforeAll x xs → (p : List ℕ) (past : List (List ℕ)) → AllAt xs (record { packet = p; past = past }) → begun r x (p ∷ past) ≡ true → closed r x (p ∷ past) ≡ false →
       all_inserted xs slice out p past ≡ []
   silent_all x [] l b p past n g h = refl
   silent_all x (y ∷ ys) l b p past n g h =
@@ -105,14 +105,14 @@ module _ (r : TimedStream) (k : IsStream r) (slice : PlayedEvent → List SliceU
       (λ b. simp b)
 
   -- either nothing is left of it, or none behind it puts anything
-  one_puts : (x : PlayedEvent) (xs : List PlayedEvent) → x.start ≤ℤ x.stop → IsBefore x xs → (p : List ℕ) (past : List (List ℕ)) → AllAt (x ∷ xs) (record { packet = p; past = past }) →
+  one_puts : (x : PlayedEvent) (xs : List PlayedEvent) → x.start ≤ℤ x.stop → EndsBeforeAll x xs → (p : List ℕ) (past : List (List ℕ)) → AllAt (x ∷ xs) (record { packet = p; past = past }) →
       (rest r x (slice x) (out x) (p ∷ past) ≡ []) ⊎ (all_inserted xs slice out p past ≡ [])
   one_puts x xs l b p past n = by_test (begun r x (p ∷ past) && not (closed r x (p ∷ past)))
       (λ g. let h = both _ _ g in inr (silent_all x xs l b p past n.1 h.0 h.1))
       (λ g. inl (no_rest x (p ∷ past) n.0.after g))
 
   -- either it does not begin, or nothing is left of those behind it
-  one_begins : (x : PlayedEvent) (xs : List PlayedEvent) → x.start ≤ℤ x.stop → IsBefore x xs → (p : List ℕ) (past : List (List ℕ)) →
+  one_begins : (x : PlayedEvent) (xs : List PlayedEvent) → x.start ≤ℤ x.stop → EndsBeforeAll x xs → (p : List ℕ) (past : List (List ℕ)) →
       (slice_at r x (slice x) p past ≡ []) ⊎ (all_rest r xs slice out past ≡ [])
   one_begins x xs l b p past = by_test (passed r x.start past)
       (λ e. inl (by_test (opens r x p past) (λ o. simp (o, e)) (λ o. simp (o, e))))
@@ -213,7 +213,7 @@ module _ (r : TimedStream) (k : IsStream r) where
     ends = λ c. simp c;
   }
 
-  pub out_is_count : (x : PlayedEvent) (units : List SliceUnit) (s : Seen) → Counts r x units (out_of r x units) s
+  pub out_is_count : (x : PlayedEvent) (units : List SliceUnit) (s : Seen) → CountsOver r x units (out_of r x units) s
   out_is_count x units s = record {
     before = out_counts x units s.past;
     grows = out-grows r k x units s.packet s.past;
@@ -225,9 +225,9 @@ all_of P h [] = All-nil P
 all_of P h (x ∷ xs) = All-cons P x xs (h x) (all_of P h xs)
 
 pub out_counts_all : (r : TimedStream) → IsStream r → (xs : List PlayedEvent) (slice : PlayedEvent → List SliceUnit) (ps : List (List ℕ)) →
-    All (λ (x : PlayedEvent). All (Counts r x (slice x) (out_of r x (slice x))) (seen_after [] ps)) xs
+    All (λ (x : PlayedEvent). All (CountsOver r x (slice x) (out_of r x (slice x))) (seen_after [] ps)) xs
 out_counts_all r k xs slice ps =
-    all_of (λ (x : PlayedEvent). All (Counts r x (slice x) (out_of r x (slice x))) (seen_after [] ps)) (λ (x : PlayedEvent). all_of (Counts r x (slice x) (out_of r x (slice x))) (out_is_count r k x (slice x)) (seen_after [] ps)) xs
+    all_of (λ (x : PlayedEvent). All (CountsOver r x (slice x) (out_of r x (slice x))) (seen_after [] ps)) (λ (x : PlayedEvent). all_of (CountsOver r x (slice x) (out_of r x (slice x))) (out_is_count r k x (slice x)) (seen_after [] ps)) xs
 
 pub carried_is_placed : CarriedIsPlaced
 carried_is_placed r k xs o slice ps = counted_is_placed r k xs o slice (λ (x : PlayedEvent). out_of r x (slice x)) ps (out_counts_all r k xs slice ps)

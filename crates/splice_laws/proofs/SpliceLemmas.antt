@@ -7,7 +7,7 @@ use Rattle.ts_packet.specs.Runs.{Seen, seen_after}
 use Rattle.ts_packet.proofs.Cases.{by_test}
 use Rattle.ts_packet.proofs.RunLemmas.{onto}
 use Rattle.splice_laws.specs.Splicing.{PlayedEvent, SliceUnit, Out, TimedStream, Network, at_or_past, below, holds, outside, comes, passed, opens, begun, put_in, kept, slice_at, all_slices_at, from, between, part, parts}
-use Rattle.splice_laws.specs.Laws.{IsStream, IsBefore, AreOrdered, IsCrossedOnce, IsConditioned, PlacedIsSplice}
+use Rattle.splice_laws.specs.Laws.{IsStream, EndsBeforeAll, AreOrdered, IsCrossedOnce, IsConditioned, PlacedIsSplice}
 use Rattle.splice_laws.proofs.TimeLemmas.{starts_ordered, past_lower, holds-or_past, holds-past, not-below, timed_past}
 use Rattle.splice_laws.proofs.StepLemmas.{true_or_false}
 use Rattle.splice_laws.proofs.HistoryLemmas.{begun-passed, passed-dead}
@@ -106,13 +106,13 @@ module _ (r : TimedStream) (k : IsStream r) where
 
   -- ---- one packet more
 
-  outside-below : (x : PlayedEvent) (xs : List PlayedEvent) (t : Option ℤ) → x.start ≤ℤ x.stop → IsBefore x xs → at_or_past x.start t ≡ false → outside xs t ≡ true
+  outside-below : (x : PlayedEvent) (xs : List PlayedEvent) (t : Option ℤ) → x.start ≤ℤ x.stop → EndsBeforeAll x xs → at_or_past x.start t ≡ false → outside xs t ≡ true
   outside-below x [] t l b a = refl
   outside-below x (y ∷ ys) t l b a = by_test (holds y t)
       (λ h. true_or_false (at_or_past x.start t) (past_lower x.start y.start t (starts_ordered x y l b.0) (holds-past y t h)) a)
       (λ h. simp h (outside-below x ys t l b.1 a))
 
-  no_slices : (x : PlayedEvent) (slice : PlayedEvent → List SliceUnit) (xs : List PlayedEvent) (p : List ℕ) (past : List (List ℕ)) → x.start ≤ℤ x.stop → IsBefore x xs → at_or_past x.start (r.time (p ∷ past)) ≡ false → all_slices_at r xs slice p past ≡ []
+  no_slices : (x : PlayedEvent) (slice : PlayedEvent → List SliceUnit) (xs : List PlayedEvent) (p : List ℕ) (past : List (List ℕ)) → x.start ≤ℤ x.stop → EndsBeforeAll x xs → at_or_past x.start (r.time (p ∷ past)) ≡ false → all_slices_at r xs slice p past ≡ []
   no_slices x slice [] p past l b a = refl
   no_slices x slice (y ∷ ys) p past l b a = by_test (at_or_past y.start (r.time (p ∷ past)))
       (λ h. true_or_false (at_or_past x.start (r.time (p ∷ past))) (past_lower x.start y.start (r.time (p ∷ past)) (starts_ordered x y l b.0) h) a)
@@ -141,7 +141,7 @@ module _ (r : TimedStream) (k : IsStream r) where
   AllCrossed [] ss = Unit {0}
   AllCrossed (x ∷ xs) ss = All (Crossed x.start) ss × AllCrossed xs ss
 
-  low_of : (x : PlayedEvent) (xs : List PlayedEvent) → IsBefore x xs → IsLow (Some x.stop) xs
+  low_of : (x : PlayedEvent) (xs : List PlayedEvent) → EndsBeforeAll x xs → IsLow (Some x.stop) xs
   low_of x [] b = tt
   low_of x (y ∷ ys) b = b.0
 

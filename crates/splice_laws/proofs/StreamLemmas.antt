@@ -11,7 +11,7 @@ use Rattle.ts_packet.proofs.FieldLemmas.{payload_on-on}
 use Rattle.ts_packet.proofs.RunLemmas.{onto}
 use Rattle.unit_stream.specs.Times.{unit_time}
 use Rattle.splice_laws.specs.Splicing.{PlayedEvent, SliceUnit, Out, Network, Inserted, TimedStream, stream, begun, closed, out_of, inserted, rest, put_in, kept, outside}
-use Rattle.splice_laws.specs.Laws.{IsStream, IsBefore, AreOrdered, Counts}
+use Rattle.splice_laws.specs.Laws.{IsStream, EndsBeforeAll, AreOrdered, CountsOver}
 use Rattle.splice_laws.specs.Streams.{Act, Through, Insert, closing, running, insert_on, all_closing, all_running, on_each, is_dropped, spliced_at, of_stream, is_among, IsOnce, StreamsCarryByCount, StreamsCarry, StreamsAreSpliced, StreamsCarryNow}
 use Rattle.splice_laws.proofs.StepLemmas.{true_or_false, or_left}
 use Rattle.splice_laws.proofs.PidLemmas.{pids_are_streams}
@@ -40,13 +40,13 @@ module _ (r : TimedStream) (k : IsStream r) (slice : PlayedEvent → List SliceU
   abbrev all_units : List PlayedEvent → List ℕ → List (List ℕ) → List SliceUnit
   all_units xs p past = flat_map (λ (x : PlayedEvent). inserted (slice x) (out x) p past) xs
 
-  none_behind : (x : PlayedEvent) (xs : List PlayedEvent) → x.start ≤ℤ x.stop → IsBefore x xs → (p : List ℕ) (past : List (List ℕ)) → AllAt r k slice out xs (record { packet = p; past = past }) →
+  none_behind : (x : PlayedEvent) (xs : List PlayedEvent) → x.start ≤ℤ x.stop → EndsBeforeAll x xs → (p : List ℕ) (past : List (List ℕ)) → AllAt r k slice out xs (record { packet = p; past = past }) →
       begun r x (p ∷ past) ≡ true → closed r x (p ∷ past) ≡ false → all_units xs p past ≡ []
   none_behind x [] l b p past n g h = refl
   none_behind x (y ∷ ys) l b p past n g h =
       ap (λ a. a ++ all_units ys p past) (silent r k slice out x y l b.0 p past n.0 g h) ∙ none_behind x ys l b.1 p past n.1 g h
 
-  none_yet : (x : PlayedEvent) (p : List ℕ) (past : List (List ℕ)) → Counts r x (slice x) (out x) (record { packet = p; past = past }) → begun r x (p ∷ past) ≡ false → inserted (slice x) (out x) p past ≡ []
+  none_yet : (x : PlayedEvent) (p : List ℕ) (past : List (List ℕ)) → CountsOver r x (slice x) (out x) (record { packet = p; past = past }) → begun r x (p ∷ past) ≡ false → inserted (slice x) (out x) p past ≡ []
   none_yet x p past n b = nothing_new (slice x) (out x past) (out x (p ∷ past)) (n.before.starts (or_left (begun r x past) _ b) ∙ sym (n.after.starts b))
 
   nil-left : (a b : List SliceUnit) → a ++ b ≡ [] → a ≡ []

@@ -17,14 +17,14 @@ pub record IsStream (r : TimedStream) : Type 0 where
   pub rises : (p : List ℕ) (past : List (List ℕ)) → Risen (r.high past) (r.high (p ∷ past))
 
 -- this event ends before each of those begins
-abbrev pub IsBefore : PlayedEvent → List PlayedEvent → Type 0
-IsBefore x [] = Unit {0}
-IsBefore x (y ∷ ys) = (x.stop ≤ℤ y.start) × IsBefore x ys
+abbrev pub EndsBeforeAll : PlayedEvent → List PlayedEvent → Type 0
+EndsBeforeAll x [] = Unit {0}
+EndsBeforeAll x (y ∷ ys) = (x.stop ≤ℤ y.start) × EndsBeforeAll x ys
 
 -- no two meet, and they stand in order of start
 abbrev pub AreOrdered : List PlayedEvent → Type 0
 AreOrdered [] = Unit {0}
-AreOrdered (x ∷ xs) = (x.start ≤ℤ x.stop) × IsBefore x xs × AreOrdered xs
+AreOrdered (x ∷ xs) = (x.start ≤ℤ x.stop) × EndsBeforeAll x xs × AreOrdered xs
 
 -- THE LAW OF GROWTH: what is out stays out
 abbrev pub OutGrows : Type 0
@@ -37,7 +37,7 @@ pub record CountsAt (r : TimedStream) (x : PlayedEvent) (units : List SliceUnit)
   pub ends : closed r x past ≡ true → out past ≡ length units
 
 -- and at a packet: it does not fall
-pub record Counts (r : TimedStream) (x : PlayedEvent) (units : List SliceUnit) (out : List (List ℕ) → ℕ) (s : Seen) : Type 0 where
+pub record CountsOver (r : TimedStream) (x : PlayedEvent) (units : List SliceUnit) (out : List (List ℕ) → ℕ) (s : Seen) : Type 0 where
   pub before : CountsAt r x units out s.past
   pub grows : out s.past ≤ out (s.packet ∷ s.past)
   pub after : CountsAt r x units out (s.packet ∷ s.past)
@@ -45,7 +45,7 @@ pub record Counts (r : TimedStream) (x : PlayedEvent) (units : List SliceUnit) (
 -- THE LAW OF PLACES, FOR ANY COUNT: whenever the pieces of a slice go out, from its begin to its close, they join before the first unit at or past the event's start
 abbrev pub CountedIsPlaced : Type 0
 CountedIsPlaced = (r : TimedStream) → IsStream r → (xs : List PlayedEvent) → AreOrdered xs → (slice : PlayedEvent → List SliceUnit) (out : PlayedEvent → List (List ℕ) → ℕ) (ps : List (List ℕ)) →
-    All (λ (x : PlayedEvent). All (Counts r x (slice x) (out x)) (seen_after [] ps)) xs → carried_by r xs slice out ps ≡ placed r xs slice ps
+    All (λ (x : PlayedEvent). All (CountsOver r x (slice x) (out x)) (seen_after [] ps)) xs → carried_by r xs slice out ps ≡ placed r xs slice ps
 
 -- THE LAW OF PLACES: the pieces of each slice join, before the first unit at or past the event's start
 abbrev pub CarriedIsPlaced : Type 0

@@ -4,7 +4,7 @@ use Rattle.ts_packet.specs.Fields.{payload_on}
 use Rattle.ts_packet.specs.Runs.{Seen, seen_after}
 use Rattle.unit_stream.specs.Fates.{is_left_out}
 use Rattle.splice_laws.specs.Splicing.{PlayedEvent, SliceUnit, Out, Network, Inserted, TimedStream, stream, closed, out_of, inserted, rest, outside, carried, carried_by}
-use Rattle.splice_laws.specs.Laws.{AreOrdered, IsConditioned, Counts}
+use Rattle.splice_laws.specs.Laws.{AreOrdered, IsConditioned, CountsOver}
 use Rattle.splice_laws.specs.Ends.{sent_at, unsent, carried_now, EndSoon}
 use Rattle.splice_laws.specs.Rows.{carried_items, splice_units}
 
@@ -82,7 +82,7 @@ IsOnce pid (q ∷ qs) = ((q ≡ pid) × (is_among pid qs ≡ false)) ⊎ (((q ==
 -- THE LAW OF STREAMS, FOR ANY COUNT
 abbrev pub StreamsCarryByCount : Type 0
 StreamsCarryByCount = (switched : List ℕ) (xs : List PlayedEvent) → AreOrdered xs → (slice : ℕ → PlayedEvent → List SliceUnit) (out : ℕ → PlayedEvent → List (List ℕ) → ℕ) (ps : List (List ℕ)) →
-    (pid : ℕ) → IsOnce pid switched → All (λ (x : PlayedEvent). All (Counts (stream switched pid) x (slice pid x) (out pid x)) (seen_after [] ps)) xs →
+    (pid : ℕ) → IsOnce pid switched → All (λ (x : PlayedEvent). All (CountsOver (stream switched pid) x (slice pid x) (out pid x)) (seen_after [] ps)) xs →
     of_stream pid (spliced_by switched xs slice out ps) ≡ carried_by (stream switched pid) xs (slice pid) (out pid) ps
 
 -- THE LAW OF STREAMS: each switched PID carries what it would carry alone

@@ -18,7 +18,7 @@ use Rattle.splice_plans.specs.declared.plan.Plan.{Plan}
 use Rattle.splice_plans.specs.declared.stream.SwitchedStream.{SwitchedStream}
 use Rattle.splice_plans.specs.Playing.{Adverts, History, is_played, as_played, end_known, is_inside, sent_known}
 use Rattle.splice_plans.specs.Switching.{Setting, puts_before, moves, switched_at, streams_at, events_at, history_at}
-use Rattle.splice_plans.specs.Reporting.{Counts as Reported, is_not_fitted}
+use Rattle.splice_plans.specs.Reporting.{EventCounts as Reported, is_not_fitted}
 use Rattle.splice_plans.specs.Turning.{waiting}
 
 -- ---- one event in one stream

@@ -19,21 +19,21 @@ is_not_fitted ads e = not e.cancelled && not (ads.fits e)
 abbrev pub is_unconditioned : List ℕ → List (List ℕ) → Standing → Bool
 is_unconditioned switched behind e = list_any (λ pid. is_crossed (stream switched pid) e.start behind || is_crossed (stream switched pid) (end_of e) behind) switched
 
-pub record Counts : Type 0 where
+pub record EventCounts : Type 0 where
   pub played : ℕ
   pub not_fitted : ℕ
   pub unconditioned : ℕ
   pub ignored : ℕ
 
 -- of no events
-abbrev pub no_counts : Counts
+abbrev pub no_counts : EventCounts
 no_counts = record { played = 0; not_fitted = 0; unconditioned = 0; ignored = 0 }
 
 abbrev pub one_if : Bool → ℕ
 one_if b = if b then 1 else 0
 
 -- with one event more
-abbrev pub with_one : Bool → Bool → Bool → Counts → Counts
+abbrev pub with_one : Bool → Bool → Bool → EventCounts → EventCounts
 with_one cancelled fits crossed c = record {
   played = one_if (not cancelled && fits) + c.played;
   not_fitted = one_if (not cancelled && not fits) + c.not_fitted;
@@ -42,7 +42,7 @@ with_one cancelled fits crossed c = record {
 }
 
 -- with those events more, each beside what is known of it, that the test takes
-abbrev pub with_counted : (Standing → Bool) → Adverts → List (Standing × Plan) → Counts → Counts
+abbrev pub with_counted : (Standing → Bool) → Adverts → List (Standing × Plan) → EventCounts → EventCounts
 with_counted takes ads xs c = record {
   played = count_by (λ x. takes x.0 && is_played ads x.0) xs + c.played;
   not_fitted = count_by (λ x. takes x.0 && is_not_fitted ads x.0) xs + c.not_fitted;
@@ -58,14 +58,14 @@ abbrev pub is_any : Standing → Bool
 is_any e = true
 
 -- each count stops at the greatest u64
-pub record ReportIs (report : SwitchReport) (c : Counts) : Type 0 where
+pub record ReportIs (report : SwitchReport) (c : EventCounts) : Type 0 where
   pub played : report.played ≡ capped c.played
   pub not_fitted : report.not_fitted ≡ capped c.not_fitted
   pub unconditioned : report.unconditioned ≡ capped c.unconditioned
   pub ignored : report.ignored ≡ capped c.ignored
 
 -- THE REPORT
-abbrev pub report_of : Setting → List (List ℕ) → Counts
+abbrev pub report_of : Setting → List (List ℕ) → EventCounts
 report_of k past =
     let ads = k.adverts (streams_at k past) in
     let behind = behind_head (Some k.program) past in

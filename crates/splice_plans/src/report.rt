@@ -1,6 +1,6 @@
 //! What a switch reports.
 
-ghost use Rattle.splice_plans.specs.Reporting.{Counts, ReportIs, with_one, no_counts};
+ghost use Rattle.splice_plans.specs.Reporting.{EventCounts, ReportIs, with_one, no_counts};
 
 /// What became of the events that the cues of a network armed. A count stops at the greatest.
 #[derive(Clone, Copy, Debug, PartialEq, Eq)]
@@ -31,7 +31,7 @@ impl SwitchReport {
     /// The report with one event more: whether it is cancelled, whether its advertisement fits, and whether a stream crossed its start or
     /// its end more than once.
     pub fn with_event(self, cancelled: bool, fits: bool, is_crossed: bool) -> SwitchReport
-        ensures { (counts : Counts) → ReportIs self counts → ReportIs result (with_one cancelled fits is_crossed counts) }
+        ensures { (counts : EventCounts) → ReportIs self counts → ReportIs result (with_one cancelled fits is_crossed counts) }
     {
         let mut report = self;
         if cancelled {

@@ -27,7 +27,7 @@ use Rattle.splice_plans.specs.Reporting.{ReportIs}
 use Rattle.splice_plans.specs.Switching.{Setting, fate, switched_at, streams_at, high_at, history_at, is_behind_head}
 use Rattle.splice_plans.specs.Known.{nothing_known, AllGo, adverts_at, behind_at, plans_at, inside_at, moves_at, puts_at}
 use Rattle.splice_plans.proofs.AdvertLemmas.{libraries_are_steady}
-use Rattle.known_laws.specs.Laws.{Passes}
+use Rattle.known_laws.specs.Laws.{PassesOn}
 use Rattle.splice_playing.specs.declared.playing.Playing.{Playing}
 use Rattle.splice_playing.specs.Relations.{PlaysFor, PlaysBehind, BeginsIn}
 use Rattle.known_laws.proofs.PassLemmas.{packets_pass}
@@ -51,7 +51,7 @@ pub steady-by : (k : Setting) (filed : ℕ → Option Advertisement) (past : Lis
 steady-by k filed past is = subst (λ (f : List ListedStream → Adverts). AreSteady (f (streams_at k past))) (sym is) (libraries_are_steady filed (streams_at k past))
 
 module _ (k : Setting) (filed : ℕ → Option Advertisement) (listed : List ListedStream) (number : ℕ) (time high : Option ℕ) (p : List ℕ) (past : List (List ℕ)) (i : BeginsIn k filed listed number time high p past) where
-  pub passes : Passes k p past
+  pub passes : PassesOn k p past
   passes = packets_pass k p past (behind-by k past number i.pid i.of) i.cue (steady-by k filed past i.adverts_are) i.sound
 
   pub adverts-are : adverts_of filed listed ≡ adverts_at k past

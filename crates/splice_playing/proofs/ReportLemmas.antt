@@ -20,7 +20,7 @@ use Rattle.splice_plans.specs.declared.plan.Plan.{Plan}
 use Rattle.splice_plans.specs.declared.report.SwitchReport.{SwitchReport}
 use Rattle.splice_plans.specs.Playing.{Adverts, is_played}
 use Rattle.splice_plans.specs.Parts.{beside, no_entry, no_standing}
-use Rattle.splice_plans.specs.Reporting.{Counts, ReportIs, with_one, with_counted, is_not_fitted, is_out_at, one_if}
+use Rattle.splice_plans.specs.Reporting.{EventCounts, ReportIs, with_one, with_counted, is_not_fitted, is_out_at, one_if}
 use Rattle.splice_plans.proofs.TurnLemmas.{event-there, within-there}
 
 abbrev pub no_pair : Standing × Plan
@@ -52,7 +52,7 @@ sum-more a b m n k h is = omega (arith, h, is)
 sum-same : (a m n k : ℕ) → m ≡ a + n → a ≡ 0 → n + k ≡ m + k
 sum-same a m n k h is = omega (arith, h, is)
 
-module _ (takes : Standing → Bool) (ads : Adverts) (xs : List (Standing × Plan)) (c : Counts) (at : ℕ) (below : at < length xs) (report : SwitchReport) where
+module _ (takes : Standing → Bool) (ads : Adverts) (xs : List (Standing × Plan)) (c : EventCounts) (at : ℕ) (below : at < length xs) (report : SwitchReport) where
   abbrev here : Standing × Plan
   here = slice_index_or xs at no_pair
 
@@ -113,7 +113,7 @@ module _ (t : Table Plan) (line : Option ℤ) (es : List Standing) (s : StandsFo
         ap (λ (x : Entry Plan). x.value) entry-is ∙ sym (Rattle.std.proofs.Math.ListN.get_or-map (λ (y : Entry Plan). y.value) t.entries.items at no_entry)
         ∙ ap (λ (x : Standing × Plan). x.1) (sym pair-is)
 
-pub one-same : (a a' b b' d d' : Bool) (c : Counts) → a ≡ a' → b ≡ b' → d ≡ d' → with_one a b d c ≡ with_one a' b' d' c
+pub one-same : (a a' b b' d d' : Bool) (c : EventCounts) → a ≡ a' → b ≡ b' → d ≡ d' → with_one a b d c ≡ with_one a' b' d' c
 one-same a a' b b' d d' c h k m = ap (λ x. with_one x b d c) h ∙ ap (λ x. with_one a' x d c) k ∙ ap (λ x. with_one a' b' x c) m
 
 -- ---- those that are forgotten

@@ -13,7 +13,7 @@ ghost use Rattle.ts_packet.specs.Transfers.{WentWell};
 ghost use Rattle.outgoing_packets.specs.Numbers.{FrontFails};
 ghost use Rattle.ad_library.specs.Library.{held};
 ghost use Rattle.splice_plans.specs.Switching.{Setting, front_at, place_at, rest_at};
-ghost use Rattle.splice_plans.specs.Reporting.{Counts as Reported, ReportIs, report_of};
+ghost use Rattle.splice_plans.specs.Reporting.{EventCounts as Reported, ReportIs, report_of};
 ghost use Rattle.splice_playing.specs.Forgetting.{with_out, with_first_out, with_standing};
 ghost use Rattle.splice_playing.specs.Ready.{is_ready};
 

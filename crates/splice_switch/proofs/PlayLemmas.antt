@@ -27,7 +27,7 @@ use Rattle.splice_plans.specs.declared.stream.SwitchedStream.{SwitchedStream}
 use Rattle.splice_plans.specs.Turning.{waiting}
 use Rattle.splice_plans.specs.Playing.{Adverts, History, is_played, is_inside}
 use Rattle.splice_plans.specs.Switching.{Setting, moves, fate, switched_at, streams_at, high_at, events_at, history_at, is_switched}
-use Rattle.splice_plans.specs.Reporting.{Counts as Reported, ReportIs, is_not_fitted, no_counts}
+use Rattle.splice_plans.specs.Reporting.{EventCounts as Reported, ReportIs, is_not_fitted, no_counts}
 use Rattle.splice_plans.specs.Known.{nothing_known, padded, part_known, plan_known, plan_found, plan_at, is_crossed_known, GoesAs, adverts_at, behind_at, plans_at, inside_at, moves_at, puts_at, counts_known, is_forgotten}
 use Rattle.splice_plans.proofs.PutLemmas.{puts_at_unit_starts}
 use Rattle.splice_playing.specs.declared.playing.Playing.{Playing}

@@ -20,7 +20,7 @@ use Rattle.program_laws.proofs.ReadingLemmas.{no_tables}
 use Rattle.splice_laws.specs.Streams.{is_among, IsOnce}
 use Rattle.output_laws.proofs.GaplessLemmas.{test-true}
 use Rattle.splice_plans.specs.Switching.{Setting, switched_at}
-use Rattle.switch_laws.specs.Standing.{IsSound, FaultlessIsSound}
+use Rattle.switch_laws.specs.Standing.{IsSwitchable, FaultlessIsSound}
 use Rattle.switch_laws.proofs.WholeLemmas.{none-switched}
 
 or-parts : (a b : Bool) → (a || b) ≡ false → (a ≡ false) × (b ≡ false)
@@ -90,7 +90,7 @@ module _ (k : Setting) (past : List (List ℕ)) (h : first_fault (reading_cues (
       no-map : (m : ProgramMap) → None ≡ Some m → ⊥
       no-map m e = cc
 
-  by-map : (m : ProgramMap) (l : Listed) → known_map (Some k.program) past ≡ Some m → listed (Some k.program) past ≡ Some l → IsSound k past
+  by-map : (m : ProgramMap) (l : Listed) → known_map (Some k.program) past ≡ Some m → listed (Some k.program) past ≡ Some l → IsSwitchable k past
   by-map m l known e =
       let s = first-sound purpose l.pid m (all_tables (Some k.program) past) (all_sound purpose past l h e) known in
       let ss = streams_of m in
@@ -116,7 +116,7 @@ module _ (k : Setting) (past : List (List ℕ)) (h : first_fault (reading_cues (
       same-listed : (l other : Listed) → Some l ≡ Some other → l ≡ other
       same-listed l other e = cc
 
-  by-known : (o : Option ProgramMap) → known_map (Some k.program) past ≡ o → IsSound k past
+  by-known : (o : Option ProgramMap) → known_map (Some k.program) past ≡ o → IsSwitchable k past
   by-known None known =
       let sw : switched_at k past ≡ [] = none-switched k past known in
       record {

@@ -8,7 +8,7 @@ use Rattle.ts_packet.proofs.Cases.{by_test}
 use Rattle.event_table.specs.Standing.{Standing, end_of}
 use Rattle.armed_laws.specs.Laws.{AreApart, IsApartOf, NoneMeet}
 use Rattle.splice_laws.specs.Splicing.{holds, outside}
-use Rattle.splice_laws.specs.Laws.{IsBefore, AreOrdered}
+use Rattle.splice_laws.specs.Laws.{EndsBeforeAll, AreOrdered}
 use Rattle.splice_plans.specs.Playing.{Adverts, is_played, put_by_start, by_start, as_played}
 use Rattle.switch_laws.specs.Moving.{intervals, meant_by}
 
@@ -88,11 +88,11 @@ long-put : (e : Standing) (es : List Standing) → 0 < e.length → AllLong es �
 long-put e [] l a = (l, tt)
 long-put e (y ∷ es) l a = by_test (int_lt e.start y.start) (λ c. simp c (l, a)) (λ c. simp c (a.0, long-put e es l a.1))
 
-before-all : (e y : Standing) (es : List Standing) → end_of e ≤ℤ y.start → IsBefore (as_played y) (map as_played es) → IsBefore (as_played e) (map as_played es)
+before-all : (e y : Standing) (es : List Standing) → end_of e ≤ℤ y.start → EndsBeforeAll (as_played y) (map as_played es) → EndsBeforeAll (as_played e) (map as_played es)
 before-all e y [] h b = tt
 before-all e y (z ∷ es) h b = (through (end_of e) y.start (end_of y) z.start h (low-end y.start y.length) b.0, before-all e y es h b.1)
 
-before-put : (y e : Standing) (es : List Standing) → end_of y ≤ℤ e.start → IsBefore (as_played y) (map as_played es) → IsBefore (as_played y) (map as_played (put_by_start e es))
+before-put : (y e : Standing) (es : List Standing) → end_of y ≤ℤ e.start → EndsBeforeAll (as_played y) (map as_played es) → EndsBeforeAll (as_played y) (map as_played (put_by_start e es))
 before-put y e [] h b = (h, tt)
 before-put y e (z ∷ es) h b = by_test (int_lt e.start z.start) (λ c. simp c (h, b)) (λ c. simp c (b.0, before-put y e es h b.1))
 

@@ -7,7 +7,7 @@ use Rattle.psi_tables.specs.ProgramMap.{ProgramMap, pmt}
 use Rattle.psi_tables.specs.Cue.{without_cue_entry}
 use Rattle.psi_tables.proofs.ReadBackLemmas.{map_reads, maps_read_back}
 use Rattle.program_follower.specs.Program.{Table, all_tables, is_map_of, map_read}
-use Rattle.program_laws.specs.Writing.{GoesOut, MapGoesOut}
+use Rattle.program_laws.specs.Writing.{ChangedGoesOut, MapGoesOut}
 use Rattle.program_laws.proofs.ByteLemmas.{all_bytes}
 use Rattle.program_laws.proofs.CuedLemmas.{IsRead, all_read}
 use Rattle.switch_laws.specs.Sections.{BytesGoOut}
@@ -34,7 +34,7 @@ one-goes program pid s (Some m) r b =
       given = back.can;
     }
 
-tables-go : (program pid : ℕ) (ts : List Table) → AllByRecursion (IsRead program) ts → AllByRecursion (λ (t : Table). AreBytes t.section) ts → AllByRecursion (GoesOut (without_cue_entry pid) program) ts
+tables-go : (program pid : ℕ) (ts : List Table) → AllByRecursion (IsRead program) ts → AllByRecursion (λ (t : Table). AreBytes t.section) ts → AllByRecursion (ChangedGoesOut (without_cue_entry pid) program) ts
 tables-go program pid [] h b = tt
 tables-go program pid (t ∷ ts) h b = (one-goes program pid t.section t.program_map h.0.0 b.0, tables-go program pid ts h.1 b.1)
 

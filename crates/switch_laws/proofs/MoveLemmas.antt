@@ -11,7 +11,7 @@ use Rattle.unit_stream.specs.Fates.{is_left_out}
 use Rattle.event_table.specs.Standing.{Standing}
 use Rattle.armed_laws.specs.Laws.{Grows}
 use Rattle.splice_laws.specs.Splicing.{PlayedEvent, SliceUnit, stream, inserted, rest, outside}
-use Rattle.splice_laws.specs.Laws.{Counts, AreOrdered}
+use Rattle.splice_laws.specs.Laws.{CountsOver, AreOrdered}
 use Rattle.splice_laws.specs.Streams.{all_closing, all_running, is_dropped}
 use Rattle.splice_laws.proofs.PidLemmas.{pids_are_streams}
 use Rattle.splice_laws.proofs.SettledLemmas.{switched_pids_are_within}
@@ -164,7 +164,7 @@ module _ (switched : List ℕ) (ads : Adverts) (steady : AreSteady ads) (events 
     told-each (x ∷ es) a = (λ more past is. (a more past is).0, told-each es (λ more past is. (a more past is).1))
 
     abbrev CountsHere : PlayedEvent → Seen → Type 0
-    CountsHere x s = Counts (stream switched pid) x (slice pid x) (out pid x) s
+    CountsHere x s = CountsOver (stream switched pid) x (slice pid x) (out pid x) s
 
     abbrev sent_of : Standing → List SliceUnit → List (List ℕ) → List SliceUnit
     sent_of x us = sent_known (begins_one switched) (stream switched pid) (as_played x) (end_known ads events x.start) us
@@ -173,9 +173,9 @@ module _ (switched : List ℕ) (ads : Adverts) (steady : AreSteady ads) (events 
     all_of x us l = sent_of x us l ++ left_at_end (begins_one switched) (stream switched pid) (as_played x) (end_known ads events x.start) us l
 
     counted-in : (x : Standing) (us : List SliceUnit) (p : List ℕ) (past l : List (List ℕ)) → l ≡ whole
-        → Counts (stream switched pid) (as_played x) (all_of x us l) (λ q. length (sent_of x us q)) (record { packet = p; past = past })
-        → Counts (stream switched pid) (as_played x) (all_of x us whole) (λ q. length (sent_of x us q)) (record { packet = p; past = past })
-    counted-in x us p past l e n = subst (λ l. Counts (stream switched pid) (as_played x) (all_of x us l) (λ q. length (sent_of x us q)) (record { packet = p; past = past })) e n
+        → CountsOver (stream switched pid) (as_played x) (all_of x us l) (λ q. length (sent_of x us q)) (record { packet = p; past = past })
+        → CountsOver (stream switched pid) (as_played x) (all_of x us whole) (λ q. length (sent_of x us q)) (record { packet = p; past = past })
+    counted-in x us p past l e n = subst (λ l. CountsOver (stream switched pid) (as_played x) (all_of x us l) (λ q. length (sent_of x us q)) (record { packet = p; past = past })) e n
 
     count-one : (x : Standing) → IsToldThrough x → is_played ads x ≡ true → (past ps : List (List ℕ)) → whole ≡ onto past ps → All (CountsHere (as_played x)) (seen_after past ps)
     count-one x t is past [] e = All-nil (CountsHere (as_played x))

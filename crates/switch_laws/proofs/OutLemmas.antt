@@ -4,7 +4,7 @@ use Rattle.std.proofs.lemmas.List.{append-nil}
 use Rattle.std.proofs.lemmas.Bool.{true≢false}
 use Rattle.ts_packet.proofs.Cases.{by_test}
 use Rattle.splice_laws.specs.Splicing.{PlayedEvent, SliceUnit, TimedStream, begun, closed, rest}
-use Rattle.splice_laws.specs.Laws.{IsStream, Counts, CountsAt}
+use Rattle.splice_laws.specs.Laws.{IsStream, CountsOver, CountsAt}
 use Rattle.splice_laws.specs.Settled.{begun_now, closed_now}
 use Rattle.splice_laws.proofs.EndLemmas.{IsFront, front-trans, front-take, front-length, drop-front}
 use Rattle.splice_plans.specs.Playing.{Turns, sent_known, sent_of_begun, due_at, left_at_end, up_to_known}
@@ -82,7 +82,7 @@ module _ (turns : Turns) (r : TimedStream) (k : IsStream r) (x : PlayedEvent) (k
   }
 
   -- the count of what is out
-  pub counts : (more past : List (List ℕ)) (p : List ℕ) → IsTold past → IsTold (p ∷ past) → Counts r x (all (more ++ (p ∷ past))) (λ past. length (sent past)) (record { packet = p; past = past })
+  pub counts : (more past : List (List ℕ)) (p : List ℕ) → IsTold past → IsTold (p ∷ past) → CountsOver r x (all (more ++ (p ∷ past))) (λ past. length (sent past)) (record { packet = p; past = past })
   counts more past p before after = record {
     before = (λ (e : (more ++ p ∷ []) ++ past ≡ more ++ (p ∷ past)). subst (λ l. CountsAt r x (all l) (λ past. length (sent past)) past) e (counts-at (more ++ p ∷ []) past before)) (append_assoc more (p ∷ []) past);
     grows = front-length (sent past) (sent (p ∷ past)) (sent-grows turns r k x known units falls p past);

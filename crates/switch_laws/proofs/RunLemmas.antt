@@ -7,13 +7,13 @@ use Rattle.std.specs.Prelude.{Contains, All, filter, ◌<◌}
 use Rattle.ts_packet.specs.Fields.{payload_on}
 use Rattle.ts_packet.specs.Runs.{seen_after, IsGaplessAfter}
 use Rattle.splice_laws.specs.Splicing.{PlayedEvent, SliceUnit, stream, placed}
-use Rattle.splice_laws.specs.Laws.{Counts}
+use Rattle.splice_laws.specs.Laws.{CountsOver}
 use Rattle.splice_laws.specs.Streams.{IsOnce, is_dropped, of_stream}
 use Rattle.splice_laws.proofs.PidLemmas.{pids_are_streams}
 use Rattle.splice_laws.proofs.PidLaws.{carries_placed_units, carries_splice_units}
 use Rattle.splice_laws.proofs.PlacedLemmas.{counted_is_placed, carried_is_placed}
 use Rattle.splice_laws.proofs.StreamLemmas.{streams_carry_by_count}
-use Rattle.output_laws.specs.Output.{Keep, Leave, acts, output, IsFed, Along}
+use Rattle.output_laws.specs.Output.{Keep, Leave, acts, output, HasComeBefore, AlongMoves}
 use Rattle.output_laws.specs.Others.{is_off}
 use Rattle.output_laws.specs.Spliced.{puts_each, moves_after, placed_payloads}
 use Rattle.output_laws.proofs.OtherLemmas.{others_pass as others-pass}
@@ -21,7 +21,7 @@ use Rattle.output_laws.proofs.SplicedLemmas.{network_moves, acts_after, counted_
 use Rattle.output_laws.proofs.SplicedOthers.{within}
 use Rattle.splice_plans.specs.Playing.{Adverts, History, as_played}
 use Rattle.switch_laws.specs.Moving.{intervals, sent_in_all, sent_count, run_moves}
-use Rattle.switch_laws.specs.Laws.{IsPlayable, AreSound, RunsAreSettled, RowsArePlaced, RowsAreSpliced, RunsCarry, RunsHaveUnits, OthersPass, NothingPlayed}
+use Rattle.switch_laws.specs.Laws.{IsPlayable, PutsArePacked, RunsAreSettled, RowsArePlaced, RowsAreSpliced, RunsCarry, RunsHaveUnits, OthersPass, NothingPlayed}
 use Rattle.switch_laws.proofs.MoveLemmas.{ordered, same-moves, all-counted}
 
 pub runs_are_settled : RunsAreSettled
@@ -59,7 +59,7 @@ module _ (switched : List ℕ) (ads : Adverts) (events : History) (k : IsPlayabl
   same = (runs_are_settled switched ads events k ps).moves
 
   module _ (pid : ℕ) (o : IsOnce pid switched) where
-    count : All (λ (x : PlayedEvent). All (Counts (stream switched pid) x (slice pid x) (out pid x)) (seen_after [] ps)) xs
+    count : All (λ (x : PlayedEvent). All (CountsOver (stream switched pid) x (slice pid x) (out pid x)) (seen_after [] ps)) xs
     count = all-counted switched ads k.steady events k.history whole pid (once-contained pid switched o) ps refl
 
     placed-is : of_stream pid (acts (run_moves switched ads events ps)) ≡ placed (stream switched pid) xs (slice pid) ps
@@ -95,7 +95,7 @@ runs_carry switched ads events k packed ps l s pid o =
     let out : ℕ → PlayedEvent → List (List ℕ) → ℕ = λ pid x. sent_count switched ads events (reverse ps) pid x in
     let e = same switched ads events k ps in
     subst (λ ms. (carried : List (List ℕ)) × (filter (payload_on pid) (output packed ms) ≡ lead_in pid ps ++ carried) × CarriesUnits carried (placed_payloads switched pid xs (slice pid) [] ps)) (sym e)
-    (counted_carries packed switched xs d slice out ps pid o (count switched ads events k ps pid o) (subst (AreSound packed) e s) l)
+    (counted_carries packed switched xs d slice out ps pid o (count switched ads events k ps pid o) (subst (PutsArePacked packed) e s) l)
 
 pub runs_have_units : RunsHaveUnits
 runs_have_units switched ads events k packed ps s pid o f before g read =
@@ -105,7 +105,7 @@ runs_have_units switched ads events k packed ps s pid o f before g read =
     let out : ℕ → PlayedEvent → List (List ℕ) → ℕ = λ pid x. sent_count switched ads events (reverse ps) pid x in
     let e = same switched ads events k ps in
     subst (λ ms. IsGaplessAfter before pid (output packed ms) × (payloads (units read pid (output packed ms)) ≡ placed_payloads switched pid xs (slice pid) [] ps)) (sym e)
-    (counted_has_units packed switched xs d slice out ps pid o (count switched ads events k ps pid o) (subst (AreSound packed) e s) (subst (λ ms. Along (IsFed pid) (reverse ms)) e f) before g read)
+    (counted_has_units packed switched xs d slice out ps pid o (count switched ads events k ps pid o) (subst (PutsArePacked packed) e s) (subst (λ ms. AlongMoves (HasComeBefore pid) (reverse ms)) e f) before g read)
 
 pub others_pass : OthersPass
 others_pass switched ads events k packed ps l s =
@@ -116,7 +116,7 @@ others_pass switched ads events k packed ps l s =
     let e = same switched ads events k ps in
     let n = network_moves switched xs slice out [] ps in
     subst (λ ms. filter (is_off switched) (output packed ms) ≡ filter (is_off switched) ps) (sym e)
-    (others-pass packed switched moves (subst (AreSound packed) e s) (within packed switched xs slice out [] ps [] tt) (subst (λ q. All (λ (p : List ℕ). length p ≡ 188) q) (sym n) l) ∙ ap (filter (is_off switched)) n)
+    (others-pass packed switched moves (subst (PutsArePacked packed) e s) (within packed switched xs slice out [] ps [] tt) (subst (λ q. All (λ (p : List ℕ). length p ≡ 188) q) (sym n) l) ∙ ap (filter (is_off switched)) n)
 
 -- ---- where nothing is played
 

@@ -18,7 +18,7 @@ use Rattle.program_follower.specs.Program.{listed, first_listed, since_pat, tabl
 use Rattle.program_follower.specs.Faults.{first_fault}
 use Rattle.program_follower.proofs.StepLemmas.{listed_stays}
 use Rattle.program_laws.specs.Spliced.{reading_cues}
-use Rattle.program_laws.specs.Writing.{Along, GoesOut, IsClear, table_out, Off}
+use Rattle.program_laws.specs.Writing.{Along, ChangedGoesOut, IsClear, table_out, Off}
 use Rattle.program_laws.proofs.FaultLemmas.{Each-parts}
 use Rattle.program_laws.proofs.ReadingLemmas.{listed_onto, tables_onto, no_tables}
 use Rattle.program_laws.proofs.WritingLemmas.{off_other, written_reads_again}
@@ -130,7 +130,7 @@ module _ (k : Setting) (network : List (List ℕ)) (ok : first_fault (reading_cu
       (λ w. subst (AllByRecursion (Off b)) (sym (own-place k p past c w ∙ by-fate k p past (is_left k p past) refl)) (moved-off b p (done_before k p past) (is_left k p past) off low))
       (λ w. subst (AllByRecursion (Off b)) (sym (other-place k p past c w)) (off, tt)))
 
-  clear : (past more : List (List ℕ)) → network ≡ more ++ past → ((l : Listed) → listed wanted past ≡ Some l → AllByRecursion (GoesOut (without_cue_entry k.cue_pid) l.program) (all_tables wanted past)) →
+  clear : (past more : List (List ℕ)) → network ≡ more ++ past → ((l : Listed) → listed wanted past ≡ Some l → AllByRecursion (ChangedGoesOut (without_cue_entry k.cue_pid) l.program) (all_tables wanted past)) →
       Along (IsClear (switching k) wanted) past
   clear [] more is h = tt
   clear (p ∷ past) more is h =
@@ -145,11 +145,11 @@ module _ (k : Setting) (network : List (List ℕ)) (ok : first_fault (reading_cu
             pid = map-not-zero k network ok l (listed-there p past more is l known);
             front = front-by l.pid (pmt-apart l (listed-there p past more is l known)) (known_map wanted past) p past more is refl;
             place = λ n. place-off l.pid p past n low;
-            maps = (Each-parts (GoesOut (without_cue_entry k.cue_pid) l.program) (all_tables wanted past) (tables wanted p past) (h l (listed_stays wanted p past l known))).1;
+            maps = (Each-parts (ChangedGoesOut (without_cue_entry k.cue_pid) l.program) (all_tables wanted past) (tables wanted p past) (h l (listed_stays wanted p past l known))).1;
           };
         },
         clear past (more ++ p ∷ []) (is ∙ sym (append_assoc more (p ∷ []) past))
-            (λ l known. (Each-parts (GoesOut (without_cue_entry k.cue_pid) l.program) (all_tables wanted past) (tables wanted p past) (h l (listed_stays wanted p past l known))).0),
+            (λ l known. (Each-parts (ChangedGoesOut (without_cue_entry k.cue_pid) l.program) (all_tables wanted past) (tables wanted p past) (h l (listed_stays wanted p past l known))).0),
       )
 
   rest-by : (b : ℕ) → is_among b (switched_at k network) ≡ false → (o : Option ProgramMap) → known_map wanted network ≡ o → AllByRecursion (Off b) (rest_at k network)

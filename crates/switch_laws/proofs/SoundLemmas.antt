@@ -13,7 +13,7 @@ use Rattle.event_table.specs.Standing.{Standing}
 use Rattle.splice_laws.specs.Splicing.{PlayedEvent, SliceUnit, TimedStream, stream, front}
 use Rattle.splice_laws.specs.Settled.{begun_now, closed_now}
 use Rattle.splice_laws.specs.Ends.{longest_front}
-use Rattle.output_laws.specs.Output.{Move, Keep, Leave, Put, Packing, Sound, Along}
+use Rattle.output_laws.specs.Output.{Move, Keep, Leave, Put, Packing, Sound, AlongMoves}
 use Rattle.output_laws.proofs.StepLemmas.{onto_moves}
 use Rattle.splice_plans.specs.Playing.{Adverts, History, Turns, played, as_played, end_known, is_inside, up_to_known, sent_of_begun, sent_known, due_at, closing_at, running_at, left_at_end}
 use Rattle.splice_plans.specs.Switching.{puts_by, puts_before, puts_at_end, fate}
@@ -97,7 +97,7 @@ module _ (packed : Packing) where
   abbrev pub EachSound : List Move → Type 0
   EachSound ms = AllByRecursion (Sound packed) ms
 
-  sound-onto : (past ms : List Move) → EachSound ms → Along Here past → Along Here (onto_moves past ms)
+  sound-onto : (past ms : List Move) → EachSound ms → AlongMoves Here past → AlongMoves Here (onto_moves past ms)
   sound-onto past [] a h = h
   sound-onto past (m ∷ ms) a h = sound-onto (m ∷ past) ms a.1 (a.0, h)
 

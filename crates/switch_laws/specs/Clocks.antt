@@ -9,7 +9,7 @@ use Rattle.output_laws.specs.Output.{Packing}
 use Rattle.splice_plans.specs.Playing.{Adverts}
 use Rattle.splice_plans.specs.Switching.{Setting, switched_at, spliced_network}
 use Rattle.switch_laws.specs.Laws.{ArePackets}
-use Rattle.switch_laws.specs.Whole.{adverts_at, HavePids, IsApart}
+use Rattle.switch_laws.specs.Whole.{adverts_at, HavePids, TablesAreApart}
 
 -- the clock reference of a packet of the PID, where it has one
 abbrev pub listed_clock : Option (List ℕ) → List (List ℕ)
@@ -33,6 +33,6 @@ HaveNoClocks packed ads = (e : Standing) (pid : ℕ) →
 
 -- THE LAW OF CLOCK REFERENCES: those of a switched stream are the network's, in their order, also where its packets are left out
 abbrev pub ClocksStay : Type 0
-ClocksStay = (k : Setting) (network : List (List ℕ)) → IsApart k (reverse network) → HaveNoClocks k.packed (adverts_at k (reverse network)) →
+ClocksStay = (k : Setting) (network : List (List ℕ)) → TablesAreApart k (reverse network) → HaveNoClocks k.packed (adverts_at k (reverse network)) →
     ArePackets network → HavePids network → (pid : ℕ) → is_among pid (switched_at k (reverse network)) ≡ true →
     clocks pid (spliced_network k network) ≡ clocks pid network

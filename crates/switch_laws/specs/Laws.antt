@@ -9,7 +9,7 @@ use Rattle.splice_laws.specs.Splicing.{stream}
 use Rattle.splice_laws.specs.Laws.{AreOrdered, IsConditioned}
 use Rattle.splice_laws.specs.Rows.{carried_items, placed_units, splice_units}
 use Rattle.splice_laws.specs.Streams.{IsOnce, of_stream}
-use Rattle.output_laws.specs.Output.{Move, Keep, acts, network, Packing, output, Sound, IsFed, Along}
+use Rattle.output_laws.specs.Output.{Move, Keep, acts, network, Packing, output, Sound, HasComeBefore, AlongMoves}
 use Rattle.output_laws.specs.Others.{is_off}
 use Rattle.output_laws.specs.Spliced.{moves_after, placed_payloads}
 use Rattle.splice_plans.specs.Playing.{Adverts, History, played}
@@ -58,20 +58,20 @@ abbrev pub ArePackets : List (List ℕ) → Type 0
 ArePackets ps = All (λ (p : List ℕ). length p ≡ 188) ps
 
 -- each unit that is put in is packed, whatever the first counter; the PIDs of the packets left out are of 13 bits
-abbrev pub AreSound : Packing → List Move → Type 0
-AreSound packed moves = Along (λ (s : Move) (past : List Move). Sound packed s) (reverse moves)
+abbrev pub PutsArePacked : Packing → List Move → Type 0
+PutsArePacked packed moves = AlongMoves (λ (s : Move) (past : List Move). Sound packed s) (reverse moves)
 
 -- THE OUTPUT CARRIES WHAT IS PLACED, on any network
 abbrev pub RunsCarry : Type 0
 RunsCarry = (switched : List ℕ) (ads : Adverts) (events : History) → IsPlayable switched ads events → (packed : Packing) (ps : List (List ℕ)) → ArePackets ps →
-    AreSound packed (run_moves switched ads events ps) → (pid : ℕ) → IsOnce pid switched →
+    PutsArePacked packed (run_moves switched ads events ps) → (pid : ℕ) → IsOnce pid switched →
     (carried : List (List ℕ)) × (filter (payload_on pid) (output packed (run_moves switched ads events ps)) ≡ lead_in pid ps ++ carried)
     × CarriesUnits carried (placed_payloads switched pid (intervals ads (events (reverse ps))) (sent_in_all switched ads events (reverse ps) pid) [] ps)
 
 -- WHERE THE NETWORK IS GAPLESS on the PID, and it has a payload packet before its first unit put in, so is the output, and its units are these
 abbrev pub RunsHaveUnits : Type 0
 RunsHaveUnits = (switched : List ℕ) (ads : Adverts) (events : History) → IsPlayable switched ads events → (packed : Packing) (ps : List (List ℕ)) →
-    AreSound packed (run_moves switched ads events ps) → (pid : ℕ) → IsOnce pid switched → Along (IsFed pid) (reverse (run_moves switched ads events ps)) →
+    PutsArePacked packed (run_moves switched ads events ps) → (pid : ℕ) → IsOnce pid switched → AlongMoves (HasComeBefore pid) (reverse (run_moves switched ads events ps)) →
     (before : Option (List ℕ)) → IsGaplessAfter before pid ps → (read : List ℕ) →
     IsGaplessAfter before pid (output packed (run_moves switched ads events ps))
     × (payloads (units read pid (output packed (run_moves switched ads events ps)))
@@ -80,7 +80,7 @@ RunsHaveUnits = (switched : List ℕ) (ads : Adverts) (events : History) → IsP
 -- THE PACKETS OF ALL OTHER PIDS, and those marked in error, are the same list, byte for byte
 abbrev pub OthersPass : Type 0
 OthersPass = (switched : List ℕ) (ads : Adverts) (events : History) → IsPlayable switched ads events → (packed : Packing) (ps : List (List ℕ)) → ArePackets ps →
-    AreSound packed (run_moves switched ads events ps) → filter (is_off switched) (output packed (run_moves switched ads events ps)) ≡ filter (is_off switched) ps
+    PutsArePacked packed (run_moves switched ads events ps) → filter (is_off switched) (output packed (run_moves switched ads events ps)) ≡ filter (is_off switched) ps
 
 -- NO PLAYED EVENT: where none of the events is played in the end, every packet is kept, and nothing is put in
 abbrev pub NothingPlayed : Type 0

@@ -7,14 +7,14 @@ use Rattle.program_follower.specs.Program.{listed, all_tables}
 use Rattle.program_follower.specs.Faults.{first_fault}
 use Rattle.program_laws.specs.Spliced.{reading_cues}
 use Rattle.wire_fields.specs.Numbers.{AreBytes}
-use Rattle.program_laws.specs.Writing.{Along, GoesOut, table_out}
+use Rattle.program_laws.specs.Writing.{Along, ChangedGoesOut, table_out}
 use Rattle.splice_plans.specs.Switching.{Setting, spliced_network}
 use Rattle.switch_laws.specs.Whole.{adverts_at, ArePacked, HavePids}
 
 -- the program's maps, without the entry for the cues, can be sent and are read back
 abbrev pub MapsGoOut : Setting → List (List ℕ) → Type 0
 MapsGoOut k past = (l : Listed) → listed (Some k.program) past ≡ Some l →
-    AllByRecursion (GoesOut (without_cue_entry k.cue_pid) l.program) (all_tables (Some k.program) past)
+    AllByRecursion (ChangedGoesOut (without_cue_entry k.cue_pid) l.program) (all_tables (Some k.program) past)
 
 -- The PAT that lists the program says the same; and behind it the sections on the PID of the PMT are the same in their order, but for the
 -- program's maps, which are without the entry for the cues.

@@ -14,7 +14,7 @@ use Rattle.output_laws.specs.Output.{Move, Leave, counter_steps, clock_alone}
 use Rattle.output_laws.specs.Others.{is_off}
 use Rattle.splice_plans.specs.Playing.{is_inside}
 use Rattle.splice_plans.specs.Switching.{Setting, switched_at, history_at, switched_past, spliced_network, is_switched, moves, puts_before}
-use Rattle.switch_laws.specs.Whole.{adverts_at, stands_for, table_pids, ArePacked, HavePids, IsApart}
+use Rattle.switch_laws.specs.Whole.{adverts_at, stands_for, table_pids, ArePacked, HavePids, TablesAreApart}
 
 -- it is not on the PID of the PMT, behind the PAT
 abbrev pub IsNoTable : Setting → List ℕ → List (List ℕ) → Type 0
@@ -68,9 +68,9 @@ OthersStay = (k : Setting) (network : List (List ℕ)) → ArePacked k.packed (a
 
 -- THE LAW OF FAULTLESS NETWORKS: where those who read the cues of a network find no fault in it, its switched streams are apart, and each is
 -- listed once
-pub record IsSound (k : Setting) (past : List (List ℕ)) : Type 0 where
-  pub apart : IsApart k past
+pub record IsSwitchable (k : Setting) (past : List (List ℕ)) : Type 0 where
+  pub apart : TablesAreApart k past
   pub once : (pid : ℕ) → is_among pid (switched_at k past) ≡ true → IsOnce pid (switched_at k past)
 
 abbrev pub FaultlessIsSound : Type 0
-FaultlessIsSound = (k : Setting) (past : List (List ℕ)) → first_fault (reading_cues (Some k.program) k.cue_pid) past ≡ None → IsSound k past
+FaultlessIsSound = (k : Setting) (past : List (List ℕ)) → first_fault (reading_cues (Some k.program) k.cue_pid) past ≡ None → IsSwitchable k past

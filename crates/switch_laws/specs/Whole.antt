@@ -20,7 +20,7 @@ use Rattle.splice_plans.specs.Playing.{Adverts, History, played}
 use Rattle.splice_plans.specs.Switching.{Setting, switched_at, streams_at, events_at, head_at, history_at, front_at, rest_at, switching, switched_past, spliced_network}
 use Rattle.splice_plans.specs.Histories.{AreSteady}
 use Rattle.switch_laws.specs.Moving.{run_moves, intervals, sent_in_all}
-use Rattle.switch_laws.specs.Laws.{ArePackets, AreSound}
+use Rattle.switch_laws.specs.Laws.{ArePackets, PutsArePacked}
 
 -- what the advertisements say of the streams that are switched behind a past
 abbrev pub adverts_at : Setting → List (List ℕ) → Adverts
@@ -77,12 +77,12 @@ HavePids ps = All (λ (p : List ℕ). pid_of p < 8192) ps
 -- then all moves of a run are sound
 abbrev pub RunsAreSound : Type 0
 RunsAreSound = (switched : List ℕ) (ads : Adverts) (events : History) (packed : Packing) (ps : List (List ℕ)) → ArePacked packed ads → HavePids ps →
-    AreSound packed (run_moves switched ads events ps)
+    PutsArePacked packed (run_moves switched ads events ps)
 
 -- ---- switched streams
 
 -- neither the PID of the cues nor that of the PMT is a switched stream's
-pub record IsApart (k : Setting) (past : List (List ℕ)) : Type 0 where
+pub record TablesAreApart (k : Setting) (past : List (List ℕ)) : Type 0 where
   pub cue : is_among k.cue_pid (switched_at k past) ≡ false
   pub pmt : (l : Listed) → listed (Some k.program) past ≡ Some l → is_among l.pid (switched_at k past) ≡ false
 
@@ -93,7 +93,7 @@ run_out k past = output k.packed (run_moves (switched_at k past) (adverts_at k p
 -- THE LAW OF STREAMS: the payload packets of a switched PID in the output are those of the head, and those of the run behind it, as if no
 -- other packet were there
 abbrev pub StreamsGoByThemselves : Type 0
-StreamsGoByThemselves = (k : Setting) (network : List (List ℕ)) → IsApart k (reverse network) → (pid : ℕ) → is_among pid (switched_at k (reverse network)) ≡ true →
+StreamsGoByThemselves = (k : Setting) (network : List (List ℕ)) → TablesAreApart k (reverse network) → (pid : ℕ) → is_among pid (switched_at k (reverse network)) ≡ true →
     filter (payload_on pid) (spliced_network k network)
     ≡ filter (payload_on pid) (reverse (head_at k (reverse network))) ++ filter (payload_on pid) (run_out k (reverse network))
 
@@ -118,7 +118,7 @@ placed_in k past pid = placed_payloads (switched_at k past) pid (breaks k past) 
 -- THE OUTPUT OF A NETWORK CARRIES WHAT IS PLACED, on any network: the switched stream's payload packets are those of the head, those behind
 -- it before the first unit, unchanged, and then packets that carry what is placed
 abbrev pub StreamsCarry : Type 0
-StreamsCarry = (k : Setting) (network : List (List ℕ)) → IsApart k (reverse network) → AreSteady (adverts_at k (reverse network)) →
+StreamsCarry = (k : Setting) (network : List (List ℕ)) → TablesAreApart k (reverse network) → AreSteady (adverts_at k (reverse network)) →
     ArePacked k.packed (adverts_at k (reverse network)) → ArePackets network → HavePids network → (pid : ℕ) → IsSwitchedOnce k (reverse network) pid →
     (carried : List (List ℕ)) × (filter (payload_on pid) (spliced_network k network)
     ≡ filter (payload_on pid) (reverse (head_at k (reverse network))) ++ (lead_in pid (reverse (behind_head (Some k.program) (reverse network))) ++ carried))

@@ -32,7 +32,7 @@ use Rattle.cue_laws.specs.Laws.{KeepsEnoughOf}
 use Rattle.cue_laws.proofs.Enough.{nothing_lost_is_enough}
 use Rattle.cued_laws.proofs.CuedLemmas.{cued_is_faultless}
 use Rattle.path_laws.specs.Path.{asked_line}
-use Rattle.path_laws.specs.Packets.{IsRunOf, stream, Brings, own_fronts}
+use Rattle.path_laws.specs.Packets.{IsRunOf, stream, BringsCues, own_fronts}
 use Rattle.path_laws.specs.Thinning.{sections_given}
 use Rattle.path_laws.proofs.Packets.{run-message, run-packet, run-history, map-pid}
 use Rattle.path_laws.proofs.Proofs.{requests_are_a_run}
@@ -41,7 +41,7 @@ use Rattle.path_laws.proofs.Thinned.{thinned_brings}
 use Rattle.splice_laws.specs.Streams.{is_among}
 use Rattle.splice_plans.specs.Switching.{Setting, switched_at, high_at, events_at}
 use Rattle.splice_plans.specs.Adverts.{setting_of}
-use Rattle.switch_laws.specs.Standing.{IsSound}
+use Rattle.switch_laws.specs.Standing.{IsSwitchable}
 use Rattle.switch_laws.proofs.FaultlessLemmas.{faultless_is_sound}
 use Rattle.known_laws.proofs.HeadLemmas.{none-switched, same-switched}
 use Rattle.thinned_laws.specs.Beside.{Beside, Shared, Here, There, one_run, other_run, DifferOn, CuesAreApart, AgreeReached, AgreeAlong}
@@ -139,7 +139,7 @@ number-same pid (There q ∷ rows) o = let n = o.0 in simp n (number-same pid ro
 abbrev Fronts : Type 0
 Fronts = List ℕ → List (List ℕ) → List (List ℕ)
 
-brings-on : (c : Config) (copies : List LineTurn → ℕ) (fronts : Fronts) (past : List Step) → Brings c copies fronts past → Along (λ p back. AllByRecursion (On c.cue_pid) (fronts p back)) (packets_in past)
+brings-on : (c : Config) (copies : List LineTurn → ℕ) (fronts : Fronts) (past : List Step) → BringsCues c copies fronts past → Along (λ p back. AllByRecursion (On c.cue_pid) (fronts p back)) (packets_in past)
 brings-on c copies fronts [] b = tt
 brings-on c copies fronts (Message m ∷ past) b = brings-on c copies fronts past b
 brings-on c copies fronts (Packet p ∷ past) b = (b.0, brings-on c copies fronts past b.2)
@@ -155,7 +155,7 @@ high-units [] all past other u is = subst (λ (l : List ℕ). high l past ≡ hi
     none (p ∷ ps) = none ps
 high-units (pid ∷ pids) all past other u is = u.0.high
 
-module _ (c : Config) (copies : List LineTurn → ℕ) (fronts : Fronts) (past : List Step) (r : IsRunOf c past) (b : Brings c copies fronts past) where
+module _ (c : Config) (copies : List LineTurn → ℕ) (fronts : Fronts) (past : List Step) (r : IsRunOf c past) (b : BringsCues c copies fronts past) where
   reads : CuedReads (Some c.program) c.cue_pid (stream c fronts past) (packets_in past) (pids_of (program_of (Some c.program) (packets_in past)))
   reads = cued_stream_reads (purpose_of c) c.cue_pid fronts (packets_in past) refl refl r.not_pat r.cue_pid r.faultless r.bytes (brings-on c copies fronts past b)
 
@@ -165,7 +165,7 @@ module _ (c : Config) (copies : List LineTurn → ℕ) (fronts : Fronts) (past :
       ∙ high-units (pids_of (program_of (Some c.program) (packets_in past))) (pids_of (program_of (Some c.program) (packets_in past))) (behind_head (Some c.program) (stream c fronts past)) (behind_head (Some c.program) (packets_in past)) reads.units refl
 
   module _ (filed : ℕ → Option Advertisement) where
-    sound : IsSound (setting_of c filed) (stream c fronts past)
+    sound : IsSwitchable (setting_of c filed) (stream c fronts past)
     sound = faultless_is_sound (setting_of c filed) (stream c fronts past) (left_is_faultless c copies fronts past r b)
 
     stream-apart : CuesAreApart (setting_of c filed) (stream c fronts past)
@@ -186,7 +186,7 @@ ArmsAlong c fronts (Message m ∷ past) = ArmsAlong c fronts past
 ArmsAlong c fronts (Packet p ∷ past) = ArmsAt c fronts p past × ArmsAlong c fronts past
 
 module _ (c : Config) (copies : List LineTurn → ℕ) (fronts : Fronts) (last : List ℕ) (whole : List Step) (r : IsRunOf c whole) (k : KeepsEnoughOf copies (asked_line c.index (turns_in c.program whole))) where
-  arms-before : (later past : List Step) → whole ≡ Packet last ∷ (later ++ past) → Brings c copies fronts past → ArmsAlong c fronts past
+  arms-before : (later past : List Step) → whole ≡ Packet last ∷ (later ++ past) → BringsCues c copies fronts past → ArmsAlong c fronts past
   arms-before later [] is b = tt
   arms-before later (Message m ∷ past) is b = arms-before (later ++ Message m ∷ []) past (is ∙ ap (λ l. Packet last ∷ l) (sym (append_assoc later (Message m ∷ []) past))) b
   arms-before later (Packet p ∷ past) is b = (
@@ -194,7 +194,7 @@ module _ (c : Config) (copies : List LineTurn → ℕ) (fronts : Fronts) (last :
     arms-before (later ++ Packet p ∷ []) past (is ∙ ap (λ l. Packet last ∷ l) (sym (append_assoc later (Packet p ∷ []) past))) b.2,
   )
 
-arms-whole : (c : Config) (copies : List LineTurn → ℕ) (fronts : Fronts) (p : List ℕ) (past : List Step) → IsRunOf c (Packet p ∷ past) → Brings c copies fronts (Packet p ∷ past)
+arms-whole : (c : Config) (copies : List LineTurn → ℕ) (fronts : Fronts) (p : List ℕ) (past : List Step) → IsRunOf c (Packet p ∷ past) → BringsCues c copies fronts (Packet p ∷ past)
     → KeepsEnoughOf copies (asked_line c.index (turns_in c.program (Packet p ∷ past))) → ArmsAlong c fronts (Packet p ∷ past)
 arms-whole c copies fronts p past r b k = (
   λ e un reached. cue_path_in_packets_at_the_end c copies fronts p past r b k e un,
@@ -219,7 +219,7 @@ module _ (c : Config) (filed : ℕ → Option Advertisement) (copies others : Li
   twins (Message m ∷ past) = twins past
   twins (Packet p ∷ past) = shared_onto (there_onto (here_onto (twins past) (f p (packets_in past))) (g p (packets_in past))) (place_in p past)
 
-  differ-twins : (past : List Step) → Brings c copies f past → Brings c others g past → DifferOn c.cue_pid (twins past)
+  differ-twins : (past : List Step) → BringsCues c copies f past → BringsCues c others g past → DifferOn c.cue_pid (twins past)
   differ-twins [] b d = tt
   differ-twins (Message m ∷ past) b d = differ-twins past b d
   differ-twins (Packet p ∷ past) b d =
@@ -242,7 +242,7 @@ module _ (c : Config) (filed : ℕ → Option Advertisement) (copies others : Li
   place-same p past (Some l) ts out other n =
       ap (λ m. if on l.pid p then packets_in_turn l.pid (one_past m) (map (section_out (cueing c.cue_pid f).change) ts) else p ∷ []) (n l refl)
 
-  other-twins : (past : List Step) → IsRunOf c past → Brings c copies f past → Brings c others g past → other_run (twins past) ≡ stream c g past
+  other-twins : (past : List Step) → IsRunOf c past → BringsCues c copies f past → BringsCues c others g past → other_run (twins past) ≡ stream c g past
   other-twins [] r b d = refl
   other-twins (Message m ∷ past) r b d = other-twins past (run-message c m past r) b d
   other-twins (Packet p ∷ past) r b d =
@@ -263,7 +263,7 @@ module _ (c : Config) (filed : ℕ → Option Advertisement) (copies others : Li
   abbrev AgreeHere : List Beside → Type 0
   AgreeHere rows = AgreeReached (high_at (setting_of c filed) (one_run rows)) (events_at (setting_of c filed) (one_run rows)) (events_at (setting_of c filed) (other_run rows))
 
-  agree-here : (p : List ℕ) (past : List Step) → IsRunOf c (Packet p ∷ past) → Brings c copies f (Packet p ∷ past) → Brings c others g (Packet p ∷ past) → ArmsAt c f p past → ArmsAt c g p past → AgreeHere (twins (Packet p ∷ past))
+  agree-here : (p : List ℕ) (past : List Step) → IsRunOf c (Packet p ∷ past) → BringsCues c copies f (Packet p ∷ past) → BringsCues c others g (Packet p ∷ past) → ArmsAt c f p past → ArmsAt c g p past → AgreeHere (twins (Packet p ∷ past))
   agree-here p past r b d arms arm e un reached =
       let one = one-twins (Packet p ∷ past) in
       let other = other-twins (Packet p ∷ past) r b d in
@@ -294,7 +294,7 @@ module _ (c : Config) (filed : ℕ → Option Advertisement) (copies others : Li
       which true qs h here n = quiet-along (setting_of c filed) l.pid rows qs (all-on qs h) n along
       which false qs h here n = ((λ s. here), along)
 
-  agree-twins : (past : List Step) → IsRunOf c past → Brings c copies f past → Brings c others g past → ArmsAlong c f past → ArmsAlong c g past → AgreeAlong (setting_of c filed) (twins past)
+  agree-twins : (past : List Step) → IsRunOf c past → BringsCues c copies f past → BringsCues c others g past → ArmsAlong c f past → ArmsAlong c g past → AgreeAlong (setting_of c filed) (twins past)
   agree-twins [] r b d arms arm = tt
   agree-twins (Message m ∷ past) r b d arms arm = agree-twins past (run-message c m past r) b d arms arm
   agree-twins (Packet p ∷ past) r b d arms arm =
@@ -310,7 +310,7 @@ module _ (c : Config) (filed : ℕ → Option Advertisement) (copies others : Li
 
   -- ---- so they are the same
 
-  pub two-left : (p : List ℕ) (past : List Step) → IsRunOf c (Packet p ∷ past) → Brings c copies f (Packet p ∷ past) → Brings c others g (Packet p ∷ past)
+  pub two-left : (p : List ℕ) (past : List Step) → IsRunOf c (Packet p ∷ past) → BringsCues c copies f (Packet p ∷ past) → BringsCues c others g (Packet p ∷ past)
       → KeepsEnoughOf copies (asked_line c.index (turns_in c.program (Packet p ∷ past))) → KeepsEnoughOf others (asked_line c.index (turns_in c.program (Packet p ∷ past)))
       → SplicedAlike (setting_of c filed) (stream c f (Packet p ∷ past)) (stream c g (Packet p ∷ past))
   two-left p past r b d e h =

@@ -8,7 +8,7 @@ use Rattle.injector.specs.Steps.{Step, Packet, turns_in, cued}
 use Rattle.cue_laws.specs.Events.{Turn as LineTurn}
 use Rattle.cue_laws.specs.Laws.{KeepsEnoughOf}
 use Rattle.path_laws.specs.Path.{asked_line}
-use Rattle.path_laws.specs.Packets.{IsRunOf, stream, Brings}
+use Rattle.path_laws.specs.Packets.{IsRunOf, stream, BringsCues}
 use Rattle.path_laws.specs.Thinning.{IsThinned, sections_given}
 use Rattle.splice_plans.specs.Adverts.{setting_of}
 use Rattle.splice_plans.specs.Switching.{Setting, switched_past, spliced_network}
@@ -40,14 +40,14 @@ SameEventsSameNetwork = (k : Setting) (rows : List Beside) → CuesAreApart k (o
 
 -- THE STREAM WITH WHAT IS LEFT of the cues has no fault for those who read them
 abbrev pub LeftIsFaultless : Type 0
-LeftIsFaultless = (c : Config) (copies : List LineTurn → ℕ) (fronts : List ℕ → List (List ℕ) → List (List ℕ)) (past : List Step) → IsRunOf c past → Brings c copies fronts past →
+LeftIsFaultless = (c : Config) (copies : List LineTurn → ℕ) (fronts : List ℕ → List (List ℕ) → List (List ℕ)) (past : List Step) → IsRunOf c past → BringsCues c copies fronts past →
     first_fault (reading_cues c) (stream c fronts past) ≡ None
 
 -- LOST CUES LEAVE NO TRACE: of a network without fault, any library, and any history that ends with a packet, where enough of the cues is left,
 -- what a switch makes of the stream is what it makes of the cued stream itself, through any number of turns of the ring
 abbrev pub LostCuesLeaveNoTrace : Type 0
 LostCuesLeaveNoTrace = (c : Config) (filed : ℕ → Option Advertisement) (copies : List LineTurn → ℕ) (fronts : List ℕ → List (List ℕ) → List (List ℕ)) (p : List ℕ) (past : List Step) →
-    IsRunOf c (Packet p ∷ past) → Brings c copies fronts (Packet p ∷ past) → KeepsEnoughOf copies (asked_line c.index (turns_in c.program (Packet p ∷ past))) →
+    IsRunOf c (Packet p ∷ past) → BringsCues c copies fronts (Packet p ∷ past) → KeepsEnoughOf copies (asked_line c.index (turns_in c.program (Packet p ∷ past))) →
     SplicedAlike (setting_of c filed) (stream c fronts (Packet p ∷ past)) (cued c (Packet p ∷ past))
 
 -- so it is with the injector's packets of which some are left out, and some doubled on the spot

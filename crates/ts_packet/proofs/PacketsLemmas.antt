@@ -6,7 +6,7 @@ use Rattle.std.specs.Io.KnownBytes.{Consumes, IsAtEnd}
 use Rattle.std.proofs.KnownBytes.{Consumes-trans, Consumes-nil}
 use lib.Seq.{take_all, take-append-le, drop-drop}
 use Rattle.ts_packet.specs.Packets.{parts, packets_of, last_part, bytes_of, packet_fault}
-use Rattle.ts_packet.specs.Sources.{Given, HasRead}
+use Rattle.ts_packet.specs.Sources.{WasGiven, HasRead}
 use Rattle.ts_packet.proofs.WritingLemmas.{bytes_of-snoc}
 
 -- the first part, and the rest
@@ -66,7 +66,7 @@ pub read_none : (start : Option (List ℕ)) → HasRead start start []
 read_none start = record { bytes = Consumes-nil start; sizes = All-nil (λ q. length q ≡ 188); sound = All-nil (λ q. packet_fault q ≡ None) }
 
 -- one packet more was read
-pub read_more : (start left left' : Option (List ℕ)) (ps : List (List ℕ)) (p : List ℕ) → HasRead start left ps → Given left left' p → HasRead start left' (ps ++ p ∷ [])
+pub read_more : (start left left' : Option (List ℕ)) (ps : List (List ℕ)) (p : List ℕ) → HasRead start left ps → WasGiven left left' p → HasRead start left' (ps ++ p ∷ [])
 read_more start left left' ps p h k = record {
   bytes = subst (Consumes start left') (sym (bytes_of-snoc ps p)) (Consumes-trans start left left' (bytes_of ps) p h.bytes k.bytes);
   sizes = All-push (λ q. length q ≡ 188) ps p h.sizes k.size;

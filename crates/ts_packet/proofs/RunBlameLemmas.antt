@@ -1,6 +1,6 @@
 -- What the device of a source did over a whole run, packet by packet.
 use Rattle.std.proofs.Common.{◌≡◌, ℕ, ◌+◌, List, [], ◌∷◌, ◌++◌, Bool, true, false, ◌⊎◌, inl, inr, refl, sym, ◌∙◌, Option, arith, length-append}
-use Rattle.ts_packet.specs.Sources.{Given, ReadSo, SourceCounts, SourceBlamed, Refuses, ReadOn, RunBlamed, Stalled, Exhausted, HasGiven}
+use Rattle.ts_packet.specs.Sources.{WasGiven, ReadSo, SourceCounts, SourceBlamed, Refuses, ReadOn, RunBlamed, Stalled, Exhausted, HasGiven}
 use Rattle.ts_packet.specs.declared.tally.Tally.{Tally}
 use Rattle.ts_packet.specs.Transfers.{WentWell}
 use Rattle.ts_packet.specs.declared.reader.ReadFault.{ReadFault}
@@ -13,7 +13,7 @@ use Rattle.ts_packet.proofs.PacketsLemmas.{read_none, read_more}
 pub given_none : (input : Option (List ℕ)) (first : ℕ) → HasGiven input input first first []
 given_none input first = record { read = read_none input; count = omega arith }
 
-pub given_more : (input left left' : Option (List ℕ)) (first given given' : ℕ) (ps : List (List ℕ)) (p : List ℕ) → HasGiven input left first given ps → Given left left' p → given' ≡ given + 1
+pub given_more : (input left left' : Option (List ℕ)) (first given given' : ℕ) (ps : List (List ℕ)) (p : List ℕ) → HasGiven input left first given ps → WasGiven left left' p → given' ≡ given + 1
     → HasGiven input left' first given' (ps ++ p ∷ [])
 given_more input left left' first given given' ps p h r g = record {
   read = read_more input left left' ps p h.read r;

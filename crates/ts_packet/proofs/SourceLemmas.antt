@@ -5,7 +5,7 @@ use Rattle.std.specs.Io.KnownBytes.{Consumes, IsAtEnd}
 use Rattle.ts_packet.specs.declared.packet.PacketFault.TheVariants as packet_faults
 use Rattle.ts_packet.specs.declared.reader.ReadFault.{ReadFault}
 use Rattle.ts_packet.specs.declared.reader.ReadFault.TheVariants.{Truncated, SyncLost, BadAdaptation, Io, Turns, Failed}
-use Rattle.ts_packet.specs.Sources.{Given, GivesInto, Refuses, answer_to, answer_over, ReadAnswers}
+use Rattle.ts_packet.specs.Sources.{WasGiven, GivesInto, Refuses, answer_to, answer_over, ReadAnswers}
 use lib.Seq.{take_all, take-append-le}
 use Rattle.ts_packet.specs.declared.packet.PacketFault.{PacketFault}
 use Rattle.ts_packet.specs.Packets.{packet_fault}
@@ -44,7 +44,7 @@ over_whole bs o h e = sized (length bs) (Ok false) (Err Truncated) (answer_to (p
 over_part : (bs : List ℕ) → 0 < length bs → length bs < 188 → answer_over bs ≡ Err Truncated
 over_part bs h k = short (length bs) (Ok false) (Err Truncated) (answer_to (packet_fault (take 188 bs))) h k
 
-pub given : (left left' : Option (List ℕ)) (slot : List ℕ) → Given left left' slot → IfSome left (λ bs. ReadAnswers bs (Ok true))
+pub given : (left left' : Option (List ℕ)) (slot : List ℕ) → WasGiven left left' slot → IfSome left (λ bs. ReadAnswers bs (Ok true))
 given None left' slot h = tt
 given (Some bs) None slot h = absurd h.bytes
 given (Some bs) (Some ys) slot h =
@@ -53,7 +53,7 @@ given (Some bs) (Some ys) slot h =
     inl (sym (over_whole bs None next.0 (ap packet_fault next.1 ∙ h.sound)))
 
 -- what a full slot with no fault is
-pub filled : (old new : Option (List ℕ)) (buf : List ℕ) (n : ℕ) → length buf ≡ 188 → n ≡ 188 → Filled old new buf n → packet_fault buf ≡ None → Given old new buf
+pub filled : (old new : Option (List ℕ)) (buf : List ℕ) (n : ℕ) → length buf ≡ 188 → n ≡ 188 → Filled old new buf n → packet_fault buf ≡ None → WasGiven old new buf
 filled old new buf n size at h e = record {
   bytes = subst (Consumes old new) (take_all n buf (omega arith)) h.bytes;
   size = size;

@@ -10,19 +10,19 @@ use Rattle.ts_packet.specs.declared.reader.ReadFault.{ReadFault}
 use Rattle.ts_packet.specs.declared.reader.ReadFault.TheVariants.{Truncated, SyncLost, BadAdaptation, Io, Turns, Failed}
 
 -- these bytes were read, and they are a packet
-pub record Given (old new : Option (List ℕ)) (p : List ℕ) : Type 0 where
+pub record WasGiven (old new : Option (List ℕ)) (p : List ℕ) : Type 0 where
   pub bytes : Consumes old new p
   pub size : length p ≡ 188
   pub sound : packet_fault p ≡ None
 
 -- a packet was there, and stands in the slot; or nothing is left
 abbrev pub GivesInto : Option (List ℕ) → Option (List ℕ) → Bool → List ℕ → Type 0
-GivesInto old new true slot = Given old new slot
+GivesInto old new true slot = WasGiven old new slot
 GivesInto old new false slot = IsAtEnd old × IsAtEnd new
 
 -- a packet was there, and is answered; or nothing is left
 abbrev pub Gives : Option (List ℕ) → Option (List ℕ) → Option (List ℕ) → Type 0
-Gives old new (Some p) = Given old new p
+Gives old new (Some p) = WasGiven old new p
 Gives old new None = IsAtEnd old × IsAtEnd new
 
 -- what the bytes left have to be where a reader answers so

@@ -17,7 +17,7 @@ use Rattle.ts_packet.specs.FirstFault.{or_then, first_of, fault_behind}
 use Rattle.ts_packet.proofs.FirstFaultLemmas.{sound_all, sound_more}
 use Rattle.unit_cut.specs.FirstFault.{first_fault, fault_at, cut_test, as_unit_fault}
 use Rattle.unit_cut.specs.declared.run.CutFault.TheVariants.{Read}
-use Rattle.unit_cut.specs.Runs.{CutsAll, FrontIsOut, NextFails, IsSound, IsCutOf, cut_by, HasPassed}
+use Rattle.unit_cut.specs.Runs.{CutsAll, FrontIsOut, NextFails, AreAllSound, IsCutOf, cut_by, HasPassed}
 use Rattle.unit_cut.specs.declared.cutter.Cutter.{Cutter}
 use Rattle.unit_cut.proofs.GrowLemmas.{between_grows}
 use Rattle.unit_cut.proofs.CutterLemmas.{begins_before}
@@ -75,7 +75,7 @@ passed_more is_out is_out' cutter cutter' kept kept' pid from len ps p h pass =
 
 -- ---- the end
 
-cuts_all : (bs : List ℕ) (is_out : List (List ℕ) → Type 0) (pid from len : ℕ) (ps : List (List ℕ)) → packets_of bs ≡ ps → last_part bs ≡ [] → All (λ p. packet_fault p ≡ None) ps → IsSound pid ps
+cuts_all : (bs : List ℕ) (is_out : List (List ℕ) → Type 0) (pid from len : ℕ) (ps : List (List ℕ)) → packets_of bs ≡ ps → last_part bs ≡ [] → All (λ p. packet_fault p ≡ None) ps → AreAllSound pid ps
     → is_out (cut_between from len pid ps) → (first_fault pid bs ≡ None) × is_out (cut_between from len pid (packets_of bs))
 cuts_all bs is_out pid from len ps e l a b w =
     let all = sound_all Read (cut_test pid) ps a b in

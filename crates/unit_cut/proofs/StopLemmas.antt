@@ -2,7 +2,7 @@
 use Rattle.std.specs.Prelude.{All}
 use Rattle.std.proofs.Common.{◌≡◌, ℕ, ◌<◌, ◌≤◌, List, [], ◌∷◌, ◌++◌, Bool, true, false, refl, sym, ap, ◌∙◌, subst, Option, None, Some, reverse, length, take, drop, append_assoc}
 use Rattle.ts_packet.specs.Packets.{packets_of, last_part, packet_fault}
-use Rattle.ts_packet.specs.Sources.{Given, HasRead, Refuses}
+use Rattle.ts_packet.specs.Sources.{WasGiven, HasRead, Refuses}
 use Rattle.ts_packet.specs.Runs.{seen_after}
 use Rattle.ts_packet.specs.declared.reader.ReadFault.{ReadFault}
 use Rattle.ts_packet.specs.declared.reader.ReadFault.TheVariants as read_faults
@@ -13,7 +13,7 @@ use Rattle.unit_cut.specs.Cutting.{cut_between}
 use Rattle.ts_packet.specs.FirstFault.{or_then, named, first_of, fault_behind, sound_front}
 use Rattle.ts_packet.proofs.FirstFaultLemmas.{sound_all, fault_behind_sound, behind_some, says_so}
 use Rattle.unit_cut.specs.FirstFault.{as_unit_fault, fault_at, cut_test, cut_cause}
-use Rattle.unit_cut.specs.Runs.{CutsAll, IsFirst, FrontIsOut, Leaves, Says, Stops, IsSound, cut_by, HasPassed, PassFails}
+use Rattle.unit_cut.specs.Runs.{CutsAll, IsFirst, FrontIsOut, Leaves, Says, Stops, AreAllSound, cut_by, HasPassed, PassFails}
 use Rattle.unit_cut.specs.declared.cutter.Cutter.{Cutter}
 use Rattle.unit_cut.specs.declared.run.CutFault.{CutFault}
 use Rattle.unit_cut.specs.declared.run.CutFault.TheVariants.{Read, Scrambled, HeaderSplit, TimeJump, Sink}
@@ -24,7 +24,7 @@ use Rattle.unit_stream.specs.Times.{first_time}
 -- ---- the fault of a packet is the first
 
 first_is : (pid from len : ℕ) (bs : List ℕ) (ps : List (List ℕ)) (p : List ℕ) (qs : List (List ℕ)) (is_out : List (List ℕ) → Type 0) (f : CutFault) → packets_of bs ≡ ps ++ p ∷ qs
-    → All (λ q. packet_fault q ≡ None) ps → IsSound pid ps → fault_at pid (record { packet = p; past = reverse ps }) ≡ Some f
+    → All (λ q. packet_fault q ≡ None) ps → AreAllSound pid ps → fault_at pid (record { packet = p; past = reverse ps }) ≡ Some f
     → is_out (cut_between from len pid ps) → IsFirst f pid from len bs is_out
 first_is pid from len bs ps p qs is_out f e a b at w =
     let (first, front) = fault_behind_sound Read (cut_test pid) ps p qs f a b at in record {
@@ -33,7 +33,7 @@ first_is pid from len bs ps p qs is_out f e a b at w =
     }
 
 last_is : (pid from len : ℕ) (bs rest : List ℕ) (ps : List (List ℕ)) (is_out : List (List ℕ) → Type 0) → packets_of bs ≡ ps → last_part bs ≡ rest → 0 < length rest
-    → All (λ q. packet_fault q ≡ None) ps → IsSound pid ps → is_out (cut_between from len pid ps) → IsFirst (Read read_faults.Truncated) pid from len bs is_out
+    → All (λ q. packet_fault q ≡ None) ps → AreAllSound pid ps → is_out (cut_between from len pid ps) → IsFirst (Read read_faults.Truncated) pid from len bs is_out
 last_is pid from len bs rest ps is_out e l some a b w =
     let (none, front) = sound_all Read (cut_test pid) ps a b in record {
       first = ap (λ q. or_then (first_of (fault_at pid) (seen_after [] q)) (fault_behind Read (last_part bs))) e ∙ ap (λ g. or_then g (fault_behind Read (last_part bs))) none ∙ ap (fault_behind Read) l ∙ behind_some Read (cut_test pid) rest some;
@@ -82,7 +82,7 @@ one_past : (bs rest : List ℕ) (ps : List (List ℕ)) (p : List ℕ) → HasRea
 one_past bs rest ps p h = ap packets_of h.bytes ∙ packets_of-append (ps ++ p ∷ []) rest h.sizes
 
 module _ (is_out : List (List ℕ) → Type 0) (fails : List (List ℕ) → List ℕ → PutFault → Type 0) (pid from len : ℕ) (ps : List (List ℕ)) (p bs rest : List ℕ)
-    (all : packets_of bs ≡ (ps ++ p ∷ []) ++ packets_of rest) (sounds : All (λ q. packet_fault q ≡ None) ps) (sound : IsSound pid ps) (whole : packet_fault p ≡ None) where
+    (all : packets_of bs ≡ (ps ++ p ∷ []) ++ packets_of rest) (sounds : All (λ q. packet_fault q ≡ None) ps) (sound : AreAllSound pid ps) (whole : packet_fault p ≡ None) where
   out_by : is_out (cut_by (the_cut pid from len (ps ++ p ∷ [])) ps) → is_out (cut_between from len pid ps)
   out_by w = subst is_out (same_front from len pid ps (p ∷ []) (first_time (pid ∷ []) (reverse ps)) refl) w
 
@@ -105,7 +105,7 @@ module _ (is_out : List (List ℕ) → Type 0) (fails : List (List ℕ) → List
       (tt, front_fails pid from len bs (ps ++ p ∷ []) (packets_of rest) (cut_by (the_cut pid from len (ps ++ p ∷ [])) ps) q (λ l r. fails l r f) all c w)
 
 pub pass_stops : (input left left' : Option (List ℕ)) (is_out is_out' : List (List ℕ) → Type 0) (fails : List (List ℕ) → List ℕ → PutFault → Type 0) (cutter : Cutter) (kept : List ℕ)
-    (pid from len : ℕ) (ps : List (List ℕ)) (p : List ℕ) → HasRead input left ps → HasPassed is_out cutter kept pid from len ps → Given left left' p → (f : CutFault)
+    (pid from len : ℕ) (ps : List (List ℕ)) (p : List ℕ) → HasRead input left ps → HasPassed is_out cutter kept pid from len ps → WasGiven left left' p → (f : CutFault)
     → PassFails (the_cut pid from len (ps ++ p ∷ [])) p ps f is_out' fails → Stops f pid from len input is_out' fails
 pass_stops None left left' is_out is_out' fails cutter kept pid from len ps p read h r f k = tt
 pass_stops (Some bs) left None is_out is_out' fails cutter kept pid from len ps p read h r f k = absurd (read_more (Some bs) left None ps p read r).bytes

@@ -75,8 +75,8 @@ OutputBlamed (Sink fault) old new full = Blamed fault old new full
 -- ---- on the way
 
 -- every packet was sound for the PID
-abbrev pub IsSound : ℕ → List (List ℕ) → Type 0
-IsSound pid ps = All (λ (s : Seen). cut_test pid s ≡ None) (seen_after [] ps)
+abbrev pub AreAllSound : ℕ → List (List ℕ) → Type 0
+AreAllSound pid ps = All (λ (s : Seen). cut_test pid s ≡ None) (seen_after [] ps)
 
 -- the cut that the run makes, whose begin the packets so far place
 pub record IsCutOf (k : Cut) (pid from length : ℕ) (ps : List (List ℕ)) : Type 0 where
@@ -91,7 +91,7 @@ cut_by k ps = cut (goes_by k) (k.pid ∷ []) k.pid ps
 
 -- they were passed on
 pub record HasPassed (is_out : List (List ℕ) → Type 0) (cutter : Cutter) (kept : List ℕ) (pid from length' : ℕ) (ps : List (List ℕ)) : Type 0 where
-  pub sound : IsSound pid ps
+  pub sound : AreAllSound pid ps
   pub passed : (k : Cut) → IsCutOf k pid from length' ps → CutterStandsFor cutter kept k (reverse ps) × is_out (cut_by k ps)
 
 -- what one packet that is not passed on says

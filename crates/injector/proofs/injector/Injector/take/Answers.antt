@@ -2,7 +2,7 @@ use Rattle.std.proofs.Common.{subst, sym, ◌∙◌}
 use Rattle.program_follower.specs.Faults.{network_fault}
 use Rattle.program_follower.specs.Following.{IsNetwork}
 use Rattle.injector.specs.Steps.{packets_in, purpose_of}
-use Rattle.injector.specs.Injecting.{IsFed}
+use Rattle.injector.specs.Injecting.{IsFollowed}
 use Rattle.injector.proofs.FeedLemmas.{place-map}
 use Rattle.injector.proofs.injector.Injector.take.Goals as goal
 
@@ -11,7 +11,7 @@ returns-in-Ok-put-clause-ok g c = λ start ps cfg past held b.
     let p = c.args.packet.now in
     let ps_in = packets_in past in
     let sound = c.in-Ok.ensures.sound (purpose_of cfg) ps_in b.follower in
-    let fed : IsFed (record c.args.self.now { follower = c.feed.new.self }) c.is_map.result cfg p past =
+    let fed : IsFollowed (record c.args.self.now { follower = c.feed.new.self }) c.is_map.result cfg p past =
     record {
       judges = record { requests = b.judges.requests; counted = b.judges.counted };
       notes = b.notes;
@@ -33,7 +33,7 @@ returns-in-Ok-put-clause-stands g c = λ cfg past b.
     let p = c.args.packet.now in
     let ps_in = packets_in past in
     let sound = c.in-Ok.ensures.sound (purpose_of cfg) ps_in b.follower in
-    let fed : IsFed (record c.args.self.now { follower = c.feed.new.self }) c.is_map.result cfg p past =
+    let fed : IsFollowed (record c.args.self.now { follower = c.feed.new.self }) c.is_map.result cfg p past =
     record {
       judges = record { requests = b.judges.requests; counted = b.judges.counted };
       notes = b.notes;
@@ -58,7 +58,7 @@ returns-in-Err-clause-err g c = λ start ps cfg past held b.
     let p = c.args.packet.now in
     let ps_in = packets_in past in
     let sound = c.in-Ok.ensures.sound (purpose_of cfg) ps_in b.follower in
-    let fed : IsFed (record c.args.self.now { follower = c.feed.new.self }) c.is_map.result cfg p past =
+    let fed : IsFollowed (record c.args.self.now { follower = c.feed.new.self }) c.is_map.result cfg p past =
     record {
       judges = record { requests = b.judges.requests; counted = b.judges.counted };
       notes = b.notes;
