@@ -22,7 +22,8 @@ pub(crate) struct Obeyed<T> {
 impl<T: Copy + Default> Obeyed<T> {
     ghost use Rattle.event_table.specs.Standing.{Standing, on_line};
     ghost use Rattle.event_table.specs.Tables.{StandsFor, high_of, values_of};
-    ghost use Rattle.armed_events.specs.Arming.{change, start_change, end_change, cancel_change, standing_at, Heard, with_section, with_sections};
+    ghost use Rattle.armed_events.specs.Arming.{change, start_change, end_change, cancel_change};
+    ghost use Rattle.armed_events.specs.Arming.{standing_at, Heard, with_section, with_sections};
     ghost use Rattle.armed_events.specs.Obeying.{after_change, is_obeyed, ObeyedFor};
     ghost use Rattle.armed_events.specs.Valuing.{values_by, IsFreshAhead, AreBeside};
     ghost use Rattle.psi_section.specs.SectionsLeft.{sections_left};
@@ -33,8 +34,10 @@ impl<T: Copy + Default> Obeyed<T> {
             result ≡ is_obeyed (start_change line standing (on_line line event)) }
         ensures stands { (line : Option ℤ) (standing : List Standing) → StandsFor self.old.table line standing →
             StandsFor self.new.table line (after_change (start_change line standing (on_line line event)) standing) }
-        ensures values { (line : Option ℤ) (standing : List Standing) (value : ℤ → T) → StandsFor self.old.table line standing → IsFreshAhead value line fresh →
-            values_of self.old.table ≡ values_by value standing → values_of self.new.table ≡ values_by value (after_change (start_change line standing (on_line line event)) standing) }
+        ensures values { (line : Option ℤ) (standing : List Standing) (value : ℤ → T) →
+            StandsFor self.old.table line standing → IsFreshAhead value line fresh →
+            values_of self.old.table ≡ values_by value standing →
+            values_of self.new.table ≡ values_by value (after_change (start_change line standing (on_line line event)) standing) }
         ensures ignored { self.new.ignored ≡ self.old.ignored }
         ensures high { high_of self.new.table ≡ high_of self.old.table }
     {
@@ -54,7 +57,8 @@ impl<T: Copy + Default> Obeyed<T> {
         ensures stands { (line : Option ℤ) (standing : List Standing) → StandsFor self.old.table line standing →
             StandsFor self.new.table line (after_change (end_change line standing id (place line time)) standing) }
         ensures values { (line : Option ℤ) (standing : List Standing) (value : ℤ → T) → StandsFor self.old.table line standing →
-            values_of self.old.table ≡ values_by value standing → values_of self.new.table ≡ values_by value (after_change (end_change line standing id (place line time)) standing) }
+            values_of self.old.table ≡ values_by value standing →
+            values_of self.new.table ≡ values_by value (after_change (end_change line standing id (place line time)) standing) }
         ensures ignored { self.new.ignored ≡ self.old.ignored }
         ensures high { high_of self.new.table ≡ high_of self.old.table }
     {
@@ -68,7 +72,8 @@ impl<T: Copy + Default> Obeyed<T> {
         ensures stands { (line : Option ℤ) (standing : List Standing) → StandsFor self.old.table line standing →
             StandsFor self.new.table line (after_change (cancel_change line standing id) standing) }
         ensures values { (line : Option ℤ) (standing : List Standing) (value : ℤ → T) → StandsFor self.old.table line standing →
-            values_of self.old.table ≡ values_by value standing → values_of self.new.table ≡ values_by value (after_change (cancel_change line standing id) standing) }
+            values_of self.old.table ≡ values_by value standing →
+            values_of self.new.table ≡ values_by value (after_change (cancel_change line standing id) standing) }
         ensures ignored { self.new.ignored ≡ self.old.ignored }
         ensures high { high_of self.new.table ≡ high_of self.old.table }
     {
@@ -81,8 +86,10 @@ impl<T: Copy + Default> Obeyed<T> {
             result ≡ is_obeyed (change line standing asked) }
         ensures stands { (line : Option ℤ) (standing : List Standing) → StandsFor self.old.table line standing →
             StandsFor self.new.table line (after_change (change line standing asked) standing) }
-        ensures values { (line : Option ℤ) (standing : List Standing) (value : ℤ → T) → StandsFor self.old.table line standing → IsFreshAhead value line fresh →
-            values_of self.old.table ≡ values_by value standing → values_of self.new.table ≡ values_by value (after_change (change line standing asked) standing) }
+        ensures values { (line : Option ℤ) (standing : List Standing) (value : ℤ → T) →
+            StandsFor self.old.table line standing → IsFreshAhead value line fresh →
+            values_of self.old.table ≡ values_by value standing →
+            values_of self.new.table ≡ values_by value (after_change (change line standing asked) standing) }
         ensures ignored { self.new.ignored ≡ self.old.ignored }
         ensures high { high_of self.new.table ≡ high_of self.old.table }
     {
@@ -97,8 +104,10 @@ impl<T: Copy + Default> Obeyed<T> {
 
     /// Takes a section: a cue is obeyed, or counts as ignored.
     fn take(&mut self, section: &[u8], fresh: T)
-        ensures obeyed { (line : Option ℤ) (heard : Heard) → ObeyedFor self.old line heard → ObeyedFor self.new line (with_section line section.now heard) }
-        ensures values { (line : Option ℤ) (heard : Heard) (value : ℤ → T) → ObeyedFor self.old line heard → IsFreshAhead value line fresh →
+        ensures obeyed { (line : Option ℤ) (heard : Heard) → ObeyedFor self.old line heard →
+            ObeyedFor self.new line (with_section line section.now heard) }
+        ensures values { (line : Option ℤ) (heard : Heard) (value : ℤ → T) → ObeyedFor self.old line heard →
+            IsFreshAhead value line fresh →
             AreBeside self.old value line heard → AreBeside self.new value line (with_section line section.now heard) }
         ensures high { high_of self.new.table ≡ high_of self.old.table }
     {
@@ -112,8 +121,10 @@ impl<T: Copy + Default> Obeyed<T> {
     fn take_all(&mut self, sections: Sections<'_>, fresh: T)
         ensures obeyed { (line : Option ℤ) (heard : Heard) → ObeyedFor self.old line heard →
             ObeyedFor self.new line (with_sections line (sections_left sections.entry) heard) }
-        ensures values { (line : Option ℤ) (heard : Heard) (value : ℤ → T) → ObeyedFor self.old line heard → IsFreshAhead value line fresh →
-            AreBeside self.old value line heard → AreBeside self.new value line (with_sections line (sections_left sections.entry) heard) }
+        ensures values { (line : Option ℤ) (heard : Heard) (value : ℤ → T) → ObeyedFor self.old line heard →
+            IsFreshAhead value line fresh →
+            AreBeside self.old value line heard →
+            AreBeside self.new value line (with_sections line (sections_left sections.entry) heard) }
         ensures high { high_of self.new.table ≡ high_of self.old.table }
     {
         for section in sections {
@@ -145,7 +156,8 @@ impl<T: Copy + Default> ArmedEvents<T> {
     /// No event, no high time, and no cue ignored.
     pub fn new() -> ArmedEvents<T>
         ensures obeys { (pid : ℕ) (high : List (List ℕ) → Option ℤ) → high [] ≡ None → Obeys result pid high [] }
-        ensures values { (pid : ℕ) (high : List (List ℕ) → Option ℤ) (value : ℤ → T) → high [] ≡ None → Keeps result value pid high [] }
+        ensures values { (pid : ℕ) (high : List (List ℕ) → Option ℤ) (value : ℤ → T) → high [] ≡ None →
+            Keeps result value pid high [] }
         ensures ready { IsReady result.assembler }
         ensures high { high_of result.obeyed.table ≡ None }
     {
@@ -164,7 +176,8 @@ impl<T: Copy + Default> ArmedEvents<T> {
         requires { IsReady self.old.assembler }
         ensures obeys { (pid : ℕ) (high : List (List ℕ) → Option ℤ) (past : List (List ℕ)) → IsOf pid packet.now →
             high (packet.now ∷ past) ≡ high past → Obeys self.old pid high past → Obeys self.new pid high (packet.now ∷ past) }
-        ensures values { (pid : ℕ) (high : List (List ℕ) → Option ℤ) (past : List (List ℕ)) (value : ℤ → T) → IsOf pid packet.now →
+        ensures values { (pid : ℕ) (high : List (List ℕ) → Option ℤ) (past : List (List ℕ)) (value : ℤ → T) →
+            IsOf pid packet.now →
             high (packet.now ∷ past) ≡ high past → Obeys self.old pid high past → IsFreshAhead value (high past) fresh →
             Keeps self.old value pid high past → Keeps self.new value pid high (packet.now ∷ past) }
         ensures ready { IsReady self.new.assembler }
@@ -178,10 +191,12 @@ impl<T: Copy + Default> ArmedEvents<T> {
     /// Takes this time as the high time, where a packet of another PID raises it.
     pub fn advance(&mut self, high: Time33)
         requires { CanAdvance (high_of self.old.obeyed.table) high }
-        ensures obeys { (pid : ℕ) (high_in : List (List ℕ) → Option ℤ) (p : List ℕ) (past : List (List ℕ)) (later : ℤ) → on pid p ≡ false →
-            IsTimeAt (high_in past) high later → high_in (p ∷ past) ≡ Some later → Obeys self.old pid high_in past → Obeys self.new pid high_in (p ∷ past) }
-        ensures values { (pid : ℕ) (high_in : List (List ℕ) → Option ℤ) (p : List ℕ) (past : List (List ℕ)) (later : ℤ) (value : ℤ → T) → on pid p ≡ false →
-            IsTimeAt (high_in past) high later → high_in (p ∷ past) ≡ Some later → Obeys self.old pid high_in past →
+        ensures obeys { (pid : ℕ) (high_in : List (List ℕ) → Option ℤ) (p : List ℕ) (past : List (List ℕ)) (later : ℤ) →
+            on pid p ≡ false → IsTimeAt (high_in past) high later → high_in (p ∷ past) ≡ Some later →
+            Obeys self.old pid high_in past → Obeys self.new pid high_in (p ∷ past) }
+        ensures values { (pid : ℕ) (high_in : List (List ℕ) → Option ℤ) (p : List ℕ) (past : List (List ℕ)) (later : ℤ) (value : ℤ → T) →
+            on pid p ≡ false → IsTimeAt (high_in past) high later → high_in (p ∷ past) ≡ Some later →
+            Obeys self.old pid high_in past →
             Keeps self.old value pid high_in past → Keeps self.new value pid high_in (p ∷ past) }
         ensures assembler { self.new.assembler ≡ self.old.assembler }
         ensures high { high_of self.new.obeyed.table ≡ Some high }
@@ -194,7 +209,8 @@ impl<T: Copy + Default> ArmedEvents<T> {
         requires { place < length self.old.obeyed.table.entries.items }
         ensures values { values_of self.new.obeyed.table ≡ slice_set (values_of self.old.obeyed.table) place value }
         ensures events { events_of self.new.obeyed.table ≡ events_of self.old.obeyed.table }
-        ensures obeys { (pid : ℕ) (high : List (List ℕ) → Option ℤ) (past : List (List ℕ)) → Obeys self.old pid high past → Obeys self.new pid high past }
+        ensures obeys { (pid : ℕ) (high : List (List ℕ) → Option ℤ) (past : List (List ℕ)) → Obeys self.old pid high past →
+            Obeys self.new pid high past }
         ensures assembler { self.new.assembler ≡ self.old.assembler }
         ensures high { high_of self.new.obeyed.table ≡ high_of self.old.obeyed.table }
     {

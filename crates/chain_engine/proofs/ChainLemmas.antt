@@ -1,8 +1,8 @@
 -- A whole run of the chain, from its first packet to its end or its fault.
 use Rattle.std.specs.Prelude.{option_map}
 use Rattle.std.specs.Io.KnownBytes.{IsAtEnd}
-use Rattle.std.proofs.Common.{◌≡◌, ℕ, ◌+◌, Bool, false, suc, List, [], ◌∷◌, ◌++◌, length, reverse, Option, None, Some, sym, ap, subst, ◌∙◌, inl, inr, arith, append_assoc}
-use Rattle.std.proofs.lemmas.List.{append-nil, length-reverse}
+use Rattle.std.proofs.Common.{◌≡◌, ℕ, ◌+◌, Bool, false, suc, List, [], ◌∷◌, ◌++◌, length, reverse, Option, None, Some, sym, ap, subst, ◌∙◌, arith, append_assoc}
+use Rattle.std.proofs.lemmas.List.{append-nil, length-reverse, reverse-append}
 use Rattle.ts_packet.specs.Packets.{packets_of}
 use Rattle.ts_packet.specs.Sources.{Given, HasRead, Refuses}
 use Rattle.ts_packet.specs.FirstFault.{named, or_then, read_cause}
@@ -10,6 +10,7 @@ use Rattle.ts_packet.specs.declared.reader.ReadFault.{ReadFault}
 use Rattle.ts_packet.specs.declared.sink.PutFault.{PutFault}
 use Rattle.ts_packet.proofs.FirstFaultLemmas.{sound_all}
 use Rattle.ts_packet.proofs.PacketsLemmas.{read_more, read_to_end, packets_of-append}
+use Rattle.wire_fields.specs.Numbers.{AreBytes}
 use Rattle.psi_tables.specs.declared.config.Config.{Config}
 use Rattle.psi_tables.specs.declared.network.FeedFault.{FeedFault}
 use Rattle.psi_tables.specs.declared.network.FeedFault.TheVariants.{Network, Sink, Failed}
@@ -32,7 +33,7 @@ use Rattle.chain_engine.specs.Judging.{InjectorJudges}
 use Rattle.chain_engine.specs.Talks.{judged_before}
 use Rattle.chain_engine.specs.Runs.{as_run_fault, asked, steps_of, steps_before, replies_in, sent_by, first_fault, before_fault, Serves}
 use Rattle.chain_engine.specs.Splices as splices
-use Rattle.chain_engine.specs.Nested.{WasFed, PassFails}
+use Rattle.chain_engine.specs.Nested.{WasFed, IsSoundNetwork, PassFails}
 use Rattle.chain_engine.specs.ChainRuns.{MessagesAre, AreSound, RunsAll, Stopped, StopsAt, Hears, heard_steps}
 use Rattle.chain_engine.specs.declared.hearing.SessionEnd.{SessionEnd}
 use Rattle.chain_engine.specs.declared.report.Report.{Report}
@@ -42,6 +43,7 @@ use Rattle.chain_engine.proofs.StepsLemmas.{none_asked, before_packets, asked_cu
 use Rattle.chain_engine.proofs.StopLemmas as stops
 use Rattle.chain_engine.proofs.StopLemmas.{both_said, reverse_onto, before_at, before_read}
 use Rattle.chain_engine.proofs.RunLemmas.{HasRun, HasHeard, few_takes}
+use Rattle.chain_engine.proofs.NestedLemmas.{one_more}
 
 module _ (c : Config) (filed : ℕ → Option Advertisement) (exchanged : Option SessionEnd → List Take → List Reply → Type 0) (ps : List (List ℕ)) where
   none_at_fault : (input left : Option (List ℕ)) → HasRead input left ps → stops.AreSound (purpose_of c) ps → AreSound c ps
@@ -131,12 +133,12 @@ module _ (c : Config) (filed : ℕ → Option Advertisement) (exchanged : Option
   -- ---- a packet is not passed on
 
   pub pass_stops : {M S : Type 0} (injector : Injector) (talk : Talk M) (switch : Switch) (is_out : S → List (List ℕ) → Type 0) (fails : List (List ℕ) → List ℕ → PutFault → Type 0) (s t : S)
-      (input left left' : Option (List ℕ)) (p : List ℕ) → HasRead input left ps → Given left left' p → HasHeard c injector talk (WasFed switch c filed (is_out s)) exchanged ps → (fault : FeedFault)
-      → ((steps : List Step) → InjectorStandsFor injector c steps → WasFed switch c filed (is_out s) (sent_by c steps) → PassFails fault c filed p steps (sent_by c steps) (is_out t) fails)
+      (input left left' : Option (List ℕ)) (p : List ℕ) → HasRead input left ps → Given left left' p → HasHeard c injector talk (WasFed switch c filed (is_out s)) exchanged ps → IsSoundNetwork c (reverse ps) → (fault : FeedFault)
+      → ((steps : List Step) → InjectorStandsFor injector c steps → IsSoundNetwork c (packets_in steps) → WasFed switch c filed (is_out s) (sent_by c steps) → PassFails fault c filed p steps (sent_by c steps) (is_out t) fails)
       → StopsAt c filed (Feed fault) input (is_out t) fails exchanged
-  pass_stops injector talk switch is_out fails s t None left left' p r g h fault feeds = tt
-  pass_stops injector talk switch is_out fails s t (Some bs) left None p r g h fault feeds = absurd (read_more (Some bs) left None ps p r g).bytes
-  pass_stops injector talk switch is_out fails s t (Some bs) left (Some rest) p r g h fault feeds = by fault (feeds steps h.stands h.out)
+  pass_stops injector talk switch is_out fails s t None left left' p r g h network fault feeds = tt
+  pass_stops injector talk switch is_out fails s t (Some bs) left None p r g h network fault feeds = absurd (read_more (Some bs) left None ps p r g).bytes
+  pass_stops injector talk switch is_out fails s t (Some bs) left (Some rest) p r g h network fault feeds = by fault (feeds steps h.stands (subst (IsSoundNetwork c) (sym (before_packets (length h.rs) h.ts (reverse ps))) network) h.out)
     where
       steps : List Step
       steps = steps_before (length h.rs) h.ts (reverse ps)
@@ -148,7 +150,7 @@ module _ (c : Config) (filed : ℕ → Option Advertisement) (exchanged : Option
       serves = record { ending = talk.end; talked = h.talks.talked; exchanges = h.exchanges; replies = h.replies }
 
       by : (fault : FeedFault) → PassFails fault c filed p steps (sent_by c steps) (is_out t) fails → Stopped c filed (Feed fault) bs (is_out t) fails exchanged
-      by (Network f) (inl k) =
+      by (Network f) k =
           let fault = subst (λ q. network_fault (purpose_of c) p q ≡ Some f) (before_packets (length h.rs) h.ts (reverse ps)) k.0 in
           let test : network_test as_run_fault (purpose_of c) (record { packet = p; past = reverse ps }) ≡ Some (Feed (Network f)) = ap (option_map as_run_fault) fault in
           let at = ap (λ o. or_then (named Read o) (network_test as_run_fault (purpose_of c) (record { packet = p; past = reverse ps }))) g.sound ∙ test in record {
@@ -159,15 +161,21 @@ module _ (c : Config) (filed : ℕ → Option Advertisement) (exchanged : Option
             ts = h.ts;
             rs = h.rs;
             serves = serves;
-            leaves = inl (
+            leaves = (
               packet_stops Read (network_test as_run_fault (purpose_of c)) (Some bs) left (Some rest) ps p (Feed (Network f)) r h.sound g test,
               before_at (purpose_of c) ps bs p (packets_of rest) (Feed (Network f)) parts r.sound h.sound at,
               k.1,
             );
           }
-      by (Network f) (inr k) = record { passed = ps; rest = p ∷ packets_of rest; parts = parts; sound = none_at_fault (Some bs) left r h.sound; ts = h.ts; rs = h.rs; serves = serves; leaves = inr k }
       by (Sink f) k = record { passed = ps; rest = p ∷ packets_of rest; parts = parts; sound = none_at_fault (Some bs) left r h.sound; ts = h.ts; rs = h.rs; serves = serves; leaves = k }
       by Failed k = absurd k
+
+  -- the network with one more packet that was passed on
+  pub sound_more : {M : Type 0} (injector : Injector) (talk : Talk M) (is_out : List (List ℕ) → Type 0) (p : List ℕ) → HasHeard c injector talk is_out exchanged ps → IsSoundNetwork c (reverse ps) → AreBytes p
+      → ((steps : List Step) → InjectorStandsFor injector c steps → network_fault (purpose_of c) p (packets_in steps) ≡ None) → IsSoundNetwork c (reverse (ps ++ p ∷ []))
+  sound_more injector talk is_out p h network b sound =
+      let none = subst (λ q. network_fault (purpose_of c) p q ≡ None) (before_packets (length h.rs) h.ts (reverse ps)) (sound (steps_before (length h.rs) h.ts (reverse ps)) h.stands) in
+      subst (IsSoundNetwork c) (sym (reverse-append ps (p ∷ []))) (one_more c p (reverse ps) network b none)
 
 -- ---- one packet
 

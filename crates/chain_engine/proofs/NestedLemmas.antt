@@ -1,25 +1,33 @@
 -- A sink that feeds a switch: a packet is taken, or not; and what an injector before it learns.
 use Rattle.std.specs.Prelude.{IsSomeAnd, map}
-use Rattle.std.proofs.Common.{◌≡◌, ℕ, List, [], ◌∷◌, ◌++◌, length, take, drop, reverse, Option, None, Some, refl, sym, ap, subst, ◌∙◌, append_assoc, unwrap_or, inl, inr}
+use Rattle.std.proofs.Common.{◌≡◌, ℕ, List, [], ◌∷◌, ◌++◌, length, take, drop, reverse, Option, None, Some, Err, refl, sym, ap, subst, ◌∙◌, append_assoc, unwrap_or}
 use Rattle.std.proofs.Math.Seq.{take-append_seam, drop-append_seam}
 use Rattle.std.proofs.Math.ListN.{length-map}
-use Rattle.std.proofs.lemmas.List.{reverse-append}
+use Rattle.std.specs.Option.{option_or}
+use Rattle.std.proofs.lemmas.List.{reverse-append, reverse-reverse}
+use Rattle.ts_packet.specs.Runs.{onto}
 use Rattle.ts_packet.specs.declared.sink.PutFault.{PutFault}
 use Rattle.ts_packet.specs.declared.sink.PutFault.TheVariants as put_faults
+use Rattle.wire_fields.specs.Numbers.{AreBytes}
 use Rattle.psi_tables.specs.declared.config.Config.{Config}
 use Rattle.psi_tables.specs.declared.network.NetworkFault.{NetworkFault}
 use Rattle.psi_tables.specs.declared.network.FeedFault.{FeedFault}
 use Rattle.psi_tables.specs.declared.network.FeedFault.TheVariants.{Network, Sink, Failed}
 use Rattle.outgoing_packets.specs.Numbers.{FrontFails}
-use Rattle.injector.specs.Steps.{Step, sent_at}
+use Rattle.program_follower.specs.Faults.{network_fault}
+use Rattle.program_follower.specs.Purposes.{reading_cues}
+use Rattle.cued_laws.proofs.CuedLemmas.{none_sent_is_at_fault}
+use Rattle.injector.specs.Steps.{Step, packets_in, purpose_of, cued, sent_at}
 use Rattle.injector.specs.Injecting as injecting
 use Rattle.ad_library.specs.Advertisements.{Advertisement}
 use Rattle.splice_plans.specs.Adverts.{setting_of}
 use Rattle.splice_plans.specs.Switching.{switched_at_packet}
 use Rattle.splice_switch.specs.declared.switch.Switch.{Switch}
 use Rattle.splice_switch.specs.Standing.{SwitchStandsFor, FeedFails, KeepsSink}
+use Rattle.chain_engine.specs.Runs as runs
 use Rattle.chain_engine.specs.Splices.{sent_by}
-use Rattle.chain_engine.specs.Nested.{WasFed, SwitchFails, fed_behind, FeedingHolds, FeedingFails, PassFails}
+use Rattle.chain_engine.specs.Nested.{WasFed, SwitchFails, fed_behind, FeedingHolds, FeedingFails, IsSoundNetwork, PassFails}
+use Rattle.chain_engine.proofs.StopLemmas.{reverse_onto}
 use Rattle.chain_engine.proofs.SpliceLemmas.{sent_more, fails_so}
 
 -- ---- the list tells both of its parts
@@ -46,6 +54,12 @@ same_fed before fed before' fed' e = sym (tells_fed before' fed') ∙ ap fed_in 
 
 fed_more : (before fed more : List (List ℕ)) → fed_behind before fed ++ more ≡ fed_behind before (fed ++ more)
 fed_more before fed more = ap (λ (l : List (List ℕ)). map (λ p. 0) before ∷ l) (append_assoc before fed more)
+
+-- ---- a network without fault
+
+-- one more packet
+pub one_more : (c : Config) (p : List ℕ) (past : List (List ℕ)) → IsSoundNetwork c past → AreBytes p → network_fault (purpose_of c) p past ≡ None → IsSoundNetwork c (p ∷ past)
+one_more c p past s b none = record { bytes = (b, s.bytes); sound = ap (λ o. option_or o (network_fault (purpose_of c) p past)) s.sound ∙ none }
 
 module _ {K : Type 0} (holds : K → Option (List ℕ) → List (List ℕ) → Type 0) (c : Config) (filed : ℕ → Option Advertisement) (start : Option (List ℕ)) where
   -- ---- a packet is taken
@@ -113,23 +127,34 @@ module _ {K : Type 0} (holds : K → Option (List ℕ) → List (List ℕ) → T
         subst (λ b. IsSomeAnd kept (λ x. SwitchFails x c filed q (fed ++ put) (λ qs. holds out start (b ++ qs)) (λ qs r y. fails out start (b ++ qs) r y))) (same_before before (fed ++ put) h.before h.fed e)
         (subst (λ l. IsSomeAnd kept (λ x. SwitchFails x c filed q l (λ qs. holds out start (h.before ++ qs)) (λ qs r y. fails out start (h.before ++ qs) r y))) (same_fed before (fed ++ put) h.before h.fed e) h.why)
 
-    by_kept : (p : List ℕ) (steps : List Step) (put : List (List ℕ)) (q : List ℕ) (left : List (List ℕ)) → sent_at c p steps ≡ put ++ q ∷ left → (x : FeedFault) → IsWhy x put q
+    -- the switch finds no fault in what was sent
+    none_found : (p : List ℕ) (steps : List Step) (put : List (List ℕ)) (q : List ℕ) (left : List (List ℕ)) (f : NetworkFault) → IsSoundNetwork c (p ∷ packets_in steps) → fed ≡ runs.sent_by c steps
+        → sent_at c p steps ≡ put ++ q ∷ left → network_fault (reading_cues c) q (reverse (fed ++ put)) ≡ Some f → ⊥
+    none_found p steps put q left f s is all h =
+        let none = none_sent_is_at_fault c p steps put left q s.sound s.bytes all in
+        let past : reverse (fed ++ put) ≡ onto (cued c steps) put = ap (λ l. reverse (l ++ put)) is ∙ ap reverse (sym (reverse_onto (cued c steps) put)) ∙ reverse-reverse (onto (cued c steps) put) in
+        let e : None ≡ Some f = sym none ∙ ap (network_fault (reading_cues c) q) (sym past) ∙ h in
+        cc
+
+    by_kept : (p : List ℕ) (steps : List Step) (put : List (List ℕ)) (q : List ℕ) (left : List (List ℕ)) → IsSoundNetwork c (p ∷ packets_in steps) → fed ≡ runs.sent_by c steps
+        → sent_at c p steps ≡ put ++ q ∷ left → (x : FeedFault) → IsWhy x put q
         → PassFails x c filed p steps fed (λ qs. holds out start (before ++ qs)) (λ qs r y. fails out start (before ++ qs) r y)
-    by_kept p steps put q left all (Network f) h = inr (record { put = put; packet = q; left = left; all = all; fault = h })
-    by_kept p steps put q left all (Sink f) h = record { put = put; packet = q; left = left; all = all; fault = h }
-    by_kept p steps put q left all Failed h = absurd h
+    by_kept p steps put q left s is all (Network f) h = absurd (none_found p steps put q left f s is all h.0)
+    by_kept p steps put q left s is all (Sink f) h = record { put = put; packet = q; left = left; all = all; fault = h }
+    by_kept p steps put q left s is all Failed h = absurd h
 
-    kept_says : (p : List ℕ) (steps : List Step) (kept : Option FeedFault) (fault : FeedFault) (put : List (List ℕ)) (q : List ℕ) (left : List (List ℕ)) → sent_at c p steps ≡ put ++ q ∷ left
+    kept_says : (p : List ℕ) (steps : List Step) (kept : Option FeedFault) (fault : FeedFault) (put : List (List ℕ)) (q : List ℕ) (left : List (List ℕ)) → IsSoundNetwork c (p ∷ packets_in steps) → fed ≡ runs.sent_by c steps
+        → sent_at c p steps ≡ put ++ q ∷ left
         → IsSomeAnd kept (λ x. IsWhy x put q) → PassFails (unwrap_or kept fault) c filed p steps fed (λ qs. holds out start (before ++ qs)) (λ qs r y. fails out start (before ++ qs) r y)
-    kept_says p steps None fault put q left all h = absurd h
-    kept_says p steps (Some x) fault put q left all h = by_kept p steps put q left all x h
+    kept_says p steps None fault put q left s is all h = absurd h
+    kept_says p steps (Some x) fault put q left s is all h = by_kept p steps put q left s is all x h
 
-    pub sink_stops : (p : List ℕ) (steps : List Step) (kept : Option FeedFault) (fault : PutFault) (r : FeedFault) → r ≡ unwrap_or kept (Sink fault)
+    pub sink_stops : (p : List ℕ) (steps : List Step) (kept : Option FeedFault) (fault : PutFault) (r : FeedFault) → r ≡ unwrap_or kept (Sink fault) → IsSoundNetwork c (p ∷ packets_in steps) → fed ≡ runs.sent_by c steps
         → FrontFails (sent_at c p steps) (λ put q. FeedingFails holds fails kept c filed out start (fed_behind before fed ++ put) q fault)
         → PassFails r c filed p steps fed (λ qs. holds out start (before ++ qs)) (λ qs q y. fails out start (before ++ qs) q y)
-    sink_stops p steps kept fault r e h =
+    sink_stops p steps kept fault r e s is h =
         subst (λ x. PassFails x c filed p steps fed (λ qs. holds out start (before ++ qs)) (λ qs q y. fails out start (before ++ qs) q y)) (sym e)
-        (kept_says p steps kept (Sink fault) h.put h.packet h.left h.all (why_now kept h.put h.packet fault h.fault))
+        (kept_says p steps kept (Sink fault) h.put h.packet h.left s is h.all (why_now kept h.put h.packet fault h.fault))
 
     -- the packet is at fault, and nothing of it was fed
     abbrev pub Untouched : Option FeedFault → Type 0
@@ -137,10 +162,11 @@ module _ {K : Type 0} (holds : K → Option (List ℕ) → List (List ℕ) → T
 
     pub pass_stops : (p : List ℕ) (steps : List Step) (kept : Option FeedFault) (fault : FeedFault) (r : FeedFault) → r ≡ unwrap_or kept fault
         → ((f : NetworkFault) → fault ≡ Network f → Untouched kept)
+        → IsSoundNetwork c (packets_in steps) → AreBytes p → injecting.network_answer (Err fault) ≡ network_fault (purpose_of c) p (packets_in steps) → fed ≡ runs.sent_by c steps
         → injecting.FeedFails fault c p steps (λ put q x. FeedingFails holds fails kept c filed out start (fed_behind before fed ++ put) q x)
         → PassFails r c filed p steps fed (λ qs. holds out start (before ++ qs)) (λ qs q y. fails out start (before ++ qs) q y)
-    pass_stops p steps kept (Network f) r e untouched h =
+    pass_stops p steps kept (Network f) r e untouched s b found is h =
         let (none, sent) = untouched f refl in
-        subst (λ x. PassFails x c filed p steps fed (λ qs. holds out start (before ++ qs)) (λ qs q y. fails out start (before ++ qs) q y)) (sym (e ∙ ap (λ k. unwrap_or k (Network f)) none)) (inl (h, sent))
-    pass_stops p steps kept (Sink f) r e untouched h = sink_stops p steps kept f r e h
-    pass_stops p steps kept Failed r e untouched h = absurd h
+        subst (λ x. PassFails x c filed p steps fed (λ qs. holds out start (before ++ qs)) (λ qs q y. fails out start (before ++ qs) q y)) (sym (e ∙ ap (λ k. unwrap_or k (Network f)) none)) (h, sent)
+    pass_stops p steps kept (Sink f) r e untouched s b found is h = sink_stops p steps kept f r e (one_more c p (packets_in steps) s b (sym found)) is h
+    pass_stops p steps kept Failed r e untouched s b found is h = absurd h

@@ -1,6 +1,6 @@
 -- Whole runs of the chain: what is put and answered, by the network's bytes, the library and what the automation gave; what a fault says, and
 -- what the devices did there.
-use Rattle.std.specs.Prelude.{◌≡◌, ℕ, suc, ◌+◌, ◌⊎◌, Bool, List, [], ◌∷◌, ◌++◌, Option, None, Some, IfSome, length, reverse}
+use Rattle.std.specs.Prelude.{◌≡◌, ℕ, suc, ◌+◌, Bool, List, [], ◌∷◌, ◌++◌, Option, None, Some, IfSome, length, reverse}
 use Rattle.ts_packet.specs.Packets.{packets_of}
 use Rattle.ts_packet.specs.Runs.{seen_after}
 use Rattle.ts_packet.specs.FirstFault.{SaysBy, first_of, fault_of, read_cause}
@@ -25,7 +25,7 @@ use Rattle.chain_engine.specs.Hearing.{answers_to}
 use Rattle.chain_engine.specs.Talks.{TalkStandsFor, judged_before, loses}
 use Rattle.chain_engine.specs.Runs.{as_run_fault, first_fault, before_fault, asked, steps_of, steps_before, replies_in, sent_by, Serves}
 use Rattle.chain_engine.specs.Splices as splices
-use Rattle.chain_engine.specs.Nested.{WasFed, SwitchFails, PassFails}
+use Rattle.chain_engine.specs.Nested.{WasFed, SwitchFails, IsSoundNetwork, PassFails}
 use Rattle.chain_engine.specs.declared.hearing.SessionEnd.{SessionEnd}
 use Rattle.chain_engine.specs.declared.report.Report.{Report}
 use Rattle.chain_engine.specs.declared.chain.Chain.{Chain}
@@ -89,14 +89,13 @@ SwitchStops fault c filed bs steps (p ∷ more) is_out fails =
     FrontFails (sent_at c p steps) (λ put q. SwitchFails fault c filed q (sent_by c steps ++ put) is_out fails)
 
 -- What a fault says, and what is out: a fault of the network is the first one of its bytes, the packets before it were passed on, and all
--- that they send is out; or the switch stopped.
+-- that they send is out and nothing else; or the switch's sink failed.
 abbrev pub Leaves : RunFault → Config → (ℕ → Option Advertisement) → List ℕ → List Step → List (List ℕ) → List (List ℕ)
     → (List (List ℕ) → Type 0) → (List (List ℕ) → List ℕ → PutFault → Type 0) → Type 0
 Leaves (Read fault) c filed bs steps passed rest is_out fails =
     SaysBy (read_cause fault) ((first_fault c bs ≡ Some (Read fault)) × (before_fault c bs ≡ passed)) × is_out (spliced_by c filed steps)
 Leaves (Feed (Network fault)) c filed bs steps passed rest is_out fails =
-    ((first_fault c bs ≡ Some (Feed (Network fault))) × (before_fault c bs ≡ passed) × is_out (spliced_by c filed steps))
-    ⊎ SwitchStops (Network fault) c filed bs steps rest is_out fails
+    (first_fault c bs ≡ Some (Feed (Network fault))) × (before_fault c bs ≡ passed) × is_out (spliced_by c filed steps)
 Leaves (Feed (Sink fault)) c filed bs steps passed rest is_out fails = SwitchStops (Sink fault) c filed bs steps rest is_out fails
 Leaves (Feed Failed) c filed bs steps passed rest is_out fails = ⊥
 
@@ -119,12 +118,13 @@ StopsAt c filed fault input is_out fails exchanged = IfSome input (λ bs. Stoppe
 
 -- ---- one packet
 
--- A chain has gone these steps by its configuration: with these takes so many replies were given, before so many packets; and what the steps
--- send is out.
+-- A chain has gone these steps by its configuration: with these takes so many replies were given, before so many packets, none of which is at
+-- fault; and what the steps send is out.
 pub record HasStepped {M : Type 0} (chain : Chain M) (filed : ℕ → Option Advertisement) (is_out : List (List ℕ) → Type 0)
     (ts : List Take) (n k : ℕ) (steps : List Step) : Type 0 where
   pub talk : TalkStandsFor chain.talk ts n k
   pub injector : InjectorStandsFor chain.injector chain.config steps
+  pub network : IsSoundNetwork chain.config (packets_in steps)
   pub switch : WasFed chain.switch chain.config filed is_out (sent_by chain.config steps)
 
 -- the steps before the next packet, where these takes and so many replies came

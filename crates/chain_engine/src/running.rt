@@ -3,15 +3,16 @@
 ghost use Rattle.std.specs.Prelude.{◌≡◌, ℕ, ◌⊎◌, List, ◌∷◌, ◌++◌, Option, None, Err, false, OnOk, IfOk, IfErr};
 ghost use Rattle.ts_packet.specs.Sources.{SourceCounts, Stalled, Exhausted};
 ghost use Rattle.ts_packet.specs.Transfers.{WentWell};
+ghost use Rattle.wire_fields.specs.Numbers.{AreBytes};
 ghost use Rattle.program_follower.specs.Faults.{network_fault};
 ghost use Rattle.injector.specs.Injecting.{InjectorStandsFor};
 ghost use Rattle.injector.specs.Steps.{Step, Packet as PacketStep, packets_in, purpose_of, sent_at};
 ghost use Rattle.ad_library.specs.Library.{held};
 ghost use Rattle.chain_engine.specs.Automation.{Take};
 ghost use Rattle.chain_engine.specs.Chains.{ChainStandsFor};
-ghost use Rattle.chain_engine.specs.Runs.{Exchanged, OutputBlamed};
+ghost use Rattle.chain_engine.specs.Runs.{sent_by, Exchanged, OutputBlamed};
 ghost use Rattle.chain_engine.specs.Splices.{NetworkBlamed};
-ghost use Rattle.chain_engine.specs.Nested.{WasFed, PassFails};
+ghost use Rattle.chain_engine.specs.Nested.{WasFed, IsSoundNetwork, PassFails};
 ghost use Rattle.chain_engine.specs.ChainRuns.{RunsAll, StopsAt, HasStepped, Stepped, StepStops};
 
 use crate::automation::Automation;
@@ -94,12 +95,20 @@ impl<K: PacketSink> PacketSink for Feeding<'_, K> {
     }
 }
 
+/// Says that a packet is of bytes, and does nothing.
+#[inline(always)]
+fn of_bytes(packet: &Packet)
+    ensures { AreBytes packet.now }
+{
+    let _bytes = packet.to_bytes();
+}
+
 /// Takes the next packet of the network: the injector sends it on to the switch, with the cues that are due, and the switch puts what goes
 /// out.
 ///
 /// # Errors
 ///
-/// The fault of the injector, or that of the switch at one of the packets that it was sent.
+/// The fault of the injector, or that of the switch's sink at one of the packets that it was sent.
 fn pass_on<K: PacketSink>(
     injector: &mut Injector,
     switch: &mut Switch,
@@ -117,13 +126,16 @@ fn pass_on<K: PacketSink>(
         → OnOk result (InjectorStandsFor injector.new config.now (PacketStep packet.now ∷ steps)) }
     ensures sound { (steps : List Step) → InjectorStandsFor injector.old config.now steps
         → OnOk result (network_fault (purpose_of config.now) packet.now (packets_in steps) ≡ None) }
+    ensures bytes { AreBytes packet.now }
     ensures err { (steps : List Step) (start : Option (List ℕ)) (before fed : List (List ℕ)) → InjectorStandsFor injector.old config.now steps
+        → IsSoundNetwork config.now (packets_in steps) → fed ≡ sent_by config.now steps
         → WasFed switch.old config.now (held library.now) (λ qs. K.holds out.old start (before ++ qs)) fed
         → IfErr result (λ f. PassFails f config.now (held library.now) packet.now steps fed
         (λ qs. K.holds out.new start (before ++ qs)) (λ qs q x. K.fails out.new start (before ++ qs) q x)) }
     ensures well { OnOk result (WentWell (K.counts out.old) (K.counts out.new)) }
     ensures blamed { IfErr result (λ f. OutputBlamed (RunFault.Feed f) (K.counts out.old) (K.counts out.new) (K.is_full out.new)) }
 {
+    of_bytes(packet);
     let mut feeding = Feeding {
         switch,
         config: *config,
@@ -150,8 +162,8 @@ impl<M: Allocator> Chain<M> {
     ///
     /// # Errors
     ///
-    /// The first fault of the injector or of the switch behind it: what was put is a front of what the packet puts. `Failed` once a fault
-    /// was answered.
+    /// What is wrong with the packet behind those before it: nothing of it was put then; or the fault of the sink: what was put is a front of
+    /// what the packet puts. `Failed` once a fault was answered.
     pub fn step<U: Automation, K: PacketSink>(
         &mut self,
         packet: &Packet,

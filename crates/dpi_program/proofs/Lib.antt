@@ -1,4 +1,2 @@
 pub mod CuttingLemmas
 pub mod InjectingLemmas
-pub mod ListLemmas
-pub mod NumberLemmas

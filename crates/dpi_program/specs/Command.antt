@@ -1,6 +1,6 @@
 -- Which number of a command line is refused.
 use Rattle.std.specs.Prelude.{◌≡◌, ℕ, ◌^◌, List, Option, Some, None, IsSome}
-use Rattle.dpi_program.specs.Numbers.{number_below, number_within}
+use Rattle.decimal_numbers.specs.Numbers.{number_below, number_within}
 use Rattle.dpi_program.specs.declared.inject_options.BadInject.{BadInject}
 use Rattle.dpi_program.specs.declared.inject_options.BadInject.TheVariants.{Number, Asking, Input}
 use Rattle.dpi_program.specs.declared.command.NumberOption.{NumberOption}

@@ -5,14 +5,12 @@ ghost use Rattle.ts_packet.specs.Sinks.{Written};
 ghost use Rattle.unit_cut.specs.Runs.{CutsAll};
 ghost use Rattle.packet_lines.specs.Texts.{WrittenLines};
 
-use crate::attended::Attended;
 use crate::command::CutOptions;
-use crate::ends::{End, OpenedEnds, Unopened, open_ends};
 use crate::fault::ProgramFault;
-use crate::flushing::{finish, finish_buffer};
 use crate::tell::{Account, Side, Stopped};
 use crate::watch::{Watch, Watched};
 use packet_lines::{LineReader, LineWriter, LinesFault};
+use run_ends::{Attended, End, OpenedEnds, Unopened, finish, finish_buffer, open_ends};
 use std::alloc::{AllocError, Global};
 use std::io::{self, BufReader, BufWriter, Read, Write};
 use std::rt::Files;

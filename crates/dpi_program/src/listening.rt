@@ -5,8 +5,8 @@ ghost use Rattle.psi_tables.specs.declared.config.Config.{Config};
 ghost use Rattle.chain_engine.specs.Chains.{ChainStandsFor};
 ghost use Rattle.dpi_program.specs.Runs.{CuesAll, CuesStop};
 
-use crate::connection::accept;
 use ad_library::AdLibrary;
+use automations::accept;
 use chain_engine::{Chain, Report, RunFault, run, run_inject};
 use std::alloc::Allocator;
 use std::io::{Read, Write};

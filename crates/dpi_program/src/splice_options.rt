@@ -1,15 +1,15 @@
 //! The command line of the subcommand `splice`: its options and their ranges.
 
 ghost use Rattle.std.specs.Prelude.{◌≡◌, ◌^◌, IfOk, IfErr, Some, IsSomeAnd};
-ghost use Rattle.dpi_program.specs.Numbers.{number_within};
+ghost use Rattle.decimal_numbers.specs.Numbers.{number_within};
 ghost use Rattle.dpi_program.specs.Command.{IsRefusedOf, refused_of_splice};
 
 use crate::command::{BadNumber, NumberOption, option};
-use crate::ends::End;
+use decimal_numbers::number_within;
 use crate::inject_options::{LEAST_PID, NULL_PID, NUMBER_LIMIT};
-use crate::numbers::number_within;
 use clap::{Arg, ArgAction, ArgMatches, Command};
 use psi_tables::Config;
+use run_ends::End;
 use std::alloc::{AllocError, Global};
 use std::fmt;
 use ts_packet::Pid;

@@ -7,6 +7,7 @@ use Rattle.psi_section.specs.Assembling.{capped}
 use Rattle.psi_tables.specs.declared.config.Config.{Config}
 use Rattle.psi_tables.specs.declared.network.FeedFault.{FeedFault}
 use Rattle.psi_tables.specs.declared.network.FeedFault.TheVariants.{Network, Sink, Failed}
+use Rattle.psi_tables.specs.declared.network.NetworkFault.{NetworkFault}
 use Rattle.program_follower.specs.declared.follower.Place.{Place}
 use Rattle.program_follower.specs.declared.follower.Place.TheVariants.{Marked, Cue, Map, Stream, Other}
 use Rattle.program_follower.specs.Program.{listed}
@@ -54,6 +55,13 @@ abbrev pub FeedFails : FeedFault → Config → List ℕ → List Step → (List
 FeedFails (Network fault) c p past fails = network_fault (purpose_of c) p (packets_in past) ≡ Some fault
 FeedFails (Sink fault) c p past fails = FrontFails (sent_at c p past) (λ put q. fails put q fault)
 FeedFails Failed c p past fails = ⊥
+
+-- what an answer says of the network
+abbrev pub network_answer : Result (Unit {0}) FeedFault → Option NetworkFault
+network_answer (Ok u) = None
+network_answer (Err (Network fault)) = Some fault
+network_answer (Err (Sink fault)) = None
+network_answer (Err Failed) = None
 
 -- what the calls of the sink's device came to
 abbrev pub FeedBlamed : FeedFault → Tally → Tally → Bool → Type 0

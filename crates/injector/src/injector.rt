@@ -17,7 +17,7 @@ ghost use Rattle.injector.specs.Noting.{NotesStandFor, StaysAtRest};
 ghost use Rattle.injector.specs.Steps.{Step, Message as MessageStep, Packet as PacketStep, packets_in, turns_in};
 ghost use Rattle.injector.specs.Steps.{high_of};
 ghost use Rattle.injector.specs.Steps.{purpose_of, body_at, sent_at};
-ghost use Rattle.injector.specs.Injecting.{InjectorStandsFor, JudgesBy, FeedFails, FeedBlamed, KeepsSink, CountsAre};
+ghost use Rattle.injector.specs.Injecting.{InjectorStandsFor, JudgesBy, FeedFails, FeedBlamed, KeepsSink, CountsAre, network_answer};
 ghost use Rattle.injector.specs.Injecting.{IsFed, IsBodyOf, RestsAt, KeepsRest, is_map_place, is_err_or};
 
 use crate::choice::is_reached;
@@ -109,6 +109,8 @@ impl Injector {
             OnOk result (InjectorStandsFor self.new c (PacketStep packet.now ∷ past)) }
         ensures sound { (c : Config) (past : List Step) → InjectorStandsFor self.old c past →
             OnOk result (network_fault (purpose_of c) packet.now (packets_in past) ≡ None) }
+        ensures found { (c : Config) (past : List Step) → InjectorStandsFor self.old c past →
+            network_answer result ≡ network_fault (purpose_of c) packet.now (packets_in past) }
         ensures err { (start : Option (List ℕ)) (ps : List (List ℕ)) (c : Config) (past : List Step) →
             S.holds sink.old start ps → InjectorStandsFor self.old c past →
             IfErr result (λ f. FeedFails f c packet.now past (λ put p x. S.fails sink.new start (ps ++ put) p x)) }
@@ -143,6 +145,8 @@ impl Injector {
             OnOk result (InjectorStandsFor self.new c (PacketStep packet.now ∷ past)) }
         ensures sound { (c : Config) (past : List Step) → InjectorStandsFor self.old c past →
             OnOk result (network_fault (purpose_of c) packet.now (packets_in past) ≡ None) }
+        ensures found { (c : Config) (past : List Step) → InjectorStandsFor self.old c past →
+            network_answer result ≡ network_fault (purpose_of c) packet.now (packets_in past) }
         ensures err { (start : Option (List ℕ)) (ps : List (List ℕ)) (c : Config) (past : List Step) →
             S.holds sink.old start ps → InjectorStandsFor self.old c past →
             IfErr result (λ f. FeedFails f c packet.now past (λ put p x. S.fails sink.new start (ps ++ put) p x)) }

@@ -1,15 +1,15 @@
 -- What goes out of an event in one stream, and what that does to the plans beside the events.
-use Rattle.std.specs.Prelude.{◌≡◌, ℕ, ◌+◌, ◌<◌, List, [], ◌∷◌, length, drop, take, Bool, true, false, ◌&&◌, if◌then◌else◌, slice_index_or, ℤ, pos, ◌≤ℤ◌, ◌-ℤ◌, ◌+ℤ◌, int_lt, unsigned_abs, filter, find, map, ◌++◌, Option, None, Some}
+use Rattle.std.specs.Prelude.{◌≡◌, ℕ, ◌+◌, ◌<◌, List, [], ◌∷◌, length, drop, take, Bool, true, false, not, ◌&&◌, if◌then◌else◌, slice_index_or, ℤ, pos, ◌≤ℤ◌, ◌-ℤ◌, ◌+ℤ◌, int_lt, unsigned_abs, filter, find, map, ◌++◌, Option, None, Some}
 use Rattle.psi_tables.specs.declared.stream.Stream.{Stream}
 use Rattle.pes_time.specs.Line.{ring_of}
 use Rattle.ts_packet.specs.Numbering.{Step}
 use Rattle.event_table.specs.declared.event.Event.{Event}
-use Rattle.event_table.specs.Events.{no_event}
+use Rattle.event_table.specs.Events.{no_event, covers_on_ring}
 use Rattle.event_table.specs.Rings.{is_before_on_ring}
 use Rattle.event_table.specs.Standing.{Standing, on_ring}
 use Rattle.unit_stream.specs.UnitPackets.{put_in}
 use Rattle.event_table.specs.declared.table.Entry.{Entry}
-use Rattle.event_table.specs.Tables.{events_of, high_of}
+use Rattle.event_table.specs.Tables.{StandsFor, events_of, high_of, values_of}
 use Rattle.armed_events.specs.declared.obeying.ArmedEvents.{ArmedEvents}
 use Rattle.armed_events.specs.Obeying.{Obeys}
 use Rattle.ad_library.specs.Advertisements.{AdvertUnit, Advertisement, count_of_kind}
@@ -44,7 +44,24 @@ abbrev pub packets_in : (ℕ → Option Advertisement) → List Stream → ℕ �
 packets_in filed streams stream of e sent reached steps =
     slice_packets of.pid (delta_in e.start (filed e.program)) steps (units_in filed streams stream of e sent reached)
 
+-- it is the stream of this number
+abbrev pub IsStreamOf : List Stream → ℕ → Stream → Type 0
+IsStreamOf streams stream of = of ≡ slice_index_or streams stream of
+
 -- ---- the plans beside the events
+
+-- these events stand, where this is the greatest time
+abbrev pub HasStanding : ArmedEvents Plan → Option ℤ → List Standing → Type 0
+HasStanding events line es = StandsFor events.obeyed.table line es
+
+-- it stands at this place, with its plan
+abbrev pub IsEntryAt : ArmedEvents Plan → ℕ → Entry Plan → Type 0
+IsEntryAt events place entry = entry ≡ slice_index_or events.obeyed.table.entries.items place entry
+
+-- what is left of an event in the stream and due
+abbrev pub entry_packets : (ℕ → Option Advertisement) → List Stream → ℕ → Stream → Option ℕ → List Step → Entry Plan → List (List ℕ)
+entry_packets filed streams stream of reached steps entry =
+    packets_in filed streams stream of entry.event (part_of entry.value stream).sent reached steps
 
 -- the plan of an event of which these units went out in the stream, at this stage
 abbrev pub part_put : (ℕ → Option Advertisement) → List Stream → ℕ → Stream → Option ℕ → Stage → Entry Plan → Plan
@@ -69,6 +86,10 @@ is_waiting Waiting = true
 is_waiting Running = false
 is_waiting Closing = false
 is_waiting Over = false
+
+-- it has begun in the stream, and holds this time
+abbrev pub holds_begun : ℕ → ℕ → Entry Plan → Bool
+holds_begun stream time entry = covers_on_ring entry.event time && not (is_waiting (part_of entry.value stream).stage)
 
 abbrev pub is_running : Stage → Bool
 is_running Waiting = false
@@ -177,3 +198,23 @@ module _ (filed : ℕ → Option Advertisement) (streams : List Stream) (stream 
   abbrev pub ran_plans : Option ℤ → List (Standing × Plan) → List Plan
   ran_plans high [] = []
   ran_plans high (x ∷ xs) = if runs_in x then ran_plan high x ∷ map (λ y. y.1) xs else x.1 ∷ ran_plans high xs
+
+-- ---- of all events that stand, each with its plan
+
+abbrev pub pairs_in : ArmedEvents Plan → List Standing → List (Standing × Plan)
+pairs_in events es = beside es (values_of events.obeyed.table)
+
+module _ (events : ArmedEvents Plan) (filed : ℕ → Option Advertisement) (streams : List Stream) (stream : ℕ) (of : Stream) where
+  -- the rest of those that are to close in the stream, in order of start, and the plans then
+  abbrev pub closing_out_of : List Step → List Standing → List (List ℕ)
+  closing_out_of steps es = rest_packets filed streams stream of steps (closing_pairs stream (pairs_in events es))
+
+  abbrev pub closed_of : List Standing → List Plan
+  closed_of es = map (closed_plan filed streams stream of) (pairs_in events es)
+
+  -- what is due of the one that runs in the stream, or all where no limit is given, and the plans then
+  abbrev pub running_out_of : Option ℤ → List Step → List Standing → List (List ℕ)
+  running_out_of high steps es = running_packets filed streams stream of high steps (pairs_in events es)
+
+  abbrev pub ran_of : Option ℤ → List Standing → List Plan
+  ran_of high es = ran_plans filed streams stream of high (pairs_in events es)

@@ -8,6 +8,8 @@ use Rattle.unit_stream.specs.UnitPackets.{put_in}
 use Rattle.unit_packing.specs.Packing.{unit_packets}
 use Rattle.unit_packing.specs.Putting.{next_number}
 use Rattle.ad_library.specs.Advertisements.{AdvertUnit}
+use Rattle.ad_library.specs.declared.slice.Slice.{Slice}
+use Rattle.ad_library.specs.Slices.{left}
 use Rattle.ad_library.specs.Storing.{on_line}
 
 -- an offset is at most this, where there is a limit
@@ -40,3 +42,7 @@ moved_packets pid delta steps u = unit_packets pid u.random_access (next_number 
 abbrev pub slice_packets : ℕ → ℕ → List Step → List AdvertUnit → List (List ℕ)
 slice_packets pid delta steps [] = []
 slice_packets pid delta steps (u ∷ us) = moved_packets pid delta steps u ++ slice_packets pid delta (put_in (moved_packets pid delta steps u) steps) us
+
+-- of what is left of a slice that is played from this time on, the packets of the units that are due
+abbrev pub due_packets : ℕ → ℕ → Option ℕ → List Step → Slice → List (List ℕ)
+due_packets pid start reached steps slice = slice_packets pid (delta_of start slice.zero) steps (due_units reached (left slice))

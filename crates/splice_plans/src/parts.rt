@@ -1,6 +1,6 @@
 //! What goes out of an event in one stream.
 
-ghost use Rattle.std.specs.Prelude.{◌≡◌, ◌<◌, ◌+◌, ◌++◌, ℕ, List, length, take, slice_index_or, slice_set, Option, OnOk, IfOk, IfErr};
+ghost use Rattle.std.specs.Prelude.{◌≡◌, ◌<◌, ◌+◌, ◌++◌, ℕ, List, length, slice_set, Option, OnOk, IfOk, IfErr};
 ghost use Rattle.ts_packet.specs.Numbering.{Step, Counts};
 ghost use Rattle.ts_packet.specs.Sinks.{Blamed};
 ghost use Rattle.ts_packet.specs.Transfers.{WentWell};
@@ -10,8 +10,7 @@ ghost use Rattle.event_table.specs.Tables.{values_of};
 ghost use Rattle.event_table.specs.declared.table.Entry.{Entry};
 ghost use Rattle.psi_tables.specs.declared.stream.Stream.{Stream};
 ghost use Rattle.ad_library.specs.Library.{held};
-ghost use Rattle.splice_plans.specs.Turning.{part_of};
-ghost use Rattle.splice_plans.specs.Parts.{KeepsEvents, units_in, packets_in, part_put};
+ghost use Rattle.splice_plans.specs.Parts.{KeepsEvents, IsStreamOf, IsEntryAt, units_in, packets_in, entry_packets, part_put};
 
 use crate::plan::{Part, Plan, Stage};
 use crate::slices::put_units;
@@ -35,15 +34,17 @@ fn put_slice<S: PacketSink>(
 ) -> Result<usize, PutFault>
     requires { stream < length streams.now }
     ensures leads { S.leads sink.old sink.new }
-    ensures ok { (of : Stream) (begin : Option (List ℕ)) (ps : List (List ℕ)) (steps : List Step) → of ≡ slice_index_or streams.now stream of →
-        S.holds sink.old begin ps → Counts counter.old steps →
-        OnOk result (S.holds sink.new begin (ps ++ packets_in (held library.now) streams.now stream of event.now sent reached steps)) }
-    ensures counted { (of : Stream) (steps : List Step) → of ≡ slice_index_or streams.now stream of → Counts counter.old steps →
-        OnOk result (Counts counter.new (put_in (packets_in (held library.now) streams.now stream of event.now sent reached steps) steps)) }
-    ensures count { (of : Stream) → of ≡ slice_index_or streams.now stream of →
+    ensures ok { (of : Stream) (begin : Option (List ℕ)) (ps : List (List ℕ)) (steps : List Step) →
+        IsStreamOf streams.now stream of → S.holds sink.old begin ps → Counts counter.old steps →
+        OnOk result (S.holds sink.new begin
+        (ps ++ packets_in (held library.now) streams.now stream of event.now sent reached steps)) }
+    ensures counted { (of : Stream) (steps : List Step) → IsStreamOf streams.now stream of → Counts counter.old steps →
+        OnOk result (Counts counter.new
+        (put_in (packets_in (held library.now) streams.now stream of event.now sent reached steps) steps)) }
+    ensures count { (of : Stream) → IsStreamOf streams.now stream of →
         IfOk result (λ n. n ≡ sent + length (units_in (held library.now) streams.now stream of event.now sent reached)) }
-    ensures err { (of : Stream) (begin : Option (List ℕ)) (ps : List (List ℕ)) (steps : List Step) → of ≡ slice_index_or streams.now stream of →
-        S.holds sink.old begin ps → Counts counter.old steps →
+    ensures err { (of : Stream) (begin : Option (List ℕ)) (ps : List (List ℕ)) (steps : List Step) →
+        IsStreamOf streams.now stream of → S.holds sink.old begin ps → Counts counter.old steps →
         IfErr result (λ f. FrontFails (packets_in (held library.now) streams.now stream of event.now sent reached steps)
         (λ put p. S.fails sink.new begin (ps ++ put) p f)) }
     ensures well { OnOk result (WentWell (S.counts sink.old) (S.counts sink.new)) }
@@ -81,21 +82,22 @@ pub(crate) fn put_part<S: PacketSink>(
     requires stream { stream < length streams.now }
     ensures leads { S.leads sink.old sink.new }
     ensures ok { (entry : Entry Plan) (of : Stream) (begin : Option (List ℕ)) (ps : List (List ℕ)) (steps : List Step) →
-        entry ≡ slice_index_or events.old.obeyed.table.entries.items place entry → of ≡ slice_index_or streams.now stream of →
-        S.holds sink.old begin ps → Counts counter.old steps →
-        OnOk result (S.holds sink.new begin (ps ++ packets_in (held library.now) streams.now stream of entry.event (part_of entry.value stream).sent reached steps)) }
+        IsEntryAt events.old place entry → IsStreamOf streams.now stream of → S.holds sink.old begin ps →
+        Counts counter.old steps →
+        OnOk result (S.holds sink.new begin (ps ++ entry_packets (held library.now) streams.now stream of reached steps entry)) }
     ensures counted { (entry : Entry Plan) (of : Stream) (steps : List Step) →
-        entry ≡ slice_index_or events.old.obeyed.table.entries.items place entry → of ≡ slice_index_or streams.now stream of → Counts counter.old steps →
-        OnOk result (Counts counter.new (put_in (packets_in (held library.now) streams.now stream of entry.event (part_of entry.value stream).sent reached steps) steps)) }
+        IsEntryAt events.old place entry → IsStreamOf streams.now stream of → Counts counter.old steps →
+        OnOk result (Counts counter.new
+        (put_in (entry_packets (held library.now) streams.now stream of reached steps entry) steps)) }
     ensures values { (entry : Entry Plan) (of : Stream) →
-        entry ≡ slice_index_or events.old.obeyed.table.entries.items place entry → of ≡ slice_index_or streams.now stream of →
+        IsEntryAt events.old place entry → IsStreamOf streams.now stream of →
         OnOk result (values_of events.new.obeyed.table ≡ slice_set (values_of events.old.obeyed.table) place
         (part_put (held library.now) streams.now stream of reached stage entry)) }
     ensures keeps { KeepsEvents events.old events.new }
     ensures err { (entry : Entry Plan) (of : Stream) (begin : Option (List ℕ)) (ps : List (List ℕ)) (steps : List Step) →
-        entry ≡ slice_index_or events.old.obeyed.table.entries.items place entry → of ≡ slice_index_or streams.now stream of →
-        S.holds sink.old begin ps → Counts counter.old steps →
-        IfErr result (λ f. FrontFails (packets_in (held library.now) streams.now stream of entry.event (part_of entry.value stream).sent reached steps)
+        IsEntryAt events.old place entry → IsStreamOf streams.now stream of → S.holds sink.old begin ps →
+        Counts counter.old steps →
+        IfErr result (λ f. FrontFails (entry_packets (held library.now) streams.now stream of reached steps entry)
         (λ put p. S.fails sink.new begin (ps ++ put) p f)) }
     ensures well { OnOk result (WentWell (S.counts sink.old) (S.counts sink.new)) }
     ensures blamed { IfErr result (λ f. Blamed f (S.counts sink.old) (S.counts sink.new) (S.is_full sink.new)) }

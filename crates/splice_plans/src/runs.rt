@@ -1,7 +1,6 @@
 //! What goes out of the events that are to close in a stream, and of the one that runs there.
 
-ghost use Rattle.std.specs.Prelude.{◌≡◌, ◌<◌, ◌++◌, ℕ, ℤ, List, length, map, slice_index_or, Option, option_map, OnOk, IfErr};
-ghost use Rattle.pes_time.specs.Line.{ring_of};
+ghost use Rattle.std.specs.Prelude.{◌≡◌, ◌<◌, ◌++◌, ℕ, ℤ, List, length, slice_index_or, Option, OnOk, IfErr};
 ghost use Rattle.ts_packet.specs.Numbering.{Step, Counts};
 ghost use Rattle.ts_packet.specs.Sinks.{Blamed};
 ghost use Rattle.ts_packet.specs.Transfers.{WentWell};
@@ -11,7 +10,8 @@ ghost use Rattle.psi_tables.specs.declared.stream.Stream.{Stream};
 ghost use Rattle.event_table.specs.Standing.{Standing};
 ghost use Rattle.event_table.specs.Tables.{StandsFor, values_of};
 ghost use Rattle.ad_library.specs.Library.{held};
-ghost use Rattle.splice_plans.specs.Parts.{KeepsEvents, beside, closing_pairs, rest_packets, closed_plan, running_packets, ran_plans, reached_by, IsReached};
+ghost use Rattle.splice_plans.specs.Parts.{KeepsEvents, HasStanding, IsStreamOf, IsReached, reached_by};
+ghost use Rattle.splice_plans.specs.Parts.{closing_out_of, closed_of, running_out_of, ran_of};
 
 use crate::parts::put_part;
 use crate::plan::{Plan, Stage};
@@ -34,19 +34,22 @@ pub fn close_all<S: PacketSink>(
 ) -> Result<(), PutFault>
     requires { stream < length streams.now }
     ensures leads { S.leads sink.old sink.new }
-    ensures ok { (of : Stream) (line : Option ℤ) (es : List Standing) (begin : Option (List ℕ)) (ps : List (List ℕ)) (steps : List Step) →
-        of ≡ slice_index_or streams.now stream of → StandsFor events.old.obeyed.table line es → S.holds sink.old begin ps → Counts counter.old steps →
-        OnOk result (S.holds sink.new begin (ps ++ rest_packets (held library.now) streams.now stream of steps (closing_pairs stream (beside es (values_of events.old.obeyed.table))))) }
+    ensures ok { (of : Stream) (line : Option ℤ) (es : List Standing) (begin : Option (List ℕ)) (ps : List (List ℕ))
+        (steps : List Step) → IsStreamOf streams.now stream of → HasStanding events.old line es →
+        S.holds sink.old begin ps → Counts counter.old steps →
+        OnOk result (S.holds sink.new begin (ps ++ closing_out_of events.old (held library.now) streams.now stream of steps es)) }
     ensures counted { (of : Stream) (line : Option ℤ) (es : List Standing) (steps : List Step) →
-        of ≡ slice_index_or streams.now stream of → StandsFor events.old.obeyed.table line es → Counts counter.old steps →
-        OnOk result (Counts counter.new (put_in (rest_packets (held library.now) streams.now stream of steps (closing_pairs stream (beside es (values_of events.old.obeyed.table)))) steps)) }
+        IsStreamOf streams.now stream of → HasStanding events.old line es → Counts counter.old steps →
+        OnOk result (Counts counter.new
+        (put_in (closing_out_of events.old (held library.now) streams.now stream of steps es) steps)) }
     ensures values { (of : Stream) (line : Option ℤ) (es : List Standing) →
-        of ≡ slice_index_or streams.now stream of → StandsFor events.old.obeyed.table line es →
-        OnOk result (values_of events.new.obeyed.table ≡ map (closed_plan (held library.now) streams.now stream of) (beside es (values_of events.old.obeyed.table))) }
+        IsStreamOf streams.now stream of → HasStanding events.old line es →
+        OnOk result (values_of events.new.obeyed.table ≡ closed_of events.old (held library.now) streams.now stream of es) }
     ensures keeps { KeepsEvents events.old events.new }
-    ensures err { (of : Stream) (line : Option ℤ) (es : List Standing) (begin : Option (List ℕ)) (ps : List (List ℕ)) (steps : List Step) →
-        of ≡ slice_index_or streams.now stream of → StandsFor events.old.obeyed.table line es → S.holds sink.old begin ps → Counts counter.old steps →
-        IfErr result (λ f. FrontFails (rest_packets (held library.now) streams.now stream of steps (closing_pairs stream (beside es (values_of events.old.obeyed.table))))
+    ensures err { (of : Stream) (line : Option ℤ) (es : List Standing) (begin : Option (List ℕ)) (ps : List (List ℕ))
+        (steps : List Step) → IsStreamOf streams.now stream of → HasStanding events.old line es →
+        S.holds sink.old begin ps → Counts counter.old steps →
+        IfErr result (λ f. FrontFails (closing_out_of events.old (held library.now) streams.now stream of steps es)
         (λ put p. S.fails sink.new begin (ps ++ put) p f)) }
     ensures well { OnOk result (WentWell (S.counts sink.old) (S.counts sink.new)) }
     ensures blamed { IfErr result (λ f. Blamed f (S.counts sink.old) (S.counts sink.new) (S.is_full sink.new)) }
@@ -85,19 +88,27 @@ pub fn put_running<S: PacketSink>(
 ) -> Result<(), PutFault>
     requires { stream < length streams.now }
     ensures leads { S.leads sink.old sink.new }
-    ensures ok { (of : Stream) (line high_line : Option ℤ) (es : List Standing) (begin : Option (List ℕ)) (ps : List (List ℕ)) (steps : List Step) →
-        of ≡ slice_index_or streams.now stream of → StandsFor events.old.obeyed.table line es → IsReached line high.now high_line → S.holds sink.old begin ps → Counts counter.old steps →
-        OnOk result (S.holds sink.new begin (ps ++ running_packets (held library.now) streams.now stream of high_line steps (beside es (values_of events.old.obeyed.table)))) }
+    ensures ok { (of : Stream) (line high_line : Option ℤ) (es : List Standing) (begin : Option (List ℕ)) (ps : List (List ℕ))
+        (steps : List Step) → IsStreamOf streams.now stream of → HasStanding events.old line es →
+        IsReached line high.now high_line →
+        S.holds sink.old begin ps → Counts counter.old steps →
+        OnOk result (S.holds sink.new begin
+        (ps ++ running_out_of events.old (held library.now) streams.now stream of high_line steps es)) }
     ensures counted { (of : Stream) (line high_line : Option ℤ) (es : List Standing) (steps : List Step) →
-        of ≡ slice_index_or streams.now stream of → StandsFor events.old.obeyed.table line es → IsReached line high.now high_line → Counts counter.old steps →
-        OnOk result (Counts counter.new (put_in (running_packets (held library.now) streams.now stream of high_line steps (beside es (values_of events.old.obeyed.table))) steps)) }
+        IsStreamOf streams.now stream of → HasStanding events.old line es → IsReached line high.now high_line →
+        Counts counter.old steps →
+        OnOk result (Counts counter.new
+        (put_in (running_out_of events.old (held library.now) streams.now stream of high_line steps es) steps)) }
     ensures values { (of : Stream) (line high_line : Option ℤ) (es : List Standing) →
-        of ≡ slice_index_or streams.now stream of → StandsFor events.old.obeyed.table line es → IsReached line high.now high_line →
-        OnOk result (values_of events.new.obeyed.table ≡ ran_plans (held library.now) streams.now stream of high_line (beside es (values_of events.old.obeyed.table))) }
+        IsStreamOf streams.now stream of → HasStanding events.old line es → IsReached line high.now high_line →
+        OnOk result (values_of events.new.obeyed.table
+        ≡ ran_of events.old (held library.now) streams.now stream of high_line es) }
     ensures keeps { KeepsEvents events.old events.new }
-    ensures err { (of : Stream) (line high_line : Option ℤ) (es : List Standing) (begin : Option (List ℕ)) (ps : List (List ℕ)) (steps : List Step) →
-        of ≡ slice_index_or streams.now stream of → StandsFor events.old.obeyed.table line es → IsReached line high.now high_line → S.holds sink.old begin ps → Counts counter.old steps →
-        IfErr result (λ f. FrontFails (running_packets (held library.now) streams.now stream of high_line steps (beside es (values_of events.old.obeyed.table)))
+    ensures err { (of : Stream) (line high_line : Option ℤ) (es : List Standing) (begin : Option (List ℕ)) (ps : List (List ℕ))
+        (steps : List Step) → IsStreamOf streams.now stream of → HasStanding events.old line es →
+        IsReached line high.now high_line →
+        S.holds sink.old begin ps → Counts counter.old steps →
+        IfErr result (λ f. FrontFails (running_out_of events.old (held library.now) streams.now stream of high_line steps es)
         (λ put p. S.fails sink.new begin (ps ++ put) p f)) }
     ensures well { OnOk result (WentWell (S.counts sink.old) (S.counts sink.new)) }
     ensures blamed { IfErr result (λ f. Blamed f (S.counts sink.old) (S.counts sink.new) (S.is_full sink.new)) }
@@ -123,8 +134,8 @@ pub fn put_running<S: PacketSink>(
 /// each event that runs.
 fn reached_in(table: &Table<Plan>, place: usize, high: &Option<Time33>) -> Option<u64>
     requires { place < length table.now.entries.items }
-    ensures { (line high_line : Option ℤ) (es : List Standing) (e : Standing) → StandsFor table.now line es → IsReached line high.now high_line →
-        e ≡ slice_index_or es place e → result ≡ reached_by high_line e }
+    ensures { (line high_line : Option ℤ) (es : List Standing) (e : Standing) → StandsFor table.now line es →
+        IsReached line high.now high_line → e ≡ slice_index_or es place e → result ≡ reached_by high_line e }
 {
     match high {
         None => None,

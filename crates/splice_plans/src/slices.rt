@@ -7,7 +7,7 @@ ghost use Rattle.ts_packet.specs.Transfers.{WentWell};
 ghost use Rattle.unit_stream.specs.UnitPackets.{put_in};
 ghost use Rattle.outgoing_packets.specs.Numbers.{FrontFails};
 ghost use Rattle.ad_library.specs.Slices.{left};
-ghost use Rattle.splice_plans.specs.Slicing.{is_offset_due, due_units, delta_of, slice_packets};
+ghost use Rattle.splice_plans.specs.Slicing.{is_offset_due, due_units, due_packets};
 
 use ad_library::Slice;
 use pes_time::Time33;
@@ -25,13 +25,14 @@ pub(crate) fn put_units<S: PacketSink>(
     sink: &mut S,
 ) -> Result<usize, PutFault>
     ensures leads { S.leads sink.old sink.new }
-    ensures ok { (begin : Option (List ℕ)) (ps : List (List ℕ)) (steps : List Step) → S.holds sink.old begin ps → Counts counter.old steps →
-        OnOk result (S.holds sink.new begin (ps ++ slice_packets pid (delta_of start slice.entry.zero) steps (due_units reached (left slice.entry)))) }
+    ensures ok { (begin : Option (List ℕ)) (ps : List (List ℕ)) (steps : List Step) → S.holds sink.old begin ps →
+        Counts counter.old steps →
+        OnOk result (S.holds sink.new begin (ps ++ due_packets pid start reached steps slice.entry)) }
     ensures counted { (steps : List Step) → Counts counter.old steps →
-        OnOk result (Counts counter.new (put_in (slice_packets pid (delta_of start slice.entry.zero) steps (due_units reached (left slice.entry))) steps)) }
+        OnOk result (Counts counter.new (put_in (due_packets pid start reached steps slice.entry) steps)) }
     ensures count { IfOk result (λ n. n ≡ length (due_units reached (left slice.entry))) }
-    ensures err { (begin : Option (List ℕ)) (ps : List (List ℕ)) (steps : List Step) → S.holds sink.old begin ps → Counts counter.old steps →
-        IfErr result (λ f. FrontFails (slice_packets pid (delta_of start slice.entry.zero) steps (due_units reached (left slice.entry)))
+    ensures err { (begin : Option (List ℕ)) (ps : List (List ℕ)) (steps : List Step) → S.holds sink.old begin ps →
+        Counts counter.old steps → IfErr result (λ f. FrontFails (due_packets pid start reached steps slice.entry)
         (λ put p. S.fails sink.new begin (ps ++ put) p f)) }
     ensures well { OnOk result (WentWell (S.counts sink.old) (S.counts sink.new)) }
     ensures blamed { IfErr result (λ f. Blamed f (S.counts sink.old) (S.counts sink.new) (S.is_full sink.new)) }

@@ -34,11 +34,14 @@ impl SwitchedStream {
     /// Puts a packet that is kept, with its counter moved.
     pub fn keep<S: PacketSink>(&mut self, packet: &Packet, sink: &mut S) -> Result<(), PutFault>
         ensures leads { S.leads sink.old sink.new }
-        ensures ok { (start : Option (List ℕ)) (ps : List (List ℕ)) (steps : List Step) → S.holds sink.old start ps → Counts self.old.counter steps →
+        ensures ok { (start : Option (List ℕ)) (ps : List (List ℕ)) (steps : List Step) → S.holds sink.old start ps →
+            Counts self.old.counter steps →
             OnOk result (S.holds sink.new start (ps ++ renumbered (moved steps) packet.now ∷ [])) }
-        ensures counts { (steps : List Step) → Counts self.old.counter steps → Counts self.new.counter (Kept packet.now ∷ steps) }
+        ensures counts { (steps : List Step) → Counts self.old.counter steps →
+            Counts self.new.counter (Kept packet.now ∷ steps) }
         ensures leaving { self.new.is_leaving ≡ self.old.is_leaving }
-        ensures err { (start : Option (List ℕ)) (ps : List (List ℕ)) (steps : List Step) → S.holds sink.old start ps → Counts self.old.counter steps →
+        ensures err { (start : Option (List ℕ)) (ps : List (List ℕ)) (steps : List Step) → S.holds sink.old start ps →
+            Counts self.old.counter steps →
             IfErr result (λ f. S.fails sink.new start ps (renumbered (moved steps) packet.now) f) }
         ensures well { OnOk result (WentWell (S.counts sink.old) (S.counts sink.new)) }
         ensures blamed { IfErr result (λ f. Blamed f (S.counts sink.old) (S.counts sink.new) (S.is_full sink.new)) }
@@ -60,11 +63,13 @@ impl SwitchedStream {
         sink: &mut S,
     ) -> Result<(), PutFault>
         ensures leads { S.leads sink.old sink.new }
-        ensures ok { (start : Option (List ℕ)) (ps : List (List ℕ)) (steps : List Step) → S.holds sink.old start ps → Counts self.old.counter steps →
-            OnOk result (S.holds sink.new start (ps ++ left_place is_repeat packet.now steps)) }
-        ensures counts { (steps : List Step) → Counts self.old.counter steps → Counts self.new.counter (steps_behind is_repeat packet.now steps) }
+        ensures ok { (start : Option (List ℕ)) (ps : List (List ℕ)) (steps : List Step) → S.holds sink.old start ps →
+            Counts self.old.counter steps → OnOk result (S.holds sink.new start (ps ++ left_place is_repeat packet.now steps)) }
+        ensures counts { (steps : List Step) → Counts self.old.counter steps →
+            Counts self.new.counter (steps_behind is_repeat packet.now steps) }
         ensures leaving { self.new.is_leaving ≡ self.old.is_leaving }
-        ensures err { (start : Option (List ℕ)) (ps : List (List ℕ)) (steps : List Step) → S.holds sink.old start ps → Counts self.old.counter steps →
+        ensures err { (start : Option (List ℕ)) (ps : List (List ℕ)) (steps : List Step) → S.holds sink.old start ps →
+            Counts self.old.counter steps →
             IfErr result (λ f. (q : List ℕ) × (left_place is_repeat packet.now steps ≡ q ∷ []) × S.fails sink.new start ps q f) }
         ensures well { OnOk result (WentWell (S.counts sink.old) (S.counts sink.new)) }
         ensures blamed { IfErr result (λ f. Blamed f (S.counts sink.old) (S.counts sink.new) (S.is_full sink.new)) }
@@ -82,8 +87,10 @@ impl SwitchedStream {
     /// Counts a payload packet that is left out: the counter of what goes out in its place.
     fn number_left(&mut self, packet: &Packet, is_repeat: bool) -> u8
         requires { is_some (payload packet.now) ≡ true }
-        ensures counts { (steps : List Step) → Counts self.old.counter steps → Counts self.new.counter (left_steps is_repeat packet.now steps) }
-        ensures number { (steps : List Step) → Counts self.old.counter steps → result ≡ number_out packet.now (left_steps is_repeat packet.now steps) }
+        ensures counts { (steps : List Step) → Counts self.old.counter steps →
+            Counts self.new.counter (left_steps is_repeat packet.now steps) }
+        ensures number { (steps : List Step) → Counts self.old.counter steps →
+            result ≡ number_out packet.now (left_steps is_repeat packet.now steps) }
         ensures below { result < 16 }
         ensures leaving { self.new.is_leaving ≡ self.old.is_leaving }
     {

@@ -1,16 +1,16 @@
 //! How far the events that stand come with a unit.
 
-ghost use Rattle.std.specs.Prelude.{◌≡◌, ◌<◌, ◌&&◌, not, length, ℤ, List, Option, None, IfSome, position, false};
+ghost use Rattle.std.specs.Prelude.{◌≡◌, ◌<◌, length, ℤ, List, Option, None, IfSome, position, false};
 ghost use Rattle.std.specs.List.{list_any};
 ghost use Rattle.pes_time.specs.Line.{place};
-ghost use Rattle.event_table.specs.Events.{covers_on_ring};
 ghost use Rattle.event_table.specs.Standing.{Standing, on_ring};
 ghost use Rattle.event_table.specs.Tables.{StandsFor, values_of};
 ghost use Rattle.ad_library.specs.Library.{held};
 ghost use Rattle.splice_plans.specs.Playing.{is_played};
 ghost use Rattle.splice_plans.specs.Adverts.{adverts_of};
 ghost use Rattle.splice_plans.specs.Turning.{IsNearHigh, part_of};
-ghost use Rattle.splice_plans.specs.Parts.{KeepsEvents, IsFirstClosing, starts_first, sooner, all_turned, is_waiting, is_running, closes_in};
+ghost use Rattle.splice_plans.specs.Parts.{KeepsEvents, HasStanding, IsFirstClosing, all_turned, holds_begun, is_running};
+ghost use Rattle.splice_plans.specs.Parts.{starts_first, sooner, closes_in};
 
 use crate::plan::{Plan, Stage};
 use ad_library::AdLibrary;
@@ -34,8 +34,10 @@ pub fn turn_all(
     streams: &[Stream],
     library: &AdLibrary,
 )
-    ensures values { (line : Option ℤ) (es : List Standing) → StandsFor events.old.obeyed.table line es → IsNearHigh line (place line time) →
-        values_of events.new.obeyed.table ≡ all_turned (adverts_of (held library.now) streams.now) stream (place line time) es (values_of events.old.obeyed.table) }
+    ensures values { (line : Option ℤ) (es : List Standing) → HasStanding events.old line es →
+        IsNearHigh line (place line time) →
+        values_of events.new.obeyed.table
+        ≡ all_turned (adverts_of (held library.now) streams.now) stream (place line time) es (values_of events.old.obeyed.table) }
     ensures keeps { KeepsEvents events.old events.new }
 {
     for at in 0..events.table().standing().len() {
@@ -47,7 +49,7 @@ pub fn turn_all(
 
 /// A played event that stands holds the time, which is that of the unit that has begun last in the stream of this number.
 pub fn is_inside(table: &Table<Plan>, stream: usize, time: Time33) -> bool
-    ensures { result ≡ list_any (λ entry. covers_on_ring entry.event time && not (is_waiting (part_of entry.value stream).stage)) table.now.entries.items }
+    ensures { result ≡ list_any (holds_begun stream time) table.now.entries.items }
 {
     table.standing().iter().any(|entry| entry.event.covers(time)
         && entry.value.part(stream).stage != Stage::Waiting)

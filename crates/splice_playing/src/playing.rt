@@ -39,7 +39,8 @@ pub struct Playing {
 impl Playing {
     ghost use Rattle.splice_playing.specs.Going.{plans_in, HasEvents, IsStreamAt, stream_at, HasCounted, steps_with};
     ghost use Rattle.splice_playing.specs.Going.{closing_in, closed_in, running_in_all, running_in_one, ran_in_all};
-    ghost use Rattle.splice_playing.specs.Relations.{PlaysFor, PlaysBefore, PlaysBehind, BeginsIn, IsCueOf, IsPacketOf, IsKeptOf, EndsWith, Reports};
+    ghost use Rattle.splice_playing.specs.Relations.{PlaysFor, PlaysBefore, PlaysBehind, BeginsIn};
+    ghost use Rattle.splice_playing.specs.Relations.{IsCueOf, IsPacketOf, IsKeptOf, EndsWith, Reports};
 
     /// No event, and nothing is out.
     pub fn new() -> Playing
@@ -73,14 +74,16 @@ impl Playing {
     ) -> Result<(), PutFault>
         requires { stream < length streams.now }
         ensures leads { S.leads sink.old sink.new }
-        ensures ok { (start : Option (List ℕ)) (ps : List (List ℕ)) (k : Setting) (p : List ℕ) (past : List (List ℕ)) → S.holds sink.old start ps →
-            PlaysFor self.old k past → BeginsIn k (held library.now) streams.now stream time.now high.now p past →
+        ensures ok { (start : Option (List ℕ)) (ps : List (List ℕ)) (k : Setting) (p : List ℕ) (past : List (List ℕ)) →
+            S.holds sink.old start ps → PlaysFor self.old k past →
+            BeginsIn k (held library.now) streams.now stream time.now high.now p past →
             OnOk result (S.holds sink.new start (ps ++ front_at k p past)) }
         ensures plays { (k : Setting) (p : List ℕ) (past : List (List ℕ)) →
             PlaysFor self.old k past → BeginsIn k (held library.now) streams.now stream time.now high.now p past →
             OnOk result (PlaysBefore self.new k p past) }
-        ensures err { (start : Option (List ℕ)) (ps : List (List ℕ)) (k : Setting) (p : List ℕ) (past : List (List ℕ)) → S.holds sink.old start ps →
-            PlaysFor self.old k past → BeginsIn k (held library.now) streams.now stream time.now high.now p past →
+        ensures err { (start : Option (List ℕ)) (ps : List (List ℕ)) (k : Setting) (p : List ℕ) (past : List (List ℕ)) →
+            S.holds sink.old start ps → PlaysFor self.old k past →
+            BeginsIn k (held library.now) streams.now stream time.now high.now p past →
             IfErr result (λ f. FrontFails (front_at k p past) (λ put q. S.fails sink.new start (ps ++ put) q f)) }
         ensures well { OnOk result (WentWell (S.counts sink.old) (S.counts sink.new)) }
         ensures blamed { IfErr result (λ f. Blamed f (S.counts sink.old) (S.counts sink.new) (S.is_full sink.new)) }
@@ -110,15 +113,18 @@ impl Playing {
             (begin : Option (List ℕ)) (ps : List (List ℕ)) (steps : List Step) →
             of ≡ slice_index_or streams.now stream of → HasEvents self.old line es → IsNearTime line time.now →
             IsStreamAt self.old stream s → S.holds sink.old begin ps → Counts s.counter steps →
-            OnOk result (S.holds sink.new begin (ps ++ closing_in self.old (held library.now) streams.now stream of line time.now steps es)) }
+            OnOk result (S.holds sink.new begin
+            (ps ++ closing_in self.old (held library.now) streams.now stream of line time.now steps es)) }
         ensures counted { (of : Stream) (line : Option ℤ) (es : List Standing) (s t : SwitchedStream) (steps : List Step) →
             of ≡ slice_index_or streams.now stream of → HasEvents self.old line es → IsNearTime line time.now →
             IsStreamAt self.old stream s → IsStreamAt self.new stream t → Counts s.counter steps →
-            OnOk result (Counts t.counter (put_in (closing_in self.old (held library.now) streams.now stream of line time.now steps es) steps)) }
+            OnOk result (Counts t.counter
+            (put_in (closing_in self.old (held library.now) streams.now stream of line time.now steps es) steps)) }
         ensures leaving { (line : Option ℤ) (es : List Standing) (s t : SwitchedStream) → HasEvents self.old line es →
             IsStreamAt self.old stream s → IsStreamAt self.new stream t →
             OnOk result (t.is_leaving ≡ is_left stream line time.now s.is_leaving es (plans_in self.new)) }
-        ensures others { (i : ℕ) (s : SwitchedStream) → IsOther i (stream % 8) → stream_at self.new i s ≡ stream_at self.old i s }
+        ensures others { (i : ℕ) (s : SwitchedStream) → IsOther i (stream % 8) →
+            stream_at self.new i s ≡ stream_at self.old i s }
         ensures plans { (of : Stream) (line : Option ℤ) (es : List Standing) →
             of ≡ slice_index_or streams.now stream of → HasEvents self.old line es → IsNearTime line time.now →
             OnOk result (plans_in self.new ≡ closed_in self.old (held library.now) streams.now stream of line time.now es) }
@@ -168,19 +174,25 @@ impl Playing {
         ensures leads { S.leads sink.old sink.new }
         ensures ok { (line high_line : Option ℤ) (es : List Standing)
             (begin : Option (List ℕ)) (ps : List (List ℕ)) (steps : ℕ → List Step) → length streams.now ≤ 8 →
-            HasEvents self.old line es → IsReached line high.now high_line → S.holds sink.old begin ps → HasCounted self.old steps →
-            OnOk result (S.holds sink.new begin (ps ++ running_in_all self.old (held library.now) streams.now high_line es steps)) }
+            HasEvents self.old line es → IsReached line high.now high_line → S.holds sink.old begin ps →
+            HasCounted self.old steps →
+            OnOk result (S.holds sink.new begin
+            (ps ++ running_in_all self.old (held library.now) streams.now high_line es steps)) }
         ensures counted { (line high_line : Option ℤ) (es : List Standing) (steps : ℕ → List Step) → length streams.now ≤ 8 →
             HasEvents self.old line es → IsReached line high.now high_line → HasCounted self.old steps →
-            OnOk result (HasCounted self.new (steps_with (running_in_one self.old (held library.now) streams.now high_line es steps) steps)) }
-        ensures leaving { (i : ℕ) (s : SwitchedStream) → (stream_at self.new i s).is_leaving ≡ (stream_at self.old i s).is_leaving }
-        ensures plans { (line high_line : Option ℤ) (es : List Standing) → HasEvents self.old line es → IsReached line high.now high_line →
+            OnOk result (HasCounted self.new
+            (steps_with (running_in_one self.old (held library.now) streams.now high_line es steps) steps)) }
+        ensures leaving { (i : ℕ) (s : SwitchedStream) →
+            (stream_at self.new i s).is_leaving ≡ (stream_at self.old i s).is_leaving }
+        ensures plans { (line high_line : Option ℤ) (es : List Standing) → HasEvents self.old line es →
+            IsReached line high.now high_line →
             OnOk result (plans_in self.new ≡ ran_in_all self.old (held library.now) streams.now high_line es) }
         ensures keeps { KeepsEvents self.old.events self.new.events }
         ensures forgotten { self.new.forgotten ≡ self.old.forgotten }
         ensures err { (line high_line : Option ℤ) (es : List Standing)
             (begin : Option (List ℕ)) (ps : List (List ℕ)) (steps : ℕ → List Step) → length streams.now ≤ 8 →
-            HasEvents self.old line es → IsReached line high.now high_line → S.holds sink.old begin ps → HasCounted self.old steps →
+            HasEvents self.old line es → IsReached line high.now high_line → S.holds sink.old begin ps →
+            HasCounted self.old steps →
             IfErr result (λ f. FrontFails (running_in_all self.old (held library.now) streams.now high_line es steps)
             (λ put p. S.fails sink.new begin (ps ++ put) p f)) }
         ensures well { OnOk result (WentWell (S.counts sink.old) (S.counts sink.new)) }
@@ -215,12 +227,14 @@ impl Playing {
         sink: &mut S,
     ) -> Result<(), PutFault>
         ensures leads { S.leads sink.old sink.new }
-        ensures ok { (start : Option (List ℕ)) (ps : List (List ℕ)) (k : Setting) (past : List (List ℕ)) → S.holds sink.old start ps →
-            PlaysFor self.old k past → EndsWith k (held library.now) streams.now past → OnOk result (S.holds sink.new start (ps ++ rest_at k past)) }
-        ensures reports { (k : Setting) (past : List (List ℕ)) → PlaysFor self.old k past → EndsWith k (held library.now) streams.now past →
+        ensures ok { (start : Option (List ℕ)) (ps : List (List ℕ)) (k : Setting) (past : List (List ℕ)) →
+            S.holds sink.old start ps → PlaysFor self.old k past → EndsWith k (held library.now) streams.now past →
+            OnOk result (S.holds sink.new start (ps ++ rest_at k past)) }
+        ensures reports { (k : Setting) (past : List (List ℕ)) → PlaysFor self.old k past →
+            EndsWith k (held library.now) streams.now past →
             OnOk result (Reports self.new k past) }
-        ensures err { (start : Option (List ℕ)) (ps : List (List ℕ)) (k : Setting) (past : List (List ℕ)) → S.holds sink.old start ps →
-            PlaysFor self.old k past → EndsWith k (held library.now) streams.now past →
+        ensures err { (start : Option (List ℕ)) (ps : List (List ℕ)) (k : Setting) (past : List (List ℕ)) →
+            S.holds sink.old start ps → PlaysFor self.old k past → EndsWith k (held library.now) streams.now past →
             IfErr result (λ f. FrontFails (rest_at k past) (λ put q. S.fails sink.new start (ps ++ put) q f)) }
         ensures well { OnOk result (WentWell (S.counts sink.old) (S.counts sink.new)) }
         ensures blamed { IfErr result (λ f. Blamed f (S.counts sink.old) (S.counts sink.new) (S.is_full sink.new)) }
@@ -237,14 +251,14 @@ impl Playing {
         sink: &mut S,
     ) -> Result<(), PutFault>
         ensures leads { S.leads sink.old sink.new }
-        ensures ok { (start : Option (List ℕ)) (ps : List (List ℕ)) (k : Setting) (past : List (List ℕ)) → S.holds sink.old start ps →
-            PlaysBefore self.old k packet.now past → IsPacketOf k stream is_repeat packet.now past →
+        ensures ok { (start : Option (List ℕ)) (ps : List (List ℕ)) (k : Setting) (past : List (List ℕ)) →
+            S.holds sink.old start ps → PlaysBefore self.old k packet.now past → IsPacketOf k stream is_repeat packet.now past →
             OnOk result (S.holds sink.new start (ps ++ place_at k packet.now past)) }
         ensures plays { (k : Setting) (past : List (List ℕ)) →
             PlaysBefore self.old k packet.now past → IsPacketOf k stream is_repeat packet.now past →
             OnOk result (PlaysBehind self.new k packet.now past) }
-        ensures err { (start : Option (List ℕ)) (ps : List (List ℕ)) (k : Setting) (past : List (List ℕ)) → S.holds sink.old start ps →
-            PlaysBefore self.old k packet.now past → IsPacketOf k stream is_repeat packet.now past →
+        ensures err { (start : Option (List ℕ)) (ps : List (List ℕ)) (k : Setting) (past : List (List ℕ)) →
+            S.holds sink.old start ps → PlaysBefore self.old k packet.now past → IsPacketOf k stream is_repeat packet.now past →
             IfErr result (λ f. FrontFails (place_at k packet.now past) (λ put q. S.fails sink.new start (ps ++ put) q f)) }
         ensures well { OnOk result (WentWell (S.counts sink.old) (S.counts sink.new)) }
         ensures blamed { IfErr result (λ f. Blamed f (S.counts sink.old) (S.counts sink.new) (S.is_full sink.new)) }
@@ -268,13 +282,14 @@ impl Playing {
         sink: &mut S,
     ) -> Result<(), PutFault>
         ensures leads { S.leads sink.old sink.new }
-        ensures ok { (start : Option (List ℕ)) (ps : List (List ℕ)) (k : Setting) (past : List (List ℕ)) → S.holds sink.old start ps →
-            PlaysBefore self.old k packet.now past → IsKeptOf k stream packet.now past →
+        ensures ok { (start : Option (List ℕ)) (ps : List (List ℕ)) (k : Setting) (past : List (List ℕ)) →
+            S.holds sink.old start ps → PlaysBefore self.old k packet.now past → IsKeptOf k stream packet.now past →
             OnOk result (S.holds sink.new start (ps ++ place_at k packet.now past)) }
-        ensures plays { (k : Setting) (past : List (List ℕ)) → PlaysBefore self.old k packet.now past → IsKeptOf k stream packet.now past →
-            OnOk result (PlaysBehind self.new k packet.now past) }
-        ensures err { (start : Option (List ℕ)) (ps : List (List ℕ)) (k : Setting) (past : List (List ℕ)) → S.holds sink.old start ps →
+        ensures plays { (k : Setting) (past : List (List ℕ)) →
             PlaysBefore self.old k packet.now past → IsKeptOf k stream packet.now past →
+            OnOk result (PlaysBehind self.new k packet.now past) }
+        ensures err { (start : Option (List ℕ)) (ps : List (List ℕ)) (k : Setting) (past : List (List ℕ)) →
+            S.holds sink.old start ps → PlaysBefore self.old k packet.now past → IsKeptOf k stream packet.now past →
             IfErr result (λ f. FrontFails (place_at k packet.now past) (λ put q. S.fails sink.new start (ps ++ put) q f)) }
         ensures well { OnOk result (WentWell (S.counts sink.old) (S.counts sink.new)) }
         ensures blamed { IfErr result (λ f. Blamed f (S.counts sink.old) (S.counts sink.new) (S.is_full sink.new)) }
@@ -287,8 +302,9 @@ impl Playing {
 
     /// Takes this as the greatest time behind the packet that was put, and counts the events that are forgotten by it.
     pub fn advance(&mut self, high: &Option<Time33>, streams: &[Stream], library: &AdLibrary)
-        ensures { (k : Setting) (number : ℕ) (time : Option ℕ) (p : List ℕ) (past : List (List ℕ)) → PlaysBehind self.old k p past →
-            BeginsIn k (held library.now) streams.now number time high.now p past → PlaysFor self.new k (p ∷ past) }
+        ensures { (k : Setting) (number : ℕ) (time : Option ℕ) (p : List ℕ) (past : List (List ℕ)) →
+            PlaysBehind self.old k p past → BeginsIn k (held library.now) streams.now number time high.now p past →
+            PlaysFor self.new k (p ∷ past) }
     {
         let Some(high) = *high else {
             return;
@@ -307,8 +323,8 @@ impl Playing {
 
     /// What became of all events.
     pub fn report(&self, streams: &[Stream], library: &AdLibrary) -> SwitchReport
-        ensures { (k : Setting) (past : List (List ℕ)) → Reports self.now k past → EndsWith k (held library.now) streams.now past →
-            ReportIs result (report_of k past) }
+        ensures { (k : Setting) (past : List (List ℕ)) → Reports self.now k past →
+            EndsWith k (held library.now) streams.now past → ReportIs result (report_of k past) }
     {
         let mut report = with_all(self.forgotten, self.events.table(), streams, library);
         report.ignored = self.events.ignored();
@@ -365,7 +381,8 @@ fn with_all(
     streams: &[Stream],
     library: &AdLibrary,
 ) -> SwitchReport
-    ensures { (line : Option ℤ) (es : List Standing) (counts : Reported) → StandsFor table.now line es → ReportIs report counts →
+    ensures { (line : Option ℤ) (es : List Standing) (counts : Reported) → StandsFor table.now line es →
+        ReportIs report counts →
         ReportIs result (with_standing (held library.now) streams.now table.now es counts) }
 {
     let mut counted = report;

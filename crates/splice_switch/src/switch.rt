@@ -11,7 +11,8 @@ ghost use Rattle.ad_library.specs.Library.{held};
 ghost use Rattle.splice_plans.specs.Adverts.{setting_of};
 ghost use Rattle.splice_plans.specs.Switching.{switched_at_packet, rest_at};
 ghost use Rattle.splice_plans.specs.Reporting.{ReportIs, report_of};
-ghost use Rattle.splice_switch.specs.Standing.{SwitchStandsFor, FeedFails, FeedBlamed, FinishFails, KeepsSink, IsFollowedAs, IsStart, is_err_or};
+ghost use Rattle.splice_switch.specs.Standing.{SwitchStandsFor, FeedFails, FeedBlamed, FinishFails, KeepsSink};
+ghost use Rattle.splice_switch.specs.Standing.{IsFollowedAs, IsStart, is_err_or};
 
 use ad_library::AdLibrary;
 use outgoing_packets::{CueEntry, Outgoing};
@@ -60,16 +61,17 @@ impl Switch {
         sink: &mut S,
     ) -> Result<(), FeedFault>
         ensures leads { S.leads sink.old sink.new }
-        ensures ok { (start : Option (List ℕ)) (ps : List (List ℕ)) (c : Config) (past : List (List ℕ)) → S.holds sink.old start ps →
-            SwitchStandsFor self.old c (held library.now) past →
+        ensures ok { (start : Option (List ℕ)) (ps : List (List ℕ)) (c : Config) (past : List (List ℕ)) →
+            S.holds sink.old start ps → SwitchStandsFor self.old c (held library.now) past →
             OnOk result (S.holds sink.new start (ps ++ switched_at_packet (setting_of c (held library.now)) packet.now past)) }
         ensures stands { (c : Config) (past : List (List ℕ)) → SwitchStandsFor self.old c (held library.now) past →
             OnOk result (SwitchStandsFor self.new c (held library.now) (packet.now ∷ past)) }
         ensures sound { (c : Config) (past : List (List ℕ)) → SwitchStandsFor self.old c (held library.now) past →
             OnOk result (network_fault (reading_cues c) packet.now past ≡ None) }
-        ensures err { (start : Option (List ℕ)) (ps : List (List ℕ)) (c : Config) (past : List (List ℕ)) → S.holds sink.old start ps →
-            SwitchStandsFor self.old c (held library.now) past →
-            IfErr result (λ f. FeedFails f c (held library.now) packet.now past (λ put q x. S.fails sink.new start (ps ++ put) q x)) }
+        ensures err { (start : Option (List ℕ)) (ps : List (List ℕ)) (c : Config) (past : List (List ℕ)) →
+            S.holds sink.old start ps → SwitchStandsFor self.old c (held library.now) past →
+            IfErr result (λ f. FeedFails f c (held library.now) packet.now past
+            (λ put q x. S.fails sink.new start (ps ++ put) q x)) }
         ensures well { OnOk result (WentWell (S.counts sink.old) (S.counts sink.new)) }
         ensures blamed { IfErr result (λ f. FeedBlamed f (S.counts sink.old) (S.counts sink.new) (S.is_full sink.new)) }
         ensures kept { IfErr result (λ f. KeepsSink f sink.old sink.new) }
@@ -100,13 +102,13 @@ impl Switch {
         sink: &mut S,
     ) -> Result<SwitchReport, FeedFault>
         ensures leads { S.leads sink.old sink.new }
-        ensures ok { (start : Option (List ℕ)) (ps : List (List ℕ)) (c : Config) (past : List (List ℕ)) → S.holds sink.old start ps →
-            SwitchStandsFor self.old c (held library.now) past →
+        ensures ok { (start : Option (List ℕ)) (ps : List (List ℕ)) (c : Config) (past : List (List ℕ)) →
+            S.holds sink.old start ps → SwitchStandsFor self.old c (held library.now) past →
             OnOk result (S.holds sink.new start (ps ++ rest_at (setting_of c (held library.now)) past)) }
         ensures report { (c : Config) (past : List (List ℕ)) → SwitchStandsFor self.old c (held library.now) past →
             IfOk result (λ r. ReportIs r (report_of (setting_of c (held library.now)) past)) }
-        ensures err { (start : Option (List ℕ)) (ps : List (List ℕ)) (c : Config) (past : List (List ℕ)) → S.holds sink.old start ps →
-            SwitchStandsFor self.old c (held library.now) past →
+        ensures err { (start : Option (List ℕ)) (ps : List (List ℕ)) (c : Config) (past : List (List ℕ)) →
+            S.holds sink.old start ps → SwitchStandsFor self.old c (held library.now) past →
             IfErr result (λ f. FinishFails f c (held library.now) past (λ put q x. S.fails sink.new start (ps ++ put) q x)) }
         ensures well { OnOk result (WentWell (S.counts sink.old) (S.counts sink.new)) }
         ensures blamed { IfErr result (λ f. FeedBlamed f (S.counts sink.old) (S.counts sink.new) (S.is_full sink.new)) }
@@ -133,16 +135,17 @@ impl Switch {
         sink: &mut S,
     ) -> Result<(), FeedFault>
         ensures leads { S.leads sink.old sink.new }
-        ensures ok { (start : Option (List ℕ)) (ps : List (List ℕ)) (c : Config) (past : List (List ℕ)) → S.holds sink.old start ps →
-            SwitchStandsFor self.old c (held library.now) past →
+        ensures ok { (start : Option (List ℕ)) (ps : List (List ℕ)) (c : Config) (past : List (List ℕ)) →
+            S.holds sink.old start ps → SwitchStandsFor self.old c (held library.now) past →
             OnOk result (S.holds sink.new start (ps ++ switched_at_packet (setting_of c (held library.now)) packet.now past)) }
         ensures stands { (c : Config) (past : List (List ℕ)) → SwitchStandsFor self.old c (held library.now) past →
             OnOk result (SwitchStandsFor self.new c (held library.now) (packet.now ∷ past)) }
         ensures sound { (c : Config) (past : List (List ℕ)) → SwitchStandsFor self.old c (held library.now) past →
             OnOk result (network_fault (reading_cues c) packet.now past ≡ None) }
-        ensures err { (start : Option (List ℕ)) (ps : List (List ℕ)) (c : Config) (past : List (List ℕ)) → S.holds sink.old start ps →
-            SwitchStandsFor self.old c (held library.now) past →
-            IfErr result (λ f. FeedFails f c (held library.now) packet.now past (λ put q x. S.fails sink.new start (ps ++ put) q x)) }
+        ensures err { (start : Option (List ℕ)) (ps : List (List ℕ)) (c : Config) (past : List (List ℕ)) →
+            S.holds sink.old start ps → SwitchStandsFor self.old c (held library.now) past →
+            IfErr result (λ f. FeedFails f c (held library.now) packet.now past
+            (λ put q x. S.fails sink.new start (ps ++ put) q x)) }
         ensures well { OnOk result (WentWell (S.counts sink.old) (S.counts sink.new)) }
         ensures blamed { IfErr result (λ f. FeedBlamed f (S.counts sink.old) (S.counts sink.new) (S.is_full sink.new)) }
         ensures kept { IfErr result (λ f. KeepsSink f sink.old sink.new) }
@@ -167,13 +170,14 @@ impl Switch {
         sink: &mut S,
     ) -> Result<(), PutFault>
         ensures leads { S.leads sink.old sink.new }
-        ensures ok { (start : Option (List ℕ)) (ps : List (List ℕ)) (c : Config) (past : List (List ℕ)) → S.holds sink.old start ps →
-            IsFollowedAs self.old place.now c (held library.now) packet.now past →
+        ensures ok { (start : Option (List ℕ)) (ps : List (List ℕ)) (c : Config) (past : List (List ℕ)) →
+            S.holds sink.old start ps → IsFollowedAs self.old place.now c (held library.now) packet.now past →
             OnOk result (S.holds sink.new start (ps ++ switched_at_packet (setting_of c (held library.now)) packet.now past)) }
-        ensures stands { (c : Config) (past : List (List ℕ)) → IsFollowedAs self.old place.now c (held library.now) packet.now past →
-            OnOk result (SwitchStandsFor self.new c (held library.now) (packet.now ∷ past)) }
-        ensures err { (start : Option (List ℕ)) (ps : List (List ℕ)) (c : Config) (past : List (List ℕ)) → S.holds sink.old start ps →
+        ensures stands { (c : Config) (past : List (List ℕ)) →
             IsFollowedAs self.old place.now c (held library.now) packet.now past →
+            OnOk result (SwitchStandsFor self.new c (held library.now) (packet.now ∷ past)) }
+        ensures err { (start : Option (List ℕ)) (ps : List (List ℕ)) (c : Config) (past : List (List ℕ)) →
+            S.holds sink.old start ps → IsFollowedAs self.old place.now c (held library.now) packet.now past →
             IfErr result (λ f. FrontFails (switched_at_packet (setting_of c (held library.now)) packet.now past)
             (λ put q. S.fails sink.new start (ps ++ put) q f)) }
         ensures well { OnOk result (WentWell (S.counts sink.old) (S.counts sink.new)) }
@@ -205,13 +209,15 @@ impl Switch {
         sink: &mut S,
     ) -> Result<(), PutFault>
         ensures leads { S.leads sink.old sink.new }
-        ensures ok { (start : Option (List ℕ)) (ps : List (List ℕ)) (c : Config) (past : List (List ℕ)) → S.holds sink.old start ps →
+        ensures ok { (start : Option (List ℕ)) (ps : List (List ℕ)) (c : Config) (past : List (List ℕ)) →
+            S.holds sink.old start ps →
             IsFollowedAs self.old (Place.Stream stream part.now) c (held library.now) packet.now past →
             OnOk result (S.holds sink.new start (ps ++ switched_at_packet (setting_of c (held library.now)) packet.now past)) }
         ensures stands { (c : Config) (past : List (List ℕ)) →
             IsFollowedAs self.old (Place.Stream stream part.now) c (held library.now) packet.now past →
             OnOk result (SwitchStandsFor self.new c (held library.now) (packet.now ∷ past)) }
-        ensures err { (start : Option (List ℕ)) (ps : List (List ℕ)) (c : Config) (past : List (List ℕ)) → S.holds sink.old start ps →
+        ensures err { (start : Option (List ℕ)) (ps : List (List ℕ)) (c : Config) (past : List (List ℕ)) →
+            S.holds sink.old start ps →
             IsFollowedAs self.old (Place.Stream stream part.now) c (held library.now) packet.now past →
             IfErr result (λ f. FrontFails (switched_at_packet (setting_of c (held library.now)) packet.now past)
             (λ put q. S.fails sink.new start (ps ++ put) q f)) }
@@ -243,13 +249,14 @@ impl Switch {
         sink: &mut S,
     ) -> Result<(), PutFault>
         ensures leads { S.leads sink.old sink.new }
-        ensures ok { (start : Option (List ℕ)) (ps : List (List ℕ)) (c : Config) (past : List (List ℕ)) → S.holds sink.old start ps →
-            IsStart self.old stream time.now c (held library.now) packet.now past →
+        ensures ok { (start : Option (List ℕ)) (ps : List (List ℕ)) (c : Config) (past : List (List ℕ)) →
+            S.holds sink.old start ps → IsStart self.old stream time.now c (held library.now) packet.now past →
             OnOk result (S.holds sink.new start (ps ++ switched_at_packet (setting_of c (held library.now)) packet.now past)) }
-        ensures stands { (c : Config) (past : List (List ℕ)) → IsStart self.old stream time.now c (held library.now) packet.now past →
-            OnOk result (SwitchStandsFor self.new c (held library.now) (packet.now ∷ past)) }
-        ensures err { (start : Option (List ℕ)) (ps : List (List ℕ)) (c : Config) (past : List (List ℕ)) → S.holds sink.old start ps →
+        ensures stands { (c : Config) (past : List (List ℕ)) →
             IsStart self.old stream time.now c (held library.now) packet.now past →
+            OnOk result (SwitchStandsFor self.new c (held library.now) (packet.now ∷ past)) }
+        ensures err { (start : Option (List ℕ)) (ps : List (List ℕ)) (c : Config) (past : List (List ℕ)) →
+            S.holds sink.old start ps → IsStart self.old stream time.now c (held library.now) packet.now past →
             IfErr result (λ f. FrontFails (switched_at_packet (setting_of c (held library.now)) packet.now past)
             (λ put q. S.fails sink.new start (ps ++ put) q f)) }
         ensures well { OnOk result (WentWell (S.counts sink.old) (S.counts sink.new)) }

@@ -3,7 +3,7 @@ use Rattle.std.proofs.Common.{◌≡◌, ℕ, List, [], ◌∷◌, Bool, true, f
 use Rattle.std.specs.Prelude.{◌==◌, option_map}
 use Rattle.std.specs.Option.{option_or}
 use Rattle.std.specs.List.{AllByRecursion, list_any}
-use Rattle.std.proofs.lemmas.Bool.{true≢false}
+use Rattle.std.proofs.lemmas.Bool.{true≢false, eq-eqb}
 use Rattle.ts_packet.proofs.Cases.{by_test}
 use Rattle.psi_tables.specs.declared.stream.Stream.{Stream}
 use Rattle.psi_tables.specs.Streams.{switched_of, is_switched, pid_in}
@@ -11,9 +11,11 @@ use Rattle.psi_tables.specs.ProgramMap.{ProgramMap, streams_of}
 use Rattle.program_follower.specs.declared.purpose.Purpose.{Purpose}
 use Rattle.program_follower.specs.declared.purpose.Listed.{Listed}
 use Rattle.program_follower.specs.Program.{listed, Table, all_tables, known_map, first_map, program_in, pids_of}
-use Rattle.program_follower.specs.Faults.{first_fault, pids_in, is_in, is_twice, bad_pid, bad_switched, is_pid}
+use Rattle.psi_tables.specs.declared.network.NetworkFault.TheVariants.{BadPids, CuePidUsed}
+use Rattle.program_follower.specs.Faults.{first_fault, pids_in, is_in, is_twice, bad_pid, bad_switched, is_pid, if_bad, pmt_pid_fault}
+use Rattle.program_follower.proofs.OptionLemmas.{none_both}
 use Rattle.program_laws.specs.Spliced.{reading_cues}
-use Rattle.program_laws.proofs.FaultLemmas.{Sound, MapSound, all_sound}
+use Rattle.program_laws.proofs.FaultLemmas.{Sound, MapSound, all_sound, not_if_bad, pid_good}
 use Rattle.program_laws.proofs.ReadingLemmas.{no_tables}
 use Rattle.splice_laws.specs.Streams.{is_among, IsOnce}
 use Rattle.output_laws.proofs.GaplessLemmas.{test-true}
@@ -122,6 +124,35 @@ module _ (k : Setting) (past : List (List ℕ)) (h : first_fault (reading_cues (
         once = λ pid a. absurd (true≢false (sym a ∙ ap (is_among pid) sw));
       }
   by-known (Some m) known = let u = unlisted (listed (Some k.program) past) refl m known in by-map m u.0 known u.1
+
+-- ---- PID 0
+
+module _ (k : Setting) (past : List (List ℕ)) (h : first_fault (reading_cues (Some k.program) k.cue_pid) past ≡ None) where
+  pub map-not-zero : (l : Listed) → listed (Some k.program) past ≡ Some l → l.pid ≡ 0 → ⊥
+  map-not-zero l known e =
+      let c = purpose k past h in
+      let g : pmt_pid_fault c (Some l) ≡ None = ap (pmt_pid_fault c) (sym known) ∙ pid_good c past h in
+      let r = none_both (if_bad ((l.pid == 0) || (l.pid == 8191)) BadPids) (if_bad (is_pid c.cue_pid l.pid) CuePidUsed) g in
+      let z = or-parts (l.pid == 0) (l.pid == 8191) (not_if_bad ((l.pid == 0) || (l.pid == 8191)) BadPids r.0) in
+      true≢false (sym (eq-eqb l.pid 0 e) ∙ z.0)
+
+  zero-by : (m : ProgramMap) (l : Listed) → known_map (Some k.program) past ≡ Some m → listed (Some k.program) past ≡ Some l → is_among 0 (switched_at k past) ≡ false
+  zero-by m l known e =
+      let c = purpose k past h in
+      let s = first-sound c l.pid m (all_tables (Some k.program) past) (all_sound c past l h e) known in
+      let ss = streams_of m in
+      let bad = or-parts (list_any (bad_pid l.pid) (pid_in m.pcr_field ∷ pids_in ss)) (list_any (bad_switched (pids_in ss)) (pids_in (switched_of ss))) s.pids in
+      let each = or-parts (bad_pid l.pid (pid_in m.pcr_field)) (list_any (bad_pid l.pid) (pids_in ss)) bad.0 in
+      ap (λ o. is_among 0 (pids_of (option_map program_in o))) known
+      ∙ among-any 0 (bad_pid l.pid) (pids_in (switched_of ss)) (λ q n. (or-parts (q == 0) (q == l.pid) n).0) (none-switched-is (bad_pid l.pid) ss each.1)
+
+  zero-known : (o : Option ProgramMap) → known_map (Some k.program) past ≡ o → is_among 0 (switched_at k past) ≡ false
+  zero-known None known = ap (is_among 0) (none-switched k past known)
+  zero-known (Some m) known = let u = unlisted k past h (listed (Some k.program) past) refl m known in zero-by m u.0 known u.1
+
+  -- it is no switched stream's
+  pub zero-apart : is_among 0 (switched_at k past) ≡ false
+  zero-apart = zero-known (known_map (Some k.program) past) refl
 
 pub faultless_is_sound : FaultlessIsSound
 faultless_is_sound k past h = by-known k past h (known_map (Some k.program) past) refl

@@ -14,3 +14,5 @@ pub mod StandingLemmas
 pub mod OtherLemmas
 pub mod FaultlessLemmas
 pub mod SliceLemmas
+pub mod ClockLemmas
+pub mod SectionLemmas

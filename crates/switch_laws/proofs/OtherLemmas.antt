@@ -37,7 +37,7 @@ use Rattle.switch_laws.proofs.WholeLemmas.{along-each, packets-each, listed-late
 
 -- ---- lists of PIDs
 
-or-second : (a b : Bool) → b ≡ true → (a || b) ≡ true
+pub or-second : (a b : Bool) → b ≡ true → (a || b) ≡ true
 or-second true b h = refl
 or-second false b h = h
 
@@ -57,14 +57,14 @@ among-self : (pid : ℕ) (qs : List ℕ) → is_among pid (pid ∷ qs) ≡ true
 among-self pid qs = or-first (pid == pid) (is_among pid qs) (test-same pid)
 
 -- each of these is one of those
-abbrev Within : List ℕ → List ℕ → Type 0
+abbrev pub Within : List ℕ → List ℕ → Type 0
 Within pids all = AllByRecursion (λ pid. is_among pid all ≡ true) pids
 
 within-more : (q : ℕ) (pids all : List ℕ) → Within pids all → Within pids (q ∷ all)
 within-more q [] all w = tt
 within-more q (pid ∷ pids) all w = (or-second (q == pid) (is_among pid all) w.0, within-more q pids all w.1)
 
-within-self : (pids : List ℕ) → Within pids pids
+pub within-self : (pids : List ℕ) → Within pids pids
 within-self [] = tt
 within-self (pid ∷ pids) = (among-self pid pids, within-more pid pids pids (within-self pids))
 

@@ -80,7 +80,7 @@ module _ (P : SliceUnit → Type 0) where
         each-if (begun_now r x known past && not (closed_now r x known past)) (drop (length (sent_known turns r x known units past)) (up_to_known (known past) units)) []
         (each-drop (length (sent_known turns r x known units past)) (up_to_known (known past) units) (each-known (known past) units a)) tt
 
-  each-flat : (f : Standing → List SliceUnit) → ((e : Standing) → Each (f e)) → (es : List Standing) → Each (flat_map f es)
+  pub each-flat : (f : Standing → List SliceUnit) → ((e : Standing) → Each (f e)) → (es : List Standing) → Each (flat_map f es)
   each-flat f h [] = tt
   each-flat f h (e ∷ es) = each-append (f e) (flat_map f es) (h e) (each-flat f h es)
 

@@ -28,7 +28,7 @@ unfolding renumbered
 renumbered-is p steps = refl
 
 module _ (k : Setting) (p : List ℕ) (past : List (List ℕ)) where
-  abbrev own : List (List ℕ)
+  abbrev pub own : List (List ℕ)
   own = place_of (switched_at k past) (adverts_at k past) (history_at k past) k.packed p (behind_head (Some k.program) past)
 
   no-table : (o : Option Listed) → listed (Some k.program) past ≡ o → IsNoTable k p past → body (switching k) o p past (tables (Some k.program) p past) (switched_past k past) ≡ place_at k p past
@@ -38,13 +38,13 @@ module _ (k : Setting) (p : List ℕ) (past : List (List ℕ)) where
   pub is-place : IsNoTable k p past → stands_for k p past ≡ place_at k p past
   is-place n = no-table (listed (Some k.program) past) refl n
 
-  other-place : on k.cue_pid p ≡ false → is_switched (switched_at k past) p ≡ false → place_at k p past ≡ p ∷ []
+  pub other-place : on k.cue_pid p ≡ false → is_switched (switched_at k past) p ≡ false → place_at k p past ≡ p ∷ []
   other-place c s = simp (c, s) refl
 
-  own-place : on k.cue_pid p ≡ false → is_switched (switched_at k past) p ≡ true → place_at k p past ≡ own
+  pub own-place : on k.cue_pid p ≡ false → is_switched (switched_at k past) p ≡ true → place_at k p past ≡ own
   own-place c s = simp (c, s) refl
 
-  by-fate : (d : Bool) → is_left k p past ≡ d → own ≡ out_at k.packed (if d then Leave p else Keep p) (done_before k p past)
+  pub by-fate : (d : Bool) → is_left k p past ≡ d → own ≡ out_at k.packed (if d then Leave p else Keep p) (done_before k p past)
   by-fate d h = ap (λ d. out_at k.packed (if d then Leave p else Keep p) (done_before k p past)) h
 
   kept-is : in_error p ≡ false → out_at k.packed (Keep p) (done_before k p past) ≡ with_number (number_out p (steps_before k p past)) p ∷ []

@@ -3,3 +3,5 @@ pub mod Laws
 pub mod Whole
 pub mod Standing
 pub mod Slices
+pub mod Clocks
+pub mod Sections

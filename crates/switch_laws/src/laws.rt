@@ -6,6 +6,8 @@ ghost use Rattle.switch_laws.specs.Whole.{OutputIsInOrder, NothingIsPlayed, NoPa
 ghost use Rattle.switch_laws.specs.Whole.{RunsAreSound, StreamsGoByThemselves, StreamsCarry};
 ghost use Rattle.switch_laws.specs.Standing.{PacketsStandAs, OthersStay, FaultlessIsSound};
 ghost use Rattle.switch_laws.specs.Slices.{SlicesAreWhole};
+ghost use Rattle.switch_laws.specs.Clocks.{ClocksStay};
+ghost use Rattle.switch_laws.specs.Sections.{SectionsStay};
 
 /// What a switch does to a run has each packet of the run once, in order, kept or left out.
 pub fn moves_bring_the_network()
@@ -104,4 +106,15 @@ pub fn faultless_is_sound()
 /// is reached.
 pub fn slices_are_whole()
     ensures { SlicesAreWhole }
+{}
+
+/// The clock references of a switched stream are the network's, as one list in their order, also where its packets are left out.
+pub fn clocks_stay()
+    ensures { ClocksStay }
+{}
+
+/// Where those who read the cues of a network find no fault in it, its PAT and the sections on the PID of the PMT are read again from the
+/// output, the program's maps without the entry for the cues.
+pub fn sections_stay()
+    ensures { SectionsStay }
 {}

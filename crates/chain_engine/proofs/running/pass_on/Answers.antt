@@ -24,7 +24,7 @@ returns-in-Ok-clause-ok g c = λ steps start before fed s h.
     record { stands = search (rules, stands, switch_name); sent = search (rules, is_out, out_name) }
 
 pub returns-in-Err-clause-err : goal.returns-in-Err-clause-err
-returns-in-Err-clause-err g c = λ steps start before fed s h.
+returns-in-Err-clause-err g c = λ steps start before fed s network is_fed h.
     let d = c.args.config.now in
     let sink = c.feed-fed.new.sink in
     let leads = c.in-Err.ensures.leads in
@@ -35,6 +35,6 @@ returns-in-Err-clause-err g c = λ steps start before fed s h.
     let e2 = subst (λ w. FeedFails fault d p steps (λ put q x. FeedingFails g.K.PacketSink.holds g.K.PacketSink.fails sink.fault d (held w) sink.out.now start (fed_behind before fed ++ put) q x)) leads.2 e1 in
     let failed = pass_stops g.K.PacketSink.holds d (held c.args.library.now) start g.K.PacketSink.fails sink.out.now before fed p steps sink.fault fault c.unwrap_or.result c.unwrap_or.ensures
     (λ f is. let kept = rw is at c.in-Err.ensures.kept in (ap (λ w. w.fault) kept, subst (λ w. g.K.PacketSink.holds w start (before ++ sent_by d (held c.args.library.now) fed)) (sym (ap (λ w. w.out.now) kept)) h.sent))
-    e2 in
+    network c.of_bytes.ensures (c.in-Err.ensures.found d steps s) is_fed e2 in
     let out_name = leads.1 in
     search (rules, failed, out_name)

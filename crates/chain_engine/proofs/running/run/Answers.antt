@@ -1,4 +1,4 @@
-use Rattle.std.proofs.Common.{[], ◌∷◌, ◌++◌, inl, sym, subst, append_assoc}
+use Rattle.std.proofs.Common.{[], ◌∷◌, ◌++◌, inl, refl, sym, subst, append_assoc}
 use Rattle.std.specs.Prelude.{reverse}
 use Rattle.std.proofs.lemmas.List.{append-nil}
 use Rattle.ts_packet.specs.Sources.{Refuses}
@@ -17,7 +17,7 @@ use Rattle.chain_engine.specs.ChainRuns.{RunsAll, StopsAt}
 use Rattle.chain_engine.specs.declared.chain.RunFault.TheVariants.{Read, Feed}
 use Rattle.chain_engine.proofs.SpliceLemmas.{finish_fails_so}
 use Rattle.chain_engine.proofs.RunLemmas.{begun, heard, passed}
-use Rattle.chain_engine.proofs.ChainLemmas.{ends, finish_stops, read_stops, pass_stops}
+use Rattle.chain_engine.proofs.ChainLemmas.{ends, finish_stops, read_stops, pass_stops, sound_more}
 use Rattle.chain_engine.proofs.running.run.Goals as goal
 
 pub loop-fault-init : goal.loop-fault-init
@@ -30,9 +30,10 @@ loop-fault-init g c = record {
   passed = (
     [],
     given_none _ _,
-    λ start before h held_first. begun g.U.Automation.takes g.U.Automation.answers g.U.Automation.failures c.args.chain.config c.args.chain
+    λ start before h held_first. (begun g.U.Automation.takes g.U.Automation.answers g.U.Automation.failures c.args.chain.config c.args.chain
         (WasFed c.args.chain.switch c.args.chain.config (held c.args.library.now) (λ qs. g.K.PacketSink.holds c.args.out.now start (before ++ qs))) c.args.automation.now h
         (record { stands = h.switch (held c.args.library.now); sent = subst (g.K.PacketSink.holds c.args.out.now start) (sym (append-nil before)) held_first }),
+        record { bytes = tt; sound = refl }),
   );
 }
 
@@ -42,7 +43,7 @@ returns-in-Err-clause-err g c = λ d start before h held_first.
     let refuses = subst (λ b. Refuses b (g.P.PacketSource.left c.loop-fault.network) c.in-Err.fault) c.loop-fault.invariant.whole c.in-Err.ensures.err in
     let own = subst (ChainStandsFor c.args.chain) (sym h.config) h in
     subst (λ w. StopsAt w (held c.args.library.now) (Read c.in-Err.fault) (g.P.PacketSource.left c.args.network.now) (λ qs. g.K.PacketSink.holds c.loop-fault.out start (before ++ qs)) (λ qs. g.K.PacketSink.fails c.loop-fault.out start (before ++ qs)) (Exchanged g.U.Automation.takes g.U.Automation.answers g.U.Automation.failures c.args.automation.now c.loop-fault.automation)) h.config
-    (read_stops c.args.chain.config (held c.args.library.now) _ ps c.loop-fault.injector c.loop-fault.talk c.loop-fault.switch _ (λ qs. g.K.PacketSink.fails c.loop-fault.out start (before ++ qs)) _ _ n.read (run start before own held_first) c.in-Err.fault refuses)
+    (read_stops c.args.chain.config (held c.args.library.now) _ ps c.loop-fault.injector c.loop-fault.talk c.loop-fault.switch _ (λ qs. g.K.PacketSink.fails c.loop-fault.out start (before ++ qs)) _ _ n.read (run start before own held_first).0 c.in-Err.fault refuses)
 
 pub loop-fault-preserved : goal.loop-fault-preserved
 loop-fault-preserved g c =
@@ -65,14 +66,17 @@ loop-fault-preserved g c =
             let is_out = WasFed c.loop-fault.switch d filed (λ qs. g.K.PacketSink.holds c.loop-fault.out start (before ++ qs)) in
             let is_out' = WasFed c.pass_on.new.switch d filed (λ qs. g.K.PacketSink.holds c.pass_on.new.out start (before ++ qs)) in
             let before_packet = heard g.U.Automation.takes g.U.Automation.answers g.U.Automation.failures d is_out ps c.args.automation.now
-            c.loop-fault.automation c.listen.new.automation c.loop-fault.injector c.listen.new.judge c.loop-fault.talk c.listen.new.self (run start before own held_first)
+            c.loop-fault.automation c.listen.new.automation c.loop-fault.injector c.listen.new.judge c.loop-fault.talk c.listen.new.self (run start before own held_first).0
             c.listen.ensures.talk c.listen.ensures.closed c.listen.ensures.failures in
-            passed d _ ps c.listen.new.judge c.pass_on.new.injector c.listen.new.self is_out is_out' p before_packet
-            (λ steps s o. (
-              c.in-Ok.ensures.sound steps s,
-              c.in-Ok.ensures.stands steps s,
-              c.in-Ok.ensures.ok steps start before _ s o,
-            )),
+            (
+              passed d _ ps c.listen.new.judge c.pass_on.new.injector c.listen.new.self is_out is_out' p before_packet
+                  (λ steps s o. (
+                    c.in-Ok.ensures.sound steps s,
+                    c.in-Ok.ensures.stands steps s,
+                    c.in-Ok.ensures.ok steps start before _ s o,
+                  )),
+              sound_more d filed _ ps c.listen.new.judge c.listen.new.self is_out p before_packet (run start before own held_first).1 c.in-Ok.ensures.bytes (λ steps s. c.in-Ok.ensures.sound steps s),
+            ),
       );
     }
 
@@ -86,12 +90,12 @@ returns-in-Err-pass_on-clause-err g c = λ d start before h held_first.
     let own = subst (ChainStandsFor c.args.chain) (sym h.config) h in
     let is_out = WasFed c.loop-fault.switch k filed (λ qs. g.K.PacketSink.holds c.loop-fault.out start (before ++ qs)) in
     let before_packet = heard g.U.Automation.takes g.U.Automation.answers g.U.Automation.failures k is_out ps c.args.automation.now
-    c.loop-fault.automation c.listen.new.automation c.loop-fault.injector c.listen.new.judge c.loop-fault.talk c.listen.new.self (run start before own held_first)
+    c.loop-fault.automation c.listen.new.automation c.loop-fault.injector c.listen.new.judge c.loop-fault.talk c.listen.new.self (run start before own held_first).0
     c.listen.ensures.talk c.listen.ensures.closed c.listen.ensures.failures in
     subst (λ w. StopsAt w filed (Feed c.in-Err-pass_on.fault) (g.P.PacketSource.left c.args.network.now) (λ qs. g.K.PacketSink.holds c.pass_on.new.out start (before ++ qs)) (λ qs. g.K.PacketSink.fails c.pass_on.new.out start (before ++ qs)) (Exchanged g.U.Automation.takes g.U.Automation.answers g.U.Automation.failures c.args.automation.now c.listen.new.automation)) h.config
     (pass_stops k filed _ ps c.listen.new.judge c.listen.new.self c.loop-fault.switch (λ s qs. g.K.PacketSink.holds s start (before ++ qs)) (λ qs. g.K.PacketSink.fails c.pass_on.new.out start (before ++ qs))
-    c.loop-fault.out c.pass_on.new.out _ _ _ p n.read r before_packet c.in-Err-pass_on.fault
-    (λ steps s o. c.in-Err-pass_on.ensures.err steps start before _ s o))
+    c.loop-fault.out c.pass_on.new.out _ _ _ p n.read r before_packet (run start before own held_first).1 c.in-Err-pass_on.fault
+    (λ steps s network o. c.in-Err-pass_on.ensures.err steps start before _ s network refl o))
 
 pub returns-in-Err-pass_on-clause-reading : goal.returns-in-Err-pass_on-clause-reading
 returns-in-Err-pass_on-clause-reading g c = inl (on-told _ _ _ _ _ _ c.loop-fault.invariant.well (rw c.in-Ok-true.field-0-test at c.in-Ok-true.ensures.counts))
@@ -105,7 +109,7 @@ returns-in-Ok-finish-clause-ok g c = λ d start before h held_first.
     let own = subst (ChainStandsFor c.args.chain) (sym h.config) h in
     subst (λ w. RunsAll w filed (g.P.PacketSource.left c.args.network.now) (λ qs. g.K.PacketSink.holds c.finish.new.sink start (before ++ qs)) (Exchanged g.U.Automation.takes g.U.Automation.answers g.U.Automation.failures c.args.automation.now c.loop-fault.automation) c.of_chain.result) h.config
     (ends k filed _ ps c.loop-fault.injector c.loop-fault.talk c.loop-fault.switch (λ qs. g.K.PacketSink.holds c.loop-fault.out start (before ++ qs)) (λ qs. g.K.PacketSink.holds c.finish.new.sink start (before ++ qs)) _ _ _ n.read r.0
-    (run start before own held_first)
+    (run start before own held_first).0
     (λ steps j. c.of_chain.ensures.messages k steps (c.counts.ensures k steps j))
     (λ fed o. (
       subst (g.K.PacketSink.holds c.finish.new.sink start) (append_assoc before (splices.sent_by k filed fed) (rest_at (setting_of k filed) (reverse fed)))
@@ -122,6 +126,6 @@ returns-clause-err g c = λ d start before h held_first.
     let own = subst (ChainStandsFor c.args.chain) (sym h.config) h in
     subst (λ w. StopsAt w filed (Feed c.in-Err-finish.fault) (g.P.PacketSource.left c.args.network.now) (λ qs. g.K.PacketSink.holds c.finish.new.sink start (before ++ qs)) (λ qs. g.K.PacketSink.fails c.finish.new.sink start (before ++ qs)) (Exchanged g.U.Automation.takes g.U.Automation.answers g.U.Automation.failures c.args.automation.now c.loop-fault.automation)) h.config
     (finish_stops k filed _ ps c.loop-fault.injector c.loop-fault.talk c.loop-fault.switch (λ s qs. g.K.PacketSink.holds s start (before ++ qs)) (λ qs. g.K.PacketSink.fails c.finish.new.sink start (before ++ qs))
-    c.loop-fault.out c.finish.new.sink _ _ n.read r.0 (run start before own held_first) c.in-Err-finish.fault
+    c.loop-fault.out c.finish.new.sink _ _ n.read r.0 (run start before own held_first).0 c.in-Err-finish.fault
     (λ fed o. finish_fails_so c.in-Err-finish.fault k filed (reverse fed) (λ put q f. g.K.PacketSink.fails c.finish.new.sink start ((before ++ splices.sent_by k filed fed) ++ put) q f) (λ put q f. g.K.PacketSink.fails c.finish.new.sink start (before ++ (splices.sent_by k filed fed ++ put)) q f)
     (λ put q f. subst (λ l. g.K.PacketSink.fails c.finish.new.sink start l q f) (append_assoc before (splices.sent_by k filed fed) put)) (c.in-Err-finish.ensures.err start (before ++ splices.sent_by k filed fed) k (reverse fed) o.sent o.stands)))

@@ -1,10 +1,11 @@
 use Rattle.std.proofs.Common.{◌≡◌, ◌-◌, ◌^◌, ◌++◌, List, ℕ, Option, false}
+use Rattle.std.specs.Prelude.{reverse}
 use Rattle.ts_packet.specs.Transfers.{WentWell}
 use Rattle.ts_packet.specs.Sources.{HasGiven, ReadOn}
 use Rattle.ad_library.specs.Library.{held}
 use Rattle.chain_engine.specs.Chains.{ChainStandsFor}
 use Rattle.chain_engine.specs.Runs.{Exchanged}
-use Rattle.chain_engine.specs.Nested.{WasFed}
+use Rattle.chain_engine.specs.Nested.{WasFed, IsSoundNetwork}
 use Rattle.chain_engine.proofs.RunLemmas.{HasRun}
 use Rattle.chain_engine.proofs.running.run.Given as goal
 
@@ -18,7 +19,8 @@ invariant-loop-fault g l = record {
   passed : (ps : List (List ℕ)) × HasGiven (g.P.PacketSource.left l.initial.network) (g.P.PacketSource.left l.network) (g.P.PacketSource.given l.initial.network) (g.P.PacketSource.given l.network) ps
       × ((start : Option (List ℕ)) (before : List (List ℕ)) → ChainStandsFor l.fn.chain l.fn.chain.config → g.K.PacketSink.holds l.initial.out start before
       → HasRun l.fn.chain.config l.injector l.talk (WasFed l.switch l.fn.chain.config (held l.fn.library) (λ qs. g.K.PacketSink.holds l.out start (before ++ qs)))
-      (Exchanged g.U.Automation.takes g.U.Automation.answers g.U.Automation.failures l.initial.automation l.automation) ps);
+      (Exchanged g.U.Automation.takes g.U.Automation.answers g.U.Automation.failures l.initial.automation l.automation) ps
+      × IsSoundNetwork l.fn.chain.config (reverse ps));
 }
 
 abbrev pub decreases-loop-fault : goal.decreases-loop-fault

@@ -1,4 +1,4 @@
-use Rattle.std.proofs.Common.{subst, ◌∙◌}
+use Rattle.std.proofs.Common.{subst, sym, ◌∙◌}
 use Rattle.program_follower.specs.Faults.{network_fault}
 use Rattle.program_follower.specs.Following.{IsNetwork}
 use Rattle.injector.specs.Steps.{packets_in, purpose_of}
@@ -82,3 +82,18 @@ returns-in-Err-Network-clause-err g c = λ start ps cfg past held b.
 pub returns-in-Err-Failed-clause-err : goal.returns-in-Err-Failed-clause-err
 returns-in-Err-Failed-clause-err g c = λ start ps cfg past held b.
     subst (λ f. IsNetwork f (network_fault (purpose_of cfg) c.args.packet.now (packets_in past))) c.in-Err-Failed.field-0-is (c.in-Err-Failed.ensures.err (purpose_of cfg) (packets_in past) b.follower)
+
+pub returns-in-Ok-put-clause-found : goal.returns-in-Ok-put-clause-found
+returns-in-Ok-put-clause-found g c = λ cfg past b. sym (c.in-Ok.ensures.sound (purpose_of cfg) (packets_in past) b.follower)
+
+pub returns-in-Err-clause-found : goal.returns-in-Err-clause-found
+returns-in-Err-clause-found g c = λ cfg past b. sym (c.in-Ok.ensures.sound (purpose_of cfg) (packets_in past) b.follower)
+
+pub returns-in-Err-Network-clause-found : goal.returns-in-Err-Network-clause-found
+returns-in-Err-Network-clause-found g c = λ cfg past b.
+    let is = subst (λ f. IsNetwork f (network_fault (purpose_of cfg) c.args.packet.now (packets_in past))) c.in-Err-Network.field-0-is (c.in-Err-Network.ensures.err (purpose_of cfg) (packets_in past) b.follower) in
+    sym is
+
+pub returns-in-Err-Failed-clause-found : goal.returns-in-Err-Failed-clause-found
+returns-in-Err-Failed-clause-found g c = λ cfg past b.
+    absurd (subst (λ f. IsNetwork f (network_fault (purpose_of cfg) c.args.packet.now (packets_in past))) c.in-Err-Failed.field-0-is (c.in-Err-Failed.ensures.err (purpose_of cfg) (packets_in past) b.follower))

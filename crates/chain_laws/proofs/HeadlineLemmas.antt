@@ -1,0 +1,168 @@
+-- From what a run answers to the headline.
+use Rattle.std.proofs.Common.{◌≡◌, ℕ, zero, suc, ◌+◌, ◌*◌, ◌/◌, ◌-◌, ◌<◌, ◌≤◌, List, [], ◌∷◌, refl, sym, ap, ◌∙◌, subst, Option, None, Some, length, take, drop, reverse, min, arith}
+use Rattle.std.specs.Prelude.{All, option_map}
+use Rattle.std.specs.Option.{option_or}
+use Rattle.std.specs.List.{AllByRecursion}
+use Rattle.std.proofs.lemmas.List.{reverse-reverse, length-take, length-drop}
+use Rattle.ts_packet.specs.Packets.{packets_of, last_part, packet_fault, parts}
+use Rattle.ts_packet.specs.Runs.{Seen, seen_after, onto}
+use Rattle.ts_packet.specs.FirstFault.{or_then, first_of, named, fault_of, fault_behind}
+use Rattle.ts_packet.specs.declared.reader.ReadFault.{ReadFault}
+use Rattle.wire_fields.specs.Numbers.{AreBytes}
+use Rattle.wire_fields.proofs.Cells.{AreBytes-take, AreBytes-drop}
+use Rattle.psi_tables.specs.declared.config.Config.{Config}
+use Rattle.psi_tables.specs.declared.network.NetworkFault.{NetworkFault}
+use Rattle.program_follower.specs.declared.purpose.Purpose.{Purpose}
+use Rattle.program_follower.specs.Faults.{first_fault, network_fault}
+use Rattle.program_follower.specs.FirstFault.{network_test}
+use Rattle.program_laws.specs.Writing.{Along}
+use Rattle.ad_library.specs.Advertisements.{Advertisement}
+use Rattle.scte104_codec.specs.declared.reply.Reply.{Reply}
+use Rattle.injector.specs.Steps.{Step, packets_in, purpose_of, cued}
+use Rattle.splice_plans.specs.Adverts.{setting_of}
+use Rattle.splice_plans.specs.Reporting.{ReportIs, report_of}
+use Rattle.path_laws.specs.Packets.{IsRunOf}
+use Rattle.switch_laws.specs.Laws.{ArePackets}
+use Rattle.switch_laws.proofs.StreamLemmas.{all-reversed}
+use Rattle.chain_engine.specs.Automation.{Take}
+use Rattle.chain_engine.specs.Talks.{judged_before}
+use Rattle.chain_engine.specs.Runs.{asked, steps_of, as_run_fault}
+use Rattle.chain_engine.specs.Runs.{first_fault as fault_in}
+use Rattle.chain_engine.specs.ChainRuns.{Ran}
+use Rattle.chain_engine.specs.declared.hearing.SessionEnd.{SessionEnd}
+use Rattle.chain_engine.specs.declared.report.Report.{Report}
+use Rattle.chain_engine.specs.declared.chain.RunFault.{RunFault}
+use Rattle.chain_engine.specs.declared.chain.RunFault.TheVariants.{Read, Feed}
+use Rattle.chain_laws.specs.Breaks.{EndsWithPacket}
+use Rattle.chain_laws.specs.Runs.{IsWholeRun}
+use Rattle.chain_laws.specs.Headline.{history_of, IsGiven, IsSpliced, Headline, RunsAreSo, HistoriesAreSo}
+use Rattle.chain_laws.proofs.LibraryLemmas.{libraries_are_packed}
+use Rattle.chain_laws.proofs.TableLemmas.{has-tables}
+use Rattle.chain_laws.proofs.RunLemmas.{each-all}
+use Rattle.chain_laws.proofs.CarriedLemmas.{carries-placed, carries-splice}
+use Rattle.chain_laws.proofs.UnchangedLemmas.{others-unchanged, unlisted-unchanged, unplayed-unchanged, breaks-counted}
+
+-- ---- the history
+
+asked-packets : (ms : List (List ℕ)) (past : List Step) → packets_in (asked ms past) ≡ packets_in past
+asked-packets [] past = refl
+asked-packets (m ∷ ms) past = asked-packets ms _
+
+history-packets : (most : ℕ) (ts : List Take) (past : List (List ℕ)) → packets_in (steps_of most ts past) ≡ past
+history-packets most ts [] = refl
+history-packets most ts (p ∷ past) = ap (λ l. p ∷ l) (asked-packets (judged_before most ts (length past)) (steps_of most ts past) ∙ history-packets most ts past)
+
+history-ends : (most : ℕ) (ts : List Take) (past : List (List ℕ)) → EndsWithPacket (steps_of most ts past)
+history-ends most ts [] = tt
+history-ends most ts (p ∷ past) = tt
+
+-- ---- the packets of bytes
+
+parts-long : (n : ℕ) (bs : List ℕ) → n * 188 ≤ length bs → AllByRecursion (λ (p : List ℕ). length p ≡ 188) (parts n bs)
+parts-long zero bs h = tt
+parts-long (suc n) bs h =
+    let t = length-take 188 bs in
+    let d = length-drop 188 bs in
+    (t ∙ least n (length bs) h, parts-long n (drop 188 bs) (subst (λ m. n * 188 ≤ m) (sym d) (rest n (length bs) h)))
+  where
+    least : (n m : ℕ) → suc n * 188 ≤ m → min 188 m ≡ 188
+    least n m h = omega (arith, h)
+
+    rest : (n m : ℕ) → suc n * 188 ≤ m → n * 188 ≤ m - 188
+    rest n m h = omega (arith, h)
+
+packets-long : (bs : List ℕ) → ArePackets (packets_of bs)
+packets-long bs = each-all (λ (p : List ℕ). length p ≡ 188) (packets_of bs) (parts-long (length bs / 188) bs (whole (length bs)))
+  where
+    whole : (m : ℕ) → m / 188 * 188 ≤ m
+    whole m = omega arith
+
+parts-bytes : (n : ℕ) (bs : List ℕ) → AreBytes bs → AllByRecursion AreBytes (parts n bs)
+parts-bytes zero bs h = tt
+parts-bytes (suc n) bs h = (AreBytes-take 188 bs h, parts-bytes n (drop 188 bs) (AreBytes-drop 188 bs h))
+
+bytes-onto : (past ps : List (List ℕ)) → Along (λ p past. AreBytes p) past → AllByRecursion AreBytes ps → Along (λ p past. AreBytes p) (onto past ps)
+bytes-onto past [] h k = h
+bytes-onto past (p ∷ ps) h k = bytes-onto (p ∷ past) ps (k.0, h) k.1
+
+-- ---- without fault
+
+or_none : {A : Type 0} (x y : Option A) → or_then x y ≡ None → (x ≡ None) × (y ≡ None)
+or_none None y h = (refl, h)
+or_none (Some x) y h = absurd (cc)
+
+no_test : {A B : Type 0} (f : A → B) (o : Option A) → option_map f o ≡ None → o ≡ None
+no_test f None h = refl
+no_test f (Some x) h = absurd (cc)
+
+module _ (c : Purpose) where
+  abbrev at : Seen → Option RunFault
+  at s = fault_of Read (network_test as_run_fault c) s
+
+  only_by : (past ps : List (List ℕ)) → first_of at (seen_after past ps) ≡ None → first_fault c past ≡ None → first_fault c (onto past ps) ≡ None
+  only_by past [] h k = k
+  only_by past (p ∷ ps) h k =
+      let s : Seen = record { packet = p; past = past } in
+      let both = or_none (at s) (first_of at (seen_after (p ∷ past) ps)) h in
+      let here = or_none (named Read (packet_fault p)) (network_test as_run_fault c s) both.0 in
+      let clean = no_test as_run_fault (network_fault c p past) here.1 in
+      only_by (p ∷ past) ps both.1 (ap (λ x. option_or x (network_fault c p past)) k ∙ clean)
+
+faultless : (c : Config) (bs : List ℕ) → fault_in c bs ≡ None → first_fault (purpose_of c) (reverse (packets_of bs)) ≡ None
+faultless c bs h = only_by (purpose_of c) [] (packets_of bs) (or_none (first_of (fault_of Read (network_test as_run_fault (purpose_of c))) (seen_after [] (packets_of bs))) (fault_behind Read (last_part bs)) h).0 refl
+
+-- ---- the headline
+
+module _ (c : Config) (filed : ℕ → Option Advertisement) (bs : List ℕ) (sound : fault_in c bs ≡ None) (ts : List Take) (rs : List Reply) where
+  abbrev steps : List Step
+  steps = history_of bs ts rs
+
+  packets-are : packets_in (history_of bs ts rs) ≡ reverse (packets_of bs)
+  packets-are = history-packets (length rs) ts (reverse (packets_of bs))
+
+  whole-run : IsGiven c filed bs (history_of bs ts rs) → IsWholeRun c filed (history_of bs ts rs)
+  whole-run g = record {
+    run = record {
+      cue_pid = (let a = g.not_null in omega (arith, a));
+      not_pat = λ e. (let a = g.not_pat in absurd (omega (arith, a, e)));
+      faultless = ap (first_fault (purpose_of c)) packets-are ∙ faultless c bs sound;
+      bytes = subst (Along (λ p past. AreBytes p)) (sym packets-are) (bytes-onto [] (packets_of bs) tt (parts-bytes (length bs / 188) bs g.bytes));
+      requests = g.requests;
+    };
+    whole = history-ends (length rs) ts (reverse (packets_of bs));
+    long = subst ArePackets (sym packets-are) (all-reversed (λ (p : List ℕ). length p ≡ 188) (packets_of bs) (packets-long bs));
+    library = libraries_are_packed c filed steps g.library;
+  }
+
+  spliced-so : IsGiven c filed bs (history_of bs ts rs) → IsSpliced c filed (history_of bs ts rs)
+  spliced-so g = let w = whole-run g in record {
+    placed = λ pid a. carries-placed c filed steps w pid a;
+    spliced = λ pid a d. carries-splice c filed steps w pid a d;
+    others = others-unchanged c filed steps w;
+    tables = has-tables c filed steps w;
+    no_program = λ none. unlisted-unchanged c filed steps w none;
+    no_break = λ none. unplayed-unchanged c filed steps w none;
+  }
+
+pub runs_are_so : RunsAreSo
+runs_are_so c filed bs is_out exchanged report ran =
+    let steps = history_of bs ran.ts ran.rs in
+    record {
+      ts = ran.ts;
+      rs = ran.rs;
+      serves = ran.serves;
+      messages = ran.counted.messages;
+      network = ap reverse (packets-are c filed bs ran.sound ran.ts ran.rs) ∙ reverse-reverse (packets_of bs);
+      written = ran.written;
+      output = λ g. spliced-so c filed bs ran.sound ran.ts ran.rs g;
+      counted = λ g. subst (ReportIs report.switch)
+          (ap (report_of (setting_of c filed)) (reverse-reverse (cued c steps)) ∙ breaks-counted c filed steps (whole-run c filed bs ran.sound ran.ts ran.rs g)) ran.counted.events;
+    }
+
+pub histories_are_so : HistoriesAreSo
+histories_are_so c filed bs sound ts rs = record {
+  network = ap reverse (packets-are c filed bs sound ts rs) ∙ reverse-reverse (packets_of bs);
+  written = refl;
+  output = λ g. spliced-so c filed bs sound ts rs g;
+  counted = λ g. ap (report_of (setting_of c filed)) (reverse-reverse (cued c (history_of bs ts rs))) ∙ breaks-counted c filed (history_of bs ts rs) (whole-run c filed bs sound ts rs g);
+}

@@ -1,0 +1,9 @@
+pub mod UnitSpliceLemmas
+pub mod TakenLemmas
+pub mod BreakLemmas
+pub mod RunLemmas
+pub mod CarriedLemmas
+pub mod UnchangedLemmas
+pub mod HeadlineLemmas
+pub mod TableLemmas
+pub mod LibraryLemmas

@@ -1,0 +1,92 @@
+-- THE HEADLINE: what a whole run of the chain is, by its requests, the network's packets and the advertisements.
+use Rattle.std.specs.Prelude.{◌≡◌, ℕ, ◌<◌, true, [], List, Option, None, Some, length, filter, reverse}
+use Rattle.wire_fields.specs.Numbers.{AreBytes}
+use Rattle.ts_packet.specs.Packets.{packets_of}
+use Rattle.psi_tables.specs.declared.config.Config.{Config}
+use Rattle.ad_library.specs.Advertisements.{Advertisement}
+use Rattle.scte104_codec.specs.declared.reply.Reply.{Reply}
+use Rattle.injector.specs.Steps.{Step}
+use Rattle.path_laws.specs.Packets.{RequestsFit}
+use Rattle.splice_laws.specs.Streams.{is_among}
+use Rattle.splice_plans.specs.Adverts.{setting_of}
+use Rattle.splice_plans.specs.Switching.{spliced_network}
+use Rattle.splice_plans.specs.Reporting.{ReportIs, report_of}
+use Rattle.output_laws.specs.Others.{is_off}
+use Rattle.program_follower.specs.Program.{listed}
+use Rattle.injector.specs.Steps.{packets_in}
+use Rattle.chain_engine.specs.Automation.{Take}
+use Rattle.chain_engine.specs.Runs.{first_fault, steps_of, sent_by, Serves}
+use Rattle.chain_engine.specs.ChainRuns.{Ran, MessagesAre}
+use Rattle.chain_engine.specs.declared.hearing.SessionEnd.{SessionEnd}
+use Rattle.chain_engine.specs.declared.report.Report.{Report}
+use Rattle.chain_laws.specs.Runs.{network_of, switched_by, behind_by, played_by, output_by}
+use Rattle.chain_laws.specs.Libraries.{IsLibrary}
+use Rattle.chain_laws.specs.Tables.{HasTables}
+use Rattle.chain_laws.specs.UnitSplices.{IsConditionedAt}
+use Rattle.chain_laws.specs.Streams.{CarriesPlaced, CarriesSplice}
+use Rattle.chain_laws.specs.Others.{touched_by, IsUnplayed}
+use Rattle.chain_laws.specs.Reports.{counts_by}
+
+-- THE HISTORY of a run over these bytes, newest first: the network's packets, and before each the messages whose last byte stands in the take
+-- before it; so many are judged as there are replies
+abbrev pub history_of : List ℕ → List Take → List Reply → List Step
+history_of bs ts rs = steps_of (length rs) ts (reverse (packets_of bs))
+
+-- What is asked of the values of a run: the cue PID is neither the PAT's nor that of null packets, bytes are bytes, the fields of the requests
+-- are as wide as the standard has them (ANSI/SCTE 104, splice_request_data), and each unit of the advertisements has a byte.
+pub record IsGiven (c : Config) (filed : ℕ → Option Advertisement) (bs : List ℕ) (steps : List Step) : Type 0 where
+  pub not_pat : 0 < c.cue_pid
+  pub not_null : c.cue_pid < 8191
+  pub bytes : AreBytes bs
+  pub requests : RequestsFit c steps
+  pub library : IsLibrary filed
+
+-- WHAT THE OUTPUT IS
+pub record IsSpliced (c : Config) (filed : ℕ → Option Advertisement) (steps : List Step) : Type 0 where
+  -- on any network a switched stream carries its units outside the played breaks, and what goes out of each break where it is reached
+  pub placed : (pid : ℕ) → is_among pid (switched_by c steps) ≡ true → CarriesPlaced c filed steps pid
+  -- where it is conditioned at the starts of the played breaks, it carries its units outside them with the slice of each reached one in its place
+  pub spliced : (pid : ℕ) → is_among pid (switched_by c steps) ≡ true → IsConditionedAt (switched_by c steps) pid (played_by c filed steps) (behind_by c steps) →
+      CarriesSplice c filed steps pid
+  -- the packets marked in error, and those of all other PIDs, are one list, byte for byte
+  pub others : filter (is_off (touched_by c steps)) (output_by c filed steps) ≡ filter (is_off (touched_by c steps)) (network_of steps)
+  -- a reader finds the network's PAT and sections, and no packet is of the cue PID, but those that are marked in error
+  pub tables : HasTables c filed steps
+  -- where no PAT lists the program, it is the network
+  pub no_program : listed (Some c.program) (packets_in steps) ≡ None → output_by c filed steps ≡ network_of steps
+  -- where no break is played, it is the network but on the PID of the PMT, and its sections are the network's
+  pub no_break : played_by c filed steps ≡ [] → IsUnplayed c filed steps
+
+-- THE HEADLINE of a run over these bytes that answers with this report
+pub record Headline (c : Config) (filed : ℕ → Option Advertisement) (bs : List ℕ) (is_out : List (List ℕ) → Type 0)
+    (exchanged : Option SessionEnd → List Take → List Reply → Type 0) (report : Report) : Type 0 where
+  pub ts : List Take
+  pub rs : List Reply
+  -- each message is answered by its verdict
+  pub serves : Serves c exchanged ts rs (length (packets_of bs)) (history_of bs ts rs)
+  pub messages : MessagesAre report c (history_of bs ts rs)
+  -- the packets of the history are the network's
+  pub network : network_of (history_of bs ts rs) ≡ packets_of bs
+  -- these packets are out
+  pub written : is_out (output_by c filed (history_of bs ts rs))
+  pub output : IsGiven c filed bs (history_of bs ts rs) → IsSpliced c filed (history_of bs ts rs)
+  -- the breaks are counted
+  pub counted : IsGiven c filed bs (history_of bs ts rs) → ReportIs report.switch (counts_by c filed (history_of bs ts rs))
+
+-- each run that answers so is as the headline says
+abbrev pub RunsAreSo : Type 1
+RunsAreSo = (c : Config) (filed : ℕ → Option Advertisement) (bs : List ℕ) (is_out : List (List ℕ) → Type 0)
+    (exchanged : Option SessionEnd → List Take → List Reply → Type 0) (report : Report) → Ran c filed bs is_out exchanged report → Headline c filed bs is_out exchanged report
+
+-- ---- the same, of all takes and replies
+
+-- the packets of the history are the network's; what a switch makes of the cued stream is the output; and what it reports are these counts
+pub record IsHistorySo (c : Config) (filed : ℕ → Option Advertisement) (bs : List ℕ) (ts : List Take) (rs : List Reply) : Type 0 where
+  pub network : network_of (history_of bs ts rs) ≡ packets_of bs
+  pub written : spliced_network (setting_of c filed) (sent_by c (history_of bs ts rs)) ≡ output_by c filed (history_of bs ts rs)
+  pub output : IsGiven c filed bs (history_of bs ts rs) → IsSpliced c filed (history_of bs ts rs)
+  pub counted : IsGiven c filed bs (history_of bs ts rs) → report_of (setting_of c filed) (reverse (sent_by c (history_of bs ts rs))) ≡ counts_by c filed (history_of bs ts rs)
+
+-- THE LAW OF THE HEADLINE: of a network without a fault, whatever was taken and answered, the output and the report are these
+abbrev pub HistoriesAreSo : Type 0
+HistoriesAreSo = (c : Config) (filed : ℕ → Option Advertisement) (bs : List ℕ) → first_fault c bs ≡ None → (ts : List Take) (rs : List Reply) → IsHistorySo c filed bs ts rs

@@ -1,0 +1,9 @@
+pub mod Breaks
+pub mod Runs
+pub mod UnitSplices
+pub mod Streams
+pub mod Others
+pub mod Reports
+pub mod Tables
+pub mod Libraries
+pub mod Headline

@@ -1,0 +1,4 @@
+pub mod UnitLemmas
+pub mod PacketLemmas
+pub mod TableLemmas
+pub mod CuedLemmas
