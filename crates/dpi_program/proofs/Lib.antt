@@ -1,4 +1,3 @@
-pub mod CuttingLemmas
-pub mod InjectingLemmas
 pub mod ListLemmas
 pub mod NumberLemmas
+pub mod PassageLemmas

@@ -1,8 +1,8 @@
 //! The command line of the subcommand `inject`: its options and their ranges.
 
-ghost use Rattle.std.specs.Prelude.{◌≡◌, ◌^◌, IfOk, IfErr, OnOk, Some, Err, is_some, not, IsSomeAnd};
+ghost use Rattle.std.specs.Prelude.{◌≡◌, ◌^◌, ◌&&◌, if◌then◌else◌, nat_lt, IfOk, IfErr, OnOk, Some, Err, is_ok, is_some, not, IsSomeAnd};
 ghost use Rattle.dpi_program.specs.Numbers.{number_below, number_within};
-ghost use Rattle.dpi_program.specs.Command.{IsRefusedOf, refused_option};
+ghost use Rattle.dpi_program.specs.Command.{IsRefusedOf, refused_option, is_standard, is_asked_there, standard_inputs};
 
 use crate::command::{BadNumber, NumberOption, option};
 use crate::ends::End;
@@ -265,25 +265,69 @@ fn asking_of<'a>(
     }
 }
 
-/// What the options of `inject` say.
-pub fn inject_options<'a>(matches: &ArgMatches<'a>) -> Result<InjectOptions<'a>, BadInject<'a>> {
+/// Whether the end is standard input.
+pub(crate) fn is_standard(end: End<'_>) -> bool
+    ensures { result ≡ is_standard end }
+{
+    match end {
+        End::Standard => true,
+        End::Lines | End::File(_) => false,
+    }
+}
+
+/// The network, the messages and the list, where there is one, come from different ends: one of them alone may be standard input.
+fn check_inputs<'a>(
+    network: End<'a>,
+    asking: Asking<'a>,
+    adverts: Option<End<'a>>,
+) -> Result<(), BadInject<'a>>
+    ensures one { is_ok result ≡ nat_lt (standard_inputs network asking adverts) 2 }
+    ensures which { IfErr result (λ bad. bad ≡
+        (if is_standard network && is_asked_there asking then BadInject.Input else BadInject.ListInput)) }
+{
+    let is_network = is_standard(network);
+    let is_script = match asking {
+        Asking::Script(end) => is_standard(end),
+        Asking::Port(_) => false,
+    };
+    let is_list = match adverts {
+        Some(end) => is_standard(end),
+        None => false,
+    };
+    if is_network && is_script {
+        return Err(BadInject::Input);
+    }
+    if is_list && (is_network || is_script) {
+        return Err(BadInject::ListInput);
+    }
+    Ok(())
+}
+
+/// What the options of `inject` say, and where the subcommand has a list those of `run`.
+fn asked_options<'a>(
+    matches: &ArgMatches<'a>,
+    adverts: Option<End<'a>>,
+) -> Result<InjectOptions<'a>, BadInject<'a>> {
     let program = matches.get_str("program").unwrap_or("");
     let cue_pid = matches.get_str("cue-pid").unwrap_or("");
     let index = matches.get_str("index").unwrap_or("");
     let config = config_of(program, cue_pid, index)?;
     let asking = asking_of(matches.get_str("script"), matches.get_str("listen"))?;
     let network = End::named(matches.get_str("network"));
-    if network == End::Standard && asking == Asking::Script(End::Standard) {
-        return Err(BadInject::Input);
-    }
+    check_inputs(network, asking, adverts)?;
     Ok(InjectOptions {
         config,
         network,
         asking,
-        adverts: None,
+        adverts,
         output: End::named(matches.get_str("out")),
         is_verbose: matches.get_flag("verbose"),
     })
+}
+
+/// What the options of `inject` say.
+pub fn inject_options<'a>(matches: &ArgMatches<'a>) -> Result<InjectOptions<'a>, BadInject<'a>> {
+    asked_options(matches, None)
 }
 
 /// The subcommand `run`.
@@ -300,13 +344,5 @@ pub fn run_command<'a>(alloc: Global) -> Result<Command<'a>, AllocError> {
 
 /// What the options of `run` say.
 pub fn run_options<'a>(matches: &ArgMatches<'a>) -> Result<InjectOptions<'a>, BadInject<'a>> {
-    let mut options = inject_options(matches)?;
-    let adverts = End::named(matches.get_str("adverts"));
-    if adverts == End::Standard
-        && (options.network == End::Standard || options.asking == Asking::Script(End::Standard))
-    {
-        return Err(BadInject::ListInput);
-    }
-    options.adverts = Some(adverts);
-    Ok(options)
+    asked_options(matches, Some(End::named(matches.get_str("adverts"))))
 }

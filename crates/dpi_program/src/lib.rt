@@ -16,6 +16,7 @@ mod injecting;
 mod listening;
 pub mod numbers;
 pub mod program;
+mod running;
 mod script;
 mod script_text;
 mod splice_options;

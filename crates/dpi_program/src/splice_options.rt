@@ -1,12 +1,12 @@
 //! The command line of the subcommand `splice`: its options and their ranges.
 
-ghost use Rattle.std.specs.Prelude.{◌≡◌, ◌^◌, IfOk, IfErr, Some, IsSomeAnd};
+ghost use Rattle.std.specs.Prelude.{◌≡◌, ◌^◌, ◌&&◌, not, is_ok, IfOk, IfErr, Some, IsSomeAnd};
 ghost use Rattle.dpi_program.specs.Numbers.{number_within};
-ghost use Rattle.dpi_program.specs.Command.{IsRefusedOf, refused_of_splice};
+ghost use Rattle.dpi_program.specs.Command.{IsRefusedOfSplice, refused_of_splice, is_standard};
 
 use crate::command::{BadNumber, NumberOption, option};
 use crate::ends::End;
-use crate::inject_options::{LEAST_PID, NULL_PID, NUMBER_LIMIT};
+use crate::inject_options::{LEAST_PID, NULL_PID, NUMBER_LIMIT, is_standard};
 use crate::numbers::number_within;
 use clap::{Arg, ArgAction, ArgMatches, Command};
 use psi_tables::Config;
@@ -156,6 +156,9 @@ fn bad_number<'a>(option: NumberOption, text: &'a str) -> BadSplice<'a>
 fn config_of<'a>(program: &'a str, cue_pid: &'a str) -> Result<Config, BadSplice<'a>>
     ensures program { IfOk result (λ c. number_within program.now 1 (2 ^ 16) ≡ Some c.program) }
     ensures cue_pid { IfOk result (λ c. number_within cue_pid.now 16 8191 ≡ Some c.cue_pid) }
+    ensures index { IfOk result (λ c. c.index ≡ 0) }
+    ensures refused { IfErr result (λ bad. IsSomeAnd (refused_of_splice bad)
+        (λ option. IsRefusedOfSplice option program.now cue_pid.now)) }
 {
     let Some(number) = number_within(program, 1, NUMBER_LIMIT) else {
         return Err(bad_number(NumberOption::SpliceProgram, program));
@@ -170,6 +173,17 @@ fn config_of<'a>(program: &'a str, cue_pid: &'a str) -> Result<Config, BadSplice
     }
 }
 
+/// The network and the list come from different ends: one of them alone may be standard input.
+fn check_inputs<'a>(network: End<'a>, adverts: End<'a>) -> Result<(), BadSplice<'a>>
+    ensures one { is_ok result ≡ not (is_standard network && is_standard adverts) }
+    ensures which { IfErr result (λ bad. bad ≡ BadSplice.Input) }
+{
+    if is_standard(network) && is_standard(adverts) {
+        return Err(BadSplice::Input);
+    }
+    Ok(())
+}
+
 /// What the options of `splice` say.
 pub fn splice_options<'a>(matches: &ArgMatches<'a>) -> Result<SpliceOptions<'a>, BadSplice<'a>> {
     let program = matches.get_str("program").unwrap_or("");
@@ -177,9 +191,7 @@ pub fn splice_options<'a>(matches: &ArgMatches<'a>) -> Result<SpliceOptions<'a>,
     let config = config_of(program, cue_pid)?;
     let network = End::named(matches.get_str("network"));
     let adverts = End::named(matches.get_str("adverts"));
-    if network == End::Standard && adverts == End::Standard {
-        return Err(BadSplice::Input);
-    }
+    check_inputs(network, adverts)?;
     Ok(SpliceOptions {
         config,
         network,
