@@ -1,3 +1,1 @@
-pub mod ListLemmas
-pub mod NumberLemmas
 pub mod PassageLemmas

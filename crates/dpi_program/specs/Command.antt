@@ -1,8 +1,8 @@
 -- Which command lines are refused, and what is named.
 use Rattle.std.specs.Prelude.{◌≡◌, ℕ, ◌^◌, ◌+◌, List, Bool, true, false, if◌then◌else◌, Option, Some, None, IsSome}
-use Rattle.dpi_program.specs.Numbers.{number_below, number_within}
-use Rattle.dpi_program.specs.declared.ends.End.{End}
-use Rattle.dpi_program.specs.declared.ends.End.TheVariants.{Lines, Standard, File}
+use Rattle.decimal_numbers.specs.Numbers.{number_below, number_within}
+use Rattle.run_ends.specs.declared.ends.End.{End}
+use Rattle.run_ends.specs.declared.ends.End.TheVariants.{Lines, Standard, File}
 use Rattle.dpi_program.specs.declared.inject_options.Asking.{Asking as Asked}
 use Rattle.dpi_program.specs.declared.inject_options.Asking.TheVariants as asking
 use Rattle.dpi_program.specs.declared.inject_options.BadInject.{BadInject}

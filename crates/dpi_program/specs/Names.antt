@@ -15,12 +15,12 @@ use Rattle.chain_engine.specs.declared.chain.RunFault.TheVariants as run
 use Rattle.psi_tables.specs.declared.network.FeedFault.TheVariants as feed
 use Rattle.psi_tables.specs.declared.network.NetworkFault.{NetworkFault}
 use Rattle.psi_tables.specs.declared.network.NetworkFault.TheVariants as network
-use Rattle.dpi_program.specs.declared.script.ScriptFault.{ScriptFault}
-use Rattle.dpi_program.specs.declared.script.ScriptFault.TheVariants as script
+use Rattle.automations.specs.declared.script.ScriptFault.{ScriptFault}
+use Rattle.automations.specs.declared.script.ScriptFault.TheVariants as script
 use Rattle.ad_library.specs.declared.fault.AdFault.{AdFault}
 use Rattle.ad_library.specs.declared.fault.AdFault.TheVariants as ad
-use Rattle.dpi_program.specs.declared.ad_list.ListFault.{ListFault}
-use Rattle.dpi_program.specs.declared.ad_list.ListFault.TheVariants as list
+use Rattle.ad_lists.specs.declared.list.ListFault.{ListFault}
+use Rattle.ad_lists.specs.declared.list.ListFault.TheVariants as list
 
 abbrev pub read_name : ReadFault → List ℕ
 read_name read.Truncated = codes "Truncated"

@@ -1,15 +1,15 @@
 //! The command line, and of the subcommand `cut` its options and their ranges.
 
 ghost use Rattle.std.specs.Prelude.{◌≡◌, ◌^◌, IfOk, IfErr, Some};
-ghost use Rattle.dpi_program.specs.Numbers.{number_below};
+ghost use Rattle.decimal_numbers.specs.Numbers.{number_below};
 ghost use Rattle.dpi_program.specs.Command.{IsRefused};
 
-use crate::ends::End;
+use decimal_numbers::number_below;
 use crate::inject_options::{INJECT_USAGE, inject_command, run_command};
 use crate::splice_options::{SPLICE_USAGE, splice_command};
-use crate::numbers::number_below;
 use clap::{Arg, ArgAction, ArgMatches, Command};
 use pes_time::Time33;
+use run_ends::End;
 use std::alloc::{AllocError, Global};
 use std::fmt;
 use ts_packet::Pid;

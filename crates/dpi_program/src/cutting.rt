@@ -4,17 +4,15 @@ ghost use Rattle.std.specs.Prelude.{◌≡◌, false, IfOk};
 ghost use Rattle.packet_lines.specs.Texts.{WrittenLines};
 ghost use Rattle.dpi_program.specs.Runs.{PassesAll};
 
-use crate::attended::Attended;
 use crate::command::CutOptions;
-use crate::ends::{End, OpenedEnds, open_ends};
 use crate::fault::ProgramFault;
-use crate::flushing::finish_buffer;
 use crate::running::{
     BUFFER_SIZE, Ended, Finished, Passage, Passed, Ran, let_go, out_of_memory, pass_watched,
     run_to, unopened,
 };
 use crate::tell::{Account, Stopped};
 use packet_lines::{LineReader, LineWriter, LinesFault};
+use run_ends::{Attended, End, OpenedEnds, finish_buffer, open_ends};
 use std::alloc::{AllocError, Global};
 use std::io::{BufReader, BufWriter, Read, Write};
 use std::rt::Files;

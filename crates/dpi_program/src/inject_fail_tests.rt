@@ -1,18 +1,15 @@
-//! Runs of `inject` over devices that move one byte a call and fail at each of their calls in turn, and a script whose memory is refused.
+//! Runs of `inject` over devices that move one byte a call and fail at each of their calls in turn.
 //! Expected packets are worked out by hand from the standards.
 
 use crate::fail_devices::{FailSource, FailTarget};
 use crate::program::program;
-use crate::script::{Script, ScriptFault};
-use linked_list_allocator::LocalHeap;
-use std::alloc::{AllocError, Allocator, Global};
+use std::alloc::{AllocError, Global};
 use std::net::Net;
 use std::path::PathBuf;
 use std::process::Abort;
 use std::rt::{Env, Files};
 use std::test::Fail;
 use std::{env, fs};
-use ts_packet::Device;
 
 /// A packet with a PAT: the map of program 1 is on PID 0x20.
 const PAT: [u8; 21] = [
@@ -251,29 +248,5 @@ fn each_reply_is_lost_in_turn(rt: HostRuntime) -> Result<(), Fail> {
         assert!(rt; output.taken.as_slice() == cued.as_slice(), "room {room}");
     }
     fs::remove_file(&rt, script)?;
-    Ok(())
-}
-
-/// What becomes of a script's text in this memory.
-fn fault_in<M: Allocator + Copy>(alloc: M, replies: Vec<u8>) -> Option<ScriptFault> {
-    let mut reader = Device::new(SCRIPT);
-    match Script::load_in(alloc, &mut reader, replies) {
-        Ok(_) => None,
-        Err(fault) => Some(fault),
-    }
-}
-
-#[test]
-fn memory_is_refused_to_a_script(rt: HostRuntime) -> Result<(), Fail> {
-    for (size, want) in [
-        (16, Some(ScriptFault::OutOfMemory)),
-        (64, Some(ScriptFault::OutOfMemory)),
-        (4_096, None),
-    ] {
-        let heap = LocalHeap::new(rt.alloc(), size)?;
-        let fault = fault_in(&heap, Vec::new(rt.alloc()));
-        assert!(rt; fault == want, "with {size} bytes");
-        assert_eq!(rt; heap.used(), 0);
-    }
     Ok(())
 }

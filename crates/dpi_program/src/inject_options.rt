@@ -1,14 +1,14 @@
 //! The command line of the subcommand `inject`: its options and their ranges.
 
 ghost use Rattle.std.specs.Prelude.{◌≡◌, ◌^◌, ◌&&◌, if◌then◌else◌, nat_lt, IfOk, IfErr, OnOk, Some, Err, is_ok, is_some, not, IsSomeAnd};
-ghost use Rattle.dpi_program.specs.Numbers.{number_below, number_within};
+ghost use Rattle.decimal_numbers.specs.Numbers.{number_below, number_within};
 ghost use Rattle.dpi_program.specs.Command.{IsRefusedOf, refused_option, is_standard, is_asked_there, standard_inputs};
 
 use crate::command::{BadNumber, NumberOption, option};
-use crate::ends::End;
-use crate::numbers::{number_below, number_within};
 use clap::{Arg, ArgAction, ArgMatches, Command};
+use decimal_numbers::{number_below, number_within};
 use psi_tables::Config;
+use run_ends::End;
 use std::alloc::{AllocError, Global};
 use std::fmt;
 use ts_packet::Pid;

@@ -6,8 +6,8 @@ ghost use Rattle.ad_library.specs.Library.{held};
 ghost use Rattle.chain_engine.specs.Chains.{ChainStandsFor};
 ghost use Rattle.dpi_program.specs.Runs.{PassesAll, Cues, CuesStop, Plays, PlaysStop};
 
-use crate::connection::accept;
 use ad_library::AdLibrary;
+use automations::accept;
 use chain_engine::{Chain, Report, RunFault, run, run_inject};
 use std::alloc::Allocator;
 use std::io::{Read, Write};

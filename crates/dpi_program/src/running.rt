@@ -5,15 +5,13 @@ ghost use Rattle.std.specs.Prelude.{◌≡◌, ℕ, List, [], Option, false, IfO
 ghost use Rattle.ts_packet.specs.Sinks.{Written};
 ghost use Rattle.dpi_program.specs.Runs.{PassesAll};
 
-use crate::attended::Attended;
-use crate::ends::Unopened;
 use crate::fault::ProgramFault;
-use crate::flushing::{finish, finish_buffer};
 use crate::tell::{Side, Stopped};
 use crate::watch::{Seen, Watched};
 use chain_engine::RunFault;
 use packet_lines::LinesFault;
 use psi_tables::FeedFault;
+use run_ends::{Attended, Unopened, finish, finish_buffer};
 use std::alloc::{AllocError, Global};
 use std::io::{self, BufReader, BufWriter, Read, Write};
 use ts_packet::{Buffered, Device, PacketReader, PacketSink, PacketSource, PacketWriter, Pid};

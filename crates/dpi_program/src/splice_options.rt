@@ -1,15 +1,15 @@
 //! The command line of the subcommand `splice`: its options and their ranges.
 
 ghost use Rattle.std.specs.Prelude.{◌≡◌, ◌^◌, ◌&&◌, not, is_ok, IfOk, IfErr, Some, IsSomeAnd};
-ghost use Rattle.dpi_program.specs.Numbers.{number_within};
+ghost use Rattle.decimal_numbers.specs.Numbers.{number_within};
 ghost use Rattle.dpi_program.specs.Command.{IsRefusedOfSplice, refused_of_splice, is_standard};
 
 use crate::command::{BadNumber, NumberOption, option};
-use crate::ends::End;
 use crate::inject_options::{LEAST_PID, NULL_PID, NUMBER_LIMIT, is_standard};
-use crate::numbers::number_within;
 use clap::{Arg, ArgAction, ArgMatches, Command};
+use decimal_numbers::number_within;
 use psi_tables::Config;
+use run_ends::End;
 use std::alloc::{AllocError, Global};
 use std::fmt;
 use ts_packet::Pid;

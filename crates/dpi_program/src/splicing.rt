@@ -2,15 +2,14 @@
 
 ghost use Rattle.std.specs.Prelude.{◌≡◌};
 
-use crate::ad_list::{ListFault, load_list};
-use crate::attended::Attended;
-use crate::ends::{End, Unopened, create_output, open_input};
 use crate::fault::ProgramFault;
 use crate::running::{Passage, Ran, run_from, stopped, unopened};
 use crate::splice_options::SpliceOptions;
 use crate::tell::{Side, Stopped};
 use ad_library::AdLibrary;
+use ad_lists::{ListFault, load_list};
 use chain_engine::run_splice;
+use run_ends::{Attended, End, Unopened, create_output, open_input};
 use splice_plans::SwitchReport;
 use std::alloc::Global;
 use std::fs::Metadata;

@@ -1,0 +1,227 @@
+-- Lines of a list, read and loaded one after another.
+use Rattle.std.proofs.Common.{◌≡◌, ◌≢◌, ℕ, ◌^◌, ◌<◌, List, [], ◌∷◌, ◌++◌, length, Bool, true, false, not, ◌&&◌, ◌||◌, ◌==◌, cond, nat_lt, Option, Some, None, is_some, refl, sym, ap, ◌∙◌, subst, append_assoc, arith}
+use Rattle.std.specs.Prelude.{if◌then◌else◌, IfSome, IfErr, OnOk, Result, Ok, Err}
+use Rattle.std.proofs.lemmas.List.{append-nil}
+use Rattle.std.specs.Io.KnownBytes.{Consumes, IsAtEnd, prepend_known}
+use Rattle.indexmap.specs.IndexMap.{index_map_len}
+use Rattle.ad_library.specs.declared.library.AdLibrary.{AdLibrary}
+use Rattle.ad_library.specs.Advertisements.{Advertisement}
+use Rattle.ad_library.specs.Library.{held}
+use Rattle.decimal_numbers.specs.Numbers.{number_below}
+use Rattle.ad_lists.specs.Lists.{is_blank, entry_of, paired, is_good, is_line, text_of, with_number, numbers_of, has_number, are_apart, IsAdvert, Adds, IsFiled, IsRead, BlamesAd, BlamesStream, BlamesLine, EndsLine, Blames, StopsAt}
+use Rattle.ad_lists.specs.declared.list.Loading.{Loading}
+use Rattle.ad_lists.specs.declared.list.ListFault.{ListFault}
+use Rattle.ad_lists.specs.declared.list.ListFault.TheVariants.{BadList, File, Io, Turns, Ad, OutOfMemory}
+
+-- ---- one line
+
+-- bytes that are no text are no entry
+pub no_text : {X : Type 0} (u w : Bool) (x : Option X) → u ≢ true → None ≡ cond (u && w) x None
+no_text true w x broken = absurd (broken refl)
+no_text false w x broken = refl
+
+-- what a line's two parts give
+pub given : (u : Bool) (id : ℕ) (path after before : List ℕ) → u ≡ true → path ≡ after → 0 < length path → Some id ≡ number_below before (2 ^ 16)
+    → Some (id, path) ≡ cond (u && nat_lt 0 (length after)) (paired (number_below before (2 ^ 16)) after) None
+given u id path after before text same some number =
+    let long : nat_lt 0 (length after) ≡ true = grind (arith, some, ap length same) in
+    ap (λ p. Some (id, p)) same ∙ ap (λ o. paired o after) number
+    ∙ (λ i. cond (sym text i && sym long i) (paired (number_below before (2 ^ 16)) after) None)
+
+-- ---- the text
+
+line_push : (bs : List ℕ) (b : ℕ) → is_line bs ≡ true → (b == 10) ≡ false → is_line (bs ++ b ∷ []) ≡ true
+line_push [] b h other = ap (λ t. not t && true) other
+line_push (x ∷ bs) b h other =
+    let parts = both (not (x == 10)) (is_line bs) h in
+    λ i. parts.0 i && line_push bs b parts.1 other i
+  where
+    both : (p q : Bool) → (p && q) ≡ true → (p ≡ true) × (q ≡ true)
+    both true q e = (refl, e)
+    both false q e = absurd (grind (arith, e))
+
+-- a byte more of a line
+pub pushed : (old new : Loading) (b : ℕ) (text : List ℕ) → (b == 10) ≡ false → new.library ≡ old.library → new.line.items ≡ old.line.items ++ b ∷ []
+    → IsRead old text → IsRead new (text ++ b ∷ [])
+pushed old new b text other same items h = record {
+  before = h.before;
+  text_is = ap (λ t. t ++ b ∷ []) h.text_is ∙ append_assoc (text_of h.before) old.line.items (b ∷ []) ∙ ap (λ x. text_of h.before ++ x) (sym items);
+  line = ap is_line items ∙ line_push old.line.items b h.line other;
+  lines = h.lines;
+  filed = subst (λ library. IsFiled library h.before) (sym same) h.filed;
+}
+
+-- the end of a line
+pub ended : (old new : Loading) (b : ℕ) (text : List ℕ) → b ≡ 10 → new.line.items ≡ [] → (h : IsRead old text) → IsFiled new.library (old.line.items ∷ h.before)
+    → IsRead new (text ++ b ∷ [])
+ended old new b text end items h filed = record {
+  before = old.line.items ∷ h.before;
+  text_is = (λ i. h.text_is i ++ end i ∷ []) ∙ append_assoc (text_of h.before) old.line.items (10 ∷ []) ∙ sym (append-nil (text_of (old.line.items ∷ h.before)))
+      ∙ ap (λ x. text_of (old.line.items ∷ h.before) ++ x) (sym items);
+  line = ap is_line items;
+  lines = λ i. h.line i && h.lines i;
+  filed = filed;
+}
+
+-- ---- where a list stops
+
+whole : (f : ListFault) (line rest ns : List ℕ) → EndsLine rest → BlamesLine f line ns → Blames f line rest ns
+whole BadList line rest ns e b = (e, b)
+whole File line rest ns e b = (e, b)
+whole Io line rest ns e b = absurd b
+whole Turns line rest ns e b = absurd b
+whole (Ad fault) line rest ns e b = (e, b)
+whole OutOfMemory line rest ns e b = tt
+
+-- behind what was read
+pub stops : (l : Loading) (f : ListFault) (text rest : List ℕ) → (h : IsRead l text) → Blames f l.line.items rest (numbers_of h.before) → StopsAt f (text ++ rest)
+stops l f text rest h blamed = record {
+  before = h.before;
+  part = l.line.items;
+  rest = rest;
+  text_is = ap (λ t. t ++ rest) h.text_is ∙ append_assoc (text_of h.before) l.line.items rest;
+  line = h.line;
+  lines = h.lines;
+  good = h.filed.good;
+  apart = h.filed.apart;
+  blamed = blamed;
+}
+
+-- at a line's end
+pub stops_line : (l : Loading) (f : ListFault) (text more : List ℕ) (b : ℕ) → b ≡ 10 → (h : IsRead l text) → BlamesLine f l.line.items (numbers_of h.before)
+    → StopsAt f (text ++ b ∷ more)
+stops_line l f text more b end h blamed = stops l f text (b ∷ more) h (whole f l.line.items (b ∷ more) (numbers_of h.before) end blamed)
+
+-- at the end of the list
+pub stops_end : (l : Loading) (f : ListFault) (text : List ℕ) → (h : IsRead l text) → BlamesLine f l.line.items (numbers_of h.before) → StopsAt f text
+stops_end l f text h blamed =
+    subst (StopsAt f) (append-nil text) (stops l f text [] h (whole f l.line.items [] (numbers_of h.before) tt blamed))
+
+-- ---- the library
+
+-- a blank line files nothing
+pub blank_filed : {A : Type 0} (library : AdLibrary A) (line : List ℕ) (ls : List (List ℕ)) → is_blank line ≡ true → IsFiled library ls → IsFiled library (line ∷ ls)
+blank_filed library line ls blank h =
+    let same : numbers_of (line ∷ ls) ≡ numbers_of ls = ap (λ b. cond b (numbers_of ls) (with_number (entry_of line) (numbers_of ls))) blank in
+    record {
+      good = λ i. (blank i || is_some (entry_of line)) && h.good i;
+      apart = ap are_apart same ∙ h.apart;
+      numbers = λ id. h.numbers id ∙ ap (has_number id) (sym same);
+      adverts = h.adverts;
+      size = h.size ∙ ap length (sym same);
+    }
+
+is_there : {X : Type 0} (b : Bool) (x : X) (o : Option X) → is_some (if b then Some x else o) ≡ (b || is_some o)
+is_there true x o = refl
+is_there false x o = refl
+
+either : (b : Bool) (x y : Option Advertisement) → IfSome x IsAdvert → IfSome y IsAdvert → IfSome (if b then x else y) IsAdvert
+either true x y p q = p
+either false x y p q = q
+
+-- an entry files its advertisement
+pub entry_filed : {A : Type 0} (old new : AdLibrary A) (line : List ℕ) (ls : List (List ℕ)) (e : ℕ × List ℕ) (known : Option (List ℕ)) → is_blank line ≡ false
+    → entry_of line ≡ Some e → IsFiled old ls → Adds known old new e.0 → IsFiled new (line ∷ ls)
+entry_filed old new line ls e known blank entry h a =
+    let ns = numbers_of ls in
+    let same : numbers_of (line ∷ ls) ≡ e.0 ∷ ns = ap (λ b. cond b ns (with_number (entry_of line) ns)) blank ∙ ap (λ o. with_number o ns) entry in
+    let fresh : has_number e.0 ns ≡ false = sym (h.numbers e.0) ∙ ap is_some a.none in
+    record {
+      good = λ i. (blank i || is_some (entry i)) && h.good i;
+      apart = ap are_apart same ∙ (λ i. not (fresh i) && h.apart i);
+      numbers = λ id. ap is_some (a.filed_is id) ∙ is_there (id == e.0) a.advert (held old id) ∙ ap (λ b. (id == e.0) || b) (h.numbers id) ∙ ap (has_number id) (sym same);
+      adverts = λ id. subst (λ o. IfSome o IsAdvert) (sym (a.filed_is id)) (either (id == e.0) (Some a.advert) (held old id) (a.packets, a.advert_is) (h.adverts id));
+      size = omega (arith, a.size, h.size, ap length same);
+    }
+
+-- a line that is neither blank nor an entry
+pub bad_line : (line : List ℕ) → is_blank line ≡ false → entry_of line ≡ None → is_good line ≡ false
+bad_line line blank none = λ i. blank i || is_some (none i)
+
+-- what is told of an entry's stream, told of the line
+pub stream_line : {A : Type 0} (library : AdLibrary A) (f : ListFault) (line : List ℕ) (ls : List (List ℕ)) (e : ℕ × List ℕ) → entry_of line ≡ Some e
+    → IsFiled library ls → BlamesStream f (is_some (held library e.0)) (index_map_len library.adverts) → BlamesLine f line (numbers_of ls)
+stream_line library BadList line ls e entry h b = absurd b
+stream_line library File line ls e entry h b = ap is_some entry
+stream_line library Io line ls e entry h b = absurd b
+stream_line library Turns line ls e entry h b = absurd b
+stream_line library (Ad fault) line ls e entry h b =
+    (e, entry, subst (λ t. BlamesAd fault t (length (numbers_of ls))) (h.numbers e.0) (subst (λ n. BlamesAd fault (is_some (held library e.0)) n) h.size b))
+stream_line library OutOfMemory line ls e entry h b = ap is_some entry
+
+-- nothing was read
+pub nothing_read : (l : Loading) → ((id : ℕ) → held l.library id ≡ None) → index_map_len l.library.adverts ≡ 0 → l.line.items ≡ [] → IsRead l []
+nothing_read l empty size items = record {
+  before = [];
+  text_is = sym items;
+  line = ap is_line items;
+  lines = refl;
+  filed = record {
+    good = refl;
+    apart = refl;
+    numbers = λ id. ap is_some (empty id);
+    adverts = λ id. subst (λ o. IfSome o IsAdvert) (sym (empty id)) tt;
+    size = size;
+  };
+}
+
+-- ---- bytes of the list, one after another
+
+pub takes_on : (text done part rest behind : List ℕ) (b : ℕ) → part ≡ done ++ rest → rest ≡ b ∷ behind → part ≡ (done ++ b ∷ []) ++ behind
+takes_on text done part rest behind b e first = e ∙ ap (λ r. done ++ r) first ∙ sym (append_assoc done (b ∷ []) behind)
+
+pub take_stops : (f : ListFault) (text done part rest behind more : List ℕ) (b : ℕ) → part ≡ done ++ rest → rest ≡ b ∷ behind
+    → StopsAt f ((text ++ done) ++ b ∷ (behind ++ more)) → StopsAt f (text ++ (part ++ more))
+take_stops f text done part rest behind more b e first h =
+    subst (StopsAt f) (append_assoc text done (b ∷ (behind ++ more)) ∙ ap (λ t. text ++ t) (sym (append_assoc done (b ∷ behind) more))
+    ∙ ap (λ p. text ++ (p ++ more)) (sym (e ∙ ap (λ r. done ++ r) first))) h
+
+-- ---- reads of the list
+
+pub ok_on : {T E : Type 0} {X Y : Type 0} (r : Result T E) → (X → Y) → OnOk r X → OnOk r Y
+ok_on (Ok v) f h = f h
+ok_on (Err e) f h = tt
+
+pub err_on : {T E : Type 0} {P Q : E → Type 0} (r : Result T E) → ((e : E) → P e → Q e) → IfErr r P → IfErr r Q
+err_on (Ok v) f h = tt
+err_on (Err e) f h = f e h
+
+-- all of it was read
+pub at_end : (a b c : Option (List ℕ)) (bs none : List ℕ) → Consumes a b bs → Consumes b c none → none ≡ [] → IsAtEnd c → IfSome a (λ all. all ≡ bs)
+at_end None b c bs none p q e end = tt
+at_end (Some x) None c bs none p q e end = absurd p
+at_end (Some x) (Some y) None bs none p q e end = absurd q
+at_end (Some x) (Some y) (Some z) bs none p q e end = p ∙ ap (λ l. bs ++ l) (q ∙ (λ i. e i ++ end i)) ∙ append-nil bs
+
+-- it stops within what was read last
+pub stops_within : (f : ListFault) (a b c : Option (List ℕ)) (bs part : List ℕ) → Consumes a b bs → Consumes b c part → ((more : List ℕ) → StopsAt f (bs ++ (part ++ more)))
+    → IfSome a (StopsAt f)
+stops_within f None b c bs part p q h = tt
+stops_within f (Some x) None c bs part p q h = absurd p
+stops_within f (Some x) (Some y) None bs part p q h = absurd q
+stops_within f (Some x) (Some y) (Some z) bs part p q h = subst (StopsAt f) (sym (p ∙ ap (λ l. bs ++ l) q)) (h z)
+
+-- it stops at its end
+pub stops_all : (f : ListFault) (a : Option (List ℕ)) (bs : List ℕ) → IfSome a (λ all. all ≡ bs) → StopsAt f bs → IfSome a (StopsAt f)
+stops_all f None bs e h = tt
+stops_all f (Some x) bs e h = subst (StopsAt f) (sym e) h
+
+-- it stops behind what was read
+pub stops_behind : (f : ListFault) (a b : Option (List ℕ)) (bs : List ℕ) → Consumes a b bs → ((more : List ℕ) → StopsAt f (bs ++ more)) → IfSome a (StopsAt f)
+stops_behind f None b bs p h = tt
+stops_behind f (Some x) None bs p h = absurd p
+stops_behind f (Some x) (Some y) bs p h = subst (StopsAt f) (sym p) (h y)
+
+-- ---- a buffer that has read nothing
+
+nothing_before : (o : Option (List ℕ)) (P : List ℕ → Type 0) → IfSome (prepend_known [] o) P → IfSome o P
+nothing_before None P h = tt
+nothing_before (Some bs) P h = h
+
+-- what is said of its bytes is said of those below it
+pub said_below : {T : Type 0} (remaining : T → Option (List ℕ)) (inner file : T) (capacity : ℕ) (buffer : List ℕ) (P : List ℕ → Type 0)
+    → capacity ≡ 131072 → buffer ≡ [] → inner ≡ file → IfSome (if capacity == 0 then None else prepend_known buffer (remaining inner)) P → IfSome (remaining file) P
+said_below remaining inner file capacity buffer P size empty same h =
+    let e : (if capacity == 0 then None else prepend_known buffer (remaining inner)) ≡ prepend_known [] (remaining file)
+    = λ i. if size i == 0 then None else prepend_known (empty i) (remaining (same i)) in
+    nothing_before (remaining file) P (subst (λ o. IfSome o P) e h)

@@ -1,0 +1,39 @@
+use Rattle.std.proofs.Common.{◌≡◌, ◌<◌, ◌++◌, [], length, take, ap, rules, arith}
+use Rattle.std.proofs.KnownBytes.{Consumes-trans, Consumes-kept}
+use Rattle.ad_lists.proofs.ListLemmas.{at_end, ok_on, err_on, stops_all}
+use Rattle.ad_lists.proofs.list.read_to_end.Goals as goal
+use Rattle.ad_lists.proofs.list.read_to_end.Goals.{in-Ok+in-Ok-take_in, in-Err-Interrupted}
+
+pub returns-in-Ok-eq0-clause-lists : goal.returns-in-Ok-eq0-clause-lists
+returns-in-Ok-eq0-clause-lists g c =
+    let (text, used, h) = c.loop-turn.invariant.read in
+    let b = c.in-Ok-eq0.ensures.bytes in
+    let zero : c.in-Ok-eq0.field-0 ≡ 0 = search rules in
+    let none : take c.in-Ok-eq0.field-0 c.read.new.buf ≡ [] = ap (λ n. take n c.read.new.buf) zero in
+    let room : 0 < length c.read.new.buf = search rules in
+    ok_on c.finish.result (λ l. (text, at_end _ _ _ text _ used b.0 none (b.1 zero room), l)) (c.finish.ensures.ok text h)
+
+pub returns-in-Ok-eq0-clause-stops : goal.returns-in-Ok-eq0-clause-stops
+returns-in-Ok-eq0-clause-stops g c =
+    let (text, used, h) = c.loop-turn.invariant.read in
+    let b = c.in-Ok-eq0.ensures.bytes in
+    let zero : c.in-Ok-eq0.field-0 ≡ 0 = search rules in
+    let none : take c.in-Ok-eq0.field-0 c.read.new.buf ≡ [] = ap (λ n. take n c.read.new.buf) zero in
+    let room : 0 < length c.read.new.buf = search rules in
+    err_on c.finish.result (λ f s. stops_all f _ text (at_end _ _ _ text _ used b.0 none (b.1 zero room)) s) (c.finish.ensures.stops text h)
+
+pub loop-turn-preserved : goal.loop-turn-preserved
+loop-turn-preserved g c =
+    let (text, used, h) = c.loop-turn.invariant.read in
+    elim c.match-read.branch [
+      | in-Ok+in-Ok-take_in w ↦ record {
+        turns = grind arith;
+        well = record { calls = grind arith; failed = grind arith; zeros = grind arith };
+        read = (text ++ take w.in-Ok.count c.read.new.buf, Consumes-trans _ _ _ _ _ used w.in-Ok.ensures.bytes.0, rw w.loading-is (w.in-Ok-take_in.ensures.ok text h));
+      }
+      | in-Err-Interrupted w ↦ record {
+        turns = grind arith;
+        well = record { calls = grind arith; failed = grind arith; zeros = grind arith };
+        read = (text, Consumes-kept _ _ _ _ used w.in-Err-Interrupted.ensures.bytes, rw w.loading-is h);
+      }
+    ]

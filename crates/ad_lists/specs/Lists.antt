@@ -1,0 +1,193 @@
+-- Lists of advertisements: which text is one, what a library holds that was loaded from it, and why one is not loaded. Lines stand newest
+-- first. A line ends with a line feed, which may be missing behind the last one.
+use Rattle.std.specs.Prelude.{◌≡◌, ◌↔◌, ◌⊎◌, ◌≤◌, ◌+◌, ◌^◌, ℕ, List, [], ◌∷◌, ◌++◌, length, Bool, true, false, not, ◌&&◌, ◌||◌, ◌==◌, cond, nat_lt, Option, None, Some, is_some, IfSome, IsSome}
+use Rattle.std.specs.List.{list_all, list_any, before_first, after_first}
+use Rattle.std.specs.Char.{is_ascii_whitespace}
+use Rattle.std.specs.Str.{is_utf8}
+use Rattle.indexmap.specs.IndexMap.{index_map_len}
+use Rattle.ts_packet.specs.declared.tally.Tally.{Tally}
+use Rattle.ts_packet.specs.Packets.{packets_of}
+use Rattle.ts_packet.specs.Transfers.{WentWell, LastMovedNone, LastFailed, TookTurns}
+use Rattle.ad_library.specs.declared.library.AdLibrary.{AdLibrary}
+use Rattle.ad_library.specs.declared.fault.AdFault.{AdFault}
+use Rattle.ad_library.specs.declared.fault.AdFault.TheVariants as ad
+use Rattle.ad_library.specs.Advertisements.{Advertisement, advertisement}
+use Rattle.ad_library.specs.Faults.{Says}
+use Rattle.ad_library.specs.Library.{held, filed}
+use Rattle.decimal_numbers.specs.Numbers.{number_below}
+use Rattle.ad_lists.specs.declared.list.Loading.{Loading}
+use Rattle.ad_lists.specs.declared.list.ListFault.{ListFault}
+use Rattle.ad_lists.specs.declared.list.ListFault.TheVariants.{BadList, File, Io, Turns, Ad, OutOfMemory}
+
+-- ---- one line
+
+-- white space alone, or nothing: it is passed over
+abbrev pub is_blank : List ℕ → Bool
+is_blank line = list_all is_ascii_whitespace line
+
+abbrev pub is_space : ℕ → Bool
+is_space b = b == 32
+
+-- a number and a path, where both are there
+abbrev pub paired : Option ℕ → List ℕ → Option (ℕ × List ℕ)
+paired None path = None
+paired (Some id) path = Some (id, path)
+
+-- THE NUMBER AND THE PATH of a line: digits alone of a number below 65,536, one space, and the rest of the line, which is not empty; all of
+-- it is text
+abbrev pub entry_of : List ℕ → Option (ℕ × List ℕ)
+entry_of line = cond (is_utf8 line && nat_lt 0 (length (after_first is_space line)))
+    (paired (number_below (before_first is_space line) (2 ^ 16)) (after_first is_space line)) None
+
+-- a line that is not refused
+abbrev pub is_good : List ℕ → Bool
+is_good line = is_blank line || is_some (entry_of line)
+
+-- ---- many lines
+
+-- no byte is a line feed
+abbrev pub is_line : List ℕ → Bool
+is_line bs = list_all (λ b. not (b == 10)) bs
+
+-- the text of these lines, each with its end
+abbrev pub text_of : List (List ℕ) → List ℕ
+text_of [] = []
+text_of (l ∷ ls) = text_of ls ++ (l ++ 10 ∷ [])
+
+-- the numbers of lines, with that of one more
+abbrev pub with_number : Option (ℕ × List ℕ) → List ℕ → List ℕ
+with_number None ns = ns
+with_number (Some e) ns = e.0 ∷ ns
+
+abbrev pub numbers_of : List (List ℕ) → List ℕ
+numbers_of [] = []
+numbers_of (l ∷ ls) = cond (is_blank l) (numbers_of ls) (with_number (entry_of l) (numbers_of ls))
+
+abbrev pub has_number : ℕ → List ℕ → Bool
+has_number id ns = list_any (λ n. id == n) ns
+
+-- no number stands twice
+abbrev pub are_apart : List ℕ → Bool
+are_apart [] = true
+are_apart (n ∷ ns) = not (has_number n ns) && are_apart ns
+
+-- ---- the library
+
+-- the advertisement of some packets
+abbrev pub IsAdvert : Advertisement → Type 0
+IsAdvert a = (ps : List (List ℕ)) × (advertisement ps ≡ Some a)
+
+-- one more was filed, of packets which are those of the stream's bytes where these are known
+pub record Adds {A : Type 0} (known : Option (List ℕ)) (old new : AdLibrary A) (id : ℕ) : Type 0 where
+  pub packets : List (List ℕ)
+  pub advert : Advertisement
+  pub known_is : IfSome known (λ bs. packets ≡ packets_of bs)
+  pub advert_is : advertisement packets ≡ Some advert
+  pub filed_is : (other : ℕ) → held new other ≡ filed (held old) id (Some advert) other
+  pub none : held old id ≡ None
+  pub size : index_map_len new.adverts ≡ index_map_len old.adverts + 1
+
+-- THE LIBRARY of these lines: none is bad and no number stands twice; an advertisement is filed under each of their numbers, and nothing else
+pub record IsFiled {A : Type 0} (library : AdLibrary A) (ls : List (List ℕ)) : Type 0 where
+  pub good : list_all is_good ls ≡ true
+  pub apart : are_apart (numbers_of ls) ≡ true
+  pub numbers : (id : ℕ) → is_some (held library id) ≡ has_number id (numbers_of ls)
+  pub adverts : (id : ℕ) → IfSome (held library id) IsAdvert
+  pub size : index_map_len library.adverts ≡ length (numbers_of ls)
+
+-- the list was read so far
+pub record IsRead (loading : Loading) (text : List ℕ) : Type 0 where
+  pub before : List (List ℕ)
+  pub text_is : text ≡ text_of before ++ loading.line.items
+  pub line : is_line loading.line.items ≡ true
+  pub lines : list_all is_line before ≡ true
+  pub filed : IsFiled loading.library before
+
+-- THE LIBRARY OF A LIST: that of its lines
+pub record IsListed {A : Type 0} (library : AdLibrary A) (text : List ℕ) : Type 0 where
+  pub before : List (List ℕ)
+  pub last : List ℕ
+  pub text_is : text ≡ text_of before ++ last
+  pub line : is_line last ≡ true
+  pub lines : list_all is_line before ≡ true
+  pub filed : IsFiled library (last ∷ before)
+
+-- ---- why a list is not loaded
+
+-- the two faults of a library come exactly where the number is filed, and where it is not and 64 are
+abbrev pub BlamesAd : AdFault → Bool → ℕ → Type 0
+BlamesAd fault there count =
+    (fault ≡ ad.Exists ↔ there ≡ true) × (fault ≡ ad.Many ↔ ((there ≡ false) × (64 ≤ count)))
+
+-- of a stream's bytes: what is wrong with them is the first that is
+abbrev pub SaysOf : ListFault → List ℕ → Type 0
+SaysOf BadList = λ bs. Unit {0}
+SaysOf File = λ bs. Unit {0}
+SaysOf Io = λ bs. Unit {0}
+SaysOf Turns = λ bs. Unit {0}
+SaysOf (Ad fault) = Says fault
+SaysOf OutOfMemory = λ bs. Unit {0}
+
+-- of a stream: what of the library's state each fault tells
+abbrev pub BlamesStream : ListFault → Bool → ℕ → Type 0
+BlamesStream BadList there count = ⊥
+BlamesStream File there count = Unit {0}
+BlamesStream Io there count = ⊥
+BlamesStream Turns there count = ⊥
+BlamesStream (Ad fault) there count = BlamesAd fault there count
+BlamesStream OutOfMemory there count = Unit {0}
+
+-- of a line behind these numbers: a bad one is neither blank nor an entry; the other faults come at entries
+abbrev pub BlamesLine : ListFault → List ℕ → List ℕ → Type 0
+BlamesLine BadList line ns = is_good line ≡ false
+BlamesLine File line ns = IsSome (entry_of line)
+BlamesLine Io line ns = ⊥
+BlamesLine Turns line ns = ⊥
+BlamesLine (Ad fault) line ns =
+    (e : ℕ × List ℕ) × (entry_of line ≡ Some e) × BlamesAd fault (has_number e.0 ns) (length ns)
+BlamesLine OutOfMemory line ns = IsSome (entry_of line)
+
+-- the line ends before these bytes
+abbrev pub EndsLine : List ℕ → Type 0
+EndsLine [] = Unit {0}
+EndsLine (b ∷ bs) = b ≡ 10
+
+-- where a line is to blame, it is a whole one
+abbrev pub Blames : ListFault → List ℕ → List ℕ → List ℕ → Type 0
+Blames BadList line rest ns = EndsLine rest × BlamesLine BadList line ns
+Blames File line rest ns = EndsLine rest × BlamesLine File line ns
+Blames Io line rest ns = Unit {0}
+Blames Turns line rest ns = Unit {0}
+Blames (Ad fault) line rest ns = EndsLine rest × BlamesLine (Ad fault) line ns
+Blames OutOfMemory line rest ns = Unit {0}
+
+-- WHERE A LIST STOPS: the lines before are good and their numbers differ, and the fault is to be blamed on what comes behind them
+pub record StopsAt (fault : ListFault) (text : List ℕ) : Type 0 where
+  pub before : List (List ℕ)
+  pub part : List ℕ
+  pub rest : List ℕ
+  pub text_is : text ≡ text_of before ++ (part ++ rest)
+  pub line : is_line part ≡ true
+  pub lines : list_all is_line before ≡ true
+  pub good : list_all is_good before ≡ true
+  pub apart : are_apart (numbers_of before) ≡ true
+  pub blamed : Blames fault part rest (numbers_of before)
+
+-- What the reads of a list came to where it was not loaded: what is wrong with a line, or memory for it, comes behind reads that went well,
+-- or at the end.
+abbrev pub ListBlamed : ListFault → Tally → Tally → Type 0
+ListBlamed BadList old new = WentWell old new ⊎ LastMovedNone old new
+ListBlamed File old new = WentWell old new ⊎ LastMovedNone old new
+ListBlamed Io old new = LastFailed old new
+ListBlamed Turns old new = TookTurns (2 ^ 32) old new
+ListBlamed (Ad fault) old new = WentWell old new ⊎ LastMovedNone old new
+ListBlamed OutOfMemory old new = WentWell old new ⊎ LastMovedNone old new
+
+-- no read of the list is to blame
+abbrev pub IsOfLine : ListFault → Type 0
+IsOfLine BadList = Unit {0}
+IsOfLine File = Unit {0}
+IsOfLine Io = ⊥
+IsOfLine Turns = ⊥
+IsOfLine (Ad fault) = Unit {0}
+IsOfLine OutOfMemory = Unit {0}

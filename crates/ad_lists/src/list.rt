@@ -1,0 +1,264 @@
+//! A list of advertisements: lines of a number and the path of a stream.
+
+ghost use Rattle.std.specs.Prelude.{◌≡◌, ◌++◌, ◌∷◌, [], ℕ, List, Option, is_some, option_map, IfOk, IfErr, OnOk, IfSome};
+ghost use Rattle.indexmap.specs.IndexMap.{index_map_len};
+ghost use Rattle.ts_packet.specs.Transfers.{LastMovedNone};
+ghost use Rattle.ad_library.specs.Library.{held};
+ghost use Rattle.ad_lists.specs.Lists.{is_blank, entry_of, numbers_of, Adds, IsFiled, IsRead, IsListed};
+ghost use Rattle.ad_lists.specs.Lists.{SaysOf, BlamesStream, BlamesLine, StopsAt, ListBlamed, IsOfLine};
+
+use ad_library::{AdFault, AdLibrary};
+use decimal_numbers::number_below;
+use run_ends::open_input;
+use std::alloc::Global;
+use std::io::{BufReader, Read};
+use std::rt::Files;
+use thiserror::Error;
+use ts_packet::{Buffered, DeviceFault, PacketReader, Source};
+
+/// The most reads of a list.
+const READS: u64 = 1 << 32;
+
+/// How many bytes of a list are read at a time.
+const ROOM: usize = 4_096;
+
+/// How many bytes of an advertisement are read at a time.
+const BUFFER_SIZE: usize = 131_072;
+
+/// Why a list was not loaded.
+#[derive(Clone, Copy, Debug, PartialEq, Eq, Drop, Error)]
+pub enum ListFault {
+    /// A line is not a number below 65,536, a space and a path.
+    #[error("a bad line")]
+    BadList,
+    /// The stream of an advertisement cannot be opened, or is a directory.
+    #[error("the stream of an advertisement cannot be opened")]
+    File,
+    /// The list could not be read on.
+    #[error("the list could not be read on")]
+    Io,
+    /// More than 2^32 reads did not give the list's end.
+    #[error("too many reads")]
+    Turns,
+    /// An advertisement was not filed; never for want of memory.
+    #[error("{0}")]
+    Ad(AdFault),
+    /// Memory was refused.
+    #[error("memory was refused")]
+    OutOfMemory,
+}
+
+/// Loads a list, whose lines are the number of an advertisement in decimal digits alone, a space, and the path of its stream; lines of white
+/// space alone are passed over. Each line is judged, and its stream read to the end, before the next one.
+///
+/// # Errors
+///
+/// The first fault, by its line.
+pub fn load_list<R: Files, S: Source>(
+    rt: &R,
+    alloc: Global,
+    list: &mut S,
+) -> Result<AdLibrary, ListFault>
+    ensures lists { IfOk result (λ library. (text : List ℕ) × IfSome (S.remaining list.old) (λ bs. bs ≡ text)
+        × IsListed library text) }
+    ensures stops { IfErr result (λ f. IfSome (S.remaining list.old) (StopsAt f)) }
+    ensures blamed { IfErr result (λ f. ListBlamed f (S.counts list.old) (S.counts list.new)) }
+    ensures ended { OnOk result (LastMovedNone (S.counts list.old) (S.counts list.new)) }
+{
+    let mut loading = Loading {
+        library: AdLibrary::new(alloc),
+        line: Vec::new(alloc),
+    };
+    match read_to_end(rt, alloc, &mut loading, list) {
+        Ok(()) => Ok(loading.library),
+        Err(fault) => Err(fault),
+    }
+}
+
+/// Reads a list to its end. An interrupted read is tried again.
+fn read_to_end<R: Files, S: Source>(
+    rt: &R,
+    alloc: Global,
+    loading: &mut Loading,
+    list: &mut S,
+) -> Result<(), ListFault>
+    requires { IsRead loading.old [] }
+    ensures lists { OnOk result ((text : List ℕ) × IfSome (S.remaining list.old) (λ bs. bs ≡ text)
+        × IsListed loading.new.library text) }
+    ensures stops { IfErr result (λ f. IfSome (S.remaining list.old) (StopsAt f)) }
+    ensures blamed { IfErr result (λ f. ListBlamed f (S.counts list.old) (S.counts list.new)) }
+    ensures ended { OnOk result (LastMovedNone (S.counts list.old) (S.counts list.new)) }
+{
+    let mut room = [0; ROOM];
+    for _turn in 0..READS {
+        match list.read(&mut room) {
+            Ok(0) => return loading.finish(rt, alloc),
+            Ok(count) => match loading.take_in(rt, alloc, &room[..count]) {
+                Ok(()) => {}
+                Err(fault) => return Err(fault),
+            },
+            Err(DeviceFault::Interrupted) => {}
+            Err(DeviceFault::Failed) => return Err(ListFault::Io),
+        }
+    }
+    Err(ListFault::Turns)
+}
+
+/// A list that is being loaded.
+#[derive(Drop)]
+pub(crate) struct Loading {
+    library: AdLibrary,
+    /// The line that is being read, as far as it came.
+    line: Vec<u8>,
+}
+
+impl Loading {
+    /// Takes bytes of the list.
+    fn take_in<R: Files>(&mut self, rt: &R, alloc: Global, part: &[u8]) -> Result<(), ListFault>
+        ensures ok { (text : List ℕ) → IsRead self.old text → OnOk result (IsRead self.new (text ++ part.now)) }
+        ensures stops { (text : List ℕ) → IsRead self.old text
+            → IfErr result (λ f. (more : List ℕ) → StopsAt f (text ++ (part.now ++ more))) }
+        ensures refused { IfErr result IsOfLine }
+    {
+        let mut rest = part;
+        while let Some((byte, behind)) = rest.split_first() {
+            match self.take(rt, alloc, *byte) {
+                Ok(()) => {}
+                Err(fault) => return Err(fault),
+            }
+            rest = behind;
+        }
+        Ok(())
+    }
+
+    /// Takes a byte of the list: where it ends a line, that is loaded.
+    fn take<R: Files>(&mut self, rt: &R, alloc: Global, byte: u8) -> Result<(), ListFault>
+        ensures ok { (text : List ℕ) → IsRead self.old text → OnOk result (IsRead self.new (text ++ byte ∷ [])) }
+        ensures stops { (text : List ℕ) → IsRead self.old text
+            → IfErr result (λ f. (more : List ℕ) → StopsAt f (text ++ (byte ∷ more))) }
+        ensures refused { IfErr result IsOfLine }
+    {
+        if byte != b'\n' {
+            return match self.line.push(byte) {
+                Ok(()) => Ok(()),
+                Err(_) => Err(ListFault::OutOfMemory),
+            };
+        }
+        match load_line(rt, alloc, &mut self.library, self.line.as_slice()) {
+            Ok(()) => {
+                self.line.clear();
+                Ok(())
+            }
+            Err(fault) => Err(fault),
+        }
+    }
+
+    /// The end of the list, behind which the end of the last line may be missing.
+    fn finish<R: Files>(&mut self, rt: &R, alloc: Global) -> Result<(), ListFault>
+        ensures ok { (text : List ℕ) → IsRead self.old text → OnOk result (IsListed self.new.library text) }
+        ensures stops { (text : List ℕ) → IsRead self.old text → IfErr result (λ f. StopsAt f text) }
+        ensures refused { IfErr result IsOfLine }
+    {
+        match load_line(rt, alloc, &mut self.library, self.line.as_slice()) {
+            Ok(()) => Ok(()),
+            Err(fault) => Err(fault),
+        }
+    }
+}
+
+/// Whether the line is white space alone.
+fn is_blank(line: &[u8]) -> bool
+    ensures { result ≡ is_blank line.now }
+{
+    line.iter().all(|byte| byte.is_ascii_whitespace())
+}
+
+/// The number and the path of a line.
+fn entry_of(line: &[u8]) -> Option<(u16, &str)>
+    ensures { option_map (λ e. (e.0, e.1.now)) result ≡ entry_of line.now }
+{
+    let Ok(text) = str::from_utf8(line) else {
+        return None;
+    };
+    let Some((number, path)) = text.split_once(' ') else {
+        return None;
+    };
+    if path.is_empty() {
+        return None;
+    }
+    match number_below(number, 1 << 16) {
+        Some(id) => Some((id as u16, path)),
+        None => None,
+    }
+}
+
+/// Loads the advertisement of a line.
+fn load_line<R: Files>(
+    rt: &R,
+    alloc: Global,
+    library: &mut AdLibrary,
+    line: &[u8],
+) -> Result<(), ListFault>
+    ensures ok { (ls : List (List ℕ)) → IsFiled library.old ls → OnOk result (IsFiled library.new (line.now ∷ ls)) }
+    ensures stops { (ls : List (List ℕ)) → IsFiled library.old ls
+        → IfErr result (λ f. BlamesLine f line.now (numbers_of ls)) }
+    ensures refused { IfErr result IsOfLine }
+{
+    if is_blank(line) {
+        return Ok(());
+    }
+    match entry_of(line) {
+        Some((id, path)) => match load_stream(rt, alloc, library, id, path) {
+            Ok(()) => Ok(()),
+            Err(fault) => Err(fault),
+        },
+        None => Err(ListFault::BadList),
+    }
+}
+
+/// Files the advertisement of the stream at this path.
+fn load_stream<R: Files>(
+    rt: &R,
+    alloc: Global,
+    library: &mut AdLibrary,
+    id: u16,
+    path: &str,
+) -> Result<(), ListFault>
+    ensures ok { OnOk result ((known : Option (List ℕ)) × Adds known library.old library.new id) }
+    ensures stops { IfErr result (λ f. BlamesStream f (is_some (held library.old id))
+        (index_map_len library.old.adverts)) }
+    ensures refused { IfErr result IsOfLine }
+{
+    match open_input(rt, path) {
+        Ok((file, _)) => match file_stream(alloc, library, id, file) {
+            Ok(()) => Ok(()),
+            Err(fault) => Err(fault),
+        },
+        Err(_) => Err(ListFault::File),
+    }
+}
+
+/// Files the advertisement that a reader gives.
+fn file_stream<F: Read + Drop>(
+    alloc: Global,
+    library: &mut AdLibrary,
+    id: u16,
+    file: F,
+) -> Result<(), ListFault>
+    ensures ok { OnOk result (Adds (F.remaining file) library.old library.new id) }
+    ensures says { IfErr result (λ f. IfSome (F.remaining file) (SaysOf f)) }
+    ensures stops { IfErr result (λ f. BlamesStream f (is_some (held library.old id))
+        (index_map_len library.old.adverts)) }
+    ensures refused { IfErr result IsOfLine }
+{
+    let Ok(reader) = BufReader::with_capacity(alloc, BUFFER_SIZE, file) else {
+        return Err(ListFault::OutOfMemory);
+    };
+    let mut device = Buffered::new(reader);
+    let mut packets = PacketReader::new(&mut device);
+    match library.add(id, &mut packets) {
+        Ok(()) => Ok(()),
+        Err(AdFault::OutOfMemory) => Err(ListFault::OutOfMemory),
+        Err(fault) => Err(ListFault::Ad(fault)),
+    }
+}

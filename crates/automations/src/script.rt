@@ -1,0 +1,191 @@
+//! A script: an automation whose bytes stand in a text, each line before a packet of the network, and whose replies are printed.
+
+ghost use Rattle.std.specs.Prelude.{◌≡◌, nat_lt, IfErr, OnOk};
+ghost use Rattle.ts_packet.specs.Transfers.{LastMovedNone};
+ghost use Rattle.automations.specs.Scripts.{ScriptBlamed};
+
+use crate::script_text::{Line, Reading};
+use chain_engine::{Automation, Taken};
+use hex_digits::Digits;
+use std::alloc::{Allocator, Global};
+use std::io::Write;
+use thiserror::Error;
+use ts_packet::{DeviceFault, Source};
+
+/// The most reads of a script.
+const READS: u64 = 1 << 32;
+
+/// How many bytes of a script are read at a time.
+const ROOM: usize = 4_096;
+
+/// Why a script was not loaded.
+#[derive(Clone, Copy, Debug, PartialEq, Eq, Drop, Error)]
+pub enum ScriptFault {
+    /// A line is not a packet's number, a space and 1 to 4,096 bytes in upper case digits, or its number does not rise.
+    #[error("a bad line")]
+    BadScript,
+    /// The script could not be read on.
+    #[error("the script could not be read on")]
+    Io,
+    /// More than 2^32 reads did not give the script's end.
+    #[error("too many reads")]
+    Turns,
+    /// Memory was refused.
+    #[error("memory was refused")]
+    OutOfMemory,
+}
+
+/// An automation that gives the bytes of a script, and prints the replies. After the script's last line it has nothing more.
+#[derive(Drop)]
+pub struct Script<W, M: Allocator = Global> {
+    bytes: Vec<u8, M>,
+    lines: Vec<Line, M>,
+    /// The line that comes next.
+    next: usize,
+    /// Where what is left of its bytes begins.
+    begin: usize,
+    /// How many pieces were asked for: the number of the packet that comes next.
+    packet: u64,
+    replies: W,
+    /// How many replies could not be printed.
+    lost: u64,
+}
+
+impl<W> Script<W> {
+    /// Loads a script, whose lines are a packet's number, counted from 0 and rising from line to line, a space, and the bytes that come
+    /// before that packet, 1 to 4,096 of them in upper case hexadecimal digits. Replies are printed to the writer as they come.
+    ///
+    /// # Errors
+    ///
+    /// `BadScript` at the first line that is another, `Io` where the reader failed, `Turns` after 2^32 reads, `OutOfMemory` where the
+    /// allocator refused memory.
+    pub fn load<S: Source>(
+        alloc: Global,
+        reader: &mut S,
+        replies: W,
+    ) -> Result<Script<W>, ScriptFault>
+    where
+        W: Drop,
+        ensures blamed { IfErr result (λ f. ScriptBlamed f (S.counts reader.old) (S.counts reader.new)) }
+        ensures ended { OnOk result (LastMovedNone (S.counts reader.old) (S.counts reader.new)) }
+    {
+        Script::load_in(alloc, reader, replies)
+    }
+}
+
+impl<W, M: Allocator> Script<W, M> {
+    /// Loads a script whose memory is this allocator's.
+    ///
+    /// # Errors
+    ///
+    /// As for [`Script::load`].
+    pub fn load_in<S: Source>(
+        alloc: M,
+        reader: &mut S,
+        replies: W,
+    ) -> Result<Script<W, M>, ScriptFault>
+    where
+        M: Copy,
+        W: Drop,
+        ensures blamed { IfErr result (λ f. ScriptBlamed f (S.counts reader.old) (S.counts reader.new)) }
+        ensures ended { OnOk result (LastMovedNone (S.counts reader.old) (S.counts reader.new)) }
+    {
+        let mut reading = Reading::new_in(alloc);
+        load_into(&mut reading, reader)?;
+        Ok(Script::of(reading, replies))
+    }
+
+    /// The script of a text that was read to its end.
+    pub fn of(reading: Reading<M>, replies: W) -> Script<W, M> {
+        let (bytes, lines) = reading.into_parts();
+        Script {
+            bytes,
+            lines,
+            next: 0,
+            begin: 0,
+            packet: 0,
+            replies,
+            lost: 0,
+        }
+    }
+
+    /// Whether a reply could not be printed.
+    pub fn has_lost_a_reply(&self) -> bool
+        ensures { result ≡ nat_lt 0 self.now.lost }
+    {
+        self.lost > 0
+    }
+
+    /// How many bytes come before the packet that is next: those that are left of the line with its number.
+    fn count_due(&self) -> usize {
+        let Some(line) = self.lines.get(self.next) else {
+            return 0;
+        };
+        if line.packet > self.packet {
+            return 0;
+        }
+        line.end.saturating_sub(self.begin)
+    }
+}
+
+/// Reads a text to its end. An interrupted read is tried again.
+pub fn load_into<M: Allocator, S: Source>(
+    reading: &mut Reading<M>,
+    reader: &mut S,
+) -> Result<(), ScriptFault>
+    ensures blamed { IfErr result (λ f. ScriptBlamed f (S.counts reader.old) (S.counts reader.new)) }
+    ensures ended { OnOk result (LastMovedNone (S.counts reader.old) (S.counts reader.new)) }
+{
+    let mut room = [0; ROOM];
+    for _turn in 0..READS {
+        match reader.read(&mut room) {
+            Ok(0) => return reading.finish(),
+            Ok(count) => match reading.take_in(&room[..count]) {
+                Ok(()) => {}
+                Err(fault) => return Err(fault),
+            },
+            Err(DeviceFault::Interrupted) => {}
+            Err(DeviceFault::Failed) => return Err(ScriptFault::Io),
+        }
+    }
+    Err(ScriptFault::Turns)
+}
+
+impl<W: Write, M: Allocator> Automation for Script<W, M> {
+    ghost use Rattle.std.specs.Prelude.{None};
+
+    ghost takes = { λ s. None };
+
+    ghost answers = { λ s. None };
+
+    ghost failures = { λ s. s.lost };
+
+    #[inline(always)]
+    fn take(&mut self, room: &mut [u8]) -> Taken {
+        let due = self.count_due();
+        self.packet = self.packet.saturating_add(1);
+        if due == 0 {
+            return Taken::Nothing;
+        }
+        let count = due.min(room.len());
+        let end = self.begin.saturating_add(count);
+        let Some(bytes) = self.bytes.get(self.begin..end) else {
+            return Taken::Nothing;
+        };
+        room[..count].copy_from_slice(bytes);
+        self.begin = end;
+        if count == due {
+            self.next = self.next.saturating_add(1);
+        }
+        Taken::Bytes(count)
+    }
+
+    fn answer(&mut self, reply: &[u8]) -> bool {
+        let digits = Digits(reply);
+        if writeln!(self.replies, "reply {digits}").is_ok() && self.replies.flush().is_ok() {
+            return true;
+        }
+        self.lost = self.lost.saturating_add(1);
+        false
+    }
+}

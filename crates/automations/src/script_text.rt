@@ -1,0 +1,179 @@
+//! The text of a script, read byte by byte.
+
+ghost use Rattle.std.specs.Prelude.{IfErr, IfOk, ◌<◌};
+ghost use Rattle.automations.specs.Scripts.{IsOfText};
+
+use crate::script::ScriptFault;
+use hex_digits::value_of;
+use std::alloc::{Allocator, Global};
+
+/// The most bytes of a line.
+const MOST: usize = 4_096;
+
+/// A line of a script.
+#[derive(Clone, Copy, Debug, PartialEq, Eq)]
+pub struct Line {
+    /// The packet before which the bytes come, from 0.
+    pub packet: u64,
+    /// Where its bytes end, behind those of the lines before it.
+    pub end: usize,
+}
+
+/// Where in a line the reading stands.
+#[derive(Clone, Copy, Debug, PartialEq, Eq)]
+enum Place {
+    /// Before its first byte.
+    Start,
+    /// In the packet's number, so far this.
+    Number(u64),
+    /// Behind the space, where a whole byte may begin; so many bytes came.
+    Bytes(u64, usize),
+    /// Behind the first digit of a byte, of this value; so many bytes came before it.
+    Half(u64, usize, u8),
+}
+
+/// The lines of a script, as far as it was read.
+#[derive(Drop)]
+pub struct Reading<M: Allocator = Global> {
+    bytes: Vec<u8, M>,
+    lines: Vec<Line, M>,
+    place: Place,
+}
+
+/// The number with a decimal digit more.
+fn with_digit(number: u64, digit: u8) -> Result<u64, ScriptFault>
+    ensures refused { IfErr result IsOfText }
+{
+    let Some(value) = digit.checked_sub(b'0') else {
+        return Err(ScriptFault::BadScript);
+    };
+    if value > 9 {
+        return Err(ScriptFault::BadScript);
+    }
+    let Some(tens) = number.checked_mul(10) else {
+        return Err(ScriptFault::BadScript);
+    };
+    match tens.checked_add(u64::from(value)) {
+        Some(sum) => Ok(sum),
+        None => Err(ScriptFault::BadScript),
+    }
+}
+
+/// The value of a hexadecimal digit.
+fn half(byte: u8) -> Result<u8, ScriptFault>
+    ensures below { IfOk result (λ value. value < 16) }
+    ensures refused { IfErr result IsOfText }
+{
+    match value_of(byte) {
+        Some(value) => Ok(value),
+        None => Err(ScriptFault::BadScript),
+    }
+}
+
+impl<M: Allocator + Copy> Reading<M> {
+    /// Nothing was read; its memory is this allocator's.
+    pub fn new_in(alloc: M) -> Reading<M> {
+        Reading {
+            bytes: Vec::new(alloc),
+            lines: Vec::new(alloc),
+            place: Place::Start,
+        }
+    }
+}
+
+impl<M: Allocator> Reading<M> {
+    /// Whether lines with this number rise from those before.
+    fn rises(&self, packet: u64) -> bool {
+        match self.lines.last() {
+            Some(line) => line.packet < packet,
+            None => true,
+        }
+    }
+
+    /// Ends a line behind so many bytes.
+    fn end_line(&mut self, packet: u64, count: usize) -> Result<(), ScriptFault>
+        ensures refused { IfErr result IsOfText }
+    {
+        if count == 0 {
+            return Err(ScriptFault::BadScript);
+        }
+        let end = self.bytes.len();
+        let Ok(()) = self.lines.push(Line { packet, end }) else {
+            return Err(ScriptFault::OutOfMemory);
+        };
+        Ok(())
+    }
+
+    /// Where the reading stands behind one byte more.
+    fn behind(&mut self, byte: u8) -> Result<Place, ScriptFault>
+        ensures refused { IfErr result IsOfText }
+    {
+        match self.place {
+            Place::Start => Ok(Place::Number(with_digit(0, byte)?)),
+            Place::Number(number) => {
+                if byte != b' ' {
+                    return Ok(Place::Number(with_digit(number, byte)?));
+                }
+                if self.rises(number) {
+                    Ok(Place::Bytes(number, 0))
+                } else {
+                    Err(ScriptFault::BadScript)
+                }
+            }
+            Place::Bytes(packet, count) => {
+                if byte == b'\n' {
+                    self.end_line(packet, count)?;
+                    return Ok(Place::Start);
+                }
+                if count == MOST {
+                    return Err(ScriptFault::BadScript);
+                }
+                Ok(Place::Half(packet, count, half(byte)?))
+            }
+            Place::Half(packet, count, high) => {
+                let low = half(byte)?;
+                let Ok(()) = self.bytes.push(high % 16 * 16 + low) else {
+                    return Err(ScriptFault::OutOfMemory);
+                };
+                Ok(Place::Bytes(packet, count.saturating_add(1)))
+            }
+        }
+    }
+
+    /// Reads bytes of the text.
+    pub fn take_in(&mut self, text: &[u8]) -> Result<(), ScriptFault>
+        ensures refused { IfErr result IsOfText }
+    {
+        for byte in text {
+            self.place = self.behind(*byte)?;
+        }
+        Ok(())
+    }
+
+    /// The end of the text, behind which the end of the last line may be missing.
+    pub fn finish(&mut self) -> Result<(), ScriptFault>
+        ensures refused { IfErr result IsOfText }
+    {
+        match self.place {
+            Place::Start => Ok(()),
+            Place::Bytes(packet, count) => self.end_line(packet, count),
+            Place::Number(_) => Err(ScriptFault::BadScript),
+            Place::Half(_, _, _) => Err(ScriptFault::BadScript),
+        }
+    }
+
+    /// The number, from 1, of the line in which the reading stands.
+    pub fn line(&self) -> usize {
+        self.lines.len().saturating_add(1)
+    }
+
+    /// The bytes of all lines, and the lines.
+    pub fn into_parts(self) -> (Vec<u8, M>, Vec<Line, M>) {
+        let Reading {
+            bytes,
+            lines,
+            place: _,
+        } = self;
+        (bytes, lines)
+    }
+}

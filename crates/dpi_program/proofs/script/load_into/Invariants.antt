@@ -1,8 +1,0 @@
-use Rattle.ts_packet.specs.Transfers.{Rose, WentWell}
-use Rattle.dpi_program.proofs.script.load_into.Given as goal
-
-abbrev pub invariant-loop-turn : goal.invariant-loop-turn
-invariant-loop-turn g l = record {
-  turns : Rose l._turn (g.S.Source.counts l.initial.reader).calls (g.S.Source.counts l.reader).calls;
-  well : WentWell (g.S.Source.counts l.initial.reader) (g.S.Source.counts l.reader);
-}
