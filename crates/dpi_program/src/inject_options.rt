@@ -60,6 +60,26 @@ The same from a pipe, with an automation system on port 5167:
 Exit status: 0 where the whole stream went through; 1 at a fault, which is named on standard error as `fault: NAME`, and
 what went out before it stands; 2 where the command line is not taken, or asks for help or the version.";
 
+const RUN_ABOUT: &str =
+    "Plays advertisements in the breaks that an automation asks for (SCTE 104), in one pass";
+
+const RUN_LONG_ABOUT: &str =
+    "Plays advertisements in the breaks of one program of a transport stream that an automation system asks for (SCTE 104): what `inject`
+puts out, as `splice` passes it on, in one pass. The cues do not go out.
+
+At the end standard output has the three lines of `inject` and the four of `splice`. With --out - the packets go to standard output,
+and the replies and these lines to standard error. One of the network, the script and the list may be standard input. The output file is
+written from the begin; it may not be an input.";
+
+const RUN_EXAMPLE: &str =
+    "Example, with a list whose one line is `7 advert.ts`:
+  dpi_chain run --network network.ts --program 1 --cue-pid 496 --index 1 --script breaks.txt --adverts list.txt --out spliced.ts
+
+`dpi_chain inject --help` tells of scripts and ports, `dpi_chain splice --help` of lists.";
+
+const RUN_USAGE: &str =
+    "dpi_chain run --network <FILE> --program <N> --cue-pid <PID> --index <N> <--script <FILE>|--listen <PORT>> --adverts <FILE> --out <FILE> [--verbose]";
+
 /// How the subcommand is called.
 pub const INJECT_USAGE: &str =
     "dpi_chain inject --network <FILE> --program <N> --cue-pid <PID> --index <N> <--script <FILE>|--listen <PORT>> --out <FILE> [--verbose]";
@@ -267,7 +287,7 @@ fn asking_of<'a>(
 
 /// Whether the end is standard input.
 pub(crate) fn is_standard(end: End<'_>) -> bool
-    ensures { result ≡ is_standard end }
+    ensures { result ≡ is_standard end.entry }
 {
     match end {
         End::Standard => true,
@@ -281,9 +301,9 @@ fn check_inputs<'a>(
     asking: Asking<'a>,
     adverts: Option<End<'a>>,
 ) -> Result<(), BadInject<'a>>
-    ensures one { is_ok result ≡ nat_lt (standard_inputs network asking adverts) 2 }
+    ensures one { is_ok result ≡ nat_lt (standard_inputs network.entry asking.entry adverts.entry) 2 }
     ensures which { IfErr result (λ bad. bad ≡
-        (if is_standard network && is_asked_there asking then BadInject.Input else BadInject.ListInput)) }
+        (if is_standard network.entry && is_asked_there asking.entry then BadInject.Input else BadInject.ListInput)) }
 {
     let is_network = is_standard(network);
     let is_script = match asking {
@@ -339,7 +359,13 @@ pub fn run_command<'a>(alloc: Global) -> Result<Command<'a>, AllocError> {
         "The list of the advertisements, lines of a number, a space and a path; - is standard input",
     )
     .required(true);
-    inject_command(alloc)?.name("run").arg(adverts)
+    inject_command(alloc)?
+        .name("run")
+        .about(RUN_ABOUT)
+        .long_about(RUN_LONG_ABOUT)
+        .after_help(RUN_EXAMPLE)
+        .override_usage(RUN_USAGE)
+        .arg(adverts)
 }
 
 /// What the options of `run` say.

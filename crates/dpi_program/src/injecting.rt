@@ -140,10 +140,15 @@ where
         network: &mut P,
         out: &mut K,
     ) -> Result<Report, ProgramFault> {
-        let Ok(chain) = Chain::new(self.alloc, self.options.config) else {
+        let Cueing {
+            alloc,
+            options,
+            asker,
+        } = self;
+        let Ok(chain) = Chain::new(alloc, options.config) else {
             return Err(ProgramFault::OutOfMemory);
         };
-        match cue(chain, network, self.asker, out) {
+        match cue(chain, network, asker, out) {
             Ok(report) => Ok(report),
             Err(fault) => Err(told_fault(fault)),
         }
@@ -177,10 +182,16 @@ where
         network: &mut P,
         out: &mut K,
     ) -> Result<Report, ProgramFault> {
-        let Ok(chain) = Chain::new(self.alloc, self.options.config) else {
+        let Playing {
+            alloc,
+            options,
+            asker,
+            library,
+        } = self;
+        let Ok(chain) = Chain::new(alloc, options.config) else {
             return Err(ProgramFault::OutOfMemory);
         };
-        match play(chain, network, self.asker, self.library, out) {
+        match play(chain, network, asker, library, out) {
             Ok(report) => Ok(report),
             Err(fault) => Err(told_fault(fault)),
         }
@@ -237,7 +248,7 @@ where
         Some(library) => {
             let passage = Playing {
                 alloc,
-                options,
+                options: &*options,
                 asker: &mut asker,
                 library,
             };
@@ -246,7 +257,7 @@ where
         None => {
             let passage = Cueing {
                 alloc,
-                options,
+                options: &*options,
                 asker: &mut asker,
             };
             run_from(alloc, passage, watched, is_live, input, output)

@@ -30,4 +30,6 @@ mod inject_fail_tests;
 #[cfg(test)]
 mod inject_tests;
 #[cfg(test)]
+mod splice_tests;
+#[cfg(test)]
 mod tests;

@@ -48,10 +48,10 @@ where
     ensures reads { P.leads network.old network.new }
     ensures leads { K.leads out.old out.new }
 {
-    let Some(mut connection) = accept(listener) else {
+    let Some(mut client) = accept(listener) else {
         return Err(ListenFault::Accept);
     };
-    match run_inject(chain, network, &mut connection, out) {
+    match run_inject(chain, network, &mut client, out) {
         Ok(report) => Ok(report),
         Err(fault) => Err(ListenFault::Run(fault)),
     }

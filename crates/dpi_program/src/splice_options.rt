@@ -175,7 +175,7 @@ fn config_of<'a>(program: &'a str, cue_pid: &'a str) -> Result<Config, BadSplice
 
 /// The network and the list come from different ends: one of them alone may be standard input.
 fn check_inputs<'a>(network: End<'a>, adverts: End<'a>) -> Result<(), BadSplice<'a>>
-    ensures one { is_ok result ≡ not (is_standard network && is_standard adverts) }
+    ensures one { is_ok result ≡ not (is_standard network.entry && is_standard adverts.entry) }
     ensures which { IfErr result (λ bad. bad ≡ BadSplice.Input) }
 {
     if is_standard(network) && is_standard(adverts) {
