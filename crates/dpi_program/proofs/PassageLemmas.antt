@@ -5,14 +5,11 @@ use Rattle.std.proofs.lemmas.List.{append-nil}
 use Rattle.std.specs.Io.KnownBytes.{Keeps, append_known}
 use Rattle.psi_tables.specs.declared.config.Config.{Config}
 use Rattle.ts_packet.specs.declared.sink.PutFault.{PutFault}
-use Rattle.scte104_codec.specs.declared.reply.Reply.{Reply}
 use Rattle.ad_library.specs.Advertisements.{Advertisement}
 use Rattle.splice_plans.specs.declared.report.SwitchReport.{SwitchReport}
-use Rattle.chain_engine.specs.Automation.{Take}
 use Rattle.chain_engine.specs.Runs.{InjectsAll}
 use Rattle.chain_engine.specs.Splices.{SplicesAll}
 use Rattle.chain_engine.specs.ChainRuns as chain
-use Rattle.chain_engine.specs.declared.hearing.SessionEnd.{SessionEnd}
 use Rattle.chain_engine.specs.declared.report.Report.{Report}
 use Rattle.chain_engine.specs.declared.chain.RunFault.{RunFault}
 use Rattle.unit_cut.specs.Runs.{CutsAll}
@@ -65,7 +62,7 @@ pub cuts : (pid from length : ℕ) (input : Option (List ℕ)) (is_out : List (L
 cuts pid from length None is_out report h = tt
 cuts pid from length (Some bs) is_out report h = (_, (h.0, refl), h.1)
 
-pub cues : (c : Config) (told : Option SessionEnd → List Take → List Reply → Type 0) (input : Option (List ℕ)) (is_out : List (List ℕ) → Type 0) (report : Report) → InjectsAll c input is_out told report
+pub cues : (c : Config) (told : _) (input : Option (List ℕ)) (is_out : List (List ℕ) → Type 0) (report : Report) → InjectsAll c input is_out told report
     → PassesAll (Cues c) input is_out report
 cues c told None is_out report h = tt
 cues c told (Some bs) is_out report h = (
@@ -86,7 +83,7 @@ pub splices : (c : Config) (filed : ℕ → Option Advertisement) (input : Optio
 splices c filed None is_out report h = tt
 splices c filed (Some bs) is_out report h = (_, record { sound = h.sound; written = refl; counted = h.counted }, h.written)
 
-pub plays : (c : Config) (filed : ℕ → Option Advertisement) (told : Option SessionEnd → List Take → List Reply → Type 0) (input : Option (List ℕ)) (is_out : List (List ℕ) → Type 0) (report : Report)
+pub plays : (c : Config) (filed : ℕ → Option Advertisement) (told : _) (input : Option (List ℕ)) (is_out : List (List ℕ) → Type 0) (report : Report)
     → chain.RunsAll c filed input is_out told report → PassesAll (Plays c filed) input is_out report
 plays c filed told None is_out report h = tt
 plays c filed told (Some bs) is_out report h = (
@@ -102,7 +99,7 @@ plays c filed told (Some bs) is_out report h = (
   h.written,
 )
 
-pub plays_stop : (c : Config) (filed : ℕ → Option Advertisement) (told : Option SessionEnd → List Take → List Reply → Type 0) (fault : RunFault) (input : Option (List ℕ)) (is_out : List (List ℕ) → Type 0)
+pub plays_stop : (c : Config) (filed : ℕ → Option Advertisement) (told : _) (fault : RunFault) (input : Option (List ℕ)) (is_out : List (List ℕ) → Type 0)
     (fails : List (List ℕ) → List ℕ → PutFault → Type 0) → chain.StopsAt c filed fault input is_out fails told → chain.StopsAt c filed fault input is_out fails (λ ending ts rs. Unit {0})
 plays_stop c filed told fault None is_out fails h = tt
 plays_stop c filed told fault (Some bs) is_out fails h = record {

@@ -183,9 +183,7 @@ where
         }
         None => cut_from_bytes(alloc, options, input, file, output, true),
     };
-    let seen = ran?.seen;
-    Ok(seen.map(|seen| Account {
-        pid: options.pid,
-        seen,
-    }))
+    let pid = options.pid;
+    let Ran { report: (), seen } = ran?;
+    Ok(seen.map(|(read, written)| Account { pid, read, written }))
 }

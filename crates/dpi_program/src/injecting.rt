@@ -243,7 +243,8 @@ where
     L::Stream: OpenStream + Read + Write + Drop,
 {
     let mut asker = asker;
-    let watched = options.is_verbose.then_some(options.config.cue_pid);
+    let cue_pid = options.config.cue_pid;
+    let watched = options.is_verbose.then_some(cue_pid);
     let ran = match &library {
         Some(library) => {
             let passage = Playing {
@@ -267,9 +268,10 @@ where
     Ok(Injected {
         plays: library.is_some(),
         report,
-        account: seen.map(|seen| CueAccount {
-            cue_pid: options.config.cue_pid,
-            seen,
+        account: seen.map(|(read, written)| CueAccount {
+            cue_pid,
+            read,
+            written,
         }),
     })
 }

@@ -175,8 +175,8 @@ where
     if !is_out {
         return report(faults, ProgramFault::Print);
     }
-    if let Some(seen) = spliced.seen {
-        let account = SpliceAccount { seen };
+    if let Some((read, written)) = spliced.seen {
+        let account = SpliceAccount { read, written };
         let _ = write!(faults, "{account}");
     }
     DONE

@@ -7,7 +7,7 @@ ghost use Rattle.dpi_program.specs.Runs.{PassesAll};
 
 use crate::fault::ProgramFault;
 use crate::tell::{Side, Stopped};
-use crate::watch::{Seen, Watched};
+use crate::watch::{Watch, Watched};
 use chain_engine::RunFault;
 use packet_lines::LinesFault;
 use psi_tables::FeedFault;
@@ -48,7 +48,7 @@ pub trait Passage: Drop {
 #[derive(Drop)]
 pub struct Passed<T> {
     pub outcome: Result<T, ProgramFault>,
-    pub seen: Option<Seen>,
+    pub seen: Option<(Watch, Watch)>,
 }
 
 /// Passes the network on, and where a PID is to be watched sees what goes by.
@@ -74,10 +74,7 @@ pub fn pass_watched<S: Passage, P: PacketSource, K: PacketSink>(
     let mut watched_network = Watched::new(network, pid);
     let mut watched_out = Watched::new(out, pid);
     let outcome = passage.pass(&mut watched_network, &mut watched_out);
-    let seen = Some(Seen {
-        read: watched_network.seen(),
-        written: watched_out.seen(),
-    });
+    let seen = Some((watched_network.seen(), watched_out.seen()));
     Passed { outcome, seen }
 }
 
@@ -86,7 +83,7 @@ pub fn pass_watched<S: Passage, P: PacketSource, K: PacketSink>(
 pub struct Finished<T, O> {
     pub outcome: Result<T, ProgramFault>,
     pub output: Attended<O>,
-    pub seen: Option<Seen>,
+    pub seen: Option<(Watch, Watch)>,
 }
 
 /// Runs to a writer, each packet as it comes: what came in before a pause goes out before it.
@@ -144,7 +141,7 @@ pub struct Ended<T> {
     pub outcome: Result<T, ProgramFault>,
     /// The reason of the output's last failure.
     pub reason: Option<io::Error>,
-    pub seen: Option<Seen>,
+    pub seen: Option<(Watch, Watch)>,
 }
 
 /// Lets go of the output, but for the reason of its last failure.
@@ -187,7 +184,7 @@ pub fn run_to<S: Passage, P: PacketSource, O: Write + Drop>(
 #[derive(Drop)]
 pub struct Ran<T> {
     pub report: T,
-    pub seen: Option<Seen>,
+    pub seen: Option<(Watch, Watch)>,
 }
 
 /// What was done when a run stopped with this fault.
@@ -227,7 +224,7 @@ impl<T: Drop> Ended<T> {
                 Side::Writing => reason,
                 _ => None,
             },
-            read: seen.map(|seen| seen.read),
+            read: seen.map(|(read, _)| read),
             line: None,
         })
     }

@@ -1,7 +1,7 @@
 //! What `--verbose` adds: a line behind the fault's line, and a line at the end of a run that went through.
 
 use crate::fault::ProgramFault;
-use crate::watch::{Seen, Watch};
+use crate::watch::Watch;
 use chain_engine::RunFault;
 use packet_lines::LinesFault;
 use psi_tables::FeedFault;
@@ -144,21 +144,23 @@ impl fmt::Display for Trouble<'_> {
 pub struct Account {
     /// The PID that was cut.
     pub pid: Pid,
-    /// What was read and written.
-    pub seen: Seen,
+    /// What was read.
+    pub read: Watch,
+    /// What was written.
+    pub written: Watch,
 }
 
 impl fmt::Display for Account {
     fn fmt<W: fmt::Write>(&self, f: &mut fmt::Formatter<W>) -> fmt::Result {
-        let (packets, units) = (self.seen.read.packets(), self.seen.read.units());
-        let packets_out = packets.saturating_sub(self.seen.written.packets());
-        let units_out = units.saturating_sub(self.seen.written.units());
+        let (packets, units) = (self.read.packets(), self.read.units());
+        let packets_out = packets.saturating_sub(self.written.packets());
+        let units_out = units.saturating_sub(self.written.units());
         let pid = BothWays { pid: self.pid };
         write!(
             f,
             "cut: {units_out} of {units} units of {pid}, {packets_out} of {packets} packets left out"
         )?;
-        match self.seen.read.stamps() {
+        match self.read.stamps() {
             Some(stamps) => writeln!(f, "; its time stamps go from {stamps}"),
             None => writeln!(f, "; it has no time stamps"),
         }
@@ -170,14 +172,16 @@ impl fmt::Display for Account {
 pub struct CueAccount {
     /// The PID of the cues.
     pub cue_pid: Pid,
-    /// What was read, and what was written, with the cues as units of their PID.
-    pub seen: Seen,
+    /// What was read.
+    pub read: Watch,
+    /// What was written, with the cues as units of their PID.
+    pub written: Watch,
 }
 
 impl fmt::Display for CueAccount {
     fn fmt<W: fmt::Write>(&self, f: &mut fmt::Formatter<W>) -> fmt::Result {
-        let cues = self.seen.written.units();
-        let (read, written) = (self.seen.read.packets(), self.seen.written.packets());
+        let cues = self.written.units();
+        let (read, written) = (self.read.packets(), self.written.packets());
         let pid = BothWays { pid: self.cue_pid };
         writeln!(
             f,
@@ -189,13 +193,15 @@ impl fmt::Display for CueAccount {
 /// What a run with advertisements that went through has done.
 #[derive(Clone, Copy, Debug)]
 pub struct SpliceAccount {
-    /// What was read and written.
-    pub seen: Seen,
+    /// What was read.
+    pub read: Watch,
+    /// What was written.
+    pub written: Watch,
 }
 
 impl fmt::Display for SpliceAccount {
     fn fmt<W: fmt::Write>(&self, f: &mut fmt::Formatter<W>) -> fmt::Result {
-        let (read, written) = (self.seen.read.packets(), self.seen.written.packets());
+        let (read, written) = (self.read.packets(), self.written.packets());
         writeln!(f, "splice: {read} packets read, {written} written")
     }
 }

@@ -117,15 +117,6 @@ impl Watch {
     }
 }
 
-/// What was seen of a run's two streams.
-#[derive(Clone, Copy, Debug)]
-pub struct Seen {
-    /// What was read.
-    pub read: Watch,
-    /// What was written.
-    pub written: Watch,
-}
-
 /// A source or a sink whose packets are watched.
 #[derive(Drop)]
 pub struct Watched<'a, D> {

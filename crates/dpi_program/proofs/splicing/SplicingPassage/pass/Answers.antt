@@ -1,6 +1,0 @@
-use Rattle.std.proofs.Common.{[]}
-use Rattle.dpi_program.proofs.PassageLemmas.{splices}
-use Rattle.dpi_program.proofs.splicing.SplicingPassage.pass.Goals as goal
-
-pub returns-in-Ok-clause-done : goal.returns-in-Ok-clause-done
-returns-in-Ok-clause-done g c = λ start held. splices _ _ _ _ _ (c.in-Ok.ensures.ok start [] held)
