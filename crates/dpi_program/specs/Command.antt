@@ -1,5 +1,5 @@
 -- Which command lines are refused, and what is named.
-use Rattle.std.specs.Prelude.{◌≡◌, ℕ, ◌^◌, ◌+◌, List, Bool, true, false, if◌then◌else◌, Option, Some, None, IsSome}
+use Rattle.std.specs.Prelude.{◌≡◌, ℕ, ◌^◌, List, Bool, true, false, ◌&&◌, ◌||◌, Option, Some, None, IsSome}
 use Rattle.decimal_numbers.specs.Numbers.{number_below, number_within}
 use Rattle.run_ends.specs.declared.ends.End.{End}
 use Rattle.run_ends.specs.declared.ends.End.TheVariants.{Lines, Standard, File}
@@ -83,9 +83,6 @@ abbrev pub is_listed_there : Option End → Bool
 is_listed_there None = false
 is_listed_there (Some end) = is_standard end
 
-abbrev pub count_of : Bool → ℕ
-count_of b = if b then 1 else 0
-
--- how many of the network, the messages and the list are standard input
-abbrev pub standard_inputs : End → Asked → Option End → ℕ
-standard_inputs network asking adverts = count_of (is_standard network) + count_of (is_asked_there asking) + count_of (is_listed_there adverts)
+-- two of three are so
+abbrev pub are_two : Bool → Bool → Bool → Bool
+are_two a b c = (a && b) || (c && (a || b))

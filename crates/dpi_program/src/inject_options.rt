@@ -1,8 +1,8 @@
 //! The command line of the subcommand `inject`: its options and their ranges.
 
-ghost use Rattle.std.specs.Prelude.{◌≡◌, ◌^◌, ◌&&◌, if◌then◌else◌, nat_lt, IfOk, IfErr, OnOk, Some, Err, is_ok, is_some, not, IsSomeAnd};
+ghost use Rattle.std.specs.Prelude.{◌≡◌, ◌^◌, IfOk, IfErr, OnOk, Some, None, Err, is_ok, is_some, not, IsSomeAnd};
 ghost use Rattle.decimal_numbers.specs.Numbers.{number_below, number_within};
-ghost use Rattle.dpi_program.specs.Command.{IsRefusedOf, refused_option, is_standard, is_asked_there, standard_inputs};
+ghost use Rattle.dpi_program.specs.Command.{IsRefusedOf, refused_option, is_standard, is_asked_there, is_listed_there, are_two};
 
 use crate::command::{BadNumber, NumberOption, option};
 use clap::{Arg, ArgAction, ArgMatches, Command};
@@ -295,25 +295,39 @@ pub(crate) fn is_standard(end: End<'_>) -> bool
     }
 }
 
+/// Whether the messages come from standard input.
+fn is_asked_there(asking: Asking<'_>) -> bool
+    ensures { result ≡ is_asked_there asking.entry }
+{
+    match asking {
+        Asking::Script(end) => is_standard(end),
+        Asking::Port(_) => false,
+    }
+}
+
+/// Whether the list does, where there is one.
+fn is_listed_there(adverts: Option<End<'_>>) -> bool
+    ensures { result ≡ is_listed_there adverts.entry }
+{
+    match adverts {
+        Some(end) => is_standard(end),
+        None => false,
+    }
+}
+
 /// The network, the messages and the list, where there is one, come from different ends: one of them alone may be standard input.
 fn check_inputs<'a>(
     network: End<'a>,
     asking: Asking<'a>,
     adverts: Option<End<'a>>,
 ) -> Result<(), BadInject<'a>>
-    ensures one { is_ok result ≡ nat_lt (standard_inputs network.entry asking.entry adverts.entry) 2 }
-    ensures which { IfErr result (λ bad. bad ≡
-        (if is_standard network.entry && is_asked_there asking.entry then BadInject.Input else BadInject.ListInput)) }
+    ensures one { is_ok result ≡ not (are_two (is_standard network.entry) (is_asked_there asking.entry)
+        (is_listed_there adverts.entry)) }
+    ensures which { IfErr result (λ bad. refused_option bad ≡ None) }
 {
     let is_network = is_standard(network);
-    let is_script = match asking {
-        Asking::Script(end) => is_standard(end),
-        Asking::Port(_) => false,
-    };
-    let is_list = match adverts {
-        Some(end) => is_standard(end),
-        None => false,
-    };
+    let is_script = is_asked_there(asking);
+    let is_list = is_listed_there(adverts);
     if is_network && is_script {
         return Err(BadInject::Input);
     }
