@@ -118,7 +118,9 @@ fn cut_from_bytes<R: Read + Drop, F: Write + Drop, O: Write>(
 /// What a cut over lines answers where the cut stopped so.
 fn of_lines(fault: ProgramFault) -> ProgramFault {
     match fault {
-        ProgramFault::Lines(LinesFault::Cut(fault)) => ProgramFault::Lines(LinesFault::of_cut(fault)),
+        ProgramFault::Lines(LinesFault::Cut(fault)) => ProgramFault::Lines(LinesFault::of_cut(
+            fault,
+        )),
         _ => fault,
     }
 }

@@ -3,8 +3,8 @@
 ghost use Rattle.std.specs.Prelude.{◌≡◌};
 ghost use Rattle.dpi_program.specs.Names.{read_name, put_name, cut_name, network_name, run_name, script_name, ad_name, list_name, fault_name};
 
-use ad_lists::ListFault;
 use ad_library::AdFault;
+use ad_lists::ListFault;
 use automations::ScriptFault;
 use chain_engine::RunFault;
 use packet_lines::LinesFault;

@@ -71,8 +71,7 @@ At the end standard output has the three lines of `inject` and the four of `spli
 and the replies and these lines to standard error. One of the network, the script and the list may be standard input. The output file is
 written from the begin; it may not be an input.";
 
-const RUN_EXAMPLE: &str =
-    "Example, with a list whose one line is `7 advert.ts`:
+const RUN_EXAMPLE: &str = "Example, with a list whose one line is `7 advert.ts`:
   dpi_chain run --network network.ts --program 1 --cue-pid 496 --index 1 --script breaks.txt --adverts list.txt --out spliced.ts
 
 `dpi_chain inject --help` tells of scripts and ports, `dpi_chain splice --help` of lists.";

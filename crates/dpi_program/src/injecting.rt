@@ -390,13 +390,17 @@ where
     let alloc = rt.alloc();
     if let Some(standard) = standard {
         let network = opened.map(|(file, _)| file);
-        return run_ends(alloc, options, network, input, is_live, asker, library, standard);
+        return run_ends(
+            alloc, options, network, input, is_live, asker, library, standard,
+        );
     }
     let path = options.output.path().unwrap_or("");
     match create_output(rt, path, about, script.as_ref()) {
         Ok(file) => {
             let network = opened.map(|(file, _)| file);
-            run_ends(alloc, options, network, input, is_live, asker, library, file)
+            run_ends(
+                alloc, options, network, input, is_live, asker, library, file,
+            )
         }
         Err(reason) => Err(unopened(Unopened::Output(reason))),
     }

@@ -14,9 +14,11 @@ use std::alloc::{AllocError, Global};
 use std::fmt;
 use ts_packet::Pid;
 
-const SPLICE_ABOUT: &str = "Plays advertisements in the breaks that the cues (SCTE 35) of a transport stream announce";
+const SPLICE_ABOUT: &str =
+    "Plays advertisements in the breaks that the cues (SCTE 35) of a transport stream announce";
 
-const SPLICE_LONG_ABOUT: &str = "Plays advertisements in the breaks of one program of a transport stream, as the cues (SCTE 35) on its cue PID announce them.
+const SPLICE_LONG_ABOUT: &str =
+    "Plays advertisements in the breaks of one program of a transport stream, as the cues (SCTE 35) on its cue PID announce them.
 
 Where a break was cued before it starts, and the list has an advertisement of its number (unique_program_id) that fills it to half a
 second, the units (PES packets) of the program's pictures and sound whose presentation time (PTS) lies in the break are left out, and
@@ -32,7 +34,8 @@ how many played ones units did not come in the order of their times around an ed
 FILE may be a pipe, and - is standard input or output. What came in before a pause of the network goes out before it. The output
 file is written from the begin; it may not be an input.";
 
-const SPLICE_EXAMPLE: &str = "Numbers are decimal digits: PID 496 is what other tools may show as 0x1F0 (0x1F0 is not taken).
+const SPLICE_EXAMPLE: &str =
+    "Numbers are decimal digits: PID 496 is what other tools may show as 0x1F0 (0x1F0 is not taken).
 
 Example, with a list whose one line is `7 advert.ts`:
   dpi_chain splice --network cued.ts --program 1 --cue-pid 496 --adverts list.txt --out spliced.ts
@@ -131,7 +134,9 @@ pub fn splice_command<'a>(alloc: Global) -> Result<Command<'a>, AllocError> {
     let verbose = Arg::new(alloc, "verbose")
         .long("verbose")
         .action(ArgAction::SetTrue)
-        .help("Tell more on standard error: where a fault stands, or how many packets went through");
+        .help(
+            "Tell more on standard error: where a fault stands, or how many packets went through",
+        );
     Command::new(alloc, "splice")
         .about(SPLICE_ABOUT)
         .long_about(SPLICE_LONG_ABOUT)

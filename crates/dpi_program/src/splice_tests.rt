@@ -61,7 +61,14 @@ fn run<'a>(network: &'a str, script: &'a str, adverts: &'a str, output: &'a str)
 fn bad_command_lines_are_refused(rt: HostRuntime) {
     expect(&rt, &["splice", "--help"], 2, "");
     expect(&rt, &["run", "--help"], 2, "");
-    for (place, number) in [(4, "0"), (4, "65536"), (4, "x"), (6, "15"), (6, "8191"), (6, "0x1F0")] {
+    for (place, number) in [
+        (4, "0"),
+        (4, "65536"),
+        (4, "x"),
+        (6, "15"),
+        (6, "8191"),
+        (6, "0x1F0"),
+    ] {
         let mut words = splice("x", "x", "-");
         words[place] = number;
         expect(&rt, &words, 2, "");
@@ -89,7 +96,12 @@ fn one_end_is_standard_input(rt: HostRuntime) {
     expect(&rt, &run("-", "-", "-", "-"), 2, "");
     expect(&rt, &splice("no/such", "-", "-"), 1, "fault: File\n");
     expect(&rt, &splice("-", "no/such", "-"), 1, "fault: File\n");
-    expect(&rt, &run("no/such", "no/such", "-", "-"), 1, "fault: File\n");
+    expect(
+        &rt,
+        &run("no/such", "no/such", "-", "-"),
+        1,
+        "fault: File\n",
+    );
 }
 
 #[test]

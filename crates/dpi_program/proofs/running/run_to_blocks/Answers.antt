@@ -17,5 +17,5 @@ returns g c =
     let kept = rw same at c.finish_buffer-outcome.ensures.kept in
     record {
       done = finished _ _ start (writer_contents (λ a. g.O.Write.contents a.inner) c.pass_watched-outcome.new.out.target.now.inner) _ bytes_of c.pass_watched-outcome.new.out.is_broken c.pass_watched-outcome.result.outcome _ done
-      c.finish_buffer-outcome.ensures.first c.finish_buffer-outcome.ensures.done kept
+          c.finish_buffer-outcome.ensures.first c.finish_buffer-outcome.ensures.done kept;
     }

@@ -16,5 +16,5 @@ returns g c =
     let kept = rw same at c.finish-outcome.ensures.kept in
     record {
       done = finished _ _ start (g.O.Write.contents c.pass_watched-outcome.new.out.target.now.inner.inner) _ bytes_of c.pass_watched-outcome.new.out.is_broken c.pass_watched-outcome.result.outcome _ done c.finish-outcome.ensures.first
-      c.finish-outcome.ensures.done (anyway c.finish-outcome.result kept)
+          c.finish-outcome.ensures.done (anyway c.finish-outcome.result kept);
     }
