@@ -1,2 +1,1 @@
-pub mod CuttingLemmas
-pub mod InjectingLemmas
+pub mod PassageLemmas

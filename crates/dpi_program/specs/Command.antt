@@ -1,10 +1,16 @@
--- Which number of a command line is refused.
-use Rattle.std.specs.Prelude.{◌≡◌, ℕ, ◌^◌, List, Option, Some, None, IsSome}
+-- Which command lines are refused, and what is named.
+use Rattle.std.specs.Prelude.{◌≡◌, ℕ, ◌^◌, List, Bool, true, false, ◌&&◌, ◌||◌, Option, Some, None, IsSome}
 use Rattle.decimal_numbers.specs.Numbers.{number_below, number_within}
+use Rattle.run_ends.specs.declared.ends.End.{End}
+use Rattle.run_ends.specs.declared.ends.End.TheVariants.{Lines, Standard, File}
+use Rattle.dpi_program.specs.declared.inject_options.Asking.{Asking as Asked}
+use Rattle.dpi_program.specs.declared.inject_options.Asking.TheVariants as asking
 use Rattle.dpi_program.specs.declared.inject_options.BadInject.{BadInject}
-use Rattle.dpi_program.specs.declared.inject_options.BadInject.TheVariants.{Number, Asking, Input}
+use Rattle.dpi_program.specs.declared.inject_options.BadInject.TheVariants.{Number, Asking, Input, ListInput}
+use Rattle.dpi_program.specs.declared.splice_options.BadSplice.{BadSplice}
+use Rattle.dpi_program.specs.declared.splice_options.BadSplice.TheVariants as splice
 use Rattle.dpi_program.specs.declared.command.NumberOption.{NumberOption}
-use Rattle.dpi_program.specs.declared.command.NumberOption.TheVariants.{Pid, From, Length, Program, CuePid, Index, Port}
+use Rattle.dpi_program.specs.declared.command.NumberOption.TheVariants.{Pid, From, Length, Program, CuePid, Index, Port, SpliceProgram, SpliceCuePid}
 
 -- the option is the first whose text is no number in its range, of a PID, a start and a length
 abbrev pub IsRefused : NumberOption → List ℕ → List ℕ → List ℕ → Type 0
@@ -16,6 +22,8 @@ IsRefused Program pid from length = ⊥
 IsRefused CuePid pid from length = ⊥
 IsRefused Index pid from length = ⊥
 IsRefused Port pid from length = ⊥
+IsRefused SpliceProgram pid from length = ⊥
+IsRefused SpliceCuePid pid from length = ⊥
 
 -- likewise, of a program, a PID for its cues and the index of its messages; PIDs below 16 are reserved, and 8191 is
 -- that of null packets (ISO/IEC 13818-1, 2.4.3.3)
@@ -30,9 +38,51 @@ IsRefusedOf Pid program cue_pid index = ⊥
 IsRefusedOf From program cue_pid index = ⊥
 IsRefusedOf Length program cue_pid index = ⊥
 IsRefusedOf Port program cue_pid index = ⊥
+IsRefusedOf SpliceProgram program cue_pid index = ⊥
+IsRefusedOf SpliceCuePid program cue_pid index = ⊥
 
--- the option that a refusal of `inject` names
+-- and of the program and the PID of its cues, as `splice` has them
+abbrev pub IsRefusedOfSplice : NumberOption → List ℕ → List ℕ → Type 0
+IsRefusedOfSplice SpliceProgram program cue_pid = number_within program 1 (2 ^ 16) ≡ None
+IsRefusedOfSplice SpliceCuePid program cue_pid =
+    IsSome (number_within program 1 (2 ^ 16)) × (number_within cue_pid 16 8191 ≡ None)
+IsRefusedOfSplice Pid program cue_pid = ⊥
+IsRefusedOfSplice From program cue_pid = ⊥
+IsRefusedOfSplice Length program cue_pid = ⊥
+IsRefusedOfSplice Program program cue_pid = ⊥
+IsRefusedOfSplice CuePid program cue_pid = ⊥
+IsRefusedOfSplice Index program cue_pid = ⊥
+IsRefusedOfSplice Port program cue_pid = ⊥
+
+-- the option that a refusal of `inject` or `run` names
 abbrev pub refused_option : BadInject → Option NumberOption
 refused_option (Number bad) = Some bad.option
 refused_option Asking = None
 refused_option Input = None
+refused_option ListInput = None
+
+-- and one of `splice`
+abbrev pub refused_of_splice : BadSplice → Option NumberOption
+refused_of_splice (splice.Number bad) = Some bad.option
+refused_of_splice splice.Input = None
+
+-- ---- standard input
+
+abbrev pub is_standard : End → Bool
+is_standard Lines = false
+is_standard Standard = true
+is_standard (File path) = false
+
+-- the messages come from standard input
+abbrev pub is_asked_there : Asked → Bool
+is_asked_there (asking.Script end) = is_standard end
+is_asked_there (asking.Port port) = false
+
+-- the list does, where there is one
+abbrev pub is_listed_there : Option End → Bool
+is_listed_there None = false
+is_listed_there (Some end) = is_standard end
+
+-- two of three are so
+abbrev pub are_two : Bool → Bool → Bool → Bool
+are_two a b c = (a && b) || (c && (a || b))

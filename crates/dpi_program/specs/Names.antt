@@ -9,7 +9,7 @@ use Rattle.unit_cut.specs.declared.run.CutFault.TheVariants.{Read, Scrambled, He
 use Rattle.packet_lines.specs.declared.lines.LinesFault.TheVariants.{BadLine, Cut}
 use Rattle.dpi_program.specs.declared.fault.ProgramFault.{ProgramFault}
 use Rattle.dpi_program.specs.declared.fault.ProgramFault.TheVariants.{Lines, Run, Script, List as OfList, Accept, Print, File}
-use Rattle.dpi_program.specs.declared.fault.ProgramFault.TheVariants.{OutOfMemory}
+use Rattle.dpi_program.specs.declared.fault.ProgramFault.TheVariants.{Unflushed, OutOfMemory}
 use Rattle.chain_engine.specs.declared.chain.RunFault.{RunFault}
 use Rattle.chain_engine.specs.declared.chain.RunFault.TheVariants as run
 use Rattle.psi_tables.specs.declared.network.FeedFault.TheVariants as feed
@@ -99,7 +99,8 @@ fault_name (Run fault) = run_name fault
 fault_name (Script fault) = script_name fault
 fault_name (OfList fault) = list_name fault
 fault_name Accept = codes "Accept"
--- what prints failed, as a device
+-- what prints failed, or what takes the packets at the end, as a device
 fault_name Print = codes "Io"
+fault_name Unflushed = codes "Io"
 fault_name File = codes "File"
 fault_name OutOfMemory = codes "OutOfMemory"

@@ -4,10 +4,10 @@ ghost use Rattle.std.specs.Prelude.{◌≡◌, ◌^◌, IfOk, IfErr, Some};
 ghost use Rattle.decimal_numbers.specs.Numbers.{number_below};
 ghost use Rattle.dpi_program.specs.Command.{IsRefused};
 
-use decimal_numbers::number_below;
 use crate::inject_options::{INJECT_USAGE, inject_command, run_command};
 use crate::splice_options::{SPLICE_USAGE, splice_command};
 use clap::{Arg, ArgAction, ArgMatches, Command};
+use decimal_numbers::number_below;
 use pes_time::Time33;
 use run_ends::End;
 use std::alloc::{AllocError, Global};

@@ -3,8 +3,8 @@
 ghost use Rattle.std.specs.Prelude.{◌≡◌};
 ghost use Rattle.dpi_program.specs.Names.{read_name, put_name, cut_name, network_name, run_name, script_name, ad_name, list_name, fault_name};
 
-use ad_lists::ListFault;
 use ad_library::AdFault;
+use ad_lists::ListFault;
 use automations::ScriptFault;
 use chain_engine::RunFault;
 use packet_lines::LinesFault;
@@ -27,6 +27,8 @@ pub enum ProgramFault {
     Accept,
     /// A reply or the report could not be printed.
     Print,
+    /// The output could not be flushed at the end.
+    Unflushed,
     /// A file could not be opened.
     File,
     /// Memory was refused.
@@ -163,6 +165,7 @@ pub fn fault_name(fault: ProgramFault) -> &'static str
         ProgramFault::List(inner) => list_name(inner),
         ProgramFault::Accept => "Accept",
         ProgramFault::Print => "Io",
+        ProgramFault::Unflushed => "Io",
         ProgramFault::File => "File",
         ProgramFault::OutOfMemory => "OutOfMemory",
     }

@@ -1,12 +1,12 @@
 //! The command line of the subcommand `inject`: its options and their ranges.
 
-ghost use Rattle.std.specs.Prelude.{◌≡◌, ◌^◌, IfOk, IfErr, OnOk, Some, Err, is_some, not, IsSomeAnd};
+ghost use Rattle.std.specs.Prelude.{◌≡◌, ◌^◌, IfOk, IfErr, OnOk, Some, None, Err, is_ok, is_some, not, IsSomeAnd};
 ghost use Rattle.decimal_numbers.specs.Numbers.{number_below, number_within};
-ghost use Rattle.dpi_program.specs.Command.{IsRefusedOf, refused_option};
+ghost use Rattle.dpi_program.specs.Command.{IsRefusedOf, refused_option, is_standard, is_asked_there, is_listed_there, are_two};
 
 use crate::command::{BadNumber, NumberOption, option};
-use decimal_numbers::{number_below, number_within};
 use clap::{Arg, ArgAction, ArgMatches, Command};
+use decimal_numbers::{number_below, number_within};
 use psi_tables::Config;
 use run_ends::End;
 use std::alloc::{AllocError, Global};
@@ -59,6 +59,25 @@ The same from a pipe, with an automation system on port 5167:
 
 Exit status: 0 where the whole stream went through; 1 at a fault, which is named on standard error as `fault: NAME`, and
 what went out before it stands; 2 where the command line is not taken, or asks for help or the version.";
+
+const RUN_ABOUT: &str =
+    "Plays advertisements in the breaks that an automation asks for (SCTE 104), in one pass";
+
+const RUN_LONG_ABOUT: &str =
+    "Plays advertisements in the breaks of one program of a transport stream that an automation system asks for (SCTE 104): what `inject`
+puts out, as `splice` passes it on, in one pass. The cues do not go out.
+
+At the end standard output has the three lines of `inject` and the four of `splice`. With --out - the packets go to standard output,
+and the replies and these lines to standard error. One of the network, the script and the list may be standard input. The output file is
+written from the begin; it may not be an input.";
+
+const RUN_EXAMPLE: &str = "Example, with a list whose one line is `7 advert.ts`:
+  dpi_chain run --network network.ts --program 1 --cue-pid 496 --index 1 --script breaks.txt --adverts list.txt --out spliced.ts
+
+`dpi_chain inject --help` tells of scripts and ports, `dpi_chain splice --help` of lists.";
+
+const RUN_USAGE: &str =
+    "dpi_chain run --network <FILE> --program <N> --cue-pid <PID> --index <N> <--script <FILE>|--listen <PORT>> --adverts <FILE> --out <FILE> [--verbose]";
 
 /// How the subcommand is called.
 pub const INJECT_USAGE: &str =
@@ -265,25 +284,83 @@ fn asking_of<'a>(
     }
 }
 
-/// What the options of `inject` say.
-pub fn inject_options<'a>(matches: &ArgMatches<'a>) -> Result<InjectOptions<'a>, BadInject<'a>> {
+/// Whether the end is standard input.
+pub(crate) fn is_standard(end: End<'_>) -> bool
+    ensures { result ≡ is_standard end.entry }
+{
+    match end {
+        End::Standard => true,
+        End::Lines | End::File(_) => false,
+    }
+}
+
+/// Whether the messages come from standard input.
+fn is_asked_there(asking: Asking<'_>) -> bool
+    ensures { result ≡ is_asked_there asking.entry }
+{
+    match asking {
+        Asking::Script(end) => is_standard(end),
+        Asking::Port(_) => false,
+    }
+}
+
+/// Whether the list does, where there is one.
+fn is_listed_there(adverts: Option<End<'_>>) -> bool
+    ensures { result ≡ is_listed_there adverts.entry }
+{
+    match adverts {
+        Some(end) => is_standard(end),
+        None => false,
+    }
+}
+
+/// The network, the messages and the list, where there is one, come from different ends: one of them alone may be standard input.
+fn check_inputs<'a>(
+    network: End<'a>,
+    asking: Asking<'a>,
+    adverts: Option<End<'a>>,
+) -> Result<(), BadInject<'a>>
+    ensures one { is_ok result ≡ not (are_two (is_standard network.entry) (is_asked_there asking.entry)
+        (is_listed_there adverts.entry)) }
+    ensures which { IfErr result (λ bad. refused_option bad ≡ None) }
+{
+    let is_network = is_standard(network);
+    let is_script = is_asked_there(asking);
+    let is_list = is_listed_there(adverts);
+    if is_network && is_script {
+        return Err(BadInject::Input);
+    }
+    if is_list && (is_network || is_script) {
+        return Err(BadInject::ListInput);
+    }
+    Ok(())
+}
+
+/// What the options of `inject` say, and where the subcommand has a list those of `run`.
+fn asked_options<'a>(
+    matches: &ArgMatches<'a>,
+    adverts: Option<End<'a>>,
+) -> Result<InjectOptions<'a>, BadInject<'a>> {
     let program = matches.get_str("program").unwrap_or("");
     let cue_pid = matches.get_str("cue-pid").unwrap_or("");
     let index = matches.get_str("index").unwrap_or("");
     let config = config_of(program, cue_pid, index)?;
     let asking = asking_of(matches.get_str("script"), matches.get_str("listen"))?;
     let network = End::named(matches.get_str("network"));
-    if network == End::Standard && asking == Asking::Script(End::Standard) {
-        return Err(BadInject::Input);
-    }
+    check_inputs(network, asking, adverts)?;
     Ok(InjectOptions {
         config,
         network,
         asking,
-        adverts: None,
+        adverts,
         output: End::named(matches.get_str("out")),
         is_verbose: matches.get_flag("verbose"),
     })
+}
+
+/// What the options of `inject` say.
+pub fn inject_options<'a>(matches: &ArgMatches<'a>) -> Result<InjectOptions<'a>, BadInject<'a>> {
+    asked_options(matches, None)
 }
 
 /// The subcommand `run`.
@@ -295,18 +372,16 @@ pub fn run_command<'a>(alloc: Global) -> Result<Command<'a>, AllocError> {
         "The list of the advertisements, lines of a number, a space and a path; - is standard input",
     )
     .required(true);
-    inject_command(alloc)?.name("run").arg(adverts)
+    inject_command(alloc)?
+        .name("run")
+        .about(RUN_ABOUT)
+        .long_about(RUN_LONG_ABOUT)
+        .after_help(RUN_EXAMPLE)
+        .override_usage(RUN_USAGE)
+        .arg(adverts)
 }
 
 /// What the options of `run` say.
 pub fn run_options<'a>(matches: &ArgMatches<'a>) -> Result<InjectOptions<'a>, BadInject<'a>> {
-    let mut options = inject_options(matches)?;
-    let adverts = End::named(matches.get_str("adverts"));
-    if adverts == End::Standard
-        && (options.network == End::Standard || options.asking == Asking::Script(End::Standard))
-    {
-        return Err(BadInject::ListInput);
-    }
-    options.adverts = Some(adverts);
-    Ok(options)
+    asked_options(matches, Some(End::named(matches.get_str("adverts"))))
 }

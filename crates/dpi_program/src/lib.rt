@@ -10,6 +10,7 @@ mod inject_options;
 mod injecting;
 mod listening;
 pub mod program;
+mod running;
 mod splice_options;
 mod splicing;
 mod tell;
@@ -28,5 +29,7 @@ mod fail_devices;
 mod inject_fail_tests;
 #[cfg(test)]
 mod inject_tests;
+#[cfg(test)]
+mod splice_tests;
 #[cfg(test)]
 mod tests;

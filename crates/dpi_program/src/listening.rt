@@ -2,8 +2,9 @@
 
 ghost use Rattle.std.specs.Prelude.{◌≡◌, ℕ, List, ◌++◌, Option, false, IfOk, IfErr};
 ghost use Rattle.psi_tables.specs.declared.config.Config.{Config};
+ghost use Rattle.ad_library.specs.Library.{held};
 ghost use Rattle.chain_engine.specs.Chains.{ChainStandsFor};
-ghost use Rattle.dpi_program.specs.Runs.{CuesAll, CuesStop};
+ghost use Rattle.dpi_program.specs.Runs.{PassesAll, Cues, CuesStop, Plays, PlaysStop};
 
 use ad_library::AdLibrary;
 use automations::accept;
@@ -39,7 +40,7 @@ where
     requires { P.is_broken network.old ≡ false }
     ensures ok { (c : Config) (start : Option (List ℕ)) (before : List (List ℕ)) → ChainStandsFor chain c
         → K.holds out.old start before
-        → IfOk result (CuesAll c (P.left network.old) (λ ps. K.holds out.new start (before ++ ps))) }
+        → IfOk result (PassesAll (Cues c) (P.left network.old) (λ ps. K.holds out.new start (before ++ ps))) }
     ensures err { (c : Config) (start : Option (List ℕ)) (before : List (List ℕ)) → ChainStandsFor chain c
         → K.holds out.old start before
         → IfErr result (λ f. CuesStop c f (P.left network.old) (λ ps. K.holds out.new start (before ++ ps))
@@ -47,10 +48,10 @@ where
     ensures reads { P.leads network.old network.new }
     ensures leads { K.leads out.old out.new }
 {
-    let Some(mut connection) = accept(listener) else {
+    let Some(mut client) = accept(listener) else {
         return Err(ListenFault::Accept);
     };
-    match run_inject(chain, network, &mut connection, out) {
+    match run_inject(chain, network, &mut client, out) {
         Ok(report) => Ok(report),
         Err(fault) => Err(ListenFault::Run(fault)),
     }
@@ -71,6 +72,14 @@ where
     L::Stream: OpenStream + Read + Write + Drop,
     K: PacketSink,
     requires { P.is_broken network.old ≡ false }
+    ensures ok { (c : Config) (start : Option (List ℕ)) (before : List (List ℕ)) → ChainStandsFor chain c
+        → K.holds out.old start before → IfOk result (PassesAll (Plays c (held library.now)) (P.left network.old)
+        (λ ps. K.holds out.new start (before ++ ps))) }
+    ensures err { (c : Config) (start : Option (List ℕ)) (before : List (List ℕ)) → ChainStandsFor chain c
+        → K.holds out.old start before → IfErr result (λ f. PlaysStop c (held library.now) f (P.left network.old)
+        (λ ps. K.holds out.new start (before ++ ps)) (λ ps. K.fails out.new start (before ++ ps))) }
+    ensures reads { P.leads network.old network.new }
+    ensures leads { K.leads out.old out.new }
 {
     let Some(mut connection) = accept(listener) else {
         return Err(ListenFault::Accept);

@@ -10,10 +10,11 @@ use crate::inject_options::{InjectOptions, inject_options, run_options};
 use crate::injecting::{Injected, run_inject_command};
 use crate::splice_options::{SpliceOptions, splice_options};
 use crate::splicing::run_splice_command;
-use crate::tell::{Side, Stopped, Trouble};
+use crate::tell::{Side, SpliceAccount, Stopped, Trouble};
 use clap::Error;
-use splice_plans::SwitchReport;
 use clap::error::ErrorKind;
+use splice_plans::SwitchReport;
+use std::fmt;
 use std::io::{Read, Write};
 use std::net::Net;
 use std::rt::Files;
@@ -86,7 +87,7 @@ fn report_inject<E: Write>(faults: &mut E, options: &InjectOptions<'_>, stopped:
     status
 }
 
-/// Runs `inject`, and answers the exit status.
+/// Runs `inject` or `run`, and answers the exit status.
 fn inject<R, I, O, E>(
     rt: &R,
     options: &InjectOptions<'_>,
@@ -174,7 +175,8 @@ where
     if !is_out {
         return report(faults, ProgramFault::Print);
     }
-    if let Some(account) = spliced.account {
+    if let Some((read, written)) = spliced.seen {
+        let account = SpliceAccount { read, written };
         let _ = write!(faults, "{account}");
     }
     DONE
@@ -189,6 +191,14 @@ fn answer<E: Write>(faults: &mut E, error: &Error) -> u8
         return report(faults, ProgramFault::OutOfMemory);
     }
     let _ = write!(faults, "{error}");
+    USAGE
+}
+
+/// Prints why a command line is not taken.
+fn refuse<E: Write, B: fmt::Display>(faults: &mut E, bad: &B) -> u8
+    ensures { result ≡ 2 }
+{
+    let _ = write!(faults, "{bad}");
     USAGE
 }
 
@@ -242,41 +252,27 @@ where
         Ok(matches) => matches,
         Err(error) => return answer(faults, &error),
     };
-    if let Some(given) = matches.subcommand_matches("run") {
-        return match run_options(given) {
-            Ok(options) => inject(rt, &options, input, output, faults),
-            Err(bad) => {
-                let _ = write!(faults, "{bad}");
-                USAGE
-            }
-        };
-    }
-    if let Some(given) = matches.subcommand_matches("inject") {
-        return match inject_options(given) {
-            Ok(options) => inject(rt, &options, input, output, faults),
-            Err(bad) => {
-                let _ = write!(faults, "{bad}");
-                USAGE
-            }
+    if let Some(given) = matches.subcommand_matches("cut") {
+        return match cut_options(given) {
+            Ok(options) => cut(rt, &options, input, output, faults),
+            Err(bad) => refuse(faults, &bad),
         };
     }
     if let Some(given) = matches.subcommand_matches("splice") {
         return match splice_options(given) {
             Ok(options) => splice(rt, &options, input, output, faults),
-            Err(bad) => {
-                let _ = write!(faults, "{bad}");
-                USAGE
-            }
+            Err(bad) => refuse(faults, &bad),
         };
     }
-    let Some(given) = matches.subcommand_matches("cut") else {
+    let asked = if let Some(given) = matches.subcommand_matches("run") {
+        run_options(given)
+    } else if let Some(given) = matches.subcommand_matches("inject") {
+        inject_options(given)
+    } else {
         return USAGE;
     };
-    match cut_options(given) {
-        Ok(options) => cut(rt, &options, input, output, faults),
-        Err(bad) => {
-            let _ = write!(faults, "{bad}");
-            USAGE
-        }
+    match asked {
+        Ok(options) => inject(rt, &options, input, output, faults),
+        Err(bad) => refuse(faults, &bad),
     }
 }

@@ -1,22 +1,24 @@
 //! The command line of the subcommand `splice`: its options and their ranges.
 
-ghost use Rattle.std.specs.Prelude.{◌≡◌, ◌^◌, IfOk, IfErr, Some, IsSomeAnd};
+ghost use Rattle.std.specs.Prelude.{◌≡◌, ◌^◌, ◌&&◌, not, is_ok, IfOk, IfErr, Some, IsSomeAnd};
 ghost use Rattle.decimal_numbers.specs.Numbers.{number_within};
-ghost use Rattle.dpi_program.specs.Command.{IsRefusedOf, refused_of_splice};
+ghost use Rattle.dpi_program.specs.Command.{IsRefusedOfSplice, refused_of_splice, is_standard};
 
 use crate::command::{BadNumber, NumberOption, option};
-use decimal_numbers::number_within;
-use crate::inject_options::{LEAST_PID, NULL_PID, NUMBER_LIMIT};
+use crate::inject_options::{LEAST_PID, NULL_PID, NUMBER_LIMIT, is_standard};
 use clap::{Arg, ArgAction, ArgMatches, Command};
+use decimal_numbers::number_within;
 use psi_tables::Config;
 use run_ends::End;
 use std::alloc::{AllocError, Global};
 use std::fmt;
 use ts_packet::Pid;
 
-const SPLICE_ABOUT: &str = "Plays advertisements in the breaks that the cues (SCTE 35) of a transport stream announce";
+const SPLICE_ABOUT: &str =
+    "Plays advertisements in the breaks that the cues (SCTE 35) of a transport stream announce";
 
-const SPLICE_LONG_ABOUT: &str = "Plays advertisements in the breaks of one program of a transport stream, as the cues (SCTE 35) on its cue PID announce them.
+const SPLICE_LONG_ABOUT: &str =
+    "Plays advertisements in the breaks of one program of a transport stream, as the cues (SCTE 35) on its cue PID announce them.
 
 Where a break was cued before it starts, and the list has an advertisement of its number (unique_program_id) that fills it to half a
 second, the units (PES packets) of the program's pictures and sound whose presentation time (PTS) lies in the break are left out, and
@@ -32,7 +34,8 @@ how many played ones units did not come in the order of their times around an ed
 FILE may be a pipe, and - is standard input or output. What came in before a pause of the network goes out before it. The output
 file is written from the begin; it may not be an input.";
 
-const SPLICE_EXAMPLE: &str = "Numbers are decimal digits: PID 496 is what other tools may show as 0x1F0 (0x1F0 is not taken).
+const SPLICE_EXAMPLE: &str =
+    "Numbers are decimal digits: PID 496 is what other tools may show as 0x1F0 (0x1F0 is not taken).
 
 Example, with a list whose one line is `7 advert.ts`:
   dpi_chain splice --network cued.ts --program 1 --cue-pid 496 --adverts list.txt --out spliced.ts
@@ -131,7 +134,9 @@ pub fn splice_command<'a>(alloc: Global) -> Result<Command<'a>, AllocError> {
     let verbose = Arg::new(alloc, "verbose")
         .long("verbose")
         .action(ArgAction::SetTrue)
-        .help("Tell more on standard error: where a fault stands, or how many packets went through");
+        .help(
+            "Tell more on standard error: where a fault stands, or how many packets went through",
+        );
     Command::new(alloc, "splice")
         .about(SPLICE_ABOUT)
         .long_about(SPLICE_LONG_ABOUT)
@@ -156,6 +161,9 @@ fn bad_number<'a>(option: NumberOption, text: &'a str) -> BadSplice<'a>
 fn config_of<'a>(program: &'a str, cue_pid: &'a str) -> Result<Config, BadSplice<'a>>
     ensures program { IfOk result (λ c. number_within program.now 1 (2 ^ 16) ≡ Some c.program) }
     ensures cue_pid { IfOk result (λ c. number_within cue_pid.now 16 8191 ≡ Some c.cue_pid) }
+    ensures index { IfOk result (λ c. c.index ≡ 0) }
+    ensures refused { IfErr result (λ bad. IsSomeAnd (refused_of_splice bad)
+        (λ option. IsRefusedOfSplice option program.now cue_pid.now)) }
 {
     let Some(number) = number_within(program, 1, NUMBER_LIMIT) else {
         return Err(bad_number(NumberOption::SpliceProgram, program));
@@ -170,6 +178,17 @@ fn config_of<'a>(program: &'a str, cue_pid: &'a str) -> Result<Config, BadSplice
     }
 }
 
+/// The network and the list come from different ends: one of them alone may be standard input.
+fn check_inputs<'a>(network: End<'a>, adverts: End<'a>) -> Result<(), BadSplice<'a>>
+    ensures one { is_ok result ≡ not (is_standard network.entry && is_standard adverts.entry) }
+    ensures which { IfErr result (λ bad. bad ≡ BadSplice.Input) }
+{
+    if is_standard(network) && is_standard(adverts) {
+        return Err(BadSplice::Input);
+    }
+    Ok(())
+}
+
 /// What the options of `splice` say.
 pub fn splice_options<'a>(matches: &ArgMatches<'a>) -> Result<SpliceOptions<'a>, BadSplice<'a>> {
     let program = matches.get_str("program").unwrap_or("");
@@ -177,9 +196,7 @@ pub fn splice_options<'a>(matches: &ArgMatches<'a>) -> Result<SpliceOptions<'a>,
     let config = config_of(program, cue_pid)?;
     let network = End::named(matches.get_str("network"));
     let adverts = End::named(matches.get_str("adverts"));
-    if network == End::Standard && adverts == End::Standard {
-        return Err(BadSplice::Input);
-    }
+    check_inputs(network, adverts)?;
     Ok(SpliceOptions {
         config,
         network,

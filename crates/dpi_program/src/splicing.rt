@@ -1,257 +1,54 @@
 //! The subcommand `splice`: a run with advertisements between the ends that its options name, and what it tells.
 
-ghost use Rattle.std.specs.Prelude.{◌≡◌, ℕ, List, [], Option, false, IfOk, IfErr, IsOkAnd, IsErrAnd};
-ghost use Rattle.ts_packet.specs.Sinks.{Written};
-ghost use Rattle.ad_library.specs.Library.{held};
-ghost use Rattle.chain_engine.specs.Splices.{SplicesAll};
+ghost use Rattle.std.specs.Prelude.{◌≡◌};
 
-use crate::cutting::{BUFFER_SIZE, Reasons, out_of_memory, unopened};
 use crate::fault::ProgramFault;
+use crate::running::{Passage, Ran, run_from, stopped, unopened};
 use crate::splice_options::SpliceOptions;
-use crate::tell::{Side, SpliceAccount, Stopped};
-use crate::watch::{Watch, Watched};
+use crate::tell::{Side, Stopped};
 use ad_library::AdLibrary;
 use ad_lists::{ListFault, load_list};
-use chain_engine::{RunFault, run_splice};
-use psi_tables::FeedFault;
-use run_ends::{Attended, End, Unopened, create_output, finish, finish_buffer, open_input};
+use chain_engine::run_splice;
+use run_ends::{Attended, End, Unopened, create_output, open_input};
 use splice_plans::SwitchReport;
-use std::alloc::{AllocError, Global};
+use std::alloc::Global;
 use std::fs::Metadata;
-use std::io::{self, BufReader, BufWriter, Read, Write};
+use std::io::{self, Read, Write};
 use std::rt::Files;
-use ts_packet::{
-    Buffered, Device, PacketReader, PacketSink, PacketSource, PacketWriter, PutFault,
-};
+use ts_packet::{Device, PacketSink, PacketSource};
 
-/// The fault of an output that could not be flushed.
-fn unflushed() -> RunFault
-    ensures { result ≡ RunFault.Feed (FeedFault.Sink PutFault.Io) }
-{
-    RunFault::Feed(FeedFault::Sink(PutFault::Io))
-}
-
-/// What a run answered, and what was seen go by where that was asked for.
+/// A run with the advertisements of a library, as the options say.
 #[derive(Drop)]
-struct Passed {
-    outcome: Result<SwitchReport, RunFault>,
-    seen: Option<(Watch, Watch)>,
+struct Splicing<'a> {
+    options: &'a SpliceOptions<'a>,
+    library: &'a AdLibrary,
 }
 
-/// Runs as the options say.
-fn run_by_options<P: PacketSource, K: PacketSink>(
-    options: &SpliceOptions<'_>,
-    network: &mut P,
-    library: &AdLibrary,
-    out: &mut K,
-) -> Passed
-    requires { P.is_broken network.old ≡ false }
-    ensures done { (start : Option (List ℕ)) → K.holds out.old start []
-        → IfOk result.outcome (SplicesAll options.now.config (held library.now) (P.left network.old) (K.holds out.new start)) }
-    ensures reads { P.leads network.old network.new }
-    ensures leads { K.leads out.old out.new }
-{
-    if !options.is_verbose {
-        let outcome = run_splice(options.config, network, library, out);
-        return Passed {
-            outcome,
-            seen: None,
-        };
-    }
-    let cue_pid = options.config.cue_pid;
-    let mut watched = Watched::new(network, cue_pid);
-    let mut watched_out = Watched::new(out, cue_pid);
-    let outcome = run_splice(options.config, &mut watched, library, &mut watched_out);
-    let seen = Some((watched.seen(), watched_out.seen()));
-    Passed { outcome, seen }
-}
+impl Passage for Splicing<'_> {
+    ghost use Rattle.ad_library.specs.Library.{held};
+    ghost use Rattle.dpi_program.specs.Runs.{Splices};
 
-/// A run whose output has been flushed.
-#[derive(Drop)]
-struct Finished<O> {
-    outcome: Result<SwitchReport, RunFault>,
-    output: Attended<O>,
-    seen: Option<(Watch, Watch)>,
-}
+    type Report = SwitchReport;
 
-/// Runs to a writer, each packet as it comes: what came in before a pause goes out before it.
-fn run_to_packets<P: PacketSource, O: Write + Drop>(
-    options: &SpliceOptions<'_>,
-    network: &mut P,
-    library: &AdLibrary,
-    output: O,
-) -> Finished<O>
-    requires { P.is_broken network.old ≡ false }
-    ensures done { IfOk result.outcome (SplicesAll options.now.config (held library.now) (P.left network.old)
-        (Written (O.contents result.output.inner) (O.contents output))) }
-{
-    let mut target = Device::new(Attended::new(output));
-    let mut writer = PacketWriter::new(&mut target);
-    let Passed { outcome, seen } = run_by_options(options, network, library, &mut writer);
-    let mut output = target.into_inner();
-    let outcome = finish(outcome, &mut output, unflushed());
-    Finished {
-        outcome,
-        output,
-        seen,
-    }
-}
+    ghost passes = { λ p. Splices p.options.now.config (held p.library.now) };
 
-/// Runs to a writer, many packets a write.
-fn run_to_blocks<P: PacketSource, O: Write + Drop>(
-    alloc: Global,
-    options: &SpliceOptions<'_>,
-    network: &mut P,
-    library: &AdLibrary,
-    output: O,
-) -> Result<Finished<O>, AllocError>
-    requires { P.is_broken network.old ≡ false }
-    ensures done { IfOk result (λ f. IfOk f.outcome (SplicesAll options.now.config (held library.now) (P.left network.old)
-        (Written (O.contents f.output.inner) (O.contents output)))) }
-{
-    let Ok(buffer) = BufWriter::with_capacity(alloc, BUFFER_SIZE, Attended::new(output)) else {
-        return Err(AllocError);
-    };
-    let mut target = Device::new(buffer);
-    let mut writer = PacketWriter::new(&mut target);
-    let Passed { outcome, seen } = run_by_options(options, network, library, &mut writer);
-    let (outcome, output) = finish_buffer(outcome, target.into_inner(), unflushed());
-    Ok(Finished {
-        outcome,
-        output,
-        seen,
-    })
-}
-
-/// What is left of a run when its output is flushed and gone.
-#[derive(Drop)]
-struct Ended {
-    outcome: Result<SwitchReport, RunFault>,
-    reason: Option<io::Error>,
-    seen: Option<(Watch, Watch)>,
-}
-
-/// Lets go of the output, but for the reason of its last failure.
-fn let_go<O: Drop>(finished: Finished<O>) -> Ended
-    ensures { result.outcome ≡ finished.outcome }
-{
-    let Finished {
-        outcome,
-        output,
-        seen,
-    } = finished;
-    Ended {
-        outcome,
-        reason: output.into_reason(),
-        seen,
-    }
-}
-
-/// Runs to a writer: many packets a write, or where the network may pause each packet as it comes.
-fn run_to<P: PacketSource, O: Write + Drop>(
-    alloc: Global,
-    options: &SpliceOptions<'_>,
-    is_live: bool,
-    network: &mut P,
-    library: &AdLibrary,
-    output: O,
-) -> Result<Ended, AllocError>
-    requires { P.is_broken network.old ≡ false }
-{
-    if is_live {
-        return Ok(let_go(run_to_packets(options, network, library, output)));
-    }
-    match run_to_blocks(alloc, options, network, library, output) {
-        Ok(finished) => Ok(let_go(finished)),
-        Err(error) => Err(error),
-    }
-}
-
-/// What a run that went through has done.
-#[derive(Clone, Copy, Debug)]
-pub struct Spliced {
-    /// What it counted.
-    pub report: SwitchReport,
-    /// What `--verbose` tells, where that was asked for.
-    pub account: Option<SpliceAccount>,
-}
-
-/// What is known of a run that stopped with this fault.
-fn stopped_by(fault: RunFault, reasons: Reasons, read: Option<Watch>) -> Stopped
-    ensures { result.fault ≡ ProgramFault.Run fault }
-{
-    let Reasons { reading, writing } = reasons;
-    let (side, reason) = match fault {
-        RunFault::Feed(FeedFault::Sink(_)) => (Side::Writing, writing),
-        _ => (Side::Reading, reading),
-    };
-    Stopped {
-        fault: ProgramFault::Run(fault),
-        side,
-        reason,
-        read,
-        line: None,
-    }
-}
-
-/// What a run tells that ended so.
-fn told(
-    outcome: Result<SwitchReport, RunFault>,
-    reasons: Reasons,
-    seen: Option<(Watch, Watch)>,
-) -> Result<Spliced, Stopped>
-    ensures done { IfOk outcome (λ report. IsOkAnd result (λ spliced. spliced.report ≡ report)) }
-    ensures fault { IfErr outcome (λ fault. IsErrAnd result (λ stopped. stopped.fault ≡ ProgramFault.Run fault)) }
-{
-    match outcome {
-        Ok(report) => {
-            let account = seen.map(|(read, written)| SpliceAccount { read, written });
-            Ok(Spliced { report, account })
+    fn pass<P: PacketSource, K: PacketSink>(
+        self,
+        network: &mut P,
+        out: &mut K,
+    ) -> Result<SwitchReport, ProgramFault> {
+        match run_splice(self.options.config, network, self.library, out) {
+            Ok(report) => Ok(report),
+            Err(fault) => Err(ProgramFault::Run(fault)),
         }
-        Err(fault) => Err(stopped_by(fault, reasons, seen.map(|(read, _)| read))),
     }
-}
-
-/// Runs from a reader.
-fn run_from<R: Read + Drop, O: Write + Drop>(
-    alloc: Global,
-    options: &SpliceOptions<'_>,
-    is_live: bool,
-    input: R,
-    library: &AdLibrary,
-    output: O,
-) -> Result<Spliced, Stopped> {
-    let Ok(reader) = BufReader::with_capacity(alloc, BUFFER_SIZE, Attended::new(input)) else {
-        return Err(out_of_memory());
-    };
-    let mut network = Buffered::new(reader);
-    let mut packets = PacketReader::new(&mut network);
-    let Ok(ended) = run_to(alloc, options, is_live, &mut packets, library, output) else {
-        return Err(out_of_memory());
-    };
-    let Ended {
-        outcome,
-        reason,
-        seen,
-    } = ended;
-    let reasons = Reasons {
-        reading: network.into_inner().into_inner().into_reason(),
-        writing: reason,
-    };
-    told(outcome, reasons, seen)
 }
 
 /// What is known of a list that was not loaded.
 fn unlisted(fault: ListFault, reason: Option<io::Error>) -> Stopped
     ensures { result.fault ≡ ProgramFault.List fault }
 {
-    Stopped {
-        fault: ProgramFault::List(fault),
-        side: Side::Filing,
-        reason,
-        read: None,
-        line: None,
-    }
+    stopped(ProgramFault::List(fault), Side::Filing, reason)
 }
 
 /// Loads the list that a reader gives.
@@ -268,7 +65,7 @@ fn library_from<F: Files, R: Read + Drop>(
 }
 
 /// Loads the list that the options name, and answers where it is a file what the system says of that.
-pub(crate) fn open_library_at<R, I>(
+pub(crate) fn open_library<R, I>(
     rt: &R,
     adverts: End<'_>,
     input: &mut I,
@@ -282,13 +79,7 @@ where
     };
     match open_input(rt, path) {
         Ok((file, about)) => Ok((library_from(rt, rt.alloc(), file)?, Some(about))),
-        Err(reason) => Err(Stopped {
-            fault: ProgramFault::File,
-            side: Side::Filing,
-            reason: Some(reason),
-            read: None,
-            line: None,
-        }),
+        Err(reason) => Err(stopped(ProgramFault::File, Side::Filing, Some(reason))),
     }
 }
 
@@ -301,10 +92,12 @@ fn run_ends<F: Read + Drop, I: Read, O: Write + Drop>(
     is_live: bool,
     library: &AdLibrary,
     output: O,
-) -> Result<Spliced, Stopped> {
+) -> Result<Ran<SwitchReport>, Stopped> {
+    let watched = options.is_verbose.then_some(options.config.cue_pid);
+    let passage = Splicing { options, library };
     match network {
-        Some(file) => run_from(alloc, options, is_live, file, library, output),
-        None => run_from(alloc, options, is_live, input, library, output),
+        Some(file) => run_from(alloc, passage, watched, is_live, file, output),
+        None => run_from(alloc, passage, watched, is_live, input, output),
     }
 }
 
@@ -315,7 +108,7 @@ pub fn run_splice_command<R, I, O>(
     options: &SpliceOptions<'_>,
     input: &mut I,
     output: &mut O,
-) -> Result<Spliced, Stopped>
+) -> Result<Ran<SwitchReport>, Stopped>
 where
     R: Files + AllocGlobal,
     I: Read,
@@ -328,7 +121,7 @@ where
         },
         None => None,
     };
-    let (library, list) = open_library_at(rt, options.adverts, input)?;
+    let (library, list) = open_library(rt, options.adverts, input)?;
     let about = opened.as_ref().map(|(_, about)| about);
     let is_live = !about.is_some_and(|about| about.is_file());
     let alloc = rt.alloc();

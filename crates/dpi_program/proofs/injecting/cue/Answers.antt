@@ -1,9 +1,10 @@
 use Rattle.std.proofs.Common.{[]}
-use Rattle.chain_engine.proofs.ForgetLemmas.{injects_so, stops_so}
-use Rattle.dpi_program.proofs.injecting.run_by.Goals as goal
+use Rattle.chain_engine.proofs.ForgetLemmas.{stops_so}
+use Rattle.dpi_program.proofs.PassageLemmas.{cues}
+use Rattle.dpi_program.proofs.injecting.cue.Goals as goal
 
 pub returns-in-Ok-clause-done : goal.returns-in-Ok-clause-done
-returns-in-Ok-clause-done g c = λ d start h held. injects_so d _ _ (λ e ts rs x. tt) _ _ _ _ (λ ps w. w) (c.in-Ok.ensures.ok d start [] h held)
+returns-in-Ok-clause-done g c = λ d start h held. cues d _ _ _ _ (c.in-Ok.ensures.ok d start [] h held)
 
 pub returns-in-Err-clause-stop : goal.returns-in-Err-clause-stop
 returns-in-Err-clause-stop g c = λ d start h held. stops_so d _ _ (λ e ts rs x. tt) _ _ _ _ (c.in-Err.ensures.err d start [] h held)
