@@ -269,6 +269,7 @@ where
         plays: library.is_some(),
         report,
         account: seen.map(|(read, written)| CueAccount {
+            plays: library.is_some(),
             cue_pid,
             read,
             written,
@@ -381,9 +382,12 @@ where
         None => None,
     };
     let (asker, script) = open_asker(rt, options, input, replies)?;
-    let library = match options.adverts {
-        Some(adverts) => Some(open_library(rt, adverts, input)?.0),
-        None => None,
+    let (library, list) = match options.adverts {
+        Some(adverts) => {
+            let (library, list) = open_library(rt, adverts, input)?;
+            (Some(library), list)
+        }
+        None => (None, None),
     };
     let about = opened.as_ref().map(|(_, about)| about);
     let is_live = !about.is_some_and(|about| about.is_file());
@@ -395,7 +399,7 @@ where
         );
     }
     let path = options.output.path().unwrap_or("");
-    match create_output(rt, path, about, script.as_ref()) {
+    match create_output(rt, path, about, script.as_ref(), list.as_ref()) {
         Ok(file) => {
             let network = opened.map(|(file, _)| file);
             run_ends(

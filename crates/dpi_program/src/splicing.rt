@@ -129,7 +129,7 @@ where
         let network = opened.map(|(file, _)| file);
         return run_ends(alloc, options, network, input, is_live, &library, output);
     };
-    match create_output(rt, path, about, list.as_ref()) {
+    match create_output(rt, path, about, None, list.as_ref()) {
         Ok(file) => {
             let network = opened.map(|(file, _)| file);
             run_ends(alloc, options, network, input, is_live, &library, file)

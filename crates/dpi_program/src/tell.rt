@@ -170,6 +170,8 @@ impl fmt::Display for Account {
 /// What a run with cues that went through has done.
 #[derive(Clone, Copy, Debug)]
 pub struct CueAccount {
+    /// Whether advertisements were played, so that the cues went no further.
+    pub plays: bool,
     /// The PID of the cues.
     pub cue_pid: Pid,
     /// What was read.
@@ -182,6 +184,9 @@ impl fmt::Display for CueAccount {
     fn fmt<W: fmt::Write>(&self, f: &mut fmt::Formatter<W>) -> fmt::Result {
         let cues = self.written.units();
         let (read, written) = (self.read.packets(), self.written.packets());
+        if self.plays {
+            return writeln!(f, "run: {read} packets read, {written} written");
+        }
         let pid = BothWays { pid: self.cue_pid };
         writeln!(
             f,

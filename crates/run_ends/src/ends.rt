@@ -101,15 +101,18 @@ fn is_input(standing: &Metadata, input: Option<&Metadata>) -> bool {
     }
 }
 
-/// Makes a file to write anew, unless it is one of those that are read.
+/// Makes a file to write anew, unless it is one of the three that are read at most: the network, the script, the list.
 pub fn create_output<R: Files>(
     rt: &R,
     path: &str,
-    input: Option<&Metadata>,
-    other: Option<&Metadata>,
+    network: Option<&Metadata>,
+    script: Option<&Metadata>,
+    list: Option<&Metadata>,
 ) -> io::Result<R::File> {
     if let Ok(standing) = fs::metadata(rt, path)
-        && (is_input(&standing, input) || is_input(&standing, other))
+        && (is_input(&standing, network)
+            || is_input(&standing, script)
+            || is_input(&standing, list))
     {
         return Err(io::Error::other("it is the input file"));
     }
@@ -132,7 +135,7 @@ pub fn open_ends<R: Files>(
     let about = opened.as_ref().map(|(_, about)| about);
     let is_live = !about.is_some_and(|about| about.is_file());
     let output = match output.path() {
-        Some(path) => Some(create_output(rt, path, about, None).map_err(Unopened::Output)?),
+        Some(path) => Some(create_output(rt, path, about, None, None).map_err(Unopened::Output)?),
         None => None,
     };
     Ok(OpenedEnds {
