@@ -23,7 +23,8 @@ use Rattle.ad_library.specs.Advertisements.{Advertisement}
 use Rattle.splice_plans.specs.Adverts.{setting_of}
 use Rattle.splice_plans.specs.Switching.{switched_at_packet}
 use Rattle.splice_switch.specs.declared.switch.Switch.{Switch}
-use Rattle.splice_switch.specs.Standing.{SwitchStandsFor, FeedFails, KeepsSink}
+use Rattle.splice_switch.specs.Standing.{SwitchStandsFor, FeedFails}
+use Rattle.outgoing_packets.specs.Faults.{KeepsSink}
 use Rattle.chain_engine.specs.Runs as runs
 use Rattle.chain_engine.specs.Splices.{sent_by}
 use Rattle.chain_engine.specs.Nested.{WasFed, SwitchFails, fed_behind, FeedingHolds, FeedingFails, IsSoundNetwork, PassFails}

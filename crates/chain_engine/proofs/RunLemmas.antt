@@ -23,7 +23,8 @@ use Rattle.scte104_codec.specs.declared.reply.Reply.{Reply}
 use Rattle.as_session.specs.Session.{state_of}
 use Rattle.injector.specs.declared.injector.Injector.{Injector}
 use Rattle.injector.specs.Steps.{Step, Packet, packets_in, purpose_of, cued, sent_at}
-use Rattle.injector.specs.Injecting.{InjectorStandsFor, JudgesBy, FeedFails, KeepsSink}
+use Rattle.injector.specs.Injecting.{InjectorStandsFor, JudgesBy, FeedFails}
+use Rattle.outgoing_packets.specs.Faults.{KeepsSink}
 use Rattle.chain_engine.specs.Automation.{Take, piece, ended, failed, Answer, Told}
 use Rattle.chain_engine.specs.Hearing.{answers_to, lost_by, Replied}
 use Rattle.chain_engine.specs.Judging.{JudgesAll, InjectorJudges}

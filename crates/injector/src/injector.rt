@@ -17,8 +17,9 @@ ghost use Rattle.injector.specs.Noting.{NotesStandFor, StaysAtRest};
 ghost use Rattle.injector.specs.Steps.{Step, Message as MessageStep, Packet as PacketStep, packets_in, turns_in};
 ghost use Rattle.injector.specs.Steps.{high_of};
 ghost use Rattle.injector.specs.Steps.{purpose_of, body_at, sent_at};
-ghost use Rattle.injector.specs.Injecting.{InjectorStandsFor, JudgesBy, FeedFails, FeedBlamed, KeepsSink, CountsAre, network_answer};
-ghost use Rattle.injector.specs.Injecting.{IsFollowed, IsBodyOf, RestsAt, KeepsRest, is_map_place, is_err_or};
+ghost use Rattle.injector.specs.Injecting.{InjectorStandsFor, JudgesBy, FeedFails, CountsAre, network_answer};
+ghost use Rattle.outgoing_packets.specs.Faults.{FeedBlamed, KeepsSink, is_err_or};
+ghost use Rattle.injector.specs.Injecting.{IsFollowed, IsBodyOf, RestsAt, KeepsRest, is_map_place};
 
 use crate::choice::is_reached;
 use crate::counts::{MessageCounts, counted, has_news_behind};

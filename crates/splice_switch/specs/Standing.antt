@@ -1,8 +1,6 @@
 -- What a switch stands for.
-use Rattle.std.specs.Prelude.{◌≡◌, ℕ, List, ◌∷◌, Bool, true, false, Option, None, Some, option_map, Result, Ok, Err}
-use Rattle.ts_packet.specs.declared.tally.Tally.{Tally}
+use Rattle.std.specs.Prelude.{◌≡◌, ℕ, List, ◌∷◌, false, Option, None, Some, option_map}
 use Rattle.ts_packet.specs.declared.sink.PutFault.{PutFault}
-use Rattle.ts_packet.specs.Sinks.{Blamed}
 use Rattle.psi_tables.specs.declared.config.Config.{Config}
 use Rattle.psi_tables.specs.declared.network.FeedFault.{FeedFault}
 use Rattle.psi_tables.specs.declared.network.FeedFault.TheVariants.{Network, Sink, Failed}
@@ -57,23 +55,6 @@ abbrev pub FinishFails : FeedFault → Config → (ℕ → Option Advertisement)
 FinishFails (Network fault) c filed past fails = ⊥
 FinishFails (Sink fault) c filed past fails = FrontFails (rest_at (setting_of c filed) past) (λ put q. fails put q fault)
 FinishFails Failed c filed past fails = ⊥
-
--- what the calls of the sink's device came to
-abbrev pub FeedBlamed : FeedFault → Tally → Tally → Bool → Type 0
-FeedBlamed (Network fault) old new full = new ≡ old
-FeedBlamed (Sink fault) old new full = Blamed fault old new full
-FeedBlamed Failed old new full = new ≡ old
-
--- where the network is at fault, or a fault was answered before, the sink is as it was
-abbrev pub KeepsSink : {S : Type 0} → FeedFault → S → S → Type 0
-KeepsSink (Network fault) old new = new ≡ old
-KeepsSink (Sink fault) old new = Unit {0}
-KeepsSink Failed old new = new ≡ old
-
--- once a fault was answered it stays so
-abbrev pub is_err_or : Result (Unit {0}) FeedFault → Bool → Bool
-is_err_or (Ok u) before = before
-is_err_or (Err e) before = true
 
 -- the follower has been given the packet, which is of this place, and nothing was put yet
 pub record IsFollowedAs (s : Switch) (place : Place) (c : Config) (filed : ℕ → Option Advertisement)

@@ -11,8 +11,9 @@ ghost use Rattle.ad_library.specs.Library.{held};
 ghost use Rattle.splice_plans.specs.Adverts.{setting_of};
 ghost use Rattle.splice_plans.specs.Switching.{switched_at_packet, rest_at};
 ghost use Rattle.splice_plans.specs.Reporting.{ReportIs, report_of};
-ghost use Rattle.splice_switch.specs.Standing.{SwitchStandsFor, FeedFails, FeedBlamed, FinishFails, KeepsSink};
-ghost use Rattle.splice_switch.specs.Standing.{IsFollowedAs, IsStart, is_err_or};
+ghost use Rattle.splice_switch.specs.Standing.{SwitchStandsFor, FeedFails, FinishFails};
+ghost use Rattle.outgoing_packets.specs.Faults.{FeedBlamed, KeepsSink, is_err_or};
+ghost use Rattle.splice_switch.specs.Standing.{IsFollowedAs, IsStart};
 
 use ad_library::AdLibrary;
 use outgoing_packets::{CueEntry, Outgoing};
