@@ -26,6 +26,11 @@ front_bytes front rest h = subst (λ (xs : List ℕ). AreBytes xs) (take_at fron
 pub behind_bytes : (front rest : List ℕ) → AreBytes (front ++ rest) → AreBytes rest
 behind_bytes front rest h = subst (λ (xs : List ℕ). AreBytes xs) (drop_at front rest (length front) refl) (AreBytes-drop (length front) (front ++ rest) h)
 
+pub both_bytes : (front rest : List ℕ) → AreBytes front → AreBytes rest → AreBytes (front ++ rest)
+both_bytes [] rest h k place = k place
+both_bytes (b ∷ front) rest h k zero = h 0
+both_bytes (b ∷ front) rest h k (suc place) = both_bytes front rest (λ i. h (suc i)) k place
+
 -- ---- a splice_request
 
 abbrev request_at : List ℕ → SpliceRequest
