@@ -23,11 +23,9 @@ use Rattle.unit_stream.specs.Faults.{unit_fault}
 use Rattle.event_table.specs.Laws.{MayAdvance}
 use Rattle.event_table.proofs.AdvanceLemmas.{may-advance}
 use Rattle.program_follower.specs.declared.purpose.Listed.{Listed}
-use Rattle.program_follower.specs.declared.follower.Place.{Place}
-use Rattle.program_follower.specs.declared.follower.Place.TheVariants.{Marked, Cue, Map, Stream, Other}
 use Rattle.program_follower.specs.Program.{listed, since_pat, Table, table_of, tables, all_tables, first_map, Program, program_in, program_of, behind_head, pids_of}
 use Rattle.program_follower.specs.Faults.{network_fault, cue_fault, on_cue, if_bad, bad_pids, cue_used, changed_from, pats_fault, table_fault, tables_fault, maps_fault, as_network, too_long}
-use Rattle.program_follower.specs.Following.{grown, on_map, IsPlace}
+use Rattle.program_follower.specs.Following.{grown, on_map}
 use Rattle.program_follower.proofs.FollowLemmas.{program_stays, grown_is, no_high}
 use Rattle.program_laws.specs.Writing.{packets_out, section_out, body}
 use Rattle.program_laws.specs.Cued.{cueing}
@@ -36,7 +34,6 @@ use Rattle.outgoing_packets.specs.Entries.{change_of, HasRoom, GoesOut, AllGoOut
 use Rattle.injector.specs.Turns.{high}
 use Rattle.injector.specs.Noting.{Rises}
 use Rattle.injector.specs.Steps.{Step, Message, Packet, packets_in, turns_in, high_of, purpose_of, body_at}
-use Rattle.injector.specs.Injecting.{is_map_place}
 
 -- ---- faults
 
@@ -58,11 +55,6 @@ no-unit (Some Scrambled) is = absurd (let no : as_network (Some Scrambled) ≡ N
 no-unit (Some HeaderSplit) is = absurd (let no : as_network (Some HeaderSplit) ≡ None = is in cc)
 no-unit (Some TimeJump) is = absurd (let no : as_network (Some TimeJump) ≡ None = is in cc)
 
-marked-off : (l : Option Listed) (p : List ℕ) → in_error p ≡ true → on_map l p ≡ false
-unfolding on
-marked-off None p bad = refl
-marked-off (Some l) p bad = rw bad refl
-
 module _ (c : Config) (p : List ℕ) (past : List (List ℕ)) (good : network_fault (purpose_of c) p past ≡ None) where
   no-cue : on_cue (Some c.cue_pid) p ≡ false
   no-cue = none-if (on_cue (Some c.cue_pid) p) _ (first-none (cue_fault (purpose_of c) p) _ good)
@@ -81,14 +73,6 @@ module _ (c : Config) (p : List ℕ) (past : List (List ℕ)) (good : network_fa
 
   pub no-units : unit_fault (pids_of (program_of (Some c.program) past)) p (behind_head (Some c.program) past) ≡ None
   no-units = no-unit _ (second-none (maps_fault (purpose_of c) (listed (Some c.program) past) (first_map (all_tables (Some c.program) past)) (tables (Some c.program) p past)) _ behind-pats)
-
-  -- what a packet is says whether it is on the PID of the map
-  pub place-map : (x : Place) → IsPlace x (purpose_of c) p past → is_map_place x ≡ on_map (listed (Some c.program) past) p
-  place-map Marked is = sym (marked-off (listed (Some c.program) past) p is)
-  place-map Cue is = absurd (let no : true ≡ false = sym is ∙ no-cue in cc)
-  place-map Map is = sym is.1
-  place-map (Stream i x) is = sym is.1
-  place-map Other is = sym is.2
 
 -- ---- the greatest time
 

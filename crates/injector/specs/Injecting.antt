@@ -6,10 +6,8 @@ use Rattle.psi_tables.specs.declared.config.Config.{Config}
 use Rattle.psi_tables.specs.declared.network.FeedFault.{FeedFault}
 use Rattle.psi_tables.specs.declared.network.FeedFault.TheVariants.{Network, Sink, Failed}
 use Rattle.psi_tables.specs.declared.network.NetworkFault.{NetworkFault}
-use Rattle.program_follower.specs.declared.follower.Place.{Place}
-use Rattle.program_follower.specs.declared.follower.Place.TheVariants.{Marked, Cue, Map, Stream, Other}
 use Rattle.program_follower.specs.Program.{listed}
-use Rattle.program_follower.specs.Following.{FollowerStandsFor, on_map}
+use Rattle.program_follower.specs.Following.{StartsStandFor, on_map}
 use Rattle.program_follower.specs.Faults.{network_fault}
 use Rattle.outgoing_packets.specs.Numbers.{HasPut, FrontFails}
 use Rattle.injector.specs.declared.counts.MessageCounts.{MessageCounts}
@@ -43,7 +41,7 @@ pub record InjectorStandsFor (i : Injector) (c : Config) (past : List Step) : Ty
   pub notes : NotesStandFor i.requests c.index (turns_in c.program past)
   pub news : i.has_news ≡ has_news c.index (turns_in c.program past)
   pub rest : i.has_news ≡ false → RestsAt i.rest c.index (turns_in c.program past)
-  pub follower : FollowerStandsFor i.follower (purpose_of c) (packets_in past)
+  pub follower : StartsStandFor i.follower (purpose_of c) (packets_in past)
   pub out : HasPut i.out (cued c past)
   pub whole : i.is_spent ≡ false
 
@@ -63,17 +61,10 @@ network_answer (Err Failed) = None
 
 -- ---- within
 
-abbrev pub is_map_place : Place → Bool
-is_map_place Map = true
-is_map_place Marked = false
-is_map_place Cue = false
-is_map_place (Stream i x) = false
-is_map_place Other = false
-
 -- the packet was followed, and is on the PID of the map or not
 pub record IsBodyOf (i : Injector) (is_map : Bool) (c : Config) (p : List ℕ) (past : List (List ℕ)) : Type 0 where
   pub cue_pid : i.cue_pid ≡ c.cue_pid
-  pub follower : FollowerStandsFor i.follower (purpose_of c) (p ∷ past)
+  pub follower : StartsStandFor i.follower (purpose_of c) (p ∷ past)
   pub sound : network_fault (purpose_of c) p past ≡ None
   pub map : is_map ≡ on_map (listed (Some c.program) past) p
 

@@ -18,8 +18,8 @@ ghost use Rattle.injector.specs.Steps.{Step, Message as MessageStep, Packet as P
 ghost use Rattle.injector.specs.Steps.{high_of};
 ghost use Rattle.injector.specs.Steps.{purpose_of, body_at, sent_at};
 ghost use Rattle.injector.specs.Injecting.{InjectorStandsFor, JudgesBy, FeedFails, CountsAre, network_answer};
+ghost use Rattle.injector.specs.Injecting.{IsFollowed, IsBodyOf, RestsAt, KeepsRest};
 ghost use Rattle.outgoing_packets.specs.Faults.{FeedBlamed, KeepsSink, is_err_or};
-ghost use Rattle.injector.specs.Injecting.{IsFollowed, IsBodyOf, RestsAt, KeepsRest, is_map_place};
 
 use crate::choice::is_reached;
 use crate::counts::{MessageCounts, counted, has_news_behind};
@@ -27,7 +27,7 @@ use crate::cues::put_due;
 use crate::requests::Requests;
 use outgoing_packets::{CueEntry, Outgoing};
 use pes_time::Time33;
-use program_follower::{FollowFault, Place, ProgramFollower, Purpose};
+use program_follower::{Purpose, StartFollower};
 use psi_tables::{Config, FeedFault};
 use scte104_codec::{BadMessage, Message, Reply};
 use ts_packet::{Packet, PacketSink, Pid, PutFault};
@@ -37,7 +37,7 @@ use ts_packet::{Packet, PacketSink, Pid, PutFault};
 pub struct Injector {
     cue_pid: Pid,
     requests: Requests,
-    follower: ProgramFollower,
+    follower: StartFollower,
     out: Outgoing,
     counts: MessageCounts,
     /// A request was accepted since the last packet.
@@ -56,7 +56,7 @@ impl Injector {
         Injector {
             cue_pid: config.cue_pid,
             requests: Requests::new(config.index),
-            follower: ProgramFollower::new(Purpose::writing_cues(&config)),
+            follower: StartFollower::new(Purpose::writing_cues(&config)),
             out: Outgoing::new(),
             counts: MessageCounts {
                 messages: 0,
@@ -159,12 +159,11 @@ impl Injector {
         ensures spent { self.new.is_spent ≡ self.old.is_spent }
     {
         match self.follower.feed(packet) {
-            Ok(place) => match self.put(is_map(&place), packet, sink) {
+            Ok(is_map) => match self.put(is_map, packet, sink) {
                 Ok(()) => Ok(()),
                 Err(fault) => Err(FeedFault::Sink(fault)),
             },
-            Err(FollowFault::Network(fault)) => Err(FeedFault::Network(fault)),
-            Err(FollowFault::Failed) => Err(FeedFault::Failed),
+            Err(fault) => Err(FeedFault::Network(fault)),
         }
     }
 
@@ -267,12 +266,4 @@ impl Injector {
         let tables = self.follower.tables();
         self.out.put_tables(packet.pid(), tables, &change, sink)
     }
-}
-
-/// The packet is on the PID of the map.
-#[inline(always)]
-fn is_map(place: &Place) -> bool
-    ensures { result ≡ is_map_place place.now }
-{
-    matches!(place, Place::Map)
 }

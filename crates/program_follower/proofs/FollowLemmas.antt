@@ -12,10 +12,9 @@ use Rattle.pes_time.specs.Line.{ring_of}
 use Rattle.program_follower.specs.declared.purpose.Purpose.{Purpose}
 use Rattle.program_follower.specs.declared.purpose.Listed.{Listed}
 use Rattle.program_follower.specs.Standing.{sections_on, newest}
-use Rattle.program_follower.specs.declared.streams.Streams.{Streams}
 use Rattle.program_follower.specs.Program.{listed, since_pat, table_of, tables_on, tables, first_map, known_map, Program, program_in, program_of, behind_head, pids_of}
 use Rattle.program_follower.specs.Faults.{if_bad, on_cue, cue_fault, pats_fault, maps_fault, as_network, network_fault}
-use Rattle.program_follower.specs.Following.{StreamsSince, GoesTo, grown}
+use Rattle.program_follower.specs.Following.{Since, GoesTo, grown}
 use Rattle.program_follower.proofs.StepLemmas.{known_grows, listed_stays}
 
 -- ---- the first of the faults of a packet
@@ -50,9 +49,8 @@ module _ (c : Purpose) (p : List ℕ) (past : List (List ℕ)) where
       pub fault_of_maps : (f : NetworkFault) → maps ≡ Some f → network_fault c p past ≡ Some f
       fault_of_maps f e = behind_pats ∙ ap (λ x. option_or x units) e
 
-      module _ (sound : maps ≡ None) where
-        pub fault_of_units : (o : Option NetworkFault) → units ≡ o → network_fault c p past ≡ o
-        fault_of_units o e = behind_pats ∙ ap (λ x. option_or x units) sound ∙ e
+      pub fault_of_units : maps ≡ None → network_fault c p past ≡ units
+      fault_of_units sound = behind_pats ∙ ap (λ x. option_or x units) sound
 
 -- ---- what is known, and the packets behind the head
 
@@ -70,11 +68,11 @@ grown_by (Some m) p ps = refl
 pub grown_is : (wanted : Option ℕ) (p : List ℕ) (past : List (List ℕ)) → grown (program_of wanted past) p (behind_head wanted past) ≡ behind_head wanted (p ∷ past)
 grown_is wanted p past = grown_by (known_map wanted past) p (behind_head wanted past)
 
-pub streams_next : (wanted : Option ℕ) (p : List ℕ) (past : List (List ℕ)) (s : Option Streams) (k : Option Program) → k ≡ program_of wanted (p ∷ past)
-    → StreamsSince s k (grown (program_of wanted past) p (behind_head wanted past)) → StreamsSince s (program_of wanted (p ∷ past)) (behind_head wanted (p ∷ past))
-streams_next wanted p past s k e h =
-    let P : Option Program → Type 0 = λ x. StreamsSince s x (behind_head wanted (p ∷ past)) in
-    let Q : List (List ℕ) → Type 0 = λ ps. StreamsSince s k ps in
+pub streams_next : {S : Type 0} (reads : S → List ℕ → List (List ℕ) → Type 0) (wanted : Option ℕ) (p : List ℕ) (past : List (List ℕ)) (s : Option S) (k : Option Program) → k ≡ program_of wanted (p ∷ past)
+    → Since reads s k (grown (program_of wanted past) p (behind_head wanted past)) → Since reads s (program_of wanted (p ∷ past)) (behind_head wanted (p ∷ past))
+streams_next reads wanted p past s k e h =
+    let P : Option Program → Type 0 = λ x. Since reads s x (behind_head wanted (p ∷ past)) in
+    let Q : List (List ℕ) → Type 0 = λ ps. Since reads s k ps in
     subst P e (subst Q (grown_is wanted p past) h)
 
 pub goes_to : (wanted : Option ℕ) (p : List ℕ) (past : List (List ℕ)) (k : Option Program) → k ≡ program_of wanted (p ∷ past) → GoesTo (program_of wanted past) k
@@ -90,9 +88,10 @@ pub no_high : (past : List (List ℕ)) → high [] past ≡ None
 no_high [] = refl
 no_high (p ∷ past) = no_high past
 
-pub high_none : (s : Option Streams) (r : Option Program) (past : List (List ℕ)) → s ≡ None → StreamsSince s r past → None ≡ option_map ring_of (high (pids_of r) past)
-high_none s None past e h = ap (option_map ring_of) (sym (no_high past))
-high_none s (Some r) past e h = absurd (let P : Option Streams → Type 0 = λ x. StreamsSince x (Some r) past in subst P e h)
+pub high_none : {S : Type 0} (reads : S → List ℕ → List (List ℕ) → Type 0) (s : Option S) (r : Option Program) (past : List (List ℕ)) → s ≡ None → Since reads s r past
+    → None ≡ option_map ring_of (high (pids_of r) past)
+high_none reads s None past e h = ap (option_map ring_of) (sym (no_high past))
+high_none {S} reads s (Some r) past e h = absurd (let P : Option S → Type 0 = λ x. Since reads x (Some r) past in subst P e h)
 
 -- ---- the tables that are shown
 

@@ -15,8 +15,11 @@ use Rattle.unit_stream.specs.declared.fault.UnitFault.TheVariants.{Scrambled}
 use Rattle.unit_stream.specs.Times.{begins, begins_one, high, stamp, splits}
 use Rattle.unit_stream.specs.Faults.{scrambled_one, start_fault, unit_fault}
 use Rattle.unit_stream.specs.Pieces.{Reads}
+use Rattle.unit_stream.specs.Starts.{ReadsStarts}
+use Rattle.unit_stream.specs.declared.starts.StartReader.{StartReader}
+use Rattle.unit_stream.proofs.StartLemmas.{starts_passed}
 use Rattle.program_follower.specs.Faults.{pids_in}
-use Rattle.program_follower.specs.Streaming.{next_place, first_on, AllRead, IsOne, begin_fault}
+use Rattle.program_follower.specs.Streaming.{next_place, first_on, AllFirst, AllRead, AllStartsRead, IsOne, begin_fault}
 
 -- ---- of one PID
 
@@ -164,24 +167,46 @@ reads_off r pid p past o h =
       begun = h.begun ∙ sym (simp y refl);
     }
 
--- a packet of none of the PIDs
-pub all_off : (rs : List UnitReader) (pids : List ℕ) (p : List ℕ) (past : List (List ℕ)) → first_on pids p ≡ None → AllRead rs pids past → AllRead rs pids (p ∷ past)
-all_off rs pids p past n h q x d k =
-    let o : on x.1 p ≡ false = by_test (on x.1 p) (λ y. absurd (let e = first_alike pids x.1 p q y (first_is_on pids q x k) in cc)) (λ z. z) in
-    reads_off (slice_index_or rs x.0 d) x.1 p past o (h q x d k)
+pub starts_off : (r : StartReader) (pid : ℕ) (p : List ℕ) (past : List (List ℕ)) → on pid p ≡ false → ReadsStarts r pid past → ReadsStarts r pid (p ∷ past)
+starts_off r pid p past o h = starts_passed r pid p past (off_payload pid p o) h
 
--- a packet of one of them
+-- of readers that stand for one thing before a packet, and for another behind it
+module _ {R : Type 0} (before behind : R → ℕ → Type 0) (pids : List ℕ) (p : List ℕ) (off : (r : R) (pid : ℕ) → on pid p ≡ false → before r pid → behind r pid) where
+  -- a packet of none of the PIDs
+  pub every_off : (rs : List R) → first_on pids p ≡ None → AllFirst before rs pids → AllFirst behind rs pids
+  every_off rs n h q x d k =
+      let o : on x.1 p ≡ false = by_test (on x.1 p) (λ y. absurd (let e = first_alike pids x.1 p q y (first_is_on pids q x k) in cc)) (λ z. z) in
+      off (slice_index_or rs x.0 d) x.1 o (h q x d k)
+
+  -- a packet of one of them
+  pub every_on : (rs new : List R) (x : ℕ × ℕ) → first_on pids p ≡ Some x → AllFirst before rs pids
+      → ((i : ℕ) (d : R) → i ≢ x.0 → slice_index_or new i d ≡ slice_index_or rs i d)
+      → ((d : R) → before (slice_index_or rs x.0 d) x.1 → behind (slice_index_or new x.0 d) x.1) → AllFirst behind new pids
+  every_on rs new x f h others reads q y d k =
+      by_test (on y.1 p)
+      (λ o. let e : x ≡ y = some_is x y (sym f ∙ first_alike pids y.1 p q o (first_is_on pids q y k) ∙ k) in
+      let P : ℕ × ℕ → Type 0 = λ z. behind (slice_index_or new z.0 d) z.1 in
+      subst P e (reads d (h p x d f)))
+      (λ o. let apart : y.0 ≢ x.0 = (λ e. let same = same_place pids p q x y f k (sym e) in let z : on y.1 p ≡ true = ap (λ n. on n p) (sym same) ∙ first_is_on pids p x f in absurd (cc)) in
+      let P : R → Type 0 = λ r. behind r y.1 in
+      subst P (sym (others y.0 d apart)) (off (slice_index_or rs y.0 d) y.1 o (h q y d k)))
+
+-- the same of readers of units, and of readers of their begins
+pub all_off : (rs : List UnitReader) (pids : List ℕ) (p : List ℕ) (past : List (List ℕ)) → first_on pids p ≡ None → AllRead rs pids past → AllRead rs pids (p ∷ past)
+all_off rs pids p past n h = every_off (λ r pid. Reads r pid past) (λ r pid. Reads r pid (p ∷ past)) pids p (λ r pid o k. reads_off r pid p past o k) rs n h
+
 pub all_on : (rs new : List UnitReader) (pids : List ℕ) (p : List ℕ) (past : List (List ℕ)) (x : ℕ × ℕ) → first_on pids p ≡ Some x → AllRead rs pids past
     → ((i : ℕ) (d : UnitReader) → i ≢ x.0 → slice_index_or new i d ≡ slice_index_or rs i d)
     → ((d : UnitReader) (pid : ℕ) (ps : List (List ℕ)) → Reads (slice_index_or rs x.0 d) pid ps → Reads (slice_index_or new x.0 d) pid (p ∷ ps)) → AllRead new pids (p ∷ past)
-all_on rs new pids p past x f h others reads q y d k =
-    by_test (on y.1 p)
-    (λ o. let e : x ≡ y = some_is x y (sym f ∙ first_alike pids y.1 p q o (first_is_on pids q y k) ∙ k) in
-    let P : ℕ × ℕ → Type 0 = λ z. Reads (slice_index_or new z.0 d) z.1 (p ∷ past) in
-    subst P e (reads d x.1 past (h p x d f)))
-    (λ o. let apart : y.0 ≢ x.0 = (λ e. let same = same_place pids p q x y f k (sym e) in let z : on y.1 p ≡ true = ap (λ n. on n p) (sym same) ∙ first_is_on pids p x f in absurd (cc)) in
-    let P : UnitReader → Type 0 = λ r. Reads r y.1 (p ∷ past) in
-    subst P (sym (others y.0 d apart)) (reads_off (slice_index_or rs y.0 d) y.1 p past o (h q y d k)))
+all_on rs new pids p past x f h others reads = every_on (λ r pid. Reads r pid past) (λ r pid. Reads r pid (p ∷ past)) pids p (λ r pid o k. reads_off r pid p past o k) rs new x f h others (λ d k. reads d x.1 past k)
+
+pub starts_all_off : (rs : List StartReader) (pids : List ℕ) (p : List ℕ) (past : List (List ℕ)) → first_on pids p ≡ None → AllStartsRead rs pids past → AllStartsRead rs pids (p ∷ past)
+starts_all_off rs pids p past n h = every_off (λ r pid. ReadsStarts r pid past) (λ r pid. ReadsStarts r pid (p ∷ past)) pids p (λ r pid o k. starts_off r pid p past o k) rs n h
+
+pub starts_all_on : (rs new : List StartReader) (pids : List ℕ) (p : List ℕ) (past : List (List ℕ)) (x : ℕ × ℕ) → first_on pids p ≡ Some x → AllStartsRead rs pids past
+    → ((i : ℕ) (d : StartReader) → i ≢ x.0 → slice_index_or new i d ≡ slice_index_or rs i d)
+    → ((d : StartReader) (pid : ℕ) (ps : List (List ℕ)) → ReadsStarts (slice_index_or rs x.0 d) pid ps → ReadsStarts (slice_index_or new x.0 d) pid (p ∷ ps)) → AllStartsRead new pids (p ∷ past)
+starts_all_on rs new pids p past x f h others reads = every_on (λ r pid. ReadsStarts r pid past) (λ r pid. ReadsStarts r pid (p ∷ past)) pids p (λ r pid o k. starts_off r pid p past o k) rs new x f h others (λ d k. reads d x.1 past k)
 
 -- ---- looked for one after another
 
@@ -273,22 +298,26 @@ pids_length (s ∷ ss) = let i = pids_length ss in omega arith
 pub first_within_streams : (ss : List Stream) (q : List ℕ) (x : ℕ × ℕ) (n : ℕ) → first_on (pids_in ss) q ≡ Some x → length ss ≤ n → x.0 < n
 first_within_streams ss q x n h le = let a = first_within (pids_in ss) q x h in let b = pids_length ss in omega arith
 
-abbrev pub ReadBelow : List UnitReader → List Stream → ℕ → Type 0
-ReadBelow rs ss n = (q : List ℕ) (x : ℕ × ℕ) (d : UnitReader) → first_on (pids_in ss) q ≡ Some x → x.0 < n → Reads (slice_index_or rs x.0 d) x.1 []
+abbrev pub ReadBelow : {R : Type 0} → (R → ℕ → Type 0) → List R → List Stream → ℕ → Type 0
+ReadBelow {R} is rs ss n = (q : List ℕ) (x : ℕ × ℕ) (d : R) → first_on (pids_in ss) q ≡ Some x → x.0 < n → is (slice_index_or rs x.0 d) x.1
 
-pub read_on : (ss : List Stream) (rs : List UnitReader) (n : ℕ) (v : UnitReader) (s : Stream) → n < length rs → Reads v (slice_index_or ss n s).pid [] → ReadBelow rs ss n → ReadBelow (set rs n v) ss (n + 1)
-read_on ss rs n v s lt r below q x d h le =
+pub read_on : {R : Type 0} (is : R → ℕ → Type 0) (ss : List Stream) (rs : List R) (n : ℕ) (v : R) (s : Stream) → n < length rs → is v (slice_index_or ss n s).pid → ReadBelow is rs ss n
+    → ReadBelow is (set rs n v) ss (n + 1)
+read_on {R} is ss rs n v s lt r below q x d h le =
     by_test (x.0 == n)
     (λ y. let e : x.0 ≡ n = eqb-true x.0 n y in
     let pid : (slice_index_or ss n s).pid ≡ x.1 = ap (λ (k : ℕ). (slice_index_or ss k s).pid) (sym e) ∙ sym (first_pid ss q x s h) in
     let at : v ≡ slice_index_or (set rs n v) x.0 d = sym (get_or-set_same rs n v d lt) ∙ ap (λ (k : ℕ). slice_index_or (set rs n v) k d) (sym e) in
-    let P : UnitReader → Type 0 = λ u. Reads u x.1 [] in
-    let Q : ℕ → Type 0 = λ k. Reads v k [] in
+    let P : R → Type 0 = λ u. is u x.1 in
+    let Q : ℕ → Type 0 = λ k. is v k in
     subst P at (subst Q pid r))
     (λ z. let apart : x.0 ≢ n = (λ e. let k = eq-eqb x.0 n e in absurd (cc)) in
-    let P : UnitReader → Type 0 = λ u. Reads u x.1 [] in
+    let P : R → Type 0 = λ u. is u x.1 in
     subst P (sym (get_or-set_other rs n x.0 v d apart)) (below q x d h (omega arith)))
 
 -- any reader
 pub some_reader : UnitReader
 some_reader = record { units = record { pid = 0; follower = record { pid = 0; last = None }; has_begun = false }; last = [] }
+
+pub some_starts : StartReader
+some_starts = record { pid = 0; follower = record { pid = 0; last = None }; last = [] }

@@ -7,23 +7,31 @@ use Rattle.psi_tables.specs.declared.stream.Stream.{Stream}
 use Rattle.program_follower.specs.declared.purpose.Purpose.{Purpose}
 use Rattle.program_follower.specs.declared.purpose.Listed.{Listed}
 use Rattle.program_follower.specs.declared.streams.Streams.{Streams}
+use Rattle.program_follower.specs.declared.starts.Starts.{Starts}
 use Rattle.program_follower.specs.declared.streams.StreamPacket.{StreamPacket}
 use Rattle.program_follower.specs.declared.follower.ProgramFollower.{ProgramFollower}
+use Rattle.program_follower.specs.declared.start_follower.StartFollower.{StartFollower}
 use Rattle.program_follower.specs.declared.follower.FollowFault.{FollowFault}
 use Rattle.program_follower.specs.declared.follower.FollowFault.TheVariants.{Network, Failed}
 use Rattle.program_follower.specs.declared.follower.Place.{Place}
 use Rattle.program_follower.specs.declared.follower.Place.TheVariants as places
 use Rattle.program_follower.specs.Program.{listed, Program, program_of, behind_head, pids_of}
 use Rattle.program_follower.specs.Faults.{on_cue}
-use Rattle.program_follower.specs.Standing.{PatsRead, MapsRead}
-use Rattle.program_follower.specs.Streaming.{first_on, StreamsRead, IsOfStream}
+use Rattle.program_follower.specs.Standing.{TablesRead}
+use Rattle.program_follower.specs.Streaming.{first_on, StreamsRead, StartsRead, IsOfStream}
 
 -- the streams are followed from the end of the head on
+abbrev pub Since : {S : Type 0} → (S → List ℕ → List (List ℕ) → Type 0) → Option S → Option Program → List (List ℕ) → Type 0
+Since reads None None past = Unit {0}
+Since reads (Some s) (Some r) past = reads s (pids_of (Some r)) past
+Since reads None (Some r) past = ⊥
+Since reads (Some s) None past = ⊥
+
 abbrev pub StreamsSince : Option Streams → Option Program → List (List ℕ) → Type 0
-StreamsSince None None past = Unit {0}
-StreamsSince (Some s) (Some r) past = StreamsRead s (pids_of (Some r)) past
-StreamsSince None (Some r) past = ⊥
-StreamsSince (Some s) None past = ⊥
+StreamsSince s known past = Since StreamsRead s known past
+
+abbrev pub StartsSince : Option Starts → Option Program → List (List ℕ) → Type 0
+StartsSince s known past = Since StartsRead s known past
 
 -- what is known stays
 abbrev pub GoesTo : Option Program → Option Program → Type 0
@@ -36,22 +44,28 @@ grown (Some r) p past = p ∷ past
 
 -- It follows for this purpose, was fed this past, and answered no fault.
 pub record FollowerStandsFor (f : ProgramFollower) (c : Purpose) (past : List (List ℕ)) : Type 0 where
-  pub purpose : f.purpose ≡ c
-  pub pats : PatsRead f.pats c.program past
-  pub maps : MapsRead f.maps c.program past
+  pub tables : TablesRead f.tables c past
   pub streams : StreamsSince f.streams (program_of c.program past) (behind_head c.program past)
   pub whole : f.is_spent ≡ false
 
--- what holds of the packets that it was fed, for its purpose; and for the purpose that it has
+-- the same of one that reads the begins of units alone
+pub record StartsStandFor (f : StartFollower) (c : Purpose) (past : List (List ℕ)) : Type 0 where
+  pub tables : TablesRead f.tables c past
+  pub streams : StartsSince f.streams (program_of c.program past) (behind_head c.program past)
+
+-- what holds of the packets that it was fed, for its purpose
 abbrev pub OfPast : ProgramFollower → (Purpose → List (List ℕ) → Type 0) → Type 0
 OfPast f holds = (c : Purpose) (past : List (List ℕ)) → FollowerStandsFor f c past → holds c past
 
-abbrev pub OfRun : ProgramFollower → (List (List ℕ) → Type 0) → Type 0
-OfRun f holds = (past : List (List ℕ)) → FollowerStandsFor f f.purpose past → holds past
+abbrev pub OfStartPast : StartFollower → (Purpose → List (List ℕ) → Type 0) → Type 0
+OfStartPast f holds = (c : Purpose) (past : List (List ℕ)) → StartsStandFor f c past → holds c past
 
 -- what holds of the packets behind the head, where the streams were followed for what was known before
 abbrev pub OfStreams : Option Streams → Option Program → (Option Program → List (List ℕ) → Type 0) → Type 0
 OfStreams s known holds = (r : Option Program) (past : List (List ℕ)) → GoesTo r known → StreamsSince s r past → holds r past
+
+abbrev pub OfBegins : Option Starts → Option Program → (Option Program → List (List ℕ) → Type 0) → Type 0
+OfBegins s known holds = (r : Option Program) (past : List (List ℕ)) → GoesTo r known → StartsSince s r past → holds r past
 
 -- the greatest time of the units that have begun behind the head
 abbrev pub high_of : Option ℕ → List (List ℕ) → Option ℤ

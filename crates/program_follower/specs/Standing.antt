@@ -6,9 +6,11 @@ use Rattle.psi_section.specs.Sections.{given}
 use Rattle.psi_section.specs.Assembling.{StillGives, left}
 use Rattle.psi_section.specs.SectionsLeft.{sections_left}
 use Rattle.psi_tables.specs.ProgramMap.{map_of}
+use Rattle.program_follower.specs.declared.purpose.Purpose.{Purpose}
 use Rattle.program_follower.specs.declared.purpose.Listed.{Listed}
 use Rattle.program_follower.specs.declared.pat_reader.PatReader.{PatReader}
 use Rattle.program_follower.specs.declared.map_reader.MapReader.{MapReader}
+use Rattle.program_follower.specs.declared.table_reader.TableReader.{TableReader}
 use Rattle.program_follower.specs.declared.known.KnownProgram.{KnownProgram}
 use Rattle.program_follower.specs.declared.tables.LentTable.{LentTable}
 use Rattle.program_follower.specs.declared.tables.Tables.{Tables}
@@ -65,3 +67,15 @@ pub record MapsRead (r : MapReader) (wanted : Option ℕ) (past : List (List ℕ
   pub assembler : GivesSince r.assembler (listed wanted past) (since_pat wanted past) todo
   pub program : known_seen r.known ≡ program_of wanted past
   pub newest_is : shown r ≡ newest wanted past
+
+-- ---- both
+
+-- The reader of tables reads them for this purpose, and has been fed this past.
+pub record TablesRead (r : TableReader) (c : Purpose) (past : List (List ℕ)) : Type 0 where
+  pub purpose : r.purpose ≡ c
+  pub pats : PatsRead r.pats c.program past
+  pub maps : MapsRead r.maps c.program past
+
+-- what holds of the packets that it was fed, for its purpose
+abbrev pub OfTables : TableReader → (Purpose → List (List ℕ) → Type 0) → Type 0
+OfTables r holds = (c : Purpose) (past : List (List ℕ)) → TablesRead r c past → holds c past

@@ -8,7 +8,10 @@ use Rattle.unit_stream.specs.Faults.{start_fault}
 use Rattle.unit_stream.specs.declared.fault.UnitFault.{UnitFault}
 use Rattle.unit_stream.specs.Clocks.{ClockAt, Tells}
 use Rattle.unit_stream.specs.Pieces.{Reads}
+use Rattle.unit_stream.specs.Starts.{ReadsStarts}
+use Rattle.unit_stream.specs.declared.starts.StartReader.{StartReader}
 use Rattle.program_follower.specs.declared.streams.Streams.{Streams}
+use Rattle.program_follower.specs.declared.starts.Starts.{Starts}
 use Rattle.program_follower.specs.declared.streams.StreamPacket.{StreamPacket}
 use Rattle.program_follower.specs.declared.streams.StreamPacket.TheVariants.{Start, More, Repeat, Lead, NoPayload}
 
@@ -21,13 +24,25 @@ abbrev pub first_on : List ℕ → List ℕ → Option (ℕ × ℕ)
 first_on [] p = None
 first_on (pid ∷ pids) p = if on pid p then Some (0, pid) else option_map next_place (first_on pids p)
 
+-- each PID's first reader is so
+abbrev pub AllFirst : {R : Type 0} → (R → ℕ → Type 0) → List R → List ℕ → Type 0
+AllFirst {R} is readers pids = (q : List ℕ) (x : ℕ × ℕ) (d : R) → first_on pids q ≡ Some x → is (slice_index_or readers x.0 d) x.1
+
 -- each PID's first reader has read this past
 abbrev pub AllRead : List UnitReader → List ℕ → List (List ℕ) → Type 0
-AllRead readers pids past = (q : List ℕ) (x : ℕ × ℕ) (d : UnitReader) → first_on pids q ≡ Some x → Reads (slice_index_or readers x.0 d) x.1 past
+AllRead readers pids past = AllFirst (λ r pid. Reads r pid past) readers pids
 
 pub record StreamsRead (s : Streams) (pids : List ℕ) (past : List (List ℕ)) : Type 0 where
   pub clock : ClockAt s.clock (high pids past)
   pub readers : AllRead s.readers pids past
+
+-- the same of those that read the begins of units alone
+abbrev pub AllStartsRead : List StartReader → List ℕ → List (List ℕ) → Type 0
+AllStartsRead readers pids past = AllFirst (λ r pid. ReadsStarts r pid past) readers pids
+
+pub record StartsRead (s : Starts) (pids : List ℕ) (past : List (List ℕ)) : Type 0 where
+  pub clock : ClockAt s.clock (high pids past)
+  pub readers : AllStartsRead s.readers pids past
 
 -- the packet is of this one of the PIDs
 pub record IsOne (pids : List ℕ) (pid : ℕ) (p : List ℕ) (past : List (List ℕ)) : Type 0 where

@@ -1,21 +1,20 @@
 //! One program of a network, packet by packet.
 
-ghost use Rattle.std.specs.Prelude.{◌≡◌, ◌≤◌, ◌&&◌, ◌∷◌, [], ℕ, List, length, Option, Some, None, option_map, is_some, true};
+ghost use Rattle.std.specs.Prelude.{◌≡◌, ◌≤◌, ◌∷◌, [], ℕ, List, length, Option, Some, None, option_map, is_some, true};
 ghost use Rattle.std.specs.Prelude.{OnOk, IfOk, IfErr};
 ghost use Rattle.pes_time.specs.Line.{ring_of};
 ghost use Rattle.unit_stream.specs.Faults.{unit_fault};
 ghost use Rattle.program_follower.specs.Program.{listed, tables, Program, program_of, known_map, pids_of};
-ghost use Rattle.program_follower.specs.Faults.{network_fault, on_cue, as_network};
+ghost use Rattle.program_follower.specs.Faults.{network_fault, as_network};
 ghost use Rattle.program_follower.specs.Standing.{tables_left, lent_program};
 ghost use Rattle.program_follower.specs.Streaming.{IsOfStream};
-ghost use Rattle.program_follower.specs.Following.{FollowerStandsFor, OfPast, OfRun, OfStreams, StreamsSince, grown, high_of};
+ghost use Rattle.program_follower.specs.Following.{FollowerStandsFor, OfPast, OfStreams, StreamsSince, grown, high_of};
 ghost use Rattle.program_follower.specs.Following.{IsPlace, IsSwitched, IsNetwork, streams_of_program, on_map};
 
 use crate::known::KnownProgram;
-use crate::map_reader::MapReader;
-use crate::pat_reader::PatReader;
 use crate::purpose::{Listed, Purpose};
 use crate::streams::{StreamPacket, Streams};
+use crate::table_reader::{TableReader, is_on_pid};
 use crate::tables::Tables;
 use pes_time::Time33;
 use psi_tables::{NetworkFault, Stream};
@@ -52,9 +51,7 @@ pub enum FollowFault {
 /// Follows one program of a network. It takes no memory.
 #[derive(Drop)]
 pub struct ProgramFollower {
-    purpose: Purpose,
-    pats: PatReader,
-    maps: MapReader,
+    tables: TableReader,
     /// The switched streams, behind the head.
     streams: Option<Streams>,
     is_spent: bool,
@@ -66,9 +63,7 @@ impl ProgramFollower {
         ensures { FollowerStandsFor result purpose [] }
     {
         ProgramFollower {
-            purpose,
-            pats: PatReader::new(),
-            maps: MapReader::new(),
+            tables: TableReader::new(purpose),
             streams: None,
             is_spent: false,
         }
@@ -105,10 +100,7 @@ impl ProgramFollower {
         ensures { (c : Purpose) (p : List ℕ) (past : List (List ℕ)) → FollowerStandsFor self.now c (p ∷ past)
             → tables_left result ≡ tables c.program p past }
     {
-        match self.pats.listed() {
-            Some(listed) => self.maps.tables(listed.program),
-            None => self.maps.tables(0),
-        }
+        self.tables.tables()
     }
 
     /// The greatest time of the units that have begun behind the head, on the ring.
@@ -126,7 +118,7 @@ impl ProgramFollower {
     pub fn streams(&self) -> &[Stream]
         ensures { OfPast self.now (λ c past. result.now ≡ streams_of_program (program_of c.program past)) }
     {
-        match self.maps.known() {
+        match self.tables.known() {
             None => &[],
             Some(known) => known.streams.as_slice(),
         }
@@ -137,7 +129,7 @@ impl ProgramFollower {
         ensures { OfPast self.now (λ c past. result
             ≡ option_map (λ (r : Program). r.pcr_pid) (program_of c.program past)) }
     {
-        match self.maps.known() {
+        match self.tables.known() {
             None => None,
             Some(known) => Some(known.pcr_pid),
         }
@@ -147,41 +139,31 @@ impl ProgramFollower {
     pub fn listed(&self) -> Option<Listed>
         ensures { OfPast self.now (λ c past. result ≡ listed c.program past) }
     {
-        self.pats.listed()
+        self.tables.listed()
     }
 
     /// The head is over: a packet has finished the first map of the program.
     pub fn is_behind_head(&self) -> bool
         ensures { OfPast self.now (λ c past. result ≡ is_some (known_map c.program past)) }
     {
-        self.maps.known().is_some()
+        self.tables.known().is_some()
     }
 
     /// Takes a packet, and answers what it is, or the first thing that is wrong with it.
     #[inline(always)]
     fn take(&mut self, packet: &Packet) -> Result<Place, NetworkFault>
-        ensures stands { OfRun self.old (λ past. OnOk result
-            (FollowerStandsFor self.new self.old.purpose (packet.now ∷ past))) }
-        ensures sound { OfRun self.old (λ past. OnOk result (network_fault self.old.purpose packet.now past ≡ None)) }
-        ensures place { OfRun self.old (λ past. IfOk result (λ x. IsPlace x self.old.purpose packet.now past)) }
-        ensures err { OfRun self.old (λ past. IfErr result
-            (λ f. network_fault self.old.purpose packet.now past ≡ Some f)) }
+        ensures stands { OfPast self.old (λ c past. OnOk result (FollowerStandsFor self.new c (packet.now ∷ past))) }
+        ensures sound { OfPast self.old (λ c past. OnOk result (network_fault c packet.now past ≡ None)) }
+        ensures place { OfPast self.old (λ c past. IfOk result (λ x. IsPlace x c packet.now past)) }
+        ensures err { OfPast self.old (λ c past. IfErr result (λ f. network_fault c packet.now past ≡ Some f)) }
     {
-        if is_refused(&self.purpose, packet) {
-            return Err(NetworkFault::CuePidUsed);
-        }
-        let listed = self.pats.listed();
-        match self.pats.feed(&self.purpose, packet) {
+        match self.tables.feed(packet) {
             Ok(()) => {}
             Err(fault) => return Err(fault),
         }
-        match self.maps.feed(&self.purpose, listed, packet) {
-            Ok(()) => {}
-            Err(fault) => return Err(fault),
-        }
-        let is_map = self.maps.is_on_map();
-        match follow_streams(&mut self.streams, self.maps.known(), packet) {
-            Ok(of_stream) => Ok(place_of(self.purpose.cue_pid, is_map, of_stream, packet)),
+        let is_map = self.tables.is_on_map();
+        match follow_streams(&mut self.streams, self.tables.known(), packet) {
+            Ok(of_stream) => Ok(place_of(self.tables.cue_pid(), is_map, of_stream, packet)),
             Err(fault) => Err(of_unit(fault)),
         }
     }
@@ -229,25 +211,6 @@ fn begin(streams: &mut Option<Streams>, switched: &[Stream])
     *streams = Some(Streams::new(switched));
 }
 
-/// The packet is on the PID of cues that are to be written.
-#[inline(always)]
-fn is_refused(purpose: &Purpose, packet: &Packet) -> bool
-    ensures { result ≡ (purpose.now.writes_cues && on_cue purpose.now.cue_pid packet.now) }
-{
-    purpose.writes_cues && is_on_pid(purpose.cue_pid, packet)
-}
-
-/// The packet is on this PID, where there is one.
-#[inline(always)]
-fn is_on_pid(pid: Option<Pid>, packet: &Packet) -> bool
-    ensures { result ≡ on_cue pid packet.now }
-{
-    match pid {
-        None => false,
-        Some(pid) => packet.is_on(pid),
-    }
-}
-
 /// What a packet is, by the stream that it is of.
 #[inline(always)]
 fn place_of(
@@ -276,7 +239,7 @@ fn place_of(
 }
 
 /// A fault of a unit, as one of the network.
-fn of_unit(fault: UnitFault) -> NetworkFault
+pub(crate) fn of_unit(fault: UnitFault) -> NetworkFault
     ensures { as_network (Some fault) ≡ Some result }
 {
     match fault {

@@ -8,7 +8,10 @@ mod known;
 mod map_reader;
 mod pat_reader;
 mod purpose;
+mod start_follower;
+mod starts;
 mod streams;
+mod table_reader;
 mod tables;
 
 pub use follower::{FollowFault, Place, ProgramFollower};
@@ -16,7 +19,10 @@ pub use known::KnownProgram;
 pub use map_reader::MapReader;
 pub use pat_reader::PatReader;
 pub use purpose::{Listed, Purpose};
+pub use start_follower::StartFollower;
+pub use starts::Starts;
 pub use streams::{StreamPacket, Streams};
+pub use table_reader::TableReader;
 pub use tables::{LentTable, Tables};
 
 #[cfg(test)]

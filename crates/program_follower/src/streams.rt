@@ -128,7 +128,7 @@ fn stream_packet(clock: &mut Clock, piece: Piece<'_>) -> Result<StreamPacket, Un
 /// The first stream on whose PID the packet is: its number and that PID.
 #[tactic(auto, using(crate::proofs::StreamLemmas::not_shifted, crate::proofs::StreamLemmas::first_here, crate::proofs::StreamLemmas::first_later, crate::proofs::StreamLemmas::first_never))]
 #[inline(always)]
-fn first_on(streams: &[Stream], packet: &Packet) -> Option<(usize, Pid)>
+pub(crate) fn first_on(streams: &[Stream], packet: &Packet) -> Option<(usize, Pid)>
     requires { length streams.now ≤ 8 }
     ensures { result ≡ first_on (pids_in streams.now) packet.now }
 {
@@ -146,7 +146,7 @@ fn first_on(streams: &[Stream], packet: &Packet) -> Option<(usize, Pid)>
 
 /// Whether there is a payload, and it is scrambled.
 #[inline(always)]
-fn has_scrambled_payload(packet: &Packet) -> bool
+pub(crate) fn has_scrambled_payload(packet: &Packet) -> bool
     ensures { result ≡ (is_some (payload packet.now) && scrambled packet.now) }
 {
     packet.has_payload() && packet.scrambled()

@@ -4,3 +4,4 @@ pub mod ReadingLemmas
 pub mod PieceLemmas
 pub mod RowLemmas
 pub mod PackedLemmas
+pub mod StartLemmas

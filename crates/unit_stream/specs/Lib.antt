@@ -7,3 +7,4 @@ pub mod Rows
 pub mod Fates
 pub mod Clocks
 pub mod UnitPackets
+pub mod Starts

@@ -5,7 +5,9 @@ mod clock;
 mod fault;
 pub mod laws;
 mod reader;
+mod starts;
 
 pub use clock::{Begun, Clock};
 pub use fault::UnitFault;
 pub use reader::{Piece, UnitFollower, UnitReader};
+pub use starts::StartReader;

@@ -1,5 +1,6 @@
-use Rattle.std.proofs.Common.{arith, ◌∙◌}
+use Rattle.std.proofs.Common.{arith, [], ◌∙◌}
 use Rattle.std.proofs.lemmas.List.{length-set}
+use Rattle.unit_stream.specs.Pieces.{Reads}
 use Rattle.program_follower.proofs.StreamLemmas.{first_within_streams, read_on}
 use Rattle.program_follower.proofs.streams.readers_of.Goals as goal
 
@@ -9,7 +10,7 @@ loop-index-preserved c =
     let n = c.loop-index.index in (
       omega arith,
       length-set rs n c.new.result ∙ c.loop-index.invariant.1,
-      read_on c.args.streams.now rs n c.new.result c.index-streams-index.result (omega arith) c.new.ensures c.loop-index.invariant.2,
+      read_on (λ r pid. Reads r pid []) c.args.streams.now rs n c.new.result c.index-streams-index.result (omega arith) c.new.ensures c.loop-index.invariant.2,
     )
 
 pub returns : goal.returns

@@ -106,7 +106,7 @@ returns-clause-stands g c = λ cfg past b.
       rest = λ quiet. c.rest_behind-self.ensures cfg.index (Passed line ∷ turns) (c.rise.ensures.stands cfg.index turns line requests rises is) (c.rise.ensures.notes cfg.index turns line requests noted rises is)
           (idle-between cfg (PacketStep p ∷ past) line refl refl)
           (λ none. subst (λ r. Rests r line (standing_senders cfg.index (Passed line ∷ turns))) (sym k.rest) (c.is_due-is_due.ensures c.args.is_map cfg p past b is none).rests);
-      follower = subst (λ f. Rattle.program_follower.specs.Following.FollowerStandsFor f (purpose_of cfg) (p ∷ packets_in past)) (sym k.follower) b.body.follower;
+      follower = subst (λ f. Rattle.program_follower.specs.Following.StartsStandFor f (purpose_of cfg) (p ∷ packets_in past)) (sym k.follower) b.body.follower;
       out = subst (HasPut c.put_body.new.self.out) (sym (onto-append out cues more) ∙ ap (onto out) (sym sent))
           (c.in-Ok-put_body.ensures.numbers (onto out cues) cfg (packets_in past) (c.in-Ok.ensures.numbers out cfg.index turns line b.out before)
           (record { cue_pid = b.body.cue_pid; follower = b.body.follower; sound = b.body.sound; map = b.body.map }));

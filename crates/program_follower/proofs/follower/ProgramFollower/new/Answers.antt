@@ -2,4 +2,4 @@ use Rattle.std.proofs.Common.{refl}
 use Rattle.program_follower.proofs.follower.ProgramFollower.new.Goals as goal
 
 pub returns : goal.returns
-returns c = record { purpose = refl; pats = c.new.ensures c.args.purpose.program; maps = c.new-2.ensures c.args.purpose.program; streams = tt; whole = refl }
+returns c = record { tables = c.new.ensures; streams = tt; whole = refl }

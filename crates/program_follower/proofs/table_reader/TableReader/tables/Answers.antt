@@ -1,7 +1,7 @@
 use Rattle.std.proofs.Common.{◌∷◌, ◌∙◌, sym}
 use Rattle.program_follower.specs.Standing.{shown}
 use Rattle.program_follower.proofs.FollowLemmas.{tables_shown}
-use Rattle.program_follower.proofs.follower.ProgramFollower.tables.Goals as goal
+use Rattle.program_follower.proofs.table_reader.TableReader.tables.Goals as goal
 
 pub returns-in-Some : goal.returns-in-Some
 returns-in-Some c = λ k p past h.

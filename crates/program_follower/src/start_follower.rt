@@ -1,0 +1,124 @@
+//! One program of a network, followed by where its units begin.
+
+ghost use Rattle.std.specs.Prelude.{◌≡◌, ◌≤◌, ◌∷◌, [], ℕ, List, length, Option, Some, None, option_map, OnOk, IfOk, IfErr};
+ghost use Rattle.pes_time.specs.Line.{ring_of};
+ghost use Rattle.unit_stream.specs.Faults.{unit_fault};
+ghost use Rattle.program_follower.specs.Program.{listed, tables, Program, pids_of};
+ghost use Rattle.program_follower.specs.Faults.{network_fault};
+ghost use Rattle.program_follower.specs.Standing.{tables_left, lent_program};
+ghost use Rattle.program_follower.specs.Following.{StartsStandFor, OfStartPast, OfBegins, StartsSince, grown, high_of, on_map};
+
+use crate::follower::of_unit;
+use crate::known::KnownProgram;
+use crate::purpose::Purpose;
+use crate::starts::Starts;
+use crate::table_reader::TableReader;
+use crate::tables::Tables;
+use pes_time::Time33;
+use psi_tables::{NetworkFault, Stream};
+use ts_packet::Packet;
+use unit_stream::UnitFault;
+
+/// Follows one program of a network as [`crate::ProgramFollower`] does, for callers who ask for its faults, its maps and its greatest time
+/// alone. It tells no packet of a stream from another, and so copies none but those with which units begin. It takes no memory. It is not to
+/// be fed behind a fault.
+#[derive(Drop)]
+pub struct StartFollower {
+    tables: TableReader,
+    /// The switched streams, behind the head.
+    streams: Option<Starts>,
+}
+
+impl StartFollower {
+    /// A follower that was fed no packet.
+    pub fn new(purpose: Purpose) -> StartFollower
+        ensures { StartsStandFor result purpose [] }
+    {
+        StartFollower {
+            tables: TableReader::new(purpose),
+            streams: None,
+        }
+    }
+
+    /// Takes the next packet of the network, and answers whether it is on the PID of the map, behind the PAT.
+    ///
+    /// # Errors
+    ///
+    /// What is wrong with the packet behind those before it.
+    #[inline(always)]
+    pub fn feed(&mut self, packet: &Packet) -> Result<bool, NetworkFault>
+        ensures stands { OfStartPast self.old (λ c past. OnOk result (StartsStandFor self.new c (packet.now ∷ past))) }
+        ensures sound { OfStartPast self.old (λ c past. OnOk result (network_fault c packet.now past ≡ None)) }
+        ensures place { OfStartPast self.old (λ c past.
+            IfOk result (λ is_map. is_map ≡ on_map (listed c.program past) packet.now)) }
+        ensures err { OfStartPast self.old (λ c past. IfErr result (λ f. network_fault c packet.now past ≡ Some f)) }
+    {
+        match self.tables.feed(packet) {
+            Ok(()) => {}
+            Err(fault) => return Err(fault),
+        }
+        match follow_begins(&mut self.streams, self.tables.known(), packet) {
+            Ok(()) => Ok(self.tables.is_on_map()),
+            Err(fault) => Err(of_unit(fault)),
+        }
+    }
+
+    /// The sections that the last packet finished on the PID of the map, behind the PAT, in order; none where it was of another PID.
+    pub fn tables(&self) -> Tables<'_>
+        ensures { (c : Purpose) (p : List ℕ) (past : List (List ℕ)) → StartsStandFor self.now c (p ∷ past)
+            → tables_left result ≡ tables c.program p past }
+    {
+        self.tables.tables()
+    }
+
+    /// The greatest time of the units that have begun behind the head, on the ring.
+    #[inline(always)]
+    pub fn high(&self) -> Option<Time33>
+        ensures { OfStartPast self.now (λ c past. result ≡ option_map ring_of (high_of c.program past)) }
+    {
+        match &self.streams {
+            None => None,
+            Some(streams) => streams.high(),
+        }
+    }
+}
+
+/// Takes a packet behind the head, and begins to follow the streams at the end of the head. `known` is what is known behind the packet.
+#[inline(always)]
+fn follow_begins(
+    streams: &mut Option<Starts>,
+    known: Option<&KnownProgram>,
+    packet: &Packet,
+) -> Result<(), UnitFault>
+    ensures reads { OfBegins streams.old (lent_program known.entry) (λ r past.
+        OnOk result (StartsSince streams.new (lent_program known.entry) (grown r packet.now past))) }
+    ensures sound { OfBegins streams.old (lent_program known.entry) (λ r past.
+        OnOk result (unit_fault (pids_of r) packet.now past ≡ None)) }
+    ensures err { OfBegins streams.old (lent_program known.entry) (λ r past.
+        IfErr result (λ f. unit_fault (pids_of r) packet.now past ≡ Some f)) }
+{
+    let Some(known) = known else {
+        return Ok(());
+    };
+    match streams {
+        Some(streams) => match streams.feed(known.streams.as_slice(), packet) {
+            Ok(()) => Ok(()),
+            Err(fault) => Err(fault),
+        },
+        None => {
+            begin(streams, known.streams.as_slice());
+            Ok(())
+        }
+    }
+}
+
+/// Begins to follow the streams, at the end of the head. It is called once in a run, and stands by itself so that no other packet pays
+/// for the room that it takes.
+#[cold]
+#[inline(never)]
+fn begin(streams: &mut Option<Starts>, switched: &[Stream])
+    requires { length switched.now ≤ 8 }
+    ensures { (r : Program) → r.streams ≡ switched.now → StartsSince streams.new (Some r) [] }
+{
+    *streams = Some(Starts::new(switched));
+}

@@ -1,0 +1,126 @@
+//! Where the units of the switched streams begin behind the head, and the greatest time of these.
+
+ghost use Rattle.std.specs.Prelude.{◌≡◌, ◌<◌, ◌≤◌, ◌≢◌, ◌∷◌, [], ℕ, List, length, Option, Some, None, option_map};
+ghost use Rattle.std.specs.Prelude.{OnOk, IfErr, slice_index_or};
+ghost use Rattle.pes_time.specs.Line.{ring_of};
+ghost use Rattle.unit_stream.specs.Faults.{unit_fault};
+ghost use Rattle.unit_stream.specs.Times.{high};
+ghost use Rattle.unit_stream.specs.Starts.{ReadsStarts, IsBegin};
+ghost use Rattle.unit_stream.specs.Clocks.{ClockAt};
+ghost use Rattle.program_follower.specs.Faults.{pids_in};
+ghost use Rattle.program_follower.specs.Streaming.{AllStartsRead, StartsRead, IsOne, begin_fault};
+
+use crate::streams::{first_on, has_scrambled_payload};
+use pes_time::Time33;
+use psi_tables::Stream;
+use ts_packet::{Packet, Pid};
+use unit_stream::{Clock, StartReader, UnitFault};
+
+/// Follows the begins of the units of up to eight switched streams, and no packet of a unit behind its first.
+#[derive(Clone, Copy, Debug)]
+pub struct Starts {
+    clock: Clock,
+    readers: [StartReader; 8],
+}
+
+impl Starts {
+    /// The streams at the end of the head.
+    pub fn new(streams: &[Stream]) -> Starts
+        requires { length streams.now ≤ 8 }
+        ensures { StartsRead result (pids_in streams.now) [] }
+    {
+        Starts {
+            clock: Clock::new(),
+            readers: readers_of(streams),
+        }
+    }
+
+    /// The greatest time of the units that have begun; `None` where none with a PTS has.
+    #[inline(always)]
+    pub fn high(&self) -> Option<Time33>
+        ensures { (pids : List ℕ) (past : List (List ℕ)) → StartsRead self.now pids past
+            → result ≡ option_map ring_of (high pids past) }
+    {
+        self.clock.high()
+    }
+
+    /// Takes the next packet behind the head, of whatever PID.
+    ///
+    /// # Errors
+    ///
+    /// The first of `Scrambled`, `HeaderSplit` and `TimeJump` that applies.
+    #[inline(always)]
+    pub fn feed(&mut self, streams: &[Stream], packet: &Packet) -> Result<(), UnitFault>
+        requires { length streams.now ≤ 8 }
+        ensures reads { (past : List (List ℕ)) → StartsRead self.old (pids_in streams.now) past
+            → OnOk result (StartsRead self.new (pids_in streams.now) (packet.now ∷ past)) }
+        ensures ok { (past : List (List ℕ)) → StartsRead self.old (pids_in streams.now) past
+            → OnOk result (unit_fault (pids_in streams.now) packet.now past ≡ None) }
+        ensures err { (past : List (List ℕ)) → StartsRead self.old (pids_in streams.now) past
+            → IfErr result (λ f. unit_fault (pids_in streams.now) packet.now past ≡ Some f) }
+    {
+        let Some((index, _)) = first_on(streams, packet) else {
+            return Ok(());
+        };
+        if has_scrambled_payload(packet) {
+            return Err(UnitFault::Scrambled);
+        }
+        let begun = feed_at(&mut self.readers, index, packet);
+        match pass(&mut self.clock, begun) {
+            Ok(()) => Ok(()),
+            Err(fault) => Err(fault),
+        }
+    }
+}
+
+/// The clock passes the begin of a unit, where the packet is one, by the payload with which it begins.
+#[tactic(auto, using(crate::proofs::PieceLemmas::high_start, crate::proofs::PieceLemmas::high_other, crate::proofs::PieceLemmas::stamp_in, crate::proofs::PieceLemmas::splits_in))]
+#[inline(always)]
+fn pass(clock: &mut Clock, begun: Option<&[u8]>) -> Result<(), UnitFault>
+    ensures clock { (pids : List ℕ) (pid : ℕ) (p : List ℕ) (past : List (List ℕ)) → IsOne pids pid p past
+        → ClockAt clock.old (high pids past) → IsBegin begun.entry pid p past
+        → OnOk result (ClockAt clock.new (high pids (p ∷ past))) }
+    ensures sound { (pids : List ℕ) (pid : ℕ) (p : List ℕ) (past : List (List ℕ)) → IsOne pids pid p past
+        → ClockAt clock.old (high pids past) → IsBegin begun.entry pid p past
+        → OnOk result (begin_fault pids pid p past ≡ None) }
+    ensures err { (pids : List ℕ) (pid : ℕ) (p : List ℕ) (past : List (List ℕ)) → IsOne pids pid p past
+        → ClockAt clock.old (high pids past) → IsBegin begun.entry pid p past
+        → IfErr result (λ f. begin_fault pids pid p past ≡ Some f) }
+{
+    match begun {
+        None => Ok(()),
+        Some(payload) => match clock.begin(payload) {
+            Ok(_) => Ok(()),
+            Err(fault) => Err(fault),
+        },
+    }
+}
+
+/// Feeds the reader of one stream.
+#[inline(always)]
+fn feed_at<'a>(readers: &mut [StartReader; 8], index: usize, packet: &'a Packet) -> Option<&'a [u8]>
+    requires { index < 8 }
+    ensures others { (i : ℕ) (d : StartReader) → i ≢ index
+        → slice_index_or readers.new i d ≡ slice_index_or readers.old i d }
+    ensures reads { (d : StartReader) (pid : ℕ) (past : List (List ℕ))
+        → ReadsStarts (slice_index_or readers.old index d) pid past
+        → ReadsStarts (slice_index_or readers.new index d) pid (packet.now ∷ past) }
+    ensures begins { (d : StartReader) (pid : ℕ) (past : List (List ℕ))
+        → ReadsStarts (slice_index_or readers.old index d) pid past → IsBegin result pid packet.now past }
+{
+    readers[index].feed(packet)
+}
+
+/// A reader for each stream.
+fn readers_of(streams: &[Stream]) -> [StartReader; 8]
+    requires { length streams.now ≤ 8 }
+    ensures { AllStartsRead result (pids_in streams.now) [] }
+{
+    let mut readers = [StartReader::new(Pid::of_bits(0, 0)); 8];
+    let mut index = 0;
+    while index < streams.len() {
+        readers[index] = StartReader::new(streams[index].pid);
+        index += 1;
+    }
+    readers
+}

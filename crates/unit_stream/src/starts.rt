@@ -1,0 +1,59 @@
+//! The begins of the units of one PID.
+
+ghost use Rattle.std.specs.Prelude.{◌≡◌, ℕ, List, [], ◌∷◌, true};
+ghost use Rattle.ts_packet.specs.Fields.{unit_start, payload_on};
+
+use ts_packet::{Follower, Packet, Pid};
+
+/// Tells where the units of one PID begin, one packet at a time. It copies a packet with the start bit alone: no other one is repeated by
+/// a packet that could begin a unit.
+#[derive(Clone, Copy, Debug)]
+pub struct StartReader {
+    pid: Pid,
+    follower: Follower,
+    last: Packet,
+}
+
+impl StartReader {
+    ghost use Rattle.unit_stream.specs.Starts.{ReadsStarts, OfStarts, IsBegin};
+
+    /// A reader of this PID that has seen no packet.
+    pub fn new(pid: Pid) -> StartReader
+        ensures { ReadsStarts result pid [] }
+    {
+        StartReader {
+            pid,
+            follower: Follower::new(pid),
+            last: Packet::null(),
+        }
+    }
+
+    /// The payload of the first packet of a unit, where the next packet is that; `None` where it begins no unit of the PID.
+    #[inline(always)]
+    pub fn feed<'a>(&mut self, packet: &'a Packet) -> Option<&'a [u8]>
+        ensures reads { OfStarts self.old (λ pid past. ReadsStarts self.new pid (packet.now ∷ past)) }
+        ensures begins { OfStarts self.old (λ pid past. IsBegin result pid packet.now past) }
+    {
+        if !packet.has_payload_on(self.pid) {
+            return None;
+        }
+        if packet.unit_start() {
+            return self.take(packet);
+        }
+        self.follower = Follower::new(self.pid);
+        None
+    }
+
+    /// Takes a payload packet of the PID that has the start bit. It stands by itself, as few packets have that.
+    #[inline(never)]
+    fn take<'a>(&mut self, packet: &'a Packet) -> Option<&'a [u8]>
+        requires payload { payload_on self.old.pid packet.now ≡ true }
+        requires start { unit_start packet.now ≡ true }
+        ensures reads { OfStarts self.old (λ pid past. ReadsStarts self.new pid (packet.now ∷ past)) }
+        ensures begins { OfStarts self.old (λ pid past. IsBegin result pid packet.now past) }
+    {
+        let is_original = self.follower.feed(packet, &self.last);
+        self.last = *packet;
+        if is_original { packet.payload() } else { None }
+    }
+}
