@@ -146,7 +146,7 @@ pub struct ArmedEvents<T = ()> {
 impl<T: Copy + Default> ArmedEvents<T> {
     ghost use Rattle.ts_packet.specs.Fields.{on};
     ghost use Rattle.event_table.specs.Rings.{CanAdvance};
-    ghost use Rattle.event_table.specs.Standing.{Standing, IsTimeAt};
+    ghost use Rattle.event_table.specs.Standing.{Standing, IsTimeAt, still_standing};
     ghost use Rattle.event_table.specs.Tables.{StandsFor, high_of, events_of, values_of};
     ghost use Rattle.psi_section.specs.Assembling.{IsOf, IsReady, capped};
     ghost use Rattle.armed_events.specs.Arming.{standing, ignored};
@@ -202,6 +202,25 @@ impl<T: Copy + Default> ArmedEvents<T> {
         ensures high { high_of self.new.obeyed.table ≡ Some high }
     {
         self.obeyed.table.advance(high);
+    }
+
+    /// Takes this time as the high time, where a packet of another PID raises it and it forgets no event. None is looked at.
+    pub fn advance_keeping_all(&mut self, high: Time33)
+        requires { CanAdvance (high_of self.old.obeyed.table) high }
+        ensures obeys { (pid : ℕ) (high_in : List (List ℕ) → Option ℤ) (p : List ℕ) (past : List (List ℕ)) (later : ℤ) →
+            on pid p ≡ false → IsTimeAt (high_in past) high later → high_in (p ∷ past) ≡ Some later →
+            still_standing later (standing pid high_in past) ≡ standing pid high_in past →
+            Obeys self.old pid high_in past → Obeys self.new pid high_in (p ∷ past) }
+        ensures values { (pid : ℕ) (high_in : List (List ℕ) → Option ℤ) (p : List ℕ) (past : List (List ℕ)) (later : ℤ) (value : ℤ → T) →
+            on pid p ≡ false → IsTimeAt (high_in past) high later → high_in (p ∷ past) ≡ Some later →
+            still_standing later (standing pid high_in past) ≡ standing pid high_in past →
+            Obeys self.old pid high_in past →
+            Keeps self.old value pid high_in past → Keeps self.new value pid high_in (p ∷ past) }
+        ensures entries { self.new.obeyed.table.entries ≡ self.old.obeyed.table.entries }
+        ensures assembler { self.new.assembler ≡ self.old.assembler }
+        ensures high { high_of self.new.obeyed.table ≡ Some high }
+    {
+        self.obeyed.table.advance_keeping_all(high);
     }
 
     /// Puts the value beside the event that stands at this place of [`Table::standing`]. All else stays as it is.

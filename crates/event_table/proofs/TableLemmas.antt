@@ -407,6 +407,20 @@ advanced-stands t t' line standing p later fits can stands is high items =
       apart = AllPairs-filter IsApart test standing stands.apart;
     }
 
+-- where all are kept they stand as they did
+pub kept-stands : {T : Type 0} (t t' : Table T) (line : Option ℤ) (standing : List Standing) (p : ℕ) (later : ℤ) → p < 2 ^ 33 → CanAdvance t.last p → StandsFor t line standing → IsTimeAt line p later
+    → t'.last ≡ Some p → events_of t' ≡ events_of t → still_standing later standing ≡ standing → StandsFor t' (Some later) standing
+kept-stands t t' line standing p later fits can stands is high items all =
+    let can' : CanAdvance (option_map ring_of line) p = subst (λ h. CanAdvance h p) stands.high can in
+    let test : Standing → Bool = λ s. int_lt later (forgotten_at s) in
+    let passes : All (λ s. test s ≡ true) standing = subst (All (λ s. test s ≡ true)) all (filter_passes test standing) in
+    record {
+      high = high ∙ ap Some (sym (ring-time line p later fits is));
+      events = items ∙ stands.events;
+      within = λ k d below. still-within line p later can' is (slice_index_or standing k d) (stands.within k d below) (passes k d below);
+      apart = stands.apart;
+    }
+
 -- the events of the entries that are kept are those of the events that are
 pub events-kept : {T : Type 0} (p : Event → Bool) (entries : List (Entry T)) → map (λ entry. entry.event) (filter (λ entry. p entry.event) entries) ≡ filter p (map (λ entry. entry.event) entries)
 events-kept p entries = sym (filter-map (λ entry. entry.event) (λ _. Unit {0}) p (λ entry. p entry.event) (λ _ _. refl) entries (λ k d below. tt))

@@ -312,6 +312,19 @@ impl<T: Copy + Default> Table<T> {
         *last = Some(high);
     }
 
+    /// Takes this time as the high time, where it forgets no event. None is looked at.
+    pub fn advance_keeping_all(&mut self, high: Time33)
+        requires { CanAdvance (high_of self.old) high }
+        ensures stands { (line : Option ℤ) (standing : List Standing) (later : ℤ) → StandsFor self.old line standing →
+            IsTimeAt line high later → still_standing later standing ≡ standing → StandsFor self.new (Some later) standing }
+        ensures entries { self.new.entries ≡ self.old.entries }
+        ensures high { high_of self.new ≡ Some high }
+    {
+        let _ticks = high.ticks();
+        let Table { last: highest, .. } = self;
+        *highest = Some(high);
+    }
+
     /// Where the event of this id stands in the list, or `None`.
     fn place_of(&self, id: u32) -> Option<usize>
         ensures { result ≡ position (λ entry. entry.event.id == id) self.now.entries.items }

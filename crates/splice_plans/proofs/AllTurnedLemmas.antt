@@ -1,7 +1,7 @@
 -- The plans beside the events, turned one by one.
 use Rattle.std.proofs.Common.{◌≡◌, ℕ, zero, suc, ◌+◌, ◌<◌, ◌≤◌, refl, sym, ap, ◌∙◌, arith, List, [], ◌∷◌, ◌++◌, length, take, drop, Bool, add-one}
 use Rattle.std.specs.Prelude.{ℤ, Option, slice_index_or, slice_set, map}
-use Rattle.std.proofs.lemmas.List.{get_or_default, length-map}
+use Rattle.std.proofs.lemmas.List.{get_or_default, length-map, set-get_or}
 use Rattle.std.proofs.Math.ListN.{drop_of_length-le}
 use Rattle.event_table.specs.declared.table.Entry.{Entry}
 use Rattle.event_table.specs.Standing.{Standing, on_ring, IsWithin}
@@ -61,10 +61,9 @@ value-at : (xs : List (Entry Plan)) (i : ℕ) → slice_index_or (map (λ (x : E
 value-at xs i = Rattle.std.proofs.Math.ListN.get_or-map (λ (x : Entry Plan). x.value) xs i no_entry
 
 -- one more plan is turned
-module _ (ads : Adverts) (stream time at : ℕ) (old now : ArmedEvents Plan) (keeps : KeepsEvents old now) (entry : Entry Plan) (plays : Bool) (plan : Plan)
+module _ (ads : Adverts) (stream time at : ℕ) (old now : ArmedEvents Plan) (keeps : KeepsEvents old now) (entry : Entry Plan) (plan : Plan)
     (below : at < length now.obeyed.table.entries.items) (there : entry ≡ slice_index_or now.obeyed.table.entries.items at entry)
-    (plays_is : (e : Standing) → entry.event ≡ on_ring e → plays ≡ is_played ads e)
-    (plan_is : (line : Option ℤ) (e : Standing) → entry.event ≡ on_ring e → IsWithin line e → IsNearHigh line (place line time) → plan ≡ plan_turned e (place line time) plays stream entry.value)
+    (plan_is : (line : Option ℤ) (e : Standing) → entry.event ≡ on_ring e → IsWithin line e → IsNearHigh line (place line time) → plan ≡ plan_turned e (place line time) (is_played ads e) stream entry.value)
     (line : Option ℤ) (es : List Standing) (s : StandsFor old.obeyed.table line es) (near : IsNearHigh line (place line time)) where
   abbrev before : List Plan
   before = values_of old.obeyed.table
@@ -97,10 +96,18 @@ module _ (ads : Adverts) (stream time at : ℕ) (old now : ArmedEvents Plan) (ke
       let e = slice_index_or es at no_standing in
       let is : plan ≡ slice_index_or turned at plan
       = plan_is line e event-is (within-there now.obeyed.table line es stands at below) near
-      ∙ ap (λ b. plan_turned e (place line time) b stream entry.value) (plays_is e event-is)
       ∙ ap (plan_turned e (place line time) (is_played ads e) stream) value
       ∙ sym (turned-at ads stream (place line time) es before at plan within sizes) in
       ap (λ vs. slice_set vs at plan) so_far ∙ set-mixed turned before at plan in_turned n is
+
+  -- one that stays is turned as it is
+  pub one-stays : plan ≡ entry.value → (so_far : values_of now.obeyed.table ≡ take at turned ++ drop at before) → values_of now.obeyed.table ≡ take (at + 1) turned ++ drop (at + 1) before
+  one-stays same so_far =
+      let d = no_entry.value in
+      let size : at < length (values_of now.obeyed.table) = let n = length-map now.obeyed.table.entries.items (λ (x : Entry Plan). x.value) in omega (arith, below, n) in
+      let here : plan ≡ slice_index_or (values_of now.obeyed.table) at d
+      = same ∙ ap (λ (x : Entry Plan). x.value) entry-is ∙ sym (value-at now.obeyed.table.entries.items at) in
+      sym (ap (slice_set (values_of now.obeyed.table) at) here ∙ set-get_or (values_of now.obeyed.table) at d) ∙ one-turned so_far
 
 pub keeps-more : (old now new : ArmedEvents Plan) → KeepsEvents old now → KeepsEvents now new → KeepsEvents old new
 keeps-more old now new h k = record {

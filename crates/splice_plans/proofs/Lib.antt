@@ -9,6 +9,7 @@ pub mod TurnLemmas
 pub mod SliceLemmas
 pub mod AdvertLemmas
 pub mod PartLemmas
+pub mod WaitLemmas
 pub mod AllTurnedLemmas
 pub mod RunLemmas
 pub mod ClosingLemmas

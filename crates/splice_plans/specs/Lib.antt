@@ -8,5 +8,6 @@ pub mod Slicing
 pub mod Turning
 pub mod Adverts
 pub mod Parts
+pub mod Waiting
 pub mod Fronts
 pub mod Known

@@ -84,6 +84,7 @@ pub struct Plan {
 impl Plan {
     ghost use Rattle.std.specs.Prelude.{replicate, false};
     ghost use Rattle.splice_plans.specs.Turning.{waiting};
+    ghost use Rattle.splice_plans.specs.Waiting.{waits_in_all};
 
     /// The event waits in all streams.
     pub fn new() -> Plan
@@ -104,6 +105,13 @@ impl Plan {
         ensures { result ≡ part_of self.now stream }
     {
         self.parts[stream % 8]
+    }
+
+    /// The event waits in all streams.
+    pub fn waits(&self) -> bool
+        ensures { result ≡ waits_in_all self.now }
+    {
+        self.parts.iter().all(|part| part.stage == Stage::Waiting)
     }
 
     /// The plan with this part in this stream.

@@ -1,6 +1,6 @@
 //! How far the events that stand come with a unit.
 
-ghost use Rattle.std.specs.Prelude.{◌≡◌, ◌<◌, length, ℤ, List, Option, None, IfSome, position, false};
+ghost use Rattle.std.specs.Prelude.{◌≡◌, ◌<◌, ◌^◌, length, slice_index_or, ℤ, List, Option, None, IfSome, position, false};
 ghost use Rattle.std.specs.List.{list_any};
 ghost use Rattle.pes_time.specs.Line.{place};
 ghost use Rattle.event_table.specs.Standing.{Standing, on_ring};
@@ -10,7 +10,8 @@ ghost use Rattle.splice_plans.specs.Playing.{is_played};
 ghost use Rattle.splice_plans.specs.Adverts.{adverts_of};
 ghost use Rattle.splice_plans.specs.Turning.{IsNearHigh, part_of};
 ghost use Rattle.splice_plans.specs.Parts.{KeepsEvents, HasStanding, IsFirstClosing, all_turned, holds_begun, is_running};
-ghost use Rattle.splice_plans.specs.Parts.{starts_first, sooner, closes_in};
+ghost use Rattle.splice_plans.specs.Parts.{starts_first, sooner, closes_in, no_entry};
+ghost use Rattle.splice_plans.specs.Waiting.{waits_before};
 
 use crate::plan::{Plan, Stage};
 use ad_library::AdLibrary;
@@ -41,10 +42,24 @@ pub fn turn_all(
     ensures keeps { KeepsEvents events.old events.new }
 {
     for at in 0..events.table().standing().len() {
+        if waits_before(events.table(), at, stream, time) {
+            continue;
+        }
         let entry = events.table().standing()[at];
         let plays = is_played(&entry.event, streams, library);
         events.set_value(at, entry.value.turned(stream, &entry.event, time, plays));
     }
+}
+
+/// The event at this place waits in the stream of this number, and the time lies before its start.
+fn waits_before(table: &Table<Plan>, at: usize, stream: usize, time: Time33) -> bool
+    requires { at < length table.now.entries.items }
+    ensures value { result ≡ waits_before stream time (slice_index_or table.now.entries.items at no_entry) }
+    ensures below { time < 2 ^ 33 }
+{
+    let _ticks = time.ticks();
+    let standing = table.standing();
+    standing[at].value.part(stream).stage == Stage::Waiting && is_before(time, standing[at].event.start)
 }
 
 /// A played event that stands holds the time, which is that of the unit that has begun last in the stream of this number.

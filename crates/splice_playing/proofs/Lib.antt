@@ -1,3 +1,5 @@
+pub mod WaitingLemmas
+pub mod UntilLemmas
 pub mod FrontLemmas
 pub mod ReportLemmas
 pub mod StreamLemmas

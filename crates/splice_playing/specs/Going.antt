@@ -10,6 +10,7 @@ use Rattle.splice_plans.specs.declared.plan.Plan.{Plan}
 use Rattle.splice_plans.specs.declared.stream.SwitchedStream.{SwitchedStream}
 use Rattle.splice_plans.specs.Fronts.{closing_packets, closed_plans, AllCount, all_running, running_of, all_ran}
 use Rattle.splice_playing.specs.declared.playing.Playing.{Playing}
+use Rattle.splice_playing.specs.Resting.{is_left_at_rest}
 
 -- the plans beside the events that stand
 abbrev pub plans_in : Playing → List Plan
@@ -25,6 +26,11 @@ IsStreamAt playing number s = s ≡ slice_index_or playing.streams (number % 8) 
 
 abbrev pub stream_at : Playing → ℕ → SwitchedStream → SwitchedStream
 stream_at playing number s = slice_index_or playing.streams number s
+
+-- a stream before and behind the start of a unit of this time, or of none, before all events
+pub record KeepsUnit (time : Option ℕ) (s t : SwitchedStream) : Type 0 where
+  pub counter : t.counter ≡ s.counter
+  pub leaving : t.is_leaving ≡ is_left_at_rest time s.is_leaving
 
 -- the streams' counters have counted these steps
 abbrev pub HasCounted : Playing → (ℕ → List Step) → Type 0

@@ -1,4 +1,5 @@
 pub mod Ready
+pub mod Resting
 pub mod Relations
 pub mod Going
 pub mod Forgetting

@@ -1,12 +1,12 @@
 //! The events in the switched streams: which have begun, which are over, and what has gone out of their slices.
 
-ghost use Rattle.std.specs.Prelude.{◌≡◌, ◌<◌, ◌≤◌, ◌+◌, ◌%◌, ◌++◌, ◌∷◌, [], ℕ, ℤ, List, length, slice_index_or, Option, OnOk, IfErr, true};
+ghost use Rattle.std.specs.Prelude.{◌≡◌, ◌<◌, ◌≤◌, ◌+◌, ◌%◌, ◌++◌, ◌∷◌, ◌^◌, [], ℕ, ℤ, List, length, slice_index_or, Option, None, Some, IfSome, OnOk, IfErr, true};
 ghost use Rattle.ts_packet.specs.Numbering.{Step, Counts};
 ghost use Rattle.unit_stream.specs.UnitPackets.{put_in};
 ghost use Rattle.event_table.specs.Standing.{Standing, IsTimeAt};
 ghost use Rattle.event_table.specs.Rings.{CanAdvance};
 ghost use Rattle.event_table.specs.Tables.{StandsFor, high_of};
-ghost use Rattle.splice_plans.specs.Parts.{KeepsEvents, IsReached};
+ghost use Rattle.splice_plans.specs.Parts.{KeepsEvents, IsReached, no_entry};
 ghost use Rattle.splice_plans.specs.Fronts.{IsNearTime, IsOther, is_left};
 ghost use Rattle.ts_packet.specs.Sinks.{Blamed};
 ghost use Rattle.ts_packet.specs.Transfers.{WentWell};
@@ -16,10 +16,11 @@ ghost use Rattle.splice_plans.specs.Switching.{Setting, front_at, place_at, rest
 ghost use Rattle.splice_plans.specs.Reporting.{EventCounts as Reported, ReportIs, report_of};
 ghost use Rattle.splice_playing.specs.Forgetting.{with_out, with_first_out, with_standing};
 ghost use Rattle.splice_playing.specs.Ready.{is_ready};
+ghost use Rattle.splice_playing.specs.Resting.{is_rest, first_rest, waits_ahead, first_start, comes_before, all_wait, all_start_behind};
 
 use ad_library::AdLibrary;
 use armed_events::ArmedEvents;
-use event_table::Table;
+use event_table::{Table, is_before};
 use pes_time::Time33;
 use psi_tables::Stream;
 use splice_plans::{
@@ -33,12 +34,16 @@ pub struct Playing {
     events: ArmedEvents<Plan>,
     streams: [SwitchedStream; 8],
     forgotten: SwitchReport,
+    /// The time until which all events that stand wait in all streams, or `None` where that is not known.
+    rest: Option<Time33>,
     ghost ready: { is_ready events.assembler ≡ true },
+    ghost rested: { is_rest rest events.obeyed.table ≡ true },
 }
 
 impl Playing {
     ghost use Rattle.splice_playing.specs.Going.{plans_in, HasEvents, IsStreamAt, stream_at, HasCounted, steps_with};
     ghost use Rattle.splice_playing.specs.Going.{closing_in, closed_in, running_in_all, running_in_one, ran_in_all};
+    ghost use Rattle.splice_playing.specs.Going.{KeepsUnit};
     ghost use Rattle.splice_playing.specs.Relations.{PlaysFor, PlaysBefore, PlaysBehind, BeginsIn};
     ghost use Rattle.splice_playing.specs.Relations.{IsCueOf, IsPacketOf, IsKeptOf, EndsWith, Reports};
 
@@ -50,6 +55,7 @@ impl Playing {
             events: ArmedEvents::new(),
             streams: [SwitchedStream::new(); 8],
             forgotten: SwitchReport::new(),
+            rest: None,
         }
     }
 
@@ -59,6 +65,7 @@ impl Playing {
             PlaysFor self.new k (packet.now ∷ past) }
     {
         self.events.feed(packet, Plan::new());
+        self.rest = first_rest(self.events.table());
     }
 
     /// A unit begins in the stream of this number, of this time where it has one, behind which `high` is the greatest time: puts what goes
@@ -98,7 +105,8 @@ impl Playing {
         }
     }
 
-    /// Lets each event come as far as it does with a unit of this time, and puts the rest of those that it closes, in order of start.
+    /// Lets each event come as far as it does with a unit of this time, and puts the rest of those that it closes, in order of start. No
+    /// event is looked at before the time until which all wait.
     fn turn<S: PacketSink>(
         &mut self,
         stream: usize,
@@ -108,6 +116,93 @@ impl Playing {
         sink: &mut S,
     ) -> Result<(), PutFault>
         requires { stream < length streams.now }
+        ensures leads { S.leads sink.old sink.new }
+        ensures ok { (of : Stream) (line : Option ℤ) (es : List Standing) (s : SwitchedStream)
+            (begin : Option (List ℕ)) (ps : List (List ℕ)) (steps : List Step) →
+            of ≡ slice_index_or streams.now stream of → HasEvents self.old line es → IsNearTime line time.now →
+            IsStreamAt self.old stream s → S.holds sink.old begin ps → Counts s.counter steps →
+            OnOk result (S.holds sink.new begin
+            (ps ++ closing_in self.old (held library.now) streams.now stream of line time.now steps es)) }
+        ensures counted { (of : Stream) (line : Option ℤ) (es : List Standing) (s t : SwitchedStream) (steps : List Step) →
+            of ≡ slice_index_or streams.now stream of → HasEvents self.old line es → IsNearTime line time.now →
+            IsStreamAt self.old stream s → IsStreamAt self.new stream t → Counts s.counter steps →
+            OnOk result (Counts t.counter
+            (put_in (closing_in self.old (held library.now) streams.now stream of line time.now steps es) steps)) }
+        ensures leaving { (line : Option ℤ) (es : List Standing) (s t : SwitchedStream) → HasEvents self.old line es →
+            IsStreamAt self.old stream s → IsStreamAt self.new stream t →
+            OnOk result (t.is_leaving ≡ is_left stream line time.now s.is_leaving es (plans_in self.new)) }
+        ensures others { (i : ℕ) (s : SwitchedStream) → IsOther i (stream % 8) →
+            stream_at self.new i s ≡ stream_at self.old i s }
+        ensures plans { (of : Stream) (line : Option ℤ) (es : List Standing) →
+            of ≡ slice_index_or streams.now stream of → HasEvents self.old line es → IsNearTime line time.now →
+            OnOk result (plans_in self.new ≡ closed_in self.old (held library.now) streams.now stream of line time.now es) }
+        ensures keeps { KeepsEvents self.old.events self.new.events }
+        ensures forgotten { self.new.forgotten ≡ self.old.forgotten }
+        ensures err { (of : Stream) (line : Option ℤ) (es : List Standing) (s : SwitchedStream)
+            (begin : Option (List ℕ)) (ps : List (List ℕ)) (steps : List Step) →
+            of ≡ slice_index_or streams.now stream of → HasEvents self.old line es → IsNearTime line time.now →
+            IsStreamAt self.old stream s → S.holds sink.old begin ps → Counts s.counter steps →
+            IfErr result (λ f. FrontFails (closing_in self.old (held library.now) streams.now stream of line time.now steps es)
+            (λ put p. S.fails sink.new begin (ps ++ put) p f)) }
+        ensures well { OnOk result (WentWell (S.counts sink.old) (S.counts sink.new)) }
+        ensures blamed { IfErr result (λ f. Blamed f (S.counts sink.old) (S.counts sink.new) (S.is_full sink.new)) }
+    {
+        if self.is_at_rest(time) {
+            self.stay(stream, time);
+            return Ok(());
+        }
+        self.rest = None;
+        self.turn_each(stream, time, streams, library, sink)
+    }
+
+    /// Whether all events that stand wait, and a unit of this time, or of none, comes before all of them. It looks at no event.
+    #[inline(always)]
+    fn is_at_rest(&self, time: &Option<Time33>) -> bool
+        ensures value { result ≡ comes_before self.now.rest time.now }
+        ensures waits { result ≡ true → all_wait (plans_in self.now) ≡ true }
+        ensures ahead { (line : Option ℤ) (es : List Standing) → HasEvents self.now line es → IsNearTime line time.now →
+            result ≡ true → all_start_behind line time.now es ≡ true }
+        ensures fits { IfSome self.now.rest (λ rest. rest < 2 ^ 33) }
+    {
+        let Some(rest) = self.rest else {
+            return false;
+        };
+        let _rest_ticks = rest.ticks();
+        let Some(time) = *time else {
+            return true;
+        };
+        let _ticks = time.ticks();
+        is_before(time, rest)
+    }
+
+    /// A unit of this time, or of none, begins in the stream before all events.
+    #[inline(always)]
+    fn stay(&mut self, stream: usize, time: &Option<Time33>)
+        ensures stays { (s t : SwitchedStream) → IsStreamAt self.old stream s → IsStreamAt self.new stream t →
+            KeepsUnit time.now s t }
+        ensures others { (i : ℕ) (s : SwitchedStream) → IsOther i (stream % 8) →
+            stream_at self.new i s ≡ stream_at self.old i s }
+        ensures events { self.new.events ≡ self.old.events }
+        ensures forgotten { self.new.forgotten ≡ self.old.forgotten }
+    {
+        if time.is_some() {
+            let mut of = self.streams[stream % 8];
+            of.is_leaving = false;
+            self.streams[stream % 8] = of;
+        }
+    }
+
+    /// Lets each event come as far as it does with a unit of this time, and puts the rest of those that it closes, in order of start.
+    fn turn_each<S: PacketSink>(
+        &mut self,
+        stream: usize,
+        time: &Option<Time33>,
+        streams: &[Stream],
+        library: &AdLibrary,
+        sink: &mut S,
+    ) -> Result<(), PutFault>
+        requires at { stream < length streams.now }
+        requires wakes { self.old.rest ≡ None }
         ensures leads { S.leads sink.old sink.new }
         ensures ok { (of : Stream) (line : Option ℤ) (es : List Standing) (s : SwitchedStream)
             (begin : Option (List ℕ)) (ps : List (List ℕ)) (steps : List Step) →
@@ -163,7 +258,8 @@ impl Playing {
         Ok(())
     }
 
-    /// Puts of the events that run what is due where this is the greatest time, or all that is left, by stream.
+    /// Puts of the events that run what is due where this is the greatest time, or all that is left, by stream. No
+    /// event is looked at where all wait.
     fn put_running<S: PacketSink>(
         &mut self,
         high: &Option<Time33>,
@@ -171,6 +267,48 @@ impl Playing {
         library: &AdLibrary,
         sink: &mut S,
     ) -> Result<(), PutFault>
+        ensures leads { S.leads sink.old sink.new }
+        ensures ok { (line high_line : Option ℤ) (es : List Standing)
+            (begin : Option (List ℕ)) (ps : List (List ℕ)) (steps : ℕ → List Step) → length streams.now ≤ 8 →
+            HasEvents self.old line es → IsReached line high.now high_line → S.holds sink.old begin ps →
+            HasCounted self.old steps →
+            OnOk result (S.holds sink.new begin
+            (ps ++ running_in_all self.old (held library.now) streams.now high_line es steps)) }
+        ensures counted { (line high_line : Option ℤ) (es : List Standing) (steps : ℕ → List Step) → length streams.now ≤ 8 →
+            HasEvents self.old line es → IsReached line high.now high_line → HasCounted self.old steps →
+            OnOk result (HasCounted self.new
+            (steps_with (running_in_one self.old (held library.now) streams.now high_line es steps) steps)) }
+        ensures leaving { (i : ℕ) (s : SwitchedStream) →
+            (stream_at self.new i s).is_leaving ≡ (stream_at self.old i s).is_leaving }
+        ensures plans { (line high_line : Option ℤ) (es : List Standing) → HasEvents self.old line es →
+            IsReached line high.now high_line →
+            OnOk result (plans_in self.new ≡ ran_in_all self.old (held library.now) streams.now high_line es) }
+        ensures keeps { KeepsEvents self.old.events self.new.events }
+        ensures forgotten { self.new.forgotten ≡ self.old.forgotten }
+        ensures err { (line high_line : Option ℤ) (es : List Standing)
+            (begin : Option (List ℕ)) (ps : List (List ℕ)) (steps : ℕ → List Step) → length streams.now ≤ 8 →
+            HasEvents self.old line es → IsReached line high.now high_line → S.holds sink.old begin ps →
+            HasCounted self.old steps →
+            IfErr result (λ f. FrontFails (running_in_all self.old (held library.now) streams.now high_line es steps)
+            (λ put p. S.fails sink.new begin (ps ++ put) p f)) }
+        ensures well { OnOk result (WentWell (S.counts sink.old) (S.counts sink.new)) }
+        ensures blamed { IfErr result (λ f. Blamed f (S.counts sink.old) (S.counts sink.new) (S.is_full sink.new)) }
+    {
+        match self.rest {
+            Some(_) => Ok(()),
+            None => self.put_each_running(high, streams, library, sink),
+        }
+    }
+
+    /// Puts of the events that run what is due where this is the greatest time, or all that is left, by stream.
+    fn put_each_running<S: PacketSink>(
+        &mut self,
+        high: &Option<Time33>,
+        streams: &[Stream],
+        library: &AdLibrary,
+        sink: &mut S,
+    ) -> Result<(), PutFault>
+        requires { self.old.rest ≡ None }
         ensures leads { S.leads sink.old sink.new }
         ensures ok { (line high_line : Option ℤ) (es : List Standing)
             (begin : Option (List ℕ)) (ps : List (List ℕ)) (steps : ℕ → List Step) → length streams.now ≤ 8 →
@@ -309,6 +447,14 @@ impl Playing {
         let Some(high) = *high else {
             return;
         };
+        if !self.events.table().can_advance(high) {
+            return;
+        }
+        if self.is_at_rest(&Some(high)) {
+            let _ticks = high.ticks();
+            self.events.advance_keeping_all(high);
+            return;
+        }
         self.forgotten = with_forgotten(
             self.forgotten,
             self.events.table(),
@@ -316,9 +462,8 @@ impl Playing {
             streams,
             library,
         );
-        if self.events.table().can_advance(high) {
-            self.events.advance(high);
-        }
+        self.events.advance(high);
+        self.rest = first_rest(self.events.table());
     }
 
     /// What became of all events.
@@ -329,6 +474,48 @@ impl Playing {
         let mut report = with_all(self.forgotten, self.events.table(), streams, library);
         report.ignored = self.events.ignored();
         report
+    }
+}
+
+/// The first start of the events that stand, where each waits in all streams and starts past the greatest time.
+fn first_rest(table: &Table<Plan>) -> Option<Time33>
+    ensures { result ≡ first_rest table.now }
+{
+    let Some(high) = table.high() else {
+        return None;
+    };
+    let mut first: Option<Time33> = None;
+    for at in 0..table.standing().len() {
+        if !waits_ahead(table, at, high) {
+            return None;
+        }
+        first = Some(first_start(high, first, table.standing()[at].event.start));
+    }
+    first
+}
+
+/// The event at this place waits in all streams, and starts past this greatest time.
+fn waits_ahead(table: &Table<Plan>, at: usize, high: Time33) -> bool
+    requires { at < length table.now.entries.items }
+    ensures { result ≡ waits_ahead high (slice_index_or table.now.entries.items at no_entry) }
+{
+    let standing = table.standing();
+    0 < standing[at].event.start.signed_from(high) && standing[at].value.waits()
+}
+
+/// Of a start and the first of those before it, if there were any, the earlier one.
+fn first_start(high: Time33, first: Option<Time33>, start: Time33) -> Time33
+    ensures { result ≡ first_start high first start }
+{
+    match first {
+        None => start,
+        Some(first) => {
+            if start.signed_from(high) < first.signed_from(high) {
+                start
+            } else {
+                first
+            }
+        }
     }
 }
 

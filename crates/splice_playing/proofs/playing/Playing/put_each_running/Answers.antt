@@ -12,7 +12,7 @@ use Rattle.splice_plans.specs.Fronts.{all_ran}
 use Rattle.splice_plans.proofs.AllTurnedLemmas.{keeps-more}
 use Rattle.splice_plans.proofs.ClosingLemmas.{keeps-same}
 use Rattle.splice_playing.proofs.StreamLemmas.{none-run, run-holds, run-counts, one-run, one-stops, one-ran, some-there, slot-new, slot-old, slot-other, slot-leaving, drop-past}
-use Rattle.splice_playing.proofs.playing.Playing.put_running.Goals as goal
+use Rattle.splice_playing.proofs.playing.Playing.put_each_running.Goals as goal
 
 pub loop-stream-init : goal.loop-stream-init
 loop-stream-init g c = record {

@@ -9,7 +9,7 @@ use Rattle.splice_plans.specs.declared.stream.SwitchedStream.{SwitchedStream}
 use Rattle.splice_plans.specs.Parts.{KeepsEvents, IsReached}
 use Rattle.splice_plans.specs.Fronts.{AllCount, all_ran}
 use Rattle.splice_playing.proofs.StreamLemmas.{RunSoFar}
-use Rattle.splice_playing.proofs.playing.Playing.put_running.Given as goal
+use Rattle.splice_playing.proofs.playing.Playing.put_each_running.Given as goal
 
 -- what is due has gone out in the streams up to here
 abbrev pub invariant-loop-stream : goal.invariant-loop-stream

@@ -16,7 +16,7 @@ use Rattle.splice_plans.specs.Parts.{is_waiting, beside, closing_pairs, rest_pac
 use Rattle.splice_plans.specs.Fronts.{IsNearTime, closing_packets, closed_plans, is_left}
 use Rattle.splice_plans.proofs.PartLemmas.{one-there}
 use Rattle.splice_playing.proofs.FrontLemmas.{inside-pairs}
-use Rattle.splice_playing.proofs.playing.Playing.turn.Goals as goal
+use Rattle.splice_playing.proofs.playing.Playing.turn_each.Goals as goal
 
 pub returns-in-Err-clause-err : goal.returns-in-Err-clause-err
 returns-in-Err-clause-err g c = λ of line es s begin ps steps of_is st near s_is h k.

@@ -1,0 +1,187 @@
+-- Where all events that stand wait in all streams, nothing closes and nothing runs; and a unit before their starts begins none.
+use Rattle.std.proofs.Common.{◌≡◌, ℕ, zero, suc, ◌+◌, ◌%◌, ◌==◌, List, [], ◌∷◌, ◌++◌, length, map, Bool, true, false, not, ◌&&◌, ◌||◌, if◌then◌else◌, refl, sym, ap, ◌∙◌, subst, arith, Option, None, Some}
+use Rattle.std.specs.Prelude.{ℤ, pos, ◌+ℤ◌, ◌≤ℤ◌, int_lt, slice_index_or, filter, find, count_by}
+use Rattle.std.specs.List.{list_all, list_any}
+use Rattle.std.proofs.lemmas.Int.{ints}
+use Rattle.std.proofs.lemmas.Bool.{and_parts}
+use Rattle.ts_packet.specs.Numbering.{Step}
+use Rattle.pes_time.specs.Line.{place}
+use Rattle.psi_tables.specs.declared.stream.Stream.{Stream}
+use Rattle.event_table.specs.Standing.{Standing, forgotten_at, still_standing, covers}
+use Rattle.ad_library.specs.Advertisements.{Advertisement}
+use Rattle.splice_plans.specs.declared.plan.Stage.{Stage}
+use Rattle.splice_plans.specs.declared.plan.Part.{Part}
+use Rattle.splice_plans.specs.declared.plan.Plan.{Plan}
+use Rattle.splice_plans.specs.Playing.{Adverts, is_played}
+use Rattle.splice_plans.specs.Turning.{waiting, part_of, plan_turned}
+use Rattle.splice_plans.specs.Parts.{is_waiting, is_running, is_closing, waits_in_all, all_turned, beside, closes_in, closing_pairs, closed_plan, runs_in, running_packets, ran_plans}
+use Rattle.splice_plans.specs.Adverts.{adverts_of}
+use Rattle.splice_plans.specs.Fronts.{closing_packets, closed_plans, all_running, running_of, all_ran, is_left}
+use Rattle.splice_plans.specs.Reporting.{EventCounts, with_counted, is_out_at, is_not_fitted}
+use Rattle.splice_plans.proofs.WaitLemmas.{stage-waits, plan-stays}
+use Rattle.splice_playing.specs.Resting.{all_wait, all_start_past, all_start_behind, is_left_at_rest}
+
+-- ---- one plan
+
+part-waits : (parts : List Part) (i : ℕ) → list_all (λ (part : Part). is_waiting part.stage) parts ≡ true → is_waiting (slice_index_or parts i waiting).stage ≡ true
+part-waits [] i h = refl
+part-waits (x ∷ xs) zero h = (and_parts (is_waiting x.stage) (list_all (λ (part : Part). is_waiting part.stage) xs) h).0
+part-waits (x ∷ xs) (suc i) h = part-waits xs i (and_parts (is_waiting x.stage) (list_all (λ (part : Part). is_waiting part.stage) xs) h).1
+
+pub waits-there : (plan : Plan) (stream : ℕ) → waits_in_all plan ≡ true → is_waiting (part_of plan stream).stage ≡ true
+waits-there plan stream h = part-waits plan.parts (stream % 8) h
+
+runs-not : (plan : Plan) (stream : ℕ) → waits_in_all plan ≡ true → is_running (part_of plan stream).stage ≡ false
+runs-not plan stream h = ap is_running (stage-waits (part_of plan stream).stage (waits-there plan stream h))
+
+closes-not : (plan : Plan) (stream : ℕ) → waits_in_all plan ≡ true → closes_in stream plan ≡ false
+closes-not plan stream h = ap is_closing (stage-waits (part_of plan stream).stage (waits-there plan stream h))
+
+wait-parts : (plan : Plan) (plans : List Plan) → all_wait (plan ∷ plans) ≡ true → (waits_in_all plan ≡ true) × (all_wait plans ≡ true)
+wait-parts plan plans h = and_parts (waits_in_all plan) (all_wait plans) h
+
+past-parts : (t : ℤ) (e : Standing) (es : List Standing) → all_start_past t (e ∷ es) ≡ true → (int_lt t e.start ≡ true) × (all_start_past t es ≡ true)
+past-parts t e es h = and_parts (int_lt t e.start) (all_start_past t es) h
+
+-- ---- what runs
+
+module _ (filed : ℕ → Option Advertisement) (streams : List Stream) where
+  none-found : (number : ℕ) (of : Stream) (es : List Standing) (plans : List Plan) → all_wait plans ≡ true → find (runs_in filed streams number of) (beside es plans) ≡ None
+  none-found number of [] plans h = refl
+  none-found number of (e ∷ es) [] h = refl
+  none-found number of (e ∷ es) (plan ∷ plans) h =
+      let parts = wait-parts plan plans h in
+      let no : runs_in filed streams number of (e, plan) ≡ false = runs-not plan number parts.0 in
+      simp no (none-found number of es plans parts.1)
+
+  pub none-runs : (number : ℕ) (of : Stream) (high : Option ℤ) (steps : List Step) (es : List Standing) (plans : List Plan) → all_wait plans ≡ true
+      → running_packets filed streams number of high steps (beside es plans) ≡ []
+  none-runs number of high steps es plans h =
+      ap (Rattle.splice_plans.specs.Parts.found_packets filed streams number of high steps) (none-found number of es plans h)
+
+  none-ran : (number : ℕ) (of : Stream) (high : Option ℤ) (es : List Standing) (plans : List Plan) → length es ≡ length plans → all_wait plans ≡ true
+      → ran_plans filed streams number of high (beside es plans) ≡ plans
+  none-ran number of high [] [] same h = refl
+  none-ran number of high [] (plan ∷ plans) same h = absurd (omega (arith, same))
+  none-ran number of high (e ∷ es) [] same h = absurd (omega (arith, same))
+  none-ran number of high (e ∷ es) (plan ∷ plans) same h =
+      let parts = wait-parts plan plans h in
+      let no : runs_in filed streams number of (e, plan) ≡ false = runs-not plan number parts.0 in
+      simp no (ap (λ l. plan ∷ l) (none-ran number of high es plans (omega (arith, same)) parts.1))
+
+  module _ (high : Option ℤ) (es : List Standing) (plans : List Plan) (same : length es ≡ length plans) (h : all_wait plans ≡ true) where
+    pub all-quiet : (steps : ℕ → List Step) (number : ℕ) (rest : List Stream) → all_running filed streams high es steps plans number rest ≡ []
+    all-quiet steps number [] = refl
+    all-quiet steps number (of ∷ rest) =
+        ap (λ l. l ++ all_running filed streams high es steps (ran_plans filed streams number of high (beside es plans)) (number + 1) rest) (none-runs number of high (steps number) es plans h)
+        ∙ ap (λ vs. all_running filed streams high es steps vs (number + 1) rest) (none-ran number of high es plans same h)
+        ∙ all-quiet steps (number + 1) rest
+
+    pub one-quiet : (steps : ℕ → List Step) (number : ℕ) (rest : List Stream) (i : ℕ) → running_of filed streams high es steps plans number rest i ≡ []
+    one-quiet steps number [] i = refl
+    one-quiet steps number (of ∷ rest) i = by (number == i)
+      where
+        by : (b : Bool) → (if b then running_packets filed streams number of high (steps number) (beside es plans)
+            else running_of filed streams high es steps (ran_plans filed streams number of high (beside es plans)) (number + 1) rest i) ≡ []
+        by true = none-runs number of high (steps number) es plans h
+        by false = ap (λ vs. running_of filed streams high es steps vs (number + 1) rest i) (none-ran number of high es plans same h) ∙ one-quiet steps (number + 1) rest i
+
+    pub ran-quiet : (number : ℕ) (rest : List Stream) → all_ran filed streams high es plans number rest ≡ plans
+    ran-quiet number [] = refl
+    ran-quiet number (of ∷ rest) = ap (λ vs. all_ran filed streams high es vs (number + 1) rest) (none-ran number of high es plans same h) ∙ ran-quiet (number + 1) rest
+
+-- ---- what closes
+
+all-stay : (ads : Adverts) (stream : ℕ) (t : ℤ) (es : List Standing) (plans : List Plan) → length es ≡ length plans → all_wait plans ≡ true → all_start_past t es ≡ true → all_turned ads stream t es plans ≡ plans
+all-stay ads stream t [] [] same h past = refl
+all-stay ads stream t [] (plan ∷ plans) same h past = absurd (omega (arith, same))
+all-stay ads stream t (e ∷ es) [] same h past = absurd (omega (arith, same))
+all-stay ads stream t (e ∷ es) (plan ∷ plans) same h past =
+    let parts = wait-parts plan plans h in
+    let starts = past-parts t e es past in
+    ap (λ p. p ∷ all_turned ads stream t es plans) (plan-stays e t (is_played ads e) stream plan (waits-there plan stream parts.0) starts.0)
+    ∙ ap (λ l. plan ∷ l) (all-stay ads stream t es plans (omega (arith, same)) parts.1 starts.1)
+
+none-closes : (stream : ℕ) (es : List Standing) (plans : List Plan) → all_wait plans ≡ true → filter (λ (x : Standing × Plan). closes_in stream x.1) (beside es plans) ≡ []
+none-closes stream [] plans h = refl
+none-closes stream (e ∷ es) [] h = refl
+none-closes stream (e ∷ es) (plan ∷ plans) h =
+    let parts = wait-parts plan plans h in
+    let no : closes_in stream plan ≡ false = closes-not plan stream parts.0 in
+    simp no (none-closes stream es plans parts.1)
+
+module _ (filed : ℕ → Option Advertisement) (streams : List Stream) (stream : ℕ) (of : Stream) where
+  none-closed : (es : List Standing) (plans : List Plan) → length es ≡ length plans → all_wait plans ≡ true → map (closed_plan filed streams stream of) (beside es plans) ≡ plans
+  none-closed [] [] same h = refl
+  none-closed [] (plan ∷ plans) same h = absurd (omega (arith, same))
+  none-closed (e ∷ es) [] same h = absurd (omega (arith, same))
+  none-closed (e ∷ es) (plan ∷ plans) same h =
+      let parts = wait-parts plan plans h in
+      let no : closes_in stream plan ≡ false = closes-not plan stream parts.0 in
+      simp no (ap (λ l. plan ∷ l) (none-closed es plans (omega (arith, same)) parts.1))
+
+  pub closing-quiet : (line : Option ℤ) (time : Option ℕ) (steps : List Step) (es : List Standing) (plans : List Plan) → length es ≡ length plans → all_wait plans ≡ true → all_start_behind line time es ≡ true
+      → closing_packets filed streams stream of line time steps es plans ≡ []
+  closing-quiet line None steps es plans same h past = refl
+  closing-quiet line (Some t) steps es plans same h past =
+      ap (λ vs. Rattle.splice_plans.specs.Parts.rest_packets filed streams stream of steps (closing_pairs stream (beside es vs))) (all-stay (adverts_of filed streams) stream (place line t) es plans same h past)
+      ∙ ap (λ xs. Rattle.splice_plans.specs.Parts.rest_packets filed streams stream of steps (Rattle.splice_plans.specs.Parts.pairs_by_start xs)) (none-closes stream es plans h)
+
+  pub closed-quiet : (line : Option ℤ) (time : Option ℕ) (es : List Standing) (plans : List Plan) → length es ≡ length plans → all_wait plans ≡ true → all_start_behind line time es ≡ true
+      → closed_plans filed streams stream of line time es plans ≡ plans
+  closed-quiet line None es plans same h past = refl
+  closed-quiet line (Some t) es plans same h past =
+      ap (λ vs. map (closed_plan filed streams stream of) (beside es vs)) (all-stay (adverts_of filed streams) stream (place line t) es plans same h past)
+      ∙ none-closed es plans same h
+
+-- ---- whether the unit is left out
+
+none-holds : (stream : ℕ) (t : ℤ) (es : List Standing) (plans : List Plan) → all_wait plans ≡ true
+    → list_any (λ (x : Standing × Plan). covers t x.0 && not (is_waiting (part_of x.1 stream).stage)) (beside es plans) ≡ false
+none-holds stream t [] plans h = refl
+none-holds stream t (e ∷ es) [] h = refl
+none-holds stream t (e ∷ es) (plan ∷ plans) h =
+    let parts = wait-parts plan plans h in
+    ap (λ b. (covers t e && not b) || list_any (λ (x : Standing × Plan). covers t x.0 && not (is_waiting (part_of x.1 stream).stage)) (beside es plans)) (waits-there plan stream parts.0)
+    ∙ by (covers t e)
+    ∙ none-holds stream t es plans parts.1
+  where
+    later : Bool
+    later = list_any (λ (x : Standing × Plan). covers t x.0 && not (is_waiting (part_of x.1 stream).stage)) (beside es plans)
+
+    by : (b : Bool) → ((b && false) || later) ≡ later
+    by true = refl
+    by false = refl
+
+pub left-quiet : (stream : ℕ) (line : Option ℤ) (time : Option ℕ) (was : Bool) (es : List Standing) (plans : List Plan) → all_wait plans ≡ true
+    → is_left_at_rest time was ≡ is_left stream line time was es plans
+left-quiet stream line None was es plans h = refl
+left-quiet stream line (Some t) was es plans h = sym (none-holds stream (place line t) es plans h)
+
+-- ---- what is forgotten
+
+stands-on : (t : ℤ) (e : Standing) → int_lt t e.start ≡ true → int_lt t (forgotten_at e) ≡ true
+stands-on t e before = grind (arith, ints)
+
+pub all-still : (t : ℤ) (es : List Standing) → all_start_past t es ≡ true → still_standing t es ≡ es
+all-still t [] past = refl
+all-still t (e ∷ es) past =
+    let starts = past-parts t e es past in
+    let stands = stands-on t e starts.0 in
+    simp stands (ap (λ l. e ∷ l) (all-still t es starts.1))
+
+none-out : (t : ℤ) (test : Standing × Plan → Bool) (es : List Standing) (plans : List Plan) → all_start_past t es ≡ true → count_by (λ (x : Standing × Plan). is_out_at t x.0 && test x) (beside es plans) ≡ 0
+none-out t test [] plans past = refl
+none-out t test (e ∷ es) [] past = refl
+none-out t test (e ∷ es) (plan ∷ plans) past =
+    let starts = past-parts t e es past in
+    let stands = stands-on t e starts.0 in
+    simp stands (none-out t test es plans starts.1)
+
+pub counts-quiet : (t : ℤ) (ads : Adverts) (es : List Standing) (plans : List Plan) (counts : EventCounts) → all_start_past t es ≡ true → with_counted (is_out_at t) ads (beside es plans) counts ≡ counts
+counts-quiet t ads es plans counts past =
+    let build : ℕ → ℕ → ℕ → EventCounts = λ p n u. record { played = p + counts.played; not_fitted = n + counts.not_fitted; unconditioned = u + counts.unconditioned; ignored = counts.ignored } in
+    ap (λ p. build p (count_by (λ (x : Standing × Plan). is_out_at t x.0 && is_not_fitted ads x.0) (beside es plans)) (count_by (λ (x : Standing × Plan). is_out_at t x.0 && (is_played ads x.0 && x.1.is_crossed)) (beside es plans)))
+    (none-out t (λ x. is_played ads x.0) es plans past)
+    ∙ ap (λ n. build 0 n (count_by (λ (x : Standing × Plan). is_out_at t x.0 && (is_played ads x.0 && x.1.is_crossed)) (beside es plans))) (none-out t (λ x. is_not_fitted ads x.0) es plans past)
+    ∙ ap (build 0 0) (none-out t (λ x. is_played ads x.0 && x.1.is_crossed) es plans past)
