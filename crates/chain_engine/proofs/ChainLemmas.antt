@@ -19,7 +19,7 @@ use Rattle.program_follower.specs.FirstFault.{network_test}
 use Rattle.program_follower.proofs.RunLemmas.{ends_sound, reader_stops, packet_stops}
 use Rattle.scte104_codec.specs.declared.reply.Reply.{Reply}
 use Rattle.injector.specs.declared.injector.Injector.{Injector}
-use Rattle.injector.specs.Steps.{Step, Packet, packets_in, purpose_of, cued, sent_at}
+use Rattle.injector.specs.Steps.{Step, Packet, packets_in, cued, sent_at}
 use Rattle.injector.specs.Injecting.{InjectorStandsFor, JudgesBy}
 use Rattle.ad_library.specs.Advertisements.{Advertisement}
 use Rattle.splice_plans.specs.Adverts.{setting_of}
@@ -44,10 +44,11 @@ use Rattle.chain_engine.proofs.StopLemmas as stops
 use Rattle.chain_engine.proofs.StopLemmas.{both_said, reverse_onto, before_at, before_read}
 use Rattle.chain_engine.proofs.RunLemmas.{HasRun, HasHeard, few_takes}
 use Rattle.chain_engine.proofs.NestedLemmas.{one_more}
+use Rattle.program_follower.specs.Purposes.{writing_cues}
 
 module _ (c : Config) (filed : ℕ → Option Advertisement) (exchanged : Option SessionEnd → List Take → List Reply → Type 0) (ps : List (List ℕ)) where
-  none_at_fault : (input left : Option (List ℕ)) → HasRead input left ps → stops.AreSound (purpose_of c) ps → AreSound c ps
-  none_at_fault input left r sound = (sound_all Read (network_test as_run_fault (purpose_of c)) ps r.sound sound).0
+  none_at_fault : (input left : Option (List ℕ)) → HasRead input left ps → stops.AreSound (writing_cues c) ps → AreSound c ps
+  none_at_fault input left r sound = (sound_all Read (network_test as_run_fault (writing_cues c)) ps r.sound sound).0
 
   -- ---- the end
 
@@ -60,7 +61,7 @@ module _ (c : Config) (filed : ℕ → Option Advertisement) (exchanged : Option
       let all : packets_of bs ≡ ps = (read_to_end (Some bs) left ps r at).0 in
       let steps = steps_of (length h.rs) h.ts (reverse ps) in
       let (written, told) = finishes (sent_by c steps) h.out in record {
-        sound = ends_sound Read (network_test as_run_fault (purpose_of c)) (Some bs) left ps r h.sound at;
+        sound = ends_sound Read (network_test as_run_fault (writing_cues c)) (Some bs) left ps r h.sound at;
         ts = h.ts;
         rs = h.rs;
         serves = subst (λ q. Serves c exchanged h.ts h.rs (length q) (steps_of (length h.rs) h.ts (reverse q))) (sym all)
@@ -103,7 +104,7 @@ module _ (c : Config) (filed : ℕ → Option Advertisement) (exchanged : Option
         rs = h.rs;
         serves = record { ending = talk.end; talked = h.talks.talked; exchanges = h.exchanges; replies = h.replies ∙ ap (replies_in c) (sym same) };
         leaves = (
-          ends_sound Read (network_test as_run_fault (purpose_of c)) (Some bs) left ps r h.sound at,
+          ends_sound Read (network_test as_run_fault (writing_cues c)) (Some bs) left ps r h.sound at,
           subst (λ w. FinishFails (Sink f) c filed (reverse (sent_by c w)) (λ put q x. fails (splices.sent_by c filed (sent_by c w) ++ put) q x)) (sym same) k,
         );
       }
@@ -125,7 +126,7 @@ module _ (c : Config) (filed : ℕ → Option Advertisement) (exchanged : Option
         serves = record { ending = talk.end; talked = h.talks.talked; exchanges = h.exchanges; replies = h.replies ∙ ap (replies_in c) (sym same) };
         leaves = (
           both_said (first_fault c bs ≡ Some (Read fault)) (before_fault c bs ≡ ps) (read_cause fault)
-              (reader_stops Read (network_test as_run_fault (purpose_of c)) (Some bs) (Some rest) ps r h.sound fault k) (before_read (purpose_of c) ps bs rest r h.sound fault k),
+              (reader_stops Read (network_test as_run_fault (writing_cues c)) (Some bs) (Some rest) ps r h.sound fault k) (before_read (writing_cues c) ps bs rest r h.sound fault k),
           subst (λ s. is_out (splices.sent_by c filed (sent_by c s))) (sym same) h.out.sent,
         );
       }
@@ -151,9 +152,9 @@ module _ (c : Config) (filed : ℕ → Option Advertisement) (exchanged : Option
 
       by : (fault : FeedFault) → PassFails fault c filed p steps (sent_by c steps) (is_out t) fails → Stopped c filed (Feed fault) bs (is_out t) fails exchanged
       by (Network f) k =
-          let fault = subst (λ q. network_fault (purpose_of c) p q ≡ Some f) (before_packets (length h.rs) h.ts (reverse ps)) k.0 in
-          let test : network_test as_run_fault (purpose_of c) (record { packet = p; past = reverse ps }) ≡ Some (Feed (Network f)) = ap (option_map as_run_fault) fault in
-          let at = ap (λ o. or_then (named Read o) (network_test as_run_fault (purpose_of c) (record { packet = p; past = reverse ps }))) g.sound ∙ test in record {
+          let fault = subst (λ q. network_fault (writing_cues c) p q ≡ Some f) (before_packets (length h.rs) h.ts (reverse ps)) k.0 in
+          let test : network_test as_run_fault (writing_cues c) (record { packet = p; past = reverse ps }) ≡ Some (Feed (Network f)) = ap (option_map as_run_fault) fault in
+          let at = ap (λ o. or_then (named Read o) (network_test as_run_fault (writing_cues c) (record { packet = p; past = reverse ps }))) g.sound ∙ test in record {
             passed = ps;
             rest = p ∷ packets_of rest;
             parts = parts;
@@ -162,8 +163,8 @@ module _ (c : Config) (filed : ℕ → Option Advertisement) (exchanged : Option
             rs = h.rs;
             serves = serves;
             leaves = (
-              packet_stops Read (network_test as_run_fault (purpose_of c)) (Some bs) left (Some rest) ps p (Feed (Network f)) r h.sound g test,
-              before_at (purpose_of c) ps bs p (packets_of rest) (Feed (Network f)) parts r.sound h.sound at,
+              packet_stops Read (network_test as_run_fault (writing_cues c)) (Some bs) left (Some rest) ps p (Feed (Network f)) r h.sound g test,
+              before_at (writing_cues c) ps bs p (packets_of rest) (Feed (Network f)) parts r.sound h.sound at,
               k.1,
             );
           }
@@ -172,9 +173,9 @@ module _ (c : Config) (filed : ℕ → Option Advertisement) (exchanged : Option
 
   -- the network with one more packet that was passed on
   pub sound_more : {M : Type 0} (injector : Injector) (talk : Talk M) (is_out : List (List ℕ) → Type 0) (p : List ℕ) → HasHeard c injector talk is_out exchanged ps → IsSoundNetwork c (reverse ps) → AreBytes p
-      → ((steps : List Step) → InjectorStandsFor injector c steps → network_fault (purpose_of c) p (packets_in steps) ≡ None) → IsSoundNetwork c (reverse (ps ++ p ∷ []))
+      → ((steps : List Step) → InjectorStandsFor injector c steps → network_fault (writing_cues c) p (packets_in steps) ≡ None) → IsSoundNetwork c (reverse (ps ++ p ∷ []))
   sound_more injector talk is_out p h network b sound =
-      let none = subst (λ q. network_fault (purpose_of c) p q ≡ None) (before_packets (length h.rs) h.ts (reverse ps)) (sound (steps_before (length h.rs) h.ts (reverse ps)) h.stands) in
+      let none = subst (λ q. network_fault (writing_cues c) p q ≡ None) (before_packets (length h.rs) h.ts (reverse ps)) (sound (steps_before (length h.rs) h.ts (reverse ps)) h.stands) in
       subst (IsSoundNetwork c) (sym (reverse-append ps (p ∷ []))) (one_more c p (reverse ps) network b none)
 
 -- ---- one packet
@@ -182,8 +183,8 @@ module _ (c : Config) (filed : ℕ → Option Advertisement) (exchanged : Option
 pub sent_step : (c : Config) (ms : List (List ℕ)) (steps : List Step) (p : List ℕ) → sent_by c steps ++ sent_at c p (asked ms steps) ≡ sent_by c (Packet p ∷ asked ms steps)
 sent_step c ms steps p = ap (λ l. reverse l ++ sent_at c p (asked ms steps)) (sym (asked_cued c ms steps)) ∙ sym (reverse_onto (cued c (asked ms steps)) (sent_at c p (asked ms steps)))
 
-pub same_packets : (c : Config) (ms : List (List ℕ)) (steps : List Step) (p : List ℕ) → network_fault (purpose_of c) p (packets_in (asked ms steps)) ≡ None → network_fault (purpose_of c) p (packets_in steps) ≡ None
-same_packets c ms steps p = subst (λ q. network_fault (purpose_of c) p q ≡ None) (asked_packets ms steps)
+pub same_packets : (c : Config) (ms : List (List ℕ)) (steps : List Step) (p : List ℕ) → network_fault (writing_cues c) p (packets_in (asked ms steps)) ≡ None → network_fault (writing_cues c) p (packets_in steps) ≡ None
+same_packets c ms steps p = subst (λ q. network_fault (writing_cues c) p q ≡ None) (asked_packets ms steps)
 
 module _ {X : Type 0} (takes : X → Option (List Take)) (answers : X → Option (List Answer)) (old new : X) (lost : Bool) (c : Config) (ts : List Take) (n k : ℕ) (steps : List Step) (more : List Take) (rs : List Reply) where
   pub hears_so : (i j : Injector) → Told (takes old) (takes new) more → Replied InjectorJudges i j (judged_before (n + length rs) (ts ++ more) k) rs lost (answers old) (answers new) → InjectorStandsFor i c steps

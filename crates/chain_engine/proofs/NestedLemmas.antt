@@ -15,9 +15,9 @@ use Rattle.psi_tables.specs.declared.network.FeedFault.{FeedFault}
 use Rattle.psi_tables.specs.declared.network.FeedFault.TheVariants.{Network, Sink, Failed}
 use Rattle.outgoing_packets.specs.Numbers.{FrontFails}
 use Rattle.program_follower.specs.Faults.{network_fault}
-use Rattle.program_follower.specs.Purposes.{reading_cues}
+use Rattle.program_follower.specs.Purposes.{reading_cues, writing_cues}
 use Rattle.cued_laws.proofs.CuedLemmas.{none_sent_is_at_fault}
-use Rattle.injector.specs.Steps.{Step, packets_in, purpose_of, cued, sent_at}
+use Rattle.injector.specs.Steps.{Step, packets_in, cued, sent_at}
 use Rattle.injector.specs.Injecting as injecting
 use Rattle.ad_library.specs.Advertisements.{Advertisement}
 use Rattle.splice_plans.specs.Adverts.{setting_of}
@@ -59,8 +59,8 @@ fed_more before fed more = ap (λ (l : List (List ℕ)). map (λ p. 0) before �
 -- ---- a network without fault
 
 -- one more packet
-pub one_more : (c : Config) (p : List ℕ) (past : List (List ℕ)) → IsSoundNetwork c past → AreBytes p → network_fault (purpose_of c) p past ≡ None → IsSoundNetwork c (p ∷ past)
-one_more c p past s b none = record { bytes = (b, s.bytes); sound = ap (λ o. option_or o (network_fault (purpose_of c) p past)) s.sound ∙ none }
+pub one_more : (c : Config) (p : List ℕ) (past : List (List ℕ)) → IsSoundNetwork c past → AreBytes p → network_fault (writing_cues c) p past ≡ None → IsSoundNetwork c (p ∷ past)
+one_more c p past s b none = record { bytes = (b, s.bytes); sound = ap (λ o. option_or o (network_fault (writing_cues c) p past)) s.sound ∙ none }
 
 module _ {K : Type 0} (holds : K → Option (List ℕ) → List (List ℕ) → Type 0) (c : Config) (filed : ℕ → Option Advertisement) (start : Option (List ℕ)) where
   -- ---- a packet is taken
@@ -163,7 +163,7 @@ module _ {K : Type 0} (holds : K → Option (List ℕ) → List (List ℕ) → T
 
     pub pass_stops : (p : List ℕ) (steps : List Step) (kept : Option FeedFault) (fault : FeedFault) (r : FeedFault) → r ≡ unwrap_or kept fault
         → ((f : NetworkFault) → fault ≡ Network f → Untouched kept)
-        → IsSoundNetwork c (packets_in steps) → AreBytes p → injecting.network_answer (Err fault) ≡ network_fault (purpose_of c) p (packets_in steps) → fed ≡ runs.sent_by c steps
+        → IsSoundNetwork c (packets_in steps) → AreBytes p → injecting.network_answer (Err fault) ≡ network_fault (writing_cues c) p (packets_in steps) → fed ≡ runs.sent_by c steps
         → injecting.FeedFails fault c p steps (λ put q x. FeedingFails holds fails kept c filed out start (fed_behind before fed ++ put) q x)
         → PassFails r c filed p steps fed (λ qs. holds out start (before ++ qs)) (λ qs q y. fails out start (before ++ qs) q y)
     pass_stops p steps kept (Network f) r e untouched s b found is h =

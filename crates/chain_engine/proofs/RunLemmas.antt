@@ -22,7 +22,7 @@ use Rattle.program_follower.proofs.RunLemmas.{ends_sound, reader_stops, packet_s
 use Rattle.scte104_codec.specs.declared.reply.Reply.{Reply}
 use Rattle.as_session.specs.Session.{state_of}
 use Rattle.injector.specs.declared.injector.Injector.{Injector}
-use Rattle.injector.specs.Steps.{Step, Packet, packets_in, purpose_of, cued, sent_at}
+use Rattle.injector.specs.Steps.{Step, Packet, packets_in, cued, sent_at}
 use Rattle.injector.specs.Injecting.{InjectorStandsFor, JudgesBy, FeedFails}
 use Rattle.outgoing_packets.specs.Faults.{KeepsSink}
 use Rattle.chain_engine.specs.Automation.{Take, piece, ended, failed, Answer, Told}
@@ -41,12 +41,13 @@ use Rattle.chain_engine.proofs.StopLemmas.{both_said, reverse_onto, before_at, b
 use Rattle.chain_engine.proofs.HearingLemmas.{told_none, told_more, answers_more}
 use Rattle.chain_engine.proofs.TalkLemmas.{goes_closed, open_end}
 use Rattle.chain_engine.proofs.StepsLemmas.{steps_stay, none_asked, asked_cued, before_packets, asked_judged}
+use Rattle.program_follower.specs.Purposes.{writing_cues}
 
 -- ---- what is known between two packets, and behind the messages before a packet
 
 pub record HasRun {M : Type 0} (c : Config) (injector : Injector) (talk : Talk M) (is_out : List (List ℕ) → Type 0) (exchanged : Option SessionEnd → List Take → List Reply → Type 0)
     (ps : List (List ℕ)) : Type 0 where
-  pub sound : All (λ (s : Seen). network_test as_run_fault (purpose_of c) s ≡ None) (seen_after [] ps)
+  pub sound : All (λ (s : Seen). network_test as_run_fault (writing_cues c) s ≡ None) (seen_after [] ps)
   pub ts : List Take
   pub rs : List Reply
   pub stands : InjectorStandsFor injector c (steps_of (length rs) ts (reverse ps))
@@ -57,7 +58,7 @@ pub record HasRun {M : Type 0} (c : Config) (injector : Injector) (talk : Talk M
 
 pub record HasHeard {M : Type 0} (c : Config) (injector : Injector) (talk : Talk M) (is_out : List (List ℕ) → Type 0) (exchanged : Option SessionEnd → List Take → List Reply → Type 0)
     (ps : List (List ℕ)) : Type 0 where
-  pub sound : All (λ (s : Seen). network_test as_run_fault (purpose_of c) s ≡ None) (seen_after [] ps)
+  pub sound : All (λ (s : Seen). network_test as_run_fault (writing_cues c) s ≡ None) (seen_after [] ps)
   pub ts : List Take
   pub rs : List Reply
   pub stands : InjectorStandsFor injector c (steps_before (length rs) ts (reverse ps))
@@ -182,15 +183,15 @@ module _ {X : Type 0} (takes : X → Option (List Take)) (answers : X → Option
 module _ (c : Config) (exchanged : Option SessionEnd → List Take → List Reply → Type 0) (ps : List (List ℕ)) where
   pub passed : {M : Type 0} (injector injector' : Injector) (talk : Talk M) (is_out is_out' : List (List ℕ) → Type 0) (p : List ℕ) → HasHeard c injector talk is_out exchanged ps
       → ((steps : List Step) → InjectorStandsFor injector c steps → is_out (sent_by c steps)
-      → (network_fault (purpose_of c) p (packets_in steps) ≡ None) × InjectorStandsFor injector' c (Packet p ∷ steps) × is_out' (sent_by c steps ++ sent_at c p steps))
+      → (network_fault (writing_cues c) p (packets_in steps) ≡ None) × InjectorStandsFor injector' c (Packet p ∷ steps) × is_out' (sent_by c steps ++ sent_at c p steps))
       → HasRun c injector' talk is_out' exchanged (ps ++ p ∷ [])
   passed injector injector' talk is_out is_out' p h feeds =
       let steps = steps_before (length h.rs) h.ts (reverse ps) in
       let (none, stands, out) = feeds steps h.stands h.out in
-      let sound = subst (λ q. network_fault (purpose_of c) p q ≡ None) (before_packets (length h.rs) h.ts (reverse ps)) none in
+      let sound = subst (λ q. network_fault (writing_cues c) p q ≡ None) (before_packets (length h.rs) h.ts (reverse ps)) none in
       let now : steps_of (length h.rs) h.ts (reverse (ps ++ p ∷ [])) ≡ Packet p ∷ steps = ap (steps_of (length h.rs) h.ts) (reverse-append ps (p ∷ [])) in
       let long = length-append ps (p ∷ []) in record {
-        sound = sound_more (network_test as_run_fault (purpose_of c)) ps p h.sound (ap (option_map as_run_fault) sound);
+        sound = sound_more (network_test as_run_fault (writing_cues c)) ps p h.sound (ap (option_map as_run_fault) sound);
         ts = h.ts;
         rs = h.rs;
         stands = subst (InjectorStandsFor injector' c) (sym now) stands;
@@ -207,7 +208,7 @@ module _ (c : Config) (exchanged : Option SessionEnd → List Take → List Repl
   ends injector talk is_out None left report r at h counts = tt
   ends injector talk is_out (Some bs) left report r at h counts =
       let all : packets_of bs ≡ ps = (read_to_end (Some bs) left ps r at).0 in record {
-        sound = ends_sound Read (network_test as_run_fault (purpose_of c)) (Some bs) left ps r h.sound at;
+        sound = ends_sound Read (network_test as_run_fault (writing_cues c)) (Some bs) left ps r h.sound at;
         ts = h.ts;
         rs = h.rs;
         serves = subst (λ q. Serves c exchanged h.ts h.rs (length q) (steps_of (length h.rs) h.ts (reverse q))) (sym all)
@@ -229,7 +230,7 @@ module _ (c : Config) (exchanged : Option SessionEnd → List Take → List Repl
         passed = ps;
         rest = packets_of rest;
         parts = ap packets_of r.bytes ∙ packets_of-append ps rest r.sizes;
-        says = both_said (first_fault c bs ≡ Some (Read fault)) (before_fault c bs ≡ ps) (read_cause fault) (reader_stops Read (network_test as_run_fault (purpose_of c)) (Some bs) (Some rest) ps r h.sound fault k) (before_read (purpose_of c) ps bs rest r h.sound fault k);
+        says = both_said (first_fault c bs ≡ Some (Read fault)) (before_fault c bs ≡ ps) (read_cause fault) (reader_stops Read (network_test as_run_fault (writing_cues c)) (Some bs) (Some rest) ps r h.sound fault k) (before_read (writing_cues c) ps bs rest r h.sound fault k);
         ts = h.ts;
         rs = h.rs;
         serves = record { ending = talk.end; talked = h.talks.talked; exchanges = h.exchanges; replies = h.replies ∙ ap (replies_in c) (sym same) };
@@ -254,15 +255,15 @@ module _ (c : Config) (exchanged : Option SessionEnd → List Take → List Repl
 
       by : (fault : FeedFault) → KeepsSink fault s t → FeedFails fault c p steps (λ put q f. fails (sent_by c steps ++ put) q f) → Stopped c (Feed fault) bs (is_out t) fails exchanged
       by (Network f) kept k =
-          let fault = subst (λ q. network_fault (purpose_of c) p q ≡ Some f) (before_packets (length h.rs) h.ts (reverse ps)) k in
-          let test : network_test as_run_fault (purpose_of c) (record { packet = p; past = reverse ps }) ≡ Some (Feed (Network f)) = ap (option_map as_run_fault) fault in
-          let at = ap (λ o. or_then (named Read o) (network_test as_run_fault (purpose_of c) (record { packet = p; past = reverse ps }))) g.sound ∙ test in record {
+          let fault = subst (λ q. network_fault (writing_cues c) p q ≡ Some f) (before_packets (length h.rs) h.ts (reverse ps)) k in
+          let test : network_test as_run_fault (writing_cues c) (record { packet = p; past = reverse ps }) ≡ Some (Feed (Network f)) = ap (option_map as_run_fault) fault in
+          let at = ap (λ o. or_then (named Read o) (network_test as_run_fault (writing_cues c) (record { packet = p; past = reverse ps }))) g.sound ∙ test in record {
             passed = ps;
             rest = p ∷ packets_of rest;
             parts = parts;
             says = (
-              packet_stops Read (network_test as_run_fault (purpose_of c)) (Some bs) left (Some rest) ps p (Feed (Network f)) r h.sound g test,
-              before_at (purpose_of c) ps bs p (packets_of rest) (Feed (Network f)) parts r.sound h.sound at,
+              packet_stops Read (network_test as_run_fault (writing_cues c)) (Some bs) left (Some rest) ps p (Feed (Network f)) r h.sound g test,
+              before_at (writing_cues c) ps bs p (packets_of rest) (Feed (Network f)) parts r.sound h.sound at,
             );
             ts = h.ts;
             rs = h.rs;

@@ -14,7 +14,7 @@ use Rattle.program_follower.specs.FirstFault.{network_test}
 use Rattle.scte104_codec.specs.declared.reply.Reply.{Reply}
 use Rattle.outgoing_packets.specs.Numbers.{FrontFails}
 use Rattle.injector.specs.Injecting.{InjectorStandsFor}
-use Rattle.injector.specs.Steps.{Step, Packet, packets_in, turns_in, purpose_of, sent_at, messages_in, accepted_in, refused_in}
+use Rattle.injector.specs.Steps.{Step, Packet, packets_in, turns_in, sent_at, messages_in, accepted_in, refused_in}
 use Rattle.ad_library.specs.Advertisements.{Advertisement}
 use Rattle.splice_plans.specs.Adverts.{setting_of}
 use Rattle.splice_plans.specs.Switching.{spliced_network}
@@ -31,6 +31,7 @@ use Rattle.chain_engine.specs.declared.report.Report.{Report}
 use Rattle.chain_engine.specs.declared.chain.Chain.{Chain}
 use Rattle.chain_engine.specs.declared.chain.RunFault.{RunFault}
 use Rattle.chain_engine.specs.declared.chain.RunFault.TheVariants.{Read, Feed}
+use Rattle.program_follower.specs.Purposes.{writing_cues}
 
 -- THE OUTPUT of these steps, in order: what the switch sends by what the injector sends
 abbrev pub spliced_by : Config → (ℕ → Option Advertisement) → List Step → List (List ℕ)
@@ -71,7 +72,7 @@ RunsAll c filed input is_out exchanged report = IfSome input (λ bs. Ran c filed
 
 -- none of these packets is at fault behind those before it
 abbrev pub AreSound : Config → List (List ℕ) → Type 0
-AreSound c ps = first_of (fault_of Read (network_test as_run_fault (purpose_of c))) (seen_after [] ps) ≡ None
+AreSound c ps = first_of (fault_of Read (network_test as_run_fault (writing_cues c))) (seen_after [] ps) ≡ None
 
 -- The automation is heard before a packet that is not passed on, and not where none was read.
 abbrev pub heard_at : RunFault → List (List ℕ) → ℕ → ℕ
@@ -146,7 +147,7 @@ pub record Stepped {M X : Type 0} (takes : X → Option (List Take)) (answers : 
   pub more : List Take
   pub rs : List Reply
   pub hears : Hears takes answers before now (loses old.talk.end new.talk.end) old.config ts n k steps more rs
-  pub sound : network_fault (purpose_of old.config) p (packets_in steps) ≡ None
+  pub sound : network_fault (writing_cues old.config) p (packets_in steps) ≡ None
   pub stands : HasStepped new filed is_out (ts ++ more) (n + length rs) (suc k) (Packet p ∷ heard_steps (ts ++ more) (n + length rs) k steps)
 
 -- the automation was heard, and then the packet was not passed on

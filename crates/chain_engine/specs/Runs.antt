@@ -18,7 +18,7 @@ use Rattle.scte104_codec.specs.Reading.{message_of}
 use Rattle.outgoing_packets.specs.Numbers.{FrontFails}
 use Rattle.splice_plans.specs.declared.report.SwitchReport.{SwitchReport}
 use Rattle.injector.specs.Replies.{reply_to}
-use Rattle.injector.specs.Steps.{Step, Message, Packet, turns_in, purpose_of, cued, sent_at, messages_in, accepted_in}
+use Rattle.injector.specs.Steps.{Step, Message, Packet, turns_in, cued, sent_at, messages_in, accepted_in}
 use Rattle.injector.specs.Steps.{refused_in}
 use Rattle.chain_engine.specs.Automation.{Take, Answer, Told}
 use Rattle.chain_engine.specs.Hearing.{answers_to, lost_by}
@@ -27,6 +27,7 @@ use Rattle.chain_engine.specs.declared.hearing.SessionEnd.{SessionEnd}
 use Rattle.chain_engine.specs.declared.report.Report.{Report}
 use Rattle.chain_engine.specs.declared.chain.RunFault.{RunFault}
 use Rattle.chain_engine.specs.declared.chain.RunFault.TheVariants.{Read, Feed}
+use Rattle.program_follower.specs.Purposes.{writing_cues}
 
 -- ---- the history of a run
 
@@ -74,11 +75,11 @@ as_run_fault fault = Feed (Network fault)
 
 -- THE FIRST FAULT of these bytes
 abbrev pub first_fault : Config → List ℕ → Option RunFault
-first_fault c bs = first_network_fault Read as_run_fault (purpose_of c) bs
+first_fault c bs = first_network_fault Read as_run_fault (writing_cues c) bs
 
 -- the packets before it
 abbrev pub before_fault : Config → List ℕ → List (List ℕ)
-before_fault c bs = before_network_fault Read as_run_fault (purpose_of c) bs
+before_fault c bs = before_network_fault Read as_run_fault (writing_cues c) bs
 
 -- Where a fault comes from. What a sink refuses says nothing of the network.
 abbrev pub run_cause : RunFault → Cause

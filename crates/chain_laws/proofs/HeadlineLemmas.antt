@@ -16,7 +16,7 @@ use Rattle.program_follower.specs.FirstFault.{network_test}
 use Rattle.program_laws.specs.Writing.{Along}
 use Rattle.ad_library.specs.Advertisements.{Advertisement}
 use Rattle.scte104_codec.specs.declared.reply.Reply.{Reply}
-use Rattle.injector.specs.Steps.{Step, packets_in, purpose_of, cued}
+use Rattle.injector.specs.Steps.{Step, packets_in, cued}
 use Rattle.splice_plans.specs.Adverts.{setting_of}
 use Rattle.splice_plans.specs.Reporting.{ReportIs, report_of}
 use Rattle.switch_laws.specs.Laws.{ArePackets}
@@ -35,6 +35,7 @@ use Rattle.chain_laws.proofs.TableLemmas.{has-tables}
 use Rattle.chain_laws.proofs.RunLemmas.{each-all}
 use Rattle.chain_laws.proofs.CarriedLemmas.{carries-placed, carries-splice}
 use Rattle.chain_laws.proofs.UnchangedLemmas.{others-unchanged, unlisted-unchanged, unplayed-unchanged, breaks-counted}
+use Rattle.program_follower.specs.Purposes.{writing_cues}
 
 -- ---- the history
 
@@ -102,8 +103,8 @@ module _ (c : Purpose) where
       let clean = no_test as_run_fault (network_fault c p past) here.1 in
       only_by (p ∷ past) ps both.1 (ap (λ x. option_or x (network_fault c p past)) k ∙ clean)
 
-faultless : (c : Config) (bs : List ℕ) → fault_in c bs ≡ None → first_fault (purpose_of c) (reverse (packets_of bs)) ≡ None
-faultless c bs h = only_by (purpose_of c) [] (packets_of bs) (or_none (first_of (fault_of Read (network_test as_run_fault (purpose_of c))) (seen_after [] (packets_of bs))) (fault_behind Read (last_part bs)) h).0 refl
+faultless : (c : Config) (bs : List ℕ) → fault_in c bs ≡ None → first_fault (writing_cues c) (reverse (packets_of bs)) ≡ None
+faultless c bs h = only_by (writing_cues c) [] (packets_of bs) (or_none (first_of (fault_of Read (network_test as_run_fault (writing_cues c))) (seen_after [] (packets_of bs))) (fault_behind Read (last_part bs)) h).0 refl
 
 -- ---- the headline
 
@@ -119,7 +120,7 @@ module _ (c : Config) (filed : ℕ → Option Advertisement) (bs : List ℕ) (so
     run = record {
       cue_pid = (let a = g.not_null in omega (arith, a));
       not_pat = λ e. (let a = g.not_pat in absurd (omega (arith, a, e)));
-      faultless = ap (first_fault (purpose_of c)) packets-are ∙ faultless c bs sound;
+      faultless = ap (first_fault (writing_cues c)) packets-are ∙ faultless c bs sound;
       bytes = subst (Along (λ p past. AreBytes p)) (sym packets-are) (bytes-onto [] (packets_of bs) tt (parts-bytes (length bs / 188) bs g.bytes));
       requests = g.requests;
     };

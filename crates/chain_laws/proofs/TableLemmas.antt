@@ -36,7 +36,7 @@ use Rattle.program_laws.proofs.PacketLemmas.{one_past-below}
 use Rattle.program_laws.proofs.ReadingLemmas.{listed_onto, tables_onto, no_tables}
 use Rattle.program_laws.proofs.WritingLemmas.{carry_off, listed_below, written_reads_again}
 use Rattle.ad_library.specs.Advertisements.{Advertisement}
-use Rattle.injector.specs.Steps.{Step, packets_in, purpose_of}
+use Rattle.injector.specs.Steps.{Step, packets_in}
 use Rattle.injector.specs.Steps.{cued as sent_cues}
 use Rattle.path_laws.proofs.Packets.{map-pid}
 use Rattle.splice_laws.specs.Streams.{is_among}
@@ -54,6 +54,7 @@ use Rattle.chain_laws.specs.Runs.{switched_by, output_by, IsWholeRun}
 use Rattle.chain_laws.specs.Tables.{HasTables, TablesAreTheNetworks}
 use Rattle.chain_laws.proofs.RunLemmas.{reads, cued-pids}
 use Rattle.chain_laws.proofs.CarriedLemmas.{same-switched, same-adverts, cue-apart, map-apart}
+use Rattle.program_follower.specs.Purposes.{writing_cues}
 
 -- ---- packets off a PID
 
@@ -215,7 +216,7 @@ module _ (c : Config) (filed : ℕ → Option Advertisement) (steps : List Step)
     EntryIn s None = Unit {0}
     EntryIn s (Some m) = EntryGoes l.program c.cue_pid s m
 
-    takes-entry : (s : List ℕ) (o : Option ProgramMap) → map_read l.program (pmt s) ≡ o → CanBeGiven s → AreBytes s → MapSound (purpose_of c) l.pid o → EntryIn s o
+    takes-entry : (s : List ℕ) (o : Option ProgramMap) → map_read l.program (pmt s) ≡ o → CanBeGiven s → AreBytes s → MapSound (writing_cues c) l.pid o → EntryIn s o
     takes-entry s None r g b sound = tt
     takes-entry s (Some m) r g b sound =
         let used : list_any (is_pid (Some c.cue_pid)) (pid_in m.pcr_field ∷ pids_in (streams_of m)) ≡ false = sound.cue in
@@ -236,9 +237,9 @@ module _ (c : Config) (filed : ℕ → Option Advertisement) (steps : List Step)
         let ts = all_tables (Some c.program) net in
         let P = IsRead l.program in
         let Q = λ (t : Table). AreBytes t.section in
-        let R = λ (t : Table). MapSound (purpose_of c) l.pid t.program_map in
+        let R = λ (t : Table). MapSound (writing_cues c) l.pid t.program_map in
         Each-map (λ (t : Table). P t × (Q t × R t)) Goes (λ t h. takes-entry t.section t.program_map h.0.0 h.0.1 h.1.0 h.1.1) ts
-        (Each-both P (λ (t : Table). Q t × R t) ts (all_read (Some c.program) net l known) (Each-both Q R ts (all_bytes (Some c.program) net w.run.bytes) (all_sound (purpose_of c) net l w.run.faultless known)))
+        (Each-both P (λ (t : Table). Q t × R t) ts (all_read (Some c.program) net l known) (Each-both Q R ts (all_bytes (Some c.program) net w.run.bytes) (all_sound (writing_cues c) net l w.run.faultless known)))
 
     back-by : (s : List ℕ) (o : Option ProgramMap) → EntryIn s o → MapGoesOut (without_cue_entry c.cue_pid) l.program (option_map (with_cue_entry c.cue_pid) o)
     back-by s None h = tt
@@ -269,7 +270,7 @@ module _ (c : Config) (filed : ℕ → Option Advertisement) (steps : List Step)
     zero-by : (o : Option ProgramMap) → known_map (Some c.program) (packets_in steps) ≡ o → is_among 0 (switched_by c steps) ≡ false
     zero-by None h = ap (λ o. is_among 0 (pids_of (option_map program_in o))) h
     zero-by (Some m) h =
-        let s = first-sound (purpose_of c) l.pid m (all_tables (Some c.program) net) (all_sound (purpose_of c) net l w.run.faultless known) h in
+        let s = first-sound (writing_cues c) l.pid m (all_tables (Some c.program) net) (all_sound (writing_cues c) net l w.run.faultless known) h in
         let bad = or-parts (list_any (bad_pid l.pid) (pid_in m.pcr_field ∷ pids_in (streams_of m))) (list_any (bad_switched (pids_in (streams_of m))) (pids_in (switched_of (streams_of m)))) s.pids in
         let each = or-parts (bad_pid l.pid (pid_in m.pcr_field)) (list_any (bad_pid l.pid) (pids_in (streams_of m))) bad.0 in
         ap (λ o. is_among 0 (pids_of (option_map program_in o))) h ∙ not-among 0 (bad_pid l.pid) (streams_of m) refl each.1
@@ -279,7 +280,7 @@ module _ (c : Config) (filed : ℕ → Option Advertisement) (steps : List Step)
 
     not-zero : l.pid ≡ 0 → ⊥
     not-zero e =
-        let g : pmt_pid_fault (purpose_of c) (Some l) ≡ None = ap (pmt_pid_fault (purpose_of c)) (sym known) ∙ pid_good (purpose_of c) net w.run.faultless in
+        let g : pmt_pid_fault (writing_cues c) (Some l) ≡ None = ap (pmt_pid_fault (writing_cues c)) (sym known) ∙ pid_good (writing_cues c) net w.run.faultless in
         let r = none_both (if_bad ((l.pid == 0) || (l.pid == 8191)) BadPids) (if_bad (l.pid == c.cue_pid) CuePidUsed) g in
         true≢false (sym (eq-eqb l.pid 0 e) ∙ (or-parts (l.pid == 0) (l.pid == 8191) (not_if_bad ((l.pid == 0) || (l.pid == 8191)) BadPids r.0)).0)
 

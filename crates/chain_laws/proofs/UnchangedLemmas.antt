@@ -18,7 +18,7 @@ use Rattle.program_laws.proofs.FaultLemmas.{no_cue_packets}
 use Rattle.event_table.specs.Standing.{Standing, end_of}
 use Rattle.ad_library.specs.Advertisements.{Advertisement}
 use Rattle.armed_events.specs.Arming.{ignored}
-use Rattle.injector.specs.Steps.{Step, packets_in, purpose_of, high_of}
+use Rattle.injector.specs.Steps.{Step, packets_in, high_of}
 use Rattle.injector.specs.Steps.{cued as sent_cues}
 use Rattle.splice_laws.specs.Splicing.{stream}
 use Rattle.splice_laws.specs.Streams.{is_among}
@@ -45,6 +45,7 @@ use Rattle.chain_laws.proofs.BreakLemmas.{breaks_are_armed}
 use Rattle.chain_laws.proofs.TakenLemmas.{crossed_both}
 use Rattle.chain_laws.proofs.RunLemmas.{reads, others, cued-long, cued-pids}
 use Rattle.chain_laws.proofs.CarriedLemmas.{same-switched, same-adverts, same-behind, same-taken, takes-own}
+use Rattle.program_follower.specs.Purposes.{writing_cues}
 
 -- ---- laws of a whole network, of the packets newest first
 
@@ -145,7 +146,7 @@ module _ (c : Config) (filed : ℕ → Option Advertisement) (steps : List Step)
       no_program k (reverse back) (ap (listed (Some c.program)) (reverse-reverse back) ∙ same-pat ∙ none)
       ∙ filter-reverse t back
       ∙ ap reverse (others c filed steps w.run t (λ q y. ap not y) (λ l h. absurd (no-map l (sym none ∙ h)))
-      ∙ filter-all t (packets_in steps) (no-cues (packets_in steps) (no_cue_packets (purpose_of c) c.cue_pid (packets_in steps) refl refl w.run.faultless)))
+      ∙ filter-all t (packets_in steps) (no-cues (packets_in steps) (no_cue_packets (writing_cues c) c.cue_pid (packets_in steps) refl refl w.run.faultless)))
     where
       no-map : (l : Listed) → None ≡ Some l → ⊥
       no-map l e = cc

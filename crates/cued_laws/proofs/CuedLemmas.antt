@@ -25,11 +25,10 @@ use Rattle.program_follower.specs.declared.purpose.Purpose.{Purpose}
 use Rattle.program_follower.specs.declared.purpose.Listed.{Listed}
 use Rattle.program_follower.specs.Program.{listed_in, lists, listed, since_pat, Table, table_of, tables, all_tables, first_map, known_map, program_in, program_of, behind_head, pids_of}
 use Rattle.program_follower.specs.Faults.{pmt_pid_fault, pairs_fault, pat_fault, pats_fault, tables_fault, maps_fault, cue_fault, as_network, network_fault, first_fault}
-use Rattle.program_follower.specs.Purposes.{reading_cues as reading}
+use Rattle.program_follower.specs.Purposes.{reading_cues as reading, cues_written_on, cues_read_on}
 use Rattle.program_follower.proofs.OptionLemmas.{none_both}
 use Rattle.program_laws.specs.Writing.{Along, number_on, section_out, table_out, packets_out, body, Off}
 use Rattle.program_laws.specs.Cued.{on_one, On, cueing, CuedReads, cued as cued_network}
-use Rattle.program_laws.specs.Spliced.{writing_cues, reading_cues}
 use Rattle.program_laws.proofs.CuedLemmas.{ons_off, cued_stream_reads}
 use Rattle.program_laws.proofs.FaultLemmas.{Each-map, same_listed}
 use Rattle.program_laws.proofs.PacketLemmas.{one_past-below}
@@ -52,10 +51,10 @@ carried_on pid qs all = Each-map (IsPayloadOn pid) (On pid) (λ q y. payload_on-
 
 module _ (wanted : Option ℕ) (cue : ℕ) where
   abbrev R : Purpose
-  R = reading_cues wanted cue
+  R = cues_read_on wanted cue
 
   abbrev W : Purpose
-  W = writing_cues wanted cue
+  W = cues_written_on wanted cue
 
   -- ---- of a PAT both say the same
 

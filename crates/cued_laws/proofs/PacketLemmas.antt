@@ -21,12 +21,12 @@ use Rattle.program_follower.specs.Faults.{is_pid, if_bad, pmt_pid_fault, pats_fa
 use Rattle.program_follower.proofs.OptionLemmas.{option_or-none, none_both}
 use Rattle.program_follower.proofs.StepLemmas.{tables_off, known_off}
 use Rattle.program_laws.specs.Cued.{on_one, On}
-use Rattle.program_laws.specs.Spliced.{reading_cues}
 use Rattle.program_laws.proofs.FaultLemmas.{not_if_bad, MapSound, all_sound, pid_good}
 use Rattle.program_laws.proofs.ReadingLemmas.{no_tables, none_at_pat}
 use Rattle.program_laws.proofs.WritingLemmas.{off_other}
 use Rattle.program_laws.proofs.HeadLemmas.{nothing_behind}
 use Rattle.cued_laws.proofs.UnitLemmas.{or_none, unit_off}
+use Rattle.program_follower.specs.Purposes.{cues_read_on}
 
 -- ---- PIDs
 
@@ -65,7 +65,7 @@ map_sound c pid (t ∷ ts) h = by t.program_map h.0 (map_sound c pid ts h.1)
 
 module _ (wanted : Option ℕ) (cue : ℕ) (not_pat : cue ≡ 0 → ⊥) where
   abbrev R : Purpose
-  R = reading_cues wanted cue
+  R = cues_read_on wanted cue
 
   pub pid_parts : (out : List (List ℕ)) (l : Listed) → first_fault R out ≡ None → listed wanted out ≡ Some l → (l.pid ≡ 0 → ⊥) × (cue ≡ l.pid → ⊥)
   pid_parts out l ok known =

@@ -16,10 +16,10 @@ use Rattle.program_follower.proofs.OptionLemmas.{option_or-none, option_or-assoc
 use Rattle.program_follower.proofs.StepLemmas.{listed_stays, since_stays, tables_at, known_grows}
 use Rattle.program_laws.specs.Writing.{table_out}
 use Rattle.program_laws.specs.Cued.{On}
-use Rattle.program_laws.specs.Spliced.{writing_cues, reading_cues}
 use Rattle.program_laws.proofs.SplicedLemmas.{entry_is_no_fault}
 use Rattle.program_laws.proofs.WritingLemmas.{option_or-map}
 use Rattle.cued_laws.proofs.PacketLemmas.{cue_sound, map_sound_packet}
+use Rattle.program_follower.specs.Purposes.{cues_written_on, cues_read_on}
 
 tables_both : (c : Purpose) (pid : ℕ) (first : Option ProgramMap) (ts us : List Table) → tables_fault c pid first (ts ++ us) ≡ option_or (tables_fault c pid first ts) (tables_fault c pid (option_or first (first_map ts)) us)
 tables_both c pid first [] us = ap (λ o. tables_fault c pid o us) (sym (option_or-none first))
@@ -34,19 +34,19 @@ module _ (wanted : Option ℕ) (cue : ℕ) (not_pat : cue ≡ 0 → ⊥) where
   -- ---- with the entry
 
   module _ (pid : ℕ) (below : cue < 8192) (other : cue ≡ pid → ⊥) where
-    entry_sound : (first o : Option ProgramMap) → table_fault (writing_cues wanted cue) pid first o ≡ None → table_fault (reading_cues wanted cue) pid (option_map (with_cue_entry cue) first) (option_map (with_cue_entry cue) o) ≡ None
+    entry_sound : (first o : Option ProgramMap) → table_fault (cues_written_on wanted cue) pid first o ≡ None → table_fault (cues_read_on wanted cue) pid (option_map (with_cue_entry cue) first) (option_map (with_cue_entry cue) o) ≡ None
     entry_sound first None h = refl
     entry_sound first (Some m) h = entry_is_no_fault wanted cue pid first m below not_pat other h
 
-    pub entries_sound : (first : Option ProgramMap) (ts : List Table) → tables_fault (writing_cues wanted cue) pid first ts ≡ None
-        → tables_fault (reading_cues wanted cue) pid (option_map (with_cue_entry cue) first) (map (table_out (with_cue_entry cue)) ts) ≡ None
+    pub entries_sound : (first : Option ProgramMap) (ts : List Table) → tables_fault (cues_written_on wanted cue) pid first ts ≡ None
+        → tables_fault (cues_read_on wanted cue) pid (option_map (with_cue_entry cue) first) (map (table_out (with_cue_entry cue)) ts) ≡ None
     entries_sound first [] h = refl
     entries_sound first (t ∷ ts) h =
-        let r = none_both (table_fault (writing_cues wanted cue) pid first t.program_map) (tables_fault (writing_cues wanted cue) pid (option_or first t.program_map) ts) h in
+        let r = none_both (table_fault (cues_written_on wanted cue) pid first t.program_map) (tables_fault (cues_written_on wanted cue) pid (option_or first t.program_map) ts) h in
         let more = entries_sound (option_or first t.program_map) ts r.1 in
         let here = entry_sound first t.program_map r.0 in
-        ap (λ o. option_or o (tables_fault (reading_cues wanted cue) pid (option_or (option_map (with_cue_entry cue) first) (option_map (with_cue_entry cue) t.program_map)) (map (table_out (with_cue_entry cue)) ts))) here
-        ∙ ap (λ o. tables_fault (reading_cues wanted cue) pid o (map (table_out (with_cue_entry cue)) ts)) (sym (option_or-map (with_cue_entry cue) first t.program_map))
+        ap (λ o. option_or o (tables_fault (cues_read_on wanted cue) pid (option_or (option_map (with_cue_entry cue) first) (option_map (with_cue_entry cue) t.program_map)) (map (table_out (with_cue_entry cue)) ts))) here
+        ∙ ap (λ o. tables_fault (cues_read_on wanted cue) pid o (map (table_out (with_cue_entry cue)) ts)) (sym (option_or-map (with_cue_entry cue) first t.program_map))
         ∙ more
 
   -- ---- packets on both PIDs
@@ -54,25 +54,25 @@ module _ (wanted : Option ℕ) (cue : ℕ) (not_pat : cue ≡ 0 → ⊥) where
   abbrev pub IsOfBoth : Listed → List ℕ → Type 0
   IsOfBoth l q = On cue q ⊎ On l.pid q
 
-  pub block_sound : (l : Listed) (qs out : List (List ℕ)) → listed wanted out ≡ Some l → first_fault (reading_cues wanted cue) out ≡ None → AllByRecursion (IsOfBoth l) qs
-      → tables_fault (reading_cues wanted cue) l.pid (known_map wanted out) (map (table_of l.program) (sections_after (since_pat wanted out) l.pid qs)) ≡ None
-      → first_fault (reading_cues wanted cue) (onto out qs) ≡ None
+  pub block_sound : (l : Listed) (qs out : List (List ℕ)) → listed wanted out ≡ Some l → first_fault (cues_read_on wanted cue) out ≡ None → AllByRecursion (IsOfBoth l) qs
+      → tables_fault (cues_read_on wanted cue) l.pid (known_map wanted out) (map (table_of l.program) (sections_after (since_pat wanted out) l.pid qs)) ≡ None
+      → first_fault (cues_read_on wanted cue) (onto out qs) ≡ None
   block_sound l [] out known ok all none = ok
   block_sound l (q ∷ qs) out known ok all none =
       let since = since_pat wanted out in
       let here = map (table_of l.program) (given l.pid q since) in
       let later = map (table_of l.program) (sections_after (q ∷ since) l.pid qs) in
-      let split = ap (tables_fault (reading_cues wanted cue) l.pid (known_map wanted out)) (sym (map-append (table_of l.program) (given l.pid q since) (sections_after (q ∷ since) l.pid qs))) ∙ none in
-      let r = none_both (tables_fault (reading_cues wanted cue) l.pid (known_map wanted out) here) (tables_fault (reading_cues wanted cue) l.pid (option_or (known_map wanted out) (first_map here)) later)
-      (sym (tables_both (reading_cues wanted cue) l.pid (known_map wanted out) here later) ∙ split) in
+      let split = ap (tables_fault (cues_read_on wanted cue) l.pid (known_map wanted out)) (sym (map-append (table_of l.program) (given l.pid q since) (sections_after (q ∷ since) l.pid qs))) ∙ none in
+      let r = none_both (tables_fault (cues_read_on wanted cue) l.pid (known_map wanted out) here) (tables_fault (cues_read_on wanted cue) l.pid (option_or (known_map wanted out) (first_map here)) later)
+      (sym (tables_both (cues_read_on wanted cue) l.pid (known_map wanted out) here later) ∙ split) in
       let at = tables_at wanted q out l known in
-      let mine : tables_fault (reading_cues wanted cue) l.pid (known_map wanted out) (tables wanted q out) ≡ None = ap (tables_fault (reading_cues wanted cue) l.pid (known_map wanted out)) at ∙ r.0 in
+      let mine : tables_fault (cues_read_on wanted cue) l.pid (known_map wanted out) (tables wanted q out) ≡ None = ap (tables_fault (cues_read_on wanted cue) l.pid (known_map wanted out)) at ∙ r.0 in
       let grows : known_map wanted (q ∷ out) ≡ option_or (known_map wanted out) (first_map here) = known_grows wanted q out ∙ ap (λ ts. option_or (known_map wanted out) (first_map ts)) at in
       block_sound l qs (q ∷ out) (listed_stays wanted q out l known) (one all.0 mine) all.1
-      (ap (λ o. tables_fault (reading_cues wanted cue) l.pid o (map (table_of l.program) (sections_after (since_pat wanted (q ∷ out)) l.pid qs))) grows
-      ∙ ap (λ past. tables_fault (reading_cues wanted cue) l.pid (option_or (known_map wanted out) (first_map here)) (map (table_of l.program) (sections_after past l.pid qs))) (since_stays wanted q out l known)
+      (ap (λ o. tables_fault (cues_read_on wanted cue) l.pid o (map (table_of l.program) (sections_after (since_pat wanted (q ∷ out)) l.pid qs))) grows
+      ∙ ap (λ past. tables_fault (cues_read_on wanted cue) l.pid (option_or (known_map wanted out) (first_map here)) (map (table_of l.program) (sections_after past l.pid qs))) (since_stays wanted q out l known)
       ∙ r.1)
     where
-      one : IsOfBoth l q → tables_fault (reading_cues wanted cue) l.pid (known_map wanted out) (tables wanted q out) ≡ None → first_fault (reading_cues wanted cue) (q ∷ out) ≡ None
+      one : IsOfBoth l q → tables_fault (cues_read_on wanted cue) l.pid (known_map wanted out) (tables wanted q out) ≡ None → first_fault (cues_read_on wanted cue) (q ∷ out) ≡ None
       one (inl y) mine = cue_sound wanted cue not_pat out ok q y
       one (inr y) mine = map_sound_packet wanted cue not_pat out ok q l known y mine

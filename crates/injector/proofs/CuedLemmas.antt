@@ -17,8 +17,9 @@ use Rattle.program_laws.specs.Cued.{cueing, On, cued as cued_network}
 use Rattle.program_laws.proofs.CuedLemmas.{ons_off, cued_stream_reads}
 use Rattle.program_laws.proofs.FaultLemmas.{no_cue_packets}
 use Rattle.program_laws.proofs.PacketLemmas.{one_past-below}
-use Rattle.injector.specs.Steps.{Step, Message, Packet, packets_in, purpose_of, sections_before, cue_packets, cued, body_at}
+use Rattle.injector.specs.Steps.{Step, Message, Packet, packets_in, sections_before, cue_packets, cued, body_at}
 use Rattle.injector.specs.Laws.{fronts, CuedIsWritten, CuedReadsAgain}
+use Rattle.program_follower.specs.Purposes.{writing_cues}
 
 -- ---- lists of packets
 
@@ -115,7 +116,7 @@ cued-written c (Packet p ∷ past) clear =
 
 pub cued-is-written : CuedIsWritten
 cued-is-written c past good =
-    record { stream = cued-written c past (no_cue_packets (purpose_of c) c.cue_pid (packets_in past) refl refl good); cues = along-cues c past (packets_in past) }
+    record { stream = cued-written c past (no_cue_packets (writing_cues c) c.cue_pid (packets_in past) refl refl good); cues = along-cues c past (packets_in past) }
 
 pub cued-reads-again : CuedReadsAgain
 cued-reads-again c past good bytes =
@@ -123,4 +124,4 @@ cued-reads-again c past good bytes =
     let above = c.above_reserved in
     let below = c.below_null in
     subst (λ out. Rattle.program_laws.specs.Cued.CuedReads (Some c.program) c.cue_pid out (packets_in past) (Rattle.program_follower.specs.Program.pids_of (Rattle.program_follower.specs.Program.program_of (Some c.program) (packets_in past)))) (sym is.stream)
-    (cued_stream_reads (purpose_of c) c.cue_pid (fronts c past) (packets_in past) refl refl (λ zero. omega arith) (omega arith) good bytes is.cues)
+    (cued_stream_reads (writing_cues c) c.cue_pid (fronts c past) (packets_in past) refl refl (λ zero. omega arith) (omega arith) good bytes is.cues)

@@ -33,7 +33,8 @@ use Rattle.outgoing_packets.specs.declared.entry.CueEntry.TheVariants.{Added}
 use Rattle.outgoing_packets.specs.Entries.{change_of, HasRoom, GoesOut, AllGoOut}
 use Rattle.injector.specs.Turns.{high}
 use Rattle.injector.specs.Noting.{Rises}
-use Rattle.injector.specs.Steps.{Step, Message, Packet, packets_in, turns_in, high_of, purpose_of, body_at}
+use Rattle.injector.specs.Steps.{Step, Message, Packet, packets_in, turns_in, high_of, body_at}
+use Rattle.program_follower.specs.Purposes.{writing_cues}
 
 -- ---- faults
 
@@ -55,24 +56,24 @@ no-unit (Some Scrambled) is = absurd (let no : as_network (Some Scrambled) ≡ N
 no-unit (Some HeaderSplit) is = absurd (let no : as_network (Some HeaderSplit) ≡ None = is in cc)
 no-unit (Some TimeJump) is = absurd (let no : as_network (Some TimeJump) ≡ None = is in cc)
 
-module _ (c : Config) (p : List ℕ) (past : List (List ℕ)) (good : network_fault (purpose_of c) p past ≡ None) where
+module _ (c : Config) (p : List ℕ) (past : List (List ℕ)) (good : network_fault (writing_cues c) p past ≡ None) where
   no-cue : on_cue (Some c.cue_pid) p ≡ false
-  no-cue = none-if (on_cue (Some c.cue_pid) p) _ (first-none (cue_fault (purpose_of c) p) _ good)
+  no-cue = none-if (on_cue (Some c.cue_pid) p) _ (first-none (cue_fault (writing_cues c) p) _ good)
 
-  behind-cue : option_or (pats_fault (purpose_of c) (listed (Some c.program) past) (given 0 p past))
-      (option_or (maps_fault (purpose_of c) (listed (Some c.program) past) (first_map (all_tables (Some c.program) past)) (tables (Some c.program) p past))
+  behind-cue : option_or (pats_fault (writing_cues c) (listed (Some c.program) past) (given 0 p past))
+      (option_or (maps_fault (writing_cues c) (listed (Some c.program) past) (first_map (all_tables (Some c.program) past)) (tables (Some c.program) p past))
       (as_network (unit_fault (pids_of (program_of (Some c.program) past)) p (behind_head (Some c.program) past)))) ≡ None
-  behind-cue = second-none (cue_fault (purpose_of c) p) _ good
+  behind-cue = second-none (cue_fault (writing_cues c) p) _ good
 
-  behind-pats : option_or (maps_fault (purpose_of c) (listed (Some c.program) past) (first_map (all_tables (Some c.program) past)) (tables (Some c.program) p past))
+  behind-pats : option_or (maps_fault (writing_cues c) (listed (Some c.program) past) (first_map (all_tables (Some c.program) past)) (tables (Some c.program) p past))
       (as_network (unit_fault (pids_of (program_of (Some c.program) past)) p (behind_head (Some c.program) past))) ≡ None
-  behind-pats = second-none (pats_fault (purpose_of c) (listed (Some c.program) past) (given 0 p past)) _ behind-cue
+  behind-pats = second-none (pats_fault (writing_cues c) (listed (Some c.program) past) (given 0 p past)) _ behind-cue
 
-  pub no-maps : maps_fault (purpose_of c) (listed (Some c.program) past) (first_map (all_tables (Some c.program) past)) (tables (Some c.program) p past) ≡ None
+  pub no-maps : maps_fault (writing_cues c) (listed (Some c.program) past) (first_map (all_tables (Some c.program) past)) (tables (Some c.program) p past) ≡ None
   no-maps = first-none _ (as_network (unit_fault (pids_of (program_of (Some c.program) past)) p (behind_head (Some c.program) past))) behind-pats
 
   pub no-units : unit_fault (pids_of (program_of (Some c.program) past)) p (behind_head (Some c.program) past) ≡ None
-  no-units = no-unit _ (second-none (maps_fault (purpose_of c) (listed (Some c.program) past) (first_map (all_tables (Some c.program) past)) (tables (Some c.program) p past)) _ behind-pats)
+  no-units = no-unit _ (second-none (maps_fault (writing_cues c) (listed (Some c.program) past) (first_map (all_tables (Some c.program) past)) (tables (Some c.program) p past)) _ behind-pats)
 
 -- ---- the greatest time
 
@@ -100,7 +101,7 @@ rises-units switched p past good = by (unit_high switched past) (unit_high switc
         let time = m.time in
         (omega (arith, ints), omega (arith, ints))
 
-pub rises-at : (c : Config) (p : List ℕ) (past : List (List ℕ)) → network_fault (purpose_of c) p past ≡ None → Rises (high_of c.program past) (high_of c.program (p ∷ past))
+pub rises-at : (c : Config) (p : List ℕ) (past : List (List ℕ)) → network_fault (writing_cues c) p past ≡ None → Rises (high_of c.program past) (high_of c.program (p ∷ past))
 rises-at c p past good = by (program_of (Some c.program) past) refl
   where
     by : (r : Option Program) → program_of (Some c.program) past ≡ r → Rises (high_of c.program past) (high_of c.program (p ∷ past))
@@ -127,28 +128,28 @@ turns-high program (Packet p ∷ past) = refl
 last-none : (v w x y z : Option NetworkFault) → option_or v (option_or w (option_or x (option_or y z))) ≡ None → z ≡ None
 last-none v w x y z is = second-none y z (second-none x (option_or y z) (second-none w (option_or x (option_or y z)) (second-none v (option_or w (option_or x (option_or y z))) is)))
 
-map-room : (c : Config) (pid : ℕ) (first : Option ProgramMap) (o : Option ProgramMap) → table_fault (purpose_of c) pid first o ≡ None → HasRoom (Added c.cue_pid) o
+map-room : (c : Config) (pid : ℕ) (first : Option ProgramMap) (o : Option ProgramMap) → table_fault (writing_cues c) pid first o ≡ None → HasRoom (Added c.cue_pid) o
 map-room c pid first None good = tt
 map-room c pid first (Some m) good =
     none-if (too_long (Some c.cue_pid) m) PmtTooLong
     (last-none (if_bad (nat_lt 8 (length (switched_of (streams_of m)))) TooManyStreams) (if_bad (bad_pids pid (streams_of m) (pid_in m.pcr_field)) BadPids)
-    (if_bad (cue_used (purpose_of c) (streams_of m) (pid_in m.pcr_field)) CuePidUsed) (if_bad (changed_from (option_map program_in first) m) ProgramChanged)
+    (if_bad (cue_used (writing_cues c) (streams_of m) (pid_in m.pcr_field)) CuePidUsed) (if_bad (changed_from (option_map program_in first) m) ProgramChanged)
     (if_bad (too_long (Some c.cue_pid) m) PmtTooLong) good)
 
-all-room : (c : Config) (pid : ℕ) (first : Option ProgramMap) (program : ℕ) (ss : List (List ℕ)) → tables_fault (purpose_of c) pid first (map (table_of program) ss) ≡ None → All CanBeGiven ss
+all-room : (c : Config) (pid : ℕ) (first : Option ProgramMap) (program : ℕ) (ss : List (List ℕ)) → tables_fault (writing_cues c) pid first (map (table_of program) ss) ≡ None → All CanBeGiven ss
     → All (GoesOut (Added c.cue_pid)) (map (table_of program) ss)
 all-room c pid first program [] good can = All-nil (GoesOut (Added c.cue_pid))
 all-room c pid first program (s ∷ ss) good can =
     let t : Table = table_of program s in
     let some = (sound s (All-head CanBeGiven s ss can)).least in
     All-cons (GoesOut (Added c.cue_pid)) t (map (table_of program) ss)
-    (record { some = omega arith; room = map-room c pid first t.program_map (first-none (table_fault (purpose_of c) pid first t.program_map) _ good) })
-    (all-room c pid (option_or first t.program_map) program ss (second-none (table_fault (purpose_of c) pid first t.program_map) _ good) (All-tail CanBeGiven s ss can))
+    (record { some = omega arith; room = map-room c pid first t.program_map (first-none (table_fault (writing_cues c) pid first t.program_map) _ good) })
+    (all-room c pid (option_or first t.program_map) program ss (second-none (table_fault (writing_cues c) pid first t.program_map) _ good) (All-tail CanBeGiven s ss can))
 
-pub tables-go : (c : Config) (p : List ℕ) (past : List (List ℕ)) → network_fault (purpose_of c) p past ≡ None → AllGoOut (Added c.cue_pid) (tables (Some c.program) p past)
+pub tables-go : (c : Config) (p : List ℕ) (past : List (List ℕ)) → network_fault (writing_cues c) p past ≡ None → AllGoOut (Added c.cue_pid) (tables (Some c.program) p past)
 tables-go c p past good = by (listed (Some c.program) past) (no-maps c p past good)
   where
-    by : (l : Option Listed) → maps_fault (purpose_of c) l (first_map (all_tables (Some c.program) past)) (Rattle.program_follower.specs.Program.tables_on l p (since_pat (Some c.program) past)) ≡ None
+    by : (l : Option Listed) → maps_fault (writing_cues c) l (first_map (all_tables (Some c.program) past)) (Rattle.program_follower.specs.Program.tables_on l p (since_pat (Some c.program) past)) ≡ None
         → AllGoOut (Added c.cue_pid) (Rattle.program_follower.specs.Program.tables_on l p (since_pat (Some c.program) past))
     by None good = All-nil (GoesOut (Added c.cue_pid))
     by (Some l) good = all-room c l.pid (first_map (all_tables (Some c.program) past)) l.program (given l.pid p (since_pat (Some c.program) past)) good (given_can l.pid p (since_pat (Some c.program) past))

@@ -16,8 +16,9 @@ use Rattle.injector.specs.Turns.{Turn, high}
 use Rattle.injector.specs.Senders.{standing_senders}
 use Rattle.injector.specs.Requests.{RequestsStandFor}
 use Rattle.injector.specs.Noting.{NotesStandFor, Rests}
-use Rattle.injector.specs.Steps.{Step, packets_in, turns_in, purpose_of, cued, sent_at, has_news, messages_in}
+use Rattle.injector.specs.Steps.{Step, packets_in, turns_in, cued, sent_at, has_news, messages_in}
 use Rattle.injector.specs.Steps.{accepted_in, refused_in}
+use Rattle.program_follower.specs.Purposes.{writing_cues}
 
 -- the time until which no cue is due
 abbrev pub RestsAt : Option ℕ → ℕ → List Turn → Type 0
@@ -41,14 +42,14 @@ pub record InjectorStandsFor (i : Injector) (c : Config) (past : List Step) : Ty
   pub notes : NotesStandFor i.requests c.index (turns_in c.program past)
   pub news : i.has_news ≡ has_news c.index (turns_in c.program past)
   pub rest : i.has_news ≡ false → RestsAt i.rest c.index (turns_in c.program past)
-  pub follower : StartsStandFor i.follower (purpose_of c) (packets_in past)
+  pub follower : StartsStandFor i.follower (writing_cues c) (packets_in past)
   pub out : HasPut i.out (cued c past)
   pub whole : i.is_spent ≡ false
 
 -- Why a packet was not passed on: what is wrong with it behind those before it, before anything of it was put; or the sink failed behind a
 -- front of what the packet sends.
 abbrev pub FeedFails : FeedFault → Config → List ℕ → List Step → (List (List ℕ) → List ℕ → PutFault → Type 0) → Type 0
-FeedFails (Network fault) c p past fails = network_fault (purpose_of c) p (packets_in past) ≡ Some fault
+FeedFails (Network fault) c p past fails = network_fault (writing_cues c) p (packets_in past) ≡ Some fault
 FeedFails (Sink fault) c p past fails = FrontFails (sent_at c p past) (λ put q. fails put q fault)
 FeedFails Failed c p past fails = ⊥
 
@@ -64,8 +65,8 @@ network_answer (Err Failed) = None
 -- the packet was followed, and is on the PID of the map or not
 pub record IsBodyOf (i : Injector) (is_map : Bool) (c : Config) (p : List ℕ) (past : List (List ℕ)) : Type 0 where
   pub cue_pid : i.cue_pid ≡ c.cue_pid
-  pub follower : StartsStandFor i.follower (purpose_of c) (p ∷ past)
-  pub sound : network_fault (purpose_of c) p past ≡ None
+  pub follower : StartsStandFor i.follower (writing_cues c) (p ∷ past)
+  pub sound : network_fault (writing_cues c) p past ≡ None
   pub map : is_map ≡ on_map (listed (Some c.program) past) p
 
 pub record IsFollowed (i : Injector) (is_map : Bool) (c : Config) (p : List ℕ) (past : List Step) : Type 0 where

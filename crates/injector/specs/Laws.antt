@@ -8,7 +8,8 @@ use Rattle.program_follower.specs.Faults.{first_fault}
 use Rattle.program_laws.specs.Writing.{Along}
 use Rattle.program_laws.specs.Cued.{cued as cued_network, On, CuedReads}
 use Rattle.injector.specs.Steps.{Step, Message, Packet, packets_in, turns_in, high_of, has_news}
-use Rattle.injector.specs.Steps.{sections_before, cue_packets, cued, purpose_of}
+use Rattle.injector.specs.Steps.{sections_before, cue_packets, cued}
+use Rattle.program_follower.specs.Purposes.{writing_cues}
 
 -- THE LAW OF REST. No cue goes out before a packet that leaves the greatest time as it was, where no request was accepted since the packet
 -- before it.
@@ -31,12 +32,12 @@ pub record IsCuedNetwork (c : Config) (past : List Step) : Type 0 where
   pub cues : Along (λ p ps. AllByRecursion (On c.cue_pid) (fronts c past p ps)) (packets_in past)
 
 abbrev pub CuedIsWritten : Type 0
-CuedIsWritten = (c : Config) (past : List Step) → first_fault (purpose_of c) (packets_in past) ≡ None →
+CuedIsWritten = (c : Config) (past : List Step) → first_fault (writing_cues c) (packets_in past) ≡ None →
     IsCuedNetwork c past
 
 -- and so it has the network's PAT, program and units, and stripped again its sections
 abbrev pub CuedReadsAgain : Type 0
-CuedReadsAgain = (c : Config) (past : List Step) → first_fault (purpose_of c) (packets_in past) ≡ None →
+CuedReadsAgain = (c : Config) (past : List Step) → first_fault (writing_cues c) (packets_in past) ≡ None →
     Along (λ p ps. AreBytes p) (packets_in past) →
     CuedReads (Some c.program) c.cue_pid (cued c past) (packets_in past)
     (pids_of (program_of (Some c.program) (packets_in past)))

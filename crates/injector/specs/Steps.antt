@@ -36,10 +36,6 @@ turns_in program [] = []
 turns_in program (Message m ∷ past) = Judged m ∷ turns_in program past
 turns_in program (Packet p ∷ past) = Passed (high_of program (p ∷ packets_in past)) ∷ turns_in program past
 
--- how a network is followed to put cues into it
-abbrev pub purpose_of : Config → Purpose
-purpose_of c = record { program = Some c.program; cue_pid = Some c.cue_pid; writes_cues = true }
-
 -- the sections of the cues before a packet
 abbrev pub sections_before : Config → List ℕ → List Step → List (List ℕ)
 sections_before c p past =

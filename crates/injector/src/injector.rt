@@ -16,10 +16,11 @@ ghost use Rattle.injector.specs.Senders.{IsIdle};
 ghost use Rattle.injector.specs.Noting.{NotesStandFor, StaysAtRest};
 ghost use Rattle.injector.specs.Steps.{Step, Message as MessageStep, Packet as PacketStep, packets_in, turns_in};
 ghost use Rattle.injector.specs.Steps.{high_of};
-ghost use Rattle.injector.specs.Steps.{purpose_of, body_at, sent_at};
+ghost use Rattle.injector.specs.Steps.{body_at, sent_at};
 ghost use Rattle.injector.specs.Injecting.{InjectorStandsFor, JudgesBy, FeedFails, CountsAre, network_answer};
 ghost use Rattle.injector.specs.Injecting.{IsFollowed, IsBodyOf, RestsAt, KeepsRest};
 ghost use Rattle.outgoing_packets.specs.Faults.{FeedBlamed, KeepsSink, is_err_or};
+ghost use Rattle.program_follower.specs.Purposes.{writing_cues};
 
 use crate::choice::is_reached;
 use crate::counts::{MessageCounts, counted, has_news_behind};
@@ -109,9 +110,9 @@ impl Injector {
         ensures stands { (c : Config) (past : List Step) → InjectorStandsFor self.old c past →
             OnOk result (InjectorStandsFor self.new c (PacketStep packet.now ∷ past)) }
         ensures sound { (c : Config) (past : List Step) → InjectorStandsFor self.old c past →
-            OnOk result (network_fault (purpose_of c) packet.now (packets_in past) ≡ None) }
+            OnOk result (network_fault (writing_cues c) packet.now (packets_in past) ≡ None) }
         ensures found { (c : Config) (past : List Step) → InjectorStandsFor self.old c past →
-            network_answer result ≡ network_fault (purpose_of c) packet.now (packets_in past) }
+            network_answer result ≡ network_fault (writing_cues c) packet.now (packets_in past) }
         ensures err { (start : Option (List ℕ)) (ps : List (List ℕ)) (c : Config) (past : List Step) →
             S.holds sink.old start ps → InjectorStandsFor self.old c past →
             IfErr result (λ f. FeedFails f c packet.now past (λ put p x. S.fails sink.new start (ps ++ put) p x)) }
@@ -145,9 +146,9 @@ impl Injector {
         ensures stands { (c : Config) (past : List Step) → InjectorStandsFor self.old c past →
             OnOk result (InjectorStandsFor self.new c (PacketStep packet.now ∷ past)) }
         ensures sound { (c : Config) (past : List Step) → InjectorStandsFor self.old c past →
-            OnOk result (network_fault (purpose_of c) packet.now (packets_in past) ≡ None) }
+            OnOk result (network_fault (writing_cues c) packet.now (packets_in past) ≡ None) }
         ensures found { (c : Config) (past : List Step) → InjectorStandsFor self.old c past →
-            network_answer result ≡ network_fault (purpose_of c) packet.now (packets_in past) }
+            network_answer result ≡ network_fault (writing_cues c) packet.now (packets_in past) }
         ensures err { (start : Option (List ℕ)) (ps : List (List ℕ)) (c : Config) (past : List Step) →
             S.holds sink.old start ps → InjectorStandsFor self.old c past →
             IfErr result (λ f. FeedFails f c packet.now past (λ put p x. S.fails sink.new start (ps ++ put) p x)) }

@@ -30,7 +30,7 @@ use Rattle.program_laws.proofs.WritingLemmas.{carry_off, listed_below}
 use Rattle.program_laws.proofs.FaultLemmas.{not_if_bad, pid_good, no_cue_packets}
 use Rattle.scte104_codec.specs.Reading.{MessageReading}
 use Rattle.injector.specs.Noting.{Rises as InjectorRises}
-use Rattle.injector.specs.Steps.{Step, Message, Packet, packets_in, high_of, turns_in, purpose_of, sections_before, cue_packets, body_at, cued}
+use Rattle.injector.specs.Steps.{Step, Message, Packet, packets_in, high_of, turns_in, sections_before, cue_packets, body_at, cued}
 use Rattle.injector.proofs.FeedLemmas.{rises-at, turns-high}
 use Rattle.cue_laws.specs.Events.{Rises}
 use Rattle.cue_laws.proofs.Settling.{by_test}
@@ -38,11 +38,12 @@ use Rattle.path_laws.specs.Path.{Item, Sent, sent_onto, IsSteadyHistory}
 use Rattle.path_laws.specs.Packets.{IsRunOf, SectionsReadBack, cues_at, sent_in}
 use Rattle.path_laws.proofs.Reading.{AreNear}
 use Rattle.path_laws.proofs.Proofs.{tells}
+use Rattle.program_follower.specs.Purposes.{writing_cues}
 
 -- ---- a run
 
-fault-parts : (c : Config) (p : List ℕ) (past : List (List ℕ)) → first_fault (purpose_of c) (p ∷ past) ≡ None → (first_fault (purpose_of c) past ≡ None) × (network_fault (purpose_of c) p past ≡ None)
-fault-parts c p past ok = none_both (first_fault (purpose_of c) past) (network_fault (purpose_of c) p past) ok
+fault-parts : (c : Config) (p : List ℕ) (past : List (List ℕ)) → first_fault (writing_cues c) (p ∷ past) ≡ None → (first_fault (writing_cues c) past ≡ None) × (network_fault (writing_cues c) p past ≡ None)
+fault-parts c p past ok = none_both (first_fault (writing_cues c) past) (network_fault (writing_cues c) p past) ok
 
 pub run-message : (c : Config) (m : MessageReading) (past : List Step) → IsRunOf c (Message m ∷ past) → IsRunOf c past
 run-message c m past r = record { cue_pid = r.cue_pid; not_pat = r.not_pat; faultless = r.faultless; bytes = r.bytes; requests = (r.requests).1 }
@@ -84,19 +85,19 @@ or-none true b is = cc
 or-none false b is = (refl, is)
 
 -- the PID of the map is not that of the cues
-pub map-pid : (c : Config) (past : List (List ℕ)) (l : Listed) → first_fault (purpose_of c) past ≡ None → listed (Some c.program) past ≡ Some l → l.pid ≡ c.cue_pid → ⊥
+pub map-pid : (c : Config) (past : List (List ℕ)) (l : Listed) → first_fault (writing_cues c) past ≡ None → listed (Some c.program) past ≡ Some l → l.pid ≡ c.cue_pid → ⊥
 map-pid c past l ok known same =
-    let g : pmt_pid_fault (purpose_of c) (Some l) ≡ None = ap (pmt_pid_fault (purpose_of c)) (sym known) ∙ pid_good (purpose_of c) past ok in
+    let g : pmt_pid_fault (writing_cues c) (Some l) ≡ None = ap (pmt_pid_fault (writing_cues c)) (sym known) ∙ pid_good (writing_cues c) past ok in
     let r = none_both (if_bad ((l.pid == 0) || (l.pid == 8191)) BadPids) (if_bad (l.pid == c.cue_pid) CuePidUsed) g in
     let off : (l.pid == c.cue_pid) ≡ false = not_if_bad (l.pid == c.cue_pid) CuePidUsed r.1 in
     let is : (l.pid == c.cue_pid) ≡ true = eq-eqb l.pid c.cue_pid same in
     absurd (let bad : true ≡ false = sym is ∙ off in cc)
 
-network-off : (c : Config) (p : List ℕ) (past : List (List ℕ)) → first_fault (purpose_of c) (p ∷ past) ≡ None → on c.cue_pid p ≡ false
-network-off c p past ok = (no_cue_packets (purpose_of c) c.cue_pid (p ∷ past) refl refl ok).0
+network-off : (c : Config) (p : List ℕ) (past : List (List ℕ)) → first_fault (writing_cues c) (p ∷ past) ≡ None → on c.cue_pid p ≡ false
+network-off c p past ok = (no_cue_packets (writing_cues c) c.cue_pid (p ∷ past) refl refl ok).0
 
 -- what stands in a packet's place is off the cue PID
-pub place-off : (c : Config) (fronts : List ℕ → List (List ℕ) → List (List ℕ)) (p : List ℕ) (past out : List (List ℕ)) (ts : List Table) (o : Option Listed) → first_fault (purpose_of c) (p ∷ past) ≡ None
+pub place-off : (c : Config) (fronts : List ℕ → List (List ℕ) → List (List ℕ)) (p : List ℕ) (past out : List (List ℕ)) (ts : List Table) (o : Option Listed) → first_fault (writing_cues c) (p ∷ past) ≡ None
     → listed (Some c.program) past ≡ o → AllByRecursion (Off c.cue_pid) (body (cueing c.cue_pid fronts) o p past ts out)
 place-off c fronts p past out ts None ok known = (network-off c p past ok, tt)
 place-off c fronts p past out ts (Some l) ok known =

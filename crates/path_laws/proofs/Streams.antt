@@ -32,7 +32,7 @@ use Rattle.program_laws.proofs.UnitLemmas.{others_are_no_units}
 use Rattle.program_laws.proofs.FaultLemmas.{MapSound, all_sound}
 use Rattle.program_laws.proofs.CuedLemmas.{cued_stream_reads}
 use Rattle.armed_events.specs.Arming.{Heard, with_section, with_sections, heard}
-use Rattle.injector.specs.Steps.{Step, Message, Packet, packets_in, high_of, turns_in, purpose_of}
+use Rattle.injector.specs.Steps.{Step, Message, Packet, packets_in, high_of, turns_in}
 use Rattle.injector.proofs.FeedLemmas.{turns-high}
 use Rattle.cue_laws.specs.Events.{Turn as LineTurn}
 use Rattle.cue_laws.specs.Thinning.{times}
@@ -42,6 +42,7 @@ use Rattle.path_laws.specs.Packets.{IsRunOf, cues_at, sent_in, kept, stream, Bri
 use Rattle.path_laws.proofs.Reading.{high-left}
 use Rattle.path_laws.proofs.Packets.{run-message, run-packet, run-history, map-pid, place-off}
 use Rattle.path_laws.proofs.Proofs.{tells}
+use Rattle.program_follower.specs.Purposes.{writing_cues}
 
 -- ---- cues that are left
 
@@ -106,23 +107,23 @@ apart-by cue (s ∷ ss) k =
     (λ y. simp y ((λ e. let t : (s.pid == cue) ≡ true = eq-eqb s.pid cue (sym e) in absurd (let f = r.0 in let bad : true ≡ false = sym t ∙ f in cc)), more))
     (λ n. simp n more)
 
-apart-map : (c : Config) (pid : ℕ) (o : Option ProgramMap) → MapSound (purpose_of c) pid o → Apart c.cue_pid (pids_of (option_map program_in o))
+apart-map : (c : Config) (pid : ℕ) (o : Option ProgramMap) → MapSound (writing_cues c) pid o → Apart c.cue_pid (pids_of (option_map program_in o))
 apart-map c pid None g = tt
 apart-map c pid (Some m) g =
     let used : list_any (is_pid (Some c.cue_pid)) (pid_in m.pcr_field ∷ pids_in (streams_of m)) ≡ false = g.cue in
     apart-by c.cue_pid (streams_of m) (or-none (is_pid (Some c.cue_pid) (pid_in m.pcr_field)) (list_any (is_pid (Some c.cue_pid)) (pids_in (streams_of m))) used).1
 
-first-sound : (c : Config) (pid : ℕ) (ts : List Table) → AllByRecursion (λ (t : Table). MapSound (purpose_of c) pid t.program_map) ts → MapSound (purpose_of c) pid (first_map ts)
+first-sound : (c : Config) (pid : ℕ) (ts : List Table) → AllByRecursion (λ (t : Table). MapSound (writing_cues c) pid t.program_map) ts → MapSound (writing_cues c) pid (first_map ts)
 first-sound c pid [] h = tt
 first-sound c pid (t ∷ ts) h = which t.program_map (first_map ts) h.0 (first-sound c pid ts h.1)
   where
-    which : (o x : Option ProgramMap) → MapSound (purpose_of c) pid o → MapSound (purpose_of c) pid x → MapSound (purpose_of c) pid (option_or o x)
+    which : (o x : Option ProgramMap) → MapSound (writing_cues c) pid o → MapSound (writing_cues c) pid x → MapSound (writing_cues c) pid (option_or o x)
     which None x g k = k
     which (Some m) x g k = g
 
-apart-cue : (c : Config) (past : List (List ℕ)) (o : Option Listed) → first_fault (purpose_of c) past ≡ None → listed (Some c.program) past ≡ o → Apart c.cue_pid (pids_of (program_of (Some c.program) past))
+apart-cue : (c : Config) (past : List (List ℕ)) (o : Option Listed) → first_fault (writing_cues c) past ≡ None → listed (Some c.program) past ≡ o → Apart c.cue_pid (pids_of (program_of (Some c.program) past))
 apart-cue c past None ok h = let n = no_tables (Some c.program) past h in rw n tt
-apart-cue c past (Some l) ok h = apart-map c l.pid (known_map (Some c.program) past) (first-sound c l.pid (all_tables (Some c.program) past) (all_sound (purpose_of c) past l ok h))
+apart-cue c past (Some l) ok h = apart-map c l.pid (known_map (Some c.program) past) (first-sound c l.pid (all_tables (Some c.program) past) (all_sound (writing_cues c) past l ok h))
 
 apart-on : (cue : ℕ) (pids : List ℕ) → Apart cue pids → (q : List ℕ) → on cue q ≡ true → on_one pids q ≡ false
 apart-on cue [] h q y = refl
@@ -203,7 +204,7 @@ brings-on c copies fronts (Packet p ∷ past) b = (b.0, brings-on c copies front
 
 module _ (c : Config) (copies : List LineTurn → ℕ) (fronts : List ℕ → List (List ℕ) → List (List ℕ)) (past : List Step) (r : IsRunOf c past) (b : BringsCues c copies fronts past) where
   reads : CuedReads (Some c.program) c.cue_pid (stream c fronts past) (packets_in past) (pids_of (program_of (Some c.program) (packets_in past)))
-  reads = cued_stream_reads (purpose_of c) c.cue_pid fronts (packets_in past) refl refl r.not_pat r.cue_pid r.faultless r.bytes (brings-on c copies fronts past b)
+  reads = cued_stream_reads (writing_cues c) c.cue_pid fronts (packets_in past) refl refl r.not_pat r.cue_pid r.faultless r.bytes (brings-on c copies fronts past b)
 
   stream-high : high_of c.program (stream c fronts past) ≡ high_of c.program (packets_in past)
   stream-high =

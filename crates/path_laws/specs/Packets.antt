@@ -14,11 +14,12 @@ use Rattle.event_table.specs.Standing.{Standing}
 use Rattle.armed_events.specs.Arming.{heard, armed}
 use Rattle.injector.specs.Turns.{events}
 use Rattle.injector.specs.Senders.{cues_before}
-use Rattle.injector.specs.Steps.{Step, Message, Packet, packets_in, high_of, turns_in, purpose_of, sections_before, cue_packets, cued}
+use Rattle.injector.specs.Steps.{Step, Message, Packet, packets_in, high_of, turns_in, sections_before, cue_packets, cued}
 use Rattle.cue_laws.specs.Events.{Turn as LineTurn, before, In}
 use Rattle.cue_laws.specs.Thinning.{times}
 use Rattle.cue_laws.specs.Laws.{KeepsEnoughOf}
 use Rattle.path_laws.specs.Path.{Item, Sent, line, left, path, heard_on, asked_line, RequestFits}
+use Rattle.program_follower.specs.Purposes.{writing_cues}
 
 -- ---- runs
 
@@ -32,7 +33,7 @@ RequestsFit c (Packet p ∷ past) = RequestsFit c past
 pub record IsRunOf (c : Config) (past : List Step) : Type 0 where
   pub cue_pid : c.cue_pid < 8192
   pub not_pat : c.cue_pid ≡ 0 → ⊥
-  pub faultless : first_fault (purpose_of c) (packets_in past) ≡ None
+  pub faultless : first_fault (writing_cues c) (packets_in past) ≡ None
   pub bytes : Along (λ p past. AreBytes p) (packets_in past)
   pub requests : RequestsFit c past
 

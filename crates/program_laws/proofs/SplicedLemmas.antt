@@ -15,9 +15,10 @@ use Rattle.program_follower.specs.Program.{Program}
 use Rattle.program_follower.specs.Faults.{is_pid, if_bad, pids_in, is_in, is_twice, bad_pid, bad_switched, bad_pids, cue_used, changed}
 use Rattle.psi_tables.specs.declared.network.NetworkFault.{NetworkFault}
 use Rattle.psi_tables.specs.declared.network.NetworkFault.TheVariants.{TooManyStreams, BadPids, CuePidUsed, ProgramChanged}
-use Rattle.program_laws.specs.Spliced.{writing_cues, reading_cues, EntryIsNoFault}
+use Rattle.program_laws.specs.Spliced.{EntryIsNoFault}
 use Rattle.program_laws.proofs.EntryOutLemmas.{with_same}
 use Rattle.program_laws.proofs.FaultLemmas.{sound_map}
+use Rattle.program_follower.specs.Purposes.{cues_written_on, cues_read_on}
 
 or_parts : (a b : Bool) → a || b ≡ false → (a ≡ false) × (b ≡ false)
 or_parts true b h = cc
@@ -79,7 +80,7 @@ fine false f rest h k = k
 
 pub entry_is_no_fault : EntryIsNoFault
 entry_is_no_fault wanted cue pmt_pid first m below no_zero no_pmt h =
-    let r = sound_map (writing_cues wanted cue) pmt_pid first m h in
+    let r = sound_map (cues_written_on wanted cue) pmt_pid first m h in
     let s = r.0 in
     let n = with_cue_entry cue m in
     let ps = pids_in (streams_of m) in
@@ -100,11 +101,11 @@ entry_is_no_fault wanted cue pmt_pid first m below no_zero no_pmt h =
     ∙ ap (λ xs. list_any (bad_pid pmt_pid) (pcr ∷ (ps ++ cue ∷ [])) || list_any (bad_switched (ps ++ cue ∷ [])) (pids_in xs)) sw
     ∙ or_both (list_any (bad_pid pmt_pid) (pcr ∷ (ps ++ cue ∷ []))) (list_any (bad_switched (ps ++ cue ∷ [])) (pids_in (switched_of (streams_of m)))) all
     (switched_more cue ps (pids_in (switched_of (streams_of m))) apart bad.1) in
-    let cues : cue_used (reading_cues wanted cue) (streams_of n) (pid_in n.pcr_field) ≡ false =
+    let cues : cue_used (cues_read_on wanted cue) (streams_of n) (pid_in n.pcr_field) ≡ false =
     ap (λ x. list_any (is_pid (Some cue)) (x ∷ pids_in (switched_of (streams_of n)))) clock
     ∙ ap (λ xs. list_any (is_pid (Some cue)) (pcr ∷ pids_in xs)) sw
     ∙ or_both (is_pid (Some cue) pcr) (list_any (is_pid (Some cue)) (pids_in (switched_of (streams_of m)))) used.0 apart in
     fine (nat_lt 8 (length (switched_of (streams_of n)))) TooManyStreams _ few
     (fine (bad_pids pmt_pid (streams_of n) (pid_in n.pcr_field)) BadPids _ pids
-    (fine (cue_used (reading_cues wanted cue) (streams_of n) (pid_in n.pcr_field)) CuePidUsed _ cues
+    (fine (cue_used (cues_read_on wanted cue) (streams_of n) (pid_in n.pcr_field)) CuePidUsed _ cues
     (fine (changed (option_map (with_cue_entry cue) first) n) ProgramChanged _ (same_change cue first m ∙ r.1) refl)))

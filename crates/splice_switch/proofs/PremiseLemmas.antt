@@ -26,7 +26,7 @@ use Rattle.program_follower.specs.declared.streams.StreamPacket.{StreamPacket}
 use Rattle.program_follower.specs.declared.streams.StreamPacket.TheVariants.{Start, More, Repeat, Lead, NoPayload}
 use Rattle.program_follower.specs.declared.follower.Place.{Place}
 use Rattle.program_follower.specs.declared.follower.Place.TheVariants as places
-use Rattle.program_follower.specs.Purposes.{reading_cues}
+use Rattle.program_follower.specs.Purposes.{reading_cues, cues_read_on}
 use Rattle.program_follower.specs.Program.{listed, all_tables, known_map, behind_head, Program, program_in, program_of, pids_of}
 use Rattle.program_follower.specs.Faults.{network_fault, first_fault, cue_fault, pats_fault_at, maps_fault_at, unit_fault_at, as_network, is_pid, pmt_pid_fault, if_bad}
 use Rattle.psi_tables.specs.declared.network.NetworkFault.TheVariants.{CuePidUsed, BadPids}
@@ -55,13 +55,13 @@ use Rattle.splice_switch.proofs.QuietLemmas.{or-parts}
 not-below : (n : ℕ) → nat_lt 8 n ≡ false → n ≤ 8
 not-below n h = grind (arith, nat_tests, h)
 
-module _ (k : Setting) (past : List (List ℕ)) (h : first_fault (Rattle.program_laws.specs.Spliced.reading_cues (Some k.program) k.cue_pid) past ≡ None) where
+module _ (k : Setting) (past : List (List ℕ)) (h : first_fault (cues_read_on (Some k.program) k.cue_pid) past ≡ None) where
   few-by : (o : Option ProgramMap) → known_map (Some k.program) past ≡ o → length (switched_at k past) ≤ 8
   few-by None known = let n : length (switched_at k past) ≡ 0 = ap (λ o. length (pids_of (option_map program_in o))) known in omega (arith, n)
   few-by (Some m) known =
       let l = unlisted k past h (listed (Some k.program) past) refl m known in
-      let s = first-sound (Rattle.program_laws.specs.Spliced.reading_cues (Some k.program) k.cue_pid) l.0.pid m (all_tables (Some k.program) past)
-      (all_sound (Rattle.program_laws.specs.Spliced.reading_cues (Some k.program) k.cue_pid) past l.0 h l.1) known in
+      let s = first-sound (cues_read_on (Some k.program) k.cue_pid) l.0.pid m (all_tables (Some k.program) past)
+      (all_sound (cues_read_on (Some k.program) k.cue_pid) past l.0 h l.1) known in
       let few : length (switched_of (streams_of m)) ≤ 8 = not-below (length (switched_of (streams_of m))) s.few in
       let n : length (switched_at k past) ≡ length (switched_of (streams_of m))
       = ap (λ o. length (pids_of (option_map program_in o))) known ∙ length-map (switched_of (streams_of m)) (λ (s : ListedStream). s.pid) in

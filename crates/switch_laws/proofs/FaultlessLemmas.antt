@@ -14,7 +14,6 @@ use Rattle.program_follower.specs.Program.{listed, Table, all_tables, known_map,
 use Rattle.psi_tables.specs.declared.network.NetworkFault.TheVariants.{BadPids, CuePidUsed}
 use Rattle.program_follower.specs.Faults.{first_fault, pids_in, is_in, is_twice, bad_pid, bad_switched, is_pid, if_bad, pmt_pid_fault}
 use Rattle.program_follower.proofs.OptionLemmas.{none_both}
-use Rattle.program_laws.specs.Spliced.{reading_cues}
 use Rattle.program_laws.proofs.FaultLemmas.{Sound, MapSound, all_sound, not_if_bad, pid_good}
 use Rattle.program_laws.proofs.ReadingLemmas.{no_tables}
 use Rattle.splice_laws.specs.Streams.{is_among, IsOnce}
@@ -22,6 +21,7 @@ use Rattle.output_laws.proofs.GaplessLemmas.{test-true}
 use Rattle.splice_plans.specs.Switching.{Setting, switched_at}
 use Rattle.switch_laws.specs.Standing.{IsSwitchable, FaultlessIsSound}
 use Rattle.switch_laws.proofs.WholeLemmas.{none-switched}
+use Rattle.program_follower.specs.Purposes.{cues_read_on}
 
 or-parts : (a b : Bool) → (a || b) ≡ false → (a ≡ false) × (b ≡ false)
 or-parts true b h = absurd (true≢false h)
@@ -79,9 +79,9 @@ pub first-sound : (c : Purpose) (pid : ℕ) (m : ProgramMap) (ts : List Table) �
 first-sound c pid m [] a h = cc
 first-sound c pid m (t ∷ ts) a h = sound-or c pid m t.program_map (first_map ts) a.0 h (first-sound c pid m ts a.1)
 
-module _ (k : Setting) (past : List (List ℕ)) (h : first_fault (reading_cues (Some k.program) k.cue_pid) past ≡ None) where
+module _ (k : Setting) (past : List (List ℕ)) (h : first_fault (cues_read_on (Some k.program) k.cue_pid) past ≡ None) where
   abbrev purpose : Purpose
-  purpose = reading_cues (Some k.program) k.cue_pid
+  purpose = cues_read_on (Some k.program) k.cue_pid
 
   pub unlisted : (o : Option Listed) → listed (Some k.program) past ≡ o → (m : ProgramMap) → known_map (Some k.program) past ≡ Some m → (l : Listed) × (listed (Some k.program) past ≡ Some l)
   unlisted (Some l) e m known = (l, e)
@@ -127,7 +127,7 @@ module _ (k : Setting) (past : List (List ℕ)) (h : first_fault (reading_cues (
 
 -- ---- PID 0
 
-module _ (k : Setting) (past : List (List ℕ)) (h : first_fault (reading_cues (Some k.program) k.cue_pid) past ≡ None) where
+module _ (k : Setting) (past : List (List ℕ)) (h : first_fault (cues_read_on (Some k.program) k.cue_pid) past ≡ None) where
   pub map-not-zero : (l : Listed) → listed (Some k.program) past ≡ Some l → l.pid ≡ 0 → ⊥
   map-not-zero l known e =
       let c = purpose k past h in

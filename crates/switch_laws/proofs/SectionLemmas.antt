@@ -17,7 +17,6 @@ use Rattle.program_follower.specs.declared.purpose.Listed.{Listed}
 use Rattle.program_follower.specs.Program.{listed, first_listed, since_pat, table_of, tables, all_tables, known_map, behind_head}
 use Rattle.program_follower.specs.Faults.{first_fault}
 use Rattle.program_follower.proofs.StepLemmas.{listed_stays}
-use Rattle.program_laws.specs.Spliced.{reading_cues}
 use Rattle.program_laws.specs.Writing.{Along, ChangedGoesOut, IsClear, table_out, Off}
 use Rattle.program_laws.proofs.FaultLemmas.{Each-parts}
 use Rattle.program_laws.proofs.ReadingLemmas.{listed_onto, tables_onto, no_tables}
@@ -35,6 +34,7 @@ use Rattle.switch_laws.proofs.OtherLemmas.{or-second, within-self, front-off, en
 use Rattle.switch_laws.proofs.StandingLemmas.{other-place, own-place, by-fate}
 use Rattle.switch_laws.proofs.StreamLemmas.{all-reversed}
 use Rattle.switch_laws.proofs.WholeLemmas.{packets-each, listed-later, known-later, adverts-same, switched-same, none-switched, not-behind, is-behind, reverse-onto}
+use Rattle.program_follower.specs.Purposes.{cues_read_on}
 
 -- ---- packets of other PIDs
 
@@ -81,7 +81,7 @@ module _ (wanted : Option ℕ) (out qs : List (List ℕ)) (zero : AllByRecursion
 
 -- ---- the network, newest packet first
 
-module _ (k : Setting) (network : List (List ℕ)) (ok : first_fault (reading_cues (Some k.program) k.cue_pid) network ≡ None) (cue : k.cue_pid ≡ 0 → ⊥)
+module _ (k : Setting) (network : List (List ℕ)) (ok : first_fault (cues_read_on (Some k.program) k.cue_pid) network ≡ None) (cue : k.cue_pid ≡ 0 → ⊥)
     (maps : MapsGoOut k network) (good : ArePacked k.packed (adverts_at k network)) (pids : HavePids network) where
   abbrev wanted : Option ℕ
   wanted = Some k.program

@@ -5,11 +5,11 @@ use Rattle.psi_tables.specs.Cue.{without_cue_entry}
 use Rattle.program_follower.specs.declared.purpose.Listed.{Listed}
 use Rattle.program_follower.specs.Program.{listed, all_tables}
 use Rattle.program_follower.specs.Faults.{first_fault}
-use Rattle.program_laws.specs.Spliced.{reading_cues}
 use Rattle.wire_fields.specs.Numbers.{AreBytes}
 use Rattle.program_laws.specs.Writing.{Along, ChangedGoesOut, table_out}
 use Rattle.splice_plans.specs.Switching.{Setting, spliced_network}
 use Rattle.switch_laws.specs.Whole.{adverts_at, ArePacked, HavePids}
+use Rattle.program_follower.specs.Purposes.{cues_read_on}
 
 -- the program's maps, without the entry for the cues, can be sent and are read back
 abbrev pub MapsGoOut : Setting → List (List ℕ) → Type 0
@@ -25,7 +25,7 @@ pub record ReadsStripped (k : Setting) (network : List (List ℕ)) : Type 0 wher
 
 -- THE LAW OF SECTIONS, of networks in which those who read their cues find no fault
 abbrev pub SectionsStay : Type 0
-SectionsStay = (k : Setting) (network : List (List ℕ)) → first_fault (reading_cues (Some k.program) k.cue_pid) (reverse network) ≡ None →
+SectionsStay = (k : Setting) (network : List (List ℕ)) → first_fault (cues_read_on (Some k.program) k.cue_pid) (reverse network) ≡ None →
     (k.cue_pid ≡ 0 → ⊥) → MapsGoOut k (reverse network) → ArePacked k.packed (adverts_at k (reverse network)) → HavePids network →
     ReadsStripped k network
 

@@ -7,7 +7,6 @@ use Rattle.psi_tables.specs.Cue.{without_cue_entry}
 use Rattle.program_follower.specs.declared.purpose.Listed.{Listed}
 use Rattle.program_follower.specs.Program.{listed, tables, behind_head}
 use Rattle.program_follower.specs.Faults.{first_fault}
-use Rattle.program_laws.specs.Spliced.{reading_cues}
 use Rattle.splice_laws.specs.Streams.{is_among, IsOnce}
 use Rattle.program_laws.specs.Writing.{section_out, packets_out}
 use Rattle.output_laws.specs.Output.{Move, Leave, counter_steps, clock_alone}
@@ -15,6 +14,7 @@ use Rattle.output_laws.specs.Others.{is_off}
 use Rattle.splice_plans.specs.Playing.{is_inside}
 use Rattle.splice_plans.specs.Switching.{Setting, switched_at, history_at, switched_past, spliced_network, is_switched, moves, puts_before}
 use Rattle.switch_laws.specs.Whole.{adverts_at, stands_for, table_pids, ArePacked, HavePids, TablesAreApart}
+use Rattle.program_follower.specs.Purposes.{cues_read_on}
 
 -- it is not on the PID of the PMT, behind the PAT
 abbrev pub IsNoTable : Setting → List ℕ → List (List ℕ) → Type 0
@@ -73,4 +73,4 @@ pub record IsSwitchable (k : Setting) (past : List (List ℕ)) : Type 0 where
   pub once : (pid : ℕ) → is_among pid (switched_at k past) ≡ true → IsOnce pid (switched_at k past)
 
 abbrev pub FaultlessIsSound : Type 0
-FaultlessIsSound = (k : Setting) (past : List (List ℕ)) → first_fault (reading_cues (Some k.program) k.cue_pid) past ≡ None → IsSwitchable k past
+FaultlessIsSound = (k : Setting) (past : List (List ℕ)) → first_fault (cues_read_on (Some k.program) k.cue_pid) past ≡ None → IsSwitchable k past

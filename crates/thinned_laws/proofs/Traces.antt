@@ -26,7 +26,7 @@ use Rattle.program_laws.proofs.WritingLemmas.{listed_below}
 use Rattle.event_table.specs.Standing.{Standing}
 use Rattle.armed_events.specs.Arming.{armed}
 use Rattle.injector.specs.Turns.{events}
-use Rattle.injector.specs.Steps.{Step, Message, Packet, packets_in, high_of, turns_in, purpose_of}
+use Rattle.injector.specs.Steps.{Step, Message, Packet, packets_in, high_of, turns_in}
 use Rattle.cue_laws.specs.Events.{Turn as LineTurn, before, In}
 use Rattle.cue_laws.specs.Laws.{KeepsEnoughOf}
 use Rattle.cue_laws.proofs.Enough.{nothing_lost_is_enough}
@@ -49,6 +49,7 @@ use Rattle.thinned_laws.specs.Laws.{SplicedAlike, LeftIsFaultless, LostCuesLeave
 use Rattle.thinned_laws.proofs.Flags.{OffAlone}
 use Rattle.thinned_laws.proofs.Tables.{off-alone, not-switched}
 use Rattle.thinned_laws.proofs.Reports.{same_events_same_network}
+use Rattle.program_follower.specs.Purposes.{writing_cues}
 
 -- ---- rows
 
@@ -157,7 +158,7 @@ high-units (pid ∷ pids) all past other u is = u.0.high
 
 module _ (c : Config) (copies : List LineTurn → ℕ) (fronts : Fronts) (past : List Step) (r : IsRunOf c past) (b : BringsCues c copies fronts past) where
   reads : CuedReads (Some c.program) c.cue_pid (stream c fronts past) (packets_in past) (pids_of (program_of (Some c.program) (packets_in past)))
-  reads = cued_stream_reads (purpose_of c) c.cue_pid fronts (packets_in past) refl refl r.not_pat r.cue_pid r.faultless r.bytes (brings-on c copies fronts past b)
+  reads = cued_stream_reads (writing_cues c) c.cue_pid fronts (packets_in past) refl refl r.not_pat r.cue_pid r.faultless r.bytes (brings-on c copies fronts past b)
 
   stream-high : high_of c.program (stream c fronts past) ≡ high_of c.program (packets_in past)
   stream-high =

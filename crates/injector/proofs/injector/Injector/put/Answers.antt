@@ -11,17 +11,18 @@ use Rattle.injector.specs.Turns.{high, Passed}
 use Rattle.injector.specs.Senders.{standing_senders}
 use Rattle.injector.specs.Noting.{Rests, Rises, IsBefore}
 use Rattle.injector.specs.Requests.{RequestsStandFor}
-use Rattle.injector.specs.Steps.{Packet as PacketStep, packets_in, turns_in, high_of, purpose_of, cued, cue_packets, body_at, sent_at}
+use Rattle.injector.specs.Steps.{Packet as PacketStep, packets_in, turns_in, high_of, cued, cue_packets, body_at, sent_at}
 use Rattle.injector.proofs.FeedLemmas.{rises-at, turns-high}
 use Rattle.injector.proofs.RestLemmas.{idle-between}
 use Rattle.injector.proofs.injector.Injector.put.Goals as goal
+use Rattle.program_follower.specs.Purposes.{writing_cues}
 
 pub returns-in-Err-clause-err : goal.returns-in-Err-clause-err
 returns-in-Err-clause-err g c = λ start ps cfg past held b.
     let p = c.args.packet.now in
     let turns = turns_in cfg.program past in
     let line = high_of cfg.program (p ∷ packets_in past) in
-    let is : c.high-later.result ≡ option_map ring_of line = c.high-later.ensures (purpose_of cfg) (p ∷ packets_in past) b.body.follower in
+    let is : c.high-later.result ≡ option_map ring_of line = c.high-later.ensures (writing_cues cfg) (p ∷ packets_in past) b.body.follower in
     let rises : Rises (high turns) line = subst (λ h. Rises h line) (sym (turns-high cfg.program past)) (rises-at cfg p (packets_in past) b.body.sound) in
     let before : IsBefore c.is_due-is_due.result c.args.self.now.requests c.high-later.result cfg.index turns line
     = record { stands = b.judges.requests; notes = b.notes; rises = rises; time = is; idle = λ none. (c.is_due-is_due.ensures c.args.is_map cfg p past b is none).idle } in
@@ -40,7 +41,7 @@ returns-in-Err-put_body-clause-err g c = λ start ps cfg past held b.
     let p = c.args.packet.now in
     let turns = turns_in cfg.program past in
     let line = high_of cfg.program (p ∷ packets_in past) in
-    let is : c.high-later.result ≡ option_map ring_of line = c.high-later.ensures (purpose_of cfg) (p ∷ packets_in past) b.body.follower in
+    let is : c.high-later.result ≡ option_map ring_of line = c.high-later.ensures (writing_cues cfg) (p ∷ packets_in past) b.body.follower in
     let rises : Rises (high turns) line = subst (λ h. Rises h line) (sym (turns-high cfg.program past)) (rises-at cfg p (packets_in past) b.body.sound) in
     let before : IsBefore c.is_due-is_due.result c.args.self.now.requests c.high-later.result cfg.index turns line
     = record { stands = b.judges.requests; notes = b.notes; rises = rises; time = is; idle = λ none. (c.is_due-is_due.ensures c.args.is_map cfg p past b is none).idle } in
@@ -61,7 +62,7 @@ returns-clause-ok g c = λ start ps cfg past held b.
     let p = c.args.packet.now in
     let turns = turns_in cfg.program past in
     let line = high_of cfg.program (p ∷ packets_in past) in
-    let is : c.high-later.result ≡ option_map ring_of line = c.high-later.ensures (purpose_of cfg) (p ∷ packets_in past) b.body.follower in
+    let is : c.high-later.result ≡ option_map ring_of line = c.high-later.ensures (writing_cues cfg) (p ∷ packets_in past) b.body.follower in
     let rises : Rises (high turns) line = subst (λ h. Rises h line) (sym (turns-high cfg.program past)) (rises-at cfg p (packets_in past) b.body.sound) in
     let before : IsBefore c.is_due-is_due.result c.args.self.now.requests c.high-later.result cfg.index turns line
     = record { stands = b.judges.requests; notes = b.notes; rises = rises; time = is; idle = λ none. (c.is_due-is_due.ensures c.args.is_map cfg p past b is none).idle } in
@@ -80,7 +81,7 @@ returns-clause-stands g c = λ cfg past b.
     let p = c.args.packet.now in
     let turns = turns_in cfg.program past in
     let line = high_of cfg.program (p ∷ packets_in past) in
-    let is : c.high-later.result ≡ option_map ring_of line = c.high-later.ensures (purpose_of cfg) (p ∷ packets_in past) b.body.follower in
+    let is : c.high-later.result ≡ option_map ring_of line = c.high-later.ensures (writing_cues cfg) (p ∷ packets_in past) b.body.follower in
     let rises : Rises (high turns) line = subst (λ h. Rises h line) (sym (turns-high cfg.program past)) (rises-at cfg p (packets_in past) b.body.sound) in
     let before : IsBefore c.is_due-is_due.result c.args.self.now.requests c.high-later.result cfg.index turns line
     = record { stands = b.judges.requests; notes = b.notes; rises = rises; time = is; idle = λ none. (c.is_due-is_due.ensures c.args.is_map cfg p past b is none).idle } in
@@ -106,7 +107,7 @@ returns-clause-stands g c = λ cfg past b.
       rest = λ quiet. c.rest_behind-self.ensures cfg.index (Passed line ∷ turns) (c.rise.ensures.stands cfg.index turns line requests rises is) (c.rise.ensures.notes cfg.index turns line requests noted rises is)
           (idle-between cfg (PacketStep p ∷ past) line refl refl)
           (λ none. subst (λ r. Rests r line (standing_senders cfg.index (Passed line ∷ turns))) (sym k.rest) (c.is_due-is_due.ensures c.args.is_map cfg p past b is none).rests);
-      follower = subst (λ f. Rattle.program_follower.specs.Following.StartsStandFor f (purpose_of cfg) (p ∷ packets_in past)) (sym k.follower) b.body.follower;
+      follower = subst (λ f. Rattle.program_follower.specs.Following.StartsStandFor f (writing_cues cfg) (p ∷ packets_in past)) (sym k.follower) b.body.follower;
       out = subst (HasPut c.put_body.new.self.out) (sym (onto-append out cues more) ∙ ap (onto out) (sym sent))
           (c.in-Ok-put_body.ensures.numbers (onto out cues) cfg (packets_in past) (c.in-Ok.ensures.numbers out cfg.index turns line b.out before)
           (record { cue_pid = b.body.cue_pid; follower = b.body.follower; sound = b.body.sound; map = b.body.map }));

@@ -1,13 +1,14 @@
 use Rattle.std.proofs.Common.{sym}
-use Rattle.injector.specs.Steps.{packets_in, purpose_of}
+use Rattle.injector.specs.Steps.{packets_in}
 use Rattle.injector.specs.Injecting.{IsFollowed}
 use Rattle.injector.proofs.injector.Injector.take.Goals as goal
+use Rattle.program_follower.specs.Purposes.{writing_cues}
 
 pub returns-in-Ok-put-clause-ok : goal.returns-in-Ok-put-clause-ok
 returns-in-Ok-put-clause-ok g c = λ start ps cfg past held b.
     let p = c.args.packet.now in
     let ps_in = packets_in past in
-    let sound = c.in-Ok.ensures.sound (purpose_of cfg) ps_in b.follower in
+    let sound = c.in-Ok.ensures.sound (writing_cues cfg) ps_in b.follower in
     let fed : IsFollowed (record c.args.self.now { follower = c.feed.new.self }) c.in-Ok.is_map cfg p past =
     record {
       judges = record { requests = b.judges.requests; counted = b.judges.counted };
@@ -16,9 +17,9 @@ returns-in-Ok-put-clause-ok g c = λ start ps cfg past held b.
       rest = b.rest;
       body = record {
         cue_pid = b.cue_pid;
-        follower = c.in-Ok.ensures.stands (purpose_of cfg) ps_in b.follower;
+        follower = c.in-Ok.ensures.stands (writing_cues cfg) ps_in b.follower;
         sound = sound;
-        map = c.in-Ok.ensures.place (purpose_of cfg) ps_in b.follower;
+        map = c.in-Ok.ensures.place (writing_cues cfg) ps_in b.follower;
       };
       out = b.out;
       whole = b.whole;
@@ -29,7 +30,7 @@ pub returns-in-Ok-put-clause-stands : goal.returns-in-Ok-put-clause-stands
 returns-in-Ok-put-clause-stands g c = λ cfg past b.
     let p = c.args.packet.now in
     let ps_in = packets_in past in
-    let sound = c.in-Ok.ensures.sound (purpose_of cfg) ps_in b.follower in
+    let sound = c.in-Ok.ensures.sound (writing_cues cfg) ps_in b.follower in
     let fed : IsFollowed (record c.args.self.now { follower = c.feed.new.self }) c.in-Ok.is_map cfg p past =
     record {
       judges = record { requests = b.judges.requests; counted = b.judges.counted };
@@ -38,9 +39,9 @@ returns-in-Ok-put-clause-stands g c = λ cfg past b.
       rest = b.rest;
       body = record {
         cue_pid = b.cue_pid;
-        follower = c.in-Ok.ensures.stands (purpose_of cfg) ps_in b.follower;
+        follower = c.in-Ok.ensures.stands (writing_cues cfg) ps_in b.follower;
         sound = sound;
-        map = c.in-Ok.ensures.place (purpose_of cfg) ps_in b.follower;
+        map = c.in-Ok.ensures.place (writing_cues cfg) ps_in b.follower;
       };
       out = b.out;
       whole = b.whole;
@@ -48,13 +49,13 @@ returns-in-Ok-put-clause-stands g c = λ cfg past b.
     c.in-Ok-put.ensures.stands cfg past fed
 
 pub returns-in-Ok-put-clause-sound : goal.returns-in-Ok-put-clause-sound
-returns-in-Ok-put-clause-sound g c = λ cfg past b. c.in-Ok.ensures.sound (purpose_of cfg) (packets_in past) b.follower
+returns-in-Ok-put-clause-sound g c = λ cfg past b. c.in-Ok.ensures.sound (writing_cues cfg) (packets_in past) b.follower
 
 pub returns-in-Err-put-clause-err : goal.returns-in-Err-put-clause-err
 returns-in-Err-put-clause-err g c = λ start ps cfg past held b.
     let p = c.args.packet.now in
     let ps_in = packets_in past in
-    let sound = c.in-Ok.ensures.sound (purpose_of cfg) ps_in b.follower in
+    let sound = c.in-Ok.ensures.sound (writing_cues cfg) ps_in b.follower in
     let fed : IsFollowed (record c.args.self.now { follower = c.feed.new.self }) c.in-Ok.is_map cfg p past =
     record {
       judges = record { requests = b.judges.requests; counted = b.judges.counted };
@@ -63,9 +64,9 @@ returns-in-Err-put-clause-err g c = λ start ps cfg past held b.
       rest = b.rest;
       body = record {
         cue_pid = b.cue_pid;
-        follower = c.in-Ok.ensures.stands (purpose_of cfg) ps_in b.follower;
+        follower = c.in-Ok.ensures.stands (writing_cues cfg) ps_in b.follower;
         sound = sound;
-        map = c.in-Ok.ensures.place (purpose_of cfg) ps_in b.follower;
+        map = c.in-Ok.ensures.place (writing_cues cfg) ps_in b.follower;
       };
       out = b.out;
       whole = b.whole;
@@ -73,13 +74,13 @@ returns-in-Err-put-clause-err g c = λ start ps cfg past held b.
     c.in-Err-put.ensures.err start ps cfg past held fed
 
 pub returns-in-Ok-put-clause-found : goal.returns-in-Ok-put-clause-found
-returns-in-Ok-put-clause-found g c = λ cfg past b. sym (c.in-Ok.ensures.sound (purpose_of cfg) (packets_in past) b.follower)
+returns-in-Ok-put-clause-found g c = λ cfg past b. sym (c.in-Ok.ensures.sound (writing_cues cfg) (packets_in past) b.follower)
 
 pub returns-in-Err-put-clause-found : goal.returns-in-Err-put-clause-found
-returns-in-Err-put-clause-found g c = λ cfg past b. sym (c.in-Ok.ensures.sound (purpose_of cfg) (packets_in past) b.follower)
+returns-in-Err-put-clause-found g c = λ cfg past b. sym (c.in-Ok.ensures.sound (writing_cues cfg) (packets_in past) b.follower)
 
 pub returns-in-Err-clause-err : goal.returns-in-Err-clause-err
-returns-in-Err-clause-err g c = λ start ps cfg past held b. c.in-Err.ensures.err (purpose_of cfg) (packets_in past) b.follower
+returns-in-Err-clause-err g c = λ start ps cfg past held b. c.in-Err.ensures.err (writing_cues cfg) (packets_in past) b.follower
 
 pub returns-in-Err-clause-found : goal.returns-in-Err-clause-found
-returns-in-Err-clause-found g c = λ cfg past b. sym (c.in-Err.ensures.err (purpose_of cfg) (packets_in past) b.follower)
+returns-in-Err-clause-found g c = λ cfg past b. sym (c.in-Err.ensures.err (writing_cues cfg) (packets_in past) b.follower)
