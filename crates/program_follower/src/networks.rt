@@ -1,6 +1,6 @@
 //! Small networks for the tests: tables and units as they come, and what the follower says of their last packet.
 
-use crate::{FollowFault, Place, ProgramFollower, Purpose, StreamPacket};
+use crate::{FollowFault, Place, ProgramFollower, Purpose, StartFollower, StreamPacket};
 use psi_section::crc;
 use psi_tables::NetworkFault;
 use std::alloc::{AllocError, Global};
@@ -70,6 +70,8 @@ pub(crate) enum Told {
     NoPayload(usize),
     Wrong(NetworkFault),
     Failed,
+    /// The follower that stands on the begins of units alone says otherwise.
+    Apart,
 }
 
 use Came::*;
@@ -80,11 +82,23 @@ use Told::*;
 #[derive(Drop)]
 pub(crate) struct Network {
     pub(crate) follower: ProgramFollower,
+    starts: StartFollower,
     counter: u8,
 }
 
 impl Network {
+    /// Feeds both followers, and answers what the packet is, where they agree.
     pub(crate) fn feed(&mut self, packet: &Packet) -> Told {
+        let told = self.told(packet);
+        let answer = self.starts.feed(packet);
+        if told == Failed || is_same(told, answer) && self.starts.high() == self.follower.high() {
+            told
+        } else {
+            Apart
+        }
+    }
+
+    fn told(&mut self, packet: &Packet) -> Told {
         match self.follower.feed(packet) {
             Ok(Place::Marked) => Marked,
             Ok(Place::Cue) => Cue,
@@ -310,6 +324,15 @@ fn feed(alloc: Global, network: &mut Network, came: &Came) -> Result<Told, Alloc
     }
 }
 
+/// What one follower tells is what the other answers.
+fn is_same(told: Told, answer: Result<bool, NetworkFault>) -> bool {
+    match (told, answer) {
+        (Wrong(fault), Err(other)) => fault == other,
+        (Wrong(_), Ok(_)) | (_, Err(_)) => false,
+        (told, Ok(is_map)) => is_map == (told == OnMap),
+    }
+}
+
 /// To put cues on PID 0x1F0.
 pub(crate) fn writer() -> Purpose {
     Purpose {
@@ -336,6 +359,7 @@ pub(crate) fn follow(
 ) -> Result<(Network, Told), AllocError> {
     let mut network = Network {
         follower: ProgramFollower::new(*purpose),
+        starts: StartFollower::new(*purpose),
         counter: 0,
     };
     let mut told = Other;
