@@ -1,8 +1,7 @@
 -- A whole run of the chain, from its first packet to its end or its fault.
-use Rattle.std.specs.Prelude.{option_map}
 use Rattle.std.specs.Io.KnownBytes.{IsAtEnd}
-use Rattle.std.proofs.Common.{◌≡◌, ℕ, ◌+◌, Bool, false, suc, List, [], ◌∷◌, ◌++◌, length, reverse, Option, None, Some, sym, ap, subst, ◌∙◌, arith, append_assoc}
-use Rattle.std.proofs.lemmas.List.{append-nil, length-reverse, reverse-append}
+use Rattle.std.proofs.Common.{◌≡◌, ℕ, ◌+◌, Bool, false, suc, List, [], ◌∷◌, ◌++◌, length, reverse, Option, None, Some, sym, ap, subst, ◌∙◌, arith}
+use Rattle.std.proofs.lemmas.List.{length-reverse, reverse-append}
 use Rattle.ts_packet.specs.Packets.{packets_of}
 use Rattle.ts_packet.specs.Sources.{WasGiven, HasRead, Refuses}
 use Rattle.ts_packet.specs.declared.reader.ReadFault.{ReadFault}

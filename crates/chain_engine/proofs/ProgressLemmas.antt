@@ -1,6 +1,6 @@
 -- What a run answers comes from its network's bytes, unless a device stopped it.
 use Rattle.std.specs.Prelude.{IfSome, Err}
-use Rattle.std.proofs.Common.{◌≡◌, ℕ, List, [], ◌∷◌, ◌++◌, Bool, true, false, ◌⊎◌, inl, inr, Option, None, Some, refl, sym, subst}
+use Rattle.std.proofs.Common.{◌≡◌, ℕ, List, [], ◌∷◌, Bool, true, false, ◌⊎◌, inl, inr, Option, None, Some, refl, sym, subst}
 use Rattle.ts_packet.specs.Sources.{ReadSo, SourceCounts, SourceBlamed, ReadOn, HasGiven, Stalled, Exhausted}
 use Rattle.ts_packet.specs.Transfers.{WentWell, LastMovedNone}
 use Rattle.ts_packet.specs.FirstFault.{OfInput, SaysBy}

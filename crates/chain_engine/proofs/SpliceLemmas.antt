@@ -1,10 +1,10 @@
 -- A whole run of the switch, from its first packet to its end or its fault.
 use Rattle.std.specs.Prelude.{All, option_map}
 use Rattle.std.specs.Io.KnownBytes.{IsAtEnd}
-use Rattle.std.proofs.Common.{◌≡◌, ℕ, List, [], ◌∷◌, ◌++◌, false, reverse, Option, None, Some, sym, ap, subst, ◌∙◌, append_assoc}
-use Rattle.std.proofs.lemmas.List.{append-nil, reverse-append}
+use Rattle.std.proofs.Common.{◌≡◌, ℕ, List, [], ◌∷◌, ◌++◌, false, reverse, Option, None, Some, sym, ap, subst, ◌∙◌}
+use Rattle.std.proofs.lemmas.List.{reverse-append}
 use Rattle.std.proofs.lemmas.List.Elements.{All-nil}
-use Rattle.ts_packet.specs.Packets.{packets_of, packet_fault}
+use Rattle.ts_packet.specs.Packets.{packets_of}
 use Rattle.ts_packet.specs.Sources.{WasGiven, HasRead, Refuses}
 use Rattle.ts_packet.specs.Runs.{Seen, seen_after}
 use Rattle.ts_packet.specs.declared.reader.ReadFault.{ReadFault}

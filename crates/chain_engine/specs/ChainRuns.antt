@@ -1,6 +1,6 @@
 -- Whole runs of the chain: what is put and answered, by the network's bytes, the library and what the automation gave; what a fault says, and
 -- what the devices did there.
-use Rattle.std.specs.Prelude.{◌≡◌, ℕ, suc, ◌+◌, Bool, List, [], ◌∷◌, ◌++◌, Option, None, Some, IfSome, length, reverse}
+use Rattle.std.specs.Prelude.{◌≡◌, ℕ, suc, ◌+◌, Bool, List, [], ◌∷◌, ◌++◌, Option, None, IfSome, length, reverse}
 use Rattle.ts_packet.specs.Packets.{packets_of}
 use Rattle.ts_packet.specs.declared.sink.PutFault.{PutFault}
 use Rattle.psi_section.specs.Assembling.{capped}

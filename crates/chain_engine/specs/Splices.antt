@@ -1,5 +1,5 @@
 -- Whole runs of the switch: what is put, by the network's bytes and the library; what a fault says, and what the output did there.
-use Rattle.std.specs.Prelude.{◌≡◌, ℕ, ◌⊎◌, List, [], ◌∷◌, ◌++◌, Bool, false, Option, None, Some, IfSome, reverse}
+use Rattle.std.specs.Prelude.{◌≡◌, ℕ, ◌⊎◌, List, [], ◌∷◌, ◌++◌, Bool, false, Option, None, IfSome, reverse}
 use Rattle.ts_packet.specs.Packets.{packets_of}
 use Rattle.ts_packet.specs.Sources.{ReadSo, SourceCounts, RunBlamed}
 use Rattle.ts_packet.specs.declared.tally.Tally.{Tally}
