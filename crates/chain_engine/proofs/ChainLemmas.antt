@@ -1,25 +1,22 @@
 -- A whole run of the chain, from its first packet to its end or its fault.
-use Rattle.std.specs.Prelude.{option_map}
 use Rattle.std.specs.Io.KnownBytes.{IsAtEnd}
-use Rattle.std.proofs.Common.{◌≡◌, ℕ, ◌+◌, Bool, false, suc, List, [], ◌∷◌, ◌++◌, length, reverse, Option, None, Some, sym, ap, subst, ◌∙◌, arith, append_assoc}
-use Rattle.std.proofs.lemmas.List.{append-nil, length-reverse, reverse-append}
+use Rattle.std.proofs.Common.{◌≡◌, ℕ, ◌+◌, Bool, false, suc, List, [], ◌∷◌, ◌++◌, length, reverse, Option, None, Some, sym, ap, subst, ◌∙◌, arith}
+use Rattle.std.proofs.lemmas.List.{length-reverse, reverse-append}
 use Rattle.ts_packet.specs.Packets.{packets_of}
 use Rattle.ts_packet.specs.Sources.{WasGiven, HasRead, Refuses}
-use Rattle.ts_packet.specs.FirstFault.{named, or_then, read_cause}
 use Rattle.ts_packet.specs.declared.reader.ReadFault.{ReadFault}
 use Rattle.ts_packet.specs.declared.sink.PutFault.{PutFault}
-use Rattle.ts_packet.proofs.FirstFaultLemmas.{sound_all}
-use Rattle.ts_packet.proofs.PacketsLemmas.{read_more, read_to_end, packets_of-append}
+use Rattle.ts_packet.proofs.PacketsLemmas.{read_to_end}
 use Rattle.wire_fields.specs.Numbers.{AreBytes}
 use Rattle.psi_tables.specs.declared.config.Config.{Config}
 use Rattle.psi_tables.specs.declared.network.FeedFault.{FeedFault}
 use Rattle.psi_tables.specs.declared.network.FeedFault.TheVariants.{Network, Sink, Failed}
 use Rattle.program_follower.specs.Faults.{network_fault}
 use Rattle.program_follower.specs.FirstFault.{network_test}
-use Rattle.program_follower.proofs.RunLemmas.{ends_sound, reader_stops, packet_stops}
+use Rattle.program_follower.proofs.RunLemmas.{ends_sound}
 use Rattle.scte104_codec.specs.declared.reply.Reply.{Reply}
 use Rattle.injector.specs.declared.injector.Injector.{Injector}
-use Rattle.injector.specs.Steps.{Step, Packet, packets_in, cued, sent_at}
+use Rattle.injector.specs.Steps.{Step, Packet, packets_in, purpose_of, cued, sent_at}
 use Rattle.injector.specs.Injecting.{InjectorStandsFor, JudgesBy}
 use Rattle.ad_library.specs.Advertisements.{Advertisement}
 use Rattle.splice_plans.specs.Adverts.{setting_of}
@@ -31,25 +28,21 @@ use Rattle.chain_engine.specs.Automation.{Take, Answer, Told}
 use Rattle.chain_engine.specs.Hearing.{Replied}
 use Rattle.chain_engine.specs.Judging.{InjectorJudges}
 use Rattle.chain_engine.specs.Talks.{judged_before}
-use Rattle.chain_engine.specs.Runs.{as_run_fault, asked, steps_of, steps_before, replies_in, sent_by, first_fault, before_fault, Serves}
-use Rattle.chain_engine.specs.Splices as splices
+use Rattle.chain_engine.specs.Stops.{as_run_fault}
+use Rattle.chain_engine.specs.Runs.{asked, steps_of, steps_before, replies_in, sent_by, Serves}
+use Rattle.chain_engine.specs.Splices.{switch_sends}
 use Rattle.chain_engine.specs.Nested.{WasFed, IsSoundNetwork, PassFails}
-use Rattle.chain_engine.specs.ChainRuns.{MessagesAre, AreSound, RunsAll, Stopped, StopsAt, Hears, heard_steps}
+use Rattle.chain_engine.specs.ChainRuns.{MessagesAre, RunsAll, ChainLeaves, ChainStops, Hears, heard_steps}
 use Rattle.chain_engine.specs.declared.hearing.SessionEnd.{SessionEnd}
 use Rattle.chain_engine.specs.declared.report.Report.{Report}
 use Rattle.chain_engine.specs.declared.talk.Talk.{Talk}
 use Rattle.chain_engine.specs.declared.chain.RunFault.TheVariants.{Read, Feed}
 use Rattle.chain_engine.proofs.StepsLemmas.{none_asked, before_packets, asked_cued, asked_packets, asked_judged}
-use Rattle.chain_engine.proofs.StopLemmas as stops
-use Rattle.chain_engine.proofs.StopLemmas.{both_said, reverse_onto, before_at, before_read}
+use Rattle.chain_engine.proofs.StopLemmas.{reverse_onto, reads_stop, packets_stop, ends_stop}
 use Rattle.chain_engine.proofs.RunLemmas.{HasRun, HasHeard, few_takes}
 use Rattle.chain_engine.proofs.NestedLemmas.{one_more}
-use Rattle.program_follower.specs.Purposes.{writing_cues}
 
 module _ (c : Config) (filed : ℕ → Option Advertisement) (exchanged : Option SessionEnd → List Take → List Reply → Type 0) (ps : List (List ℕ)) where
-  none_at_fault : (input left : Option (List ℕ)) → HasRead input left ps → stops.AreSound (writing_cues c) ps → AreSound c ps
-  none_at_fault input left r sound = (sound_all Read (network_test as_run_fault (writing_cues c)) ps r.sound sound).0
-
   -- ---- the end
 
   pub ends : {M : Type 0} (injector : Injector) (talk : Talk M) (switch : Switch) (is_out is_out' : List (List ℕ) → Type 0) (input left : Option (List ℕ)) (report : Report) → HasRead input left ps → IsAtEnd left
@@ -61,7 +54,7 @@ module _ (c : Config) (filed : ℕ → Option Advertisement) (exchanged : Option
       let all : packets_of bs ≡ ps = (read_to_end (Some bs) left ps r at).0 in
       let steps = steps_of (length h.rs) h.ts (reverse ps) in
       let (written, told) = finishes (sent_by c steps) h.out in record {
-        sound = ends_sound Read (network_test as_run_fault (writing_cues c)) (Some bs) left ps r h.sound at;
+        sound = ends_sound Read (network_test as_run_fault (purpose_of c)) (Some bs) left ps r h.sound at;
         ts = h.ts;
         rs = h.rs;
         serves = subst (λ q. Serves c exchanged h.ts h.rs (length q) (steps_of (length h.rs) h.ts (reverse q))) (sym all)
@@ -83,99 +76,65 @@ module _ (c : Config) (filed : ℕ → Option Advertisement) (exchanged : Option
   -- what is left at the end is not taken
   pub finish_stops : {M S : Type 0} (injector : Injector) (talk : Talk M) (switch : Switch) (is_out : S → List (List ℕ) → Type 0) (fails : List (List ℕ) → List ℕ → PutFault → Type 0) (s t : S)
       (input left : Option (List ℕ)) → HasRead input left ps → IsAtEnd left → HasRun c injector talk (WasFed switch c filed (is_out s)) exchanged ps → (fault : FeedFault)
-      → ((fed : List (List ℕ)) → WasFed switch c filed (is_out s) fed → FinishFails fault c filed (reverse fed) (λ put q x. fails (splices.sent_by c filed fed ++ put) q x))
-      → StopsAt c filed (Feed fault) input (is_out t) fails exchanged
-  finish_stops injector talk switch is_out fails s t None left r at h fault finishes = tt
-  finish_stops injector talk switch is_out fails s t (Some bs) left r at h fault finishes = by fault (finishes (sent_by c (steps_of (length h.rs) h.ts (reverse ps))) h.out)
+      → ((fed : List (List ℕ)) → WasFed switch c filed (is_out s) fed → FinishFails fault c filed (reverse fed) (λ put q x. fails (switch_sends c filed fed ++ put) q x))
+      → ChainStops c filed (Feed fault) input (is_out t) fails exchanged
+  finish_stops injector talk switch is_out fails s t input left r at h fault finishes = by fault (finishes (sent_by c (steps_of (length h.rs) h.ts (reverse ps))) h.out)
     where
       same : steps_before (length h.rs) h.ts (reverse ps) ≡ steps_of (length h.rs) h.ts (reverse ps)
       same = no_more_asked injector talk (WasFed switch c filed (is_out s)) h
 
-      by : (fault : FeedFault) → FinishFails fault c filed (reverse (sent_by c (steps_of (length h.rs) h.ts (reverse ps)))) (λ put q x. fails (splices.sent_by c filed (sent_by c (steps_of (length h.rs) h.ts (reverse ps))) ++ put) q x)
-          → Stopped c filed (Feed fault) bs (is_out t) fails exchanged
+      by : (fault : FeedFault) → FinishFails fault c filed (reverse (sent_by c (steps_of (length h.rs) h.ts (reverse ps)))) (λ put q x. fails (switch_sends c filed (sent_by c (steps_of (length h.rs) h.ts (reverse ps))) ++ put) q x)
+          → ChainStops c filed (Feed fault) input (is_out t) fails exchanged
       by (Network f) k = absurd k
       by Failed k = absurd k
-      by (Sink f) k = record {
-        passed = ps;
-        rest = [];
-        parts = (read_to_end (Some bs) left ps r at).0 ∙ sym (append-nil ps);
-        sound = none_at_fault (Some bs) left r h.sound;
+      by (Sink f) k = ends_stop (purpose_of c) ps h.sound (ChainLeaves c filed (Feed (Sink f)) (is_out t) fails exchanged) input left r at f (λ bs none. record {
         ts = h.ts;
         rs = h.rs;
         serves = record { ending = talk.end; talked = h.talks.talked; exchanges = h.exchanges; replies = h.replies ∙ ap (replies_in c) (sym same) };
-        leaves = (
-          ends_sound Read (network_test as_run_fault (writing_cues c)) (Some bs) left ps r h.sound at,
-          subst (λ w. FinishFails (Sink f) c filed (reverse (sent_by c w)) (λ put q x. fails (splices.sent_by c filed (sent_by c w) ++ put) q x)) (sym same) k,
-        );
-      }
+        out = (none, subst (λ w. FinishFails (Sink f) c filed (reverse (sent_by c w)) (λ put q x. fails (switch_sends c filed (sent_by c w) ++ put) q x)) (sym same) k);
+      })
 
   -- ---- the network stops the run
 
   pub read_stops : {M : Type 0} (injector : Injector) (talk : Talk M) (switch : Switch) (is_out : List (List ℕ) → Type 0) (fails : List (List ℕ) → List ℕ → PutFault → Type 0) (input left : Option (List ℕ)) → HasRead input left ps
-      → HasRun c injector talk (WasFed switch c filed is_out) exchanged ps → (fault : ReadFault) → Refuses false left fault → StopsAt c filed (Read fault) input is_out fails exchanged
-  read_stops injector talk switch is_out fails None left r h fault k = tt
-  read_stops injector talk switch is_out fails (Some bs) None r h fault k = absurd r.bytes
-  read_stops injector talk switch is_out fails (Some bs) (Some rest) r h fault k =
-      let same = no_more_asked injector talk (WasFed switch c filed is_out) h in record {
-        passed = ps;
-        rest = packets_of rest;
-        parts = ap packets_of r.bytes ∙ packets_of-append ps rest r.sizes;
-        sound = none_at_fault (Some bs) (Some rest) r h.sound;
+      → HasRun c injector talk (WasFed switch c filed is_out) exchanged ps → (fault : ReadFault) → Refuses false left fault → ChainStops c filed (Read fault) input is_out fails exchanged
+  read_stops injector talk switch is_out fails input left r h fault k =
+      let same = no_more_asked injector talk (WasFed switch c filed is_out) h in
+      reads_stop (purpose_of c) ps h.sound (ChainLeaves c filed (Read fault) is_out fails exchanged) input left r fault k (λ bs rest. record {
         ts = h.ts;
         rs = h.rs;
         serves = record { ending = talk.end; talked = h.talks.talked; exchanges = h.exchanges; replies = h.replies ∙ ap (replies_in c) (sym same) };
-        leaves = (
-          both_said (first_fault c bs ≡ Some (Read fault)) (before_fault c bs ≡ ps) (read_cause fault)
-              (reader_stops Read (network_test as_run_fault (writing_cues c)) (Some bs) (Some rest) ps r h.sound fault k) (before_read (writing_cues c) ps bs rest r h.sound fault k),
-          subst (λ s. is_out (splices.sent_by c filed (sent_by c s))) (sym same) h.out.sent,
-        );
-      }
+        out = subst (λ s. is_out (switch_sends c filed (sent_by c s))) (sym same) h.out.sent;
+      })
 
   -- ---- a packet is not passed on
 
   pub pass_stops : {M S : Type 0} (injector : Injector) (talk : Talk M) (switch : Switch) (is_out : S → List (List ℕ) → Type 0) (fails : List (List ℕ) → List ℕ → PutFault → Type 0) (s t : S)
       (input left left' : Option (List ℕ)) (p : List ℕ) → HasRead input left ps → WasGiven left left' p → HasHeard c injector talk (WasFed switch c filed (is_out s)) exchanged ps → IsSoundNetwork c (reverse ps) → (fault : FeedFault)
       → ((steps : List Step) → InjectorStandsFor injector c steps → IsSoundNetwork c (packets_in steps) → WasFed switch c filed (is_out s) (sent_by c steps) → PassFails fault c filed p steps (sent_by c steps) (is_out t) fails)
-      → StopsAt c filed (Feed fault) input (is_out t) fails exchanged
-  pass_stops injector talk switch is_out fails s t None left left' p r g h network fault feeds = tt
-  pass_stops injector talk switch is_out fails s t (Some bs) left None p r g h network fault feeds = absurd (read_more (Some bs) left None ps p r g).bytes
-  pass_stops injector talk switch is_out fails s t (Some bs) left (Some rest) p r g h network fault feeds = by fault (feeds steps h.stands (subst (IsSoundNetwork c) (sym (before_packets (length h.rs) h.ts (reverse ps))) network) h.out)
+      → ChainStops c filed (Feed fault) input (is_out t) fails exchanged
+  pass_stops injector talk switch is_out fails s t input left left' p r g h network fault feeds = by fault (feeds steps h.stands (subst (IsSoundNetwork c) (sym (before_packets (length h.rs) h.ts (reverse ps))) network) h.out)
     where
       steps : List Step
       steps = steps_before (length h.rs) h.ts (reverse ps)
 
-      parts : packets_of bs ≡ ps ++ p ∷ packets_of rest
-      parts = let more = read_more (Some bs) left (Some rest) ps p r g in ap packets_of more.bytes ∙ packets_of-append (ps ++ p ∷ []) rest more.sizes ∙ append_assoc ps (p ∷ []) (packets_of rest)
-
       serves : Serves c exchanged h.ts h.rs (suc (length ps)) steps
       serves = record { ending = talk.end; talked = h.talks.talked; exchanges = h.exchanges; replies = h.replies }
 
-      by : (fault : FeedFault) → PassFails fault c filed p steps (sent_by c steps) (is_out t) fails → Stopped c filed (Feed fault) bs (is_out t) fails exchanged
+      by : (fault : FeedFault) → PassFails fault c filed p steps (sent_by c steps) (is_out t) fails → ChainStops c filed (Feed fault) input (is_out t) fails exchanged
       by (Network f) k =
-          let fault = subst (λ q. network_fault (writing_cues c) p q ≡ Some f) (before_packets (length h.rs) h.ts (reverse ps)) k.0 in
-          let test : network_test as_run_fault (writing_cues c) (record { packet = p; past = reverse ps }) ≡ Some (Feed (Network f)) = ap (option_map as_run_fault) fault in
-          let at = ap (λ o. or_then (named Read o) (network_test as_run_fault (writing_cues c) (record { packet = p; past = reverse ps }))) g.sound ∙ test in record {
-            passed = ps;
-            rest = p ∷ packets_of rest;
-            parts = parts;
-            sound = none_at_fault (Some bs) left r h.sound;
-            ts = h.ts;
-            rs = h.rs;
-            serves = serves;
-            leaves = (
-              packet_stops Read (network_test as_run_fault (writing_cues c)) (Some bs) left (Some rest) ps p (Feed (Network f)) r h.sound g test,
-              before_at (writing_cues c) ps bs p (packets_of rest) (Feed (Network f)) parts r.sound h.sound at,
-              k.1,
-            );
-          }
-      by (Sink f) k = record { passed = ps; rest = p ∷ packets_of rest; parts = parts; sound = none_at_fault (Some bs) left r h.sound; ts = h.ts; rs = h.rs; serves = serves; leaves = k }
+          packets_stop (purpose_of c) ps h.sound (ChainLeaves c filed (Feed (Network f)) (is_out t) fails exchanged) input left left' p r g (Network f)
+          (subst (λ q. network_fault (purpose_of c) p q ≡ Some f) (before_packets (length h.rs) h.ts (reverse ps)) k.0) (λ bs rest. record { ts = h.ts; rs = h.rs; serves = serves; out = k.1 })
+      by (Sink f) k =
+          packets_stop (purpose_of c) ps h.sound (ChainLeaves c filed (Feed (Sink f)) (is_out t) fails exchanged) input left left' p r g (Sink f) tt
+          (λ bs rest. record { ts = h.ts; rs = h.rs; serves = serves; out = k })
       by Failed k = absurd k
 
   -- the network with one more packet that was passed on
   pub sound_more : {M : Type 0} (injector : Injector) (talk : Talk M) (is_out : List (List ℕ) → Type 0) (p : List ℕ) → HasHeard c injector talk is_out exchanged ps → IsSoundNetwork c (reverse ps) → AreBytes p
-      → ((steps : List Step) → InjectorStandsFor injector c steps → network_fault (writing_cues c) p (packets_in steps) ≡ None) → IsSoundNetwork c (reverse (ps ++ p ∷ []))
+      → ((steps : List Step) → InjectorStandsFor injector c steps → network_fault (purpose_of c) p (packets_in steps) ≡ None) → IsSoundNetwork c (reverse (ps ++ p ∷ []))
   sound_more injector talk is_out p h network b sound =
-      let none = subst (λ q. network_fault (writing_cues c) p q ≡ None) (before_packets (length h.rs) h.ts (reverse ps)) (sound (steps_before (length h.rs) h.ts (reverse ps)) h.stands) in
+      let none = subst (λ q. network_fault (purpose_of c) p q ≡ None) (before_packets (length h.rs) h.ts (reverse ps)) (sound (steps_before (length h.rs) h.ts (reverse ps)) h.stands) in
       subst (IsSoundNetwork c) (sym (reverse-append ps (p ∷ []))) (one_more c p (reverse ps) network b none)
 
 -- ---- one packet
@@ -183,8 +142,8 @@ module _ (c : Config) (filed : ℕ → Option Advertisement) (exchanged : Option
 pub sent_step : (c : Config) (ms : List (List ℕ)) (steps : List Step) (p : List ℕ) → sent_by c steps ++ sent_at c p (asked ms steps) ≡ sent_by c (Packet p ∷ asked ms steps)
 sent_step c ms steps p = ap (λ l. reverse l ++ sent_at c p (asked ms steps)) (sym (asked_cued c ms steps)) ∙ sym (reverse_onto (cued c (asked ms steps)) (sent_at c p (asked ms steps)))
 
-pub same_packets : (c : Config) (ms : List (List ℕ)) (steps : List Step) (p : List ℕ) → network_fault (writing_cues c) p (packets_in (asked ms steps)) ≡ None → network_fault (writing_cues c) p (packets_in steps) ≡ None
-same_packets c ms steps p = subst (λ q. network_fault (writing_cues c) p q ≡ None) (asked_packets ms steps)
+pub same_packets : (c : Config) (ms : List (List ℕ)) (steps : List Step) (p : List ℕ) → network_fault (purpose_of c) p (packets_in (asked ms steps)) ≡ None → network_fault (purpose_of c) p (packets_in steps) ≡ None
+same_packets c ms steps p = subst (λ q. network_fault (purpose_of c) p q ≡ None) (asked_packets ms steps)
 
 module _ {X : Type 0} (takes : X → Option (List Take)) (answers : X → Option (List Answer)) (old new : X) (lost : Bool) (c : Config) (ts : List Take) (n k : ℕ) (steps : List Step) (more : List Take) (rs : List Reply) where
   pub hears_so : (i j : Injector) → Told (takes old) (takes new) more → Replied InjectorJudges i j (judged_before (n + length rs) (ts ++ more) k) rs lost (answers old) (answers new) → InjectorStandsFor i c steps

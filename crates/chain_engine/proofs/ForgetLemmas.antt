@@ -3,12 +3,26 @@ use Rattle.std.proofs.Common.{ℕ, List, Option, None, Some}
 use Rattle.ts_packet.specs.declared.sink.PutFault.{PutFault}
 use Rattle.psi_tables.specs.declared.config.Config.{Config}
 use Rattle.scte104_codec.specs.declared.reply.Reply.{Reply}
-use Rattle.injector.specs.Steps.{Step}
+use Rattle.program_follower.specs.declared.purpose.Purpose.{Purpose}
+use Rattle.injector.specs.Steps.{Step, purpose_of}
+use Rattle.ad_library.specs.Advertisements.{Advertisement}
 use Rattle.chain_engine.specs.Automation.{Take}
-use Rattle.chain_engine.specs.Runs.{Serves, InjectsAll, StopsAt}
+use Rattle.chain_engine.specs.Stops.{StoppedBy, StopsBy}
+use Rattle.chain_engine.specs.Runs.{Serves, InjectsAll, WasServed, InjectLeaves, InjectStops}
+use Rattle.chain_engine.specs.ChainRuns.{ChainLeaves, ChainStops}
 use Rattle.chain_engine.specs.declared.hearing.SessionEnd.{SessionEnd}
 use Rattle.chain_engine.specs.declared.report.Report.{Report}
 use Rattle.chain_engine.specs.declared.chain.RunFault.{RunFault}
+
+module _ (k : Purpose) (fault : RunFault) where
+  stopped_so : (bs : List ℕ) (leaves leaves' : List ℕ → List (List ℕ) → List (List ℕ) → Type 0) → ((bs : List ℕ) (passed rest : List (List ℕ)) → leaves bs passed rest → leaves' bs passed rest)
+      → StoppedBy k fault bs leaves → StoppedBy k fault bs leaves'
+  stopped_so bs leaves leaves' so h = record { passed = h.passed; rest = h.rest; parts = h.parts; sound = h.sound; says = h.says; left = so bs h.passed h.rest h.left }
+
+  pub leaves_so : (input : Option (List ℕ)) (leaves leaves' : List ℕ → List (List ℕ) → List (List ℕ) → Type 0) → ((bs : List ℕ) (passed rest : List (List ℕ)) → leaves bs passed rest → leaves' bs passed rest)
+      → StopsBy k fault input leaves → StopsBy k fault input leaves'
+  leaves_so None leaves leaves' so (bs, h) = (bs, stopped_so bs leaves leaves' so h)
+  leaves_so (Some bs) leaves leaves' so h = stopped_so bs leaves leaves' so h
 
 module _ (c : Config) (told told' : Option SessionEnd → List Take → List Reply → Type 0) (tells : (e : Option SessionEnd) (ts : List Take) (rs : List Reply) → told e ts rs → told' e ts rs) where
   serves_so : (ts : List Take) (rs : List Reply) (k : ℕ) (steps : List Step) → Serves c told ts rs k steps → Serves c told' ts rs k steps
@@ -19,7 +33,14 @@ module _ (c : Config) (told told' : Option SessionEnd → List Take → List Rep
   injects_so None is_out is_out' report so h = tt
   injects_so (Some bs) is_out is_out' report so h = record { sound = h.sound; ts = h.ts; rs = h.rs; serves = serves_so h.ts h.rs _ _ h.serves; written = so _ h.written; counted = h.counted }
 
-  pub stops_so : (fault : RunFault) (input : Option (List ℕ)) (is_out : List (List ℕ) → Type 0) (fails : List (List ℕ) → List ℕ → PutFault → Type 0) → StopsAt c fault input is_out fails told
-      → StopsAt c fault input is_out fails told'
-  stops_so fault None is_out fails h = tt
-  stops_so fault (Some bs) is_out fails h = record { passed = h.passed; rest = h.rest; parts = h.parts; says = h.says; ts = h.ts; rs = h.rs; serves = serves_so h.ts h.rs _ _ h.serves; leaves = h.leaves }
+  serves_left : (fault : RunFault) (leaves : List Step → Type 0) (passed rest : List (List ℕ)) → WasServed c told fault leaves passed rest → WasServed c told' fault leaves passed rest
+  serves_left fault leaves passed rest h = record { ts = h.ts; rs = h.rs; serves = serves_so h.ts h.rs _ _ h.serves; out = h.out }
+
+  pub stops_so : (fault : RunFault) (input : Option (List ℕ)) (is_out : List (List ℕ) → Type 0) (fails : List (List ℕ) → List ℕ → PutFault → Type 0) → InjectStops c fault input is_out fails told
+      → InjectStops c fault input is_out fails told'
+  stops_so fault input is_out fails = leaves_so (purpose_of c) fault input (InjectLeaves c fault is_out fails told) (InjectLeaves c fault is_out fails told') (λ bs passed rest. serves_left fault _ passed rest)
+
+  pub chain_stops_so : (filed : ℕ → Option Advertisement) (fault : RunFault) (input : Option (List ℕ)) (is_out : List (List ℕ) → Type 0) (fails : List (List ℕ) → List ℕ → PutFault → Type 0)
+      → ChainStops c filed fault input is_out fails told → ChainStops c filed fault input is_out fails told'
+  chain_stops_so filed fault input is_out fails =
+      leaves_so (purpose_of c) fault input (ChainLeaves c filed fault is_out fails told) (ChainLeaves c filed fault is_out fails told') (λ bs passed rest. serves_left fault _ passed rest)

@@ -6,4 +6,5 @@ pub mod RunLemmas
 pub mod SpliceLemmas
 pub mod NestedLemmas
 pub mod ChainLemmas
+pub mod ProgressLemmas
 pub mod ForgetLemmas

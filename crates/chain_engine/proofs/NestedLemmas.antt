@@ -26,7 +26,7 @@ use Rattle.splice_switch.specs.declared.switch.Switch.{Switch}
 use Rattle.splice_switch.specs.Standing.{SwitchStandsFor, FeedFails}
 use Rattle.outgoing_packets.specs.Faults.{KeepsSink}
 use Rattle.chain_engine.specs.Runs as runs
-use Rattle.chain_engine.specs.Splices.{sent_by}
+use Rattle.chain_engine.specs.Splices.{switch_sends}
 use Rattle.chain_engine.specs.Nested.{WasFed, SwitchFails, fed_behind, FeedingHolds, FeedingFails, IsSoundNetwork, PassFails}
 use Rattle.chain_engine.proofs.StopLemmas.{reverse_onto}
 use Rattle.chain_engine.proofs.SpliceLemmas.{sent_more, fails_so}
@@ -76,8 +76,8 @@ module _ {K : Type 0} (holds : K → Option (List ℕ) → List (List ℕ) → T
     was_fed = record {
       stands = subst (SwitchStandsFor switch' c filed) (sym (reverse-append h.fed (p ∷ []))) (stands (reverse h.fed) h.was_fed.stands);
       sent = subst (holds out' start)
-          (append_assoc h.before (sent_by c filed h.fed) (switched_at_packet (setting_of c filed) p (reverse h.fed)) ∙ ap (λ l. h.before ++ l) (sent_more c filed h.fed p))
-          (puts (h.before ++ sent_by c filed h.fed) (reverse h.fed) h.was_fed.sent h.was_fed.stands);
+          (append_assoc h.before (switch_sends c filed h.fed) (switched_at_packet (setting_of c filed) p (reverse h.fed)) ∙ ap (λ l. h.before ++ l) (sent_more c filed h.fed p))
+          (puts (h.before ++ switch_sends c filed h.fed) (reverse h.fed) h.was_fed.sent h.was_fed.stands);
     };
   }
 
@@ -91,21 +91,21 @@ module _ {K : Type 0} (holds : K → Option (List ℕ) → List (List ℕ) → T
     why : (fault : FeedFault) → KeepsSink fault out out' → Refuses fault
         → SwitchFails fault c filed p h.fed (λ qs. holds out' start (h.before ++ qs)) (λ qs q x. fails out' start (h.before ++ qs) q x)
     why (Network f) kept refuses = (
-      refuses (h.before ++ sent_by c filed h.fed) (reverse h.fed) h.was_fed.sent h.was_fed.stands,
-      subst (λ w. holds w start (h.before ++ sent_by c filed h.fed)) (sym kept) h.was_fed.sent,
+      refuses (h.before ++ switch_sends c filed h.fed) (reverse h.fed) h.was_fed.sent h.was_fed.stands,
+      subst (λ w. holds w start (h.before ++ switch_sends c filed h.fed)) (sym kept) h.was_fed.sent,
     )
     why (Sink f) kept refuses =
-        fails_so (switched_at_packet (setting_of c filed) p (reverse h.fed)) (λ put q. fails out' start ((h.before ++ sent_by c filed h.fed) ++ put) q f) (λ put q. fails out' start (h.before ++ (sent_by c filed h.fed ++ put)) q f)
-        (λ put q. subst (λ l. fails out' start l q f) (append_assoc h.before (sent_by c filed h.fed) put))
-        (refuses (h.before ++ sent_by c filed h.fed) (reverse h.fed) h.was_fed.sent h.was_fed.stands)
-    why Failed kept refuses = absurd (refuses (h.before ++ sent_by c filed h.fed) (reverse h.fed) h.was_fed.sent h.was_fed.stands)
+        fails_so (switched_at_packet (setting_of c filed) p (reverse h.fed)) (λ put q. fails out' start ((h.before ++ switch_sends c filed h.fed) ++ put) q f) (λ put q. fails out' start (h.before ++ (switch_sends c filed h.fed ++ put)) q f)
+        (λ put q. subst (λ l. fails out' start l q f) (append_assoc h.before (switch_sends c filed h.fed) put))
+        (refuses (h.before ++ switch_sends c filed h.fed) (reverse h.fed) h.was_fed.sent h.was_fed.stands)
+    why Failed kept refuses = absurd (refuses (h.before ++ switch_sends c filed h.fed) (reverse h.fed) h.was_fed.sent h.was_fed.stands)
 
     pub feeding_refuses : (fault : FeedFault) → KeepsSink fault out out' → Refuses fault → FeedingFails holds fails (Some fault) c filed out' start ps p put_faults.Failed
     feeding_refuses fault kept refuses = record { before = h.before; fed = h.fed; parts = h.parts; failed = refl; why = why fault kept refuses }
 
   pub never_failed : (fails : K → Option (List ℕ) → List (List ℕ) → List ℕ → PutFault → Type 0) (switch : Switch) (out out' : K) (ps : List (List ℕ)) (p : List ℕ) → FeedingHolds holds switch c filed out start ps
       → ((qs past : List (List ℕ)) → holds out start qs → SwitchStandsFor switch c filed past → FeedFails Failed c filed p past (λ put q x. fails out' start (qs ++ put) q x)) → ⊥
-  never_failed fails switch out out' ps p h refuses = refuses (h.before ++ sent_by c filed h.fed) (reverse h.fed) h.was_fed.sent h.was_fed.stands
+  never_failed fails switch out out' ps p h refuses = refuses (h.before ++ switch_sends c filed h.fed) (reverse h.fed) h.was_fed.sent h.was_fed.stands
 
   -- ---- an injector before it
 
@@ -159,7 +159,7 @@ module _ {K : Type 0} (holds : K → Option (List ℕ) → List (List ℕ) → T
 
     -- the packet is at fault, and nothing of it was fed
     abbrev pub Untouched : Option FeedFault → Type 0
-    Untouched kept = (kept ≡ None) × holds out start (before ++ sent_by c filed fed)
+    Untouched kept = (kept ≡ None) × holds out start (before ++ switch_sends c filed fed)
 
     pub pass_stops : (p : List ℕ) (steps : List Step) (kept : Option FeedFault) (fault : FeedFault) (r : FeedFault) → r ≡ unwrap_or kept fault
         → ((f : NetworkFault) → fault ≡ Network f → Untouched kept)

@@ -1,35 +1,34 @@
 -- A whole run with an automation, from its first packet to its end or its fault.
 use Rattle.std.specs.Prelude.{All, option_map}
 use Rattle.std.specs.Io.KnownBytes.{IsAtEnd}
-use Rattle.std.proofs.Common.{◌≡◌, ℕ, suc, ◌+◌, ◌≤◌, ◌<◌, Bool, true, false, List, [], ◌∷◌, ◌++◌, length, reverse, Option, None, Some, refl, sym, ap, subst, ◌∙◌, arith, append_assoc, length-append}
+use Rattle.std.proofs.Common.{◌≡◌, ℕ, suc, ◌+◌, ◌≤◌, ◌<◌, Bool, true, false, List, [], ◌∷◌, ◌++◌, length, reverse, Option, None, Some, refl, sym, ap, subst, ◌∙◌, arith, length-append}
 use Rattle.std.specs.Option.{is_some}
 use Rattle.std.proofs.lemmas.List.{reverse-append, length-reverse}
 use Rattle.std.proofs.lemmas.List.Elements.{All-nil}
 use Rattle.ts_packet.specs.Packets.{packets_of}
 use Rattle.ts_packet.specs.Sources.{WasGiven, HasRead, Refuses}
 use Rattle.ts_packet.specs.Runs.{Seen, seen_after}
-use Rattle.ts_packet.specs.FirstFault.{named, or_then, read_cause}
 use Rattle.ts_packet.specs.declared.reader.ReadFault.{ReadFault}
 use Rattle.ts_packet.specs.declared.sink.PutFault.{PutFault}
 use Rattle.ts_packet.proofs.FirstFaultLemmas.{sound_more}
-use Rattle.ts_packet.proofs.PacketsLemmas.{read_more, read_to_end, packets_of-append}
+use Rattle.ts_packet.proofs.PacketsLemmas.{read_to_end}
 use Rattle.psi_tables.specs.declared.config.Config.{Config}
 use Rattle.psi_tables.specs.declared.network.FeedFault.{FeedFault}
 use Rattle.psi_tables.specs.declared.network.FeedFault.TheVariants.{Network, Sink, Failed}
 use Rattle.program_follower.specs.Faults.{network_fault}
 use Rattle.program_follower.specs.FirstFault.{network_test}
-use Rattle.program_follower.proofs.RunLemmas.{ends_sound, reader_stops, packet_stops}
+use Rattle.program_follower.proofs.RunLemmas.{ends_sound}
 use Rattle.scte104_codec.specs.declared.reply.Reply.{Reply}
 use Rattle.as_session.specs.Session.{state_of}
 use Rattle.injector.specs.declared.injector.Injector.{Injector}
-use Rattle.injector.specs.Steps.{Step, Packet, packets_in, cued, sent_at}
-use Rattle.injector.specs.Injecting.{InjectorStandsFor, JudgesBy, FeedFails}
-use Rattle.outgoing_packets.specs.Faults.{KeepsSink}
+use Rattle.injector.specs.Steps.{Step, Packet, packets_in, purpose_of, cued, sent_at}
+use Rattle.injector.specs.Injecting.{InjectorStandsFor, JudgesBy, FeedFails, KeepsSink}
 use Rattle.chain_engine.specs.Automation.{Take, piece, ended, failed, Answer, Told}
 use Rattle.chain_engine.specs.Hearing.{answers_to, lost_by, Replied}
 use Rattle.chain_engine.specs.Judging.{JudgesAll, InjectorJudges}
 use Rattle.chain_engine.specs.Talks.{judged_before, HasTalked, TalkStandsFor, loses, CountsEnd}
-use Rattle.chain_engine.specs.Runs.{asked, steps_of, steps_before, replies_in, report_of, sent_by, as_run_fault, first_fault, before_fault, Exchanged, Serves, InjectsAll, Stopped, StopsAt}
+use Rattle.chain_engine.specs.Stops.{as_run_fault}
+use Rattle.chain_engine.specs.Runs.{asked, steps_of, steps_before, replies_in, report_of, sent_by, Exchanged, Serves, InjectsAll, InjectLeaves, InjectStops}
 use Rattle.chain_engine.specs.Chains.{ChainStandsFor}
 use Rattle.chain_engine.specs.declared.hearing.SessionEnd.{SessionEnd}
 use Rattle.chain_engine.specs.declared.hearing.SessionEnd.TheVariants.{Ended, TakeFailed, BadSize, AnswerFailed}
@@ -37,17 +36,16 @@ use Rattle.chain_engine.specs.declared.report.Report.{Report}
 use Rattle.chain_engine.specs.declared.talk.Talk.{Talk}
 use Rattle.chain_engine.specs.declared.chain.Chain.{Chain}
 use Rattle.chain_engine.specs.declared.chain.RunFault.TheVariants.{Read, Feed}
-use Rattle.chain_engine.proofs.StopLemmas.{both_said, reverse_onto, before_at, before_read}
+use Rattle.chain_engine.proofs.StopLemmas.{reverse_onto, reads_stop, packets_stop}
 use Rattle.chain_engine.proofs.HearingLemmas.{told_none, told_more, answers_more}
 use Rattle.chain_engine.proofs.TalkLemmas.{goes_closed, open_end}
 use Rattle.chain_engine.proofs.StepsLemmas.{steps_stay, none_asked, asked_cued, before_packets, asked_judged}
-use Rattle.program_follower.specs.Purposes.{writing_cues}
 
 -- ---- what is known between two packets, and behind the messages before a packet
 
 pub record HasRun {M : Type 0} (c : Config) (injector : Injector) (talk : Talk M) (is_out : List (List ℕ) → Type 0) (exchanged : Option SessionEnd → List Take → List Reply → Type 0)
     (ps : List (List ℕ)) : Type 0 where
-  pub sound : All (λ (s : Seen). network_test as_run_fault (writing_cues c) s ≡ None) (seen_after [] ps)
+  pub sound : All (λ (s : Seen). network_test as_run_fault (purpose_of c) s ≡ None) (seen_after [] ps)
   pub ts : List Take
   pub rs : List Reply
   pub stands : InjectorStandsFor injector c (steps_of (length rs) ts (reverse ps))
@@ -58,7 +56,7 @@ pub record HasRun {M : Type 0} (c : Config) (injector : Injector) (talk : Talk M
 
 pub record HasHeard {M : Type 0} (c : Config) (injector : Injector) (talk : Talk M) (is_out : List (List ℕ) → Type 0) (exchanged : Option SessionEnd → List Take → List Reply → Type 0)
     (ps : List (List ℕ)) : Type 0 where
-  pub sound : All (λ (s : Seen). network_test as_run_fault (writing_cues c) s ≡ None) (seen_after [] ps)
+  pub sound : All (λ (s : Seen). network_test as_run_fault (purpose_of c) s ≡ None) (seen_after [] ps)
   pub ts : List Take
   pub rs : List Reply
   pub stands : InjectorStandsFor injector c (steps_before (length rs) ts (reverse ps))
@@ -183,15 +181,15 @@ module _ {X : Type 0} (takes : X → Option (List Take)) (answers : X → Option
 module _ (c : Config) (exchanged : Option SessionEnd → List Take → List Reply → Type 0) (ps : List (List ℕ)) where
   pub passed : {M : Type 0} (injector injector' : Injector) (talk : Talk M) (is_out is_out' : List (List ℕ) → Type 0) (p : List ℕ) → HasHeard c injector talk is_out exchanged ps
       → ((steps : List Step) → InjectorStandsFor injector c steps → is_out (sent_by c steps)
-      → (network_fault (writing_cues c) p (packets_in steps) ≡ None) × InjectorStandsFor injector' c (Packet p ∷ steps) × is_out' (sent_by c steps ++ sent_at c p steps))
+      → (network_fault (purpose_of c) p (packets_in steps) ≡ None) × InjectorStandsFor injector' c (Packet p ∷ steps) × is_out' (sent_by c steps ++ sent_at c p steps))
       → HasRun c injector' talk is_out' exchanged (ps ++ p ∷ [])
   passed injector injector' talk is_out is_out' p h feeds =
       let steps = steps_before (length h.rs) h.ts (reverse ps) in
       let (none, stands, out) = feeds steps h.stands h.out in
-      let sound = subst (λ q. network_fault (writing_cues c) p q ≡ None) (before_packets (length h.rs) h.ts (reverse ps)) none in
+      let sound = subst (λ q. network_fault (purpose_of c) p q ≡ None) (before_packets (length h.rs) h.ts (reverse ps)) none in
       let now : steps_of (length h.rs) h.ts (reverse (ps ++ p ∷ [])) ≡ Packet p ∷ steps = ap (steps_of (length h.rs) h.ts) (reverse-append ps (p ∷ [])) in
       let long = length-append ps (p ∷ []) in record {
-        sound = sound_more (network_test as_run_fault (writing_cues c)) ps p h.sound (ap (option_map as_run_fault) sound);
+        sound = sound_more (network_test as_run_fault (purpose_of c)) ps p h.sound (ap (option_map as_run_fault) sound);
         ts = h.ts;
         rs = h.rs;
         stands = subst (InjectorStandsFor injector' c) (sym now) stands;
@@ -208,7 +206,7 @@ module _ (c : Config) (exchanged : Option SessionEnd → List Take → List Repl
   ends injector talk is_out None left report r at h counts = tt
   ends injector talk is_out (Some bs) left report r at h counts =
       let all : packets_of bs ≡ ps = (read_to_end (Some bs) left ps r at).0 in record {
-        sound = ends_sound Read (network_test as_run_fault (writing_cues c)) (Some bs) left ps r h.sound at;
+        sound = ends_sound Read (network_test as_run_fault (purpose_of c)) (Some bs) left ps r h.sound at;
         ts = h.ts;
         rs = h.rs;
         serves = subst (λ q. Serves c exchanged h.ts h.rs (length q) (steps_of (length h.rs) h.ts (reverse q))) (sym all)
@@ -220,66 +218,40 @@ module _ (c : Config) (exchanged : Option SessionEnd → List Take → List Repl
   -- ---- the network stops the run
 
   pub read_stops : {M : Type 0} (injector : Injector) (talk : Talk M) (is_out : List (List ℕ) → Type 0) (fails : List (List ℕ) → List ℕ → PutFault → Type 0) (input left : Option (List ℕ)) → HasRead input left ps
-      → HasRun c injector talk is_out exchanged ps → (fault : ReadFault) → Refuses false left fault → StopsAt c (Read fault) input is_out fails exchanged
-  read_stops injector talk is_out fails None left r h fault k = tt
-  read_stops injector talk is_out fails (Some bs) None r h fault k = absurd r.bytes
-  read_stops injector talk is_out fails (Some bs) (Some rest) r h fault k =
+      → HasRun c injector talk is_out exchanged ps → (fault : ReadFault) → Refuses false left fault → InjectStops c (Read fault) input is_out fails exchanged
+  read_stops injector talk is_out fails input left r h fault k =
       let back = length-reverse ps in
       let le = few_takes talk.end h.ts (length h.rs) (length ps) h.talks.talked in
-      let same = none_asked (length h.rs) h.ts (reverse ps) (omega (arith, le, back)) in record {
-        passed = ps;
-        rest = packets_of rest;
-        parts = ap packets_of r.bytes ∙ packets_of-append ps rest r.sizes;
-        says = both_said (first_fault c bs ≡ Some (Read fault)) (before_fault c bs ≡ ps) (read_cause fault) (reader_stops Read (network_test as_run_fault (writing_cues c)) (Some bs) (Some rest) ps r h.sound fault k) (before_read (writing_cues c) ps bs rest r h.sound fault k);
+      let same = none_asked (length h.rs) h.ts (reverse ps) (omega (arith, le, back)) in
+      reads_stop (purpose_of c) ps h.sound (InjectLeaves c (Read fault) is_out fails exchanged) input left r fault k (λ bs rest. record {
         ts = h.ts;
         rs = h.rs;
         serves = record { ending = talk.end; talked = h.talks.talked; exchanges = h.exchanges; replies = h.replies ∙ ap (replies_in c) (sym same) };
-        leaves = subst (λ s. is_out (sent_by c s)) (sym same) h.out;
-      }
+        out = subst (λ s. is_out (sent_by c s)) (sym same) h.out;
+      })
 
   -- ---- a packet is not passed on
 
   pub feed_stops : {M S : Type 0} (injector : Injector) (talk : Talk M) (is_out : S → List (List ℕ) → Type 0) (fails : List (List ℕ) → List ℕ → PutFault → Type 0) (s t : S)
       (input left left' : Option (List ℕ)) (p : List ℕ) → HasRead input left ps → WasGiven left left' p → HasHeard c injector talk (is_out s) exchanged ps → (fault : FeedFault) → KeepsSink fault s t
       → ((steps : List Step) → InjectorStandsFor injector c steps → is_out s (sent_by c steps) → FeedFails fault c p steps (λ put q f. fails (sent_by c steps ++ put) q f))
-      → StopsAt c (Feed fault) input (is_out t) fails exchanged
-  feed_stops injector talk is_out fails s t None left left' p r g h fault kept feeds = tt
-  feed_stops injector talk is_out fails s t (Some bs) left None p r g h fault kept feeds = absurd (read_more (Some bs) left None ps p r g).bytes
-  feed_stops injector talk is_out fails s t (Some bs) left (Some rest) p r g h fault kept feeds = by fault kept (feeds steps h.stands h.out)
+      → InjectStops c (Feed fault) input (is_out t) fails exchanged
+  feed_stops injector talk is_out fails s t input left left' p r g h fault kept feeds = by fault kept (feeds steps h.stands h.out)
     where
       steps : List Step
       steps = steps_before (length h.rs) h.ts (reverse ps)
 
-      parts : packets_of bs ≡ ps ++ p ∷ packets_of rest
-      parts = let more = read_more (Some bs) left (Some rest) ps p r g in ap packets_of more.bytes ∙ packets_of-append (ps ++ p ∷ []) rest more.sizes ∙ append_assoc ps (p ∷ []) (packets_of rest)
+      serves : Serves c exchanged h.ts h.rs (suc (length ps)) steps
+      serves = record { ending = talk.end; talked = h.talks.talked; exchanges = h.exchanges; replies = h.replies }
 
-      by : (fault : FeedFault) → KeepsSink fault s t → FeedFails fault c p steps (λ put q f. fails (sent_by c steps ++ put) q f) → Stopped c (Feed fault) bs (is_out t) fails exchanged
+      by : (fault : FeedFault) → KeepsSink fault s t → FeedFails fault c p steps (λ put q f. fails (sent_by c steps ++ put) q f) → InjectStops c (Feed fault) input (is_out t) fails exchanged
       by (Network f) kept k =
-          let fault = subst (λ q. network_fault (writing_cues c) p q ≡ Some f) (before_packets (length h.rs) h.ts (reverse ps)) k in
-          let test : network_test as_run_fault (writing_cues c) (record { packet = p; past = reverse ps }) ≡ Some (Feed (Network f)) = ap (option_map as_run_fault) fault in
-          let at = ap (λ o. or_then (named Read o) (network_test as_run_fault (writing_cues c) (record { packet = p; past = reverse ps }))) g.sound ∙ test in record {
-            passed = ps;
-            rest = p ∷ packets_of rest;
-            parts = parts;
-            says = (
-              packet_stops Read (network_test as_run_fault (writing_cues c)) (Some bs) left (Some rest) ps p (Feed (Network f)) r h.sound g test,
-              before_at (writing_cues c) ps bs p (packets_of rest) (Feed (Network f)) parts r.sound h.sound at,
-            );
-            ts = h.ts;
-            rs = h.rs;
-            serves = record { ending = talk.end; talked = h.talks.talked; exchanges = h.exchanges; replies = h.replies };
-            leaves = subst (λ w. is_out w (sent_by c steps)) (sym kept) h.out;
-          }
-      by (Sink f) kept k = record {
-        passed = ps;
-        rest = p ∷ packets_of rest;
-        parts = parts;
-        says = tt;
-        ts = h.ts;
-        rs = h.rs;
-        serves = record { ending = talk.end; talked = h.talks.talked; exchanges = h.exchanges; replies = h.replies };
-        leaves = (p, packets_of rest, refl, k);
-      }
+          packets_stop (purpose_of c) ps h.sound (InjectLeaves c (Feed (Network f)) (is_out t) fails exchanged) input left left' p r g (Network f)
+          (subst (λ q. network_fault (purpose_of c) p q ≡ Some f) (before_packets (length h.rs) h.ts (reverse ps)) k)
+          (λ bs rest. record { ts = h.ts; rs = h.rs; serves = serves; out = subst (λ w. is_out w (sent_by c steps)) (sym kept) h.out })
+      by (Sink f) kept k =
+          packets_stop (purpose_of c) ps h.sound (InjectLeaves c (Feed (Sink f)) (is_out t) fails exchanged) input left left' p r g (Sink f) tt
+          (λ bs rest. record { ts = h.ts; rs = h.rs; serves = serves; out = (p, rest, refl, k) })
       by Failed kept k = absurd k
 
 -- what follows from how a sink failed

@@ -1,20 +1,17 @@
 -- Whole runs of the chain: what is put and answered, by the network's bytes, the library and what the automation gave; what a fault says, and
 -- what the devices did there.
-use Rattle.std.specs.Prelude.{◌≡◌, ℕ, suc, ◌+◌, Bool, List, [], ◌∷◌, ◌++◌, Option, None, Some, IfSome, length, reverse}
+use Rattle.std.specs.Prelude.{◌≡◌, ℕ, suc, ◌+◌, Bool, List, [], ◌∷◌, ◌++◌, Option, None, IfSome, length, reverse}
 use Rattle.ts_packet.specs.Packets.{packets_of}
-use Rattle.ts_packet.specs.Runs.{seen_after}
-use Rattle.ts_packet.specs.FirstFault.{SaysBy, first_of, fault_of, read_cause}
 use Rattle.ts_packet.specs.declared.sink.PutFault.{PutFault}
 use Rattle.psi_section.specs.Assembling.{capped}
 use Rattle.psi_tables.specs.declared.config.Config.{Config}
 use Rattle.psi_tables.specs.declared.network.FeedFault.{FeedFault}
-use Rattle.psi_tables.specs.declared.network.FeedFault.TheVariants.{Network, Sink, Failed}
+use Rattle.psi_tables.specs.declared.network.FeedFault.TheVariants.{Sink}
 use Rattle.program_follower.specs.Faults.{network_fault}
-use Rattle.program_follower.specs.FirstFault.{network_test}
 use Rattle.scte104_codec.specs.declared.reply.Reply.{Reply}
 use Rattle.outgoing_packets.specs.Numbers.{FrontFails}
 use Rattle.injector.specs.Injecting.{InjectorStandsFor}
-use Rattle.injector.specs.Steps.{Step, Packet, packets_in, turns_in, sent_at, messages_in, accepted_in, refused_in}
+use Rattle.injector.specs.Steps.{Step, Packet, packets_in, turns_in, purpose_of, sent_at, messages_in, accepted_in, refused_in}
 use Rattle.ad_library.specs.Advertisements.{Advertisement}
 use Rattle.splice_plans.specs.Adverts.{setting_of}
 use Rattle.splice_plans.specs.Switching.{spliced_network}
@@ -23,19 +20,18 @@ use Rattle.splice_switch.specs.Standing.{FinishFails}
 use Rattle.chain_engine.specs.Automation.{Take, Answer, Told}
 use Rattle.chain_engine.specs.Hearing.{answers_to}
 use Rattle.chain_engine.specs.Talks.{TalkStandsFor, judged_before, loses}
-use Rattle.chain_engine.specs.Runs.{as_run_fault, first_fault, before_fault, asked, steps_of, steps_before, replies_in, sent_by, Serves}
-use Rattle.chain_engine.specs.Splices as splices
+use Rattle.chain_engine.specs.Stops.{first_run_fault, IsLeftBy, StopsBy}
+use Rattle.chain_engine.specs.Runs.{asked, steps_of, replies_in, sent_by, Serves, WasServed}
+use Rattle.chain_engine.specs.Splices.{switch_sends}
 use Rattle.chain_engine.specs.Nested.{WasFed, SwitchFails, IsSoundNetwork, PassFails}
 use Rattle.chain_engine.specs.declared.hearing.SessionEnd.{SessionEnd}
 use Rattle.chain_engine.specs.declared.report.Report.{Report}
 use Rattle.chain_engine.specs.declared.chain.Chain.{Chain}
 use Rattle.chain_engine.specs.declared.chain.RunFault.{RunFault}
-use Rattle.chain_engine.specs.declared.chain.RunFault.TheVariants.{Read, Feed}
-use Rattle.program_follower.specs.Purposes.{writing_cues}
 
 -- THE OUTPUT of these steps, in order: what the switch sends by what the injector sends
-abbrev pub spliced_by : Config → (ℕ → Option Advertisement) → List Step → List (List ℕ)
-spliced_by c filed steps = splices.sent_by c filed (sent_by c steps)
+abbrev pub chain_sends : Config → (ℕ → Option Advertisement) → List Step → List (List ℕ)
+chain_sends c filed steps = switch_sends c filed (sent_by c steps)
 
 -- ---- the report
 
@@ -57,7 +53,7 @@ pub record Counted (report : Report) (c : Config) (filed : ℕ → Option Advert
 -- `is_out` says of packets that they stand behind what was there.
 pub record Ran (c : Config) (filed : ℕ → Option Advertisement) (bs : List ℕ) (is_out : List (List ℕ) → Type 0)
     (exchanged : Option SessionEnd → List Take → List Reply → Type 0) (report : Report) : Type 0 where
-  pub sound : first_fault c bs ≡ None
+  pub sound : first_run_fault (purpose_of c) bs ≡ None
   pub ts : List Take
   pub rs : List Reply
   pub serves : Serves c exchanged ts rs (length (packets_of bs)) (steps_of (length rs) ts (reverse (packets_of bs)))
@@ -70,52 +66,25 @@ RunsAll c filed input is_out exchanged report = IfSome input (λ bs. Ran c filed
 
 -- ---- faults
 
--- none of these packets is at fault behind those before it
-abbrev pub AreSound : Config → List (List ℕ) → Type 0
-AreSound c ps = first_of (fault_of Read (network_test as_run_fault (writing_cues c))) (seen_after [] ps) ≡ None
-
--- The automation is heard before a packet that is not passed on, and not where none was read.
-abbrev pub heard_at : RunFault → List (List ℕ) → ℕ → ℕ
-heard_at (Read fault) rest k = k
-heard_at (Feed fault) [] k = k
-heard_at (Feed fault) (p ∷ more) k = suc k
-
 -- The switch stopped so behind these steps, with these packets left: at one of the packets that the injector sends for the next one, or,
 -- where all packets of a network without a fault are passed, at what was left at the end.
-abbrev pub SwitchStops : FeedFault → Config → (ℕ → Option Advertisement) → List ℕ → List Step → List (List ℕ) → (List (List ℕ) → Type 0)
+abbrev pub SwitchStops : PutFault → Config → (ℕ → Option Advertisement) → List ℕ → List Step → List (List ℕ) → (List (List ℕ) → Type 0)
     → (List (List ℕ) → List ℕ → PutFault → Type 0) → Type 0
-SwitchStops fault c filed bs steps [] is_out fails =
-    (first_fault c bs ≡ None) × FinishFails fault c filed (reverse (sent_by c steps)) (λ put q x. fails (spliced_by c filed steps ++ put) q x)
+SwitchStops fault c filed bs steps [] is_out fails = (first_run_fault (purpose_of c) bs ≡ None)
+    × FinishFails (Sink fault) c filed (reverse (sent_by c steps)) (λ put q x. fails (chain_sends c filed steps ++ put) q x)
 SwitchStops fault c filed bs steps (p ∷ more) is_out fails =
-    FrontFails (sent_at c p steps) (λ put q. SwitchFails fault c filed q (sent_by c steps ++ put) is_out fails)
+    FrontFails (sent_at c p steps) (λ put q. SwitchFails (Sink fault) c filed q (sent_by c steps ++ put) is_out fails)
 
--- What a fault says, and what is out: a fault of the network is the first one of its bytes, the packets before it were passed on, and all
--- that they send is out and nothing else; or the switch's sink failed.
-abbrev pub Leaves : RunFault → Config → (ℕ → Option Advertisement) → List ℕ → List Step → List (List ℕ) → List (List ℕ)
-    → (List (List ℕ) → Type 0) → (List (List ℕ) → List ℕ → PutFault → Type 0) → Type 0
-Leaves (Read fault) c filed bs steps passed rest is_out fails =
-    SaysBy (read_cause fault) ((first_fault c bs ≡ Some (Read fault)) × (before_fault c bs ≡ passed)) × is_out (spliced_by c filed steps)
-Leaves (Feed (Network fault)) c filed bs steps passed rest is_out fails =
-    (first_fault c bs ≡ Some (Feed (Network fault))) × (before_fault c bs ≡ passed) × is_out (spliced_by c filed steps)
-Leaves (Feed (Sink fault)) c filed bs steps passed rest is_out fails = SwitchStops (Sink fault) c filed bs steps rest is_out fails
-Leaves (Feed Failed) c filed bs steps passed rest is_out fails = ⊥
+-- what is answered and out, by the packets that were passed on and those left
+abbrev pub ChainLeaves : Config → (ℕ → Option Advertisement) → RunFault → (List (List ℕ) → Type 0) → (List (List ℕ) → List ℕ → PutFault → Type 0)
+    → (Option SessionEnd → List Take → List Reply → Type 0) → List ℕ → List (List ℕ) → List (List ℕ) → Type 0
+ChainLeaves c filed fault is_out fails exchanged bs passed rest = WasServed c exchanged fault
+    (λ steps. IsLeftBy fault (is_out (chain_sends c filed steps)) (λ x. SwitchStops x c filed bs steps rest is_out fails)) passed rest
 
--- THE THEOREM FOR FAULTS: none of the packets that were passed on is at fault; and what is out and answered is that of these packets, and of
--- the messages before the next.
-pub record Stopped (c : Config) (filed : ℕ → Option Advertisement) (fault : RunFault) (bs : List ℕ) (is_out : List (List ℕ) → Type 0)
-    (fails : List (List ℕ) → List ℕ → PutFault → Type 0) (exchanged : Option SessionEnd → List Take → List Reply → Type 0) : Type 0 where
-  pub passed : List (List ℕ)
-  pub rest : List (List ℕ)
-  pub parts : packets_of bs ≡ passed ++ rest
-  pub sound : AreSound c passed
-  pub ts : List Take
-  pub rs : List Reply
-  pub serves : Serves c exchanged ts rs (heard_at fault rest (length passed)) (steps_before (length rs) ts (reverse passed))
-  pub leaves : Leaves fault c filed bs (steps_before (length rs) ts (reverse passed)) passed rest is_out fails
-
-abbrev pub StopsAt : Config → (ℕ → Option Advertisement) → RunFault → Option (List ℕ) → (List (List ℕ) → Type 0)
+-- THE THEOREM FOR FAULTS of a run of the chain
+abbrev pub ChainStops : Config → (ℕ → Option Advertisement) → RunFault → Option (List ℕ) → (List (List ℕ) → Type 0)
     → (List (List ℕ) → List ℕ → PutFault → Type 0) → (Option SessionEnd → List Take → List Reply → Type 0) → Type 0
-StopsAt c filed fault input is_out fails exchanged = IfSome input (λ bs. Stopped c filed fault bs is_out fails exchanged)
+ChainStops c filed fault input is_out fails exchanged = StopsBy (purpose_of c) fault input (ChainLeaves c filed fault is_out fails exchanged)
 
 -- ---- one packet
 
@@ -147,7 +116,7 @@ pub record Stepped {M X : Type 0} (takes : X → Option (List Take)) (answers : 
   pub more : List Take
   pub rs : List Reply
   pub hears : Hears takes answers before now (loses old.talk.end new.talk.end) old.config ts n k steps more rs
-  pub sound : network_fault (writing_cues old.config) p (packets_in steps) ≡ None
+  pub sound : network_fault (purpose_of old.config) p (packets_in steps) ≡ None
   pub stands : HasStepped new filed is_out (ts ++ more) (n + length rs) (suc k) (Packet p ∷ heard_steps (ts ++ more) (n + length rs) k steps)
 
 -- the automation was heard, and then the packet was not passed on

@@ -3,6 +3,8 @@ pub mod Judging
 pub mod Hearing
 pub mod Talks
 pub mod Chains
+pub mod Stops
+pub mod Progress
 pub mod Runs
 pub mod Splices
 pub mod Nested

@@ -10,9 +10,9 @@ use Rattle.psi_tables.specs.declared.config.Config.{Config}
 use Rattle.psi_tables.specs.declared.network.FeedFault.{FeedFault}
 use Rattle.psi_tables.specs.declared.network.FeedFault.TheVariants.{Network, Sink, Failed}
 use Rattle.program_follower.specs.Faults.{network_fault, first_fault}
-use Rattle.program_follower.specs.Purposes.{reading_cues, writing_cues}
+use Rattle.program_follower.specs.Purposes.{reading_cues}
 use Rattle.outgoing_packets.specs.Numbers.{FrontFails}
-use Rattle.injector.specs.Steps.{Step, packets_in, sent_at}
+use Rattle.injector.specs.Steps.{Step, packets_in, purpose_of, sent_at}
 use Rattle.cued_laws.specs.Laws.{ArePacketsOfBytes}
 use Rattle.ad_library.specs.Advertisements.{Advertisement}
 use Rattle.splice_plans.specs.Adverts.{setting_of}
@@ -20,7 +20,7 @@ use Rattle.splice_plans.specs.Switching.{switched_at_packet}
 use Rattle.splice_switch.specs.declared.switch.Switch.{Switch}
 use Rattle.splice_switch.specs.Standing.{SwitchStandsFor}
 use Rattle.chain_engine.specs.Runs.{OutputBlamed}
-use Rattle.chain_engine.specs.Splices.{sent_by}
+use Rattle.chain_engine.specs.Splices.{switch_sends}
 use Rattle.chain_engine.specs.declared.chain.RunFault.TheVariants.{Feed}
 
 -- ---- what a switch was fed, and what is out
@@ -28,15 +28,15 @@ use Rattle.chain_engine.specs.declared.chain.RunFault.TheVariants.{Feed}
 -- A switch was fed these packets, in order, and what they send is out. `is_out` says of packets that they stand behind what was there.
 pub record WasFed (switch : Switch) (c : Config) (filed : ℕ → Option Advertisement) (is_out : List (List ℕ) → Type 0) (fed : List (List ℕ)) : Type 0 where
   pub stands : SwitchStandsFor switch c filed (reverse fed)
-  pub sent : is_out (sent_by c filed fed)
+  pub sent : is_out (switch_sends c filed fed)
 
 -- Why it did not take a packet behind them: what is wrong with the packet, and nothing more is out; or the sink failed behind a front of
 -- what the packet sends.
 abbrev pub SwitchFails : FeedFault → Config → (ℕ → Option Advertisement) → List ℕ → List (List ℕ) → (List (List ℕ) → Type 0)
     → (List (List ℕ) → List ℕ → PutFault → Type 0) → Type 0
-SwitchFails (Network fault) c filed p fed is_out fails = (network_fault (reading_cues c) p (reverse fed) ≡ Some fault) × is_out (sent_by c filed fed)
+SwitchFails (Network fault) c filed p fed is_out fails = (network_fault (reading_cues c) p (reverse fed) ≡ Some fault) × is_out (switch_sends c filed fed)
 SwitchFails (Sink fault) c filed p fed is_out fails =
-    FrontFails (switched_at_packet (setting_of c filed) p (reverse fed)) (λ put q. fails (sent_by c filed fed ++ put) q fault)
+    FrontFails (switched_at_packet (setting_of c filed) p (reverse fed)) (λ put q. fails (switch_sends c filed fed ++ put) q fault)
 SwitchFails Failed c filed p fed is_out fails = ⊥
 
 -- ---- the sink before it
@@ -99,13 +99,13 @@ FaultKept-trans x y z s t a b c full more (inr (f, e, spent, h)) k stays =
 -- the packets of a network so far, newest first, are of bytes, and none of them is at fault
 pub record IsSoundNetwork (c : Config) (past : List (List ℕ)) : Type 0 where
   pub bytes : ArePacketsOfBytes past
-  pub sound : first_fault (writing_cues c) past ≡ None
+  pub sound : first_fault (purpose_of c) past ≡ None
 
 -- Why a packet of the network was not passed on through both, behind these steps and what the switch was fed by them: what is wrong with
 -- it behind those before it, and nothing of it was fed; or the switch's sink failed at one of the packets that the injector sends for it.
 -- The switch itself finds no fault in what an injector sends.
 abbrev pub PassFails : FeedFault → Config → (ℕ → Option Advertisement) → List ℕ → List Step → List (List ℕ) → (List (List ℕ) → Type 0)
     → (List (List ℕ) → List ℕ → PutFault → Type 0) → Type 0
-PassFails (Network fault) c filed p steps fed is_out fails = (network_fault (writing_cues c) p (packets_in steps) ≡ Some fault) × is_out (sent_by c filed fed)
+PassFails (Network fault) c filed p steps fed is_out fails = (network_fault (purpose_of c) p (packets_in steps) ≡ Some fault) × is_out (switch_sends c filed fed)
 PassFails (Sink fault) c filed p steps fed is_out fails = FrontFails (sent_at c p steps) (λ put q. SwitchFails (Sink fault) c filed q (fed ++ put) is_out fails)
 PassFails Failed c filed p steps fed is_out fails = ⊥

@@ -1,33 +1,30 @@
 -- Whole runs: what is put and answered, by the network's bytes and what the automation gave; what a fault says, and
 -- what the devices did there.
-use Rattle.std.specs.Prelude.{◌≡◌, ℕ, suc, List, [], ◌∷◌, ◌++◌, Bool, Option, None, Some, IfSome, length, reverse}
+use Rattle.std.specs.Prelude.{◌≡◌, ℕ, suc, List, [], ◌∷◌, ◌++◌, Bool, Option, None, IfSome, length, reverse}
 use Rattle.ts_packet.specs.Packets.{packets_of}
 use Rattle.ts_packet.specs.Sources.{ReadSo, RunBlamed}
 use Rattle.ts_packet.specs.Sinks.{Blamed}
 use Rattle.ts_packet.specs.Transfers.{WentWell}
-use Rattle.ts_packet.specs.FirstFault.{Cause, OfInput, OfDevice, OfNothing, read_cause, SaysBy}
 use Rattle.ts_packet.specs.declared.tally.Tally.{Tally}
 use Rattle.ts_packet.specs.declared.sink.PutFault.{PutFault}
 use Rattle.psi_section.specs.Assembling.{capped}
 use Rattle.psi_tables.specs.declared.config.Config.{Config}
 use Rattle.psi_tables.specs.declared.network.FeedFault.TheVariants.{Network, Sink, Failed}
-use Rattle.psi_tables.specs.declared.network.NetworkFault.{NetworkFault}
-use Rattle.program_follower.specs.FirstFault.{first_network_fault, before_network_fault}
 use Rattle.scte104_codec.specs.declared.reply.Reply.{Reply}
 use Rattle.scte104_codec.specs.Reading.{message_of}
 use Rattle.outgoing_packets.specs.Numbers.{FrontFails}
 use Rattle.splice_plans.specs.declared.report.SwitchReport.{SwitchReport}
 use Rattle.injector.specs.Replies.{reply_to}
-use Rattle.injector.specs.Steps.{Step, Message, Packet, turns_in, cued, sent_at, messages_in, accepted_in}
+use Rattle.injector.specs.Steps.{Step, Message, Packet, turns_in, purpose_of, cued, sent_at, messages_in, accepted_in}
 use Rattle.injector.specs.Steps.{refused_in}
 use Rattle.chain_engine.specs.Automation.{Take, Answer, Told}
 use Rattle.chain_engine.specs.Hearing.{answers_to, lost_by}
 use Rattle.chain_engine.specs.Talks.{judged_before, HasTalked, CountsEnd}
+use Rattle.chain_engine.specs.Stops.{first_run_fault, IsLeftBy, StopsBy}
 use Rattle.chain_engine.specs.declared.hearing.SessionEnd.{SessionEnd}
 use Rattle.chain_engine.specs.declared.report.Report.{Report}
 use Rattle.chain_engine.specs.declared.chain.RunFault.{RunFault}
 use Rattle.chain_engine.specs.declared.chain.RunFault.TheVariants.{Read, Feed}
-use Rattle.program_follower.specs.Purposes.{writing_cues}
 
 -- ---- the history of a run
 
@@ -68,26 +65,6 @@ report_of c steps = record {
 abbrev pub sent_by : Config → List Step → List (List ℕ)
 sent_by c steps = reverse (cued c steps)
 
--- ---- faults of the network
-
-abbrev pub as_run_fault : NetworkFault → RunFault
-as_run_fault fault = Feed (Network fault)
-
--- THE FIRST FAULT of these bytes
-abbrev pub first_fault : Config → List ℕ → Option RunFault
-first_fault c bs = first_network_fault Read as_run_fault (writing_cues c) bs
-
--- the packets before it
-abbrev pub before_fault : Config → List ℕ → List (List ℕ)
-before_fault c bs = before_network_fault Read as_run_fault (writing_cues c) bs
-
--- Where a fault comes from. What a sink refuses says nothing of the network.
-abbrev pub run_cause : RunFault → Cause
-run_cause (Read fault) = read_cause fault
-run_cause (Feed (Network fault)) = OfInput
-run_cause (Feed (Sink fault)) = OfDevice
-run_cause (Feed Failed) = OfNothing
-
 -- ---- the talk of a run
 
 -- What the automation gave up to its session's end, where it has ended, and what it was given: all replies, the last
@@ -114,7 +91,7 @@ pub record Serves (c : Config) (exchanged : Option SessionEnd → List Take → 
 -- says of packets that they stand behind what was there.
 pub record Injected (c : Config) (bs : List ℕ) (is_out : List (List ℕ) → Type 0)
     (exchanged : Option SessionEnd → List Take → List Reply → Type 0) (report : Report) : Type 0 where
-  pub sound : first_fault c bs ≡ None
+  pub sound : first_run_fault (purpose_of c) bs ≡ None
   pub ts : List Take
   pub rs : List Reply
   pub serves : Serves c exchanged ts rs (length (packets_of bs)) (steps_of (length rs) ts (reverse (packets_of bs)))
@@ -125,41 +102,41 @@ abbrev pub InjectsAll : Config → Option (List ℕ) → (List (List ℕ) → Ty
     → (Option SessionEnd → List Take → List Reply → Type 0) → Report → Type 0
 InjectsAll c input is_out exchanged report = IfSome input (λ bs. Injected c bs is_out exchanged report)
 
+-- ---- faults
+
 -- The automation is heard before a packet that is not passed on, and not where none was read.
-abbrev pub heard_before : RunFault → ℕ → ℕ
-heard_before (Read fault) k = k
-heard_before (Feed fault) k = suc k
+abbrev pub heard_at : RunFault → List (List ℕ) → ℕ → ℕ
+heard_at (Read fault) rest k = k
+heard_at (Feed fault) [] k = k
+heard_at (Feed fault) (p ∷ more) k = suc k
 
--- What is out where a run stops so behind these steps, with these packets before it: all that they send; or, where
--- the sink failed, with it a front of what the next packet sends.
-abbrev pub Leaves : RunFault → Config → List Step → List (List ℕ) → (List (List ℕ) → Type 0)
-    → (List (List ℕ) → List ℕ → PutFault → Type 0) → Type 0
-Leaves (Read fault) c steps rest is_out fails = is_out (sent_by c steps)
-Leaves (Feed (Network fault)) c steps rest is_out fails = is_out (sent_by c steps)
-Leaves (Feed (Sink fault)) c steps rest is_out fails =
-    (p : List ℕ) × (more : List (List ℕ)) × (rest ≡ p ∷ more)
-    × FrontFails (sent_at c p steps) (λ put q. fails (sent_by c steps ++ put) q fault)
-Leaves (Feed Failed) c steps rest is_out fails = ⊥
-
--- THE THEOREM FOR FAULTS: a fault of the network is the first one of its bytes, and the packets before it were passed
--- on; a device's says nothing of them; and what is out and answered is that of the packets that were passed on, and
--- of the messages before the next.
-pub record Stopped (c : Config) (fault : RunFault) (bs : List ℕ) (is_out : List (List ℕ) → Type 0)
-    (fails : List (List ℕ) → List ℕ → PutFault → Type 0)
-    (exchanged : Option SessionEnd → List Take → List Reply → Type 0) : Type 0 where
-  pub passed : List (List ℕ)
-  pub rest : List (List ℕ)
-  pub parts : packets_of bs ≡ passed ++ rest
-  pub says : SaysBy (run_cause fault) ((first_fault c bs ≡ Some fault) × (before_fault c bs ≡ passed))
+-- What is answered and out where a run stops so, with these packets passed on and those left: that of the packets that
+-- were passed on, and of the messages before the next. `leaves` says of the steps up to there what is out.
+pub record WasServed (c : Config) (exchanged : Option SessionEnd → List Take → List Reply → Type 0) (fault : RunFault)
+    (leaves : List Step → Type 0) (passed rest : List (List ℕ)) : Type 0 where
   pub ts : List Take
   pub rs : List Reply
-  pub serves : Serves c exchanged ts rs (heard_before fault (length passed))
+  pub serves : Serves c exchanged ts rs (heard_at fault rest (length passed))
       (steps_before (length rs) ts (reverse passed))
-  pub leaves : Leaves fault c (steps_before (length rs) ts (reverse passed)) rest is_out fails
+  pub out : leaves (steps_before (length rs) ts (reverse passed))
 
-abbrev pub StopsAt : Config → RunFault → Option (List ℕ) → (List (List ℕ) → Type 0)
+-- a front of what the next packet sends behind these steps went out, and then the sink failed
+abbrev pub SendFails : Config → List Step → List (List ℕ) → (List (List ℕ) → List ℕ → Type 0) → Type 0
+SendFails c steps rest fails =
+    (p : List ℕ) × (more : List (List ℕ)) × (rest ≡ p ∷ more)
+    × FrontFails (sent_at c p steps) (λ put q. fails (sent_by c steps ++ put) q)
+
+-- what is answered and out, by the packets that were passed on and those left
+abbrev pub InjectLeaves : Config → RunFault → (List (List ℕ) → Type 0) → (List (List ℕ) → List ℕ → PutFault → Type 0)
+    → (Option SessionEnd → List Take → List Reply → Type 0) → List ℕ → List (List ℕ) → List (List ℕ) → Type 0
+InjectLeaves c fault is_out fails exchanged bs passed rest = WasServed c exchanged fault (λ steps.
+    IsLeftBy fault (is_out (sent_by c steps)) (λ x. SendFails c steps rest (λ qs q. fails qs q x))) passed rest
+
+-- THE THEOREM FOR FAULTS of a run with an injector
+abbrev pub InjectStops : Config → RunFault → Option (List ℕ) → (List (List ℕ) → Type 0)
     → (List (List ℕ) → List ℕ → PutFault → Type 0) → (Option SessionEnd → List Take → List Reply → Type 0) → Type 0
-StopsAt c fault input is_out fails exchanged = IfSome input (λ bs. Stopped c fault bs is_out fails exchanged)
+InjectStops c fault input is_out fails exchanged =
+    StopsBy (purpose_of c) fault input (InjectLeaves c fault is_out fails exchanged)
 
 -- ---- what the devices did
 

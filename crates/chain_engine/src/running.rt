@@ -6,15 +6,16 @@ ghost use Rattle.ts_packet.specs.Transfers.{WentWell};
 ghost use Rattle.wire_fields.specs.Numbers.{AreBytes};
 ghost use Rattle.program_follower.specs.Faults.{network_fault};
 ghost use Rattle.injector.specs.Injecting.{InjectorStandsFor};
-ghost use Rattle.injector.specs.Steps.{Step, Packet as PacketStep, packets_in, sent_at};
+ghost use Rattle.injector.specs.Steps.{Step, Packet as PacketStep, packets_in, purpose_of, sent_at};
 ghost use Rattle.ad_library.specs.Library.{held};
 ghost use Rattle.chain_engine.specs.Automation.{Take};
 ghost use Rattle.chain_engine.specs.Chains.{ChainStandsFor};
+ghost use Rattle.chain_engine.specs.Stops.{first_run_fault};
+ghost use Rattle.chain_engine.specs.Progress.{Progresses};
 ghost use Rattle.chain_engine.specs.Runs.{sent_by, Exchanged, OutputBlamed};
-ghost use Rattle.chain_engine.specs.Splices.{NetworkBlamed};
+ghost use Rattle.chain_engine.specs.Splices.{NetworkBlamedToEnd};
 ghost use Rattle.chain_engine.specs.Nested.{WasFed, IsSoundNetwork, PassFails};
-ghost use Rattle.chain_engine.specs.ChainRuns.{RunsAll, StopsAt, HasStepped, Stepped, StepStops};
-ghost use Rattle.program_follower.specs.Purposes.{writing_cues};
+ghost use Rattle.chain_engine.specs.ChainRuns.{RunsAll, ChainStops, HasStepped, Stepped, StepStops};
 
 use crate::automation::Automation;
 use crate::chain::{Chain, RunFault};
@@ -126,7 +127,7 @@ fn pass_on<K: PacketSink>(
     ensures stands { (steps : List Step) → InjectorStandsFor injector.old config.now steps
         → OnOk result (InjectorStandsFor injector.new config.now (PacketStep packet.now ∷ steps)) }
     ensures sound { (steps : List Step) → InjectorStandsFor injector.old config.now steps
-        → OnOk result (network_fault (writing_cues config.now) packet.now (packets_in steps) ≡ None) }
+        → OnOk result (network_fault (purpose_of config.now) packet.now (packets_in steps) ≡ None) }
     ensures bytes { AreBytes packet.now }
     ensures err { (steps : List Step) (start : Option (List ℕ)) (before fed : List (List ℕ)) → InjectorStandsFor injector.old config.now steps
         → IsSoundNetwork config.now (packets_in steps) → fed ≡ sent_by config.now steps
@@ -219,13 +220,19 @@ pub fn run<M: Allocator, P: PacketSource, U: Automation, K: PacketSink>(
         → K.holds out.old start before → IfOk result (RunsAll c (held library.now) (P.left network.old)
         (λ ps. K.holds out.new start (before ++ ps)) (Exchanged U.takes U.answers U.failures automation.old automation.new)) }
     ensures err { (c : Config) (start : Option (List ℕ)) (before : List (List ℕ)) → ChainStandsFor chain c
-        → K.holds out.old start before → IfErr result (λ f. StopsAt c (held library.now) f (P.left network.old)
+        → K.holds out.old start before → IfErr result (λ f. ChainStops c (held library.now) f (P.left network.old)
         (λ ps. K.holds out.new start (before ++ ps)) (λ ps. K.fails out.new start (before ++ ps))
         (Exchanged U.takes U.answers U.failures automation.old automation.new)) }
+    ensures progress { (c : Config) (start : Option (List ℕ)) (before : List (List ℕ)) → ChainStandsFor chain c
+        → K.holds out.old start before
+        → Progresses (first_run_fault (purpose_of c)) (P.left network.old)
+        (Stalled P.leads P.counts P.falls_short network.old network.new ⊎ Exhausted P.left P.given network.old)
+        (P.counts network.old) (P.counts network.new) (K.counts out.old) (K.counts out.new) (K.is_full out.new)
+        (λ ps. K.fails out.new start (before ++ ps)) result }
     ensures read { OnOk result (SourceCounts false (P.has_ended network.old) (P.has_ended network.new)
         (P.counts network.old) (P.counts network.new)) }
     ensures wrote { OnOk result (WentWell (K.counts out.old) (K.counts out.new)) }
-    ensures reading { IfErr result (λ f. NetworkBlamed f (P.has_ended network.old) (P.has_ended network.new)
+    ensures reading { IfErr result (λ f. NetworkBlamedToEnd f (P.has_ended network.old) (P.has_ended network.new)
         (P.counts network.old) (P.counts network.new)) }
     ensures writing { IfErr result (λ f. OutputBlamed f (K.counts out.old) (K.counts out.new) (K.is_full out.new)) }
     ensures turns { result ≡ Err (RunFault.Read ReadFault.Turns)

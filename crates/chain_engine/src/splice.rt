@@ -3,9 +3,12 @@
 ghost use Rattle.std.specs.Prelude.{◌≡◌, ℕ, ◌⊎◌, List, ◌++◌, Option, Err, false, OnOk, IfOk, IfErr};
 ghost use Rattle.ts_packet.specs.Sources.{SourceCounts, Stalled, Exhausted};
 ghost use Rattle.ts_packet.specs.Transfers.{WentWell};
+ghost use Rattle.program_follower.specs.Purposes.{reading_cues};
 ghost use Rattle.ad_library.specs.Library.{held};
+ghost use Rattle.chain_engine.specs.Stops.{first_run_fault};
+ghost use Rattle.chain_engine.specs.Progress.{Progresses};
 ghost use Rattle.chain_engine.specs.Runs.{OutputBlamed};
-ghost use Rattle.chain_engine.specs.Splices.{SplicesAll, StopsAt, NetworkBlamed};
+ghost use Rattle.chain_engine.specs.Splices.{SplicesAll, SpliceStops, NetworkBlamedToEnd};
 
 use crate::chain::RunFault;
 use ad_library::AdLibrary;
@@ -31,12 +34,17 @@ pub fn run_splice<P: PacketSource, K: PacketSink>(
     ensures ok { (start : Option (List ℕ)) (before : List (List ℕ)) → K.holds out.old start before
         → IfOk result (SplicesAll config (held library.now) (P.left network.old) (λ ps. K.holds out.new start (before ++ ps))) }
     ensures err { (start : Option (List ℕ)) (before : List (List ℕ)) → K.holds out.old start before
-        → IfErr result (λ f. StopsAt config (held library.now) f (P.left network.old)
+        → IfErr result (λ f. SpliceStops config (held library.now) f (P.left network.old)
         (λ ps. K.holds out.new start (before ++ ps)) (λ ps. K.fails out.new start (before ++ ps))) }
+    ensures progress { (start : Option (List ℕ)) (before : List (List ℕ)) → K.holds out.old start before
+        → Progresses (first_run_fault (reading_cues config)) (P.left network.old)
+        (Stalled P.leads P.counts P.falls_short network.old network.new ⊎ Exhausted P.left P.given network.old)
+        (P.counts network.old) (P.counts network.new) (K.counts out.old) (K.counts out.new) (K.is_full out.new)
+        (λ ps. K.fails out.new start (before ++ ps)) result }
     ensures read { OnOk result (SourceCounts false (P.has_ended network.old) (P.has_ended network.new)
         (P.counts network.old) (P.counts network.new)) }
     ensures wrote { OnOk result (WentWell (K.counts out.old) (K.counts out.new)) }
-    ensures reading { IfErr result (λ f. NetworkBlamed f (P.has_ended network.old) (P.has_ended network.new)
+    ensures reading { IfErr result (λ f. NetworkBlamedToEnd f (P.has_ended network.old) (P.has_ended network.new)
         (P.counts network.old) (P.counts network.new)) }
     ensures writing { IfErr result (λ f. OutputBlamed f (K.counts out.old) (K.counts out.new) (K.is_full out.new)) }
     ensures turns { result ≡ Err (RunFault.Read ReadFault.Turns)

@@ -1,12 +1,14 @@
-use Rattle.std.proofs.Common.{[], ◌∷◌, ◌++◌, sym, subst, append_assoc}
+use Rattle.std.proofs.Common.{ℕ, List, [], ◌∷◌, ◌++◌, Err, inl, ap, sym, subst, append_assoc}
 use Rattle.std.proofs.lemmas.List.{append-nil}
 use Rattle.ts_packet.specs.Sources.{Refuses}
 use Rattle.ts_packet.proofs.CountLemmas.{well-refl, well-trans}
 use Rattle.ts_packet.proofs.RunBlameLemmas.{given_none, given_more}
-use Rattle.ts_packet.proofs.RunBlameLemmas.{on-refl, on-more}
-use Rattle.injector.specs.Steps.{sent_at}
-use Rattle.chain_engine.specs.Runs.{sent_by}
+use Rattle.ts_packet.proofs.RunBlameLemmas.{on-refl, on-more, on-told, on-end, read_blamed}
+use Rattle.injector.specs.Steps.{purpose_of, sent_at}
+use Rattle.chain_engine.specs.Runs.{sent_by, Exchanged, InjectLeaves}
+use Rattle.chain_engine.specs.declared.chain.RunFault.TheVariants.{Read, Feed}
 use Rattle.chain_engine.proofs.RunLemmas.{begun, heard, passed, ends, read_stops, feed_stops, fails_so}
+use Rattle.chain_engine.proofs.ProgressLemmas.{ran_out_so, end_progresses, stop_progresses, inject_fails, inject_sound, fed_blamed}
 use Rattle.chain_engine.proofs.chain.run_inject.Goals as goal
 
 pub loop-injector-init : goal.loop-injector-init
@@ -76,3 +78,37 @@ returns-in-Err-feed-clause-err g c = λ d start before h held.
     c.loop-injector.out c.feed.new.sink _ _ _ p n.read r before_packet c.in-Err-feed.fault c.in-Err-feed.ensures.kept
     (λ steps s o. fails_so c.in-Err-feed.fault d p steps (λ put q f. g.K.PacketSink.fails c.feed.new.sink start ((before ++ sent_by d steps) ++ put) q f) (λ put q f. g.K.PacketSink.fails c.feed.new.sink start (before ++ (sent_by d steps ++ put)) q f)
     (λ put q f. subst (λ l. g.K.PacketSink.fails c.feed.new.sink start l q f) (append_assoc before (sent_by d steps) put)) (c.in-Err-feed.ensures.err start (before ++ sent_by d steps) d steps o s))
+
+pub returns-in-Ok-false-clause-progress : goal.returns-in-Ok-false-clause-progress
+returns-in-Ok-false-clause-progress g c = λ d start before h held.
+    end_progresses (purpose_of d) _ (g.P.PacketSource.has_ended c.args.network.now) (g.P.PacketSource.has_ended c.read_packet.new.self) _ _ _ _
+    (inject_sound d _ _ _ _ (returns-in-Ok-false-clause-ok g c d start before h held))
+    (on-end _ _ _ _ _ _ c.loop-injector.invariant.well (rw c.in-Ok-false.field-0-test at c.in-Ok-false.ensures.counts))
+    c.loop-injector.invariant.wrote
+
+pub returns-in-Err-clause-progress : goal.returns-in-Err-clause-progress
+returns-in-Err-clause-progress g c = λ d start before h held.
+    let (ps, n, run) = c.loop-injector.invariant.passed in
+    let refuses = subst (λ b. Refuses b (g.P.PacketSource.left c.loop-injector.network) c.in-Err.fault) c.loop-injector.invariant.whole c.in-Err.ensures.err in
+    let is_out = (λ (qs : List (List ℕ)). g.K.PacketSink.holds c.loop-injector.out start (before ++ qs)) in
+    let fails = (λ (qs : List (List ℕ)). g.K.PacketSink.fails c.loop-injector.out start (before ++ qs)) in
+    let exchanged = (Exchanged g.U.Automation.takes g.U.Automation.answers g.U.Automation.failures c.args.automation.now c.loop-injector.automation) in
+    stop_progresses (purpose_of d) _ _ (g.P.PacketSource.has_ended c.args.network.now) (g.P.PacketSource.has_ended c.read_packet.new.self) _ _ _ _ _ fails
+    (λ f. InjectLeaves d f is_out fails exchanged) (λ f bs passed rest. inject_fails d is_out fails f bs passed exchanged rest)
+    (Read c.in-Err.fault) (returns-in-Err-clause-err g c d start before h held)
+    (read_blamed _ _ _ _ _ _ _ c.loop-injector.invariant.well c.in-Err.ensures.blamed.0 c.in-Err.fault refuses c.in-Err.ensures.blamed.1)
+    c.loop-injector.invariant.wrote
+    (ran_out_so g.P.PacketSource.leads g.P.PacketSource.counts g.P.PacketSource.falls_short g.P.PacketSource.left g.P.PacketSource.given _ _ _ _ _ ps c.loop-injector.invariant.reads c.loop-injector.invariant.well c.in-Err.ensures.blamed.0 n c.in-Err.fault c.in-Err.ensures.blamed.1
+    (λ e. c.in-Err.ensures.short (ap Err e)))
+
+pub returns-in-Err-feed-clause-progress : goal.returns-in-Err-feed-clause-progress
+returns-in-Err-feed-clause-progress g c = λ d start before h held.
+    let is_out = (λ (qs : List (List ℕ)). g.K.PacketSink.holds c.feed.new.sink start (before ++ qs)) in
+    let fails = (λ (qs : List (List ℕ)). g.K.PacketSink.fails c.feed.new.sink start (before ++ qs)) in
+    let exchanged = (Exchanged g.U.Automation.takes g.U.Automation.answers g.U.Automation.failures c.args.automation.now c.listen.new.automation) in
+    stop_progresses (purpose_of d) _ _ (g.P.PacketSource.has_ended c.args.network.now) (g.P.PacketSource.has_ended c.read_packet.new.self) _ _ _ _ _ fails
+    (λ f. InjectLeaves d f is_out fails exchanged) (λ f bs passed rest. inject_fails d is_out fails f bs passed exchanged rest)
+    (Feed c.in-Err-feed.fault) (returns-in-Err-feed-clause-err g c d start before h held)
+    (inl (on-told _ _ _ _ _ _ c.loop-injector.invariant.well (rw c.in-Ok-true.field-0-test at c.in-Ok-true.ensures.counts)))
+    (fed_blamed c.in-Err-feed.fault _ _ _ _ c.loop-injector.invariant.wrote c.in-Err-feed.ensures.blamed)
+    (λ e. absurd (cc))

@@ -1,0 +1,153 @@
+-- What a run answers comes from its network's bytes, unless a device stopped it.
+use Rattle.std.specs.Prelude.{IfSome, Err}
+use Rattle.std.proofs.Common.{◌≡◌, ℕ, List, [], ◌∷◌, Bool, true, false, ◌⊎◌, inl, inr, Option, None, Some, refl, sym, subst}
+use Rattle.ts_packet.specs.Sources.{ReadSo, SourceCounts, SourceBlamed, ReadOn, HasGiven, Stalled, Exhausted}
+use Rattle.ts_packet.specs.Transfers.{WentWell, LastMovedNone}
+use Rattle.ts_packet.specs.FirstFault.{OfInput, SaysBy}
+use Rattle.ts_packet.specs.declared.tally.Tally.{Tally}
+use Rattle.ts_packet.specs.declared.reader.ReadFault.{ReadFault}
+use Rattle.ts_packet.specs.declared.reader.ReadFault.TheVariants as read_faults
+use Rattle.ts_packet.specs.declared.sink.PutFault.{PutFault}
+use Rattle.ts_packet.proofs.CountLemmas.{well-refl, well-trans, blamed-after}
+use Rattle.ts_packet.proofs.RunBlameLemmas.{read_turns}
+use Rattle.psi_tables.specs.declared.config.Config.{Config}
+use Rattle.psi_tables.specs.declared.network.FeedFault.{FeedFault}
+use Rattle.psi_tables.specs.declared.network.FeedFault.TheVariants.{Network, Sink, Failed}
+use Rattle.program_follower.specs.declared.purpose.Purpose.{Purpose}
+use Rattle.program_follower.specs.Purposes.{reading_cues}
+use Rattle.injector.specs.Steps.{purpose_of}
+use Rattle.injector.specs.Injecting as injecting
+use Rattle.splice_switch.specs.Standing as standing
+use Rattle.splice_plans.specs.declared.report.SwitchReport.{SwitchReport}
+use Rattle.scte104_codec.specs.declared.reply.Reply.{Reply}
+use Rattle.ad_library.specs.Advertisements.{Advertisement}
+use Rattle.chain_engine.specs.Automation.{Take}
+use Rattle.chain_engine.specs.Stops.{first_run_fault, before_run_fault, run_cause, StoppedBy, StopsBy}
+use Rattle.chain_engine.specs.Progress.{DevicesWentWell, IsFirstIn, Progresses}
+use Rattle.chain_engine.specs.Runs.{InjectsAll, InjectLeaves, OutputBlamed}
+use Rattle.chain_engine.specs.Splices.{SplicesAll, SpliceLeaves, NetworkBlamedToEnd}
+use Rattle.chain_engine.specs.ChainRuns.{RunsAll, ChainLeaves}
+use Rattle.chain_engine.specs.declared.hearing.SessionEnd.{SessionEnd}
+use Rattle.chain_engine.specs.declared.report.Report.{Report}
+use Rattle.chain_engine.specs.declared.chain.RunFault.{RunFault}
+use Rattle.chain_engine.specs.declared.chain.RunFault.TheVariants.{Read, Feed}
+
+-- ---- what was read
+
+so_far : (ended : Bool) (a b : Tally) → ReadSo ended a b → WentWell a b ⊎ LastMovedNone a b
+so_far false a b h = inl h
+so_far true a b h = inr h
+
+to_end : (before ended : Bool) (a b : Tally) → SourceCounts false before ended a b → WentWell a b ⊎ LastMovedNone a b
+to_end false ended a b h = inr h
+to_end true ended a b h = inl (subst (λ w. WentWell a w) (sym h) (well-refl a))
+
+fed : (before ended : Bool) (a b : Tally) → ReadSo ended a b ⊎ SourceCounts false before ended a b → WentWell a b ⊎ LastMovedNone a b
+fed before ended a b (inl h) = so_far ended a b h
+fed before ended a b (inr h) = to_end before ended a b h
+
+-- the reads for a packet took all their turns, or the source has given all packets that it may
+pub ran_out_so : {X : Type 0} (leads : X → X → Type 0) (counts : X → Tally) (short : X → X → Type 0) (left : X → Option (List ℕ)) (given : X → ℕ) (x y z : X) (first now : Bool) (ps : List (List ℕ))
+    → leads x y → ReadOn first now (counts x) (counts y) → now ≡ false → HasGiven (left x) (left y) (given x) (given y) ps → (fault : ReadFault) → SourceBlamed fault (given y) (counts y) (counts z)
+    → (fault ≡ read_faults.Turns → short y z) → Read fault ≡ Read read_faults.Turns → Stalled leads counts short x z ⊎ Exhausted left given x
+ran_out_so leads counts short left given x y z first now ps l h e r read_faults.Turns b s t = read_turns leads counts short left given x y z first now ps l h e r b (s refl)
+ran_out_so leads counts short left given x y z first now ps l h e r read_faults.Truncated b s t = absurd (cc)
+ran_out_so leads counts short left given x y z first now ps l h e r read_faults.SyncLost b s t = absurd (cc)
+ran_out_so leads counts short left given x y z first now ps l h e r read_faults.BadAdaptation b s t = absurd (cc)
+ran_out_so leads counts short left given x y z first now ps l h e r read_faults.Io b s t = absurd (cc)
+ran_out_so leads counts short left given x y z first now ps l h e r read_faults.Failed b s t = absurd (cc)
+
+-- ---- the fault
+
+some_bytes : (k : Purpose) (fault : RunFault) (input : Option (List ℕ)) (leaves : List ℕ → List (List ℕ) → List (List ℕ) → Type 0) → StopsBy k fault input leaves → (bs : List ℕ) × StoppedBy k fault bs leaves
+some_bytes k fault None leaves h = h
+some_bytes k fault (Some bs) leaves h = (bs, h)
+
+first_in : (k : Purpose) (fault : RunFault) (input : Option (List ℕ)) (leaves : List ℕ → List (List ℕ) → List (List ℕ) → Type 0) → run_cause fault ≡ OfInput → StopsBy k fault input leaves
+    → IsFirstIn (first_run_fault k) input (Some fault)
+first_in k fault None leaves e h = e
+first_in k fault (Some bs) leaves e h = sym (subst (λ c. SaysBy c ((first_run_fault k bs ≡ Some fault) × (before_run_fault k bs ≡ h.passed))) e h.says).0
+
+none_in : (first : List ℕ → Option RunFault) (input : Option (List ℕ)) → IfSome input (λ bs. first bs ≡ None) → IsFirstIn first input None
+none_in first None h = tt
+none_in first (Some bs) h = sym h
+
+pub end_progresses : (k : Purpose) (input : Option (List ℕ)) (before ended : Bool) (read read' written written' : Tally) → IfSome input (λ bs. first_run_fault k bs ≡ None) → SourceCounts false before ended read read' → WentWell written written'
+    → DevicesWentWell read read' written written' × IsFirstIn (first_run_fault k) input None
+end_progresses k input before ended read read' written written' none r w = ((to_end before ended read read' r, w), none_in (first_run_fault k) input none)
+
+module _ (k : Purpose) (input : Option (List ℕ)) (ran_out : Type 0) (before ended : Bool) (read read' written written' : Tally) (full : Bool) (fails : List (List ℕ) → List ℕ → PutFault → Type 0) where
+  -- whatever the run would have answered where it had gone through
+  abbrev pub Says : RunFault → Type 0
+  Says fault = Progresses {R = Unit {0}} (first_run_fault k) input ran_out read read' written written' full fails (Err fault)
+
+  pub stop_progresses : (leaves : RunFault → List ℕ → List (List ℕ) → List (List ℕ) → Type 0)
+      → ((fault : PutFault) (bs : List ℕ) (passed rest : List (List ℕ)) → leaves (Feed (Sink fault)) bs passed rest → (ps : List (List ℕ)) × (p : List ℕ) × fails ps p fault)
+      → (fault : RunFault) → StopsBy k fault input (leaves fault) → NetworkBlamedToEnd fault before ended read read' → OutputBlamed fault written written' full → (fault ≡ Read read_faults.Turns → ran_out) → Says fault
+  stop_progresses leaves failed (Read read_faults.Truncated) s r w t = inl ((r, w), first_in k (Read read_faults.Truncated) input (leaves (Read read_faults.Truncated)) refl s)
+  stop_progresses leaves failed (Read read_faults.SyncLost) s r w t = inl ((r, w), first_in k (Read read_faults.SyncLost) input (leaves (Read read_faults.SyncLost)) refl s)
+  stop_progresses leaves failed (Read read_faults.BadAdaptation) s r w t = inl ((r, w), first_in k (Read read_faults.BadAdaptation) input (leaves (Read read_faults.BadAdaptation)) refl s)
+  stop_progresses leaves failed (Read read_faults.Io) s r w t = inr r
+  stop_progresses leaves failed (Read read_faults.Turns) s r w t = inr (t refl)
+  stop_progresses leaves failed (Read read_faults.Failed) s r w t = absurd r
+  stop_progresses leaves failed (Feed (Network f)) s r w t = inl ((fed before ended read read' r, w), first_in k (Feed (Network f)) input (leaves (Feed (Network f))) refl s)
+  stop_progresses leaves failed (Feed (Sink f)) s r w t =
+      let (bs, h) = some_bytes k (Feed (Sink f)) input (leaves (Feed (Sink f))) s in
+      inr (w, failed f bs h.passed h.rest h.left)
+  stop_progresses leaves failed (Feed Failed) s r w t =
+      let (bs, h) = some_bytes k (Feed Failed) input (leaves (Feed Failed)) s in
+      absurd h.says
+
+-- ---- how the sink failed
+
+module _ (c : Config) (is_out : List (List ℕ) → Type 0) (fails : List (List ℕ) → List ℕ → PutFault → Type 0) (fault : PutFault) (bs : List ℕ) (passed : List (List ℕ)) where
+  abbrev pub SinkFails : Type 0
+  SinkFails = (ps : List (List ℕ)) × (p : List ℕ) × fails ps p fault
+
+  pub inject_fails : (exchanged : Option SessionEnd → List Take → List Reply → Type 0) (rest : List (List ℕ)) → InjectLeaves c (Feed (Sink fault)) is_out fails exchanged bs passed rest → SinkFails
+  inject_fails exchanged rest h = let (p, more, e, front) = h.out in (_, _, front.fault)
+
+  pub splice_fails : (filed : ℕ → Option Advertisement) (rest : List (List ℕ)) → SpliceLeaves c filed (Feed (Sink fault)) is_out fails bs passed rest → SinkFails
+  splice_fails filed [] h = (_, _, h.1.fault)
+  splice_fails filed (p ∷ more) h = (_, _, h.fault)
+
+  pub chain_fails : (filed : ℕ → Option Advertisement) (exchanged : Option SessionEnd → List Take → List Reply → Type 0) (rest : List (List ℕ)) → ChainLeaves c filed (Feed (Sink fault)) is_out fails exchanged bs passed rest → SinkFails
+  chain_fails filed exchanged [] h = (_, _, h.out.1.fault)
+  chain_fails filed exchanged (p ∷ more) h = (_, _, h.out.fault.fault)
+
+-- ---- the network had no fault
+
+pub inject_sound : (c : Config) (input : Option (List ℕ)) (is_out : List (List ℕ) → Type 0) (exchanged : Option SessionEnd → List Take → List Reply → Type 0) (report : Report) → InjectsAll c input is_out exchanged report
+    → IfSome input (λ bs. first_run_fault (purpose_of c) bs ≡ None)
+inject_sound c None is_out exchanged report h = tt
+inject_sound c (Some bs) is_out exchanged report h = h.sound
+
+pub splice_sound : (c : Config) (filed : ℕ → Option Advertisement) (input : Option (List ℕ)) (is_out : List (List ℕ) → Type 0) (report : SwitchReport) → SplicesAll c filed input is_out report
+    → IfSome input (λ bs. first_run_fault (reading_cues c) bs ≡ None)
+splice_sound c filed None is_out report h = tt
+splice_sound c filed (Some bs) is_out report h = h.sound
+
+pub chain_sound : (c : Config) (filed : ℕ → Option Advertisement) (input : Option (List ℕ)) (is_out : List (List ℕ) → Type 0) (exchanged : Option SessionEnd → List Take → List Reply → Type 0) (report : Report)
+    → RunsAll c filed input is_out exchanged report → IfSome input (λ bs. first_run_fault (purpose_of c) bs ≡ None)
+chain_sound c filed None is_out exchanged report h = tt
+chain_sound c filed (Some bs) is_out exchanged report h = h.sound
+
+-- ---- what was written up to the fault
+
+pub out_blamed : (fault : FeedFault) (a b c : Tally) (full : Bool) → WentWell a b → OutputBlamed (Feed fault) b c full → OutputBlamed (Feed fault) a c full
+out_blamed (Network f) a b c full w h = well-trans a b c w h
+out_blamed (Sink f) a b c full w h = blamed-after f a b c full w h
+out_blamed Failed a b c full w h = well-trans a b c w h
+
+unchanged : (a b c : Tally) → WentWell a b → c ≡ b → WentWell a c
+unchanged a b c w e = subst (λ t. WentWell a t) (sym e) w
+
+pub fed_blamed : (fault : FeedFault) (a b c : Tally) (full : Bool) → WentWell a b → injecting.FeedBlamed fault b c full → OutputBlamed (Feed fault) a c full
+fed_blamed (Network f) a b c full w h = unchanged a b c w h
+fed_blamed (Sink f) a b c full w h = blamed-after f a b c full w h
+fed_blamed Failed a b c full w h = unchanged a b c w h
+
+pub switched_blamed : (fault : FeedFault) (a b c : Tally) (full : Bool) → WentWell a b → standing.FeedBlamed fault b c full → OutputBlamed (Feed fault) a c full
+switched_blamed (Network f) a b c full w h = unchanged a b c w h
+switched_blamed (Sink f) a b c full w h = blamed-after f a b c full w h
+switched_blamed Failed a b c full w h = unchanged a b c w h
