@@ -7,3 +7,4 @@ pub mod UnchangedLemmas
 pub mod HeadlineLemmas
 pub mod TableLemmas
 pub mod LibraryLemmas
+pub mod WidthLemmas
