@@ -16,7 +16,7 @@ use Rattle.program_follower.specs.FirstFault.{network_test}
 use Rattle.program_follower.proofs.RunLemmas.{ends_sound}
 use Rattle.scte104_codec.specs.declared.reply.Reply.{Reply}
 use Rattle.injector.specs.declared.injector.Injector.{Injector}
-use Rattle.injector.specs.Steps.{Step, Packet, packets_in, purpose_of, cued, sent_at}
+use Rattle.injector.specs.Steps.{Step, Packet, packets_in, cued, sent_at}
 use Rattle.injector.specs.Injecting.{InjectorStandsFor, JudgesBy}
 use Rattle.ad_library.specs.Advertisements.{Advertisement}
 use Rattle.splice_plans.specs.Adverts.{setting_of}
@@ -41,6 +41,7 @@ use Rattle.chain_engine.proofs.StepsLemmas.{none_asked, before_packets, asked_cu
 use Rattle.chain_engine.proofs.StopLemmas.{reverse_onto, reads_stop, packets_stop, ends_stop}
 use Rattle.chain_engine.proofs.RunLemmas.{HasRun, HasHeard, few_takes}
 use Rattle.chain_engine.proofs.NestedLemmas.{one_more}
+use Rattle.program_follower.specs.Purposes.{writing_cues}
 
 module _ (c : Config) (filed : ℕ → Option Advertisement) (exchanged : Option SessionEnd → List Take → List Reply → Type 0) (ps : List (List ℕ)) where
   -- ---- the end
@@ -54,7 +55,7 @@ module _ (c : Config) (filed : ℕ → Option Advertisement) (exchanged : Option
       let all : packets_of bs ≡ ps = (read_to_end (Some bs) left ps r at).0 in
       let steps = steps_of (length h.rs) h.ts (reverse ps) in
       let (written, told) = finishes (sent_by c steps) h.out in record {
-        sound = ends_sound Read (network_test as_run_fault (purpose_of c)) (Some bs) left ps r h.sound at;
+        sound = ends_sound Read (network_test as_run_fault (writing_cues c)) (Some bs) left ps r h.sound at;
         ts = h.ts;
         rs = h.rs;
         serves = subst (λ q. Serves c exchanged h.ts h.rs (length q) (steps_of (length h.rs) h.ts (reverse q))) (sym all)
@@ -87,7 +88,7 @@ module _ (c : Config) (filed : ℕ → Option Advertisement) (exchanged : Option
           → ChainStops c filed (Feed fault) input (is_out t) fails exchanged
       by (Network f) k = absurd k
       by Failed k = absurd k
-      by (Sink f) k = ends_stop (purpose_of c) ps h.sound (ChainLeaves c filed (Feed (Sink f)) (is_out t) fails exchanged) input left r at f (λ bs none. record {
+      by (Sink f) k = ends_stop (writing_cues c) ps h.sound (ChainLeaves c filed (Feed (Sink f)) (is_out t) fails exchanged) input left r at f (λ bs none. record {
         ts = h.ts;
         rs = h.rs;
         serves = record { ending = talk.end; talked = h.talks.talked; exchanges = h.exchanges; replies = h.replies ∙ ap (replies_in c) (sym same) };
@@ -100,7 +101,7 @@ module _ (c : Config) (filed : ℕ → Option Advertisement) (exchanged : Option
       → HasRun c injector talk (WasFed switch c filed is_out) exchanged ps → (fault : ReadFault) → Refuses false left fault → ChainStops c filed (Read fault) input is_out fails exchanged
   read_stops injector talk switch is_out fails input left r h fault k =
       let same = no_more_asked injector talk (WasFed switch c filed is_out) h in
-      reads_stop (purpose_of c) ps h.sound (ChainLeaves c filed (Read fault) is_out fails exchanged) input left r fault k (λ bs rest. record {
+      reads_stop (writing_cues c) ps h.sound (ChainLeaves c filed (Read fault) is_out fails exchanged) input left r fault k (λ bs rest. record {
         ts = h.ts;
         rs = h.rs;
         serves = record { ending = talk.end; talked = h.talks.talked; exchanges = h.exchanges; replies = h.replies ∙ ap (replies_in c) (sym same) };
@@ -123,18 +124,18 @@ module _ (c : Config) (filed : ℕ → Option Advertisement) (exchanged : Option
 
       by : (fault : FeedFault) → PassFails fault c filed p steps (sent_by c steps) (is_out t) fails → ChainStops c filed (Feed fault) input (is_out t) fails exchanged
       by (Network f) k =
-          packets_stop (purpose_of c) ps h.sound (ChainLeaves c filed (Feed (Network f)) (is_out t) fails exchanged) input left left' p r g (Network f)
-          (subst (λ q. network_fault (purpose_of c) p q ≡ Some f) (before_packets (length h.rs) h.ts (reverse ps)) k.0) (λ bs rest. record { ts = h.ts; rs = h.rs; serves = serves; out = k.1 })
+          packets_stop (writing_cues c) ps h.sound (ChainLeaves c filed (Feed (Network f)) (is_out t) fails exchanged) input left left' p r g (Network f)
+          (subst (λ q. network_fault (writing_cues c) p q ≡ Some f) (before_packets (length h.rs) h.ts (reverse ps)) k.0) (λ bs rest. record { ts = h.ts; rs = h.rs; serves = serves; out = k.1 })
       by (Sink f) k =
-          packets_stop (purpose_of c) ps h.sound (ChainLeaves c filed (Feed (Sink f)) (is_out t) fails exchanged) input left left' p r g (Sink f) tt
+          packets_stop (writing_cues c) ps h.sound (ChainLeaves c filed (Feed (Sink f)) (is_out t) fails exchanged) input left left' p r g (Sink f) tt
           (λ bs rest. record { ts = h.ts; rs = h.rs; serves = serves; out = k })
       by Failed k = absurd k
 
   -- the network with one more packet that was passed on
   pub sound_more : {M : Type 0} (injector : Injector) (talk : Talk M) (is_out : List (List ℕ) → Type 0) (p : List ℕ) → HasHeard c injector talk is_out exchanged ps → IsSoundNetwork c (reverse ps) → AreBytes p
-      → ((steps : List Step) → InjectorStandsFor injector c steps → network_fault (purpose_of c) p (packets_in steps) ≡ None) → IsSoundNetwork c (reverse (ps ++ p ∷ []))
+      → ((steps : List Step) → InjectorStandsFor injector c steps → network_fault (writing_cues c) p (packets_in steps) ≡ None) → IsSoundNetwork c (reverse (ps ++ p ∷ []))
   sound_more injector talk is_out p h network b sound =
-      let none = subst (λ q. network_fault (purpose_of c) p q ≡ None) (before_packets (length h.rs) h.ts (reverse ps)) (sound (steps_before (length h.rs) h.ts (reverse ps)) h.stands) in
+      let none = subst (λ q. network_fault (writing_cues c) p q ≡ None) (before_packets (length h.rs) h.ts (reverse ps)) (sound (steps_before (length h.rs) h.ts (reverse ps)) h.stands) in
       subst (IsSoundNetwork c) (sym (reverse-append ps (p ∷ []))) (one_more c p (reverse ps) network b none)
 
 -- ---- one packet
@@ -142,8 +143,8 @@ module _ (c : Config) (filed : ℕ → Option Advertisement) (exchanged : Option
 pub sent_step : (c : Config) (ms : List (List ℕ)) (steps : List Step) (p : List ℕ) → sent_by c steps ++ sent_at c p (asked ms steps) ≡ sent_by c (Packet p ∷ asked ms steps)
 sent_step c ms steps p = ap (λ l. reverse l ++ sent_at c p (asked ms steps)) (sym (asked_cued c ms steps)) ∙ sym (reverse_onto (cued c (asked ms steps)) (sent_at c p (asked ms steps)))
 
-pub same_packets : (c : Config) (ms : List (List ℕ)) (steps : List Step) (p : List ℕ) → network_fault (purpose_of c) p (packets_in (asked ms steps)) ≡ None → network_fault (purpose_of c) p (packets_in steps) ≡ None
-same_packets c ms steps p = subst (λ q. network_fault (purpose_of c) p q ≡ None) (asked_packets ms steps)
+pub same_packets : (c : Config) (ms : List (List ℕ)) (steps : List Step) (p : List ℕ) → network_fault (writing_cues c) p (packets_in (asked ms steps)) ≡ None → network_fault (writing_cues c) p (packets_in steps) ≡ None
+same_packets c ms steps p = subst (λ q. network_fault (writing_cues c) p q ≡ None) (asked_packets ms steps)
 
 module _ {X : Type 0} (takes : X → Option (List Take)) (answers : X → Option (List Answer)) (old new : X) (lost : Bool) (c : Config) (ts : List Take) (n k : ℕ) (steps : List Step) (more : List Take) (rs : List Reply) where
   pub hears_so : (i j : Injector) → Told (takes old) (takes new) more → Replied InjectorJudges i j (judged_before (n + length rs) (ts ++ more) k) rs lost (answers old) (answers new) → InjectorStandsFor i c steps

@@ -4,7 +4,7 @@ use Rattle.ts_packet.specs.declared.sink.PutFault.{PutFault}
 use Rattle.psi_tables.specs.declared.config.Config.{Config}
 use Rattle.scte104_codec.specs.declared.reply.Reply.{Reply}
 use Rattle.program_follower.specs.declared.purpose.Purpose.{Purpose}
-use Rattle.injector.specs.Steps.{Step, purpose_of}
+use Rattle.injector.specs.Steps.{Step}
 use Rattle.ad_library.specs.Advertisements.{Advertisement}
 use Rattle.chain_engine.specs.Automation.{Take}
 use Rattle.chain_engine.specs.Stops.{StoppedBy, StopsBy}
@@ -13,6 +13,7 @@ use Rattle.chain_engine.specs.ChainRuns.{ChainLeaves, ChainStops}
 use Rattle.chain_engine.specs.declared.hearing.SessionEnd.{SessionEnd}
 use Rattle.chain_engine.specs.declared.report.Report.{Report}
 use Rattle.chain_engine.specs.declared.chain.RunFault.{RunFault}
+use Rattle.program_follower.specs.Purposes.{writing_cues}
 
 module _ (k : Purpose) (fault : RunFault) where
   stopped_so : (bs : List ℕ) (leaves leaves' : List ℕ → List (List ℕ) → List (List ℕ) → Type 0) → ((bs : List ℕ) (passed rest : List (List ℕ)) → leaves bs passed rest → leaves' bs passed rest)
@@ -38,9 +39,9 @@ module _ (c : Config) (told told' : Option SessionEnd → List Take → List Rep
 
   pub stops_so : (fault : RunFault) (input : Option (List ℕ)) (is_out : List (List ℕ) → Type 0) (fails : List (List ℕ) → List ℕ → PutFault → Type 0) → InjectStops c fault input is_out fails told
       → InjectStops c fault input is_out fails told'
-  stops_so fault input is_out fails = leaves_so (purpose_of c) fault input (InjectLeaves c fault is_out fails told) (InjectLeaves c fault is_out fails told') (λ bs passed rest. serves_left fault _ passed rest)
+  stops_so fault input is_out fails = leaves_so (writing_cues c) fault input (InjectLeaves c fault is_out fails told) (InjectLeaves c fault is_out fails told') (λ bs passed rest. serves_left fault _ passed rest)
 
   pub chain_stops_so : (filed : ℕ → Option Advertisement) (fault : RunFault) (input : Option (List ℕ)) (is_out : List (List ℕ) → Type 0) (fails : List (List ℕ) → List ℕ → PutFault → Type 0)
       → ChainStops c filed fault input is_out fails told → ChainStops c filed fault input is_out fails told'
   chain_stops_so filed fault input is_out fails =
-      leaves_so (purpose_of c) fault input (ChainLeaves c filed fault is_out fails told) (ChainLeaves c filed fault is_out fails told') (λ bs passed rest. serves_left fault _ passed rest)
+      leaves_so (writing_cues c) fault input (ChainLeaves c filed fault is_out fails told) (ChainLeaves c filed fault is_out fails told') (λ bs passed rest. serves_left fault _ passed rest)

@@ -14,8 +14,7 @@ use Rattle.psi_tables.specs.declared.config.Config.{Config}
 use Rattle.psi_tables.specs.declared.network.FeedFault.{FeedFault}
 use Rattle.psi_tables.specs.declared.network.FeedFault.TheVariants.{Network, Sink, Failed}
 use Rattle.program_follower.specs.declared.purpose.Purpose.{Purpose}
-use Rattle.program_follower.specs.Purposes.{reading_cues}
-use Rattle.injector.specs.Steps.{purpose_of}
+use Rattle.program_follower.specs.Purposes.{reading_cues, writing_cues}
 use Rattle.injector.specs.Injecting as injecting
 use Rattle.splice_switch.specs.Standing as standing
 use Rattle.splice_plans.specs.declared.report.SwitchReport.{SwitchReport}
@@ -118,7 +117,7 @@ module _ (c : Config) (is_out : List (List ℕ) → Type 0) (fails : List (List 
 -- ---- the network had no fault
 
 pub inject_sound : (c : Config) (input : Option (List ℕ)) (is_out : List (List ℕ) → Type 0) (exchanged : Option SessionEnd → List Take → List Reply → Type 0) (report : Report) → InjectsAll c input is_out exchanged report
-    → IfSome input (λ bs. first_run_fault (purpose_of c) bs ≡ None)
+    → IfSome input (λ bs. first_run_fault (writing_cues c) bs ≡ None)
 inject_sound c None is_out exchanged report h = tt
 inject_sound c (Some bs) is_out exchanged report h = h.sound
 
@@ -128,7 +127,7 @@ splice_sound c filed None is_out report h = tt
 splice_sound c filed (Some bs) is_out report h = h.sound
 
 pub chain_sound : (c : Config) (filed : ℕ → Option Advertisement) (input : Option (List ℕ)) (is_out : List (List ℕ) → Type 0) (exchanged : Option SessionEnd → List Take → List Reply → Type 0) (report : Report)
-    → RunsAll c filed input is_out exchanged report → IfSome input (λ bs. first_run_fault (purpose_of c) bs ≡ None)
+    → RunsAll c filed input is_out exchanged report → IfSome input (λ bs. first_run_fault (writing_cues c) bs ≡ None)
 chain_sound c filed None is_out exchanged report h = tt
 chain_sound c filed (Some bs) is_out exchanged report h = h.sound
 

@@ -21,8 +21,9 @@ use Rattle.program_follower.proofs.RunLemmas.{ends_sound}
 use Rattle.scte104_codec.specs.declared.reply.Reply.{Reply}
 use Rattle.as_session.specs.Session.{state_of}
 use Rattle.injector.specs.declared.injector.Injector.{Injector}
-use Rattle.injector.specs.Steps.{Step, Packet, packets_in, purpose_of, cued, sent_at}
-use Rattle.injector.specs.Injecting.{InjectorStandsFor, JudgesBy, FeedFails, KeepsSink}
+use Rattle.injector.specs.Steps.{Step, Packet, packets_in, cued, sent_at}
+use Rattle.injector.specs.Injecting.{InjectorStandsFor, JudgesBy, FeedFails}
+use Rattle.outgoing_packets.specs.Faults.{KeepsSink}
 use Rattle.chain_engine.specs.Automation.{Take, piece, ended, failed, Answer, Told}
 use Rattle.chain_engine.specs.Hearing.{answers_to, lost_by, Replied}
 use Rattle.chain_engine.specs.Judging.{JudgesAll, InjectorJudges}
@@ -40,12 +41,13 @@ use Rattle.chain_engine.proofs.StopLemmas.{reverse_onto, reads_stop, packets_sto
 use Rattle.chain_engine.proofs.HearingLemmas.{told_none, told_more, answers_more}
 use Rattle.chain_engine.proofs.TalkLemmas.{goes_closed, open_end}
 use Rattle.chain_engine.proofs.StepsLemmas.{steps_stay, none_asked, asked_cued, before_packets, asked_judged}
+use Rattle.program_follower.specs.Purposes.{writing_cues}
 
 -- ---- what is known between two packets, and behind the messages before a packet
 
 pub record HasRun {M : Type 0} (c : Config) (injector : Injector) (talk : Talk M) (is_out : List (List ℕ) → Type 0) (exchanged : Option SessionEnd → List Take → List Reply → Type 0)
     (ps : List (List ℕ)) : Type 0 where
-  pub sound : All (λ (s : Seen). network_test as_run_fault (purpose_of c) s ≡ None) (seen_after [] ps)
+  pub sound : All (λ (s : Seen). network_test as_run_fault (writing_cues c) s ≡ None) (seen_after [] ps)
   pub ts : List Take
   pub rs : List Reply
   pub stands : InjectorStandsFor injector c (steps_of (length rs) ts (reverse ps))
@@ -56,7 +58,7 @@ pub record HasRun {M : Type 0} (c : Config) (injector : Injector) (talk : Talk M
 
 pub record HasHeard {M : Type 0} (c : Config) (injector : Injector) (talk : Talk M) (is_out : List (List ℕ) → Type 0) (exchanged : Option SessionEnd → List Take → List Reply → Type 0)
     (ps : List (List ℕ)) : Type 0 where
-  pub sound : All (λ (s : Seen). network_test as_run_fault (purpose_of c) s ≡ None) (seen_after [] ps)
+  pub sound : All (λ (s : Seen). network_test as_run_fault (writing_cues c) s ≡ None) (seen_after [] ps)
   pub ts : List Take
   pub rs : List Reply
   pub stands : InjectorStandsFor injector c (steps_before (length rs) ts (reverse ps))
@@ -181,15 +183,15 @@ module _ {X : Type 0} (takes : X → Option (List Take)) (answers : X → Option
 module _ (c : Config) (exchanged : Option SessionEnd → List Take → List Reply → Type 0) (ps : List (List ℕ)) where
   pub passed : {M : Type 0} (injector injector' : Injector) (talk : Talk M) (is_out is_out' : List (List ℕ) → Type 0) (p : List ℕ) → HasHeard c injector talk is_out exchanged ps
       → ((steps : List Step) → InjectorStandsFor injector c steps → is_out (sent_by c steps)
-      → (network_fault (purpose_of c) p (packets_in steps) ≡ None) × InjectorStandsFor injector' c (Packet p ∷ steps) × is_out' (sent_by c steps ++ sent_at c p steps))
+      → (network_fault (writing_cues c) p (packets_in steps) ≡ None) × InjectorStandsFor injector' c (Packet p ∷ steps) × is_out' (sent_by c steps ++ sent_at c p steps))
       → HasRun c injector' talk is_out' exchanged (ps ++ p ∷ [])
   passed injector injector' talk is_out is_out' p h feeds =
       let steps = steps_before (length h.rs) h.ts (reverse ps) in
       let (none, stands, out) = feeds steps h.stands h.out in
-      let sound = subst (λ q. network_fault (purpose_of c) p q ≡ None) (before_packets (length h.rs) h.ts (reverse ps)) none in
+      let sound = subst (λ q. network_fault (writing_cues c) p q ≡ None) (before_packets (length h.rs) h.ts (reverse ps)) none in
       let now : steps_of (length h.rs) h.ts (reverse (ps ++ p ∷ [])) ≡ Packet p ∷ steps = ap (steps_of (length h.rs) h.ts) (reverse-append ps (p ∷ [])) in
       let long = length-append ps (p ∷ []) in record {
-        sound = sound_more (network_test as_run_fault (purpose_of c)) ps p h.sound (ap (option_map as_run_fault) sound);
+        sound = sound_more (network_test as_run_fault (writing_cues c)) ps p h.sound (ap (option_map as_run_fault) sound);
         ts = h.ts;
         rs = h.rs;
         stands = subst (InjectorStandsFor injector' c) (sym now) stands;
@@ -206,7 +208,7 @@ module _ (c : Config) (exchanged : Option SessionEnd → List Take → List Repl
   ends injector talk is_out None left report r at h counts = tt
   ends injector talk is_out (Some bs) left report r at h counts =
       let all : packets_of bs ≡ ps = (read_to_end (Some bs) left ps r at).0 in record {
-        sound = ends_sound Read (network_test as_run_fault (purpose_of c)) (Some bs) left ps r h.sound at;
+        sound = ends_sound Read (network_test as_run_fault (writing_cues c)) (Some bs) left ps r h.sound at;
         ts = h.ts;
         rs = h.rs;
         serves = subst (λ q. Serves c exchanged h.ts h.rs (length q) (steps_of (length h.rs) h.ts (reverse q))) (sym all)
@@ -223,7 +225,7 @@ module _ (c : Config) (exchanged : Option SessionEnd → List Take → List Repl
       let back = length-reverse ps in
       let le = few_takes talk.end h.ts (length h.rs) (length ps) h.talks.talked in
       let same = none_asked (length h.rs) h.ts (reverse ps) (omega (arith, le, back)) in
-      reads_stop (purpose_of c) ps h.sound (InjectLeaves c (Read fault) is_out fails exchanged) input left r fault k (λ bs rest. record {
+      reads_stop (writing_cues c) ps h.sound (InjectLeaves c (Read fault) is_out fails exchanged) input left r fault k (λ bs rest. record {
         ts = h.ts;
         rs = h.rs;
         serves = record { ending = talk.end; talked = h.talks.talked; exchanges = h.exchanges; replies = h.replies ∙ ap (replies_in c) (sym same) };
@@ -246,11 +248,11 @@ module _ (c : Config) (exchanged : Option SessionEnd → List Take → List Repl
 
       by : (fault : FeedFault) → KeepsSink fault s t → FeedFails fault c p steps (λ put q f. fails (sent_by c steps ++ put) q f) → InjectStops c (Feed fault) input (is_out t) fails exchanged
       by (Network f) kept k =
-          packets_stop (purpose_of c) ps h.sound (InjectLeaves c (Feed (Network f)) (is_out t) fails exchanged) input left left' p r g (Network f)
-          (subst (λ q. network_fault (purpose_of c) p q ≡ Some f) (before_packets (length h.rs) h.ts (reverse ps)) k)
+          packets_stop (writing_cues c) ps h.sound (InjectLeaves c (Feed (Network f)) (is_out t) fails exchanged) input left left' p r g (Network f)
+          (subst (λ q. network_fault (writing_cues c) p q ≡ Some f) (before_packets (length h.rs) h.ts (reverse ps)) k)
           (λ bs rest. record { ts = h.ts; rs = h.rs; serves = serves; out = subst (λ w. is_out w (sent_by c steps)) (sym kept) h.out })
       by (Sink f) kept k =
-          packets_stop (purpose_of c) ps h.sound (InjectLeaves c (Feed (Sink f)) (is_out t) fails exchanged) input left left' p r g (Sink f) tt
+          packets_stop (writing_cues c) ps h.sound (InjectLeaves c (Feed (Sink f)) (is_out t) fails exchanged) input left left' p r g (Sink f) tt
           (λ bs rest. record { ts = h.ts; rs = h.rs; serves = serves; out = (p, rest, refl, k) })
       by Failed kept k = absurd k
 

@@ -25,7 +25,8 @@ use Rattle.splice_plans.specs.Adverts.{setting_of}
 use Rattle.splice_plans.specs.Switching.{switched_past, switched_at_packet, rest_at}
 use Rattle.splice_plans.specs.Reporting.{ReportIs, report_of}
 use Rattle.splice_switch.specs.declared.switch.Switch.{Switch}
-use Rattle.splice_switch.specs.Standing.{SwitchStandsFor, FeedFails, FinishFails, KeepsSink}
+use Rattle.splice_switch.specs.Standing.{SwitchStandsFor, FeedFails, FinishFails}
+use Rattle.outgoing_packets.specs.Faults.{KeepsSink}
 use Rattle.chain_engine.specs.Stops.{as_run_fault, first_run_fault}
 use Rattle.chain_engine.specs.Splices.{switch_sends, SplicesAll, SpliceLeaves, SpliceStops}
 use Rattle.chain_engine.specs.declared.chain.RunFault.TheVariants.{Read, Feed}

@@ -11,7 +11,7 @@ use Rattle.program_follower.specs.Faults.{network_fault}
 use Rattle.scte104_codec.specs.declared.reply.Reply.{Reply}
 use Rattle.outgoing_packets.specs.Numbers.{FrontFails}
 use Rattle.injector.specs.Injecting.{InjectorStandsFor}
-use Rattle.injector.specs.Steps.{Step, Packet, packets_in, turns_in, purpose_of, sent_at, messages_in, accepted_in, refused_in}
+use Rattle.injector.specs.Steps.{Step, Packet, packets_in, turns_in, sent_at, messages_in, accepted_in, refused_in}
 use Rattle.ad_library.specs.Advertisements.{Advertisement}
 use Rattle.splice_plans.specs.Adverts.{setting_of}
 use Rattle.splice_plans.specs.Switching.{spliced_network}
@@ -28,6 +28,7 @@ use Rattle.chain_engine.specs.declared.hearing.SessionEnd.{SessionEnd}
 use Rattle.chain_engine.specs.declared.report.Report.{Report}
 use Rattle.chain_engine.specs.declared.chain.Chain.{Chain}
 use Rattle.chain_engine.specs.declared.chain.RunFault.{RunFault}
+use Rattle.program_follower.specs.Purposes.{writing_cues}
 
 -- THE OUTPUT of these steps, in order: what the switch sends by what the injector sends
 abbrev pub chain_sends : Config → (ℕ → Option Advertisement) → List Step → List (List ℕ)
@@ -53,7 +54,7 @@ pub record Counted (report : Report) (c : Config) (filed : ℕ → Option Advert
 -- `is_out` says of packets that they stand behind what was there.
 pub record Ran (c : Config) (filed : ℕ → Option Advertisement) (bs : List ℕ) (is_out : List (List ℕ) → Type 0)
     (exchanged : Option SessionEnd → List Take → List Reply → Type 0) (report : Report) : Type 0 where
-  pub sound : first_run_fault (purpose_of c) bs ≡ None
+  pub sound : first_run_fault (writing_cues c) bs ≡ None
   pub ts : List Take
   pub rs : List Reply
   pub serves : Serves c exchanged ts rs (length (packets_of bs)) (steps_of (length rs) ts (reverse (packets_of bs)))
@@ -70,7 +71,7 @@ RunsAll c filed input is_out exchanged report = IfSome input (λ bs. Ran c filed
 -- where all packets of a network without a fault are passed, at what was left at the end.
 abbrev pub SwitchStops : PutFault → Config → (ℕ → Option Advertisement) → List ℕ → List Step → List (List ℕ) → (List (List ℕ) → Type 0)
     → (List (List ℕ) → List ℕ → PutFault → Type 0) → Type 0
-SwitchStops fault c filed bs steps [] is_out fails = (first_run_fault (purpose_of c) bs ≡ None)
+SwitchStops fault c filed bs steps [] is_out fails = (first_run_fault (writing_cues c) bs ≡ None)
     × FinishFails (Sink fault) c filed (reverse (sent_by c steps)) (λ put q x. fails (chain_sends c filed steps ++ put) q x)
 SwitchStops fault c filed bs steps (p ∷ more) is_out fails =
     FrontFails (sent_at c p steps) (λ put q. SwitchFails (Sink fault) c filed q (sent_by c steps ++ put) is_out fails)
@@ -84,7 +85,7 @@ ChainLeaves c filed fault is_out fails exchanged bs passed rest = WasServed c ex
 -- THE THEOREM FOR FAULTS of a run of the chain
 abbrev pub ChainStops : Config → (ℕ → Option Advertisement) → RunFault → Option (List ℕ) → (List (List ℕ) → Type 0)
     → (List (List ℕ) → List ℕ → PutFault → Type 0) → (Option SessionEnd → List Take → List Reply → Type 0) → Type 0
-ChainStops c filed fault input is_out fails exchanged = StopsBy (purpose_of c) fault input (ChainLeaves c filed fault is_out fails exchanged)
+ChainStops c filed fault input is_out fails exchanged = StopsBy (writing_cues c) fault input (ChainLeaves c filed fault is_out fails exchanged)
 
 -- ---- one packet
 
@@ -116,7 +117,7 @@ pub record Stepped {M X : Type 0} (takes : X → Option (List Take)) (answers : 
   pub more : List Take
   pub rs : List Reply
   pub hears : Hears takes answers before now (loses old.talk.end new.talk.end) old.config ts n k steps more rs
-  pub sound : network_fault (purpose_of old.config) p (packets_in steps) ≡ None
+  pub sound : network_fault (writing_cues old.config) p (packets_in steps) ≡ None
   pub stands : HasStepped new filed is_out (ts ++ more) (n + length rs) (suc k) (Packet p ∷ heard_steps (ts ++ more) (n + length rs) k steps)
 
 -- the automation was heard, and then the packet was not passed on

@@ -10,9 +10,9 @@ use Rattle.psi_tables.specs.declared.config.Config.{Config}
 use Rattle.psi_tables.specs.declared.network.FeedFault.{FeedFault}
 use Rattle.psi_tables.specs.declared.network.FeedFault.TheVariants.{Network, Sink, Failed}
 use Rattle.program_follower.specs.Faults.{network_fault, first_fault}
-use Rattle.program_follower.specs.Purposes.{reading_cues}
+use Rattle.program_follower.specs.Purposes.{reading_cues, writing_cues}
 use Rattle.outgoing_packets.specs.Numbers.{FrontFails}
-use Rattle.injector.specs.Steps.{Step, packets_in, purpose_of, sent_at}
+use Rattle.injector.specs.Steps.{Step, packets_in, sent_at}
 use Rattle.cued_laws.specs.Laws.{ArePacketsOfBytes}
 use Rattle.ad_library.specs.Advertisements.{Advertisement}
 use Rattle.splice_plans.specs.Adverts.{setting_of}
@@ -99,13 +99,13 @@ FaultKept-trans x y z s t a b c full more (inr (f, e, spent, h)) k stays =
 -- the packets of a network so far, newest first, are of bytes, and none of them is at fault
 pub record IsSoundNetwork (c : Config) (past : List (List ℕ)) : Type 0 where
   pub bytes : ArePacketsOfBytes past
-  pub sound : first_fault (purpose_of c) past ≡ None
+  pub sound : first_fault (writing_cues c) past ≡ None
 
 -- Why a packet of the network was not passed on through both, behind these steps and what the switch was fed by them: what is wrong with
 -- it behind those before it, and nothing of it was fed; or the switch's sink failed at one of the packets that the injector sends for it.
 -- The switch itself finds no fault in what an injector sends.
 abbrev pub PassFails : FeedFault → Config → (ℕ → Option Advertisement) → List ℕ → List Step → List (List ℕ) → (List (List ℕ) → Type 0)
     → (List (List ℕ) → List ℕ → PutFault → Type 0) → Type 0
-PassFails (Network fault) c filed p steps fed is_out fails = (network_fault (purpose_of c) p (packets_in steps) ≡ Some fault) × is_out (switch_sends c filed fed)
+PassFails (Network fault) c filed p steps fed is_out fails = (network_fault (writing_cues c) p (packets_in steps) ≡ Some fault) × is_out (switch_sends c filed fed)
 PassFails (Sink fault) c filed p steps fed is_out fails = FrontFails (sent_at c p steps) (λ put q. SwitchFails (Sink fault) c filed q (fed ++ put) is_out fails)
 PassFails Failed c filed p steps fed is_out fails = ⊥

@@ -15,7 +15,7 @@ use Rattle.scte104_codec.specs.Reading.{message_of}
 use Rattle.outgoing_packets.specs.Numbers.{FrontFails}
 use Rattle.splice_plans.specs.declared.report.SwitchReport.{SwitchReport}
 use Rattle.injector.specs.Replies.{reply_to}
-use Rattle.injector.specs.Steps.{Step, Message, Packet, turns_in, purpose_of, cued, sent_at, messages_in, accepted_in}
+use Rattle.injector.specs.Steps.{Step, Message, Packet, turns_in, cued, sent_at, messages_in, accepted_in}
 use Rattle.injector.specs.Steps.{refused_in}
 use Rattle.chain_engine.specs.Automation.{Take, Answer, Told}
 use Rattle.chain_engine.specs.Hearing.{answers_to, lost_by}
@@ -25,6 +25,7 @@ use Rattle.chain_engine.specs.declared.hearing.SessionEnd.{SessionEnd}
 use Rattle.chain_engine.specs.declared.report.Report.{Report}
 use Rattle.chain_engine.specs.declared.chain.RunFault.{RunFault}
 use Rattle.chain_engine.specs.declared.chain.RunFault.TheVariants.{Read, Feed}
+use Rattle.program_follower.specs.Purposes.{writing_cues}
 
 -- ---- the history of a run
 
@@ -91,7 +92,7 @@ pub record Serves (c : Config) (exchanged : Option SessionEnd → List Take → 
 -- says of packets that they stand behind what was there.
 pub record Injected (c : Config) (bs : List ℕ) (is_out : List (List ℕ) → Type 0)
     (exchanged : Option SessionEnd → List Take → List Reply → Type 0) (report : Report) : Type 0 where
-  pub sound : first_run_fault (purpose_of c) bs ≡ None
+  pub sound : first_run_fault (writing_cues c) bs ≡ None
   pub ts : List Take
   pub rs : List Reply
   pub serves : Serves c exchanged ts rs (length (packets_of bs)) (steps_of (length rs) ts (reverse (packets_of bs)))
@@ -136,7 +137,7 @@ InjectLeaves c fault is_out fails exchanged bs passed rest = WasServed c exchang
 abbrev pub InjectStops : Config → RunFault → Option (List ℕ) → (List (List ℕ) → Type 0)
     → (List (List ℕ) → List ℕ → PutFault → Type 0) → (Option SessionEnd → List Take → List Reply → Type 0) → Type 0
 InjectStops c fault input is_out fails exchanged =
-    StopsBy (purpose_of c) fault input (InjectLeaves c fault is_out fails exchanged)
+    StopsBy (writing_cues c) fault input (InjectLeaves c fault is_out fails exchanged)
 
 -- ---- what the devices did
 

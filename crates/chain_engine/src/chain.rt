@@ -4,11 +4,11 @@ ghost use Rattle.std.specs.Prelude.{◌≡◌, ℕ, ◌⊎◌, List, ◌++◌, O
 ghost use Rattle.ts_packet.specs.Sources.{SourceCounts, Stalled, Exhausted};
 ghost use Rattle.ts_packet.specs.Transfers.{WentWell};
 ghost use Rattle.psi_tables.specs.declared.config.Config.{Config};
-ghost use Rattle.injector.specs.Steps.{purpose_of};
 ghost use Rattle.chain_engine.specs.Chains.{ChainStandsFor};
 ghost use Rattle.chain_engine.specs.Stops.{first_run_fault};
 ghost use Rattle.chain_engine.specs.Progress.{Progresses};
 ghost use Rattle.chain_engine.specs.Runs.{Exchanged, InjectsAll, InjectStops, NetworkBlamed, OutputBlamed};
+ghost use Rattle.program_follower.specs.Purposes.{writing_cues};
 
 use crate::automation::Automation;
 use crate::report::Report;
@@ -103,7 +103,7 @@ pub fn run_inject<M: Allocator, P: PacketSource, U: Automation, K: PacketSink>(
         (Exchanged U.takes U.answers U.failures automation.old automation.new)) }
     ensures progress { (c : Config) (start : Option (List ℕ)) (before : List (List ℕ)) → ChainStandsFor chain c
         → K.holds out.old start before
-        → Progresses (first_run_fault (purpose_of c)) (P.left network.old)
+        → Progresses (first_run_fault (writing_cues c)) (P.left network.old)
         (Stalled P.leads P.counts P.falls_short network.old network.new ⊎ Exhausted P.left P.given network.old)
         (P.counts network.old) (P.counts network.new) (K.counts out.old) (K.counts out.new) (K.is_full out.new)
         (λ ps. K.fails out.new start (before ++ ps)) result }

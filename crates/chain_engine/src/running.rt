@@ -6,7 +6,7 @@ ghost use Rattle.ts_packet.specs.Transfers.{WentWell};
 ghost use Rattle.wire_fields.specs.Numbers.{AreBytes};
 ghost use Rattle.program_follower.specs.Faults.{network_fault};
 ghost use Rattle.injector.specs.Injecting.{InjectorStandsFor};
-ghost use Rattle.injector.specs.Steps.{Step, Packet as PacketStep, packets_in, purpose_of, sent_at};
+ghost use Rattle.injector.specs.Steps.{Step, Packet as PacketStep, packets_in, sent_at};
 ghost use Rattle.ad_library.specs.Library.{held};
 ghost use Rattle.chain_engine.specs.Automation.{Take};
 ghost use Rattle.chain_engine.specs.Chains.{ChainStandsFor};
@@ -16,6 +16,7 @@ ghost use Rattle.chain_engine.specs.Runs.{sent_by, Exchanged, OutputBlamed};
 ghost use Rattle.chain_engine.specs.Splices.{NetworkBlamedToEnd};
 ghost use Rattle.chain_engine.specs.Nested.{WasFed, IsSoundNetwork, PassFails};
 ghost use Rattle.chain_engine.specs.ChainRuns.{RunsAll, ChainStops, HasStepped, Stepped, StepStops};
+ghost use Rattle.program_follower.specs.Purposes.{writing_cues};
 
 use crate::automation::Automation;
 use crate::chain::{Chain, RunFault};
@@ -127,7 +128,7 @@ fn pass_on<K: PacketSink>(
     ensures stands { (steps : List Step) → InjectorStandsFor injector.old config.now steps
         → OnOk result (InjectorStandsFor injector.new config.now (PacketStep packet.now ∷ steps)) }
     ensures sound { (steps : List Step) → InjectorStandsFor injector.old config.now steps
-        → OnOk result (network_fault (purpose_of config.now) packet.now (packets_in steps) ≡ None) }
+        → OnOk result (network_fault (writing_cues config.now) packet.now (packets_in steps) ≡ None) }
     ensures bytes { AreBytes packet.now }
     ensures err { (steps : List Step) (start : Option (List ℕ)) (before fed : List (List ℕ)) → InjectorStandsFor injector.old config.now steps
         → IsSoundNetwork config.now (packets_in steps) → fed ≡ sent_by config.now steps
@@ -225,7 +226,7 @@ pub fn run<M: Allocator, P: PacketSource, U: Automation, K: PacketSink>(
         (Exchanged U.takes U.answers U.failures automation.old automation.new)) }
     ensures progress { (c : Config) (start : Option (List ℕ)) (before : List (List ℕ)) → ChainStandsFor chain c
         → K.holds out.old start before
-        → Progresses (first_run_fault (purpose_of c)) (P.left network.old)
+        → Progresses (first_run_fault (writing_cues c)) (P.left network.old)
         (Stalled P.leads P.counts P.falls_short network.old network.new ⊎ Exhausted P.left P.given network.old)
         (P.counts network.old) (P.counts network.new) (K.counts out.old) (K.counts out.new) (K.is_full out.new)
         (λ ps. K.fails out.new start (before ++ ps)) result }

@@ -4,12 +4,13 @@ use Rattle.ts_packet.specs.Sources.{Refuses}
 use Rattle.ts_packet.proofs.CountLemmas.{well-refl, well-trans}
 use Rattle.ts_packet.proofs.RunBlameLemmas.{given_none, given_more}
 use Rattle.ts_packet.proofs.RunBlameLemmas.{on-refl, on-more, on-told, on-end, read_blamed}
-use Rattle.injector.specs.Steps.{purpose_of, sent_at}
+use Rattle.injector.specs.Steps.{sent_at}
 use Rattle.chain_engine.specs.Runs.{sent_by, Exchanged, InjectLeaves}
 use Rattle.chain_engine.specs.declared.chain.RunFault.TheVariants.{Read, Feed}
 use Rattle.chain_engine.proofs.RunLemmas.{begun, heard, passed, ends, read_stops, feed_stops, fails_so}
 use Rattle.chain_engine.proofs.ProgressLemmas.{ran_out_so, end_progresses, stop_progresses, inject_fails, inject_sound, fed_blamed}
 use Rattle.chain_engine.proofs.chain.run_inject.Goals as goal
+use Rattle.program_follower.specs.Purposes.{writing_cues}
 
 pub loop-injector-init : goal.loop-injector-init
 loop-injector-init g c = record {
@@ -81,7 +82,7 @@ returns-in-Err-feed-clause-err g c = λ d start before h held.
 
 pub returns-in-Ok-false-clause-progress : goal.returns-in-Ok-false-clause-progress
 returns-in-Ok-false-clause-progress g c = λ d start before h held.
-    end_progresses (purpose_of d) _ (g.P.PacketSource.has_ended c.args.network.now) (g.P.PacketSource.has_ended c.read_packet.new.self) _ _ _ _
+    end_progresses (writing_cues d) _ (g.P.PacketSource.has_ended c.args.network.now) (g.P.PacketSource.has_ended c.read_packet.new.self) _ _ _ _
     (inject_sound d _ _ _ _ (returns-in-Ok-false-clause-ok g c d start before h held))
     (on-end _ _ _ _ _ _ c.loop-injector.invariant.well (rw c.in-Ok-false.field-0-test at c.in-Ok-false.ensures.counts))
     c.loop-injector.invariant.wrote
@@ -93,7 +94,7 @@ returns-in-Err-clause-progress g c = λ d start before h held.
     let is_out = (λ (qs : List (List ℕ)). g.K.PacketSink.holds c.loop-injector.out start (before ++ qs)) in
     let fails = (λ (qs : List (List ℕ)). g.K.PacketSink.fails c.loop-injector.out start (before ++ qs)) in
     let exchanged = (Exchanged g.U.Automation.takes g.U.Automation.answers g.U.Automation.failures c.args.automation.now c.loop-injector.automation) in
-    stop_progresses (purpose_of d) _ _ (g.P.PacketSource.has_ended c.args.network.now) (g.P.PacketSource.has_ended c.read_packet.new.self) _ _ _ _ _ fails
+    stop_progresses (writing_cues d) _ _ (g.P.PacketSource.has_ended c.args.network.now) (g.P.PacketSource.has_ended c.read_packet.new.self) _ _ _ _ _ fails
     (λ f. InjectLeaves d f is_out fails exchanged) (λ f bs passed rest. inject_fails d is_out fails f bs passed exchanged rest)
     (Read c.in-Err.fault) (returns-in-Err-clause-err g c d start before h held)
     (read_blamed _ _ _ _ _ _ _ c.loop-injector.invariant.well c.in-Err.ensures.blamed.0 c.in-Err.fault refuses c.in-Err.ensures.blamed.1)
@@ -106,7 +107,7 @@ returns-in-Err-feed-clause-progress g c = λ d start before h held.
     let is_out = (λ (qs : List (List ℕ)). g.K.PacketSink.holds c.feed.new.sink start (before ++ qs)) in
     let fails = (λ (qs : List (List ℕ)). g.K.PacketSink.fails c.feed.new.sink start (before ++ qs)) in
     let exchanged = (Exchanged g.U.Automation.takes g.U.Automation.answers g.U.Automation.failures c.args.automation.now c.listen.new.automation) in
-    stop_progresses (purpose_of d) _ _ (g.P.PacketSource.has_ended c.args.network.now) (g.P.PacketSource.has_ended c.read_packet.new.self) _ _ _ _ _ fails
+    stop_progresses (writing_cues d) _ _ (g.P.PacketSource.has_ended c.args.network.now) (g.P.PacketSource.has_ended c.read_packet.new.self) _ _ _ _ _ fails
     (λ f. InjectLeaves d f is_out fails exchanged) (λ f bs passed rest. inject_fails d is_out fails f bs passed exchanged rest)
     (Feed c.in-Err-feed.fault) (returns-in-Err-feed-clause-err g c d start before h held)
     (inl (on-told _ _ _ _ _ _ c.loop-injector.invariant.well (rw c.in-Ok-true.field-0-test at c.in-Ok-true.ensures.counts)))

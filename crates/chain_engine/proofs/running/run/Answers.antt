@@ -5,7 +5,6 @@ use Rattle.ts_packet.specs.Sources.{Refuses}
 use Rattle.ts_packet.proofs.CountLemmas.{well-refl, well-trans}
 use Rattle.ts_packet.proofs.RunBlameLemmas.{given_none, given_more}
 use Rattle.ts_packet.proofs.RunBlameLemmas.{on-refl, on-more, on-told, on-end, read_blamed}
-use Rattle.injector.specs.Steps.{purpose_of}
 use Rattle.ad_library.specs.Library.{held}
 use Rattle.splice_plans.specs.Adverts.{setting_of}
 use Rattle.splice_plans.specs.Switching.{rest_at}
@@ -21,6 +20,7 @@ use Rattle.chain_engine.proofs.RunLemmas.{begun, heard, passed}
 use Rattle.chain_engine.proofs.ChainLemmas.{ends, finish_stops, read_stops, pass_stops, sound_more}
 use Rattle.chain_engine.proofs.ProgressLemmas.{ran_out_so, end_progresses, stop_progresses, chain_fails, chain_sound, switched_blamed, out_blamed}
 use Rattle.chain_engine.proofs.running.run.Goals as goal
+use Rattle.program_follower.specs.Purposes.{writing_cues}
 
 pub loop-fault-init : goal.loop-fault-init
 loop-fault-init g c = record {
@@ -135,7 +135,7 @@ returns-clause-err g c = λ d start before h held_first.
 
 pub returns-in-Ok-finish-clause-progress : goal.returns-in-Ok-finish-clause-progress
 returns-in-Ok-finish-clause-progress g c = λ d start before h held_first.
-    end_progresses (purpose_of d) _ (g.P.PacketSource.has_ended c.args.network.now) (g.P.PacketSource.has_ended c.read_packet.new.self) _ _ _ _
+    end_progresses (writing_cues d) _ (g.P.PacketSource.has_ended c.args.network.now) (g.P.PacketSource.has_ended c.read_packet.new.self) _ _ _ _
     (chain_sound d (held c.args.library.now) _ _ _ _ (returns-in-Ok-finish-clause-ok g c d start before h held_first))
     (on-end _ _ _ _ _ _ c.loop-fault.invariant.well (rw c.in-Ok-false.field-0-test at c.in-Ok-false.ensures.counts))
     (well-trans _ _ _ c.loop-fault.invariant.wrote c.in-Ok-finish.ensures.well)
@@ -147,7 +147,7 @@ returns-in-Err-clause-progress g c = λ d start before h held_first.
     let is_out = (λ (qs : List (List ℕ)). g.K.PacketSink.holds c.loop-fault.out start (before ++ qs)) in
     let fails = (λ (qs : List (List ℕ)). g.K.PacketSink.fails c.loop-fault.out start (before ++ qs)) in
     let exchanged = (Exchanged g.U.Automation.takes g.U.Automation.answers g.U.Automation.failures c.args.automation.now c.loop-fault.automation) in
-    stop_progresses (purpose_of d) _ _ (g.P.PacketSource.has_ended c.args.network.now) (g.P.PacketSource.has_ended c.read_packet.new.self) _ _ _ _ _ fails
+    stop_progresses (writing_cues d) _ _ (g.P.PacketSource.has_ended c.args.network.now) (g.P.PacketSource.has_ended c.read_packet.new.self) _ _ _ _ _ fails
     (λ f. ChainLeaves d (held c.args.library.now) f is_out fails exchanged) (λ f bs passed rest. chain_fails d is_out fails f bs passed (held c.args.library.now) exchanged rest)
     (Read c.in-Err.fault) (returns-in-Err-clause-err g c d start before h held_first)
     (read_blamed _ _ _ _ _ _ _ c.loop-fault.invariant.well c.in-Err.ensures.blamed.0 c.in-Err.fault refuses c.in-Err.ensures.blamed.1)
@@ -160,7 +160,7 @@ returns-in-Err-pass_on-clause-progress g c = λ d start before h held_first.
     let is_out = (λ (qs : List (List ℕ)). g.K.PacketSink.holds c.pass_on.new.out start (before ++ qs)) in
     let fails = (λ (qs : List (List ℕ)). g.K.PacketSink.fails c.pass_on.new.out start (before ++ qs)) in
     let exchanged = (Exchanged g.U.Automation.takes g.U.Automation.answers g.U.Automation.failures c.args.automation.now c.listen.new.automation) in
-    stop_progresses (purpose_of d) _ _ (g.P.PacketSource.has_ended c.args.network.now) (g.P.PacketSource.has_ended c.read_packet.new.self) _ _ _ _ _ fails
+    stop_progresses (writing_cues d) _ _ (g.P.PacketSource.has_ended c.args.network.now) (g.P.PacketSource.has_ended c.read_packet.new.self) _ _ _ _ _ fails
     (λ f. ChainLeaves d (held c.args.library.now) f is_out fails exchanged) (λ f bs passed rest. chain_fails d is_out fails f bs passed (held c.args.library.now) exchanged rest)
     (Feed c.in-Err-pass_on.fault) (returns-in-Err-pass_on-clause-err g c d start before h held_first)
     (inl (on-told _ _ _ _ _ _ c.loop-fault.invariant.well (rw c.in-Ok-true.field-0-test at c.in-Ok-true.ensures.counts)))
@@ -172,7 +172,7 @@ returns-clause-progress g c = λ d start before h held_first.
     let is_out = (λ (qs : List (List ℕ)). g.K.PacketSink.holds c.finish.new.sink start (before ++ qs)) in
     let fails = (λ (qs : List (List ℕ)). g.K.PacketSink.fails c.finish.new.sink start (before ++ qs)) in
     let exchanged = (Exchanged g.U.Automation.takes g.U.Automation.answers g.U.Automation.failures c.args.automation.now c.loop-fault.automation) in
-    stop_progresses (purpose_of d) _ _ (g.P.PacketSource.has_ended c.args.network.now) (g.P.PacketSource.has_ended c.read_packet.new.self) _ _ _ _ _ fails
+    stop_progresses (writing_cues d) _ _ (g.P.PacketSource.has_ended c.args.network.now) (g.P.PacketSource.has_ended c.read_packet.new.self) _ _ _ _ _ fails
     (λ f. ChainLeaves d (held c.args.library.now) f is_out fails exchanged) (λ f bs passed rest. chain_fails d is_out fails f bs passed (held c.args.library.now) exchanged rest)
     (Feed c.in-Err-finish.fault) (returns-clause-err g c d start before h held_first)
     (inr (on-end _ _ _ _ _ _ c.loop-fault.invariant.well (rw c.in-Ok-false.field-0-test at c.in-Ok-false.ensures.counts)))
