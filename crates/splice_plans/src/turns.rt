@@ -59,7 +59,8 @@ fn waits_before(table: &Table<Plan>, at: usize, stream: usize, time: Time33) -> 
 {
     let _ticks = time.ticks();
     let standing = table.standing();
-    standing[at].value.part(stream).stage == Stage::Waiting && is_before(time, standing[at].event.start)
+    standing[at].value.part(stream).stage == Stage::Waiting
+        && is_before(time, standing[at].event.start)
 }
 
 /// A played event that stands holds the time, which is that of the unit that has begun last in the stream of this number.

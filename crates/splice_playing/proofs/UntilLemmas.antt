@@ -1,6 +1,6 @@
 -- The time until which all events wait, on the ring and on the line.
-use Rattle.std.proofs.Common.{◌≡◌, ℕ, zero, suc, ◌+◌, ◌-◌, ◌%◌, ◌^◌, ◌<◌, ◌≤◌, List, [], ◌∷◌, length, map, Bool, true, false, ◌&&◌, if◌then◌else◌, refl, sym, ap, ◌∙◌, subst, arith, Option, None, Some}
-use Rattle.std.specs.Prelude.{ℤ, pos, negsuc, ◌+ℤ◌, ◌-ℤ◌, ◌≤ℤ◌, ◌<ℤ◌, int_le, int_lt, nat_lt, All, option_map}
+use Rattle.std.proofs.Common.{◌≡◌, ℕ, ◌^◌, ◌<◌, List, [], ◌∷◌, length, map, Bool, true, false, ◌&&◌, if◌then◌else◌, refl, sym, ap, ◌∙◌, subst, arith, Option, None, Some}
+use Rattle.std.specs.Prelude.{ℤ, pos, negsuc, ◌+ℤ◌, ◌-ℤ◌, ◌≤ℤ◌, ◌<ℤ◌, int_le, int_lt, All, option_map, IfSome}
 use Rattle.std.specs.List.{list_all}
 use Rattle.std.proofs.lemmas.Int.{ints}
 use Rattle.std.proofs.lemmas.Bool.{true≢false, and_parts}
@@ -16,9 +16,8 @@ use Rattle.event_table.specs.Tables.{StandsFor, high_of, values_of}
 use Rattle.event_table.proofs.TimeLemmas.{before-near, signed-range}
 use Rattle.splice_plans.specs.declared.plan.Plan.{Plan}
 use Rattle.splice_plans.specs.Turning.{IsNearHigh}
-use Rattle.splice_plans.specs.Parts.{waits_in_all}
-use Rattle.splice_plans.specs.Fronts.{IsNearTime}
-use Rattle.splice_playing.specs.Resting.{waits_ahead, first_start, first_rest, rest_behind, rest_by, waits_until, all_wait_until, is_rest, comes_before, all_wait, all_start_past, all_start_behind}
+use Rattle.splice_plans.specs.Waiting.{waits_in_all}
+use Rattle.splice_playing.specs.Resting.{waits_ahead, first_start, first_rest, rest_behind, rest_by, waits_until, all_wait_until, is_rest, comes_before, all_wait, all_start_past}
 use Rattle.splice_playing.proofs.FrontLemmas.{all-later, first-same, later-same}
 
 abbrev Held : Type 0
@@ -141,9 +140,10 @@ moved : (rest start high next : ℕ) → rest < 2 ^ 33 → next < 2 ^ 33 → IsN
 moved rest start high next rest_fits fits can before ahead order =
     let to_rest = way-later rest high next fits ahead can.above can.below in
     let further : int_lt (pos 0) (signed start high) ≡ true = trans-lt (signed rest high) (signed start high) ahead order in
-    let to_start = way-later start high next fits further can.above can.below in
-    (still-ahead rest next rest_fits fits before (subst (λ w. negsuc 900000 ≤ℤ w) (sym to_rest) (low (signed rest high) (signed next high) ahead can.below)),
-    rw (to_rest, to_start) (both-less (signed rest high) (signed start high) (signed next high) order))
+    let to_start = way-later start high next fits further can.above can.below in (
+      still-ahead rest next rest_fits fits before (subst (λ w. negsuc 900000 ≤ℤ w) (sym to_rest) (low (signed rest high) (signed next high) ahead can.below)),
+      rw (to_rest, to_start) (both-less (signed rest high) (signed start high) (signed next high) order),
+    )
   where
     trans-lt : (a b : ℤ) → int_lt (pos 0) a ≡ true → int_le a b ≡ true → int_lt (pos 0) b ≡ true
     trans-lt a b h k = grind (arith, ints)
@@ -163,13 +163,12 @@ all-moved rest high next rest_fits fits can before (x ∷ xs) h =
     let on = moved rest x.event.start high next rest_fits fits can before here.1 here.2 in
     list-joined (waits_until rest next) x xs (until-joined rest next x here.0 on.0 on.1) (all-moved rest high next rest_fits fits can before xs parts.1)
 
-pub rest-goes-on : (old new : Table Plan) (rest : Option ℕ) (r next : ℕ) → rest ≡ Some r → r < 2 ^ 33 → next < 2 ^ 33 → CanAdvance (high_of old) next → is_before_on_ring next r ≡ true
+pub rest-goes-on : (old new : Table Plan) (rest : Option ℕ) (next : ℕ) → IfSome rest (λ r. r < 2 ^ 33) → next < 2 ^ 33 → CanAdvance (high_of old) next → comes_before rest (Some next) ≡ true
     → new.entries ≡ old.entries → high_of new ≡ Some next → is_rest rest old ≡ true → is_rest rest new ≡ true
-rest-goes-on old new rest r next some rest_fits fits can before entries high h =
-    subst (λ o. is_rest o new ≡ true) (sym some)
-    (subst (λ o. all_wait_until r o new.entries.items ≡ true) (sym high)
-    (subst (λ es. list_all (waits_until r next) es.items ≡ true) (sym entries)
-    (by (high_of old) can (subst (λ o. is_rest o old ≡ true) some h))))
+rest-goes-on old new None next rest_fits fits can before entries high h = refl
+rest-goes-on old new (Some r) next rest_fits fits can before entries high h =
+    subst (λ o. all_wait_until r o new.entries.items ≡ true) (sym high)
+    (subst (λ es. list_all (waits_until r next) es.items ≡ true) (sym entries) (by (high_of old) can h))
   where
     by : (o : Option ℕ) → CanAdvance o next → all_wait_until r o old.entries.items ≡ true → list_all (waits_until r next) old.entries.items ≡ true
     by None can all = ap (list_all (waits_until r next)) (none-there old.entries.items all)
@@ -230,23 +229,23 @@ found high (Some first) [] rest a is =
   where
     le-same : (a : ℤ) → int_le a a ≡ true
     le-same a = grind (arith, ints)
-found high first (x ∷ xs) rest a is = by (waits_ahead high x) refl is
+found high first (x ∷ xs) rest a is = by (waits_ahead high x) refl is (λ ahead is. found high (Some (first_start high first x.event.start)) xs rest ahead is)
   where
     s : ℕ
     s = first_start high first x.event.start
 
     by : (b : Bool) → waits_ahead high x ≡ b → (if b then rest_behind high (Some s) xs else None) ≡ Some rest
+        → (LiesAhead high (Some s) → rest_behind high (Some s) xs ≡ Some rest → (int_lt (pos 0) (signed rest high) ≡ true) × IsNotPast high rest (Some s) × (list_all (waits_until rest high) xs ≡ true))
         → (int_lt (pos 0) (signed rest high) ≡ true) × IsNotPast high rest first × (list_all (waits_until rest high) (x ∷ xs) ≡ true)
-    by false w is = absurd (none-some rest is)
-    by true w is =
+    by false w is rec = absurd (none-some rest is)
+    by true w is rec =
         let parts = and_parts (int_lt (pos 0) (signed x.event.start high)) (waits_in_all x.value) w in
-        let later = found high (Some s) xs rest (first-ahead high x.event.start first a parts.0) is in
-        let least = first-least high x.event.start first in
-        (later.0, not-past-by high rest s first later.1 least.0,
-        list_joined x xs (until-joined rest high x parts.1 later.0 (le-trans (signed rest high) (signed s high) (signed x.event.start high) later.1 least.1)) later.2)
-
-    list_joined : (y : Held) (ys : List Held) → waits_until rest high y ≡ true → list_all (waits_until rest high) ys ≡ true → list_all (waits_until rest high) (y ∷ ys) ≡ true
-    list_joined y ys h k = list-joined (waits_until rest high) y ys h k
+        let later = rec (first-ahead high x.event.start first a parts.0) is in
+        let least = first-least high x.event.start first in (
+          later.0,
+          not-past-by high rest s first later.1 least.0,
+          list-joined (waits_until rest high) x xs (until-joined rest high x parts.1 later.0 (le-trans (signed rest high) (signed s high) (signed x.event.start high) later.1 least.1)) later.2,
+        )
 
 pub rest-found : (table : Table Plan) → is_rest (first_rest table) table ≡ true
 rest-found table = by (high_of table) refl (first_rest table) refl
@@ -255,3 +254,6 @@ rest-found table = by (high_of table) refl (first_rest table) refl
     by o high None is = refl
     by None high (Some r) is = absurd (none-some r is)
     by (Some h) high (Some r) is = subst (λ o. all_wait_until r o table.entries.items ≡ true) (sym high) (found h None table.entries.items r tt is).2
+
+pub rest-there : (table seen : Table Plan) (rest : Option ℕ) → rest ≡ first_rest seen → seen ≡ table → is_rest rest table ≡ true
+rest-there table seen rest is same = ap (λ r. is_rest r table) is ∙ ap (λ t. is_rest (first_rest t) table) same ∙ rest-found table

@@ -1,25 +1,35 @@
 -- Where all events that stand wait in all streams, nothing closes and nothing runs; and a unit before their starts begins none.
-use Rattle.std.proofs.Common.{◌≡◌, ℕ, zero, suc, ◌+◌, ◌%◌, ◌==◌, List, [], ◌∷◌, ◌++◌, length, map, Bool, true, false, not, ◌&&◌, ◌||◌, if◌then◌else◌, refl, sym, ap, ◌∙◌, subst, arith, Option, None, Some}
-use Rattle.std.specs.Prelude.{ℤ, pos, ◌+ℤ◌, ◌≤ℤ◌, int_lt, slice_index_or, filter, find, count_by}
+use Rattle.std.proofs.Common.{◌≡◌, ℕ, zero, suc, ◌+◌, ◌%◌, ◌==◌, List, [], ◌∷◌, ◌++◌, length, map, Bool, true, false, not, ◌&&◌, ◌||◌, if◌then◌else◌, refl, sym, ap, ◌∙◌, arith, Option, None, Some}
+use Rattle.std.specs.Prelude.{ℤ, int_lt, slice_index_or, filter, find, count_by}
 use Rattle.std.specs.List.{list_all, list_any}
 use Rattle.std.proofs.lemmas.Int.{ints}
 use Rattle.std.proofs.lemmas.Bool.{and_parts}
+use Rattle.std.proofs.lemmas.List.{length-map}
 use Rattle.ts_packet.specs.Numbering.{Step}
 use Rattle.pes_time.specs.Line.{place}
 use Rattle.psi_tables.specs.declared.stream.Stream.{Stream}
+use Rattle.event_table.specs.declared.table.Entry.{Entry}
+use Rattle.event_table.specs.declared.table.Table.{Table}
 use Rattle.event_table.specs.Standing.{Standing, forgotten_at, still_standing, covers}
+use Rattle.event_table.specs.Tables.{StandsFor, values_of}
+use Rattle.event_table.proofs.TableLemmas.{length-entries}
 use Rattle.ad_library.specs.Advertisements.{Advertisement}
-use Rattle.splice_plans.specs.declared.plan.Stage.{Stage}
 use Rattle.splice_plans.specs.declared.plan.Part.{Part}
 use Rattle.splice_plans.specs.declared.plan.Plan.{Plan}
 use Rattle.splice_plans.specs.Playing.{Adverts, is_played}
-use Rattle.splice_plans.specs.Turning.{waiting, part_of, plan_turned}
-use Rattle.splice_plans.specs.Parts.{is_waiting, is_running, is_closing, waits_in_all, all_turned, beside, closes_in, closing_pairs, closed_plan, runs_in, running_packets, ran_plans}
+use Rattle.splice_plans.specs.Turning.{waiting, part_of}
+use Rattle.splice_plans.specs.Parts.{is_waiting, is_running, is_closing, all_turned, beside, closes_in, closing_pairs, closed_plan, runs_in, running_packets, ran_plans}
+use Rattle.splice_plans.specs.Waiting.{waits_in_all}
 use Rattle.splice_plans.specs.Adverts.{adverts_of}
 use Rattle.splice_plans.specs.Fronts.{closing_packets, closed_plans, all_running, running_of, all_ran, is_left}
-use Rattle.splice_plans.specs.Reporting.{EventCounts, with_counted, is_out_at, is_not_fitted}
+use Rattle.splice_plans.specs.Reporting.{EventCounts, one_if, with_counted, is_out_at, is_not_fitted}
+use Rattle.known_laws.proofs.CountLemmas.{count-cons}
 use Rattle.splice_plans.proofs.WaitLemmas.{stage-waits, plan-stays}
 use Rattle.splice_playing.specs.Resting.{all_wait, all_start_past, all_start_behind, is_left_at_rest}
+
+-- as many events as plans
+pub as-many-plans : (table : Table Plan) (line : Option ℤ) (es : List Standing) → StandsFor table line es → length es ≡ length (values_of table)
+as-many-plans table line es s = sym (length-map table.entries.items (λ (x : Entry Plan). x.value) ∙ length-entries table line es s)
 
 -- ---- one plan
 
@@ -79,12 +89,13 @@ module _ (filed : ℕ → Option Advertisement) (streams : List Stream) where
 
     pub one-quiet : (steps : ℕ → List Step) (number : ℕ) (rest : List Stream) (i : ℕ) → running_of filed streams high es steps plans number rest i ≡ []
     one-quiet steps number [] i = refl
-    one-quiet steps number (of ∷ rest) i = by (number == i)
+    one-quiet steps number (of ∷ rest) i = by (number == i) (one-quiet steps (number + 1) rest i)
       where
-        by : (b : Bool) → (if b then running_packets filed streams number of high (steps number) (beside es plans)
+        by : (b : Bool) → running_of filed streams high es steps plans (number + 1) rest i ≡ []
+            → (if b then running_packets filed streams number of high (steps number) (beside es plans)
             else running_of filed streams high es steps (ran_plans filed streams number of high (beside es plans)) (number + 1) rest i) ≡ []
-        by true = none-runs number of high (steps number) es plans h
-        by false = ap (λ vs. running_of filed streams high es steps vs (number + 1) rest i) (none-ran number of high es plans same h) ∙ one-quiet steps (number + 1) rest i
+        by true later = none-runs number of high (steps number) es plans h
+        by false later = ap (λ vs. running_of filed streams high es steps vs (number + 1) rest i) (none-ran number of high es plans same h) ∙ later
 
     pub ran-quiet : (number : ℕ) (rest : List Stream) → all_ran filed streams high es plans number rest ≡ plans
     ran-quiet number [] = refl
@@ -175,13 +186,21 @@ none-out t test [] plans past = refl
 none-out t test (e ∷ es) [] past = refl
 none-out t test (e ∷ es) (plan ∷ plans) past =
     let starts = past-parts t e es past in
-    let stands = stands-on t e starts.0 in
-    simp stands (none-out t test es plans starts.1)
+    let f : Standing × Plan → Bool = λ x. is_out_at t x.0 && test x in
+    let no : f (e, plan) ≡ false = ap (λ b. not b && test (e, plan)) (stands-on t e starts.0) in
+    count-cons f (e, plan) (beside es plans) ∙ ap (λ b. one_if b + count_by f (beside es plans)) no ∙ ap (λ n. 0 + n) (none-out t test es plans starts.1)
+
+none-more : (n : ℕ) → 0 + n ≡ n
+none-more n = omega arith
 
 pub counts-quiet : (t : ℤ) (ads : Adverts) (es : List Standing) (plans : List Plan) (counts : EventCounts) → all_start_past t es ≡ true → with_counted (is_out_at t) ads (beside es plans) counts ≡ counts
 counts-quiet t ads es plans counts past =
     let build : ℕ → ℕ → ℕ → EventCounts = λ p n u. record { played = p + counts.played; not_fitted = n + counts.not_fitted; unconditioned = u + counts.unconditioned; ignored = counts.ignored } in
+    let plain : ℕ → ℕ → ℕ → EventCounts = λ p n u. record { played = p; not_fitted = n; unconditioned = u; ignored = counts.ignored } in
     ap (λ p. build p (count_by (λ (x : Standing × Plan). is_out_at t x.0 && is_not_fitted ads x.0) (beside es plans)) (count_by (λ (x : Standing × Plan). is_out_at t x.0 && (is_played ads x.0 && x.1.is_crossed)) (beside es plans)))
     (none-out t (λ x. is_played ads x.0) es plans past)
     ∙ ap (λ n. build 0 n (count_by (λ (x : Standing × Plan). is_out_at t x.0 && (is_played ads x.0 && x.1.is_crossed)) (beside es plans))) (none-out t (λ x. is_not_fitted ads x.0) es plans past)
     ∙ ap (build 0 0) (none-out t (λ x. is_played ads x.0 && x.1.is_crossed) es plans past)
+    ∙ ap (λ p. plain p (0 + counts.not_fitted) (0 + counts.unconditioned)) (none-more counts.played)
+    ∙ ap (λ n. plain counts.played n (0 + counts.unconditioned)) (none-more counts.not_fitted)
+    ∙ ap (plain counts.played counts.not_fitted) (none-more counts.unconditioned)

@@ -8,7 +8,7 @@ use Rattle.event_table.specs.declared.table.Entry.{Entry}
 use Rattle.event_table.specs.declared.table.Table.{Table}
 use Rattle.event_table.specs.Tables.{high_of}
 use Rattle.splice_plans.specs.declared.plan.Plan.{Plan}
-use Rattle.splice_plans.specs.Parts.{waits_in_all}
+use Rattle.splice_plans.specs.Waiting.{waits_in_all}
 
 -- ---- on the ring
 

@@ -4,7 +4,11 @@ use Rattle.splice_plans.specs.Switching.{high_at}
 use Rattle.splice_plans.specs.Known.{plans_at, behind_at}
 use Rattle.known_laws.proofs.OtherLemmas.{others_change_nothing}
 use Rattle.splice_playing.proofs.PacketLemmas.{new-is, of-pid}
+use Rattle.splice_playing.proofs.UntilLemmas.{rest-there}
 use Rattle.splice_playing.proofs.playing.Playing.obey.Goals as goal
+
+pub invariant_of-self-clause-rested : goal.invariant_of-self-clause-rested
+invariant_of-self-clause-rested c = rest-there c.feed.new.self.obeyed.table c.table.result.now c.first_rest-self.result c.first_rest-self.ensures c.table.ensures.same
 
 pub returns : goal.returns
 returns c = λ k past i f.

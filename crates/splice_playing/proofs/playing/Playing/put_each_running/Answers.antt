@@ -16,6 +16,7 @@ use Rattle.splice_playing.proofs.playing.Playing.put_each_running.Goals as goal
 
 pub loop-stream-init : goal.loop-stream-init
 loop-stream-init g c = record {
+  wakes = c.requires;
   leads = g.met.S.PacketSink.leads_refl c.args.sink.now;
   well = well-refl _;
   keeps = keeps-same c.args.self.now.events;
@@ -67,6 +68,7 @@ loop-stream-preserved g c =
     let y : SwitchedStream = record { counter = c.put_running.new.counter; is_leaving = (slice_index_or c.loop-stream.self.streams (at % 8) r).is_leaving } in
     let of = some-there c.args.streams.now at test in
     record {
+      wakes = c.loop-stream.invariant.wakes;
       leads = g.met.S.PacketSink.leads_trans c.args.sink.now c.loop-stream.sink c.put_running.new.sink c.loop-stream.invariant.leads e.leads;
       well = well-trans _ _ _ c.loop-stream.invariant.well e.well;
       keeps = keeps-more c.args.self.now.events c.loop-stream.self.events c.put_running.new.events kept e.keeps;

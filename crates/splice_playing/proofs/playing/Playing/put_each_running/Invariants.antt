@@ -1,4 +1,4 @@
-use Rattle.std.proofs.Common.{◌≡◌, ◌≤◌, ℕ, List, length, drop, Option}
+use Rattle.std.proofs.Common.{◌≡◌, ◌≤◌, ℕ, List, length, drop, Option, None}
 use Rattle.std.specs.Prelude.{ℤ, slice_index_or}
 use Rattle.ts_packet.specs.Numbering.{Step}
 use Rattle.ts_packet.specs.Transfers.{WentWell}
@@ -14,6 +14,7 @@ use Rattle.splice_playing.proofs.playing.Playing.put_each_running.Given as goal
 -- what is due has gone out in the streams up to here
 abbrev pub invariant-loop-stream : goal.invariant-loop-stream
 invariant-loop-stream g l = record {
+  wakes : l.self.rest ≡ None;
   leads : g.S.PacketSink.leads l.initial.sink l.sink;
   well : WentWell (g.S.PacketSink.counts l.initial.sink) (g.S.PacketSink.counts l.sink);
   keeps : KeepsEvents l.initial.self.events l.self.events;
