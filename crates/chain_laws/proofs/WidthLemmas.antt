@@ -16,7 +16,7 @@ use Rattle.as_session.specs.Laws.{IsInWidth}
 use Rattle.as_session.proofs.WidthLemmas.{each_message_fits}
 use Rattle.cue_laws.proofs.Settling.{by_test}
 use Rattle.injector.specs.Asking.{is_start, only_of, served_of, served_if, asked_of_multiple}
-use Rattle.injector.specs.Steps.{Step, Message, Packet}
+use Rattle.injector.specs.Steps.{Step, Message}
 use Rattle.path_laws.specs.Path.{FitsIn, RequestFits}
 use Rattle.path_laws.specs.Packets.{RequestsFit}
 use Rattle.chain_engine.specs.Automation.{Take, bytes_in, bytes_of}
