@@ -32,8 +32,10 @@ use Rattle.chain_laws.specs.Runs.{IsWholeRun}
 use Rattle.chain_laws.specs.Headline.{history_of, IsGiven, IsSpliced, RunsAreSo, HistoriesAreSo}
 use Rattle.chain_laws.proofs.LibraryLemmas.{libraries_are_packed}
 use Rattle.chain_laws.proofs.TableLemmas.{has-tables}
+use Rattle.chain_laws.proofs.PmtPidLemmas.{pmt-stands}
 use Rattle.chain_laws.proofs.RunLemmas.{each-all}
 use Rattle.chain_laws.proofs.CarriedLemmas.{carries-placed, carries-splice}
+use Rattle.chain_laws.proofs.ClockLemmas.{clocks-same}
 use Rattle.chain_laws.proofs.UnchangedLemmas.{others-unchanged, unlisted-unchanged, unplayed-unchanged, breaks-counted}
 
 -- ---- the history
@@ -117,8 +119,8 @@ module _ (c : Config) (filed : ℕ → Option Advertisement) (bs : List ℕ) (so
   whole-run : IsGiven c filed bs (history_of bs ts rs) → IsWholeRun c filed (history_of bs ts rs)
   whole-run g = record {
     run = record {
-      cue_pid = (let a = g.not_null in omega (arith, a));
-      not_pat = λ e. (let a = g.not_pat in absurd (omega (arith, a, e)));
+      cue_pid = (let below = c.below_null in omega (arith, below));
+      not_pat = λ e. (let above = c.above_reserved in absurd (omega (arith, above, e)));
       faultless = ap (first_fault (purpose_of c)) packets-are ∙ faultless c bs sound;
       bytes = subst (Along (λ p past. AreBytes p)) (sym packets-are) (bytes-onto [] (packets_of bs) tt (parts-bytes (length bs / 188) bs g.bytes));
       requests = g.requests;
@@ -132,8 +134,10 @@ module _ (c : Config) (filed : ℕ → Option Advertisement) (bs : List ℕ) (so
   spliced-so g = let w = whole-run g in record {
     placed = λ pid a. carries-placed c filed steps w pid a;
     spliced = λ pid a d. carries-splice c filed steps w pid a d;
+    clocks = λ pid a. clocks-same c filed steps w pid a;
     others = others-unchanged c filed steps w;
     tables = has-tables c filed steps w;
+    pmt = λ l known. pmt-stands c filed steps w l known;
     no_program = λ none. unlisted-unchanged c filed steps w none;
     no_break = λ none. unplayed-unchanged c filed steps w none;
   }

@@ -1,12 +1,13 @@
 //! The headline, piece by piece: each law on a function of its own.
 
 ghost use Rattle.chain_laws.specs.Breaks.{BreaksAreArmed};
+ghost use Rattle.chain_laws.specs.Clocks.{ClocksAreTheNetworks};
 ghost use Rattle.chain_laws.specs.Headline.{HistoriesAreSo};
 ghost use Rattle.chain_laws.specs.Libraries.{LibrariesArePacked};
 ghost use Rattle.chain_laws.specs.Others.{OthersAreUnchanged, NoProgramIsNoChange, NoBreakIsNoChange};
 ghost use Rattle.chain_laws.specs.Reports.{BreaksAreCounted};
 ghost use Rattle.chain_laws.specs.Streams.{StreamsCarryPlaced, StreamsCarrySplice};
-ghost use Rattle.chain_laws.specs.Tables.{TablesAreTheNetworks};
+ghost use Rattle.chain_laws.specs.Tables.{TablesAreTheNetworks, PmtIsSections};
 ghost use Rattle.chain_laws.specs.UnitSplices.{PlacedIsUnitSplice};
 
 /// In a stream that is conditioned at the starts of the breaks, what is placed is the splice of its units.
@@ -30,6 +31,11 @@ pub fn streams_carry_placed()
 /// reached break in its place.
 pub fn streams_carry_splice()
     ensures { StreamsCarrySplice }
+{}
+
+/// The clock references of a switched stream are the network's, as one list, in order: none is lost, put in twice or moved.
+pub fn clocks_are_the_networks()
+    ensures { ClocksAreTheNetworks }
 {}
 
 /// The packets marked in error, and those of all PIDs but the switched ones, the PMT's and that of the cues, are one list, byte for byte.
@@ -66,4 +72,10 @@ pub fn libraries_are_packed()
 /// On any network without a fault a reader of the output finds the network's PAT and sections, and no unmarked packet of the cue PID.
 pub fn tables_are_the_networks()
     ensures { TablesAreTheNetworks }
+{}
+
+/// On the PID of the PMT the output has the network's packets up to the PAT, byte for byte, and then all sections behind it, each in packets
+/// of its own whose counters go on.
+pub fn pmt_is_sections()
+    ensures { PmtIsSections }
 {}
