@@ -10,3 +10,4 @@ pub mod FilingLemmas
 pub mod FiledLemmas
 pub mod ReadLemmas
 pub mod SliceLemmas
+pub mod HeldLemmas

@@ -1,5 +1,6 @@
 -- What a library holds, by number, and what is asked of that.
-use Rattle.std.specs.Prelude.{ℕ, ℤ, List, map, Bool, false, ◌==◌, if◌then◌else◌, nat_eq, Option, None, Some, option_map}
+use Rattle.std.specs.Prelude.{◌≡◌, ℕ, ◌<◌, ℤ, List, length, map, Bool, false, ◌==◌, if◌then◌else◌, nat_eq, Option, None, Some, option_map}
+use Rattle.std.specs.List.{AllByRecursion}
 use Rattle.indexmap.specs.IndexMap.{get}
 use Rattle.psi_tables.specs.declared.stream.Stream.{Stream}
 use Rattle.ad_library.specs.declared.ad_stream.AdStream.{AdStream}
@@ -23,6 +24,14 @@ held library id = option_map advert_seen (get nat_eq library.adverts id)
 -- what is filed under each number, with one more
 abbrev pub filed : (ℕ → Option Advertisement) → ℕ → Option Advertisement → ℕ → Option Advertisement
 filed before id ad other = if other == id then ad else before other
+
+-- each unit of a stream has a byte, as a PES packet has: its packet_start_code_prefix, for one (ISO/IEC 13818-1, 2.4.3.6)
+abbrev pub HasBytes : AdvertStream → Type 0
+HasBytes s = AllByRecursion (λ (u : AdvertUnit). 0 < length u.payload) s.units
+
+-- so it is in each advertisement that is filed
+abbrev pub IsLibrary : (ℕ → Option Advertisement) → Type 0
+IsLibrary filed = (id : ℕ) (ad : Advertisement) → filed id ≡ Some ad → AllByRecursion HasBytes ad.streams
 
 -- of what is filed under a number, if anything is
 abbrev pub fits_held : Option Advertisement → List Stream → ℕ → Bool

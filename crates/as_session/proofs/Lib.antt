@@ -4,3 +4,4 @@ pub mod SplitLemmas
 pub mod RunLemmas
 pub mod FeedLemmas
 pub mod CallLemmas
+pub mod WidthLemmas

@@ -8,7 +8,10 @@ mod gathering;
 mod laws;
 mod session;
 
-pub use laws::{any_pieces_give_the_messages, calls_give_the_messages, messages_are_the_only_ones};
+pub use laws::{
+    any_pieces_give_the_messages, calls_give_the_messages, each_message_fits,
+    messages_are_the_only_ones,
+};
 pub use session::{Got, Session};
 
 #[cfg(test)]

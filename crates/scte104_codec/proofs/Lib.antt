@@ -7,3 +7,4 @@ pub mod SingleLemmas
 pub mod SeveralLemmas
 pub mod OperationsBack
 pub mod GrammarLemmas
+pub mod WidthLemmas

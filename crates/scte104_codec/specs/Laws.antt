@@ -11,6 +11,7 @@ use Rattle.scte104_codec.specs.Reading.{MessageReading, other, single_fields_of,
 use Rattle.scte104_codec.specs.Grammar.{Spells}
 use Rattle.scte104_codec.specs.Replies.{reply_message, reply_bytes}
 use Rattle.scte104_codec.specs.Requests.{splice_request_of, splice_request_bytes, SpliceRequestFits, avail_ids_of, avail_ids_bytes}
+use Rattle.scte104_codec.specs.Widths.{ReadingFits}
 
 pub record MessagesAreFramed : Type 0 where
   pub single : (m : SingleOperation) → IsSingleOperation m → (more : List ℕ) → frame_of (single_operation_message m ++ more) ≡ Whole (length (single_operation_message m))
@@ -32,3 +33,7 @@ RepliesReadBack = (r : Reply) → IsSingleOperation (reply_message r) → IsRead
 pub record RequestsReadBack : Type 0 where
   pub request : (r : SpliceRequest) (flag : ℕ) → SpliceRequestFits r → r.auto_return ≡ not (flag == 0) → splice_request_of (splice_request_bytes r flag) ≡ Some r
   pub ids : (ids : List ℕ) → AllByRecursion (λ id. id < 2 ^ 32) ids → avail_ids_of (avail_ids_bytes ids) ≡ Some ids
+
+-- whatever the bytes are, each field of the message that is read fits
+abbrev pub WhatIsReadFits : Type 0
+WhatIsReadFits = (bytes : List ℕ) → AreBytes bytes → ReadingFits (message_of bytes)

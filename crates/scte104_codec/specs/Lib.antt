@@ -11,4 +11,5 @@ pub mod Requests
 pub mod AvailIdsLeft
 pub mod Asked
 pub mod RequestsLeft
+pub mod Widths
 pub mod Laws

@@ -17,7 +17,10 @@ mod requests;
 pub use cutting::frame;
 pub use framing::{Frame, frame_size};
 pub use head::Head;
-pub use laws::{messages_are_framed, messages_read_back, replies_read_back, requests_read_back};
+pub use laws::{
+    messages_are_framed, messages_read_back, replies_read_back, requests_read_back,
+    what_is_read_fits,
+};
 pub use message::{BadMessage, Message, read};
 pub use multi::{Multi, SpliceRequests};
 pub use operations::Operations;
