@@ -1,16 +1,14 @@
 -- The clock references of the switched streams of the output.
-use Rattle.std.proofs.Common.{◌≡◌, ℕ, zero, suc, ◌+◌, ◌-◌, ◌/◌, ◌%◌, ◌<◌, ◌==◌, List, [], ◌∷◌, ◌++◌, Bool, true, false, not, ◌&&◌, ◌||◌, refl, sym, ap, ◌∙◌, subst, Option, None, Some, if◌then◌else◌, length, take, drop, map, reverse, slice_index, arith}
+use Rattle.std.proofs.Common.{◌≡◌, ℕ, zero, suc, ◌+◌, ◌-◌, ◌/◌, ◌%◌, ◌<◌, ◌==◌, List, [], ◌∷◌, ◌++◌, Bool, true, false, not, ◌&&◌, ◌||◌, refl, sym, ap, ◌∙◌, subst, Option, None, Some, if◌then◌else◌, length, take, drop, reverse, slice_index, arith}
 use Rattle.std.specs.Prelude.{filter, nat_le}
 use Rattle.std.specs.List.{AllByRecursion}
 use Rattle.std.proofs.lemmas.List.{reverse-reverse}
 use Rattle.ts_packet.specs.Fields.{on, pcr, pid_of, in_error, adaptation_control, adaptation_length}
-use Rattle.ts_packet.specs.Filling.{packets_for}
 use Rattle.ts_packet.proofs.Cases.{by_test}
 use Rattle.ts_packet.proofs.RunLemmas.{filter-reverse}
-use Rattle.unit_packing.specs.Packing.{room, field, unit_packet, later_unit_packets, unit_packets}
+use Rattle.unit_packing.specs.Packing.{room, field, unit_packet, later_unit_packets}
 use Rattle.psi_tables.specs.declared.config.Config.{Config}
 use Rattle.program_laws.specs.Cued.{on_one}
-use Rattle.program_laws.proofs.PacketLemmas.{one_past-below}
 use Rattle.ad_library.specs.Advertisements.{Advertisement}
 use Rattle.injector.specs.Steps.{Step, packets_in, cued}
 use Rattle.splice_laws.specs.Splicing.{SliceUnit}

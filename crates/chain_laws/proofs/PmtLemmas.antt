@@ -1,7 +1,6 @@
 -- What stands on the PID of the PMT in a stream that is written from a network.
-use Rattle.std.proofs.Common.{◌≡◌, ℕ, zero, suc, ◌+◌, ◌%◌, ◌<◌, List, [], ◌∷◌, ◌++◌, Bool, true, false, refl, sym, ap, ◌∙◌, subst, Option, None, Some, if◌then◌else◌, length, drop, map, reverse, arith}
-use Rattle.std.specs.Prelude.{filter, is_some}
-use Rattle.std.specs.Option.{option_or}
+use Rattle.std.proofs.Common.{◌≡◌, ℕ, zero, suc, ◌+◌, ◌%◌, ◌<◌, List, [], ◌∷◌, ◌++◌, Bool, true, false, refl, sym, ap, ◌∙◌, Option, None, Some, if◌then◌else◌, length, drop, map, arith}
+use Rattle.std.specs.Prelude.{filter}
 use Rattle.std.specs.List.{AllByRecursion}
 use Rattle.std.proofs.lemmas.List.{append-nil, map-append}
 use Rattle.std.proofs.lemmas.List.Elements.{filter-append}
@@ -13,13 +12,12 @@ use Rattle.ts_packet.proofs.FieldLemmas.{payload_on-on}
 use Rattle.ts_packet.proofs.RunLemmas.{onto-append}
 use Rattle.psi_section.specs.Packetising.{later_packets, rest_packets, section_packets, packets_in_turn, next_packet, first_packet}
 use Rattle.psi_section.proofs.ReadBackLemmas.{IsPayloadOn, turn_carry, first_number, first_on, next_number, next_on}
-use Rattle.psi_section.proofs.RunLemmas.{given_off, others_give}
 use Rattle.program_follower.specs.declared.purpose.Listed.{Listed}
-use Rattle.program_follower.specs.Program.{listed, first_listed, since_pat, Table, tables, all_tables}
-use Rattle.program_follower.proofs.StepLemmas.{listed_stays, since_stays, tables_off}
-use Rattle.program_laws.specs.Writing.{Along, number_on, Writing, section_out, packets_out, body, block, written, Off}
+use Rattle.program_follower.specs.Program.{listed, since_pat, tables, all_tables}
+use Rattle.program_follower.proofs.StepLemmas.{listed_stays, tables_off}
+use Rattle.program_laws.specs.Writing.{Along, number_on, Writing, section_out, packets_out, body, written, Off}
 use Rattle.program_laws.proofs.PacketLemmas.{one_past-below}
-use Rattle.program_laws.proofs.ReadingLemmas.{listed_onto, since_onto, no_since, no_since_yet, none_before, none_at_pat}
+use Rattle.program_laws.proofs.ReadingLemmas.{since_onto, no_since, no_since_yet, none_before, none_at_pat}
 use Rattle.chain_laws.specs.Tables.{up_to_pat}
 
 -- ---- lists

@@ -1,5 +1,5 @@
 -- The packets of the output on the PID of the PMT.
-use Rattle.std.proofs.Common.{◌≡◌, ℕ, ◌<◌, List, [], ◌∷◌, ◌++◌, Bool, true, false, refl, sym, ap, ◌∙◌, subst, Option, None, Some, if◌then◌else◌, append_assoc, map, reverse, arith}
+use Rattle.std.proofs.Common.{◌≡◌, ℕ, List, [], ◌∷◌, ◌++◌, true, false, refl, sym, ap, ◌∙◌, Option, None, Some, append_assoc, map, reverse, arith}
 use Rattle.std.specs.Prelude.{filter}
 use Rattle.std.specs.Option.{option_or}
 use Rattle.std.specs.List.{AllByRecursion}
@@ -14,14 +14,14 @@ use Rattle.psi_section.specs.Packetising.{packets_in_turn}
 use Rattle.psi_section.proofs.RunLemmas.{others_give}
 use Rattle.psi_tables.specs.declared.config.Config.{Config}
 use Rattle.psi_tables.specs.ProgramMap.{ProgramMap}
-use Rattle.psi_tables.specs.Cue.{with_cue_entry, without_cue_entry}
+use Rattle.psi_tables.specs.Cue.{without_cue_entry}
 use Rattle.program_follower.specs.declared.purpose.Listed.{Listed}
 use Rattle.program_follower.specs.Program.{listed, first_listed, Table, tables, all_tables, first_map}
 use Rattle.program_follower.specs.Faults.{first_fault, network_fault}
 use Rattle.program_follower.proofs.OptionLemmas.{none_both}
 use Rattle.program_follower.proofs.StreamLemmas.{one_pid}
-use Rattle.program_laws.specs.Writing.{Along, number_on, Writing, section_out, table_out, packets_out, body, block, written, Off}
-use Rattle.program_laws.specs.Cued.{On, cueing, CuedReads}
+use Rattle.program_laws.specs.Writing.{Along, number_on, Writing, section_out, table_out, packets_out, body, written, Off}
+use Rattle.program_laws.specs.Cued.{On, cueing}
 use Rattle.program_laws.proofs.CuedLemmas.{cued_stream_reads}
 use Rattle.program_laws.proofs.ReadingLemmas.{listed_onto, no_tables}
 use Rattle.program_laws.proofs.WritingLemmas.{listed_below, off_other}
@@ -40,7 +40,7 @@ use Rattle.chain_laws.specs.Tables.{up_to_pat, pmt_packets, PmtIsSections}
 use Rattle.chain_laws.proofs.RunLemmas.{reads}
 use Rattle.chain_laws.proofs.CarriedLemmas.{map-apart}
 use Rattle.chain_laws.proofs.TableLemmas.{front-clear, place-clear, end-clear, out-is, stripped-by, not-cue}
-use Rattle.chain_laws.proofs.PmtLemmas.{filter-onto, filter-none, number-own, IsClearOn, step-before, before, up-none, up-at, up-behind, map-out}
+use Rattle.chain_laws.proofs.PmtLemmas.{filter-onto, filter-none, number-own, IsClearOn, step-before, before, up-at, up-behind, map-out}
 
 or-none : (o : Option Listed) → option_or o None ≡ o
 or-none None = refl
