@@ -1,5 +1,6 @@
 //! The headline, piece by piece: each law on a function of its own.
 
+ghost use Rattle.ad_library.specs.Library.{held};
 ghost use Rattle.chain_laws.specs.Breaks.{BreaksAreArmed};
 ghost use Rattle.chain_laws.specs.Clocks.{ClocksAreTheNetworks};
 ghost use Rattle.chain_laws.specs.Headline.{HistoriesAreSo};
@@ -9,6 +10,9 @@ ghost use Rattle.chain_laws.specs.Reports.{BreaksAreCounted};
 ghost use Rattle.chain_laws.specs.Streams.{StreamsCarryPlaced, StreamsCarrySplice};
 ghost use Rattle.chain_laws.specs.Tables.{TablesAreTheNetworks, PmtIsSections};
 ghost use Rattle.chain_laws.specs.UnitSplices.{PlacedIsUnitSplice};
+
+use ad_library::AdLibrary;
+use std::alloc::Allocator;
 
 /// In a stream that is conditioned at the starts of the breaks, what is placed is the splice of its units.
 pub fn placed_is_unit_splice()
@@ -58,10 +62,11 @@ pub fn breaks_are_counted()
     ensures { BreaksAreCounted }
 {}
 
-/// Of a network without a fault, whatever was taken from an automation and answered, the output and the report of a run are as the headline
-/// says.
-pub fn histories_are_so()
-    ensures { HistoriesAreSo }
+/// Of a network without a fault, whatever was taken from an automation and answered, and whatever was filed in a library, the output and the
+/// report of a run are as the headline says.
+#[tactic(auto, using(crate::proofs::HeadlineLemmas::histories_are_so))]
+pub fn histories_are_so<A: Allocator>(library: &AdLibrary<A>)
+    ensures { HistoriesAreSo (held library.now) }
 {}
 
 /// Each unit of an advertisement that has a byte is packed, whatever the first counter.

@@ -1,5 +1,0 @@
-use Rattle.chain_laws.proofs.HeadlineLemmas.{histories_are_so}
-use Rattle.chain_laws.proofs.laws.histories_are_so.Goals as goal
-
-pub returns : goal.returns
-returns c = histories_are_so
