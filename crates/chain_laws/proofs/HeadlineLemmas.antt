@@ -36,7 +36,7 @@ use Rattle.chain_laws.specs.Headline.{history_of, IsGiven, IsSpliced, RunsAreSo,
 use Rattle.chain_laws.proofs.LibraryLemmas.{libraries_are_packed}
 use Rattle.chain_laws.proofs.TableLemmas.{has-tables}
 use Rattle.chain_laws.proofs.PmtPidLemmas.{pmt-stands}
-use Rattle.chain_laws.proofs.RequestLemmas.{requests-fit}
+use Rattle.chain_laws.proofs.WidthLemmas.{steps_fit}
 use Rattle.chain_laws.proofs.RunLemmas.{each-all}
 use Rattle.chain_laws.proofs.CarriedLemmas.{carries-placed, carries-splice}
 use Rattle.chain_laws.proofs.ClockLemmas.{clocks-same}
@@ -127,7 +127,7 @@ module _ (c : Config) (filed : ℕ → Option Advertisement) (library : IsLibrar
       not_pat = λ e. (let above = c.above_reserved in absurd (omega (arith, above, e)));
       faultless = ap (first_fault (purpose_of c)) packets-are ∙ faultless c bs sound;
       bytes = subst (Along (λ p past. AreBytes p)) (sym packets-are) (bytes-onto [] (packets_of bs) tt (parts-bytes (length bs / 188) bs g.network));
-      requests = requests-fit c (length rs) ts g.automation (reverse (packets_of bs));
+      requests = steps_fit c (length rs) ts (reverse (packets_of bs)) g.automation;
     };
     whole = history-ends (length rs) ts (reverse (packets_of bs));
     long = subst ArePackets (sym packets-are) (all-reversed (λ (p : List ℕ). length p ≡ 188) (packets_of bs) (packets-long bs));
@@ -147,7 +147,7 @@ module _ (c : Config) (filed : ℕ → Option Advertisement) (library : IsLibrar
   }
 
 pub runs_are_so : RunsAreSo
-runs_are_so library c bs is_out exchanged report ran =
+runs_are_so A library c bs is_out exchanged report ran =
     let filed = held library in
     let full = held_is_library library in
     let steps = history_of bs ran.ts ran.rs in

@@ -10,3 +10,4 @@ pub mod LibraryLemmas
 pub mod ClockLemmas
 pub mod PmtLemmas
 pub mod PmtPidLemmas
+pub mod WidthLemmas

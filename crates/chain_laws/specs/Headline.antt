@@ -78,7 +78,7 @@ pub record Headline (c : Config) (filed : ℕ → Option Advertisement) (bs : Li
 
 -- each run that answers so, with what a library holds, is as the headline says
 abbrev pub RunsAreSo : Type 1
-RunsAreSo = {A : Type 0} (library : AdLibrary A) (c : Config) (bs : List ℕ) (is_out : List (List ℕ) → Type 0)
+RunsAreSo = (A : Type 0) (library : AdLibrary A) (c : Config) (bs : List ℕ) (is_out : List (List ℕ) → Type 0)
     (exchanged : Option SessionEnd → List Take → List Reply → Type 0) (report : Report) →
     Ran c (held library) bs is_out exchanged report → Headline c (held library) bs is_out exchanged report
 

@@ -64,7 +64,6 @@ pub fn breaks_are_counted()
 
 /// Of a network without a fault, whatever was taken from an automation and answered, and whatever was filed in a library, the output and the
 /// report of a run are as the headline says.
-#[tactic(auto, using(crate::proofs::HeadlineLemmas::histories_are_so))]
 pub fn histories_are_so<A: Allocator>(library: &AdLibrary<A>)
     ensures { HistoriesAreSo (held library.now) }
 {}
