@@ -68,7 +68,7 @@ apart-on (x ∷ pids) a q n o =
     (λ y. absurd (true≢false (sym (ap (λ m. m == a) (one_pid x a q y o) ∙ test-same a) ∙ r.0)))
     (λ y. simp y (apart-on pids a q r.1 o))
 
-off-one : (pids : List ℕ) (pid : ℕ) (q : List ℕ) → is_among pid pids ≡ true → on_one pids q ≡ false → on pid q ≡ false
+pub off-one : (pids : List ℕ) (pid : ℕ) (q : List ℕ) → is_among pid pids ≡ true → on_one pids q ≡ false → on pid q ≡ false
 off-one [] pid q a n = absurd (true≢false (sym a))
 off-one (x ∷ pids) pid q a n =
     let r = or-parts (on x q) (on_one pids q) n in
@@ -194,7 +194,7 @@ module _ (c : Config) (filed : ℕ → Option Advertisement) (steps : List Step)
   pub same-behind : filter (on_one (switched_by c steps)) (behind_head (Some c.program) (cued c steps)) ≡ filter (on_one (switched_by c steps)) (behind_by c steps)
   same-behind = (reads c filed steps w.run).packets
 
-  same-all : filter (on_one (switched_by c steps)) (cued c steps) ≡ filter (on_one (switched_by c steps)) (packets_in steps)
+  pub same-all : filter (on_one (switched_by c steps)) (cued c steps) ≡ filter (on_one (switched_by c steps)) (packets_in steps)
   same-all = others c filed steps w.run (on_one (switched_by c steps)) (λ q y. apart-on (switched_by c steps) c.cue_pid q cue-apart y) (λ l h q y. apart-on (switched_by c steps) l.pid q (map-apart l h) y)
 
   abbrev network_head : List (List ℕ)

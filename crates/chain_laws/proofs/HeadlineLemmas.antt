@@ -15,6 +15,9 @@ use Rattle.program_follower.specs.Faults.{first_fault, network_fault}
 use Rattle.program_follower.specs.FirstFault.{network_test}
 use Rattle.program_laws.specs.Writing.{Along}
 use Rattle.ad_library.specs.Advertisements.{Advertisement}
+use Rattle.ad_library.specs.declared.library.AdLibrary.{AdLibrary}
+use Rattle.ad_library.specs.Library.{held, IsLibrary}
+use Rattle.ad_library.proofs.HeldLemmas.{held_is_library}
 use Rattle.scte104_codec.specs.declared.reply.Reply.{Reply}
 use Rattle.injector.specs.Steps.{Step, packets_in, cued}
 use Rattle.splice_plans.specs.Adverts.{setting_of}
@@ -32,8 +35,11 @@ use Rattle.chain_laws.specs.Runs.{IsWholeRun}
 use Rattle.chain_laws.specs.Headline.{history_of, IsGiven, IsSpliced, RunsAreSo, HistoriesAreSo}
 use Rattle.chain_laws.proofs.LibraryLemmas.{libraries_are_packed}
 use Rattle.chain_laws.proofs.TableLemmas.{has-tables}
+use Rattle.chain_laws.proofs.PmtPidLemmas.{pmt-stands}
+use Rattle.chain_laws.proofs.WidthLemmas.{steps_fit}
 use Rattle.chain_laws.proofs.RunLemmas.{each-all}
 use Rattle.chain_laws.proofs.CarriedLemmas.{carries-placed, carries-splice}
+use Rattle.chain_laws.proofs.ClockLemmas.{clocks-same}
 use Rattle.chain_laws.proofs.UnchangedLemmas.{others-unchanged, unlisted-unchanged, unplayed-unchanged, breaks-counted}
 use Rattle.program_follower.specs.Purposes.{writing_cues}
 
@@ -108,56 +114,63 @@ faultless c bs h = only_by (writing_cues c) [] (packets_of bs) (or_none (first_o
 
 -- ---- the headline
 
-module _ (c : Config) (filed : ℕ → Option Advertisement) (bs : List ℕ) (sound : fault_in c bs ≡ None) (ts : List Take) (rs : List Reply) where
+module _ (c : Config) (filed : ℕ → Option Advertisement) (library : IsLibrary filed) (bs : List ℕ) (sound : fault_in c bs ≡ None) (ts : List Take) (rs : List Reply) where
   abbrev steps : List Step
   steps = history_of bs ts rs
 
   packets-are : packets_in (history_of bs ts rs) ≡ reverse (packets_of bs)
   packets-are = history-packets (length rs) ts (reverse (packets_of bs))
 
-  whole-run : IsGiven c filed bs (history_of bs ts rs) → IsWholeRun c filed (history_of bs ts rs)
+  whole-run : IsGiven bs ts → IsWholeRun c filed (history_of bs ts rs)
   whole-run g = record {
     run = record {
-      cue_pid = (let a = g.not_null in omega (arith, a));
-      not_pat = λ e. (let a = g.not_pat in absurd (omega (arith, a, e)));
-      faultless = ap (first_fault (writing_cues c)) packets-are ∙ faultless c bs sound;
-      bytes = subst (Along (λ p past. AreBytes p)) (sym packets-are) (bytes-onto [] (packets_of bs) tt (parts-bytes (length bs / 188) bs g.bytes));
-      requests = g.requests;
+      cue_pid = (let below = c.below_null in omega (arith, below));
+      not_pat = λ e. (let above = c.above_reserved in absurd (omega (arith, above, e)));
+      faultless = ap (first_fault (purpose_of c)) packets-are ∙ faultless c bs sound;
+      bytes = subst (Along (λ p past. AreBytes p)) (sym packets-are) (bytes-onto [] (packets_of bs) tt (parts-bytes (length bs / 188) bs g.network));
+      requests = steps_fit c (length rs) ts (reverse (packets_of bs)) g.automation;
     };
     whole = history-ends (length rs) ts (reverse (packets_of bs));
     long = subst ArePackets (sym packets-are) (all-reversed (λ (p : List ℕ). length p ≡ 188) (packets_of bs) (packets-long bs));
-    library = libraries_are_packed c filed steps g.library;
+    library = libraries_are_packed c filed steps library;
   }
 
-  spliced-so : IsGiven c filed bs (history_of bs ts rs) → IsSpliced c filed (history_of bs ts rs)
+  spliced-so : IsGiven bs ts → IsSpliced c filed (history_of bs ts rs)
   spliced-so g = let w = whole-run g in record {
     placed = λ pid a. carries-placed c filed steps w pid a;
     spliced = λ pid a d. carries-splice c filed steps w pid a d;
+    clocks = λ pid a. clocks-same c filed steps w pid a;
     others = others-unchanged c filed steps w;
     tables = has-tables c filed steps w;
+    pmt = λ l known. pmt-stands c filed steps w l known;
     no_program = λ none. unlisted-unchanged c filed steps w none;
     no_break = λ none. unplayed-unchanged c filed steps w none;
   }
 
 pub runs_are_so : RunsAreSo
-runs_are_so c filed bs is_out exchanged report ran =
+runs_are_so A library c bs is_out exchanged report ran =
+    let filed = held library in
+    let full = held_is_library library in
     let steps = history_of bs ran.ts ran.rs in
     record {
       ts = ran.ts;
       rs = ran.rs;
       serves = ran.serves;
       messages = ran.counted.messages;
-      network = ap reverse (packets-are c filed bs ran.sound ran.ts ran.rs) ∙ reverse-reverse (packets_of bs);
+      network = ap reverse (packets-are c filed full bs ran.sound ran.ts ran.rs) ∙ reverse-reverse (packets_of bs);
       written = ran.written;
-      output = λ g. spliced-so c filed bs ran.sound ran.ts ran.rs g;
+      output = λ g. spliced-so c filed full bs ran.sound ran.ts ran.rs g;
       counted = λ g. subst (ReportIs report.switch)
-          (ap (report_of (setting_of c filed)) (reverse-reverse (cued c steps)) ∙ breaks-counted c filed steps (whole-run c filed bs ran.sound ran.ts ran.rs g)) ran.counted.events;
+          (ap (report_of (setting_of c filed)) (reverse-reverse (cued c steps)) ∙ breaks-counted c filed steps (whole-run c filed full bs ran.sound ran.ts ran.rs g)) ran.counted.events;
     }
 
-pub histories_are_so : HistoriesAreSo
-histories_are_so c filed bs sound ts rs = record {
-  network = ap reverse (packets-are c filed bs sound ts rs) ∙ reverse-reverse (packets_of bs);
-  written = refl;
-  output = λ g. spliced-so c filed bs sound ts rs g;
-  counted = λ g. ap (report_of (setting_of c filed)) (reverse-reverse (cued c (history_of bs ts rs))) ∙ breaks-counted c filed (history_of bs ts rs) (whole-run c filed bs sound ts rs g);
-}
+pub histories_are_so : {A : Type 0} (library : AdLibrary A) → HistoriesAreSo (held library)
+histories_are_so library c bs sound ts rs =
+    let filed = held library in
+    let full = held_is_library library in
+    record {
+      network = ap reverse (packets-are c filed full bs sound ts rs) ∙ reverse-reverse (packets_of bs);
+      written = refl;
+      output = λ g. spliced-so c filed full bs sound ts rs g;
+      counted = λ g. ap (report_of (setting_of c filed)) (reverse-reverse (cued c (history_of bs ts rs))) ∙ breaks-counted c filed (history_of bs ts rs) (whole-run c filed full bs sound ts rs g);
+    }

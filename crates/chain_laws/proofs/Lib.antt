@@ -7,4 +7,7 @@ pub mod UnchangedLemmas
 pub mod HeadlineLemmas
 pub mod TableLemmas
 pub mod LibraryLemmas
+pub mod ClockLemmas
+pub mod PmtLemmas
+pub mod PmtPidLemmas
 pub mod WidthLemmas

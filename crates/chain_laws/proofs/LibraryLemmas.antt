@@ -13,11 +13,12 @@ use Rattle.program_follower.specs.Following.{streams_of_program}
 use Rattle.unit_stream.specs.UnitPackets.{IsPacked}
 use Rattle.unit_packing.proofs.UnitPacketLemmas.{packed}
 use Rattle.ad_library.specs.Advertisements.{AdvertUnit, AdvertStream, Advertisement, is_of_kind, stream_at, played_bytes}
+use Rattle.ad_library.specs.Library.{HasBytes, IsLibrary}
 use Rattle.injector.specs.Steps.{packets_in}
 use Rattle.splice_laws.specs.Splicing.{SliceUnit}
 use Rattle.output_laws.proofs.GaplessLemmas.{test-true}
 use Rattle.splice_plans.specs.Adverts.{slice_unit, units_of, kind_and_place, units_at, packed_units}
-use Rattle.chain_laws.specs.Libraries.{HasBytes, IsLibrary, LibrariesArePacked}
+use Rattle.chain_laws.specs.Libraries.{LibrariesArePacked}
 
 -- ---- PIDs of 13 bits
 

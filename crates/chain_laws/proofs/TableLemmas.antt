@@ -275,7 +275,7 @@ module _ (c : Config) (filed : ℕ → Option Advertisement) (steps : List Step)
         let each = or-parts (bad_pid l.pid (pid_in m.pcr_field)) (list_any (bad_pid l.pid) (pids_in (streams_of m))) bad.0 in
         ap (λ o. is_among 0 (pids_of (option_map program_in o))) h ∙ not-among 0 (bad_pid l.pid) (streams_of m) refl each.1
 
-    not-cue : c.cue_pid ≡ l.pid → ⊥
+    pub not-cue : c.cue_pid ≡ l.pid → ⊥
     not-cue e = map-pid c net l w.run.faultless known (sym e)
 
     not-zero : l.pid ≡ 0 → ⊥
@@ -296,10 +296,10 @@ module _ (c : Config) (filed : ℕ → Option Advertisement) (steps : List Step)
 
   -- ---- what is written can be read
 
-  front-clear : (a : ℕ) → is_among a (switched_by c steps) ≡ false → (p : List ℕ) (past more : List (List ℕ)) → sent_cues c steps ≡ more ++ (p ∷ past) → AllByRecursion (Off a) (front_at (setting_of c filed) p past)
+  pub front-clear : (a : ℕ) → is_among a (switched_by c steps) ≡ false → (p : List ℕ) (past more : List (List ℕ)) → sent_cues c steps ≡ more ++ (p ∷ past) → AllByRecursion (Off a) (front_at (setting_of c filed) p past)
   front-clear a h p past more is = front-apart k back good pids a (none-of-pid a h) (known_map (Some c.program) past) p past more is refl
 
-  place-clear : (a : ℕ) → is_among a (switched_by c steps) ≡ false → (p : List ℕ) (past more : List (List ℕ)) → sent_cues c steps ≡ more ++ (p ∷ past) → on a p ≡ false → AllByRecursion (Off a) (place_at (setting_of c filed) p past)
+  pub place-clear : (a : ℕ) → is_among a (switched_by c steps) ≡ false → (p : List ℕ) (past more : List (List ℕ)) → sent_cues c steps ≡ more ++ (p ∷ past) → on a p ≡ false → AllByRecursion (Off a) (place_at (setting_of c filed) p past)
   place-clear a h p past more is n = place-apart k back good pids a (none-of-pid a h) (known_map (Some c.program) past) p past more is refl n
 
   known-back : (l : Listed) (past more : List (List ℕ)) → sent_cues c steps ≡ more ++ past → listed (Some c.program) past ≡ Some l → listed (Some c.program) (packets_in steps) ≡ Some l
@@ -352,10 +352,10 @@ module _ (c : Config) (filed : ℕ → Option Advertisement) (steps : List Step)
   abbrev end : List (List ℕ)
   end = rest_at (setting_of c filed) (sent_cues c steps)
 
-  end-clear : (a : ℕ) → is_among a (switched_by c steps) ≡ false → AllByRecursion (Off a) (rest_at (setting_of c filed) (sent_cues c steps))
+  pub end-clear : (a : ℕ) → is_among a (switched_by c steps) ≡ false → AllByRecursion (Off a) (rest_at (setting_of c filed) (sent_cues c steps))
   end-clear a h = rest-apart k back good pids a (none-of-pid a h) (known_map (Some c.program) back) refl
 
-  out-is : reverse (output_by c filed steps) ≡ onto (switched_past (setting_of c filed) (sent_cues c steps)) (rest_at (setting_of c filed) (sent_cues c steps))
+  pub out-is : reverse (output_by c filed steps) ≡ onto (switched_past (setting_of c filed) (sent_cues c steps)) (rest_at (setting_of c filed) (sent_cues c steps))
   out-is =
       ap (λ l. reverse (reverse (switched_past k l) ++ rest_at k l)) (reverse-reverse back)
       ∙ ap reverse (sym (reverse-onto (switched_past k back) end))
@@ -374,7 +374,7 @@ module _ (c : Config) (filed : ℕ → Option Advertisement) (steps : List Step)
       firsts : List (List ℕ) → Option Listed
       firsts ss = first_listed (Some c.program) ss
 
-  stripped-by : (o : Option Listed) → listed (Some c.program) (packets_in steps) ≡ o →
+  pub stripped-by : (o : Option Listed) → listed (Some c.program) (packets_in steps) ≡ o →
       map (table_out (without_cue_entry c.cue_pid)) (map (table_out (with_cue_entry c.cue_pid)) (all_tables (Some c.program) (packets_in steps))) ≡ all_tables (Some c.program) (packets_in steps)
   stripped-by None h = let n = no_tables (Some c.program) net h in rw n refl
   stripped-by (Some l) h = sames l h (all_tables (Some c.program) net) (all-go l h)

@@ -1,27 +1,30 @@
 -- THE HEADLINE: what a whole run of the chain is, by its requests, the network's packets and the advertisements.
-use Rattle.std.specs.Prelude.{◌≡◌, ℕ, ◌<◌, true, [], List, Option, None, Some, length, filter, reverse}
+use Rattle.std.specs.Prelude.{◌≡◌, ℕ, true, [], List, Option, None, Some, length, filter, reverse}
 use Rattle.wire_fields.specs.Numbers.{AreBytes}
+use Rattle.ts_packet.specs.Fields.{on}
 use Rattle.ts_packet.specs.Packets.{packets_of}
 use Rattle.psi_tables.specs.declared.config.Config.{Config}
 use Rattle.ad_library.specs.Advertisements.{Advertisement}
+use Rattle.ad_library.specs.declared.library.AdLibrary.{AdLibrary}
+use Rattle.ad_library.specs.Library.{held}
 use Rattle.scte104_codec.specs.declared.reply.Reply.{Reply}
 use Rattle.injector.specs.Steps.{Step}
-use Rattle.path_laws.specs.Packets.{RequestsFit}
 use Rattle.splice_laws.specs.Streams.{is_among}
 use Rattle.splice_plans.specs.Adverts.{setting_of}
 use Rattle.splice_plans.specs.Switching.{spliced_network}
 use Rattle.splice_plans.specs.Reporting.{ReportIs, report_of}
 use Rattle.output_laws.specs.Others.{is_off}
+use Rattle.switch_laws.specs.Clocks.{clocks}
+use Rattle.program_follower.specs.declared.purpose.Listed.{Listed}
 use Rattle.program_follower.specs.Program.{listed}
 use Rattle.injector.specs.Steps.{packets_in}
-use Rattle.chain_engine.specs.Automation.{Take}
+use Rattle.chain_engine.specs.Automation.{Take, bytes_of}
 use Rattle.chain_engine.specs.Runs.{first_fault, steps_of, sent_by, Serves}
 use Rattle.chain_engine.specs.ChainRuns.{Ran, MessagesAre}
 use Rattle.chain_engine.specs.declared.hearing.SessionEnd.{SessionEnd}
 use Rattle.chain_engine.specs.declared.report.Report.{Report}
 use Rattle.chain_laws.specs.Runs.{network_of, switched_by, behind_by, played_by, output_by}
-use Rattle.chain_laws.specs.Libraries.{IsLibrary}
-use Rattle.chain_laws.specs.Tables.{HasTables}
+use Rattle.chain_laws.specs.Tables.{HasTables, pmt_packets}
 use Rattle.chain_laws.specs.UnitSplices.{IsConditionedAt}
 use Rattle.chain_laws.specs.Streams.{CarriesPlaced, CarriesSplice}
 use Rattle.chain_laws.specs.Others.{touched_by, IsUnplayed}
@@ -32,14 +35,10 @@ use Rattle.chain_laws.specs.Reports.{counts_by}
 abbrev pub history_of : List ℕ → List Take → List Reply → List Step
 history_of bs ts rs = steps_of (length rs) ts (reverse (packets_of bs))
 
--- What is asked of the values of a run: the cue PID is neither the PAT's nor that of null packets, bytes are bytes, the fields of the requests
--- are as wide as the standard has them (ANSI/SCTE 104, splice_request_data), and each unit of the advertisements has a byte.
-pub record IsGiven (c : Config) (filed : ℕ → Option Advertisement) (bs : List ℕ) (steps : List Step) : Type 0 where
-  pub not_pat : 0 < c.cue_pid
-  pub not_null : c.cue_pid < 8191
-  pub bytes : AreBytes bs
-  pub requests : RequestsFit c steps
-  pub library : IsLibrary filed
+-- What is asked of the values of a run: the network's bytes are bytes, and so are those of the automation.
+pub record IsGiven (bs : List ℕ) (ts : List Take) : Type 0 where
+  pub network : AreBytes bs
+  pub automation : AreBytes (bytes_of ts)
 
 -- WHAT THE OUTPUT IS
 pub record IsSpliced (c : Config) (filed : ℕ → Option Advertisement) (steps : List Step) : Type 0 where
@@ -48,10 +47,14 @@ pub record IsSpliced (c : Config) (filed : ℕ → Option Advertisement) (steps 
   -- where it is conditioned at the starts of the played breaks, it carries its units outside them with the slice of each reached one in its place
   pub spliced : (pid : ℕ) → is_among pid (switched_by c steps) ≡ true → IsConditionedAt (switched_by c steps) pid (played_by c filed steps) (behind_by c steps) →
       CarriesSplice c filed steps pid
+  -- the clock references of a switched stream are the network's, as one list, in order
+  pub clocks : (pid : ℕ) → is_among pid (switched_by c steps) ≡ true → clocks pid (output_by c filed steps) ≡ clocks pid (network_of steps)
   -- the packets marked in error, and those of all other PIDs, are one list, byte for byte
   pub others : filter (is_off (touched_by c steps)) (output_by c filed steps) ≡ filter (is_off (touched_by c steps)) (network_of steps)
   -- a reader finds the network's PAT and sections, and no packet is of the cue PID, but those that are marked in error
   pub tables : HasTables c filed steps
+  -- on the PID of the PMT stand the network's packets up to the PAT, byte for byte, and then its sections behind it, and nothing else
+  pub pmt : (l : Listed) → listed (Some c.program) (packets_in steps) ≡ Some l → filter (on l.pid) (output_by c filed steps) ≡ pmt_packets c steps l.pid
   -- where no PAT lists the program, it is the network
   pub no_program : listed (Some c.program) (packets_in steps) ≡ None → output_by c filed steps ≡ network_of steps
   -- where no break is played, it is the network but on the PID of the PMT, and its sections are the network's
@@ -69,14 +72,15 @@ pub record Headline (c : Config) (filed : ℕ → Option Advertisement) (bs : Li
   pub network : network_of (history_of bs ts rs) ≡ packets_of bs
   -- these packets are out
   pub written : is_out (output_by c filed (history_of bs ts rs))
-  pub output : IsGiven c filed bs (history_of bs ts rs) → IsSpliced c filed (history_of bs ts rs)
+  pub output : IsGiven bs ts → IsSpliced c filed (history_of bs ts rs)
   -- the breaks are counted
-  pub counted : IsGiven c filed bs (history_of bs ts rs) → ReportIs report.switch (counts_by c filed (history_of bs ts rs))
+  pub counted : IsGiven bs ts → ReportIs report.switch (counts_by c filed (history_of bs ts rs))
 
--- each run that answers so is as the headline says
+-- each run that answers so, with what a library holds, is as the headline says
 abbrev pub RunsAreSo : Type 1
-RunsAreSo = (c : Config) (filed : ℕ → Option Advertisement) (bs : List ℕ) (is_out : List (List ℕ) → Type 0)
-    (exchanged : Option SessionEnd → List Take → List Reply → Type 0) (report : Report) → Ran c filed bs is_out exchanged report → Headline c filed bs is_out exchanged report
+RunsAreSo = (A : Type 0) (library : AdLibrary A) (c : Config) (bs : List ℕ) (is_out : List (List ℕ) → Type 0)
+    (exchanged : Option SessionEnd → List Take → List Reply → Type 0) (report : Report) →
+    Ran c (held library) bs is_out exchanged report → Headline c (held library) bs is_out exchanged report
 
 -- ---- the same, of all takes and replies
 
@@ -84,9 +88,9 @@ RunsAreSo = (c : Config) (filed : ℕ → Option Advertisement) (bs : List ℕ) 
 pub record IsHistorySo (c : Config) (filed : ℕ → Option Advertisement) (bs : List ℕ) (ts : List Take) (rs : List Reply) : Type 0 where
   pub network : network_of (history_of bs ts rs) ≡ packets_of bs
   pub written : spliced_network (setting_of c filed) (sent_by c (history_of bs ts rs)) ≡ output_by c filed (history_of bs ts rs)
-  pub output : IsGiven c filed bs (history_of bs ts rs) → IsSpliced c filed (history_of bs ts rs)
-  pub counted : IsGiven c filed bs (history_of bs ts rs) → report_of (setting_of c filed) (reverse (sent_by c (history_of bs ts rs))) ≡ counts_by c filed (history_of bs ts rs)
+  pub output : IsGiven bs ts → IsSpliced c filed (history_of bs ts rs)
+  pub counted : IsGiven bs ts → report_of (setting_of c filed) (reverse (sent_by c (history_of bs ts rs))) ≡ counts_by c filed (history_of bs ts rs)
 
 -- THE LAW OF THE HEADLINE: of a network without a fault, whatever was taken and answered, the output and the report are these
-abbrev pub HistoriesAreSo : Type 0
-HistoriesAreSo = (c : Config) (filed : ℕ → Option Advertisement) (bs : List ℕ) → first_fault c bs ≡ None → (ts : List Take) (rs : List Reply) → IsHistorySo c filed bs ts rs
+abbrev pub HistoriesAreSo : (ℕ → Option Advertisement) → Type 0
+HistoriesAreSo filed = (c : Config) (bs : List ℕ) → first_fault c bs ≡ None → (ts : List Take) (rs : List Reply) → IsHistorySo c filed bs ts rs

@@ -5,5 +5,6 @@ pub mod Streams
 pub mod Others
 pub mod Reports
 pub mod Tables
+pub mod Clocks
 pub mod Libraries
 pub mod Headline

@@ -1,13 +1,18 @@
 //! The headline, piece by piece: each law on a function of its own.
 
+ghost use Rattle.ad_library.specs.Library.{held};
 ghost use Rattle.chain_laws.specs.Breaks.{BreaksAreArmed};
+ghost use Rattle.chain_laws.specs.Clocks.{ClocksAreTheNetworks};
 ghost use Rattle.chain_laws.specs.Headline.{HistoriesAreSo};
 ghost use Rattle.chain_laws.specs.Libraries.{LibrariesArePacked};
 ghost use Rattle.chain_laws.specs.Others.{OthersAreUnchanged, NoProgramIsNoChange, NoBreakIsNoChange};
 ghost use Rattle.chain_laws.specs.Reports.{BreaksAreCounted};
 ghost use Rattle.chain_laws.specs.Streams.{StreamsCarryPlaced, StreamsCarrySplice};
-ghost use Rattle.chain_laws.specs.Tables.{TablesAreTheNetworks};
+ghost use Rattle.chain_laws.specs.Tables.{TablesAreTheNetworks, PmtIsSections};
 ghost use Rattle.chain_laws.specs.UnitSplices.{PlacedIsUnitSplice};
+
+use ad_library::AdLibrary;
+use std::alloc::Allocator;
 
 /// In a stream that is conditioned at the starts of the breaks, what is placed is the splice of its units.
 pub fn placed_is_unit_splice()
@@ -32,6 +37,11 @@ pub fn streams_carry_splice()
     ensures { StreamsCarrySplice }
 {}
 
+/// The clock references of a switched stream are the network's, as one list, in order: none is lost, put in twice or moved.
+pub fn clocks_are_the_networks()
+    ensures { ClocksAreTheNetworks }
+{}
+
 /// The packets marked in error, and those of all PIDs but the switched ones, the PMT's and that of the cues, are one list, byte for byte.
 pub fn others_are_unchanged()
     ensures { OthersAreUnchanged }
@@ -52,10 +62,10 @@ pub fn breaks_are_counted()
     ensures { BreaksAreCounted }
 {}
 
-/// Of a network without a fault, whatever was taken from an automation and answered, the output and the report of a run are as the headline
-/// says.
-pub fn histories_are_so()
-    ensures { HistoriesAreSo }
+/// Of a network without a fault, whatever was taken from an automation and answered, and whatever was filed in a library, the output and the
+/// report of a run are as the headline says.
+pub fn histories_are_so<A: Allocator>(library: &AdLibrary<A>)
+    ensures { HistoriesAreSo (held library.now) }
 {}
 
 /// Each unit of an advertisement that has a byte is packed, whatever the first counter.
@@ -66,4 +76,10 @@ pub fn libraries_are_packed()
 /// On any network without a fault a reader of the output finds the network's PAT and sections, and no unmarked packet of the cue PID.
 pub fn tables_are_the_networks()
     ensures { TablesAreTheNetworks }
+{}
+
+/// On the PID of the PMT the output has the network's packets up to the PAT, byte for byte, and then all sections behind it, each in packets
+/// of its own whose counters go on.
+pub fn pmt_is_sections()
+    ensures { PmtIsSections }
 {}

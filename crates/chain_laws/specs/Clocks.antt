@@ -1,0 +1,14 @@
+-- The clock references of the switched streams of the output.
+use Rattle.std.specs.Prelude.{◌≡◌, ℕ, true, List, Option}
+use Rattle.psi_tables.specs.declared.config.Config.{Config}
+use Rattle.ad_library.specs.Advertisements.{Advertisement}
+use Rattle.injector.specs.Steps.{Step}
+use Rattle.splice_laws.specs.Streams.{is_among}
+use Rattle.switch_laws.specs.Clocks.{clocks}
+use Rattle.chain_laws.specs.Runs.{network_of, switched_by, output_by, IsWholeRun}
+
+-- THE LAW OF CLOCK REFERENCES: those of a switched stream (ISO/IEC 13818-1, 2.4.3.5, program_clock_reference) are the network's, as one list,
+-- in order: none is lost, put in twice or moved
+abbrev pub ClocksAreTheNetworks : Type 0
+ClocksAreTheNetworks = (c : Config) (filed : ℕ → Option Advertisement) (steps : List Step) → IsWholeRun c filed steps → (pid : ℕ) → is_among pid (switched_by c steps) ≡ true →
+    clocks pid (output_by c filed steps) ≡ clocks pid (network_of steps)
