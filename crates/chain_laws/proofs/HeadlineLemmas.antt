@@ -26,8 +26,8 @@ use Rattle.switch_laws.specs.Laws.{ArePackets}
 use Rattle.switch_laws.proofs.StreamLemmas.{all-reversed}
 use Rattle.chain_engine.specs.Automation.{Take}
 use Rattle.chain_engine.specs.Talks.{judged_before}
-use Rattle.chain_engine.specs.Runs.{asked, steps_of, as_run_fault}
-use Rattle.chain_engine.specs.Runs.{first_fault as fault_in}
+use Rattle.chain_engine.specs.Stops.{as_run_fault, first_run_fault}
+use Rattle.chain_engine.specs.Runs.{asked, steps_of}
 use Rattle.chain_engine.specs.declared.chain.RunFault.{RunFault}
 use Rattle.chain_engine.specs.declared.chain.RunFault.TheVariants.{Read}
 use Rattle.chain_laws.specs.Breaks.{EndsWithPacket}
@@ -109,12 +109,12 @@ module _ (c : Purpose) where
       let clean = no_test as_run_fault (network_fault c p past) here.1 in
       only_by (p ∷ past) ps both.1 (ap (λ x. option_or x (network_fault c p past)) k ∙ clean)
 
-faultless : (c : Config) (bs : List ℕ) → fault_in c bs ≡ None → first_fault (writing_cues c) (reverse (packets_of bs)) ≡ None
+faultless : (c : Config) (bs : List ℕ) → first_run_fault (writing_cues c) bs ≡ None → first_fault (writing_cues c) (reverse (packets_of bs)) ≡ None
 faultless c bs h = only_by (writing_cues c) [] (packets_of bs) (or_none (first_of (fault_of Read (network_test as_run_fault (writing_cues c))) (seen_after [] (packets_of bs))) (fault_behind Read (last_part bs)) h).0 refl
 
 -- ---- the headline
 
-module _ (c : Config) (filed : ℕ → Option Advertisement) (library : IsLibrary filed) (bs : List ℕ) (sound : fault_in c bs ≡ None) (ts : List Take) (rs : List Reply) where
+module _ (c : Config) (filed : ℕ → Option Advertisement) (library : IsLibrary filed) (bs : List ℕ) (sound : first_run_fault (writing_cues c) bs ≡ None) (ts : List Take) (rs : List Reply) where
   abbrev steps : List Step
   steps = history_of bs ts rs
 
@@ -126,7 +126,7 @@ module _ (c : Config) (filed : ℕ → Option Advertisement) (library : IsLibrar
     run = record {
       cue_pid = (let below = c.below_null in omega (arith, below));
       not_pat = λ e. (let above = c.above_reserved in absurd (omega (arith, above, e)));
-      faultless = ap (first_fault (purpose_of c)) packets-are ∙ faultless c bs sound;
+      faultless = ap (first_fault (writing_cues c)) packets-are ∙ faultless c bs sound;
       bytes = subst (Along (λ p past. AreBytes p)) (sym packets-are) (bytes-onto [] (packets_of bs) tt (parts-bytes (length bs / 188) bs g.network));
       requests = steps_fit c (length rs) ts (reverse (packets_of bs)) g.automation;
     };

@@ -27,7 +27,7 @@ use Rattle.program_laws.proofs.ReadingLemmas.{listed_onto, no_tables}
 use Rattle.program_laws.proofs.WritingLemmas.{listed_below, off_other}
 use Rattle.program_laws.proofs.FaultLemmas.{Each-map}
 use Rattle.ad_library.specs.Advertisements.{Advertisement}
-use Rattle.injector.specs.Steps.{Step, packets_in, purpose_of}
+use Rattle.injector.specs.Steps.{Step, packets_in}
 use Rattle.injector.specs.Steps.{cued as sent_cues}
 use Rattle.injector.specs.Laws.{fronts}
 use Rattle.injector.proofs.CuedLemmas.{cued-is-written}
@@ -41,6 +41,7 @@ use Rattle.chain_laws.proofs.RunLemmas.{reads}
 use Rattle.chain_laws.proofs.CarriedLemmas.{map-apart}
 use Rattle.chain_laws.proofs.TableLemmas.{front-clear, place-clear, end-clear, out-is, stripped-by, not-cue}
 use Rattle.chain_laws.proofs.PmtLemmas.{filter-onto, filter-none, number-own, IsClearOn, step-before, before, up-at, up-behind, map-out}
+use Rattle.program_follower.specs.Purposes.{writing_cues}
 
 or-none : (o : Option Listed) → option_or o None ≡ o
 or-none None = refl
@@ -72,20 +73,20 @@ module _ (c : Config) (F : List ℕ → List (List ℕ) → List (List ℕ)) (pi
   not-zero : c.cue_pid ≡ 0 → ⊥
   not-zero e = let above = c.above_reserved in absurd (omega (arith, e, above))
 
-  same-listed : (past : List (List ℕ)) → first_fault (purpose_of c) past ≡ None → Along (λ p past. AreBytes p) past → Cues past → listed (Some c.program) (written (cueing c.cue_pid F) (Some c.program) past) ≡ listed (Some c.program) past
-  same-listed past ok bytes h = (cued_stream_reads (purpose_of c) c.cue_pid F past refl refl not-zero (let below = c.below_null in omega (arith, below)) ok bytes h).same_pat
+  same-listed : (past : List (List ℕ)) → first_fault (writing_cues c) past ≡ None → Along (λ p past. AreBytes p) past → Cues past → listed (Some c.program) (written (cueing c.cue_pid F) (Some c.program) past) ≡ listed (Some c.program) past
+  same-listed past ok bytes h = (cued_stream_reads (writing_cues c) c.cue_pid F past refl refl not-zero (let below = c.below_null in omega (arith, below)) ok bytes h).same_pat
 
   abbrev sent : List (List ℕ) → List (List ℕ)
   sent past = written (cueing c.cue_pid F) (Some c.program) past
 
   -- the packets up to its PAT are the network's there
-  up-same : (past : List (List ℕ)) → first_fault (purpose_of c) past ≡ None → Along (λ p past. AreBytes p) past → Cues past →
+  up-same : (past : List (List ℕ)) → first_fault (writing_cues c) past ≡ None → Along (λ p past. AreBytes p) past → Cues past →
       filter (on pid) (up_to_pat (Some c.program) (written (cueing c.cue_pid F) (Some c.program) past)) ≡ filter (on pid) (up_to_pat (Some c.program) past)
   up-same [] ok bytes h = refl
-  up-same (p ∷ past) ok bytes h = by (listed sought past) refl (up-same past (none_both (first_fault (purpose_of c) past) (network_fault (purpose_of c) p past) ok).0 bytes.1 h.1)
+  up-same (p ∷ past) ok bytes h = by (listed sought past) refl (up-same past (none_both (first_fault (writing_cues c) past) (network_fault (writing_cues c) p past) ok).0 bytes.1 h.1)
     where
-      sound : first_fault (purpose_of c) past ≡ None
-      sound = (none_both (first_fault (purpose_of c) past) (network_fault (purpose_of c) p past) ok).0
+      sound : first_fault (writing_cues c) past ≡ None
+      sound = (none_both (first_fault (writing_cues c) past) (network_fault (writing_cues c) p past) ok).0
 
       same : listed (Some c.program) (written (cueing c.cue_pid F) (Some c.program) past) ≡ listed (Some c.program) past
       same = same-listed past sound bytes.1 h.1

@@ -19,7 +19,8 @@ use Rattle.program_follower.specs.declared.purpose.Listed.{Listed}
 use Rattle.program_follower.specs.Program.{listed}
 use Rattle.injector.specs.Steps.{packets_in}
 use Rattle.chain_engine.specs.Automation.{Take, bytes_of}
-use Rattle.chain_engine.specs.Runs.{first_fault, steps_of, sent_by, Serves}
+use Rattle.chain_engine.specs.Stops.{first_run_fault}
+use Rattle.chain_engine.specs.Runs.{steps_of, sent_by, Serves}
 use Rattle.chain_engine.specs.ChainRuns.{Ran, MessagesAre}
 use Rattle.chain_engine.specs.declared.hearing.SessionEnd.{SessionEnd}
 use Rattle.chain_engine.specs.declared.report.Report.{Report}
@@ -29,6 +30,7 @@ use Rattle.chain_laws.specs.UnitSplices.{IsConditionedAt}
 use Rattle.chain_laws.specs.Streams.{CarriesPlaced, CarriesSplice}
 use Rattle.chain_laws.specs.Others.{touched_by, IsUnplayed}
 use Rattle.chain_laws.specs.Reports.{counts_by}
+use Rattle.program_follower.specs.Purposes.{writing_cues}
 
 -- THE HISTORY of a run over these bytes, newest first: the network's packets, and before each the messages whose last byte stands in the take
 -- before it; so many are judged as there are replies
@@ -93,4 +95,4 @@ pub record IsHistorySo (c : Config) (filed : ℕ → Option Advertisement) (bs :
 
 -- THE LAW OF THE HEADLINE: of a network without a fault, whatever was taken and answered, the output and the report are these
 abbrev pub HistoriesAreSo : (ℕ → Option Advertisement) → Type 0
-HistoriesAreSo filed = (c : Config) (bs : List ℕ) → first_fault c bs ≡ None → (ts : List Take) (rs : List Reply) → IsHistorySo c filed bs ts rs
+HistoriesAreSo filed = (c : Config) (bs : List ℕ) → first_run_fault (writing_cues c) bs ≡ None → (ts : List Take) (rs : List Reply) → IsHistorySo c filed bs ts rs

@@ -12,6 +12,7 @@ use Rattle.chain_engine.specs.Splices.{SplicesAll}
 use Rattle.chain_engine.specs.ChainRuns as chain
 use Rattle.chain_engine.specs.declared.report.Report.{Report}
 use Rattle.chain_engine.specs.declared.chain.RunFault.{RunFault}
+use Rattle.chain_engine.proofs.ForgetLemmas.{chain_stops_so}
 use Rattle.unit_cut.specs.Runs.{CutsAll}
 use Rattle.dpi_program.specs.Runs.{PassesAll, Cuts, Cues, Splices, Plays}
 
@@ -100,15 +101,5 @@ plays c filed told (Some bs) is_out report h = (
 )
 
 pub plays_stop : (c : Config) (filed : ℕ → Option Advertisement) (told : _) (fault : RunFault) (input : Option (List ℕ)) (is_out : List (List ℕ) → Type 0)
-    (fails : List (List ℕ) → List ℕ → PutFault → Type 0) → chain.StopsAt c filed fault input is_out fails told → chain.StopsAt c filed fault input is_out fails (λ ending ts rs. Unit {0})
-plays_stop c filed told fault None is_out fails h = tt
-plays_stop c filed told fault (Some bs) is_out fails h = record {
-  passed = h.passed;
-  rest = h.rest;
-  parts = h.parts;
-  sound = h.sound;
-  ts = h.ts;
-  rs = h.rs;
-  serves = record { ending = h.serves.ending; talked = h.serves.talked; exchanges = tt; replies = h.serves.replies };
-  leaves = h.leaves;
-}
+    (fails : List (List ℕ) → List ℕ → PutFault → Type 0) → chain.ChainStops c filed fault input is_out fails told → chain.ChainStops c filed fault input is_out fails (λ ending ts rs. Unit {0})
+plays_stop c filed told fault input is_out fails h = chain_stops_so c told (λ ending ts rs. Unit {0}) (λ e ts rs x. tt) filed fault input is_out fails h

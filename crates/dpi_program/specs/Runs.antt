@@ -8,7 +8,7 @@ use Rattle.unit_cut.specs.FirstFault.{first_fault}
 use Rattle.psi_tables.specs.declared.config.Config.{Config}
 use Rattle.ad_library.specs.Advertisements.{Advertisement}
 use Rattle.splice_plans.specs.declared.report.SwitchReport.{SwitchReport}
-use Rattle.chain_engine.specs.Runs.{Injected, StopsAt}
+use Rattle.chain_engine.specs.Runs.{Injected, InjectStops}
 use Rattle.chain_engine.specs.Splices.{Spliced}
 use Rattle.chain_engine.specs.ChainRuns as chain
 use Rattle.chain_engine.specs.declared.report.Report.{Report}
@@ -46,13 +46,13 @@ Plays c filed bs ps report = chain.Ran c filed bs (λ qs. qs ≡ ps) (λ ending 
 abbrev pub CuesStop : Config → ListenFault → Option (List ℕ) → (List (List ℕ) → Type 0)
     → (List (List ℕ) → List ℕ → PutFault → Type 0) → Type 0
 CuesStop c listen.Accept input is_out fails = is_out []
-CuesStop c (listen.Run fault) input is_out fails = StopsAt c fault input is_out fails (λ ending ts rs. Unit {0})
+CuesStop c (listen.Run fault) input is_out fails = InjectStops c fault input is_out fails (λ ending ts rs. Unit {0})
 
 -- and of one with cues and advertisements
 abbrev pub PlaysStop : Config → (ℕ → Option Advertisement) → ListenFault → Option (List ℕ) → (List (List ℕ) → Type 0)
     → (List (List ℕ) → List ℕ → PutFault → Type 0) → Type 0
 PlaysStop c filed listen.Accept input is_out fails = is_out []
-PlaysStop c filed (listen.Run fault) input is_out fails = chain.StopsAt c filed fault input is_out fails (λ ending ts rs. Unit {0})
+PlaysStop c filed (listen.Run fault) input is_out fails = chain.ChainStops c filed fault input is_out fails (λ ending ts rs. Unit {0})
 
 -- what the program tells of such a fault
 abbrev pub told_fault : ListenFault → ProgramFault
