@@ -4,13 +4,13 @@ ghost use Rattle.std.specs.Prelude.{◌≡◌, false, IfOk};
 ghost use Rattle.packet_lines.specs.Texts.{WrittenLines};
 ghost use Rattle.dpi_program.specs.Runs.{PassesAll};
 
-use crate::command::CutOptions;
 use crate::fault::ProgramFault;
 use crate::running::{
     BUFFER_SIZE, Ended, Finished, Passage, Passed, Ran, let_go, out_of_memory, pass_watched,
     run_to, unopened,
 };
 use crate::tell::{Account, Stopped};
+use command_lines::command::CutOptions;
 use packet_lines::{LineReader, LineWriter, LinesFault};
 use run_ends::{Attended, End, OpenedEnds, finish_buffer, open_ends};
 use std::alloc::{AllocError, Global};

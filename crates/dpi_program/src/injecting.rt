@@ -8,7 +8,6 @@ ghost use Rattle.chain_engine.specs.Chains.{ChainStandsFor};
 ghost use Rattle.dpi_program.specs.Runs.{PassesAll, CuesStop, Cues, PlaysStop, Plays, told_fault, lost_replies};
 
 use crate::fault::ProgramFault;
-use crate::inject_options::{Asking, InjectOptions};
 use crate::listening::{ListenFault, inject_listening, run_listening};
 use crate::running::{Passage, Ran, run_from, stopped, unopened};
 use crate::splicing::open_library;
@@ -16,6 +15,7 @@ use crate::tell::{CueAccount, Side, Stopped};
 use ad_library::AdLibrary;
 use automations::{Reading, Script, ScriptFault, listen, load_into};
 use chain_engine::{Chain, Report, run, run_inject};
+use command_lines::inject_options::{Asking, InjectOptions};
 use run_ends::{Attended, Unopened, create_output, open_input};
 use std::alloc::Global;
 use std::fs::Metadata;

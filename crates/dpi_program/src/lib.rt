@@ -3,15 +3,12 @@
 //! What a caller uses: `cut` says which bytes come out, `cut_lines` is it over lines, and `program` answers 0, 1 or 2.
 #![tactic(auto)]
 
-pub mod command;
 mod cutting;
 pub mod fault;
-mod inject_options;
 mod injecting;
 mod listening;
 pub mod program;
 mod running;
-mod splice_options;
 mod splicing;
 mod tell;
 mod watch;
@@ -22,14 +19,3 @@ pub use fault::ProgramFault;
 pub use listening::{ListenFault, inject_listening, run_listening};
 pub use packet_lines::{LinesFault, cut_lines};
 pub use unit_cut::{CutFault, cut};
-
-#[cfg(test)]
-mod fail_devices;
-#[cfg(test)]
-mod inject_fail_tests;
-#[cfg(test)]
-mod inject_tests;
-#[cfg(test)]
-mod splice_tests;
-#[cfg(test)]
-mod tests;

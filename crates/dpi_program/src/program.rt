@@ -3,16 +3,18 @@
 ghost use Rattle.std.specs.Prelude.{◌≡◌, ◌≢◌, ◌≤◌};
 ghost use Rattle.clap.specs.Values.{kind_of};
 
-use crate::command::{CutOptions, command, cut_options};
 use crate::cutting::run_cut;
 use crate::fault::{ProgramFault, fault_name};
-use crate::inject_options::{InjectOptions, inject_options, run_options};
 use crate::injecting::{Injected, run_inject_command};
-use crate::splice_options::{SpliceOptions, splice_options};
 use crate::splicing::run_splice_command;
 use crate::tell::{Side, SpliceAccount, Stopped, Trouble};
 use clap::Error;
 use clap::error::ErrorKind;
+use command_lines::command::{CUT_USAGE, CutOptions, command, cut_options};
+use command_lines::inject_options::{
+    INJECT_USAGE, InjectOptions, RUN_USAGE, inject_options, run_options,
+};
+use command_lines::splice_options::{SPLICE_USAGE, SpliceOptions, splice_options};
 use splice_plans::SwitchReport;
 use std::fmt;
 use std::io::{Read, Write};
@@ -194,11 +196,14 @@ fn answer<E: Write>(faults: &mut E, error: &Error) -> u8
     USAGE
 }
 
-/// Prints why a command line is not taken.
-fn refuse<E: Write, B: fmt::Display>(faults: &mut E, bad: &B) -> u8
+/// Prints why a command line is not taken, and how its subcommand is called.
+fn refuse<E: Write, B: fmt::Display>(faults: &mut E, bad: &B, usage: &str) -> u8
     ensures { result ≡ 2 }
 {
-    let _ = write!(faults, "{bad}");
+    let _ = write!(
+        faults,
+        "{bad}\n\nUsage: {usage}\n\nFor more information, try '--help'.\n"
+    );
     USAGE
 }
 
@@ -255,24 +260,24 @@ where
     if let Some(given) = matches.subcommand_matches("cut") {
         return match cut_options(given) {
             Ok(options) => cut(rt, &options, input, output, faults),
-            Err(bad) => refuse(faults, &bad),
+            Err(bad) => refuse(faults, &bad, CUT_USAGE),
         };
     }
     if let Some(given) = matches.subcommand_matches("splice") {
         return match splice_options(given) {
             Ok(options) => splice(rt, &options, input, output, faults),
-            Err(bad) => refuse(faults, &bad),
+            Err(bad) => refuse(faults, &bad, SPLICE_USAGE),
         };
     }
-    let asked = if let Some(given) = matches.subcommand_matches("run") {
-        run_options(given)
+    let (asked, usage) = if let Some(given) = matches.subcommand_matches("run") {
+        (run_options(given), RUN_USAGE)
     } else if let Some(given) = matches.subcommand_matches("inject") {
-        inject_options(given)
+        (inject_options(given), INJECT_USAGE)
     } else {
         return USAGE;
     };
     match asked {
         Ok(options) => inject(rt, &options, input, output, faults),
-        Err(bad) => refuse(faults, &bad),
+        Err(bad) => refuse(faults, &bad, usage),
     }
 }

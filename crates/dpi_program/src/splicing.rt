@@ -4,11 +4,11 @@ ghost use Rattle.std.specs.Prelude.{◌≡◌};
 
 use crate::fault::ProgramFault;
 use crate::running::{Passage, Ran, run_from, stopped, unopened};
-use crate::splice_options::SpliceOptions;
 use crate::tell::{Side, Stopped};
 use ad_library::AdLibrary;
 use ad_lists::{ListFault, load_list};
 use chain_engine::run_splice;
+use command_lines::splice_options::SpliceOptions;
 use run_ends::{Attended, End, Unopened, create_output, open_input};
 use splice_plans::SwitchReport;
 use std::alloc::Global;

@@ -1,15 +1,15 @@
-//! The command line of the subcommand `inject`: its options and their ranges.
+//! Of the subcommands `inject` and `run` the options and their ranges.
 
 ghost use Rattle.std.specs.Prelude.{◌≡◌, ◌^◌, IfOk, IfErr, OnOk, Some, None, Err, is_ok, is_some, not, IsSomeAnd};
 ghost use Rattle.decimal_numbers.specs.Numbers.{number_below, number_within};
-ghost use Rattle.dpi_program.specs.Command.{IsRefusedOf, refused_option, is_standard, is_asked_there, is_listed_there, are_two};
+ghost use Rattle.command_lines.specs.Command.{IsRefusedOf, refused_option, is_standard, is_asked_there, is_listed_there, are_two};
 
-use crate::command::{BadNumber, NumberOption, option};
-use clap::{Arg, ArgAction, ArgMatches, Command};
+use crate::command::{BadNumber, NumberOption};
+use crate::subcommand::{Subcommand, ValueOption};
+use clap::ArgMatches;
 use decimal_numbers::{number_below, number_within};
 use psi_tables::Config;
 use run_ends::End;
-use std::alloc::{AllocError, Global};
 use std::fmt;
 use ts_packet::Pid;
 
@@ -76,12 +76,98 @@ const RUN_EXAMPLE: &str = "Example, with a list whose one line is `7 advert.ts`:
 
 `dpi_chain inject --help` tells of scripts and ports, `dpi_chain splice --help` of lists.";
 
-const RUN_USAGE: &str =
+/// How `run` is called.
+pub const RUN_USAGE: &str =
     "dpi_chain run --network <FILE> --program <N> --cue-pid <PID> --index <N> <--script <FILE>|--listen <PORT>> --adverts <FILE> --out <FILE> [--verbose]";
 
-/// How the subcommand is called.
+/// How `inject` is called.
 pub const INJECT_USAGE: &str =
     "dpi_chain inject --network <FILE> --program <N> --cue-pid <PID> --index <N> <--script <FILE>|--listen <PORT>> --out <FILE> [--verbose]";
+
+pub(crate) const NETWORK: ValueOption = ValueOption {
+    id: "network",
+    value_name: "FILE",
+    help: "The transport stream to read, a file or a pipe of 188-byte packets; - is standard input",
+    is_required: true,
+};
+
+pub(crate) const PROGRAM: ValueOption = ValueOption {
+    id: "program",
+    value_name: "N",
+    help: "The program's number (program_number), from 1 to 65535",
+    is_required: true,
+};
+
+const CUE_PID: ValueOption = ValueOption {
+    id: "cue-pid",
+    value_name: "PID",
+    help: "The PID for the cues, from 16 to 8190, which nothing in the network uses, as 496 (0x1F0)",
+    is_required: true,
+};
+
+const INDEX: ValueOption = ValueOption {
+    id: "index",
+    value_name: "N",
+    help: "The DPI_PID_index of the messages to this program, from 0 to 65535",
+    is_required: true,
+};
+
+const SCRIPT: ValueOption = ValueOption {
+    id: "script",
+    value_name: "FILE",
+    help: "The messages as lines of text, a packet's number, a space and digits; - is standard input",
+    is_required: false,
+};
+
+const LISTEN: ValueOption = ValueOption {
+    id: "listen",
+    value_name: "PORT",
+    help: "The port of this machine, from 1 to 65535, to which one automation system may connect",
+    is_required: false,
+};
+
+pub(crate) const ADVERTS: ValueOption = ValueOption {
+    id: "adverts",
+    value_name: "FILE",
+    help: "The list of the advertisements, lines of a number, a space and a path; - is standard input",
+    is_required: true,
+};
+
+pub(crate) const OUT: ValueOption = ValueOption {
+    id: "out",
+    value_name: "FILE",
+    help: "The file to write, whose contents are replaced; - is standard output",
+    is_required: true,
+};
+
+const INJECT_OPTIONS: [ValueOption; 7] = [NETWORK, PROGRAM, CUE_PID, INDEX, SCRIPT, LISTEN, OUT];
+
+const RUN_OPTIONS: [ValueOption; 8] = [
+    NETWORK, PROGRAM, CUE_PID, INDEX, SCRIPT, LISTEN, ADVERTS, OUT,
+];
+
+const INJECT_VERBOSE: &str =
+    "Tell more on standard error: where a fault stands, or how many cues went out";
+
+pub(crate) const INJECT: Subcommand = Subcommand {
+    name: "inject",
+    about: INJECT_ABOUT,
+    long_about: INJECT_LONG_ABOUT,
+    example: INJECT_EXAMPLE,
+    usage: INJECT_USAGE,
+    options: &INJECT_OPTIONS,
+    verbose: INJECT_VERBOSE,
+};
+
+pub(crate) const RUN: Subcommand = Subcommand {
+    name: "run",
+    about: RUN_ABOUT,
+    long_about: RUN_LONG_ABOUT,
+    example: RUN_EXAMPLE,
+    usage: RUN_USAGE,
+    options: &RUN_OPTIONS,
+    verbose: INJECT_VERBOSE,
+};
 
 /// Where the messages come from.
 #[derive(Clone, Copy, Debug, PartialEq, Eq, Drop)]
@@ -124,7 +210,7 @@ impl<'a> InjectOptions<'a> {
     }
 }
 
-/// Why the options of `inject` are not taken.
+/// Why the options of `inject` or `run` are not taken.
 #[derive(Clone, Copy, Debug, Drop)]
 pub enum BadInject<'a> {
     /// An option's text is no number in its range.
@@ -140,95 +226,21 @@ pub enum BadInject<'a> {
 impl fmt::Display for BadInject<'_> {
     fn fmt<W: fmt::Write>(&self, f: &mut fmt::Formatter<W>) -> fmt::Result {
         match self {
-            BadInject::Number(bad) => return write!(f, "{bad}"),
+            BadInject::Number(bad) => write!(f, "{bad}"),
             BadInject::Asking => write!(
                 f,
                 "error: exactly one of '--script <FILE>' and '--listen <PORT>' is to be given"
-            )?,
+            ),
             BadInject::Input => write!(
                 f,
                 "error: '--network <FILE>' and '--script <FILE>' cannot both be standard input"
-            )?,
+            ),
             BadInject::ListInput => write!(
                 f,
                 "error: only one of '--network <FILE>', '--script <FILE>' and '--adverts <FILE>' can be standard input"
-            )?,
+            ),
         }
-        write!(
-            f,
-            "\n\nUsage: {INJECT_USAGE}\n\nFor more information, try '--help'.\n"
-        )
     }
-}
-
-/// The options that say where the messages come from.
-fn asking_arguments<'a>(alloc: Global, command: Command<'a>) -> Result<Command<'a>, AllocError> {
-    let script = option(
-        alloc,
-        "script",
-        "FILE",
-        "The messages as lines of text, a packet's number, a space and digits; - is standard input",
-    );
-    let listen = option(
-        alloc,
-        "listen",
-        "PORT",
-        "The port of this machine, from 1 to 65535, to which one automation system may connect",
-    );
-    command.arg(script)?.arg(listen)
-}
-
-/// The subcommand `inject`.
-pub fn inject_command<'a>(alloc: Global) -> Result<Command<'a>, AllocError> {
-    let network = option(
-        alloc,
-        "network",
-        "FILE",
-        "The transport stream to read, a file or a pipe of 188-byte packets; - is standard input",
-    )
-    .required(true);
-    let program = option(
-        alloc,
-        "program",
-        "N",
-        "The program's number (program_number), from 1 to 65535",
-    )
-    .required(true);
-    let cue_pid = option(
-        alloc,
-        "cue-pid",
-        "PID",
-        "The PID for the cues, from 16 to 8190, which nothing in the network uses, as 496 (0x1F0)",
-    )
-    .required(true);
-    let index = option(
-        alloc,
-        "index",
-        "N",
-        "The DPI_PID_index of the messages to this program, from 0 to 65535",
-    )
-    .required(true);
-    let output = option(
-        alloc,
-        "out",
-        "FILE",
-        "The file to write, whose contents are replaced; - is standard output",
-    )
-    .required(true);
-    let verbose = Arg::new(alloc, "verbose")
-        .long("verbose")
-        .action(ArgAction::SetTrue)
-        .help("Tell more on standard error: where a fault stands, or how many cues went out");
-    let command = Command::new(alloc, "inject")
-        .about(INJECT_ABOUT)
-        .long_about(INJECT_LONG_ABOUT)
-        .after_help(INJECT_EXAMPLE)
-        .override_usage(INJECT_USAGE)
-        .arg(network)?
-        .arg(program)?
-        .arg(cue_pid)?
-        .arg(index)?;
-    asking_arguments(alloc, command)?.arg(output)?.arg(verbose)
 }
 
 /// An option's text that is no number in its range.
@@ -361,24 +373,6 @@ fn asked_options<'a>(
 /// What the options of `inject` say.
 pub fn inject_options<'a>(matches: &ArgMatches<'a>) -> Result<InjectOptions<'a>, BadInject<'a>> {
     asked_options(matches, None)
-}
-
-/// The subcommand `run`.
-pub fn run_command<'a>(alloc: Global) -> Result<Command<'a>, AllocError> {
-    let adverts = option(
-        alloc,
-        "adverts",
-        "FILE",
-        "The list of the advertisements, lines of a number, a space and a path; - is standard input",
-    )
-    .required(true);
-    inject_command(alloc)?
-        .name("run")
-        .about(RUN_ABOUT)
-        .long_about(RUN_LONG_ABOUT)
-        .after_help(RUN_EXAMPLE)
-        .override_usage(RUN_USAGE)
-        .arg(adverts)
 }
 
 /// What the options of `run` say.

@@ -1,7 +1,7 @@
 //! Lists of advertisements: which lines are taken, lists of files, and refused memory.
 
-use crate::list::{ListFault, load_list};
 use ad_library::{AdFault, AdLibrary};
+use ad_lists::{ListFault, load_list};
 use linked_list_allocator::LocalHeap;
 use std::alloc::{AllocError, Allocator, Global};
 use std::io::{self, Cursor, ErrorKind, Read};
@@ -139,7 +139,7 @@ fn is_whole<M: Allocator + Copy>(library: &AdLibrary<M>) -> bool {
 #[test]
 fn lists_of_files(rt: HostRuntime) -> Result<(), Fail> {
     let folder = env::temp_dir(&rt)?;
-    let path = folder.join(rt.alloc(), "dpi_program_ad_list.ts")?;
+    let path = folder.join(rt.alloc(), "program_tests_ad_list.ts")?;
     let path = path.to_str().ok_or("a name")?;
     let bytes = advert(rt.alloc())?;
     fs::write(&rt, path, bytes.as_slice())?;
@@ -209,7 +209,7 @@ fn is_refused<R: Files + Abort>(
 #[test]
 fn each_request_refused(rt: HostRuntime) -> Result<(), Fail> {
     let folder = env::temp_dir(&rt)?;
-    let path = folder.join(rt.alloc(), "ad_lists_memory.ts")?;
+    let path = folder.join(rt.alloc(), "program_tests_memory.ts")?;
     let path = path.to_str().ok_or("a name")?;
     let bytes = advert(rt.alloc())?;
     fs::write(&rt, path, bytes.as_slice())?;

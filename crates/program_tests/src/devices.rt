@@ -1,5 +1,6 @@
 //! Devices for tests, which move one byte a call, and fail at a call that the test chooses.
 
+use std::alloc::Global;
 use std::io::{self, ErrorKind, Read, Write};
 
 /// Gives a byte every second read, and is interrupted at the others; past its bytes it ends, or fails.
@@ -30,12 +31,25 @@ impl Read for FailSource<'_> {
     }
 }
 
-/// Takes a byte a write, as many as there is room for; then it takes none, or fails.
+/// Takes a byte a write, as many as there is room for; then it takes none, or fails. It may fail to flush.
 #[derive(Drop)]
 pub(crate) struct FailTarget {
     pub(crate) taken: Vec<u8>,
     pub(crate) room: usize,
     pub(crate) fails: bool,
+    pub(crate) fails_to_flush: bool,
+}
+
+impl FailTarget {
+    /// A target that has room for all.
+    pub(crate) fn new(alloc: Global) -> FailTarget {
+        FailTarget {
+            taken: Vec::new(alloc),
+            room: usize::MAX,
+            fails: false,
+            fails_to_flush: false,
+        }
+    }
 }
 
 impl Write for FailTarget {
@@ -53,6 +67,9 @@ impl Write for FailTarget {
     }
 
     fn flush(&mut self) -> io::Result<()> {
+        if self.fails_to_flush {
+            return Err(io::Error::from(ErrorKind::Other));
+        }
         Ok(())
     }
 }

@@ -1,23 +1,8 @@
 //! Command lines of `splice` and `run`, and the ends that they name. What packets come out is shown by the vectors of the switch.
 
-use crate::program::program;
-use std::io::Cursor;
-use std::net::Net;
-use std::process::Abort;
-use std::rt::Files;
+use crate::expecting::expect;
 use std::test::Fail;
 use std::{env, fs};
-
-/// The words end with this status on no input, and where that is 1 with this line.
-fn expect<R: Files + Net + AllocGlobal + Abort>(rt: &R, words: &[&str], status: u8, fault: &str) {
-    let mut output = Vec::new(rt.alloc());
-    let mut faults = Vec::new(rt.alloc());
-    let mut input = Cursor::new(b"".as_slice());
-    let answer = program(rt, words, &mut input, &mut output, &mut faults);
-    assert_eq!(rt; answer, status, "{words:?}");
-    let is_said = status == 2 || faults.as_slice() == fault.as_bytes();
-    assert!(rt; is_said, "{words:?}");
-}
 
 /// The words of `splice` between these ends.
 fn splice<'a>(network: &'a str, adverts: &'a str, output: &'a str) -> [&'a str; 11] {
@@ -88,6 +73,34 @@ fn bad_command_lines_are_refused(rt: HostRuntime) {
 }
 
 #[test]
+fn each_subcommand_tells_how_it_is_called(rt: HostRuntime) {
+    let mut words = run("x", "x", "x", "-");
+    words[4] = "0";
+    expect(
+        &rt,
+        &words,
+        2,
+        "error: invalid value '0' for '--program <N>': a program's number is a decimal number from 1 to 65535
+
+Usage: dpi_chain run --network <FILE> --program <N> --cue-pid <PID> --index <N> <--script <FILE>|--listen <PORT>> --adverts <FILE> --out <FILE> [--verbose]
+
+For more information, try '--help'.
+",
+    );
+    expect(
+        &rt,
+        &splice("-", "-", "-"),
+        2,
+        "error: '--network <FILE>' and '--adverts <FILE>' cannot both be standard input
+
+Usage: dpi_chain splice --network <FILE> --program <N> --cue-pid <PID> --adverts <FILE> --out <FILE> [--verbose]
+
+For more information, try '--help'.
+",
+    );
+}
+
+#[test]
 fn one_end_is_standard_input(rt: HostRuntime) {
     expect(&rt, &splice("-", "-", "-"), 2, "");
     expect(&rt, &run("-", "-", "x", "-"), 2, "");
@@ -107,9 +120,9 @@ fn one_end_is_standard_input(rt: HostRuntime) {
 #[test]
 fn an_input_is_not_written_over(rt: HostRuntime) -> Result<(), Fail> {
     let folder = env::temp_dir(&rt)?;
-    let network = folder.join(rt.alloc(), "dpi_program_splice_network.ts")?;
+    let network = folder.join(rt.alloc(), "program_tests_splice_network.ts")?;
     let network = network.to_str().ok_or("a name")?;
-    let list = folder.join(rt.alloc(), "dpi_program_splice_list.txt")?;
+    let list = folder.join(rt.alloc(), "program_tests_splice_list.txt")?;
     let list = list.to_str().ok_or("a name")?;
     fs::write(&rt, network, b"".as_slice())?;
     fs::write(&rt, list, b"\n".as_slice())?;

@@ -1,6 +1,6 @@
 //! Scripts by example: the pieces that good ones give, the lines that are refused, and refused memory.
 
-use crate::script::{Script, ScriptFault};
+use automations::{Script, ScriptFault};
 use chain_engine::{Automation, Taken};
 use linked_list_allocator::LocalHeap;
 use std::alloc::{Allocator, Global};

@@ -1,8 +1,8 @@
 //! Runs of the program and of the cut over lines. Expected lines are worked out by hand from the rules, not by the program.
 
-use super::program::program;
-use super::{LinesFault, cut_lines};
-use crate::fail_devices::{FailSource, FailTarget};
+use crate::devices::{FailSource, FailTarget};
+use dpi_program::program::program;
+use packet_lines::{LinesFault, cut_lines};
 use pes_time::Time33;
 use std::alloc::{AllocError, Global};
 use std::io::{self, Cursor, ErrorKind, Read, Write};
@@ -321,8 +321,8 @@ fn command_lines_are_judged(rt: HostRuntime) -> Result<(), Fail> {
 #[test]
 fn files_hold_bytes(rt: HostRuntime) -> Result<(), Fail> {
     let folder = env::temp_dir(&rt)?;
-    let input = folder.join(rt.alloc(), "dpi_program_files_in.ts")?;
-    let output = folder.join(rt.alloc(), "dpi_program_files_out.ts")?;
+    let input = folder.join(rt.alloc(), "program_tests_files_in.ts")?;
+    let output = folder.join(rt.alloc(), "program_tests_files_out.ts")?;
     let (input, output) = (
         input.to_str().ok_or("a name")?,
         output.to_str().ok_or("a name")?,
@@ -439,8 +439,8 @@ fn expect_no_file<R: Files + Net + AllocGlobal + Abort>(rt: &R, input: &str, out
 #[test]
 fn the_input_is_never_destroyed(rt: HostRuntime) -> Result<(), Fail> {
     let folder = env::temp_dir(&rt)?;
-    let input = folder.join(rt.alloc(), "dpi_program_same_in.ts")?;
-    let link = folder.join(rt.alloc(), "dpi_program_same_link.ts")?;
+    let input = folder.join(rt.alloc(), "program_tests_same_in.ts")?;
+    let link = folder.join(rt.alloc(), "program_tests_same_link.ts")?;
     let input = input.to_str().ok_or("a name")?;
     let link = link.to_str().ok_or("a name")?;
     let _ = fs::remove_file(&rt, link);
@@ -534,11 +534,9 @@ fn slow_devices_change_nothing(rt: HostRuntime) -> Result<(), Fail> {
             fails: input_fails,
             is_late: false,
         };
-        let mut output = FailTarget {
-            taken: Vec::new(rt.alloc()),
-            room,
-            fails: output_fails,
-        };
+        let mut output = FailTarget::new(rt.alloc());
+        output.room = room;
+        output.fails = output_fails;
         let outcome = copy_lines(&mut input, &mut output).ok_or("numbers")?;
         assert!(rt;
             outcome

@@ -1,13 +1,12 @@
 //! Runs of `inject`: command lines, scripts and connections. What packets come out is shown by the vectors of the injector.
 
-use crate::listening::inject_listening;
-use crate::program::program;
+use crate::expecting::expect;
 use chain_engine::{Chain, Report};
+use dpi_program::inject_listening;
 use psi_tables::Config;
-use std::io::{Cursor, Read, Write};
+use std::io::{Read, Write};
 use std::net::{Net, OpenListener, OpenStream, Shutdown, SocketAddr, TcpListener, TcpStream};
 use std::process::Abort;
-use std::rt::Files;
 use std::test::Fail;
 use std::{env, fs};
 use ts_packet::{Device, PacketReader, PacketWriter, Pid};
@@ -28,27 +27,6 @@ fn null_packet() -> [u8; 188] {
     bytes[1] = 0x1F;
     bytes[3] = 0x10;
     bytes
-}
-
-/// The words end with this status, and this text where that is 1.
-fn expect_status<R: Files + Net + AllocGlobal + Abort>(
-    rt: &R,
-    words: &[&str],
-    status: u8,
-    fault: &str,
-) {
-    let mut output = Vec::new(rt.alloc());
-    let mut faults = Vec::new(rt.alloc());
-    let answer = program(
-        rt,
-        words,
-        &mut Cursor::new(b"".as_slice()),
-        &mut output,
-        &mut faults,
-    );
-    assert_eq!(rt; answer, status, "{words:?}");
-    let is_said = status == 2 || faults.as_slice() == fault.as_bytes();
-    assert!(rt; is_said, "{words:?}");
 }
 
 /// The words of a run with these numbers, and this option for its messages.
@@ -78,16 +56,16 @@ fn words<'a>(
 
 #[test]
 fn numbers_outside_their_ranges_are_refused(rt: HostRuntime) {
-    expect_status(&rt, &words("0", "496", "1", "--script", "x"), 2, "");
-    expect_status(&rt, &words("65536", "496", "1", "--script", "x"), 2, "");
-    expect_status(&rt, &words("1", "15", "1", "--script", "x"), 2, "");
-    expect_status(&rt, &words("1", "8191", "1", "--script", "x"), 2, "");
-    expect_status(&rt, &words("1", "496", "65536", "--script", "x"), 2, "");
-    expect_status(&rt, &words("1", "496", "+1", "--script", "x"), 2, "");
-    expect_status(&rt, &words("1", "496", "1", "--listen", "0"), 2, "");
-    expect_status(&rt, &words("1", "496", "1", "--listen", "65536"), 2, "");
-    expect_status(&rt, &words("1", "496", "1", "--script", "-"), 2, "");
-    expect_status(
+    expect(&rt, &words("0", "496", "1", "--script", "x"), 2, "");
+    expect(&rt, &words("65536", "496", "1", "--script", "x"), 2, "");
+    expect(&rt, &words("1", "15", "1", "--script", "x"), 2, "");
+    expect(&rt, &words("1", "8191", "1", "--script", "x"), 2, "");
+    expect(&rt, &words("1", "496", "65536", "--script", "x"), 2, "");
+    expect(&rt, &words("1", "496", "+1", "--script", "x"), 2, "");
+    expect(&rt, &words("1", "496", "1", "--listen", "0"), 2, "");
+    expect(&rt, &words("1", "496", "1", "--listen", "65536"), 2, "");
+    expect(&rt, &words("1", "496", "1", "--script", "-"), 2, "");
+    expect(
         &rt,
         &[
             "inject",
@@ -105,7 +83,7 @@ fn numbers_outside_their_ranges_are_refused(rt: HostRuntime) {
         2,
         "",
     );
-    expect_status(
+    expect(
         &rt,
         &[
             "inject",
@@ -132,10 +110,10 @@ fn numbers_outside_their_ranges_are_refused(rt: HostRuntime) {
 #[test]
 fn scripts_are_judged_before_the_output_is_opened(rt: HostRuntime) -> Result<(), Fail> {
     let folder = env::temp_dir(&rt)?;
-    let script = folder.join(rt.alloc(), "dpi_program_inject_script.txt")?;
+    let script = folder.join(rt.alloc(), "program_tests_inject_script.txt")?;
     let script = script.to_str().ok_or("a name")?;
     fs::write(&rt, script, b"0 00\n0 00\n".as_slice())?;
-    expect_status(
+    expect(
         &rt,
         &words("1", "496", "1", "--script", script),
         1,
@@ -144,9 +122,9 @@ fn scripts_are_judged_before_the_output_is_opened(rt: HostRuntime) -> Result<(),
     fs::write(&rt, script, b"".as_slice())?;
     let mut good = words("1", "496", "1", "--script", script);
     good[12] = "no/such/folder";
-    expect_status(&rt, &good, 1, "fault: File\n");
+    expect(&rt, &good, 1, "fault: File\n");
     fs::remove_file(&rt, script)?;
-    expect_status(
+    expect(
         &rt,
         &words("1", "496", "1", "--script", script),
         1,
@@ -160,7 +138,7 @@ fn a_port_in_use_is_accept(rt: HostRuntime) -> Result<(), Fail> {
     let listener = TcpListener::bind(&rt, SocketAddr::from(([127, 0, 0, 1], 0)))?;
     let port = listener.local_addr()?.port();
     let port = format!(in rt.alloc(); "{port}")?;
-    expect_status(
+    expect(
         &rt,
         &words("1", "496", "1", "--listen", port.as_str()),
         1,

@@ -2,11 +2,12 @@
 
 ghost use Rattle.std.specs.Prelude.{◌≡◌, ◌^◌, IfOk, IfErr, Some};
 ghost use Rattle.decimal_numbers.specs.Numbers.{number_below};
-ghost use Rattle.dpi_program.specs.Command.{IsRefused};
+ghost use Rattle.command_lines.specs.Command.{IsRefused};
 
-use crate::inject_options::{INJECT_USAGE, inject_command, run_command};
-use crate::splice_options::{SPLICE_USAGE, splice_command};
-use clap::{Arg, ArgAction, ArgMatches, Command};
+use crate::inject_options::{INJECT, RUN};
+use crate::splice_options::SPLICE;
+use crate::subcommand::{Subcommand, ValueOption};
+use clap::{ArgMatches, Command};
 use decimal_numbers::number_below;
 use pes_time::Time33;
 use run_ends::End;
@@ -57,7 +58,8 @@ Exit status: 0 where the whole stream went through; 1 at a fault, which is named
 what went out before it stands (a reader that closes the output's pipe is `fault: Io`); 2 where the command line is not taken,
 or asks for help or the version.";
 
-const CUT_USAGE: &str =
+/// How `cut` is called.
+pub const CUT_USAGE: &str =
     "dpi_chain cut --pid <PID> --from <TICKS> --length <TICKS> [--in <FILE>] [--out <FILE>] [--verbose]";
 
 /// What `cut` is to do.
@@ -87,22 +89,6 @@ pub enum NumberOption {
     CuePid,
     Index,
     Port,
-    SpliceProgram,
-    SpliceCuePid,
-}
-
-impl NumberOption {
-    /// How the option's subcommand is called.
-    fn usage(&self) -> &'static str {
-        match self {
-            NumberOption::Pid | NumberOption::From | NumberOption::Length => CUT_USAGE,
-            NumberOption::Program
-            | NumberOption::CuePid
-            | NumberOption::Index
-            | NumberOption::Port => INJECT_USAGE,
-            NumberOption::SpliceProgram | NumberOption::SpliceCuePid => SPLICE_USAGE,
-        }
-    }
 }
 
 /// An option's text that is no number in its range.
@@ -127,11 +113,11 @@ impl fmt::Display for NumberOption {
                 f,
                 "'--length <TICKS>': a length is a decimal number of 90 kHz ticks from 0 to 4294967295 (2^32 - 1)"
             ),
-            NumberOption::Program | NumberOption::SpliceProgram => write!(
+            NumberOption::Program => write!(
                 f,
                 "'--program <N>': a program's number is a decimal number from 1 to 65535"
             ),
-            NumberOption::CuePid | NumberOption::SpliceCuePid => write!(
+            NumberOption::CuePid => write!(
                 f,
                 "'--cue-pid <PID>': a PID for cues is a decimal number from 16 to 8190"
             ),
@@ -152,14 +138,10 @@ impl fmt::Display for BadNumber<'_> {
         let option = self.option;
         let text = self.text;
         write!(f, "error: invalid value '{text}' for {option}")?;
-        if let Some(number) = hexadecimal(text) {
-            write!(f, "; {text} is {number}")?;
+        match hexadecimal(text) {
+            Some(number) => write!(f, "; {text} is {number}"),
+            None => Ok(()),
         }
-        let usage = option.usage();
-        write!(
-            f,
-            "\n\nUsage: {usage}\n\nFor more information, try '--help'.\n"
-        )
     }
 }
 
@@ -169,72 +151,48 @@ fn hexadecimal(text: &str) -> Option<u64> {
     u64::from_str_radix(digits, 16).ok()
 }
 
-/// An option that takes one value.
-pub(crate) fn option<'a>(
-    alloc: Global,
-    id: &'a str,
-    value_name: &'a str,
-    help: &'a str,
-) -> Arg<'a> {
-    Arg::new(alloc, id)
-        .long(id)
-        .value_name(value_name)
-        .action(ArgAction::Set)
-        .allow_negative_numbers(true)
-        .help(help)
-}
+const CUT_OPTIONS: [ValueOption; 5] = [
+    ValueOption {
+        id: "pid",
+        value_name: "PID",
+        help: "The PID to cut in, a decimal number from 0 to 8191, as 256 (0x100)",
+        is_required: true,
+    },
+    ValueOption {
+        id: "from",
+        value_name: "TICKS",
+        help: "Where the interval starts: a PTS in 90 kHz ticks, from 0 to 8589934591 (2^33 - 1)",
+        is_required: true,
+    },
+    ValueOption {
+        id: "length",
+        value_name: "TICKS",
+        help: "How long it lasts, in 90 kHz ticks, from 0 (nothing is cut) to 4294967295 (2^32 - 1), some 13 hours",
+        is_required: true,
+    },
+    ValueOption {
+        id: "in",
+        value_name: "FILE",
+        help: "The transport stream to read, a file or a pipe of 188-byte packets; - is standard input [default: lines of digits on standard input]",
+        is_required: false,
+    },
+    ValueOption {
+        id: "out",
+        value_name: "FILE",
+        help: "The file to write, whose contents are replaced; - is standard output [default: lines of digits on standard output]",
+        is_required: false,
+    },
+];
 
-/// The subcommand `cut`.
-fn cut_command<'a>(alloc: Global) -> Result<Command<'a>, AllocError> {
-    let pid = option(
-        alloc,
-        "pid",
-        "PID",
-        "The PID to cut in, a decimal number from 0 to 8191, as 256 (0x100)",
-    )
-    .required(true);
-    let from = option(
-        alloc,
-        "from",
-        "TICKS",
-        "Where the interval starts: a PTS in 90 kHz ticks, from 0 to 8589934591 (2^33 - 1)",
-    )
-    .required(true);
-    let length = option(
-        alloc,
-        "length",
-        "TICKS",
-        "How long it lasts, in 90 kHz ticks, from 0 (nothing is cut) to 4294967295 (2^32 - 1), some 13 hours",
-    )
-    .required(true);
-    let input = option(
-        alloc,
-        "in",
-        "FILE",
-        "The transport stream to read, a file or a pipe of 188-byte packets; - is standard input [default: lines of digits on standard input]",
-    );
-    let output = option(
-        alloc,
-        "out",
-        "FILE",
-        "The file to write, whose contents are replaced; - is standard output [default: lines of digits on standard output]",
-    );
-    let verbose = Arg::new(alloc, "verbose")
-        .long("verbose")
-        .action(ArgAction::SetTrue)
-        .help("Tell more on standard error: where a fault stands, or what was cut");
-    Command::new(alloc, "cut")
-        .about(CUT_ABOUT)
-        .long_about(CUT_LONG_ABOUT)
-        .after_help(CUT_EXAMPLE)
-        .override_usage(CUT_USAGE)
-        .arg(pid)?
-        .arg(from)?
-        .arg(length)?
-        .arg(input)?
-        .arg(output)?
-        .arg(verbose)
-}
+const CUT: Subcommand = Subcommand {
+    name: "cut",
+    about: CUT_ABOUT,
+    long_about: CUT_LONG_ABOUT,
+    example: CUT_EXAMPLE,
+    usage: CUT_USAGE,
+    options: &CUT_OPTIONS,
+    verbose: "Tell more on standard error: where a fault stands, or what was cut",
+};
 
 /// The command line of the program, whose words come without the program's name.
 pub fn command<'a>(alloc: Global) -> Result<Command<'a>, AllocError> {
@@ -243,10 +201,10 @@ pub fn command<'a>(alloc: Global) -> Result<Command<'a>, AllocError> {
         .version("0.1.0")
         .no_binary_name(true)
         .subcommand_required(true)
-        .subcommand(cut_command(alloc)?)?
-        .subcommand(inject_command(alloc)?)?
-        .subcommand(splice_command(alloc)?)?
-        .subcommand(run_command(alloc)?)
+        .subcommand(CUT.command(alloc)?)?
+        .subcommand(INJECT.command(alloc)?)?
+        .subcommand(SPLICE.command(alloc)?)?
+        .subcommand(RUN.command(alloc)?)
 }
 
 /// The numbers of a cut: its PID, its start and its length. The first of them that is not in its range is answered.

@@ -3,14 +3,14 @@ use Rattle.std.specs.Prelude.{◌≡◌, ℕ, ◌^◌, List, Bool, true, false, 
 use Rattle.decimal_numbers.specs.Numbers.{number_below, number_within}
 use Rattle.run_ends.specs.declared.ends.End.{End}
 use Rattle.run_ends.specs.declared.ends.End.TheVariants.{Lines, Standard, File}
-use Rattle.dpi_program.specs.declared.inject_options.Asking.{Asking as Asked}
-use Rattle.dpi_program.specs.declared.inject_options.Asking.TheVariants as asking
-use Rattle.dpi_program.specs.declared.inject_options.BadInject.{BadInject}
-use Rattle.dpi_program.specs.declared.inject_options.BadInject.TheVariants.{Number, Asking, Input, ListInput}
-use Rattle.dpi_program.specs.declared.splice_options.BadSplice.{BadSplice}
-use Rattle.dpi_program.specs.declared.splice_options.BadSplice.TheVariants as splice
-use Rattle.dpi_program.specs.declared.command.NumberOption.{NumberOption}
-use Rattle.dpi_program.specs.declared.command.NumberOption.TheVariants.{Pid, From, Length, Program, CuePid, Index, Port, SpliceProgram, SpliceCuePid}
+use Rattle.command_lines.specs.declared.inject_options.Asking.{Asking as Asked}
+use Rattle.command_lines.specs.declared.inject_options.Asking.TheVariants as asking
+use Rattle.command_lines.specs.declared.inject_options.BadInject.{BadInject}
+use Rattle.command_lines.specs.declared.inject_options.BadInject.TheVariants.{Number, Asking, Input, ListInput}
+use Rattle.command_lines.specs.declared.splice_options.BadSplice.{BadSplice}
+use Rattle.command_lines.specs.declared.splice_options.BadSplice.TheVariants as splice
+use Rattle.command_lines.specs.declared.command.NumberOption.{NumberOption}
+use Rattle.command_lines.specs.declared.command.NumberOption.TheVariants.{Pid, From, Length, Program, CuePid, Index, Port}
 
 -- the option is the first whose text is no number in its range, of a PID, a start and a length
 abbrev pub IsRefused : NumberOption → List ℕ → List ℕ → List ℕ → Type 0
@@ -22,8 +22,6 @@ IsRefused Program pid from length = ⊥
 IsRefused CuePid pid from length = ⊥
 IsRefused Index pid from length = ⊥
 IsRefused Port pid from length = ⊥
-IsRefused SpliceProgram pid from length = ⊥
-IsRefused SpliceCuePid pid from length = ⊥
 
 -- likewise, of a program, a PID for its cues and the index of its messages; PIDs below 16 are reserved, and 8191 is
 -- that of null packets (ISO/IEC 13818-1, 2.4.3.3)
@@ -38,19 +36,15 @@ IsRefusedOf Pid program cue_pid index = ⊥
 IsRefusedOf From program cue_pid index = ⊥
 IsRefusedOf Length program cue_pid index = ⊥
 IsRefusedOf Port program cue_pid index = ⊥
-IsRefusedOf SpliceProgram program cue_pid index = ⊥
-IsRefusedOf SpliceCuePid program cue_pid index = ⊥
 
 -- and of the program and the PID of its cues, as `splice` has them
 abbrev pub IsRefusedOfSplice : NumberOption → List ℕ → List ℕ → Type 0
-IsRefusedOfSplice SpliceProgram program cue_pid = number_within program 1 (2 ^ 16) ≡ None
-IsRefusedOfSplice SpliceCuePid program cue_pid =
+IsRefusedOfSplice Program program cue_pid = number_within program 1 (2 ^ 16) ≡ None
+IsRefusedOfSplice CuePid program cue_pid =
     IsSome (number_within program 1 (2 ^ 16)) × (number_within cue_pid 16 8191 ≡ None)
 IsRefusedOfSplice Pid program cue_pid = ⊥
 IsRefusedOfSplice From program cue_pid = ⊥
 IsRefusedOfSplice Length program cue_pid = ⊥
-IsRefusedOfSplice Program program cue_pid = ⊥
-IsRefusedOfSplice CuePid program cue_pid = ⊥
 IsRefusedOfSplice Index program cue_pid = ⊥
 IsRefusedOfSplice Port program cue_pid = ⊥
 

@@ -2,15 +2,17 @@
 
 ghost use Rattle.std.specs.Prelude.{◌≡◌, ◌^◌, ◌&&◌, not, is_ok, IfOk, IfErr, Some, IsSomeAnd};
 ghost use Rattle.decimal_numbers.specs.Numbers.{number_within};
-ghost use Rattle.dpi_program.specs.Command.{IsRefusedOfSplice, refused_of_splice, is_standard};
+ghost use Rattle.command_lines.specs.Command.{IsRefusedOfSplice, refused_of_splice, is_standard};
 
-use crate::command::{BadNumber, NumberOption, option};
-use crate::inject_options::{LEAST_PID, NULL_PID, NUMBER_LIMIT, is_standard};
-use clap::{Arg, ArgAction, ArgMatches, Command};
+use crate::command::{BadNumber, NumberOption};
+use crate::inject_options::{
+    ADVERTS, LEAST_PID, NETWORK, NULL_PID, NUMBER_LIMIT, OUT, PROGRAM, is_standard,
+};
+use crate::subcommand::{Subcommand, ValueOption};
+use clap::ArgMatches;
 use decimal_numbers::number_within;
 use psi_tables::Config;
 use run_ends::End;
-use std::alloc::{AllocError, Global};
 use std::fmt;
 use ts_packet::Pid;
 
@@ -43,9 +45,28 @@ Example, with a list whose one line is `7 advert.ts`:
 Exit status: 0 where the whole stream went through; 1 at a fault, which is named on standard error as `fault: NAME`, and
 what went out before it stands; 2 where the command line is not taken, or asks for help or the version.";
 
-/// How the subcommand is called.
+/// How `splice` is called.
 pub const SPLICE_USAGE: &str =
     "dpi_chain splice --network <FILE> --program <N> --cue-pid <PID> --adverts <FILE> --out <FILE> [--verbose]";
+
+const CUE_PID: ValueOption = ValueOption {
+    id: "cue-pid",
+    value_name: "PID",
+    help: "The PID of the cues, from 16 to 8190, as 496 (0x1F0)",
+    is_required: true,
+};
+
+const SPLICE_OPTIONS: [ValueOption; 5] = [NETWORK, PROGRAM, CUE_PID, ADVERTS, OUT];
+
+pub(crate) const SPLICE: Subcommand = Subcommand {
+    name: "splice",
+    about: SPLICE_ABOUT,
+    long_about: SPLICE_LONG_ABOUT,
+    example: SPLICE_EXAMPLE,
+    usage: SPLICE_USAGE,
+    options: &SPLICE_OPTIONS,
+    verbose: "Tell more on standard error: where a fault stands, or how many packets went through",
+};
 
 /// What `splice` is to do.
 #[derive(Clone, Copy, Debug, Drop)]
@@ -81,73 +102,13 @@ pub enum BadSplice<'a> {
 impl fmt::Display for BadSplice<'_> {
     fn fmt<W: fmt::Write>(&self, f: &mut fmt::Formatter<W>) -> fmt::Result {
         match self {
-            BadSplice::Number(bad) => return write!(f, "{bad}"),
+            BadSplice::Number(bad) => write!(f, "{bad}"),
             BadSplice::Input => write!(
                 f,
                 "error: '--network <FILE>' and '--adverts <FILE>' cannot both be standard input"
-            )?,
+            ),
         }
-        write!(
-            f,
-            "\n\nUsage: {SPLICE_USAGE}\n\nFor more information, try '--help'.\n"
-        )
     }
-}
-
-/// The subcommand `splice`.
-pub fn splice_command<'a>(alloc: Global) -> Result<Command<'a>, AllocError> {
-    let network = option(
-        alloc,
-        "network",
-        "FILE",
-        "The transport stream to read, a file or a pipe of 188-byte packets; - is standard input",
-    )
-    .required(true);
-    let program = option(
-        alloc,
-        "program",
-        "N",
-        "The program's number (program_number), from 1 to 65535",
-    )
-    .required(true);
-    let cue_pid = option(
-        alloc,
-        "cue-pid",
-        "PID",
-        "The PID of the cues, from 16 to 8190, as 496 (0x1F0)",
-    )
-    .required(true);
-    let adverts = option(
-        alloc,
-        "adverts",
-        "FILE",
-        "The list of the advertisements, lines of a number, a space and a path; - is standard input",
-    )
-    .required(true);
-    let output = option(
-        alloc,
-        "out",
-        "FILE",
-        "The file to write, whose contents are replaced; - is standard output",
-    )
-    .required(true);
-    let verbose = Arg::new(alloc, "verbose")
-        .long("verbose")
-        .action(ArgAction::SetTrue)
-        .help(
-            "Tell more on standard error: where a fault stands, or how many packets went through",
-        );
-    Command::new(alloc, "splice")
-        .about(SPLICE_ABOUT)
-        .long_about(SPLICE_LONG_ABOUT)
-        .after_help(SPLICE_EXAMPLE)
-        .override_usage(SPLICE_USAGE)
-        .arg(network)?
-        .arg(program)?
-        .arg(cue_pid)?
-        .arg(adverts)?
-        .arg(output)?
-        .arg(verbose)
 }
 
 /// An option's text that is no number in its range.
@@ -166,15 +127,15 @@ fn config_of<'a>(program: &'a str, cue_pid: &'a str) -> Result<Config, BadSplice
         (λ option. IsRefusedOfSplice option program.now cue_pid.now)) }
 {
     let Some(number) = number_within(program, 1, NUMBER_LIMIT) else {
-        return Err(bad_number(NumberOption::SpliceProgram, program));
+        return Err(bad_number(NumberOption::Program, program));
     };
     let Some(pid) = number_within(cue_pid, LEAST_PID, NULL_PID).and_then(|pid| Pid::new(pid as u16))
     else {
-        return Err(bad_number(NumberOption::SpliceCuePid, cue_pid));
+        return Err(bad_number(NumberOption::CuePid, cue_pid));
     };
     match Config::new(number as u16, pid, 0) {
         Ok(config) => Ok(config),
-        Err(_) => Err(bad_number(NumberOption::SpliceCuePid, cue_pid)),
+        Err(_) => Err(bad_number(NumberOption::CuePid, cue_pid)),
     }
 }
 
