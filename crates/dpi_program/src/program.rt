@@ -1,22 +1,19 @@
 //! The program: a command line, standard streams and files in, an exit status out.
 
-ghost use Rattle.std.specs.Prelude.{◌≡◌, ◌≢◌, ◌≤◌};
-ghost use Rattle.clap.specs.Values.{kind_of};
+ghost use Rattle.std.specs.Prelude.{◌≡◌, ◌≤◌};
 
 use crate::cutting::run_cut;
-use crate::fault::{ProgramFault, fault_name};
 use crate::injecting::{Injected, run_inject_command};
 use crate::splicing::run_splice_command;
-use crate::tell::{Side, SpliceAccount, Stopped, Trouble};
-use clap::Error;
-use clap::error::ErrorKind;
 use command_lines::command::{CUT_USAGE, CutOptions, command, cut_options};
 use command_lines::inject_options::{
     INJECT_USAGE, InjectOptions, RUN_USAGE, inject_options, run_options,
 };
+use command_lines::refusals::{USAGE, answer, refuse};
 use command_lines::splice_options::{SPLICE_USAGE, SpliceOptions, splice_options};
+use passages::fault::{ProgramFault, fault_name};
+use passages::tell::{Side, SpliceAccount, Stopped, Trouble};
 use splice_plans::SwitchReport;
-use std::fmt;
 use std::io::{Read, Write};
 use std::net::Net;
 use std::rt::Files;
@@ -26,9 +23,6 @@ const DONE: u8 = 0;
 
 /// The exit status after a fault.
 const FAULT: u8 = 1;
-
-/// The exit status where the command line is not taken, or names no run.
-const USAGE: u8 = 2;
 
 /// Prints the fault's line, and answers its status.
 fn report<E: Write>(faults: &mut E, fault: ProgramFault) -> u8
@@ -182,29 +176,6 @@ where
         let _ = write!(faults, "{account}");
     }
     DONE
-}
-
-/// Answers a command line that names no run, help and version among them: its text is printed on `faults`.
-fn answer<E: Write>(faults: &mut E, error: &Error) -> u8
-    ensures memory { kind_of error.now ≡ ErrorKind.OutOfMemory → result ≡ 1 }
-    ensures mistake { kind_of error.now ≢ ErrorKind.OutOfMemory → result ≡ 2 }
-{
-    if error.kind() == ErrorKind::OutOfMemory {
-        return report(faults, ProgramFault::OutOfMemory);
-    }
-    let _ = write!(faults, "{error}");
-    USAGE
-}
-
-/// Prints why a command line is not taken, and how its subcommand is called.
-fn refuse<E: Write, B: fmt::Display>(faults: &mut E, bad: &B, usage: &str) -> u8
-    ensures { result ≡ 2 }
-{
-    let _ = write!(
-        faults,
-        "{bad}\n\nUsage: {usage}\n\nFor more information, try '--help'.\n"
-    );
-    USAGE
 }
 
 /// Runs `cut`, and answers the exit status.
