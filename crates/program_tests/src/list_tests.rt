@@ -209,7 +209,7 @@ fn is_refused<R: Files + Abort>(
 #[test]
 fn each_request_refused(rt: HostRuntime) -> Result<(), Fail> {
     let folder = env::temp_dir(&rt)?;
-    let path = folder.join(rt.alloc(), "program_tests_memory.ts")?;
+    let path = folder.join(rt.alloc(), "ad_lists_memory.ts")?;
     let path = path.to_str().ok_or("a name")?;
     let bytes = advert(rt.alloc())?;
     fs::write(&rt, path, bytes.as_slice())?;
