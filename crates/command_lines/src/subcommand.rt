@@ -44,13 +44,17 @@ pub(crate) struct Subcommand {
 }
 
 impl Subcommand {
+    /// The subcommand by its name, and how it is called.
+    fn named<'a>(self, alloc: Global) -> Command<'a> {
+        Command::new(alloc, self.name).override_usage(self.usage)
+    }
+
     /// The subcommand, still without options.
     fn bare<'a>(self, alloc: Global) -> Command<'a> {
-        Command::new(alloc, self.name)
+        self.named(alloc)
             .about(self.about)
             .long_about(self.long_about)
             .after_help(self.example)
-            .override_usage(self.usage)
     }
 
     /// The subcommand as the command line has it.
