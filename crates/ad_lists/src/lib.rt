@@ -4,7 +4,5 @@
 #![tactic(auto)]
 
 mod list;
-#[cfg(test)]
-mod tests;
 
 pub use list::{ListFault, load_list};

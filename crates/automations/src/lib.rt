@@ -6,8 +6,6 @@
 mod connection;
 mod script;
 mod script_text;
-#[cfg(test)]
-mod tests;
 
 pub use connection::{Connection, accept, listen};
 pub use script::{Script, ScriptFault, load_into};

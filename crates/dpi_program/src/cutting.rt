@@ -1,76 +1,19 @@
 //! The subcommand `cut`: a cut between the ends that its options name, and what it tells.
 
-ghost use Rattle.std.specs.Prelude.{◌≡◌, false, IfOk};
-ghost use Rattle.packet_lines.specs.Texts.{WrittenLines};
-ghost use Rattle.dpi_program.specs.Runs.{PassesAll};
+ghost use Rattle.std.specs.Prelude.{◌≡◌, false};
 
-use crate::command::CutOptions;
-use crate::fault::ProgramFault;
-use crate::running::{
-    BUFFER_SIZE, Ended, Finished, Passage, Passed, Ran, let_go, out_of_memory, pass_watched,
-    run_to, unopened,
-};
-use crate::tell::{Account, Stopped};
-use packet_lines::{LineReader, LineWriter, LinesFault};
-use run_ends::{Attended, End, OpenedEnds, finish_buffer, open_ends};
+use command_lines::command::CutOptions;
+use packet_lines::{LineReader, LinesFault};
+use passages::fault::ProgramFault;
+use passages::kinds::Cutting;
+use passages::line_runs::run_to_lines;
+use passages::running::{BUFFER_SIZE, Ended, Ran, let_go, out_of_memory, run_to, unopened};
+use passages::tell::{Account, Stopped};
+use run_ends::{Attended, End, OpenedEnds, open_ends};
 use std::alloc::{AllocError, Global};
-use std::io::{BufReader, BufWriter, Read, Write};
+use std::io::{BufReader, Read, Write};
 use std::rt::Files;
-use ts_packet::{Buffered, Device, PacketReader, PacketSink, PacketSource, Pid};
-use unit_cut::cut;
-
-/// A cut, as the options say.
-#[derive(Drop)]
-struct Cutting<'a> {
-    options: &'a CutOptions<'a>,
-}
-
-impl Passage for Cutting<'_> {
-    ghost use Rattle.dpi_program.specs.Runs.{Cuts};
-
-    type Report = ();
-
-    ghost passes = { λ p. Cuts p.options.now.pid p.options.now.from p.options.now.length };
-
-    fn pass<P: PacketSource, K: PacketSink>(
-        self,
-        network: &mut P,
-        out: &mut K,
-    ) -> Result<(), ProgramFault> {
-        let (pid, from) = (self.options.pid, self.options.from);
-        let length = self.options.length;
-        match cut(network, out, pid, from, length) {
-            Ok(()) => Ok(()),
-            Err(fault) => Err(ProgramFault::Lines(LinesFault::Cut(fault))),
-        }
-    }
-}
-
-/// Runs to lines of digits.
-fn run_to_lines<S: Passage, P: PacketSource, W: Write + Drop>(
-    alloc: Global,
-    passage: S,
-    watched: Option<Pid>,
-    network: &mut P,
-    output: W,
-) -> Result<Finished<S::Report, W>, AllocError>
-    requires { P.is_broken network.old ≡ false }
-    ensures done { IfOk result (λ f. IfOk f.outcome (PassesAll (S.passes passage) (P.left network.old)
-        (WrittenLines (W.contents f.output.inner) (W.contents output)))) }
-{
-    let Ok(buffer) = BufWriter::with_capacity(alloc, BUFFER_SIZE, Attended::new(output)) else {
-        return Err(AllocError);
-    };
-    let mut target = Device::new(buffer);
-    let mut writer = LineWriter::new(&mut target);
-    let Passed { outcome, seen } = pass_watched(passage, watched, network, &mut writer);
-    let (outcome, output) = finish_buffer(outcome, target.into_inner(), ProgramFault::Unflushed);
-    Ok(Finished {
-        outcome,
-        output,
-        seen,
-    })
-}
+use ts_packet::{Buffered, PacketReader, PacketSource};
 
 /// Cuts to the output that the options name. `file` is there where that is a file.
 fn cut_to<P: PacketSource, F: Write + Drop, O: Write>(

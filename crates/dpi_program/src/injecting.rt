@@ -1,202 +1,22 @@
-//! The subcommands `inject` and `run`: a run with cues, or with cues and advertisements, between the ends that its options name, and what it
-//! tells.
+//! The subcommands `inject` and `run`: a run with cues, or with cues and advertisements, between the ends that its options name.
 
-ghost use Rattle.std.specs.Prelude.{◌≡◌, ℕ, List, [], Option, true, false, nat_lt, IfOk, IfErr, OnOk, Err, IsErrAnd};
-ghost use Rattle.psi_tables.specs.declared.config.Config.{Config};
-ghost use Rattle.ad_library.specs.Library.{held};
-ghost use Rattle.chain_engine.specs.Chains.{ChainStandsFor};
-ghost use Rattle.dpi_program.specs.Runs.{PassesAll, CuesStop, Cues, PlaysStop, Plays, told_fault, lost_replies};
-
-use crate::fault::ProgramFault;
-use crate::inject_options::{Asking, InjectOptions};
-use crate::listening::{ListenFault, inject_listening, run_listening};
-use crate::running::{Passage, Ran, run_from, stopped, unopened};
 use crate::splicing::open_library;
-use crate::tell::{CueAccount, Side, Stopped};
 use ad_library::AdLibrary;
 use automations::{Reading, Script, ScriptFault, listen, load_into};
-use chain_engine::{Chain, Report, run, run_inject};
+use chain_engine::Report;
+use command_lines::inject_options::{Asking, InjectOptions};
+use passages::asking::Asker;
+use passages::fault::ProgramFault;
+use passages::kinds::{Cueing, Playing};
+use passages::running::{Ran, run_from, stopped, unopened, with_replies};
+use passages::tell::{CueAccount, Side, Stopped};
 use run_ends::{Attended, Unopened, create_output, open_input};
 use std::alloc::Global;
 use std::fs::Metadata;
 use std::io::{Read, Write};
 use std::net::{Net, OpenListener, OpenStream};
 use std::rt::Files;
-use ts_packet::{Device, PacketSink, PacketSource};
-
-/// Where the messages of a run come from: a script, or the next client of a listener.
-#[derive(Drop)]
-enum Asker<W, L> {
-    Script(Script<W>),
-    Port(L),
-}
-
-impl<W, L> Asker<W, L> {
-    /// Whether a reply could not be printed.
-    fn has_lost_a_reply(&self) -> bool
-        ensures { result ≡ nat_lt 0 (lost_replies self.now) }
-    {
-        match self {
-            Asker::Script(script) => script.has_lost_a_reply(),
-            Asker::Port(_) => false,
-        }
-    }
-}
-
-/// Runs with cues by this automation.
-fn cue<P, K, W, L>(
-    chain: Chain,
-    network: &mut P,
-    asker: &mut Asker<W, L>,
-    out: &mut K,
-) -> Result<Report, ListenFault>
-where
-    P: PacketSource,
-    K: PacketSink,
-    W: Write,
-    L: OpenListener,
-    L::Stream: OpenStream + Read + Write + Drop,
-    requires { P.is_broken network.old ≡ false }
-    ensures done { (c : Config) (start : Option (List ℕ)) → ChainStandsFor chain c → K.holds out.old start []
-        → IfOk result (PassesAll (Cues c) (P.left network.old) (K.holds out.new start)) }
-    ensures stop { (c : Config) (start : Option (List ℕ)) → ChainStandsFor chain c → K.holds out.old start []
-        → IfErr result (λ f. CuesStop c f (P.left network.old) (K.holds out.new start) (K.fails out.new start)) }
-    ensures reads { P.leads network.old network.new }
-    ensures leads { K.leads out.old out.new }
-{
-    match asker {
-        Asker::Script(script) => match run_inject(chain, network, script, out) {
-            Ok(report) => Ok(report),
-            Err(fault) => Err(ListenFault::Run(fault)),
-        },
-        Asker::Port(listener) => inject_listening(chain, network, listener, out),
-    }
-}
-
-/// Runs with cues by this automation, and with the advertisements of a library.
-fn play<P, K, W, L>(
-    chain: Chain,
-    network: &mut P,
-    asker: &mut Asker<W, L>,
-    library: &AdLibrary,
-    out: &mut K,
-) -> Result<Report, ListenFault>
-where
-    P: PacketSource,
-    K: PacketSink,
-    W: Write,
-    L: OpenListener,
-    L::Stream: OpenStream + Read + Write + Drop,
-    requires { P.is_broken network.old ≡ false }
-    ensures done { (c : Config) (start : Option (List ℕ)) → ChainStandsFor chain c → K.holds out.old start []
-        → IfOk result (PassesAll (Plays c (held library.now)) (P.left network.old) (K.holds out.new start)) }
-    ensures stop { (c : Config) (start : Option (List ℕ)) → ChainStandsFor chain c → K.holds out.old start []
-        → IfErr result (λ f. PlaysStop c (held library.now) f (P.left network.old)
-        (K.holds out.new start) (K.fails out.new start)) }
-    ensures reads { P.leads network.old network.new }
-    ensures leads { K.leads out.old out.new }
-{
-    match asker {
-        Asker::Script(script) => match run(chain, network, script, library, out) {
-            Ok(report) => Ok(report),
-            Err(fault) => Err(ListenFault::Run(fault)),
-        },
-        Asker::Port(listener) => run_listening(chain, network, listener, library, out),
-    }
-}
-
-/// What the program tells of such a fault.
-fn told_fault(fault: ListenFault) -> ProgramFault
-    ensures { result ≡ told_fault fault }
-{
-    match fault {
-        ListenFault::Accept => ProgramFault::Accept,
-        ListenFault::Run(fault) => ProgramFault::Run(fault),
-    }
-}
-
-/// A run with cues, as the options say.
-#[derive(Drop)]
-struct Cueing<'a, W, L> {
-    alloc: Global,
-    options: &'a InjectOptions<'a>,
-    asker: &'a mut Asker<W, L>,
-}
-
-impl<W, L> Passage for Cueing<'_, W, L>
-where
-    W: Write,
-    L: OpenListener,
-    L::Stream: OpenStream + Read + Write + Drop,
-{
-    ghost use Rattle.dpi_program.specs.Runs.{Cues};
-
-    type Report = Report;
-
-    ghost passes = { λ p. Cues p.options.now.config };
-
-    fn pass<P: PacketSource, K: PacketSink>(
-        self,
-        network: &mut P,
-        out: &mut K,
-    ) -> Result<Report, ProgramFault> {
-        let Cueing {
-            alloc,
-            options,
-            asker,
-        } = self;
-        let Ok(chain) = Chain::new(alloc, options.config) else {
-            return Err(ProgramFault::OutOfMemory);
-        };
-        match cue(chain, network, asker, out) {
-            Ok(report) => Ok(report),
-            Err(fault) => Err(told_fault(fault)),
-        }
-    }
-}
-
-/// A run with cues and the advertisements of a library, as the options say.
-#[derive(Drop)]
-struct Playing<'a, W, L> {
-    alloc: Global,
-    options: &'a InjectOptions<'a>,
-    asker: &'a mut Asker<W, L>,
-    library: &'a AdLibrary,
-}
-
-impl<W, L> Passage for Playing<'_, W, L>
-where
-    W: Write,
-    L: OpenListener,
-    L::Stream: OpenStream + Read + Write + Drop,
-{
-    ghost use Rattle.ad_library.specs.Library.{held};
-    ghost use Rattle.dpi_program.specs.Runs.{Plays};
-
-    type Report = Report;
-
-    ghost passes = { λ p. Plays p.options.now.config (held p.library.now) };
-
-    fn pass<P: PacketSource, K: PacketSink>(
-        self,
-        network: &mut P,
-        out: &mut K,
-    ) -> Result<Report, ProgramFault> {
-        let Playing {
-            alloc,
-            options,
-            asker,
-            library,
-        } = self;
-        let Ok(chain) = Chain::new(alloc, options.config) else {
-            return Err(ProgramFault::OutOfMemory);
-        };
-        match play(chain, network, asker, library, out) {
-            Ok(report) => Ok(report),
-            Err(fault) => Err(told_fault(fault)),
-        }
-    }
-}
+use ts_packet::Device;
 
 /// What a run with cues that went through has done.
 #[derive(Clone, Copy, Debug)]
@@ -207,22 +27,6 @@ pub struct Injected {
     pub report: Report,
     /// What `--verbose` tells, where that was asked for.
     pub account: Option<CueAccount>,
-}
-
-/// What a run tells whose replies were printed, or not: one that could not be printed is a fault where there is no other.
-fn with_replies<T: Drop>(
-    ran: Result<Ran<T>, Stopped>,
-    has_lost_a_reply: bool,
-) -> Result<Ran<T>, Stopped>
-    ensures kept { has_lost_a_reply ≡ false → result ≡ ran }
-    ensures first { IfErr ran (λ stopped. result ≡ Err stopped) }
-    ensures lost { has_lost_a_reply ≡ true → OnOk ran (IsErrAnd result (λ stopped. stopped.fault ≡ ProgramFault.Print)) }
-{
-    let ran = ran?;
-    if has_lost_a_reply {
-        return Err(stopped(ProgramFault::Print, Side::Printing, None));
-    }
-    Ok(ran)
 }
 
 /// Runs from a reader, with advertisements where there is a library.

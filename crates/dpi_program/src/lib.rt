@@ -1,35 +1,16 @@
-//! The splicing chain as a program's library: the command line, files and streams, and the exit status.
-//! It stands on the cut of `unit_cut`, the lines of `packet_lines` and the runs of `chain_engine`; `dpi_chain` is `main` over `program`.
+//! The splicing chain as a program's library: the ends of each run are opened, the run is made, and the exit status answered.
+//! It stands on the command lines of `command_lines` and the runs of `passages`; `dpi_chain` is `main` over `program`.
 //! What a caller uses: `cut` says which bytes come out, `cut_lines` is it over lines, and `program` answers 0, 1 or 2.
 #![tactic(auto)]
 
-pub mod command;
 mod cutting;
-pub mod fault;
-mod inject_options;
 mod injecting;
-mod listening;
 pub mod program;
-mod running;
-mod splice_options;
 mod splicing;
-mod tell;
-mod watch;
 
 pub use ad_lists::{ListFault, load_list};
 pub use automations::{Script, ScriptFault};
-pub use fault::ProgramFault;
-pub use listening::{ListenFault, inject_listening, run_listening};
 pub use packet_lines::{LinesFault, cut_lines};
+pub use passages::fault::ProgramFault;
+pub use passages::listening::{ListenFault, inject_listening, run_listening};
 pub use unit_cut::{CutFault, cut};
-
-#[cfg(test)]
-mod fail_devices;
-#[cfg(test)]
-mod inject_fail_tests;
-#[cfg(test)]
-mod inject_tests;
-#[cfg(test)]
-mod splice_tests;
-#[cfg(test)]
-mod tests;

@@ -1,20 +1,19 @@
 //! The program: a command line, standard streams and files in, an exit status out.
 
-ghost use Rattle.std.specs.Prelude.{◌≡◌, ◌≢◌, ◌≤◌};
-ghost use Rattle.clap.specs.Values.{kind_of};
+ghost use Rattle.std.specs.Prelude.{◌≡◌, ◌≤◌};
 
-use crate::command::{CutOptions, command, cut_options};
 use crate::cutting::run_cut;
-use crate::fault::{ProgramFault, fault_name};
-use crate::inject_options::{InjectOptions, inject_options, run_options};
 use crate::injecting::{Injected, run_inject_command};
-use crate::splice_options::{SpliceOptions, splice_options};
 use crate::splicing::run_splice_command;
-use crate::tell::{Side, SpliceAccount, Stopped, Trouble};
-use clap::Error;
-use clap::error::ErrorKind;
+use command_lines::command::{CUT_USAGE, CutOptions, command, cut_options};
+use command_lines::inject_options::{
+    INJECT_USAGE, InjectOptions, RUN_USAGE, inject_options, run_options,
+};
+use command_lines::refusals::{USAGE, answer, refuse};
+use command_lines::splice_options::{SPLICE_USAGE, SpliceOptions, splice_options};
+use passages::fault::{ProgramFault, fault_name};
+use passages::tell::{Side, SpliceAccount, Stopped, Trouble};
 use splice_plans::SwitchReport;
-use std::fmt;
 use std::io::{Read, Write};
 use std::net::Net;
 use std::rt::Files;
@@ -24,9 +23,6 @@ const DONE: u8 = 0;
 
 /// The exit status after a fault.
 const FAULT: u8 = 1;
-
-/// The exit status where the command line is not taken, or names no run.
-const USAGE: u8 = 2;
 
 /// Prints the fault's line, and answers its status.
 fn report<E: Write>(faults: &mut E, fault: ProgramFault) -> u8
@@ -182,26 +178,6 @@ where
     DONE
 }
 
-/// Answers a command line that names no run, help and version among them: its text is printed on `faults`.
-fn answer<E: Write>(faults: &mut E, error: &Error) -> u8
-    ensures memory { kind_of error.now ≡ ErrorKind.OutOfMemory → result ≡ 1 }
-    ensures mistake { kind_of error.now ≢ ErrorKind.OutOfMemory → result ≡ 2 }
-{
-    if error.kind() == ErrorKind::OutOfMemory {
-        return report(faults, ProgramFault::OutOfMemory);
-    }
-    let _ = write!(faults, "{error}");
-    USAGE
-}
-
-/// Prints why a command line is not taken.
-fn refuse<E: Write, B: fmt::Display>(faults: &mut E, bad: &B) -> u8
-    ensures { result ≡ 2 }
-{
-    let _ = write!(faults, "{bad}");
-    USAGE
-}
-
 /// Runs `cut`, and answers the exit status.
 fn cut<R, I, O, E>(
     rt: &R,
@@ -255,24 +231,24 @@ where
     if let Some(given) = matches.subcommand_matches("cut") {
         return match cut_options(given) {
             Ok(options) => cut(rt, &options, input, output, faults),
-            Err(bad) => refuse(faults, &bad),
+            Err(bad) => refuse(faults, &bad, CUT_USAGE),
         };
     }
     if let Some(given) = matches.subcommand_matches("splice") {
         return match splice_options(given) {
             Ok(options) => splice(rt, &options, input, output, faults),
-            Err(bad) => refuse(faults, &bad),
+            Err(bad) => refuse(faults, &bad, SPLICE_USAGE),
         };
     }
-    let asked = if let Some(given) = matches.subcommand_matches("run") {
-        run_options(given)
+    let (asked, usage) = if let Some(given) = matches.subcommand_matches("run") {
+        (run_options(given), RUN_USAGE)
     } else if let Some(given) = matches.subcommand_matches("inject") {
-        inject_options(given)
+        (inject_options(given), INJECT_USAGE)
     } else {
         return USAGE;
     };
     match asked {
         Ok(options) => inject(rt, &options, input, output, faults),
-        Err(bad) => refuse(faults, &bad),
+        Err(bad) => refuse(faults, &bad, usage),
     }
 }

@@ -2,47 +2,20 @@
 
 ghost use Rattle.std.specs.Prelude.{◌≡◌};
 
-use crate::fault::ProgramFault;
-use crate::running::{Passage, Ran, run_from, stopped, unopened};
-use crate::splice_options::SpliceOptions;
-use crate::tell::{Side, Stopped};
 use ad_library::AdLibrary;
 use ad_lists::{ListFault, load_list};
-use chain_engine::run_splice;
+use command_lines::splice_options::SpliceOptions;
+use passages::fault::ProgramFault;
+use passages::kinds::Splicing;
+use passages::running::{Ran, run_from, stopped, unopened};
+use passages::tell::{Side, Stopped};
 use run_ends::{Attended, End, Unopened, create_output, open_input};
 use splice_plans::SwitchReport;
 use std::alloc::Global;
 use std::fs::Metadata;
 use std::io::{self, Read, Write};
 use std::rt::Files;
-use ts_packet::{Device, PacketSink, PacketSource};
-
-/// A run with the advertisements of a library, as the options say.
-#[derive(Drop)]
-struct Splicing<'a> {
-    options: &'a SpliceOptions<'a>,
-    library: &'a AdLibrary,
-}
-
-impl Passage for Splicing<'_> {
-    ghost use Rattle.ad_library.specs.Library.{held};
-    ghost use Rattle.dpi_program.specs.Runs.{Splices};
-
-    type Report = SwitchReport;
-
-    ghost passes = { λ p. Splices p.options.now.config (held p.library.now) };
-
-    fn pass<P: PacketSource, K: PacketSink>(
-        self,
-        network: &mut P,
-        out: &mut K,
-    ) -> Result<SwitchReport, ProgramFault> {
-        match run_splice(self.options.config, network, self.library, out) {
-            Ok(report) => Ok(report),
-            Err(fault) => Err(ProgramFault::Run(fault)),
-        }
-    }
-}
+use ts_packet::Device;
 
 /// What is known of a list that was not loaded.
 fn unlisted(fault: ListFault, reason: Option<io::Error>) -> Stopped

@@ -1,0 +1,11 @@
+//! The command line of the program: its subcommands, their options and the ranges of these.
+//! It stands on `clap` for the words, on `decimal_numbers` for numbers and on `run_ends` for the ends that options name.
+//! What a caller uses: `command` reads words; of what it reads `cut_options`, `inject_options`, `run_options` and `splice_options` say what
+//! is to be done, or why that is not taken, and `answer` and `refuse` tell that.
+#![tactic(auto)]
+
+pub mod command;
+pub mod inject_options;
+pub mod refusals;
+pub mod splice_options;
+mod subcommand;

@@ -1,0 +1,39 @@
+//! What is told of a command line that names no run, and the exit status.
+
+ghost use Rattle.std.specs.Prelude.{◌≡◌, ◌≢◌};
+ghost use Rattle.clap.specs.Values.{kind_of};
+
+use clap::Error;
+use clap::error::ErrorKind;
+use std::fmt;
+use std::io::Write;
+
+/// The exit status where memory was refused.
+const FAULT: u8 = 1;
+
+/// The exit status where the command line is not taken, or names no run.
+pub const USAGE: u8 = 2;
+
+/// Answers a command line that names no run, help and version among them: its text is printed on `faults`.
+pub fn answer<E: Write>(faults: &mut E, error: &Error) -> u8
+    ensures memory { kind_of error.now ≡ ErrorKind.OutOfMemory → result ≡ 1 }
+    ensures mistake { kind_of error.now ≢ ErrorKind.OutOfMemory → result ≡ 2 }
+{
+    if error.kind() == ErrorKind::OutOfMemory {
+        let _ = writeln!(faults, "fault: OutOfMemory");
+        return FAULT;
+    }
+    let _ = write!(faults, "{error}");
+    USAGE
+}
+
+/// Prints why a command line is not taken, and how its subcommand is called.
+pub fn refuse<E: Write, B: fmt::Display>(faults: &mut E, bad: &B, usage: &str) -> u8
+    ensures { result ≡ 2 }
+{
+    let _ = write!(
+        faults,
+        "{bad}\n\nUsage: {usage}\n\nFor more information, try '--help'.\n"
+    );
+    USAGE
+}

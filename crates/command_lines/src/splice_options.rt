@@ -1,0 +1,168 @@
+//! The command line of the subcommand `splice`: its options and their ranges.
+
+ghost use Rattle.std.specs.Prelude.{◌≡◌, ◌^◌, ◌&&◌, not, is_ok, IfOk, IfErr, Some, IsSomeAnd};
+ghost use Rattle.decimal_numbers.specs.Numbers.{number_within};
+ghost use Rattle.command_lines.specs.Command.{IsRefusedOfSplice, refused_of_splice, is_standard};
+
+use crate::command::{BadNumber, NumberOption};
+use crate::inject_options::{
+    ADVERTS, LEAST_PID, NETWORK, NULL_PID, NUMBER_LIMIT, OUT, PROGRAM, is_standard,
+};
+use crate::subcommand::{Subcommand, ValueOption};
+use clap::ArgMatches;
+use decimal_numbers::number_within;
+use psi_tables::Config;
+use run_ends::End;
+use std::fmt;
+use ts_packet::Pid;
+
+const SPLICE_ABOUT: &str =
+    "Plays advertisements in the breaks that the cues (SCTE 35) of a transport stream announce";
+
+const SPLICE_LONG_ABOUT: &str =
+    "Plays advertisements in the breaks of one program of a transport stream, as the cues (SCTE 35) on its cue PID announce them.
+
+Where a break was cued before it starts, and the list has an advertisement of its number (unique_program_id) that fills it to half a
+second, the units (PES packets) of the program's pictures and sound whose presentation time (PTS) lies in the break are left out, and
+those of the advertisement go out in their place, with their time stamps moved to the start of the break. All other units pass with
+their own times, and all other PIDs byte for byte. The cues go no further, and the program's map (PMT) lists their PID no more.
+
+The list names one advertisement a line: its number from 0 to 65535, a space, and the path of its transport stream.
+
+At the end standard output has four lines: how many breaks were `played`, how many had no advertisement that fits (`not-fitted`), in
+how many played ones units did not come in the order of their times around an edge (`unconditioned`), and how many cues were
+`ignored`. With --out - the packets go to standard output, and these lines to standard error.
+
+FILE may be a pipe, and - is standard input or output. What came in before a pause of the network goes out before it. The output
+file is written from the begin; it may not be an input.";
+
+const SPLICE_EXAMPLE: &str =
+    "Numbers are decimal digits: PID 496 is what other tools may show as 0x1F0 (0x1F0 is not taken).
+
+Example, with a list whose one line is `7 advert.ts`:
+  dpi_chain splice --network cued.ts --program 1 --cue-pid 496 --adverts list.txt --out spliced.ts
+
+Exit status: 0 where the whole stream went through; 1 at a fault, which is named on standard error as `fault: NAME`, and
+what went out before it stands; 2 where the command line is not taken, or asks for help or the version.";
+
+/// How `splice` is called.
+pub const SPLICE_USAGE: &str =
+    "dpi_chain splice --network <FILE> --program <N> --cue-pid <PID> --adverts <FILE> --out <FILE> [--verbose]";
+
+const CUE_PID: ValueOption = ValueOption {
+    id: "cue-pid",
+    value_name: "PID",
+    help: "The PID of the cues, from 16 to 8190, as 496 (0x1F0)",
+    is_required: true,
+};
+
+const SPLICE_OPTIONS: [ValueOption; 5] = [NETWORK, PROGRAM, CUE_PID, ADVERTS, OUT];
+
+pub(crate) const SPLICE: Subcommand = Subcommand {
+    name: "splice",
+    about: SPLICE_ABOUT,
+    long_about: SPLICE_LONG_ABOUT,
+    example: SPLICE_EXAMPLE,
+    usage: SPLICE_USAGE,
+    options: &SPLICE_OPTIONS,
+    verbose: "Tell more on standard error: where a fault stands, or how many packets went through",
+};
+
+/// What `splice` is to do.
+#[derive(Clone, Copy, Debug, Drop)]
+pub struct SpliceOptions<'a> {
+    /// The program, and the PID of its cues.
+    pub config: Config,
+    /// What is read.
+    pub network: End<'a>,
+    /// The list of the advertisements.
+    pub adverts: End<'a>,
+    /// What is written.
+    pub output: End<'a>,
+    /// Whether more is told than the fault's line.
+    pub is_verbose: bool,
+}
+
+impl SpliceOptions<'_> {
+    /// Whether the packets go to standard output.
+    pub fn has_standard_output(&self) -> bool {
+        self.output.path().is_none()
+    }
+}
+
+/// Why the options of `splice` are not taken.
+#[derive(Clone, Copy, Debug, Drop)]
+pub enum BadSplice<'a> {
+    /// An option's text is no number in its range.
+    Number(BadNumber<'a>),
+    /// The network and the list are both standard input.
+    Input,
+}
+
+impl fmt::Display for BadSplice<'_> {
+    fn fmt<W: fmt::Write>(&self, f: &mut fmt::Formatter<W>) -> fmt::Result {
+        match self {
+            BadSplice::Number(bad) => write!(f, "{bad}"),
+            BadSplice::Input => write!(
+                f,
+                "error: '--network <FILE>' and '--adverts <FILE>' cannot both be standard input"
+            ),
+        }
+    }
+}
+
+/// An option's text that is no number in its range.
+fn bad_number<'a>(option: NumberOption, text: &'a str) -> BadSplice<'a>
+    ensures { refused_of_splice result ≡ Some option }
+{
+    BadSplice::Number(BadNumber { option, text })
+}
+
+/// The program and its cue PID. The first of them that is not in its range is answered. No index is asked for; it is 0.
+fn config_of<'a>(program: &'a str, cue_pid: &'a str) -> Result<Config, BadSplice<'a>>
+    ensures program { IfOk result (λ c. number_within program.now 1 (2 ^ 16) ≡ Some c.program) }
+    ensures cue_pid { IfOk result (λ c. number_within cue_pid.now 16 8191 ≡ Some c.cue_pid) }
+    ensures index { IfOk result (λ c. c.index ≡ 0) }
+    ensures refused { IfErr result (λ bad. IsSomeAnd (refused_of_splice bad)
+        (λ option. IsRefusedOfSplice option program.now cue_pid.now)) }
+{
+    let Some(number) = number_within(program, 1, NUMBER_LIMIT) else {
+        return Err(bad_number(NumberOption::Program, program));
+    };
+    let Some(pid) = number_within(cue_pid, LEAST_PID, NULL_PID).and_then(|pid| Pid::new(pid as u16))
+    else {
+        return Err(bad_number(NumberOption::CuePid, cue_pid));
+    };
+    match Config::new(number as u16, pid, 0) {
+        Ok(config) => Ok(config),
+        Err(_) => Err(bad_number(NumberOption::CuePid, cue_pid)),
+    }
+}
+
+/// The network and the list come from different ends: one of them alone may be standard input.
+fn check_inputs<'a>(network: End<'a>, adverts: End<'a>) -> Result<(), BadSplice<'a>>
+    ensures one { is_ok result ≡ not (is_standard network.entry && is_standard adverts.entry) }
+    ensures which { IfErr result (λ bad. bad ≡ BadSplice.Input) }
+{
+    if is_standard(network) && is_standard(adverts) {
+        return Err(BadSplice::Input);
+    }
+    Ok(())
+}
+
+/// What the options of `splice` say.
+pub fn splice_options<'a>(matches: &ArgMatches<'a>) -> Result<SpliceOptions<'a>, BadSplice<'a>> {
+    let program = matches.get_str("program").unwrap_or("");
+    let cue_pid = matches.get_str("cue-pid").unwrap_or("");
+    let config = config_of(program, cue_pid)?;
+    let network = End::named(matches.get_str("network"));
+    let adverts = End::named(matches.get_str("adverts"));
+    check_inputs(network, adverts)?;
+    Ok(SpliceOptions {
+        config,
+        network,
+        adverts,
+        output: End::named(matches.get_str("out")),
+        is_verbose: matches.get_flag("verbose"),
+    })
+}

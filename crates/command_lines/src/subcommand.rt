@@ -1,0 +1,72 @@
+//! What a subcommand is made of: texts for help, and options.
+
+use clap::{Arg, ArgAction, Command};
+use std::alloc::{AllocError, Global};
+
+/// An option that takes one value.
+#[derive(Clone, Copy)]
+pub(crate) struct ValueOption {
+    pub(crate) id: &'static str,
+    /// What its value is called in help.
+    pub(crate) value_name: &'static str,
+    pub(crate) help: &'static str,
+    pub(crate) is_required: bool,
+}
+
+impl ValueOption {
+    /// The option as the command line has it.
+    fn argument<'a>(self, alloc: Global) -> Arg<'a> {
+        Arg::new(alloc, self.id)
+            .long(self.id)
+            .value_name(self.value_name)
+            .action(ArgAction::Set)
+            .allow_negative_numbers(true)
+            .help(self.help)
+            .required(self.is_required)
+    }
+}
+
+/// A subcommand, with the flag `--verbose`.
+#[derive(Clone, Copy)]
+pub(crate) struct Subcommand {
+    pub(crate) name: &'static str,
+    /// What it does, in a line.
+    pub(crate) about: &'static str,
+    /// What it does, at length.
+    pub(crate) long_about: &'static str,
+    /// What stands at the end of its help.
+    pub(crate) example: &'static str,
+    /// How it is called.
+    pub(crate) usage: &'static str,
+    pub(crate) options: &'static [ValueOption],
+    /// What `--verbose` does.
+    pub(crate) verbose: &'static str,
+}
+
+impl Subcommand {
+    /// The subcommand by its name, and how it is called.
+    fn named<'a>(self, alloc: Global) -> Command<'a> {
+        Command::new(alloc, self.name).override_usage(self.usage)
+    }
+
+    /// The subcommand, still without options.
+    fn bare<'a>(self, alloc: Global) -> Command<'a> {
+        self.named(alloc)
+            .about(self.about)
+            .long_about(self.long_about)
+            .after_help(self.example)
+    }
+
+    /// The subcommand as the command line has it.
+    pub(crate) fn command<'a>(self, alloc: Global) -> Result<Command<'a>, AllocError> {
+        let mut command = self.bare(alloc);
+        for option in self.options {
+            command = command.arg(option.argument(alloc))?;
+        }
+        let verbose = Arg::new(alloc, "verbose")
+            .long("verbose")
+            .action(ArgAction::SetTrue)
+            .help(self.verbose);
+        command.arg(verbose)
+    }
+}

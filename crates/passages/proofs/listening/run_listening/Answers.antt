@@ -1,0 +1,8 @@
+use Rattle.passages.proofs.PassageLemmas.{plays, plays_stop}
+use Rattle.passages.proofs.listening.run_listening.Goals as goal
+
+pub returns-in-Ok-clause-ok : goal.returns-in-Ok-clause-ok
+returns-in-Ok-clause-ok g c = λ d start before h held. plays d _ _ _ _ _ (c.in-Ok.ensures.ok d start before h held)
+
+pub returns-clause-err : goal.returns-clause-err
+returns-clause-err g c = λ d start before h held. plays_stop d _ _ _ _ _ _ (c.in-Err.ensures.err d start before h held)

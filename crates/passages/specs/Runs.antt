@@ -1,0 +1,65 @@
+-- Whole runs of the program: which packets go out for the bytes of a network, and what is told. A script and a connection do not tell their
+-- pieces, so of runs with cues some pieces are spoken of.
+use Rattle.std.specs.Prelude.{◌≡◌, ℕ, List, [], Option, None, IfSome}
+use Rattle.ts_packet.specs.Packets.{packets_of}
+use Rattle.ts_packet.specs.declared.sink.PutFault.{PutFault}
+use Rattle.unit_cut.specs.Cutting.{cut_between}
+use Rattle.unit_cut.specs.FirstFault.{first_fault}
+use Rattle.psi_tables.specs.declared.config.Config.{Config}
+use Rattle.ad_library.specs.Advertisements.{Advertisement}
+use Rattle.splice_plans.specs.declared.report.SwitchReport.{SwitchReport}
+use Rattle.chain_engine.specs.Runs.{Injected, InjectStops}
+use Rattle.chain_engine.specs.Splices.{Spliced}
+use Rattle.chain_engine.specs.ChainRuns as chain
+use Rattle.chain_engine.specs.declared.report.Report.{Report}
+use Rattle.passages.specs.declared.listening.ListenFault.{ListenFault}
+use Rattle.passages.specs.declared.listening.ListenFault.TheVariants as listen
+use Rattle.passages.specs.declared.fault.ProgramFault.{ProgramFault}
+use Rattle.passages.specs.declared.fault.ProgramFault.TheVariants as program
+use Rattle.passages.specs.declared.asking.Asker.{Asker}
+use Rattle.passages.specs.declared.asking.Asker.TheVariants as asker
+
+-- THE THEOREM of a run that went through: where the bytes of the network are known, the packets that it sends for them are out, and the
+-- report is theirs. `is_out` says of packets that they stand behind what was there.
+abbrev pub PassesAll : {R : Type 0} → (List ℕ → List (List ℕ) → R → Type 0) → Option (List ℕ) → (List (List ℕ) → Type 0) → R → Type 0
+PassesAll passes input is_out report = IfSome input (λ bs. (ps : List (List ℕ)) × passes bs ps report × is_out ps)
+
+-- `cut`: the network has no fault, and these packets are its cut
+abbrev pub Cuts : ℕ → ℕ → ℕ → List ℕ → List (List ℕ) → Unit {0} → Type 0
+Cuts pid from length bs ps report = (first_fault pid bs ≡ None) × (ps ≡ cut_between from length pid (packets_of bs))
+
+-- `inject`: the network has no fault, these packets are the cued stream of it and of some pieces of messages, and the report counts these
+abbrev pub Cues : Config → List ℕ → List (List ℕ) → Report → Type 0
+Cues c bs ps report = Injected c bs (λ qs. qs ≡ ps) (λ ending ts rs. Unit {0}) report
+
+-- `splice`: the network has no fault, these packets are its spliced stream with the advertisements that are filed so, and the report is by
+-- its events
+abbrev pub Splices : Config → (ℕ → Option Advertisement) → List ℕ → List (List ℕ) → SwitchReport → Type 0
+Splices c filed bs ps report = Spliced c filed bs (λ qs. qs ≡ ps) report
+
+-- `run`: the network has no fault, these packets are the spliced stream of its cued stream, and the report counts messages and events
+abbrev pub Plays : Config → (ℕ → Option Advertisement) → List ℕ → List (List ℕ) → Report → Type 0
+Plays c filed bs ps report = chain.Ran c filed bs (λ qs. qs ≡ ps) (λ ending ts rs. Unit {0}) report
+
+-- THE THEOREM of a run with cues that stopped: without a client nothing is out; else the fault says what it says of the network and the
+-- devices, and what is out is by some pieces of messages
+abbrev pub CuesStop : Config → ListenFault → Option (List ℕ) → (List (List ℕ) → Type 0)
+    → (List (List ℕ) → List ℕ → PutFault → Type 0) → Type 0
+CuesStop c listen.Accept input is_out fails = is_out []
+CuesStop c (listen.Run fault) input is_out fails = InjectStops c fault input is_out fails (λ ending ts rs. Unit {0})
+
+-- and of one with cues and advertisements
+abbrev pub PlaysStop : Config → (ℕ → Option Advertisement) → ListenFault → Option (List ℕ) → (List (List ℕ) → Type 0)
+    → (List (List ℕ) → List ℕ → PutFault → Type 0) → Type 0
+PlaysStop c filed listen.Accept input is_out fails = is_out []
+PlaysStop c filed (listen.Run fault) input is_out fails = chain.ChainStops c filed fault input is_out fails (λ ending ts rs. Unit {0})
+
+-- what the program tells of such a fault
+abbrev pub told_fault : ListenFault → ProgramFault
+told_fault listen.Accept = program.Accept
+told_fault (listen.Run fault) = program.Run fault
+
+-- how many replies could not be printed; those to a connection are not
+abbrev pub lost_replies : {W L : Type 0} → Asker W L → ℕ
+lost_replies (asker.Script script) = script.lost
+lost_replies (asker.Port listener) = 0

@@ -1,0 +1,154 @@
+//! The kinds of passages: a cut, a run with advertisements, one with cues, and one with both, each as its options say.
+
+use crate::asking::{Asker, cue, play, told_fault};
+use crate::fault::ProgramFault;
+use crate::running::Passage;
+use ad_library::AdLibrary;
+use chain_engine::{Chain, Report, run_splice};
+use command_lines::command::CutOptions;
+use command_lines::inject_options::InjectOptions;
+use command_lines::splice_options::SpliceOptions;
+use packet_lines::LinesFault;
+use splice_plans::SwitchReport;
+use std::alloc::Global;
+use std::io::{Read, Write};
+use std::net::{OpenListener, OpenStream};
+use ts_packet::{PacketSink, PacketSource};
+use unit_cut::cut;
+
+/// A cut, as the options say.
+#[derive(Drop)]
+pub struct Cutting<'a> {
+    pub options: &'a CutOptions<'a>,
+}
+
+impl Passage for Cutting<'_> {
+    ghost use Rattle.passages.specs.Runs.{Cuts};
+
+    type Report = ();
+
+    ghost passes = { λ p. Cuts p.options.now.pid p.options.now.from p.options.now.length };
+
+    fn pass<P: PacketSource, K: PacketSink>(
+        self,
+        network: &mut P,
+        out: &mut K,
+    ) -> Result<(), ProgramFault> {
+        let (pid, from) = (self.options.pid, self.options.from);
+        let length = self.options.length;
+        match cut(network, out, pid, from, length) {
+            Ok(()) => Ok(()),
+            Err(fault) => Err(ProgramFault::Lines(LinesFault::Cut(fault))),
+        }
+    }
+}
+
+/// A run with the advertisements of a library, as the options say.
+#[derive(Drop)]
+pub struct Splicing<'a> {
+    pub options: &'a SpliceOptions<'a>,
+    pub library: &'a AdLibrary,
+}
+
+impl Passage for Splicing<'_> {
+    ghost use Rattle.ad_library.specs.Library.{held};
+    ghost use Rattle.passages.specs.Runs.{Splices};
+
+    type Report = SwitchReport;
+
+    ghost passes = { λ p. Splices p.options.now.config (held p.library.now) };
+
+    fn pass<P: PacketSource, K: PacketSink>(
+        self,
+        network: &mut P,
+        out: &mut K,
+    ) -> Result<SwitchReport, ProgramFault> {
+        match run_splice(self.options.config, network, self.library, out) {
+            Ok(report) => Ok(report),
+            Err(fault) => Err(ProgramFault::Run(fault)),
+        }
+    }
+}
+
+/// A run with cues, as the options say.
+#[derive(Drop)]
+pub struct Cueing<'a, W, L> {
+    pub alloc: Global,
+    pub options: &'a InjectOptions<'a>,
+    pub asker: &'a mut Asker<W, L>,
+}
+
+impl<W, L> Passage for Cueing<'_, W, L>
+where
+    W: Write,
+    L: OpenListener,
+    L::Stream: OpenStream + Read + Write + Drop,
+{
+    ghost use Rattle.passages.specs.Runs.{Cues};
+
+    type Report = Report;
+
+    ghost passes = { λ p. Cues p.options.now.config };
+
+    fn pass<P: PacketSource, K: PacketSink>(
+        self,
+        network: &mut P,
+        out: &mut K,
+    ) -> Result<Report, ProgramFault> {
+        let Cueing {
+            alloc,
+            options,
+            asker,
+        } = self;
+        let Ok(chain) = Chain::new(alloc, options.config) else {
+            return Err(ProgramFault::OutOfMemory);
+        };
+        match cue(chain, network, asker, out) {
+            Ok(report) => Ok(report),
+            Err(fault) => Err(told_fault(fault)),
+        }
+    }
+}
+
+/// A run with cues and the advertisements of a library, as the options say.
+#[derive(Drop)]
+pub struct Playing<'a, W, L> {
+    pub alloc: Global,
+    pub options: &'a InjectOptions<'a>,
+    pub asker: &'a mut Asker<W, L>,
+    pub library: &'a AdLibrary,
+}
+
+impl<W, L> Passage for Playing<'_, W, L>
+where
+    W: Write,
+    L: OpenListener,
+    L::Stream: OpenStream + Read + Write + Drop,
+{
+    ghost use Rattle.ad_library.specs.Library.{held};
+    ghost use Rattle.passages.specs.Runs.{Plays};
+
+    type Report = Report;
+
+    ghost passes = { λ p. Plays p.options.now.config (held p.library.now) };
+
+    fn pass<P: PacketSource, K: PacketSink>(
+        self,
+        network: &mut P,
+        out: &mut K,
+    ) -> Result<Report, ProgramFault> {
+        let Playing {
+            alloc,
+            options,
+            asker,
+            library,
+        } = self;
+        let Ok(chain) = Chain::new(alloc, options.config) else {
+            return Err(ProgramFault::OutOfMemory);
+        };
+        match play(chain, network, asker, library, out) {
+            Ok(report) => Ok(report),
+            Err(fault) => Err(told_fault(fault)),
+        }
+    }
+}

@@ -1,0 +1,39 @@
+//! Runs to lines of digits.
+
+ghost use Rattle.std.specs.Prelude.{◌≡◌, false, IfOk};
+ghost use Rattle.packet_lines.specs.Texts.{WrittenLines};
+ghost use Rattle.passages.specs.Runs.{PassesAll};
+
+use crate::fault::ProgramFault;
+use crate::running::{BUFFER_SIZE, Finished, Passage, Passed, pass_watched};
+use packet_lines::LineWriter;
+use run_ends::{Attended, finish_buffer};
+use std::alloc::{AllocError, Global};
+use std::io::{BufWriter, Write};
+use ts_packet::{Device, PacketSource, Pid};
+
+/// Runs to lines of digits.
+pub fn run_to_lines<S: Passage, P: PacketSource, W: Write + Drop>(
+    alloc: Global,
+    passage: S,
+    watched: Option<Pid>,
+    network: &mut P,
+    output: W,
+) -> Result<Finished<S::Report, W>, AllocError>
+    requires { P.is_broken network.old ≡ false }
+    ensures done { IfOk result (λ f. IfOk f.outcome (PassesAll (S.passes passage) (P.left network.old)
+        (WrittenLines (W.contents f.output.inner) (W.contents output)))) }
+{
+    let Ok(buffer) = BufWriter::with_capacity(alloc, BUFFER_SIZE, Attended::new(output)) else {
+        return Err(AllocError);
+    };
+    let mut target = Device::new(buffer);
+    let mut writer = LineWriter::new(&mut target);
+    let Passed { outcome, seen } = pass_watched(passage, watched, network, &mut writer);
+    let (outcome, output) = finish_buffer(outcome, target.into_inner(), ProgramFault::Unflushed);
+    Ok(Finished {
+        outcome,
+        output,
+        seen,
+    })
+}

@@ -1,0 +1,91 @@
+//! Runs whose automation is a client of a port of this machine.
+
+ghost use Rattle.std.specs.Prelude.{◌≡◌, ℕ, List, ◌++◌, Option, false, IfOk, IfErr};
+ghost use Rattle.psi_tables.specs.declared.config.Config.{Config};
+ghost use Rattle.ad_library.specs.Library.{held};
+ghost use Rattle.chain_engine.specs.Chains.{ChainStandsFor};
+ghost use Rattle.passages.specs.Runs.{PassesAll, Cues, CuesStop, Plays, PlaysStop};
+
+use ad_library::AdLibrary;
+use automations::accept;
+use chain_engine::{Chain, Report, RunFault, run, run_inject};
+use std::alloc::Allocator;
+use std::io::{Read, Write};
+use std::net::{OpenListener, OpenStream};
+use ts_packet::{PacketSink, PacketSource};
+
+/// Why a run with a connection stopped.
+#[derive(Clone, Copy, Debug, PartialEq, Eq, Drop)]
+pub enum ListenFault {
+    /// No connection was accepted, or it could not be set not to block.
+    Accept,
+    /// The run stopped.
+    Run(RunFault),
+}
+
+/// Waits for one client of the listener, and then runs [`run_inject`] with it as the automation. A read that finds nothing is an empty
+/// piece; a reply that the client does not take at once ends its session.
+pub fn inject_listening<M, P, L, K>(
+    chain: Chain<M>,
+    network: &mut P,
+    listener: &L,
+    out: &mut K,
+) -> Result<Report, ListenFault>
+where
+    M: Allocator,
+    P: PacketSource,
+    L: OpenListener,
+    L::Stream: OpenStream + Read + Write + Drop,
+    K: PacketSink,
+    requires { P.is_broken network.old ≡ false }
+    ensures ok { (c : Config) (start : Option (List ℕ)) (before : List (List ℕ)) → ChainStandsFor chain c
+        → K.holds out.old start before
+        → IfOk result (PassesAll (Cues c) (P.left network.old) (λ ps. K.holds out.new start (before ++ ps))) }
+    ensures err { (c : Config) (start : Option (List ℕ)) (before : List (List ℕ)) → ChainStandsFor chain c
+        → K.holds out.old start before
+        → IfErr result (λ f. CuesStop c f (P.left network.old) (λ ps. K.holds out.new start (before ++ ps))
+        (λ ps. K.fails out.new start (before ++ ps))) }
+    ensures reads { P.leads network.old network.new }
+    ensures leads { K.leads out.old out.new }
+{
+    let Some(mut client) = accept(listener) else {
+        return Err(ListenFault::Accept);
+    };
+    match run_inject(chain, network, &mut client, out) {
+        Ok(report) => Ok(report),
+        Err(fault) => Err(ListenFault::Run(fault)),
+    }
+}
+
+/// Waits for one client of the listener, and then runs [`run`] with it as the automation, likewise.
+pub fn run_listening<M, P, L, K>(
+    chain: Chain<M>,
+    network: &mut P,
+    listener: &L,
+    library: &AdLibrary,
+    out: &mut K,
+) -> Result<Report, ListenFault>
+where
+    M: Allocator,
+    P: PacketSource,
+    L: OpenListener,
+    L::Stream: OpenStream + Read + Write + Drop,
+    K: PacketSink,
+    requires { P.is_broken network.old ≡ false }
+    ensures ok { (c : Config) (start : Option (List ℕ)) (before : List (List ℕ)) → ChainStandsFor chain c
+        → K.holds out.old start before → IfOk result (PassesAll (Plays c (held library.now)) (P.left network.old)
+        (λ ps. K.holds out.new start (before ++ ps))) }
+    ensures err { (c : Config) (start : Option (List ℕ)) (before : List (List ℕ)) → ChainStandsFor chain c
+        → K.holds out.old start before → IfErr result (λ f. PlaysStop c (held library.now) f (P.left network.old)
+        (λ ps. K.holds out.new start (before ++ ps)) (λ ps. K.fails out.new start (before ++ ps))) }
+    ensures reads { P.leads network.old network.new }
+    ensures leads { K.leads out.old out.new }
+{
+    let Some(mut connection) = accept(listener) else {
+        return Err(ListenFault::Accept);
+    };
+    match run(chain, network, &mut connection, library, out) {
+        Ok(report) => Ok(report),
+        Err(fault) => Err(ListenFault::Run(fault)),
+    }
+}

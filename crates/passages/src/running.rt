@@ -1,0 +1,299 @@
+//! Runs between a reader and a writer, whatever is done on the way: the output is flushed at the end, and what is known of a run that
+//! stopped is kept.
+
+ghost use Rattle.std.specs.Prelude.{◌≡◌, ℕ, List, [], Option, true, false, IfOk, IfErr, OnOk, Err, IsErrAnd};
+ghost use Rattle.ts_packet.specs.Sinks.{Written};
+ghost use Rattle.passages.specs.Runs.{PassesAll};
+
+use crate::fault::ProgramFault;
+use crate::tell::{Side, Stopped};
+use crate::watch::{Watch, Watched};
+use chain_engine::RunFault;
+use packet_lines::LinesFault;
+use psi_tables::FeedFault;
+use run_ends::{Attended, Unopened, finish, finish_buffer};
+use std::alloc::{AllocError, Global};
+use std::io::{self, BufReader, BufWriter, Read, Write};
+use ts_packet::{Buffered, Device, PacketReader, PacketSink, PacketSource, PacketWriter, Pid};
+use unit_cut::CutFault;
+
+/// How many bytes a file or a stream is read or written at a time.
+pub const BUFFER_SIZE: usize = 262_144;
+
+/// What is done with a network on its way from a source to a sink.
+pub trait Passage: Drop {
+    ghost use Rattle.std.specs.Prelude.{◌≡◌, ℕ, List, [], Option, false, IfOk};
+    ghost use Rattle.passages.specs.Runs.{PassesAll};
+
+    /// What is told of a run that went through.
+    type Report: Drop;
+
+    /// Of a network of these bytes these packets go out, and this is the report.
+    ghost passes: { Self → List ℕ → List (List ℕ) → Self.Report → Type 0 };
+
+    /// Passes the network on.
+    fn pass<P: PacketSource, K: PacketSink>(
+        self,
+        network: &mut P,
+        out: &mut K,
+    ) -> Result<Self::Report, ProgramFault>
+        requires { P.is_broken network.old ≡ false }
+        ensures done { (start : Option (List ℕ)) → K.holds out.old start []
+            → IfOk result (PassesAll (passes self) (P.left network.old) (K.holds out.new start)) }
+        ensures reads { P.leads network.old network.new }
+        ensures leads { K.leads out.old out.new };
+}
+
+/// What a passage answered, and what was seen go by where that was asked for.
+#[derive(Drop)]
+pub struct Passed<T> {
+    pub outcome: Result<T, ProgramFault>,
+    pub seen: Option<(Watch, Watch)>,
+}
+
+/// Passes the network on, and where a PID is to be watched sees what goes by.
+pub fn pass_watched<S: Passage, P: PacketSource, K: PacketSink>(
+    passage: S,
+    watched: Option<Pid>,
+    network: &mut P,
+    out: &mut K,
+) -> Passed<S::Report>
+    requires { P.is_broken network.old ≡ false }
+    ensures done { (start : Option (List ℕ)) → K.holds out.old start []
+        → IfOk result.outcome (PassesAll (S.passes passage) (P.left network.old) (K.holds out.new start)) }
+    ensures reads { P.leads network.old network.new }
+    ensures leads { K.leads out.old out.new }
+{
+    let Some(pid) = watched else {
+        let outcome = passage.pass(network, out);
+        return Passed {
+            outcome,
+            seen: None,
+        };
+    };
+    let mut watched_network = Watched::new(network, pid);
+    let mut watched_out = Watched::new(out, pid);
+    let outcome = passage.pass(&mut watched_network, &mut watched_out);
+    let seen = Some((watched_network.seen(), watched_out.seen()));
+    Passed { outcome, seen }
+}
+
+/// A run whose output has been flushed.
+#[derive(Drop)]
+pub struct Finished<T, O> {
+    pub outcome: Result<T, ProgramFault>,
+    pub output: Attended<O>,
+    pub seen: Option<(Watch, Watch)>,
+}
+
+/// Runs to a writer, each packet as it comes: what came in before a pause goes out before it.
+fn run_to_packets<S: Passage, P: PacketSource, O: Write + Drop>(
+    passage: S,
+    watched: Option<Pid>,
+    network: &mut P,
+    output: O,
+) -> Finished<S::Report, O>
+    requires { P.is_broken network.old ≡ false }
+    ensures done { IfOk result.outcome (PassesAll (S.passes passage) (P.left network.old)
+        (Written (O.contents result.output.inner) (O.contents output))) }
+{
+    let mut target = Device::new(Attended::new(output));
+    let mut writer = PacketWriter::new(&mut target);
+    let Passed { outcome, seen } = pass_watched(passage, watched, network, &mut writer);
+    let mut output = target.into_inner();
+    let outcome = finish(outcome, &mut output, ProgramFault::Unflushed);
+    Finished {
+        outcome,
+        output,
+        seen,
+    }
+}
+
+/// Runs to a writer, many packets a write.
+fn run_to_blocks<S: Passage, P: PacketSource, O: Write + Drop>(
+    alloc: Global,
+    passage: S,
+    watched: Option<Pid>,
+    network: &mut P,
+    output: O,
+) -> Result<Finished<S::Report, O>, AllocError>
+    requires { P.is_broken network.old ≡ false }
+    ensures done { IfOk result (λ f. IfOk f.outcome (PassesAll (S.passes passage) (P.left network.old)
+        (Written (O.contents f.output.inner) (O.contents output)))) }
+{
+    let Ok(buffer) = BufWriter::with_capacity(alloc, BUFFER_SIZE, Attended::new(output)) else {
+        return Err(AllocError);
+    };
+    let mut target = Device::new(buffer);
+    let mut writer = PacketWriter::new(&mut target);
+    let Passed { outcome, seen } = pass_watched(passage, watched, network, &mut writer);
+    let (outcome, output) = finish_buffer(outcome, target.into_inner(), ProgramFault::Unflushed);
+    Ok(Finished {
+        outcome,
+        output,
+        seen,
+    })
+}
+
+/// What is left of a run when its output is flushed and gone.
+#[derive(Drop)]
+pub struct Ended<T> {
+    pub outcome: Result<T, ProgramFault>,
+    /// The reason of the output's last failure.
+    pub reason: Option<io::Error>,
+    pub seen: Option<(Watch, Watch)>,
+}
+
+/// Lets go of the output, but for the reason of its last failure.
+pub fn let_go<T: Drop, O: Drop>(finished: Finished<T, O>) -> Ended<T>
+    ensures { result.outcome ≡ finished.outcome }
+{
+    let Finished {
+        outcome,
+        output,
+        seen,
+    } = finished;
+    Ended {
+        outcome,
+        reason: output.into_reason(),
+        seen,
+    }
+}
+
+/// Runs to a writer: many packets a write, or where the network may pause each packet as it comes.
+pub fn run_to<S: Passage, P: PacketSource, O: Write + Drop>(
+    alloc: Global,
+    passage: S,
+    watched: Option<Pid>,
+    is_live: bool,
+    network: &mut P,
+    output: O,
+) -> Result<Ended<S::Report>, AllocError>
+    requires { P.is_broken network.old ≡ false }
+{
+    if is_live {
+        return Ok(let_go(run_to_packets(passage, watched, network, output)));
+    }
+    match run_to_blocks(alloc, passage, watched, network, output) {
+        Ok(finished) => Ok(let_go(finished)),
+        Err(error) => Err(error),
+    }
+}
+
+/// A run that went through.
+#[derive(Drop)]
+pub struct Ran<T> {
+    pub report: T,
+    pub seen: Option<(Watch, Watch)>,
+}
+
+/// What was done when a run stopped with this fault.
+fn side_of(fault: ProgramFault) -> Side {
+    match fault {
+        ProgramFault::Unflushed
+        | ProgramFault::Run(RunFault::Feed(FeedFault::Sink(_)))
+        | ProgramFault::Lines(LinesFault::Cut(CutFault::Sink(_))) => Side::Writing,
+        ProgramFault::Accept => Side::Listening,
+        _ => Side::Reading,
+    }
+}
+
+impl<T: Drop> Ended<T> {
+    ghost use Rattle.std.specs.Prelude.{◌≡◌, IfOk, IfErr, IsOkAnd, IsErrAnd};
+
+    /// What the run tells, whose network's device gave this reason for its last failure.
+    pub fn told(self, reading: Option<io::Error>) -> Result<Ran<T>, Stopped>
+        ensures done { IfOk self.outcome (λ report. IsOkAnd result (λ ran. ran.report ≡ report)) }
+        ensures fault { IfErr self.outcome (λ fault. IsErrAnd result (λ stopped. stopped.fault ≡ fault)) }
+    {
+        let Ended {
+            outcome,
+            reason,
+            seen,
+        } = self;
+        let fault = match outcome {
+            Ok(report) => return Ok(Ran { report, seen }),
+            Err(fault) => fault,
+        };
+        let side = side_of(fault);
+        Err(Stopped {
+            fault,
+            side,
+            reason: match side {
+                Side::Reading => reading,
+                Side::Writing => reason,
+                _ => None,
+            },
+            read: seen.map(|(read, _)| read),
+            line: None,
+        })
+    }
+}
+
+/// Runs from a reader.
+pub fn run_from<S: Passage, R: Read + Drop, O: Write + Drop>(
+    alloc: Global,
+    passage: S,
+    watched: Option<Pid>,
+    is_live: bool,
+    input: R,
+    output: O,
+) -> Result<Ran<S::Report>, Stopped> {
+    let Ok(reader) = BufReader::with_capacity(alloc, BUFFER_SIZE, Attended::new(input)) else {
+        return Err(out_of_memory());
+    };
+    let mut network = Buffered::new(reader);
+    let mut packets = PacketReader::new(&mut network);
+    let Ok(ended) = run_to(alloc, passage, watched, is_live, &mut packets, output) else {
+        return Err(out_of_memory());
+    };
+    let reading = network.into_inner().into_inner().into_reason();
+    ended.told(reading)
+}
+
+/// A run that stopped so, with nothing read of its network.
+pub fn stopped(fault: ProgramFault, side: Side, reason: Option<io::Error>) -> Stopped
+    ensures { result.fault ≡ fault }
+{
+    Stopped {
+        fault,
+        side,
+        reason,
+        read: None,
+        line: None,
+    }
+}
+
+/// What a run tells whose replies were printed, or not: one that could not be printed is a fault where there is no other.
+pub fn with_replies<T: Drop>(
+    ran: Result<Ran<T>, Stopped>,
+    has_lost_a_reply: bool,
+) -> Result<Ran<T>, Stopped>
+    ensures kept { has_lost_a_reply ≡ false → result ≡ ran }
+    ensures first { IfErr ran (λ stopped. result ≡ Err stopped) }
+    ensures lost { has_lost_a_reply ≡ true → OnOk ran (IsErrAnd result (λ stopped. stopped.fault ≡ ProgramFault.Print)) }
+{
+    let ran = ran?;
+    if has_lost_a_reply {
+        return Err(stopped(ProgramFault::Print, Side::Printing, None));
+    }
+    Ok(ran)
+}
+
+/// Memory was refused.
+pub fn out_of_memory() -> Stopped
+    ensures { result.fault ≡ ProgramFault.OutOfMemory }
+{
+    stopped(ProgramFault::OutOfMemory, Side::Reading, None)
+}
+
+/// A file could not be opened.
+pub fn unopened(unopened: Unopened) -> Stopped
+    ensures { result.fault ≡ ProgramFault.File }
+{
+    let (side, reason) = match unopened {
+        Unopened::Input(reason) => (Side::Reading, reason),
+        Unopened::Output(reason) => (Side::Writing, reason),
+    };
+    stopped(ProgramFault::File, side, Some(reason))
+}

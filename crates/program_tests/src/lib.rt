@@ -1,0 +1,20 @@
+//! Runs of the program, of what it is put together from, and of the cut over lines: printed lines, exit statuses, files and clients.
+//! It stands on `dpi_program` and the crates below it; no program stands on it.
+#![tactic(auto)]
+
+#[cfg(test)]
+mod cut_tests;
+#[cfg(test)]
+mod device_tests;
+#[cfg(test)]
+mod devices;
+#[cfg(test)]
+mod expecting;
+#[cfg(test)]
+mod inject_tests;
+#[cfg(test)]
+mod list_tests;
+#[cfg(test)]
+mod script_tests;
+#[cfg(test)]
+mod splice_tests;
