@@ -15,8 +15,7 @@ use Rattle.psi_tables.specs.declared.network.FeedFault.{FeedFault}
 use Rattle.psi_tables.specs.declared.network.FeedFault.TheVariants.{Network, Sink, Failed}
 use Rattle.program_follower.specs.declared.purpose.Purpose.{Purpose}
 use Rattle.program_follower.specs.Purposes.{reading_cues, writing_cues}
-use Rattle.injector.specs.Injecting as injecting
-use Rattle.splice_switch.specs.Standing as standing
+use Rattle.outgoing_packets.specs.Faults.{FeedBlamed}
 use Rattle.splice_plans.specs.declared.report.SwitchReport.{SwitchReport}
 use Rattle.scte104_codec.specs.declared.reply.Reply.{Reply}
 use Rattle.ad_library.specs.Advertisements.{Advertisement}
@@ -141,12 +140,7 @@ out_blamed Failed a b c full w h = well-trans a b c w h
 unchanged : (a b c : Tally) → WentWell a b → c ≡ b → WentWell a c
 unchanged a b c w e = subst (λ t. WentWell a t) (sym e) w
 
-pub fed_blamed : (fault : FeedFault) (a b c : Tally) (full : Bool) → WentWell a b → injecting.FeedBlamed fault b c full → OutputBlamed (Feed fault) a c full
+pub fed_blamed : (fault : FeedFault) (a b c : Tally) (full : Bool) → WentWell a b → FeedBlamed fault b c full → OutputBlamed (Feed fault) a c full
 fed_blamed (Network f) a b c full w h = unchanged a b c w h
 fed_blamed (Sink f) a b c full w h = blamed-after f a b c full w h
 fed_blamed Failed a b c full w h = unchanged a b c w h
-
-pub switched_blamed : (fault : FeedFault) (a b c : Tally) (full : Bool) → WentWell a b → standing.FeedBlamed fault b c full → OutputBlamed (Feed fault) a c full
-switched_blamed (Network f) a b c full w h = unchanged a b c w h
-switched_blamed (Sink f) a b c full w h = blamed-after f a b c full w h
-switched_blamed Failed a b c full w h = unchanged a b c w h

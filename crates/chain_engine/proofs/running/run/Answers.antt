@@ -18,7 +18,7 @@ use Rattle.chain_engine.specs.declared.chain.RunFault.TheVariants.{Read, Feed}
 use Rattle.chain_engine.proofs.SpliceLemmas.{finish_fails_so}
 use Rattle.chain_engine.proofs.RunLemmas.{begun, heard, passed}
 use Rattle.chain_engine.proofs.ChainLemmas.{ends, finish_stops, read_stops, pass_stops, sound_more}
-use Rattle.chain_engine.proofs.ProgressLemmas.{ran_out_so, end_progresses, stop_progresses, chain_fails, chain_sound, switched_blamed, out_blamed}
+use Rattle.chain_engine.proofs.ProgressLemmas.{ran_out_so, end_progresses, stop_progresses, chain_fails, chain_sound, fed_blamed, out_blamed}
 use Rattle.chain_engine.proofs.running.run.Goals as goal
 use Rattle.program_follower.specs.Purposes.{writing_cues}
 
@@ -176,5 +176,5 @@ returns-clause-progress g c = λ d start before h held_first.
     (λ f. ChainLeaves d (held c.args.library.now) f is_out fails exchanged) (λ f bs passed rest. chain_fails d is_out fails f bs passed (held c.args.library.now) exchanged rest)
     (Feed c.in-Err-finish.fault) (returns-clause-err g c d start before h held_first)
     (inr (on-end _ _ _ _ _ _ c.loop-fault.invariant.well (rw c.in-Ok-false.field-0-test at c.in-Ok-false.ensures.counts)))
-    (switched_blamed c.in-Err-finish.fault _ _ _ _ c.loop-fault.invariant.wrote c.in-Err-finish.ensures.blamed)
+    (fed_blamed c.in-Err-finish.fault _ _ _ _ c.loop-fault.invariant.wrote c.in-Err-finish.ensures.blamed)
     (λ e. absurd (cc))

@@ -12,7 +12,7 @@ use Rattle.splice_plans.specs.Switching.{switched_at_packet, rest_at}
 use Rattle.chain_engine.specs.Splices.{switch_sends, SpliceLeaves}
 use Rattle.chain_engine.specs.declared.chain.RunFault.TheVariants.{Read, Feed}
 use Rattle.chain_engine.proofs.SpliceLemmas.{begun, passed, ends, finish_stops, read_stops, feed_stops, feed_fails_so, finish_fails_so}
-use Rattle.chain_engine.proofs.ProgressLemmas.{ran_out_so, end_progresses, stop_progresses, splice_fails, splice_sound, switched_blamed}
+use Rattle.chain_engine.proofs.ProgressLemmas.{ran_out_so, end_progresses, stop_progresses, splice_fails, splice_sound, fed_blamed}
 use Rattle.chain_engine.proofs.splice.run_splice.Goals as goal
 
 pub loop-fault-init : goal.loop-fault-init
@@ -135,7 +135,7 @@ returns-in-Err-feed-clause-progress g c = λ start before h.
     (λ f. SpliceLeaves c.args.config (held c.args.library.now) f is_out fails) (λ f bs passed rest. splice_fails c.args.config is_out fails f bs passed (held c.args.library.now) rest)
     (Feed c.in-Err-feed.fault) (returns-in-Err-feed-clause-err g c start before h)
     (inl (on-told _ _ _ _ _ _ c.loop-fault.invariant.well (rw c.in-Ok-true.field-0-test at c.in-Ok-true.ensures.counts)))
-    (switched_blamed c.in-Err-feed.fault _ _ _ _ c.loop-fault.invariant.wrote c.in-Err-feed.ensures.blamed)
+    (fed_blamed c.in-Err-feed.fault _ _ _ _ c.loop-fault.invariant.wrote c.in-Err-feed.ensures.blamed)
     (λ e. absurd (cc))
 
 pub returns-in-Err-finish-clause-progress : goal.returns-in-Err-finish-clause-progress
@@ -146,5 +146,5 @@ returns-in-Err-finish-clause-progress g c = λ start before h.
     (λ f. SpliceLeaves c.args.config (held c.args.library.now) f is_out fails) (λ f bs passed rest. splice_fails c.args.config is_out fails f bs passed (held c.args.library.now) rest)
     (Feed c.in-Err-finish.fault) (returns-in-Err-finish-clause-err g c start before h)
     (inr (on-end _ _ _ _ _ _ c.loop-fault.invariant.well (rw c.in-Ok-false.field-0-test at c.in-Ok-false.ensures.counts)))
-    (switched_blamed c.in-Err-finish.fault _ _ _ _ c.loop-fault.invariant.wrote c.in-Err-finish.ensures.blamed)
+    (fed_blamed c.in-Err-finish.fault _ _ _ _ c.loop-fault.invariant.wrote c.in-Err-finish.ensures.blamed)
     (λ e. absurd (cc))
