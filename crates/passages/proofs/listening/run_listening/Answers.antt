@@ -1,3 +1,5 @@
+use Rattle.std.proofs.Common.{◌++◌}
+use Rattle.ad_library.specs.Library.{held}
 use Rattle.passages.proofs.PassageLemmas.{plays, plays_stop}
 use Rattle.passages.proofs.listening.run_listening.Goals as goal
 
@@ -5,4 +7,5 @@ pub returns-in-Ok-clause-ok : goal.returns-in-Ok-clause-ok
 returns-in-Ok-clause-ok g c = λ d start before h held. plays d _ _ _ _ _ (c.in-Ok.ensures.ok d start before h held)
 
 pub returns-clause-err : goal.returns-clause-err
-returns-clause-err g c = λ d start before h held. plays_stop d _ _ _ _ _ _ (c.in-Err.ensures.err d start before h held)
+returns-clause-err g c = λ d start before h out. plays_stop d (held c.args.library.now) _ _ _ (λ ps. g.K.PacketSink.holds c.run.new.out start (before ++ ps))
+    (λ ps. g.K.PacketSink.fails c.run.new.out start (before ++ ps)) (c.in-Err.ensures.err d start before h out)
