@@ -1,6 +1,7 @@
 //! The events in the switched streams: which have begun, which are over, and what has gone out of their slices.
 
-ghost use Rattle.std.specs.Prelude.{◌≡◌, ◌<◌, ◌≤◌, ◌+◌, ◌%◌, ◌++◌, ◌∷◌, ◌^◌, [], ℕ, ℤ, List, length, slice_index_or, Option, None, Some, IfSome, OnOk, IfErr, true};
+ghost use Rattle.std.specs.Prelude.{◌≡◌, ◌<◌, ◌≤◌, ◌+◌, ◌%◌, ◌++◌, ◌∷◌, ◌^◌, [], ℕ, ℤ, List, length, slice_index_or};
+ghost use Rattle.std.specs.Prelude.{Option, None, Some, IfSome, OnOk, IfErr, true};
 ghost use Rattle.ts_packet.specs.Numbering.{Step, Counts};
 ghost use Rattle.unit_stream.specs.UnitPackets.{put_in};
 ghost use Rattle.event_table.specs.Standing.{Standing, IsTimeAt};
