@@ -80,6 +80,7 @@ impl Requests {
     }
 
     /// Takes this as the greatest time behind a packet, if it is another one.
+    #[inline(always)]
     pub(crate) fn rise(&mut self, later: Option<Time33>)
         ensures stands { (index : ℕ) (past : List Turn) (line : Option ℤ) → RequestsStandFor self.old index past →
             Rises (high past) line →

@@ -32,6 +32,7 @@ impl SwitchedStream {
     }
 
     /// Puts a packet that is kept, with its counter moved.
+    #[inline(always)]
     pub fn keep<S: PacketSink>(&mut self, packet: &Packet, sink: &mut S) -> Result<(), PutFault>
         ensures leads { S.leads sink.old sink.new }
         ensures ok { (start : Option (List ℕ)) (ps : List (List ℕ)) (steps : List Step) → S.holds sink.old start ps →

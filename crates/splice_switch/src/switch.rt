@@ -129,6 +129,7 @@ impl Switch {
     }
 
     /// Takes a packet.
+    #[inline(always)]
     fn take<S: PacketSink>(
         &mut self,
         packet: &Packet,
@@ -163,6 +164,7 @@ impl Switch {
     }
 
     /// Puts what goes out for a packet that was followed, and is of this place.
+    #[inline(always)]
     fn put<S: PacketSink>(
         &mut self,
         place: &Place,
@@ -201,6 +203,7 @@ impl Switch {
     }
 
     /// Puts what goes out for a packet of the switched stream of this number.
+    #[inline(always)]
     fn put_of_stream<S: PacketSink>(
         &mut self,
         stream: usize,
@@ -241,6 +244,7 @@ impl Switch {
     }
 
     /// Puts what goes out for a packet that begins a unit in the stream of this number, of this time where it has one.
+    #[inline(always)]
     fn put_start<S: PacketSink>(
         &mut self,
         stream: usize,

@@ -30,6 +30,7 @@ impl Counter {
     }
 
     /// The packet goes out: its continuity_counter there. A packet without payload is moved like the others.
+    #[inline(always)]
     pub fn kept(&mut self, packet: &Packet) -> u8
         ensures counts { (steps : List Step) → Counts self.old steps → Counts self.new (Kept packet.now ∷ steps) }
         ensures number { (steps : List Step) → Counts self.old steps → result ≡ number_out packet.now steps }
@@ -58,6 +59,7 @@ impl Counter {
     }
 
     /// The packet's counter, moved up.
+    #[inline(always)]
     fn moved(&self, packet: &Packet) -> u8
         ensures { result ≡ (number packet.now + self.now.shift) % 16 }
     {

@@ -130,6 +130,7 @@ impl Packet {
     }
 
     /// transport_error_indicator: the packet is marked in error.
+    #[inline(always)]
     #[tactic(auto, unfolding(crate::specs::Fields::in_error))]
     pub fn error(&self) -> bool
         ensures { result ≡ in_error self.now }
@@ -138,6 +139,7 @@ impl Packet {
     }
 
     /// payload_unit_start_indicator.
+    #[inline(always)]
     #[tactic(auto, unfolding(crate::specs::Fields::unit_start))]
     pub fn unit_start(&self) -> bool
         ensures { result ≡ unit_start self.now }
@@ -146,6 +148,7 @@ impl Packet {
     }
 
     /// The PID.
+    #[inline(always)]
     #[tactic(auto, unfolding(crate::specs::Fields::pid_of))]
     pub fn pid(&self) -> Pid
         ensures { result ≡ pid_of self.now }
@@ -154,6 +157,7 @@ impl Packet {
     }
 
     /// transport_scrambling_control is not 00.
+    #[inline(always)]
     #[tactic(auto, unfolding(crate::specs::Fields::scrambled))]
     pub fn scrambled(&self) -> bool
         ensures { result ≡ scrambled self.now }
@@ -162,6 +166,7 @@ impl Packet {
     }
 
     /// continuity_counter, below 16.
+    #[inline(always)]
     #[tactic(auto, unfolding(crate::specs::Fields::number))]
     pub fn counter(&self) -> u8
         ensures value { result ≡ number self.now }
@@ -171,6 +176,7 @@ impl Packet {
     }
 
     /// adaptation_field_control.
+    #[inline(always)]
     fn adaptation_control(&self) -> u8
         ensures value { result ≡ slice_index self.now 3 / 16 % 4 }
     {
@@ -272,6 +278,7 @@ impl Packet {
     }
 
     /// The packet has a payload.
+    #[inline(always)]
     pub fn has_payload(&self) -> bool
         ensures { result ≡ is_some (payload self.now) }
     {
@@ -279,6 +286,7 @@ impl Packet {
     }
 
     /// A packet of the PID that is not marked in error.
+    #[inline(always)]
     #[tactic(auto, unfolding(crate::specs::Fields::on))]
     pub fn is_on(&self, pid: Pid) -> bool
         ensures { result ≡ on pid self.now }
@@ -287,6 +295,7 @@ impl Packet {
     }
 
     /// A payload packet of the PID.
+    #[inline(always)]
     #[tactic(auto, unfolding(crate::specs::Fields::payload_on))]
     pub fn has_payload_on(&self, pid: Pid) -> bool
         ensures { result ≡ payload_on pid self.now }
