@@ -4,6 +4,7 @@ pub mod PatLemmas
 pub mod JudgingLemmas
 pub mod MapsLemmas
 pub mod StreamLemmas
+pub mod PlaceLemmas
 pub mod FollowLemmas
 pub mod PieceLemmas
 pub mod RunLemmas

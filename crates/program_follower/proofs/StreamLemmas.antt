@@ -28,7 +28,7 @@ both_true true b h = (refl, h)
 both_true false b h = absurd (cc)
 
 -- two packets that are of one PID are of the same PIDs
-on_parts : (pid : ℕ) (p : List ℕ) → on pid p ≡ true → (not (in_error p) ≡ true) × (pid_of p ≡ pid)
+pub on_parts : (pid : ℕ) (p : List ℕ) → on pid p ≡ true → (not (in_error p) ≡ true) × (pid_of p ≡ pid)
 unfolding on
 on_parts pid p h = let r = both_true (not (in_error p)) (pid_of p == pid) h in (r.0, eqb-true (pid_of p) pid r.1)
 
@@ -208,33 +208,7 @@ pub starts_all_on : (rs new : List StartReader) (pids : List ℕ) (p : List ℕ)
     → ((d : StartReader) (pid : ℕ) (ps : List (List ℕ)) → ReadsStarts (slice_index_or rs x.0 d) pid ps → ReadsStarts (slice_index_or new x.0 d) pid (p ∷ ps)) → AllStartsRead new pids (p ∷ past)
 starts_all_on rs new pids p past x f h others reads = every_on (λ r pid. ReadsStarts r pid past) (λ r pid. ReadsStarts r pid (p ∷ past)) pids p (λ r pid o k. starts_off r pid p past o k) rs new x f h others (λ d k. reads d x.1 past k)
 
--- ---- looked for one after another
-
-abbrev pub shifted : ℕ → Option (ℕ × ℕ) → Option (ℕ × ℕ)
-shifted n o = option_map (λ (x : ℕ × ℕ). (n + x.0, x.1)) o
-
-pub not_shifted : (o : Option (ℕ × ℕ)) → o ≡ shifted 0 o
-not_shifted None = refl
-not_shifted (Some x) = ap (λ (n : ℕ). let y : Option (ℕ × ℕ) = Some (n, x.1) in y) (let e : x.0 ≡ 0 + x.0 = omega arith in e)
-
-shifted_more : (n : ℕ) (o : Option (ℕ × ℕ)) → shifted n (option_map next_place o) ≡ shifted (n + 1) o
-shifted_more n None = refl
-shifted_more n (Some x) = ap (λ (k : ℕ). let y : Option (ℕ × ℕ) = Some (k, x.1) in y) (let e : n + (x.0 + 1) ≡ (n + 1) + x.0 = omega arith in e)
-
-module _ (p : List ℕ) (all rest rest' : List Stream) (s : Stream) (n : ℕ) (e : rest ≡ s ∷ rest') (h : first_on (pids_in all) p ≡ shifted n (first_on (pids_in rest) p)) where
-  pub first_here : on s.pid p ≡ true → Some (n, s.pid) ≡ first_on (pids_in all) p
-  first_here y =
-      let a : first_on (pids_in (s ∷ rest')) p ≡ Some (0, s.pid) = simp y refl in
-      let k : n + 0 ≡ n = omega arith in
-      sym (h ∙ ap (λ ss. shifted n (first_on (pids_in ss) p)) e ∙ ap (shifted n) a ∙ ap (λ (k : ℕ). let y : Option (ℕ × ℕ) = Some (k, s.pid) in y) k)
-
-  pub first_later : on s.pid p ≡ false → first_on (pids_in all) p ≡ shifted (n + 1) (first_on (pids_in rest') p)
-  first_later y =
-      let a : first_on (pids_in (s ∷ rest')) p ≡ option_map next_place (first_on (pids_in rest') p) = simp y refl in
-      h ∙ ap (λ ss. shifted n (first_on (pids_in ss) p)) e ∙ ap (shifted n) a ∙ shifted_more n (first_on (pids_in rest') p)
-
-pub first_never : (p : List ℕ) (all rest : List Stream) (n : ℕ) → rest ≡ [] → first_on (pids_in all) p ≡ shifted n (first_on (pids_in rest) p) → None ≡ first_on (pids_in all) p
-first_never p all rest n e h = sym (h ∙ ap (λ ss. shifted n (first_on (pids_in ss) p)) e)
+-- ---- the stream of a PID
 
 behind_one : (s : Stream) (ss : List Stream) (n : ℕ) (d : Stream) → slice_index_or (s ∷ ss) (n + 1) d ≡ slice_index_or ss n d
 behind_one s ss n d = let e : n + 1 ≡ suc n = omega arith in ap (λ (k : ℕ). slice_index_or (s ∷ ss) k d) e

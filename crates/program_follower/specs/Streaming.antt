@@ -1,6 +1,6 @@
 -- What the followers of the switched streams stand for, and what a packet is to them.
-use Rattle.std.specs.Prelude.{◌≡◌, ℕ, ◌+◌, List, [], ◌∷◌, true, false, if◌then◌else◌, slice_index_or, Option, Some, None, option_map}
-use Rattle.ts_packet.specs.Fields.{in_error, on, payload_on, unit_start}
+use Rattle.std.specs.Prelude.{◌≡◌, ◌<◌, ℕ, ◌+◌, List, [], ◌∷◌, true, false, if◌then◌else◌, slice_index_or, Option, Some, None, option_map}
+use Rattle.ts_packet.specs.Fields.{in_error, pid_of, on, payload_on, unit_start}
 use Rattle.ts_packet.specs.Duplicates.{original, repeats}
 use Rattle.unit_stream.specs.declared.reader.UnitReader.{UnitReader}
 use Rattle.unit_stream.specs.Times.{begins, begins_one, in_unit, high, stamp, splits}
@@ -24,6 +24,20 @@ abbrev pub first_on : List ℕ → List ℕ → Option (ℕ × ℕ)
 first_on [] p = None
 first_on (pid ∷ pids) p = if on pid p then Some (0, pid) else option_map next_place (first_on pids p)
 
+-- the place of that one
+abbrev pub place_in : List ℕ → List ℕ → Option ℕ
+place_in pids p = option_map (λ (x : ℕ × ℕ). x.0) (first_on pids p)
+
+-- a place as the table of places has it: its number and 1, or 0 for none
+abbrev pub numbered : Option ℕ → ℕ
+numbered None = 0
+numbered (Some place) = place + 1
+
+-- under each PID the table has the place of the packets on that PID that are not marked in error
+abbrev pub HasPlaces : List ℕ → List ℕ → Type 0
+HasPlaces numbers pids = (p : List ℕ) → in_error p ≡ false → pid_of p < 8192
+    → slice_index_or numbers (pid_of p) 0 ≡ numbered (place_in pids p)
+
 -- each PID's first reader is so
 abbrev pub AllFirst : {R : Type 0} → (R → ℕ → Type 0) → List R → List ℕ → Type 0
 AllFirst {R} is readers pids = (q : List ℕ) (x : ℕ × ℕ) (d : R) → first_on pids q ≡ Some x → is (slice_index_or readers x.0 d) x.1
@@ -33,6 +47,7 @@ abbrev pub AllRead : List UnitReader → List ℕ → List (List ℕ) → Type 0
 AllRead readers pids past = AllFirst (λ r pid. Reads r pid past) readers pids
 
 pub record StreamsRead (s : Streams) (pids : List ℕ) (past : List (List ℕ)) : Type 0 where
+  pub places : HasPlaces s.places pids
   pub clock : ClockAt s.clock (high pids past)
   pub readers : AllRead s.readers pids past
 
@@ -41,6 +56,7 @@ abbrev pub AllStartsRead : List StartReader → List ℕ → List (List ℕ) →
 AllStartsRead readers pids past = AllFirst (λ r pid. ReadsStarts r pid past) readers pids
 
 pub record StartsRead (s : Starts) (pids : List ℕ) (past : List (List ℕ)) : Type 0 where
+  pub places : HasPlaces s.places pids
   pub clock : ClockAt s.clock (high pids past)
   pub readers : AllStartsRead s.readers pids past
 

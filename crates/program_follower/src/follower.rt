@@ -189,7 +189,7 @@ fn follow_streams(
         return Ok(None);
     };
     match streams {
-        Some(streams) => match streams.feed(known.streams.as_slice(), packet) {
+        Some(streams) => match streams.feed(packet) {
             Ok(of_stream) => Ok(of_stream),
             Err(fault) => Err(fault),
         },

@@ -101,7 +101,7 @@ fn follow_begins(
         return Ok(());
     };
     match streams {
-        Some(streams) => match streams.feed(known.streams.as_slice(), packet) {
+        Some(streams) => match streams.feed(packet) {
             Ok(()) => Ok(()),
             Err(fault) => Err(fault),
         },

@@ -10,15 +10,17 @@ ghost use Rattle.unit_stream.specs.Clocks.{ClockAt};
 ghost use Rattle.program_follower.specs.Faults.{pids_in};
 ghost use Rattle.program_follower.specs.Streaming.{AllStartsRead, StartsRead, IsOne, begin_fault};
 
-use crate::streams::{first_on, has_scrambled_payload};
+use crate::places::StreamPlaces;
+use crate::streams::has_scrambled_payload;
 use pes_time::Time33;
 use psi_tables::Stream;
 use ts_packet::{Packet, Pid};
 use unit_stream::{Clock, StartReader, UnitFault};
 
 /// Follows the begins of the units of up to eight switched streams, and no packet of a unit behind its first.
-#[derive(Clone, Copy, Debug)]
+#[derive(Drop)]
 pub struct Starts {
+    places: StreamPlaces,
     clock: Clock,
     readers: [StartReader; 8],
 }
@@ -30,6 +32,7 @@ impl Starts {
         ensures { StartsRead result (pids_in streams.now) [] }
     {
         Starts {
+            places: StreamPlaces::new(streams),
             clock: Clock::new(),
             readers: readers_of(streams),
         }
@@ -50,16 +53,15 @@ impl Starts {
     ///
     /// The first of `Scrambled`, `HeaderSplit` and `TimeJump` that applies.
     #[inline(always)]
-    pub fn feed(&mut self, streams: &[Stream], packet: &Packet) -> Result<(), UnitFault>
-        requires { length streams.now ≤ 8 }
-        ensures reads { (past : List (List ℕ)) → StartsRead self.old (pids_in streams.now) past
-            → OnOk result (StartsRead self.new (pids_in streams.now) (packet.now ∷ past)) }
-        ensures ok { (past : List (List ℕ)) → StartsRead self.old (pids_in streams.now) past
-            → OnOk result (unit_fault (pids_in streams.now) packet.now past ≡ None) }
-        ensures err { (past : List (List ℕ)) → StartsRead self.old (pids_in streams.now) past
-            → IfErr result (λ f. unit_fault (pids_in streams.now) packet.now past ≡ Some f) }
+    pub fn feed(&mut self, packet: &Packet) -> Result<(), UnitFault>
+        ensures reads { (pids : List ℕ) (past : List (List ℕ)) → StartsRead self.old pids past
+            → OnOk result (StartsRead self.new pids (packet.now ∷ past)) }
+        ensures ok { (pids : List ℕ) (past : List (List ℕ)) → StartsRead self.old pids past
+            → OnOk result (unit_fault pids packet.now past ≡ None) }
+        ensures err { (pids : List ℕ) (past : List (List ℕ)) → StartsRead self.old pids past
+            → IfErr result (λ f. unit_fault pids packet.now past ≡ Some f) }
     {
-        let Some((index, _)) = first_on(streams, packet) else {
+        let Some(index) = self.places.place_of(packet) else {
             return Ok(());
         };
         if has_scrambled_payload(packet) {

@@ -9,8 +9,9 @@ ghost use Rattle.unit_stream.specs.Times.{high};
 ghost use Rattle.unit_stream.specs.Pieces.{Reads, Brings};
 ghost use Rattle.unit_stream.specs.Clocks.{ClockAt};
 ghost use Rattle.program_follower.specs.Faults.{pids_in};
-ghost use Rattle.program_follower.specs.Streaming.{first_on, AllRead, StreamsRead, IsOne, begin_fault, IsStreamPacket, IsOfStream};
+ghost use Rattle.program_follower.specs.Streaming.{AllRead, StreamsRead, IsOne, begin_fault, IsStreamPacket, IsOfStream};
 
+use crate::places::StreamPlaces;
 use pes_time::Time33;
 use psi_tables::Stream;
 use ts_packet::{Packet, Pid};
@@ -32,8 +33,9 @@ pub enum StreamPacket {
 }
 
 /// Follows the units of up to eight switched streams.
-#[derive(Clone, Copy, Debug)]
+#[derive(Drop)]
 pub struct Streams {
+    places: StreamPlaces,
     clock: Clock,
     readers: [UnitReader; 8],
 }
@@ -45,6 +47,7 @@ impl Streams {
         ensures { StreamsRead result (pids_in streams.now) [] }
     {
         Streams {
+            places: StreamPlaces::new(streams),
             clock: Clock::new(),
             readers: readers_of(streams),
         }
@@ -66,22 +69,17 @@ impl Streams {
     ///
     /// The first of `Scrambled`, `HeaderSplit` and `TimeJump` that applies.
     #[inline(always)]
-    pub fn feed(
-        &mut self,
-        streams: &[Stream],
-        packet: &Packet,
-    ) -> Result<Option<(usize, StreamPacket)>, UnitFault>
-        requires { length streams.now ≤ 8 }
-        ensures reads { (past : List (List ℕ)) → StreamsRead self.old (pids_in streams.now) past
-            → OnOk result (StreamsRead self.new (pids_in streams.now) (packet.now ∷ past)) }
-        ensures ok { (past : List (List ℕ)) → StreamsRead self.old (pids_in streams.now) past
-            → OnOk result (unit_fault (pids_in streams.now) packet.now past ≡ None) }
-        ensures is { (past : List (List ℕ)) → StreamsRead self.old (pids_in streams.now) past
-            → IfOk result (λ x. IsOfStream x (pids_in streams.now) packet.now past) }
-        ensures err { (past : List (List ℕ)) → StreamsRead self.old (pids_in streams.now) past
-            → IfErr result (λ f. unit_fault (pids_in streams.now) packet.now past ≡ Some f) }
+    pub fn feed(&mut self, packet: &Packet) -> Result<Option<(usize, StreamPacket)>, UnitFault>
+        ensures reads { (pids : List ℕ) (past : List (List ℕ)) → StreamsRead self.old pids past
+            → OnOk result (StreamsRead self.new pids (packet.now ∷ past)) }
+        ensures ok { (pids : List ℕ) (past : List (List ℕ)) → StreamsRead self.old pids past
+            → OnOk result (unit_fault pids packet.now past ≡ None) }
+        ensures is { (pids : List ℕ) (past : List (List ℕ)) → StreamsRead self.old pids past
+            → IfOk result (λ x. IsOfStream x pids packet.now past) }
+        ensures err { (pids : List ℕ) (past : List (List ℕ)) → StreamsRead self.old pids past
+            → IfErr result (λ f. unit_fault pids packet.now past ≡ Some f) }
     {
-        let Some((index, _)) = first_on(streams, packet) else {
+        let Some(index) = self.places.place_of(packet) else {
             return Ok(None);
         };
         if has_scrambled_payload(packet) {
@@ -123,25 +121,6 @@ fn stream_packet(clock: &mut Clock, piece: Piece<'_>) -> Result<StreamPacket, Un
         Piece::NoPayload => Ok(StreamPacket::NoPayload),
         Piece::Error => Ok(StreamPacket::NoPayload),
     }
-}
-
-/// The first stream on whose PID the packet is: its number and that PID.
-#[tactic(auto, using(crate::proofs::StreamLemmas::not_shifted, crate::proofs::StreamLemmas::first_here, crate::proofs::StreamLemmas::first_later, crate::proofs::StreamLemmas::first_never))]
-#[inline(always)]
-pub(crate) fn first_on(streams: &[Stream], packet: &Packet) -> Option<(usize, Pid)>
-    requires { length streams.now ≤ 8 }
-    ensures { result ≡ first_on (pids_in streams.now) packet.now }
-{
-    let mut index = 0;
-    let mut rest = streams;
-    while let Some((stream, behind)) = rest.split_first() {
-        if packet.is_on(stream.pid) {
-            return Some((index, stream.pid));
-        }
-        index += 1;
-        rest = behind;
-    }
-    None
 }
 
 /// Whether there is a payload, and it is scrambled.

@@ -2,61 +2,60 @@ use Rattle.std.proofs.Common.{◌≡◌, ℕ, ◌&&◌, false, Some, None, sym, 
 use Rattle.std.specs.Prelude.{option_map}
 use Rattle.pes_time.specs.Line.{ring_of}
 use Rattle.ts_packet.specs.Fields.{payload_on, scrambled}
-use Rattle.program_follower.specs.Faults.{pids_in}
 use Rattle.program_follower.specs.Streaming.{first_on}
-use Rattle.program_follower.proofs.StreamLemmas.{first_is_on, first_within_streams, starts_all_off, starts_all_on, none_fault, none_high, is_one, fault_scrambled, fault_begin, payload_of, some_starts}
+use Rattle.program_follower.proofs.StreamLemmas.{first_is_on, starts_all_off, starts_all_on, none_fault, none_high, is_one, fault_scrambled, fault_begin, payload_of, some_starts}
+use Rattle.program_follower.proofs.PlaceLemmas.{unplaced, placed}
 use Rattle.program_follower.proofs.starts.Starts.feed.Goals as goal
 
 pub returns-in_default-clause-reads : goal.returns-in_default-clause-reads
-returns-in_default-clause-reads c = λ past h.
-    let e : first_on (pids_in c.args.streams.now) c.args.packet.now ≡ None = sym c.first_on.ensures ∙ c.in_default.is in
+returns-in_default-clause-reads c = λ ps past h.
+    let e = unplaced ps c.args.packet.now (sym c.in_default.is ∙ c.place_of.ensures.first ps h.places) in
     record {
-      clock = h.clock ∙ ap (option_map ring_of) (sym (none_high (pids_in c.args.streams.now) c.args.packet.now past e));
-      readers = starts_all_off c.args.self.now.readers (pids_in c.args.streams.now) c.args.packet.now past e h.readers;
+      places = h.places;
+      clock = h.clock ∙ ap (option_map ring_of) (sym (none_high ps c.args.packet.now past e));
+      readers = starts_all_off c.args.self.now.readers ps c.args.packet.now past e h.readers;
     }
 
 pub returns-in_default-clause-ok : goal.returns-in_default-clause-ok
-returns-in_default-clause-ok c = λ past h. none_fault (pids_in c.args.streams.now) c.args.packet.now past (sym c.first_on.ensures ∙ c.in_default.is)
+returns-in_default-clause-ok c = λ ps past h. none_fault ps c.args.packet.now past (unplaced ps c.args.packet.now (sym c.in_default.is ∙ c.place_of.ensures.first ps h.places))
 
 pub returns-then-has_scrambled_payload-clause-err : goal.returns-then-has_scrambled_payload-clause-err
-returns-then-has_scrambled_payload-clause-err c = λ past h.
-    let ps = pids_in c.args.streams.now in
+returns-then-has_scrambled_payload-clause-err c = λ ps past h.
     let p = c.args.packet.now in
-    let x : ℕ × ℕ = (c.in-Some.index, c.in-Some.field-0-1) in
-    let e : first_on ps p ≡ Some x = sym c.first_on.ensures ∙ c.in-Some.is in
+    let at = placed ps p c.in-Some.index (sym c.in-Some.is ∙ c.place_of.ensures.first ps h.places) in
+    let x : ℕ × ℕ = (c.in-Some.index, at.0) in
+    let e : first_on ps p ≡ Some x = at.1 in
     fault_scrambled ps p past x e (ap (λ b. b && scrambled p) (payload_of x.1 p (first_is_on ps p x e)) ∙ sym c.has_scrambled_payload.ensures ∙ c.if-has_scrambled_payload.true)
 
-pub feed_at-begun-requires : goal.feed_at-begun-requires
-feed_at-begun-requires c = first_within_streams c.args.streams.now c.args.packet.now (c.in-Some.index, c.in-Some.field-0-1) 8 (sym c.first_on.ensures ∙ c.in-Some.is) c.requires
-
 pub returns-in-Ok-clause-reads : goal.returns-in-Ok-clause-reads
-returns-in-Ok-clause-reads c = λ past h.
-    let ps = pids_in c.args.streams.now in
+returns-in-Ok-clause-reads c = λ ps past h.
     let p = c.args.packet.now in
-    let x : ℕ × ℕ = (c.in-Some.index, c.in-Some.field-0-1) in
-    let e : first_on ps p ≡ Some x = sym c.first_on.ensures ∙ c.in-Some.is in
+    let at = placed ps p c.in-Some.index (sym c.in-Some.is ∙ c.place_of.ensures.first ps h.places) in
+    let x : ℕ × ℕ = (c.in-Some.index, at.0) in
+    let e : first_on ps p ≡ Some x = at.1 in
     let begins = c.feed_at-begun.ensures.begins some_starts x.1 past (h.readers p x some_starts e) in
     record {
+      places = h.places;
       clock = c.in-Ok.ensures.clock ps x.1 p past (is_one ps p past x e) h.clock begins;
       readers = starts_all_on c.args.self.now.readers c.feed_at-begun.new.readers ps p past x e h.readers c.feed_at-begun.ensures.others c.feed_at-begun.ensures.reads;
     }
 
 pub returns-in-Ok-clause-ok : goal.returns-in-Ok-clause-ok
-returns-in-Ok-clause-ok c = λ past h.
-    let ps = pids_in c.args.streams.now in
+returns-in-Ok-clause-ok c = λ ps past h.
     let p = c.args.packet.now in
-    let x : ℕ × ℕ = (c.in-Some.index, c.in-Some.field-0-1) in
-    let e : first_on ps p ≡ Some x = sym c.first_on.ensures ∙ c.in-Some.is in
+    let at = placed ps p c.in-Some.index (sym c.in-Some.is ∙ c.place_of.ensures.first ps h.places) in
+    let x : ℕ × ℕ = (c.in-Some.index, at.0) in
+    let e : first_on ps p ≡ Some x = at.1 in
     let begins = c.feed_at-begun.ensures.begins some_starts x.1 past (h.readers p x some_starts e) in
     let n : payload_on x.1 p && scrambled p ≡ false = ap (λ b. b && scrambled p) (payload_of x.1 p (first_is_on ps p x e)) ∙ sym c.has_scrambled_payload.ensures ∙ c.if-has_scrambled_payload.false in
     fault_begin ps p past x e None n (c.in-Ok.ensures.sound ps x.1 p past (is_one ps p past x e) h.clock begins)
 
 pub returns-in-Err-clause-err : goal.returns-in-Err-clause-err
-returns-in-Err-clause-err c = λ past h.
-    let ps = pids_in c.args.streams.now in
+returns-in-Err-clause-err c = λ ps past h.
     let p = c.args.packet.now in
-    let x : ℕ × ℕ = (c.in-Some.index, c.in-Some.field-0-1) in
-    let e : first_on ps p ≡ Some x = sym c.first_on.ensures ∙ c.in-Some.is in
+    let at = placed ps p c.in-Some.index (sym c.in-Some.is ∙ c.place_of.ensures.first ps h.places) in
+    let x : ℕ × ℕ = (c.in-Some.index, at.0) in
+    let e : first_on ps p ≡ Some x = at.1 in
     let begins = c.feed_at-begun.ensures.begins some_starts x.1 past (h.readers p x some_starts e) in
     let n : payload_on x.1 p && scrambled p ≡ false = ap (λ b. b && scrambled p) (payload_of x.1 p (first_is_on ps p x e)) ∙ sym c.has_scrambled_payload.ensures ∙ c.if-has_scrambled_payload.false in
     fault_begin ps p past x e (Some c.in-Err.fault) n (c.in-Err.ensures.err ps x.1 p past (is_one ps p past x e) h.clock begins)

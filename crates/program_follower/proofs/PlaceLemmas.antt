@@ -1,0 +1,116 @@
+-- The table of the places of the switched streams.
+use Rattle.std.proofs.Common.{◌≡◌, ℕ, ◌+◌, ◌<◌, ◌≤◌, List, [], ◌∷◌, true, false, not, ◌&&◌, ◌==◌, refl, sym, ap, ◌∙◌, arith, length, if◌then◌else◌, Option, Some, None}
+use Rattle.std.specs.Prelude.{option_map, ◌≢◌, slice_index_or, drop, replicate}
+use Rattle.std.proofs.lemmas.Bool.{eqb-true, eq-eqb}
+use Rattle.std.proofs.Math.ListN.{set}
+use Rattle.std.proofs.Math.Seq.{drop-length}
+use Rattle.std.proofs.lemmas.List.{get_or-set_same, get_or-set_other, get_or-replicate, at_drop_more}
+use Rattle.ts_packet.specs.Fields.{in_error, pid_of, on}
+use Rattle.ts_packet.proofs.Cases.{by_test}
+use Rattle.psi_tables.specs.declared.stream.Stream.{Stream}
+use Rattle.program_follower.specs.Faults.{pids_in}
+use Rattle.program_follower.specs.Streaming.{next_place, first_on, place_in, numbered, HasPlaces}
+use Rattle.program_follower.proofs.StreamLemmas.{on_parts}
+
+-- ---- the numbers
+
+-- each number is that of one of eight places, or 0
+abbrev pub AreNumbers : List ℕ → Type 0
+AreNumbers numbers = (pid : ℕ) → pid < 8192 → slice_index_or numbers pid 0 ≤ 8
+
+zero_within : (n : ℕ) → n ≡ 0 → n ≤ 8
+zero_within n e = omega arith
+
+pub zeros_are : AreNumbers (replicate 8192 0)
+zeros_are pid h = zero_within (slice_index_or (replicate 8192 0) pid 0) (get_or-replicate 8192 pid 0 0 h)
+
+pub set_are : (numbers : List ℕ) (i v : ℕ) → i < length numbers → v ≤ 8 → AreNumbers numbers → AreNumbers (set numbers i v)
+set_are numbers i v lt le are pid h =
+    by_test (pid == i)
+    (λ y. let e = ap (λ (k : ℕ). slice_index_or (set numbers i v) k 0) (eqb-true pid i y) ∙ get_or-set_same numbers i v 0 lt in omega arith)
+    (λ n. let apart : pid ≢ i = (λ e. let k = eq-eqb pid i e in absurd (cc)) in let e = get_or-set_other numbers i pid v 0 apart in let a = are pid h in omega arith)
+
+-- ---- the places, from the last stream to the first
+
+-- of some streams, behind this many
+abbrev pub farther : ℕ → Option ℕ → Option ℕ
+farther n o = option_map (λ (place : ℕ). n + place) o
+
+-- the table has the places of the streams from this one on
+abbrev pub HasPlacesFrom : List ℕ → List Stream → ℕ → Type 0
+HasPlacesFrom numbers ss n = (p : List ℕ) → in_error p ≡ false → pid_of p < 8192
+    → slice_index_or numbers (pid_of p) 0 ≡ numbered (farther n (place_in (pids_in (drop n ss)) p))
+
+pub no_places : (ss : List Stream) (n : ℕ) → n ≡ length ss → HasPlacesFrom (replicate 8192 0) ss n
+no_places ss n e p good h =
+    let none : drop n ss ≡ [] = ap (λ (k : ℕ). drop k ss) e ∙ drop-length ss in
+    get_or-replicate 8192 (pid_of p) 0 0 h ∙ sym (ap (λ (xs : List Stream). numbered (farther n (place_in (pids_in xs) p))) none)
+
+next_numbered : (n : ℕ) (o : Option (ℕ × ℕ)) → numbered (farther (n + 1) (option_map (λ (x : ℕ × ℕ). x.0) o)) ≡ numbered (farther n (option_map (λ (x : ℕ × ℕ). x.0) (option_map next_place o)))
+next_numbered n None = refl
+next_numbered n (Some x) = let e : (n + 1) + x.0 + 1 ≡ n + (x.0 + 1) + 1 = omega arith in e
+
+module _ (p : List ℕ) (good : in_error p ≡ false) where
+  on_good : (pid : ℕ) → pid_of p ≡ pid → on pid p ≡ true
+  unfolding on
+  on_good pid e = ap (λ b. not b && (pid_of p == pid)) good ∙ eq-eqb (pid_of p) pid e
+
+  number_here : (s : Stream) (rest : List Stream) (n : ℕ) → on s.pid p ≡ true → n + 1 ≡ numbered (farther n (place_in (pids_in (s ∷ rest)) p))
+  number_here s rest n y =
+      let a : first_on (pids_in (s ∷ rest)) p ≡ Some (0, s.pid) = simp y refl in
+      let k : n + 1 ≡ n + 0 + 1 = omega arith in
+      k ∙ sym (ap (λ (o : Option (ℕ × ℕ)). numbered (farther n (option_map (λ (x : ℕ × ℕ). x.0) o))) a)
+
+  number_later : (s : Stream) (rest : List Stream) (n : ℕ) → on s.pid p ≡ false
+      → numbered (farther (n + 1) (place_in (pids_in rest) p)) ≡ numbered (farther n (place_in (pids_in (s ∷ rest)) p))
+  number_later s rest n y =
+      let a : first_on (pids_in (s ∷ rest)) p ≡ option_map next_place (first_on (pids_in rest) p) = simp y refl in
+      next_numbered n (first_on (pids_in rest) p) ∙ sym (ap (λ (o : Option (ℕ × ℕ)). numbered (farther n (option_map (λ (x : ℕ × ℕ). x.0) o))) a)
+
+-- one stream more
+pub one_place : (ss : List Stream) (numbers : List ℕ) (n m pid : ℕ) (s : Stream) → n < length ss → pid < length numbers → pid ≡ (slice_index_or ss n s).pid → m ≡ n + 1
+    → HasPlacesFrom numbers ss m → HasPlacesFrom (set numbers pid (n + 1)) ss n
+one_place ss numbers n m pid s lt within is next has p good h =
+    let t : Stream = slice_index_or ss n s in
+    let parts = at_drop_more (λ (xs : List Stream). numbered (farther n (place_in (pids_in xs) p))) ss n s lt in
+    by_test (on t.pid p)
+    (λ y. ap (λ (k : ℕ). slice_index_or (set numbers pid (n + 1)) k 0) ((on_parts t.pid p y).1 ∙ sym is) ∙ get_or-set_same numbers pid (n + 1) 0 within
+        ∙ number_here p good t (drop (n + 1) ss) n y ∙ sym parts)
+    (λ z. let apart : pid_of p ≢ pid = (λ e. let k = on_good p good t.pid (e ∙ is) in absurd (cc)) in
+    get_or-set_other numbers pid (pid_of p) (n + 1) 0 apart ∙ has p good h ∙ ap (λ (k : ℕ). numbered (farther k (place_in (pids_in (drop k ss)) p))) next
+        ∙ number_later p good t (drop (n + 1) ss) n z ∙ sym parts)
+
+same_farther : (o : Option ℕ) → numbered (farther 0 o) ≡ numbered o
+same_farther None = refl
+same_farther (Some k) = let e : 0 + k + 1 ≡ k + 1 = omega arith in e
+
+pub all_places : (ss : List Stream) (numbers : List ℕ) (n : ℕ) → n ≡ 0 → HasPlacesFrom numbers ss n → HasPlaces numbers (pids_in ss)
+all_places ss numbers n e has p good h =
+    has p good h
+    ∙ ap (λ (k : ℕ). numbered (farther k (place_in (pids_in (drop k ss)) p))) e
+    ∙ same_farther (place_in (pids_in ss) p)
+
+-- ---- a place that is looked up
+
+-- a packet that is marked in error has none
+pub no_place : (pids : List ℕ) (p : List ℕ) → in_error p ≡ true → None ≡ place_in pids p
+unfolding on
+no_place pids p bad = ap (option_map (λ (x : ℕ × ℕ). x.0)) (sym (none_first pids)) where
+  off : (pid : ℕ) → on pid p ≡ false
+  off pid = ap (λ b. not b && (pid_of p == pid)) bad
+  none_first : (pids : List ℕ) → first_on pids p ≡ None
+  none_first [] = refl
+  none_first (pid ∷ pids) = ap (λ b. if b then Some (0, pid) else option_map next_place (first_on pids p)) (off pid) ∙ ap (option_map next_place) (none_first pids)
+
+-- a place is that of the first PID
+pub unplaced : (pids : List ℕ) (p : List ℕ) → None ≡ place_in pids p → first_on pids p ≡ None
+unplaced pids p h = none_by (first_on pids p) h where
+  none_by : (o : Option (ℕ × ℕ)) → None ≡ option_map (λ (x : ℕ × ℕ). x.0) o → o ≡ None
+  none_by None h = refl
+  none_by (Some x) h = absurd (cc)
+
+pub placed : (pids : List ℕ) (p : List ℕ) (i : ℕ) → Some i ≡ place_in pids p → (pid : ℕ) × (first_on pids p ≡ Some (i, pid))
+placed pids p i h = some_by (first_on pids p) h where
+  some_by : (o : Option (ℕ × ℕ)) → Some i ≡ option_map (λ (x : ℕ × ℕ). x.0) o → (pid : ℕ) × (o ≡ Some (i, pid))
+  some_by None h = absurd (cc)
+  some_by (Some x) h = (x.1, let e : i ≡ x.0 = cc in ap (λ (k : ℕ). let y : Option (ℕ × ℕ) = Some (k, x.1) in y) (sym e))
