@@ -248,12 +248,16 @@ found high first (x ∷ xs) rest a is = by (waits_ahead high x) refl is (λ ahea
         )
 
 pub rest-found : (table : Table Plan) → is_rest (first_rest table) table ≡ true
-rest-found table = by (high_of table) refl (first_rest table) refl
+rest-found table = by (first_rest table) refl
   where
-    by : (o : Option ℕ) → high_of table ≡ o → (q : Option ℕ) → rest_by o table.entries.items ≡ q → is_rest q table ≡ true
-    by o high None is = refl
-    by None high (Some r) is = absurd (none-some r is)
-    by (Some h) high (Some r) is = subst (λ o. all_wait_until r o table.entries.items ≡ true) (sym high) (found h None table.entries.items r tt is).2
+    all : (r : ℕ) (o : Option ℕ) (xs : List Held) → rest_by o xs ≡ Some r → all_wait_until r o xs ≡ true
+    all r None xs is = absurd (none-some r is)
+    all r (Some high) [] is = refl
+    all r (Some high) (x ∷ xs) is = (found high None (x ∷ xs) r tt is).2
+
+    by : (q : Option ℕ) → first_rest table ≡ q → is_rest q table ≡ true
+    by None is = refl
+    by (Some r) is = all r (high_of table) table.entries.items is
 
 pub rest-there : (table seen : Table Plan) (rest : Option ℕ) → rest ≡ first_rest seen → seen ≡ table → is_rest rest table ≡ true
 rest-there table seen rest is same = ap (λ r. is_rest r table) is ∙ ap (λ t. is_rest (first_rest t) table) same ∙ rest-found table

@@ -1,5 +1,5 @@
 -- Until when the events that stand wait: up to the earliest of their starts, where none has begun in a stream.
-use Rattle.std.specs.Prelude.{ℕ, List, [], ◌∷◌, Bool, true, false, ◌&&◌, if◌then◌else◌, ℤ, pos, int_le, int_lt, Option, None, Some}
+use Rattle.std.specs.Prelude.{ℕ, ◌+◌, ◌%◌, ◌^◌, List, [], ◌∷◌, Bool, true, false, ◌&&◌, if◌then◌else◌, ℤ, pos, int_le, int_lt, Option, None, Some}
 use Rattle.std.specs.List.{list_all}
 use Rattle.pes_time.specs.Line.{signed, place}
 use Rattle.event_table.specs.Rings.{is_before_on_ring}
@@ -27,11 +27,17 @@ rest_behind high first [] = first
 rest_behind high first (entry ∷ entries) =
     if waits_ahead high entry then rest_behind high (Some (first_start high first entry.event.start)) entries else None
 
+-- where no event stands, any time will do: this one is half of what lies ahead on the ring past the greatest time
+abbrev pub far_ahead : ℕ → ℕ
+far_ahead high = (high + 2 ^ 31) % 2 ^ 33
+
 abbrev pub rest_by : Option ℕ → List (Entry Plan) → Option ℕ
 rest_by None entries = None
-rest_by (Some high) entries = rest_behind high None entries
+rest_by (Some high) [] = Some (far_ahead high)
+rest_by (Some high) (entry ∷ entries) = rest_behind high None (entry ∷ entries)
 
--- the first start of all that stand, where each waits in all streams and starts past the greatest time
+-- the first start of all that stand, where each waits in all streams and starts past the greatest time, or a time far ahead where none
+-- stands
 abbrev pub first_rest : Table Plan → Option ℕ
 first_rest table = rest_by (high_of table) table.entries.items
 

@@ -29,6 +29,10 @@ use splice_plans::{
 };
 use ts_packet::{Packet, PacketSink, PutFault};
 
+/// Where no event stands, none is looked at before a time this far past the greatest one, in ticks of 90 kHz: half of what lies ahead
+/// on the ring.
+const FAR_AHEAD: u64 = 1 << 31;
+
 /// The events that stand, with their plans, the streams, and what became of the events that are forgotten.
 #[derive(Drop)]
 pub struct Playing {
@@ -382,6 +386,7 @@ impl Playing {
     }
 
     /// Puts a payload packet of the stream of this number, a duplicate or not, or its clock reference where its unit lies in a played event.
+    #[inline(always)]
     pub fn put_packet<S: PacketSink>(
         &mut self,
         stream: usize,
@@ -414,6 +419,7 @@ impl Playing {
     }
 
     /// Puts a packet of the stream of this number that stays whatever is played: one without payload, or one before the first unit.
+    #[inline(always)]
     pub fn keep<S: PacketSink>(
         &mut self,
         stream: usize,
@@ -478,13 +484,17 @@ impl Playing {
     }
 }
 
-/// The first start of the events that stand, where each waits in all streams and starts past the greatest time.
+/// The first start of the events that stand, where each waits in all streams and starts past the greatest time, or a time far ahead
+/// where none stands.
 fn first_rest(table: &Table<Plan>) -> Option<Time33>
     ensures { result ≡ first_rest table.now }
 {
     let Some(high) = table.high() else {
         return None;
     };
+    if table.standing().is_empty() {
+        return Some(high.plus(FAR_AHEAD));
+    }
     let mut first: Option<Time33> = None;
     for at in 0..table.standing().len() {
         if !waits_ahead(table, at, high) {
