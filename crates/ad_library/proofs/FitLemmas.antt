@@ -3,15 +3,15 @@ use Rattle.std.proofs.Common.{◌≡◌, ℕ, zero, suc, ◌+◌, ◌-◌, ◌<�
 use Rattle.std.specs.Prelude.{filter, slice_get}
 use Rattle.ts_packet.proofs.Cases.{by_test}
 use Rattle.psi_tables.specs.declared.stream.Stream.{Stream}
-use Rattle.ad_library.specs.Advertisements.{AdvertStream, Advertisement, is_of_kind, one_if, stream_at, reaches, fits_behind, count_of_kind}
+use Rattle.ad_library.specs.Advertisements.{AdvertStream, Advertisement, is_of_kind, one_of_kind, stream_at, reaches, fits_behind, count_of_kind}
 
-one_yes : (a b : ℕ) → (a == b) ≡ true → one_if a b ≡ 1
+one_yes : (a b : ℕ) → (a == b) ≡ true → one_of_kind a b ≡ 1
 one_yes a b y = ap (λ c. if c then 1 else 0) y
 
-one_no : (a b : ℕ) → (a == b) ≡ false → one_if a b ≡ 0
+one_no : (a b : ℕ) → (a == b) ≡ false → one_of_kind a b ≡ 0
 one_no a b n = ap (λ c. if c then 1 else 0) n
 
-module _ {X : Type 0} (seen : X → AdvertStream) (kind : ℕ) (rest behind : List X) (s : X) (before one : ℕ) (e : rest ≡ s ∷ behind) (is : one ≡ one_if (seen s).kind kind) where
+module _ {X : Type 0} (seen : X → AdvertStream) (kind : ℕ) (rest behind : List X) (s : X) (before one : ℕ) (e : rest ≡ s ∷ behind) (is : one ≡ one_of_kind (seen s).kind kind) where
   abbrev at : List X → ℕ → Option AdvertStream
   at xs n = slice_get (filter (is_of_kind kind) (map seen xs)) n
 

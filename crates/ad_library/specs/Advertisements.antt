@@ -125,12 +125,12 @@ reaches length None = false
 reaches length (Some s) = list_any (reaches_end length) s.units
 
 -- how many streams of this type there are
-abbrev pub one_if : ℕ → ℕ → ℕ
-one_if a b = if a == b then 1 else 0
+abbrev pub one_of_kind : ℕ → ℕ → ℕ
+one_of_kind a b = if a == b then 1 else 0
 
 abbrev pub count_of_kind : ℕ → List Stream → ℕ
 count_of_kind kind [] = 0
-count_of_kind kind (s ∷ ss) = one_if s.kind kind + count_of_kind kind ss
+count_of_kind kind (s ∷ ss) = one_of_kind s.kind kind + count_of_kind kind ss
 
 -- each of these streams, behind those before it, has its stream in the advertisement, which reaches the end
 abbrev pub fits_behind : Advertisement → ℕ → List Stream → List Stream → Bool

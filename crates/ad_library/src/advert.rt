@@ -1,7 +1,7 @@
 //! A filed advertisement.
 
 ghost use Rattle.std.specs.Prelude.{◌≡◌, ◌≤◌, ◌<◌, List, length, drop, map, slice_get, option_map, IfSome, OnSome, Option, Some, None, true};
-ghost use Rattle.ad_library.specs.Advertisements.{AdvertStream, stream_at, slice, reaches, reaches_end, fits, fits_behind, one_if, count_of_kind};
+ghost use Rattle.ad_library.specs.Advertisements.{AdvertStream, stream_at, slice, reaches, reaches_end, fits, fits_behind, one_of_kind, count_of_kind};
 ghost use Rattle.std.specs.List.{list_all};
 ghost use Rattle.ad_library.specs.Zeros.{has_zero};
 
@@ -31,7 +31,7 @@ impl<A: Allocator> Advert<A> {
         let mut before = k;
         let mut rest = self.streams.as_slice();
         while let Some((stream, behind)) = rest.split_first() {
-            let one = one_if(stream.kind, kind);
+            let one = one_of_kind(stream.kind, kind);
             if before < one {
                 return Some(stream);
             }
@@ -79,8 +79,8 @@ impl<A: Allocator> Advert<A> {
 }
 
 /// One, where the types are the same.
-fn one_if(kind: u8, other: u8) -> usize
-    ensures value { result ≡ one_if kind other }
+fn one_of_kind(kind: u8, other: u8) -> usize
+    ensures value { result ≡ one_of_kind kind other }
     ensures small { result ≤ 1 }
 {
     if kind == other { 1 } else { 0 }
@@ -93,7 +93,7 @@ pub fn count_of_kind(kind: u8, streams: &[Stream]) -> usize
     let mut count = 0;
     let mut rest = streams;
     while let Some((stream, behind)) = rest.split_first() {
-        count += one_if(stream.kind, kind);
+        count += one_of_kind(stream.kind, kind);
         rest = behind;
     }
     count

@@ -21,7 +21,7 @@ pub(crate) struct Obeyed<T> {
 
 impl<T: Copy + Default> Obeyed<T> {
     ghost use Rattle.event_table.specs.Standing.{Standing, on_line};
-    ghost use Rattle.event_table.specs.Tables.{StandsFor, high_of, values_of};
+    ghost use Rattle.event_table.specs.Tables.{StandsFor, high_time_of, values_of};
     ghost use Rattle.armed_events.specs.Arming.{change, start_change, end_change, cancel_change};
     ghost use Rattle.armed_events.specs.Arming.{standing_at, Heard, with_section, with_sections};
     ghost use Rattle.armed_events.specs.Obeying.{after_change, is_obeyed, ObeyedFor};
@@ -39,7 +39,7 @@ impl<T: Copy + Default> Obeyed<T> {
             values_of self.old.table ≡ values_by value standing →
             values_of self.new.table ≡ values_by value (after_change (start_change line standing (on_line line event)) standing) }
         ensures ignored { self.new.ignored ≡ self.old.ignored }
-        ensures high { high_of self.new.table ≡ high_of self.old.table }
+        ensures high { high_time_of self.new.table ≡ high_time_of self.old.table }
     {
         if self.table.is_repeat(&event) {
             return true;
@@ -60,7 +60,7 @@ impl<T: Copy + Default> Obeyed<T> {
             values_of self.old.table ≡ values_by value standing →
             values_of self.new.table ≡ values_by value (after_change (end_change line standing id (place line time)) standing) }
         ensures ignored { self.new.ignored ≡ self.old.ignored }
-        ensures high { high_of self.new.table ≡ high_of self.old.table }
+        ensures high { high_time_of self.new.table ≡ high_time_of self.old.table }
     {
         self.table.shorten(id, time).is_ok()
     }
@@ -75,7 +75,7 @@ impl<T: Copy + Default> Obeyed<T> {
             values_of self.old.table ≡ values_by value standing →
             values_of self.new.table ≡ values_by value (after_change (cancel_change line standing id) standing) }
         ensures ignored { self.new.ignored ≡ self.old.ignored }
-        ensures high { high_of self.new.table ≡ high_of self.old.table }
+        ensures high { high_time_of self.new.table ≡ high_time_of self.old.table }
     {
         self.table.cancel(id).is_ok()
     }
@@ -91,7 +91,7 @@ impl<T: Copy + Default> Obeyed<T> {
             values_of self.old.table ≡ values_by value standing →
             values_of self.new.table ≡ values_by value (after_change (change line standing asked) standing) }
         ensures ignored { self.new.ignored ≡ self.old.ignored }
-        ensures high { high_of self.new.table ≡ high_of self.old.table }
+        ensures high { high_time_of self.new.table ≡ high_time_of self.old.table }
     {
         match asked {
             Asked::Start(event) => self.start(event, fresh),
@@ -109,7 +109,7 @@ impl<T: Copy + Default> Obeyed<T> {
         ensures values { (line : Option ℤ) (heard : Heard) (value : ℤ → T) → ObeyedFor self.old line heard →
             IsFreshAhead value line fresh →
             AreBeside self.old value line heard → AreBeside self.new value line (with_section line section.now heard) }
-        ensures high { high_of self.new.table ≡ high_of self.old.table }
+        ensures high { high_time_of self.new.table ≡ high_time_of self.old.table }
     {
         let is_obeyed = self.obey(asked_of(&read(section)), fresh);
         if !is_obeyed {
@@ -125,7 +125,7 @@ impl<T: Copy + Default> Obeyed<T> {
             IsFreshAhead value line fresh →
             AreBeside self.old value line heard →
             AreBeside self.new value line (with_sections line (sections_left sections.entry) heard) }
-        ensures high { high_of self.new.table ≡ high_of self.old.table }
+        ensures high { high_time_of self.new.table ≡ high_time_of self.old.table }
     {
         for section in sections {
             self.take(section, fresh);
@@ -147,7 +147,7 @@ impl<T: Copy + Default> ArmedEvents<T> {
     ghost use Rattle.ts_packet.specs.Fields.{on};
     ghost use Rattle.event_table.specs.Rings.{CanAdvance};
     ghost use Rattle.event_table.specs.Standing.{Standing, IsTimeAt, still_standing};
-    ghost use Rattle.event_table.specs.Tables.{StandsFor, high_of, events_of, values_of};
+    ghost use Rattle.event_table.specs.Tables.{StandsFor, high_time_of, events_of, values_of};
     ghost use Rattle.psi_section.specs.Assembling.{IsOf, IsReady, capped};
     ghost use Rattle.armed_events.specs.Arming.{standing, ignored};
     ghost use Rattle.armed_events.specs.Obeying.{Obeys};
@@ -159,7 +159,7 @@ impl<T: Copy + Default> ArmedEvents<T> {
         ensures values { (pid : ℕ) (high : List (List ℕ) → Option ℤ) (value : ℤ → T) → high [] ≡ None →
             Keeps result value pid high [] }
         ensures ready { IsReady result.assembler }
-        ensures high { high_of result.obeyed.table ≡ None }
+        ensures high { high_time_of result.obeyed.table ≡ None }
     {
         ArmedEvents {
             assembler: Assembler::new(),
@@ -181,7 +181,7 @@ impl<T: Copy + Default> ArmedEvents<T> {
             high (packet.now ∷ past) ≡ high past → Obeys self.old pid high past → IsFreshAhead value (high past) fresh →
             Keeps self.old value pid high past → Keeps self.new value pid high (packet.now ∷ past) }
         ensures ready { IsReady self.new.assembler }
-        ensures high { high_of self.new.obeyed.table ≡ high_of self.old.obeyed.table }
+        ensures high { high_time_of self.new.obeyed.table ≡ high_time_of self.old.obeyed.table }
     {
         self.assembler.feed(packet);
         self.obeyed.take_all(self.assembler.sections(), fresh);
@@ -190,7 +190,7 @@ impl<T: Copy + Default> ArmedEvents<T> {
 
     /// Takes this time as the high time, where a packet of another PID raises it.
     pub fn advance(&mut self, high: Time33)
-        requires { CanAdvance (high_of self.old.obeyed.table) high }
+        requires { CanAdvance (high_time_of self.old.obeyed.table) high }
         ensures obeys { (pid : ℕ) (high_in : List (List ℕ) → Option ℤ) (p : List ℕ) (past : List (List ℕ)) (later : ℤ) →
             on pid p ≡ false → IsTimeAt (high_in past) high later → high_in (p ∷ past) ≡ Some later →
             Obeys self.old pid high_in past → Obeys self.new pid high_in (p ∷ past) }
@@ -199,14 +199,14 @@ impl<T: Copy + Default> ArmedEvents<T> {
             Obeys self.old pid high_in past →
             Keeps self.old value pid high_in past → Keeps self.new value pid high_in (p ∷ past) }
         ensures assembler { self.new.assembler ≡ self.old.assembler }
-        ensures high { high_of self.new.obeyed.table ≡ Some high }
+        ensures high { high_time_of self.new.obeyed.table ≡ Some high }
     {
         self.obeyed.table.advance(high);
     }
 
     /// Takes this time as the high time, where a packet of another PID raises it and it forgets no event. None is looked at.
     pub fn advance_keeping_all(&mut self, high: Time33)
-        requires { CanAdvance (high_of self.old.obeyed.table) high }
+        requires { CanAdvance (high_time_of self.old.obeyed.table) high }
         ensures obeys { (pid : ℕ) (high_in : List (List ℕ) → Option ℤ) (p : List ℕ) (past : List (List ℕ)) (later : ℤ) →
             on pid p ≡ false → IsTimeAt (high_in past) high later → high_in (p ∷ past) ≡ Some later →
             still_standing later (standing pid high_in past) ≡ standing pid high_in past →
@@ -218,7 +218,7 @@ impl<T: Copy + Default> ArmedEvents<T> {
             Keeps self.old value pid high_in past → Keeps self.new value pid high_in (p ∷ past) }
         ensures entries { self.new.obeyed.table.entries ≡ self.old.obeyed.table.entries }
         ensures assembler { self.new.assembler ≡ self.old.assembler }
-        ensures high { high_of self.new.obeyed.table ≡ Some high }
+        ensures high { high_time_of self.new.obeyed.table ≡ Some high }
     {
         self.obeyed.table.advance_keeping_all(high);
     }
@@ -231,7 +231,7 @@ impl<T: Copy + Default> ArmedEvents<T> {
         ensures obeys { (pid : ℕ) (high : List (List ℕ) → Option ℤ) (past : List (List ℕ)) → Obeys self.old pid high past →
             Obeys self.new pid high past }
         ensures assembler { self.new.assembler ≡ self.old.assembler }
-        ensures high { high_of self.new.obeyed.table ≡ high_of self.old.obeyed.table }
+        ensures high { high_time_of self.new.obeyed.table ≡ high_time_of self.old.obeyed.table }
     {
         self.obeyed.table.set_value(place, value);
     }

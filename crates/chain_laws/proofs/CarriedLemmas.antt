@@ -37,7 +37,8 @@ use Rattle.splice_plans.proofs.AdvertLemmas.{libraries_are_steady}
 use Rattle.splice_plans.proofs.HistoryLemmas.{armed_is_history}
 use Rattle.switch_laws.specs.Laws.{ArePackets, IsPlayable}
 use Rattle.switch_laws.specs.Moving.{intervals, sent_in_all}
-use Rattle.switch_laws.specs.Whole.{adverts_at, ArePacked, HavePids, TablesAreApart, IsSwitchedOnce, breaks, slices, placed_in}
+use Rattle.splice_plans.specs.Known.{adverts_at}
+use Rattle.switch_laws.specs.Whole.{ArePacked, HavePids, TablesAreApart, IsSwitchedOnce, breaks, slices, placed_in}
 use Rattle.switch_laws.specs.Slices.{IsWholeSlice}
 use Rattle.switch_laws.proofs.IntervalLemmas.{intervals-ordered}
 use Rattle.switch_laws.proofs.SliceLemmas.{slices_are_whole}

@@ -17,7 +17,8 @@ use Rattle.splice_plans.specs.Playing.{Adverts}
 use Rattle.splice_plans.specs.Adverts.{packed_units, setting_of}
 use Rattle.splice_plans.specs.Switching.{Setting, switched_at, spliced_network}
 use Rattle.switch_laws.specs.Laws.{ArePackets}
-use Rattle.switch_laws.specs.Whole.{adverts_at, HavePids, TablesAreApart}
+use Rattle.splice_plans.specs.Known.{adverts_at}
+use Rattle.switch_laws.specs.Whole.{HavePids, TablesAreApart}
 use Rattle.switch_laws.specs.Clocks.{listed_clock, clock_on, clocks, HasNoClock, HaveNoClocks}
 use Rattle.switch_laws.proofs.ClockLemmas.{clocks_stay}
 use Rattle.switch_laws.proofs.StreamLemmas.{all-reversed}

@@ -46,7 +46,8 @@ use Rattle.output_laws.proofs.GaplessLemmas.{test-true}
 use Rattle.output_laws.proofs.StepLemmas.{test-same, pid_is}
 use Rattle.splice_plans.specs.Adverts.{packed_units, setting_of}
 use Rattle.splice_plans.specs.Switching.{Setting, switched_at, history_at, front_at, place_at, place_of, front_of, rest_at, switching, switched_past, is_switched, end_of_run}
-use Rattle.switch_laws.specs.Whole.{adverts_at, ArePacked, HavePids}
+use Rattle.splice_plans.specs.Known.{adverts_at}
+use Rattle.switch_laws.specs.Whole.{ArePacked, HavePids}
 use Rattle.switch_laws.proofs.FaultlessLemmas.{first-sound}
 use Rattle.switch_laws.proofs.OtherLemmas.{front-off, end-off, place-off}
 use Rattle.switch_laws.proofs.WholeLemmas.{reverse-onto, packets-each, listed-later, known-later, adverts-same, switched-same, none-switched, not-behind, is-behind}

@@ -32,7 +32,8 @@ use Rattle.splice_plans.specs.Reporting.{EventCounts, is_not_fitted, is_uncondit
 use Rattle.splice_plans.specs.Switching.{Setting, switched_at, streams_at, events_at, spliced_network}
 use Rattle.splice_plans.proofs.AdvertLemmas.{libraries_are_steady}
 use Rattle.switch_laws.specs.Laws.{ArePackets}
-use Rattle.switch_laws.specs.Whole.{adverts_at, ArePacked, HavePids, pmt_pids, table_pids}
+use Rattle.splice_plans.specs.Known.{adverts_at}
+use Rattle.switch_laws.specs.Whole.{ArePacked, HavePids, pmt_pids, table_pids}
 use Rattle.switch_laws.specs.Standing.{touched}
 use Rattle.switch_laws.proofs.NoneLemmas.{nothing_is_played, no_packet_changes, no_program}
 use Rattle.switch_laws.proofs.OtherLemmas.{others_stay}

@@ -7,8 +7,8 @@ use Rattle.event_table.specs.Standing.{Standing, on_ring, IsWithin, IsApart}
 
 module _ {T : Type 0} where
   -- the last high time on the ring, or none before the first
-  abbrev pub high_of : Table T → Option ℕ
-  high_of table = table.last
+  abbrev pub high_time_of : Table T → Option ℕ
+  high_time_of table = table.last
 
   -- the events, in order of arming
   abbrev pub events_of : Table T → List Event
@@ -21,7 +21,7 @@ module _ {T : Type 0} where
 -- The table stands for a list of events on the line, in order of arming, and an integer high time: both stand on the ring where the table
 -- says, no two events meet or share an id, and each is within reach of the high time.
 pub record StandsFor {T : Type 0} (table : Table T) (line : Option ℤ) (standing : List Standing) : Type 0 where
-  pub high : high_of table ≡ option_map ring_of line
+  pub high : high_time_of table ≡ option_map ring_of line
   pub events : events_of table ≡ map on_ring standing
   pub within : All (IsWithin line) standing
   pub apart : AllPairs IsApart standing

@@ -96,12 +96,12 @@ impl<T: Copy + Default> Table<T> {
     ghost use Rattle.event_table.specs.Events.{CanArm, meets_on_ring, repeats_on_ring, covers_on_ring};
     ghost use Rattle.event_table.specs.Standing.{Standing, on_ring, on_line, covers, repeats, has_id, arm_answer, cancel_answer, shorten_answer};
     ghost use Rattle.event_table.specs.Standing.{with_cancelled, with_end, still_standing, forgotten_at, IsTimeAt};
-    ghost use Rattle.event_table.specs.Tables.{StandsFor, high_of, events_of, values_of};
+    ghost use Rattle.event_table.specs.Tables.{StandsFor, high_time_of, events_of, values_of};
 
     /// A table with no event and no high time.
     pub fn new() -> Table<T>
         ensures stands { StandsFor result None [] }
-        ensures high { high_of result ≡ None }
+        ensures high { high_time_of result ≡ None }
         ensures values { values_of result ≡ [] }
     {
         Table {
@@ -112,7 +112,7 @@ impl<T: Copy + Default> Table<T> {
 
     /// The last high time, or `None` before the first call of [`Table::advance`].
     pub fn high(&self) -> Option<Time33>
-        ensures value { result ≡ high_of self.now }
+        ensures value { result ≡ high_time_of self.now }
         ensures line { (line : Option ℤ) (standing : List Standing) → StandsFor self.now line standing →
             result ≡ option_map ring_of line }
     {
@@ -154,7 +154,7 @@ impl<T: Copy + Default> Table<T> {
         ensures events { events_of self.new ≡ events_of self.old }
         ensures stands { (line : Option ℤ) (standing : List Standing) → StandsFor self.old line standing →
             StandsFor self.new line standing }
-        ensures high { high_of self.new ≡ high_of self.old }
+        ensures high { high_time_of self.new ≡ high_time_of self.old }
     {
         let entry = self.entry_at(place);
         let event = entry.event;
@@ -164,7 +164,7 @@ impl<T: Copy + Default> Table<T> {
     /// Whether the event may be given to [`Table::arm`]: there is a high time, the start lies 1 to 2^29 ticks past it, the length is the
     /// one asked for, of 1 to 2^30 ticks, and it is not cancelled.
     pub fn can_arm(&self, event: &Event) -> bool
-        ensures { IsTrue result ↔ CanArm (high_of self.now) event.now }
+        ensures { IsTrue result ↔ CanArm (high_time_of self.now) event.now }
     {
         match self.high() {
             Some(high) => event.is_fresh() && is_ahead(event.start, high),
@@ -184,7 +184,7 @@ impl<T: Copy + Default> Table<T> {
     /// Arms an event: it stands from now on, after all others, with the value beside it. A repeat of an event that stands is `Same` and
     /// changes nothing.
     pub fn arm(&mut self, event: Event, value: T) -> Result<Armed, ArmRefusal>
-        requires { CanArm (high_of self.old) event }
+        requires { CanArm (high_time_of self.old) event }
         ensures answer { (line : Option ℤ) (standing : List Standing) → StandsFor self.old line standing →
             result ≡ arm_answer standing (on_line line event) }
         ensures new { result ≡ Ok Armed.New →
@@ -193,7 +193,7 @@ impl<T: Copy + Default> Table<T> {
         ensures value { result ≡ Ok Armed.New → values_of self.new ≡ values_of self.old ++ value ∷ [] }
         ensures same { result ≡ Ok Armed.Same → self.new ≡ self.old }
         ensures refused { OnErr result (self.new ≡ self.old) }
-        ensures high { high_of self.new ≡ high_of self.old }
+        ensures high { high_time_of self.new ≡ high_time_of self.old }
     {
         if self.is_repeat(&event) {
             return Ok(Armed::Same);
@@ -221,7 +221,7 @@ impl<T: Copy + Default> Table<T> {
             StandsFor self.new line (with_cancelled id standing) }
         ensures values { values_of self.new ≡ values_of self.old }
         ensures refused { OnErr result (self.new ≡ self.old) }
-        ensures high { high_of self.new ≡ high_of self.old }
+        ensures high { high_time_of self.new ≡ high_time_of self.old }
     {
         let Some(place) = self.place_of(id) else {
             return Err(CancelRefusal::NoSuchEvent);
@@ -245,7 +245,7 @@ impl<T: Copy + Default> Table<T> {
         ensures values { values_of self.new ≡ values_of self.old }
         ensures same { result ≡ Ok Armed.Same → self.new ≡ self.old }
         ensures refused { OnErr result (self.new ≡ self.old) }
-        ensures high { high_of self.new ≡ high_of self.old }
+        ensures high { high_time_of self.new ≡ high_time_of self.old }
     {
         let Some(place) = self.place_of(id) else {
             return Err(ShortenRefusal::NoSuchEvent);
@@ -280,7 +280,7 @@ impl<T: Copy + Default> Table<T> {
     /// Whether the time may be given to [`Table::advance`]: there is no high time yet, or it is not below it and at most 900,000 ticks
     /// past it.
     pub fn can_advance(&self, high: Time33) -> bool
-        ensures { IsTrue result ↔ CanAdvance (high_of self.now) high }
+        ensures { IsTrue result ↔ CanAdvance (high_time_of self.now) high }
     {
         match self.high() {
             Some(last) => {
@@ -293,7 +293,7 @@ impl<T: Copy + Default> Table<T> {
 
     /// Takes this time as the high time, and forgets each event whose end lies 900,000 ticks or more before it, with its value.
     pub fn advance(&mut self, high: Time33)
-        requires { CanAdvance (high_of self.old) high }
+        requires { CanAdvance (high_time_of self.old) high }
         ensures stands { (line : Option ℤ) (standing : List Standing) (later : ℤ) → StandsFor self.old line standing →
             IsTimeAt line high later → StandsFor self.new (Some later) (still_standing later standing) }
         ensures values { (line : Option ℤ) (standing : List Standing) (later : ℤ) (value : Standing → T) →
@@ -305,7 +305,7 @@ impl<T: Copy + Default> Table<T> {
             StandsFor self.old line (map (λ x. x.0) pairs) → IsTimeAt line high later →
             values_of self.old ≡ map (λ x. x.1) pairs →
             values_of self.new ≡ map (λ x. x.1) (filter (λ x. int_lt later (forgotten_at x.0)) pairs) }
-        ensures high { high_of self.new ≡ Some high }
+        ensures high { high_time_of self.new ≡ Some high }
     {
         let Table { entries, last } = self;
         entries.retain(|entry| is_before(high, entry.event.end().plus(KEPT)));
@@ -314,11 +314,11 @@ impl<T: Copy + Default> Table<T> {
 
     /// Takes this time as the high time, where it forgets no event. None is looked at.
     pub fn advance_keeping_all(&mut self, high: Time33)
-        requires { CanAdvance (high_of self.old) high }
+        requires { CanAdvance (high_time_of self.old) high }
         ensures stands { (line : Option ℤ) (standing : List Standing) (later : ℤ) → StandsFor self.old line standing →
             IsTimeAt line high later → still_standing later standing ≡ standing → StandsFor self.new (Some later) standing }
         ensures entries { self.new.entries ≡ self.old.entries }
-        ensures high { high_of self.new ≡ Some high }
+        ensures high { high_time_of self.new ≡ Some high }
     {
         let _ticks = high.ticks();
         let Table { last: highest, .. } = self;
@@ -376,7 +376,7 @@ impl<T: Copy + Default> Table<T> {
         requires { place < length self.old.entries.items }
         ensures events { events_of self.new ≡ slice_set (events_of self.old) place event }
         ensures values { values_of self.new ≡ values_of self.old }
-        ensures high { high_of self.new ≡ high_of self.old }
+        ensures high { high_time_of self.new ≡ high_time_of self.old }
     {
         let entry = self.entry_at(place);
         let value = entry.value;
@@ -387,14 +387,14 @@ impl<T: Copy + Default> Table<T> {
     fn put(&mut self, place: usize, entry: Entry<T>)
         requires { place < length self.old.entries.items }
         ensures items { self.new.entries.items ≡ slice_set self.old.entries.items place entry }
-        ensures high { high_of self.new ≡ high_of self.old }
+        ensures high { high_time_of self.new ≡ high_time_of self.old }
     {
         self.entries[place] = entry;
     }
 
     /// Whether there is a high time and this time lies 1 to 2^29 ticks past it.
     fn is_ahead_of_high(&self, time: Time33) -> bool
-        ensures { IsTrue result ↔ IsAheadOf (high_of self.now) time }
+        ensures { IsTrue result ↔ IsAheadOf (high_time_of self.now) time }
     {
         match self.high() {
             Some(high) => is_ahead(time, high),
@@ -404,7 +404,7 @@ impl<T: Copy + Default> Table<T> {
 
     /// Whether the high time is at or past this time.
     fn has_reached(&self, time: Time33) -> bool
-        ensures { result ≡ has_reached_on_ring (high_of self.now) time }
+        ensures { result ≡ has_reached_on_ring (high_time_of self.now) time }
     {
         match self.high() {
             Some(high) => !is_before(high, time),

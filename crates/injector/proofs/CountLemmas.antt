@@ -9,7 +9,8 @@ use Rattle.injector.specs.declared.refusal.Refusal.{Refusal}
 use Rattle.injector.specs.declared.refusal.Refusal.TheVariants.{BadSyntax}
 use Rattle.injector.specs.Turns.{Turn, Judged, verdict}
 use Rattle.injector.specs.Replies.{reply_with, reply_to}
-use Rattle.injector.specs.Steps.{outcome, is_accepted, is_refused, one_if, messages_in, accepted_in, refused_in}
+use Rattle.event_table.specs.Counting.{one_if}
+use Rattle.injector.specs.Steps.{outcome, is_accepted, is_refused, messages_in, accepted_in, refused_in}
 use Rattle.injector.specs.Injecting.{CountsAre}
 
 -- the opID of a reply, and whether it accepts, say what became of the message

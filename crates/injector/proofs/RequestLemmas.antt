@@ -19,7 +19,7 @@ use Rattle.event_table.specs.declared.table.ShortenRefusal.{ShortenRefusal}
 use Rattle.event_table.specs.declared.table.ShortenRefusal.TheVariants as shorten_refusal
 use Rattle.event_table.specs.Rings.{CanAdvance}
 use Rattle.event_table.specs.Standing.{Standing, on_line, end_of, forgotten_at, has_id, is_full, meets, repeats, arm_answer, cancel_answer, cancel_answer_of, shorten_answer, shorten_answer_of, with_first, with_cancelled, with_end, ending_at, cancelled_one, still_standing, IsTimeAt}
-use Rattle.event_table.specs.Tables.{StandsFor, high_of}
+use Rattle.event_table.specs.Tables.{StandsFor, high_time_of}
 use Rattle.event_table.proofs.TimeLemmas.{ring-plus, signed-range}
 use Rattle.injector.specs.declared.asked.Asked.{Asked}
 use Rattle.injector.specs.declared.refusal.Refusal.{Refusal}
@@ -45,7 +45,7 @@ pub record OnLine (line : Option ℤ) (high : ℕ) : Type 0 where
   pub is : line ≡ Some time
   pub ring : high ≡ ring_of time
 
-pub on-line : {T : Type 0} (t : Table T) (line : Option ℤ) (standing : List Standing) (high : ℕ) → high_of t ≡ Some high → StandsFor t line standing → OnLine line high
+pub on-line : {T : Type 0} (t : Table T) (line : Option ℤ) (standing : List Standing) (high : ℕ) → high_time_of t ≡ Some high → StandsFor t line standing → OnLine line high
 on-line t None standing high is stands = absurd (let no : Some high ≡ None = sym is ∙ stands.high in cc)
 on-line t (Some h) standing high is stands = let same : Some high ≡ Some (ring_of h) = sym is ∙ stands.high in record { time = h; is = refl; ring = cc }
 
@@ -124,7 +124,7 @@ ended-is line standing high o r end fits end_is =
     ∙ subst (λ l. with_end r.splice_event_id (time_at o.time r) standing ≡ ended l (has_id r.splice_event_id) standing r) (sym o.is) refl
 
 -- before the first time no event stands, so none can end
-pub end-no_time : {T : Type 0} (t : Table T) (line : Option ℤ) (standing : List Standing) (r : SpliceRequest) → high_of t ≡ None → StandsFor t line standing
+pub end-no_time : {T : Type 0} (t : Table T) (line : Option ℤ) (standing : List Standing) (r : SpliceRequest) → high_time_of t ≡ None → StandsFor t line standing
     → Err NoSuchEvent ≡ end_verdict line standing r
 end-no_time t (Some h) standing r is stands = absurd (let no : None ≡ Some (ring_of h) = sym is ∙ stands.high in cc)
 end-no_time t None [] r is stands = refl
@@ -179,7 +179,7 @@ pub started-is : (line : Option ℤ) (standing : List Standing) (high : ℕ) (o 
 started-is line standing high o r event fits event_is =
     ap (λ s. standing ++ s ∷ []) (ap (on_line line) event_is ∙ event-line line high o r fits) ∙ ap (λ l. started l standing r) (sym o.is)
 
-pub start-no_time : {T : Type 0} (t : Table T) (line : Option ℤ) (standing : List Standing) (r : SpliceRequest) → high_of t ≡ None → StandsFor t line standing
+pub start-no_time : {T : Type 0} (t : Table T) (line : Option ℤ) (standing : List Standing) (r : SpliceRequest) → high_time_of t ≡ None → StandsFor t line standing
     → Err NoClock ≡ start_verdict line standing r
 start-no_time t (Some h) standing r is stands = absurd (let no : None ≡ Some (ring_of h) = sym is ∙ stands.high in cc)
 start-no_time t None standing r is stands = refl
@@ -239,7 +239,7 @@ filter-asked line events (Ok a) = by (verdict_of line (filter (stands line) even
     by (Err e) = refl
 
 -- a higher time leaves fewer
-pub filter-later : {T : Type 0} (t : Table T) (line : Option ℤ) (p : ℕ) (later : ℤ) (standing events : List Standing) → CanAdvance (high_of t) p → StandsFor t line standing
+pub filter-later : {T : Type 0} (t : Table T) (line : Option ℤ) (p : ℕ) (later : ℤ) (standing events : List Standing) → CanAdvance (high_time_of t) p → StandsFor t line standing
     → IsTimeAt line p later → still_standing later (filter (stands line) events) ≡ filter (stands (Some later)) events
 filter-later t line p later standing events can table is =
     filter-twice (stands (Some later)) (stands line) (implies line (subst (λ h. CanAdvance h p) table.high can) is) events
@@ -251,7 +251,7 @@ filter-later t line p later standing events can table is =
     implies None can is s lt = refl
     implies (Some h) can is s lt = let above = can.above in below h later (forgotten_at s) (omega (arith, ints)) lt
 
-pub advanced-stands : {T : Type 0} (t t' : Table T) (line : Option ℤ) (p : ℕ) (later : ℤ) (events : List Standing) → CanAdvance (high_of t) p → StandsFor t line (filter (stands line) events)
+pub advanced-stands : {T : Type 0} (t t' : Table T) (line : Option ℤ) (p : ℕ) (later : ℤ) (events : List Standing) → CanAdvance (high_time_of t) p → StandsFor t line (filter (stands line) events)
     → IsTimeAt line p later → StandsFor t' (Some later) (still_standing later (filter (stands line) events)) → StandsFor t' (Some later) (filter (stands (Some later)) events)
 advanced-stands t t' line p later events can stands_before is stands_after =
     restated t' (Some later) _ _ (filter-later t line p later (filter (stands line) events) events can stands_before is) stands_after

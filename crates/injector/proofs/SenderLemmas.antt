@@ -8,7 +8,7 @@ use Rattle.pes_time.specs.Line.{ring_of, signed}
 use Rattle.event_table.specs.Rings.{CanAdvance}
 use Rattle.event_table.specs.Standing.{Standing, forgotten_at, has_id, ending_at, cancelled_one, with_first, IsTimeAt}
 use Rattle.event_table.specs.declared.table.Table.{Table}
-use Rattle.event_table.specs.Tables.{high_of, values_of}
+use Rattle.event_table.specs.Tables.{high_time_of, values_of}
 use Rattle.event_table.proofs.ListLemmas.{map-map}
 use Rattle.event_table.proofs.TimeLemmas.{signed-range, ring-only}
 use Rattle.injector.specs.declared.asked.Asked.{Asked}
@@ -258,7 +258,7 @@ pub restate-notes : (r : Requests) (line : Option ℤ) (xs ys : List Sender) →
 restate-notes r line xs ys same n = subst (AreNoted r line) same n
 
 -- a time that the table may take is no fall
-pub rises-by : {T : Type 0} (t : Table T) (line : Option ℤ) (time : ℕ) (later : ℤ) → high_of t ≡ option_map ring_of line → CanAdvance (high_of t) time → IsTimeAt line time later → Rises line (Some later)
+pub rises-by : {T : Type 0} (t : Table T) (line : Option ℤ) (time : ℕ) (later : ℤ) → high_time_of t ≡ option_map ring_of line → CanAdvance (high_time_of t) time → IsTimeAt line time later → Rises line (Some later)
 rises-by t None time later same can is = tt
 rises-by t (Some h) time later same can is =
     let next : CanAdvance (Some (ring_of h)) time = subst (λ x. CanAdvance x time) same can in

@@ -11,7 +11,7 @@ use Rattle.ts_packet.specs.Runs.{onto}
 use Rattle.scte35_codec.specs.declared.cue_out.CueOut.{CueOut}
 use Rattle.event_table.specs.declared.event.Event.{Event}
 use Rattle.event_table.specs.Standing.{on_ring, IsWithin}
-use Rattle.event_table.specs.Tables.{StandsFor, high_of, events_of, values_of}
+use Rattle.event_table.specs.Tables.{StandsFor, high_time_of, events_of, values_of}
 use Rattle.event_table.proofs.ListLemmas.{map-map}
 use Rattle.injector.specs.declared.choice.Choice.{Choice}
 use Rattle.injector.specs.declared.notes.Notes.{Notes}
@@ -71,7 +71,7 @@ module _ (r : Requests) (line after : Option ℤ) (done : List Sender) (x : Send
       most None w = absurd w
       most (Some h) w = w.most
 
-  pub sending-choice : (choice : Choice) (e : Event) (n : Notes) (h l : Option ℕ) → IsShown e n x → Rises line after → h ≡ high_of r.table → l ≡ option_map ring_of after
+  pub sending-choice : (choice : Choice) (e : Event) (n : Notes) (h l : Option ℕ) → IsShown e n x → Rises line after → h ≡ high_time_of r.table → l ≡ option_map ring_of after
       → choice ≡ ring_chosen e n.told n.last h l → choice ≡ chosen x line after
   sending-choice choice e n h l shown rises h_is l_is is =
       is

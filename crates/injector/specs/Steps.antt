@@ -1,5 +1,6 @@
 -- What an injector puts out, by its whole history: the messages that it judged and the packets of the network, newest first.
-use Rattle.std.specs.Prelude.{ℕ, ℤ, ◌+◌, List, [], ◌∷◌, ◌++◌, map, Bool, true, false, ◌||◌, if◌then◌else◌, is_ok, not}
+use Rattle.event_table.specs.Counting.{one_if}
+use Rattle.std.specs.Prelude.{ℕ, ℤ, ◌+◌, List, [], ◌∷◌, ◌++◌, map, Bool, true, false, ◌||◌, is_ok, not}
 use Rattle.std.specs.Prelude.{Option, None, Some, Result, Err}
 use Rattle.ts_packet.specs.Runs.{onto}
 use Rattle.unit_stream.specs.Times.{high as unit_high}
@@ -75,9 +76,6 @@ outcome index (other head) past = None
 outcome index (multiple m) past = Some (verdict index m past)
 outcome index (bad true head) past = Some (Err BadSyntax)
 outcome index (bad false head) past = None
-
-abbrev pub one_if : Bool → ℕ
-one_if b = if b then 1 else 0
 
 abbrev pub is_accepted : Option (Result (Unit {0}) Refusal) → Bool
 is_accepted None = false

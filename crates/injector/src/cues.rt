@@ -5,7 +5,7 @@ ghost use Rattle.ts_packet.specs.Runs.{onto};
 ghost use Rattle.ts_packet.specs.Sinks.{Blamed};
 ghost use Rattle.ts_packet.specs.Transfers.{WentWell};
 ghost use Rattle.event_table.specs.Standing.{Standing, on_ring};
-ghost use Rattle.event_table.specs.Tables.{StandsFor, high_of};
+ghost use Rattle.event_table.specs.Tables.{StandsFor, high_time_of};
 ghost use Rattle.outgoing_packets.specs.Numbers.{HasPut, FrontFails};
 ghost use Rattle.injector.specs.Turns.{Turn};
 ghost use Rattle.injector.specs.Requests.{RequestsStandFor};
@@ -161,7 +161,7 @@ fn put_one<S: PacketSink>(
     ensures stands { (line : Option ℤ) (standing : List Standing) → StandsFor requests.old.table line standing →
         StandsFor requests.new.table line standing }
     ensures index { requests.new.index ≡ requests.old.index }
-    ensures high { high_of requests.new.table ≡ high_of requests.old.table }
+    ensures high { high_time_of requests.new.table ≡ high_time_of requests.old.table }
     ensures count { length requests.new.table.entries.items ≡ length requests.old.table.entries.items }
     ensures pid { pid < 8192 }
 {
@@ -211,7 +211,7 @@ pub(crate) fn put_due<S: PacketSink>(
         RequestsStandFor requests.new index past }
     ensures told { (puts : List (List ℕ)) (index : ℕ) (past : List Turn) (line : Option ℤ) → HasPut out.old puts →
         IsBefore is_due requests.old later.now index past line → OnOk result (NotesTold requests.new index past line) }
-    ensures high { high_of requests.new.table ≡ high_of requests.old.table }
+    ensures high { high_time_of requests.new.table ≡ high_time_of requests.old.table }
 {
     let _number = pid.get();
     if !is_due {

@@ -5,7 +5,7 @@ ghost use Rattle.std.specs.Prelude.{OnErr, IsTrue, length, slice_index_or, slice
 ghost use Rattle.scte104_codec.specs.Views.{reading_of};
 ghost use Rattle.event_table.specs.Rings.{CanAdvance};
 ghost use Rattle.event_table.specs.Standing.{Standing, IsTimeAt, on_ring, has_id, with_cancelled};
-ghost use Rattle.event_table.specs.Tables.{StandsFor, high_of, events_of, values_of};
+ghost use Rattle.event_table.specs.Tables.{StandsFor, high_time_of, events_of, values_of};
 ghost use Rattle.pes_time.specs.Line.{ring_of};
 ghost use Rattle.injector.specs.Asking.{fields_of, asked_of_multiple, IsStartable};
 ghost use Rattle.injector.specs.Verdicts.{start_verdict, end_verdict, cancel_verdict, verdict_of, verdict_by};
@@ -53,28 +53,28 @@ impl Requests {
 
     /// The greatest time that was told, or `None` before the first.
     pub fn high(&self) -> Option<Time33>
-        ensures { result ≡ high_of self.now.table }
+        ensures { result ≡ high_time_of self.now.table }
     {
         self.table.high()
     }
 
     /// Whether the time may be given to [`Requests::advance`].
     pub fn can_advance(&self, high: Time33) -> bool
-        ensures { IsTrue result ↔ CanAdvance (high_of self.now.table) high }
+        ensures { IsTrue result ↔ CanAdvance (high_time_of self.now.table) high }
     {
         self.table.can_advance(high)
     }
 
     /// Takes this time as the greatest one, which a packet brought.
     pub fn advance(&mut self, time: Time33)
-        requires { CanAdvance (high_of self.old.table) time }
+        requires { CanAdvance (high_time_of self.old.table) time }
         ensures stands { (index : ℕ) (past : List Turn) (later : ℤ) → RequestsStandFor self.old index past →
             IsTimeAt (high past) time later →
             RequestsStandFor self.new index (Passed (Some later) ∷ past) }
         ensures notes { (index : ℕ) (past : List Turn) (later : ℤ) → RequestsStandFor self.old index past →
             NotesTold self.old index past (Some later) →
             IsTimeAt (high past) time later → NotesStandFor self.new index (Passed (Some later) ∷ past) }
-        ensures high { high_of self.new.table ≡ Some time }
+        ensures high { high_time_of self.new.table ≡ Some time }
     {
         self.table.advance(time);
     }
@@ -110,7 +110,7 @@ impl Requests {
         ensures notes { (index : ℕ) (past : List Turn) → RequestsStandFor self.old index past →
             NotesStandFor self.old index past →
             NotesStandFor self.new index (Judged (reading_of message.entry) ∷ past) }
-        ensures high { high_of self.new.table ≡ high_of self.old.table }
+        ensures high { high_time_of self.new.table ≡ high_time_of self.old.table }
     {
         match message {
             Ok(message) => self.answer(message),
@@ -127,7 +127,7 @@ impl Requests {
         ensures notes { (index : ℕ) (past : List Turn) → RequestsStandFor self.old index past →
             NotesStandFor self.old index past →
             NotesStandFor self.new index (Judged (reading_of (Ok message.entry)) ∷ past) }
-        ensures high { high_of self.new.table ≡ high_of self.old.table }
+        ensures high { high_time_of self.new.table ≡ high_time_of self.old.table }
     {
         match message {
             Message::Init(head) => reply(INIT_RESPONSE, SUCCESS, head, &[]),
@@ -191,7 +191,7 @@ impl Requests {
         ensures stands { (line : Option ℤ) (standing : List Standing) → StandsFor self.old.table line standing →
             StandsFor self.new.table line standing }
         ensures index { self.new.index ≡ self.old.index }
-        ensures high { high_of self.new.table ≡ high_of self.old.table }
+        ensures high { high_time_of self.new.table ≡ high_time_of self.old.table }
         ensures count { length self.new.table.entries.items ≡ length self.old.table.entries.items }
     {
         self.table.set_value(place, notes);
@@ -208,7 +208,7 @@ impl Requests {
             AreNoted self.old line xs →
             AreNoted self.new line (noted_after line xs (asked_of_multiple self.old.index (fields_of message.now))) }
         ensures index { self.new.index ≡ self.old.index }
-        ensures high { high_of self.new.table ≡ high_of self.old.table }
+        ensures high { high_time_of self.new.table ≡ high_time_of self.old.table }
     {
         match request_in(message, self.index) {
             Ok(asked) => self.take(&asked),
@@ -228,7 +228,7 @@ impl Requests {
             AreNoted self.old line xs →
             AreNoted self.new line (noted_after line xs (Ok asked.now)) }
         ensures index { self.new.index ≡ self.old.index }
-        ensures high { high_of self.new.table ≡ high_of self.old.table }
+        ensures high { high_time_of self.new.table ≡ high_time_of self.old.table }
     {
         let request = asked.request;
         match request.splice_insert_type {
@@ -250,7 +250,7 @@ impl Requests {
         ensures notes { result ≡ Ok tt → values_of self.new.table ≡ values_of self.old.table ++ notes ∷ [] }
         ensures refused { OnErr result (self.new ≡ self.old) }
         ensures index { self.new.index ≡ self.old.index }
-        ensures high { high_of self.new.table ≡ high_of self.old.table }
+        ensures high { high_time_of self.new.table ≡ high_time_of self.old.table }
     {
         let Some(high) = self.table.high() else {
             return Err(Refusal::NoClock);
@@ -274,7 +274,7 @@ impl Requests {
         ensures notes { values_of self.new.table ≡ values_of self.old.table }
         ensures refused { OnErr result (self.new ≡ self.old) }
         ensures index { self.new.index ≡ self.old.index }
-        ensures high { high_of self.new.table ≡ high_of self.old.table }
+        ensures high { high_time_of self.new.table ≡ high_time_of self.old.table }
     {
         let Some(high) = self.table.high() else {
             return Err(Refusal::NoSuchEvent);
@@ -298,7 +298,7 @@ impl Requests {
         ensures notes { values_of self.new.table ≡ values_of self.old.table }
         ensures refused { OnErr result (self.new ≡ self.old) }
         ensures index { self.new.index ≡ self.old.index }
-        ensures high { high_of self.new.table ≡ high_of self.old.table }
+        ensures high { high_time_of self.new.table ≡ high_time_of self.old.table }
     {
         match self.table.cancel(request.splice_event_id) {
             Ok(()) => Ok(()),

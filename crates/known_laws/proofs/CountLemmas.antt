@@ -12,7 +12,8 @@ use Rattle.armed_laws.specs.Laws.{Becomes, Grows}
 use Rattle.splice_laws.specs.Settled.{IsAhead}
 use Rattle.splice_plans.specs.Playing.{Adverts, History, is_played}
 use Rattle.splice_plans.specs.Histories.{AreSteady}
-use Rattle.splice_plans.specs.Reporting.{EventCounts, one_if, is_not_fitted}
+use Rattle.event_table.specs.Counting.{one_if}
+use Rattle.splice_plans.specs.Reporting.{EventCounts, is_not_fitted}
 use Rattle.splice_plans.specs.Known.{is_crossed_known, is_forgotten}
 use Rattle.known_laws.proofs.SameLemmas.{any-crossed-same}
 

@@ -30,7 +30,8 @@ use Rattle.splice_plans.specs.Switching.{Setting, moves, switched_at, high_at, e
 use Rattle.splice_plans.specs.Histories.{IsHistory, AreSteady}
 use Rattle.splice_plans.specs.Parts.{beside}
 use Rattle.splice_plans.specs.Known.{plan_found, plan_at, crossed_known, is_crossed_known, adverts_at, behind_at, plans_at, counts_known, is_forgotten}
-use Rattle.splice_plans.specs.Reporting.{one_if, is_not_fitted, with_counted, is_out_at}
+use Rattle.event_table.specs.Counting.{one_if}
+use Rattle.splice_plans.specs.Reporting.{is_not_fitted, with_counted, is_out_at}
 use Rattle.splice_plans.proofs.KnownLemmas.{all-settled}
 use Rattle.splice_plans.proofs.HistoryLemmas.{armed_is_history, never-falls}
 use Rattle.known_laws.specs.Laws.{PassesOn, PacketsPass}

@@ -20,7 +20,8 @@ use Rattle.splice_plans.specs.Switching.{Setting, switched_at, high_at, events_a
 use Rattle.splice_plans.specs.Histories.{IsHistory, AreSteady}
 use Rattle.splice_plans.specs.Parts.{beside}
 use Rattle.splice_plans.specs.Known.{plan_found, crossed_known, is_crossed_known, adverts_at, behind_at, plans_at, is_forgotten}
-use Rattle.splice_plans.specs.Reporting.{one_if, is_not_fitted, is_unconditioned, is_any}
+use Rattle.event_table.specs.Counting.{one_if}
+use Rattle.splice_plans.specs.Reporting.{is_not_fitted, is_unconditioned, is_any}
 use Rattle.splice_plans.proofs.HistoryLemmas.{armed_is_history}
 use Rattle.known_laws.specs.Laws.{AreFaultless, IsWholeReport, ReportsAreWhole, PlansTellCrossings}
 use Rattle.known_laws.proofs.HeadLemmas.{none-armed, history-now}

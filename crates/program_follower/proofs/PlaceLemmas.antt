@@ -75,10 +75,10 @@ one_place ss numbers n m pid s lt within is next has p good h =
     let parts = at_drop_more (λ (xs : List Stream). numbered (farther n (place_in (pids_in xs) p))) ss n s lt in
     by_test (on t.pid p)
     (λ y. ap (λ (k : ℕ). slice_index_or (set numbers pid (n + 1)) k 0) ((on_parts t.pid p y).1 ∙ sym is) ∙ get_or-set_same numbers pid (n + 1) 0 within
-        ∙ number_here p good t (drop (n + 1) ss) n y ∙ sym parts)
+    ∙ number_here p good t (drop (n + 1) ss) n y ∙ sym parts)
     (λ z. let apart : pid_of p ≢ pid = (λ e. let k = on_good p good t.pid (e ∙ is) in absurd (cc)) in
     get_or-set_other numbers pid (pid_of p) (n + 1) 0 apart ∙ has p good h ∙ ap (λ (k : ℕ). numbered (farther k (place_in (pids_in (drop k ss)) p))) next
-        ∙ number_later p good t (drop (n + 1) ss) n z ∙ sym parts)
+    ∙ number_later p good t (drop (n + 1) ss) n z ∙ sym parts)
 
 same_farther : (o : Option ℕ) → numbered (farther 0 o) ≡ numbered o
 same_farther None = refl
@@ -98,6 +98,7 @@ unfolding on
 no_place pids p bad = ap (option_map (λ (x : ℕ × ℕ). x.0)) (sym (none_first pids)) where
   off : (pid : ℕ) → on pid p ≡ false
   off pid = ap (λ b. not b && (pid_of p == pid)) bad
+
   none_first : (pids : List ℕ) → first_on pids p ≡ None
   none_first [] = refl
   none_first (pid ∷ pids) = ap (λ b. if b then Some (0, pid) else option_map next_place (first_on pids p)) (off pid) ∙ ap (option_map next_place) (none_first pids)

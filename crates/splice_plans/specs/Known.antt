@@ -93,6 +93,7 @@ AllGo streams packed is_in moves switched = (i : ℕ) (s : SwitchedStream) → i
 
 -- ---- the network
 
+-- what the advertisements say of the streams that are switched behind a past
 abbrev pub adverts_at : Setting → List (List ℕ) → Adverts
 adverts_at k past = k.adverts (streams_at k past)
 

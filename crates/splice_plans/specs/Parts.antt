@@ -9,7 +9,7 @@ use Rattle.event_table.specs.Rings.{is_before_on_ring}
 use Rattle.event_table.specs.Standing.{Standing, on_ring}
 use Rattle.unit_stream.specs.UnitPackets.{put_in}
 use Rattle.event_table.specs.declared.table.Entry.{Entry}
-use Rattle.event_table.specs.Tables.{StandsFor, events_of, high_of, values_of}
+use Rattle.event_table.specs.Tables.{StandsFor, events_of, high_time_of, values_of}
 use Rattle.armed_events.specs.declared.obeying.ArmedEvents.{ArmedEvents}
 use Rattle.armed_events.specs.Obeying.{Obeys}
 use Rattle.ad_library.specs.Advertisements.{AdvertUnit, Advertisement, count_of_kind}
@@ -72,7 +72,7 @@ part_put filed streams stream of reached stage entry =
 pub record KeepsEvents (old new : ArmedEvents Plan) : Type 0 where
   pub obeys : (pid : ℕ) (high : List (List ℕ) → Option ℤ) (past : List (List ℕ)) → Obeys old pid high past → Obeys new pid high past
   pub events : events_of new.obeyed.table ≡ events_of old.obeyed.table
-  pub high : high_of new.obeyed.table ≡ high_of old.obeyed.table
+  pub high : high_time_of new.obeyed.table ≡ high_time_of old.obeyed.table
   pub assembler : new.assembler ≡ old.assembler
 
 -- with a unit of this time in the stream

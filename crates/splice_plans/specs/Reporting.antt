@@ -1,5 +1,6 @@
 -- What a switch reports of a network: counts over the events that were armed in it.
-use Rattle.std.specs.Prelude.{◌≡◌, ℕ, ◌+◌, if◌then◌else◌, List, Bool, true, not, ◌&&◌, ◌||◌, count_by, Some, ℤ, int_lt}
+use Rattle.event_table.specs.Counting.{one_if}
+use Rattle.std.specs.Prelude.{◌≡◌, ℕ, ◌+◌, List, Bool, true, not, ◌&&◌, ◌||◌, count_by, Some, ℤ, int_lt}
 use Rattle.std.specs.List.{list_any}
 use Rattle.event_table.specs.Standing.{Standing, end_of, forgotten_at}
 use Rattle.armed_events.specs.Arming.{ignored}
@@ -28,9 +29,6 @@ pub record EventCounts : Type 0 where
 -- of no events
 abbrev pub no_counts : EventCounts
 no_counts = record { played = 0; not_fitted = 0; unconditioned = 0; ignored = 0 }
-
-abbrev pub one_if : Bool → ℕ
-one_if b = if b then 1 else 0
 
 -- with one event more
 abbrev pub with_one : Bool → Bool → Bool → EventCounts → EventCounts

@@ -12,7 +12,7 @@ use Rattle.event_table.specs.declared.table.Table.{Table}
 use Rattle.event_table.specs.Standing.{Standing, on_ring, end_of, forgotten_at, IsTimeAt, IsWithin}
 use Rattle.event_table.specs.Events.{ring_end}
 use Rattle.event_table.specs.Rings.{CanAdvance, is_before_on_ring}
-use Rattle.event_table.specs.Tables.{StandsFor, high_of, values_of}
+use Rattle.event_table.specs.Tables.{StandsFor, high_time_of, values_of}
 use Rattle.event_table.proofs.TableLemmas.{length-entries}
 use Rattle.event_table.proofs.TimeLemmas.{InWindow, before-window, ring-plus}
 use Rattle.event_table.proofs.EventLemmas.{next-window, forgotten-window, ring_end-on_ring}
@@ -20,7 +20,8 @@ use Rattle.splice_plans.specs.declared.plan.Plan.{Plan}
 use Rattle.splice_plans.specs.declared.report.SwitchReport.{SwitchReport}
 use Rattle.splice_plans.specs.Playing.{Adverts, is_played}
 use Rattle.splice_plans.specs.Parts.{beside, no_entry, no_standing}
-use Rattle.splice_plans.specs.Reporting.{EventCounts, ReportIs, with_one, with_counted, is_not_fitted, is_out_at, one_if}
+use Rattle.event_table.specs.Counting.{one_if}
+use Rattle.splice_plans.specs.Reporting.{EventCounts, ReportIs, with_one, with_counted, is_not_fitted, is_out_at}
 use Rattle.splice_plans.proofs.TurnLemmas.{event-there, within-there}
 
 abbrev pub no_pair : Standing × Plan
@@ -130,7 +131,7 @@ out-within (Some h) p later fits can is s reach =
     rw (ring_end-on_ring s, ring-plus (end_of s) 900000, sym (ring-time (Some h) p later fits is))
     (before-window h later (forgotten_at s) window (forgotten-window h s reach))
 
-module _ (t : Table Plan) (line : Option ℤ) (es : List Standing) (s : StandsFor t line es) (p : ℕ) (later : ℤ) (fits : p < 2 ^ 33) (can : CanAdvance (high_of t) p) (is : IsTimeAt line p later)
+module _ (t : Table Plan) (line : Option ℤ) (es : List Standing) (s : StandsFor t line es) (p : ℕ) (later : ℤ) (fits : p < 2 ^ 33) (can : CanAdvance (high_time_of t) p) (is : IsTimeAt line p later)
     (at : ℕ) (below : at < length t.entries.items) (entry : Entry Plan) (there : entry ≡ slice_index_or t.entries.items at entry) where
   pair-within : IsWithin line (pair t line es s at below entry there).0
   pair-within = subst (λ (x : Standing × Plan). IsWithin line x.0) (sym (pair-is t line es s at below entry there)) (within-there t line es s at below)

@@ -12,7 +12,7 @@ use Rattle.event_table.specs.declared.table.Entry.{Entry}
 use Rattle.event_table.specs.declared.table.Table.{Table}
 use Rattle.event_table.specs.Rings.{is_before_on_ring, CanAdvance, IsNextHigh}
 use Rattle.event_table.specs.Standing.{Standing, on_ring, IsTimeAt, IsWithin, IsInReach}
-use Rattle.event_table.specs.Tables.{StandsFor, high_of, values_of}
+use Rattle.event_table.specs.Tables.{StandsFor, high_time_of, values_of}
 use Rattle.event_table.proofs.TimeLemmas.{before-near, signed-range}
 use Rattle.splice_plans.specs.declared.plan.Plan.{Plan}
 use Rattle.splice_plans.specs.Turning.{IsNearHigh}
@@ -52,7 +52,7 @@ wait-until rest high (x ∷ xs) h =
     rw here (wait-until rest high xs parts.1)
 
 pub waits-by : (rest : Option ℕ) (table : Table Plan) (r : ℕ) → rest ≡ Some r → is_rest rest table ≡ true → all_wait (values_of table) ≡ true
-waits-by rest table r some h = by (high_of table) (subst (λ o. is_rest o table ≡ true) some h)
+waits-by rest table r some h = by (high_time_of table) (subst (λ o. is_rest o table ≡ true) some h)
   where
     by : (high : Option ℕ) → all_wait_until r high table.entries.items ≡ true → all_wait (values_of table) ≡ true
     by None all = ap (λ xs. all_wait (map (λ (x : Held). x.value) xs)) (none-there table.entries.items all)
@@ -163,12 +163,12 @@ all-moved rest high next rest_fits fits can before (x ∷ xs) h =
     let on = moved rest x.event.start high next rest_fits fits can before here.1 here.2 in
     list-joined (waits_until rest next) x xs (until-joined rest next x here.0 on.0 on.1) (all-moved rest high next rest_fits fits can before xs parts.1)
 
-pub rest-goes-on : (old new : Table Plan) (rest : Option ℕ) (next : ℕ) → IfSome rest (λ r. r < 2 ^ 33) → next < 2 ^ 33 → CanAdvance (high_of old) next → comes_before rest (Some next) ≡ true
-    → new.entries ≡ old.entries → high_of new ≡ Some next → is_rest rest old ≡ true → is_rest rest new ≡ true
+pub rest-goes-on : (old new : Table Plan) (rest : Option ℕ) (next : ℕ) → IfSome rest (λ r. r < 2 ^ 33) → next < 2 ^ 33 → CanAdvance (high_time_of old) next → comes_before rest (Some next) ≡ true
+    → new.entries ≡ old.entries → high_time_of new ≡ Some next → is_rest rest old ≡ true → is_rest rest new ≡ true
 rest-goes-on old new None next rest_fits fits can before entries high h = refl
 rest-goes-on old new (Some r) next rest_fits fits can before entries high h =
     subst (λ o. all_wait_until r o new.entries.items ≡ true) (sym high)
-    (subst (λ es. list_all (waits_until r next) es.items ≡ true) (sym entries) (by (high_of old) can h))
+    (subst (λ es. list_all (waits_until r next) es.items ≡ true) (sym entries) (by (high_time_of old) can h))
   where
     by : (o : Option ℕ) → CanAdvance o next → all_wait_until r o old.entries.items ≡ true → list_all (waits_until r next) old.entries.items ≡ true
     by None can all = ap (list_all (waits_until r next)) (none-there old.entries.items all)
@@ -257,7 +257,7 @@ rest-found table = by (first_rest table) refl
 
     by : (q : Option ℕ) → first_rest table ≡ q → is_rest q table ≡ true
     by None is = refl
-    by (Some r) is = all r (high_of table) table.entries.items is
+    by (Some r) is = all r (high_time_of table) table.entries.items is
 
 pub rest-there : (table seen : Table Plan) (rest : Option ℕ) → rest ≡ first_rest seen → seen ≡ table → is_rest rest table ≡ true
 rest-there table seen rest is same = ap (λ r. is_rest r table) is ∙ ap (λ t. is_rest (first_rest t) table) same ∙ rest-found table

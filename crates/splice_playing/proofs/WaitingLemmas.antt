@@ -22,7 +22,8 @@ use Rattle.splice_plans.specs.Parts.{is_waiting, is_running, is_closing, all_tur
 use Rattle.splice_plans.specs.Waiting.{waits_in_all}
 use Rattle.splice_plans.specs.Adverts.{adverts_of}
 use Rattle.splice_plans.specs.Fronts.{closing_packets, closed_plans, all_running, running_of, all_ran, is_left}
-use Rattle.splice_plans.specs.Reporting.{EventCounts, one_if, with_counted, is_out_at, is_not_fitted}
+use Rattle.event_table.specs.Counting.{one_if}
+use Rattle.splice_plans.specs.Reporting.{EventCounts, with_counted, is_out_at, is_not_fitted}
 use Rattle.known_laws.proofs.CountLemmas.{count-cons}
 use Rattle.splice_plans.proofs.WaitLemmas.{stage-waits, plan-stays}
 use Rattle.splice_playing.specs.Resting.{all_wait, all_start_past, all_start_behind, is_left_at_rest}

@@ -6,7 +6,7 @@ use Rattle.event_table.specs.Rings.{is_before_on_ring}
 use Rattle.event_table.specs.Standing.{Standing}
 use Rattle.event_table.specs.declared.table.Entry.{Entry}
 use Rattle.event_table.specs.declared.table.Table.{Table}
-use Rattle.event_table.specs.Tables.{high_of}
+use Rattle.event_table.specs.Tables.{high_time_of}
 use Rattle.splice_plans.specs.declared.plan.Plan.{Plan}
 use Rattle.splice_plans.specs.Waiting.{waits_in_all}
 
@@ -39,7 +39,7 @@ rest_by (Some high) (entry ∷ entries) = rest_behind high None (entry ∷ entri
 -- the first start of all that stand, where each waits in all streams and starts past the greatest time, or a time far ahead where none
 -- stands
 abbrev pub first_rest : Table Plan → Option ℕ
-first_rest table = rest_by (high_of table) table.entries.items
+first_rest table = rest_by (high_time_of table) table.entries.items
 
 -- the event waits in all streams, and does not start before this time, which lies past the greatest one
 abbrev pub waits_until : ℕ → ℕ → Entry Plan → Bool
@@ -53,7 +53,7 @@ all_wait_until rest (Some high) entries = list_all (waits_until rest high) entri
 -- all that stand wait until this time, where one is known
 abbrev pub is_rest : Option ℕ → Table Plan → Bool
 is_rest None table = true
-is_rest (Some rest) table = all_wait_until rest (high_of table) table.entries.items
+is_rest (Some rest) table = all_wait_until rest (high_time_of table) table.entries.items
 
 -- a unit of this time, or of none, comes before it
 abbrev pub comes_before : Option ℕ → Option ℕ → Bool

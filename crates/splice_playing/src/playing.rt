@@ -6,7 +6,7 @@ ghost use Rattle.ts_packet.specs.Numbering.{Step, Counts};
 ghost use Rattle.unit_stream.specs.UnitPackets.{put_in};
 ghost use Rattle.event_table.specs.Standing.{Standing, IsTimeAt};
 ghost use Rattle.event_table.specs.Rings.{CanAdvance};
-ghost use Rattle.event_table.specs.Tables.{StandsFor, high_of};
+ghost use Rattle.event_table.specs.Tables.{StandsFor, high_time_of};
 ghost use Rattle.splice_plans.specs.Parts.{KeepsEvents, IsReached, no_entry};
 ghost use Rattle.splice_plans.specs.Fronts.{IsNearTime, IsOther, is_left};
 ghost use Rattle.ts_packet.specs.Sinks.{Blamed};
@@ -539,7 +539,7 @@ fn with_forgotten(
     library: &AdLibrary,
 ) -> SwitchReport
     ensures { (line : Option ℤ) (later : ℤ) (es : List Standing) (counts : Reported) →
-        StandsFor table.now line es → CanAdvance (high_of table.now) high → IsTimeAt line high later → ReportIs report counts →
+        StandsFor table.now line es → CanAdvance (high_time_of table.now) high → IsTimeAt line high later → ReportIs report counts →
         ReportIs result (with_out (held library.now) streams.now table.now es later counts) }
 {
     let mut counted = report;
@@ -560,7 +560,7 @@ fn with_one_forgotten(
 ) -> SwitchReport
     requires { at < length table.now.entries.items }
     ensures { (line : Option ℤ) (later : ℤ) (es : List Standing) (counts : Reported) →
-        StandsFor table.now line es → CanAdvance (high_of table.now) high → IsTimeAt line high later →
+        StandsFor table.now line es → CanAdvance (high_time_of table.now) high → IsTimeAt line high later →
         ReportIs report (with_first_out (held library.now) streams.now table.now es at later counts) →
         ReportIs result (with_first_out (held library.now) streams.now table.now es (at + 1) later counts) }
 {

@@ -29,7 +29,8 @@ use Rattle.output_laws.proofs.StepLemmas.{on-clock, on-same, pcr-error}
 use Rattle.output_laws.proofs.GaplessLemmas.{below_16, one_below}
 use Rattle.splice_plans.specs.Playing.{Adverts, History, played, as_played, end_known}
 use Rattle.splice_plans.specs.Switching.{Setting, switched_at, history_at, front_at, rest_at, switching, switched_past, is_switched, moves, puts_by, puts_before, puts_at_end, front_of, end_of_run}
-use Rattle.switch_laws.specs.Whole.{adverts_at, stands_for, HavePids, TablesAreApart}
+use Rattle.splice_plans.specs.Known.{adverts_at}
+use Rattle.switch_laws.specs.Whole.{stands_for, HavePids, TablesAreApart}
 use Rattle.switch_laws.specs.Laws.{ArePackets}
 use Rattle.switch_laws.specs.Standing.{IsNoTable, is_left, steps_before, steps_left}
 use Rattle.switch_laws.specs.Clocks.{listed_clock, clock_on, clocks, HasNoClock, HaveNoClocks, ClocksStay}

@@ -33,7 +33,8 @@ use Rattle.splice_plans.specs.Histories.{IsHistory, AreSteady}
 use Rattle.splice_plans.proofs.HistoryLemmas.{armed_is_history}
 use Rattle.switch_laws.specs.Moving.{sent_in_all, sent_count}
 use Rattle.switch_laws.specs.Laws.{ArePackets}
-use Rattle.switch_laws.specs.Whole.{adverts_at, table_pids, pmt_pids, NothingIsPlayed, NoPacketChanges, NoProgram}
+use Rattle.splice_plans.specs.Known.{adverts_at}
+use Rattle.switch_laws.specs.Whole.{table_pids, pmt_pids, NothingIsPlayed, NoPacketChanges, NoProgram}
 use Rattle.switch_laws.proofs.BringLemmas.{end_rule}
 use Rattle.switch_laws.proofs.MoveLemmas.{same-puts, same-fate}
 use Rattle.switch_laws.proofs.RunLemmas.{none-dropped, none-each}

@@ -28,7 +28,8 @@ use Rattle.output_laws.proofs.GaplessLemmas.{one_below}
 use Rattle.output_laws.proofs.OtherLemmas.{off_on, off-kept, skip_clock}
 use Rattle.splice_plans.specs.Playing.{Adverts, History, played, is_inside}
 use Rattle.splice_plans.specs.Switching.{Setting, switched_at, history_at, front_at, place_at, rest_at, switching, switched_past, is_switched, moves, puts_by, puts_before, puts_at_end, place_of, front_of, end_of_run}
-use Rattle.switch_laws.specs.Whole.{adverts_at, table_pids, pmt_pids, ArePacked, HavePids}
+use Rattle.splice_plans.specs.Known.{adverts_at}
+use Rattle.switch_laws.specs.Whole.{table_pids, pmt_pids, ArePacked, HavePids}
 use Rattle.switch_laws.specs.Standing.{touched, OthersStay}
 use Rattle.switch_laws.proofs.BringLemmas.{closing_rule, running_rule, end_rule}
 use Rattle.switch_laws.proofs.SoundLemmas.{EachSound, sound-before, sound-end}

@@ -26,7 +26,8 @@ use Rattle.output_laws.specs.Output.{Move, Keep, Leave, counter_steps, clock_alo
 use Rattle.output_laws.specs.Others.{is_off}
 use Rattle.output_laws.proofs.StepLemmas.{pid_is, on-kept, on-clock, on-same, pcr-error}
 use Rattle.splice_plans.specs.Switching.{Setting, switched_at, history_at, front_at, place_at, rest_at, switching, switched_past, spliced_network, is_switched, front_of, end_of_run}
-use Rattle.switch_laws.specs.Whole.{adverts_at, ArePacked, HavePids}
+use Rattle.splice_plans.specs.Known.{adverts_at}
+use Rattle.switch_laws.specs.Whole.{ArePacked, HavePids}
 use Rattle.switch_laws.specs.Standing.{is_left, done_before}
 use Rattle.switch_laws.specs.Sections.{MapsGoOut, SectionsStay}
 use Rattle.switch_laws.proofs.FaultlessLemmas.{faultless_is_sound, map-not-zero, zero-apart}

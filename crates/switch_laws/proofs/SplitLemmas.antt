@@ -28,7 +28,8 @@ use Rattle.output_laws.proofs.SplicedLemmas.{onto_moves-append}
 use Rattle.splice_plans.specs.Playing.{Adverts, History, is_inside}
 use Rattle.splice_plans.specs.Switching.{Setting, switched_at, head_at, history_at, place_at, rest_at, switching, switched_past, spliced_network, events_at, is_switched, moves, puts_before, puts_at_end, fate, place_of, front_of, end_of_run}
 use Rattle.switch_laws.specs.Moving.{moves_from, run_moves}
-use Rattle.switch_laws.specs.Whole.{adverts_at, TablesAreApart, run_out, StreamsGoByThemselves}
+use Rattle.splice_plans.specs.Known.{adverts_at}
+use Rattle.switch_laws.specs.Whole.{TablesAreApart, run_out, StreamsGoByThemselves}
 use Rattle.switch_laws.proofs.WholeLemmas.{reverse-onto, listed-later, known-later, behind-one, head-later, adverts-same, switched-same, none-switched, not-behind, is-behind}
 
 -- ---- lists

@@ -9,7 +9,8 @@ use Rattle.program_follower.specs.Program.{listed, tables, behind_head}
 use Rattle.program_laws.specs.Writing.{body}
 use Rattle.output_laws.specs.Output.{Keep, Leave, out_at}
 use Rattle.splice_plans.specs.Switching.{Setting, switched_at, history_at, switching, switched_past, is_switched, place_at, place_of}
-use Rattle.switch_laws.specs.Whole.{adverts_at, stands_for}
+use Rattle.splice_plans.specs.Known.{adverts_at}
+use Rattle.switch_laws.specs.Whole.{stands_for}
 use Rattle.switch_laws.specs.Standing.{IsNoTable, is_left, done_before, steps_before, PacketsStandAs}
 
 pub error-off : (pid : ℕ) (p : List ℕ) → in_error p ≡ true → on pid p ≡ false

@@ -17,7 +17,8 @@ use Rattle.splice_plans.specs.Switching.{Setting, switched_at, head_at, history_
 use Rattle.splice_plans.proofs.HistoryLemmas.{armed_is_history}
 use Rattle.switch_laws.specs.Moving.{intervals, sent_in_all}
 use Rattle.switch_laws.specs.Laws.{IsPlayable}
-use Rattle.switch_laws.specs.Whole.{adverts_at, breaks, placed_in, StreamsCarry}
+use Rattle.splice_plans.specs.Known.{adverts_at}
+use Rattle.switch_laws.specs.Whole.{breaks, placed_in, StreamsCarry}
 use Rattle.switch_laws.proofs.RunLemmas.{runs_carry}
 use Rattle.switch_laws.proofs.SoundLemmas.{runs_are_sound}
 use Rattle.switch_laws.proofs.SplitLemmas.{streams_go_by_themselves}

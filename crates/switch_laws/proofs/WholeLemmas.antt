@@ -14,7 +14,8 @@ use Rattle.program_laws.specs.Writing.{Along, block}
 use Rattle.program_laws.proofs.HeadLemmas.{known_stays}
 use Rattle.splice_plans.specs.Playing.{Adverts}
 use Rattle.splice_plans.specs.Switching.{Setting, switched_at, head_at, is_behind_head, front_at, rest_at, switching, switched_past}
-use Rattle.switch_laws.specs.Whole.{adverts_at, stands_for, OutputIsInOrder}
+use Rattle.splice_plans.specs.Known.{adverts_at}
+use Rattle.switch_laws.specs.Whole.{stands_for, OutputIsInOrder}
 
 -- ---- in order
 

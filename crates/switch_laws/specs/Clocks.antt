@@ -9,7 +9,8 @@ use Rattle.output_laws.specs.Output.{Packing}
 use Rattle.splice_plans.specs.Playing.{Adverts}
 use Rattle.splice_plans.specs.Switching.{Setting, switched_at, spliced_network}
 use Rattle.switch_laws.specs.Laws.{ArePackets}
-use Rattle.switch_laws.specs.Whole.{adverts_at, HavePids, TablesAreApart}
+use Rattle.splice_plans.specs.Known.{adverts_at}
+use Rattle.switch_laws.specs.Whole.{HavePids, TablesAreApart}
 
 -- the clock reference of a packet of the PID, where it has one
 abbrev pub listed_clock : Option (List ℕ) → List (List ℕ)

@@ -8,7 +8,8 @@ use Rattle.program_follower.specs.Faults.{first_fault}
 use Rattle.wire_fields.specs.Numbers.{AreBytes}
 use Rattle.program_laws.specs.Writing.{Along, ChangedGoesOut, table_out}
 use Rattle.splice_plans.specs.Switching.{Setting, spliced_network}
-use Rattle.switch_laws.specs.Whole.{adverts_at, ArePacked, HavePids}
+use Rattle.splice_plans.specs.Known.{adverts_at}
+use Rattle.switch_laws.specs.Whole.{ArePacked, HavePids}
 use Rattle.program_follower.specs.Purposes.{cues_read_on}
 
 -- the program's maps, without the entry for the cues, can be sent and are read back

@@ -13,7 +13,8 @@ use Rattle.output_laws.specs.Output.{Move, Leave, counter_steps, clock_alone}
 use Rattle.output_laws.specs.Others.{is_off}
 use Rattle.splice_plans.specs.Playing.{is_inside}
 use Rattle.splice_plans.specs.Switching.{Setting, switched_at, history_at, switched_past, spliced_network, is_switched, moves, puts_before}
-use Rattle.switch_laws.specs.Whole.{adverts_at, stands_for, table_pids, ArePacked, HavePids, TablesAreApart}
+use Rattle.splice_plans.specs.Known.{adverts_at}
+use Rattle.switch_laws.specs.Whole.{stands_for, table_pids, ArePacked, HavePids, TablesAreApart}
 use Rattle.program_follower.specs.Purposes.{cues_read_on}
 
 -- it is not on the PID of the PMT, behind the PAT

@@ -16,15 +16,12 @@ use Rattle.program_laws.specs.Cued.{stripping}
 use Rattle.output_laws.specs.Output.{Packing, output}
 use Rattle.output_laws.specs.Others.{is_off}
 use Rattle.output_laws.specs.Spliced.{placed_payloads}
+use Rattle.splice_plans.specs.Known.{adverts_at}
 use Rattle.splice_plans.specs.Playing.{Adverts, History, played}
-use Rattle.splice_plans.specs.Switching.{Setting, switched_at, streams_at, events_at, head_at, history_at, front_at, rest_at, switching, switched_past, spliced_network}
+use Rattle.splice_plans.specs.Switching.{Setting, switched_at, events_at, head_at, history_at, front_at, rest_at, switching, switched_past, spliced_network}
 use Rattle.splice_plans.specs.Histories.{AreSteady}
 use Rattle.switch_laws.specs.Moving.{run_moves, intervals, sent_in_all}
 use Rattle.switch_laws.specs.Laws.{ArePackets, PutsArePacked}
-
--- what the advertisements say of the streams that are switched behind a past
-abbrev pub adverts_at : Setting → List (List ℕ) → Adverts
-adverts_at k past = k.adverts (streams_at k past)
 
 -- WHAT STANDS IN THE OUTPUT FOR A PACKET of the network
 abbrev pub stands_for : Setting → List ℕ → List (List ℕ) → List (List ℕ)

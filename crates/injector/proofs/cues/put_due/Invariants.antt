@@ -3,7 +3,7 @@ use Rattle.std.specs.Prelude.{ℤ}
 use Rattle.std.specs.List.{flat_map}
 use Rattle.ts_packet.specs.Runs.{onto}
 use Rattle.ts_packet.specs.Transfers.{WentWell}
-use Rattle.event_table.specs.Tables.{high_of}
+use Rattle.event_table.specs.Tables.{high_time_of}
 use Rattle.outgoing_packets.specs.Numbers.{HasPut}
 use Rattle.injector.specs.Turns.{Turn, high}
 use Rattle.injector.specs.Requests.{RequestsStandFor}
@@ -17,7 +17,7 @@ invariant-loop-place g l = record {
   leads : g.S.PacketSink.leads l.initial.sink l.sink;
   well : WentWell (g.S.PacketSink.counts l.initial.sink) (g.S.PacketSink.counts l.sink);
   stands : (index : ℕ) (past : List Turn) → RequestsStandFor l.initial.requests index past → RequestsStandFor l.requests index past;
-  same_high : high_of l.requests.table ≡ high_of l.initial.requests.table;
+  same_high : high_time_of l.requests.table ≡ high_time_of l.initial.requests.table;
   count : length l.requests.table.entries.items ≡ length l.initial.requests.table.entries.items;
   sent : (puts : List (List ℕ)) (index : ℕ) (past : List Turn) (line : Option ℤ) → HasPut l.initial.out puts →
       IsBefore l.is_due l.initial.requests l.later index past line →

@@ -5,7 +5,7 @@ use Rattle.pes_time.specs.Line.{ring_of}
 use Rattle.event_table.specs.declared.table.Table.{Table}
 use Rattle.event_table.specs.Rings.{CanAdvance}
 use Rattle.event_table.specs.Standing.{IsTimeAt}
-use Rattle.event_table.specs.Tables.{high_of, values_of}
+use Rattle.event_table.specs.Tables.{high_time_of, values_of}
 use Rattle.armed_events.specs.Arming.{standing}
 use Rattle.ad_library.specs.Library.{held}
 use Rattle.splice_plans.specs.declared.plan.Plan.{Plan}
@@ -24,7 +24,7 @@ invariant_of-self-clause-rested c =
     let e = c.advance_keeping_all.ensures in
     let table = c.args.self.now.events.obeyed.table in
     rest-goes-on table c.advance_keeping_all.new.self.obeyed.table c.args.self.now.rest c.in-Some.high c.is_at_rest.ensures.fits fits
-    (subst (λ (t : Table Plan). CanAdvance (high_of t) c.in-Some.high) c.table.ensures.same (c.can_advance.ensures.0 c.if-not-can_advance.false))
+    (subst (λ (t : Table Plan). CanAdvance (high_time_of t) c.in-Some.high) c.table.ensures.same (c.can_advance.ensures.0 c.if-not-can_advance.false))
     (sym c.is_at_rest.ensures.value ∙ c.if-is_at_rest.true) e.entries e.high c.args.self.now.rested
 
 pub invariant_of-self-2-clause-rested : goal.invariant_of-self-2-clause-rested
