@@ -29,8 +29,7 @@ use splice_plans::{
 };
 use ts_packet::{Packet, PacketSink, PutFault};
 
-/// Where no event stands, none is looked at before a time this far past the greatest one, in ticks of 90 kHz: half of what lies ahead
-/// on the ring.
+/// How far past the greatest time the rest lies where no event stands, in ticks of 90 kHz: half of what lies ahead on the ring.
 const FAR_AHEAD: u64 = 1 << 31;
 
 /// The events that stand, with their plans, the streams, and what became of the events that are forgotten.
