@@ -33,7 +33,7 @@ abbrev pub numbered : Option ℕ → ℕ
 numbered None = 0
 numbered (Some place) = place + 1
 
--- under each PID the table has the place of the packets on that PID that are not marked in error
+-- under each PID (ISO/IEC 13818-1, 2.4.3.3: 13 bits) the table has the place of each packet on it that is not marked in error
 abbrev pub HasPlaces : List ℕ → List ℕ → Type 0
 HasPlaces numbers pids = (p : List ℕ) → in_error p ≡ false → pid_of p < 8192
     → slice_index_or numbers (pid_of p) 0 ≡ numbered (place_in pids p)

@@ -1,18 +1,18 @@
 //! Which of the switched streams a packet is of, looked up by its PID.
 
-ghost use Rattle.std.specs.Prelude.{◌≡◌, ◌<◌, ◌≤◌, ℕ, List, length, Option, Some, None, option_map, IfSome};
+ghost use Rattle.std.specs.Prelude.{◌≡◌, ◌<◌, ◌≤◌, ℕ, List, length, IfSome};
 ghost use Rattle.program_follower.specs.Faults.{pids_in};
-ghost use Rattle.program_follower.specs.Streaming.{first_on, place_in, HasPlaces};
+ghost use Rattle.program_follower.specs.Streaming.{place_in, HasPlaces};
 
 use psi_tables::Stream;
 use std::marker::Model;
 use ts_packet::Packet;
 
-/// By PID (ISO/IEC 13818-1, 2.4.3.3), the number of the first switched stream that has it: which of up to eight streams a packet is of,
-/// without a look at each.
+/// Of each PID (ISO/IEC 13818-1, 2.4.3.3) the number of the first switched stream that is on it: it tells which of up to eight streams a
+/// packet is of, without a look at each.
 #[derive(Drop)]
 pub(crate) struct StreamPlaces {
-    /// The number and 1; 0 where no switched stream is on the PID.
+    /// Under each PID the number and 1; 0 where no switched stream is on the PID.
     numbers: [u8; 8192],
 }
 
@@ -23,7 +23,8 @@ impl Model for StreamPlaces {
 
     ghost view = { λ s. s.numbers };
 
-    ghost invariant = { λ s. (length s.numbers ≡ 8192) × ((pid : ℕ) → pid < 8192 → slice_index_or s.numbers pid 0 ≤ 8) };
+    ghost invariant = { λ s. (length s.numbers ≡ 8192)
+        × ((pid : ℕ) → pid < 8192 → slice_index_or s.numbers pid 0 ≤ 8) };
 }
 
 impl StreamPlaces {
