@@ -13,8 +13,6 @@ mod line;
 mod reading;
 mod slice;
 mod store;
-#[cfg(test)]
-mod tests;
 mod unit;
 
 pub use advert::count_of_kind;

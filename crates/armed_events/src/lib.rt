@@ -8,6 +8,3 @@ mod obeying;
 
 pub use asked::Asked;
 pub use obeying::ArmedEvents;
-
-#[cfg(test)]
-mod tests;

@@ -13,6 +13,3 @@ pub use laws::{
     messages_are_the_only_ones,
 };
 pub use session::{Got, Session};
-
-#[cfg(test)]
-mod tests;

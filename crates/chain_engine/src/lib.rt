@@ -14,8 +14,6 @@ mod report;
 mod running;
 mod splice;
 mod talk;
-#[cfg(test)]
-mod tests;
 
 pub use automation::{Automation, Taken};
 pub use chain::{Chain, OutOfMemory, RunFault, run_inject};

@@ -9,6 +9,8 @@ mod cue_tests;
 #[cfg(test)]
 mod devices;
 #[cfg(test)]
+mod engine_tests;
+#[cfg(test)]
 mod fail_tests;
 pub mod item;
 #[cfg(test)]

@@ -10,6 +10,3 @@ mod table;
 
 pub use event::{Event, is_before};
 pub use table::{ArmRefusal, Armed, CancelRefusal, Entry, ShortenRefusal, Table};
-
-#[cfg(test)]
-mod tests;

@@ -6,7 +6,5 @@
 
 pub mod digits;
 pub mod laws;
-#[cfg(test)]
-mod tests;
 
 pub use digits::{Digits, bytes_into, bytes_of, digit_of, spell, value_of};

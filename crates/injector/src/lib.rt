@@ -21,8 +21,3 @@ pub use counts::MessageCounts;
 pub use injector::Injector;
 pub use refusal::Refusal;
 pub use requests::Requests;
-
-#[cfg(test)]
-mod feed_tests;
-#[cfg(test)]
-mod tests;

@@ -6,8 +6,6 @@
 
 mod entry;
 mod outgoing;
-#[cfg(test)]
-mod tests;
 
 pub use entry::CueEntry;
 pub use outgoing::Outgoing;

@@ -11,6 +11,3 @@ mod time;
 pub use head::{HeaderSplit, PesHead};
 pub use restamping::restamp;
 pub use time::Time33;
-
-#[cfg(test)]
-mod tests;

@@ -25,8 +25,3 @@ pub use starts::Starts;
 pub use streams::{StreamPacket, Streams};
 pub use table_reader::TableReader;
 pub use tables::{LentTable, Tables};
-
-#[cfg(test)]
-mod networks;
-#[cfg(test)]
-mod tests;

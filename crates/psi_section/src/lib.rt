@@ -12,8 +12,6 @@ mod payload;
 mod sections;
 mod store;
 mod tables;
-#[cfg(test)]
-mod tests;
 
 pub use assembler::Assembler;
 pub use checksum::{crc, crc_entry, seal};

@@ -26,6 +26,3 @@ pub use pat::Pat;
 pub use pmt::Pmt;
 pub use stream::{Stream, is_switched_kind};
 pub use writing::Section;
-
-#[cfg(test)]
-mod tests;

@@ -26,6 +26,3 @@ pub use multi::{Multi, SpliceRequests};
 pub use operations::Operations;
 pub use reply::{Reply, write_reply};
 pub use requests::{AvailIds, SpliceRequest};
-
-#[cfg(test)]
-mod tests;

@@ -14,6 +14,3 @@ pub use cue::{Cue, CueFault, read};
 pub use cue_out::{CueOut, write};
 pub use descriptors::Avails;
 pub use insert::SpliceInsert;
-
-#[cfg(test)]
-mod tests;

@@ -15,8 +15,6 @@ pub mod reader;
 pub mod sink;
 pub mod source;
 pub mod tally;
-#[cfg(test)]
-mod tests;
 pub mod transfer;
 pub mod writer;
 

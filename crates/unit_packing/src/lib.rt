@@ -6,7 +6,5 @@
 pub mod laws;
 mod packet;
 mod put;
-#[cfg(test)]
-mod tests;
 
 pub use put::{put_moved, put_unit};

@@ -7,6 +7,3 @@ mod writing;
 
 pub use reading::{bytes_from, number12, number16, number32};
 pub use writing::{put, put_number16, put_number32};
-
-#[cfg(test)]
-mod tests;
