@@ -3,10 +3,10 @@
 ghost use Rattle.std.specs.Prelude.{◌<◌, OnOk};
 ghost use Rattle.psi_section.specs.Assembling.{IsReady};
 
-use psi_section::{Assembler, Packetiser, crc, crc_entry};
+use psi_section::{Assembler, crc, crc_entry};
 use std::alloc::{AllocError, Global};
 use std::test::Fail;
-use ts_packet::{Packet, PacketList, PacketSink, Pid, PutFault};
+use ts_packet::Packet;
 
 /// A packet of PID 0x0020 with this payload, filled with 0xFF.
 fn packet(is_start: bool, counter: u8, payload: &[u8]) -> Packet
@@ -158,33 +158,5 @@ fn section_behind_an_adaptation_field(rt: HostRuntime) -> Result<(), Fail> {
     let (sections, _) = sections_in(rt.alloc(), &[one])?;
     assert_eq!(rt; sections.len(), 1);
     assert_eq!(rt; sections[0].as_slice(), [0x41, 0x30, 1, 9].as_slice());
-    Ok(())
-}
-
-#[test]
-fn put_sections_read_back(rt: HostRuntime) -> Result<(), Fail> {
-    let mut long = counting(rt.alloc(), &[0x02, 0xB3, 0xFE], 1018)?;
-    let word = crc(&long);
-    for byte in word.to_be_bytes() {
-        long.push(byte)?;
-    }
-    assert_eq!(rt; long.len(), 1025);
-    let mut broken = Vec::from_slice(rt.alloc(), &long)?;
-    broken.pop();
-    broken.push((word % 256) as u8 ^ 1)?;
-    let mut list = PacketList::new(rt.alloc(), 12)?;
-    let mut packetiser = Packetiser::new(Pid::new(0x20).ok_or("pid")?, 14);
-    assert_eq!(rt; packetiser.put(&long, &mut list), Ok(()));
-    assert_eq!(rt; packetiser.put(&broken, &mut list), Ok(()));
-    let packets = list.packets();
-    assert_eq!(rt; packets.len(), 12);
-    assert_eq!(rt; packets[0].counter(), 14);
-    assert_eq!(rt; packets[6].counter(), 4);
-    assert_eq!(rt; packets[6].unit_start(), true);
-    let (sections, bad) = sections_in(rt.alloc(), packets)?;
-    assert_eq!(rt; sections.len(), 1);
-    assert_eq!(rt; sections[0].as_slice(), long.as_slice());
-    assert_eq!(rt; bad, 1);
-    assert_eq!(rt; packetiser.put(&long, &mut list), Err(PutFault::Stuck));
     Ok(())
 }
