@@ -101,7 +101,7 @@ pub(crate) struct FailAutomation<'a> {
     pub(crate) good_takes: usize,
     pub(crate) good_answers: usize,
     pub(crate) replies: Vec<u8>,
-    failures: u64,
+    pub(crate) failures: u64,
 }
 
 impl<'a> FailAutomation<'a> {

@@ -1,13 +1,15 @@
 //! Runs by example: automations whose bytes are cut into pieces, that fail or lose replies, and devices that fail. What packets come out is
 //! shown by the vectors of the program.
 
-use chain_engine::*;
+use crate::devices::FailAutomation;
+use crate::runs::config;
+use chain_engine::{Chain, Report, RunFault, run_inject};
 use linked_list_allocator::LocalHeap;
-use psi_tables::{Config, FeedFault};
+use psi_tables::FeedFault;
 use std::alloc::{AllocError, Allocator, Global};
 use std::process::Abort;
 use std::test::*;
-use ts_packet::{Device, PacketList, PacketReader, Pid, PutFault, ReadFault};
+use ts_packet::{Device, PacketList, PacketReader, PutFault, ReadFault};
 
 /// An alive_request.
 const ALIVE: [u8; 13] = [0, 3, 0, 0x0D, 0xFF, 0xFF, 0xFF, 0xFF, 0, 0, 7, 0, 1];
@@ -15,64 +17,8 @@ const ALIVE: [u8; 13] = [0, 3, 0, 0x0D, 0xFF, 0xFF, 0xFF, 0xFF, 0, 0, 7, 0, 1];
 /// The alive_response to it, with the number of success.
 const ALIVE_REPLY: [u8; 13] = [0, 4, 0, 0x0D, 0, 0x64, 0xFF, 0xFF, 0, 0, 7, 0, 1];
 
-/// An automation whose bytes come in pieces of one size. It may fail at a take, and lose a reply.
-#[derive(Drop)]
-struct FailAutomation<'a> {
-    rest: &'a [u8],
-    size: usize,
-    /// How many takes go well before one fails.
-    good_takes: usize,
-    /// How many replies are taken before one is lost.
-    good_answers: usize,
-    replies: Vec<u8>,
-    failures: u64,
-}
-
-impl<'a> FailAutomation<'a> {
-    /// These bytes, in pieces of this size, from an automation that does not fail.
-    fn of(alloc: Global, bytes: &'a [u8], size: usize) -> FailAutomation<'a> {
-        FailAutomation {
-            rest: bytes,
-            size,
-            good_takes: usize::MAX,
-            good_answers: usize::MAX,
-            replies: Vec::new(alloc),
-            failures: 0,
-        }
-    }
-}
-
-impl Automation for FailAutomation<'_> {
-    ghost use Rattle.std.specs.Prelude.{None};
-
-    ghost takes = { λ s. None };
-
-    ghost answers = { λ s. None };
-
-    ghost failures = { λ s. s.failures };
-
-    fn take(&mut self, room: &mut [u8]) -> Taken {
-        if self.good_takes == 0 {
-            self.failures = self.failures.saturating_add(1);
-            return Taken::Failed;
-        }
-        self.good_takes -= 1;
-        let count = self.size.min(room.len()).min(self.rest.len());
-        let (piece, rest) = self.rest.split_at(count);
-        room[..count].copy_from_slice(piece);
-        self.rest = rest;
-        Taken::Bytes(count)
-    }
-
-    fn answer(&mut self, reply: &[u8]) -> bool {
-        if self.good_answers == 0 || self.replies.extend_from_slice(reply).is_err() {
-            self.failures = self.failures.saturating_add(1);
-            return false;
-        }
-        self.good_answers -= 1;
-        true
-    }
-}
+/// Takes of one such message each.
+const ONE_BY_ONE: [usize; 8] = [13; 8];
 
 /// Null packets, as bytes.
 fn null_packets(alloc: Global, count: usize) -> Result<Vec<u8>, AllocError> {
@@ -85,15 +31,6 @@ fn null_packets(alloc: Global, count: usize) -> Result<Vec<u8>, AllocError> {
         bytes.extend_from_slice(&packet)?;
     }
     Ok(bytes)
-}
-
-/// Program 1 with cues on PID 496 and index 1.
-fn config() -> Result<Config, Fail> {
-    let pid = Pid::new(496).ok_or("a PID")?;
-    match Config::new(1, pid, 1) {
-        Ok(config) => Ok(config),
-        Err(_) => Err(Fail::from("a configuration")),
-    }
 }
 
 /// Runs over these bytes to a list with this room. Answers how the run ended, and how many packets are in the list.
@@ -147,7 +84,8 @@ fn five_messages(alloc: Global) -> Result<Vec<u8>, AllocError> {
 fn pieces_of_any_size_are_messages(rt: HostRuntime) -> Result<(), Fail> {
     let bytes = five_messages(rt.alloc())?;
     for size in [1, 2, 7, 13, 14, 26, 65, 4_096] {
-        let mut automation = FailAutomation::of(rt.alloc(), bytes.as_slice(), size);
+        let sizes = [size; 65];
+        let mut automation = FailAutomation::of(rt.alloc(), bytes.as_slice(), &sizes);
         expect_run(&rt, 65, &mut automation, 5, 0)?;
         let replies = automation.replies.as_slice();
         assert_eq!(rt; replies.len(), 65);
@@ -164,7 +102,7 @@ fn pieces_of_any_size_are_messages(rt: HostRuntime) -> Result<(), Fail> {
 fn messages_behind_the_last_packet_are_not_judged(rt: HostRuntime) -> Result<(), Fail> {
     let bytes = five_messages(rt.alloc())?;
     for packets in 0..6 {
-        let mut automation = FailAutomation::of(rt.alloc(), bytes.as_slice(), 13);
+        let mut automation = FailAutomation::of(rt.alloc(), bytes.as_slice(), &ONE_BY_ONE);
         let judged = packets.min(5);
         expect_run(&rt, packets, &mut automation, judged as u64, 0)?;
         assert_eq!(rt; automation.replies.len(), 13 * judged);
@@ -176,7 +114,7 @@ fn messages_behind_the_last_packet_are_not_judged(rt: HostRuntime) -> Result<(),
 fn takes_that_fail_end_the_session(rt: HostRuntime) -> Result<(), Fail> {
     let bytes = five_messages(rt.alloc())?;
     for good in 0..5 {
-        let mut automation = FailAutomation::of(rt.alloc(), bytes.as_slice(), 13);
+        let mut automation = FailAutomation::of(rt.alloc(), bytes.as_slice(), &ONE_BY_ONE);
         automation.good_takes = good;
         expect_run(&rt, 8, &mut automation, good as u64, 0)?;
         assert_eq!(rt;
@@ -191,8 +129,9 @@ fn takes_that_fail_end_the_session(rt: HostRuntime) -> Result<(), Fail> {
 fn replies_that_are_lost_end_the_session(rt: HostRuntime) -> Result<(), Fail> {
     let bytes = five_messages(rt.alloc())?;
     for size in [13, 65] {
+        let sizes = [size; 8];
         for good in 0..5 {
-            let mut automation = FailAutomation::of(rt.alloc(), bytes.as_slice(), size);
+            let mut automation = FailAutomation::of(rt.alloc(), bytes.as_slice(), &sizes);
             automation.good_answers = good;
             expect_run(&rt, 8, &mut automation, good as u64 + 1, 0)?;
             assert_eq!(rt;
@@ -217,7 +156,7 @@ fn expect_size<R: AllocGlobal + Abort>(
         bytes.push(0)?;
     }
     bytes.extend_from_slice(&ALIVE)?;
-    let mut automation = FailAutomation::of(rt.alloc(), bytes.as_slice(), 4_096);
+    let mut automation = FailAutomation::of(rt.alloc(), bytes.as_slice(), &[4_096; 20]);
     expect_run(rt, 20, &mut automation, messages, refused)
 }
 
@@ -235,7 +174,7 @@ fn an_output_that_fails_ends_the_run(rt: HostRuntime) -> Result<(), Fail> {
     let messages = five_messages(rt.alloc())?;
     let bytes = null_packets(rt.alloc(), 5)?;
     for room in 0..5 {
-        let mut automation = FailAutomation::of(rt.alloc(), messages.as_slice(), 13);
+        let mut automation = FailAutomation::of(rt.alloc(), messages.as_slice(), &ONE_BY_ONE);
         let (outcome, count) = run(rt.alloc(), bytes.as_slice(), &mut automation, room)?;
         assert!(rt; outcome == Err(RunFault::Feed(FeedFault::Sink(PutFault::Stuck))));
         assert_eq!(rt; (count, automation.replies.len()), (room, 13 * (room + 1)));
@@ -249,7 +188,7 @@ fn a_network_that_ends_in_a_packet_ends_the_run(rt: HostRuntime) -> Result<(), F
     for size in [1, 187, 189, 939] {
         let mut bytes = null_packets(rt.alloc(), 5)?;
         bytes.truncate(size);
-        let mut automation = FailAutomation::of(rt.alloc(), messages.as_slice(), 13);
+        let mut automation = FailAutomation::of(rt.alloc(), messages.as_slice(), &ONE_BY_ONE);
         let (outcome, count) = run(rt.alloc(), bytes.as_slice(), &mut automation, 5)?;
         assert!(rt; outcome == Err(RunFault::Read(ReadFault::Truncated)));
         assert_eq!(rt;

@@ -1,6 +1,5 @@
 //! Runs over devices that fail at each of their calls in turn, networks and messages that break off anywhere, and an automation that fails.
-//! That a run takes no memory needs no test: `run` and `run_splice` are handed no allocator, and what they are handed keeps none that they
-//! could ask (`Chain` and `AdLibrary` are filled before).
+//! `run_splice` is handed no allocator; `run` has that of its chain, and is shown to need nothing of it.
 
 use crate::Item::{self, *};
 use crate::Stream;
@@ -8,9 +7,10 @@ use crate::devices::{Calls, Ending, FailAutomation, FailSource, FailTarget};
 use crate::runs::{SEVEN, config, library};
 use ad_library::AdLibrary;
 use chain_engine::{Chain, Report, RunFault, run, run_splice};
+use linked_list_allocator::LocalHeap;
 use psi_tables::FeedFault;
 use splice_switch::SwitchReport;
-use std::alloc::{AllocError, Global};
+use std::alloc::{AllocError, Allocator, Global};
 use std::process::Abort;
 use std::test::*;
 use ts_packet::{Device, PacketReader, PacketWriter, PutFault, ReadFault};
@@ -455,4 +455,42 @@ fn each_take_and_answer_fails_in_turn(rt: HostRuntime) -> Result<(), Fail> {
         );
     }
     Ok(())
+}
+
+/// What goes out of a run of the chain whose memory is this, and its replies; `None` where that is too little for a chain.
+fn run_in<A: Allocator + Copy>(
+    alloc: Global,
+    memory: A,
+    library: &AdLibrary,
+    network: &[u8],
+) -> Result<Option<(Vec<u8>, Vec<u8>)>, Fail> {
+    let Ok(chain) = Chain::new_in(memory, config()?) else {
+        return Ok(None);
+    };
+    let mut input = Device::new(network);
+    let mut reader = PacketReader::new(&mut input);
+    let mut target = Device::new(Vec::new(alloc));
+    let mut out = PacketWriter::new(&mut target);
+    let mut automation = FailAutomation::of(alloc, &STARTS, &SIZES);
+    if run(chain, &mut reader, &mut automation, library, &mut out).is_err() {
+        return Err(Fail::from("a run"));
+    }
+    Ok(Some((target.into_inner(), automation.replies)))
+}
+
+/// The least heap of which a chain can be made, to 16 bytes, is full then: whatever a run asked for, it would not get.
+#[test]
+fn a_run_asks_for_no_memory(rt: HostRuntime) -> Result<(), Fail> {
+    let library = library(rt.alloc(), SEVEN)?;
+    let network = Kind::Chain.network(rt.alloc(), 20)?;
+    let want = Stream::of(rt.alloc(), &OUT)?;
+    for size in 8_191..8_400usize {
+        let heap = LocalHeap::new(rt.alloc(), size.saturating_mul(16))?;
+        if let Some((out, replies)) = run_in(rt.alloc(), &heap, &library, network.bytes())? {
+            assert!(rt; out.as_slice() == want.bytes());
+            assert!(rt; replies.as_slice() == REPLIES.as_slice());
+            return Ok(());
+        }
+    }
+    Err(Fail::from("no heap is enough for a chain"))
 }
