@@ -82,6 +82,7 @@ impl<K: PacketSink> PacketSink for Feeding<'_, K> {
 
     ghost leads_spent = { λ s t h. h.5 };
 
+    #[inline(always)]
     fn put(&mut self, packet: &Packet) -> Result<(), PutFault> {
         match self.switch.feed(packet, self.library, self.out) {
             Ok(()) => Ok(()),
@@ -112,6 +113,7 @@ fn of_bytes(packet: &Packet)
 /// # Errors
 ///
 /// The fault of the injector, or that of the switch's sink at one of the packets that it was sent.
+#[inline(always)]
 fn pass_on<K: PacketSink>(
     injector: &mut Injector,
     switch: &mut Switch,

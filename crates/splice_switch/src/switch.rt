@@ -55,6 +55,7 @@ impl Switch {
     ///
     /// `Network` with what is wrong with the packet behind those before it: nothing was put then. `Sink` where the sink failed: it has a
     /// front of what the packet puts. `Failed` once a fault was answered, or after [`Switch::finish`].
+    #[inline(always)]
     pub fn feed<S: PacketSink>(
         &mut self,
         packet: &Packet,
