@@ -11,8 +11,8 @@ const TEXT: &str = "00090A5FAFFF";
 #[test]
 fn sixteen_digits(rt: HostRuntime) {
     for (value, digit) in b"0123456789ABCDEF".iter().enumerate() {
-        assert_eq!(rt; value_of(*digit), Some(value as u8));
-        assert_eq!(rt; digit_of((value % 16) as u8), *digit);
+        expect_eq!(rt; value_of(*digit), Some(value as u8));
+        expect_eq!(rt; digit_of((value % 16) as u8), *digit);
     }
 }
 
@@ -27,27 +27,27 @@ fn no_other_byte_is_a_digit(rt: HostRuntime) {
 fn bytes_are_spelled_behind_the_start(rt: HostRuntime) {
     let mut line = *b"xxxxxxxx";
     spell(&mut line, 1, &[0x00, 0xAF]);
-    assert_eq!(rt; line.as_slice(), b"xx00AFxx".as_slice());
+    expect_eq!(rt; line.as_slice(), b"xx00AFxx".as_slice());
 }
 
 #[test]
 fn bytes_print_as_their_digits(rt: HostRuntime) -> Result<(), Fail> {
     let text = format!(in rt.alloc(); "{}", Digits(&BYTES))?;
-    assert_eq!(rt; text.as_str(), TEXT);
+    expect_eq!(rt; text.as_str(), TEXT);
     let none = format!(in rt.alloc(); "{}", Digits(&[]))?;
-    assert_eq!(rt; none.as_str(), "");
+    expect_eq!(rt; none.as_str(), "");
     Ok(())
 }
 
 #[test]
 fn digits_are_read(rt: HostRuntime) -> Result<(), Fail> {
     let bytes = bytes_of(rt.alloc(), TEXT.as_bytes())?;
-    assert_eq!(rt;
+    expect_eq!(rt;
         bytes.as_ref().map(|bytes| bytes.as_slice()),
         Some(BYTES.as_slice())
     );
     let none = bytes_of(rt.alloc(), b"")?;
-    assert_eq!(rt; none.map(|bytes| bytes.len()), Some(0));
+    expect_eq!(rt; none.map(|bytes| bytes.len()), Some(0));
     Ok(())
 }
 

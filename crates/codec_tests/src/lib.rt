@@ -2,10 +2,20 @@
 //! devices that misbehave. No program stands on it.
 #![tactic(auto)]
 
+/// `assert_eq!` without a note, as one call: `expect_eq!(rt; left, right)`.
+#[cfg(test)]
+macro_rules! expect_eq {
+    ($rt:expr; $left:expr, $right:expr $(,)?) => {
+        crate::equality::expect_equal(&$rt, &$left, &$right)
+    };
+}
+
 #[cfg(test)]
 mod cues;
 #[cfg(test)]
 mod digits;
+#[cfg(test)]
+mod equality;
 #[cfg(test)]
 mod fields;
 #[cfg(test)]

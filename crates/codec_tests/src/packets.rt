@@ -110,7 +110,7 @@ fn two(alloc: Global) -> Result<Vec<u8>, AllocError> {
 }
 
 #[test]
-fn judges_packets(rt: HostRuntime) -> Result<(), Fail> {
+fn judges_packets(rt: HostRuntime) {
     for (control, length, fault) in [
         (2, 183, None),
         (2, 182, None),
@@ -120,27 +120,29 @@ fn judges_packets(rt: HostRuntime) -> Result<(), Fail> {
         (1, 255, None),
         (0, 255, None),
     ] {
-        assert_eq!(rt;
-            packet(control, 0, length).err(),
-            fault,
-            "control {control}, length {length}"
-        );
+        expect_eq!(rt; packet(control, 0, length).err(), fault);
     }
-    assert_eq!(rt; packet(2, 0, 182)?.payload(), None);
-    assert_eq!(rt; packet(0, 0, 0)?.payload(), None);
+}
+
+#[test]
+fn lends_payloads(rt: HostRuntime) -> Result<(), Fail> {
+    expect_eq!(rt; packet(2, 0, 182)?.payload(), None);
+    expect_eq!(rt; packet(0, 0, 0)?.payload(), None);
     let last = packet(3, 0, 182)?;
-    assert_eq!(rt; last.payload(), Some([0xA5].as_slice()));
+    expect_eq!(rt; last.payload(), Some([0xA5].as_slice()));
+    let null = Packet::null();
+    expect_eq!(rt; null.pid().get(), 0x1FFF);
+    expect_eq!(rt; null.payload(), Some([0xFF; 184].as_slice()));
+    Ok(())
+}
+
+#[test]
+fn judges_marked_packets(rt: HostRuntime) -> Result<(), Fail> {
     let mut marked = bytes(3, 0, 255);
     marked[1] = 0x81;
     assert!(rt; Packet::from_bytes(&marked)?.error());
     marked[0] = 0x46;
-    assert_eq!(rt;
-        Packet::from_bytes(&marked).err(),
-        Some(PacketFault::SyncLost)
-    );
-    let null = Packet::null();
-    assert_eq!(rt; null.pid().get(), 0x1FFF);
-    assert_eq!(rt; null.payload(), Some([0xFF; 184].as_slice()));
+    expect_eq!(rt; Packet::from_bytes(&marked).err(), Some(PacketFault::SyncLost));
     Ok(())
 }
 
@@ -158,35 +160,32 @@ fn four_answers<S: Source>(device: &mut S) -> [Result<bool, ReadFault>; 4] {
 
 /// What it has to answer over two packets, in reads of 60, 60, 60 and 8 bytes each, where one read meets a fault.
 fn faulted(odd_call: usize, fault: ReadFault) -> [Result<bool, ReadFault>; 4] {
+    failing_behind(odd_call / 4, fault)
+}
+
+/// The answers of a reader that reads so many packets and then meets a fault.
+fn failing_behind(packets: usize, fault: ReadFault) -> [Result<bool, ReadFault>; 4] {
     let failed = Err(ReadFault::Failed);
-    match odd_call / 4 {
+    match packets {
         0 => [Err(fault), failed, failed, failed],
         1 => [Ok(true), Err(fault), failed, failed],
         _ => [Ok(true), Ok(true), Err(fault), failed],
     }
 }
 
+/// The answers over two packets, and then the end.
+const BOTH: [Result<bool, ReadFault>; 4] = [Ok(true), Ok(true), Ok(false), Ok(false)];
+
 #[test]
 fn reads_past_no_fault(rt: HostRuntime) -> Result<(), Fail> {
     let all = two(rt.alloc())?;
     for odd_call in 0..9 {
         let mut device = Device::new(Odd::new(rt.alloc(), &all, 60, odd_call, Oddity::Fails));
-        assert_eq!(rt;
-            four_answers(&mut device),
-            faulted(odd_call, ReadFault::Io),
-            "at {odd_call}"
-        );
-        assert_eq!(rt;
-            device.into_inner().calls,
-            odd_call + 1,
-            "a broken reader leaves its device alone"
-        );
+        expect_eq!(rt; four_answers(&mut device), faulted(odd_call, ReadFault::Io));
+        // A broken reader leaves its device alone.
+        expect_eq!(rt; device.into_inner().calls, odd_call + 1);
         let mut device = Device::new(Odd::new(rt.alloc(), &all, 60, odd_call, Oddity::Interrupts));
-        assert_eq!(rt;
-            four_answers(&mut device),
-            [Ok(true), Ok(true), Ok(false), Ok(false)],
-            "at {odd_call}"
-        );
+        expect_eq!(rt; four_answers(&mut device), BOTH);
     }
     Ok(())
 }
@@ -205,26 +204,38 @@ fn ends_where_the_source_ends(rt: HostRuntime) -> Result<(), Fail> {
         let expected = match odd_call {
             0 => [Ok(false), Ok(true), Ok(true), Ok(false)],
             4 => [Ok(true), Ok(false), Ok(true), Ok(false)],
-            8 => [Ok(true), Ok(true), Ok(false), Ok(false)],
+            8 => BOTH,
             _ => faulted(odd_call, ReadFault::Truncated),
         };
-        assert_eq!(rt; four_answers(&mut device), expected, "at {odd_call}");
+        expect_eq!(rt; four_answers(&mut device), expected);
     }
     Ok(())
+}
+
+/// What a reader over the device gives at three calls.
+fn three_packets<S: Source>(device: &mut S) -> [Result<Option<Packet>, ReadFault>; 3] {
+    let mut reader = PacketReader::new(device);
+    [reader.next(), reader.next(), reader.next()]
 }
 
 #[test]
 fn reads_byte_by_byte(rt: HostRuntime) -> Result<(), Fail> {
     let mut all = two(rt.alloc())?;
     all.extend_from_slice(&[0x47, 0x01])?;
+    let expected = [
+        Ok(Some(packet(1, 7, 1)?)),
+        Ok(Some(packet(1, 8, 2)?)),
+        Err(ReadFault::Truncated),
+    ];
     let mut device = Device::new(Odd::new(rt.alloc(), &all, 1, 10_000, Oddity::Fails));
-    let mut reader = PacketReader::new(&mut device);
-    let mut slot = Packet::null();
-    assert_eq!(rt; reader.read_into(&mut slot), Ok(true));
-    assert_eq!(rt; slot, packet(1, 7, 1)?);
-    assert_eq!(rt; reader.next(), Ok(Some(packet(1, 8, 2)?)));
-    assert_eq!(rt; reader.read_into(&mut slot), Err(ReadFault::Truncated));
-    assert_eq!(rt; reader.read_into(&mut slot), Err(ReadFault::Failed));
+    expect_eq!(rt; three_packets(&mut device), expected);
+    let mut device = Device::new(Odd::new(rt.alloc(), &all, 1, 10_000, Oddity::Fails));
+    expect_eq!(rt; four_answers(&mut device), failing_behind(2, ReadFault::Truncated));
+    Ok(())
+}
+
+#[test]
+fn refuses_bad_packets(rt: HostRuntime) {
     for (control, first, fault) in [
         (1, 0x48, ReadFault::SyncLost),
         (2, 0x47, ReadFault::BadAdaptation),
@@ -232,41 +243,33 @@ fn reads_byte_by_byte(rt: HostRuntime) -> Result<(), Fail> {
         let mut bad = bytes(control, 0, 200);
         bad[0] = first;
         let mut device = Device::new(bad.as_slice());
-        let mut reader = PacketReader::new(&mut device);
-        assert_eq!(rt; reader.next(), Err(fault));
-        assert_eq!(rt; reader.next(), Err(ReadFault::Failed));
+        expect_eq!(rt; four_answers(&mut device), failing_behind(0, fault));
     }
-    Ok(())
 }
 
 #[test]
 fn reads_through_a_buffer(rt: HostRuntime) -> Result<(), Fail> {
     let all = two(rt.alloc())?;
+    let expected = [
+        Ok(Some(packet(1, 7, 1)?)),
+        Ok(Some(packet(1, 8, 2)?)),
+        Ok(None),
+    ];
     for (capacity, step) in [(1, 60), (188, 60), (250, 400), (376, 400), (400, 1)] {
         let odd = Odd::new(rt.alloc(), &all, step, 10_000, Oddity::Fails);
         let mut device = Buffered::new(BufReader::with_capacity(rt.alloc(), capacity, odd)?);
-        let mut reader = PacketReader::new(&mut device);
-        assert_eq!(rt;
-            reader.next(),
-            Ok(Some(packet(1, 7, 1)?)),
-            "capacity {capacity}"
-        );
-        assert_eq!(rt;
-            reader.next(),
-            Ok(Some(packet(1, 8, 2)?)),
-            "capacity {capacity}"
-        );
-        assert_eq!(rt; reader.next(), Ok(None), "capacity {capacity}");
+        expect_eq!(rt; three_packets(&mut device), expected);
     }
+    Ok(())
+}
+
+#[test]
+fn fails_through_a_buffer(rt: HostRuntime) -> Result<(), Fail> {
+    let all = two(rt.alloc())?;
     for odd_call in 0..2 {
         let odd = Odd::new(rt.alloc(), &all, 200, odd_call, Oddity::Fails);
         let mut device = Buffered::new(BufReader::with_capacity(rt.alloc(), 400, odd)?);
-        let failed = Err(ReadFault::Failed);
-        let expected = match odd_call {
-            0 => [Err(ReadFault::Io), failed, failed, failed],
-            _ => [Ok(true), Err(ReadFault::Io), failed, failed],
-        };
-        assert_eq!(rt; four_answers(&mut device), expected, "at {odd_call}");
+        expect_eq!(rt; four_answers(&mut device), failing_behind(odd_call, ReadFault::Io));
     }
     Ok(())
 }
@@ -276,12 +279,12 @@ fn gives_up_on_interruptions(rt: HostRuntime) -> Result<(), Fail> {
     let all = two(rt.alloc())?;
     let mut device = Device::new(Odd::new(rt.alloc(), &all, 60, 0, Oddity::AlwaysInterrupts));
     let mut reader = PacketReader::new(&mut device);
-    assert_eq!(rt; reader.next(), Err(ReadFault::Turns));
-    assert_eq!(rt; reader.next(), Err(ReadFault::Failed));
+    expect_eq!(rt; reader.next(), Err(ReadFault::Turns));
+    expect_eq!(rt; reader.next(), Err(ReadFault::Failed));
     let mut writer = PacketWriter::new(&mut device);
-    assert_eq!(rt; writer.put(&Packet::null()), Err(PutFault::Turns));
-    assert_eq!(rt; writer.put(&Packet::null()), Err(PutFault::Failed));
-    assert_eq!(rt; device.into_inner().calls, 0x20_0000);
+    expect_eq!(rt; writer.put(&Packet::null()), Err(PutFault::Turns));
+    expect_eq!(rt; writer.put(&Packet::null()), Err(PutFault::Failed));
+    expect_eq!(rt; device.into_inner().calls, 0x20_0000);
     Ok(())
 }
 
@@ -302,9 +305,9 @@ fn writes_a_prefix(rt: HostRuntime) -> Result<(), Fail> {
                 1 => [Ok(()), Err(fault), Err(PutFault::Failed)],
                 _ => [Ok(()), Ok(()), Err(fault)],
             };
-            assert_eq!(rt; answers, expected, "at {odd_call} {oddity:?}");
+            expect_eq!(rt; answers, expected);
             let written = device.into_inner().output;
-            assert_eq!(rt;
+            expect_eq!(rt;
                 Some(written.as_slice()),
                 all.get(..odd_call / 4 * 188 + odd_call % 4 * 60)
             );
@@ -317,11 +320,11 @@ fn writes_a_prefix(rt: HostRuntime) -> Result<(), Fail> {
 fn fills_a_list(rt: HostRuntime) -> Result<(), Fail> {
     let (first, second) = (packet(1, 7, 1)?, packet(1, 8, 2)?);
     let mut list = PacketList::new(rt.alloc(), 2)?;
-    assert_eq!(rt; list.put(&first), Ok(()));
-    assert_eq!(rt; list.put(&second), Ok(()));
-    assert_eq!(rt; list.put(&first), Err(PutFault::Stuck));
-    assert_eq!(rt; list.put(&first), Err(PutFault::Failed));
-    assert_eq!(rt; list.packets(), [first, second].as_slice());
+    expect_eq!(rt; list.put(&first), Ok(()));
+    expect_eq!(rt; list.put(&second), Ok(()));
+    expect_eq!(rt; list.put(&first), Err(PutFault::Stuck));
+    expect_eq!(rt; list.put(&first), Err(PutFault::Failed));
+    expect_eq!(rt; list.packets(), [first, second].as_slice());
     Ok(())
 }
 
@@ -354,18 +357,18 @@ fn follows_duplicates(rt: HostRuntime) -> Result<(), Fail> {
 #[test]
 fn counts_on(rt: HostRuntime) -> Result<(), Fail> {
     let mut counter = Counter::new();
-    assert_eq!(rt; counter.fresh(), 0);
-    assert_eq!(rt; counter.kept(&packet(1, 15, 0)?), 0);
-    assert_eq!(rt; counter.kept(&packet(2, 15, 10)?), 0);
+    expect_eq!(rt; counter.fresh(), 0);
+    expect_eq!(rt; counter.kept(&packet(1, 15, 0)?), 0);
+    expect_eq!(rt; counter.kept(&packet(2, 15, 10)?), 0);
     let left_out = packet(1, 0, 0)?;
     assert!(rt; left_out.payload().is_some());
     if left_out.has_payload() {
-        assert_eq!(rt; counter.dropped(&left_out), 0);
+        expect_eq!(rt; counter.dropped(&left_out), 0);
     }
-    assert_eq!(rt; counter.fresh(), 1);
-    assert_eq!(rt; counter.fresh(), 2);
-    assert_eq!(rt; counter.kept(&packet(1, 1, 0)?), 3);
-    assert_eq!(rt; counter.fresh(), 4);
+    expect_eq!(rt; counter.fresh(), 1);
+    expect_eq!(rt; counter.fresh(), 2);
+    expect_eq!(rt; counter.kept(&packet(1, 1, 0)?), 3);
+    expect_eq!(rt; counter.fresh(), 4);
     Ok(())
 }
 
@@ -383,8 +386,8 @@ fn keeps_the_clock_alone(rt: HostRuntime) -> Result<(), Fail> {
         0x47, 0x01, 0x00, 0x26, 0xB7, 0x10, 0x12, 0x34, 0x56, 0x78, 0x7E, 0x9A,
     ];
     expected[..12].copy_from_slice(&head);
-    assert_eq!(rt; alone.to_bytes(), expected);
+    expect_eq!(rt; alone.to_bytes(), expected);
     with_clock[4] = 6;
-    assert_eq!(rt; pcr_only(&Packet::from_bytes(&with_clock)?, 6), None);
+    expect_eq!(rt; pcr_only(&Packet::from_bytes(&with_clock)?, 6), None);
     Ok(())
 }

@@ -29,7 +29,7 @@ fn units_of_one_packet(rt: HostRuntime) -> Result<(), Fail> {
     put_unit(&unit[..182], false, pid()?, &mut Counter::new(), &mut list)
         .ok()
         .ok_or("182 bytes")?;
-    assert_eq!(rt; list.packets().len(), 3);
+    expect_eq!(rt; list.packets().len(), 3);
     assert!(rt; is_packet(&list.packets()[0], &[0x47, 0x41, 0x00, 0x10], &unit));
     assert!(rt;
         is_packet(
@@ -57,7 +57,7 @@ fn random_access_and_stuffing(rt: HostRuntime) -> Result<(), Fail> {
         .ok()
         .ok_or("183 bytes")?;
     let packets = list.packets();
-    assert_eq!(rt; packets.len(), 2);
+    expect_eq!(rt; packets.len(), 2);
     assert!(rt;
         is_packet(
             &packets[0],
@@ -73,12 +73,12 @@ fn random_access_and_stuffing(rt: HostRuntime) -> Result<(), Fail> {
         )
     );
     // The list has room for one packet more: the second is not taken, and not counted.
-    assert_eq!(rt;
+    expect_eq!(rt;
         put_unit(&unit, true, pid()?, &mut counter, &mut list),
         Err(PutFault::Stuck)
     );
-    assert_eq!(rt; list.packets().len(), 3);
-    assert_eq!(rt; counter.fresh(), 3);
+    expect_eq!(rt; list.packets().len(), 3);
+    expect_eq!(rt; counter.fresh(), 3);
     Ok(())
 }
 
@@ -102,14 +102,14 @@ fn moved_stamps(rt: HostRuntime) -> Result<(), Fail> {
     )
     .ok()
     .ok_or("200 bytes")?;
-    assert_eq!(rt; list.packets().len(), 2);
+    expect_eq!(rt; list.packets().len(), 2);
     let first = list.packets()[0].to_bytes();
-    assert_eq!(rt;
+    expect_eq!(rt;
         &first[13..19],
         [0x21, 0x00, 0x4D, 0x73, 0xC1, 0xA5].as_slice()
     );
-    assert_eq!(rt; &first[4..13], &unit[..9]);
-    assert_eq!(rt; &unit[9..14], [0x21, 0x00, 0x05, 0xBF, 0x21].as_slice());
+    expect_eq!(rt; &first[4..13], &unit[..9]);
+    expect_eq!(rt; &unit[9..14], [0x21, 0x00, 0x05, 0xBF, 0x21].as_slice());
     laws::units_are_packed();
     laws::packed_carry();
     laws::packets_are_plain();

@@ -28,30 +28,30 @@ fn take<A: Allocator>(session: &mut Session<A>, piece: &[u8]) -> (usize, usize) 
 #[test]
 fn takes_any_pieces(rt: HostRuntime) -> Result<(), Fail> {
     let mut session = Session::new(rt.alloc())?;
-    assert_eq!(rt; take(&mut session, &REQUEST), (1, 30));
+    expect_eq!(rt; take(&mut session, &REQUEST), (1, 30));
     for (place, byte) in REQUEST.iter().enumerate() {
         let want = if place == 29 { (1, 30) } else { (0, 0) };
         assert_eq!(rt; take(&mut session, &[*byte]), want, "at {place}");
     }
     let mut twice = Vec::from_slice(rt.alloc(), &REQUEST)?;
     twice.extend_from_slice(&REQUEST)?;
-    assert_eq!(rt; take(&mut session, twice.as_slice()), (2, 30));
-    assert_eq!(rt; session.end(), 0);
+    expect_eq!(rt; take(&mut session, twice.as_slice()), (2, 30));
+    expect_eq!(rt; session.end(), 0);
     Ok(())
 }
 
 #[test]
 fn closes_for_good(rt: HostRuntime) -> Result<(), Fail> {
     let mut session = Session::new(rt.alloc())?;
-    assert_eq!(rt; session.feed(&[0xFF, 0xFF, 0]), (3, Got::None));
-    assert_eq!(rt; session.feed(&[0x0B, 1, 2]), (1, Got::Closed));
-    assert_eq!(rt; session.feed(&REQUEST), (0, Got::Closed));
-    assert_eq!(rt; session.end(), 0);
+    expect_eq!(rt; session.feed(&[0xFF, 0xFF, 0]), (3, Got::None));
+    expect_eq!(rt; session.feed(&[0x0B, 1, 2]), (1, Got::Closed));
+    expect_eq!(rt; session.feed(&REQUEST), (0, Got::Closed));
+    expect_eq!(rt; session.end(), 0);
     for pending in 0..30 {
         let mut session = Session::new(rt.alloc())?;
-        assert_eq!(rt; session.feed(&REQUEST[..pending]), (pending, Got::None));
-        assert_eq!(rt; session.end(), pending);
-        assert_eq!(rt; session.feed(&REQUEST), (0, Got::Closed));
+        expect_eq!(rt; session.feed(&REQUEST[..pending]), (pending, Got::None));
+        expect_eq!(rt; session.end(), pending);
+        expect_eq!(rt; session.feed(&REQUEST), (0, Got::Closed));
     }
     Ok(())
 }
@@ -66,14 +66,14 @@ fn takes_the_longest_message(rt: HostRuntime) -> Result<(), Fail> {
     stream.extend_from_slice(&REQUEST)?;
     let mut session = Session::new(rt.alloc())?;
     for piece in stream.as_slice().chunks(4096).take(15) {
-        assert_eq!(rt; session.feed(piece), (4096, Got::None));
+        expect_eq!(rt; session.feed(piece), (4096, Got::None));
     }
     let last = &stream.as_slice()[61_440..65_536];
     let (used, got) = session.feed(last);
-    assert_eq!(rt; used, 4095);
+    expect_eq!(rt; used, 4095);
     assert!(rt; matches!(got, Got::Message(message) if message.len() == 65_535));
-    assert_eq!(rt; session.feed(&last[4095..]), (1, Got::None));
-    assert_eq!(rt; take(&mut session, &REQUEST[1..]), (1, 30));
+    expect_eq!(rt; session.feed(&last[4095..]), (1, Got::None));
+    expect_eq!(rt; take(&mut session, &REQUEST[1..]), (1, 30));
     Ok(())
 }
 
@@ -94,7 +94,7 @@ fn asks_for_memory_once(rt: HostRuntime) -> Result<(), Fail> {
         let heap = LocalHeap::new(rt.alloc(), size)?;
         let worked = works(&heap);
         assert_eq!(rt; worked.is_ok(), want, "with {size} bytes");
-        assert_eq!(rt; heap.used(), 0);
+        expect_eq!(rt; heap.used(), 0);
     }
     Ok(())
 }

@@ -53,16 +53,16 @@ const SPLIT: [&[u8]; 8] = [
 fn ring(rt: HostRuntime) -> Result<(), Fail> {
     let last = Time33::new((1 << 33) - 1).ok_or("a time")?;
     let first = Time33::new(0).ok_or("a time")?;
-    assert_eq!(rt; Time33::new(1 << 33), None);
-    assert_eq!(rt; last.ticks(), 8_589_934_591);
-    assert_eq!(rt; last.plus(1), first);
-    assert_eq!(rt; last.plus(u64::MAX).ticks(), 8_589_934_590);
-    assert_eq!(rt; first.minus(1), last);
-    assert_eq!(rt; first.minus(u64::MAX).ticks(), 1);
-    assert_eq!(rt; first.signed_from(last), 1);
-    assert_eq!(rt; last.signed_from(first), -1);
-    assert_eq!(rt; first.plus(1 << 32).signed_from(first), -(1 << 32));
-    assert_eq!(rt; first.plus((1 << 32) - 1).signed_from(first), (1 << 32) - 1);
+    expect_eq!(rt; Time33::new(1 << 33), None);
+    expect_eq!(rt; last.ticks(), 8_589_934_591);
+    expect_eq!(rt; last.plus(1), first);
+    expect_eq!(rt; last.plus(u64::MAX).ticks(), 8_589_934_590);
+    expect_eq!(rt; first.minus(1), last);
+    expect_eq!(rt; first.minus(u64::MAX).ticks(), 1);
+    expect_eq!(rt; first.signed_from(last), 1);
+    expect_eq!(rt; last.signed_from(first), -1);
+    expect_eq!(rt; first.plus(1 << 32).signed_from(first), -(1 << 32));
+    expect_eq!(rt; first.plus((1 << 32) - 1).signed_from(first), (1 << 32) - 1);
     laws::ring_order_is_line_order();
     laws::lift_is_the_near_time();
     Ok(())
@@ -83,9 +83,9 @@ fn timed(rt: HostRuntime) -> Result<(), Fail> {
     let second = Time33::new(90_000).ok_or("a time")?;
     let last = Time33::new((1 << 33) - 1).ok_or("a time")?;
     let whole = PesHead::read(&PTS_ALONE);
-    assert_eq!(rt; whole, Ok(head_at(second, None)));
-    assert_eq!(rt; PesHead::read(&PTS_ALONE[..14]), whole);
-    assert_eq!(rt; PesHead::read(&BOTH), Ok(head_at(last, Some(second))));
+    expect_eq!(rt; whole, Ok(head_at(second, None)));
+    expect_eq!(rt; PesHead::read(&PTS_ALONE[..14]), whole);
+    expect_eq!(rt; PesHead::read(&BOTH), Ok(head_at(last, Some(second))));
     laws::more_bytes_read_the_same();
     Ok(())
 }
@@ -93,10 +93,10 @@ fn timed(rt: HostRuntime) -> Result<(), Fail> {
 #[test]
 fn not_timed(rt: HostRuntime) {
     for payload in &UNTIMED {
-        assert_eq!(rt; PesHead::read(payload), Ok(PesHead::Untimed));
+        expect_eq!(rt; PesHead::read(payload), Ok(PesHead::Untimed));
     }
     for payload in &SPLIT {
-        assert_eq!(rt; PesHead::read(payload), Err(HeaderSplit));
+        expect_eq!(rt; PesHead::read(payload), Err(HeaderSplit));
     }
     laws::split_is_undecided();
 }
@@ -106,16 +106,16 @@ fn moved(rt: HostRuntime) -> Result<(), Fail> {
     let mut unit = PTS_ALONE;
     let head = PesHead::read(&unit).ok().ok_or("a head")?;
     restamp(&mut unit, &head, Time33::new(1_170_000).ok_or("a time")?);
-    assert_eq!(rt;
+    expect_eq!(rt;
         &unit[9..],
         [0x21, 0x00, 0x4D, 0x73, 0xC1, 0xAA, 0xBB].as_slice()
     );
-    assert_eq!(rt; &unit[..9], &PTS_ALONE[..9]);
+    expect_eq!(rt; &unit[..9], &PTS_ALONE[..9]);
     let mut unit = BOTH;
     let head = PesHead::read(&unit).ok().ok_or("a head")?;
     restamp(&mut unit, &head, Time33::new(1_170_001).ok_or("a time")?);
-    assert_eq!(rt; &unit[9..14], [0x31, 0x00, 0x47, 0xB4, 0xA1].as_slice());
-    assert_eq!(rt;
+    expect_eq!(rt; &unit[9..14], [0x31, 0x00, 0x47, 0xB4, 0xA1].as_slice());
+    expect_eq!(rt;
         &unit[14..],
         [0x11, 0x00, 0x4D, 0x73, 0xC3, 0xCC].as_slice()
     );

@@ -169,26 +169,26 @@ fn unit_of(slice: Option<Slice<'_>>, count: usize) -> (u64, usize, u64) {
 fn files_units(rt: HostRuntime) -> Result<(), Fail> {
     let bytes = video(rt.alloc(), 90_000, 900)?;
     let mut library = AdLibrary::new(rt.alloc());
-    assert_eq!(rt; add(&mut library, 7, bytes.as_slice()), Ok(()));
-    assert_eq!(rt;
+    expect_eq!(rt; add(&mut library, 7, bytes.as_slice()), Ok(()));
+    expect_eq!(rt;
         add(&mut library, 7, bytes.as_slice()),
         Err(AdFault::Exists)
     );
-    assert_eq!(rt;
+    expect_eq!(rt;
         told(library.slice(7, 0x1B, 0, 2_700_000)),
         (900, 2_697_000)
     );
-    assert_eq!(rt; told(library.slice(7, 0x1B, 0, 3_000)), (1, 0));
-    assert_eq!(rt; told(library.slice(7, 0x1B, 0, 1)), (1, 0));
-    assert_eq!(rt; told(library.slice(7, 0x1B, 0, 0)), (0, 0));
-    assert_eq!(rt; told(library.slice(7, 0x1B, 1, 3_000)), (u64::MAX, 0));
-    assert_eq!(rt; told(library.slice(8, 0x1B, 0, 3_000)), (u64::MAX, 0));
-    assert_eq!(rt; told(library.slice(7, 0x0F, 0, 3_000)), (0, 0));
-    assert_eq!(rt;
+    expect_eq!(rt; told(library.slice(7, 0x1B, 0, 3_000)), (1, 0));
+    expect_eq!(rt; told(library.slice(7, 0x1B, 0, 1)), (1, 0));
+    expect_eq!(rt; told(library.slice(7, 0x1B, 0, 0)), (0, 0));
+    expect_eq!(rt; told(library.slice(7, 0x1B, 1, 3_000)), (u64::MAX, 0));
+    expect_eq!(rt; told(library.slice(8, 0x1B, 0, 3_000)), (u64::MAX, 0));
+    expect_eq!(rt; told(library.slice(7, 0x0F, 0, 3_000)), (0, 0));
+    expect_eq!(rt;
         unit_of(library.slice(7, 0x1B, 0, 9_001), 2),
         (6_000, 200, 90_000)
     );
-    assert_eq!(rt;
+    expect_eq!(rt;
         unit_of(library.slice(7, 0x1B, 0, 9_001), 4),
         (u64::MAX, 1, 0)
     );
@@ -211,11 +211,11 @@ fn fits_to_the_tick(rt: HostRuntime) -> Result<(), Fail> {
         put_packet(&mut bytes, 0x100, 3, true, &timed(2_700_000))?;
         put_packet(&mut bytes, 0x100, 4, true, &timed(90_000 + last))?;
         let mut library = AdLibrary::new(rt.alloc());
-        assert_eq!(rt; add(&mut library, 7, bytes.as_slice()), Ok(()));
-        assert_eq!(rt; library.fits(7, &[stream(pid)], 2_700_000), fits);
-        assert_eq!(rt; library.fits(7, &[], 2_700_000), true);
-        assert_eq!(rt; library.fits(7, &[stream(pid), stream(pid)], 1), false);
-        assert_eq!(rt; library.fits(8, &[], 1), false);
+        expect_eq!(rt; add(&mut library, 7, bytes.as_slice()), Ok(()));
+        expect_eq!(rt; library.fits(7, &[stream(pid)], 2_700_000), fits);
+        expect_eq!(rt; library.fits(7, &[], 2_700_000), true);
+        expect_eq!(rt; library.fits(7, &[stream(pid), stream(pid)], 1), false);
+        expect_eq!(rt; library.fits(8, &[], 1), false);
     }
     Ok(())
 }
@@ -223,18 +223,18 @@ fn fits_to_the_tick(rt: HostRuntime) -> Result<(), Fail> {
 #[test]
 fn faults_of_the_stream(rt: HostRuntime) -> Result<(), Fail> {
     let alloc = rt.alloc();
-    assert_eq!(rt; fault_of(alloc, &[]), Err(AdFault::NoProgram));
+    expect_eq!(rt; fault_of(alloc, &[]), Err(AdFault::NoProgram));
     let mut bytes = head(alloc)?;
-    assert_eq!(rt; fault_of(alloc, bytes.as_slice()), Err(AdFault::NoTime));
+    expect_eq!(rt; fault_of(alloc, bytes.as_slice()), Err(AdFault::NoTime));
     put_packet(&mut bytes, 0x100, 0, true, &UNTIMED)?;
-    assert_eq!(rt; fault_of(alloc, bytes.as_slice()), Err(AdFault::NoTime));
+    expect_eq!(rt; fault_of(alloc, bytes.as_slice()), Err(AdFault::NoTime));
     put_packet(&mut bytes, 0x100, 1, true, &timed(0))?;
-    assert_eq!(rt; fault_of(alloc, bytes.as_slice()), Ok(()));
+    expect_eq!(rt; fault_of(alloc, bytes.as_slice()), Ok(()));
     put_packet(&mut bytes, 0x102, 9, true, &[7])?;
     put_packet(&mut bytes, 0x102, 5, true, &[7])?;
-    assert_eq!(rt; fault_of(alloc, bytes.as_slice()), Ok(()));
+    expect_eq!(rt; fault_of(alloc, bytes.as_slice()), Ok(()));
     put_packet(&mut bytes, 0x100, 3, true, &timed(3000))?;
-    assert_eq!(rt; fault_of(alloc, bytes.as_slice()), Err(AdFault::Loss));
+    expect_eq!(rt; fault_of(alloc, bytes.as_slice()), Err(AdFault::Loss));
     Ok(())
 }
 
@@ -243,20 +243,20 @@ fn faults_of_packets(rt: HostRuntime) -> Result<(), Fail> {
     let alloc = rt.alloc();
     let mut bytes = head(alloc)?;
     bytes.push(0x47)?;
-    assert_eq!(rt;
+    expect_eq!(rt;
         fault_of(alloc, bytes.as_slice()),
         Err(AdFault::Packets(ReadFault::Truncated))
     );
     let mut bytes = head(alloc)?;
     bytes.extend_from_slice(&[0; 188])?;
-    assert_eq!(rt;
+    expect_eq!(rt;
         fault_of(alloc, bytes.as_slice()),
         Err(AdFault::Packets(ReadFault::SyncLost))
     );
     let mut bytes = head(alloc)?;
     bytes.extend_from_slice(&[0x47, 0x01, 0x00, 0x90])?;
     bytes.extend_from_slice(&[7; 184])?;
-    assert_eq!(rt; fault_of(alloc, bytes.as_slice()), Err(AdFault::Scrambled));
+    expect_eq!(rt; fault_of(alloc, bytes.as_slice()), Err(AdFault::Scrambled));
     let mut bytes = head(alloc)?;
     put_packet(
         &mut bytes,
@@ -265,14 +265,14 @@ fn faults_of_packets(rt: HostRuntime) -> Result<(), Fail> {
         true,
         &[0, 0, 1, 0xE0, 0, 0, 0x80, 0x80, 5, 0x21],
     )?;
-    assert_eq!(rt;
+    expect_eq!(rt;
         fault_of(alloc, bytes.as_slice()),
         Err(AdFault::HeaderSplit)
     );
     let mut bytes = head(alloc)?;
     put_packet(&mut bytes, 0x100, 0, true, &timed(0))?;
     put_packet(&mut bytes, 0x101, 0, true, &timed(900_001))?;
-    assert_eq!(rt; fault_of(alloc, bytes.as_slice()), Err(AdFault::TimeJump));
+    expect_eq!(rt; fault_of(alloc, bytes.as_slice()), Err(AdFault::TimeJump));
     Ok(())
 }
 
@@ -288,20 +288,20 @@ fn out_of_order_and_round_the_clock(rt: HostRuntime) -> Result<(), Fail> {
     put_packet(&mut bytes, 0x100, 2, true, &UNTIMED)?;
     put_packet(&mut bytes, 0x100, 3, true, &timed(3_000))?;
     let mut library = AdLibrary::new(rt.alloc());
-    assert_eq!(rt; add(&mut library, 1, bytes.as_slice()), Ok(()));
-    assert_eq!(rt;
+    expect_eq!(rt; add(&mut library, 1, bytes.as_slice()), Ok(()));
+    expect_eq!(rt;
         unit_of(library.slice(1, 0x1B, 0, 3_000), 0),
         (0, 16, turn - 3_000)
     );
-    assert_eq!(rt;
+    expect_eq!(rt;
         unit_of(library.slice(1, 0x1B, 0, 3_000), 1),
         (0, 11, turn - 3_000)
     );
-    assert_eq!(rt;
+    expect_eq!(rt;
         unit_of(library.slice(1, 0x1B, 0, 3_000), 2),
         (u64::MAX, 1, 0)
     );
-    assert_eq!(rt;
+    expect_eq!(rt;
         unit_of(library.slice(1, 0x0F, 0, 10_000), 0),
         (9_000, 200, turn - 3_000)
     );
@@ -314,16 +314,16 @@ fn files_64(rt: HostRuntime) -> Result<(), Fail> {
     put_packet(&mut bytes, 0x100, 0, true, &timed(0))?;
     let mut library = AdLibrary::new(rt.alloc());
     for id in 0..64 {
-        assert_eq!(rt; add(&mut library, id, bytes.as_slice()), Ok(()));
+        expect_eq!(rt; add(&mut library, id, bytes.as_slice()), Ok(()));
     }
-    assert_eq!(rt; add(&mut library, 64, bytes.as_slice()), Err(AdFault::Many));
-    assert_eq!(rt; add(&mut library, 64, &[]), Err(AdFault::Many));
-    assert_eq!(rt;
+    expect_eq!(rt; add(&mut library, 64, bytes.as_slice()), Err(AdFault::Many));
+    expect_eq!(rt; add(&mut library, 64, &[]), Err(AdFault::Many));
+    expect_eq!(rt;
         add(&mut library, 63, bytes.as_slice()),
         Err(AdFault::Exists)
     );
-    assert_eq!(rt; told(library.slice(63, 0x1B, 0, 1)), (1, 0));
-    assert_eq!(rt; told(library.slice(64, 0x1B, 0, 1)), (u64::MAX, 0));
+    expect_eq!(rt; told(library.slice(63, 0x1B, 0, 1)), (1, 0));
+    expect_eq!(rt; told(library.slice(64, 0x1B, 0, 1)), (u64::MAX, 0));
     Ok(())
 }
 
@@ -361,8 +361,8 @@ fn faults_of_the_device(rt: HostRuntime) -> Result<(), Fail> {
                 kind,
             });
             let mut reader = PacketReader::new(&mut device);
-            assert_eq!(rt; library.add(7, &mut reader), Err(fault));
-            assert_eq!(rt; library.fits(7, &[], 1), false);
+            expect_eq!(rt; library.add(7, &mut reader), Err(fault));
+            expect_eq!(rt; library.fits(7, &[], 1), false);
         }
     }
     Ok(())
@@ -374,15 +374,15 @@ fn faults_of_the_program(rt: HostRuntime) -> Result<(), Fail> {
     let mut bytes = Vec::new(alloc);
     let pat = [0, 0xB0, 0x0D, 0, 1, 0xC1, 0, 1, 0, 1, 0xE0, 0x20];
     put_section(&mut bytes, alloc, 0, 0, &pat)?;
-    assert_eq!(rt; fault_of(alloc, bytes.as_slice()), Err(AdFault::Sections));
+    expect_eq!(rt; fault_of(alloc, bytes.as_slice()), Err(AdFault::Sections));
     let mut bytes = Vec::new(alloc);
     let pat = [0, 0xB0, 0x0D, 0, 1, 0xC1, 0, 0, 0, 1, 0xFF, 0xFF];
     put_section(&mut bytes, alloc, 0, 0, &pat)?;
-    assert_eq!(rt; fault_of(alloc, bytes.as_slice()), Err(AdFault::BadPids));
+    expect_eq!(rt; fault_of(alloc, bytes.as_slice()), Err(AdFault::BadPids));
     let mut bytes = head(alloc)?;
     let pat = [0, 0xB0, 0x0D, 0, 1, 0xC3, 0, 0, 0, 1, 0xE0, 0x21];
     put_section(&mut bytes, alloc, 0, 1, &pat)?;
-    assert_eq!(rt;
+    expect_eq!(rt;
         fault_of(alloc, bytes.as_slice()),
         Err(AdFault::ProgramChanged)
     );
@@ -395,7 +395,7 @@ fn faults_of_the_program(rt: HostRuntime) -> Result<(), Fail> {
             map.extend_from_slice(&[0x1B, 0xE1, pid, 0xF0, 0])?;
         }
         put_section(&mut bytes, alloc, 0x20, 0, map.as_slice())?;
-        assert_eq!(rt; fault_of(alloc, bytes.as_slice()), Err(fault));
+        expect_eq!(rt; fault_of(alloc, bytes.as_slice()), Err(fault));
     }
     Ok(())
 }
@@ -405,7 +405,7 @@ fn bad_adaptation(rt: HostRuntime) -> Result<(), Fail> {
     let mut bytes = head(rt.alloc())?;
     bytes.extend_from_slice(&[0x47, 0x01, 0x00, 0x30, 184])?;
     bytes.extend_from_slice(&[0; 183])?;
-    assert_eq!(rt;
+    expect_eq!(rt;
         fault_of(rt.alloc(), bytes.as_slice()),
         Err(AdFault::Packets(ReadFault::BadAdaptation))
     );
@@ -423,7 +423,7 @@ fn nothing_is_missed_in_the_head(rt: HostRuntime) -> Result<(), Fail> {
         put_map(&mut bytes, alloc, 0)?;
         put_packet(&mut bytes, 0x100, 9, true, &timed(0))?;
         put_packet(&mut bytes, 0x100, counter, true, &timed(3_000))?;
-        assert_eq!(rt; fault_of(alloc, bytes.as_slice()), answer);
+        expect_eq!(rt; fault_of(alloc, bytes.as_slice()), answer);
     }
     Ok(())
 }
@@ -445,10 +445,10 @@ fn the_first_of_two_programs(rt: HostRuntime) -> Result<(), Fail> {
     put_packet(&mut bytes, 0x100, 0, true, &timed(90_000))?;
     put_packet(&mut bytes, 0x200, 7, true, &timed(5_000_000))?;
     let mut library = AdLibrary::new(alloc);
-    assert_eq!(rt; add(&mut library, 1, bytes.as_slice()), Ok(()));
-    assert_eq!(rt; unit_of(library.slice(1, 0x1B, 0, 1), 0), (0, 16, 90_000));
-    assert_eq!(rt; told(library.slice(1, 0x1B, 0, 9_000_000)), (1, 0));
-    assert_eq!(rt; told(library.slice(1, 0x02, 0, 9_000_000)), (u64::MAX, 0));
+    expect_eq!(rt; add(&mut library, 1, bytes.as_slice()), Ok(()));
+    expect_eq!(rt; unit_of(library.slice(1, 0x1B, 0, 1), 0), (0, 16, 90_000));
+    expect_eq!(rt; told(library.slice(1, 0x1B, 0, 9_000_000)), (1, 0));
+    expect_eq!(rt; told(library.slice(1, 0x02, 0, 9_000_000)), (u64::MAX, 0));
     Ok(())
 }
 
@@ -491,8 +491,8 @@ fn no_longer_than_64_mib(rt: HostRuntime) -> Result<(), Fail> {
             times,
         });
         let mut reader = PacketReader::new(&mut device);
-        assert_eq!(rt; library.add(7, &mut reader), answer);
-        assert_eq!(rt; library.fits(7, &[], 1), answer.is_ok());
+        expect_eq!(rt; library.add(7, &mut reader), answer);
+        expect_eq!(rt; library.fits(7, &[], 1), answer.is_ok());
     }
     Ok(())
 }
@@ -510,16 +510,16 @@ fn offsets_past_a_turn_of_the_clock(rt: HostRuntime) -> Result<(), Fail> {
         )?;
     }
     let mut library = AdLibrary::new(rt.alloc());
-    assert_eq!(rt; add(&mut library, 7, bytes.as_slice()), Ok(()));
+    expect_eq!(rt; add(&mut library, 7, bytes.as_slice()), Ok(()));
     for (length, count, greatest) in [
         (1 << 33, 9_545, 8_589_600_000),
         (8_590_500_000, 9_545, 8_589_600_000),
         (8_590_500_001, 9_546, 8_590_500_000),
     ] {
-        assert_eq!(rt; told(library.slice(7, 0x1B, 0, length)), (count, greatest));
+        expect_eq!(rt; told(library.slice(7, 0x1B, 0, length)), (count, greatest));
     }
     for (length, fits) in [(8_590_545_000, true), (8_590_545_001, false)] {
-        assert_eq!(rt;
+        expect_eq!(rt;
             library.fits(7, &[stream(Pid::of_bits(3, 0))], length),
             fits
         );
@@ -553,7 +553,7 @@ fn each_request_refused(rt: HostRuntime) -> Result<(), Fail> {
         let taken: Vec<u8, &LocalHeap> = Vec::with_capacity(&heap, 40_000 - 16 * step)?;
         let mut library = AdLibrary::new_in(&heap);
         let answers = (add(&mut library, 1, bytes), add(&mut library, 2, bytes));
-        assert_eq!(rt;
+        expect_eq!(rt;
             counts(&library),
             (count_of(answers.0), count_of(answers.1))
         );
@@ -561,19 +561,19 @@ fn each_request_refused(rt: HostRuntime) -> Result<(), Fail> {
             one_refused = one_refused.saturating_add(1);
         }
         if step == 1 || step == 1_000 {
-            assert_eq!(rt; answers.0.is_err(), step == 1);
-            assert_eq!(rt; answers.1.is_err(), step == 1);
+            expect_eq!(rt; answers.0.is_err(), step == 1);
+            expect_eq!(rt; answers.1.is_err(), step == 1);
         }
         drop(taken);
         if answers.0.is_err() {
-            assert_eq!(rt; add(&mut library, 1, bytes), Ok(()));
+            expect_eq!(rt; add(&mut library, 1, bytes), Ok(()));
         }
         if answers.1.is_err() {
-            assert_eq!(rt; add(&mut library, 2, bytes), Ok(()));
+            expect_eq!(rt; add(&mut library, 2, bytes), Ok(()));
         }
-        assert_eq!(rt; counts(&library), (9, 9));
+        expect_eq!(rt; counts(&library), (9, 9));
         drop(library);
-        assert_eq!(rt; heap.used(), 0);
+        expect_eq!(rt; heap.used(), 0);
     }
     assert!(rt; one_refused > 100);
     Ok(())

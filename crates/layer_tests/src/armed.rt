@@ -134,9 +134,9 @@ const TURNS: [Turn; 17] = [
 #[test]
 fn cues_in_turn(rt: HostRuntime) -> Result<(), Fail> {
     let mut events = ArmedEvents::<()>::new();
-    assert_eq!(rt; play_all(&mut events, &TURNS)?, TURNS.len());
-    assert_eq!(rt; events.table().standing().len(), 2);
-    assert_eq!(rt;
+    expect_eq!(rt; play_all(&mut events, &TURNS)?, TURNS.len());
+    expect_eq!(rt; events.table().standing().len(), 2);
+    expect_eq!(rt;
         play_all(&mut events, &[High(3_300_000), Cue(&START, true, 1, 6)])?,
         2
     );
@@ -146,7 +146,7 @@ fn cues_in_turn(rt: HostRuntime) -> Result<(), Fail> {
 #[test]
 fn sample_of_the_standard(rt: HostRuntime) -> Result<(), Fail> {
     let mut events = ArmedEvents::<()>::new();
-    assert_eq!(rt;
+    expect_eq!(rt;
         play_all(
             &mut events,
             &[High(1_936_000_000), Cue(&SAMPLE, true, 1, 0)]
@@ -154,7 +154,7 @@ fn sample_of_the_standard(rt: HostRuntime) -> Result<(), Fail> {
         2
     );
     let first = events.table().standing().first().ok_or("an event")?.event;
-    assert_eq!(rt;
+    expect_eq!(rt;
         first,
         Event {
             id: 0x4800_008F,

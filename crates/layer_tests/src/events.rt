@@ -174,29 +174,29 @@ const EARLY_ENDS: [Step; 20] = [
 #[test]
 fn as_many_as_may(rt: HostRuntime) -> Result<(), Fail> {
     let mut table = Table::new();
-    assert_eq!(rt; table.high(), None);
-    assert_eq!(rt; play(&mut table, &Advance(900_000))?, true);
+    expect_eq!(rt; table.high(), None);
+    expect_eq!(rt; play(&mut table, &Advance(900_000))?, true);
     for k in 0u32..32 {
         let arm = Arm(k, 990_000 + 9_000 * u64::from(k), 9_000, Ok(Armed::New));
-        assert_eq!(rt; play(&mut table, &arm)?, true);
+        expect_eq!(rt; play(&mut table, &arm)?, true);
     }
-    assert_eq!(rt; play_all(&mut table, &FULL)?, FULL.len());
+    expect_eq!(rt; play_all(&mut table, &FULL)?, FULL.len());
     laws::no_two_standing_events_meet(&table);
     let place = table.find(17).ok_or("an event")?;
     table.set_value(place, 99);
-    assert_eq!(rt; table.has_id(32), false);
-    assert_eq!(rt; table.find(32), None);
-    assert_eq!(rt; play(&mut table, &Advance(1_800_000))?, true);
-    assert_eq!(rt; play(&mut table, &Advance(1_998_000))?, true);
-    assert_eq!(rt; table.standing().len(), 20);
-    assert_eq!(rt;
+    expect_eq!(rt; table.has_id(32), false);
+    expect_eq!(rt; table.find(32), None);
+    expect_eq!(rt; play(&mut table, &Advance(1_800_000))?, true);
+    expect_eq!(rt; play(&mut table, &Advance(1_998_000))?, true);
+    expect_eq!(rt; table.standing().len(), 20);
+    expect_eq!(rt;
         table
             .standing()
             .get(5)
             .map(|entry| (entry.event.id, entry.value)),
         Some((17, 99))
     );
-    assert_eq!(rt;
+    expect_eq!(rt;
         table
             .standing()
             .get(6)
@@ -209,30 +209,30 @@ fn as_many_as_may(rt: HostRuntime) -> Result<(), Fail> {
 #[test]
 fn one_after_another(rt: HostRuntime) -> Result<(), Fail> {
     let mut table = Table::new();
-    assert_eq!(rt; play_all(&mut table, &NEIGHBOURS)?, NEIGHBOURS.len());
-    assert_eq!(rt; table.is_repeat(&event(1, 1_260_000, 2_700_000)?), true);
-    assert_eq!(rt; table.is_repeat(&event(1, 1_260_001, 2_700_000)?), false);
+    expect_eq!(rt; play_all(&mut table, &NEIGHBOURS)?, NEIGHBOURS.len());
+    expect_eq!(rt; table.is_repeat(&event(1, 1_260_000, 2_700_000)?), true);
+    expect_eq!(rt; table.is_repeat(&event(1, 1_260_001, 2_700_000)?), false);
     let mut table = Table::new();
-    assert_eq!(rt; play_all(&mut table, &CANCELLED)?, CANCELLED.len());
+    expect_eq!(rt; play_all(&mut table, &CANCELLED)?, CANCELLED.len());
     Ok(())
 }
 
 #[test]
 fn over_the_wrap(rt: HostRuntime) -> Result<(), Fail> {
     let mut table = Table::new();
-    assert_eq!(rt; play_all(&mut table, &WRAPS)?, WRAPS.len());
+    expect_eq!(rt; play_all(&mut table, &WRAPS)?, WRAPS.len());
     laws::ring_order_is_line_order_in_a_table(&table);
     laws::no_fault_lets_a_table_advance();
-    assert_eq!(rt; is_before(time(TURN - 1)?, time(0)?), true);
+    expect_eq!(rt; is_before(time(TURN - 1)?, time(0)?), true);
     Ok(())
 }
 
 #[test]
 fn shortened(rt: HostRuntime) -> Result<(), Fail> {
     let mut table = Table::new();
-    assert_eq!(rt; play_all(&mut table, &EARLY_ENDS)?, EARLY_ENDS.len());
+    expect_eq!(rt; play_all(&mut table, &EARLY_ENDS)?, EARLY_ENDS.len());
     let first = table.standing().first().ok_or("an event")?.event;
-    assert_eq!(rt; (first.length, first.asked), (90, 2_700_000));
-    assert_eq!(rt; first.end(), time(1_260_090)?);
+    expect_eq!(rt; (first.length, first.asked), (90, 2_700_000));
+    expect_eq!(rt; first.end(), time(1_260_090)?);
     Ok(())
 }

@@ -66,8 +66,8 @@ const FIRST_PROGRAM: &[Case] = &[
 
 #[test]
 fn first_pat(rt: HostRuntime) -> Result<(), Fail> {
-    assert_eq!(rt; went(rt.alloc(), &reader(), FIRST_PAT)?, FIRST_PAT.len());
-    assert_eq!(rt;
+    expect_eq!(rt; went(rt.alloc(), &reader(), FIRST_PAT)?, FIRST_PAT.len());
+    expect_eq!(rt;
         went(rt.alloc(), &Purpose::advertisement(), FIRST_PROGRAM)?,
         FIRST_PROGRAM.len()
     );
@@ -116,7 +116,7 @@ const SEVERAL_IN_ONE_PACKET: &[Case] = &[
 
 #[test]
 fn several_in_one_packet(rt: HostRuntime) -> Result<(), Fail> {
-    assert_eq!(rt;
+    expect_eq!(rt;
         went(rt.alloc(), &reader(), SEVERAL_IN_ONE_PACKET)?,
         SEVERAL_IN_ONE_PACKET.len()
     );
@@ -138,7 +138,7 @@ const PAT_OF_SEVERAL_SECTIONS: &[Case] = &[
 
 #[test]
 fn pat_of_several_sections(rt: HostRuntime) -> Result<(), Fail> {
-    assert_eq!(rt;
+    expect_eq!(rt;
         went(rt.alloc(), &reader(), PAT_OF_SEVERAL_SECTIONS)?,
         PAT_OF_SEVERAL_SECTIONS.len()
     );
@@ -169,7 +169,7 @@ const MOVED_PROGRAM: &[Case] = &[
 
 #[test]
 fn moved_program(rt: HostRuntime) -> Result<(), Fail> {
-    assert_eq!(rt;
+    expect_eq!(rt;
         went(rt.alloc(), &reader(), MOVED_PROGRAM)?,
         MOVED_PROGRAM.len()
     );
@@ -205,7 +205,7 @@ const BAD_PIDS: &[Case] = &[
 
 #[test]
 fn bad_pids(rt: HostRuntime) -> Result<(), Fail> {
-    assert_eq!(rt; went(rt.alloc(), &reader(), BAD_PIDS)?, BAD_PIDS.len());
+    expect_eq!(rt; went(rt.alloc(), &reader(), BAD_PIDS)?, BAD_PIDS.len());
     Ok(())
 }
 
@@ -238,15 +238,15 @@ const USED_BY_NONE: &[Case] = &[
 
 #[test]
 fn used_cue_pid(rt: HostRuntime) -> Result<(), Fail> {
-    assert_eq!(rt;
+    expect_eq!(rt;
         went(rt.alloc(), &writer(), USED_BY_WRITERS)?,
         USED_BY_WRITERS.len()
     );
-    assert_eq!(rt;
+    expect_eq!(rt;
         went(rt.alloc(), &reader(), USED_BY_READERS)?,
         USED_BY_READERS.len()
     );
-    assert_eq!(rt;
+    expect_eq!(rt;
         went(rt.alloc(), &Purpose::advertisement(), USED_BY_NONE)?,
         USED_BY_NONE.len()
     );
@@ -276,11 +276,11 @@ const ROOM_OF_READERS: &[Case] = &[(&[LISTED, One(Descriptors(497))], OnMap)];
 
 #[test]
 fn order_of_faults(rt: HostRuntime) -> Result<(), Fail> {
-    assert_eq!(rt;
+    expect_eq!(rt;
         went(rt.alloc(), &writer(), ORDER_OF_FAULTS)?,
         ORDER_OF_FAULTS.len()
     );
-    assert_eq!(rt;
+    expect_eq!(rt;
         went(rt.alloc(), &reader(), ROOM_OF_READERS)?,
         ROOM_OF_READERS.len()
     );
@@ -336,7 +336,7 @@ const CHANGED_MAP: &[Case] = &[
 
 #[test]
 fn changed_map(rt: HostRuntime) -> Result<(), Fail> {
-    assert_eq!(rt;
+    expect_eq!(rt;
         went(rt.alloc(), &reader(), CHANGED_MAP)?,
         CHANGED_MAP.len()
     );
@@ -365,7 +365,7 @@ const MAPS_THAT_PASS: &[Case] = &[
 
 #[test]
 fn maps_that_pass(rt: HostRuntime) -> Result<(), Fail> {
-    assert_eq!(rt;
+    expect_eq!(rt;
         went(rt.alloc(), &reader(), MAPS_THAT_PASS)?,
         MAPS_THAT_PASS.len()
     );
@@ -410,7 +410,7 @@ const BEGINS_MIDWAY: &[Case] = &[
 
 #[test]
 fn begins_midway(rt: HostRuntime) -> Result<(), Fail> {
-    assert_eq!(rt;
+    expect_eq!(rt;
         went(rt.alloc(), &reader(), BEGINS_MIDWAY)?,
         BEGINS_MIDWAY.len()
     );
@@ -425,7 +425,7 @@ const STUFFED_TABLES: &[Case] = &[(
 
 #[test]
 fn stuffed_tables(rt: HostRuntime) -> Result<(), Fail> {
-    assert_eq!(rt;
+    expect_eq!(rt;
         went(rt.alloc(), &reader(), STUFFED_TABLES)?,
         STUFFED_TABLES.len()
     );
@@ -470,7 +470,7 @@ const REPEATS: &[Case] = &[
 
 #[test]
 fn repeats(rt: HostRuntime) -> Result<(), Fail> {
-    assert_eq!(rt; went(rt.alloc(), &reader(), REPEATS)?, REPEATS.len());
+    expect_eq!(rt; went(rt.alloc(), &reader(), REPEATS)?, REPEATS.len());
     Ok(())
 }
 
@@ -544,7 +544,7 @@ const SCRAMBLED_AND_SPLIT: &[Case] = &[
 
 #[test]
 fn scrambled_and_split(rt: HostRuntime) -> Result<(), Fail> {
-    assert_eq!(rt;
+    expect_eq!(rt;
         went(rt.alloc(), &reader(), SCRAMBLED_AND_SPLIT)?,
         SCRAMBLED_AND_SPLIT.len()
     );
@@ -609,7 +609,7 @@ const TIME_JUMPS: &[Case] = &[
 
 #[test]
 fn time_jumps(rt: HostRuntime) -> Result<(), Fail> {
-    assert_eq!(rt; went(rt.alloc(), &reader(), TIME_JUMPS)?, TIME_JUMPS.len());
+    expect_eq!(rt; went(rt.alloc(), &reader(), TIME_JUMPS)?, TIME_JUMPS.len());
     Ok(())
 }
 
@@ -632,7 +632,7 @@ const SPENT: &[Case] = &[
 
 #[test]
 fn spent(rt: HostRuntime) -> Result<(), Fail> {
-    assert_eq!(rt; went(rt.alloc(), &writer(), SPENT)?, SPENT.len());
+    expect_eq!(rt; went(rt.alloc(), &writer(), SPENT)?, SPENT.len());
     Ok(())
 }
 
@@ -641,20 +641,20 @@ fn spent(rt: HostRuntime) -> Result<(), Fail> {
 fn what_is_known(rt: HostRuntime) -> Result<(), Fail> {
     const SOUND: Came = Unit(0x101, 0, 90_000);
     let (network, _) = follow(rt.alloc(), &reader(), &[LISTED])?;
-    assert_eq!(rt; network.follower.is_behind_head(), false);
-    assert_eq!(rt; network.follower.streams().len(), 0);
-    assert_eq!(rt; network.follower.pcr_pid(), None);
+    expect_eq!(rt; network.follower.is_behind_head(), false);
+    expect_eq!(rt; network.follower.streams().len(), 0);
+    expect_eq!(rt; network.follower.pcr_pid(), None);
     let (network, _) = follow(rt.alloc(), &reader(), &[LISTED, MAPPED, SOUND])?;
     let listed = network.follower.listed().ok_or("the PAT")?;
-    assert_eq!(rt; (listed.program, listed.pid.get()), (1, 0x20));
-    assert_eq!(rt; network.follower.is_behind_head(), true);
-    assert_eq!(rt; network.follower.pcr_pid(), Pid::new(0x100));
+    expect_eq!(rt; (listed.program, listed.pid.get()), (1, 0x20));
+    expect_eq!(rt; network.follower.is_behind_head(), true);
+    expect_eq!(rt; network.follower.pcr_pid(), Pid::new(0x100));
     let video = Stream {
         kind: 0x1B,
         pid: Pid::new(0x100).ok_or("a PID")?,
     };
-    assert_eq!(rt; network.follower.streams().first(), Some(&video));
-    assert_eq!(rt; network.follower.high(), Time33::new(90_000));
+    expect_eq!(rt; network.follower.streams().first(), Some(&video));
+    expect_eq!(rt; network.follower.high(), Time33::new(90_000));
     Ok(())
 }
 
@@ -664,9 +664,9 @@ fn lent_tables(rt: HostRuntime) -> Result<(), Fail> {
     const TWO: Came = Together(&[Foreign(2, 2, 0), Streams(BOTH)]);
     let (network, _) = follow(rt.alloc(), &reader(), &[LISTED, TWO])?;
     let mut tables = network.follower.tables();
-    assert_eq!(rt; tables.next().ok_or("a section")?.map.is_none(), true);
-    assert_eq!(rt; tables.next().ok_or("a section")?.map.is_some(), true);
-    assert_eq!(rt; tables.next().is_none(), true);
+    expect_eq!(rt; tables.next().ok_or("a section")?.map.is_none(), true);
+    expect_eq!(rt; tables.next().ok_or("a section")?.map.is_some(), true);
+    expect_eq!(rt; tables.next().is_none(), true);
     Ok(())
 }
 
@@ -678,10 +678,10 @@ fn silent_through_a_wrap(rt: HostRuntime) -> Result<(), Fail> {
     for k in 0u64..9_600 {
         let pts = (600_000 + k * 900_000) & 0x1_FFFF_FFFF;
         let told = network.feed(&unit(0x100, (k & 15) as u8, pts));
-        assert_eq!(rt; told, Start(0));
+        expect_eq!(rt; told, Start(0));
     }
     // 600,000 + 9,599 * 900,000 - 2^33
-    assert_eq!(rt; network.feed(&unit(0x101, 1, 49_765_408)), Start(1));
-    assert_eq!(rt; network.feed(&unit(0x101, 2, 600_000)), Wrong(TimeJump));
+    expect_eq!(rt; network.feed(&unit(0x101, 1, 49_765_408)), Start(1));
+    expect_eq!(rt; network.feed(&unit(0x101, 2, 600_000)), Wrong(TimeJump));
     Ok(())
 }

@@ -134,10 +134,10 @@ fn is_cue(list: &PacketList, place: usize, counter: u8, cue: &[u8]) -> bool {
 #[test]
 fn map_gets_its_entry(rt: HostRuntime) -> Result<(), Fail> {
     let (_, list) = begun(rt.alloc(), 3)?;
-    assert_eq!(rt; list.packets().len(), 3);
-    assert_eq!(rt; begins(&list, 0, &PAT), true);
-    assert_eq!(rt; begins(&list, 1, &MAP_OUT), true);
-    assert_eq!(rt; list.packets().get(2), Some(&unit(0, 900_000)));
+    expect_eq!(rt; list.packets().len(), 3);
+    expect_eq!(rt; begins(&list, 0, &PAT), true);
+    expect_eq!(rt; begins(&list, 1, &MAP_OUT), true);
+    expect_eq!(rt; list.packets().get(2), Some(&unit(0, 900_000)));
     Ok(())
 }
 
@@ -145,20 +145,20 @@ fn map_gets_its_entry(rt: HostRuntime) -> Result<(), Fail> {
 #[test]
 fn cue_and_its_repeats(rt: HostRuntime) -> Result<(), Fail> {
     let (mut injector, mut list) = begun(rt.alloc(), 16)?;
-    assert_eq!(rt; asked(&mut injector, &START)?, 100);
+    expect_eq!(rt; asked(&mut injector, &START)?, 100);
     let times = [900_000, 989_999, 990_000, 1_260_000, 1_350_000];
     for (count, pts) in times.iter().enumerate() {
         let next = unit(1 + (count & 7) as u8, *pts);
-        assert_eq!(rt; injector.feed(&next, &mut list), Ok(()));
+        expect_eq!(rt; injector.feed(&next, &mut list), Ok(()));
     }
-    assert_eq!(rt; list.packets().len(), 11);
+    expect_eq!(rt; list.packets().len(), 11);
     for (counter, place) in [(0, 3), (1, 6), (2, 8)] {
         let there = is_cue(&list, place, counter, &START_CUE);
-        assert_eq!(rt; (place, there), (place, true));
+        expect_eq!(rt; (place, there), (place, true));
     }
     for place in [4, 5, 7, 9, 10] {
         let there = begins(&list, place, &[0x47, 0x41, 0x00]);
-        assert_eq!(rt; (place, there), (place, true));
+        expect_eq!(rt; (place, there), (place, true));
     }
     Ok(())
 }
@@ -167,20 +167,20 @@ fn cue_and_its_repeats(rt: HostRuntime) -> Result<(), Fail> {
 #[test]
 fn cancel_and_end(rt: HostRuntime) -> Result<(), Fail> {
     let (mut injector, mut list) = begun(rt.alloc(), 5)?;
-    assert_eq!(rt; asked(&mut injector, &START)?, 100);
-    assert_eq!(rt; asked(&mut injector, &changed(&[(16, 5)]))?, 100);
-    assert_eq!(rt; injector.feed(&unit(1, 900_000), &mut list), Ok(()));
-    assert_eq!(rt; is_cue(&list, 3, 0, &CANCEL_CUE), true);
-    assert_eq!(rt; list.packets().len(), 5);
+    expect_eq!(rt; asked(&mut injector, &START)?, 100);
+    expect_eq!(rt; asked(&mut injector, &changed(&[(16, 5)]))?, 100);
+    expect_eq!(rt; injector.feed(&unit(1, 900_000), &mut list), Ok(()));
+    expect_eq!(rt; is_cue(&list, 3, 0, &CANCEL_CUE), true);
+    expect_eq!(rt; list.packets().len(), 5);
     let (mut injector, mut list) = begun(rt.alloc(), 7)?;
-    assert_eq!(rt; asked(&mut injector, &START)?, 100);
-    assert_eq!(rt; injector.feed(&unit(1, 1_500_000), &mut list), Ok(()));
+    expect_eq!(rt; asked(&mut injector, &START)?, 100);
+    expect_eq!(rt; injector.feed(&unit(1, 1_500_000), &mut list), Ok(()));
     let end = changed(&[(16, 3), (23, 0x27), (24, 0x10), (25, 0), (26, 0), (29, 0)]);
-    assert_eq!(rt; asked(&mut injector, &end)?, 100);
-    assert_eq!(rt; injector.feed(&unit(2, 1_500_000), &mut list), Ok(()));
-    assert_eq!(rt; is_cue(&list, 3, 0, &START_CUE), true);
-    assert_eq!(rt; is_cue(&list, 5, 1, &END_CUE), true);
-    assert_eq!(rt; list.packets().len(), 7);
+    expect_eq!(rt; asked(&mut injector, &end)?, 100);
+    expect_eq!(rt; injector.feed(&unit(2, 1_500_000), &mut list), Ok(()));
+    expect_eq!(rt; is_cue(&list, 3, 0, &START_CUE), true);
+    expect_eq!(rt; is_cue(&list, 5, 1, &END_CUE), true);
+    expect_eq!(rt; list.packets().len(), 7);
     Ok(())
 }
 
@@ -190,25 +190,25 @@ fn faults_end_the_output(rt: HostRuntime) -> Result<(), Fail> {
     let (mut injector, mut list) = begun(rt.alloc(), 16)?;
     let used = Err(FeedFault::Network(NetworkFault::CuePidUsed));
     let foreign = packet(&[0x47, 0x01, 0xF0, 0x10]);
-    assert_eq!(rt; injector.feed(&foreign, &mut list), used);
-    assert_eq!(rt;
+    expect_eq!(rt; injector.feed(&foreign, &mut list), used);
+    expect_eq!(rt;
         injector.feed(&unit(1, 900_000), &mut list),
         Err(FeedFault::Failed)
     );
-    assert_eq!(rt; list.packets().len(), 3);
-    assert_eq!(rt; asked(&mut injector, &START)?, 100);
+    expect_eq!(rt; list.packets().len(), 3);
+    expect_eq!(rt; asked(&mut injector, &START)?, 100);
     let (mut injector, mut list) = begun(rt.alloc(), 4)?;
-    assert_eq!(rt; asked(&mut injector, &START)?, 100);
+    expect_eq!(rt; asked(&mut injector, &START)?, 100);
     let full = Err(FeedFault::Sink(PutFault::Stuck));
-    assert_eq!(rt; injector.feed(&unit(1, 900_000), &mut list), full);
-    assert_eq!(rt;
+    expect_eq!(rt; injector.feed(&unit(1, 900_000), &mut list), full);
+    expect_eq!(rt;
         injector.feed(&unit(2, 900_000), &mut list),
         Err(FeedFault::Failed)
     );
-    assert_eq!(rt; list.packets().len(), 4);
-    assert_eq!(rt; asked(&mut injector, &START)?, 0x800F);
+    expect_eq!(rt; list.packets().len(), 4);
+    expect_eq!(rt; asked(&mut injector, &START)?, 0x800F);
     let counts = injector.counts();
-    assert_eq!(rt;
+    expect_eq!(rt;
         (counts.messages, counts.accepted, counts.refused),
         (2, 1, 1)
     );
@@ -252,8 +252,8 @@ fn fed_map(alloc: Global, descriptors: u16) -> Result<(Result<(), FeedFault>, us
 /// With its entry a map's section has section_length 1,021 at most.
 #[test]
 fn map_without_room(rt: HostRuntime) -> Result<(), Fail> {
-    assert_eq!(rt; fed_map(rt.alloc(), 496)?, (Ok(()), 7));
+    expect_eq!(rt; fed_map(rt.alloc(), 496)?, (Ok(()), 7));
     let long = Err(FeedFault::Network(NetworkFault::PmtTooLong));
-    assert_eq!(rt; fed_map(rt.alloc(), 497)?, (long, 1));
+    expect_eq!(rt; fed_map(rt.alloc(), 497)?, (long, 1));
     Ok(())
 }

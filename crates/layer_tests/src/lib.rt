@@ -2,10 +2,20 @@
 //! on it.
 #![tactic(auto)]
 
+/// `assert_eq!` without a note, as one call: `expect_eq!(rt; left, right)`.
+#[cfg(test)]
+macro_rules! expect_eq {
+    ($rt:expr; $left:expr, $right:expr $(,)?) => {
+        crate::equality::expect_equal(&$rt, &$left, &$right)
+    };
+}
+
 #[cfg(test)]
 mod adverts;
 #[cfg(test)]
 mod armed;
+#[cfg(test)]
+mod equality;
 #[cfg(test)]
 mod events;
 #[cfg(test)]

@@ -27,15 +27,15 @@ fn counters_go_on(rt: HostRuntime) -> Result<(), Fail> {
     out.put_section(pid, &[0x4A, 0, 1, 9], &mut list)
         .ok()
         .ok_or("a section")?;
-    assert_eq!(rt;
+    expect_eq!(rt;
         begins(&list, 0, &[0x47, 0x41, 0xF0, 0x10, 0, 0x4A, 0, 1, 7, 0xFF]),
         true
     );
-    assert_eq!(rt;
+    expect_eq!(rt;
         begins(&list, 1, &[0x47, 0x40, 0x20, 0x10, 0, 0x4A, 0, 1, 8, 0xFF]),
         true
     );
-    assert_eq!(rt;
+    expect_eq!(rt;
         begins(&list, 2, &[0x47, 0x41, 0xF0, 0x11, 0, 0x4A, 0, 1, 9, 0xFF]),
         true
     );

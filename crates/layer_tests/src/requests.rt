@@ -95,31 +95,31 @@ fn each_refusal(rt: HostRuntime) -> Result<(), Fail> {
     for (place, byte, wanted) in CHANGES {
         let mut requests = requests_at(900_000)?;
         let got = result(&mut requests, &changed(&[(place, byte)]))?;
-        assert_eq!(rt; (place, byte, got), (place, byte, wanted));
+        expect_eq!(rt; (place, byte, got), (place, byte, wanted));
     }
     let mut requests = requests_at(900_000)?;
-    assert_eq!(rt;
+    expect_eq!(rt;
         result(&mut requests, &changed(&[(25, 0), (26, 0)]))?,
         0x800B
     );
-    assert_eq!(rt;
+    expect_eq!(rt;
         result(&mut requests, &changed(&[(23, 0), (24, 0)]))?,
         0x800D
     );
-    assert_eq!(rt; result(&mut Requests::new(1), &START)?, 0x800E);
+    expect_eq!(rt; result(&mut Requests::new(1), &START)?, 0x800E);
     Ok(())
 }
 
 #[test]
 fn refusals_by_operations(rt: HostRuntime) -> Result<(), Fail> {
     let mut requests = requests_at(900_000)?;
-    assert_eq!(rt; result(&mut requests, &NONE)?, 0x8006);
-    assert_eq!(rt; result(&mut requests, &TWO)?, 0x8007);
+    expect_eq!(rt; result(&mut requests, &NONE)?, 0x8006);
+    expect_eq!(rt; result(&mut requests, &TWO)?, 0x8007);
     let mut many = [0; 95];
     many[..35].copy_from_slice(&AVAILS[1]);
-    assert_eq!(rt; result(&mut requests, &many)?, 0x800A);
+    expect_eq!(rt; result(&mut requests, &many)?, 0x800A);
     many[..35].copy_from_slice(&AVAILS[0]);
-    assert_eq!(rt; result(&mut requests, &many[..91])?, 100);
+    expect_eq!(rt; result(&mut requests, &many[..91])?, 100);
     Ok(())
 }
 
@@ -131,7 +131,7 @@ fn thirty_three_events(rt: HostRuntime) -> Result<(), Fail> {
         let [high, low] = (u16::from(id) * 1_000).to_be_bytes();
         let start = changed(&[(20, id), (23, high), (24, low), (25, 0), (26, 1)]);
         let wanted = if id < 33 { 100 } else { 0x8010 };
-        assert_eq!(rt; (id, result(&mut requests, &start)?), (id, wanted));
+        expect_eq!(rt; (id, result(&mut requests, &start)?), (id, wanted));
     }
     Ok(())
 }
@@ -139,29 +139,29 @@ fn thirty_three_events(rt: HostRuntime) -> Result<(), Fail> {
 #[test]
 fn life_of_an_event(rt: HostRuntime) -> Result<(), Fail> {
     let mut requests = requests_at(900_000)?;
-    assert_eq!(rt; requests.high(), Some(time(900_000)?));
-    assert_eq!(rt; result(&mut requests, &START)?, 100);
-    assert_eq!(rt; result(&mut requests, &START)?, 0x800F);
-    assert_eq!(rt; result(&mut requests, &changed(&[(20, 2)]))?, 0x8011);
+    expect_eq!(rt; requests.high(), Some(time(900_000)?));
+    expect_eq!(rt; result(&mut requests, &START)?, 100);
+    expect_eq!(rt; result(&mut requests, &START)?, 0x800F);
+    expect_eq!(rt; result(&mut requests, &changed(&[(20, 2)]))?, 0x8011);
     // An end four seconds from now is the start; one of 34 seconds is the present end.
-    assert_eq!(rt; result(&mut requests, &changed(&[(16, 3)]))?, 0x8014);
-    assert_eq!(rt;
+    expect_eq!(rt; result(&mut requests, &changed(&[(16, 3)]))?, 0x8014);
+    expect_eq!(rt;
         result(&mut requests, &changed(&[(16, 3), (23, 0x84), (24, 0xD0)]))?,
         0x8014
     );
-    assert_eq!(rt;
+    expect_eq!(rt;
         result(&mut requests, &changed(&[(16, 3), (23, 0x84), (24, 0xCF)]))?,
         100
     );
-    assert_eq!(rt; result(&mut requests, &changed(&[(16, 5)]))?, 100);
-    assert_eq!(rt; result(&mut requests, &changed(&[(16, 5)]))?, 100);
-    assert_eq!(rt; result(&mut requests, &START)?, 0x800F);
+    expect_eq!(rt; result(&mut requests, &changed(&[(16, 5)]))?, 100);
+    expect_eq!(rt; result(&mut requests, &changed(&[(16, 5)]))?, 100);
+    expect_eq!(rt; result(&mut requests, &START)?, 0x800F);
     let high = time(1_260_000)?;
-    assert_eq!(rt; requests.can_advance(high), true);
+    expect_eq!(rt; requests.can_advance(high), true);
     if requests.can_advance(high) {
         requests.advance(high);
     }
-    assert_eq!(rt; result(&mut requests, &changed(&[(16, 5)]))?, 0x8013);
+    expect_eq!(rt; result(&mut requests, &changed(&[(16, 5)]))?, 0x8013);
     Ok(())
 }
 
@@ -178,7 +178,7 @@ fn replies(rt: HostRuntime) -> Result<(), Fail> {
     }));
     let bytes = write_reply(&reply);
     let wanted: [u8; 13] = [0, 4, 0, 13, 0x80, 1, 0xFF, 0xFF, 0, 0, 1, 0, 1];
-    assert_eq!(rt; bytes.as_slice(), wanted.as_slice());
+    expect_eq!(rt; bytes.as_slice(), wanted.as_slice());
     let Frame::Whole(30) = frame(&START) else {
         return Err("a whole message")?;
     };
