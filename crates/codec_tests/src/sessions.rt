@@ -43,15 +43,15 @@ fn takes_any_pieces(rt: HostRuntime) -> Result<(), Fail> {
 #[test]
 fn closes_for_good(rt: HostRuntime) -> Result<(), Fail> {
     let mut session = Session::new(rt.alloc())?;
-    expect_eq!(rt; session.feed(&[0xFF, 0xFF, 0]), (3, Got::None));
-    expect_eq!(rt; session.feed(&[0x0B, 1, 2]), (1, Got::Closed));
-    expect_eq!(rt; session.feed(&REQUEST), (0, Got::Closed));
-    expect_eq!(rt; session.end(), 0);
+    assert_eq!(rt; session.feed(&[0xFF, 0xFF, 0]), (3, Got::None));
+    assert_eq!(rt; session.feed(&[0x0B, 1, 2]), (1, Got::Closed));
+    assert_eq!(rt; session.feed(&REQUEST), (0, Got::Closed));
+    assert_eq!(rt; session.end(), 0);
     for pending in 0..30 {
         let mut session = Session::new(rt.alloc())?;
-        expect_eq!(rt; session.feed(&REQUEST[..pending]), (pending, Got::None));
-        expect_eq!(rt; session.end(), pending);
-        expect_eq!(rt; session.feed(&REQUEST), (0, Got::Closed));
+        assert_eq!(rt; session.feed(&REQUEST[..pending]), (pending, Got::None));
+        assert_eq!(rt; session.end(), pending);
+        assert_eq!(rt; session.feed(&REQUEST), (0, Got::Closed));
     }
     Ok(())
 }
@@ -66,13 +66,13 @@ fn takes_the_longest_message(rt: HostRuntime) -> Result<(), Fail> {
     stream.extend_from_slice(&REQUEST)?;
     let mut session = Session::new(rt.alloc())?;
     for piece in stream.as_slice().chunks(4096).take(15) {
-        expect_eq!(rt; session.feed(piece), (4096, Got::None));
+        assert_eq!(rt; session.feed(piece), (4096, Got::None));
     }
     let last = &stream.as_slice()[61_440..65_536];
     let (used, got) = session.feed(last);
     expect_eq!(rt; used, 4095);
     assert!(rt; matches!(got, Got::Message(message) if message.len() == 65_535));
-    expect_eq!(rt; session.feed(&last[4095..]), (1, Got::None));
+    assert_eq!(rt; session.feed(&last[4095..]), (1, Got::None));
     expect_eq!(rt; take(&mut session, &REQUEST[1..]), (1, 30));
     Ok(())
 }
