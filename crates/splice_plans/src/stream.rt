@@ -1,7 +1,7 @@
 //! One switched stream on its way out.
 
 ghost use Rattle.std.specs.Prelude.{◌≡◌, ◌<◌, ◌++◌, ◌∷◌, [], ℕ, List, Option, is_some, true, false, OnOk, IfErr};
-ghost use Rattle.ts_packet.specs.Fields.{payload, renumbered};
+ghost use Rattle.ts_packet.specs.Fields.{payload, renumbered, with_number};
 ghost use Rattle.ts_packet.specs.Numbering.{Step, Kept, Counts, moved, number_out};
 ghost use Rattle.ts_packet.specs.Sinks.{Blamed};
 ghost use Rattle.ts_packet.specs.Transfers.{WentWell};
@@ -52,7 +52,7 @@ impl SwitchedStream {
         if number == packet.counter() {
             return sink.put(packet);
         }
-        sink.put(&packet.with_counter(number))
+        put_renumbered(packet, number, sink)
     }
 
     /// Leaves out a packet, and puts its clock reference alone, where it has one. A packet without payload is kept, and a duplicate that is
@@ -101,4 +101,24 @@ impl SwitchedStream {
         }
         self.counter.dropped(packet)
     }
+}
+
+/// Puts the packet with another continuity_counter. It stands by itself, so that a packet whose counter stays does not pay for the room of
+/// the copy.
+#[inline(never)]
+fn put_renumbered<S: PacketSink>(
+    packet: &Packet,
+    number: u8,
+    sink: &mut S,
+) -> Result<(), PutFault>
+    requires { number < 16 }
+    ensures leads { S.leads sink.old sink.new }
+    ensures ok { (start : Option (List ℕ)) (ps : List (List ℕ)) → S.holds sink.old start ps →
+        OnOk result (S.holds sink.new start (ps ++ with_number number packet.now ∷ [])) }
+    ensures err { (start : Option (List ℕ)) (ps : List (List ℕ)) → S.holds sink.old start ps →
+        IfErr result (λ f. S.fails sink.new start ps (with_number number packet.now) f) }
+    ensures well { OnOk result (WentWell (S.counts sink.old) (S.counts sink.new)) }
+    ensures blamed { IfErr result (λ f. Blamed f (S.counts sink.old) (S.counts sink.new) (S.is_full sink.new)) }
+{
+    sink.put(&packet.with_counter(number))
 }

@@ -406,14 +406,16 @@ impl Playing {
         ensures well { OnOk result (WentWell (S.counts sink.old) (S.counts sink.new)) }
         ensures blamed { IfErr result (λ f. Blamed f (S.counts sink.old) (S.counts sink.new) (S.is_full sink.new)) }
     {
-        let mut of = self.streams[stream % 8];
+        let of = self.streams[stream % 8];
         if of.is_leaving {
-            let put = of.leave(packet, is_repeat, sink);
-            self.streams[stream % 8] = of;
+            let mut leaving = of;
+            let put = leaving.leave(packet, is_repeat, sink);
+            self.streams[stream % 8] = leaving;
             return put;
         }
-        let put = of.keep(packet, sink);
-        self.streams[stream % 8] = of;
+        let mut kept = of;
+        let put = kept.keep(packet, sink);
+        self.streams[stream % 8] = kept;
         put
     }
 

@@ -15,10 +15,10 @@ returns-then-number-counter-clause-err g c = λ start ps steps h k.
 
 pub returns-clause-ok : goal.returns-clause-ok
 returns-clause-ok g c = λ start ps steps h k.
-    let is = c.with_counter.ensures ∙ moved-out c.kept-number.result c.args.packet.now steps (c.kept-number.ensures.number steps k) in
-    subst (λ q. OnOk c.put-2.result (g.S.PacketSink.holds c.put-2.new.self start (ps ++ q ∷ []))) is (c.put-2.ensures.ok start ps h)
+    let is = moved-out c.kept-number.result c.args.packet.now steps (c.kept-number.ensures.number steps k) in
+    subst (λ q. OnOk c.put_renumbered.result (g.S.PacketSink.holds c.put_renumbered.new.sink start (ps ++ q ∷ []))) is (c.put_renumbered.ensures.ok start ps h)
 
 pub returns-clause-err : goal.returns-clause-err
 returns-clause-err g c = λ start ps steps h k.
-    let is = c.with_counter.ensures ∙ moved-out c.kept-number.result c.args.packet.now steps (c.kept-number.ensures.number steps k) in
-    subst (λ q. IfErr c.put-2.result (λ f. g.S.PacketSink.fails c.put-2.new.self start ps q f)) is (c.put-2.ensures.err start ps h)
+    let is = moved-out c.kept-number.result c.args.packet.now steps (c.kept-number.ensures.number steps k) in
+    subst (λ q. IfErr c.put_renumbered.result (λ f. g.S.PacketSink.fails c.put_renumbered.new.sink start ps q f)) is (c.put_renumbered.ensures.err start ps h)
