@@ -1,8 +1,9 @@
 -- The events that a switch is armed with are the accepted ones.
-use Rattle.std.specs.Prelude.{◌<ℤ◌, ◌≤ℤ◌, ◌+ℤ◌, ℤ, pos, int_lt, filter, count_by}
+use Rattle.std.specs.Prelude.{◌<ℤ◌, ◌≤ℤ◌, ◌+ℤ◌, ℤ, pos, int_lt, filter, count_by, Some}
 use Rattle.std.proofs.Common.{◌≡◌, ◌⊎◌, inl, inr, refl, sym, ap, ◌∙◌, subst, ℕ, ◌<◌, List, [], ◌∷◌, ◌++◌, length, Bool, true, arith}
 use Rattle.std.proofs.lemmas.Int.{ints}
 use Rattle.std.proofs.lemmas.List.Sums.{length-filter}
+use Rattle.program_follower.specs.Following.{high_of}
 use Rattle.psi_tables.specs.declared.config.Config.{Config}
 use Rattle.event_table.specs.Standing.{Standing}
 use Rattle.armed_laws.specs.Laws.{IsApartOf, NoneMeet}
@@ -12,7 +13,7 @@ use Rattle.injector.specs.Turns.{Turn, high, events}
 use Rattle.injector.specs.Senders.{senders, events_in}
 use Rattle.injector.proofs.SenderLemmas.{senders-events}
 use Rattle.cue_laws.specs.Cueing.{senders as line_senders}
-use Rattle.injector.specs.Steps.{Step, Message, Packet, high_of, turns_in, cued}
+use Rattle.injector.specs.Steps.{Step, Message, Packet, turns_in, cued}
 use Rattle.cue_laws.specs.Events.{LineEvent, In}
 use Rattle.cue_laws.specs.Events.{events as line_events}
 use Rattle.cue_laws.proofs.Settling.{by_test, lt-test, ge-test}
@@ -213,5 +214,5 @@ breaks_are_armed c [] r w test t = record { sorted = refl; counted = refl }
 breaks_are_armed c (Message m ∷ past) r w test t = absurd w
 breaks_are_armed c (Packet p ∷ past) r w test t =
     let steps = Packet p ∷ past in
-    same-taken test (armed_by c steps) (accepted_by c steps) (meet-distinct (armed_by c steps) (none-meet c.cue_pid (high_of c.program) (cued c steps))) (accepted-distinct c steps r)
+    same-taken test (armed_by c steps) (accepted_by c steps) (meet-distinct (armed_by c steps) (none-meet c.cue_pid (high_of (Some c.program)) (cued c steps))) (accepted-distinct c steps r)
     (λ e takes. let law = cued_stream_arms c p past r e (t e takes) in (law.0, law.1))

@@ -18,7 +18,7 @@ use Rattle.program_laws.proofs.FaultLemmas.{no_cue_packets}
 use Rattle.event_table.specs.Standing.{Standing, end_of}
 use Rattle.ad_library.specs.Advertisements.{Advertisement}
 use Rattle.armed_events.specs.Arming.{ignored}
-use Rattle.injector.specs.Steps.{Step, packets_in, high_of}
+use Rattle.injector.specs.Steps.{Step, packets_in}
 use Rattle.injector.specs.Steps.{cued as sent_cues}
 use Rattle.splice_laws.specs.Splicing.{stream}
 use Rattle.splice_laws.specs.Streams.{is_among}
@@ -47,6 +47,7 @@ use Rattle.chain_laws.proofs.TakenLemmas.{crossed_both}
 use Rattle.chain_laws.proofs.RunLemmas.{reads, others, cued-long, cued-pids}
 use Rattle.chain_laws.proofs.CarriedLemmas.{same-switched, same-adverts, same-behind, same-taken, takes-own}
 use Rattle.program_follower.specs.Purposes.{writing_cues}
+use Rattle.program_follower.specs.Following.{high_of}
 
 -- ---- laws of a whole network, of the packets newest first
 
@@ -214,7 +215,7 @@ module _ (c : Config) (filed : ℕ → Option Advertisement) (steps : List Step)
 
   pub breaks-counted : report_of (setting_of c filed) (sent_cues c steps) ≡ counts_by c filed steps
   breaks-counted =
-      let i = ignored c.cue_pid (high_of c.program) back in
+      let i = ignored c.cue_pid (high_of (Some c.program)) back in
       let p : count_by (is_played (adverts_at k back)) (armed_by c steps) ≡ count_by (is_played ads) (accepted_by c steps) =
       ap (λ x. count_by (is_played x) (armed_by c steps)) (same-adverts c filed steps w) ∙ (same-taken c filed steps w).counted in
       let n : count_by (is_not_fitted (adverts_at k back)) (armed_by c steps) ≡ count_by (is_not_fitted ads) (accepted_by c steps) =

@@ -1,11 +1,12 @@
 -- THE BREAKS of a run: what the requests of its history have come to.
-use Rattle.std.specs.Prelude.{◌≡◌, List, [], ◌∷◌, Bool, true, false, not, filter, count_by}
+use Rattle.std.specs.Prelude.{◌≡◌, List, [], ◌∷◌, Bool, true, false, not, filter, count_by, Some}
+use Rattle.program_follower.specs.Following.{high_of}
 use Rattle.psi_tables.specs.declared.config.Config.{Config}
 use Rattle.event_table.specs.Standing.{Standing}
 use Rattle.armed_events.specs.Arming.{armed}
 use Rattle.splice_plans.specs.Playing.{by_start}
 use Rattle.injector.specs.Turns.{events}
-use Rattle.injector.specs.Steps.{Step, Message, Packet, high_of, turns_in, cued}
+use Rattle.injector.specs.Steps.{Step, Message, Packet, turns_in, cued}
 use Rattle.path_laws.specs.Packets.{IsRunOf}
 
 -- the events that were accepted, in order of acceptance, each with its last end, the cancelled ones among them
@@ -22,7 +23,7 @@ breaks_by c steps = by_start (filter is_uncancelled (accepted_by c steps))
 
 -- the events that a switch is armed with by what an injector sends
 abbrev pub armed_by : Config → List Step → List Standing
-armed_by c steps = armed c.cue_pid (high_of c.program) (cued c steps)
+armed_by c steps = armed c.cue_pid (high_of (Some c.program)) (cued c steps)
 
 -- a history of a whole run: the last that came, if anything, is a packet
 abbrev pub EndsWithPacket : List Step → Type 0

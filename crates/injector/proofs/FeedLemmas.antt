@@ -25,7 +25,7 @@ use Rattle.event_table.proofs.AdvanceLemmas.{may-advance}
 use Rattle.program_follower.specs.declared.purpose.Listed.{Listed}
 use Rattle.program_follower.specs.Program.{listed, since_pat, Table, table_of, tables, all_tables, first_map, Program, program_in, program_of, behind_head, pids_of}
 use Rattle.program_follower.specs.Faults.{network_fault, cue_fault, on_cue, if_bad, bad_pids, cue_used, changed_from, pats_fault, table_fault, tables_fault, maps_fault, as_network, too_long}
-use Rattle.program_follower.specs.Following.{grown, on_map}
+use Rattle.program_follower.specs.Following.{grown, on_map, high_of}
 use Rattle.program_follower.proofs.FollowLemmas.{program_stays, grown_is, no_high}
 use Rattle.program_laws.specs.Writing.{packets_out, section_out, body}
 use Rattle.program_laws.specs.Cued.{cueing}
@@ -33,7 +33,7 @@ use Rattle.outgoing_packets.specs.declared.entry.CueEntry.TheVariants.{Added}
 use Rattle.outgoing_packets.specs.Entries.{change_of, HasRoom, GoesOut, AllGoOut}
 use Rattle.injector.specs.Turns.{high}
 use Rattle.injector.specs.Noting.{Rises}
-use Rattle.injector.specs.Steps.{Step, Message, Packet, packets_in, turns_in, high_of, body_at}
+use Rattle.injector.specs.Steps.{Step, Message, Packet, packets_in, turns_in, body_at}
 use Rattle.program_follower.specs.Purposes.{writing_cues}
 
 -- ---- faults
@@ -101,24 +101,24 @@ rises-units switched p past good = by (unit_high switched past) (unit_high switc
         let time = m.time in
         (omega (arith, ints), omega (arith, ints))
 
-pub rises-at : (c : Config) (p : List ℕ) (past : List (List ℕ)) → network_fault (writing_cues c) p past ≡ None → Rises (high_of c.program past) (high_of c.program (p ∷ past))
+pub rises-at : (c : Config) (p : List ℕ) (past : List (List ℕ)) → network_fault (writing_cues c) p past ≡ None → Rises (high_of (Some c.program) past) (high_of (Some c.program) (p ∷ past))
 rises-at c p past good = by (program_of (Some c.program) past) refl
   where
-    by : (r : Option Program) → program_of (Some c.program) past ≡ r → Rises (high_of c.program past) (high_of c.program (p ∷ past))
+    by : (r : Option Program) → program_of (Some c.program) past ≡ r → Rises (high_of (Some c.program) past) (high_of (Some c.program) (p ∷ past))
     by None is =
-        let none : high_of c.program past ≡ None = ap (λ r. unit_high (pids_of r) (behind_head (Some c.program) past)) is ∙ no_high (behind_head (Some c.program) past) in
-        subst (λ h. Rises h (high_of c.program (p ∷ past))) (sym none) tt
+        let none : high_of (Some c.program) past ≡ None = ap (λ r. unit_high (pids_of r) (behind_head (Some c.program) past)) is ∙ no_high (behind_head (Some c.program) past) in
+        subst (λ h. Rises h (high_of (Some c.program) (p ∷ past))) (sym none) tt
     by (Some r) is =
         let known : program_of (Some c.program) (p ∷ past) ≡ Some r = program_stays (Some c.program) p past r is in
         let behind : p ∷ behind_head (Some c.program) past ≡ behind_head (Some c.program) (p ∷ past)
         = ap (λ x. grown x p (behind_head (Some c.program) past)) (sym is) ∙ grown_is (Some c.program) p past in
         let fault : unit_fault (pids_of (Some r)) p (behind_head (Some c.program) past) ≡ None = subst (λ x. unit_fault (pids_of x) p (behind_head (Some c.program) past) ≡ None) is (no-units c p past good) in
         let rises = rises-units (pids_of (Some r)) p (behind_head (Some c.program) past) fault in
-        subst (λ x. Rises (unit_high (pids_of x) (behind_head (Some c.program) past)) (high_of c.program (p ∷ past))) (sym is)
+        subst (λ x. Rises (unit_high (pids_of x) (behind_head (Some c.program) past)) (high_of (Some c.program) (p ∷ past))) (sym is)
         (subst (λ x. Rises (unit_high (pids_of (Some r)) (behind_head (Some c.program) past)) (unit_high (pids_of x) (behind_head (Some c.program) (p ∷ past)))) (sym known)
         (subst (λ ps. Rises (unit_high (pids_of (Some r)) (behind_head (Some c.program) past)) (unit_high (pids_of (Some r)) ps)) behind rises))
 
-pub turns-high : (program : ℕ) (past : List Step) → high (turns_in program past) ≡ high_of program (packets_in past)
+pub turns-high : (program : ℕ) (past : List Step) → high (turns_in program past) ≡ high_of (Some program) (packets_in past)
 turns-high program [] = sym (no_high [])
 turns-high program (Message m ∷ past) = turns-high program past
 turns-high program (Packet p ∷ past) = refl

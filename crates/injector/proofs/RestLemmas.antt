@@ -13,7 +13,7 @@ use Rattle.event_table.specs.Standing.{IsWithin}
 use Rattle.psi_tables.specs.declared.config.Config.{Config}
 use Rattle.scte35_codec.specs.Spelling.{cue_bytes}
 use Rattle.program_follower.specs.Program.{Program, program_of, behind_head, pids_of}
-use Rattle.program_follower.specs.Following.{grown}
+use Rattle.program_follower.specs.Following.{grown, high_of}
 use Rattle.program_follower.proofs.FollowLemmas.{program_stays, grown_is, no_high}
 use Rattle.injector.specs.declared.asked.Asked.{Asked}
 use Rattle.injector.specs.declared.refusal.Refusal.{Refusal}
@@ -23,7 +23,7 @@ use Rattle.injector.specs.Verdicts.{time_at, verdict_of, verdict_by}
 use Rattle.injector.specs.Turns.{Turn, high, standing}
 use Rattle.injector.specs.Senders.{Sender, is_none, news, current, is_ended, is_repeated, chosen, cues_of, tell, told_now, fresh, with_event, begun, cut_short, with_judged, stands_now, stands_by, events_in, with_request, senders, standing_senders, cues_before, IsIdle}
 use Rattle.injector.specs.Noting.{notes_of, NotesTold, IsBefore}
-use Rattle.injector.specs.Steps.{Step, Message, Packet, packets_in, turns_in, high_of, outcome, is_accepted, has_news}
+use Rattle.injector.specs.Steps.{Step, Message, Packet, packets_in, turns_in, outcome, is_accepted, has_news}
 use Rattle.injector.specs.Laws.{NoCueBetween}
 use Rattle.injector.proofs.SenderLemmas.{standing-events}
 use Rattle.injector.proofs.SendingLemmas.{none-cues, all-kept}
@@ -59,18 +59,18 @@ climbs-units switched p past = by (begins_one switched p past)
     by true = climbs-raised (unit_high switched past) (stamp p)
     by false = climbs-same (unit_high switched past)
 
-pub climbs-at : (program : ℕ) (p : List ℕ) (past : List (List ℕ)) → Climbs (high_of program past) (high_of program (p ∷ past))
+pub climbs-at : (program : ℕ) (p : List ℕ) (past : List (List ℕ)) → Climbs (high_of (Some program) past) (high_of (Some program) (p ∷ past))
 climbs-at program p past = by (program_of (Some program) past) refl
   where
-    by : (r : Option Program) → program_of (Some program) past ≡ r → Climbs (high_of program past) (high_of program (p ∷ past))
+    by : (r : Option Program) → program_of (Some program) past ≡ r → Climbs (high_of (Some program) past) (high_of (Some program) (p ∷ past))
     by None is =
-        let none : high_of program past ≡ None = ap (λ r. unit_high (pids_of r) (behind_head (Some program) past)) is ∙ no_high (behind_head (Some program) past) in
-        subst (λ h. Climbs h (high_of program (p ∷ past))) (sym none) tt
+        let none : high_of (Some program) past ≡ None = ap (λ r. unit_high (pids_of r) (behind_head (Some program) past)) is ∙ no_high (behind_head (Some program) past) in
+        subst (λ h. Climbs h (high_of (Some program) (p ∷ past))) (sym none) tt
     by (Some r) is =
         let known : program_of (Some program) (p ∷ past) ≡ Some r = program_stays (Some program) p past r is in
         let behind : p ∷ behind_head (Some program) past ≡ behind_head (Some program) (p ∷ past)
         = ap (λ x. grown x p (behind_head (Some program) past)) (sym is) ∙ grown_is (Some program) p past in
-        subst (λ x. Climbs (unit_high (pids_of x) (behind_head (Some program) past)) (high_of program (p ∷ past))) (sym is)
+        subst (λ x. Climbs (unit_high (pids_of x) (behind_head (Some program) past)) (high_of (Some program) (p ∷ past))) (sym is)
         (subst (λ x. Climbs (unit_high (pids_of (Some r)) (behind_head (Some program) past)) (unit_high (pids_of x) (behind_head (Some program) (p ∷ past)))) (sym known)
         (subst (λ ps. Climbs (unit_high (pids_of (Some r)) (behind_head (Some program) past)) (unit_high (pids_of (Some r)) ps)) behind
         (climbs-units (pids_of (Some r)) p (behind_head (Some program) past))))
@@ -225,8 +225,8 @@ all-at-rest : (c : Config) (past : List Step) → All (IsAtRest (has_news c.inde
 all-at-rest c [] = All-nil (IsAtRest false None)
 all-at-rest c (Message m ∷ past) = judged-at-rest c.index m (turns_in c.program past) (all-at-rest c past)
 all-at-rest c (Packet p ∷ past) =
-    all-told (has_news c.index (turns_in c.program past)) (high (turns_in c.program past)) (high_of c.program (p ∷ packets_in past))
-    (subst (λ h. Climbs h (high_of c.program (p ∷ packets_in past))) (sym (turns-high c.program past)) (climbs-at c.program p (packets_in past)))
+    all-told (has_news c.index (turns_in c.program past)) (high (turns_in c.program past)) (high_of (Some c.program) (p ∷ packets_in past))
+    (subst (λ h. Climbs h (high_of (Some c.program) (p ∷ packets_in past))) (sym (turns-high c.program past)) (climbs-at c.program p (packets_in past)))
     (senders c.index (turns_in c.program past)) (all-at-rest c past)
 
 none-due : (line : Option ℤ) (xs : List Sender) → All (IsAtRest false line) xs → All (λ x. is_none (chosen x line line) ≡ true) xs
@@ -273,5 +273,5 @@ idle-told r place index past line b =
 
 pub no-cue-between : NoCueBetween
 no-cue-between c p past quiet same =
-    ap (map cue_bytes) (idle-cues c.index (high_of c.program (p ∷ packets_in past)) (turns_in c.program past)
-    (idle-between c past (high_of c.program (p ∷ packets_in past)) quiet (turns-high c.program past ∙ sym same)))
+    ap (map cue_bytes) (idle-cues c.index (high_of (Some c.program) (p ∷ packets_in past)) (turns_in c.program past)
+    (idle-between c past (high_of (Some c.program) (p ∷ packets_in past)) quiet (turns-high c.program past ∙ sym same)))

@@ -7,15 +7,16 @@ use Rattle.program_follower.specs.Program.{program_of, pids_of}
 use Rattle.program_follower.specs.Faults.{first_fault}
 use Rattle.program_laws.specs.Writing.{Along}
 use Rattle.program_laws.specs.Cued.{cued as cued_network, On, CuedReads}
-use Rattle.injector.specs.Steps.{Step, Message, Packet, packets_in, turns_in, high_of, has_news}
+use Rattle.injector.specs.Steps.{Step, Message, Packet, packets_in, turns_in, has_news}
 use Rattle.injector.specs.Steps.{sections_before, cue_packets, cued}
 use Rattle.program_follower.specs.Purposes.{writing_cues}
+use Rattle.program_follower.specs.Following.{high_of}
 
 -- THE LAW OF REST. No cue goes out before a packet that leaves the greatest time as it was, where no request was accepted since the packet
 -- before it.
 abbrev pub NoCueBetween : Type 0
 NoCueBetween = (c : Config) (p : List ℕ) (past : List Step) → has_news c.index (turns_in c.program past) ≡ false →
-    high_of c.program (p ∷ packets_in past) ≡ high_of c.program (packets_in past) → sections_before c p past ≡ []
+    high_of (Some c.program) (p ∷ packets_in past) ≡ high_of (Some c.program) (packets_in past) → sections_before c p past ≡ []
 
 -- What a history puts in front of the packet behind these packets: which packet that is, their number says.
 abbrev pub fronts : Config → List Step → List ℕ → List (List ℕ) → List (List ℕ)

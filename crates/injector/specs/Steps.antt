@@ -1,14 +1,14 @@
 -- What an injector puts out, by its whole history: the messages that it judged and the packets of the network, newest first.
 use Rattle.event_table.specs.Counting.{one_if}
-use Rattle.std.specs.Prelude.{ℕ, ℤ, ◌+◌, List, [], ◌∷◌, ◌++◌, map, Bool, true, false, ◌||◌, is_ok, not}
+use Rattle.std.specs.Prelude.{ℕ, ◌+◌, List, [], ◌∷◌, ◌++◌, map, Bool, true, false, ◌||◌, is_ok, not}
 use Rattle.std.specs.Prelude.{Option, None, Some, Result, Err}
 use Rattle.ts_packet.specs.Runs.{onto}
-use Rattle.unit_stream.specs.Times.{high as unit_high}
 use Rattle.psi_tables.specs.declared.config.Config.{Config}
 use Rattle.scte35_codec.specs.Spelling.{cue_bytes}
 use Rattle.scte104_codec.specs.Reading.{MessageReading, init, alive, other, multiple, bad}
 use Rattle.program_follower.specs.declared.purpose.Purpose.{Purpose}
-use Rattle.program_follower.specs.Program.{listed, tables, program_of, behind_head, pids_of}
+use Rattle.program_follower.specs.Program.{listed, tables}
+use Rattle.program_follower.specs.Following.{high_of}
 use Rattle.program_laws.specs.Writing.{packets_out, body}
 use Rattle.program_laws.specs.Cued.{cueing}
 use Rattle.injector.specs.declared.refusal.Refusal.{Refusal}
@@ -27,20 +27,16 @@ packets_in [] = []
 packets_in (Message m ∷ past) = packets_in past
 packets_in (Packet p ∷ past) = p ∷ packets_in past
 
--- the greatest time of the units of a program behind its head
-abbrev pub high_of : ℕ → List (List ℕ) → Option ℤ
-high_of program ps = unit_high (pids_of (program_of (Some program) ps)) (behind_head (Some program) ps)
-
 -- a packet counts for requests by the greatest time behind it
 abbrev pub turns_in : ℕ → List Step → List Turn
 turns_in program [] = []
 turns_in program (Message m ∷ past) = Judged m ∷ turns_in program past
-turns_in program (Packet p ∷ past) = Passed (high_of program (p ∷ packets_in past)) ∷ turns_in program past
+turns_in program (Packet p ∷ past) = Passed (high_of (Some program) (p ∷ packets_in past)) ∷ turns_in program past
 
 -- the sections of the cues before a packet
 abbrev pub sections_before : Config → List ℕ → List Step → List (List ℕ)
 sections_before c p past =
-    map cue_bytes (cues_before c.index (high_of c.program (p ∷ packets_in past)) (turns_in c.program past))
+    map cue_bytes (cues_before c.index (high_of (Some c.program) (p ∷ packets_in past)) (turns_in c.program past))
 
 -- the cues in a packet each, whose counters go on from the last on their PID
 abbrev pub cue_packets : Config → List ℕ → List Step → List (List ℕ) → List (List ℕ)

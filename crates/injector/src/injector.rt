@@ -15,12 +15,12 @@ ghost use Rattle.injector.specs.Turns.{Turn, high};
 ghost use Rattle.injector.specs.Senders.{IsIdle};
 ghost use Rattle.injector.specs.Noting.{NotesStandFor, StaysAtRest};
 ghost use Rattle.injector.specs.Steps.{Step, Message as MessageStep, Packet as PacketStep, packets_in, turns_in};
-ghost use Rattle.injector.specs.Steps.{high_of};
 ghost use Rattle.injector.specs.Steps.{body_at, sent_at};
 ghost use Rattle.injector.specs.Injecting.{InjectorStandsFor, JudgesBy, FeedFails, CountsAre, network_answer};
 ghost use Rattle.injector.specs.Injecting.{IsFollowed, IsBodyOf, RestsAt, KeepsRest};
 ghost use Rattle.outgoing_packets.specs.Faults.{FeedBlamed, KeepsSink, is_err_or};
 ghost use Rattle.program_follower.specs.Purposes.{writing_cues};
+ghost use Rattle.program_follower.specs.Following.{high_of};
 
 use crate::choice::is_reached;
 use crate::counts::{MessageCounts, counted, has_news_behind};
@@ -216,8 +216,8 @@ impl Injector {
     #[inline(always)]
     fn is_due(&self, later: &Option<Time33>) -> bool
         ensures { (is_map : Bool) (c : Config) (p : List ℕ) (past : List Step) → IsFollowed self.now is_map c p past →
-            later.now ≡ option_map ring_of (high_of c.program (p ∷ packets_in past)) → result ≡ false →
-            StaysAtRest self.now.rest c.index (high_of c.program (p ∷ packets_in past)) (turns_in c.program past) }
+            later.now ≡ option_map ring_of (high_of (Some c.program) (p ∷ packets_in past)) → result ≡ false →
+            StaysAtRest self.now.rest c.index (high_of (Some c.program) (p ∷ packets_in past)) (turns_in c.program past) }
     {
         self.has_news || is_reached(self.rest, *later)
     }

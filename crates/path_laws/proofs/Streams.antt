@@ -32,7 +32,7 @@ use Rattle.program_laws.proofs.UnitLemmas.{others_are_no_units}
 use Rattle.program_laws.proofs.FaultLemmas.{MapSound, all_sound}
 use Rattle.program_laws.proofs.CuedLemmas.{cued_stream_reads}
 use Rattle.armed_events.specs.Arming.{Heard, with_section, with_sections, heard}
-use Rattle.injector.specs.Steps.{Step, Message, Packet, packets_in, high_of, turns_in}
+use Rattle.injector.specs.Steps.{Step, Message, Packet, packets_in, turns_in}
 use Rattle.injector.proofs.FeedLemmas.{turns-high}
 use Rattle.cue_laws.specs.Events.{Turn as LineTurn}
 use Rattle.cue_laws.specs.Thinning.{times}
@@ -43,6 +43,7 @@ use Rattle.path_laws.proofs.Reading.{high-left}
 use Rattle.path_laws.proofs.Packets.{run-message, run-packet, run-history, map-pid, place-off}
 use Rattle.path_laws.proofs.Proofs.{tells}
 use Rattle.program_follower.specs.Purposes.{writing_cues}
+use Rattle.program_follower.specs.Following.{high_of}
 
 -- ---- cues that are left
 
@@ -174,7 +175,7 @@ module _ (c : Config) (q : List ℕ) (out : List (List ℕ)) (not_pat : c.cue_pi
     map_pid = λ l is. calm.map_pid l (sym listed-still ∙ is);
   }
 
-  high-still : high_of c.program (q ∷ out) ≡ high_of c.program out
+  high-still : high_of (Some c.program) (q ∷ out) ≡ high_of (Some c.program) out
   high-still =
       ap (λ o. unit_high (pids_of o) (behind_head (Some c.program) (q ∷ out))) program-still
       ∙ high-same (pids_of (program_of (Some c.program) out)) (behind_head (Some c.program) (q ∷ out)) (behind_head (Some c.program) out) (by (known_map (Some c.program) out) refl)
@@ -189,7 +190,7 @@ module _ (c : Config) (q : List ℕ) (out : List (List ℕ)) (not_pat : c.cue_pi
           ap (λ b. filter (on_one (pids_of (program_of (Some c.program) out))) (cond (is_some b) (q ∷ behind_head (Some c.program) out) [])) is
           ∙ ap (λ b. cond b (q ∷ filter (on_one (pids_of (program_of (Some c.program) out))) (behind_head (Some c.program) out)) (filter (on_one (pids_of (program_of (Some c.program) out))) (behind_head (Some c.program) out))) off
 
-steady : (c : Config) (out qs : List (List ℕ)) (h : Option ℤ) → (c.cue_pid ≡ 0 → ⊥) → Calm c out → high_of c.program out ≡ h → AllByRecursion (On c.cue_pid) qs → Steady (high_of c.program) h out qs
+steady : (c : Config) (out qs : List (List ℕ)) (h : Option ℤ) → (c.cue_pid ≡ 0 → ⊥) → Calm c out → high_of (Some c.program) out ≡ h → AllByRecursion (On c.cue_pid) qs → Steady (high_of (Some c.program)) h out qs
 steady c out [] h not_pat calm is on_cue = tt
 steady c out (q ∷ qs) h not_pat calm is on_cue =
     (is, steady c (q ∷ out) qs h not_pat (calm-still c q out not_pat calm on_cue.0) (high-still c q out not_pat calm on_cue.0 ∙ is) on_cue.1)
@@ -206,7 +207,7 @@ module _ (c : Config) (copies : List LineTurn → ℕ) (fronts : List ℕ → Li
   reads : CuedReads (Some c.program) c.cue_pid (stream c fronts past) (packets_in past) (pids_of (program_of (Some c.program) (packets_in past)))
   reads = cued_stream_reads (writing_cues c) c.cue_pid fronts (packets_in past) refl refl r.not_pat r.cue_pid r.faultless r.bytes (brings-on c copies fronts past b)
 
-  stream-high : high_of c.program (stream c fronts past) ≡ high_of c.program (packets_in past)
+  stream-high : high_of (Some c.program) (stream c fronts past) ≡ high_of (Some c.program) (packets_in past)
   stream-high =
       ap (λ o. unit_high (pids_of o) (behind_head (Some c.program) (stream c fronts past))) reads.program
       ∙ high-same (pids_of (program_of (Some c.program) (packets_in past))) (behind_head (Some c.program) (stream c fronts past)) (behind_head (Some c.program) (packets_in past)) reads.packets
@@ -217,7 +218,7 @@ module _ (c : Config) (copies : List LineTurn → ℕ) (fronts : List ℕ → Li
     map_pid = λ l is same. map-pid c (packets_in past) l r.faultless (sym reads.same_pat ∙ is) (sym same);
   }
 
-  sent-high : high_on (left copies (sent_in c past)) ≡ high_of c.program (packets_in past)
+  sent-high : high_on (left copies (sent_in c past)) ≡ high_of (Some c.program) (packets_in past)
   sent-high = high-left copies (sent_in c past) ∙ (tells c.index (turns_in c.program past) (run-history c past r)).clock ∙ turns-high c.program past
 
 pub stream_arms : StreamArms
@@ -228,12 +229,12 @@ stream_arms c copies fronts (Packet p ∷ past) r b =
     let out = stream c fronts past in
     let qs = fronts p (packets_in past) in
     let rest = body (cueing c.cue_pid fronts) (listed (Some c.program) (packets_in past)) p (packets_in past) (tables (Some c.program) p (packets_in past)) out in
-    let h = high_of c.program (packets_in past) in
+    let h = high_of (Some c.program) (packets_in past) in
     let keeps = kept copies (sent_in c past) (cues_at c p past) in
-    ap (heard c.cue_pid (high_of c.program)) (onto-append out qs rest)
-    ∙ heard-others c.cue_pid (high_of c.program) (onto out qs) rest (place-off c fronts p (packets_in past) out (tables (Some c.program) p (packets_in past)) (listed (Some c.program) (packets_in past)) r.faultless refl)
-    ∙ heard-onto c.cue_pid (high_of c.program) h out qs (steady c out qs h r.not_pat (stream-calm c copies fronts past before b.2) (stream-high c copies fronts past before b.2) b.0)
-    ∙ ap (λ ss. with_sections h ss (heard c.cue_pid (high_of c.program) out)) b.1
+    ap (heard c.cue_pid (high_of (Some c.program))) (onto-append out qs rest)
+    ∙ heard-others c.cue_pid (high_of (Some c.program)) (onto out qs) rest (place-off c fronts p (packets_in past) out (tables (Some c.program) p (packets_in past)) (listed (Some c.program) (packets_in past)) r.faultless refl)
+    ∙ heard-onto c.cue_pid (high_of (Some c.program)) h out qs (steady c out qs h r.not_pat (stream-calm c copies fronts past before b.2) (stream-high c copies fronts past before b.2) b.0)
+    ∙ ap (λ ss. with_sections h ss (heard c.cue_pid (high_of (Some c.program)) out)) b.1
     ∙ ap (with_sections h (map cue_bytes keeps)) (stream_arms c copies fronts past before b.2)
     ∙ ap (λ k. with_sections k (map cue_bytes keeps) (heard_on (left copies (sent_in c past)))) (sym (sent-high c copies fronts past before b.2))
     ∙ sym (heard-sent (left copies (sent_in c past)) keeps)

@@ -17,12 +17,13 @@ use Rattle.scte35_codec.specs.Spelling.{cue_bytes}
 use Rattle.armed_events.specs.Arming.{Heard, armed}
 use Rattle.program_follower.specs.declared.purpose.Listed.{Listed}
 use Rattle.program_follower.specs.Program.{listed, tables, Table}
+use Rattle.program_follower.specs.Following.{high_of}
 use Rattle.program_laws.specs.Writing.{number_on, section_out, body, Off}
 use Rattle.program_laws.specs.Cued.{On, cueing}
 use Rattle.program_laws.proofs.PacketLemmas.{one_past-below}
 use Rattle.program_laws.proofs.WritingLemmas.{carry_off}
 use Rattle.injector.specs.Turns.{Turn, Judged, Passed, events}
-use Rattle.injector.specs.Steps.{Step, Message, Packet, packets_in, high_of, turns_in, sections_before, cue_packets, cued}
+use Rattle.injector.specs.Steps.{Step, Message, Packet, packets_in, turns_in, sections_before, cue_packets, cued}
 use Rattle.cue_laws.specs.Events.{In}
 use Rattle.cue_laws.specs.Laws.{KeepsEnoughOf}
 use Rattle.cue_laws.proofs.Enough.{nothing_lost_is_enough}
@@ -44,7 +45,7 @@ turns-upon program [] front = ([], refl)
 turns-upon program (Message m ∷ later) front = let u = turns-upon program later front in (Judged m ∷ u.0, ap (λ l. Judged m ∷ l) u.1)
 turns-upon program (Packet p ∷ later) front =
     let u = turns-upon program later front in
-    let h = high_of program (p ∷ packets_in (later ++ front)) in
+    let h = high_of (Some program) (p ∷ packets_in (later ++ front)) in
     (Passed h ∷ u.0, ap (λ l. Passed h ∷ l) u.1)
 
 pub cue_path_in_packets : CuePathInPackets
@@ -53,22 +54,22 @@ cue_path_in_packets c copies fronts p last past later r b k e un reached =
     let whole = Packet last ∷ (later ++ front) in
     let here = run-front c later front (run-packet c last (later ++ front) r) in
     let u = turns-upon c.program later front in
-    let top = high_of c.program (last ∷ packets_in (later ++ front)) in
-    let h = high_of c.program (p ∷ packets_in past) in
+    let top = high_of (Some c.program) (last ∷ packets_in (later ++ front)) in
+    let h = high_of (Some c.program) (p ∷ packets_in past) in
     let same : turns_in c.program whole ≡ Passed top ∷ (u.0 ++ turns_in c.program front) = ap (λ l. Passed top ∷ l) u.1 in
     let law : In e (armed_on (left copies (sent_in c front))) ↔ In e (events c.index (turns_in c.program front)) =
     cue_path_of_events c.index copies h top (turns_in c.program past) u.0
     (subst (IsSteadyHistory c.index) same (run-history c whole r)) (subst (λ l. KeepsEnoughOf copies (asked_line c.index l)) same k) e un reached in
-    let arms : armed c.cue_pid (high_of c.program) (stream c fronts front) ≡ armed_on (left copies (sent_in c front)) = ap (λ (x : Heard). x.events) (stream_arms c copies fronts front here b) in
+    let arms : armed c.cue_pid (high_of (Some c.program)) (stream c fronts front) ≡ armed_on (left copies (sent_in c front)) = ap (λ (x : Heard). x.events) (stream_arms c copies fronts front here b) in
     (λ i. law.0 (subst (In e) arms i), λ i. subst (In e) (sym arms) (law.1 i))
 
 pub cue_path_in_packets_at_the_end : CuePathInPacketsAtTheEnd
 cue_path_in_packets_at_the_end c copies fronts p past r b k e un =
     let front = Packet p ∷ past in
-    let h = high_of c.program (p ∷ packets_in past) in
+    let h = high_of (Some c.program) (p ∷ packets_in past) in
     let law : In e (armed_on (left copies (sent_in c front))) ↔ In e (events c.index (turns_in c.program front)) =
     cue_path_of_events_at_the_end c.index copies h (turns_in c.program past) (run-history c front r) k e un in
-    let arms : armed c.cue_pid (high_of c.program) (stream c fronts front) ≡ armed_on (left copies (sent_in c front)) = ap (λ (x : Heard). x.events) (stream_arms c copies fronts front r b) in
+    let arms : armed c.cue_pid (high_of (Some c.program)) (stream c fronts front) ≡ armed_on (left copies (sent_in c front)) = ap (λ (x : Heard). x.events) (stream_arms c copies fronts front r b) in
     (λ i. law.0 (subst (In e) arms i), λ i. subst (In e) (sym arms) (law.1 i))
 
 -- ---- the cued stream itself
@@ -155,8 +156,8 @@ cued_stream_brings c past r = (stream-is c (own_fronts c past) past r (agrees c 
 pub cued_stream_arms : CuedStreamArms
 cued_stream_arms c p past r e un =
     let front = Packet p ∷ past in
-    let h = high_of c.program (p ∷ packets_in past) in
+    let h = high_of (Some c.program) (p ∷ packets_in past) in
     let own = cued_stream_brings c front r in
     let run = requests_are_a_run c.index (turns_in c.program front) (run-history c front r) in
     let law = cue_path_in_packets_at_the_end c (λ t. 1) (own_fronts c front) p past r own.1 (nothing_lost_is_enough h (asked_line c.index (turns_in c.program past)) run) e un in
-    subst (λ l. In e (armed c.cue_pid (high_of c.program) l) ↔ In e (events c.index (turns_in c.program front))) own.0 law
+    subst (λ l. In e (armed c.cue_pid (high_of (Some c.program)) l) ↔ In e (events c.index (turns_in c.program front))) own.0 law

@@ -14,12 +14,13 @@ use Rattle.event_table.specs.Standing.{Standing}
 use Rattle.armed_events.specs.Arming.{heard, armed}
 use Rattle.injector.specs.Turns.{events}
 use Rattle.injector.specs.Senders.{cues_before}
-use Rattle.injector.specs.Steps.{Step, Message, Packet, packets_in, high_of, turns_in, sections_before, cue_packets, cued}
+use Rattle.injector.specs.Steps.{Step, Message, Packet, packets_in, turns_in, sections_before, cue_packets, cued}
 use Rattle.cue_laws.specs.Events.{Turn as LineTurn, before, In}
 use Rattle.cue_laws.specs.Thinning.{times}
 use Rattle.cue_laws.specs.Laws.{KeepsEnoughOf}
 use Rattle.path_laws.specs.Path.{Item, Sent, line, left, path, heard_on, asked_line, RequestFits}
 use Rattle.program_follower.specs.Purposes.{writing_cues}
+use Rattle.program_follower.specs.Following.{high_of}
 
 -- ---- runs
 
@@ -53,7 +54,7 @@ SectionsReadBack = (c : Config) (past : List Step) → IsRunOf c past → sectio
 
 -- the cues before a packet, and what was sent before them
 abbrev pub cues_at : Config → List ℕ → List Step → List CueOut
-cues_at c p past = cues_before c.index (high_of c.program (p ∷ packets_in past)) (turns_in c.program past)
+cues_at c p past = cues_before c.index (high_of (Some c.program) (p ∷ packets_in past)) (turns_in c.program past)
 
 abbrev pub sent_in : Config → List Step → List Item
 sent_in c past = path c.index (turns_in c.program past)
@@ -80,7 +81,7 @@ BringsCues c copies fronts (Packet p ∷ past) =
 -- WHAT A STREAM ARMS is what the path of its cues does
 abbrev pub StreamArms : Type 0
 StreamArms = (c : Config) (copies : List LineTurn → ℕ) (fronts : List ℕ → List (List ℕ) → List (List ℕ)) (past : List Step) → IsRunOf c past → BringsCues c copies fronts past →
-    heard c.cue_pid (high_of c.program) (stream c fronts past) ≡ heard_on (left copies (sent_in c past))
+    heard c.cue_pid (high_of (Some c.program)) (stream c fronts past) ≡ heard_on (left copies (sent_in c past))
 
 -- THE CUE PATH IN PACKETS: behind each packet of a network without fault, a switch that reads what is left of the cues has armed an
 -- uncancelled event whose start is reached exactly where the injector has accepted it, whatever cues were lost or doubled
@@ -88,15 +89,15 @@ abbrev pub CuePathInPackets : Type 0
 CuePathInPackets = (c : Config) (copies : List LineTurn → ℕ) (fronts : List ℕ → List (List ℕ) → List (List ℕ)) (p last : List ℕ) (past later : List Step) →
     IsRunOf c (Packet last ∷ (later ++ Packet p ∷ past)) → BringsCues c copies fronts (Packet p ∷ past) →
     KeepsEnoughOf copies (asked_line c.index (turns_in c.program (Packet last ∷ (later ++ Packet p ∷ past)))) →
-    (e : Standing) → e.cancelled ≡ false → before (high_of c.program (p ∷ packets_in past)) e.start ≡ false →
-    In e (armed c.cue_pid (high_of c.program) (stream c fronts (Packet p ∷ past))) ↔ In e (events c.index (turns_in c.program (Packet p ∷ past)))
+    (e : Standing) → e.cancelled ≡ false → before (high_of (Some c.program) (p ∷ packets_in past)) e.start ≡ false →
+    In e (armed c.cue_pid (high_of (Some c.program)) (stream c fronts (Packet p ∷ past))) ↔ In e (events c.index (turns_in c.program (Packet p ∷ past)))
 
 -- and behind the last packet it is so for all uncancelled events
 abbrev pub CuePathInPacketsAtTheEnd : Type 0
 CuePathInPacketsAtTheEnd = (c : Config) (copies : List LineTurn → ℕ) (fronts : List ℕ → List (List ℕ) → List (List ℕ)) (p : List ℕ) (past : List Step) →
     IsRunOf c (Packet p ∷ past) → BringsCues c copies fronts (Packet p ∷ past) → KeepsEnoughOf copies (asked_line c.index (turns_in c.program (Packet p ∷ past))) →
     (e : Standing) → e.cancelled ≡ false →
-    In e (armed c.cue_pid (high_of c.program) (stream c fronts (Packet p ∷ past))) ↔ In e (events c.index (turns_in c.program (Packet p ∷ past)))
+    In e (armed c.cue_pid (high_of (Some c.program)) (stream c fronts (Packet p ∷ past))) ↔ In e (events c.index (turns_in c.program (Packet p ∷ past)))
 
 -- ---- nothing lost
 
@@ -115,4 +116,4 @@ CuedStreamBrings = (c : Config) (past : List Step) → IsRunOf c past →
 -- others that are not cancelled
 abbrev pub CuedStreamArms : Type 0
 CuedStreamArms = (c : Config) (p : List ℕ) (past : List Step) → IsRunOf c (Packet p ∷ past) → (e : Standing) → e.cancelled ≡ false →
-    In e (armed c.cue_pid (high_of c.program) (cued c (Packet p ∷ past))) ↔ In e (events c.index (turns_in c.program (Packet p ∷ past)))
+    In e (armed c.cue_pid (high_of (Some c.program)) (cued c (Packet p ∷ past))) ↔ In e (events c.index (turns_in c.program (Packet p ∷ past)))

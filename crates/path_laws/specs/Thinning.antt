@@ -1,7 +1,8 @@
 -- The packets of the cued stream, some of the cue PID left out, and some doubled on the spot.
-use Rattle.std.specs.Prelude.{◌≡◌, ◌↔◌, ℕ, zero, suc, ◌+◌, ◌%◌, ◌<◌, false, List, [], ◌∷◌, ◌++◌}
+use Rattle.std.specs.Prelude.{◌≡◌, ◌↔◌, ℕ, zero, suc, ◌+◌, ◌%◌, ◌<◌, false, List, [], ◌∷◌, ◌++◌, Some}
 use Rattle.ts_packet.specs.Numbering.{one_past}
 use Rattle.ts_packet.specs.Duplicates.{repeats}
+use Rattle.program_follower.specs.Following.{high_of}
 use Rattle.psi_section.specs.Packetising.{first_packet}
 use Rattle.psi_tables.specs.declared.config.Config.{Config}
 use Rattle.scte35_codec.specs.declared.cue_out.CueOut.{CueOut}
@@ -10,7 +11,7 @@ use Rattle.program_laws.specs.Writing.{number_on}
 use Rattle.event_table.specs.Standing.{Standing}
 use Rattle.armed_events.specs.Arming.{armed}
 use Rattle.injector.specs.Turns.{events}
-use Rattle.injector.specs.Steps.{Step, Message, Packet, packets_in, high_of, turns_in, cue_packets, cued}
+use Rattle.injector.specs.Steps.{Step, Message, Packet, packets_in, turns_in, cue_packets, cued}
 use Rattle.cue_laws.specs.Events.{Turn as LineTurn, before, In}
 use Rattle.cue_laws.specs.Laws.{KeepsEnoughOf}
 use Rattle.cue_laws.specs.Thinning.{times}
@@ -64,5 +65,5 @@ abbrev pub ThinnedCuePath : Type 0
 ThinnedCuePath = (c : Config) (copies : List LineTurn → ℕ) (fronts : List ℕ → List (List ℕ) → List (List ℕ)) (p last : List ℕ) (past later : List Step) →
     IsRunOf c (Packet last ∷ (later ++ Packet p ∷ past)) → IsThinned c copies fronts (Packet p ∷ past) →
     KeepsEnoughOf (λ t. sections_given (copies t)) (asked_line c.index (turns_in c.program (Packet last ∷ (later ++ Packet p ∷ past)))) →
-    (e : Standing) → e.cancelled ≡ false → before (high_of c.program (p ∷ packets_in past)) e.start ≡ false →
-    In e (armed c.cue_pid (high_of c.program) (stream c fronts (Packet p ∷ past))) ↔ In e (events c.index (turns_in c.program (Packet p ∷ past)))
+    (e : Standing) → e.cancelled ≡ false → before (high_of (Some c.program) (p ∷ packets_in past)) e.start ≡ false →
+    In e (armed c.cue_pid (high_of (Some c.program)) (stream c fronts (Packet p ∷ past))) ↔ In e (events c.index (turns_in c.program (Packet p ∷ past)))

@@ -106,11 +106,7 @@ impl SwitchedStream {
 /// Puts the packet with another continuity_counter. It stands by itself, so that a packet whose counter stays does not pay for the room of
 /// the copy.
 #[inline(never)]
-fn put_renumbered<S: PacketSink>(
-    packet: &Packet,
-    number: u8,
-    sink: &mut S,
-) -> Result<(), PutFault>
+fn put_renumbered<S: PacketSink>(packet: &Packet, number: u8, sink: &mut S) -> Result<(), PutFault>
     requires { number < 16 }
     ensures leads { S.leads sink.old sink.new }
     ensures ok { (start : Option (List ℕ)) (ps : List (List ℕ)) → S.holds sink.old start ps →

@@ -26,7 +26,7 @@ use Rattle.program_laws.proofs.WritingLemmas.{listed_below}
 use Rattle.event_table.specs.Standing.{Standing}
 use Rattle.armed_events.specs.Arming.{armed}
 use Rattle.injector.specs.Turns.{events}
-use Rattle.injector.specs.Steps.{Step, Message, Packet, packets_in, high_of, turns_in}
+use Rattle.injector.specs.Steps.{Step, Message, Packet, packets_in, turns_in}
 use Rattle.cue_laws.specs.Events.{Turn as LineTurn, before, In}
 use Rattle.cue_laws.specs.Laws.{KeepsEnoughOf}
 use Rattle.cue_laws.proofs.Enough.{nothing_lost_is_enough}
@@ -50,6 +50,7 @@ use Rattle.thinned_laws.proofs.Flags.{OffAlone}
 use Rattle.thinned_laws.proofs.Tables.{off-alone, not-switched}
 use Rattle.thinned_laws.proofs.Reports.{same_events_same_network}
 use Rattle.program_follower.specs.Purposes.{writing_cues}
+use Rattle.program_follower.specs.Following.{high_of}
 
 -- ---- rows
 
@@ -160,7 +161,7 @@ module _ (c : Config) (copies : List LineTurn → ℕ) (fronts : Fronts) (past :
   reads : CuedReads (Some c.program) c.cue_pid (stream c fronts past) (packets_in past) (pids_of (program_of (Some c.program) (packets_in past)))
   reads = cued_stream_reads (writing_cues c) c.cue_pid fronts (packets_in past) refl refl r.not_pat r.cue_pid r.faultless r.bytes (brings-on c copies fronts past b)
 
-  stream-high : high_of c.program (stream c fronts past) ≡ high_of c.program (packets_in past)
+  stream-high : high_of (Some c.program) (stream c fronts past) ≡ high_of (Some c.program) (packets_in past)
   stream-high =
       ap (λ o. high (pids_of o) (behind_head (Some c.program) (stream c fronts past))) reads.program
       ∙ high-units (pids_of (program_of (Some c.program) (packets_in past))) (pids_of (program_of (Some c.program) (packets_in past))) (behind_head (Some c.program) (stream c fronts past)) (behind_head (Some c.program) (packets_in past)) reads.units refl
@@ -178,8 +179,8 @@ module _ (c : Config) (copies : List LineTurn → ℕ) (fronts : Fronts) (past :
 
 -- what a stream has armed behind each packet of the network, where the start is reached
 abbrev ArmsAt : Config → Fronts → List ℕ → List Step → Type 0
-ArmsAt c fronts p past = (e : Standing) → e.cancelled ≡ false → before (high_of c.program (p ∷ packets_in past)) e.start ≡ false →
-    In e (armed c.cue_pid (high_of c.program) (stream c fronts (Packet p ∷ past))) ↔ In e (events c.index (turns_in c.program (Packet p ∷ past)))
+ArmsAt c fronts p past = (e : Standing) → e.cancelled ≡ false → before (high_of (Some c.program) (p ∷ packets_in past)) e.start ≡ false →
+    In e (armed c.cue_pid (high_of (Some c.program)) (stream c fronts (Packet p ∷ past))) ↔ In e (events c.index (turns_in c.program (Packet p ∷ past)))
 
 abbrev ArmsAlong : Config → Fronts → List Step → Type 0
 ArmsAlong c fronts [] = Unit {0}
@@ -268,8 +269,8 @@ module _ (c : Config) (filed : ℕ → Option Advertisement) (copies others : Li
   agree-here p past r b d arms arm e un reached =
       let one = one-twins (Packet p ∷ past) in
       let other = other-twins (Packet p ∷ past) r b d in
-      let top : before (high_of c.program (p ∷ packets_in past)) e.start ≡ false =
-      sym (ap (λ (l : List (List ℕ)). before (high_of c.program l) e.start) one ∙ ap (λ h. before h e.start) (stream-high c copies f (Packet p ∷ past) r b)) ∙ reached in
+      let top : before (high_of (Some c.program) (p ∷ packets_in past)) e.start ≡ false =
+      sym (ap (λ (l : List (List ℕ)). before (high_of (Some c.program) l) e.start) one ∙ ap (λ h. before h e.start) (stream-high c copies f (Packet p ∷ past) r b)) ∙ reached in
       let same = both-ways (arms e un top) (arm e un top) in (
         λ i. subst (λ (l : List (List ℕ)). In e (events_at (setting_of c filed) l)) (sym other) (same.0 (subst (λ (l : List (List ℕ)). In e (events_at (setting_of c filed) l)) one i)),
         λ i. subst (λ (l : List (List ℕ)). In e (events_at (setting_of c filed) l)) (sym one) (same.1 (subst (λ (l : List (List ℕ)). In e (events_at (setting_of c filed) l)) other i)),
@@ -334,7 +335,7 @@ lost_cues_leave_no_trace c filed copies fronts p past r b k =
     let whole = Packet p ∷ past in
     let own = cued_stream_brings c (Packet p ∷ past) r in
     let run = requests_are_a_run c.index (turns_in c.program (Packet p ∷ past)) (run-history c (Packet p ∷ past) r) in
-    let all = nothing_lost_is_enough (high_of c.program (p ∷ packets_in past)) (asked_line c.index (turns_in c.program past)) run in
+    let all = nothing_lost_is_enough (high_of (Some c.program) (p ∷ packets_in past)) (asked_line c.index (turns_in c.program past)) run in
     subst (λ (l : List (List ℕ)). SplicedAlike (setting_of c filed) (stream c fronts (Packet p ∷ past)) l) own.0
     (two-left c filed copies (λ t. 1) fronts (own_fronts c (Packet p ∷ past)) p past r b own.1 k all)
 

@@ -1,9 +1,10 @@
 use Rattle.std.proofs.Common.{◌≡◌, false, ◌∷◌, refl, sym, ap, ◌∙◌, subst}
-use Rattle.std.specs.Prelude.{option_map}
+use Rattle.std.specs.Prelude.{option_map, Some}
 use Rattle.pes_time.specs.Line.{ring_of}
+use Rattle.program_follower.specs.Following.{high_of}
 use Rattle.injector.specs.Turns.{high}
 use Rattle.injector.specs.Noting.{Rises, ring_reached}
-use Rattle.injector.specs.Steps.{packets_in, turns_in, high_of}
+use Rattle.injector.specs.Steps.{packets_in, turns_in}
 use Rattle.injector.proofs.FeedLemmas.{rises-at, turns-high}
 use Rattle.injector.proofs.RestLemmas.{idle-between}
 use Rattle.injector.proofs.BoundLemmas.{stays-at-rest}
@@ -12,7 +13,7 @@ use Rattle.injector.proofs.injector.Injector.is_due.Goals as goal
 pub returns-else-self : goal.returns-else-self
 returns-else-self c = λ is_map cfg p past fed time none.
     let turns = turns_in cfg.program past in
-    let line = high_of cfg.program (p ∷ packets_in past) in
+    let line = high_of (Some cfg.program) (p ∷ packets_in past) in
     let quiet = c.if-self.false in
     let rises : Rises (high turns) line = subst (λ h. Rises h line) (sym (turns-high cfg.program past)) (rises-at cfg p (packets_in past) fed.body.sound) in
     let below : ring_reached c.args.self.now.rest (option_map ring_of line) ≡ false = ap (ring_reached c.args.self.now.rest) (sym time) ∙ sym c.is_reached.ensures ∙ none in

@@ -1,5 +1,5 @@
 use Rattle.std.proofs.Common.{◌≡◌, [], ◌∷◌, ◌++◌, refl, sym, ap, subst, ◌∙◌, append_assoc}
-use Rattle.std.specs.Prelude.{option_map}
+use Rattle.std.specs.Prelude.{option_map, Some}
 use Rattle.std.proofs.lemmas.List.{append-nil}
 use Rattle.pes_time.specs.Line.{ring_of}
 use Rattle.ts_packet.specs.Runs.{onto}
@@ -11,17 +11,18 @@ use Rattle.injector.specs.Turns.{high, Passed}
 use Rattle.injector.specs.Senders.{standing_senders}
 use Rattle.injector.specs.Noting.{Rests, Rises, IsBefore}
 use Rattle.injector.specs.Requests.{RequestsStandFor}
-use Rattle.injector.specs.Steps.{Packet as PacketStep, packets_in, turns_in, high_of, cued, cue_packets, body_at, sent_at}
+use Rattle.injector.specs.Steps.{Packet as PacketStep, packets_in, turns_in, cued, cue_packets, body_at, sent_at}
 use Rattle.injector.proofs.FeedLemmas.{rises-at, turns-high}
 use Rattle.injector.proofs.RestLemmas.{idle-between}
 use Rattle.injector.proofs.injector.Injector.put.Goals as goal
 use Rattle.program_follower.specs.Purposes.{writing_cues}
+use Rattle.program_follower.specs.Following.{high_of}
 
 pub returns-in-Err-clause-err : goal.returns-in-Err-clause-err
 returns-in-Err-clause-err g c = λ start ps cfg past held b.
     let p = c.args.packet.now in
     let turns = turns_in cfg.program past in
-    let line = high_of cfg.program (p ∷ packets_in past) in
+    let line = high_of (Some cfg.program) (p ∷ packets_in past) in
     let is : c.high-later.result ≡ option_map ring_of line = c.high-later.ensures (writing_cues cfg) (p ∷ packets_in past) b.body.follower in
     let rises : Rises (high turns) line = subst (λ h. Rises h line) (sym (turns-high cfg.program past)) (rises-at cfg p (packets_in past) b.body.sound) in
     let before : IsBefore c.is_due-is_due.result c.args.self.now.requests c.high-later.result cfg.index turns line
@@ -40,7 +41,7 @@ pub returns-in-Err-put_body-clause-err : goal.returns-in-Err-put_body-clause-err
 returns-in-Err-put_body-clause-err g c = λ start ps cfg past held b.
     let p = c.args.packet.now in
     let turns = turns_in cfg.program past in
-    let line = high_of cfg.program (p ∷ packets_in past) in
+    let line = high_of (Some cfg.program) (p ∷ packets_in past) in
     let is : c.high-later.result ≡ option_map ring_of line = c.high-later.ensures (writing_cues cfg) (p ∷ packets_in past) b.body.follower in
     let rises : Rises (high turns) line = subst (λ h. Rises h line) (sym (turns-high cfg.program past)) (rises-at cfg p (packets_in past) b.body.sound) in
     let before : IsBefore c.is_due-is_due.result c.args.self.now.requests c.high-later.result cfg.index turns line
@@ -61,7 +62,7 @@ pub returns-clause-ok : goal.returns-clause-ok
 returns-clause-ok g c = λ start ps cfg past held b.
     let p = c.args.packet.now in
     let turns = turns_in cfg.program past in
-    let line = high_of cfg.program (p ∷ packets_in past) in
+    let line = high_of (Some cfg.program) (p ∷ packets_in past) in
     let is : c.high-later.result ≡ option_map ring_of line = c.high-later.ensures (writing_cues cfg) (p ∷ packets_in past) b.body.follower in
     let rises : Rises (high turns) line = subst (λ h. Rises h line) (sym (turns-high cfg.program past)) (rises-at cfg p (packets_in past) b.body.sound) in
     let before : IsBefore c.is_due-is_due.result c.args.self.now.requests c.high-later.result cfg.index turns line
@@ -80,7 +81,7 @@ pub returns-clause-stands : goal.returns-clause-stands
 returns-clause-stands g c = λ cfg past b.
     let p = c.args.packet.now in
     let turns = turns_in cfg.program past in
-    let line = high_of cfg.program (p ∷ packets_in past) in
+    let line = high_of (Some cfg.program) (p ∷ packets_in past) in
     let is : c.high-later.result ≡ option_map ring_of line = c.high-later.ensures (writing_cues cfg) (p ∷ packets_in past) b.body.follower in
     let rises : Rises (high turns) line = subst (λ h. Rises h line) (sym (turns-high cfg.program past)) (rises-at cfg p (packets_in past) b.body.sound) in
     let before : IsBefore c.is_due-is_due.result c.args.self.now.requests c.high-later.result cfg.index turns line
