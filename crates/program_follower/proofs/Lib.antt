@@ -6,5 +6,6 @@ pub mod MapsLemmas
 pub mod StreamLemmas
 pub mod PlaceLemmas
 pub mod FollowLemmas
+pub mod ElsewhereLemmas
 pub mod PieceLemmas
 pub mod RunLemmas

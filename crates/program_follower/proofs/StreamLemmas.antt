@@ -17,6 +17,7 @@ use Rattle.unit_stream.specs.Faults.{scrambled_one, start_fault, unit_fault}
 use Rattle.unit_stream.specs.Pieces.{Reads}
 use Rattle.unit_stream.specs.Starts.{ReadsStarts}
 use Rattle.unit_stream.specs.declared.starts.StartReader.{StartReader}
+use Rattle.unit_stream.proofs.ClockLemmas.{begins_off}
 use Rattle.unit_stream.proofs.StartLemmas.{starts_passed}
 use Rattle.program_follower.specs.Faults.{pids_in}
 use Rattle.program_follower.specs.Streaming.{next_place, first_on, AllFirst, AllRead, AllStartsRead, IsOne, begin_fault}
@@ -205,8 +206,16 @@ starts_all_off rs pids p past n h = every_off (λ r pid. ReadsStarts r pid past)
 
 pub starts_all_on : (rs new : List StartReader) (pids : List ℕ) (p : List ℕ) (past : List (List ℕ)) (x : ℕ × ℕ) → first_on pids p ≡ Some x → AllStartsRead rs pids past
     → ((i : ℕ) (d : StartReader) → i ≢ x.0 → slice_index_or new i d ≡ slice_index_or rs i d)
-    → ((d : StartReader) (pid : ℕ) (ps : List (List ℕ)) → ReadsStarts (slice_index_or rs x.0 d) pid ps → ReadsStarts (slice_index_or new x.0 d) pid (p ∷ ps)) → AllStartsRead new pids (p ∷ past)
-starts_all_on rs new pids p past x f h others reads = every_on (λ r pid. ReadsStarts r pid past) (λ r pid. ReadsStarts r pid (p ∷ past)) pids p (λ r pid o k. starts_off r pid p past o k) rs new x f h others (λ d k. reads d x.1 past k)
+    → ((d : StartReader) → ReadsStarts (slice_index_or rs x.0 d) x.1 past → ReadsStarts (slice_index_or new x.0 d) x.1 (p ∷ past)) → AllStartsRead new pids (p ∷ past)
+starts_all_on rs new pids p past x f h others reads = every_on (λ r pid. ReadsStarts r pid past) (λ r pid. ReadsStarts r pid (p ∷ past)) pids p (λ r pid o k. starts_off r pid p past o k) rs new x f h others reads
+
+payload_off : (pid : ℕ) (p : List ℕ) → is_some (payload p) ≡ false → payload_on pid p ≡ false
+unfolding payload_on
+payload_off pid p n = by_test (on pid p) (λ o. simp (o, n) refl) (λ o. simp o refl)
+
+-- without payload, whatever PID it is of
+pub starts_all_passed : (rs : List StartReader) (pids : List ℕ) (p : List ℕ) (past : List (List ℕ)) → is_some (payload p) ≡ false → AllStartsRead rs pids past → AllStartsRead rs pids (p ∷ past)
+starts_all_passed rs pids p past n h = λ q x d k. starts_passed (slice_index_or rs x.0 d) x.1 p past (payload_off x.1 p n) (h q x d k)
 
 -- ---- the stream of a PID
 
@@ -257,6 +266,13 @@ module _ (pids : List ℕ) (p : List ℕ) (past : List (List ℕ)) where
         let b = of_begins in
         ap (λ s. if s then Some Scrambled else (if begins_one pids p past then start_fault (high pids past) (splits p) (stamp p) else None)) a
         ∙ ap (λ s. if s then start_fault (high pids past) (splits p) (stamp p) else None) b ∙ e
+
+    pub no_payload_fault : payload_on x.1 p ≡ false → unit_fault pids p past ≡ None
+    no_payload_fault y =
+        fault_begin None (ap (λ b. b && scrambled p) y) (ap (λ b. if b then start_fault (high pids past) (splits p) (stamp p) else None) (begins_off x.1 p past y))
+
+    pub no_payload_high : payload_on x.1 p ≡ false → high pids (p ∷ past) ≡ high pids past
+    no_payload_high y = let b = of_begins ∙ begins_off x.1 p past y in simp b refl
 
 -- a packet of the PID has a payload where it has one
 pub payload_of : (pid : ℕ) (p : List ℕ) → on pid p ≡ true → payload_on pid p ≡ is_some (payload p)

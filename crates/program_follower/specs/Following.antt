@@ -6,6 +6,7 @@ use Rattle.psi_tables.specs.declared.network.NetworkFault.{NetworkFault}
 use Rattle.psi_tables.specs.declared.stream.Stream.{Stream}
 use Rattle.program_follower.specs.declared.purpose.Purpose.{Purpose}
 use Rattle.program_follower.specs.declared.purpose.Listed.{Listed}
+use Rattle.program_follower.specs.declared.table_reader.OnTables.{OnTables}
 use Rattle.program_follower.specs.declared.streams.Streams.{Streams}
 use Rattle.program_follower.specs.declared.starts.Starts.{Starts}
 use Rattle.program_follower.specs.declared.streams.StreamPacket.{StreamPacket}
@@ -75,6 +76,17 @@ high_of wanted past = high (pids_of (program_of wanted past)) (behind_head wante
 abbrev pub on_map : Option Listed → List ℕ → Bool
 on_map None p = false
 on_map (Some l) p = on l.pid p
+
+-- which of the PIDs of the tables and of the cues it is on
+pub record IsOnTables (x : OnTables) (c : Purpose) (p : List ℕ) (past : List (List ℕ)) : Type 0 where
+  pub cue : x.is_cue ≡ on_cue c.cue_pid p
+  pub map : x.is_map ≡ on_map (listed c.program past) p
+
+-- it is on none of them
+pub record IsElsewhere (c : Purpose) (p : List ℕ) (past : List (List ℕ)) : Type 0 where
+  pub pat : on 0 p ≡ false
+  pub cue : on_cue c.cue_pid p ≡ false
+  pub map : on_map (listed c.program past) p ≡ false
 
 -- of which switched stream a packet is, behind this past
 abbrev pub IsSwitched : Option (ℕ × StreamPacket) → Purpose → List ℕ → List (List ℕ) → Type 0

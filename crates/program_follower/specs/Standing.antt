@@ -14,7 +14,7 @@ use Rattle.program_follower.specs.declared.table_reader.TableReader.{TableReader
 use Rattle.program_follower.specs.declared.known.KnownProgram.{KnownProgram}
 use Rattle.program_follower.specs.declared.tables.LentTable.{LentTable}
 use Rattle.program_follower.specs.declared.tables.Tables.{Tables}
-use Rattle.program_follower.specs.Program.{listed, since_pat, Table, table_of, Program, program_of}
+use Rattle.program_follower.specs.Program.{listed, pmt_pid_of, since_pat, Table, table_of, Program, program_of}
 
 -- The reader of PATs has been fed this past; its assembler may still give what was judged.
 pub record PatsRead (r : PatReader) (wanted : Option ℕ) (past : List (List ℕ)) : Type 0 where
@@ -70,11 +70,18 @@ pub record MapsRead (r : MapReader) (wanted : Option ℕ) (past : List (List ℕ
 
 -- ---- both
 
--- The reader of tables reads them for this purpose, and has been fed this past.
+-- the PID, and 0, which is that of the PAT, where there is none
+abbrev pub or_zero : Option ℕ → ℕ
+or_zero None = 0
+or_zero (Some pid) = pid
+
+-- The reader of tables reads them for this purpose, and has been fed this past. It keeps the PIDs that it watches beside that of the PAT.
 pub record TablesRead (r : TableReader) (c : Purpose) (past : List (List ℕ)) : Type 0 where
   pub purpose : r.purpose ≡ c
   pub pats : PatsRead r.pats c.program past
   pub maps : MapsRead r.maps c.program past
+  pub cue_pid : r.cue_pid ≡ or_zero c.cue_pid
+  pub map_pid : r.map_pid ≡ or_zero (pmt_pid_of c.program past)
 
 -- what holds of the packets that it was fed, for its purpose
 abbrev pub OfTables : TableReader → (Purpose → List (List ℕ) → Type 0) → Type 0

@@ -9,12 +9,12 @@ ghost use Rattle.program_follower.specs.Faults.{network_fault, as_network};
 ghost use Rattle.program_follower.specs.Standing.{tables_left, lent_program};
 ghost use Rattle.program_follower.specs.Streaming.{IsOfStream};
 ghost use Rattle.program_follower.specs.Following.{FollowerStandsFor, OfPast, OfStreams, StreamsSince, grown, high_of};
-ghost use Rattle.program_follower.specs.Following.{IsPlace, IsSwitched, IsNetwork, streams_of_program, on_map};
+ghost use Rattle.program_follower.specs.Following.{IsPlace, IsSwitched, IsOnTables, IsNetwork, streams_of_program};
 
 use crate::known::KnownProgram;
 use crate::purpose::{Listed, Purpose};
 use crate::streams::{StreamPacket, Streams};
-use crate::table_reader::{TableReader, is_on_pid};
+use crate::table_reader::{OnTables, TableReader};
 use crate::tables::Tables;
 use pes_time::Time33;
 use psi_tables::{NetworkFault, Stream};
@@ -157,13 +157,12 @@ impl ProgramFollower {
         ensures place { OfPast self.old (λ c past. IfOk result (λ x. IsPlace x c packet.now past)) }
         ensures err { OfPast self.old (λ c past. IfErr result (λ f. network_fault c packet.now past ≡ Some f)) }
     {
-        match self.tables.feed(packet) {
-            Ok(()) => {}
+        let on_tables = match self.tables.feed(packet) {
+            Ok(on_tables) => on_tables,
             Err(fault) => return Err(fault),
-        }
-        let is_map = self.tables.is_on_map();
+        };
         match follow_streams(&mut self.streams, self.tables.known(), packet) {
-            Ok(of_stream) => Ok(place_of(self.tables.cue_pid(), is_map, of_stream, packet)),
+            Ok(of_stream) => Ok(place_of(on_tables, of_stream, packet)),
             Err(fault) => Err(of_unit(fault)),
         }
     }
@@ -213,29 +212,23 @@ fn begin(streams: &mut Option<Streams>, switched: &[Stream])
 
 /// What a packet is, by the stream that it is of.
 #[inline(always)]
-fn place_of(
-    cue_pid: Option<Pid>,
-    is_map: bool,
-    of_stream: Option<(usize, StreamPacket)>,
-    packet: &Packet,
-) -> Place
-    ensures { (c : Purpose) (past : List (List ℕ)) → c.cue_pid ≡ cue_pid
-        → is_map ≡ on_map (listed c.program past) packet.now → IsSwitched of_stream c packet.now past
-        → IsPlace result c packet.now past }
+fn place_of(on_tables: OnTables, of_stream: Option<(usize, StreamPacket)>, packet: &Packet) -> Place
+    ensures { (c : Purpose) (past : List (List ℕ)) → IsOnTables on_tables c packet.now past
+        → IsSwitched of_stream c packet.now past → IsPlace result c packet.now past }
 {
+    if on_tables.is_cue {
+        return Place::Cue;
+    }
+    if on_tables.is_map {
+        return Place::Map;
+    }
+    if let Some((index, part)) = of_stream {
+        return Place::Stream(index, part);
+    }
     if packet.error() {
         return Place::Marked;
     }
-    if is_on_pid(cue_pid, packet) {
-        return Place::Cue;
-    }
-    if is_map {
-        return Place::Map;
-    }
-    match of_stream {
-        Some((index, part)) => Place::Stream(index, part),
-        None => Place::Other,
-    }
+    Place::Other
 }
 
 /// A fault of a unit, as one of the network.

@@ -23,5 +23,5 @@ pub use purpose::{Listed, Purpose};
 pub use start_follower::StartFollower;
 pub use starts::Starts;
 pub use streams::{StreamPacket, Streams};
-pub use table_reader::TableReader;
+pub use table_reader::{OnTables, TableReader};
 pub use tables::{LentTable, Tables};

@@ -1,6 +1,6 @@
 //! The maps of the program: which streams it has (ISO/IEC 13818-1, 2.4.4.8).
 
-ghost use Rattle.std.specs.Prelude.{◌≡◌, ℕ, List, [], ◌∷◌, map, Option, None, Some, option_map, OnOk, IfErr, true};
+ghost use Rattle.std.specs.Prelude.{◌≡◌, ℕ, List, [], ◌∷◌, map, Option, None, Some, option_map, OnOk, IfOk, IfErr, true};
 ghost use Rattle.ts_packet.specs.Fields.{on};
 ghost use Rattle.psi_section.specs.SectionsLeft.{sections_left};
 ghost use Rattle.psi_tables.specs.ProgramMap.{ProgramMap};
@@ -8,7 +8,7 @@ ghost use Rattle.program_follower.specs.Program.{listed, table_of, program_in, p
 ghost use Rattle.program_follower.specs.Faults.{maps_fault_at};
 ghost use Rattle.program_follower.specs.Judging.{fault_of_section, known_behind, fault_of_sections, known_behind_all};
 ghost use Rattle.program_follower.specs.Standing.{known_seen};
-ghost use Rattle.program_follower.specs.Following.{on_map};
+ghost use Rattle.program_follower.specs.Following.{on_map, IsElsewhere};
 
 use crate::judging::judge_map;
 use crate::known::KnownProgram;
@@ -49,14 +49,6 @@ impl MapReader {
         self.known.as_ref()
     }
 
-    /// The last packet was on the PID of the map.
-    #[inline(always)]
-    pub fn is_on_map(&self) -> bool
-        ensures { result ≡ self.now.is_on_map }
-    {
-        self.is_on_map
-    }
-
     /// The sections that the last packet finished on the PID of the map, as tables of a program.
     pub fn tables(&self, program: u16) -> Tables<'_>
         ensures { tables_left result ≡ map (table_of program) (shown self.now) }
@@ -68,7 +60,8 @@ impl MapReader {
         }
     }
 
-    /// Takes the next packet of the network, of whatever PID. `at` is what the PAT lists before it.
+    /// Takes the next packet of the network, of whatever PID, and answers whether it is on the PID of the map. `at` is what the PAT lists
+    /// before it.
     ///
     /// # Errors
     ///
@@ -79,7 +72,7 @@ impl MapReader {
         purpose: &Purpose,
         at: Option<Listed>,
         packet: &Packet,
-    ) -> Result<(), NetworkFault>
+    ) -> Result<bool, NetworkFault>
         ensures reads { (past : List (List ℕ)) → at ≡ listed purpose.now.program past
             → MapsRead self.old purpose.now.program past
             → OnOk result (MapsRead self.new purpose.now.program (packet.now ∷ past)) }
@@ -89,17 +82,29 @@ impl MapReader {
         ensures err { (past : List (List ℕ)) → at ≡ listed purpose.now.program past
             → MapsRead self.old purpose.now.program past
             → IfErr result (λ f. maps_fault_at purpose.now packet.now past ≡ Some f) }
-        ensures on { OnOk result (self.new.is_on_map ≡ on_map at packet.now) }
+        ensures on { IfOk result (λ is_map. is_map ≡ on_map at packet.now) }
     {
         let Some(listed) = at else {
             self.is_on_map = false;
-            return Ok(());
+            return Ok(false);
         };
         if !packet.is_on(listed.pid) {
             self.is_on_map = false;
-            return Ok(());
+            return Ok(false);
         }
-        self.take(purpose, listed, packet)
+        match self.take(purpose, listed, packet) {
+            Ok(()) => Ok(true),
+            Err(fault) => Err(fault),
+        }
+    }
+
+    /// Passes a packet that is on no PID of the tables: it shows nothing.
+    #[inline(always)]
+    pub fn pass(&mut self)
+        ensures { (c : Purpose) (p : List ℕ) (past : List (List ℕ)) → IsElsewhere c p past
+            → MapsRead self.old c.program past → MapsRead self.new c.program (p ∷ past) }
+    {
+        self.is_on_map = false;
     }
 
     /// Takes a packet of the PID of the map. It stands by itself so that no other packet pays for the room that it takes.

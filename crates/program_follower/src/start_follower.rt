@@ -53,12 +53,12 @@ impl StartFollower {
             IfOk result (λ is_map. is_map ≡ on_map (listed c.program past) packet.now)) }
         ensures err { OfStartPast self.old (λ c past. IfErr result (λ f. network_fault c packet.now past ≡ Some f)) }
     {
-        match self.tables.feed(packet) {
-            Ok(()) => {}
+        let on_tables = match self.tables.feed(packet) {
+            Ok(on_tables) => on_tables,
             Err(fault) => return Err(fault),
-        }
+        };
         match follow_begins(&mut self.streams, self.tables.known(), packet) {
-            Ok(()) => Ok(self.tables.is_on_map()),
+            Ok(()) => Ok(on_tables.is_map),
             Err(fault) => Err(of_unit(fault)),
         }
     }

@@ -1,7 +1,8 @@
 //! Where the units of the switched streams begin behind the head, and the greatest time of these.
 
 ghost use Rattle.std.specs.Prelude.{◌≡◌, ◌<◌, ◌≤◌, ◌≢◌, ◌∷◌, [], ℕ, List, length, Option, Some, None, option_map};
-ghost use Rattle.std.specs.Prelude.{OnOk, IfErr, slice_index_or};
+ghost use Rattle.std.specs.Prelude.{OnOk, IfErr, slice_index_or, true};
+ghost use Rattle.ts_packet.specs.Fields.{payload_on};
 ghost use Rattle.pes_time.specs.Line.{ring_of};
 ghost use Rattle.unit_stream.specs.Faults.{unit_fault};
 ghost use Rattle.unit_stream.specs.Times.{high};
@@ -11,7 +12,6 @@ ghost use Rattle.program_follower.specs.Faults.{pids_in};
 ghost use Rattle.program_follower.specs.Streaming.{AllStartsRead, StartsRead, IsOne, begin_fault};
 
 use crate::places::StreamPlaces;
-use crate::streams::has_scrambled_payload;
 use pes_time::Time33;
 use psi_tables::Stream;
 use ts_packet::{Packet, Pid};
@@ -64,7 +64,10 @@ impl Starts {
         let Some(index) = self.places.place_of(packet) else {
             return Ok(());
         };
-        if has_scrambled_payload(packet) {
+        if !packet.has_payload() {
+            return Ok(());
+        }
+        if packet.scrambled() {
             return Err(UnitFault::Scrambled);
         }
         let begun = feed_at(&mut self.readers, index, packet);
@@ -98,16 +101,16 @@ fn pass(clock: &mut Clock, begun: Option<&[u8]>) -> Result<(), UnitFault>
     }
 }
 
-/// Feeds the reader of one stream.
+/// Feeds the reader of one stream a payload packet of it.
 #[inline(always)]
 fn feed_at<'a>(readers: &mut [StartReader; 8], index: usize, packet: &'a Packet) -> Option<&'a [u8]>
     requires { index < 8 }
     ensures others { (i : ℕ) (d : StartReader) → i ≢ index
         → slice_index_or readers.new i d ≡ slice_index_or readers.old i d }
-    ensures reads { (d : StartReader) (pid : ℕ) (past : List (List ℕ))
+    ensures reads { (d : StartReader) (pid : ℕ) (past : List (List ℕ)) → payload_on pid packet.now ≡ true
         → ReadsStarts (slice_index_or readers.old index d) pid past
         → ReadsStarts (slice_index_or readers.new index d) pid (packet.now ∷ past) }
-    ensures begins { (d : StartReader) (pid : ℕ) (past : List (List ℕ))
+    ensures begins { (d : StartReader) (pid : ℕ) (past : List (List ℕ)) → payload_on pid packet.now ≡ true
         → ReadsStarts (slice_index_or readers.old index d) pid past → IsBegin result pid packet.now past }
 {
     readers[index].feed(packet)

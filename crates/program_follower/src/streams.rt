@@ -125,7 +125,7 @@ fn stream_packet(clock: &mut Clock, piece: Piece<'_>) -> Result<StreamPacket, Un
 
 /// Whether there is a payload, and it is scrambled.
 #[inline(always)]
-pub(crate) fn has_scrambled_payload(packet: &Packet) -> bool
+fn has_scrambled_payload(packet: &Packet) -> bool
     ensures { result ≡ (is_some (payload packet.now) && scrambled packet.now) }
 {
     packet.has_payload() && packet.scrambled()

@@ -1,10 +1,10 @@
 //! The tables of a network: which program it has, and what is wrong with them.
 
-ghost use Rattle.std.specs.Prelude.{◌≡◌, ◌&&◌, ◌∷◌, [], ℕ, List, Option, Some, OnOk, IfErr};
+ghost use Rattle.std.specs.Prelude.{◌≡◌, ◌∷◌, [], ℕ, List, Option, Some, option_map, false, OnOk, IfOk, IfErr};
 ghost use Rattle.program_follower.specs.Program.{listed, tables, program_of};
 ghost use Rattle.program_follower.specs.Faults.{network_fault, unit_fault_at, on_cue};
-ghost use Rattle.program_follower.specs.Standing.{TablesRead, OfTables, tables_left, lent_program};
-ghost use Rattle.program_follower.specs.Following.{on_map};
+ghost use Rattle.program_follower.specs.Standing.{TablesRead, OfTables, tables_left, lent_program, or_zero};
+ghost use Rattle.program_follower.specs.Following.{IsOnTables, IsElsewhere};
 
 use crate::known::KnownProgram;
 use crate::map_reader::MapReader;
@@ -14,12 +14,24 @@ use crate::tables::Tables;
 use psi_tables::NetworkFault;
 use ts_packet::{Packet, Pid};
 
+/// On which of the PIDs of a program's map and cues a packet is.
+#[derive(Clone, Copy, Debug, PartialEq, Eq)]
+pub struct OnTables {
+    /// It is on the PID of the cues.
+    pub is_cue: bool,
+    /// It is on the PID of the map, behind the PAT.
+    pub is_map: bool,
+}
+
 /// Reads the PATs of a network and the maps of one program.
 #[derive(Drop)]
 pub struct TableReader {
     purpose: Purpose,
     pats: PatReader,
     maps: MapReader,
+    /// The PID of the cues, and that of the map behind the PAT; 0, that of the PAT, where there is none.
+    cue_pid: Pid,
+    map_pid: Pid,
 }
 
 impl TableReader {
@@ -31,24 +43,56 @@ impl TableReader {
             purpose,
             pats: PatReader::new(),
             maps: MapReader::new(),
+            cue_pid: or_zero(purpose.cue_pid),
+            map_pid: Pid::of_bits(0, 0),
         }
     }
 
-    /// Takes the next packet of the network, of whatever PID. The unit that it is of is not judged.
+    /// Takes the next packet of the network, of whatever PID, and answers whether it is on the PID of the map or on that of the cues. The
+    /// unit that it is of is not judged.
     ///
     /// # Errors
     ///
     /// What is wrong with it, where that is no fault of a unit.
     #[inline(always)]
-    pub fn feed(&mut self, packet: &Packet) -> Result<(), NetworkFault>
+    pub fn feed(&mut self, packet: &Packet) -> Result<OnTables, NetworkFault>
         ensures reads { OfTables self.old (λ c past. OnOk result (TablesRead self.new c (packet.now ∷ past))) }
         ensures ok { OfTables self.old (λ c past.
             OnOk result (network_fault c packet.now past ≡ unit_fault_at c packet.now past)) }
         ensures err { OfTables self.old (λ c past. IfErr result (λ f. network_fault c packet.now past ≡ Some f)) }
-        ensures on { OfTables self.old (λ c past.
-            OnOk result (self.new.maps.is_on_map ≡ on_map (listed c.program past) packet.now)) }
+        ensures on { OfTables self.old (λ c past. IfOk result (λ x. IsOnTables x c packet.now past)) }
     {
-        if is_refused(&self.purpose, packet) {
+        if self.is_watched(packet) {
+            return self.take(packet);
+        }
+        self.maps.pass();
+        Ok(OnTables {
+            is_cue: false,
+            is_map: false,
+        })
+    }
+
+    /// The packet may be on a PID of the tables or of the cues: a packet of another PID tells nothing of them.
+    #[inline(always)]
+    fn is_watched(&self, packet: &Packet) -> bool
+        ensures { OfTables self.now (λ c past. result ≡ false → IsElsewhere c packet.now past) }
+    {
+        let number = packet.pid().get();
+        number == 0 || number == self.map_pid.get() || number == self.cue_pid.get()
+    }
+
+    /// Takes a packet of one of those PIDs. It stands by itself so that no other packet pays for the room that it takes.
+    #[cold]
+    #[inline(never)]
+    fn take(&mut self, packet: &Packet) -> Result<OnTables, NetworkFault>
+        ensures reads { OfTables self.old (λ c past. OnOk result (TablesRead self.new c (packet.now ∷ past))) }
+        ensures ok { OfTables self.old (λ c past.
+            OnOk result (network_fault c packet.now past ≡ unit_fault_at c packet.now past)) }
+        ensures err { OfTables self.old (λ c past. IfErr result (λ f. network_fault c packet.now past ≡ Some f)) }
+        ensures on { OfTables self.old (λ c past. IfOk result (λ x. IsOnTables x c packet.now past)) }
+    {
+        let is_cue = is_on_pid(self.purpose.cue_pid, packet);
+        if self.purpose.writes_cues && is_cue {
             return Err(NetworkFault::CuePidUsed);
         }
         let listed = self.pats.listed();
@@ -56,26 +100,11 @@ impl TableReader {
             Ok(()) => {}
             Err(fault) => return Err(fault),
         }
+        self.map_pid = map_pid(self.pats.listed());
         match self.maps.feed(&self.purpose, listed, packet) {
-            Ok(()) => Ok(()),
+            Ok(is_map) => Ok(OnTables { is_cue, is_map }),
             Err(fault) => Err(fault),
         }
-    }
-
-    /// The last packet was on the PID of the map.
-    #[inline(always)]
-    pub fn is_on_map(&self) -> bool
-        ensures { result ≡ self.now.maps.is_on_map }
-    {
-        self.maps.is_on_map()
-    }
-
-    /// The PID of the cues, where there is one.
-    #[inline(always)]
-    pub fn cue_pid(&self) -> Option<Pid>
-        ensures { OfTables self.now (λ c past. result ≡ c.cue_pid) }
-    {
-        self.purpose.cue_pid
     }
 
     /// The sections that the last packet finished on the PID of the map, behind the PAT, in order; none where it was of another PID.
@@ -105,17 +134,29 @@ impl TableReader {
     }
 }
 
-/// The packet is on the PID of cues that are to be written.
-#[inline(always)]
-fn is_refused(purpose: &Purpose, packet: &Packet) -> bool
-    ensures { result ≡ (purpose.now.writes_cues && on_cue purpose.now.cue_pid packet.now) }
+/// The PID, and 0 where there is none.
+fn or_zero(pid: Option<Pid>) -> Pid
+    ensures { result ≡ or_zero pid }
 {
-    purpose.writes_cues && is_on_pid(purpose.cue_pid, packet)
+    match pid {
+        None => Pid::of_bits(0, 0),
+        Some(pid) => pid,
+    }
+}
+
+/// The PID of the map, and 0 before the PAT.
+fn map_pid(listed: Option<Listed>) -> Pid
+    ensures { result ≡ or_zero (option_map (λ l. l.pid) listed) }
+{
+    match listed {
+        None => Pid::of_bits(0, 0),
+        Some(listed) => listed.pid,
+    }
 }
 
 /// The packet is on this PID, where there is one.
 #[inline(always)]
-pub(crate) fn is_on_pid(pid: Option<Pid>, packet: &Packet) -> bool
+fn is_on_pid(pid: Option<Pid>, packet: &Packet) -> bool
     ensures { result ≡ on_cue pid packet.now }
 {
     match pid {

@@ -1,6 +1,6 @@
 //! Which payload packets of a PID are originals, and which are duplicates.
 
-ghost use Rattle.std.specs.Prelude.{◌≡◌, ℕ, ◌<◌, List, [], ◌∷◌};
+ghost use Rattle.std.specs.Prelude.{◌≡◌, ℕ, ◌<◌, List, [], ◌∷◌, true};
 
 use crate::packet::Packet;
 use crate::pid::Pid;
@@ -48,6 +48,7 @@ pub struct Follower {
 }
 
 impl Follower {
+    ghost use Rattle.ts_packet.specs.Fields.{payload_on};
     ghost use Rattle.ts_packet.specs.Following.{Follows, OfFollowed, kept_after};
     ghost use Rattle.ts_packet.specs.Duplicates.{original, repeats_last, last_of, follows_on, is_gap};
 
@@ -66,9 +67,17 @@ impl Follower {
             Follows self.new (kept_after pid packet.now packet.now kept.now) pid (packet.now ∷ past)) }
         ensures answer { OfFollowed self.old kept.now (λ pid past. result ≡ original pid packet.now past) }
     {
-        if !packet.has_payload_on(self.pid) {
-            return false;
-        }
+        packet.has_payload_on(self.pid) && self.take(packet, kept)
+    }
+
+    /// Takes the next payload packet of the PID as `feed` does, and does not look whether it is one: for callers who know.
+    #[inline(always)]
+    pub fn take(&mut self, packet: &Packet, kept: &Packet) -> bool
+        ensures follows { OfFollowed self.old kept.now (λ pid past. payload_on pid packet.now ≡ true
+            → Follows self.new packet.now pid (packet.now ∷ past)) }
+        ensures answer { OfFollowed self.old kept.now (λ pid past. payload_on pid packet.now ≡ true
+            → result ≡ original pid packet.now past) }
+    {
         let is_repeat = self.is_repeated(packet, kept);
         self.last = Some(Mark {
             counter: packet.counter(),

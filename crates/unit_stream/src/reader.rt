@@ -63,7 +63,7 @@ impl UnitFollower {
         let Some(payload) = packet.payload() else {
             return Piece::NoPayload;
         };
-        if !self.follower.feed(packet, kept) {
+        if !self.follower.take(packet, kept) {
             return Piece::Duplicate;
         }
         if packet.unit_start() {
@@ -106,8 +106,9 @@ impl UnitReader {
         ensures payload { HasPayload result packet.now }
     {
         let piece = self.units.feed(packet, &self.last);
-        if packet.has_payload_on(self.units.pid) {
-            self.last = *packet;
+        match piece {
+            Piece::Error | Piece::NoPayload => {}
+            _ => self.last = *packet,
         }
         piece
     }

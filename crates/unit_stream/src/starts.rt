@@ -28,15 +28,15 @@ impl StartReader {
         }
     }
 
-    /// The payload of the first packet of a unit, where the next packet is that; `None` where it begins no unit of the PID.
+    /// Takes the next payload packet of the PID, and answers its payload where a unit begins with it; `None` where none does. Other packets
+    /// are left out: they change nothing, and it does not look whether the packet is one.
     #[inline(always)]
     pub fn feed<'a>(&mut self, packet: &'a Packet) -> Option<&'a [u8]>
-        ensures reads { OfStarts self.old (λ pid past. ReadsStarts self.new pid (packet.now ∷ past)) }
-        ensures begins { OfStarts self.old (λ pid past. IsBegin result pid packet.now past) }
+        ensures reads { OfStarts self.old (λ pid past. payload_on pid packet.now ≡ true
+            → ReadsStarts self.new pid (packet.now ∷ past)) }
+        ensures begins { OfStarts self.old (λ pid past. payload_on pid packet.now ≡ true
+            → IsBegin result pid packet.now past) }
     {
-        if !packet.has_payload_on(self.pid) {
-            return None;
-        }
         if packet.unit_start() {
             return self.take(packet);
         }
@@ -47,12 +47,13 @@ impl StartReader {
     /// Takes a payload packet of the PID that has the start bit. It stands by itself, as few packets have that.
     #[inline(never)]
     fn take<'a>(&mut self, packet: &'a Packet) -> Option<&'a [u8]>
-        requires payload { payload_on self.old.pid packet.now ≡ true }
-        requires start { unit_start packet.now ≡ true }
-        ensures reads { OfStarts self.old (λ pid past. ReadsStarts self.new pid (packet.now ∷ past)) }
-        ensures begins { OfStarts self.old (λ pid past. IsBegin result pid packet.now past) }
+        requires { unit_start packet.now ≡ true }
+        ensures reads { OfStarts self.old (λ pid past. payload_on pid packet.now ≡ true
+            → ReadsStarts self.new pid (packet.now ∷ past)) }
+        ensures begins { OfStarts self.old (λ pid past. payload_on pid packet.now ≡ true
+            → IsBegin result pid packet.now past) }
     {
-        let is_original = self.follower.feed(packet, &self.last);
+        let is_original = self.follower.take(packet, &self.last);
         self.last = *packet;
         if is_original { packet.payload() } else { None }
     }

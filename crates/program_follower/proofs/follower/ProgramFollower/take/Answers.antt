@@ -1,4 +1,4 @@
-use Rattle.std.proofs.Common.{◌∷◌, sym, ap, ◌∙◌}
+use Rattle.std.proofs.Common.{◌∷◌, ap, ◌∙◌}
 use Rattle.program_follower.specs.Program.{program_of, behind_head}
 use Rattle.program_follower.specs.Faults.{as_network}
 use Rattle.program_follower.specs.Standing.{lent_program}
@@ -32,7 +32,7 @@ returns-in-Ok-follow_streams-clause-place c = λ k past h.
     let p = c.args.packet.now in
     let tables = c.in-Ok.ensures.reads k past h.tables in
     let goes = goes_to w p past (lent_program c.known.result) (c.known.ensures k (p ∷ past) tables) in
-    c.place_of.ensures k past (sym (c.cue_pid.ensures k (p ∷ past) tables)) (c.is_on_map-is_map.ensures ∙ c.in-Ok.ensures.on k past h.tables) (c.in-Ok-follow_streams.ensures.is (program_of w past) (behind_head w past) goes h.streams)
+    c.place_of.ensures k past (c.in-Ok.ensures.on k past h.tables) (c.in-Ok-follow_streams.ensures.is (program_of w past) (behind_head w past) goes h.streams)
 
 pub returns-in-Err-follow_streams-clause-err : goal.returns-in-Err-follow_streams-clause-err
 returns-in-Err-follow_streams-clause-err c = λ k past h.
