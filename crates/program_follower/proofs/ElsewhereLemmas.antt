@@ -1,10 +1,10 @@
 -- A packet that is on no PID of the tables, nor on that of the cues.
 use Rattle.std.specs.Option.{option_or}
 use Rattle.std.specs.Prelude.{option_map, ◌≢◌}
-use Rattle.std.proofs.Common.{◌≡◌, ℕ, List, [], ◌∷◌, Bool, true, false, not, ◌&&◌, ◌==◌, refl, sym, ap, subst, ◌∙◌, Option, Some, None}
-use Rattle.std.proofs.lemmas.Bool.{eqb-true, eq-eqb}
+use Rattle.std.proofs.Common.{◌≡◌, ℕ, List, [], ◌∷◌, false, not, ◌&&◌, refl, sym, ap, subst, ◌∙◌, Option, Some, None}
+use Rattle.std.proofs.lemmas.Bool.{ne_eqb}
+use Rattle.std.proofs.Math.Bool.{and-false}
 use Rattle.ts_packet.specs.Fields.{in_error, pid_of, on}
-use Rattle.ts_packet.proofs.Cases.{by_test}
 use Rattle.psi_section.proofs.RunLemmas.{given_off}
 use Rattle.program_follower.specs.declared.purpose.Purpose.{Purpose}
 use Rattle.program_follower.specs.declared.purpose.Listed.{Listed}
@@ -22,17 +22,10 @@ use Rattle.program_follower.proofs.FollowLemmas.{fault_of_units}
 
 -- ---- which PIDs those are
 
-pub apart : (a b : ℕ) → a == b ≡ false → a ≢ b
-apart a b n e = let y : true ≡ false = sym (eq-eqb a b e) ∙ n in absurd (cc)
-
-off_by : (b c : Bool) → c ≡ false → not b && c ≡ false
-off_by true c n = refl
-off_by false c n = n
-
 -- a packet is on no PID but its own
 off_other : (pid : ℕ) (p : List ℕ) → pid_of p ≢ pid → on pid p ≡ false
 unfolding on
-off_other pid p n = off_by (in_error p) (pid_of p == pid) (by_test (pid_of p == pid) (λ y. absurd (n (eqb-true (pid_of p) pid y))) (λ m. m))
+off_other pid p n = ap (λ b. not (in_error p) && b) (ne_eqb (pid_of p) pid n) ∙ and-false (not (in_error p))
 
 off_cue : (o : Option ℕ) (p : List ℕ) → pid_of p ≢ or_zero o → on_cue o p ≡ false
 off_cue None p n = refl
@@ -51,10 +44,6 @@ elsewhere r c p past h pat map cue = record {
 }
 
 -- ---- what it changes
-
-and_false : (b : Bool) → b && false ≡ false
-and_false true = refl
-and_false false = refl
 
 module _ (c : Purpose) (p : List ℕ) (past : List (List ℕ)) (e : IsElsewhere c p past) where
   pub listed_same : listed c.program (p ∷ past) ≡ listed c.program past
@@ -86,5 +75,5 @@ module _ (c : Purpose) (p : List ℕ) (past : List (List ℕ)) (e : IsElsewhere 
 
   pub fault_elsewhere : (r : MapReader) → MapsRead r c.program past → network_fault c p past ≡ unit_fault_at c p past
   fault_elsewhere r h =
-      fault_of_units c p past (ap (λ b. c.writes_cues && b) e.cue ∙ and_false c.writes_cues) (pats_clean_off c p past e.pat)
+      fault_of_units c p past (ap (λ b. c.writes_cues && b) e.cue ∙ and-false c.writes_cues) (pats_clean_off c p past e.pat)
       (clean_by (listed c.program past) refl e.map r h)

@@ -2,6 +2,7 @@
 use Rattle.std.proofs.Common.{◌≡◌, ℕ, suc, ◌+◌, ◌<◌, ◌≤◌, List, [], ◌∷◌, Bool, true, false, not, ◌&&◌, ◌||◌, ◌==◌, refl, sym, ap, subst, ◌∙◌, arith, length, if◌then◌else◌, Option, Some, None}
 use Rattle.std.specs.Prelude.{is_some, option_map, ◌≢◌, slice_index_or}
 use Rattle.std.proofs.lemmas.Bool.{eqb-true, eq-eqb}
+use Rattle.std.proofs.Math.Bool.{and-false}
 use Rattle.std.proofs.Math.ListN.{set}
 use Rattle.std.proofs.lemmas.List.{get_or-set_same, get_or-set_other}
 use Rattle.ts_packet.specs.Fields.{in_error, pid_of, on, payload, payload_on, scrambled, unit_start}
@@ -211,7 +212,7 @@ starts_all_on rs new pids p past x f h others reads = every_on (λ r pid. ReadsS
 
 payload_off : (pid : ℕ) (p : List ℕ) → is_some (payload p) ≡ false → payload_on pid p ≡ false
 unfolding payload_on
-payload_off pid p n = by_test (on pid p) (λ o. simp (o, n) refl) (λ o. simp o refl)
+payload_off pid p n = ap (λ b. on pid p && b) n ∙ and-false (on pid p)
 
 -- without payload, whatever PID it is of
 pub starts_all_passed : (rs : List StartReader) (pids : List ℕ) (p : List ℕ) (past : List (List ℕ)) → is_some (payload p) ≡ false → AllStartsRead rs pids past → AllStartsRead rs pids (p ∷ past)

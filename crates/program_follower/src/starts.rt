@@ -113,7 +113,7 @@ fn feed_at<'a>(readers: &mut [StartReader; 8], index: usize, packet: &'a Packet)
     ensures begins { (d : StartReader) (pid : ℕ) (past : List (List ℕ)) → payload_on pid packet.now ≡ true
         → ReadsStarts (slice_index_or readers.old index d) pid past → IsBegin result pid packet.now past }
 {
-    readers[index].feed(packet)
+    readers[index].take(packet)
 }
 
 /// A reader for each stream.

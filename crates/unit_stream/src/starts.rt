@@ -28,17 +28,28 @@ impl StartReader {
         }
     }
 
-    /// Takes the next payload packet of the PID, and answers its payload where a unit begins with it; `None` where none does. Other packets
-    /// are left out: they change nothing, and it does not look whether the packet is one.
+    /// The payload of the first packet of a unit, where the next packet is that; `None` where it begins no unit of the PID.
     #[inline(always)]
     pub fn feed<'a>(&mut self, packet: &'a Packet) -> Option<&'a [u8]>
+        ensures reads { OfStarts self.old (λ pid past. ReadsStarts self.new pid (packet.now ∷ past)) }
+        ensures begins { OfStarts self.old (λ pid past. IsBegin result pid packet.now past) }
+    {
+        if !packet.has_payload_on(self.pid) {
+            return None;
+        }
+        self.take(packet)
+    }
+
+    /// Takes the next payload packet of the PID as `feed` does, and does not look whether it is one: for callers who know.
+    #[inline(always)]
+    pub fn take<'a>(&mut self, packet: &'a Packet) -> Option<&'a [u8]>
         ensures reads { OfStarts self.old (λ pid past. payload_on pid packet.now ≡ true
             → ReadsStarts self.new pid (packet.now ∷ past)) }
         ensures begins { OfStarts self.old (λ pid past. payload_on pid packet.now ≡ true
             → IsBegin result pid packet.now past) }
     {
         if packet.unit_start() {
-            return self.take(packet);
+            return self.take_start(packet);
         }
         self.follower = Follower::new(self.pid);
         None
@@ -46,7 +57,7 @@ impl StartReader {
 
     /// Takes a payload packet of the PID that has the start bit. It stands by itself, as few packets have that.
     #[inline(never)]
-    fn take<'a>(&mut self, packet: &'a Packet) -> Option<&'a [u8]>
+    fn take_start<'a>(&mut self, packet: &'a Packet) -> Option<&'a [u8]>
         requires { unit_start packet.now ≡ true }
         ensures reads { OfStarts self.old (λ pid past. payload_on pid packet.now ≡ true
             → ReadsStarts self.new pid (packet.now ∷ past)) }

@@ -3,7 +3,7 @@ use Rattle.ts_packet.specs.Fields.{unit_start}
 use Rattle.ts_packet.specs.Duplicates.{original}
 use Rattle.unit_stream.specs.Starts.{since_more}
 use Rattle.unit_stream.proofs.StartLemmas.{start_original, begin_is}
-use Rattle.unit_stream.proofs.starts.StartReader.take.Goals as goal
+use Rattle.unit_stream.proofs.starts.StartReader.take_start.Goals as goal
 
 pub returns-then-is_original-clause-begins : goal.returns-then-is_original-clause-begins
 returns-then-is_original-clause-begins c = λ pid past h y.
