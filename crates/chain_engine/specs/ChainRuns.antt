@@ -1,6 +1,6 @@
 -- Whole runs of the chain: what is put and answered, by the network's bytes, the library and what the automation gave; what a fault says, and
 -- what the devices did there.
-use Rattle.std.specs.Prelude.{◌≡◌, ℕ, suc, ◌+◌, Bool, List, [], ◌∷◌, ◌++◌, Option, None, IfSome, length, reverse}
+use Rattle.std.specs.Prelude.{◌≡◌, ℕ, suc, ◌+◌, Bool, false, List, [], ◌∷◌, ◌++◌, Option, None, IfSome, length, reverse}
 use Rattle.ts_packet.specs.Packets.{packets_of}
 use Rattle.ts_packet.specs.declared.sink.PutFault.{PutFault}
 use Rattle.psi_section.specs.Assembling.{capped}
@@ -97,6 +97,7 @@ pub record HasStepped {M : Type 0} (chain : Chain M) (filed : ℕ → Option Adv
   pub injector : InjectorStandsFor chain.injector chain.config steps
   pub network : IsSoundNetwork chain.config (packets_in steps)
   pub switch : WasFed chain.switch chain.config filed is_out (sent_by chain.config steps)
+  pub whole : chain.is_spent ≡ false
 
 -- the steps before the next packet, where these takes and so many replies came
 abbrev pub heard_steps : List Take → ℕ → ℕ → List Step → List Step
@@ -120,11 +121,12 @@ pub record Stepped {M X : Type 0} (takes : X → Option (List Take)) (answers : 
   pub sound : network_fault (writing_cues old.config) p (packets_in steps) ≡ None
   pub stands : HasStepped new filed is_out (ts ++ more) (n + length rs) (suc k) (Packet p ∷ heard_steps (ts ++ more) (n + length rs) k steps)
 
--- the automation was heard, and then the packet was not passed on
+-- the automation was heard, and then the packet was not passed on; the talk is as it was left
 pub record StepStops {M X : Type 0} (takes : X → Option (List Take)) (answers : X → Option (List Answer)) (before now : X) (old new : Chain M) (fault : FeedFault)
     (filed : ℕ → Option Advertisement) (is_out : List (List ℕ) → Type 0) (fails : List (List ℕ) → List ℕ → PutFault → Type 0)
     (ts : List Take) (n k : ℕ) (p : List ℕ) (steps : List Step) : Type 0 where
   pub more : List Take
   pub rs : List Reply
   pub hears : Hears takes answers before now (loses old.talk.end new.talk.end) old.config ts n k steps more rs
+  pub talk : TalkStandsFor new.talk (ts ++ more) (n + length rs) (suc k)
   pub why : PassFails fault old.config filed p (heard_steps (ts ++ more) (n + length rs) k steps) (sent_by old.config steps) is_out fails

@@ -1,5 +1,5 @@
 -- What a chain stands for before its run.
-use Rattle.std.specs.Prelude.{◌≡◌, ℕ, [], Option}
+use Rattle.std.specs.Prelude.{◌≡◌, ℕ, false, [], Option}
 use Rattle.psi_tables.specs.declared.config.Config.{Config}
 use Rattle.injector.specs.Injecting.{InjectorStandsFor}
 use Rattle.ad_library.specs.Advertisements.{Advertisement}
@@ -13,3 +13,4 @@ pub record ChainStandsFor {M : Type 0} (chain : Chain M) (c : Config) : Type 0 w
   pub injector : InjectorStandsFor chain.injector c []
   pub switch : (filed : ℕ → Option Advertisement) → SwitchStandsFor chain.switch c filed []
   pub config : chain.config ≡ c
+  pub whole : chain.is_spent ≡ false

@@ -16,7 +16,7 @@ pub enum Taken {
 /// What asks for breaks: an automation system on a connection, or a script. It is asked for a piece of bytes before each packet of the
 /// network, and takes the replies to the messages in them.
 pub trait Automation {
-    ghost use Rattle.std.specs.Prelude.{◌≡◌, ℕ, ◌<◌, List, Option, length};
+    ghost use Rattle.std.specs.Prelude.{◌≡◌, ℕ, List, Option, length};
     ghost use Rattle.chain_engine.specs.Automation.{Take, Answer, take_of, answer_of, IsRoomFor, Adds, CountsTake, CountsAnswer};
 
     /// What its takes gave so far, in order, where that is known.
@@ -28,9 +28,9 @@ pub trait Automation {
     /// How many takes and answers failed. The count stops at the greatest u64.
     ghost failures: { Self → ℕ };
 
-    /// Takes the next piece into the front of the room, which is not empty, without waiting for it.
+    /// Takes the next piece into the front of the room, which has 4,096 bytes, without waiting for it.
     fn take(&mut self, room: &mut [u8]) -> Taken
-        requires some { 0 < length room.old }
+        requires room { length room.old ≡ 4096 }
         ensures bound { IsRoomFor (length room.new) result }
         ensures takes { Adds (takes self.old) (takes self.new) (take_of result room.new) }
         ensures answers { answers self.new ≡ answers self.old }

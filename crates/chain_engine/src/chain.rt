@@ -42,6 +42,8 @@ pub struct Chain<M: Allocator = Global> {
     pub(crate) injector: Injector,
     pub(crate) switch: Switch,
     pub(crate) config: Config,
+    /// It answered a fault.
+    pub(crate) is_spent: bool,
 }
 
 impl Chain {
@@ -75,6 +77,7 @@ impl<M: Allocator + Copy> Chain<M> {
             injector: Injector::new(*given),
             switch: Switch::new(*given),
             config: *given,
+            is_spent: false,
         })
     }
 }
@@ -123,6 +126,7 @@ pub fn run_inject<M: Allocator, P: PacketSource, U: Automation, K: PacketSink>(
         mut injector,
         switch: _,
         config: _,
+        is_spent: _,
     } = chain;
     let mut packet = Packet::null();
     loop {

@@ -1,8 +1,9 @@
-//! The chain as it runs: an automation's messages, however their bytes are cut, judged and answered between the packets of a network, and the
-//! cues of what was accepted put into it. It stands on `as_session`, for messages out of pieces, on `scte104_codec`, for their fields and the
-//! replies, and on `injector`, for verdicts and cues.
-//! The crates above use one contract of it: what `run_inject` puts and answers is what `specs/Runs.antt` says of the network's bytes and the
-//! automation's pieces. Before packet k those messages are judged, in order, whose last byte stands in the piece taken before it
+//! The chain as it runs: an automation's messages, however their bytes are cut, are judged and answered between the packets of a network, the
+//! cues of what was accepted are put into it, and a switch plays advertisements by them. It stands on `as_session`, for messages out of
+//! pieces, on `scte104_codec`, for their fields and the replies, on `injector`, for verdicts and cues, and on `splice_switch`.
+//! The crates above use a contract of each run: what `run_inject` puts and answers is what `specs/Runs.antt` says of the network's bytes and
+//! the automation's pieces, what `run_splice` puts is what `specs/Splices.antt` says of the network and the library, and `specs/ChainRuns.antt`
+//! says both of `run`. Before packet k those messages are judged, in order, whose last byte stands in the piece taken before it
 //! (`judged_before` of `specs/Talks.antt`), up to the session's end.
 #![tactic(auto)]
 

@@ -1,9 +1,10 @@
 //! Whole runs of the chain: the cues that the injector puts in are obeyed by the switch, in one pass over the network.
 
-ghost use Rattle.std.specs.Prelude.{◌≡◌, ℕ, ◌⊎◌, List, ◌∷◌, ◌++◌, Option, None, Err, false, OnOk, IfOk, IfErr};
+ghost use Rattle.std.specs.Prelude.{◌≡◌, ℕ, ◌⊎◌, List, ◌∷◌, ◌++◌, Option, None, Err, true, false, OnOk, IfOk, IfErr};
 ghost use Rattle.ts_packet.specs.Sources.{SourceCounts, Stalled, Exhausted};
 ghost use Rattle.ts_packet.specs.Transfers.{WentWell};
 ghost use Rattle.wire_fields.specs.Numbers.{AreBytes};
+ghost use Rattle.outgoing_packets.specs.Faults.{is_err_or};
 ghost use Rattle.program_follower.specs.Faults.{network_fault};
 ghost use Rattle.injector.specs.Injecting.{InjectorStandsFor};
 ghost use Rattle.injector.specs.Steps.{Step, Packet as PacketStep, packets_in, sent_at};
@@ -168,7 +169,7 @@ impl<M: Allocator> Chain<M> {
     /// # Errors
     ///
     /// What is wrong with the packet behind those before it: nothing of it was put then; or the fault of the sink: what was put is a front of
-    /// what the packet puts. `Failed` once a fault was answered.
+    /// what the packet puts. `Failed` once a fault was answered: then nothing is taken, answered or put.
     pub fn step<U: Automation, K: PacketSink>(
         &mut self,
         packet: &Packet,
@@ -187,7 +188,13 @@ impl<M: Allocator> Chain<M> {
             (λ qs. K.holds out.new start (before ++ qs)) (λ qs q x. K.fails out.new start (before ++ qs) q x) ts n k packet.now steps) }
         ensures well { OnOk result (WentWell (K.counts out.old) (K.counts out.new)) }
         ensures blamed { IfErr result (λ f. OutputBlamed (RunFault.Feed f) (K.counts out.old) (K.counts out.new) (K.is_full out.new)) }
+        ensures failed { self.old.is_spent ≡ true → (result ≡ Err FeedFault.Failed) × (self.new ≡ self.old)
+            × (automation.new ≡ automation.old) × (out.new ≡ out.old) }
+        ensures spent { self.new.is_spent ≡ is_err_or result self.old.is_spent }
     {
+        if self.is_spent {
+            return Err(FeedFault::Failed);
+        }
         self.talk.listen(&mut self.injector, automation);
         let config = &self.config;
         match pass_on(
@@ -199,7 +206,10 @@ impl<M: Allocator> Chain<M> {
             out,
         ) {
             Ok(()) => Ok(()),
-            Err(fault) => Err(fault),
+            Err(fault) => {
+                self.is_spent = true;
+                Err(fault)
+            }
         }
     }
 }
@@ -248,6 +258,7 @@ pub fn run<M: Allocator, P: PacketSource, U: Automation, K: PacketSink>(
         mut injector,
         mut switch,
         config,
+        is_spent: _,
     } = chain;
     let mut packet = Packet::null();
     loop {

@@ -13,7 +13,6 @@ use Rattle.ad_library.specs.Advertisements.{Advertisement}
 use Rattle.injector.specs.Steps.{Step, packets_in, cued}
 use Rattle.splice_laws.specs.Splicing.{SliceUnit}
 use Rattle.splice_laws.specs.Streams.{is_among}
-use Rattle.splice_plans.specs.Playing.{Adverts}
 use Rattle.splice_plans.specs.Adverts.{packed_units, setting_of}
 use Rattle.splice_plans.specs.Switching.{Setting, switched_at, spliced_network}
 use Rattle.switch_laws.specs.Laws.{ArePackets}
@@ -23,7 +22,7 @@ use Rattle.switch_laws.specs.Clocks.{listed_clock, clock_on, clocks, HasNoClock,
 use Rattle.switch_laws.proofs.ClockLemmas.{clocks_stay}
 use Rattle.switch_laws.proofs.StreamLemmas.{all-reversed}
 use Rattle.chain_laws.specs.Runs.{network_of, switched_by, output_by, IsWholeRun}
-use Rattle.chain_laws.specs.Clocks.{ClocksAreTheNetworks}
+use Rattle.chain_laws.specs.Clocks.{ClocksAreTheNetworks, UnitsHaveNoClocks}
 use Rattle.chain_laws.proofs.RunLemmas.{cued-long, cued-pids}
 use Rattle.chain_laws.proofs.CarriedLemmas.{same-switched, same-all, apart, off-one}
 
@@ -87,8 +86,8 @@ each-bare pid (u ∷ us) = (
   each-bare pid us,
 )
 
-units-bare : (ads : Adverts) → HaveNoClocks packed_units ads
-units-bare ads e pid = each-bare pid (ads.units e pid)
+pub units_have_no_clocks : UnitsHaveNoClocks
+units_have_no_clocks ads e pid = each-bare pid (ads.units e pid)
 
 -- ---- a law of a whole network, of the packets newest first
 
@@ -121,7 +120,7 @@ module _ (c : Config) (filed : ℕ → Option Advertisement) (steps : List Step)
   clocks-same =
       let back = cued c steps in
       let k = setting_of c filed in
-      clocks-at k back (apart c filed steps w) (units-bare (adverts_at k back))
+      clocks-at k back (apart c filed steps w) (units_have_no_clocks (adverts_at k back))
       (all-reversed (λ (p : List ℕ). length p ≡ 188) back (cued-long c steps w.run w.long)) (all-reversed (λ (p : List ℕ). pid_of p < 8192) back (cued-pids c steps w.run))
       pid (ap (is_among pid) (same-switched c filed steps w) ∙ a)
       ∙ of-taken back

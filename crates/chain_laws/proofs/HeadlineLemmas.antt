@@ -40,7 +40,7 @@ use Rattle.chain_laws.proofs.WidthLemmas.{steps_fit}
 use Rattle.chain_laws.proofs.RunLemmas.{each-all}
 use Rattle.chain_laws.proofs.CarriedLemmas.{carries-placed, carries-splice}
 use Rattle.chain_laws.proofs.ClockLemmas.{clocks-same}
-use Rattle.chain_laws.proofs.UnchangedLemmas.{others-unchanged, unlisted-unchanged, unplayed-unchanged, breaks-counted}
+use Rattle.chain_laws.proofs.UnchangedLemmas.{others-unchanged, unlisted-unchanged, unplayed-unchanged, breaks-counted, in-order}
 use Rattle.program_follower.specs.Purposes.{writing_cues}
 
 -- ---- the history
@@ -141,6 +141,7 @@ module _ (c : Config) (filed : ℕ → Option Advertisement) (library : IsLibrar
     spliced = λ pid a d. carries-splice c filed steps w pid a d;
     clocks = λ pid a. clocks-same c filed steps w pid a;
     others = others-unchanged c filed steps w;
+    order = in-order c filed steps w;
     tables = has-tables c filed steps w;
     pmt = λ l known. pmt-stands c filed steps w l known;
     no_program = λ none. unlisted-unchanged c filed steps w none;

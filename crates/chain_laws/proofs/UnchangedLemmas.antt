@@ -1,11 +1,12 @@
 -- What the output leaves as it was, and what is reported.
 use Rattle.std.proofs.Common.{◌≡◌, ℕ, ◌<◌, List, [], ◌∷◌, ◌++◌, Bool, true, false, ◌&&◌, ◌||◌, refl, sym, ap, ◌∙◌, subst, Option, None, Some, length, map, reverse}
-use Rattle.std.specs.Prelude.{filter, not, count_by, ◌==◌}
+use Rattle.std.specs.Prelude.{filter, flat_map, not, count_by, ◌==◌}
 use Rattle.std.specs.List.{AllByRecursion, list_any}
 use Rattle.std.proofs.lemmas.Bool.{true≢false}
 use Rattle.std.proofs.lemmas.List.{reverse-reverse}
 use Rattle.std.proofs.lemmas.List.Sums.{length-filter}
 use Rattle.ts_packet.specs.Fields.{on, pid_of}
+use Rattle.ts_packet.specs.Runs.{seen_after}
 use Rattle.ts_packet.proofs.Cases.{by_test}
 use Rattle.ts_packet.proofs.RunLemmas.{filter-reverse}
 use Rattle.psi_tables.specs.declared.config.Config.{Config}
@@ -29,7 +30,7 @@ use Rattle.splice_plans.specs.Playing.{Adverts, is_played, is_crossed, played, a
 use Rattle.splice_plans.specs.Adverts.{packed_units, setting_of}
 use Rattle.splice_plans.specs.Histories.{AreSteady}
 use Rattle.splice_plans.specs.Reporting.{EventCounts, is_not_fitted, is_unconditioned, report_of}
-use Rattle.splice_plans.specs.Switching.{Setting, switched_at, streams_at, events_at, spliced_network}
+use Rattle.splice_plans.specs.Switching.{Setting, switched_at, streams_at, events_at, rest_at, spliced_network}
 use Rattle.splice_plans.proofs.AdvertLemmas.{libraries_are_steady}
 use Rattle.switch_laws.specs.Laws.{ArePackets}
 use Rattle.splice_plans.specs.Known.{adverts_at}
@@ -37,10 +38,13 @@ use Rattle.switch_laws.specs.Whole.{ArePacked, HavePids, pmt_pids, table_pids}
 use Rattle.switch_laws.specs.Standing.{touched}
 use Rattle.switch_laws.proofs.NoneLemmas.{nothing_is_played, no_packet_changes, no_program}
 use Rattle.switch_laws.proofs.OtherLemmas.{others_stay}
+use Rattle.switch_laws.proofs.WholeLemmas.{output_is_in_order}
+use Rattle.switch_laws.proofs.StandingLemmas.{packets_stand_as}
 use Rattle.switch_laws.proofs.StreamLemmas.{all-reversed}
 use Rattle.chain_laws.specs.Breaks.{accepted_by, armed_by}
 use Rattle.chain_laws.specs.Runs.{network_of, switched_by, behind_by, adverts_by, played_by, output_by, IsWholeRun}
 use Rattle.chain_laws.specs.Others.{table_pids_by, touched_by, OthersAreUnchanged, NoProgramIsNoChange, IsUnplayed, NoBreakIsNoChange}
+use Rattle.chain_laws.specs.Order.{goes_out_at, IsInOrder, OrderIsTheNetworks}
 use Rattle.chain_laws.specs.Reports.{counts_by, BreaksAreCounted}
 use Rattle.chain_laws.proofs.BreakLemmas.{breaks_are_armed}
 use Rattle.chain_laws.proofs.TakenLemmas.{crossed_both}
@@ -173,6 +177,16 @@ module _ (c : Config) (filed : ℕ → Option Advertisement) (steps : List Step)
         tables = ap (all_tables (Some c.program)) stripped ∙ (reads c filed steps w.run).stripped;
       }
 
+  -- ---- the order across all PIDs
+
+  pub in-order : IsInOrder c filed steps
+  in-order = record {
+    network = subst (λ t. filter (is_off t) (reverse back) ≡ filter (is_off t) (network_of steps)) (append-none (table_pids_by c steps)) (off-same []);
+    order = output_is_in_order k (reverse back)
+        ∙ ap (λ b. flat_map (goes_out_at k) (seen_after [] (reverse back)) ++ rest_at k b) (reverse-reverse back);
+    stands = packets_stand_as k;
+  }
+
   -- ---- the report
 
   crossed-same : (pids : List ℕ) → AllByRecursion (TakesAll (on_one (switched_by c steps))) pids → (e : Standing) →
@@ -233,6 +247,9 @@ no_program_is_no_change c filed steps w none = unlisted-unchanged c filed steps 
 
 pub no_break_is_no_change : NoBreakIsNoChange
 no_break_is_no_change c filed steps w none = unplayed-unchanged c filed steps w none
+
+pub order_is_the_networks : OrderIsTheNetworks
+order_is_the_networks c filed steps w = in-order c filed steps w
 
 pub breaks_are_counted : BreaksAreCounted
 breaks_are_counted c filed steps w = breaks-counted c filed steps w

@@ -1,5 +1,5 @@
--- THE BREAKS of a run: what the requests of its history have come to.
-use Rattle.std.specs.Prelude.{◌≡◌, List, [], ◌∷◌, Bool, true, false, not, filter, count_by, Some}
+-- The breaks of a run: what the requests of its history have come to.
+use Rattle.std.specs.Prelude.{◌≡◌, List, [], ◌∷◌, Bool, true, false, filter, count_by, Some}
 use Rattle.program_follower.specs.Following.{high_of}
 use Rattle.psi_tables.specs.declared.config.Config.{Config}
 use Rattle.event_table.specs.Standing.{Standing}
@@ -12,14 +12,6 @@ use Rattle.path_laws.specs.Packets.{IsRunOf}
 -- the events that were accepted, in order of acceptance, each with its last end, the cancelled ones among them
 abbrev pub accepted_by : Config → List Step → List Standing
 accepted_by c steps = events c.index (turns_in c.program steps)
-
--- no cancel of it was accepted
-abbrev pub is_uncancelled : Standing → Bool
-is_uncancelled e = not e.cancelled
-
--- THE BREAKS: the events that were accepted and not cancelled, in order of start
-abbrev pub breaks_by : Config → List Step → List Standing
-breaks_by c steps = by_start (filter is_uncancelled (accepted_by c steps))
 
 -- the events that a switch is armed with by what an injector sends
 abbrev pub armed_by : Config → List Step → List Standing

@@ -4,7 +4,9 @@ use Rattle.psi_tables.specs.declared.config.Config.{Config}
 use Rattle.ad_library.specs.Advertisements.{Advertisement}
 use Rattle.injector.specs.Steps.{Step}
 use Rattle.splice_laws.specs.Streams.{is_among}
-use Rattle.switch_laws.specs.Clocks.{clocks}
+use Rattle.splice_plans.specs.Playing.{Adverts}
+use Rattle.splice_plans.specs.Adverts.{packed_units}
+use Rattle.switch_laws.specs.Clocks.{clocks, HaveNoClocks}
 use Rattle.chain_laws.specs.Runs.{network_of, switched_by, output_by, IsWholeRun}
 
 -- THE LAW OF CLOCK REFERENCES: those of a switched stream (ISO/IEC 13818-1, 2.4.3.5, program_clock_reference) are the network's, as one list,
@@ -12,3 +14,7 @@ use Rattle.chain_laws.specs.Runs.{network_of, switched_by, output_by, IsWholeRun
 abbrev pub ClocksAreTheNetworks : Type 0
 ClocksAreTheNetworks = (c : Config) (filed : ℕ → Option Advertisement) (steps : List Step) → IsWholeRun c filed steps → (pid : ℕ) → is_among pid (switched_by c steps) ≡ true →
     clocks pid (output_by c filed steps) ≡ clocks pid (network_of steps)
+
+-- THE LAW OF UNITS WITHOUT CLOCK REFERENCES: no packet that a unit of an advertisement is put in has one, whatever advertisements are played
+abbrev pub UnitsHaveNoClocks : Type 0
+UnitsHaveNoClocks = (ads : Adverts) → HaveNoClocks packed_units ads

@@ -29,6 +29,7 @@ use Rattle.chain_laws.specs.Tables.{HasTables, pmt_packets}
 use Rattle.chain_laws.specs.UnitSplices.{IsConditionedAt}
 use Rattle.chain_laws.specs.Streams.{CarriesPlaced, CarriesSplice}
 use Rattle.chain_laws.specs.Others.{touched_by, IsUnplayed}
+use Rattle.chain_laws.specs.Order.{IsInOrder}
 use Rattle.chain_laws.specs.Reports.{counts_by}
 use Rattle.program_follower.specs.Purposes.{writing_cues}
 
@@ -53,6 +54,8 @@ pub record IsSpliced (c : Config) (filed : ℕ → Option Advertisement) (steps 
   pub clocks : (pid : ℕ) → is_among pid (switched_by c steps) ≡ true → clocks pid (output_by c filed steps) ≡ clocks pid (network_of steps)
   -- the packets marked in error, and those of all other PIDs, are one list, byte for byte
   pub others : filter (is_off (touched_by c steps)) (output_by c filed steps) ≡ filter (is_off (touched_by c steps)) (network_of steps)
+  -- across all PIDs the output is in the network's order, and each packet of the network stands in it as the rules say
+  pub order : IsInOrder c filed steps
   -- a reader finds the network's PAT and sections, and no packet is of the cue PID, but those that are marked in error
   pub tables : HasTables c filed steps
   -- on the PID of the PMT stand the network's packets up to the PAT, byte for byte, and then its sections behind it, and nothing else

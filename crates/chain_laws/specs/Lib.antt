@@ -3,6 +3,7 @@ pub mod Runs
 pub mod UnitSplices
 pub mod Streams
 pub mod Others
+pub mod Order
 pub mod Reports
 pub mod Tables
 pub mod Clocks

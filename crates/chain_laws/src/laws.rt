@@ -2,9 +2,10 @@
 
 ghost use Rattle.ad_library.specs.Library.{held};
 ghost use Rattle.chain_laws.specs.Breaks.{BreaksAreArmed};
-ghost use Rattle.chain_laws.specs.Clocks.{ClocksAreTheNetworks};
+ghost use Rattle.chain_laws.specs.Clocks.{ClocksAreTheNetworks, UnitsHaveNoClocks};
 ghost use Rattle.chain_laws.specs.Headline.{HistoriesAreSo};
 ghost use Rattle.chain_laws.specs.Libraries.{LibrariesArePacked};
+ghost use Rattle.chain_laws.specs.Order.{OrderIsTheNetworks};
 ghost use Rattle.chain_laws.specs.Others.{OthersAreUnchanged, NoProgramIsNoChange, NoBreakIsNoChange};
 ghost use Rattle.chain_laws.specs.Reports.{BreaksAreCounted};
 ghost use Rattle.chain_laws.specs.Streams.{StreamsCarryPlaced, StreamsCarrySplice};
@@ -42,9 +43,20 @@ pub fn clocks_are_the_networks()
     ensures { ClocksAreTheNetworks }
 {}
 
+/// No packet that a unit of an advertisement is put in has a clock reference: so a switch moves and adds none, whoever put the cues in.
+pub fn units_have_no_clocks()
+    ensures { UnitsHaveNoClocks }
+{}
+
 /// The packets marked in error, and those of all PIDs but the switched ones, the PMT's and that of the cues, are one list, byte for byte.
 pub fn others_are_unchanged()
     ensures { OthersAreUnchanged }
+{}
+
+/// Across all PIDs the output is in the network's order: packet by packet of the cued stream, what is put in before it and what stands for
+/// it. So no packet is held back, packets without payload stay, and counters go on by the rule.
+pub fn order_is_the_networks()
+    ensures { OrderIsTheNetworks }
 {}
 
 /// Where no PAT lists the program, the output is the network.

@@ -1,15 +1,16 @@
 //! Runs by example: automations whose bytes are cut into pieces, that fail or lose replies, and devices that fail. What packets come out is
 //! shown by the vectors of the program.
 
-use crate::devices::FailAutomation;
+use crate::fail_automation::FailAutomation;
 use crate::runs::config;
+use ad_library::AdLibrary;
 use chain_engine::{Chain, Report, RunFault, run_inject};
 use linked_list_allocator::LocalHeap;
 use psi_tables::FeedFault;
 use std::alloc::{AllocError, Allocator, Global};
 use std::process::Abort;
 use std::test::*;
-use ts_packet::{Device, PacketList, PacketReader, PutFault, ReadFault};
+use ts_packet::{Device, Packet, PacketList, PacketReader, PutFault, ReadFault};
 
 /// An alive_request.
 const ALIVE: [u8; 13] = [0, 3, 0, 0x0D, 0xFF, 0xFF, 0xFF, 0xFF, 0, 0, 7, 0, 1];
@@ -211,5 +212,30 @@ fn memory_is_taken_at_once(rt: HostRuntime) -> Result<(), Fail> {
         assert_eq!(rt; is_made(&heap)?, want, "with {size} bytes");
         assert_eq!(rt; heap.used(), 0);
     }
+    Ok(())
+}
+
+/// The second packet finds no room. Behind that fault the automation is not asked any more, and nothing is answered or put.
+#[test]
+fn a_step_behind_a_fault_hears_nothing(rt: HostRuntime) -> Result<(), Fail> {
+    let bytes = five_messages(rt.alloc())?;
+    let mut automation = FailAutomation::of(rt.alloc(), bytes.as_slice(), &ONE_BY_ONE);
+    let library = AdLibrary::new(rt.alloc());
+    let Ok(mut chain) = Chain::new(rt.alloc(), config()?) else {
+        return Err(Fail::from("memory"));
+    };
+    let mut out = PacketList::new(rt.alloc(), 1)?;
+    for answer in [
+        Ok(()),
+        Err(FeedFault::Sink(PutFault::Stuck)),
+        Err(FeedFault::Failed),
+        Err(FeedFault::Failed),
+    ] {
+        let stepped = chain.step(&Packet::null(), &mut automation, &library, &mut out);
+        assert_eq!(rt; stepped, answer);
+    }
+    assert_eq!(rt; automation.rest.len(), 3 * 13);
+    assert_eq!(rt; automation.replies.len(), 2 * 13);
+    assert_eq!(rt; out.packets().len(), 1);
     Ok(())
 }

@@ -3,10 +3,11 @@
 
 use crate::Item::{self, *};
 use crate::Stream;
-use crate::devices::{Calls, Ending, FailAutomation, FailSource, FailTarget};
+use crate::fail_automation::FailAutomation;
 use crate::runs::{SEVEN, config, library};
 use ad_library::AdLibrary;
 use chain_engine::{Chain, Report, RunFault, run, run_splice};
+use failing_devices::{Calls, Ending, FailSource, FailTarget};
 use linked_list_allocator::LocalHeap;
 use psi_tables::FeedFault;
 use splice_switch::SwitchReport;
@@ -151,11 +152,7 @@ fn run_over(
 ) -> Result<Ended, Fail> {
     let mut input = Device::new(source);
     let mut network = PacketReader::new(&mut input);
-    let mut target = Device::new(FailTarget {
-        taken: Vec::new(alloc),
-        calls,
-        is_late: false,
-    });
+    let mut target = Device::new(FailTarget::new(alloc, calls));
     let mut out = PacketWriter::new(&mut target);
     let fault = match kind {
         Splice => match run_splice(config()?, &mut network, library, &mut out) {
@@ -173,15 +170,8 @@ fn run_over(
             }
         }
     };
-    Ok((fault, target.into_inner().taken))
+    Ok((fault, target.into_inner().taken()))
 }
-
-/// Calls that all go well.
-const WELL: Calls = Calls {
-    step: 188,
-    good: usize::MAX,
-    ending: Ending::Fails,
-};
 
 /// The run ends so, with so many bytes of what goes out.
 fn expect_end<R: AllocGlobal + Abort>(
@@ -209,12 +199,8 @@ fn each_front_of_a_network(rt: HostRuntime) -> Result<(), Fail> {
         let network = kind.network(rt.alloc(), 20)?;
         let network = network.bytes();
         for size in 0..3_761 {
-            let source = FailSource {
-                rest: &network[..size.min(network.len())],
-                calls: WELL,
-                is_late: false,
-            };
-            let ended = run_over(rt.alloc(), kind, &library, source, WELL)?;
+            let source = FailSource::new(&network[..size.min(network.len())], Calls::well());
+            let ended = run_over(rt.alloc(), kind, &library, source, Calls::well())?;
             let (out, end) = kind.counts(size / 188);
             if size % 188 == 0 {
                 expect_end(
@@ -262,12 +248,8 @@ fn expect_reads<R: AllocGlobal + Abort>(rt: &R, step: usize, ending: Ending) -> 
             if size > 1_504 {
                 break;
             }
-            let source = FailSource {
-                rest: network.bytes(),
-                calls: Calls { step, good, ending },
-                is_late: false,
-            };
-            let ended = run_over(rt.alloc(), kind, &library, source, WELL)?;
+            let source = FailSource::new(network.bytes(), Calls { step, good, ending });
+            let ended = run_over(rt.alloc(), kind, &library, source, Calls::well())?;
             let (out, end) = kind.counts(size / 188);
             let (fault, is_end) = read_end(ending, size);
             let count = if is_end { end } else { out };
@@ -315,11 +297,7 @@ fn expect_writes<R: AllocGlobal + Abort>(rt: &R, step: usize, ending: Ending) ->
             if size > 1_504 {
                 break;
             }
-            let source = FailSource {
-                rest: network.bytes(),
-                calls: WELL,
-                is_late: false,
-            };
+            let source = FailSource::new(network.bytes(), Calls::well());
             let calls = Calls { step, good, ending };
             let ended = run_over(rt.alloc(), kind, &library, source, calls)?;
             let fault = if size < 1_504 {

@@ -7,9 +7,9 @@ mod break_tests;
 #[cfg(test)]
 mod cue_tests;
 #[cfg(test)]
-mod devices;
-#[cfg(test)]
 mod engine_tests;
+#[cfg(test)]
+mod fail_automation;
 #[cfg(test)]
 mod fail_tests;
 pub mod item;

@@ -2,7 +2,7 @@
 
 use crate::Item::{self, *};
 use crate::Stream;
-use crate::devices::FailAutomation;
+use crate::fail_automation::FailAutomation;
 use crate::runs::{Filed, SEVEN, config, difference, expect_splice, library};
 use chain_engine::{Chain, run_inject};
 use std::alloc::{AllocError, Global};

@@ -18,6 +18,7 @@ mod digits;
 mod equality;
 #[cfg(test)]
 mod fields;
+pub mod literal;
 #[cfg(test)]
 mod messages;
 #[cfg(test)]

@@ -1,5 +1,6 @@
 //! What no clause says: literal packets, and devices that misbehave in mid-stream.
 
+use crate::literal::packet_bytes;
 use std::alloc::{AllocError, Global};
 use std::io::{self, BufReader};
 use std::test::Fail;
@@ -86,26 +87,15 @@ impl io::Write for Odd<'_> {
     }
 }
 
-/// 188 bytes of PID 0x0100 with this adaptation_field_control, continuity_counter and fifth byte.
-fn bytes(control: u8, counter: u8, fifth: u8) -> [u8; 188] {
-    let mut bytes = [0xA5; 188];
-    bytes[0] = 0x47;
-    bytes[1] = 0x01;
-    bytes[2] = 0x00;
-    bytes[3] = control % 4 * 16 + counter % 16;
-    bytes[4] = fifth;
-    bytes
-}
-
 fn packet(control: u8, counter: u8, fifth: u8) -> Result<Packet, PacketFault> {
-    Packet::from_bytes(&bytes(control, counter, fifth))
+    Packet::from_bytes(&packet_bytes(control, counter, fifth))
 }
 
 /// The bytes of two payload packets.
 fn two(alloc: Global) -> Result<Vec<u8>, AllocError> {
     let mut all = Vec::new(alloc);
-    all.extend_from_slice(&bytes(1, 7, 1))?;
-    all.extend_from_slice(&bytes(1, 8, 2))?;
+    all.extend_from_slice(&packet_bytes(1, 7, 1))?;
+    all.extend_from_slice(&packet_bytes(1, 8, 2))?;
     Ok(all)
 }
 
@@ -138,7 +128,7 @@ fn lends_payloads(rt: HostRuntime) -> Result<(), Fail> {
 
 #[test]
 fn judges_marked_packets(rt: HostRuntime) -> Result<(), Fail> {
-    let mut marked = bytes(3, 0, 255);
+    let mut marked = packet_bytes(3, 0, 255);
     marked[1] = 0x81;
     assert!(rt; Packet::from_bytes(&marked)?.error());
     marked[0] = 0x46;
@@ -240,7 +230,7 @@ fn refuses_bad_packets(rt: HostRuntime) {
         (1, 0x48, ReadFault::SyncLost),
         (2, 0x47, ReadFault::BadAdaptation),
     ] {
-        let mut bad = bytes(control, 0, 200);
+        let mut bad = packet_bytes(control, 0, 200);
         bad[0] = first;
         let mut device = Device::new(bad.as_slice());
         expect_eq!(rt; four_answers(&mut device), failing_behind(0, fault));
@@ -374,7 +364,7 @@ fn counts_on(rt: HostRuntime) -> Result<(), Fail> {
 
 #[test]
 fn keeps_the_clock_alone(rt: HostRuntime) -> Result<(), Fail> {
-    let mut with_clock = bytes(3, 9, 7);
+    let mut with_clock = packet_bytes(3, 9, 7);
     with_clock[1] = 0x41;
     with_clock[5] = 0x50;
     for (i, byte) in [0x12, 0x34, 0x56, 0x78, 0x7E, 0x9A].iter().enumerate() {

@@ -20,6 +20,7 @@ mod equality;
 mod events;
 #[cfg(test)]
 mod following;
+pub mod fronts;
 #[cfg(test)]
 mod injecting;
 #[cfg(test)]

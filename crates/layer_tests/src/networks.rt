@@ -1,5 +1,6 @@
 //! Small networks for the tests: tables and units as they come, and what the follower says of their last packet.
 
+use crate::fronts::first_bytes;
 use program_follower::{FollowFault, Place, ProgramFollower, Purpose, StartFollower, StreamPacket};
 use psi_section::crc;
 use psi_tables::NetworkFault;
@@ -126,11 +127,6 @@ impl Network {
         }
         told
     }
-}
-
-fn first_bytes(flags_and_pid: u16, control: u8) -> [u8; 4] {
-    let [high, low] = flags_and_pid.to_be_bytes();
-    [0x47, high, low, control]
 }
 
 /// A packet that begins with these bytes; the others are 0xFF.

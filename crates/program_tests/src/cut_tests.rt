@@ -1,7 +1,7 @@
 //! Runs of the program and of the cut over lines. Expected lines are worked out by hand from the rules, not by the program.
 
-use crate::devices::{FailSource, FailTarget};
 use dpi_program::program::program;
+use failing_devices::{Calls, Ending, FailSource, FailTarget};
 use packet_lines::{LinesFault, cut_lines};
 use pes_time::Time33;
 use std::alloc::{AllocError, Global};
@@ -529,14 +529,22 @@ fn slow_devices_change_nothing(rt: HostRuntime) -> Result<(), Fail> {
         (false, 377, false, Some(CutFault::Sink(PutFault::Stuck))),
         (false, 753, false, Some(CutFault::Sink(PutFault::Stuck))),
     ] {
-        let mut input = FailSource {
-            bytes: text.as_slice(),
-            fails: input_fails,
-            is_late: false,
+        let reads = Calls {
+            step: 1,
+            good: if input_fails { text.len() } else { usize::MAX },
+            ending: Ending::Fails,
         };
-        let mut output = FailTarget::new(rt.alloc());
-        output.room = room;
-        output.fails = output_fails;
+        let writes = Calls {
+            step: 1,
+            good: room,
+            ending: if output_fails {
+                Ending::Fails
+            } else {
+                Ending::Stops
+            },
+        };
+        let mut input = FailSource::new(text.as_slice(), reads);
+        let mut output = FailTarget::new(rt.alloc(), writes);
         let outcome = copy_lines(&mut input, &mut output).ok_or("numbers")?;
         assert!(rt;
             outcome
@@ -547,27 +555,23 @@ fn slow_devices_change_nothing(rt: HostRuntime) -> Result<(), Fail> {
             "room {room}"
         );
         assert!(rt;
-            output.taken.as_slice() == &text[..room.min(text.len())],
+            output.taken().as_slice() == &text[..room.min(text.len())],
             "room {room}"
         );
     }
     Ok(())
 }
 
-/// Is interrupted for ever.
-#[derive(Drop)]
-struct Never;
-
-impl Read for Never {
-    fn read(&mut self, _buf: &mut [u8]) -> io::Result<usize> {
-        Err(io::Error::from(ErrorKind::Interrupted))
-    }
-}
-
 #[test]
 fn endless_interruptions_end(rt: HostRuntime) -> Result<(), Fail> {
+    let calls = Calls {
+        step: 1,
+        good: 0,
+        ending: Ending::Waits,
+    };
+    let mut input = FailSource::new(b"", calls);
     let mut output = Vec::new(rt.alloc());
-    let outcome = copy_lines(&mut Never, &mut output).ok_or("numbers")?;
+    let outcome = copy_lines(&mut input, &mut output).ok_or("numbers")?;
     assert!(rt; outcome == Err(LinesFault::Cut(CutFault::Read(ReadFault::Turns))));
     Ok(())
 }

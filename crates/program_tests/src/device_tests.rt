@@ -1,8 +1,8 @@
 //! Runs of `inject` over devices that move one byte a call and fail on the way, one device a run.
 //! Expected packets are worked out by hand from the standards.
 
-use crate::devices::{FailSource, FailTarget};
 use dpi_program::program::program;
+use failing_devices::{Calls, Ending, FailSource, FailTarget};
 use std::alloc::{AllocError, Global};
 use std::net::Net;
 use std::process::Abort;
@@ -62,22 +62,34 @@ fn packets(alloc: Global, fronts: &[&[u8]]) -> Result<Vec<u8>, AllocError> {
     Ok(bytes)
 }
 
-/// The devices of a run: how much of the network is read, and whether reading on then fails; the packets' target, and that of what is told.
-#[derive(Drop)]
+/// The devices of a run: how much of the network there is, the calls that read it, those that put packets, and those that tell.
+#[derive(Clone, Copy)]
 struct Ends {
     size: usize,
-    input_fails: bool,
-    output: FailTarget,
-    faults: FailTarget,
+    reads: Calls,
+    puts: Calls,
+    fails_to_flush: bool,
+    tells: Calls,
+}
+
+/// So many calls of one byte go well, and then they end so.
+fn bytewise(good: usize, ending: Ending) -> Calls {
+    Calls {
+        step: 1,
+        good,
+        ending,
+    }
 }
 
 /// Devices that do not fail, over the whole network.
-fn good_ends(alloc: Global) -> Ends {
+fn good_ends() -> Ends {
+    let calls = bytewise(usize::MAX, Ending::Fails);
     Ends {
         size: 752,
-        input_fails: false,
-        output: FailTarget::new(alloc),
-        faults: FailTarget::new(alloc),
+        reads: calls,
+        puts: calls,
+        fails_to_flush: false,
+        tells: calls,
     }
 }
 
@@ -85,18 +97,20 @@ fn good_ends(alloc: Global) -> Ends {
 fn expect_run<R: Files + Net + AllocGlobal + Abort>(
     rt: &R,
     script: &str,
-    mut ends: Ends,
+    ends: Ends,
     status: u8,
     size: usize,
     last: &str,
 ) -> Result<(), Fail> {
     let network = packets(rt.alloc(), &[&PAT, &MAP, &UNIT, &NEXT_UNIT])?;
     let cued = packets(rt.alloc(), &[&PAT, &MAP_OUT, &UNIT, &CUE, &NEXT_UNIT])?;
-    let mut input = FailSource {
-        bytes: &network[..ends.size.min(network.len())],
-        fails: ends.input_fails,
-        is_late: false,
+    let mut input = FailSource::new(&network[..ends.size.min(network.len())], ends.reads);
+    let mut output = if ends.fails_to_flush {
+        FailTarget::failing_to_flush(rt.alloc(), ends.puts)
+    } else {
+        FailTarget::new(rt.alloc(), ends.puts)
     };
+    let mut faults = FailTarget::new(rt.alloc(), ends.tells);
     let words = [
         "inject",
         "--network",
@@ -112,14 +126,14 @@ fn expect_run<R: Files + Net + AllocGlobal + Abort>(
         "--out",
         "-",
     ];
-    let answer = program(rt, &words, &mut input, &mut ends.output, &mut ends.faults);
+    let answer = program(rt, &words, &mut input, &mut output, &mut faults);
     assert_eq!(rt; answer, status, "{size} bytes: {last}");
     assert!(rt;
-        ends.output.taken.as_slice() == &cued[..size.min(cued.len())],
+        output.taken().as_slice() == &cued[..size.min(cued.len())],
         "{size} bytes: {last}"
     );
     assert!(rt;
-        ends.faults.taken.as_slice().ends_with(last.as_bytes()),
+        faults.taken().as_slice().ends_with(last.as_bytes()),
         "{size} bytes: {last}"
     );
     Ok(())
@@ -130,25 +144,24 @@ fn a_device_that_fails_is_named(rt: HostRuntime) -> Result<(), Fail> {
     let script = env::temp_dir(&rt)?.join(rt.alloc(), "program_tests_devices.txt")?;
     let script = script.to_str().ok_or("a name")?;
     fs::write(&rt, script, SCRIPT)?;
-    let ends = good_ends(rt.alloc());
+    let ends = good_ends();
     let last = "reply 0007000E0064FFFF000005000105\nmessages 1\naccepted 1\nrefused 0\n";
     expect_run(&rt, script, ends, 0, 940, last)?;
-    let mut ends = good_ends(rt.alloc());
+    let mut ends = good_ends();
     ends.size = 600;
     expect_run(&rt, script, ends, 1, 564, "fault: Truncated\n")?;
-    let mut ends = good_ends(rt.alloc());
+    let mut ends = good_ends();
     ends.size = 600;
-    ends.input_fails = true;
+    ends.reads = bytewise(600, Ending::Fails);
     expect_run(&rt, script, ends, 1, 564, "fault: Io\n")?;
-    let mut ends = good_ends(rt.alloc());
-    ends.output.room = 700;
+    let mut ends = good_ends();
+    ends.puts = bytewise(700, Ending::Stops);
     expect_run(&rt, script, ends, 1, 700, "fault: Stuck\n")?;
-    let mut ends = good_ends(rt.alloc());
-    ends.output.room = 700;
-    ends.output.fails = true;
+    let mut ends = good_ends();
+    ends.puts = bytewise(700, Ending::Fails);
     expect_run(&rt, script, ends, 1, 700, "fault: Io\n")?;
-    let mut ends = good_ends(rt.alloc());
-    ends.output.fails_to_flush = true;
+    let mut ends = good_ends();
+    ends.fails_to_flush = true;
     expect_run(&rt, script, ends, 1, 940, "fault: Io\n")?;
     fs::remove_file(&rt, script)?;
     Ok(())
@@ -161,9 +174,8 @@ fn a_lost_reply_is_a_fault(rt: HostRuntime) -> Result<(), Fail> {
     let script = script.to_str().ok_or("a name")?;
     fs::write(&rt, script, SCRIPT)?;
     for room in [0, 20, 34, 40] {
-        let mut ends = good_ends(rt.alloc());
-        ends.faults.room = room;
-        ends.faults.fails = true;
+        let mut ends = good_ends();
+        ends.tells = bytewise(room, Ending::Fails);
         expect_run(&rt, script, ends, 1, 940, "")?;
     }
     fs::remove_file(&rt, script)?;

@@ -1,5 +1,6 @@
 //! What the program answers and tells, where nothing is on standard input.
 
+use crate::told::is_told;
 use dpi_program::program::program;
 use std::io::Cursor;
 use std::net::Net;
@@ -18,6 +19,5 @@ pub(crate) fn expect<R: Files + Net + AllocGlobal + Abort>(
     let mut input = Cursor::new(b"".as_slice());
     let answer = program(rt, words, &mut input, &mut output, &mut faults);
     assert_eq!(rt; answer, status, "{words:?}");
-    let is_told = told.is_empty() || faults.as_slice() == told.as_bytes();
-    assert!(rt; is_told, "{words:?}");
+    assert!(rt; is_told(faults.as_slice(), told), "{words:?}");
 }

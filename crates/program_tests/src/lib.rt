@@ -7,8 +7,6 @@ mod cut_tests;
 #[cfg(test)]
 mod device_tests;
 #[cfg(test)]
-mod devices;
-#[cfg(test)]
 mod expecting;
 #[cfg(test)]
 mod inject_tests;
@@ -18,3 +16,4 @@ mod list_tests;
 mod script_tests;
 #[cfg(test)]
 mod splice_tests;
+pub mod told;

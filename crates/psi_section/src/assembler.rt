@@ -7,7 +7,7 @@ use crate::sections::Sections;
 use crate::store::Store;
 use ts_packet::{Last, Packet};
 
-/// StillGives the sections in the packets of one PID (ISO/IEC 13818-1, 2.4.4). It takes no memory.
+/// Gives the sections in the packets of one PID (ISO/IEC 13818-1, 2.4.4). It takes no memory.
 #[derive(Drop)]
 pub struct Assembler {
     /// The last payload packet.

@@ -24,7 +24,8 @@ use splice_plans::SwitchReport;
 use splice_playing::Playing;
 use ts_packet::{Packet, PacketSink, Pid, PutFault};
 
-/// Plays advertisements in the place of the units of a network, in the events that its cues arm. It holds no packet and takes no memory.
+/// Plays advertisements in the place of the units of a network, in the events that its cues arm. To tell duplicates it keeps a
+/// copy of the last payload packet of each switched stream, and of each PID of tables or cues; it takes no memory.
 #[derive(Drop)]
 pub struct Switch {
     cue_pid: Pid,

@@ -33,6 +33,7 @@ returns-in-Ok-clause-ok g c = λ ts n k steps start before h.
             (one_more d p (packets_in steps) h.network c.in-Ok.ensures.bytes (same_packets d ms steps p (c.in-Ok.ensures.sound now stands)));
         switch = subst (WasFed c.pass_on.new.switch d filed (λ qs. g.K.PacketSink.holds c.pass_on.new.out start (before ++ qs))) (sent_step d ms steps p)
             (c.in-Ok.ensures.ok now start before (sent_by d steps) stands h.switch);
+        whole = h.whole;
       };
     }
 
@@ -47,5 +48,6 @@ returns-in-Err-clause-err g c = λ ts n k steps start before h.
       more = more;
       rs = rs;
       hears = hears;
+      talk = talk;
       why = c.in-Err.ensures.err now start before (sent_by d steps) stands (subst (IsSoundNetwork d) (sym (asked_packets ms steps)) h.network) (ap reverse (sym (asked_cued d ms steps))) h.switch;
     }
