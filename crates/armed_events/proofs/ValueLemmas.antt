@@ -1,6 +1,7 @@
 -- What a change does to the values beside the events that stand.
-use Rattle.std.proofs.Common.{◌≡◌, ℕ, Bool, true, false, List, [], ◌∷◌, ◌++◌, refl, sym, ap, ◌∙◌}
-use Rattle.std.specs.Prelude.{ℤ, Result, Ok, Err, OnErr, is_ok}
+use Rattle.std.proofs.Common.{◌≡◌, ℕ, ◌+◌, Bool, true, false, List, [], ◌∷◌, ◌++◌, refl, sym, ap, ◌∙◌, append_assoc}
+use Rattle.std.specs.Prelude.{ℤ, Result, Ok, Err, OnErr, is_ok, replicate}
+use Rattle.std.proofs.lemmas.List.{append-nil, replicate-append-replicate}
 use Rattle.event_table.specs.Standing.{Standing, has_id, with_first, cancelled_one, ending_at}
 use Rattle.event_table.specs.declared.table.Table.{Table}
 use Rattle.event_table.specs.declared.table.Armed.{Armed}
@@ -11,7 +12,7 @@ use Rattle.event_table.specs.declared.table.ShortenRefusal.{ShortenRefusal}
 use Rattle.event_table.specs.Tables.{values_of}
 use Rattle.armed_events.specs.Arming.{by_arm_answer, by_shorten_answer, by_cancel_answer}
 use Rattle.armed_events.specs.Obeying.{after_change, is_obeyed}
-use Rattle.armed_events.specs.Valuing.{values_by}
+use Rattle.armed_events.specs.Valuing.{values_by, AddsOnly}
 
 module _ {T : Type 0} (value : ℤ → T) where
   one-behind : (es : List Standing) (e : Standing) → values_by value (es ++ e ∷ []) ≡ values_by value es ++ value e.start ∷ []
@@ -45,6 +46,23 @@ module _ {T : Type 0} (value : ℤ → T) where
       → now ≡ values_by value (after_change (by_cancel_answer id a) standing)
   cancel-values now standing id (Ok u) is = is ∙ sym (with-first (has_id id) cancelled_one (λ e. refl) standing)
   cancel-values now standing id (Err f) is = is
+
+-- where nothing is added
+pub adds-none : {T : Type 0} → (fresh : T) (before after : List T) → after ≡ before → AddsOnly fresh before after
+adds-none fresh before after same = (0, same ∙ sym (append-nil before))
+
+pub adds-more : {T : Type 0} → (fresh : T) (before mid after : List T) → AddsOnly fresh before mid → AddsOnly fresh mid after → AddsOnly fresh before after
+adds-more fresh before mid after a b = (
+  a.0 + b.0,
+  b.1 ∙ ap (λ vs. vs ++ replicate b.0 fresh) a.1 ∙ append_assoc before (replicate a.0 fresh) (replicate b.0 fresh)
+      ∙ ap (λ vs. before ++ vs) (replicate-append-replicate a.0 b.0 fresh),
+)
+
+pub arm-adds : {T : Type 0} → (t t' : Table T) (fresh : T) (a : Result Armed ArmRefusal) → (a ≡ Ok New → values_of t' ≡ values_of t ++ fresh ∷ [])
+    → (a ≡ Ok Same → t' ≡ t) → OnErr a (t' ≡ t) → AddsOnly fresh (values_of t) (values_of t')
+arm-adds t t' fresh (Ok New) new same refused = (1, new refl)
+arm-adds t t' fresh (Ok Same) new same refused = adds-none fresh (values_of t) (values_of t') (ap values_of (same refl))
+arm-adds t t' fresh (Err f) new same refused = adds-none fresh (values_of t) (values_of t') (ap values_of refused)
 
 -- the cue is obeyed where the table armed it, or had it
 pub ok-obeyed : (e : Standing) (a : Result Armed ArmRefusal) → is_ok a ≡ is_obeyed (by_arm_answer e a)

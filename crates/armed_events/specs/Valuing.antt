@@ -1,5 +1,5 @@
 -- The values that a caller keeps beside the events that stand. No two events ever start at one time, so the start says whose a value is.
-use Rattle.std.specs.Prelude.{◌≡◌, ℕ, List, map, ℤ, Option, true}
+use Rattle.std.specs.Prelude.{◌≡◌, ℕ, List, ◌++◌, replicate, map, ℤ, Option, true}
 use Rattle.event_table.specs.Standing.{Standing, is_ahead_of}
 use Rattle.event_table.specs.Tables.{values_of}
 use Rattle.armed_events.specs.declared.obeying.Obeyed.{Obeyed}
@@ -13,6 +13,10 @@ module _ {T : Type 0} where
   -- an event that is armed starts ahead of the greatest time, and this is its value
   abbrev pub IsFreshAhead : (ℤ → T) → Option ℤ → T → Type 0
   IsFreshAhead value line fresh = (start : ℤ) → is_ahead_of line start ≡ true → value start ≡ fresh
+
+  -- every value stays, in its place, and each that is added behind them is this one
+  abbrev pub AddsOnly : T → List T → List T → Type 0
+  AddsOnly fresh before after = (n : ℕ) × (after ≡ before ++ replicate n fresh)
 
   -- beside the events that stand are these values
   abbrev pub AreBeside : Obeyed T → (ℤ → T) → Option ℤ → Heard → Type 0

@@ -25,7 +25,7 @@ impl<T: Copy + Default> Obeyed<T> {
     ghost use Rattle.armed_events.specs.Arming.{change, start_change, end_change, cancel_change};
     ghost use Rattle.armed_events.specs.Arming.{standing_at, Heard, with_section, with_sections};
     ghost use Rattle.armed_events.specs.Obeying.{after_change, is_obeyed, ObeyedFor};
-    ghost use Rattle.armed_events.specs.Valuing.{values_by, IsFreshAhead, AreBeside};
+    ghost use Rattle.armed_events.specs.Valuing.{values_by, IsFreshAhead, AddsOnly, AreBeside};
     ghost use Rattle.psi_section.specs.SectionsLeft.{sections_left};
 
     /// Arms the event with this value, where it is no repeat of one that stands. Answers whether the cue is obeyed, as a repeat is.
@@ -38,6 +38,7 @@ impl<T: Copy + Default> Obeyed<T> {
             StandsFor self.old.table line standing → IsFreshAhead value line fresh →
             values_of self.old.table ≡ values_by value standing →
             values_of self.new.table ≡ values_by value (after_change (start_change line standing (on_line line event)) standing) }
+        ensures added { AddsOnly fresh (values_of self.old.table) (values_of self.new.table) }
         ensures ignored { self.new.ignored ≡ self.old.ignored }
         ensures high { high_time_of self.new.table ≡ high_time_of self.old.table }
     {
@@ -59,6 +60,7 @@ impl<T: Copy + Default> Obeyed<T> {
         ensures values { (line : Option ℤ) (standing : List Standing) (value : ℤ → T) → StandsFor self.old.table line standing →
             values_of self.old.table ≡ values_by value standing →
             values_of self.new.table ≡ values_by value (after_change (end_change line standing id (place line time)) standing) }
+        ensures kept { values_of self.new.table ≡ values_of self.old.table }
         ensures ignored { self.new.ignored ≡ self.old.ignored }
         ensures high { high_time_of self.new.table ≡ high_time_of self.old.table }
     {
@@ -74,6 +76,7 @@ impl<T: Copy + Default> Obeyed<T> {
         ensures values { (line : Option ℤ) (standing : List Standing) (value : ℤ → T) → StandsFor self.old.table line standing →
             values_of self.old.table ≡ values_by value standing →
             values_of self.new.table ≡ values_by value (after_change (cancel_change line standing id) standing) }
+        ensures kept { values_of self.new.table ≡ values_of self.old.table }
         ensures ignored { self.new.ignored ≡ self.old.ignored }
         ensures high { high_time_of self.new.table ≡ high_time_of self.old.table }
     {
@@ -90,6 +93,7 @@ impl<T: Copy + Default> Obeyed<T> {
             StandsFor self.old.table line standing → IsFreshAhead value line fresh →
             values_of self.old.table ≡ values_by value standing →
             values_of self.new.table ≡ values_by value (after_change (change line standing asked) standing) }
+        ensures added { AddsOnly fresh (values_of self.old.table) (values_of self.new.table) }
         ensures ignored { self.new.ignored ≡ self.old.ignored }
         ensures high { high_time_of self.new.table ≡ high_time_of self.old.table }
     {
@@ -109,6 +113,7 @@ impl<T: Copy + Default> Obeyed<T> {
         ensures values { (line : Option ℤ) (heard : Heard) (value : ℤ → T) → ObeyedFor self.old line heard →
             IsFreshAhead value line fresh →
             AreBeside self.old value line heard → AreBeside self.new value line (with_section line section.now heard) }
+        ensures added { AddsOnly fresh (values_of self.old.table) (values_of self.new.table) }
         ensures high { high_time_of self.new.table ≡ high_time_of self.old.table }
     {
         let is_obeyed = self.obey(asked_of(&read(section)), fresh);
@@ -125,6 +130,7 @@ impl<T: Copy + Default> Obeyed<T> {
             IsFreshAhead value line fresh →
             AreBeside self.old value line heard →
             AreBeside self.new value line (with_sections line (sections_left sections.entry) heard) }
+        ensures added { AddsOnly fresh (values_of self.old.table) (values_of self.new.table) }
         ensures high { high_time_of self.new.table ≡ high_time_of self.old.table }
     {
         for section in sections {
@@ -151,7 +157,7 @@ impl<T: Copy + Default> ArmedEvents<T> {
     ghost use Rattle.psi_section.specs.Assembling.{IsOf, IsReady, capped};
     ghost use Rattle.armed_events.specs.Arming.{standing, ignored};
     ghost use Rattle.armed_events.specs.Obeying.{Obeys};
-    ghost use Rattle.armed_events.specs.Valuing.{values_by, IsFreshAhead, Keeps};
+    ghost use Rattle.armed_events.specs.Valuing.{values_by, IsFreshAhead, AddsOnly, Keeps};
 
     /// No event, no high time, and no cue ignored.
     pub fn new() -> ArmedEvents<T>
@@ -171,7 +177,7 @@ impl<T: Copy + Default> ArmedEvents<T> {
     }
 
     /// Obeys the cues that the next packet of the PID finishes, in order. A packet marked in error is left out. An event that is armed
-    /// has the value `fresh` beside it.
+    /// has the value `fresh` beside it; the values of those that stood stay.
     pub fn feed(&mut self, packet: &Packet, fresh: T)
         requires { IsReady self.old.assembler }
         ensures obeys { (pid : ℕ) (high : List (List ℕ) → Option ℤ) (past : List (List ℕ)) → IsOf pid packet.now →
@@ -180,6 +186,7 @@ impl<T: Copy + Default> ArmedEvents<T> {
             IsOf pid packet.now →
             high (packet.now ∷ past) ≡ high past → Obeys self.old pid high past → IsFreshAhead value (high past) fresh →
             Keeps self.old value pid high past → Keeps self.new value pid high (packet.now ∷ past) }
+        ensures added { AddsOnly fresh (values_of self.old.obeyed.table) (values_of self.new.obeyed.table) }
         ensures ready { IsReady self.new.assembler }
         ensures high { high_time_of self.new.obeyed.table ≡ high_time_of self.old.obeyed.table }
     {

@@ -1,8 +1,8 @@
 -- The counters of packets that have gone out.
 use Rattle.std.proofs.Common.{◌≡◌, ◌≢◌, ℕ, zero, suc, ◌+◌, ◌%◌, ◌<◌, ◌==◌, Bool, true, false, List, [], ◌∷◌, ◌++◌, length, drop, refl, ap, sym, ◌∙◌, subst, arith, append_assoc}
-use Rattle.std.specs.Prelude.{slice_index_or, map, Some}
+use Rattle.std.specs.Prelude.{slice_index_or, map, All, Some}
 use Rattle.std.specs.List.{AllByRecursion}
-use Rattle.std.proofs.lemmas.List.{append-nil}
+use Rattle.std.proofs.lemmas.List.{append-nil, map-append}
 use Rattle.std.proofs.lemmas.Bool.Decides.{nat_tests}
 use Rattle.std.proofs.lemmas.Bool.{eqb-true}
 use Rattle.ts_packet.specs.Filling.{packets_for}
@@ -168,3 +168,45 @@ packets-append pid out (s ∷ ss) ts pb =
     ∙ sym (append_assoc q (packets_out pid (onto out q) ss) (packets_out pid (onto (onto out q) (packets_out pid (onto out q) ss)) ts))
     ∙ ap (λ o. (q ++ packets_out pid (onto out q) ss) ++ packets_out pid o ts) (sym (onto-append out q (packets_out pid (onto out q) ss)))
     ∙ ap (λ l. l ++ packets_out pid (onto out l) ts) (sym more)
+
+-- Tables go out one by one, each in these bytes, where each is so.
+module _ (bytes : Table → List ℕ) (P : Table → Type 0) (pid : ℕ) (out : List (List ℕ)) where
+  abbrev pub gone_out : List Table → List (List ℕ)
+  gone_out ts = packets_out pid out (map bytes ts)
+
+  abbrev pub next_out : List Table → Table → List (List ℕ)
+  next_out whole t = packets_out pid (onto out (gone_out whole)) (bytes t ∷ [])
+
+  tables-more : (whole : List Table) (t : Table) → pid < 8192 → gone_out (whole ++ t ∷ []) ≡ gone_out whole ++ next_out whole t
+  tables-more whole t pb = ap (packets_out pid out) (map-append bytes whole (t ∷ [])) ∙ packets-append pid out (map bytes whole) (bytes t ∷ []) pb
+
+  -- these of the tables went out whole, and the others are left
+  pub record Gone (all left : List Table) (new : Outgoing) (whole : List Table) : Type 0 where
+    pub split : all ≡ whole ++ left
+    pub numbers : HasPut new (onto out (gone_out whole))
+    pub good : All P left
+
+  pub gone-first : (all left : List Table) (o : Outgoing) → left ≡ all → HasPut o out → All P all → Gone all left o []
+  gone-first all left o same h good = rw same (record { split = refl; numbers = h; good = good })
+
+  module _ (all left : List Table) (old : Outgoing) (whole : List Table) (gone : Gone all left old whole) (t : Table) (later : List Table) (steps : left ≡ t ∷ later) where
+    pub gone-good : P t
+    gone-good = All-head P t later (subst (All P) steps gone.good)
+
+    pub gone-here : all ≡ whole ++ t ∷ later
+    gone-here = gone.split ∙ ap (λ l. whole ++ l) steps
+
+    pub gone-out : pid < 8192 → (ps : List (List ℕ)) → (ps ++ gone_out whole) ++ next_out whole t ≡ ps ++ gone_out (whole ++ t ∷ [])
+    gone-out pb ps = append_assoc ps (gone_out whole) (next_out whole t) ∙ ap (λ l. ps ++ l) (sym (tables-more whole t pb))
+
+    pub gone-more : (new : Outgoing) → pid < 8192 → HasPut new (onto (onto out (gone_out whole)) (next_out whole t)) → Gone all later new (whole ++ t ∷ [])
+    gone-more new pb h = record {
+      split = gone-here ∙ sym (append_assoc whole (t ∷ []) later);
+      numbers = subst (λ o. HasPut new o) (sym (ap (onto out) (tables-more whole t pb) ∙ onto-append out (gone_out whole) (next_out whole t))) h;
+      good = All-tail P t later (subst (All P) steps gone.good);
+    }
+
+-- the same front, said of another relation
+pub front-moved : (packets : List (List ℕ)) (F G : List (List ℕ) → List ℕ → Type 0) → ((put : List (List ℕ)) (p : List ℕ) → F put p → G put p)
+    → FrontFails packets F → FrontFails packets G
+front-moved packets F G moved f = record { put = f.put; packet = f.packet; left = f.left; all = f.all; fault = moved f.put f.packet f.fault }

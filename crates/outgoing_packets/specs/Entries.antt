@@ -1,11 +1,14 @@
 -- What becomes of the entry for cues in the maps of a program.
-use Rattle.std.specs.Prelude.{◌≡◌, ◌<◌, ◌∷◌, [], ℕ, List, length, map, All, false, Option, Some, None}
+use Rattle.std.specs.Prelude.{◌≡◌, ◌<◌, ◌∷◌, ◌++◌, [], ℕ, List, length, map, All, false, if◌then◌else◌, Option, Some, None}
 use Rattle.arrayvec.specs.ArrayVec.{ArrayVec}
 use Rattle.psi_tables.specs.ProgramMap.{ProgramMap}
 use Rattle.psi_tables.specs.Cue.{with_cue_entry, without_cue_entry}
+use Rattle.ts_packet.specs.Runs.{onto}
 use Rattle.program_follower.specs.Program.{Table}
 use Rattle.program_follower.specs.Faults.{too_long}
-use Rattle.program_laws.specs.Writing.{packets_out, section_out}
+use Rattle.program_laws.specs.Writing.{packets_out, section_by, section_out}
+use Rattle.outgoing_packets.specs.Numbers.{HasPut, FrontFails}
+use Rattle.outgoing_packets.specs.declared.outgoing.Outgoing.{Outgoing}
 use Rattle.outgoing_packets.specs.declared.entry.CueEntry.{CueEntry}
 use Rattle.outgoing_packets.specs.declared.entry.CueEntry.TheVariants.{Added, Stripped}
 
@@ -27,6 +30,23 @@ HasRoom entry None = Unit {0}
 HasRoom (Added pid) (Some m) = too_long (Some pid) m ≡ false
 HasRoom (Stripped pid) (Some m) = Unit {0}
 
+-- a section as it goes out, whatever its room: a map without room for what is added goes out as it came
+abbrev pub sent_by : CueEntry → List ℕ → Option ProgramMap → List ℕ
+sent_by entry s None = s
+sent_by (Added pid) s (Some m) = if too_long (Some pid) m then s else section_by (with_cue_entry pid) s (Some m)
+sent_by (Stripped pid) s (Some m) = section_by (without_cue_entry pid) s (Some m)
+
+abbrev pub sent : CueEntry → Table → List ℕ
+sent entry t = sent_by entry t.section t.program_map
+
+-- tables in packets, behind what is out, each as it is sent
+abbrev pub all_sent : CueEntry → ℕ → List (List ℕ) → List Table → List (List ℕ)
+all_sent entry pid out ts = packets_out pid out (map (sent entry) ts)
+
+-- the section is not empty
+abbrev pub HasBytes : Table → Type 0
+HasBytes t = 0 < length t.section
+
 -- a section that is not empty, and has room where it is a map of the program
 pub record GoesOut (entry : CueEntry) (t : Table) : Type 0 where
   pub some : 0 < length t.section
@@ -39,3 +59,12 @@ AllGoOut entry ts = All (GoesOut entry) ts
 abbrev pub bytes_or : Option (ArrayVec ℕ) → List ℕ → List ℕ
 bytes_or None s = s
 bytes_or (Some changed) s = changed.items
+
+-- Of these tables a front went out whole, and the counters are those behind it. Of the next one's packets a front went out, and one failed so.
+pub record TableFails (entry : CueEntry) (pid : ℕ) (out : List (List ℕ)) (ts : List Table) (o : Outgoing) (fails : List (List ℕ) → List ℕ → Type 0) : Type 0 where
+  pub whole : List Table
+  pub next : Table
+  pub left : List Table
+  pub all : ts ≡ whole ++ next ∷ left
+  pub numbers : HasPut o (onto out (all_sent entry pid out whole))
+  pub fault : FrontFails (all_sent entry pid (onto out (all_sent entry pid out whole)) (next ∷ [])) (λ put p. fails (all_sent entry pid out whole ++ put) p)

@@ -1,13 +1,14 @@
 //! Packets and sections, put behind others.
 
-ghost use Rattle.std.specs.Prelude.{◌≡◌, ◌<◌, ◌++◌, ◌∷◌, [], ℕ, List, Option, ◌≢◌, length, map, slice_index_or, OnOk};
+ghost use Rattle.std.specs.Prelude.{◌≡◌, ◌<◌, ◌++◌, ◌∷◌, [], ℕ, List, Option, ◌≢◌, length, map, slice_index_or, All, Ok, OnOk};
 ghost use Rattle.std.specs.Prelude.{IfErr};
 ghost use Rattle.ts_packet.specs.Runs.{onto};
 ghost use Rattle.ts_packet.specs.Sinks.{Blamed};
 ghost use Rattle.ts_packet.specs.Transfers.{WentWell};
 ghost use Rattle.program_laws.specs.Writing.{section_out, packets_out};
 ghost use Rattle.program_follower.specs.Standing.{tables_left, table_seen};
-ghost use Rattle.outgoing_packets.specs.Entries.{change_of, tables_out, table_out, GoesOut, AllGoOut, bytes_or};
+ghost use Rattle.outgoing_packets.specs.Entries.{change_of, tables_out, table_out, TableFails, GoesOut, AllGoOut, bytes_or};
+ghost use Rattle.outgoing_packets.specs.Entries.{sent, all_sent, HasBytes};
 ghost use Rattle.outgoing_packets.specs.Numbers.{upcoming_on, FrontFails};
 
 use crate::entry::CueEntry;
@@ -34,7 +35,7 @@ impl Outgoing {
         }
     }
 
-    /// Puts the packet as it is.
+    /// Puts the packet as it is. After an error the counters are as they were.
     #[inline(always)]
     pub fn pass<S: PacketSink>(&mut self, packet: &Packet, sink: &mut S) -> Result<(), PutFault>
         ensures leads { S.leads sink.old sink.new }
@@ -42,6 +43,7 @@ impl Outgoing {
             OnOk result (S.holds sink.new start (ps ++ packet.now ∷ [])) }
         ensures numbers { (out : List (List ℕ)) → HasPut self.old out →
             OnOk result (HasPut self.new (packet.now ∷ out)) }
+        ensures refused { IfErr result (λ _. self.new ≡ self.old) }
         ensures err { (start : Option (List ℕ)) (ps : List (List ℕ)) → S.holds sink.old start ps →
             IfErr result (λ f. S.fails sink.new start ps packet.now f) }
         ensures well { OnOk result (WentWell (S.counts sink.old) (S.counts sink.new)) }
@@ -57,7 +59,8 @@ impl Outgoing {
         Ok(())
     }
 
-    /// Puts the section in packets of this PID. An empty one, which is none, puts nothing.
+    /// Puts the section in packets of this PID. An empty one, which is none, puts nothing. After an error the counters are as they
+    /// were, whatever of the section was put.
     pub fn put_section<S: PacketSink>(
         &mut self,
         pid: Pid,
@@ -74,6 +77,8 @@ impl Outgoing {
             HasPut self.old out → 0 < length section.now →
             IfErr result (λ f. FrontFails (packets_out pid out (section.now ∷ []))
             (λ put p. S.fails sink.new start (ps ++ put) p f)) }
+        ensures none { section.now ≡ [] → (result ≡ Ok tt) × (sink.new ≡ sink.old) × (self.new ≡ self.old) }
+        ensures refused { IfErr result (λ _. self.new ≡ self.old) }
         ensures well { OnOk result (WentWell (S.counts sink.old) (S.counts sink.new)) }
         ensures blamed { IfErr result (λ f. Blamed f (S.counts sink.old) (S.counts sink.new) (S.is_full sink.new)) }
         ensures pid { pid < 8192 }
@@ -91,7 +96,7 @@ impl Outgoing {
     }
 
     /// Puts the sections of a map's PID in packets of that PID, the maps of the program with their entry for cues changed. A map without
-    /// room for the entry goes out as it is.
+    /// room for the entry goes out as it came. After an error the counters are those behind the sections that were put whole.
     #[inline(never)]
     pub fn put_tables<S: PacketSink>(
         &mut self,
@@ -110,6 +115,18 @@ impl Outgoing {
             HasPut self.old out → AllGoOut change.now (tables_left tables.entry) →
             IfErr result (λ f. FrontFails (tables_out change.now pid out (tables_left tables.entry))
             (λ put p. S.fails sink.new start (ps ++ put) p f)) }
+
+        // The same, whether the maps have room for the entry or not.
+        ensures sent { (start : Option (List ℕ)) (ps out : List (List ℕ)) → S.holds sink.old start ps →
+            HasPut self.old out → All HasBytes (tables_left tables.entry) →
+            OnOk result (S.holds sink.new start (ps ++ all_sent change.now pid out (tables_left tables.entry))) }
+        ensures sent_numbers { (out : List (List ℕ)) → HasPut self.old out → All HasBytes (tables_left tables.entry) →
+            OnOk result (HasPut self.new (onto out (all_sent change.now pid out (tables_left tables.entry)))) }
+        ensures refused { (start : Option (List ℕ)) (ps out : List (List ℕ)) → S.holds sink.old start ps →
+            HasPut self.old out → All HasBytes (tables_left tables.entry) →
+            IfErr result (λ f. TableFails change.now pid out (tables_left tables.entry) self.new
+            (λ put p. S.fails sink.new start (ps ++ put) p f)) }
+
         ensures well { OnOk result (WentWell (S.counts sink.old) (S.counts sink.new)) }
         ensures blamed { IfErr result (λ f. Blamed f (S.counts sink.old) (S.counts sink.new) (S.is_full sink.new)) }
     {
@@ -139,6 +156,16 @@ impl Outgoing {
         ensures err { (start : Option (List ℕ)) (ps out : List (List ℕ)) → S.holds sink.old start ps →
             HasPut self.old out → GoesOut change.now (table_seen table.entry) →
             IfErr result (λ f. FrontFails (table_out change.now pid out (table_seen table.entry))
+            (λ put p. S.fails sink.new start (ps ++ put) p f)) }
+        ensures refused { IfErr result (λ _. self.new ≡ self.old) }
+        ensures sent { (start : Option (List ℕ)) (ps out : List (List ℕ)) → S.holds sink.old start ps →
+            HasPut self.old out → HasBytes (table_seen table.entry) →
+            OnOk result (S.holds sink.new start (ps ++ all_sent change.now pid out (table_seen table.entry ∷ []))) }
+        ensures sent_numbers { (out : List (List ℕ)) → HasPut self.old out → HasBytes (table_seen table.entry) →
+            OnOk result (HasPut self.new (onto out (all_sent change.now pid out (table_seen table.entry ∷ [])))) }
+        ensures sent_err { (start : Option (List ℕ)) (ps out : List (List ℕ)) → S.holds sink.old start ps →
+            HasPut self.old out → HasBytes (table_seen table.entry) →
+            IfErr result (λ f. FrontFails (all_sent change.now pid out (table_seen table.entry ∷ []))
             (λ put p. S.fails sink.new start (ps ++ put) p f)) }
         ensures well { OnOk result (WentWell (S.counts sink.old) (S.counts sink.new)) }
         ensures blamed { IfErr result (λ f. Blamed f (S.counts sink.old) (S.counts sink.new) (S.is_full sink.new)) }
@@ -171,11 +198,13 @@ impl Outgoing {
     }
 }
 
-/// The section as it goes out, where it is a map that is changed.
+/// The section as it goes out, where it is a map that is changed. One without room for the entry is not, and goes out as it came.
 fn changed_section(table: &LentTable<'_>, change: &CueEntry) -> Option<Section>
     ensures value { GoesOut change.now (table_seen table.now) →
         bytes_or result table.now.section.now ≡ section_out (change_of change.now) (table_seen table.now) }
     ensures some { GoesOut change.now (table_seen table.now) → 0 < length (bytes_or result table.now.section.now) }
+    ensures sent { bytes_or result table.now.section.now ≡ sent change.now (table_seen table.now) }
+    ensures bytes { HasBytes (table_seen table.now) → 0 < length (bytes_or result table.now.section.now) }
 {
     let Some(map) = &table.map else {
         return None;

@@ -1,7 +1,10 @@
 //! What bytes are read from and written to, with the counts that say what it did.
 
+ghost use Rattle.std.specs.Prelude.{◌≡◌, ◌≢◌, Ok, Err, IfOk, IfErr};
+ghost use Rattle.std.specs.IoError.{error_kind};
+
 use crate::tally::Tally;
-use std::io::{self, BufRead, BufReader, Read};
+use std::io::{self, BufRead, BufReader, ErrorKind, Read};
 use thiserror::Error;
 
 /// Why a call of a device gave nothing.
@@ -97,11 +100,29 @@ impl<T> Device<T> {
 }
 
 /// Why a call gave nothing, by the error of std that it answered.
-fn fault_of(error: &io::Error) -> DeviceFault {
-    if error.kind() == io::ErrorKind::Interrupted {
+fn fault_of(error: &io::Error) -> DeviceFault
+    ensures interrupted { error_kind error.now ≡ ErrorKind.Interrupted → result ≡ DeviceFault.Interrupted }
+    ensures failed { error_kind error.now ≢ ErrorKind.Interrupted → result ≡ DeviceFault.Failed }
+{
+    if error.kind() == ErrorKind::Interrupted {
         DeviceFault::Interrupted
     } else {
         DeviceFault::Failed
+    }
+}
+
+/// What a call of std answered, as a device answers it.
+#[inline(always)]
+fn answer_of(given: &io::Result<usize>) -> Result<usize, DeviceFault>
+    ensures moved { IfOk given.now (λ n. result ≡ Ok n) }
+    ensures interrupted { IfErr given.now (λ e. error_kind e ≡ ErrorKind.Interrupted →
+        result ≡ Err DeviceFault.Interrupted) }
+    ensures failed { IfErr given.now (λ e. error_kind e ≢ ErrorKind.Interrupted →
+        result ≡ Err DeviceFault.Failed) }
+{
+    match given {
+        Ok(n) => Ok(*n),
+        Err(e) => Err(fault_of(e)),
     }
 }
 
@@ -112,10 +133,7 @@ impl<R: Read> Source for Device<R> {
 
     #[inline(always)]
     fn read(&mut self, buf: &mut [u8]) -> Result<usize, DeviceFault> {
-        let answer = match self.inner.read(buf) {
-            Ok(n) => Ok(n),
-            Err(e) => Err(fault_of(&e)),
-        };
+        let answer = answer_of(&self.inner.read(buf));
         self.tally.count(&answer);
         answer
     }
@@ -177,10 +195,7 @@ impl<W: io::Write> Target for Device<W> {
 
     #[inline(always)]
     fn write(&mut self, buf: &[u8]) -> Result<usize, DeviceFault> {
-        let answer = match self.inner.write(buf) {
-            Ok(n) => Ok(n),
-            Err(e) => Err(fault_of(&e)),
-        };
+        let answer = answer_of(&self.inner.write(buf));
         self.tally.count(&answer);
         answer
     }

@@ -6,7 +6,7 @@ use Rattle.armed_events.specs.Obeying.{after_change, is_obeyed}
 use Rattle.armed_events.specs.Valuing.{values_by}
 use Rattle.armed_events.proofs.TestLemmas.{can-arm, and-parts}
 use Rattle.armed_events.proofs.ChangeLemmas.{start-refused, start-answered, arm-after}
-use Rattle.armed_events.proofs.ValueLemmas.{arm-values, ok-obeyed}
+use Rattle.armed_events.proofs.ValueLemmas.{arm-values, arm-adds, ok-obeyed}
 use Rattle.armed_events.proofs.obeying.Obeyed.start.Goals as goal
 
 pub returns-then-not-can_arm-clause-stands : goal.returns-then-not-can_arm-clause-stands
@@ -46,3 +46,6 @@ returns-clause-values g c = λ line standing value s fresh is.
     subst (λ (x : Change). values_of c.arm.new.self ≡ values_by value (after_change x standing)) (sym answered)
     (arm-values value c.args.self.now.table c.arm.new.self standing e c.args.fresh c.arm.result c.arm.ensures.value c.arm.ensures.same c.arm.ensures.refused
     (fresh e.start (and-parts (is_fresh e) (is_ahead_of line e.start) can).1) is)
+
+pub returns-clause-added : goal.returns-clause-added
+returns-clause-added g c = arm-adds c.args.self.now.table c.arm.new.self c.args.fresh c.arm.result c.arm.ensures.value c.arm.ensures.same c.arm.ensures.refused

@@ -1,8 +1,10 @@
 use Rattle.std.proofs.Common.{rules, ◌≡◌, [], sym, ap, ◌∙◌, subst}
+use Rattle.event_table.specs.Tables.{values_of}
 use Rattle.psi_section.specs.SectionsLeft.{sections_left}
 use Rattle.armed_events.specs.Arming.{with_section, with_sections}
 use Rattle.armed_events.specs.Obeying.{ObeyedFor}
 use Rattle.armed_events.specs.Valuing.{AreBeside}
+use Rattle.armed_events.proofs.ValueLemmas.{adds-more}
 use Rattle.armed_events.proofs.obeying.Obeyed.take_all.Goals as goal
 
 pub returns-clause-obeyed : goal.returns-clause-obeyed
@@ -25,5 +27,6 @@ loop-section-preserved g c = record {
   values = λ line heard value o fresh beside.
       let i = c.loop-section.invariant.values line heard value o fresh beside in
       (with_section line c.in-Some.section.now i.0, c.take.ensures.obeyed line i.0 i.1, c.take.ensures.values line i.0 value i.1 fresh i.2, search rules);
+  added = adds-more c.args.fresh (values_of c.args.self.now.table) (values_of c.loop-section.self.table) (values_of c.take.new.self.table) c.loop-section.invariant.added c.take.ensures.added;
   high = c.take.ensures.high ∙ c.loop-section.invariant.high;
 }

@@ -1,9 +1,9 @@
 use Rattle.std.proofs.Common.{◌≡◌, ℤ, Option}
-use Rattle.event_table.specs.Tables.{high_time_of}
+use Rattle.event_table.specs.Tables.{high_time_of, values_of}
 use Rattle.psi_section.specs.SectionsLeft.{sections_left}
 use Rattle.armed_events.specs.Arming.{Heard, with_sections}
 use Rattle.armed_events.specs.Obeying.{ObeyedFor}
-use Rattle.armed_events.specs.Valuing.{IsFreshAhead, AreBeside}
+use Rattle.armed_events.specs.Valuing.{IsFreshAhead, AddsOnly, AreBeside}
 use Rattle.armed_events.proofs.obeying.Obeyed.take_all.Given as goal
 
 -- what is still to come brings it to the same
@@ -13,5 +13,6 @@ invariant-loop-section g l = record {
       (now : Heard) × ObeyedFor l.self line now × (with_sections line (sections_left l.section-iterator) now ≡ with_sections line (sections_left l.fn.sections) heard);
   values : (line : Option ℤ) (heard : Heard) (value : ℤ → g.row.T.Denot) → ObeyedFor l.initial.self line heard → IsFreshAhead value line l.fn.fresh → AreBeside l.initial.self value line heard →
       (now : Heard) × ObeyedFor l.self line now × AreBeside l.self value line now × (with_sections line (sections_left l.section-iterator) now ≡ with_sections line (sections_left l.fn.sections) heard);
+  added : AddsOnly l.fn.fresh (values_of l.initial.self.table) (values_of l.self.table);
   high : high_time_of l.self.table ≡ high_time_of l.initial.self.table;
 }
