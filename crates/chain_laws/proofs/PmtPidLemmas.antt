@@ -29,7 +29,7 @@ use Rattle.program_laws.proofs.FaultLemmas.{Each-map}
 use Rattle.ad_library.specs.Advertisements.{Advertisement}
 use Rattle.injector.specs.Steps.{Step, packets_in}
 use Rattle.injector.specs.Steps.{cued as sent_cues}
-use Rattle.injector.specs.Laws.{fronts}
+use Rattle.injector.specs.Laws.{own_fronts}
 use Rattle.injector.proofs.CuedLemmas.{cued-is-written}
 use Rattle.splice_laws.specs.Streams.{is_among}
 use Rattle.splice_plans.specs.Adverts.{setting_of}
@@ -157,7 +157,7 @@ module _ (c : Config) (filed : ℕ → Option Advertisement) (steps : List Step)
   same-first =
       let is = cued-is-written c steps w.run.faultless in
       ap (λ out. filter (on l.pid) (up_to_pat wanted out)) is.stream
-      ∙ up-same c (fronts c steps) l.pid (not-cue c filed steps w l known) net w.run.faultless w.run.bytes is.cues
+      ∙ up-same c (own_fronts c steps) l.pid (not-cue c filed steps w l known) net w.run.faultless w.run.bytes is.cues
 
   same-sections : map (section_out (without_cue_entry c.cue_pid)) (all_tables (Some c.program) (sent_cues c steps)) ≡ map (λ (t : Table). t.section) (all_tables (Some c.program) (packets_in steps))
   same-sections =

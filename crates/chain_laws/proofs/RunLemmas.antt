@@ -24,7 +24,7 @@ use Rattle.program_laws.proofs.FaultLemmas.{Each-map}
 use Rattle.program_laws.proofs.HeadLemmas.{others_pass}
 use Rattle.output_laws.proofs.StepLemmas.{pid_is}
 use Rattle.injector.specs.Steps.{Step, Message, Packet, packets_in, sections_before, cue_packets, body_at, cued}
-use Rattle.injector.specs.Laws.{fronts}
+use Rattle.injector.specs.Laws.{own_fronts}
 use Rattle.injector.proofs.CuedLemmas.{cued-is-written, cued-reads-again}
 use Rattle.ad_library.specs.Advertisements.{Advertisement}
 use Rattle.splice_plans.specs.Adverts.{setting_of}
@@ -142,12 +142,12 @@ module _ (c : Config) (filed : ℕ → Option Advertisement) (steps : List Step)
     no-cues : (qs : List (List ℕ)) → AllByRecursion (On c.cue_pid) qs → AllByRecursion (λ q. takes q ≡ false) qs
     no-cues qs h = Each-map (On c.cue_pid) (λ q. takes q ≡ false) no_cue qs h
 
-    pass-along : (ps : List (List ℕ)) → Along (λ p qs. AllByRecursion (On c.cue_pid) (fronts c steps p qs)) ps → ((l : Listed) → listed (Some c.program) ps ≡ Some l → listed (Some c.program) (packets_in steps) ≡ Some l)
-        → Along (Passes takes (cueing c.cue_pid (fronts c steps)) (Some c.program)) ps
+    pass-along : (ps : List (List ℕ)) → Along (λ p qs. AllByRecursion (On c.cue_pid) (own_fronts c steps p qs)) ps → ((l : Listed) → listed (Some c.program) ps ≡ Some l → listed (Some c.program) (packets_in steps) ≡ Some l)
+        → Along (Passes takes (cueing c.cue_pid (own_fronts c steps)) (Some c.program)) ps
     pass-along [] f h = tt
     pass-along (p ∷ ps) f h = (
       record {
-        front = no-cues (fronts c steps p ps) f.0;
+        front = no-cues (own_fronts c steps p ps) f.0;
         place = refl;
         own = λ l known q y. no_map l (h l (listed_stays (Some c.program) p ps l known)) q y;
       },
@@ -159,4 +159,4 @@ module _ (c : Config) (filed : ℕ → Option Advertisement) (steps : List Step)
     others =
         let w = cued-is-written c steps r.faultless in
         ap (filter takes) w.stream
-        ∙ others_pass takes (cueing c.cue_pid (fronts c steps)) (Some c.program) (packets_in steps) (pass-along (packets_in steps) w.cues (λ l known. known))
+        ∙ others_pass takes (cueing c.cue_pid (own_fronts c steps)) (Some c.program) (packets_in steps) (pass-along (packets_in steps) w.cues (λ l known. known))

@@ -35,7 +35,7 @@ use Rattle.program_laws.proofs.PacketLemmas.{one_past-below}
 use Rattle.program_laws.proofs.ReadingLemmas.{tables_onto}
 use Rattle.program_laws.proofs.WritingLemmas.{listed_below, carry_off, first_map-out}
 use Rattle.injector.specs.Steps.{Packet, packets_in, cued, sent_at}
-use Rattle.injector.specs.Laws.{fronts}
+use Rattle.injector.specs.Laws.{own_fronts}
 use Rattle.injector.proofs.CuedLemmas.{cued-is-written}
 use Rattle.cued_laws.specs.Laws.{ArePacketsOfBytes, CuedIsFaultless, InjectedIsFaultless, NoneSentIsAtFault}
 use Rattle.cued_laws.proofs.UnitLemmas.{unit_same}
@@ -238,7 +238,7 @@ injected_is_faultless c past ok bytes =
     let below = c.below_null in
     let is = cued-is-written c past ok in
     ap (first_fault (reading c)) is.stream
-    ∙ cued_is_faultless (Some c.program) c.cue_pid (fronts c past) (packets_in past) (λ e. omega (arith, e)) (omega arith) ok bytes is.cues
+    ∙ cued_is_faultless (Some c.program) c.cue_pid (own_fronts c past) (packets_in past) (λ e. omega (arith, e)) (omega arith) ok bytes is.cues
 
 sound_before : (k : Purpose) (qs past : List (List ℕ)) → first_fault k (onto past qs) ≡ None → first_fault k past ≡ None
 sound_before k [] past h = h

@@ -18,7 +18,7 @@ use Rattle.program_laws.proofs.CuedLemmas.{ons_off, cued_stream_reads}
 use Rattle.program_laws.proofs.FaultLemmas.{no_cue_packets}
 use Rattle.program_laws.proofs.PacketLemmas.{one_past-below}
 use Rattle.injector.specs.Steps.{Step, Message, Packet, packets_in, sections_before, cue_packets, cued, body_at}
-use Rattle.injector.specs.Laws.{fronts, CuedIsWritten, CuedReadsAgain}
+use Rattle.injector.specs.Laws.{own_fronts, CuedIsWritten, CuedReadsAgain}
 use Rattle.program_follower.specs.Purposes.{writing_cues}
 
 -- ---- lists of packets
@@ -74,40 +74,40 @@ not-as-long : (m n : ℕ) → m < n → m == n ≡ false
 not-as-long m n less = by_test (m == n) (λ y. absurd (let e : m ≡ n = eqb-true m n y in omega arith)) (λ no. no)
 
 -- the front of a packet is told by the number of packets before it
-along-before : (c : Config) (q : List ℕ) (past : List Step) (ps : List (List ℕ)) → length ps ≤ length (packets_in past) → Along (λ p qs. fronts c past p qs ≡ fronts c (Packet q ∷ past) p qs) ps
+along-before : (c : Config) (q : List ℕ) (past : List Step) (ps : List (List ℕ)) → length ps ≤ length (packets_in past) → Along (λ p qs. own_fronts c past p qs ≡ own_fronts c (Packet q ∷ past) p qs) ps
 along-before c q past [] short = tt
 along-before c q past (p ∷ ps) short =
     let not : length ps == length (packets_in past) ≡ false = not-as-long (length ps) (length (packets_in past)) (omega arith) in
-    (sym (ap (λ b. cond b (cue_packets c q past (cued c past)) (fronts c past p ps)) not), along-before c q past ps (omega arith))
+    (sym (ap (λ b. cond b (cue_packets c q past (cued c past)) (own_fronts c past p ps)) not), along-before c q past ps (omega arith))
 
-front-here : (c : Config) (p : List ℕ) (past : List Step) → fronts c (Packet p ∷ past) p (packets_in past) ≡ cue_packets c p past (cued c past)
-front-here c p past = ap (λ b. cond b (cue_packets c p past (cued c past)) (fronts c past p (packets_in past))) (eq-eqb (length (packets_in past)) (length (packets_in past)) refl)
+front-here : (c : Config) (p : List ℕ) (past : List Step) → own_fronts c (Packet p ∷ past) p (packets_in past) ≡ cue_packets c p past (cued c past)
+front-here c p past = ap (λ b. cond b (cue_packets c p past (cued c past)) (own_fronts c past p (packets_in past))) (eq-eqb (length (packets_in past)) (length (packets_in past)) refl)
 
-along-cues : (c : Config) (past : List Step) (ps : List (List ℕ)) → Along (λ p qs. AllByRecursion (On c.cue_pid) (fronts c past p qs)) ps
+along-cues : (c : Config) (past : List Step) (ps : List (List ℕ)) → Along (λ p qs. AllByRecursion (On c.cue_pid) (own_fronts c past p qs)) ps
 along-cues c past [] = tt
 along-cues c past (p ∷ ps) = (each past, along-cues c past ps)
   where
-    each : (past : List Step) → AllByRecursion (On c.cue_pid) (fronts c past p ps)
+    each : (past : List Step) → AllByRecursion (On c.cue_pid) (own_fronts c past p ps)
     each [] = tt
     each (Message m ∷ past) = each past
     each (Packet q ∷ past) = by (length ps == length (packets_in past)) (each past)
       where
-        by : (b : Bool) → AllByRecursion (On c.cue_pid) (fronts c past p ps) → AllByRecursion (On c.cue_pid) (cond b (cue_packets c q past (cued c past)) (fronts c past p ps))
+        by : (b : Bool) → AllByRecursion (On c.cue_pid) (own_fronts c past p ps) → AllByRecursion (On c.cue_pid) (cond b (cue_packets c q past (cued c past)) (own_fronts c past p ps))
         by true before = cues-on c q past (cued c past)
         by false before = before
 
-cued-written : (c : Config) (past : List Step) → Along (λ p qs. on c.cue_pid p ≡ false) (packets_in past) → cued c past ≡ cued_network (Some c.program) c.cue_pid (fronts c past) (packets_in past)
+cued-written : (c : Config) (past : List Step) → Along (λ p qs. on c.cue_pid p ≡ false) (packets_in past) → cued c past ≡ cued_network (Some c.program) c.cue_pid (own_fronts c past) (packets_in past)
 cued-written c [] clear = refl
 cued-written c (Message m ∷ past) clear = cued-written c past clear
 cued-written c (Packet p ∷ past) clear =
     let ps = packets_in past in
-    let F : Front = fronts c (Packet p ∷ past) in
+    let F : Front = own_fronts c (Packet p ∷ past) in
     let C = cued c past in
     let cues = cue_packets c p past C in
     let l = listed (Some c.program) ps in
     let ts = tables (Some c.program) p ps in
     let W = written (cueing c.cue_pid F) (Some c.program) ps in
-    let before : C ≡ W = cued-written c past clear.1 ∙ agree-written c.cue_pid (fronts c past) F (Some c.program) ps (along-before c p past ps (omega arith)) in
+    let before : C ≡ W = cued-written c past clear.1 ∙ agree-written c.cue_pid (own_fronts c past) F (Some c.program) ps (along-before c p past ps (omega arith)) in
     let here : body_at c p ps (onto C cues) ≡ body (cueing c.cue_pid F) l p ps ts C
     = body-behind c.cue_pid (λ q qs. []) l p ps ts cues C clear.0 (cues-on c p past C) ∙ body-fronts c.cue_pid (λ q qs. []) F l p ps ts C in
     ap (λ qs. onto C (cues ++ qs)) here
@@ -124,4 +124,4 @@ cued-reads-again c past good bytes =
     let above = c.above_reserved in
     let below = c.below_null in
     subst (λ out. Rattle.program_laws.specs.Cued.CuedReads (Some c.program) c.cue_pid out (packets_in past) (Rattle.program_follower.specs.Program.pids_of (Rattle.program_follower.specs.Program.program_of (Some c.program) (packets_in past)))) (sym is.stream)
-    (cued_stream_reads (writing_cues c) c.cue_pid (fronts c past) (packets_in past) refl refl (λ zero. omega arith) (omega arith) good bytes is.cues)
+    (cued_stream_reads (writing_cues c) c.cue_pid (own_fronts c past) (packets_in past) refl refl (λ zero. omega arith) (omega arith) good bytes is.cues)

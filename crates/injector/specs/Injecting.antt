@@ -1,5 +1,5 @@
 -- What an injector stands for.
-use Rattle.std.specs.Prelude.{Option, ◌≡◌, ℕ, List, ◌∷◌, Bool, true, false, None, Some, Result, Ok, Err}
+use Rattle.std.specs.Prelude.{Option, ◌≡◌, ℕ, List, ◌∷◌, Bool, false, None, Some, Result, Ok, Err}
 use Rattle.ts_packet.specs.declared.sink.PutFault.{PutFault}
 use Rattle.psi_section.specs.Assembling.{capped}
 use Rattle.psi_tables.specs.declared.config.Config.{Config}

@@ -19,18 +19,18 @@ NoCueBetween = (c : Config) (p : List ℕ) (past : List Step) → has_news c.ind
     high_of (Some c.program) (p ∷ packets_in past) ≡ high_of (Some c.program) (packets_in past) → sections_before c p past ≡ []
 
 -- What a history puts in front of the packet behind these packets: which packet that is, their number says.
-abbrev pub fronts : Config → List Step → List ℕ → List (List ℕ) → List (List ℕ)
-fronts c [] p ps = []
-fronts c (Message m ∷ past) p ps = fronts c past p ps
-fronts c (Packet q ∷ past) p ps =
-    if length ps == length (packets_in past) then cue_packets c q past (cued c past) else fronts c past p ps
+abbrev pub own_fronts : Config → List Step → List ℕ → List (List ℕ) → List (List ℕ)
+own_fronts c [] p ps = []
+own_fronts c (Message m ∷ past) p ps = own_fronts c past p ps
+own_fronts c (Packet q ∷ past) p ps =
+    if length ps == length (packets_in past) then cue_packets c q past (cued c past) else own_fronts c past p ps
 
 -- THE LAW OF THE TWO CUED STREAMS. What goes out for a history is the network of its packets with its cues in front of them, and with the
 -- entry for cues in each map of the program. So it holds of a network without fault: where a packet on the PID of the map was one on the
 -- PID of the cues, the sections of the maps would go on with the counter of the cues before them in the one, and not in the other.
 pub record IsCuedNetwork (c : Config) (past : List Step) : Type 0 where
-  pub stream : cued c past ≡ cued_network (Some c.program) c.cue_pid (fronts c past) (packets_in past)
-  pub cues : Along (λ p ps. AllByRecursion (On c.cue_pid) (fronts c past p ps)) (packets_in past)
+  pub stream : cued c past ≡ cued_network (Some c.program) c.cue_pid (own_fronts c past) (packets_in past)
+  pub cues : Along (λ p ps. AllByRecursion (On c.cue_pid) (own_fronts c past p ps)) (packets_in past)
 
 abbrev pub CuedIsWritten : Type 0
 CuedIsWritten = (c : Config) (past : List Step) → first_fault (writing_cues c) (packets_in past) ≡ None →

@@ -6,7 +6,6 @@ use Rattle.ts_packet.specs.Runs.{onto}
 use Rattle.psi_tables.specs.declared.config.Config.{Config}
 use Rattle.scte35_codec.specs.Spelling.{cue_bytes}
 use Rattle.scte104_codec.specs.Reading.{MessageReading, init, alive, other, multiple, bad}
-use Rattle.program_follower.specs.declared.purpose.Purpose.{Purpose}
 use Rattle.program_follower.specs.Program.{listed, tables}
 use Rattle.program_follower.specs.Following.{high_of}
 use Rattle.program_laws.specs.Writing.{packets_out, body}

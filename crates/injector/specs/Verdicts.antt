@@ -1,11 +1,11 @@
 -- The verdict on a request, by the greatest time of the network and the events that stand, and what an accepted one makes of them.
 -- pre_roll_time counts milliseconds of 90 ticks, break_duration tenths of a second of 9,000 ticks.
-use Rattle.std.specs.Prelude.{ℕ, ℤ, pos, ◌+◌, ◌*◌, ◌%◌, ◌^◌, ◌+ℤ◌, ◌==◌, int_lt, int_le, Bool, not, ◌&&◌}
+use Rattle.std.specs.Prelude.{ℕ, ℤ, pos, ◌+◌, ◌*◌, ◌%◌, ◌^◌, ◌+ℤ◌, ◌==◌, int_lt, Bool, not, ◌&&◌}
 use Rattle.std.specs.Prelude.{if◌then◌else◌, false, List, [], ◌∷◌, ◌++◌, find, Option, None, Some, Result, Ok, Err}
 use Rattle.std.specs.List.{list_any}
 use Rattle.scte104_codec.specs.declared.requests.SpliceRequest.{SpliceRequest}
 use Rattle.event_table.specs.declared.event.Event.{Event}
-use Rattle.event_table.specs.Standing.{Standing, has_id, is_full, meets, end_of, ending_at, cancelled_one, with_first}
+use Rattle.event_table.specs.Standing.{Standing, has_begun, has_id, is_full, meets, end_of, ending_at, cancelled_one, with_first}
 use Rattle.injector.specs.declared.asked.Asked.{Asked}
 use Rattle.injector.specs.declared.refusal.Refusal.{Refusal}
 use Rattle.injector.specs.declared.refusal.Refusal.TheVariants.{BadSyntax, WrongVersion, WrongIndex, TimeType}
@@ -92,11 +92,6 @@ end_verdict_at (Some high) (Some s) r = if can_end high s r then Ok tt else Err 
 -- of an end (splice_insert_type 3, spliceEnd_normal)
 abbrev pub end_verdict : Option ℤ → List Standing → SpliceRequest → Result (Unit {0}) Refusal
 end_verdict high standing r = end_verdict_at high (find (has_id r.splice_event_id) standing) r
-
--- the event has begun
-abbrev pub has_begun : Option ℤ → Standing → Bool
-has_begun None s = false
-has_begun (Some high) s = int_le s.start high
 
 abbrev pub cancel_verdict_at : Option ℤ → Option Standing → Result (Unit {0}) Refusal
 cancel_verdict_at high None = Err NoSuchEvent

@@ -8,13 +8,13 @@ use ts_packet::transfer::{FillFault, fill};
 use ts_packet::{Packet, PacketFault, PacketSource, ReadFault, Source};
 
 /// The digits of one line.
-const LINE_DIGITS: usize = 376;
+pub(crate) const LINE_DIGITS: usize = 376;
 
 /// A line with its end.
 const LINE_SIZE: usize = 377;
 
 /// The end of a line.
-const LINE_END: u8 = b'\n';
+pub(crate) const LINE_END: u8 = b'\n';
 
 /// The packet of a line, or why its bytes are none; `None` where it is not 376 digits, with the line's end where anything is behind
 /// them.

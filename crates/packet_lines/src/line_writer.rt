@@ -3,15 +3,10 @@
 ghost use Rattle.std.specs.Prelude.{◌≡◌, ℕ, ◌<◌, length, slice_index};
 ghost use Rattle.packet_lines.specs.Lines.{line_of};
 
+use crate::line_reader::{LINE_DIGITS, LINE_END};
 use hex_digits::spell;
 use ts_packet::transfer::write_whole;
 use ts_packet::{Packet, PacketSink, PutFault, Target};
-
-/// The digits of one line.
-const LINE_DIGITS: usize = 376;
-
-/// The end of a line.
-const LINE_END: u8 = b'\n';
 
 /// Spells a packet's line: its digits and the line's end.
 fn spell_line(line: &mut [u8; 377], packet: &[u8; 188])

@@ -3,12 +3,12 @@ use Rattle.std.proofs.Common.{◌≡◌, ℕ, ◌*◌, ◌^◌, ◌<◌, ◌≤�
 use Rattle.std.specs.Prelude.{ℤ, pos, ◌+ℤ◌, ◌≤ℤ◌, int_lt, int_le, map, filter, find, Option, None, Some, Result, Ok, Err}
 use Rattle.std.proofs.lemmas.Int.{ints}
 use Rattle.scte104_codec.specs.declared.requests.SpliceRequest.{SpliceRequest}
-use Rattle.event_table.specs.Standing.{Standing, end_of, has_id, cancelled_one, ending_at, with_first}
+use Rattle.event_table.specs.Standing.{Standing, end_of, has_begun, has_id, cancelled_one, ending_at, with_first}
 use Rattle.armed_events.specs.Arming.{stands, is_of}
 use Rattle.injector.specs.declared.refusal.Refusal.{Refusal}
 use Rattle.injector.specs.declared.refusal.Refusal.TheVariants.{InUse, Full, Overlap, NoSuchEvent}
 use Rattle.injector.specs.Asking.{is_start, asked_of}
-use Rattle.injector.specs.Verdicts.{time_at, start_event, start_verdict_at, end_verdict_at, cancel_verdict_at, verdict_of, has_begun}
+use Rattle.injector.specs.Verdicts.{time_at, start_event, start_verdict_at, end_verdict_at, cancel_verdict_at, verdict_of}
 use Rattle.injector.specs.Turns.{Turn, Judged, Passed, high, standing}
 use Rattle.injector.specs.Senders.{Sender, with_event, stands_now, stands_by, events_in, with_request, with_judged, senders}
 use Rattle.injector.proofs.SenderLemmas.{standing-events}

@@ -28,7 +28,8 @@ use Rattle.cue_laws.specs.Events.{In}
 use Rattle.cue_laws.specs.Laws.{KeepsEnoughOf}
 use Rattle.cue_laws.proofs.Enough.{nothing_lost_is_enough}
 use Rattle.path_laws.specs.Path.{Item, Sent, left, armed_on, asked_line, IsSteadyHistory}
-use Rattle.path_laws.specs.Packets.{IsRunOf, cues_at, sent_in, kept, stream, BringsCues, CuePathInPackets, CuePathInPacketsAtTheEnd, own_fronts, CuedStreamBrings, CuedStreamArms}
+use Rattle.injector.specs.Laws.{own_fronts}
+use Rattle.path_laws.specs.Packets.{IsRunOf, cues_at, sent_in, kept, stream, BringsCues, CuePathInPackets, CuePathInPacketsAtTheEnd, CuedStreamBrings, CuedStreamArms}
 use Rattle.path_laws.proofs.Packets.{run-message, run-packet, run-history, map-pid, cues-back}
 use Rattle.path_laws.proofs.Streams.{stream_arms}
 use Rattle.path_laws.proofs.Proofs.{requests_are_a_run, cue_path_of_events, cue_path_of_events_at_the_end}

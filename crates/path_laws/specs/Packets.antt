@@ -13,6 +13,7 @@ use Rattle.program_laws.specs.Cued.{cued as network_with}
 use Rattle.event_table.specs.Standing.{Standing}
 use Rattle.armed_events.specs.Arming.{heard, armed}
 use Rattle.injector.specs.Turns.{events}
+use Rattle.injector.specs.Laws.{own_fronts}
 use Rattle.injector.specs.Senders.{cues_before}
 use Rattle.injector.specs.Steps.{Step, Message, Packet, packets_in, turns_in, sections_before, cue_packets, cued}
 use Rattle.cue_laws.specs.Events.{Turn as LineTurn, before, In}
@@ -100,12 +101,6 @@ CuePathInPacketsAtTheEnd = (c : Config) (copies : List LineTurn → ℕ) (fronts
     In e (armed c.cue_pid (high_of (Some c.program)) (stream c fronts (Packet p ∷ past))) ↔ In e (events c.index (turns_in c.program (Packet p ∷ past)))
 
 -- ---- nothing lost
-
--- the packets that an injector puts in front of a packet, by the number of packets before it
-abbrev pub own_fronts : Config → List Step → List ℕ → List (List ℕ) → List (List ℕ)
-own_fronts c [] p before_it = []
-own_fronts c (Message m ∷ past) p before_it = own_fronts c past p before_it
-own_fronts c (Packet q ∷ past) p before_it = if length before_it == length (packets_in past) then cue_packets c q past (cued c past) else own_fronts c past p before_it
 
 -- THE CUED STREAM ITSELF is such a stream, with one copy of each cue
 abbrev pub CuedStreamBrings : Type 0

@@ -32,7 +32,8 @@ use Rattle.cue_laws.specs.Laws.{KeepsEnoughOf}
 use Rattle.cue_laws.proofs.Enough.{nothing_lost_is_enough}
 use Rattle.cued_laws.proofs.CuedLemmas.{cued_is_faultless}
 use Rattle.path_laws.specs.Path.{asked_line}
-use Rattle.path_laws.specs.Packets.{IsRunOf, stream, BringsCues, own_fronts}
+use Rattle.injector.specs.Laws.{own_fronts}
+use Rattle.path_laws.specs.Packets.{IsRunOf, stream, BringsCues}
 use Rattle.path_laws.specs.Thinning.{sections_given}
 use Rattle.path_laws.proofs.Packets.{run-message, run-packet, run-history, map-pid}
 use Rattle.path_laws.proofs.Proofs.{requests_are_a_run}
