@@ -9,5 +9,6 @@ pub mod TakeLemmas
 pub mod FilingLemmas
 pub mod FiledLemmas
 pub mod ReadLemmas
+pub mod StopLemmas
 pub mod SliceLemmas
 pub mod HeldLemmas

@@ -1,9 +1,8 @@
 -- A gathering, one packet more.
 use Rattle.std.specs.Option.{option_or}
-use Rattle.std.specs.Prelude.{option_map, ℤ, pos, negsuc, ◌≤ℤ◌, ◌-ℤ◌, Vec, is_some, nat_le, IfSome, IsSome, ◌<◌}
-use Rattle.std.proofs.Common.{◌≡◌, ℕ, ◌+◌, List, [], ◌∷◌, Bool, true, false, refl, sym, ap, ◌∙◌, subst, ◌⊎◌, inl, inr, Option, Some, None, if◌then◌else◌, length, arith}
+use Rattle.std.specs.Prelude.{option_map, ℤ, pos, negsuc, ◌≤ℤ◌, ◌-ℤ◌, Vec, is_some, nat_lt, IfSome, IsSome, ◌<◌}
+use Rattle.std.proofs.Common.{◌≡◌, ℕ, ◌+◌, ◌*◌, List, [], ◌∷◌, Bool, true, false, refl, sym, ap, ◌∙◌, subst, ◌⊎◌, inl, inr, Option, Some, None, if◌then◌else◌, length, arith}
 use Rattle.std.proofs.lemmas.Int.{ints}
-use Rattle.std.proofs.lemmas.Bool.{leb-true}
 use Rattle.ts_packet.specs.Fields.{on, bytes}
 use Rattle.ts_packet.specs.Duplicates.{is_gap}
 use Rattle.ts_packet.specs.FirstFault.{or_then}
@@ -156,8 +155,9 @@ of_none (places.Stream j q) p past s h e = absurd (cc)
 
 -- ---- what is wrong with the packet
 
-few_packets : (n : ℕ) → n < 356962 → nat_le 356962 n ≡ false
-few_packets n lt = by_test (nat_le 356962 n) (λ y. absurd (let le = leb-true 356962 n y in omega (arith, le, lt))) (λ e. e)
+-- 356,962 packets of 188 bytes are the most that 67,108,864 bytes hold
+few_packets : (n : ℕ) → n < 356962 → nat_lt 67108864 (188 * (n + 1)) ≡ false
+few_packets n lt = grind (arith, lt)
 
 module _ (p : List ℕ) (past : List (List ℕ)) (few : length past < 356962) where
   abbrev behind : Option AdFault → Option AdFault

@@ -1,5 +1,5 @@
 -- What is wrong with a stream that is to be an advertisement: the first thing that it reaches.
-use Rattle.std.specs.Prelude.{◌≡◌, ℕ, List, [], ◌∷◌, length, reverse, Bool, true, false, ◌||◌, ◌⊎◌, nat_le, if◌then◌else◌, Option, None, Some}
+use Rattle.std.specs.Prelude.{◌≡◌, ℕ, ◌+◌, ◌*◌, List, [], ◌∷◌, length, reverse, Bool, true, false, ◌||◌, ◌⊎◌, nat_lt, if◌then◌else◌, Option, None, Some}
 use Rattle.ts_packet.specs.Packets.{packets_of}
 use Rattle.ts_packet.specs.Duplicates.{is_gap}
 use Rattle.ts_packet.specs.Runs.{Seen}
@@ -43,9 +43,9 @@ abbrev pub gap_on_one : List ℕ → List ℕ → List (List ℕ) → Bool
 gap_on_one [] p past = false
 gap_on_one (pid ∷ pids) p past = is_gap pid p past || gap_on_one pids p past
 
--- behind so many packets of 188 bytes the next one is past 67,108,864
+-- an advertisement may have at most 67,108,864 bytes (64 MiB): with one packet of 188 bytes more behind these it would have more
 abbrev pub large_fault : List (List ℕ) → Option AdFault
-large_fault past = if nat_le 356962 (length past) then Some Large else None
+large_fault past = if nat_lt 67108864 (188 * (length past + 1)) then Some Large else None
 
 abbrev pub loss_fault : List ℕ → List (List ℕ) → Option AdFault
 loss_fault p past = if gap_on_one (pids_of (program_of None past)) p (behind_head None past) then Some Loss else None

@@ -164,7 +164,7 @@ pub record Gathers {A : Type 0} (g : Gathering A) (past : List (List ℕ)) : Typ
   pub follower : FollowerStandsFor g.follower first_program past
   pub sound : first_fault first_program past ≡ None
   pub packets : g.packets ≡ length past
-  pub few : g.packets ≤ 356962
+  pub few : 188 * g.packets ≤ 67108864
   pub streams : StreamsGathered (option_map (λ v. v.items) g.streams) (program_of None past) (behind_head None past)
   pub high_is : option_map on_line g.high ≡ high (pids_of (program_of None past)) (behind_head None past)
   pub held : IfSome g.high (IsHeld g.packets)

@@ -9,4 +9,5 @@ pub mod Faults
 pub mod Gathering
 pub mod Filing
 pub mod Reading
+pub mod Stops
 pub mod Laws

@@ -10,6 +10,7 @@ ghost use Rattle.ad_library.specs.Advertisements.{advertisement};
 ghost use Rattle.ad_library.specs.Storing.{on_line};
 ghost use Rattle.ad_library.specs.Slices.{left};
 ghost use Rattle.ad_library.specs.Faults.{advertisement_fault, Says, StreamBlamed};
+ghost use Rattle.ad_library.specs.Stops.{ReadToEnd, StoppedAt, IfOfStream};
 ghost use Rattle.ad_library.specs.Library.{advert_seen, held, filed, fits_held, slice_held, zero_held};
 
 use crate::advert::Advert;
@@ -58,7 +59,8 @@ impl<A: Allocator + Copy> AdLibrary<A> {
     ///
     /// # Errors
     ///
-    /// Those of [`AdFault`], in their order. Then the library is as it was.
+    /// Those of [`AdFault`], in their order. Then the library is as it was, and nothing was read behind the packet that has
+    /// the fault.
     pub fn add<P: PacketSource>(&mut self, id: u16, source: &mut P) -> Result<(), AdFault>
         requires { P.is_broken source.old ≡ false }
         ensures files { OnOk result ((ps : List (List ℕ)) × IfSome (P.left source.old) (λ bs. ps ≡ packets_of bs) × IsSome (advertisement ps)
@@ -77,6 +79,10 @@ impl<A: Allocator + Copy> AdLibrary<A> {
         ensures turns { result ≡ Err (AdFault.Packets ReadFault.Turns)
             → Stalled P.leads P.counts P.falls_short source.old source.new ⊎ Exhausted P.left P.given source.old }
         ensures reads { P.leads source.old source.new }
+        ensures end { OnOk result ((ps : List (List ℕ)) × ReadToEnd P.leads P.left P.given P.counts P.has_ended
+            P.is_broken ps source.old source.new) }
+        ensures at { IfErr result (λ f. IfOfStream f (StoppedAt P.leads P.left P.given P.counts P.has_ended
+            P.is_broken P.falls_short f source.old source.new)) }
     {
         if self.adverts.contains_key(&id) {
             return Err(AdFault::Exists);

@@ -1,6 +1,6 @@
 //! A stream read to its end, as an advertisement.
 
-ghost use Rattle.std.specs.Prelude.{◌≡◌, ◌⊎◌, ℕ, List, [], Option, Some, None, Err, OnOk, IfOk, IfErr, IfSome, false};
+ghost use Rattle.std.specs.Prelude.{◌≡◌, ◌⊎◌, ℕ, List, [], reverse, Option, Some, None, Err, OnOk, IfOk, IfErr, IfSome, false};
 ghost use Rattle.ts_packet.specs.Packets.{packets_of};
 ghost use Rattle.ts_packet.specs.Sources.{SourceCounts};
 ghost use Rattle.ts_packet.specs.Sources.{Stalled, Exhausted};
@@ -9,6 +9,7 @@ ghost use Rattle.ad_library.specs.Library.{advert_seen};
 ghost use Rattle.ad_library.specs.Faults.{advertisement_fault, Says, is_of_library, StreamBlamed};
 ghost use Rattle.ad_library.specs.Gathering.{Gathers};
 ghost use Rattle.ad_library.specs.Reading.{GathersAll};
+ghost use Rattle.ad_library.specs.Stops.{ReadToEnd, StoppedAt};
 
 use crate::advert::Advert;
 use crate::fault::{AdFault, of_read};
@@ -33,6 +34,10 @@ pub(crate) fn read_advert<P: PacketSource, A: Allocator + Copy>(
     ensures turns { result ≡ Err (AdFault.Packets ReadFault.Turns)
         → Stalled P.leads P.counts P.falls_short source.old source.new ⊎ Exhausted P.left P.given source.old }
     ensures reads { P.leads source.old source.new }
+    ensures end { OnOk result ((ps : List (List ℕ)) × ReadToEnd P.leads P.left P.given P.counts P.has_ended P.is_broken
+        ps source.old source.new) }
+    ensures at { IfErr result (λ f. StoppedAt P.leads P.left P.given P.counts P.has_ended P.is_broken P.falls_short
+        f source.old source.new) }
 {
     let mut gathering = Gathering::new(alloc);
     match gather(&mut gathering, source) {
@@ -60,6 +65,10 @@ fn gather<P: PacketSource, A: Allocator + Copy>(
     ensures turns { result ≡ Err (AdFault.Packets ReadFault.Turns)
         → Stalled P.leads P.counts P.falls_short source.old source.new ⊎ Exhausted P.left P.given source.old }
     ensures reads { P.leads source.old source.new }
+    ensures end { OnOk result ((ps : List (List ℕ)) × ReadToEnd P.leads P.left P.given P.counts P.has_ended P.is_broken
+        ps source.old source.new × Gathers gathering.new (reverse ps)) }
+    ensures at { IfErr result (λ f. StoppedAt P.leads P.left P.given P.counts P.has_ended P.is_broken P.falls_short
+        f source.old source.new) }
 {
     let mut packet = Packet::null();
     loop {

@@ -1,14 +1,19 @@
 -- Lines of a list, read and loaded one after another.
-use Rattle.std.proofs.Common.{◌≡◌, ◌≢◌, ℕ, ◌^◌, ◌<◌, List, [], ◌∷◌, ◌++◌, length, Bool, true, false, not, ◌&&◌, ◌||◌, ◌==◌, cond, nat_lt, Option, Some, None, is_some, refl, sym, ap, ◌∙◌, subst, append_assoc, arith}
+use Rattle.std.proofs.Common.{◌≡◌, ◌≢◌, ℕ, ◌^◌, ◌<◌, List, [], ◌∷◌, ◌++◌, length, Bool, true, false, not, ◌&&◌, ◌||◌, ◌==◌, cond, nat_lt, Option, Some, None, is_some, refl, sym, ap, ◌∙◌, subst, append_assoc, arith, ◌⊎◌, inl, inr}
 use Rattle.std.specs.Prelude.{if◌then◌else◌, IfSome, IfErr, OnOk, Result, Ok, Err}
 use Rattle.std.proofs.lemmas.List.{append-nil}
-use Rattle.std.specs.Io.KnownBytes.{Consumes, IsAtEnd, prepend_known}
+use Rattle.std.specs.Io.KnownBytes.{Consumes, IsAtEnd}
 use Rattle.indexmap.specs.IndexMap.{index_map_len}
+use Rattle.ts_packet.specs.declared.tally.Tally.{Tally}
+use Rattle.ts_packet.specs.Sources.{HasRead, Stalled, Exhausted, SourceBlamed}
+use Rattle.ts_packet.specs.Transfers.{WentWell, TookTurns, FallsShort}
 use Rattle.ad_library.specs.declared.library.AdLibrary.{AdLibrary}
+use Rattle.ad_library.specs.declared.fault.AdFault.{AdFault}
+use Rattle.ad_library.specs.Stops.{StoppedAt, StopsBy}
 use Rattle.ad_library.specs.Advertisements.{Advertisement}
 use Rattle.ad_library.specs.Library.{held}
 use Rattle.decimal_numbers.specs.Numbers.{number_below}
-use Rattle.ad_lists.specs.Lists.{is_blank, entry_of, paired, is_good, is_line, text_of, with_number, numbers_of, has_number, are_apart, IsAdvert, FilesOne, IsFiled, IsRead, BlamesAd, BlamesStream, BlamesLine, EndsLine, Blames, StopsAt}
+use Rattle.ad_lists.specs.Lists.{is_blank, entry_of, paired, is_good, is_line, text_of, with_number, numbers_of, has_number, are_apart, IsAdvert, FilesOne, IsFiled, IsRead, BlamesAd, BlamesStream, BlamesLine, EndsLine, Blames, StopsAt, StallsOver, StopsOver, LastOver}
 use Rattle.ad_lists.specs.declared.list.Loading.{Loading}
 use Rattle.ad_lists.specs.declared.list.ListFault.{ListFault}
 use Rattle.ad_lists.specs.declared.list.ListFault.TheVariants.{BadList, File, Io, Turns, Ad, OutOfMemory}
@@ -212,16 +217,41 @@ stops_behind f None b bs p h = tt
 stops_behind f (Some x) None bs p h = absurd p
 stops_behind f (Some x) (Some y) bs p h = subst (StopsAt f) (sym p) (h y)
 
--- ---- a buffer that has read nothing
+-- ---- a device whose reads take too long
 
-nothing_before : (o : Option (List ℕ)) (P : List ℕ → Type 0) → IfSome (prepend_known [] o) P → IfSome o P
-nothing_before None P h = tt
-nothing_before (Some bs) P h = h
+-- what is said of a reader of packets over a device is said of the device
+pub stalls_over : {X D : Type 0} (counts : D → Tally) (remaining : D → Option (List ℕ)) (leads : X → X → Type 0) (device_of : X → D) (given : X → ℕ) (first now : X) (old new : D) → device_of first ≡ old
+    → device_of now ≡ new → given first ≡ 0
+    → Stalled leads (λ x. counts (device_of x)) (λ x y. FallsShort 188 (remaining (device_of x)) (remaining (device_of y))) first now ⊎ Exhausted (λ x. remaining (device_of x)) given first
+    → StallsOver counts remaining old new
+stalls_over counts remaining leads device_of given first now old new e f z (inl h) =
+    let (at, reads, well, turns, short) = h in
+    inl (
+      device_of at,
+      subst (λ d. WentWell (counts d) (counts (device_of at))) e well,
+      subst (λ d. TookTurns (2 ^ 20) (counts (device_of at)) (counts d)) f turns,
+      subst (λ d. FallsShort 188 (remaining (device_of at)) (remaining d)) f short,
+    )
+stalls_over counts remaining leads device_of given first now old new e f z (inr h) =
+    let (rest, ps, read, count) = h in
+    inr (rest, ps, subst (λ d. HasRead (remaining d) rest ps) e read, omega (arith, count, z))
 
--- what is said of its bytes is said of those below it
-pub said_below : {T : Type 0} (remaining : T → Option (List ℕ)) (inner file : T) (capacity : ℕ) (buffer : List ℕ) (P : List ℕ → Type 0)
-    → capacity ≡ 131072 → buffer ≡ [] → inner ≡ file → IfSome (if capacity == 0 then None else prepend_known buffer (remaining inner)) P → IfSome (remaining file) P
-said_below remaining inner file capacity buffer P size empty same h =
-    let e : (if capacity == 0 then None else prepend_known buffer (remaining inner)) ≡ prepend_known [] (remaining file)
-    = λ i. if size i == 0 then None else prepend_known (empty i) (remaining (same i)) in
-    nothing_before (remaining file) P (subst (λ o. IfSome o P) e h)
+-- so of where it stops
+pub stops_over : {X D : Type 0} (counts : D → Tally) (remaining : D → Option (List ℕ)) (leads : X → X → Type 0) (device_of : X → D) (given : X → ℕ) (broken : X → Bool) (short : X → X → Type 0)
+    (fault : AdFault) (first now : X) (old new : D) → device_of first ≡ old → device_of now ≡ new → given first ≡ 0
+    → StoppedAt leads (λ x. remaining (device_of x)) given (λ x. counts (device_of x)) (λ x. false) broken short fault first now → StopsOver counts remaining fault old new
+stops_over counts remaining leads device_of given broken short fault first now old new e f z h =
+    let n : given h.at ≡ length h.packets = (let c = h.before.read.count in omega (arith, c, z)) in
+    record {
+      packets = h.packets;
+      at = device_of h.at;
+      read = subst (λ d. HasRead (remaining d) (remaining (device_of h.at)) h.packets) e h.before.read.read;
+      clean = h.before.clean;
+      last = subst (λ d. LastOver counts remaining fault h.packets (device_of h.at) d) f (by_last n h.last);
+    }
+  where
+    by_last : given h.at ≡ length h.packets → StopsBy (λ x. remaining (device_of x)) given (λ x. counts (device_of x)) (λ x. false) broken short fault h.packets h.at now
+        → LastOver counts remaining fault h.packets (device_of h.at) (device_of now)
+    by_last n (inl k) = let (g, is, told) = k in inl (g, is, told.refused, subst (λ m. SourceBlamed g m (counts (device_of h.at)) (counts (device_of now))) n told.blamed)
+    by_last n (inr (inl k)) = let (p, gave, of) = k in inr (inl (p, gave.packet, gave.moved.1, of))
+    by_last n (inr (inr k)) = inr (inr (k.0.end.0, k.0.end.1, k.0.moved, k.1))

@@ -1,18 +1,23 @@
 -- Lists of advertisements: which text is one, what a library holds that was loaded from it, and why one is not loaded. Lines stand newest
 -- first. A line ends with a line feed, which may be missing behind the last one.
-use Rattle.std.specs.Prelude.{◌≡◌, ◌↔◌, ◌⊎◌, ◌≤◌, ◌+◌, ◌^◌, ℕ, List, [], ◌∷◌, ◌++◌, length, Bool, true, false, not, ◌&&◌, ◌||◌, ◌==◌, cond, nat_lt, Option, None, Some, is_some, IfSome, IsSome}
+use Rattle.std.specs.Prelude.{◌≡◌, ◌↔◌, ◌⊎◌, ◌≤◌, ◌+◌, ◌-◌, ◌^◌, ℕ, List, [], ◌∷◌, ◌++◌, length, reverse, Bool, true, false, not, ◌&&◌, ◌||◌, ◌==◌, cond, nat_lt, Option, None, Some, is_some, IfSome, IsSome}
 use Rattle.std.specs.List.{list_all, list_any, before_first, after_first}
 use Rattle.std.specs.Char.{is_ascii_whitespace}
 use Rattle.std.specs.Str.{is_utf8}
 use Rattle.indexmap.specs.IndexMap.{index_map_len}
 use Rattle.ts_packet.specs.declared.tally.Tally.{Tally}
 use Rattle.ts_packet.specs.Packets.{packets_of}
-use Rattle.ts_packet.specs.Transfers.{WentWell, LastMovedNone, LastFailed, TookTurns}
+use Rattle.ts_packet.specs.Sources.{HasRead, WasGiven, Refuses, SourceBlamed}
+use Rattle.ts_packet.specs.declared.reader.ReadFault.{ReadFault}
+use Rattle.std.specs.Io.KnownBytes.{IsAtEnd}
+use Rattle.ts_packet.specs.Transfers.{WentWell, LastMovedNone, LastFailed, TookTurns, FallsShort}
 use Rattle.ad_library.specs.declared.library.AdLibrary.{AdLibrary}
 use Rattle.ad_library.specs.declared.fault.AdFault.{AdFault}
 use Rattle.ad_library.specs.declared.fault.AdFault.TheVariants as ad
 use Rattle.ad_library.specs.Advertisements.{Advertisement, advertisement}
-use Rattle.ad_library.specs.Faults.{Says}
+use Rattle.ad_library.specs.Faults.{Says, NoneFailed, StreamBlamed, of_read, packet_fault, end_fault}
+use Rattle.ad_library.specs.Reading.{AreClean}
+use Rattle.ad_library.specs.Stops.{IsOf, IfOfStream}
 use Rattle.ad_library.specs.Library.{held, filed}
 use Rattle.decimal_numbers.specs.Numbers.{number_below}
 use Rattle.ad_lists.specs.declared.list.Loading.{Loading}
@@ -136,6 +141,47 @@ BlamesStream Io there count = ⊥
 BlamesStream Turns there count = ⊥
 BlamesStream (Ad fault) there count = BlamesAd fault there count
 BlamesStream OutOfMemory there count = Unit {0}
+
+-- of a stream's device: what its reads came to where the stream is refused so. Io is told only where the last one failed, and all else
+-- where none did.
+abbrev pub DeviceBlamed : ListFault → Tally → Tally → Type 0
+DeviceBlamed BadList old new = ⊥
+DeviceBlamed File old new = ⊥
+DeviceBlamed Io old new = ⊥
+DeviceBlamed Turns old new = ⊥
+DeviceBlamed (Ad fault) old new = StreamBlamed fault old new
+DeviceBlamed OutOfMemory old new = NoneFailed old new
+
+-- The reads of a device for one packet took all their turns: from some state of it on, up to which all went well, they gave fewer bytes
+-- than a packet takes; or as many packets as may be were given. The functions are the device's.
+abbrev pub StallsOver : {X : Type 0} → (X → Tally) → (X → Option (List ℕ)) → X → X → Type 0
+StallsOver {X} counts remaining first now =
+    ((at : X) × WentWell (counts first) (counts at) × TookTurns (2 ^ 20) (counts at) (counts now) × FallsShort 188 (remaining at) (remaining now))
+    ⊎ ((rest : Option (List ℕ)) × (ps : List (List ℕ)) × HasRead (remaining first) rest ps × (length ps ≡ 2 ^ 64 - 1))
+
+-- the last packet, or what was no packet, behind these
+abbrev pub LastOver : {X : Type 0} → (X → Tally) → (X → Option (List ℕ)) → AdFault → List (List ℕ) → X → X → Type 0
+LastOver counts remaining fault ps at now =
+    ((f : ReadFault) × (fault ≡ of_read f) × Refuses false (remaining at) f × SourceBlamed f (length ps) (counts at) (counts now))
+    ⊎ (((p : List ℕ) × WasGiven (remaining at) (remaining now) p × WentWell (counts at) (counts now) × IsOf (packet_fault p (reverse ps)) fault)
+    ⊎ (IsAtEnd (remaining at) × IsAtEnd (remaining now) × LastMovedNone (counts at) (counts now) × IsOf (end_fault ps) fault))
+
+-- Where a device stops: nothing is wrong with the packets that were read up to some state of it, and behind that it gave one packet more with
+-- which this is wrong, or the end of a stream with which this is wrong, or what is no packet. So nothing is read behind a fault.
+pub record StopsOver {X : Type 0} (counts : X → Tally) (remaining : X → Option (List ℕ)) (fault : AdFault) (first now : X) : Type 0 where
+  pub packets : List (List ℕ)
+  pub at : X
+  pub read : HasRead (remaining first) (remaining at) packets
+  pub clean : AreClean packets
+  pub last : LastOver counts remaining fault packets at now
+
+abbrev pub DeviceStops : {X : Type 0} → (X → Tally) → (X → Option (List ℕ)) → ListFault → X → X → Type 0
+DeviceStops counts remaining BadList first now = ⊥
+DeviceStops counts remaining File first now = ⊥
+DeviceStops counts remaining Io first now = ⊥
+DeviceStops counts remaining Turns first now = ⊥
+DeviceStops counts remaining (Ad fault) first now = IfOfStream fault (StopsOver counts remaining fault first now)
+DeviceStops counts remaining OutOfMemory first now = StopsOver counts remaining ad.OutOfMemory first now
 
 -- of a line behind these numbers: a bad one is neither blank nor an entry; the other faults come at entries
 abbrev pub BlamesLine : ListFault → List ℕ → List ℕ → Type 0

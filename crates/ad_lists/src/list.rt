@@ -1,11 +1,11 @@
 //! A list of advertisements: lines of a number and the path of a stream.
 
-ghost use Rattle.std.specs.Prelude.{◌≡◌, ◌++◌, ◌∷◌, [], ℕ, List, Option, is_some, option_map, IfOk, IfErr, OnOk, IfSome};
+ghost use Rattle.std.specs.Prelude.{◌≡◌, ◌++◌, ◌∷◌, [], ℕ, List, Option, Err, is_some, option_map, IfOk, IfErr, OnOk, IfSome};
 ghost use Rattle.indexmap.specs.IndexMap.{index_map_len};
 ghost use Rattle.ts_packet.specs.Transfers.{LastMovedNone};
 ghost use Rattle.ad_library.specs.Library.{held};
 ghost use Rattle.ad_lists.specs.Lists.{is_blank, entry_of, numbers_of, FilesOne, IsFiled, IsRead, IsListed};
-ghost use Rattle.ad_lists.specs.Lists.{SaysOf, BlamesStream, BlamesLine, StopsAt, ListBlamed, IsOfLine};
+ghost use Rattle.ad_lists.specs.Lists.{SaysOf, DeviceBlamed, DeviceStops, StallsOver, BlamesStream, BlamesLine, StopsAt, ListBlamed, IsOfLine};
 
 use ad_library::{AdFault, AdLibrary};
 use decimal_numbers::number_below;
@@ -14,7 +14,7 @@ use std::alloc::Allocator;
 use std::io::{BufReader, Read};
 use std::rt::Files;
 use thiserror::Error;
-use ts_packet::{Device, DeviceFault, PacketReader, Source};
+use ts_packet::{Device, DeviceFault, PacketReader, ReadFault, Source};
 
 /// The most reads of a list.
 const READS: u64 = 1 << 32;
@@ -255,7 +255,30 @@ fn file_stream<F: Read + Drop, M: Allocator + Copy>(
         return Err(ListFault::OutOfMemory);
     };
     let mut device = Device::new(reader);
-    let mut packets = PacketReader::new(&mut device);
+    match file_device(library, id, &mut device) {
+        Ok(()) => Ok(()),
+        Err(fault) => Err(fault),
+    }
+}
+
+/// Files the advertisement that a device gives.
+fn file_device<S: Source, M: Allocator + Copy>(
+    library: &mut AdLibrary<M>,
+    id: u16,
+    device: &mut S,
+) -> Result<(), ListFault>
+    ensures ok { OnOk result (FilesOne (S.remaining device.old) library.old library.new id) }
+    ensures says { IfErr result (λ f. IfSome (S.remaining device.old) (SaysOf f)) }
+    ensures stops { IfErr result (λ f. BlamesStream f (is_some (held library.old id))
+        (index_map_len library.old.adverts)) }
+    ensures refused { IfErr result IsOfLine }
+    ensures read { OnOk result (LastMovedNone (S.counts device.old) (S.counts device.new)) }
+    ensures reading { IfErr result (λ f. DeviceBlamed f (S.counts device.old) (S.counts device.new)) }
+    ensures turns { result ≡ Err (ListFault.Ad (AdFault.Packets ReadFault.Turns))
+        → StallsOver S.counts S.remaining device.old device.new }
+    ensures at { IfErr result (λ f. DeviceStops S.counts S.remaining f device.old device.new) }
+{
+    let mut packets = PacketReader::new(device);
     match library.add(id, &mut packets) {
         Ok(()) => Ok(()),
         Err(AdFault::OutOfMemory) => Err(ListFault::OutOfMemory),

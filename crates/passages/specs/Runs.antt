@@ -1,6 +1,6 @@
 -- Whole runs of the program: which packets go out for the bytes of a network, and what is told. A script and a connection do not tell their
 -- pieces, so of runs with cues some pieces are spoken of.
-use Rattle.std.specs.Prelude.{◌≡◌, ℕ, List, [], Option, None, IfSome}
+use Rattle.std.specs.Prelude.{◌≡◌, ℕ, List, [], Option, None, IfSome, Result, Ok, Err}
 use Rattle.ts_packet.specs.Packets.{packets_of}
 use Rattle.ts_packet.specs.declared.sink.PutFault.{PutFault}
 use Rattle.unit_cut.specs.Cutting.{cut_between}
@@ -12,6 +12,7 @@ use Rattle.chain_engine.specs.Runs.{Injected, InjectStops}
 use Rattle.chain_engine.specs.Splices.{Spliced}
 use Rattle.chain_engine.specs.ChainRuns as chain
 use Rattle.chain_engine.specs.declared.report.Report.{Report}
+use Rattle.chain_engine.specs.declared.chain.RunFault.{RunFault}
 use Rattle.passages.specs.declared.listening.ListenFault.{ListenFault}
 use Rattle.passages.specs.declared.listening.ListenFault.TheVariants as listen
 use Rattle.passages.specs.declared.fault.ProgramFault.{ProgramFault}
@@ -54,10 +55,21 @@ abbrev pub PlaysStop : Config → (ℕ → Option Advertisement) → ListenFault
 PlaysStop c filed listen.Accept input is_out fails = is_out []
 PlaysStop c filed (listen.Run fault) input is_out fails = chain.ChainStops c filed fault input is_out fails (λ ending ts rs. Unit {0})
 
+-- this is said of the run's answer, where a client came or none was waited for
+abbrev pub IfRan : {R : Type 0} → Result R ListenFault → (Result R RunFault → Type 0) → Type 0
+IfRan (Ok report) said = said (Ok report)
+IfRan (Err listen.Accept) said = Unit {0}
+IfRan (Err (listen.Run fault)) said = said (Err fault)
+
 -- what the program tells of such a fault
 abbrev pub told_fault : ListenFault → ProgramFault
 told_fault listen.Accept = program.Accept
 told_fault (listen.Run fault) = program.Run fault
+
+-- the messages come from the next client of a listener
+abbrev pub IsPort : {W L : Type 0} → Asker W L → Type 0
+IsPort (asker.Script script) = ⊥
+IsPort (asker.Port listener) = Unit {0}
 
 -- how many replies could not be printed; those to a connection are not
 abbrev pub lost_replies : {W L : Type 0} → Asker W L → ℕ

@@ -1,19 +1,23 @@
 //! Runs with cues whose messages come from a script or from a client of a port, with advertisements or without.
 
-ghost use Rattle.std.specs.Prelude.{◌≡◌, ℕ, List, [], Option, false, nat_lt, IfOk, IfErr};
+ghost use Rattle.std.specs.Prelude.{◌≡◌, ℕ, ◌⊎◌, List, [], Option, Err, false, nat_lt, OnOk, IfOk, IfErr};
+ghost use Rattle.ts_packet.specs.Sources.{SourceCounts, Stalled, Exhausted};
+ghost use Rattle.ts_packet.specs.Transfers.{WentWell};
 ghost use Rattle.psi_tables.specs.declared.config.Config.{Config};
 ghost use Rattle.ad_library.specs.Library.{held};
 ghost use Rattle.chain_engine.specs.Chains.{ChainStandsFor};
-ghost use Rattle.passages.specs.Runs.{PassesAll, CuesStop, Cues, PlaysStop, Plays, told_fault, lost_replies};
+ghost use Rattle.chain_engine.specs.Runs.{NetworkBlamed, OutputBlamed};
+ghost use Rattle.chain_engine.specs.Splices.{NetworkBlamedToEnd};
+ghost use Rattle.passages.specs.Runs.{PassesAll, CuesStop, Cues, PlaysStop, Plays, IfRan, IsPort, told_fault, lost_replies};
 
 use crate::fault::ProgramFault;
 use crate::listening::{ListenFault, inject_listening, run_listening};
 use ad_library::AdLibrary;
 use automations::Script;
-use chain_engine::{Chain, Report, run, run_inject};
+use chain_engine::{Chain, Report, RunFault, run, run_inject};
 use std::io::{Read, Write};
 use std::net::{OpenListener, OpenStream};
-use ts_packet::{PacketSink, PacketSource};
+use ts_packet::{PacketSink, PacketSource, ReadFault};
 
 /// Where the messages of a run come from: a script, or the next client of a listener.
 #[derive(Drop)]
@@ -52,6 +56,17 @@ where
         → IfOk result (PassesAll (Cues c) (P.left network.old) (K.holds out.new start)) }
     ensures stop { (c : Config) (start : Option (List ℕ)) → ChainStandsFor chain c → K.holds out.old start []
         → IfErr result (λ f. CuesStop c f (P.left network.old) (K.holds out.new start) (K.fails out.new start)) }
+    ensures read { OnOk result (SourceCounts false (P.has_ended network.old) (P.has_ended network.new)
+        (P.counts network.old) (P.counts network.new)) }
+    ensures wrote { OnOk result (WentWell (K.counts out.old) (K.counts out.new)) }
+    ensures reading { IfRan result (λ r. IfErr r (λ f. NetworkBlamed f (P.has_ended network.new)
+        (P.counts network.old) (P.counts network.new))) }
+    ensures writing { IfRan result (λ r. IfErr r (λ f. OutputBlamed f
+        (K.counts out.old) (K.counts out.new) (K.is_full out.new))) }
+    ensures turns { result ≡ Err (ListenFault.Run (RunFault.Read ReadFault.Turns))
+        → Stalled P.leads P.counts P.falls_short network.old network.new ⊎ Exhausted P.left P.given network.old }
+    ensures accept { result ≡ Err ListenFault.Accept → (network.new ≡ network.old) × (out.new ≡ out.old) }
+    ensures port { result ≡ Err ListenFault.Accept → IsPort asker.old }
     ensures reads { P.leads network.old network.new }
     ensures leads { K.leads out.old out.new }
 {
@@ -84,6 +99,17 @@ where
     ensures stop { (c : Config) (start : Option (List ℕ)) → ChainStandsFor chain c → K.holds out.old start []
         → IfErr result (λ f. PlaysStop c (held library.now) f (P.left network.old)
         (K.holds out.new start) (K.fails out.new start)) }
+    ensures read { OnOk result (SourceCounts false (P.has_ended network.old) (P.has_ended network.new)
+        (P.counts network.old) (P.counts network.new)) }
+    ensures wrote { OnOk result (WentWell (K.counts out.old) (K.counts out.new)) }
+    ensures reading { IfRan result (λ r. IfErr r (λ f. NetworkBlamedToEnd f
+        (P.has_ended network.old) (P.has_ended network.new) (P.counts network.old) (P.counts network.new))) }
+    ensures writing { IfRan result (λ r. IfErr r (λ f. OutputBlamed f
+        (K.counts out.old) (K.counts out.new) (K.is_full out.new))) }
+    ensures turns { result ≡ Err (ListenFault.Run (RunFault.Read ReadFault.Turns))
+        → Stalled P.leads P.counts P.falls_short network.old network.new ⊎ Exhausted P.left P.given network.old }
+    ensures accept { result ≡ Err ListenFault.Accept → (network.new ≡ network.old) × (out.new ≡ out.old) }
+    ensures port { result ≡ Err ListenFault.Accept → IsPort asker.old }
     ensures reads { P.leads network.old network.new }
     ensures leads { K.leads out.old out.new }
 {

@@ -1,10 +1,14 @@
 //! Runs whose automation is a client of a port of this machine.
 
-ghost use Rattle.std.specs.Prelude.{◌≡◌, ℕ, List, ◌++◌, Option, false, IfOk, IfErr};
+ghost use Rattle.std.specs.Prelude.{◌≡◌, ℕ, ◌⊎◌, List, ◌++◌, Option, Err, false, OnOk, IfOk, IfErr};
+ghost use Rattle.ts_packet.specs.Sources.{SourceCounts, Stalled, Exhausted};
+ghost use Rattle.ts_packet.specs.Transfers.{WentWell};
 ghost use Rattle.psi_tables.specs.declared.config.Config.{Config};
 ghost use Rattle.ad_library.specs.Library.{held};
 ghost use Rattle.chain_engine.specs.Chains.{ChainStandsFor};
-ghost use Rattle.passages.specs.Runs.{PassesAll, Cues, CuesStop, Plays, PlaysStop};
+ghost use Rattle.chain_engine.specs.Runs.{NetworkBlamed, OutputBlamed};
+ghost use Rattle.chain_engine.specs.Splices.{NetworkBlamedToEnd};
+ghost use Rattle.passages.specs.Runs.{PassesAll, Cues, CuesStop, Plays, PlaysStop, IfRan};
 
 use ad_library::AdLibrary;
 use automations::accept;
@@ -12,7 +16,7 @@ use chain_engine::{Chain, Report, RunFault, run, run_inject};
 use std::alloc::Allocator;
 use std::io::{Read, Write};
 use std::net::{OpenListener, OpenStream};
-use ts_packet::{PacketSink, PacketSource};
+use ts_packet::{PacketSink, PacketSource, ReadFault};
 
 /// Why a run with a connection stopped.
 #[derive(Clone, Copy, Debug, PartialEq, Eq, Drop)]
@@ -45,6 +49,16 @@ where
         → K.holds out.old start before
         → IfErr result (λ f. CuesStop c f (P.left network.old) (λ ps. K.holds out.new start (before ++ ps))
         (λ ps. K.fails out.new start (before ++ ps))) }
+    ensures read { OnOk result (SourceCounts false (P.has_ended network.old) (P.has_ended network.new)
+        (P.counts network.old) (P.counts network.new)) }
+    ensures wrote { OnOk result (WentWell (K.counts out.old) (K.counts out.new)) }
+    ensures reading { IfRan result (λ r. IfErr r (λ f. NetworkBlamed f (P.has_ended network.new)
+        (P.counts network.old) (P.counts network.new))) }
+    ensures writing { IfRan result (λ r. IfErr r (λ f. OutputBlamed f
+        (K.counts out.old) (K.counts out.new) (K.is_full out.new))) }
+    ensures turns { result ≡ Err (ListenFault.Run (RunFault.Read ReadFault.Turns))
+        → Stalled P.leads P.counts P.falls_short network.old network.new ⊎ Exhausted P.left P.given network.old }
+    ensures accept { result ≡ Err ListenFault.Accept → (network.new ≡ network.old) × (out.new ≡ out.old) }
     ensures reads { P.leads network.old network.new }
     ensures leads { K.leads out.old out.new }
 {
@@ -78,6 +92,16 @@ where
     ensures err { (c : Config) (start : Option (List ℕ)) (before : List (List ℕ)) → ChainStandsFor chain c
         → K.holds out.old start before → IfErr result (λ f. PlaysStop c (held library.now) f (P.left network.old)
         (λ ps. K.holds out.new start (before ++ ps)) (λ ps. K.fails out.new start (before ++ ps))) }
+    ensures read { OnOk result (SourceCounts false (P.has_ended network.old) (P.has_ended network.new)
+        (P.counts network.old) (P.counts network.new)) }
+    ensures wrote { OnOk result (WentWell (K.counts out.old) (K.counts out.new)) }
+    ensures reading { IfRan result (λ r. IfErr r (λ f. NetworkBlamedToEnd f
+        (P.has_ended network.old) (P.has_ended network.new) (P.counts network.old) (P.counts network.new))) }
+    ensures writing { IfRan result (λ r. IfErr r (λ f. OutputBlamed f
+        (K.counts out.old) (K.counts out.new) (K.is_full out.new))) }
+    ensures turns { result ≡ Err (ListenFault.Run (RunFault.Read ReadFault.Turns))
+        → Stalled P.leads P.counts P.falls_short network.old network.new ⊎ Exhausted P.left P.given network.old }
+    ensures accept { result ≡ Err ListenFault.Accept → (network.new ≡ network.old) × (out.new ≡ out.old) }
     ensures reads { P.leads network.old network.new }
     ensures leads { K.leads out.old out.new }
 {

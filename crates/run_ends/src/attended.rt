@@ -1,16 +1,29 @@
-//! A reader or a writer that remembers the system's last reason for a failure.
+//! A reader or a writer that remembers the system's last reason for a failure, and how its last flush went.
 
-use std::io::{self, Read, Write};
+use std::io::{self, ErrorKind, Read, Write};
+
+/// How what was written to a writer was flushed.
+#[derive(Drop)]
+pub enum LastFlush {
+    /// It was not: no flush came behind the last write.
+    Due,
+    /// It was, with nothing lost.
+    Done,
+    /// The flush failed, or the last bytes before it were not taken.
+    Failed,
+}
 
 /// Reads or writes as what stands below it, and keeps the reason of the last call that failed for good.
 #[derive(Drop)]
 pub struct Attended<D> {
     inner: D,
     reason: Option<io::Error>,
+    last_flush: LastFlush,
 }
 
 impl<D> Attended<D> {
-    ghost use Rattle.std.specs.Prelude.{◌≡◌};
+    ghost use Rattle.std.specs.Prelude.{◌≡◌, ◌≢◌, Some};
+    ghost use Rattle.std.specs.IoError.{error_kind};
 
     /// Attends to this reader or writer.
     pub fn new(inner: D) -> Attended<D>
@@ -19,15 +32,20 @@ impl<D> Attended<D> {
         Attended {
             inner,
             reason: None,
+            last_flush: LastFlush::Due,
         }
     }
 
-    /// Keeps the reason, where the call may not be made again.
+    /// Keeps the reason, where the call may not be made again, and answers one of the same kind.
     fn keep(&mut self, error: io::Error) -> io::Error
         ensures inner { self.new.inner ≡ self.old.inner }
+        ensures flush { self.new.last_flush ≡ self.old.last_flush }
+        ensures kind { error_kind result ≡ error_kind error }
+        ensures reason { error_kind error ≢ ErrorKind.Interrupted → self.new.reason ≡ Some error }
+        ensures again { error_kind error ≡ ErrorKind.Interrupted → self.new.reason ≡ self.old.reason }
     {
         let kind = error.kind();
-        if kind == io::ErrorKind::Interrupted {
+        if kind == ErrorKind::Interrupted {
             return error;
         }
         self.reason = Some(error);
@@ -39,7 +57,11 @@ impl<D> Attended<D> {
     where
         D: Drop,
     {
-        let Attended { inner: _, reason } = self;
+        let Attended {
+            inner: _,
+            reason,
+            last_flush: _,
+        } = self;
         reason
     }
 }
@@ -55,20 +77,59 @@ impl<R: Read> Read for Attended<R> {
     }
 }
 
+impl<W: Write> Attended<W> {
+    ghost use Rattle.std.specs.Prelude.{◌≡◌, OnOk};
+    ghost use Rattle.std.specs.Io.KnownBytes.{Appends};
+    ghost use Rattle.run_ends.specs.Flushes.{flush_told};
+
+    /// Writes these last bytes and flushes.
+    pub(crate) fn flush_behind(&mut self, rest: &[u8]) -> io::Result<()>
+        ensures bytes { OnOk result (Appends (W.contents self.old.inner) (W.contents self.new.inner) rest.now) }
+        ensures told { self.new.last_flush ≡ flush_told result }
+    {
+        match self.write_all(rest) {
+            Ok(()) => self.flush(),
+            Err(error) => {
+                self.last_flush = LastFlush::Failed;
+                Err(error)
+            }
+        }
+    }
+}
+
 impl<W: Write> Write for Attended<W> {
+    ghost use Rattle.std.specs.Prelude.{◌≡◌};
+    ghost use Rattle.std.specs.Io.{WritesAtMost};
+    ghost use Rattle.std.specs.Io.KnownBytes.{Keeps, WriteAppends};
+    ghost use Rattle.run_ends.specs.Flushes.{flush_told};
+
     ghost contents = { λ a. W.contents a.inner };
 
-    fn write(&mut self, buf: &[u8]) -> io::Result<usize> {
+    fn write(&mut self, buf: &[u8]) -> io::Result<usize>
+        ensures bound { WritesAtMost result buf.now }
+        ensures bytes { WriteAppends (W.contents self.old.inner) (W.contents self.new.inner) result buf.now }
+        ensures due { self.new.last_flush ≡ LastFlush.Due }
+    {
+        self.last_flush = LastFlush::Due;
         match self.inner.write(buf) {
             Ok(count) => Ok(count),
             Err(error) => Err(self.keep(error)),
         }
     }
 
-    fn flush(&mut self) -> io::Result<()> {
+    fn flush(&mut self) -> io::Result<()>
+        ensures bytes { Keeps (W.contents self.old.inner) (W.contents self.new.inner) }
+        ensures told { self.new.last_flush ≡ flush_told result }
+    {
         match self.inner.flush() {
-            Ok(()) => Ok(()),
-            Err(error) => Err(self.keep(error)),
+            Ok(()) => {
+                self.last_flush = LastFlush::Done;
+                Ok(())
+            }
+            Err(error) => {
+                self.last_flush = LastFlush::Failed;
+                Err(self.keep(error))
+            }
         }
     }
 }

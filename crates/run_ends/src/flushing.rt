@@ -1,23 +1,18 @@
 //! The end of a run's output: nothing that was put is lost, and a failed flush is told.
 
-ghost use Rattle.std.specs.Prelude.{◌≡◌, IfErr, IfOk, OnOk};
+ghost use Rattle.std.specs.Prelude.{◌≡◌, ◌≢◌, Err, IfErr, IfOk, OnOk, OnErr};
 ghost use Rattle.std.specs.Io.KnownBytes.{Keeps};
 ghost use Rattle.std.specs.Io.Buffered.{writer_contents};
 
-use std::io::{BufWriter, Write};
+use crate::attended::{Attended, LastFlush};
+use std::io::{self, BufWriter, Write};
 
-/// Flushes the writer at the end of a run, also after a fault. A failed flush after a run that went through is the fault `lost`.
-pub fn finish<X: Drop, F: Drop, W: Write>(
-    outcome: Result<X, F>,
-    writer: &mut W,
-    lost: F,
-) -> Result<X, F>
+/// What a run tells whose output was flushed so.
+fn told<X: Drop, F: Drop>(outcome: Result<X, F>, flushed: io::Result<()>, lost: F) -> Result<X, F>
+    ensures done { OnOk flushed (result ≡ outcome) }
     ensures first { IfErr outcome (λ fault. result ≡ Err fault) }
-    ensures flushed { OnOk outcome (IfErr result (λ fault. fault ≡ lost)) }
-    ensures done { IfOk outcome (λ x. OnOk result (result ≡ Ok x)) }
-    ensures kept { Keeps (W.contents writer.old) (W.contents writer.new) }
+    ensures lost { OnErr flushed (OnOk outcome (result ≡ Err lost)) }
 {
-    let flushed = writer.flush();
     let value = outcome?;
     match flushed {
         Ok(()) => Ok(value),
@@ -25,25 +20,43 @@ pub fn finish<X: Drop, F: Drop, W: Write>(
     }
 }
 
-/// Flushes a buffer at the end of a run, likewise, and gives the writer below it.
+/// Flushes the writer at the end of a run, also after a fault. A failed flush after a run that went through is the
+/// fault `lost`.
+pub fn finish<X: Drop, F: Drop, W: Write>(
+    outcome: Result<X, F>,
+    writer: &mut Attended<W>,
+    lost: F,
+) -> Result<X, F>
+    ensures first { IfErr outcome (λ fault. result ≡ Err fault) }
+    ensures flushed { OnOk outcome (IfErr result (λ fault. fault ≡ lost)) }
+    ensures done { IfOk outcome (λ x. OnOk result (result ≡ Ok x)) }
+    ensures kept { Keeps (W.contents writer.old.inner) (W.contents writer.new.inner) }
+    ensures made { writer.new.last_flush ≢ LastFlush.Due }
+    ensures well { writer.new.last_flush ≡ LastFlush.Done → result ≡ outcome }
+    ensures failed { writer.new.last_flush ≡ LastFlush.Failed → OnOk outcome (result ≡ Err lost) }
+{
+    let flushed = writer.flush();
+    told(outcome, flushed, lost)
+}
+
+/// Empties a buffer at the end of a run and flushes the writer below it, likewise, and gives that.
 pub fn finish_buffer<X: Drop, F: Drop, W: Write + Drop>(
     outcome: Result<X, F>,
-    writer: BufWriter<W>,
+    writer: BufWriter<Attended<W>>,
     lost: F,
-) -> (Result<X, F>, W)
+) -> (Result<X, F>, Attended<W>)
     ensures first { IfErr outcome (λ fault. result.0 ≡ Err fault) }
     ensures flushed { OnOk outcome (IfErr result.0 (λ fault. fault ≡ lost)) }
     ensures done { IfOk outcome (λ x. OnOk result.0 (result.0 ≡ Ok x)) }
-    ensures kept { OnOk result.0 (Keeps (writer_contents W.contents writer) (W.contents result.1)) }
+    ensures kept { OnOk result.0
+        (Keeps (writer_contents (λ a. W.contents a.inner) writer) (W.contents result.1.inner)) }
+    ensures made { result.1.last_flush ≢ LastFlush.Due }
+    ensures well { result.1.last_flush ≡ LastFlush.Done → result.0 ≡ outcome }
+    ensures failed { result.1.last_flush ≡ LastFlush.Failed → OnOk outcome (result.0 ≡ Err lost) }
+    ensures emptied { result.1.last_flush ≡ LastFlush.Done
+        → Keeps (writer_contents (λ a. W.contents a.inner) writer) (W.contents result.1.inner) }
 {
-    let mut writer = writer;
-    let emptied = writer.flush();
-    let (below, _) = writer.into_parts();
-    match outcome {
-        Ok(value) => match emptied {
-            Ok(()) => (Ok(value), below),
-            Err(_) => (Err(lost), below),
-        },
-        Err(fault) => (Err(fault), below),
-    }
+    let (mut below, rest) = writer.into_parts();
+    let flushed = below.flush_behind(&rest);
+    (told(outcome, flushed, lost), below)
 }

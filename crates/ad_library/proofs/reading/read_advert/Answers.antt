@@ -3,6 +3,7 @@ use Rattle.std.specs.Prelude.{reverse}
 use Rattle.ts_packet.specs.declared.reader.ReadFault.TheVariants as read_faults
 use Rattle.ad_library.specs.declared.fault.AdFault.TheVariants as ad_faults
 use Rattle.ad_library.proofs.ReadLemmas.{end_files, end_sound, end_says, end_own, end_is_quiet, end_blamed, not_turns}
+use Rattle.ad_library.proofs.StopLemmas.{stopped_end}
 use Rattle.ad_library.proofs.reading.read_advert.Goals as goal
 
 pub finish-requires : goal.finish-requires
@@ -38,6 +39,11 @@ returns-in-Err-finish-clause-turns g c = λ e.
     let h = c.in-Ok.ensures.ok in
     not_turns c.in-Err-finish.fault (end_is_quiet (reverse (reverse h.packets)) c.in-Err-finish.fault (c.in-Err-finish.ensures.err (reverse h.packets) h.gathered))
     (let k : c.in-Err-finish.fault ≡ ad_faults.Packets read_faults.Turns = cc in k)
+
+pub returns-in-Err-finish-clause-at : goal.returns-in-Err-finish-clause-at
+returns-in-Err-finish-clause-at g c =
+    let (ps, end, gathered) = c.in-Ok.ensures.end in
+    stopped_end _ _ _ _ _ _ _ c.in-Err-finish.fault ps _ _ end (c.in-Err-finish.ensures.err (reverse ps) gathered)
 
 pub returns-in-Err-clause-turns : goal.returns-in-Err-clause-turns
 returns-in-Err-clause-turns g c = λ e. c.in-Err.ensures.turns (let k : c.in-Err.fault ≡ ad_faults.Packets read_faults.Turns = cc in ap Err k)
