@@ -1,5 +1,6 @@
--- Why a script is not loaded.
-use Rattle.std.specs.Prelude.{◌^◌}
+-- Why a script is not loaded, and the lines that its replies are printed as.
+use Rattle.std.specs.Prelude.{◌^◌, ℕ, List, [], ◌∷◌, ◌++◌, codes}
+use Rattle.hex_digits.specs.Digits.{digits_of}
 use Rattle.ts_packet.specs.declared.tally.Tally.{Tally}
 use Rattle.ts_packet.specs.Transfers.{WentWell, LastMovedNone, LastFailed, TookTurns}
 use Rattle.std.specs.Prelude.{◌⊎◌}
@@ -20,3 +21,7 @@ IsOfText BadScript = Unit {0}
 IsOfText OutOfMemory = Unit {0}
 IsOfText Io = ⊥
 IsOfText Turns = ⊥
+
+-- the line of a reply: the word, its bytes as digits, and a line feed
+abbrev pub reply_line : List ℕ → List ℕ
+reply_line reply = codes "reply " ++ digits_of reply ++ 10 ∷ []

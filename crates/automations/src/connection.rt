@@ -1,5 +1,8 @@
 //! An automation on a connection: a client of a port of this machine.
 
+ghost use Rattle.std.specs.Bool.{OnTrue};
+ghost use Rattle.std.specs.Io.KnownBytes.{Appends};
+
 use chain_engine::{Automation, Taken};
 use std::io::{self, ErrorKind, Read, Write};
 use std::net::{Net, OpenListener, OpenStream, SocketAddr, TcpListener};
@@ -27,7 +30,9 @@ fn is_nothing(kind: ErrorKind) -> bool {
 }
 
 impl<S: Read + Write> Automation for Connection<S> {
-    ghost use Rattle.std.specs.Prelude.{None};
+    ghost use Rattle.std.specs.Prelude.{None, ◌≡◌, length};
+    ghost use Rattle.chain_engine.specs.Automation.{IsRoomFor, CountsTake, CountsAnswer};
+    ghost use Rattle.automations.specs.Connections.{IsTakenFrom};
 
     ghost takes = { λ s. None };
 
@@ -36,7 +41,12 @@ impl<S: Read + Write> Automation for Connection<S> {
     ghost failures = { λ s. s.failures };
 
     #[inline(always)]
-    fn take(&mut self, room: &mut [u8]) -> Taken {
+    fn take(&mut self, room: &mut [u8]) -> Taken
+        requires room { length room.old ≡ 4096 }
+        ensures bound { IsRoomFor (length room.new) result }
+        ensures failures { CountsTake result self.old.failures self.new.failures }
+        ensures read { IsTakenFrom (S.remaining self.old.stream) (S.remaining self.new.stream) room.new result }
+    {
         if self.quiet > 0 {
             self.quiet -= 1;
             return Taken::Nothing;
@@ -55,7 +65,10 @@ impl<S: Read + Write> Automation for Connection<S> {
         }
     }
 
-    fn answer(&mut self, reply: &[u8]) -> bool {
+    fn answer(&mut self, reply: &[u8]) -> bool
+        ensures failures { CountsAnswer result self.old.failures self.new.failures }
+        ensures sent { OnTrue result (Appends (S.contents self.old.stream) (S.contents self.new.stream) reply.now) }
+    {
         if send(&mut self.stream, reply) {
             return true;
         }
@@ -65,7 +78,9 @@ impl<S: Read + Write> Automation for Connection<S> {
 }
 
 /// Writes all of these bytes, and answers whether they were taken.
-fn send<W: Write>(stream: &mut W, bytes: &[u8]) -> bool {
+fn send<W: Write>(stream: &mut W, bytes: &[u8]) -> bool
+    ensures { OnTrue result (Appends (W.contents stream.old) (W.contents stream.new) bytes.now) }
+{
     let mut rest = bytes;
     for _ in 0..WRITES {
         if rest.is_empty() {

@@ -1,8 +1,10 @@
 //! A script: an automation whose bytes stand in a text, each line before a packet of the network, and whose replies are printed.
 
 ghost use Rattle.std.specs.Prelude.{◌≡◌, nat_lt, IfErr, OnOk};
+ghost use Rattle.std.specs.Bool.{OnTrue};
+ghost use Rattle.std.specs.Io.KnownBytes.{Appends};
 ghost use Rattle.ts_packet.specs.Transfers.{LastMovedNone};
-ghost use Rattle.automations.specs.Scripts.{ScriptBlamed};
+ghost use Rattle.automations.specs.Scripts.{ScriptBlamed, reply_line};
 
 use crate::script_text::{Line, Reading};
 use chain_engine::{Automation, Taken};
@@ -155,8 +157,17 @@ pub fn load_into<M: Allocator, S: Source>(
     Err(ScriptFault::Turns)
 }
 
+/// Prints the line of a reply, the word and its digits, and answers whether all of it is out.
+fn print_reply<W: Write>(replies: &mut W, reply: &[u8]) -> bool
+    ensures { OnTrue result (Appends (W.contents replies.old) (W.contents replies.new) (reply_line reply.now)) }
+{
+    let digits = Digits(reply);
+    writeln!(replies, "reply {digits}").is_ok() && replies.flush().is_ok()
+}
+
 impl<W: Write, M: Allocator> Automation for Script<W, M> {
     ghost use Rattle.std.specs.Prelude.{None};
+    ghost use Rattle.chain_engine.specs.Automation.{CountsAnswer};
 
     ghost takes = { λ s. None };
 
@@ -184,9 +195,12 @@ impl<W: Write, M: Allocator> Automation for Script<W, M> {
         Taken::Bytes(count)
     }
 
-    fn answer(&mut self, reply: &[u8]) -> bool {
-        let digits = Digits(reply);
-        if writeln!(self.replies, "reply {digits}").is_ok() && self.replies.flush().is_ok() {
+    fn answer(&mut self, reply: &[u8]) -> bool
+        ensures failures { CountsAnswer result self.old.lost self.new.lost }
+        ensures printed { OnTrue result
+            (Appends (W.contents self.old.replies) (W.contents self.new.replies) (reply_line reply.now)) }
+    {
+        if print_reply(&mut self.replies, reply) {
             return true;
         }
         self.lost = self.lost.saturating_add(1);

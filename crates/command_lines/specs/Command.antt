@@ -1,6 +1,7 @@
 -- Which command lines are refused, and what is named.
-use Rattle.std.specs.Prelude.{◌≡◌, ℕ, ◌^◌, List, Bool, true, false, ◌&&◌, ◌||◌, Option, Some, None, IsSome}
+use Rattle.std.specs.Prelude.{◌≡◌, ℕ, ◌^◌, List, [], Bool, true, false, ◌&&◌, ◌||◌, Option, Some, None, IsSome, codes}
 use Rattle.decimal_numbers.specs.Numbers.{number_below, number_within}
+use Rattle.run_ends.specs.Ends.{name_of}
 use Rattle.run_ends.specs.declared.ends.End.{End}
 use Rattle.run_ends.specs.declared.ends.End.TheVariants.{Lines, Standard, File}
 use Rattle.command_lines.specs.declared.inject_options.Asking.{Asking as Asked}
@@ -48,6 +49,25 @@ IsRefusedOfSplice Length program cue_pid = ⊥
 IsRefusedOfSplice Index program cue_pid = ⊥
 IsRefusedOfSplice Port program cue_pid = ⊥
 
+-- of these numbers, the text of the one that the option names
+abbrev pub shown : NumberOption → List ℕ → List ℕ → List ℕ → List ℕ
+shown Pid pid from length = pid
+shown From pid from length = from
+shown Length pid from length = length
+shown Program pid from length = []
+shown CuePid pid from length = []
+shown Index pid from length = []
+shown Port pid from length = []
+
+abbrev pub shown_of : NumberOption → List ℕ → List ℕ → List ℕ → List ℕ
+shown_of Program program cue_pid index = program
+shown_of CuePid program cue_pid index = cue_pid
+shown_of Index program cue_pid index = index
+shown_of Pid program cue_pid index = []
+shown_of From program cue_pid index = []
+shown_of Length program cue_pid index = []
+shown_of Port program cue_pid index = []
+
 -- the option that a refusal of `inject` or `run` names
 abbrev pub refused_option : BadInject → Option NumberOption
 refused_option (Number bad) = Some bad.option
@@ -55,10 +75,26 @@ refused_option Asking = None
 refused_option Input = None
 refused_option ListInput = None
 
+-- and the text that it shows
+abbrev pub refused_text : BadInject → Option (List ℕ)
+refused_text (Number bad) = Some bad.text.now
+refused_text Asking = None
+refused_text Input = None
+refused_text ListInput = None
+
 -- and one of `splice`
 abbrev pub refused_of_splice : BadSplice → Option NumberOption
 refused_of_splice (splice.Number bad) = Some bad.option
 refused_of_splice splice.Input = None
+
+abbrev pub refused_text_of_splice : BadSplice → Option (List ℕ)
+refused_text_of_splice (splice.Number bad) = Some bad.text.now
+refused_text_of_splice splice.Input = None
+
+-- what the end is called where the messages come from
+abbrev pub asking_name : Asked → List ℕ
+asking_name (asking.Script end) = name_of (codes "standard input") end
+asking_name (asking.Port port) = codes "the port"
 
 -- ---- standard input
 
@@ -80,3 +116,11 @@ is_listed_there (Some end) = is_standard end
 -- two of three are so
 abbrev pub are_two : Bool → Bool → Bool → Bool
 are_two a b c = (a && b) || (c && (a || b))
+
+-- which of them are so, where one is refused for it
+abbrev pub AreShared : End → Asked → Option End → BadInject → Type 0
+AreShared network asked adverts (Number bad) = ⊥
+AreShared network asked adverts Asking = ⊥
+AreShared network asked adverts Input = (is_standard network ≡ true) × (is_asked_there asked ≡ true)
+AreShared network asked adverts ListInput =
+    (is_listed_there adverts ≡ true) × ((is_standard network || is_asked_there asked) ≡ true)

@@ -2,8 +2,10 @@
 
 ghost use Rattle.std.specs.Prelude.{◌≡◌, ◌^◌, IfOk, IfErr, Some};
 ghost use Rattle.decimal_numbers.specs.Numbers.{number_below};
-ghost use Rattle.command_lines.specs.Command.{IsRefused};
+ghost use Rattle.command_lines.specs.Command.{IsRefused, shown};
+ghost use Rattle.command_lines.specs.Options.{IsCutOf, IsNoCut};
 
+use crate::given::{end_of, is_verbose, text_of};
 use crate::inject_options::{INJECT, RUN};
 use crate::splice_options::SPLICE;
 use crate::subcommand::{Subcommand, ValueOption};
@@ -25,14 +27,14 @@ const TIME_LIMIT: u64 = 1 << 33;
 const LENGTH_LIMIT: u64 = 1 << 32;
 
 const ABOUT: &str =
-    "Cuts intervals out of MPEG transport streams, and puts the cues of breaks into them";
+    "Plays advertisements in the breaks of MPEG transport streams, puts cues into them, and cuts intervals out of them";
 
 const CUT_ABOUT: &str = "Cuts one interval of one PID out of a transport stream";
 
 const CUT_LONG_ABOUT: &str = "Cuts one interval of one PID out of a transport stream.
 
 The units (PES packets) of the PID whose presentation time (PTS) lies from --from up to, and not including, --from plus
---length are left out, each with all its packets and their repeats. All other packets pass, in order: those of other PIDs
+--length are left out, each with all its packets and their duplicates. All other packets pass, in order: those of other PIDs
 byte for byte, those of the PID with the continuity counter that closes the gap. The clock may wrap inside the stream; the
 start is then taken as the time that lies within 13 hours of the stream's first one.
 
@@ -40,8 +42,8 @@ A packet that is left out goes whole, with the clock reference (PCR) in it, wher
 or the receiver loses its clock for as long.
 
 FILE may be a pipe, and - is standard input or output in bytes. What came in before a pause of the input goes out before it.
-Without --in and --out, packets are lines of 376 upper case hexadecimal digits on standard input and output. The output file is
-written from the begin, once the input file is open: a stream that turns out not to hold packets leaves an empty file. --in and
+Without --in and --out, packets are lines of 376 upper case hexadecimal digits on standard input and output. The contents of the
+output file are replaced once the input file is open: a stream that turns out not to hold packets leaves an empty file. --in and
 --out may not be the same file.";
 
 const CUT_EXAMPLE: &str =
@@ -217,6 +219,7 @@ fn numbers<'a>(
     ensures from { IfOk result (λ n. number_below from.now (2 ^ 33) ≡ Some n.1) }
     ensures length { IfOk result (λ n. number_below length.now (2 ^ 32) ≡ Some n.2) }
     ensures refused { IfErr result (λ bad. IsRefused bad.option pid.now from.now length.now) }
+    ensures text { IfErr result (λ bad. bad.text.now ≡ shown bad.option pid.now from.now length.now) }
 {
     let Some(pid) = number_below(pid, PID_LIMIT).and_then(|number| Pid::new(number as u16)) else {
         return Err(BadNumber {
@@ -240,17 +243,24 @@ fn numbers<'a>(
 }
 
 /// What the options of `cut` say.
-pub fn cut_options<'a>(matches: &ArgMatches<'a>) -> Result<CutOptions<'a>, BadNumber<'a>> {
-    let pid = matches.get_str("pid").unwrap_or("");
-    let from = matches.get_str("from").unwrap_or("");
-    let length = matches.get_str("length").unwrap_or("");
+///
+/// # Errors
+///
+/// The first of the numbers that is not in its range.
+pub fn cut_options<'a>(matches: &ArgMatches<'a>) -> Result<CutOptions<'a>, BadNumber<'a>>
+    ensures taken { IfOk result (IsCutOf matches.now) }
+    ensures refused { IfErr result (IsNoCut matches.now) }
+{
+    let pid = text_of(matches, "pid");
+    let from = text_of(matches, "from");
+    let length = text_of(matches, "length");
     let (pid, from, length) = numbers(pid, from, length)?;
     Ok(CutOptions {
         pid,
         from,
         length,
-        input: End::named(matches.get_str("in")),
-        output: End::named(matches.get_str("out")),
-        is_verbose: matches.get_flag("verbose"),
+        input: end_of(matches, "in"),
+        output: end_of(matches, "out"),
+        is_verbose: is_verbose(matches),
     })
 }

@@ -1,10 +1,14 @@
 //! Of the subcommands `inject` and `run` the options and their ranges.
 
-ghost use Rattle.std.specs.Prelude.{◌≡◌, ◌^◌, IfOk, IfErr, OnOk, Some, None, Err, is_ok, is_some, not, IsSomeAnd};
+ghost use Rattle.std.specs.Prelude.{◌≡◌, ◌^◌, IfOk, IfErr, Some, is_ok, not, is_none, IsSomeAnd, IfSome, codes, option_map, None};
+ghost use Rattle.run_ends.specs.Ends.{name_of, path_of};
 ghost use Rattle.decimal_numbers.specs.Numbers.{number_below, number_within};
 ghost use Rattle.command_lines.specs.Command.{IsRefusedOf, refused_option, is_standard, is_asked_there, is_listed_there, are_two};
+ghost use Rattle.command_lines.specs.Command.{AreShared, refused_text, shown_of, asking_name};
+ghost use Rattle.command_lines.specs.Options.{IsAsking, IsNotAsking, IsInjectOf, IsRunOf, IsNoInject, IsNoRun};
 
 use crate::command::{BadNumber, NumberOption};
+use crate::given::{end_of, is_verbose, text_of};
 use crate::subcommand::{Subcommand, ValueOption};
 use clap::ArgMatches;
 use decimal_numbers::{number_below, number_within};
@@ -39,8 +43,8 @@ and the stream goes on.
 At the end standard output has three lines: how many `messages` came, and how many requests were `accepted` and `refused`. With
 --out - the packets go to standard output, and the replies and these lines to standard error.
 
-FILE may be a pipe, and - is standard input or output. What came in before a pause of the network goes out before it. The output
-file is written from the begin; it may not be an input.";
+FILE may be a pipe, and - is standard input or output. What came in before a pause of the network goes out before it. The contents
+of the output file are replaced; it may not be an input.";
 
 const INJECT_EXAMPLE: &str =
     "Numbers are decimal digits: PID 496 is what other tools may show as 0x1F0 (0x1F0 is not taken).
@@ -64,12 +68,12 @@ const RUN_ABOUT: &str =
     "Plays advertisements in the breaks that an automation asks for (SCTE 104), in one pass";
 
 const RUN_LONG_ABOUT: &str =
-    "Plays advertisements in the breaks of one program of a transport stream that an automation system asks for (SCTE 104): what `inject`
-puts out, as `splice` passes it on, in one pass. The cues do not go out.
+    "Plays advertisements in the breaks that an automation system asks for (SCTE 104), in one program of a transport stream. The output is
+what `splice` makes of the output of `inject`.
 
 At the end standard output has the three lines of `inject` and the four of `splice`. With --out - the packets go to standard output,
-and the replies and these lines to standard error. One of the network, the script and the list may be standard input. The output file is
-written from the begin; it may not be an input.";
+and the replies and these lines to standard error. One of the network, the script and the list may be standard input. The contents of the
+output file are replaced; it may not be an input.";
 
 const RUN_EXAMPLE: &str = "Example, with a list whose one line is `7 advert.ts`:
   dpi_chain run --network network.ts --program 1 --cue-pid 496 --index 1 --script breaks.txt --adverts list.txt --out spliced.ts
@@ -147,7 +151,11 @@ const RUN_OPTIONS: [ValueOption; 8] = [
 ];
 
 const INJECT_VERBOSE: &str =
-    "Tell more on standard error: where a fault stands, or how many cues went out";
+    "Tell more on standard error: where a fault stands, or how many cues and packets went out";
+
+/// What `--verbose` does in `run` and `splice`.
+pub(crate) const PLAYING_VERBOSE: &str =
+    "Tell more on standard error: where a fault stands, or how many packets were read and written";
 
 pub(crate) const INJECT: Subcommand = Subcommand {
     name: "inject",
@@ -166,7 +174,7 @@ pub(crate) const RUN: Subcommand = Subcommand {
     example: RUN_EXAMPLE,
     usage: RUN_USAGE,
     options: &RUN_OPTIONS,
-    verbose: INJECT_VERBOSE,
+    verbose: PLAYING_VERBOSE,
 };
 
 /// Where the messages come from.
@@ -197,15 +205,29 @@ pub struct InjectOptions<'a> {
 
 impl<'a> InjectOptions<'a> {
     /// Whether the packets go to standard output.
-    pub fn has_standard_output(&self) -> bool {
+    pub fn has_standard_output(&self) -> bool
+        ensures { result ≡ is_none (path_of self.now.output) }
+    {
         self.output.path().is_none()
     }
 
     /// What the end is called where the messages come from.
-    pub fn asking_name(&self) -> &'a str {
+    pub fn asking_name(&self) -> &'a str
+        ensures { result.now ≡ asking_name self.now.asking }
+    {
         match self.asking {
             Asking::Script(end) => end.input_name(),
             Asking::Port(_) => "the port",
+        }
+    }
+
+    /// What the list is called, where there is one.
+    pub fn adverts_name(&self) -> &'a str
+        ensures { IfSome self.now.adverts (λ end. result.now ≡ name_of (codes "standard input") end) }
+    {
+        match self.adverts {
+            Some(end) => end.input_name(),
+            None => "",
         }
     }
 }
@@ -245,7 +267,8 @@ impl fmt::Display for BadInject<'_> {
 
 /// An option's text that is no number in its range.
 fn bad_number<'a>(option: NumberOption, text: &'a str) -> BadInject<'a>
-    ensures { refused_option result ≡ Some option }
+    ensures option { refused_option result ≡ Some option }
+    ensures text { refused_text result ≡ Some text.now }
 {
     BadInject::Number(BadNumber { option, text })
 }
@@ -261,6 +284,8 @@ fn config_of<'a>(
     ensures index { IfOk result (λ c. number_below index.now (2 ^ 16) ≡ Some c.index) }
     ensures refused { IfErr result (λ bad. IsSomeAnd (refused_option bad)
         (λ option. IsRefusedOf option program.now cue_pid.now index.now)) }
+    ensures text { IfErr result (λ bad. IfSome (refused_option bad)
+        (λ option. refused_text bad ≡ Some (shown_of option program.now cue_pid.now index.now))) }
 {
     let Some(number) = number_within(program, 1, NUMBER_LIMIT) else {
         return Err(bad_number(NumberOption::Program, program));
@@ -283,8 +308,10 @@ fn asking_of<'a>(
     script: Option<&'a str>,
     listen: Option<&'a str>,
 ) -> Result<Asking<'a>, BadInject<'a>>
-    ensures one { OnOk result (is_some script.entry ≡ not (is_some listen.entry)) }
-    ensures other { is_some script.entry ≡ is_some listen.entry → result ≡ Err BadInject.Asking }
+    ensures asked { IfOk result
+        (IsAsking (option_map (λ t. t.now) script.entry) (option_map (λ t. t.now) listen.entry)) }
+    ensures refused { IfErr result
+        (IsNotAsking (option_map (λ t. t.now) script.entry) (option_map (λ t. t.now) listen.entry)) }
 {
     match (script, listen) {
         (Some(script), None) => Ok(Asking::Script(End::named(Some(script)))),
@@ -334,7 +361,7 @@ fn check_inputs<'a>(
 ) -> Result<(), BadInject<'a>>
     ensures one { is_ok result ≡ not (are_two (is_standard network.entry) (is_asked_there asking.entry)
         (is_listed_there adverts.entry)) }
-    ensures which { IfErr result (λ bad. refused_option bad ≡ None) }
+    ensures which { IfErr result (AreShared network.entry asking.entry adverts.entry) }
 {
     let is_network = is_standard(network);
     let is_script = is_asked_there(asking);
@@ -352,30 +379,48 @@ fn check_inputs<'a>(
 fn asked_options<'a>(
     matches: &ArgMatches<'a>,
     adverts: Option<End<'a>>,
-) -> Result<InjectOptions<'a>, BadInject<'a>> {
-    let program = matches.get_str("program").unwrap_or("");
-    let cue_pid = matches.get_str("cue-pid").unwrap_or("");
-    let index = matches.get_str("index").unwrap_or("");
+) -> Result<InjectOptions<'a>, BadInject<'a>>
+    ensures taken { IfOk result (IsInjectOf matches.now adverts.entry) }
+    ensures refused { IfErr result (IsNoInject matches.now adverts.entry) }
+{
+    let program = text_of(matches, "program");
+    let cue_pid = text_of(matches, "cue-pid");
+    let index = text_of(matches, "index");
     let config = config_of(program, cue_pid, index)?;
     let asking = asking_of(matches.get_str("script"), matches.get_str("listen"))?;
-    let network = End::named(matches.get_str("network"));
+    let network = end_of(matches, "network");
     check_inputs(network, asking, adverts)?;
     Ok(InjectOptions {
         config,
         network,
         asking,
         adverts,
-        output: End::named(matches.get_str("out")),
-        is_verbose: matches.get_flag("verbose"),
+        output: end_of(matches, "out"),
+        is_verbose: is_verbose(matches),
     })
 }
 
 /// What the options of `inject` say.
-pub fn inject_options<'a>(matches: &ArgMatches<'a>) -> Result<InjectOptions<'a>, BadInject<'a>> {
+///
+/// # Errors
+///
+/// The first of the numbers that is not in its range; `Asking` where not exactly one of a script and a port is given; `Input` where
+/// the network and the script are both standard input.
+pub fn inject_options<'a>(matches: &ArgMatches<'a>) -> Result<InjectOptions<'a>, BadInject<'a>>
+    ensures taken { IfOk result (IsInjectOf matches.now None) }
+    ensures refused { IfErr result (IsNoInject matches.now None) }
+{
     asked_options(matches, None)
 }
 
 /// What the options of `run` say.
-pub fn run_options<'a>(matches: &ArgMatches<'a>) -> Result<InjectOptions<'a>, BadInject<'a>> {
-    asked_options(matches, Some(End::named(matches.get_str("adverts"))))
+///
+/// # Errors
+///
+/// As for [`inject_options`]; and `ListInput` where the list and another input are standard input.
+pub fn run_options<'a>(matches: &ArgMatches<'a>) -> Result<InjectOptions<'a>, BadInject<'a>>
+    ensures taken { IfOk result (IsRunOf matches.now) }
+    ensures refused { IfErr result (IsNoRun matches.now) }
+{
+    asked_options(matches, Some(end_of(matches, "adverts")))
 }

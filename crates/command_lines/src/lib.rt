@@ -5,6 +5,7 @@
 #![tactic(auto)]
 
 pub mod command;
+mod given;
 pub mod inject_options;
 pub mod refusals;
 pub mod splice_options;

@@ -8,8 +8,8 @@ use clap::error::ErrorKind;
 use std::fmt;
 use std::io::Write;
 
-/// The exit status where memory was refused.
-const FAULT: u8 = 1;
+/// The exit status after a fault, as where memory was refused.
+pub const FAULT: u8 = 1;
 
 /// The exit status where the command line is not taken, or names no run.
 pub const USAGE: u8 = 2;

@@ -1,12 +1,15 @@
 //! The command line of the subcommand `splice`: its options and their ranges.
 
-ghost use Rattle.std.specs.Prelude.{◌≡◌, ◌^◌, ◌&&◌, not, is_ok, IfOk, IfErr, Some, IsSomeAnd};
+ghost use Rattle.std.specs.Prelude.{◌≡◌, ◌^◌, ◌&&◌, not, is_ok, is_none, IfOk, IfErr, Some, IsSomeAnd, IfSome, []};
+ghost use Rattle.run_ends.specs.Ends.{path_of};
 ghost use Rattle.decimal_numbers.specs.Numbers.{number_within};
-ghost use Rattle.command_lines.specs.Command.{IsRefusedOfSplice, refused_of_splice, is_standard};
+ghost use Rattle.command_lines.specs.Command.{IsRefusedOfSplice, refused_of_splice, refused_text_of_splice, shown_of, is_standard};
+ghost use Rattle.command_lines.specs.Options.{IsSpliceOf, IsNoSplice};
 
 use crate::command::{BadNumber, NumberOption};
+use crate::given::{end_of, is_verbose, text_of};
 use crate::inject_options::{
-    ADVERTS, LEAST_PID, NETWORK, NULL_PID, NUMBER_LIMIT, OUT, PROGRAM, is_standard,
+    ADVERTS, LEAST_PID, NETWORK, NULL_PID, NUMBER_LIMIT, OUT, PLAYING_VERBOSE, PROGRAM, is_standard,
 };
 use crate::subcommand::{Subcommand, ValueOption};
 use clap::ArgMatches;
@@ -29,12 +32,12 @@ their own times, and all other PIDs byte for byte. The cues go no further, and t
 
 The list names one advertisement a line: its number from 0 to 65535, a space, and the path of its transport stream.
 
-At the end standard output has four lines: how many breaks were `played`, how many had no advertisement that fits (`not-fitted`), in
-how many played ones units did not come in the order of their times around an edge (`unconditioned`), and how many cues were
+At the end standard output has four lines: how many breaks were `played`, how many had no advertisement that fits (`not-fitted`), at
+how many played breaks units stepped back over the start or the end (`unconditioned`), and how many cues were
 `ignored`. With --out - the packets go to standard output, and these lines to standard error.
 
-FILE may be a pipe, and - is standard input or output. What came in before a pause of the network goes out before it. The output
-file is written from the begin; it may not be an input.";
+FILE may be a pipe, and - is standard input or output. What came in before a pause of the network goes out before it. The contents
+of the output file are replaced; it may not be an input.";
 
 const SPLICE_EXAMPLE: &str =
     "Numbers are decimal digits: PID 496 is what other tools may show as 0x1F0 (0x1F0 is not taken).
@@ -65,7 +68,7 @@ pub(crate) const SPLICE: Subcommand = Subcommand {
     example: SPLICE_EXAMPLE,
     usage: SPLICE_USAGE,
     options: &SPLICE_OPTIONS,
-    verbose: "Tell more on standard error: where a fault stands, or how many packets went through",
+    verbose: PLAYING_VERBOSE,
 };
 
 /// What `splice` is to do.
@@ -85,7 +88,9 @@ pub struct SpliceOptions<'a> {
 
 impl SpliceOptions<'_> {
     /// Whether the packets go to standard output.
-    pub fn has_standard_output(&self) -> bool {
+    pub fn has_standard_output(&self) -> bool
+        ensures { result ≡ is_none (path_of self.now.output) }
+    {
         self.output.path().is_none()
     }
 }
@@ -113,7 +118,8 @@ impl fmt::Display for BadSplice<'_> {
 
 /// An option's text that is no number in its range.
 fn bad_number<'a>(option: NumberOption, text: &'a str) -> BadSplice<'a>
-    ensures { refused_of_splice result ≡ Some option }
+    ensures option { refused_of_splice result ≡ Some option }
+    ensures text { refused_text_of_splice result ≡ Some text.now }
 {
     BadSplice::Number(BadNumber { option, text })
 }
@@ -125,6 +131,8 @@ fn config_of<'a>(program: &'a str, cue_pid: &'a str) -> Result<Config, BadSplice
     ensures index { IfOk result (λ c. c.index ≡ 0) }
     ensures refused { IfErr result (λ bad. IsSomeAnd (refused_of_splice bad)
         (λ option. IsRefusedOfSplice option program.now cue_pid.now)) }
+    ensures text { IfErr result (λ bad. IfSome (refused_of_splice bad)
+        (λ option. refused_text_of_splice bad ≡ Some (shown_of option program.now cue_pid.now []))) }
 {
     let Some(number) = number_within(program, 1, NUMBER_LIMIT) else {
         return Err(bad_number(NumberOption::Program, program));
@@ -151,18 +159,25 @@ fn check_inputs<'a>(network: End<'a>, adverts: End<'a>) -> Result<(), BadSplice<
 }
 
 /// What the options of `splice` say.
-pub fn splice_options<'a>(matches: &ArgMatches<'a>) -> Result<SpliceOptions<'a>, BadSplice<'a>> {
-    let program = matches.get_str("program").unwrap_or("");
-    let cue_pid = matches.get_str("cue-pid").unwrap_or("");
+///
+/// # Errors
+///
+/// The first of the numbers that is not in its range; `Input` where the network and the list are both standard input.
+pub fn splice_options<'a>(matches: &ArgMatches<'a>) -> Result<SpliceOptions<'a>, BadSplice<'a>>
+    ensures taken { IfOk result (IsSpliceOf matches.now) }
+    ensures refused { IfErr result (IsNoSplice matches.now) }
+{
+    let program = text_of(matches, "program");
+    let cue_pid = text_of(matches, "cue-pid");
     let config = config_of(program, cue_pid)?;
-    let network = End::named(matches.get_str("network"));
-    let adverts = End::named(matches.get_str("adverts"));
+    let network = end_of(matches, "network");
+    let adverts = end_of(matches, "adverts");
     check_inputs(network, adverts)?;
     Ok(SpliceOptions {
         config,
         network,
         adverts,
-        output: End::named(matches.get_str("out")),
-        is_verbose: matches.get_flag("verbose"),
+        output: end_of(matches, "out"),
+        is_verbose: is_verbose(matches),
     })
 }

@@ -9,7 +9,7 @@ use command_lines::command::{CUT_USAGE, CutOptions, command, cut_options};
 use command_lines::inject_options::{
     INJECT_USAGE, InjectOptions, RUN_USAGE, inject_options, run_options,
 };
-use command_lines::refusals::{USAGE, answer, refuse};
+use command_lines::refusals::{FAULT, USAGE, answer, refuse};
 use command_lines::splice_options::{SPLICE_USAGE, SpliceOptions, splice_options};
 use passages::fault::{ProgramFault, fault_name};
 use passages::tell::{Side, SpliceAccount, Stopped, Trouble};
@@ -20,9 +20,6 @@ use std::rt::Files;
 
 /// The exit status where all is done.
 const DONE: u8 = 0;
-
-/// The exit status after a fault.
-const FAULT: u8 = 1;
 
 /// Prints the fault's line, and answers its status.
 fn report<E: Write>(faults: &mut E, fault: ProgramFault) -> u8
@@ -74,7 +71,7 @@ fn report_inject<E: Write>(faults: &mut E, options: &InjectOptions<'_>, stopped:
             Side::Writing => options.output.output_name(),
             Side::Scripting => options.asking_name(),
             Side::Listening => options.asking_name(),
-            Side::Filing => "the list",
+            Side::Filing => options.adverts_name(),
             Side::Printing => "the standard stream",
         };
         let trouble = Trouble { stopped, name };
