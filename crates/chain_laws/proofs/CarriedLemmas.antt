@@ -29,7 +29,7 @@ use Rattle.splice_laws.specs.Ends.{up_to_end}
 use Rattle.output_laws.specs.Spliced.{placed_payloads}
 use Rattle.output_laws.proofs.GaplessLemmas.{test-true}
 use Rattle.output_laws.proofs.StepLemmas.{test-same}
-use Rattle.splice_plans.specs.Playing.{Adverts, is_played, is_crossed, put_by_start, by_start, played, as_played}
+use Rattle.splice_plans.specs.Playing.{Adverts, is_played, is_crossed, put_by_start, by_start, played, as_played, end_known}
 use Rattle.splice_plans.specs.Histories.{AreSteady}
 use Rattle.splice_plans.specs.Adverts.{adverts_of, packed_units, setting_of}
 use Rattle.splice_plans.specs.Switching.{Setting, switched_at, streams_at, events_at, head_at, history_at, spliced_network}
@@ -39,16 +39,16 @@ use Rattle.switch_laws.specs.Laws.{ArePackets, IsPlayable}
 use Rattle.switch_laws.specs.Moving.{intervals, sent_in_all}
 use Rattle.splice_plans.specs.Known.{adverts_at}
 use Rattle.switch_laws.specs.Whole.{ArePacked, HavePids, TablesAreApart, IsSwitchedOnce, breaks, slices, placed_in}
-use Rattle.switch_laws.specs.Slices.{IsWholeSlice}
+use Rattle.switch_laws.specs.Slices.{IsWholeSlice, IsSliceToAnEnd}
 use Rattle.switch_laws.proofs.IntervalLemmas.{intervals-ordered}
-use Rattle.switch_laws.proofs.SliceLemmas.{slices_are_whole}
+use Rattle.switch_laws.proofs.SliceLemmas.{slices_are_whole, slices_go_to_an_end}
 use Rattle.switch_laws.proofs.StreamLemmas.{streams_carry, all-reversed}
 use Rattle.switch_laws.proofs.WholeLemmas.{head-joined}
 use Rattle.armed_laws.proofs.MeetLemmas.{none-meet}
 use Rattle.chain_laws.specs.Breaks.{accepted_by, armed_by, SameTaken}
 use Rattle.chain_laws.specs.Runs.{switched_by, program_by, behind_by, run_by, head_by, adverts_by, played_by, IsWholeRun}
 use Rattle.chain_laws.specs.UnitSplices.{splice_from, slice_payloads, payloads_between, IsConditionedAt}
-use Rattle.chain_laws.specs.Streams.{slice_of, is_reached, GoesOutWhole, CarriesPlaced, StreamsCarryPlaced, break_splice, CarriesSplice, StreamsCarrySplice}
+use Rattle.chain_laws.specs.Streams.{slice_of, is_reached, GoesOutWhole, GoesOutToAnEnd, CarriesPlaced, StreamsCarryPlaced, break_splice, CarriesSplice, StreamsCarrySplice}
 use Rattle.chain_laws.proofs.BreakLemmas.{breaks_are_armed}
 use Rattle.chain_laws.proofs.TakenLemmas.{filter-within, begun_both, crossed_both, placed_both, lead_both}
 use Rattle.chain_laws.proofs.RunLemmas.{reads, sound, others, cued-long, cued-pids}
@@ -292,9 +292,40 @@ module _ (c : Config) (filed : ℕ → Option Advertisement) (steps : List Step)
         subst (AllByRecursion (GoesOutWhole c filed steps pid sent)) same-taken.sorted
         (each-map one-whole (by_start (filter (is_played (adverts_by c filed steps)) (armed_by c steps))) (each-sorted WholeHere (is_played (adverts_by c filed steps)) (armed_by c steps) here-whole))
 
+    abbrev ToHere : Standing → Type 0
+    ToHere = IsSliceToAnEnd (switched_at (setting_of c filed) (cued c steps)) (adverts_at (setting_of c filed) (cued c steps)) (history_at (setting_of c filed) (cued c steps)) (behind_head (Some c.program) (cued c steps)) pid
+
+    here-to : AllByRecursion (IsSliceToAnEnd (switched_at (setting_of c filed) (cued c steps)) (adverts_at (setting_of c filed) (cued c steps)) (history_at (setting_of c filed) (cued c steps)) (behind_head (Some c.program) (cued c steps)) pid) (armed_by c steps)
+    here-to =
+        let b = behind_head (Some c.program) back in
+        let play : IsPlayable (switched_at k back) (adverts_at k back) (history_at k back) = record { steady = steady; history = armed_is_history k back (behind-head (program_of (Some c.program) back) refl) } in
+        let events : history_at k back b ≡ armed_by c steps = ap (events_at k) (head-joined k back) in
+        subst (AllByRecursion ToHere) events (slices_go_to_an_end (switched_at k back) (adverts_at k back) (history_at k back) play b pid (once-contained pid (switched_at k back) once))
+
+    one-to : (e : Standing) → (is_played (adverts_by c filed steps) e ≡ true) × ToHere e → GoesOutToAnEnd c filed steps pid sent e
+    one-to e h =
+        let b = behind_head (Some c.program) back in
+        let g = h.1 (ap (λ ads. is_played ads e) same-adverts ∙ h.0) in
+        record {
+          stop = g.stop;
+          in_force = (g.later, g.before, g.at, ap (λ ads. end_known ads (history_at k back) e.start g.before) (sym same-adverts) ∙ g.in_force);
+          last = g.last;
+          goes = g.goes
+              ∙ ap (λ sw. if begun (stream sw pid) (as_played e) b then up_to_end g.stop ((adverts_at k back).units e pid) else []) same-switched
+              ∙ ap (λ ads. if begun (stream (switched_by c steps) pid) (as_played e) b then up_to_end g.stop (ads.units e pid) else []) same-adverts
+              ∙ ap (λ x. if x then up_to_end g.stop ((adverts_by c filed steps).units e pid) else [])
+              (begun_both taken (switched_by c steps) (takes-own (switched_by c steps)) pid (takes-pid (switched_by c steps) pid a) b (behind_by c steps) same-behind (as_played e));
+        }
+
+    all-to : AllByRecursion (GoesOutToAnEnd c filed steps pid (slices (setting_of c filed) (cued c steps) pid)) (played (adverts_by c filed steps) (accepted_by c steps))
+    all-to =
+        subst (AllByRecursion (GoesOutToAnEnd c filed steps pid sent)) same-taken.sorted
+        (each-map one-to (by_start (filter (is_played (adverts_by c filed steps)) (armed_by c steps))) (each-sorted ToHere (is_played (adverts_by c filed steps)) (armed_by c steps) here-to))
+
     pub carries-placed : CarriesPlaced c filed steps pid
     carries-placed = record {
       sent = sent;
+      slices = all-to;
       whole = all-whole;
       carried = stream-law.0;
       packets = stream-law.1

@@ -1,18 +1,21 @@
 -- What each switched stream of the output carries.
-use Rattle.std.specs.Prelude.{◌≡◌, ℕ, ℤ, ◌++◌, ◌∷◌, List, [], Bool, true, false, if◌then◌else◌, Option, None, Some, filter}
+use Rattle.std.specs.Prelude.{◌≡◌, ℕ, ℤ, ◌≤ℤ◌, ◌++◌, ◌∷◌, List, [], Bool, true, false, if◌then◌else◌, Option, None, Some, filter}
 use Rattle.std.specs.List.{AllByRecursion}
 use Rattle.ts_packet.specs.Fields.{payload_on}
 use Rattle.unit_stream.specs.Units.{TimedUnit, units}
 use Rattle.unit_stream.specs.Carrying.{CarriesUnits}
 use Rattle.psi_tables.specs.declared.config.Config.{Config}
 use Rattle.event_table.specs.Standing.{Standing, end_of}
+use Rattle.program_follower.specs.Program.{behind_head}
 use Rattle.ad_library.specs.Advertisements.{Advertisement}
-use Rattle.injector.specs.Steps.{Step}
+use Rattle.injector.specs.Steps.{Step, cued}
 use Rattle.splice_laws.specs.Splicing.{PlayedEvent, SliceUnit, stream, begun}
 use Rattle.splice_laws.specs.Streams.{is_among}
 use Rattle.splice_laws.specs.Ends.{up_to_end}
 use Rattle.output_laws.specs.Spliced.{placed_payloads}
-use Rattle.splice_plans.specs.Playing.{Adverts, played, as_played, is_crossed}
+use Rattle.splice_plans.specs.Playing.{Adverts, played, as_played, is_crossed, end_known}
+use Rattle.splice_plans.specs.Adverts.{setting_of}
+use Rattle.splice_plans.specs.Switching.{history_at}
 use Rattle.chain_laws.specs.Breaks.{accepted_by}
 use Rattle.chain_laws.specs.Runs.{switched_by, behind_by, run_by, lead_by, adverts_by, played_by, output_by, IsWholeRun}
 use Rattle.chain_laws.specs.UnitSplices.{payloads_between, slice_payloads, IsConditionedAt}
@@ -32,10 +35,24 @@ abbrev pub GoesOutWhole : Config → (ℕ → Option Advertisement) → List Ste
 GoesOutWhole c filed steps pid sent e = is_crossed (stream (switched_by c steps) pid) e.start (behind_by c steps) ≡ false →
     sent (as_played e) ≡ (if is_reached (switched_by c steps) pid (behind_by c steps) e then slice_of (adverts_by c filed steps) pid e else [])
 
+-- an end of the break that the cues had put in force at some packet of the cued stream
+abbrev pub IsInForce : Config → (ℕ → Option Advertisement) → List Step → Standing → ℤ → Type 0
+IsInForce c filed steps e stop = (later : List (List ℕ)) × (before : List (List ℕ)) × (behind_head (Some c.program) (cued c steps) ≡ later ++ before)
+    × (end_known (adverts_by c filed steps) (history_at (setting_of c filed) (cued c steps)) e.start before ≡ Some stop)
+
+-- Whatever units step back, what goes out is a slice: where the stream reaches the break, all units of its advertisement's stream before an
+-- end that was in force, and is not before the last one; and nothing where it does not reach it.
+pub record GoesOutToAnEnd (c : Config) (filed : ℕ → Option Advertisement) (steps : List Step) (pid : ℕ) (sent : PlayedEvent → List SliceUnit) (e : Standing) : Type 0 where
+  pub stop : ℤ
+  pub in_force : IsInForce c filed steps e stop
+  pub last : end_of e ≤ℤ stop
+  pub goes : sent (as_played e) ≡ (if is_reached (switched_by c steps) pid (behind_by c steps) e then up_to_end stop ((adverts_by c filed steps).units e pid) else [])
+
 -- PLACED: the stream's payload packets are its lead, unchanged, and then packets that carry its units outside all played breaks, in order,
 -- with what goes out of each reached break before the first unit at or past its start
 pub record CarriesPlaced (c : Config) (filed : ℕ → Option Advertisement) (steps : List Step) (pid : ℕ) : Type 0 where
   pub sent : PlayedEvent → List SliceUnit
+  pub slices : AllByRecursion (GoesOutToAnEnd c filed steps pid sent) (played (adverts_by c filed steps) (accepted_by c steps))
   pub whole : AllByRecursion (GoesOutWhole c filed steps pid sent) (played (adverts_by c filed steps) (accepted_by c steps))
   pub carried : List (List ℕ)
   pub packets : filter (payload_on pid) (output_by c filed steps) ≡ lead_by c steps pid ++ carried

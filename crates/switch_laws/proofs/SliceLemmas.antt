@@ -24,7 +24,7 @@ use Rattle.splice_plans.proofs.SentLemmas.{none-unbegun, sent-due}
 use Rattle.splice_plans.specs.Histories.{IsHistory, AreSteady, IsSettledAt}
 use Rattle.splice_plans.proofs.KnownLemmas.{begun-past, ends_never_rise, played_settle, all-settled}
 use Rattle.switch_laws.specs.Moving.{meant_by, units_for, sent_in_all}
-use Rattle.switch_laws.specs.Slices.{SlicesAreWhole}
+use Rattle.switch_laws.specs.Slices.{SlicesAreWhole, IsSliceToAnEnd, SlicesGoToAnEnd}
 use Rattle.switch_laws.proofs.IntervalLemmas.{IsMeant, all-meant}
 use Rattle.switch_laws.proofs.MoveLemmas.{all-each}
 use Rattle.switch_laws.proofs.OutLemmas.{stays}
@@ -153,6 +153,63 @@ module _ (turns : Turns) (r : TimedStream) (k : IsStream r) (w : NeverPassesHigh
       (λ n. simp (b, n) (whole-front (sent past) (up_to_known (known past) units) (front-trans (sent past) (run_of (up_to_known (known past) units) (r.high past)) (up_to_known (known past) units) (sent-due turns r k x known units falls past n) (run-front (up_to_known (known past) units) (r.high past))) ∙ ap (λ o. up_to_known o units) e)))
       (λ n. let none = none-unbegun turns r k x known units falls past n in simp (n, none) refl)
 
+  -- ---- on any network
+
+  -- it is the units before an end that was in force at some packet and is not before the last one
+  abbrev UpTo : List (List ℕ) → (ℤ → List SliceUnit) → List SliceUnit → Type 0
+  UpTo past slice out = (later : List (List ℕ)) × (before : List (List ℕ)) × (stop : ℤ) × (past ≡ later ++ before) × (known before ≡ Some stop) × (x.stop ≤ℤ stop) × (out ≡ slice stop)
+
+  abbrev slice_to : ℤ → List SliceUnit
+  slice_to stop = up_to_end stop units
+
+  -- with a packet with which it has begun an end is in force
+  in-force : (p : List ℕ) (past : List (List ℕ)) → IsKnown (record { packet = p; past = past }) → begun_now r x known (p ∷ past) ≡ true → (stop : ℤ) × (known (p ∷ past) ≡ Some stop) × (x.stop ≤ℤ stop)
+  in-force p past s b = by (known (p ∷ past)) refl s
+    where
+      by : (o : Option ℤ) → known (p ∷ past) ≡ o → IsSettled x o (r.high (p ∷ past)) → (stop : ℤ) × (known (p ∷ past) ≡ Some stop) × (x.stop ≤ℤ stop)
+      by None e n = absurd (begun-past r k w x known (p ∷ past) b n)
+      by (Some stop) e (inl same) = (stop, e, omega (arith, ints, same))
+      by (Some stop) e (inr ahead) = (stop, e, ahead.1)
+
+  closing-to : (p : List ℕ) (past : List (List ℕ)) → IsKnown (record { packet = p; past = past }) → closed_now r x known past ≡ false → closed_now r x known (p ∷ past) ≡ true → UpTo (p ∷ past) slice_to (sent (p ∷ past))
+  closing-to p past s still is_shut = by (or-cases (closed_now r x known past) _ is_shut)
+    where
+      shut : (c : Bool) (a b : List SliceUnit) → c ≡ true → (if c then a else b) ≡ a
+      shut true a b h = refl
+      shut false a b h = absurd (true≢false (sym h))
+
+      by : (closed_now r x known past ≡ true) ⊎ ((begun_now r x known (p ∷ past) && (r.begins p past && not (holds_now x (known (p ∷ past)) (r.time (p ∷ past))))) ≡ true) → UpTo (p ∷ past) slice_to (sent (p ∷ past))
+      by (inl b) = absurd (true≢false (sym b ∙ still))
+      by (inr g) =
+          let e = and-both (begun_now r x known (p ∷ past)) _ g in
+          let f = and-both (r.begins p past) _ e.1 in
+          let (stop, now, last) = in-force p past s e.0 in (
+            [],
+            p ∷ past,
+            stop,
+            refl,
+            now,
+            last,
+            goes (turns p past) (closed_now r x known past) (begun_now r x known (p ∷ past)) (sent_of_begun turns r x known units p past) (sent past) (turned p past f.0) still e.0
+                ∙ shut (closed_now r x known (p ∷ past)) (up_to_known (known (p ∷ past)) units) (longest_front (up_to_known (known (p ∷ past)) units) (r.high (p ∷ past))) is_shut
+                ∙ ap (λ o. up_to_known o units) now,
+          )
+
+  closed-to : (past : List (List ℕ)) → AlongSeen IsKnown past → closed_now r x known past ≡ true → UpTo past slice_to (sent past)
+  closed-to [] s h = absurd (true≢false (sym h))
+  closed-to (p ∷ past) s h = by_test (closed_now r x known past)
+      (λ y. let (later, before, stop, at, now, last, out) = closed-to past s.1 y in (p ∷ later, before, stop, ap (λ l. p ∷ l) at, now, last, stays turns r k x known units falls p past y ∙ out))
+      (λ n. closing-to p past s.0 n h)
+
+  -- all that goes out
+  pub all-to : (past : List (List ℕ)) → AlongSeen IsKnown past → known past ≡ Some x.stop →
+      UpTo past (λ stop. if begun_now r x known past then up_to_end stop units else []) (sent past ++ left_at_end turns r x known units past)
+  all-to past s e = by_test (begun_now r x known past)
+      (λ b. by_test (closed_now r x known past)
+      (λ y. let (later, before, stop, at, now, last, out) = closed-to past s y in (later, before, stop, at, now, last, simp (b, y) (append-nil (sent past) ∙ out)))
+      (λ n. ([], past, x.stop, refl, e, omega (arith, ints), simp (b, n) (whole-front (sent past) (up_to_known (known past) units) (front-trans (sent past) (run_of (up_to_known (known past) units) (r.high past)) (up_to_known (known past) units) (sent-due turns r k x known units falls past n) (run-front (up_to_known (known past) units) (r.high past))) ∙ ap (λ o. up_to_known o units) e))))
+      (λ n. let none = none-unbegun turns r k x known units falls past n in ([], past, x.stop, refl, e, omega (arith, ints), simp (n, none) refl))
+
 -- ---- of all events
 
 begins-among : (sw : List ℕ) (pid : ℕ) → Contains sw pid → (p : List ℕ) (past : List (List ℕ)) → begins pid p past ≡ true → begins_one sw p past ≡ true
@@ -192,6 +249,32 @@ module _ (switched : List ℕ) (ads : Adverts) (steady : AreSteady ads) (events 
   known-along x y t [] more is = tt
   known-along x y t (p ∷ past) more is = (t p past more is y, known-along x y t past (more ++ p ∷ []) (is ∙ sym (append_assoc more (p ∷ []) past)))
 
+  abbrev IsTo : Standing → Type 0
+  IsTo = IsSliceToAnEnd switched ads events whole pid
+
+  one-to : (x : Standing) → IsMeant ads (events whole) x → IsSettledAt switched pid ads events whole x → Throughout x → IsTo x
+  one-to x m t through y =
+      let r = stream switched pid in
+      let known = end_known ads events x.start in
+      let us = units_for ads pid (meant_by ads (events whole) (as_played x)) in
+      let (later, before, stop, at, now, last, out) = all-to (begins_one switched) r (pids_are_streams switched pid) (switched_pids_are_within switched pid c) (as_played x) known us
+      (ends_never_rise switched pid c ads steady events h (as_played x)) (λ p past b. begins-among switched pid c p past b) whole (known-along x y through whole [] refl) (ap (option_map end_of) (m y)) in
+      record {
+        later = later;
+        before = before;
+        stop = stop;
+        at = at;
+        in_force = now;
+        last = last;
+        goes = out
+            ∙ ap (λ b. if b then up_to_end stop us else []) (t y).0
+            ∙ ap (λ us. if begun r (as_played x) whole then up_to_end stop us else []) (ap (units_for ads pid) (m y));
+      }
+
+  each-to : (es : List Standing) → AllByRecursion (IsMeant ads (events whole)) es → AllByRecursion (IsSettledAt switched pid ads events whole) es → AllByRecursion Throughout es → AllByRecursion IsTo es
+  each-to [] m t n = tt
+  each-to (x ∷ es) m t n = (one-to x m.0 t.0 n.0, each-to es m.1 t.1 n.1)
+
   module _ (ps : List (List ℕ)) (is : whole ≡ reverse ps) where
     abbrev IsWhole : Standing → Type 0
     IsWhole e = is_played ads e ≡ true → IsCrossedOnce (stream switched pid) e.start ps →
@@ -222,3 +305,9 @@ slices_are_whole switched ads events k ps pid c =
     each-whole switched ads k.steady events k.history pid c whole ps refl (events (reverse ps)) (all-meant ads (events (reverse ps)) (k.history.apart (reverse ps)))
     (all-each (IsSettledAt switched pid ads events (reverse ps)) (events (reverse ps)) (played_settle switched pid c ads k.steady events k.history [] (reverse ps)))
     (throughout switched ads k.steady events k.history pid c whole (events (reverse ps)) (settled-with switched ads k.steady events k.history pid c whole))
+
+pub slices_go_to_an_end : SlicesGoToAnEnd
+slices_go_to_an_end switched ads events k whole pid c =
+    each-to switched ads k.steady events k.history pid c whole (events whole) (all-meant ads (events whole) (k.history.apart whole))
+    (all-each (IsSettledAt switched pid ads events whole) (events whole) (played_settle switched pid c ads k.steady events k.history [] whole))
+    (throughout switched ads k.steady events k.history pid c whole (events whole) (settled-with switched ads k.steady events k.history pid c whole))

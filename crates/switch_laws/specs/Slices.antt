@@ -1,11 +1,11 @@
--- What goes out of an event in all, where the network is conditioned at its start.
-use Rattle.std.specs.Prelude.{◌≡◌, ℕ, List, [], true, if◌then◌else◌, reverse, Contains}
+-- What goes out of an event in all, on any network, and where the network is conditioned at its start.
+use Rattle.std.specs.Prelude.{◌≡◌, ℕ, ℤ, ◌≤ℤ◌, ◌++◌, List, [], true, if◌then◌else◌, Some, reverse, Contains}
 use Rattle.std.specs.List.{AllByRecursion}
 use Rattle.event_table.specs.Standing.{Standing, end_of}
 use Rattle.splice_laws.specs.Splicing.{stream, begun}
 use Rattle.splice_laws.specs.Laws.{IsCrossedOnce}
 use Rattle.splice_laws.specs.Ends.{up_to_end}
-use Rattle.splice_plans.specs.Playing.{Adverts, History, is_played, as_played}
+use Rattle.splice_plans.specs.Playing.{Adverts, History, is_played, as_played, end_known}
 use Rattle.switch_laws.specs.Moving.{sent_in_all}
 use Rattle.switch_laws.specs.Laws.{IsPlayable}
 
@@ -18,3 +18,22 @@ IsWholeSlice switched ads events ps pid e = is_played ads e ≡ true → IsCross
 abbrev pub SlicesAreWhole : Type 0
 SlicesAreWhole = (switched : List ℕ) (ads : Adverts) (events : History) → IsPlayable switched ads events → (ps : List (List ℕ)) (pid : ℕ) → Contains switched pid →
     AllByRecursion (IsWholeSlice switched ads events ps pid) (events (reverse ps))
+
+-- What goes out of an event that is played, on any network: where it is reached, all units of its advertisement before an end that was in
+-- force at some packet and is not before its last one; and nothing where it is not reached.
+pub record GoesToAnEnd (switched : List ℕ) (ads : Adverts) (events : History) (past : List (List ℕ)) (pid : ℕ) (e : Standing) : Type 0 where
+  pub later : List (List ℕ)
+  pub before : List (List ℕ)
+  pub stop : ℤ
+  pub at : past ≡ later ++ before
+  pub in_force : end_known ads events e.start before ≡ Some stop
+  pub last : end_of e ≤ℤ stop
+  pub goes : sent_in_all switched ads events past pid (as_played e) ≡ (if begun (stream switched pid) (as_played e) past then up_to_end stop (ads.units e pid) else [])
+
+abbrev pub IsSliceToAnEnd : List ℕ → Adverts → History → List (List ℕ) → ℕ → Standing → Type 0
+IsSliceToAnEnd switched ads events past pid e = is_played ads e ≡ true → GoesToAnEnd switched ads events past pid e
+
+-- THE LAW OF SLICES ON ANY NETWORK
+abbrev pub SlicesGoToAnEnd : Type 0
+SlicesGoToAnEnd = (switched : List ℕ) (ads : Adverts) (events : History) → IsPlayable switched ads events → (past : List (List ℕ)) (pid : ℕ) → Contains switched pid →
+    AllByRecursion (IsSliceToAnEnd switched ads events past pid) (events past)

@@ -5,7 +5,7 @@ ghost use Rattle.switch_laws.specs.Laws.{RunsCarry, RunsHaveUnits, OthersPass, N
 ghost use Rattle.switch_laws.specs.Whole.{OutputIsInOrder, NothingIsPlayed, NoPacketChanges, NoProgram};
 ghost use Rattle.switch_laws.specs.Whole.{RunsAreSound, StreamsGoByThemselves, StreamsCarry};
 ghost use Rattle.switch_laws.specs.Standing.{PacketsStandAs, OthersStay, FaultlessIsSound};
-ghost use Rattle.switch_laws.specs.Slices.{SlicesAreWhole};
+ghost use Rattle.switch_laws.specs.Slices.{SlicesAreWhole, SlicesGoToAnEnd};
 ghost use Rattle.switch_laws.specs.Clocks.{ClocksStay};
 ghost use Rattle.switch_laws.specs.Sections.{SectionsStay, BytesGoOut};
 
@@ -106,6 +106,12 @@ pub fn faultless_is_sound()
 /// is reached.
 pub fn slices_are_whole()
     ensures { SlicesAreWhole }
+{}
+
+/// In any stream, what goes out of an event is all units of its advertisement before an end that was in force at some packet and is not before
+/// its last one, where it is reached, and nothing where it is not.
+pub fn slices_go_to_an_end()
+    ensures { SlicesGoToAnEnd }
 {}
 
 /// The clock references of a switched stream are the network's, as one list in their order, also where its packets are left out.
