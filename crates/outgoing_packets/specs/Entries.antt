@@ -31,17 +31,17 @@ HasRoom (Added pid) (Some m) = too_long (Some pid) m ≡ false
 HasRoom (Stripped pid) (Some m) = Unit {0}
 
 -- a section as it goes out, whatever its room: a map without room for what is added goes out as it came
-abbrev pub sent_by : CueEntry → List ℕ → Option ProgramMap → List ℕ
-sent_by entry s None = s
-sent_by (Added pid) s (Some m) = if too_long (Some pid) m then s else section_by (with_cue_entry pid) s (Some m)
-sent_by (Stripped pid) s (Some m) = section_by (without_cue_entry pid) s (Some m)
+abbrev pub section_going_by : CueEntry → List ℕ → Option ProgramMap → List ℕ
+section_going_by entry s None = s
+section_going_by (Added pid) s (Some m) = if too_long (Some pid) m then s else section_by (with_cue_entry pid) s (Some m)
+section_going_by (Stripped pid) s (Some m) = section_by (without_cue_entry pid) s (Some m)
 
-abbrev pub sent : CueEntry → Table → List ℕ
-sent entry t = sent_by entry t.section t.program_map
+abbrev pub section_going : CueEntry → Table → List ℕ
+section_going entry t = section_going_by entry t.section t.program_map
 
 -- tables in packets, behind what is out, each as it is sent
-abbrev pub all_sent : CueEntry → ℕ → List (List ℕ) → List Table → List (List ℕ)
-all_sent entry pid out ts = packets_out pid out (map (sent entry) ts)
+abbrev pub sections_going : CueEntry → ℕ → List (List ℕ) → List Table → List (List ℕ)
+sections_going entry pid out ts = packets_out pid out (map (section_going entry) ts)
 
 -- the section is not empty
 abbrev pub HasBytes : Table → Type 0
@@ -66,5 +66,5 @@ pub record TableFails (entry : CueEntry) (pid : ℕ) (out : List (List ℕ)) (ts
   pub next : Table
   pub left : List Table
   pub all : ts ≡ whole ++ next ∷ left
-  pub numbers : HasPut o (onto out (all_sent entry pid out whole))
-  pub fault : FrontFails (all_sent entry pid (onto out (all_sent entry pid out whole)) (next ∷ [])) (λ put p. fails (all_sent entry pid out whole ++ put) p)
+  pub numbers : HasPut o (onto out (sections_going entry pid out whole))
+  pub fault : FrontFails (sections_going entry pid (onto out (sections_going entry pid out whole)) (next ∷ [])) (λ put p. fails (sections_going entry pid out whole ++ put) p)

@@ -8,7 +8,7 @@ ghost use Rattle.ts_packet.specs.Transfers.{WentWell};
 ghost use Rattle.program_laws.specs.Writing.{section_out, packets_out};
 ghost use Rattle.program_follower.specs.Standing.{tables_left, table_seen};
 ghost use Rattle.outgoing_packets.specs.Entries.{change_of, tables_out, table_out, TableFails, GoesOut, AllGoOut, bytes_or};
-ghost use Rattle.outgoing_packets.specs.Entries.{sent, all_sent, HasBytes};
+ghost use Rattle.outgoing_packets.specs.Entries.{section_going, sections_going, HasBytes};
 ghost use Rattle.outgoing_packets.specs.Numbers.{upcoming_on, FrontFails};
 
 use crate::entry::CueEntry;
@@ -119,9 +119,9 @@ impl Outgoing {
         // The same, whether the maps have room for the entry or not.
         ensures sent { (start : Option (List ℕ)) (ps out : List (List ℕ)) → S.holds sink.old start ps →
             HasPut self.old out → All HasBytes (tables_left tables.entry) →
-            OnOk result (S.holds sink.new start (ps ++ all_sent change.now pid out (tables_left tables.entry))) }
+            OnOk result (S.holds sink.new start (ps ++ sections_going change.now pid out (tables_left tables.entry))) }
         ensures sent_numbers { (out : List (List ℕ)) → HasPut self.old out → All HasBytes (tables_left tables.entry) →
-            OnOk result (HasPut self.new (onto out (all_sent change.now pid out (tables_left tables.entry)))) }
+            OnOk result (HasPut self.new (onto out (sections_going change.now pid out (tables_left tables.entry)))) }
         ensures refused { (start : Option (List ℕ)) (ps out : List (List ℕ)) → S.holds sink.old start ps →
             HasPut self.old out → All HasBytes (tables_left tables.entry) →
             IfErr result (λ f. TableFails change.now pid out (tables_left tables.entry) self.new
@@ -160,12 +160,12 @@ impl Outgoing {
         ensures refused { IfErr result (λ _. self.new ≡ self.old) }
         ensures sent { (start : Option (List ℕ)) (ps out : List (List ℕ)) → S.holds sink.old start ps →
             HasPut self.old out → HasBytes (table_seen table.entry) →
-            OnOk result (S.holds sink.new start (ps ++ all_sent change.now pid out (table_seen table.entry ∷ []))) }
+            OnOk result (S.holds sink.new start (ps ++ sections_going change.now pid out (table_seen table.entry ∷ []))) }
         ensures sent_numbers { (out : List (List ℕ)) → HasPut self.old out → HasBytes (table_seen table.entry) →
-            OnOk result (HasPut self.new (onto out (all_sent change.now pid out (table_seen table.entry ∷ [])))) }
+            OnOk result (HasPut self.new (onto out (sections_going change.now pid out (table_seen table.entry ∷ [])))) }
         ensures sent_err { (start : Option (List ℕ)) (ps out : List (List ℕ)) → S.holds sink.old start ps →
             HasPut self.old out → HasBytes (table_seen table.entry) →
-            IfErr result (λ f. FrontFails (all_sent change.now pid out (table_seen table.entry ∷ []))
+            IfErr result (λ f. FrontFails (sections_going change.now pid out (table_seen table.entry ∷ []))
             (λ put p. S.fails sink.new start (ps ++ put) p f)) }
         ensures well { OnOk result (WentWell (S.counts sink.old) (S.counts sink.new)) }
         ensures blamed { IfErr result (λ f. Blamed f (S.counts sink.old) (S.counts sink.new) (S.is_full sink.new)) }
@@ -203,7 +203,7 @@ fn changed_section(table: &LentTable<'_>, change: &CueEntry) -> Option<Section>
     ensures value { GoesOut change.now (table_seen table.now) →
         bytes_or result table.now.section.now ≡ section_out (change_of change.now) (table_seen table.now) }
     ensures some { GoesOut change.now (table_seen table.now) → 0 < length (bytes_or result table.now.section.now) }
-    ensures sent { bytes_or result table.now.section.now ≡ sent change.now (table_seen table.now) }
+    ensures sent { bytes_or result table.now.section.now ≡ section_going change.now (table_seen table.now) }
     ensures bytes { HasBytes (table_seen table.now) → 0 < length (bytes_or result table.now.section.now) }
 {
     let Some(map) = &table.map else {

@@ -5,7 +5,7 @@ use Rattle.ts_packet.specs.Runs.{onto}
 use Rattle.ts_packet.proofs.CountLemmas.{well-refl, well-trans, blamed-after}
 use Rattle.program_laws.specs.Writing.{section_out, packets_out}
 use Rattle.program_follower.specs.Standing.{tables_left, table_seen}
-use Rattle.outgoing_packets.specs.Entries.{change_of, sent, all_sent, HasBytes}
+use Rattle.outgoing_packets.specs.Entries.{change_of, section_going, sections_going, HasBytes}
 use Rattle.outgoing_packets.specs.Numbers.{HasPut}
 use Rattle.outgoing_packets.proofs.NumberLemmas.{going-first, going-good, going-here, going-more, gone-first, gone-good, gone-here, gone-out, gone-more, front-moved, fails-behind, packets-more}
 use Rattle.outgoing_packets.proofs.outgoing.Outgoing.put_tables.Goals as goal
@@ -15,7 +15,7 @@ loop-table-init g c = record {
   leads = g.met.S.PacketSink.leads_refl c.args.sink.now;
   well = well-refl _;
   put = λ out h good. ([], going-first c.args.change.now c.args.pid out (tables_left c.args.tables) (tables_left c.into_iter-table-iterator.result) c.args.self.now (ap tables_left c.into_iter-table-iterator.ensures.into_iter_gives) h good, λ start ps k. rw append-nil k);
-  sent = λ out h good. ([], gone-first (sent c.args.change.now) HasBytes c.args.pid out (tables_left c.args.tables) (tables_left c.into_iter-table-iterator.result) c.args.self.now (ap tables_left c.into_iter-table-iterator.ensures.into_iter_gives) h good, λ start ps k. rw append-nil k);
+  sent = λ out h good. ([], gone-first (section_going c.args.change.now) HasBytes c.args.pid out (tables_left c.args.tables) (tables_left c.into_iter-table-iterator.result) c.args.self.now (ap tables_left c.into_iter-table-iterator.ensures.into_iter_gives) h good, λ start ps k. rw append-nil k);
 }
 
 pub loop-table-preserved : goal.loop-table-preserved
@@ -37,11 +37,11 @@ loop-table-preserved g c =
       sent = λ out h good.
           let k = i.sent out h good in
           let later = tables_left c.next.new.self in
-          let before = all_sent c.args.change.now c.args.pid out k.0 in
-          let goes = gone-good (sent c.args.change.now) HasBytes c.args.pid out (tables_left c.args.tables) (tables_left c.loop-table.table-iterator) c.loop-table.self k.0 k.1 t later c.in-Some.ensures.steps in (
+          let before = sections_going c.args.change.now c.args.pid out k.0 in
+          let goes = gone-good (section_going c.args.change.now) HasBytes c.args.pid out (tables_left c.args.tables) (tables_left c.loop-table.table-iterator) c.loop-table.self k.0 k.1 t later c.in-Some.ensures.steps in (
             k.0 ++ t ∷ [],
-            gone-more (sent c.args.change.now) HasBytes c.args.pid out (tables_left c.args.tables) (tables_left c.loop-table.table-iterator) c.loop-table.self k.0 k.1 t later c.in-Some.ensures.steps c.put_table.new.self c.put_table.ensures.pid (c.in-Ok.ensures.sent_numbers (onto out before) k.1.numbers goes),
-            λ start ps held. subst (λ l. g.S.PacketSink.holds c.put_table.new.sink start l) (gone-out (sent c.args.change.now) HasBytes c.args.pid out (tables_left c.args.tables) (tables_left c.loop-table.table-iterator) c.loop-table.self k.0 k.1 t later c.in-Some.ensures.steps c.put_table.ensures.pid ps)
+            gone-more (section_going c.args.change.now) HasBytes c.args.pid out (tables_left c.args.tables) (tables_left c.loop-table.table-iterator) c.loop-table.self k.0 k.1 t later c.in-Some.ensures.steps c.put_table.new.self c.put_table.ensures.pid (c.in-Ok.ensures.sent_numbers (onto out before) k.1.numbers goes),
+            λ start ps held. subst (λ l. g.S.PacketSink.holds c.put_table.new.sink start l) (gone-out (section_going c.args.change.now) HasBytes c.args.pid out (tables_left c.args.tables) (tables_left c.loop-table.table-iterator) c.loop-table.self k.0 k.1 t later c.in-Some.ensures.steps c.put_table.ensures.pid ps)
                 (c.in-Ok.ensures.sent start (ps ++ before) (onto out before) (k.2 start ps held) k.1.numbers goes),
           );
     }
@@ -69,16 +69,16 @@ returns-in-Err-clause-refused g c = λ start ps out held h good.
     let k = c.loop-table.invariant.sent out h good in
     let t = table_seen c.in-Some.table in
     let later = tables_left c.next.new.self in
-    let before = all_sent c.args.change.now c.args.pid out k.0 in
-    let goes = gone-good (sent c.args.change.now) HasBytes c.args.pid out (tables_left c.args.tables) (tables_left c.loop-table.table-iterator) c.loop-table.self k.0 k.1 t later c.in-Some.ensures.steps in
+    let before = sections_going c.args.change.now c.args.pid out k.0 in
+    let goes = gone-good (section_going c.args.change.now) HasBytes c.args.pid out (tables_left c.args.tables) (tables_left c.loop-table.table-iterator) c.loop-table.self k.0 k.1 t later c.in-Some.ensures.steps in
     let fails = g.S.PacketSink.fails c.put_table.new.sink start in
     record {
       whole = k.0;
       next = t;
       left = later;
-      all = gone-here (sent c.args.change.now) HasBytes c.args.pid out (tables_left c.args.tables) (tables_left c.loop-table.table-iterator) c.loop-table.self k.0 k.1 t later c.in-Some.ensures.steps;
+      all = gone-here (section_going c.args.change.now) HasBytes c.args.pid out (tables_left c.args.tables) (tables_left c.loop-table.table-iterator) c.loop-table.self k.0 k.1 t later c.in-Some.ensures.steps;
       numbers = subst (λ o. HasPut o (onto out before)) (sym c.in-Err.ensures.refused) k.1.numbers;
-      fault = front-moved (all_sent c.args.change.now c.args.pid (onto out before) (t ∷ [])) (λ put p. fails ((ps ++ before) ++ put) p c.in-Err.fault) (λ put p. fails (ps ++ (before ++ put)) p c.in-Err.fault)
+      fault = front-moved (sections_going c.args.change.now c.args.pid (onto out before) (t ∷ [])) (λ put p. fails ((ps ++ before) ++ put) p c.in-Err.fault) (λ put p. fails (ps ++ (before ++ put)) p c.in-Err.fault)
           (λ put p f. rw (← append_assoc ps before put) f) (c.in-Err.ensures.sent_err start (ps ++ before) (onto out before) (k.2 start ps held) k.1.numbers goes);
     }
 
@@ -110,11 +110,11 @@ returns-clause-sent g c = λ start ps out held h good.
     let k = c.loop-table.invariant.sent out h good in
     let none : tables_left c.loop-table.table-iterator ≡ [] = c.in-None.ensures.steps.0 in
     let all : tables_left c.args.tables ≡ k.0 = k.1.split ∙ ap (λ ts. k.0 ++ ts) none ∙ append-nil k.0 in
-    subst (λ ts. g.S.PacketSink.holds c.loop-table.sink start (ps ++ all_sent c.args.change.now c.args.pid out ts)) (sym all) (k.2 start ps held)
+    subst (λ ts. g.S.PacketSink.holds c.loop-table.sink start (ps ++ sections_going c.args.change.now c.args.pid out ts)) (sym all) (k.2 start ps held)
 
 pub returns-clause-sent_numbers : goal.returns-clause-sent_numbers
 returns-clause-sent_numbers g c = λ out h good.
     let k = c.loop-table.invariant.sent out h good in
     let none : tables_left c.loop-table.table-iterator ≡ [] = c.in-None.ensures.steps.0 in
     let all : tables_left c.args.tables ≡ k.0 = k.1.split ∙ ap (λ ts. k.0 ++ ts) none ∙ append-nil k.0 in
-    subst (λ ts. HasPut c.loop-table.self (onto out (all_sent c.args.change.now c.args.pid out ts))) (sym all) k.1.numbers
+    subst (λ ts. HasPut c.loop-table.self (onto out (sections_going c.args.change.now c.args.pid out ts))) (sym all) k.1.numbers
