@@ -45,8 +45,8 @@ pub record GaveClean {X : Type 0} (leads : X → X → Type 0) (left : X → Opt
 -- ---- the whole
 
 -- memory was refused, or this is what is wrong
-abbrev pub IsOf : Option AdFault → AdFault → Type 0
-IsOf wrong fault = (fault ≡ OutOfMemory) ⊎ (wrong ≡ Some fault)
+abbrev pub IsWhatIsWrong : Option AdFault → AdFault → Type 0
+IsWhatIsWrong wrong fault = (fault ≡ OutOfMemory) ⊎ (wrong ≡ Some fault)
 
 -- THE END of a stream: all of its packets were given, and one read told the end behind them
 pub record ReadToEnd {X : Type 0} (leads : X → X → Type 0) (left : X → Option (List ℕ)) (given : X → ℕ) (counts : X → Tally) (ended broken : X → Bool) (ps : List (List ℕ)) (first now : X) : Type 0 where
@@ -56,11 +56,11 @@ pub record ReadToEnd {X : Type 0} (leads : X → X → Type 0) (left : X → Opt
 
 -- what the last read came to, behind these packets: a fault of its own, a packet with which this is wrong, or the end of a stream with which
 -- this is wrong
-abbrev pub StopsBy : {X : Type 0} → (X → Option (List ℕ)) → (X → ℕ) → (X → Tally) → (X → Bool) → (X → Bool) → (X → X → Type 0) → AdFault → List (List ℕ) → X → X → Type 0
-StopsBy left given counts ended broken falls_short fault ps at now =
+abbrev pub LastReadCameTo : {X : Type 0} → (X → Option (List ℕ)) → (X → ℕ) → (X → Tally) → (X → Bool) → (X → Bool) → (X → X → Type 0) → AdFault → List (List ℕ) → X → X → Type 0
+LastReadCameTo left given counts ended broken falls_short fault ps at now =
     ((f : ReadFault) × (fault ≡ of_read f) × ToldFault left given counts ended broken falls_short f at now)
-    ⊎ (((p : List ℕ) × GavePacket left given counts ended broken p at now × IsOf (packet_fault p (reverse ps)) fault)
-    ⊎ (ToldEnd left given counts ended broken at now × IsOf (end_fault ps) fault))
+    ⊎ (((p : List ℕ) × GavePacket left given counts ended broken p at now × IsWhatIsWrong (packet_fault p (reverse ps)) fault)
+    ⊎ (ToldEnd left given counts ended broken at now × IsWhatIsWrong (end_fault ps) fault))
 
 -- WHERE A STREAM STOPS with this fault: nothing is wrong with the packets that were given, and behind them one read was made, of which the
 -- fault comes. So what is wrong with a packet, or with the whole, is told before anything is read behind it.
@@ -68,7 +68,7 @@ pub record StoppedAt {X : Type 0} (leads : X → X → Type 0) (left : X → Opt
   pub packets : List (List ℕ)
   pub at : X
   pub before : GaveClean leads left given packets first at
-  pub last : StopsBy left given counts ended broken falls_short fault packets at now
+  pub last : LastReadCameTo left given counts ended broken falls_short fault packets at now
 
 -- said of a fault that comes of reading
 abbrev pub IfOfStream : AdFault → Type 0 → Type 0

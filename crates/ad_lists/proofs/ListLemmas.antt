@@ -9,7 +9,7 @@ use Rattle.ts_packet.specs.Sources.{HasRead, Stalled, Exhausted, SourceBlamed}
 use Rattle.ts_packet.specs.Transfers.{WentWell, TookTurns, FallsShort}
 use Rattle.ad_library.specs.declared.library.AdLibrary.{AdLibrary}
 use Rattle.ad_library.specs.declared.fault.AdFault.{AdFault}
-use Rattle.ad_library.specs.Stops.{StoppedAt, StopsBy}
+use Rattle.ad_library.specs.Stops.{StoppedAt, LastReadCameTo}
 use Rattle.ad_library.specs.Advertisements.{Advertisement}
 use Rattle.ad_library.specs.Library.{held}
 use Rattle.decimal_numbers.specs.Numbers.{number_below}
@@ -250,7 +250,7 @@ stops_over counts remaining leads device_of given broken short fault first now o
       last = subst (λ d. LastOver counts remaining fault h.packets (device_of h.at) d) f (by_last n h.last);
     }
   where
-    by_last : given h.at ≡ length h.packets → StopsBy (λ x. remaining (device_of x)) given (λ x. counts (device_of x)) (λ x. false) broken short fault h.packets h.at now
+    by_last : given h.at ≡ length h.packets → LastReadCameTo (λ x. remaining (device_of x)) given (λ x. counts (device_of x)) (λ x. false) broken short fault h.packets h.at now
         → LastOver counts remaining fault h.packets (device_of h.at) (device_of now)
     by_last n (inl k) = let (g, is, told) = k in inl (g, is, told.refused, subst (λ m. SourceBlamed g m (counts (device_of h.at)) (counts (device_of now))) n told.blamed)
     by_last n (inr (inl k)) = let (p, gave, of) = k in inr (inl (p, gave.packet, gave.moved.1, of))

@@ -17,7 +17,7 @@ use Rattle.ad_library.specs.declared.fault.AdFault.TheVariants as ad
 use Rattle.ad_library.specs.Advertisements.{Advertisement, advertisement}
 use Rattle.ad_library.specs.Faults.{Says, NoneFailed, StreamBlamed, of_read, packet_fault, end_fault}
 use Rattle.ad_library.specs.Reading.{AreClean}
-use Rattle.ad_library.specs.Stops.{IsOf, IfOfStream}
+use Rattle.ad_library.specs.Stops.{IsWhatIsWrong, IfOfStream}
 use Rattle.ad_library.specs.Library.{held, filed}
 use Rattle.decimal_numbers.specs.Numbers.{number_below}
 use Rattle.ad_lists.specs.declared.list.Loading.{Loading}
@@ -163,8 +163,8 @@ StallsOver {X} counts remaining first now =
 abbrev pub LastOver : {X : Type 0} → (X → Tally) → (X → Option (List ℕ)) → AdFault → List (List ℕ) → X → X → Type 0
 LastOver counts remaining fault ps at now =
     ((f : ReadFault) × (fault ≡ of_read f) × Refuses false (remaining at) f × SourceBlamed f (length ps) (counts at) (counts now))
-    ⊎ (((p : List ℕ) × WasGiven (remaining at) (remaining now) p × WentWell (counts at) (counts now) × IsOf (packet_fault p (reverse ps)) fault)
-    ⊎ (IsAtEnd (remaining at) × IsAtEnd (remaining now) × LastMovedNone (counts at) (counts now) × IsOf (end_fault ps) fault))
+    ⊎ (((p : List ℕ) × WasGiven (remaining at) (remaining now) p × WentWell (counts at) (counts now) × IsWhatIsWrong (packet_fault p (reverse ps)) fault)
+    ⊎ (IsAtEnd (remaining at) × IsAtEnd (remaining now) × LastMovedNone (counts at) (counts now) × IsWhatIsWrong (end_fault ps) fault))
 
 -- Where a device stops: nothing is wrong with the packets that were read up to some state of it, and behind that it gave one packet more with
 -- which this is wrong, or the end of a stream with which this is wrong, or what is no packet. So nothing is read behind a fault.
@@ -175,13 +175,13 @@ pub record StopsOver {X : Type 0} (counts : X → Tally) (remaining : X → Opti
   pub clean : AreClean packets
   pub last : LastOver counts remaining fault packets at now
 
-abbrev pub DeviceStops : {X : Type 0} → (X → Tally) → (X → Option (List ℕ)) → ListFault → X → X → Type 0
-DeviceStops counts remaining BadList first now = ⊥
-DeviceStops counts remaining File first now = ⊥
-DeviceStops counts remaining Io first now = ⊥
-DeviceStops counts remaining Turns first now = ⊥
-DeviceStops counts remaining (Ad fault) first now = IfOfStream fault (StopsOver counts remaining fault first now)
-DeviceStops counts remaining OutOfMemory first now = StopsOver counts remaining ad.OutOfMemory first now
+abbrev pub DeviceStopsAt : {X : Type 0} → (X → Tally) → (X → Option (List ℕ)) → ListFault → X → X → Type 0
+DeviceStopsAt counts remaining BadList first now = ⊥
+DeviceStopsAt counts remaining File first now = ⊥
+DeviceStopsAt counts remaining Io first now = ⊥
+DeviceStopsAt counts remaining Turns first now = ⊥
+DeviceStopsAt counts remaining (Ad fault) first now = IfOfStream fault (StopsOver counts remaining fault first now)
+DeviceStopsAt counts remaining OutOfMemory first now = StopsOver counts remaining ad.OutOfMemory first now
 
 -- of a line behind these numbers: a bad one is neither blank nor an entry; the other faults come at entries
 abbrev pub BlamesLine : ListFault → List ℕ → List ℕ → Type 0

@@ -5,7 +5,7 @@ ghost use Rattle.indexmap.specs.IndexMap.{index_map_len};
 ghost use Rattle.ts_packet.specs.Transfers.{LastMovedNone};
 ghost use Rattle.ad_library.specs.Library.{held};
 ghost use Rattle.ad_lists.specs.Lists.{is_blank, entry_of, numbers_of, FilesOne, IsFiled, IsRead, IsListed};
-ghost use Rattle.ad_lists.specs.Lists.{SaysOf, DeviceBlamed, DeviceStops, StallsOver, BlamesStream, BlamesLine, StopsAt, ListBlamed, IsOfLine};
+ghost use Rattle.ad_lists.specs.Lists.{SaysOf, DeviceBlamed, DeviceStopsAt, StallsOver, BlamesStream, BlamesLine, StopsAt, ListBlamed, IsOfLine};
 
 use ad_library::{AdFault, AdLibrary};
 use decimal_numbers::number_below;
@@ -276,7 +276,7 @@ fn file_device<S: Source, M: Allocator + Copy>(
     ensures reading { IfErr result (λ f. DeviceBlamed f (S.counts device.old) (S.counts device.new)) }
     ensures turns { result ≡ Err (ListFault.Ad (AdFault.Packets ReadFault.Turns))
         → StallsOver S.counts S.remaining device.old device.new }
-    ensures at { IfErr result (λ f. DeviceStops S.counts S.remaining f device.old device.new) }
+    ensures at { IfErr result (λ f. DeviceStopsAt S.counts S.remaining f device.old device.new) }
 {
     let mut packets = PacketReader::new(device);
     match library.add(id, &mut packets) {
