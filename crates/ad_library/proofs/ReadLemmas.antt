@@ -7,7 +7,7 @@ use Rattle.ts_packet.specs.Packets.{packets_of}
 use Rattle.ts_packet.specs.Sources.{WasGiven, HasRead, Refuses, ReadSo, SourceCounts, SourceBlamed}
 use Rattle.ts_packet.specs.FirstFault as firsts
 use Rattle.ts_packet.specs.FirstFault.{or_then, Cause, OfInput, OfDevice, OfNothing, SaysBy, read_cause}
-use Rattle.ts_packet.specs.Transfers.{WentWell}
+use Rattle.ts_packet.specs.Transfers.{WentWell, NoneFailed}
 use Rattle.ts_packet.specs.declared.tally.Tally.{Tally}
 use Rattle.ts_packet.specs.declared.reader.ReadFault.{ReadFault}
 use Rattle.ts_packet.specs.declared.reader.ReadFault.TheVariants as read_faults
@@ -25,7 +25,8 @@ use Rattle.ad_library.specs.declared.fault.AdFault.{AdFault}
 use Rattle.ad_library.specs.declared.fault.AdFault.TheVariants as ad_faults
 use Rattle.ad_library.specs.declared.gathering.Gathering.{Gathering}
 use Rattle.ad_library.specs.Advertisements.{kept_streams, zero_of, Advertisement, advertisement}
-use Rattle.ad_library.specs.Faults.{first_program, of_network, as_ad_fault, large_fault, loss_fault, packet_fault, ad_test, end_fault, without_zero, advertisement_fault, ad_cause, Says, of_read, is_of_library, NoneFailed, StreamBlamed}
+use Rattle.program_follower.specs.Purposes.{reading_advertisement}
+use Rattle.ad_library.specs.Faults.{of_network, as_ad_fault, large_fault, loss_fault, packet_fault, ad_test, end_fault, without_zero, advertisement_fault, ad_cause, Says, of_read, is_of_library, StreamBlamed}
 use Rattle.ad_library.specs.Gathering.{Gathers}
 use Rattle.ad_library.specs.Reading.{AreClean, GathersAll}
 
@@ -102,9 +103,9 @@ of_net (Some n) f e = let s : of_network n ≡ f = cc in subst OfPacket s (netwo
 
 pub of_packet : (p : List ℕ) (past : List (List ℕ)) (f : AdFault) → packet_fault p past ≡ Some f → OfPacket f
 of_packet p past f e =
-    of_either (large_fault past) (or_then (as_ad_fault (network_fault first_program p past)) (loss_fault p past)) f
+    of_either (large_fault past) (or_then (as_ad_fault (network_fault reading_advertisement p past)) (loss_fault p past)) f
     (λ g k. of_if _ ad_faults.Large g (record { cause = refl; own = refl }) k)
-    (λ g k. of_either (as_ad_fault (network_fault first_program p past)) (loss_fault p past) g (of_net (network_fault first_program p past))
+    (λ g k. of_either (as_ad_fault (network_fault reading_advertisement p past)) (loss_fault p past) g (of_net (network_fault reading_advertisement p past))
     (λ h l. of_if _ ad_faults.Loss h (record { cause = refl; own = refl }) l) k)
     e
 
@@ -209,9 +210,9 @@ quiet_either (Some g) b f k l e = k f e
 
 quiet_packet : (p : List ℕ) (past : List (List ℕ)) (f : AdFault) → packet_fault p past ≡ Some f → is_quiet f ≡ true
 quiet_packet p past f e =
-    quiet_either (large_fault past) (or_then (as_ad_fault (network_fault first_program p past)) (loss_fault p past)) f
+    quiet_either (large_fault past) (or_then (as_ad_fault (network_fault reading_advertisement p past)) (loss_fault p past)) f
     (λ g k. quiet_if _ ad_faults.Large g refl k)
-    (λ g k. quiet_either (as_ad_fault (network_fault first_program p past)) (loss_fault p past) g (quiet_net (network_fault first_program p past)) (λ h l. quiet_if _ ad_faults.Loss h refl l) k)
+    (λ g k. quiet_either (as_ad_fault (network_fault reading_advertisement p past)) (loss_fault p past) g (quiet_net (network_fault reading_advertisement p past)) (λ h l. quiet_if _ ad_faults.Loss h refl l) k)
     e
 
 pub quiet_take : (p : List ℕ) (past : List (List ℕ)) (f : AdFault) → (f ≡ ad_faults.OutOfMemory) ⊎ (packet_fault p past ≡ Some f) → is_quiet f ≡ true

@@ -4,12 +4,12 @@ use Rattle.std.proofs.Common.{◌≡◌, ℕ, suc, ◌+◌, List, [], ◌∷◌,
 use Rattle.std.proofs.Math.ListN.{set}
 use Rattle.std.proofs.lemmas.Bool.{eq-eqb}
 use Rattle.std.proofs.lemmas.List.{take_more}
-use Rattle.ts_packet.specs.Fields.{on, unit_start}
+use Rattle.ts_packet.specs.Fields.{on, unit_start, is_among}
 use Rattle.ts_packet.specs.Duplicates.{repeats, is_gap}
 use Rattle.ts_packet.proofs.Cases.{by_test}
 use Rattle.unit_stream.specs.Times.{begins, begins_one}
 use Rattle.psi_tables.specs.declared.stream.Stream.{Stream}
-use Rattle.program_follower.specs.Faults.{pids_in, is_in}
+use Rattle.program_follower.specs.Faults.{pids_in}
 use Rattle.program_follower.specs.Streaming.{next_place, first_on}
 use Rattle.program_follower.proofs.StreamLemmas.{one_of, NeedsOn, first_of, off_payload, one_pid, begins_is, begins_needs}
 use Rattle.ad_library.specs.declared.gathered.Gathered.{Gathered}
@@ -70,10 +70,10 @@ module _ (p : List ℕ) (past : List (List ℕ)) where
   begins_first pids x h = begins_is p past pids ∙ first_of (λ pid. begins pid p past) p (begins_needs p past) pids x h
 
   -- the others
-  none_behind : (pid : ℕ) (ss : List Stream) → on pid p ≡ true → is_in pid (pids_in ss) ≡ false → NoPayload p (pids_in ss)
+  none_behind : (pid : ℕ) (ss : List Stream) → on pid p ≡ true → is_among pid (pids_in ss) ≡ false → NoPayload p (pids_in ss)
   none_behind pid [] o h = tt
   none_behind pid (s ∷ ss) o h =
-      let r = or_none (s.pid == pid) (is_in pid (pids_in ss)) h in
+      let r = or_none (s.pid == pid) (is_among pid (pids_in ss)) h in
       let not_on : on s.pid p ≡ false = by_test (on s.pid p) (λ y. absurd (let e = one_pid s.pid pid p y o in let f : (s.pid == pid) ≡ true = eq-eqb s.pid pid e in let g : true ≡ false = sym f ∙ r.0 in cc)) (λ n. n) in
       (off_payload s.pid p not_on, none_behind pid ss o r.1)
 

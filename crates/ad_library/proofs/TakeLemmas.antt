@@ -32,7 +32,8 @@ use Rattle.ad_library.specs.declared.fault.AdFault.TheVariants as ad_faults
 use Rattle.ad_library.specs.declared.gathered.Gathered.{Gathered}
 use Rattle.ad_library.specs.declared.gathering.Gathering.{Gathering}
 use Rattle.ad_library.specs.Storing.{on_line}
-use Rattle.ad_library.specs.Faults.{first_program, as_ad_fault, gap_on_one, large_fault, loss_fault, packet_fault}
+use Rattle.program_follower.specs.Purposes.{reading_advertisement}
+use Rattle.ad_library.specs.Faults.{as_ad_fault, gap_on_one, large_fault, loss_fault, packet_fault}
 use Rattle.ad_library.specs.Gathering.{AllGathered, StreamsGathered, StreamsStand, IsOfOne, IsWholeStart, IsNearStart, stream_in, Gathers, IsHeld}
 use Rattle.ad_library.proofs.ProgramLemmas.{NoPayload as NonePayload, streams_apart, none_marked, none_first, none_map}
 use Rattle.ad_library.proofs.StreamsLemmas.{all_off, begins_none, gap_first, begins_first}
@@ -60,9 +61,9 @@ as_none (Some unit_faults.Scrambled) h = absurd (cc)
 as_none (Some unit_faults.HeaderSplit) h = absurd (cc)
 as_none (Some unit_faults.TimeJump) h = absurd (cc)
 
-pub unit_sound : (p : List ℕ) (past : List (List ℕ)) → network_fault first_program p past ≡ None → unit_fault (pids_of (program_of None past)) p (behind_head None past) ≡ None
+pub unit_sound : (p : List ℕ) (past : List (List ℕ)) → network_fault reading_advertisement p past ≡ None → unit_fault (pids_of (program_of None past)) p (behind_head None past) ≡ None
 unit_sound p past h =
-    let c = first_program in
+    let c = reading_advertisement in
     let a = none_both (cue_fault c p) (option_or (pats_fault_at c p past) (option_or (maps_fault_at c p past) (unit_fault_at c p past))) h in
     let b = none_both (pats_fault_at c p past) (option_or (maps_fault_at c p past) (unit_fault_at c p past)) a.1 in
     let d = none_both (maps_fault_at c p past) (unit_fault_at c p past) b.1 in
@@ -128,7 +129,7 @@ pub record OfOne (i : ℕ) (part : StreamPacket) (p : List ℕ) (past : List (Li
   pub first_is : first_on (pids_of (program_of None past)) p ≡ Some (i, pid)
   pub is : IsStreamPacket part (pids_of (program_of None past)) pid p (behind_head None past)
 
-pub of_one : (x : Place) (i : ℕ) (part : StreamPacket) (p : List ℕ) (past : List (List ℕ)) → IsPlace x first_program p past → Some (i, part) ≡ stream_in x → OfOne i part p past
+pub of_one : (x : Place) (i : ℕ) (part : StreamPacket) (p : List ℕ) (past : List (List ℕ)) → IsPlace x reading_advertisement p past → Some (i, part) ≡ stream_in x → OfOne i part p past
 of_one places.Marked i part p past h e = absurd (cc)
 of_one places.Cue i part p past h e = absurd (cc)
 of_one places.Map i part p past h e = absurd (cc)
@@ -141,14 +142,14 @@ of_one (places.Stream j q) i part p past h e =
 map_off : (o : Option Listed) (p : List ℕ) (l : Listed) → o ≡ Some l → on_map o p ≡ true → on l.pid p ≡ true
 map_off o p l e h = sym (ap (λ x. on_map x p) e) ∙ h
 
-pub of_none : (x : Place) (p : List ℕ) (past : List (List ℕ)) → first_fault first_program past ≡ None → IsPlace x first_program p past → None ≡ stream_in x → NonePayload p (pids_of (program_of None past))
+pub of_none : (x : Place) (p : List ℕ) (past : List (List ℕ)) → first_fault reading_advertisement past ≡ None → IsPlace x reading_advertisement p past → None ≡ stream_in x → NonePayload p (pids_of (program_of None past))
 of_none places.Marked p past s h e = none_marked p (pids_of (program_of None past)) h
 of_none places.Cue p past s h e = absurd (cc)
 of_none places.Map p past s h e = by_program (program_of None past) refl where
   by_program : (o : Option Program) → program_of None past ≡ o → NonePayload p (pids_of o)
   by_program None k = tt
   by_program (Some r) k =
-      let a = streams_apart first_program past r s k in
+      let a = streams_apart reading_advertisement past r s k in
       none_map p a.known.pid (pids_in r.streams) (map_off (listed None past) p a.known a.listed_is h.1) a.streams.off_map
 of_none places.Other p past s h e = none_first p (pids_of (program_of None past)) h.3
 of_none (places.Stream j q) p past s h e = absurd (cc)
@@ -166,19 +167,19 @@ module _ (p : List ℕ) (past : List (List ℕ)) (few : length past < 356962) wh
   not_large : (o : Option AdFault) → behind o ≡ o
   not_large o = ap (λ b. or_then (if b then Some ad_faults.Large else None) o) (few_packets (length past) few)
 
-  by_network : network_fault first_program p past ≡ None → packet_fault p past ≡ loss_fault p past
-  by_network n = not_large (or_then (as_ad_fault (network_fault first_program p past)) (loss_fault p past)) ∙ ap (λ o. or_then (as_ad_fault o) (loss_fault p past)) n
+  by_network : network_fault reading_advertisement p past ≡ None → packet_fault p past ≡ loss_fault p past
+  by_network n = not_large (or_then (as_ad_fault (network_fault reading_advertisement p past)) (loss_fault p past)) ∙ ap (λ o. or_then (as_ad_fault o) (loss_fault p past)) n
 
-  pub is_clean : network_fault first_program p past ≡ None → gap_on_one (pids_of (program_of None past)) p (behind_head None past) ≡ false → packet_fault p past ≡ None
+  pub is_clean : network_fault reading_advertisement p past ≡ None → gap_on_one (pids_of (program_of None past)) p (behind_head None past) ≡ false → packet_fault p past ≡ None
   is_clean n g = by_network n ∙ ap (λ b. if b then Some ad_faults.Loss else None) g
 
-  pub is_lost : network_fault first_program p past ≡ None → gap_on_one (pids_of (program_of None past)) p (behind_head None past) ≡ true → packet_fault p past ≡ Some ad_faults.Loss
+  pub is_lost : network_fault reading_advertisement p past ≡ None → gap_on_one (pids_of (program_of None past)) p (behind_head None past) ≡ true → packet_fault p past ≡ Some ad_faults.Loss
   is_lost n g = by_network n ∙ ap (λ b. if b then Some ad_faults.Loss else None) g
 
-  pub is_refused : (f : AdFault) → as_ad_fault (network_fault first_program p past) ≡ Some f → packet_fault p past ≡ Some f
-  is_refused f e = not_large (or_then (as_ad_fault (network_fault first_program p past)) (loss_fault p past)) ∙ ap (λ o. or_then o (loss_fault p past)) e
+  pub is_refused : (f : AdFault) → as_ad_fault (network_fault reading_advertisement p past) ≡ Some f → packet_fault p past ≡ Some f
+  is_refused f e = not_large (or_then (as_ad_fault (network_fault reading_advertisement p past)) (loss_fault p past)) ∙ ap (λ o. or_then o (loss_fault p past)) e
 
-  pub lost_or : network_fault first_program p past ≡ None → (f : AdFault) (gap : Bool) → gap_on_one (pids_of (program_of None past)) p (behind_head None past) ≡ gap
+  pub lost_or : network_fault reading_advertisement p past ≡ None → (f : AdFault) (gap : Bool) → gap_on_one (pids_of (program_of None past)) p (behind_head None past) ≡ gap
       → (f ≡ ad_faults.OutOfMemory) ⊎ ((f ≡ ad_faults.Loss) × (gap ≡ true)) → (f ≡ ad_faults.OutOfMemory) ⊎ (packet_fault p past ≡ Some f)
   lost_or n f gap g (inl e) = inl e
   lost_or n f gap g (inr e) = inr (is_lost n (g ∙ e.1) ∙ ap Some (sym e.0))
@@ -202,8 +203,8 @@ items_of o = option_map (λ v. v.items) o
 
 -- what is the same for each packet
 pub record Feeds {A : Type 0} (old new : Gathering A) (p : List ℕ) (past : List (List ℕ)) : Type 0 where
-  pub follower : FollowerStandsFor new.follower first_program (p ∷ past)
-  pub network : network_fault first_program p past ≡ None
+  pub follower : FollowerStandsFor new.follower reading_advertisement (p ∷ past)
+  pub network : network_fault reading_advertisement p past ≡ None
   pub packets : new.packets ≡ old.packets + 1
   pub room : old.packets < 356962
   pub held : IfSome new.high (IsHeld new.packets)
@@ -219,7 +220,7 @@ module _ {A : Type 0} (old : Gathering A) (p : List ℕ) (past : List (List ℕ)
       → option_map on_line new.high ≡ high (pids_of (program_of None (p ∷ past))) (behind_head None (p ∷ past)) → Gathers new (p ∷ past)
   next_gathers new f s e = record {
     follower = f.follower;
-    sound = ap (λ x. option_or x (network_fault first_program p past)) h.sound ∙ f.network;
+    sound = ap (λ x. option_or x (network_fault reading_advertisement p past)) h.sound ∙ f.network;
     packets = let a = f.packets in let b = h.packets in omega (arith, a, b);
     few = let a = f.packets in let b = f.room in omega (arith, a, b);
     streams = s;
@@ -243,14 +244,14 @@ module _ {A : Type 0} (old : Gathering A) (p : List ℕ) (past : List (List ℕ)
     one = (i, pid);
     is = record {
       stand = record { streams_are = of_streams (items_of old.streams) r (behind_head None past) s; high_is = k };
-      apart = (streams_apart first_program past r h.sound e).streams.apart;
+      apart = (streams_apart reading_advertisement past r h.sound e).streams.apart;
       place_is = refl;
       first_is = first;
       is = is;
     };
   }
 
-  pub one_is : (x : Place) (i : ℕ) (part : StreamPacket) → IsPlace x first_program p past → Some (i, part) ≡ stream_in x → One i part
+  pub one_is : (x : Place) (i : ℕ) (part : StreamPacket) → IsPlace x reading_advertisement p past → Some (i, part) ≡ stream_in x → One i part
   one_is x i part at e = let o = of_one x i part p past at e in one_by i part o.pid (program_of None past) refl o.first_is o.is h.streams h.high_is
 
   pub gap_of : (i : ℕ) (part : StreamPacket) → (o : One i part) → gap_on_one (pids_of (program_of None past)) p (behind_head None past) ≡ is_gap o.one.1 p (behind_head None past)
@@ -266,7 +267,7 @@ module _ {A : Type 0} (old : Gathering A) (p : List ℕ) (past : List (List ℕ)
       next_gathers new f (subst (λ q. StreamsGathered (items_of new.streams) q (behind_head None (p ∷ past))) (sym now) at)
       (s.high_is ∙ ap (high (pids_in r.streams)) more ∙ ap (λ q. high (pids_of q) (behind_head None (p ∷ past))) (sym now))
 
-  pub one_whole : (i : ℕ) (part : StreamPacket) → network_fault first_program p past ≡ None → One i part → IsWholeStart part (bytes p) × IsNearStart part
+  pub one_whole : (i : ℕ) (part : StreamPacket) → network_fault reading_advertisement p past ≡ None → One i part → IsWholeStart part (bytes p) × IsNearStart part
   one_whole i part n o =
       let u : unit_fault (pids_in o.program.streams) p (behind_head None past) ≡ None = ap (λ q. unit_fault (pids_of q) p (behind_head None past)) (sym o.program_is) ∙ unit_sound p past n in (
         starts_whole (pids_in o.program.streams) p (behind_head None past) o.one o.is.first_is u part o.is.is,

@@ -1,26 +1,22 @@
 -- What is wrong with a stream that is to be an advertisement: the first thing that it reaches.
-use Rattle.std.specs.Prelude.{◌≡◌, ℕ, ◌+◌, ◌*◌, List, [], ◌∷◌, length, reverse, Bool, true, false, ◌||◌, ◌⊎◌, nat_lt, if◌then◌else◌, Option, None, Some}
+use Rattle.std.specs.Prelude.{◌≡◌, ℕ, ◌+◌, ◌*◌, List, [], ◌∷◌, length, reverse, Bool, true, false, ◌||◌, nat_lt, if◌then◌else◌, Option, None, Some}
 use Rattle.ts_packet.specs.Packets.{packets_of}
 use Rattle.ts_packet.specs.Duplicates.{is_gap}
 use Rattle.ts_packet.specs.Runs.{Seen}
 use Rattle.ts_packet.specs.FirstFault as firsts
 use Rattle.ts_packet.specs.FirstFault.{or_then, Cause, OfInput, OfDevice, OfNothing, SaysBy}
-use Rattle.ts_packet.specs.Transfers.{WentWell, LastMovedNone, LastFailed}
+use Rattle.ts_packet.specs.Transfers.{WentWell, NoneFailed, LastFailed}
 use Rattle.ts_packet.specs.declared.tally.Tally.{Tally}
 use Rattle.ts_packet.specs.declared.reader.ReadFault.{ReadFault}
 use Rattle.ts_packet.specs.declared.reader.ReadFault.TheVariants as read_faults
 use Rattle.psi_tables.specs.declared.network.NetworkFault.{NetworkFault}
 use Rattle.psi_tables.specs.declared.network.NetworkFault.TheVariants as network_faults
-use Rattle.program_follower.specs.declared.purpose.Purpose.{Purpose}
+use Rattle.program_follower.specs.Purposes.{reading_advertisement}
 use Rattle.program_follower.specs.Program.{Program, program_of, behind_head, pids_of}
 use Rattle.program_follower.specs.Faults.{network_fault}
 use Rattle.ad_library.specs.declared.fault.AdFault.{AdFault}
 use Rattle.ad_library.specs.declared.fault.AdFault.TheVariants.{Exists, Many, Packets, Io, Large, NoProgram, Sections, TooManyStreams, BadPids, ProgramChanged, Scrambled, HeaderSplit, TimeJump, Loss, NoTime, OutOfMemory}
 use Rattle.ad_library.specs.Advertisements.{kept_streams, zero_of}
-
--- the first program of the stream, no PID being that of cues
-abbrev pub first_program : Purpose
-first_program = record { program = None; cue_pid = None; writes_cues = false }
 
 -- what is wrong with its tables and units; without a PID for cues the last two are never met
 abbrev pub of_network : NetworkFault → AdFault
@@ -52,7 +48,7 @@ loss_fault p past = if gap_on_one (pids_of (program_of None past)) p (behind_hea
 
 -- WHAT IS WRONG WITH A PACKET, by those before it, newest first
 abbrev pub packet_fault : List ℕ → List (List ℕ) → Option AdFault
-packet_fault p past = or_then (large_fault past) (or_then (as_ad_fault (network_fault first_program p past)) (loss_fault p past))
+packet_fault p past = or_then (large_fault past) (or_then (as_ad_fault (network_fault reading_advertisement p past)) (loss_fault p past))
 
 abbrev pub ad_test : Seen → Option AdFault
 ad_test s = packet_fault s.packet s.past
@@ -127,10 +123,6 @@ is_of_library Loss = false
 is_of_library NoTime = false
 
 -- ---- what the stream's device did
-
--- no call failed: all moved bytes, or all but the last one, which told the end
-abbrev pub NoneFailed : Tally → Tally → Type 0
-NoneFailed old new = WentWell old new ⊎ LastMovedNone old new
 
 -- what it counted where the stream is refused so
 abbrev pub StreamBlamed : AdFault → Tally → Tally → Type 0

@@ -3,7 +3,7 @@ use Rattle.std.specs.Option.{option_or}
 use Rattle.std.specs.Prelude.{◌≡◌, ◌==◌, ◌%◌, ℕ, ◌+◌, ◌*◌, ◌^◌, ◌≤◌, ◌<◌, ℤ, List, [], ◌∷◌, map, length, Bool, true, false, Option, None, Some, option_map, IfSome, Vec}
 use Rattle.pes_time.specs.Line.{place}
 use Rattle.pes_time.specs.Stamps.{is_split}
-use Rattle.ts_packet.specs.Fields.{number, on}
+use Rattle.ts_packet.specs.Fields.{number, on, is_among}
 use Rattle.ts_packet.specs.Duplicates.{last_of}
 use Rattle.ts_packet.specs.declared.follower.Last.{Last}
 use Rattle.unit_stream.specs.Clocks.{IsNear, Tells}
@@ -15,14 +15,14 @@ use Rattle.program_follower.specs.declared.streams.StreamPacket.TheVariants.{Sta
 use Rattle.program_follower.specs.declared.follower.Place.{Place}
 use Rattle.program_follower.specs.declared.follower.Place.TheVariants as places
 use Rattle.program_follower.specs.Program.{Program, program_of, behind_head, pids_of}
-use Rattle.program_follower.specs.Faults.{first_fault, pids_in, is_in}
+use Rattle.program_follower.specs.Faults.{first_fault, pids_in}
 use Rattle.program_follower.specs.Streaming.{IsStreamPacket, first_on}
 use Rattle.program_follower.specs.Following.{FollowerStandsFor}
 use Rattle.ad_library.specs.declared.gathered.Gathered.{Gathered}
 use Rattle.ad_library.specs.declared.gathering.Gathering.{Gathering}
 use Rattle.ad_library.specs.Advertisements.{kept}
 use Rattle.ad_library.specs.Storing.{StoredUnit, Stores, kept_unit, on_line, last_time, longer_stored}
-use Rattle.ad_library.specs.Faults.{first_program}
+use Rattle.program_follower.specs.Purposes.{reading_advertisement}
 
 -- ---- one stream
 
@@ -141,7 +141,7 @@ pub record StreamsStand {A Z : Type 0} (streams : Option (Vec (Gathered A) Z)) (
 -- no PID stands twice
 abbrev pub AreDistinct : List ℕ → Type 0
 AreDistinct [] = Unit {0}
-AreDistinct (pid ∷ pids) = (is_in pid pids ≡ false) × AreDistinct pids
+AreDistinct (pid ∷ pids) = (is_among pid pids ≡ false) × AreDistinct pids
 
 -- the packet is of this one of them
 pub record IsOfOne {A Z : Type 0} (streams : Option (Vec (Gathered A) Z)) (high' : Option ℕ) (part : StreamPacket) (index : ℕ) (one : ℕ × ℕ) (ss : List Stream) (p : List ℕ) (past : List (List ℕ)) : Type 0 where
@@ -161,8 +161,8 @@ stream_in places.Other = None
 
 -- THE GATHERING has taken these packets, and the network has no fault in them
 pub record Gathers {A : Type 0} (g : Gathering A) (past : List (List ℕ)) : Type 0 where
-  pub follower : FollowerStandsFor g.follower first_program past
-  pub sound : first_fault first_program past ≡ None
+  pub follower : FollowerStandsFor g.follower reading_advertisement past
+  pub sound : first_fault reading_advertisement past ≡ None
   pub packets : g.packets ≡ length past
   pub few : 188 * g.packets ≤ 67108864
   pub streams : StreamsGathered (option_map (λ v. v.items) g.streams) (program_of None past) (behind_head None past)

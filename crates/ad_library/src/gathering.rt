@@ -12,7 +12,8 @@ ghost use Rattle.program_follower.specs.Program.{program_of};
 ghost use Rattle.program_follower.specs.Streaming.{first_on, IsStreamPacket};
 ghost use Rattle.program_follower.specs.Following.{FollowerStandsFor};
 ghost use Rattle.ad_library.specs.Storing.{on_line};
-ghost use Rattle.ad_library.specs.Faults.{first_program, packet_fault};
+ghost use Rattle.program_follower.specs.Purposes.{reading_advertisement};
+ghost use Rattle.ad_library.specs.Faults.{packet_fault};
 ghost use Rattle.ad_library.specs.Gathering.{Gathers, AllGathered, StreamsGathered, IsWholeStart, IsNearStart};
 ghost use Rattle.ad_library.specs.Gathering.{HasWay, IsHeld, IsOfOne, StreamsStand, stream_in};
 
@@ -145,7 +146,7 @@ fn open<A: Allocator + Copy>(
     alloc: A,
 ) -> Result<(), AdFault>
     ensures same { IsSome streams.old → OnOk result (streams.new ≡ streams.old) }
-    ensures opens { streams.old ≡ None → (past : List (List ℕ)) → FollowerStandsFor follower.now first_program past
+    ensures opens { streams.old ≡ None → (past : List (List ℕ)) → FollowerStandsFor follower.now reading_advertisement past
         → OnOk result (StreamsGathered (option_map (λ v. v.items) streams.new) (program_of None past) []) }
     ensures err { IfErr result (λ f. f ≡ AdFault.OutOfMemory) }
 {
@@ -166,7 +167,7 @@ fn begun<A: Allocator + Copy>(
     follower: &ProgramFollower,
     alloc: A,
 ) -> Result<Option<Vec<Gathered<A>, A>>, AllocError>
-    ensures { (past : List (List ℕ)) → FollowerStandsFor follower.now first_program past
+    ensures { (past : List (List ℕ)) → FollowerStandsFor follower.now reading_advertisement past
         → IfOk result (λ s. StreamsGathered (option_map (λ v. v.items) s) (program_of None past) []) }
 {
     if !follower.is_behind_head() {

@@ -10,12 +10,12 @@ use Rattle.ts_packet.specs.Packets.{packets_of}
 use Rattle.ts_packet.specs.Sources.{HasRead, WasGiven, Refuses, SourceBlamed}
 use Rattle.ts_packet.specs.declared.reader.ReadFault.{ReadFault}
 use Rattle.std.specs.Io.KnownBytes.{IsAtEnd}
-use Rattle.ts_packet.specs.Transfers.{WentWell, LastMovedNone, LastFailed, TookTurns, FallsShort}
+use Rattle.ts_packet.specs.Transfers.{WentWell, LastMovedNone, LastFailed, TookTurns, FallsShort, NoneFailed}
 use Rattle.ad_library.specs.declared.library.AdLibrary.{AdLibrary}
 use Rattle.ad_library.specs.declared.fault.AdFault.{AdFault}
 use Rattle.ad_library.specs.declared.fault.AdFault.TheVariants as ad
 use Rattle.ad_library.specs.Advertisements.{Advertisement, advertisement}
-use Rattle.ad_library.specs.Faults.{Says, NoneFailed, StreamBlamed, of_read, packet_fault, end_fault}
+use Rattle.ad_library.specs.Faults.{Says, StreamBlamed, of_read, packet_fault, end_fault}
 use Rattle.ad_library.specs.Reading.{AreClean}
 use Rattle.ad_library.specs.Stops.{IsWhatIsWrong, IfOfStream}
 use Rattle.ad_library.specs.Library.{held, filed}

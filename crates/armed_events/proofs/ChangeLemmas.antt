@@ -7,7 +7,7 @@ use Rattle.std.proofs.lemmas.Int.{ints}
 use Rattle.std.proofs.lemmas.Bool.{true≢false}
 use Rattle.std.proofs.lemmas.List.Elements.{filter-append}
 use Rattle.pes_time.specs.Line.{place}
-use Rattle.event_table.specs.Standing.{Standing, on_line, has_id, is_ahead_of, end_of, is_early_end, repeats, arm_answer, cancel_answer, shorten_answer, shorten_answer_of, with_first, cancelled_one, ending_at, with_cancelled}
+use Rattle.event_table.specs.Standing.{Standing, on_line, has_id, is_ahead_of, end_of, is_early_end, repeats, arm_answer, cancel_answer, shorten_answer, shorten_answer_of, with_first, cancelled_one, ending_at, with_cancelled, stands}
 use Rattle.event_table.specs.declared.table.Table.{Table}
 use Rattle.event_table.specs.declared.table.Armed.{Armed}
 use Rattle.event_table.specs.declared.table.Armed.TheVariants.{New, Same}
@@ -18,7 +18,7 @@ use Rattle.event_table.specs.declared.table.ShortenRefusal.TheVariants.{NoSuchEv
 use Rattle.event_table.specs.Tables.{StandsFor}
 use Rattle.armed_events.specs.declared.asked.Asked.{Asked}
 use Rattle.armed_events.specs.declared.asked.Asked.TheVariants.{Start, End, Cancel, Unfit, Nothing}
-use Rattle.armed_events.specs.Arming.{is_fresh, Change, Keep, Ignore, by_arm_answer, by_shorten_answer, by_cancel_answer, start_change, change, stands, standing_at, changed}
+use Rattle.armed_events.specs.Arming.{is_fresh, Change, Keep, Ignore, by_arm_answer, by_shorten_answer, by_cancel_answer, start_change, change, standing_at, changed}
 use Rattle.armed_events.specs.Obeying.{after_change}
 use Rattle.armed_events.proofs.TestLemmas.{and-parts}
 

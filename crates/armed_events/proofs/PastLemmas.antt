@@ -5,14 +5,14 @@ use Rattle.std.proofs.lemmas.Int.{ints}
 use Rattle.pes_time.specs.Line.{signed, ring_of}
 use Rattle.ts_packet.specs.Fields.{on, payload_on}
 use Rattle.event_table.specs.Rings.{CanAdvance}
-use Rattle.event_table.specs.Standing.{Standing, forgotten_at, still_standing, IsTimeAt}
+use Rattle.event_table.specs.Standing.{Standing, forgotten_at, still_standing, IsTimeAt, stands}
 use Rattle.event_table.specs.declared.table.Table.{Table}
 use Rattle.event_table.specs.Tables.{StandsFor, values_of}
 use Rattle.psi_section.specs.Sections.{given}
 use Rattle.psi_section.specs.Assembling.{capped}
 use Rattle.armed_events.specs.declared.asked.Asked.{Asked}
 use Rattle.armed_events.specs.declared.obeying.Obeyed.{Obeyed}
-use Rattle.armed_events.specs.Arming.{Change, Arm, Shorten, TakeBack, Keep, Ignore, change, stands, standing_at, changed, is_ignored, Heard, with_change, with_sections, heard, armed, standing}
+use Rattle.armed_events.specs.Arming.{Change, Arm, Shorten, TakeBack, Keep, Ignore, change, standing_at, changed, is_ignored, Heard, with_change, with_sections, heard, armed, standing}
 use Rattle.armed_events.specs.Obeying.{after_change, is_obeyed, ObeyedFor}
 use Rattle.armed_events.specs.Valuing.{values_by}
 use Rattle.armed_events.proofs.ChangeLemmas.{change-fits}

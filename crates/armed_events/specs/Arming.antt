@@ -1,9 +1,9 @@
 -- THE EVENTS THAT CUES ARM, on the line of integers, in order of arming: none is ever left out, and one that is forgotten stands no more.
 -- All is said by the packets that came before, newest first; `high` says of a past the greatest time of a unit in it.
-use Rattle.std.specs.Prelude.{ℕ, ◌+◌, ◌^◌, ◌==◌, nat_le, nat_lt, Bool, true, not, ◌&&◌, List, [], ◌∷◌, ◌++◌, filter, ℤ, int_lt, Option, None, Some, Result, Ok, Err, if◌then◌else◌}
+use Rattle.std.specs.Prelude.{ℕ, ◌+◌, ◌^◌, ◌==◌, nat_le, nat_lt, Bool, not, ◌&&◌, List, [], ◌∷◌, ◌++◌, filter, ℤ, Option, Result, Ok, Err, if◌then◌else◌}
 use Rattle.std.specs.List.{list_any}
 use Rattle.pes_time.specs.Line.{place}
-use Rattle.event_table.specs.Standing.{Standing, on_line, forgotten_at, has_id, is_ahead_of, repeats, arm_answer, cancel_answer, shorten_answer, with_first, cancelled_one, ending_at}
+use Rattle.event_table.specs.Standing.{Standing, on_line, is_ahead_of, repeats, arm_answer, cancel_answer, shorten_answer, with_first, cancelled_one, ending_at, stands, is_of}
 use Rattle.event_table.specs.declared.table.Armed.{Armed}
 use Rattle.event_table.specs.declared.table.Armed.TheVariants.{New, Same}
 use Rattle.event_table.specs.declared.table.ArmRefusal.{ArmRefusal}
@@ -67,19 +67,10 @@ change line standing Nothing = Keep
 
 -- ---- what stands
 
--- the event is not yet forgotten: that it is at 900,000 ticks (ten seconds) past its end
-abbrev pub stands : Option ℤ → Standing → Bool
-stands None e = true
-stands (Some high) e = int_lt high (forgotten_at e)
-
 abbrev pub standing_at : Option ℤ → List Standing → List Standing
 standing_at line events = filter (stands line) events
 
 -- ---- all events
-
--- the event of this id that stands; those that are forgotten may have had the same
-abbrev pub is_of : Option ℤ → ℕ → Standing → Bool
-is_of line id e = stands line e && has_id id e
 
 -- the events after a change
 abbrev pub changed : Option ℤ → Change → List Standing → List Standing

@@ -9,7 +9,7 @@ use Rattle.std.proofs.lemmas.List.Elements.{All-cons, All-nil, All-head, All-tai
 use Rattle.pes_time.specs.Line.{place}
 use Rattle.psi_section.specs.Sections.{given}
 use Rattle.scte35_codec.specs.Reading.{cue_of}
-use Rattle.event_table.specs.Standing.{Standing, on_line, end_of, has_id, is_ahead_of, is_early_end, has_begun, repeats, arm_answer, cancel_answer_of, cancel_answer, shorten_answer_of, shorten_answer, with_first, cancelled_one, ending_at}
+use Rattle.event_table.specs.Standing.{Standing, on_line, end_of, has_id, is_ahead_of, is_early_end, has_begun, repeats, arm_answer, cancel_answer_of, cancel_answer, shorten_answer_of, shorten_answer, with_first, cancelled_one, ending_at, stands, is_of}
 use Rattle.event_table.specs.declared.table.Armed.{Armed}
 use Rattle.event_table.specs.declared.table.Armed.TheVariants.{New, Same}
 use Rattle.event_table.specs.declared.table.ArmRefusal.{ArmRefusal}
@@ -20,7 +20,7 @@ use Rattle.event_table.specs.declared.table.ShortenRefusal.TheVariants.{BadEnd}
 use Rattle.armed_events.specs.declared.asked.Asked.{Asked}
 use Rattle.armed_events.specs.declared.asked.Asked.TheVariants.{Start, End, Cancel, Unfit, Nothing}
 use Rattle.armed_events.specs.Asking.{asked_of}
-use Rattle.armed_events.specs.Arming.{is_fresh, Keep, Ignore, by_arm_answer, by_shorten_answer, by_cancel_answer, change, stands, standing_at, is_of, changed, Heard, with_section, with_sections, heard, armed}
+use Rattle.armed_events.specs.Arming.{is_fresh, Keep, Ignore, by_arm_answer, by_shorten_answer, by_cancel_answer, change, standing_at, changed, Heard, with_section, with_sections, heard, armed}
 use Rattle.splice_laws.specs.Laws.{Risen}
 use Rattle.splice_laws.specs.Settled.{IsAhead}
 use Rattle.armed_laws.specs.Laws.{Becomes, Grows, NeverFalls}

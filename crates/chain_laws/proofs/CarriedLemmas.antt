@@ -5,7 +5,7 @@ use Rattle.std.specs.List.{AllByRecursion}
 use Rattle.std.proofs.lemmas.Bool.{true≢false}
 use Rattle.std.proofs.lemmas.List.{append_cancel_left, reverse-reverse}
 use Rattle.std.proofs.lemmas.List.Elements.{All-nil, All-cons, filter-append}
-use Rattle.ts_packet.specs.Fields.{on, payload_on, pid_of}
+use Rattle.ts_packet.specs.Fields.{on, payload_on, pid_of, on_one, is_among}
 use Rattle.ts_packet.specs.Runs.{Seen, seen_after, onto}
 use Rattle.ts_packet.proofs.Cases.{by_test}
 use Rattle.ts_packet.proofs.FieldLemmas.{off_payload}
@@ -18,13 +18,12 @@ use Rattle.program_follower.specs.Program.{Program, listed, program_of, behind_h
 use Rattle.program_follower.specs.Following.{streams_of_program}
 use Rattle.program_follower.proofs.StreamLemmas.{one_pid}
 use Rattle.program_laws.specs.Behind.{TakesAll}
-use Rattle.program_laws.specs.Cued.{on_one}
 use Rattle.event_table.specs.Standing.{Standing, end_of}
 use Rattle.ad_library.specs.Advertisements.{Advertisement}
 use Rattle.injector.specs.Steps.{Step, packets_in, cued}
 use Rattle.splice_laws.specs.Splicing.{PlayedEvent, SliceUnit, TimedStream, stream, begun, passed, below}
 use Rattle.splice_laws.specs.Laws.{AreOrdered, IsCrossedOnce}
-use Rattle.splice_laws.specs.Streams.{is_among, IsOnce}
+use Rattle.splice_laws.specs.Streams.{IsOnce}
 use Rattle.splice_laws.specs.Ends.{up_to_end}
 use Rattle.output_laws.specs.Spliced.{placed_payloads}
 use Rattle.output_laws.proofs.GaplessLemmas.{test-true}

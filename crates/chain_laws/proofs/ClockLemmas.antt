@@ -3,16 +3,14 @@ use Rattle.std.proofs.Common.{◌≡◌, ℕ, zero, suc, ◌+◌, ◌-◌, ◌/�
 use Rattle.std.specs.Prelude.{filter, nat_le}
 use Rattle.std.specs.List.{AllByRecursion}
 use Rattle.std.proofs.lemmas.List.{reverse-reverse}
-use Rattle.ts_packet.specs.Fields.{on, pcr, pid_of, in_error, adaptation_control, adaptation_length}
+use Rattle.ts_packet.specs.Fields.{on, pcr, pid_of, in_error, adaptation_control, adaptation_length, on_one, is_among}
 use Rattle.ts_packet.proofs.Cases.{by_test}
 use Rattle.ts_packet.proofs.RunLemmas.{filter-reverse}
 use Rattle.unit_packing.specs.Packing.{room, field, unit_packet, later_unit_packets}
 use Rattle.psi_tables.specs.declared.config.Config.{Config}
-use Rattle.program_laws.specs.Cued.{on_one}
 use Rattle.ad_library.specs.Advertisements.{Advertisement}
 use Rattle.injector.specs.Steps.{Step, packets_in, cued}
 use Rattle.splice_laws.specs.Splicing.{SliceUnit}
-use Rattle.splice_laws.specs.Streams.{is_among}
 use Rattle.splice_plans.specs.Adverts.{packed_units, setting_of}
 use Rattle.splice_plans.specs.Switching.{Setting, switched_at, spliced_network}
 use Rattle.switch_laws.specs.Laws.{ArePackets}

@@ -4,7 +4,7 @@ use Rattle.std.specs.Prelude.{filter}
 use Rattle.std.specs.Option.{option_or}
 use Rattle.std.specs.List.{AllByRecursion}
 use Rattle.std.proofs.lemmas.List.{reverse-reverse}
-use Rattle.ts_packet.specs.Fields.{on}
+use Rattle.ts_packet.specs.Fields.{on, on_one, is_among}
 use Rattle.ts_packet.specs.Numbering.{one_past}
 use Rattle.ts_packet.specs.Runs.{onto}
 use Rattle.ts_packet.proofs.Cases.{by_test}
@@ -31,9 +31,8 @@ use Rattle.injector.specs.Steps.{Step, packets_in}
 use Rattle.injector.specs.Steps.{cued as sent_cues}
 use Rattle.injector.specs.Laws.{own_fronts}
 use Rattle.injector.proofs.CuedLemmas.{cued-is-written}
-use Rattle.splice_laws.specs.Streams.{is_among}
 use Rattle.splice_plans.specs.Adverts.{setting_of}
-use Rattle.splice_plans.specs.Switching.{Setting, switched_at, place_at, rest_at, switching, switched_past, is_switched}
+use Rattle.splice_plans.specs.Switching.{Setting, switched_at, place_at, rest_at, switching, switched_past}
 use Rattle.switch_laws.proofs.WholeLemmas.{reverse-onto, none-switched}
 use Rattle.chain_laws.specs.Runs.{switched_by, output_by, IsWholeRun}
 use Rattle.chain_laws.specs.Tables.{up_to_pat, pmt_packets, PmtIsSections}
@@ -137,7 +136,7 @@ module _ (c : Config) (filed : ℕ → Option Advertisement) (steps : List Step)
 
   keeps-here : (p : List ℕ) (past : List (List ℕ)) → listed (Some c.program) past ≡ None → on l.pid p ≡ true → place_at (setting_of c filed) p past ≡ p ∷ []
   keeps-here p past none y =
-      let s : is_switched (switched_at k past) p ≡ false = ap (λ sw. is_switched sw p) (none-switched k past (ap first_map (no_tables wanted past none))) in
+      let s : on_one (switched_at k past) p ≡ false = ap (λ sw. on_one sw p) (none-switched k past (ap first_map (no_tables wanted past none))) in
       by_test (on c.cue_pid p)
       (λ o. absurd (not-cue c filed steps w l known (one_pid c.cue_pid l.pid p o y)))
       (λ o. simp (o, s) refl)

@@ -6,7 +6,7 @@ use Rattle.std.specs.List.{AllByRecursion, list_any}
 use Rattle.std.proofs.lemmas.Bool.{true≢false, eq-eqb}
 use Rattle.std.proofs.lemmas.List.{reverse-reverse, append-nil}
 use Rattle.std.proofs.lemmas.List.Elements.{All-head}
-use Rattle.ts_packet.specs.Fields.{in_error, on, pid_of}
+use Rattle.ts_packet.specs.Fields.{in_error, on, pid_of, on_one, is_among}
 use Rattle.ts_packet.specs.Runs.{onto}
 use Rattle.ts_packet.proofs.Cases.{by_test}
 use Rattle.ts_packet.proofs.RunLemmas.{filter-reverse}
@@ -39,13 +39,12 @@ use Rattle.ad_library.specs.Advertisements.{Advertisement}
 use Rattle.injector.specs.Steps.{Step, packets_in}
 use Rattle.injector.specs.Steps.{cued as sent_cues}
 use Rattle.path_laws.proofs.Packets.{map-pid}
-use Rattle.splice_laws.specs.Streams.{is_among}
 use Rattle.output_laws.specs.Others.{is_off}
 use Rattle.output_laws.proofs.OtherLemmas.{off_on}
 use Rattle.output_laws.proofs.GaplessLemmas.{test-true}
 use Rattle.output_laws.proofs.StepLemmas.{test-same, pid_is}
 use Rattle.splice_plans.specs.Adverts.{packed_units, setting_of}
-use Rattle.splice_plans.specs.Switching.{Setting, switched_at, history_at, front_at, place_at, place_of, front_of, rest_at, switching, switched_past, is_switched, end_of_run}
+use Rattle.splice_plans.specs.Switching.{Setting, switched_at, history_at, front_at, place_at, place_of, front_of, rest_at, switching, switched_past, end_of_run}
 use Rattle.splice_plans.specs.Known.{adverts_at}
 use Rattle.switch_laws.specs.Whole.{ArePacked, HavePids}
 use Rattle.switch_laws.proofs.FaultlessLemmas.{first-sound}
@@ -101,7 +100,7 @@ within : (pids all : List ℕ) → ((x : ℕ) → is_among x pids ≡ true → i
 within [] all h = tt
 within (x ∷ pids) all h = (h x (among-self x pids), within pids all (λ y a. h y (or-true (x == y) (is_among y pids) a)))
 
-switched-off : (pids all : List ℕ) (p : List ℕ) → AllByRecursion (λ pid. is_among pid all ≡ true) pids → is_switched pids p ≡ true → is_off all p ≡ false
+switched-off : (pids all : List ℕ) (p : List ℕ) → AllByRecursion (λ pid. is_among pid all ≡ true) pids → on_one pids p ≡ true → is_off all p ≡ false
 switched-off [] all p w s = absurd (true≢false (sym s))
 switched-off (pid ∷ pids) all p w s = by_test (on pid p) (λ y. off_on packed_units all pid p w.0 y) (λ n. switched-off pids all p w.1 (simp n at s))
 
@@ -143,7 +142,7 @@ module _ (k : Setting) (back : List (List ℕ)) (good : ArePacked k.packed (adve
         (Each-map (λ q. is_off (switched_at k back) q ≡ false) (Off a) (λ q o. off-apart (switched_at k back) a q none o) f
         (end-off k.packed (switched_at k back) (switched_at k back) (adverts_at k back) (history_at k back) (self back) good (behind_head wanted back)))
 
-    switched-place : (m : ProgramMap) (p : List ℕ) (past more : List (List ℕ)) → back ≡ more ++ (p ∷ past) → known_map (Some k.program) past ≡ Some m → is_switched (switched_at k past) p ≡ true →
+    switched-place : (m : ProgramMap) (p : List ℕ) (past more : List (List ℕ)) → back ≡ more ++ (p ∷ past) → known_map (Some k.program) past ≡ Some m → on_one (switched_at k past) p ≡ true →
         AllByRecursion (Off a) (place_of (switched_at k past) (adverts_at k past) (history_at k past) k.packed p (behind_head (Some k.program) past))
     switched-place m p past more is known y =
         let s = same-known m p past more is known in
@@ -161,13 +160,13 @@ module _ (k : Setting) (back : List (List ℕ)) (good : ArePacked k.packed (adve
 
     pub place-apart : (o : Option ProgramMap) (p : List ℕ) (past more : List (List ℕ)) → back ≡ more ++ (p ∷ past) → known_map (Some k.program) past ≡ o → on a p ≡ false → AllByRecursion (Off a) (place_at k p past)
     place-apart None p past more is known n =
-        pick (on k.cue_pid p) (is_switched (switched_at k past) p) (place_of (switched_at k past) (adverts_at k past) (history_at k past) k.packed p (behind_head wanted past)) p n
-        (λ y. absurd (true≢false (sym y ∙ ap (λ sw. is_switched sw p) (none-switched k past known))))
+        pick (on k.cue_pid p) (on_one (switched_at k past) p) (place_of (switched_at k past) (adverts_at k past) (history_at k past) k.packed p (behind_head wanted past)) p n
+        (λ y. absurd (true≢false (sym y ∙ ap (λ sw. on_one sw p) (none-switched k past known))))
     place-apart (Some m) p past more is known n =
-        pick (on k.cue_pid p) (is_switched (switched_at k past) p) (place_of (switched_at k past) (adverts_at k past) (history_at k past) k.packed p (behind_head wanted past)) p n (switched-place m p past more is known)
+        pick (on k.cue_pid p) (on_one (switched_at k past) p) (place_of (switched_at k past) (adverts_at k past) (history_at k past) k.packed p (behind_head wanted past)) p n (switched-place m p past more is known)
 
 -- a packet of a PID that is not switched, but of the cues, passes
-not-switched : (pids : List ℕ) (a : ℕ) (p : List ℕ) → is_among a pids ≡ false → on a p ≡ true → is_switched pids p ≡ false
+not-switched : (pids : List ℕ) (a : ℕ) (p : List ℕ) → is_among a pids ≡ false → on a p ≡ true → on_one pids p ≡ false
 not-switched [] a p n o = refl
 not-switched (x ∷ pids) a p n o =
     let r = or-parts (x == a) (is_among a pids) n in

@@ -5,7 +5,7 @@ use Rattle.std.specs.List.{AllByRecursion, list_any}
 use Rattle.std.proofs.lemmas.Bool.{true≢false}
 use Rattle.std.proofs.lemmas.List.{reverse-reverse}
 use Rattle.std.proofs.lemmas.List.Sums.{length-filter}
-use Rattle.ts_packet.specs.Fields.{on, pid_of}
+use Rattle.ts_packet.specs.Fields.{on, pid_of, on_one, is_among}
 use Rattle.ts_packet.specs.Runs.{seen_after}
 use Rattle.ts_packet.proofs.Cases.{by_test}
 use Rattle.ts_packet.proofs.RunLemmas.{filter-reverse}
@@ -13,7 +13,7 @@ use Rattle.psi_tables.specs.declared.config.Config.{Config}
 use Rattle.program_follower.specs.declared.purpose.Listed.{Listed}
 use Rattle.program_follower.specs.Program.{listed, all_tables, behind_head}
 use Rattle.program_laws.specs.Writing.{Along, written}
-use Rattle.program_laws.specs.Cued.{stripping, on_one}
+use Rattle.program_laws.specs.Cued.{stripping}
 use Rattle.program_laws.specs.Behind.{TakesAll}
 use Rattle.program_laws.proofs.FaultLemmas.{no_cue_packets}
 use Rattle.event_table.specs.Standing.{Standing, end_of}
@@ -22,7 +22,6 @@ use Rattle.armed_events.specs.Arming.{ignored}
 use Rattle.injector.specs.Steps.{Step, packets_in}
 use Rattle.injector.specs.Steps.{cued as sent_cues}
 use Rattle.splice_laws.specs.Splicing.{stream}
-use Rattle.splice_laws.specs.Streams.{is_among}
 use Rattle.output_laws.specs.Others.{is_off}
 use Rattle.output_laws.proofs.OtherLemmas.{off_on}
 use Rattle.output_laws.proofs.StepLemmas.{test-same}

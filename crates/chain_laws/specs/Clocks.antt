@@ -3,7 +3,7 @@ use Rattle.std.specs.Prelude.{◌≡◌, ℕ, true, List, Option}
 use Rattle.psi_tables.specs.declared.config.Config.{Config}
 use Rattle.ad_library.specs.Advertisements.{Advertisement}
 use Rattle.injector.specs.Steps.{Step}
-use Rattle.splice_laws.specs.Streams.{is_among}
+use Rattle.ts_packet.specs.Fields.{is_among}
 use Rattle.splice_plans.specs.Playing.{Adverts}
 use Rattle.splice_plans.specs.Adverts.{packed_units}
 use Rattle.switch_laws.specs.Clocks.{clocks, HaveNoClocks}

@@ -1,7 +1,7 @@
 -- THE HEADLINE: what a whole run of the chain is, by its requests, the network's packets and the advertisements.
 use Rattle.std.specs.Prelude.{◌≡◌, ℕ, true, [], List, Option, None, Some, length, filter, reverse}
 use Rattle.wire_fields.specs.Numbers.{AreBytes}
-use Rattle.ts_packet.specs.Fields.{on}
+use Rattle.ts_packet.specs.Fields.{on, is_among}
 use Rattle.ts_packet.specs.Packets.{packets_of}
 use Rattle.psi_tables.specs.declared.config.Config.{Config}
 use Rattle.ad_library.specs.Advertisements.{Advertisement}
@@ -9,7 +9,6 @@ use Rattle.ad_library.specs.declared.library.AdLibrary.{AdLibrary}
 use Rattle.ad_library.specs.Library.{held}
 use Rattle.scte104_codec.specs.declared.reply.Reply.{Reply}
 use Rattle.injector.specs.Steps.{Step}
-use Rattle.splice_laws.specs.Streams.{is_among}
 use Rattle.splice_plans.specs.Adverts.{setting_of}
 use Rattle.splice_plans.specs.Switching.{spliced_network}
 use Rattle.splice_plans.specs.Reporting.{ReportIs, report_of}

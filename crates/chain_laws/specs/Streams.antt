@@ -1,7 +1,7 @@
 -- What each switched stream of the output carries.
 use Rattle.std.specs.Prelude.{◌≡◌, ℕ, ℤ, ◌≤ℤ◌, ◌++◌, ◌∷◌, List, [], Bool, true, false, if◌then◌else◌, Option, None, Some, filter}
 use Rattle.std.specs.List.{AllByRecursion}
-use Rattle.ts_packet.specs.Fields.{payload_on}
+use Rattle.ts_packet.specs.Fields.{payload_on, is_among}
 use Rattle.unit_stream.specs.Units.{TimedUnit, units}
 use Rattle.unit_stream.specs.Carrying.{CarriesUnits}
 use Rattle.psi_tables.specs.declared.config.Config.{Config}
@@ -10,7 +10,6 @@ use Rattle.program_follower.specs.Program.{behind_head}
 use Rattle.ad_library.specs.Advertisements.{Advertisement}
 use Rattle.injector.specs.Steps.{Step, cued}
 use Rattle.splice_laws.specs.Splicing.{PlayedEvent, SliceUnit, stream, begun}
-use Rattle.splice_laws.specs.Streams.{is_among}
 use Rattle.splice_laws.specs.Ends.{up_to_end}
 use Rattle.output_laws.specs.Spliced.{placed_payloads}
 use Rattle.splice_plans.specs.Playing.{Adverts, played, as_played, is_crossed, end_known}

@@ -69,7 +69,7 @@ cancel-off h id e o = ap (λ b. record { id = e.id; start = e.start; asked = e.a
 pub end-off : (h : Option ℤ) (id : ℕ) (time : ℤ) (e : LineEvent) → can_end h id time e ≡ false → end_by h id time e ≡ e
 end-off h id time e c = ap (λ b. record { id = e.id; start = e.start; asked = e.asked; end = (if b then time else e.end); cancelled = e.cancelled }) c
 
-map_same : (f : LineEvent → LineEvent) (es : List LineEvent) → ((e : LineEvent) → In e es → f e ≡ e) → map f es ≡ es
+pub map_same : (f : LineEvent → LineEvent) (es : List LineEvent) → ((e : LineEvent) → In e es → f e ≡ e) → map f es ≡ es
 map_same f [] same = refl
 map_same f (e ∷ es) same = ap (λ x. x ∷ map f es) (same e (inl refl)) ∙ ap (λ l. e ∷ l) (map_same f es (λ x i. same x (inr i)))
 

@@ -46,7 +46,7 @@ has_times : (n : ℕ) (s : Turn) (start : ℤ) (rest : List Turn) → Has start 
 has_times zero s start rest e = e
 has_times (suc n) s start rest e = has_more (high (times n s rest)) s start (events (times n s rest)) (has_times n s start rest e)
 
-In-times : (x s : Turn) (n : ℕ) (rest : List Turn) → In x (times n s rest) → ((x ≡ s) × (0 < n)) ⊎ In x rest
+pub In-times : (x s : Turn) (n : ℕ) (rest : List Turn) → In x (times n s rest) → ((x ≡ s) × (0 < n)) ⊎ In x rest
 In-times x s zero rest i = inr i
 In-times x s (suc n) rest (inl is) = inl (is, omega arith)
 In-times x s (suc n) rest (inr i) = again (In-times x s n rest i)
@@ -55,7 +55,7 @@ In-times x s (suc n) rest (inr i) = again (In-times x s n rest i)
     again (inl k) = inl (k.0, omega arith)
     again (inr j) = inr j
 
-In-under : (x s : Turn) (n : ℕ) (rest : List Turn) → In x rest → In x (times n s rest)
+pub In-under : (x s : Turn) (n : ℕ) (rest : List Turn) → In x rest → In x (times n s rest)
 In-under x s zero rest i = i
 In-under x s (suc n) rest i = inr (In-under x s n rest i)
 
@@ -242,7 +242,7 @@ module _ (copies : List Turn → ℕ) where
 
 -- ---- fronts
 
-falls : (all : List Turn) → MayAllCome all → NeverFalls all
+pub falls : (all : List Turn) → MayAllCome all → NeverFalls all
 falls [] s = tt
 falls (Started id start end ∷ past) s = falls past s.1
 falls (Cancelled id ∷ past) s = falls past s.1
@@ -260,7 +260,7 @@ ends_front copies front (Cancelled id ∷ later) k = ends_front copies front lat
 ends_front copies front (Ended id time ∷ later) k = ends_front copies front later k.1
 ends_front copies front (Passed h ∷ later) k = ends_front copies front later k
 
-kept_later : (copies : List Turn → ℕ) (x : Turn) (front later : List Turn) → In x (thinned copies front) → In x (thinned copies (upon later front))
+pub kept_later : (copies : List Turn → ℕ) (x : Turn) (front later : List Turn) → In x (thinned copies front) → In x (thinned copies (upon later front))
 kept_later copies x front [] i = i
 kept_later copies x front (Started id start end ∷ later) i = In-under x _ (copies (Started id start end ∷ upon later front)) _ (kept_later copies x front later i)
 kept_later copies x front (Cancelled id ∷ later) i = In-under x _ (copies (Cancelled id ∷ upon later front)) _ (kept_later copies x front later i)

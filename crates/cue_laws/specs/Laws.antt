@@ -1,7 +1,7 @@
 -- The laws, over the definitions alone.
 use Rattle.std.specs.Prelude.{◌≡◌, ◌↔◌, ◌⊎◌, ℕ, true, false, List, ◌∷◌, ℤ, Option, pos, ◌+ℤ◌}
 use Rattle.cue_laws.specs.Events.{Turn, Started, Passed, LineEvent, high, before, events, NeverFalls, holders, upon, In}
-use Rattle.cue_laws.specs.Thinning.{MayAllCome, thinned, IsThinned, KeepsEnough, KeepsStart, KeepsCancel, KeepsEnds}
+use Rattle.cue_laws.specs.Thinning.{MayAllCome, thinned, IsThinned, KeepsEnough, KeepsStart, KeepsCancel, KeepsEnds, LeavesOutRepeats}
 use Rattle.cue_laws.specs.Cueing.{IsRun, cued}
 use Rattle.cue_laws.specs.Tables.{standing, uncancelled_events}
 
@@ -53,6 +53,11 @@ CuePathHolders = (copies : List Turn → ℕ) (h : Option ℤ) (past later : Lis
 -- the premise of thinning asks for no more than there is: all cues are enough, in every run
 abbrev pub NothingLostIsEnough : Type 0
 NothingLostIsEnough = (h : Option ℤ) (past : List Turn) → IsRun (Passed h ∷ past) → KeepsEnoughOf (λ s. 1) (Passed h ∷ past)
+
+-- REPEATS LOSE NOTHING: a choice that keeps enough of a run's cues still does where it leaves out more that is told again
+abbrev pub RepeatsLoseNothing : Type 0
+RepeatsLoseNothing = (copies given : List Turn → ℕ) (run : List Turn) → IsRun run → LeavesOutRepeats copies given (cued run) →
+    KeepsEnoughOf copies run → KeepsEnoughOf given run
 
 -- every thinned stream is one that some choice leaves, and none else is
 abbrev pub ThinnedIsChosen : Type 0

@@ -1,6 +1,6 @@
 -- Streams of cues: those that a splicer which misses nothing can obey, and what is left of one on the way.
-use Rattle.std.specs.Prelude.{◌≡◌, ℕ, ◌<◌, zero, suc, true, false, ◌⊎◌, List, [], ◌∷◌, ℤ, is_some}
-use Rattle.cue_laws.specs.Events.{Turn, Started, Cancelled, Ended, Passed, LineEvent, high, before, events, is_of, can_start, Rises, name_of, In}
+use Rattle.std.specs.Prelude.{◌≡◌, ℕ, ◌<◌, ◌==◌, zero, suc, true, false, ◌⊎◌, List, [], ◌∷◌, length, filter, ℤ, Option, None, Some, is_some}
+use Rattle.cue_laws.specs.Events.{Turn, Started, Cancelled, Ended, Passed, LineEvent, high, before, events, is_of, can_start, Rises, name_of, In, upon}
 
 -- the event is there as it was first asked for
 pub record Repeats (id : ℕ) (from to : ℤ) (e : LineEvent) : Type 0 where
@@ -45,6 +45,40 @@ IsThinned (Started id start end ∷ past) left = (n : ℕ) × (rest : List Turn)
 IsThinned (Cancelled id ∷ past) left = (n : ℕ) × (rest : List Turn) × (left ≡ times n (Cancelled id) rest) × IsThinned past rest
 IsThinned (Ended id time ∷ past) left = (n : ℕ) × (rest : List Turn) × (left ≡ times n (Ended id time) rest) × IsThinned past rest
 IsThinned (Passed h ∷ past) left = (rest : List Turn) × (left ≡ Passed h ∷ rest) × IsThinned past rest
+
+-- the id that a cue names; a packet names none
+abbrev pub id_in : Turn → Option ℕ
+id_in (Started id start end) = Some id
+id_in (Cancelled id) = Some id
+id_in (Ended id time) = Some id
+id_in (Passed h) = None
+
+-- how many events with this id there are, forgotten ones, too
+abbrev pub count_of : Option ℕ → List LineEvent → ℕ
+count_of None es = 0
+count_of (Some id) es = length (filter (λ (e : LineEvent). e.id == id) es)
+
+-- THE SAME IS TOLD AGAIN: two cues, each with what came before it, are equal, and no event with their id came between them
+abbrev pub TellsAgain : List Turn → List Turn → Type 0
+TellsAgain [] now = ⊥
+TellsAgain (s ∷ past) [] = ⊥
+TellsAgain (s ∷ past) (t ∷ since) = (t ≡ s) × (count_of (id_in t) (events (t ∷ since)) ≡ count_of (id_in t) (events (s ∷ past)))
+
+-- a cue of which one choice leaves none and the other some is told again: of an equal one that came before it the first choice leaves some
+abbrev pub IsToldBefore : (List Turn → ℕ) → Turn → List Turn → Type 0
+IsToldBefore given s past = (later first : List Turn) × (past ≡ upon later first) × (0 < given first) × TellsAgain first (s ∷ past)
+
+abbrev pub LeavesOne : (List Turn → ℕ) → (List Turn → ℕ) → Turn → List Turn → Type 0
+LeavesOne copies given s past =
+    (0 < given (s ∷ past) → 0 < copies (s ∷ past)) × (0 < copies (s ∷ past) → (0 < given (s ∷ past)) ⊎ IsToldBefore given s past)
+
+-- so it is with every cue: what the second choice leaves out beyond the first is told again
+abbrev pub LeavesOutRepeats : (List Turn → ℕ) → (List Turn → ℕ) → List Turn → Type 0
+LeavesOutRepeats copies given [] = Unit {0}
+LeavesOutRepeats copies given (Started id start end ∷ past) = LeavesOne copies given (Started id start end) past × LeavesOutRepeats copies given past
+LeavesOutRepeats copies given (Cancelled id ∷ past) = LeavesOne copies given (Cancelled id) past × LeavesOutRepeats copies given past
+LeavesOutRepeats copies given (Ended id time ∷ past) = LeavesOne copies given (Ended id time) past × LeavesOutRepeats copies given past
+LeavesOutRepeats copies given (Passed h ∷ past) = LeavesOutRepeats copies given past
 
 -- an early end that is left out changes nothing where nothing is left out: the first sending of each is kept
 abbrev pub KeepsEnds : (List Turn → ℕ) → List Turn → Type 0

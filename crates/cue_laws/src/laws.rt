@@ -2,7 +2,7 @@
 
 ghost use Rattle.cue_laws.specs.Laws.{UncancelledEventsAgree, CuedIsSound, TableIsJudged, Settlement, LostCues, LostCuesAtTheEnd};
 ghost use Rattle.cue_laws.specs.Laws.{CuePath, CuePathAtTheEnd, CuePathHolders};
-ghost use Rattle.cue_laws.specs.Laws.{NothingLostIsEnough, Invariant, NoStartRefused, ThinnedIsChosen, CuedGrows};
+ghost use Rattle.cue_laws.specs.Laws.{NothingLostIsEnough, RepeatsLoseNothing, Invariant, NoStartRefused, ThinnedIsChosen, CuedGrows};
 ghost use Rattle.cue_laws.specs.Tables.{ForgettingIsSafe};
 ghost use Rattle.cue_laws.specs.Needed.{OrderIsNeeded, EndsAreNeeded, CancelsAreNeeded};
 
@@ -39,6 +39,11 @@ pub fn cue_path_holders()
 /// The premise of thinning holds of every run where nothing is lost.
 pub fn nothing_lost_is_enough()
     ensures { NothingLostIsEnough }
+{}
+
+/// A choice that keeps enough of a run's cues still does where it leaves out more, if all of that is told again.
+pub fn repeats_lose_nothing()
+    ensures { RepeatsLoseNothing }
 {}
 
 /// A stream is a thinned one exactly where some choice of copies leaves it.

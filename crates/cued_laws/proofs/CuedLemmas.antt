@@ -5,7 +5,7 @@ use Rattle.std.specs.Prelude.{option_map}
 use Rattle.std.specs.List.{AllByRecursion}
 use Rattle.std.proofs.lemmas.List.{map-append}
 use lib.Seq.{drop-append_seam}
-use Rattle.ts_packet.specs.Fields.{on}
+use Rattle.ts_packet.specs.Fields.{on, on_one}
 use Rattle.ts_packet.specs.Numbering.{one_past}
 use Rattle.ts_packet.specs.Runs.{onto}
 use Rattle.ts_packet.proofs.Cases.{by_test}
@@ -28,7 +28,7 @@ use Rattle.program_follower.specs.Faults.{pmt_pid_fault, pairs_fault, pat_fault,
 use Rattle.program_follower.specs.Purposes.{reading_cues as reading, cues_written_on, cues_read_on}
 use Rattle.program_follower.proofs.OptionLemmas.{none_both}
 use Rattle.program_laws.specs.Writing.{Along, number_on, section_out, table_out, packets_out, body, Off}
-use Rattle.program_laws.specs.Cued.{on_one, On, cueing, CuedReads, cued as cued_network}
+use Rattle.program_laws.specs.Cued.{On, cueing, CuedReads, cued as cued_network}
 use Rattle.program_laws.proofs.CuedLemmas.{ons_off, cued_stream_reads}
 use Rattle.program_laws.proofs.FaultLemmas.{Each-map, same_listed}
 use Rattle.program_laws.proofs.PacketLemmas.{one_past-below}

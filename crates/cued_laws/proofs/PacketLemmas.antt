@@ -4,7 +4,7 @@ use Rattle.std.proofs.Common.{◌≡◌, ℕ, List, [], ◌∷◌, Bool, true, f
 use Rattle.std.specs.Prelude.{filter, is_some, option_map}
 use Rattle.std.specs.List.{AllByRecursion, list_any}
 use Rattle.std.proofs.lemmas.Bool.{eq-eqb}
-use Rattle.ts_packet.specs.Fields.{on}
+use Rattle.ts_packet.specs.Fields.{on, on_one}
 use Rattle.ts_packet.specs.Runs.{onto}
 use Rattle.ts_packet.proofs.Cases.{by_test}
 use Rattle.psi_section.specs.Sections.{given}
@@ -20,7 +20,7 @@ use Rattle.program_follower.specs.Program.{first_listed, listed, Table, tables, 
 use Rattle.program_follower.specs.Faults.{is_pid, if_bad, pmt_pid_fault, pats_fault, pids_in, bad_pid, bad_switched, tables_fault, maps_fault, as_network, network_fault, first_fault}
 use Rattle.program_follower.proofs.OptionLemmas.{option_or-none, none_both}
 use Rattle.program_follower.proofs.StepLemmas.{tables_off, known_off}
-use Rattle.program_laws.specs.Cued.{on_one, On}
+use Rattle.program_laws.specs.Cued.{On}
 use Rattle.program_laws.proofs.FaultLemmas.{not_if_bad, MapSound, all_sound, pid_good}
 use Rattle.program_laws.proofs.ReadingLemmas.{no_tables, none_at_pat}
 use Rattle.program_laws.proofs.WritingLemmas.{off_other}

@@ -2,7 +2,7 @@
 use Rattle.std.proofs.Common.{◌≡◌, ℕ, List, [], ◌∷◌, Bool, true, false, not, ◌&&◌, ◌||◌, refl, sym, ap, ◌∙◌, Some, None, if◌then◌else◌}
 use Rattle.std.specs.Prelude.{filter}
 use Rattle.std.specs.List.{AllByRecursion}
-use Rattle.ts_packet.specs.Fields.{on, payload_on, unit_start}
+use Rattle.ts_packet.specs.Fields.{on, payload_on, unit_start, on_one}
 use Rattle.ts_packet.specs.Duplicates.{repeats}
 use Rattle.ts_packet.proofs.Cases.{by_test}
 use Rattle.ts_packet.proofs.FieldLemmas.{off_payload}
@@ -10,7 +10,6 @@ use Rattle.unit_stream.specs.Times.{begins, begins_one, high, raised, stamp, spl
 use Rattle.unit_stream.specs.Faults.{scrambled_one, start_fault, unit_fault}
 use Rattle.unit_stream.specs.declared.fault.UnitFault.TheVariants.{Scrambled}
 use Rattle.program_laws.specs.Behind.{TakesAll}
-use Rattle.program_laws.specs.Cued.{on_one}
 
 pub or_none : (a b : Bool) → a || b ≡ false → (a ≡ false) × (b ≡ false)
 or_none true b h = cc

@@ -52,6 +52,15 @@ pub record Holds (s : Standing) (time : ℤ) : Type 0 where
 abbrev pub has_id : ℕ → Standing → Bool
 has_id id s = s.id == id
 
+-- the event is not yet forgotten; before the first time none is
+abbrev pub stands : Option ℤ → Standing → Bool
+stands None s = true
+stands (Some high) s = int_lt high (forgotten_at s)
+
+-- it stands, with this id; those that are forgotten may have had the same
+abbrev pub is_of : Option ℤ → ℕ → Standing → Bool
+is_of line id s = stands line s && has_id id s
+
 -- the event is not cancelled and holds the time
 abbrev pub covers : ℤ → Standing → Bool
 covers time s = not s.cancelled && int_le s.start time && int_lt time (end_of s)

@@ -18,7 +18,7 @@ use Rattle.event_table.specs.declared.table.CancelRefusal.TheVariants as cancel_
 use Rattle.event_table.specs.declared.table.ShortenRefusal.{ShortenRefusal}
 use Rattle.event_table.specs.declared.table.ShortenRefusal.TheVariants as shorten_refusal
 use Rattle.event_table.specs.Rings.{CanAdvance}
-use Rattle.event_table.specs.Standing.{Standing, on_line, end_of, forgotten_at, has_id, is_full, meets, repeats, arm_answer, cancel_answer, cancel_answer_of, shorten_answer, shorten_answer_of, with_first, with_cancelled, with_end, ending_at, cancelled_one, still_standing, IsTimeAt}
+use Rattle.event_table.specs.Standing.{Standing, on_line, end_of, forgotten_at, has_id, is_full, meets, repeats, arm_answer, cancel_answer, cancel_answer_of, shorten_answer, shorten_answer_of, with_first, with_cancelled, with_end, ending_at, cancelled_one, still_standing, IsTimeAt, stands, is_of}
 use Rattle.event_table.specs.Tables.{StandsFor, high_time_of}
 use Rattle.event_table.proofs.TimeLemmas.{ring-plus, signed-range}
 use Rattle.injector.specs.declared.asked.Asked.{Asked}
@@ -27,7 +27,7 @@ use Rattle.injector.specs.declared.refusal.Refusal.TheVariants.{NoClock, InUse, 
 use Rattle.scte104_codec.specs.Reading.{MessageReading, multiple, Multiple}
 use Rattle.injector.specs.Asking.{is_start, asked_of_multiple, asked_of}
 use Rattle.injector.specs.Verdicts.{time_at, start_event, event_on_ring, start_verdict, end_verdict, end_verdict_at, cancel_verdict, cancel_verdict_at, verdict_of, started, ended, changed, after, after_by}
-use Rattle.injector.specs.Turns.{stands, stands_as, with_asked}
+use Rattle.injector.specs.Turns.{with_asked}
 use Rattle.injector.proofs.ListLemmas.{filter-twice, filter-push, with_first-filter, any-mono}
 
 -- a time so many ticks past the high time
@@ -216,7 +216,7 @@ filter-asked line events (Ok a) = by (verdict_of line (filter (stands line) even
     start-case None = refl
     start-case (Some h) = filter-push (stands (Some h)) (start_event h a.request) (new-stands h (90 * a.request.pre_roll_time) (9000 * a.request.break_duration)) events
 
-    end-case : (l : Option ℤ) → filter (stands l) (ended l (stands_as l a.request.splice_event_id) events a.request) ≡ ended l (has_id a.request.splice_event_id) (filter (stands l) events) a.request
+    end-case : (l : Option ℤ) → filter (stands l) (ended l (is_of l a.request.splice_event_id) events a.request) ≡ ended l (has_id a.request.splice_event_id) (filter (stands l) events) a.request
     end-case None = refl
     end-case (Some h) = with_first-filter (stands (Some h)) (has_id a.request.splice_event_id) (ending_at (time_at h a.request)) (λ s _. ended-stands h (90 * a.request.pre_roll_time) s.start) events
 
@@ -224,17 +224,17 @@ filter-asked line events (Ok a) = by (verdict_of line (filter (stands line) even
     cancel-stays None s is = refl
     cancel-stays (Some h) s is = is
 
-    cancel-case : filter (stands line) (with_first (stands_as line a.request.splice_event_id) cancelled_one events) ≡ with_first (has_id a.request.splice_event_id) cancelled_one (filter (stands line) events)
+    cancel-case : filter (stands line) (with_first (is_of line a.request.splice_event_id) cancelled_one events) ≡ with_first (has_id a.request.splice_event_id) cancelled_one (filter (stands line) events)
     cancel-case = with_first-filter (stands line) (has_id a.request.splice_event_id) cancelled_one (cancel-stays line) events
 
     kinds : (b c : Bool)
-        → filter (stands line) (cond b (started line events a.request) (cond c (ended line (stands_as line a.request.splice_event_id) events a.request) (with_first (stands_as line a.request.splice_event_id) cancelled_one events)))
+        → filter (stands line) (cond b (started line events a.request) (cond c (ended line (is_of line a.request.splice_event_id) events a.request) (with_first (is_of line a.request.splice_event_id) cancelled_one events)))
         ≡ cond b (started line (filter (stands line) events) a.request) (cond c (ended line (has_id a.request.splice_event_id) (filter (stands line) events) a.request) (with_first (has_id a.request.splice_event_id) cancelled_one (filter (stands line) events)))
     kinds true c = start-case line
     kinds false true = end-case line
     kinds false false = cancel-case
 
-    by : (v : Result (Unit {0}) Refusal) → filter (stands line) (changed line (stands_as line a.request.splice_event_id) events a.request v) ≡ after line (filter (stands line) events) a.request v
+    by : (v : Result (Unit {0}) Refusal) → filter (stands line) (changed line (is_of line a.request.splice_event_id) events a.request v) ≡ after line (filter (stands line) events) a.request v
     by (Ok u) = kinds (is_start a.request) (a.request.splice_insert_type == 3)
     by (Err e) = refl
 

@@ -6,7 +6,7 @@ use Rattle.std.proofs.lemmas.List.{map-append}
 use Rattle.std.proofs.lemmas.List.Elements.{All-cons, All-head, All-tail, All-filter}
 use Rattle.pes_time.specs.Line.{ring_of, signed}
 use Rattle.event_table.specs.Rings.{CanAdvance}
-use Rattle.event_table.specs.Standing.{Standing, forgotten_at, has_id, ending_at, cancelled_one, with_first, IsTimeAt}
+use Rattle.event_table.specs.Standing.{Standing, forgotten_at, has_id, ending_at, cancelled_one, with_first, IsTimeAt, stands, is_of}
 use Rattle.event_table.specs.declared.table.Table.{Table}
 use Rattle.event_table.specs.Tables.{high_time_of, values_of}
 use Rattle.event_table.proofs.ListLemmas.{map-map}
@@ -17,7 +17,7 @@ use Rattle.injector.specs.declared.notes.Notes.{Notes}
 use Rattle.injector.specs.declared.requests.Requests.{Requests}
 use Rattle.injector.specs.Asking.{is_start, asked_of}
 use Rattle.injector.specs.Verdicts.{time_at, start_event, verdict_of, started, ended, changed}
-use Rattle.injector.specs.Turns.{Turn, Judged, Passed, high, stands, stands_as, events, standing, with_asked}
+use Rattle.injector.specs.Turns.{Turn, Judged, Passed, high, events, standing, with_asked}
 use Rattle.injector.specs.Senders.{Sender, is_none, chosen, tell, told_now, fresh, with_event, begun, cut_short, with_judged, stands_now, stands_by, events_in, with_request, noted_after, senders, standing_senders}
 use Rattle.injector.specs.Noting.{notes_of, IsKept, LastIn, AreNoted, Rises}
 use Rattle.injector.proofs.ListLemmas.{filter-twice, filter-push, with_first-filter}
@@ -70,7 +70,7 @@ accepted-events line test xs a (Ok u) = kinds (is_start a.request) (a.request.sp
 request-events : (line : Option ℤ) (xs : List Sender) (es : List Standing) (a : Result Asked Refusal) → events_in xs ≡ es → events_in (with_request line xs a) ≡ with_asked line es a
 request-events line xs es (Err e) same = same
 request-events line xs es (Ok a) same =
-    let test : Standing → Bool = stands_as line a.request.splice_event_id in
+    let test : Standing → Bool = is_of line a.request.splice_event_id in
     accepted-events line test xs a (verdict_of line (events_in (filter (stands_now line) xs)) a.request)
     ∙ ap (λ fs. changed line test (events_in xs) a.request (verdict_of line fs a.request)) (filter-events (stands line) xs)
     ∙ ap (λ fs. changed line test fs a.request (verdict_of line (filter (stands line) fs) a.request)) same

@@ -7,13 +7,13 @@ use Rattle.scte35_codec.specs.declared.cue_out.CueOut.{CueOut}
 use Rattle.scte35_codec.specs.declared.cue_out.CueOut.TheVariants.{Start, Cancel, End}
 use Rattle.scte35_codec.specs.Spelling.{cue_bytes}
 use Rattle.program_laws.specs.Writing.{packets_out}
-use Rattle.event_table.specs.Standing.{Standing, end_of, has_id, ending_at, cancelled_one, with_first}
+use Rattle.event_table.specs.Standing.{Standing, end_of, has_id, ending_at, cancelled_one, with_first, stands}
 use Rattle.injector.specs.declared.asked.Asked.{Asked}
 use Rattle.injector.specs.declared.choice.Choice.{Choice}
 use Rattle.injector.specs.declared.refusal.Refusal.{Refusal}
 use Rattle.injector.specs.Asking.{asked_of, is_start}
 use Rattle.injector.specs.Verdicts.{time_at, start_event, verdict_of}
-use Rattle.injector.specs.Turns.{Turn, Judged, Passed, high, stands}
+use Rattle.injector.specs.Turns.{Turn, Judged, Passed, high}
 
 -- An event that was accepted, as it is now; what its start cue tells beside it; the event as it was when all that was new of it had been
 -- sent the last time, or none before; and the greatest time behind the packet before which its last cue went out.

@@ -1,9 +1,9 @@
 -- The history of an injector: messages judged and packets passed, newest first. All is said by whole lists: no event is ever left out of
 -- `events`, and those that stand are a filter of it.
-use Rattle.std.specs.Prelude.{ℕ, ℤ, ◌&&◌, Bool, true, List, [], ◌∷◌, Option, None, Some, Result, Ok, Err, int_lt}
+use Rattle.std.specs.Prelude.{ℕ, ℤ, List, [], ◌∷◌, Option, None, Result, Ok, Err}
 use Rattle.std.specs.Prelude.{filter}
 use Rattle.scte104_codec.specs.Reading.{MessageReading, Multiple}
-use Rattle.event_table.specs.Standing.{Standing, has_id, forgotten_at}
+use Rattle.event_table.specs.Standing.{Standing, stands, is_of}
 use Rattle.injector.specs.declared.asked.Asked.{Asked}
 use Rattle.injector.specs.declared.refusal.Refusal.{Refusal}
 use Rattle.injector.specs.Asking.{asked_of, asked_of_multiple}
@@ -20,20 +20,11 @@ high [] = None
 high (Judged m ∷ past) = high past
 high (Passed h ∷ past) = h
 
--- the event stands: the greatest time is not yet ten seconds past its end
-abbrev pub stands : Option ℤ → Standing → Bool
-stands None s = true
-stands (Some h) s = int_lt h (forgotten_at s)
-
--- it stands, with this id
-abbrev pub stands_as : Option ℤ → ℕ → Standing → Bool
-stands_as h id s = stands h s && has_id id s
-
 -- the events, with one request more
 abbrev pub with_asked : Option ℤ → List Standing → Result Asked Refusal → List Standing
 with_asked h events (Err e) = events
 with_asked h events (Ok a) =
-    changed h (stands_as h a.request.splice_event_id) events a.request
+    changed h (is_of h a.request.splice_event_id) events a.request
     (verdict_of h (filter (stands h) events) a.request)
 
 -- THE EVENTS that were accepted, in order of acceptance, each with its present end, the cancelled ones among them

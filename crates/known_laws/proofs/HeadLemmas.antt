@@ -3,7 +3,7 @@ use Rattle.std.proofs.Common.{◌≡◌, ℕ, List, [], ◌∷◌, ◌++◌, Boo
 use Rattle.std.specs.Option.{option_or}
 use Rattle.std.specs.Prelude.{is_some, option_map, Result}
 use Rattle.std.proofs.lemmas.Bool.{true≢false}
-use Rattle.ts_packet.specs.Fields.{on}
+use Rattle.ts_packet.specs.Fields.{on, on_one}
 use Rattle.ts_packet.proofs.FieldLemmas.{off_payload}
 use Rattle.psi_tables.specs.ProgramMap.{ProgramMap}
 use Rattle.psi_section.specs.Sections.{given}
@@ -21,7 +21,7 @@ use Rattle.armed_events.specs.declared.asked.Asked.{Asked}
 use Rattle.armed_events.specs.declared.asked.Asked.TheVariants.{Start, End, Cancel, Unfit, Nothing}
 use Rattle.armed_events.specs.Asking.{asked_of}
 use Rattle.armed_events.specs.Arming.{is_fresh, Ignore, by_arm_answer, change, standing_at, changed, Heard, with_section, with_sections, heard}
-use Rattle.splice_plans.specs.Switching.{Setting, switched_at, streams_at, high_at, events_at, head_at, history_at, is_behind_head, is_switched}
+use Rattle.splice_plans.specs.Switching.{Setting, switched_at, streams_at, high_at, events_at, head_at, history_at, is_behind_head}
 use Rattle.splice_plans.specs.Known.{behind_at, adverts_at}
 
 pub or-parts : (a b : Bool) → (a || b) ≡ false → (a ≡ false) × (b ≡ false)
@@ -33,10 +33,10 @@ or-none true b h k = h
 or-none false b h k = k
 
 -- a packet of no switched stream begins no unit
-pub off-one : (pids : List ℕ) (p : List ℕ) (past : List (List ℕ)) → is_switched pids p ≡ false → begins_one pids p past ≡ false
+pub off-one : (pids : List ℕ) (p : List ℕ) (past : List (List ℕ)) → on_one pids p ≡ false → begins_one pids p past ≡ false
 off-one [] p past h = refl
 off-one (pid ∷ pids) p past h =
-    let r = or-parts (on pid p) (is_switched pids p) h in
+    let r = or-parts (on pid p) (on_one pids p) h in
     or-none _ (begins_one pids p past) (begins_off pid p past (off_payload pid p r.0)) (off-one pids p past r.1)
 
 -- ---- before there is a greatest time nothing is armed

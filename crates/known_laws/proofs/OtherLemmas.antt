@@ -4,7 +4,7 @@ use Rattle.std.specs.Prelude.{ℤ, pos, ◌+ℤ◌, ◌<ℤ◌, Contains, slice_
 use Rattle.std.specs.Ordering.{int_eq}
 use Rattle.std.proofs.lemmas.Int.{ints}
 use Rattle.std.proofs.lemmas.Option.{slice_get_within, get_or_from_slice_get}
-use Rattle.ts_packet.specs.Fields.{on}
+use Rattle.ts_packet.specs.Fields.{on, on_one}
 use Rattle.ts_packet.specs.Numbering.{Kept, Counts}
 use Rattle.ts_packet.proofs.FieldLemmas.{off_payload}
 use Rattle.unit_stream.specs.Times.{begins_one, high, unit_time, raised, timed, stamp}
@@ -12,8 +12,8 @@ use Rattle.unit_stream.specs.Fates.{is_left_out}
 use Rattle.unit_stream.proofs.ClockLemmas.{begins_off}
 use Rattle.psi_tables.specs.ProgramMap.{ProgramMap}
 use Rattle.program_follower.specs.Program.{known_map}
-use Rattle.event_table.specs.Standing.{Standing, is_ahead_of}
-use Rattle.armed_events.specs.Arming.{stands, standing}
+use Rattle.event_table.specs.Standing.{Standing, is_ahead_of, stands}
+use Rattle.armed_events.specs.Arming.{standing}
 use Rattle.armed_events.specs.Valuing.{values_by}
 use Rattle.armed_laws.specs.Laws.{Grows}
 use Rattle.armed_laws.proofs.GrowLemmas.{packet-grows}
@@ -23,7 +23,7 @@ use Rattle.output_laws.specs.Output.{Move, Keep, Leave, Packing, counter_steps}
 use Rattle.splice_plans.specs.declared.plan.Plan.{Plan}
 use Rattle.splice_plans.specs.declared.stream.SwitchedStream.{SwitchedStream}
 use Rattle.splice_plans.specs.Playing.{Adverts, History, is_inside}
-use Rattle.splice_plans.specs.Switching.{Setting, puts_before, moves, switched_at, high_at, events_at, history_at, is_switched}
+use Rattle.splice_plans.specs.Switching.{Setting, puts_before, moves, switched_at, high_at, events_at, history_at}
 use Rattle.splice_plans.specs.Histories.{AreSteady}
 use Rattle.splice_plans.specs.Known.{plan_found, plan_at, GoesAs, AllGo, adverts_at, behind_at, plans_at, inside_at, moves_at, counts_known, is_forgotten}
 use Rattle.splice_plans.proofs.PutLemmas.{puts_at_unit_starts}
@@ -59,18 +59,18 @@ ahead-of (Some high) time h = by high time (int_le time (high +ℤ pos (2 ^ 29))
 
 -- ---- behind the head
 
-off-at : (pids : List ℕ) (p : List ℕ) (i pid : ℕ) → is_switched pids p ≡ false → slice_get pids i ≡ Some pid → on pid p ≡ false
+off-at : (pids : List ℕ) (p : List ℕ) (i pid : ℕ) → on_one pids p ≡ false → slice_get pids i ≡ Some pid → on pid p ≡ false
 off-at [] p i pid n h = cc
-off-at (q ∷ pids) p zero pid n h = let same : q ≡ pid = cc in ap (λ a. on a p) (sym same) ∙ (or-parts (on q p) (is_switched pids p) n).0
-off-at (q ∷ pids) p (suc i) pid n h = off-at pids p i pid (or-parts (on q p) (is_switched pids p) n).1 h
+off-at (q ∷ pids) p zero pid n h = let same : q ≡ pid = cc in ap (λ a. on a p) (sym same) ∙ (or-parts (on q p) (on_one pids p) n).0
+off-at (q ∷ pids) p (suc i) pid n h = off-at pids p i pid (or-parts (on q p) (on_one pids p) n).1 h
 
-none-left-out : (goes : ℕ → Option ℤ → Bool) (switched : List ℕ) (p : List ℕ) (past : List (List ℕ)) (pids : List ℕ) → is_switched pids p ≡ false → is_left_out goes switched p past pids ≡ false
+none-left-out : (goes : ℕ → Option ℤ → Bool) (switched : List ℕ) (p : List ℕ) (past : List (List ℕ)) (pids : List ℕ) → on_one pids p ≡ false → is_left_out goes switched p past pids ≡ false
 none-left-out goes switched p past [] n = refl
 none-left-out goes switched p past (pid ∷ pids) n =
-    let r = or-parts (on pid p) (is_switched pids p) n in
+    let r = or-parts (on pid p) (on_one pids p) n in
     or-none _ (is_left_out goes switched p past pids) (ap (λ b. b && goes pid (unit_time switched pid (p ∷ past))) (off_payload pid p r.0)) (none-left-out goes switched p past pids r.1)
 
-module _ (switched : List ℕ) (ads : Adverts) (steady : AreSteady ads) (events : History) (p : List ℕ) (past : List (List ℕ)) (off : is_switched switched p ≡ false) where
+module _ (switched : List ℕ) (ads : Adverts) (steady : AreSteady ads) (events : History) (p : List ℕ) (past : List (List ℕ)) (off : on_one switched p ≡ false) where
   quiet : begins_one switched p past ≡ false
   quiet = off-one switched p past off
 
@@ -123,7 +123,7 @@ module _ (switched : List ℕ) (ads : Adverts) (steady : AreSteady ads) (events 
 
 -- ---- the whole network
 
-module _ (k : Setting) (p : List ℕ) (past : List (List ℕ)) (off : is_switched (switched_at k past) p ≡ false) (steady : AreSteady (adverts_at k past)) (few : length (switched_at k past) ≤ 8) where
+module _ (k : Setting) (p : List ℕ) (past : List (List ℕ)) (off : on_one (switched_at k past) p ≡ false) (steady : AreSteady (adverts_at k past)) (few : length (switched_at k past) ≤ 8) where
   abbrev wanted : Option ℕ
   wanted = Some k.program
 

@@ -12,9 +12,9 @@ use Rattle.unit_stream.specs.Times.{begins, high, unit_time}
 use Rattle.unit_stream.specs.Faults.{unit_fault}
 use Rattle.psi_tables.specs.ProgramMap.{ProgramMap}
 use Rattle.program_follower.specs.Program.{known_map, program_in}
-use Rattle.event_table.specs.Standing.{Standing, end_of, forgotten_at}
+use Rattle.event_table.specs.Standing.{Standing, end_of, forgotten_at, stands}
 use Rattle.event_table.proofs.AdvanceLemmas.{may-advance}
-use Rattle.armed_events.specs.Arming.{stands, standing, Heard}
+use Rattle.armed_events.specs.Arming.{standing, Heard}
 use Rattle.armed_events.specs.Valuing.{values_by}
 use Rattle.armed_events.proofs.PastLemmas.{heard-off}
 use Rattle.armed_laws.specs.Laws.{AreApart, IsApartOf, NoneMeet}

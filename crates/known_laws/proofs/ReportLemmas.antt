@@ -7,8 +7,8 @@ use Rattle.ts_packet.proofs.Cases.{by_test}
 use Rattle.unit_stream.specs.Times.{high}
 use Rattle.psi_tables.specs.ProgramMap.{ProgramMap}
 use Rattle.program_follower.specs.Program.{known_map, program_in}
-use Rattle.event_table.specs.Standing.{Standing, end_of}
-use Rattle.armed_events.specs.Arming.{stands, standing}
+use Rattle.event_table.specs.Standing.{Standing, end_of, stands}
+use Rattle.armed_events.specs.Arming.{standing}
 use Rattle.armed_events.specs.Valuing.{values_by}
 use Rattle.armed_laws.proofs.MeetLemmas.{none-meet}
 use Rattle.splice_laws.specs.Splicing.{stream}

@@ -1,6 +1,6 @@
 -- What one packet more does to what is known of a network, and what it comes to in the end.
 use Rattle.std.specs.Prelude.{◌≡◌, ℕ, ◌≤◌, List, [], ◌∷◌, ◌++◌, length, map, reverse, true, false, ℤ, None, Some}
-use Rattle.ts_packet.specs.Fields.{on}
+use Rattle.ts_packet.specs.Fields.{on, on_one}
 use Rattle.unit_stream.specs.Faults.{unit_fault}
 use Rattle.event_table.specs.Standing.{Standing}
 use Rattle.event_table.specs.Laws.{MayAdvance}
@@ -8,7 +8,7 @@ use Rattle.armed_events.specs.Arming.{standing}
 use Rattle.armed_events.specs.Valuing.{values_by, IsFreshAhead}
 use Rattle.splice_plans.specs.declared.plan.Plan.{Plan}
 use Rattle.splice_plans.specs.declared.stream.SwitchedStream.{SwitchedStream}
-use Rattle.splice_plans.specs.Switching.{Setting, fate, switched_at, high_at, events_at, history_at, is_behind_head, is_switched}
+use Rattle.splice_plans.specs.Switching.{Setting, fate, switched_at, high_at, events_at, history_at, is_behind_head}
 use Rattle.splice_plans.specs.Histories.{AreSteady}
 use Rattle.splice_plans.specs.Parts.{beside}
 use Rattle.splice_plans.specs.Known.{nothing_known, is_crossed_known, AllGo, adverts_at, behind_at, plans_at, inside_at, moves_at, puts_at, counts_known, is_forgotten}
@@ -43,7 +43,7 @@ pub record ChangesNothing (k : Setting) (p : List ℕ) (past : List (List ℕ)) 
 
 -- THE LAW OF OTHER PACKETS: where the advertisements are steady, and no more than eight streams are switched
 abbrev pub OthersChangeNothing : Type 0
-OthersChangeNothing = (k : Setting) (p : List ℕ) (past : List (List ℕ)) → is_switched (switched_at k past) p ≡ false →
+OthersChangeNothing = (k : Setting) (p : List ℕ) (past : List (List ℕ)) → on_one (switched_at k past) p ≡ false →
     AreSteady (adverts_at k past) → length (switched_at k past) ≤ 8 → ChangesNothing k p past
 
 -- ---- a packet behind the head that is none of the cues

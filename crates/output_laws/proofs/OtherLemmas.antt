@@ -2,14 +2,13 @@
 use Rattle.std.specs.Prelude.{All, ◌==◌, ◌||◌, filter, if◌then◌else◌}
 use Rattle.std.proofs.Common.{◌≡◌, ℕ, ◌%◌, ◌+◌, ◌<◌, List, [], ◌∷◌, ◌++◌, Bool, true, false, not, refl, sym, ap, ◌∙◌, Option, None, Some, length}
 use Rattle.std.proofs.lemmas.List.Elements.{All-head, All-tail}
-use Rattle.ts_packet.specs.Fields.{in_error, pid_of, on, number, pcr, payload_on, renumbered}
+use Rattle.ts_packet.specs.Fields.{in_error, pid_of, on, number, pcr, payload_on, renumbered, is_among}
 use Rattle.ts_packet.specs.Clock.{clock_packet}
 use Rattle.ts_packet.specs.Numbering.{moved, number_out, last_number, one_past}
 use Rattle.ts_packet.proofs.Cases.{by_test}
 use Rattle.ts_packet.proofs.FieldLemmas.{error-with, pid-with, payload_on-on}
 use Rattle.ts_packet.proofs.Renumbered.{renumbered-zero}
 use Rattle.unit_stream.specs.UnitPackets.{AllOn}
-use Rattle.splice_laws.specs.Streams.{is_among}
 use Rattle.output_laws.specs.Output.{Move, Keep, Leave, Put, network, Packing, counter_steps, kept_packet, clock_alone, out_after, Sound, AlongMoves}
 use Rattle.output_laws.specs.Others.{is_off, ChangesOnly, OthersPass}
 use Rattle.output_laws.proofs.StepLemmas.{onto_moves, along_past, pid_is, error_is, error-clock, pid-clock}

@@ -1,7 +1,6 @@
 -- What a splice leaves as it was.
 use Rattle.std.specs.Prelude.{◌≡◌, ℕ, List, Bool, true, false, not, ◌||◌, filter, reverse, length, All}
-use Rattle.ts_packet.specs.Fields.{in_error, pid_of}
-use Rattle.splice_laws.specs.Streams.{is_among}
+use Rattle.ts_packet.specs.Fields.{in_error, pid_of, is_among}
 use Rattle.output_laws.specs.Output.{Move, Keep, Leave, Put, network, Packing, output, Sound, AlongMoves}
 
 -- a packet marked in error, or of none of these PIDs

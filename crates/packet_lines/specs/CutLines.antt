@@ -2,7 +2,7 @@
 -- there. All is said as of `cut`, over the packets of the text's lines.
 use Rattle.std.specs.Prelude.{◌≡◌, ◌≢◌, ℕ, ◌^◌, ◌-◌, ◌⊎◌, List, Option, length, option_map}
 use Rattle.ts_packet.specs.Sources.{HasRead}
-use Rattle.ts_packet.specs.Transfers.{WentWell, LastMovedNone, LastFailed, TookTurns, FallsShort}
+use Rattle.ts_packet.specs.Transfers.{WentWell, NoneFailed, LastFailed, TookTurns, FallsShort}
 use Rattle.ts_packet.specs.declared.tally.Tally.{Tally}
 use Rattle.ts_packet.specs.declared.reader.ReadFault.TheVariants as read_faults
 use Rattle.ts_packet.specs.declared.sink.PutFault.{PutFault}
@@ -42,10 +42,6 @@ abbrev pub LineStalls : {X : Type 0} → (X → Option (List ℕ)) → (X → Ta
 LineStalls {X} remaining counts first now =
     (at : X) × WentWell (counts first) (counts at) × TookTurns (2 ^ 20) (counts at) (counts now) × FallsShort 377 (remaining at) (remaining now)
 
--- all reads gave bytes, or the last one found the end
-abbrev pub WentOn : Tally → Tally → Type 0
-WentOn old new = WentWell old new ⊎ LastMovedNone old new
-
 -- as many lines were read as may be
 abbrev pub LinesRunOut : Option (List ℕ) → Type 0
 LinesRunOut input = (rest : Option (List ℕ)) × (ps : List (List ℕ)) × HasRead (option_map bytes_told input) rest ps × (length ps ≡ 2 ^ 64 - 1)
@@ -55,10 +51,10 @@ abbrev pub LineBlamed : {X : Type 0} → CutFault → (X → Option (List ℕ)) 
 LineBlamed (Read read_faults.Turns) remaining counts first now = LineStalls remaining counts first now ⊎ LinesRunOut (remaining first)
 LineBlamed (Read read_faults.Io) remaining counts first now = LastFailed (counts first) (counts now)
 LineBlamed (Read read_faults.Failed) remaining counts first now = ⊥
-LineBlamed (Read read_faults.Truncated) remaining counts first now = WentOn (counts first) (counts now)
-LineBlamed (Read read_faults.SyncLost) remaining counts first now = WentOn (counts first) (counts now)
-LineBlamed (Read read_faults.BadAdaptation) remaining counts first now = WentOn (counts first) (counts now)
-LineBlamed Scrambled remaining counts first now = WentOn (counts first) (counts now)
-LineBlamed HeaderSplit remaining counts first now = WentOn (counts first) (counts now)
-LineBlamed TimeJump remaining counts first now = WentOn (counts first) (counts now)
-LineBlamed (Sink fault) remaining counts first now = WentOn (counts first) (counts now)
+LineBlamed (Read read_faults.Truncated) remaining counts first now = NoneFailed (counts first) (counts now)
+LineBlamed (Read read_faults.SyncLost) remaining counts first now = NoneFailed (counts first) (counts now)
+LineBlamed (Read read_faults.BadAdaptation) remaining counts first now = NoneFailed (counts first) (counts now)
+LineBlamed Scrambled remaining counts first now = NoneFailed (counts first) (counts now)
+LineBlamed HeaderSplit remaining counts first now = NoneFailed (counts first) (counts now)
+LineBlamed TimeJump remaining counts first now = NoneFailed (counts first) (counts now)
+LineBlamed (Sink fault) remaining counts first now = NoneFailed (counts first) (counts now)

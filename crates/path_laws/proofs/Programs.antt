@@ -8,14 +8,14 @@ use Rattle.pes_time.specs.Line.{place}
 use Rattle.scte35_codec.specs.declared.cue_out.CueOut.{CueOut}
 use Rattle.scte35_codec.specs.declared.cue_out.CueOut.TheVariants.{Start, Cancel, End}
 use Rattle.scte35_codec.proofs.WrittenLemmas.{cue_back}
-use Rattle.event_table.specs.Standing.{Standing, cancelled_one, ending_at, with_first, repeats, is_ahead_of, arm_answer, cancel_answer, shorten_answer}
+use Rattle.event_table.specs.Standing.{Standing, cancelled_one, ending_at, with_first, repeats, is_ahead_of, arm_answer, cancel_answer, shorten_answer, is_of}
 use Rattle.event_table.specs.declared.table.Armed.{Armed}
 use Rattle.event_table.specs.declared.table.Armed.TheVariants.{New, Same}
 use Rattle.event_table.specs.declared.table.ArmRefusal.{ArmRefusal}
 use Rattle.event_table.specs.declared.table.ShortenRefusal.{ShortenRefusal}
 use Rattle.event_table.specs.declared.table.CancelRefusal.{CancelRefusal}
 use Rattle.armed_events.specs.Asking.{asked_of}
-use Rattle.armed_events.specs.Arming.{Keep, Ignore, is_fresh, is_of, by_arm_answer, by_shorten_answer, by_cancel_answer, change, changed, standing_at}
+use Rattle.armed_events.specs.Arming.{Keep, Ignore, is_fresh, by_arm_answer, by_shorten_answer, by_cancel_answer, change, changed, standing_at}
 use Rattle.injector.specs.declared.refusal.Refusal.{Refusal}
 use Rattle.injector.specs.Asking.{is_start}
 use Rattle.injector.specs.Verdicts.{time_at, verdict_of}

@@ -3,8 +3,7 @@ use Rattle.std.proofs.Common.{◌≡◌, ℕ, ◌*◌, ◌^◌, ◌<◌, ◌≤�
 use Rattle.std.specs.Prelude.{ℤ, pos, ◌+ℤ◌, ◌≤ℤ◌, int_lt, int_le, map, filter, find, Option, None, Some, Result, Ok, Err}
 use Rattle.std.proofs.lemmas.Int.{ints}
 use Rattle.scte104_codec.specs.declared.requests.SpliceRequest.{SpliceRequest}
-use Rattle.event_table.specs.Standing.{Standing, end_of, has_begun, has_id, cancelled_one, ending_at, with_first}
-use Rattle.armed_events.specs.Arming.{stands, is_of}
+use Rattle.event_table.specs.Standing.{Standing, end_of, has_begun, has_id, cancelled_one, ending_at, with_first, stands, is_of}
 use Rattle.injector.specs.declared.refusal.Refusal.{Refusal}
 use Rattle.injector.specs.declared.refusal.Refusal.TheVariants.{InUse, Full, Overlap, NoSuchEvent}
 use Rattle.injector.specs.Asking.{is_start, asked_of}

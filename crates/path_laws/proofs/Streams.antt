@@ -4,7 +4,7 @@ use Rattle.std.specs.Prelude.{ℤ, map, filter, Option, Some, None, option_map}
 use Rattle.std.specs.Option.{option_or}
 use Rattle.std.specs.List.{AllByRecursion, list_any}
 use Rattle.std.proofs.lemmas.Bool.{eq-eqb}
-use Rattle.ts_packet.specs.Fields.{on}
+use Rattle.ts_packet.specs.Fields.{on, on_one}
 use Rattle.ts_packet.specs.Runs.{onto}
 use Rattle.ts_packet.proofs.RunLemmas.{onto-append}
 use Rattle.ts_packet.proofs.FieldLemmas.{off_payload}
@@ -24,7 +24,7 @@ use Rattle.program_follower.proofs.StepLemmas.{known_off}
 use Rattle.program_follower.proofs.OptionLemmas.{option_or-none}
 use Rattle.program_laws.specs.Writing.{Along, body, Off}
 use Rattle.program_laws.specs.Behind.{TakesAll}
-use Rattle.program_laws.specs.Cued.{on_one, On, cueing, CuedReads}
+use Rattle.program_laws.specs.Cued.{On, cueing, CuedReads}
 use Rattle.program_laws.proofs.ReadingLemmas.{no_tables, none_at_pat}
 use Rattle.program_laws.proofs.WritingLemmas.{off_other}
 use Rattle.program_laws.proofs.HeadLemmas.{nothing_behind}

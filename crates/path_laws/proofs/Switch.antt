@@ -5,11 +5,11 @@ use Rattle.std.specs.List.{list_any}
 use Rattle.std.specs.Ordering.{int_eq}
 use Rattle.std.proofs.lemmas.Int.{ints}
 use Rattle.std.proofs.lemmas.Bool.Decides.{nat_tests}
-use Rattle.event_table.specs.Standing.{Standing, end_of, has_id, is_full, is_ahead_of, is_early_end, has_begun, meets, repeats, cancel_answer_of, cancel_answer, shorten_answer_of, shorten_answer, cancelled_one, ending_at, with_first}
+use Rattle.event_table.specs.Standing.{Standing, end_of, has_id, is_full, is_ahead_of, is_early_end, has_begun, meets, repeats, cancel_answer_of, cancel_answer, shorten_answer_of, shorten_answer, cancelled_one, ending_at, with_first, stands, is_of}
 use Rattle.event_table.specs.declared.table.Armed.TheVariants.{New, Same}
 use Rattle.event_table.specs.declared.table.ArmRefusal.TheVariants.{InUse, Full, Overlap}
 use Rattle.event_table.specs.declared.table.ShortenRefusal.TheVariants.{BadEnd}
-use Rattle.armed_events.specs.Arming.{is_fresh, Keep, Ignore, by_arm_answer, by_shorten_answer, by_cancel_answer, start_change, end_change, cancel_change, stands, standing_at, is_of, changed}
+use Rattle.armed_events.specs.Arming.{is_fresh, Keep, Ignore, by_arm_answer, by_shorten_answer, by_cancel_answer, start_change, end_change, cancel_change, standing_at, changed}
 use Rattle.event_table.proofs.EventLemmas.{ending-end}
 use Rattle.cue_laws.specs.Events.{Turn, Started, Cancelled, Ended, Passed, LineEvent, high, before, events, taken, NeverFalls, can_start, can_cancel, can_end, cancel_by, end_by, In, count, bars}
 use Rattle.cue_laws.specs.Events.{stands as line_stands, is_of as line_is_of}

@@ -10,8 +10,7 @@ use Rattle.pes_time.specs.Line.{ring_of}
 use Rattle.unit_stream.specs.Times.{begins, begins_one, high, unit_time}
 use Rattle.unit_stream.specs.UnitPackets.{put_in}
 use Rattle.psi_tables.specs.declared.stream.Stream.{Stream}
-use Rattle.event_table.specs.Standing.{Standing, on_ring}
-use Rattle.armed_events.specs.Arming.{stands}
+use Rattle.event_table.specs.Standing.{Standing, on_ring, stands}
 use Rattle.ad_library.specs.Advertisements.{AdvertUnit, Advertisement, count_of_kind}
 use Rattle.splice_laws.specs.Splicing.{SliceUnit, stream}
 use Rattle.splice_laws.proofs.PidLemmas.{pids_are_streams}

@@ -5,9 +5,8 @@ use Rattle.std.proofs.lemmas.Int.{ints}
 use Rattle.std.proofs.lemmas.Bool.{true≢false}
 use lib.Signed.{le_z, lt_z}
 use Rattle.ts_packet.proofs.Cases.{by_test}
-use Rattle.event_table.specs.Standing.{Standing, end_of, forgotten_at}
-use Rattle.armed_events.specs.Arming.{stands}
-use Rattle.splice_laws.specs.Splicing.{PlayedEvent, SliceUnit, TimedStream, at_or_past, due, comes}
+use Rattle.event_table.specs.Standing.{Standing, end_of, forgotten_at, stands}
+use Rattle.splice_laws.specs.Splicing.{PlayedEvent, SliceUnit, TimedStream, at_or_past, comes}
 use Rattle.splice_laws.specs.Laws.{IsStream, Risen}
 use Rattle.splice_laws.specs.Settled.{IsAhead, begun_now, closed_now, stands_now}
 use Rattle.splice_laws.specs.Ends.{up_to_end, longest_front}
@@ -56,7 +55,7 @@ module _ (new old : List SliceUnit) where
   goes-on true false false h k l = absurd (true≢false (sym l))
 
 -- all units below an end that is reached have come due
-due-below : (t stop : ℤ) (h : Option ℤ) → at_or_past stop h ≡ true → lt_z t stop ≡ true → due t h ≡ true
+due-below : (t stop : ℤ) (h : Option ℤ) → at_or_past stop h ≡ true → lt_z t stop ≡ true → at_or_past t h ≡ true
 due-below t stop None h l = absurd (true≢false (sym h))
 due-below t stop (Some a) h l = grind (arith, ints)
 

@@ -12,8 +12,7 @@ use Rattle.pes_time.specs.Line.{place}
 use Rattle.unit_stream.specs.Times.{begins, begins_one, stamp, high}
 use Rattle.unit_stream.specs.UnitPackets.{put_in}
 use Rattle.psi_tables.specs.declared.stream.Stream.{Stream}
-use Rattle.event_table.specs.Standing.{Standing}
-use Rattle.armed_events.specs.Arming.{stands}
+use Rattle.event_table.specs.Standing.{Standing, stands}
 use Rattle.armed_events.specs.Valuing.{values_by}
 use Rattle.ad_library.specs.Advertisements.{Advertisement}
 use Rattle.splice_laws.specs.Splicing.{SliceUnit}

@@ -10,8 +10,8 @@ use Rattle.ts_packet.proofs.Cases.{by_test}
 use Rattle.pes_time.specs.Line.{place}
 use Rattle.unit_stream.specs.Times.{begins, stamp, high, unit_time}
 use Rattle.psi_tables.specs.declared.stream.Stream.{Stream}
-use Rattle.event_table.specs.Standing.{Standing, end_of, covers}
-use Rattle.armed_events.specs.Arming.{stands, standing_at}
+use Rattle.event_table.specs.Standing.{Standing, end_of, covers, stands}
+use Rattle.armed_events.specs.Arming.{standing_at}
 use Rattle.armed_events.specs.Valuing.{values_by}
 use Rattle.ad_library.specs.Advertisements.{Advertisement}
 use Rattle.splice_laws.specs.Splicing.{holds, stream}

@@ -6,8 +6,7 @@ use Rattle.std.proofs.lemmas.List.{length-map}
 use Rattle.ts_packet.proofs.Cases.{by_test}
 use Rattle.unit_stream.specs.Times.{begins, begins_one, high, unit_time}
 use Rattle.psi_tables.specs.declared.stream.Stream.{Stream}
-use Rattle.event_table.specs.Standing.{Standing, end_of, on_ring}
-use Rattle.armed_events.specs.Arming.{stands}
+use Rattle.event_table.specs.Standing.{Standing, end_of, on_ring, stands}
 use Rattle.ad_library.specs.Advertisements.{Advertisement, count_of_kind}
 use Rattle.splice_laws.specs.Splicing.{SliceUnit, stream}
 use Rattle.splice_laws.specs.Settled.{begun_now, closed_now}

@@ -14,7 +14,8 @@ use Rattle.unit_stream.specs.UnitPackets.{put_in}
 use Rattle.unit_packing.specs.Packing.{unit_packets}
 use Rattle.unit_packing.specs.Putting.{next_number}
 use Rattle.splice_laws.specs.Splicing.{SliceUnit}
-use Rattle.splice_laws.specs.Streams.{is_among, IsOnce}
+use Rattle.ts_packet.specs.Fields.{is_among}
+use Rattle.splice_laws.specs.Streams.{IsOnce}
 use Rattle.splice_laws.specs.Ends.{up_to_end}
 use Rattle.splice_laws.proofs.EndLemmas.{run_of}
 use Rattle.output_laws.specs.Output.{Move, Put, Packing, counter_steps, out_at, out_after}

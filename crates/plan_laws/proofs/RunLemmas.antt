@@ -13,8 +13,8 @@ use Rattle.psi_tables.specs.ProgramMap.{ProgramMap}
 use Rattle.program_follower.specs.Program.{Program, known_map, program_in, program_of, behind_head, pids_of}
 use Rattle.program_follower.specs.Following.{streams_of_program}
 use Rattle.program_laws.proofs.HeadLemmas.{known_stays}
-use Rattle.event_table.specs.Standing.{Standing}
-use Rattle.armed_events.specs.Arming.{Heard, stands, standing_at}
+use Rattle.event_table.specs.Standing.{Standing, stands}
+use Rattle.armed_events.specs.Arming.{Heard, standing_at}
 use Rattle.armed_events.specs.Valuing.{values_by}
 use Rattle.armed_laws.specs.Laws.{NoneMeet}
 use Rattle.armed_events.proofs.PastLemmas.{heard-off}

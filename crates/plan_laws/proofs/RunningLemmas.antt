@@ -6,8 +6,7 @@ use Rattle.std.proofs.lemmas.Bool.{true≢false}
 use Rattle.ts_packet.proofs.Cases.{by_test}
 use Rattle.unit_stream.specs.Times.{begins, begins_one, high, unit_time}
 use Rattle.psi_tables.specs.declared.stream.Stream.{Stream}
-use Rattle.event_table.specs.Standing.{Standing}
-use Rattle.armed_events.specs.Arming.{stands}
+use Rattle.event_table.specs.Standing.{Standing, stands}
 use Rattle.armed_laws.specs.Laws.{AreApart, IsApartOf, NoneMeet}
 use Rattle.ad_library.specs.Advertisements.{Advertisement}
 use Rattle.splice_laws.specs.Splicing.{stream, begun, closed}

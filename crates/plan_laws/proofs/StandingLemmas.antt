@@ -6,14 +6,14 @@ use Rattle.std.specs.Ordering.{int_eq}
 use Rattle.std.proofs.lemmas.Bool.{true≢false}
 use Rattle.std.proofs.lemmas.Bool.Decides.{nat_tests}
 use Rattle.ts_packet.proofs.Cases.{by_test}
-use Rattle.ts_packet.specs.Fields.{payload_on, unit_start}
+use Rattle.ts_packet.specs.Fields.{payload_on, unit_start, is_among}
 use Rattle.ts_packet.specs.Duplicates.{repeats}
 use Rattle.unit_stream.specs.Times.{begins, begins_one}
 use Rattle.psi_tables.specs.declared.stream.Stream.{Stream}
 use Rattle.event_table.specs.Standing.{Standing}
 use Rattle.armed_events.specs.Valuing.{values_by}
 use Rattle.armed_laws.specs.Laws.{NoneMeet}
-use Rattle.splice_laws.specs.Streams.{is_among, IsOnce}
+use Rattle.splice_laws.specs.Streams.{IsOnce}
 use Rattle.splice_laws.proofs.StreamLemmas.{same-pid}
 use Rattle.splice_plans.specs.Playing.{Adverts, History}
 use Rattle.splice_plans.specs.Known.{AreSeparate, plan_at, plan_found, plan_known}

@@ -8,8 +8,8 @@ use Rattle.ts_packet.proofs.Cases.{by_test}
 use Rattle.ts_packet.specs.Numbering.{Step}
 use Rattle.unit_stream.specs.Times.{begins, begins_one, high}
 use Rattle.psi_tables.specs.declared.stream.Stream.{Stream}
-use Rattle.event_table.specs.Standing.{Standing}
-use Rattle.armed_events.specs.Arming.{stands, standing_at}
+use Rattle.event_table.specs.Standing.{Standing, stands}
+use Rattle.armed_events.specs.Arming.{standing_at}
 use Rattle.armed_laws.specs.Laws.{NoneMeet}
 use Rattle.ad_library.specs.Advertisements.{Advertisement}
 use Rattle.splice_laws.specs.Splicing.{SliceUnit, stream}

@@ -4,8 +4,7 @@ use Rattle.std.specs.Prelude.{ℤ, int_le, int_lt}
 use Rattle.std.proofs.lemmas.Bool.{true≢false}
 use lib.Signed.{le_z, lt_z}
 use Rattle.ts_packet.proofs.Cases.{by_test}
-use Rattle.event_table.specs.Standing.{Standing, end_of, covers, forgotten_at}
-use Rattle.armed_events.specs.Arming.{stands}
+use Rattle.event_table.specs.Standing.{Standing, end_of, covers, forgotten_at, stands}
 use Rattle.splice_laws.specs.Splicing.{PlayedEvent, TimedStream, at_or_past, below, comes}
 use Rattle.splice_laws.specs.Settled.{begun_now, closed_now, stands_now, holds_now}
 use Rattle.splice_plans.specs.declared.plan.Stage.{Stage}

@@ -8,7 +8,8 @@ use Rattle.psi_tables.specs.declared.stream.Stream.{Stream}
 use Rattle.psi_tables.specs.Streams.{is_switched, switched_of}
 use Rattle.psi_tables.proofs.SwitchedLemmas.{stream_decides}
 use Rattle.program_follower.specs.declared.purpose.Purpose.{Purpose}
-use Rattle.program_follower.specs.Faults.{is_pid, pids_in, is_in, is_twice, cue_used, same_streams}
+use Rattle.ts_packet.specs.Fields.{is_among}
+use Rattle.program_follower.specs.Faults.{is_pid, pids_in, is_twice, cue_used, same_streams}
 
 abbrev pub among : (ℕ → Bool) → List Stream → Bool
 among f ss = list_any f (pids_in ss)
@@ -44,22 +45,22 @@ module _ (f : ℕ → Bool) (all rest rest' : List Stream) (s : Stream) (e : res
 
 -- whether it stands once more, by whether it was found
 abbrev pub twice_from : Bool → ℕ → List Stream → Bool
-twice_from true pid ss = is_in pid (pids_in ss)
+twice_from true pid ss = is_among pid (pids_in ss)
 twice_from false pid ss = is_twice pid (pids_in ss)
 
 module _ (pid : ℕ) (all rest rest' : List Stream) (s : Stream) (e : rest ≡ s ∷ rest') where
   pub found_twice : twice_from true pid rest ≡ is_twice pid (pids_in all) → (s.pid == pid) ≡ true → true ≡ is_twice pid (pids_in all)
-  found_twice h y = sym (or_here (s.pid == pid) (is_in pid (pids_in rest')) y) ∙ ap (λ x. is_in pid (pids_in x)) (sym e) ∙ h
+  found_twice h y = sym (or_here (s.pid == pid) (is_among pid (pids_in rest')) y) ∙ ap (λ x. is_among pid (pids_in x)) (sym e) ∙ h
 
   pub found_once : twice_from false pid rest ≡ is_twice pid (pids_in all) → (s.pid == pid) ≡ true → twice_from true pid rest' ≡ is_twice pid (pids_in all)
-  found_once h y = let a : is_twice pid (pids_in (s ∷ rest')) ≡ is_in pid (pids_in rest') = simp y refl in sym a ∙ ap (λ x. is_twice pid (pids_in x)) (sym e) ∙ h
+  found_once h y = let a : is_twice pid (pids_in (s ∷ rest')) ≡ is_among pid (pids_in rest') = simp y refl in sym a ∙ ap (λ x. is_twice pid (pids_in x)) (sym e) ∙ h
 
   pub not_found : (b : Bool) → twice_from b pid rest ≡ is_twice pid (pids_in all) → (s.pid == pid) ≡ false → twice_from b pid rest' ≡ is_twice pid (pids_in all)
-  not_found true h n = sym (or_later (s.pid == pid) (is_in pid (pids_in rest')) n) ∙ ap (λ x. is_in pid (pids_in x)) (sym e) ∙ h
+  not_found true h n = sym (or_later (s.pid == pid) (is_among pid (pids_in rest')) n) ∙ ap (λ x. is_among pid (pids_in x)) (sym e) ∙ h
   not_found false h n = let a : is_twice pid (pids_in (s ∷ rest')) ≡ is_twice pid (pids_in rest') = simp n refl in sym a ∙ ap (λ x. is_twice pid (pids_in x)) (sym e) ∙ h
 
 pub none_twice : (b : Bool) (pid : ℕ) (all rest : List Stream) → rest ≡ [] → twice_from b pid rest ≡ is_twice pid (pids_in all) → false ≡ is_twice pid (pids_in all)
-none_twice true pid all rest e h = sym (ap (λ x. is_in pid (pids_in x)) e) ∙ h
+none_twice true pid all rest e h = sym (ap (λ x. is_among pid (pids_in x)) e) ∙ h
 none_twice false pid all rest e h = sym (ap (λ x. is_twice pid (pids_in x)) e) ∙ h
 
 -- ---- no PID of cues

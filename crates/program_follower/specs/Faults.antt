@@ -2,7 +2,7 @@
 use Rattle.std.specs.Option.{option_or}
 use Rattle.std.specs.Prelude.{ℕ, List, [], ◌∷◌, map, length, Bool, true, false, not, ◌&&◌, ◌||◌, ◌==◌, nat_lt, if◌then◌else◌, Option, Some, None, option_map, Result, Ok, Err}
 use Rattle.std.specs.List.{list_any}
-use Rattle.ts_packet.specs.Fields.{on}
+use Rattle.ts_packet.specs.Fields.{on, is_among}
 use Rattle.psi_section.specs.Sections.{given}
 use Rattle.psi_tables.specs.declared.fault.TableFault.{TableFault}
 use Rattle.psi_tables.specs.declared.fault.TableFault.TheVariants as table_faults
@@ -70,14 +70,10 @@ pats_fault c known (s ∷ ss) = option_or (pat_fault c known (pat s)) (pats_faul
 abbrev pub pids_in : List Stream → List ℕ
 pids_in streams = map (λ (s : Stream). s.pid) streams
 
--- how often a number stands in a list, more than once
-abbrev pub is_in : ℕ → List ℕ → Bool
-is_in x [] = false
-is_in x (y ∷ ys) = (y == x) || is_in x ys
-
+-- a number stands in a list more than once
 abbrev pub is_twice : ℕ → List ℕ → Bool
 is_twice x [] = false
-is_twice x (y ∷ ys) = if y == x then is_in x ys else is_twice x ys
+is_twice x (y ∷ ys) = if y == x then is_among x ys else is_twice x ys
 
 -- a PID that no entry and no clock may have, and one that no switched stream may have
 abbrev pub bad_pid : ℕ → ℕ → Bool

@@ -1,9 +1,9 @@
 //! The switched streams behind the head: where their units begin, and the greatest time of these.
 
-ghost use Rattle.std.specs.Prelude.{◌≡◌, ◌<◌, ◌≤◌, ◌≢◌, ◌&&◌, ◌∷◌, [], ℕ, List, length, Option, Some, None, option_map};
-ghost use Rattle.std.specs.Prelude.{OnOk, IfOk, IfErr, is_some, slice_index_or, true};
+ghost use Rattle.std.specs.Prelude.{◌≡◌, ◌<◌, ◌≤◌, ◌≢◌, ◌∷◌, [], ℕ, List, length, Option, Some, None, option_map};
+ghost use Rattle.std.specs.Prelude.{OnOk, IfOk, IfErr, slice_index_or, true};
 ghost use Rattle.pes_time.specs.Line.{ring_of};
-ghost use Rattle.ts_packet.specs.Fields.{payload, scrambled, payload_on};
+ghost use Rattle.ts_packet.specs.Fields.{payload_on};
 ghost use Rattle.unit_stream.specs.Faults.{unit_fault};
 ghost use Rattle.unit_stream.specs.Times.{high};
 ghost use Rattle.unit_stream.specs.Pieces.{Reads, Brings};
@@ -82,7 +82,7 @@ impl Streams {
         let Some(index) = self.places.place_of(packet) else {
             return Ok(None);
         };
-        if has_scrambled_payload(packet) {
+        if packet.has_scrambled_payload() {
             return Err(UnitFault::Scrambled);
         }
         let piece = feed_at(&mut self.readers, index, packet);
@@ -121,14 +121,6 @@ fn stream_packet(clock: &mut Clock, piece: Piece<'_>) -> Result<StreamPacket, Un
         Piece::NoPayload => Ok(StreamPacket::NoPayload),
         Piece::Error => Ok(StreamPacket::NoPayload),
     }
-}
-
-/// Whether there is a payload, and it is scrambled.
-#[inline(always)]
-fn has_scrambled_payload(packet: &Packet) -> bool
-    ensures { result ≡ (is_some (payload packet.now) && scrambled packet.now) }
-{
-    packet.has_payload() && packet.scrambled()
 }
 
 /// Feeds the reader of one stream.

@@ -5,7 +5,7 @@ use Rattle.std.specs.List.{AllByRecursion}
 use Rattle.std.specs.Prelude.{filter, option_map}
 use Rattle.std.specs.List.{list_any}
 use Rattle.std.proofs.lemmas.Bool.{eq-eqb}
-use Rattle.ts_packet.specs.Fields.{on}
+use Rattle.ts_packet.specs.Fields.{on, on_one}
 use Rattle.ts_packet.proofs.Cases.{by_test}
 use Rattle.psi_section.specs.Sections.{given}
 use Rattle.psi_section.specs.Laws.{CanBeGiven}
@@ -22,7 +22,7 @@ use Rattle.program_follower.specs.Faults.{is_pid, if_bad, pmt_pid_fault, pids_in
 use Rattle.program_laws.specs.Writing.{Along, Writing, written, table_out, Off, MapGoesOut, ChangedGoesOut, IsClear, ReadsAgain}
 use Rattle.program_laws.specs.Behind.{Passes, TakesAll, SameUnits}
 use Rattle.program_laws.specs.CueEntry.{EntryGoes}
-use Rattle.program_laws.specs.Cued.{on_one, On, cueing, stripping, CuedReads, CuedStreamReads}
+use Rattle.program_laws.specs.Cued.{On, cueing, stripping, CuedReads, CuedStreamReads}
 use Rattle.psi_section.proofs.GivenLemmas.{All-both, given_can_each}
 use Rattle.ts_packet.proofs.FieldLemmas.{off_payload}
 use Rattle.program_laws.proofs.ReadingLemmas.{none_at_pat, no_tables}

@@ -12,7 +12,8 @@ use Rattle.psi_tables.specs.Streams.{pid_in, switched_of, is_switched, stream_of
 use Rattle.psi_tables.specs.ProgramMap.{ProgramMap, streams_of}
 use Rattle.psi_tables.specs.Cue.{cue_entry, with_cue_entry}
 use Rattle.program_follower.specs.Program.{Program}
-use Rattle.program_follower.specs.Faults.{is_pid, if_bad, pids_in, is_in, is_twice, bad_pid, bad_switched, bad_pids, cue_used, changed}
+use Rattle.ts_packet.specs.Fields.{is_among}
+use Rattle.program_follower.specs.Faults.{is_pid, if_bad, pids_in, is_twice, bad_pid, bad_switched, bad_pids, cue_used, changed}
 use Rattle.psi_tables.specs.declared.network.NetworkFault.{NetworkFault}
 use Rattle.psi_tables.specs.declared.network.NetworkFault.TheVariants.{TooManyStreams, BadPids, CuePidUsed, ProgramChanged}
 use Rattle.program_laws.specs.Spliced.{EntryIsNoFault}
@@ -36,13 +37,13 @@ any_switched f (s ∷ ss) h =
     let more = any_switched f ss r.1 in
     by_test (is_switched s.kind) (λ y. simp y (or_both (f s.pid) (list_any f (pids_in (switched_of ss))) r.0 more)) (λ n. simp n more)
 
-in_more : (x y : ℕ) (ys : List ℕ) → (y == x) ≡ false → is_in x (ys ++ y ∷ []) ≡ is_in x ys
+in_more : (x y : ℕ) (ys : List ℕ) → (y == x) ≡ false → is_among x (ys ++ y ∷ []) ≡ is_among x ys
 in_more x y [] h = ap (λ b. b || false) h
 in_more x y (z ∷ ys) h = ap (λ b. (z == x) || b) (in_more x y ys h)
 
 twice_more : (x y : ℕ) (ys : List ℕ) → (y == x) ≡ false → is_twice x (ys ++ y ∷ []) ≡ is_twice x ys
 twice_more x y [] h = simp h refl
-twice_more x y (z ∷ ys) h = ap (λ b. if z == x then b else is_twice x (ys ++ y ∷ [])) (in_more x y ys h) ∙ ap (λ b. if z == x then is_in x ys else b) (twice_more x y ys h)
+twice_more x y (z ∷ ys) h = ap (λ b. if z == x then b else is_twice x (ys ++ y ∷ [])) (in_more x y ys h) ∙ ap (λ b. if z == x then is_among x ys else b) (twice_more x y ys h)
 
 back_test : (x y : ℕ) → (x == y) ≡ false → (y == x) ≡ false
 back_test x y h = by_test (y == x) (λ t. absurd (let f : (x == y) ≡ true = eq-eqb x y (sym (eqb-true y x t)) in let g = sym f ∙ h in cc)) (λ n. n)

@@ -1,7 +1,7 @@
 -- A network without fault, with cues put in, and the same stripped again.
-use Rattle.std.specs.Prelude.{◌≡◌, ℕ, ◌<◌, List, [], ◌∷◌, Bool, true, false, ◌||◌, filter, map, if◌then◌else◌, Option, Some, None, option_map}
+use Rattle.std.specs.Prelude.{◌≡◌, ℕ, ◌<◌, List, [], ◌∷◌, true, false, filter, map, if◌then◌else◌, Option, Some, None, option_map}
 use Rattle.std.specs.List.{AllByRecursion}
-use Rattle.ts_packet.specs.Fields.{on}
+use Rattle.ts_packet.specs.Fields.{on, on_one}
 use Rattle.psi_section.specs.Sections.{given}
 use Rattle.wire_fields.specs.Numbers.{AreBytes}
 use Rattle.psi_tables.specs.Association.{Pair, pat, pid_of_program}
@@ -43,11 +43,6 @@ abbrev pub NoCuePackets : Type 0
 NoCuePackets = (c : Purpose) (cue : ℕ) (past : List (List ℕ)) → c.cue_pid ≡ Some cue → c.writes_cues ≡ true → first_fault c past ≡ None → Along (λ p past. on cue p ≡ false) past
 
 -- ---- cues put in, and taken out
-
--- the packet is of one of the PIDs
-abbrev pub on_one : List ℕ → List ℕ → Bool
-on_one [] q = false
-on_one (pid ∷ pids) q = on pid q || on_one pids q
 
 abbrev pub On : ℕ → List ℕ → Type 0
 On pid q = on pid q ≡ true

@@ -8,7 +8,7 @@ use lib.Signed.{lt_z}
 use Rattle.ts_packet.specs.Runs.{Seen, seen_after}
 use Rattle.ts_packet.proofs.Cases.{by_test}
 use Rattle.ts_packet.proofs.RunLemmas.{onto}
-use Rattle.splice_laws.specs.Splicing.{PlayedEvent, SliceUnit, Out, TimedStream, at_or_past, begun, closed, due, put_in, kept, inserted, rest, all_inserted, all_rest}
+use Rattle.splice_laws.specs.Splicing.{PlayedEvent, SliceUnit, Out, TimedStream, at_or_past, begun, closed, put_in, kept, inserted, rest, all_inserted, all_rest}
 use Rattle.splice_laws.specs.Laws.{Risen, IsStream, CountsAt, CountsOver}
 use Rattle.splice_laws.specs.Settled.{IsAhead, IsSettled}
 use Rattle.splice_laws.specs.Ends.{up_to_end, longest_front, sent, sent_at, unsent, sent_whole, EndsAt, EndSoon, SentIsPlaced}
@@ -22,11 +22,11 @@ use Rattle.splice_laws.proofs.PlacedLemmas.{counted_is_placed}
 -- the same, by recursion
 abbrev pub run_of : List SliceUnit → Option ℤ → List SliceUnit
 run_of [] h = []
-run_of (u ∷ us) h = if due u.time h then u ∷ run_of us h else []
+run_of (u ∷ us) h = if at_or_past u.time h then u ∷ run_of us h else []
 
 pub longest-run : (us : List SliceUnit) (h : Option ℤ) → longest_front us h ≡ run_of us h
 longest-run [] h = refl
-longest-run (u ∷ us) h = by_test (due u.time h) (λ d. simp d (ap (λ l. u ∷ l) (longest-run us h))) (λ d. simp d)
+longest-run (u ∷ us) h = by_test (at_or_past u.time h) (λ d. simp d (ap (λ l. u ∷ l) (longest-run us h))) (λ d. simp d)
 
 abbrev pub IsFront : List SliceUnit → List SliceUnit → Type 0
 IsFront a b = (more : List SliceUnit) × (b ≡ a ++ more)
@@ -42,7 +42,7 @@ empty-front a b e = (b, sym (ap (λ l. l ++ b) e))
 
 pub run-front : (us : List SliceUnit) (h : Option ℤ) → IsFront (run_of us h) us
 run-front [] h = ([], refl)
-run-front (u ∷ us) h = by_test (due u.time h) (λ d. simp d (front-cons u (run_of us h) us (run-front us h))) (λ d. simp d (u ∷ us, refl))
+run-front (u ∷ us) h = by_test (at_or_past u.time h) (λ d. simp d (front-cons u (run_of us h) us (run-front us h))) (λ d. simp d (u ∷ us, refl))
 
 pub front-take : (a b : List SliceUnit) → IsFront a b → a ≡ take (length a) b
 front-take [] b f = refl
@@ -54,7 +54,7 @@ front-length a b f = let e = ap length f.1 ∙ length-append a f.0 in omega arit
 cut-lower : (t a b : ℤ) → b ≤ℤ a → lt_z t b ≡ true → lt_z t a ≡ true
 cut-lower t a b l h = grind (arith, ints)
 
-not-due : (t b : ℤ) (h : Option ℤ) → IsAhead h b → lt_z t b ≡ false → due t h ≡ false
+not-due : (t b : ℤ) (h : Option ℤ) → IsAhead h b → lt_z t b ≡ false → at_or_past t h ≡ false
 not-due t b None a l = refl
 not-due t b (Some h) a l = grind (arith, ints)
 
@@ -64,7 +64,7 @@ front-earlier [] a b h h' g l s = ([], refl)
 front-earlier (u ∷ us) a b h h' g l s =
     let i = front-earlier us a b h h' g l s in
     by_test (lt_z u.time b)
-    (λ c. let d = cut-lower u.time a b l c in by_test (due u.time h)
+    (λ c. let d = cut-lower u.time a b l c in by_test (at_or_past u.time h)
     (λ e. let e' = due-later u.time h h' g e in simp (c, d, e, e') (front-cons u _ _ i))
     (λ e. simp (c, d, e) (run_of (u ∷ up_to_end b us) h', refl)))
     (λ c. by_test (lt_z u.time a)

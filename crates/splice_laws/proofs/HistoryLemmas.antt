@@ -2,7 +2,7 @@
 use Rattle.std.specs.Prelude.{ℤ, ◌≤ℤ◌}
 use Rattle.std.proofs.Common.{◌≡◌, ℕ, ◌≤◌, List, [], ◌∷◌, length, true, false, not, ◌&&◌, ap, Option, arith}
 use Rattle.ts_packet.proofs.Cases.{by_test}
-use Rattle.splice_laws.specs.Splicing.{PlayedEvent, SliceUnit, TimedStream, at_or_past, holds, stands, comes, passed, opens, begun, closed, due, front, out_of}
+use Rattle.splice_laws.specs.Splicing.{PlayedEvent, SliceUnit, TimedStream, at_or_past, holds, stands, comes, passed, opens, begun, closed, front, out_of}
 use Rattle.splice_laws.specs.Laws.{Risen, IsStream, OutGrows}
 use Rattle.splice_laws.proofs.TimeLemmas.{stands-later, past_lower, holds-past, holds-below, due-later}
 use Rattle.splice_laws.proofs.StepLemmas.{true_or_false, step_passed, step_lower, step_dead, step_begun, step_inside, count-grows}
@@ -11,7 +11,7 @@ front-later : (us : List SliceUnit) (h h' : Option ℤ) → Risen h h' → front
 front-later [] h h' k = omega arith
 front-later (u ∷ us) h h' k =
     let i = front-later us h h' k in
-    by_test (due u.time h)
+    by_test (at_or_past u.time h)
     (λ d. simp (d, due-later u.time h h' k d) (omega arith))
     (λ d. simp d (omega arith))
 
@@ -19,7 +19,7 @@ front-within : (us : List SliceUnit) (h : Option ℤ) → front us h ≤ length 
 front-within [] h = omega arith
 front-within (u ∷ us) h =
     let i = front-within us h in
-    by_test (due u.time h) (λ d. simp d (omega arith)) (λ d. simp d (omega arith))
+    by_test (at_or_past u.time h) (λ d. simp d (omega arith)) (λ d. simp d (omega arith))
 
 module _ (r : TimedStream) (k : IsStream r) where
   pub passed-lower : (a b : ℤ) → a ≤ℤ b → (past : List (List ℕ)) → passed r b past ≡ true → passed r a past ≡ true

@@ -4,7 +4,7 @@ use Rattle.std.proofs.Common.{◌≡◌, ℕ, suc, List, [], ◌∷◌, Bool, tr
 use Rattle.std.proofs.lemmas.Int.{ints}
 use Rattle.std.proofs.lemmas.List.Elements.{All-head, All-tail}
 use Rattle.ts_packet.proofs.Cases.{by_test}
-use Rattle.splice_laws.specs.Splicing.{PlayedEvent, SliceUnit, TimedStream, holds, stands, comes, opens, begun, closed, due, front}
+use Rattle.splice_laws.specs.Splicing.{PlayedEvent, SliceUnit, TimedStream, holds, stands, comes, opens, begun, closed, front, at_or_past}
 use Rattle.splice_laws.specs.Laws.{Risen, IsStream}
 use Rattle.splice_laws.specs.Settled.{IsAhead, NeverPassesHigh, NothingEarly, NothingLate, NearIsPastForgotten}
 use Rattle.splice_laws.proofs.TimeLemmas.{stands-later}
@@ -27,7 +27,7 @@ pub nothing_early : NothingEarly
 nothing_early r k w x past a = (not_begun r k w x past a, early-out x (r.time past) (early x (r.time past) (r.high past) (w past) a))
 
 -- a unit below the end is due once the event stands no more
-due-late : (x : PlayedEvent) (t : ℤ) (h : Option ℤ) → t <ℤ x.stop → stands x h ≡ false → due t h ≡ true
+due-late : (x : PlayedEvent) (t : ℤ) (h : Option ℤ) → t <ℤ x.stop → stands x h ≡ false → at_or_past t h ≡ true
 due-late x t None l s = sym s
 due-late x t (Some h) l s = grind (arith, ints)
 

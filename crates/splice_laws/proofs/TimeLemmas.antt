@@ -2,7 +2,7 @@
 use Rattle.std.specs.Prelude.{ℤ, ◌≤ℤ◌, is_some}
 use Rattle.std.proofs.Common.{◌≡◌, true, false, not, refl, Option, None, Some, arith}
 use Rattle.std.proofs.lemmas.Int.{ints}
-use Rattle.splice_laws.specs.Splicing.{PlayedEvent, at_or_past, below, holds, stands, due}
+use Rattle.splice_laws.specs.Splicing.{PlayedEvent, at_or_past, below, holds, stands}
 use Rattle.splice_laws.specs.Laws.{Risen}
 
 pub stands-later : (x : PlayedEvent) (h h' : Option ℤ) → Risen h h' → stands x h ≡ false → stands x h' ≡ false
@@ -31,7 +31,7 @@ pub not-below : (e : ℤ) (t : Option ℤ) → below e t ≡ false → is_some t
 not-below e None h k = k
 not-below e (Some t) h k = grind (arith, ints)
 
-pub due-later : (t : ℤ) (h h' : Option ℤ) → Risen h h' → due t h ≡ true → due t h' ≡ true
+pub due-later : (t : ℤ) (h h' : Option ℤ) → Risen h h' → at_or_past t h ≡ true → at_or_past t h' ≡ true
 due-later t None h' k d = cc
 due-later t (Some a) None k d = absurd k
 due-later t (Some a) (Some b) k d = grind (arith, ints)

@@ -1,6 +1,6 @@
 -- All switched streams of a run at once: what goes out before each packet, and whether it passes.
-use Rattle.std.specs.Prelude.{◌≡◌, ℕ, ◌==◌, ◌++◌, ◌∷◌, ◌⊎◌, List, [], Bool, false, not, ◌||◌, if◌then◌else◌, map, flat_map, reverse, All, ℤ, Option}
-use Rattle.ts_packet.specs.Fields.{payload_on}
+use Rattle.std.specs.Prelude.{◌≡◌, ℕ, ◌==◌, ◌++◌, ◌∷◌, ◌⊎◌, List, [], Bool, false, not, if◌then◌else◌, map, flat_map, reverse, All, ℤ, Option}
+use Rattle.ts_packet.specs.Fields.{payload_on, is_among}
 use Rattle.ts_packet.specs.Runs.{Seen, seen_after}
 use Rattle.unit_stream.specs.Fates.{is_left_out}
 use Rattle.splice_laws.specs.Splicing.{PlayedEvent, SliceUnit, Out, Network, Inserted, TimedStream, stream, closed, out_of, inserted, rest, outside, carried, carried_by}
@@ -69,10 +69,6 @@ abbrev pub of_stream : ℕ → List Act → List Out
 of_stream pid [] = []
 of_stream pid (Through p ∷ acts) = if payload_on pid p then Network p ∷ of_stream pid acts else of_stream pid acts
 of_stream pid (Insert q u ∷ acts) = if q == pid then Inserted u ∷ of_stream pid acts else of_stream pid acts
-
-abbrev pub is_among : ℕ → List ℕ → Bool
-is_among pid [] = false
-is_among pid (q ∷ qs) = (q == pid) || is_among pid qs
 
 -- it is one of them, once
 abbrev pub IsOnce : ℕ → List ℕ → Type 0

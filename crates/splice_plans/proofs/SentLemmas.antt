@@ -3,7 +3,7 @@ use Rattle.std.proofs.Common.{◌≡◌, ℕ, List, [], ◌∷◌, ◌++◌, Boo
 use Rattle.std.specs.Prelude.{ℤ}
 use Rattle.std.proofs.lemmas.Bool.{true≢false}
 use Rattle.ts_packet.proofs.Cases.{by_test}
-use Rattle.splice_laws.specs.Splicing.{PlayedEvent, SliceUnit, TimedStream, due}
+use Rattle.splice_laws.specs.Splicing.{PlayedEvent, SliceUnit, TimedStream, at_or_past}
 use Rattle.splice_laws.specs.Laws.{IsStream, Risen}
 use Rattle.splice_laws.specs.Settled.{begun_now, closed_now}
 use Rattle.splice_laws.specs.Ends.{longest_front}
@@ -146,15 +146,15 @@ is_none (u ∷ us) = false
 
 rest-one : (u x : SliceUnit) (us a : List SliceUnit) (h : Option ℤ) → IsFront (x ∷ a) (run_of (u ∷ us) h) → (IsFront a (run_of us h) → drop (length a) (run_of us h) ≡ run_of (drop (length a) us) h)
     → drop (suc (length a)) (run_of (u ∷ us) h) ≡ run_of (drop (length a) us) h
-rest-one u x us a h f later = by_test (due u.time h) go gone
+rest-one u x us a h f later = by_test (at_or_past u.time h) go gone
   where
-    go : due u.time h ≡ true → drop (suc (length a)) (run_of (u ∷ us) h) ≡ run_of (drop (length a) us) h
+    go : at_or_past u.time h ≡ true → drop (suc (length a)) (run_of (u ∷ us) h) ≡ run_of (drop (length a) us) h
     go d =
         let all : run_of (u ∷ us) h ≡ u ∷ run_of us h = simp d refl in
         let tail : run_of us h ≡ a ++ f.0 = ap (drop 1) (sym all ∙ f.1) in
         ap (drop (suc (length a))) all ∙ later (f.0, tail)
 
-    gone : due u.time h ≡ false → drop (suc (length a)) (run_of (u ∷ us) h) ≡ run_of (drop (length a) us) h
+    gone : at_or_past u.time h ≡ false → drop (suc (length a)) (run_of (u ∷ us) h) ≡ run_of (drop (length a) us) h
     gone d = let none : run_of (u ∷ us) h ≡ [] = simp d refl in absurd (true≢false (ap is_none (sym none ∙ f.1)))
 
 -- what is left of those that have come due is what comes due of those that are left

@@ -4,11 +4,11 @@ use Rattle.std.specs.List.{list_any}
 use Rattle.std.specs.Ordering.{int_eq}
 use Rattle.ts_packet.specs.Numbering.{Counts}
 use Rattle.unit_stream.specs.Times.{begins_one, unit_time}
-use Rattle.event_table.specs.Standing.{Standing}
-use Rattle.armed_events.specs.Arming.{stands}
+use Rattle.event_table.specs.Standing.{Standing, stands}
 use Rattle.program_follower.specs.Program.{behind_head}
 use Rattle.splice_laws.specs.Splicing.{PlayedEvent, TimedStream, stream, below}
-use Rattle.splice_laws.specs.Streams.{is_among, IsOnce}
+use Rattle.ts_packet.specs.Fields.{is_among}
+use Rattle.splice_laws.specs.Streams.{IsOnce}
 use Rattle.splice_laws.specs.Settled.{begun_now, closed_now}
 use Rattle.output_laws.specs.Output.{Packing, Move, counter_steps}
 use Rattle.splice_plans.specs.declared.plan.Stage.{Stage}

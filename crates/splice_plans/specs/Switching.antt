@@ -1,6 +1,6 @@
 -- THE SWITCH: what goes out for each packet of a network with cues, by the packets that came before, newest first.
-use Rattle.std.specs.Prelude.{ℕ, ◌∷◌, ◌++◌, List, [], Bool, false, ◌||◌, if◌then◌else◌, is_some, Option, Some, ℤ, length, drop, reverse, map, flat_map}
-use Rattle.ts_packet.specs.Fields.{on}
+use Rattle.std.specs.Prelude.{ℕ, ◌∷◌, ◌++◌, List, [], Bool, if◌then◌else◌, is_some, Option, Some, ℤ, length, drop, reverse, map, flat_map}
+use Rattle.ts_packet.specs.Fields.{on, on_one}
 use Rattle.unit_stream.specs.Times.{begins_one, high}
 use Rattle.unit_stream.specs.Fates.{is_left_out}
 use Rattle.event_table.specs.Standing.{Standing}
@@ -91,14 +91,10 @@ front_at k p past = if is_behind_head k past
     then front_of (switched_at k past) (k.adverts (streams_at k past)) (history_at k past) k.packed p (behind_head (Some k.program) past)
     else []
 
-abbrev pub is_switched : List ℕ → List ℕ → Bool
-is_switched [] p = false
-is_switched (pid ∷ pids) p = on pid p || is_switched pids p
-
 -- a packet of the cue PID is left out, one of a switched stream is switched, and all others pass
 abbrev pub place_at : Setting → List ℕ → List (List ℕ) → List (List ℕ)
 place_at k p past = if on k.cue_pid p then []
-    else (if is_switched (switched_at k past) p
+    else (if on_one (switched_at k past) p
     then place_of (switched_at k past) (k.adverts (streams_at k past)) (history_at k past) k.packed p (behind_head (Some k.program) past)
     else p ∷ [])
 

@@ -9,11 +9,12 @@ use Rattle.unit_stream.specs.Times.{high}
 use Rattle.psi_tables.specs.declared.stream.Stream.{Stream}
 use Rattle.program_follower.specs.Program.{Program, program_of}
 use Rattle.program_follower.specs.Following.{streams_of_program}
-use Rattle.event_table.specs.Standing.{Standing}
-use Rattle.armed_events.specs.Arming.{standing, standing_at, stands}
+use Rattle.event_table.specs.Standing.{Standing, stands}
+use Rattle.armed_events.specs.Arming.{standing, standing_at}
 use Rattle.armed_events.specs.Valuing.{values_by}
 use Rattle.ad_library.specs.Advertisements.{Advertisement}
-use Rattle.splice_laws.specs.Streams.{is_among, IsOnce}
+use Rattle.ts_packet.specs.Fields.{is_among}
+use Rattle.splice_laws.specs.Streams.{IsOnce}
 use Rattle.output_laws.specs.Output.{Move, Packing}
 use Rattle.splice_plans.specs.declared.plan.Plan.{Plan}
 use Rattle.splice_plans.specs.Playing.{Adverts, History, played}

@@ -13,8 +13,8 @@ use Rattle.ts_packet.specs.Numbering.{Step}
 use Rattle.pes_time.specs.Line.{ring_of}
 use Rattle.unit_stream.specs.Times.{begins_one, high}
 use Rattle.psi_tables.specs.declared.stream.Stream.{Stream}
-use Rattle.event_table.specs.Standing.{Standing, end_of, on_ring}
-use Rattle.armed_events.specs.Arming.{stands, standing_at}
+use Rattle.event_table.specs.Standing.{Standing, end_of, on_ring, stands}
+use Rattle.armed_events.specs.Arming.{standing_at}
 use Rattle.armed_laws.specs.Laws.{AreApart, IsApartOf, NoneMeet}
 use Rattle.ad_library.specs.Advertisements.{AdvertUnit, Advertisement, count_of_kind}
 use Rattle.splice_laws.specs.Splicing.{SliceUnit, stream, begun, closed, at_or_past}

@@ -4,7 +4,7 @@ use Rattle.std.specs.Prelude.{ℤ, is_some, map, flat_map, slice_get, slice_inde
 use Rattle.std.proofs.lemmas.Bool.{true≢false}
 use Rattle.std.proofs.lemmas.List.{reverse-append}
 use Rattle.std.proofs.lemmas.Option.{none-some, same_Some, slice_get_within}
-use Rattle.ts_packet.specs.Fields.{on, payload, payload_on, pid_of, pcr, renumbered}
+use Rattle.ts_packet.specs.Fields.{on, payload, payload_on, pid_of, pcr, renumbered, on_one, is_among}
 use Rattle.ts_packet.specs.Duplicates.{original}
 use Rattle.ts_packet.specs.Numbering.{Step, Kept, Dropped, moved, number_out, Counts}
 use Rattle.ts_packet.proofs.Cases.{by_test}
@@ -17,14 +17,14 @@ use Rattle.program_follower.specs.Program.{known_map, behind_head}
 use Rattle.armed_events.specs.Arming.{Heard}
 use Rattle.armed_events.proofs.PastLemmas.{heard-off}
 use Rattle.splice_laws.specs.Splicing.{SliceUnit}
-use Rattle.splice_laws.specs.Streams.{is_among, IsOnce}
+use Rattle.splice_laws.specs.Streams.{IsOnce}
 use Rattle.output_laws.specs.Output.{Move, Keep, Leave, Put, network, Packing, counter_steps, out_at, clock_alone}
 use Rattle.output_laws.proofs.StepLemmas.{test-same, pid_is, payload-some, payload-none, kept_on}
 use Rattle.outgoing_packets.specs.Numbers.{FrontFails}
 use Rattle.splice_plans.specs.declared.stream.SwitchedStream.{SwitchedStream}
 use Rattle.splice_plans.specs.Playing.{Adverts, History, played, is_inside, is_played}
 use Rattle.splice_plans.specs.Counting.{left_steps, steps_behind, left_place}
-use Rattle.splice_plans.specs.Switching.{Setting, puts_by, puts_before, fate, moves, place_at, is_switched, switched_at, head_at, history_at, events_at}
+use Rattle.splice_plans.specs.Switching.{Setting, puts_by, puts_before, fate, moves, place_at, switched_at, head_at, history_at, events_at}
 use Rattle.splice_plans.specs.Known.{Goes, GoesAs, AllGo, AreSeparate, adverts_at, behind_at, inside_at, moves_at, puts_at}
 use Rattle.splice_playing.proofs.StreamLemmas.{slot-new, slot-old, slot-other}
 
@@ -73,10 +73,10 @@ other-pid pid q (r ∷ pids) (suc n) (suc i) (inr once) h k differ = other-pid p
 pub off-other : (pid q : ℕ) (p : List ℕ) → on pid p ≡ true → (q == pid) ≡ false → on q p ≡ false
 off-other pid q p o differ = by_test (on q p) (λ h. absurd (clash (q == pid) (same-test q pid (sym (pid_is q p h) ∙ pid_is pid p o)) differ)) (λ h. h)
 
-pub on-switched : (pid : ℕ) (pids : List ℕ) (n : ℕ) (p : List ℕ) → slice_get pids n ≡ Some pid → on pid p ≡ true → is_switched pids p ≡ true
+pub on-switched : (pid : ℕ) (pids : List ℕ) (n : ℕ) (p : List ℕ) → slice_get pids n ≡ Some pid → on pid p ≡ true → on_one pids p ≡ true
 on-switched pid [] n p h o = absurd (none-some pid h)
-on-switched pid (q ∷ pids) zero p h o = ap (λ b. b || is_switched pids p) (ap (λ r. on r p) (same_Some q pid h) ∙ o)
-on-switched pid (q ∷ pids) (suc n) p h o = or-true (on q p) (is_switched pids p) (on-switched pid pids n p h o)
+on-switched pid (q ∷ pids) zero p h o = ap (λ b. b || on_one pids p) (ap (λ r. on r p) (same_Some q pid h) ∙ o)
+on-switched pid (q ∷ pids) (suc n) p h o = or-true (on q p) (on_one pids p) (on-switched pid pids n p h o)
 
 -- ---- what the network has brought
 

@@ -1,6 +1,6 @@
 -- What the events and streams of a switch stand for: behind a past, before a packet that begins a unit, and behind it.
 use Rattle.std.specs.Prelude.{◌≡◌, ℕ, List, ◌∷◌, ◌++◌, map, reverse, Bool, true, false, not, ◌&&◌, slice_get, Option, None, Some, option_map}
-use Rattle.ts_packet.specs.Fields.{on, payload_on}
+use Rattle.ts_packet.specs.Fields.{on, payload_on, on_one}
 use Rattle.ts_packet.specs.Duplicates.{original}
 use Rattle.pes_time.specs.Line.{ring_of}
 use Rattle.unit_stream.specs.Times.{begins, in_unit, stamp}
@@ -14,7 +14,7 @@ use Rattle.output_laws.specs.Output.{Move}
 use Rattle.ad_library.specs.Advertisements.{Advertisement}
 use Rattle.splice_plans.specs.declared.plan.Plan.{Plan}
 use Rattle.splice_playing.specs.declared.playing.Playing.{Playing}
-use Rattle.splice_plans.specs.Switching.{Setting, fate, is_switched, switched_at, streams_at, high_at, history_at}
+use Rattle.splice_plans.specs.Switching.{Setting, fate, switched_at, streams_at, high_at, history_at}
 use Rattle.splice_plans.specs.Histories.{AreSteady}
 use Rattle.splice_plans.specs.Reporting.{ReportIs}
 use Rattle.splice_plans.specs.Adverts.{adverts_of, packed_units}
@@ -31,7 +31,7 @@ pub record PlaysFor (playing : Playing) (k : Setting) (past : List (List ℕ)) :
 -- the packet is of the PID of cues, and of no switched stream
 pub record IsCueOf (k : Setting) (p : List ℕ) (past : List (List ℕ)) : Type 0 where
   pub cue : on k.cue_pid p ≡ true
-  pub other : is_switched (switched_at k past) p ≡ false
+  pub other : on_one (switched_at k past) p ≡ false
   pub separate : AreSeparate (switched_at k past)
   pub steady : AreSteady (adverts_at k past)
 

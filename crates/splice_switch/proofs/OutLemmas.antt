@@ -5,7 +5,7 @@ use Rattle.std.specs.List.{AllByRecursion}
 use Rattle.std.specs.Prelude.{All}
 use Rattle.std.proofs.lemmas.List.Elements.{All-nil, All-cons, All-head, All-tail}
 use Rattle.std.proofs.lemmas.Bool.{true≢false}
-use Rattle.ts_packet.specs.Fields.{on, in_error, pid_of, pcr}
+use Rattle.ts_packet.specs.Fields.{on, in_error, pid_of, pcr, on_one, is_among}
 use Rattle.ts_packet.specs.Numbering.{number_out, one_past, last_number}
 use Rattle.ts_packet.specs.Runs.{onto}
 use Rattle.ts_packet.proofs.Cases.{by_test}
@@ -31,12 +31,11 @@ use Rattle.psi_section.proofs.GivenLemmas.{given_can, sound}
 use Rattle.outgoing_packets.specs.declared.entry.CueEntry.TheVariants.{Stripped}
 use Rattle.outgoing_packets.specs.Entries.{tables_out, HasRoom, GoesOut, AllGoOut}
 use Rattle.splice_laws.specs.Splicing.{SliceUnit}
-use Rattle.splice_laws.specs.Streams.{is_among}
 use Rattle.output_laws.specs.Output.{Move, Keep, Leave, Put, counter_steps, clock_alone, out_at, out_after}
 use Rattle.output_laws.proofs.StepLemmas.{pid_is, on-kept, on-clock}
 use Rattle.ad_library.specs.Advertisements.{Advertisement}
 use Rattle.splice_plans.specs.Playing.{Adverts, History, played, is_inside}
-use Rattle.splice_plans.specs.Switching.{Setting, puts_by, puts_before, moves, front_of, place_of, is_behind_head, front_at, place_at, switched_at, history_at, is_switched, switched_past, switched_at_packet}
+use Rattle.splice_plans.specs.Switching.{Setting, puts_by, puts_before, moves, front_of, place_of, is_behind_head, front_at, place_at, switched_at, history_at, switched_past, switched_at_packet}
 use Rattle.splice_plans.specs.Adverts.{setting_of, packed_units}
 use Rattle.splice_plans.specs.Known.{adverts_at, behind_at, moves_at}
 use Rattle.splice_plans.proofs.PutLemmas.{puts_at_unit_starts}
@@ -65,15 +64,15 @@ module _ (k : Setting) (p : List ℕ) (past : List (List ℕ)) where
       → Rattle.switch_laws.specs.Whole.stands_for k p past ≡ qs → switched_at_packet k p past ≡ qs
   alone qs none h = ap (λ l. l ++ Rattle.switch_laws.specs.Whole.stands_for k p past) (front-none k p past none) ∙ h
 
-  pub other-out : on_map (listed (Some k.program) past) p ≡ false → on k.cue_pid p ≡ false → is_switched (switched_at k past) p ≡ false → switched_at_packet k p past ≡ p ∷ []
+  pub other-out : on_map (listed (Some k.program) past) p ≡ false → on k.cue_pid p ≡ false → on_one (switched_at k past) p ≡ false → switched_at_packet k p past ≡ p ∷ []
   other-out map cue other =
       alone (p ∷ []) (off-begins (switched_at k past) p (behind_at k past) other) ((packets_stand_as k p past).other (no-table (listed (Some k.program) past) p map) cue other)
 
-  pub cue-out : on_map (listed (Some k.program) past) p ≡ false → on k.cue_pid p ≡ true → is_switched (switched_at k past) p ≡ false → switched_at_packet k p past ≡ []
+  pub cue-out : on_map (listed (Some k.program) past) p ≡ false → on k.cue_pid p ≡ true → on_one (switched_at k past) p ≡ false → switched_at_packet k p past ≡ []
   cue-out map cue other =
       alone [] (off-begins (switched_at k past) p (behind_at k past) other) ((packets_stand_as k p past).cue (no-table (listed (Some k.program) past) p map) cue)
 
-  pub map-out : (l : Listed) → listed (Some k.program) past ≡ Some l → on l.pid p ≡ true → is_switched (switched_at k past) p ≡ false
+  pub map-out : (l : Listed) → listed (Some k.program) past ≡ Some l → on l.pid p ≡ true → on_one (switched_at k past) p ≡ false
       → switched_at_packet k p past ≡ packets_out l.pid (switched_past k past) (map (section_out (without_cue_entry k.cue_pid)) (tables (Some k.program) p past))
   map-out l e here other =
       alone (packets_out l.pid (switched_past k past) (map (section_out (without_cue_entry k.cue_pid)) (tables (Some k.program) p past)))
@@ -181,7 +180,7 @@ join-apart other [] h a = tt
 join-apart other (pid ∷ pids) h a = let r = or-parts (pid == other) (is_among other pids) a in ((h.0, r.0), join-apart other pids h.1 r.1)
 
 -- a packet of one of them
-apart-on : (other : ℕ) (pids : List ℕ) (p : List ℕ) → AllByRecursion (IsApart other) pids → is_switched pids p ≡ true → IsApart other (pid_of p)
+apart-on : (other : ℕ) (pids : List ℕ) (p : List ℕ) → AllByRecursion (IsApart other) pids → on_one pids p ≡ true → IsApart other (pid_of p)
 apart-on other [] p all h = absurd (true≢false (sym h))
 apart-on other (pid ∷ pids) p all h = by_test (on pid p) (λ y. subst (IsApart other) (sym (pid_is pid p y)) all.0) (λ n. apart-on other pids p all.1 (simp n at h))
 
@@ -192,14 +191,14 @@ pub record MapApart (c : Config) (filed : ℕ → Option Advertisement) (p : Lis
 
 -- what goes out for a packet of a stream is of no packet of the map's PID
 pub stream-apart : (c : Config) (filed : ℕ → Option Advertisement) (p : List ℕ) (past : List (List ℕ)) → first_fault (reading_cues c) past ≡ None → on c.cue_pid p ≡ false
-    → on_map (listed (Some c.program) past) p ≡ false → is_switched (switched_at (setting_of c filed) past) p ≡ true → MapApart c filed p past
+    → on_map (listed (Some c.program) past) p ≡ false → on_one (switched_at (setting_of c filed) past) p ≡ true → MapApart c filed p past
 stream-apart c filed p past good cue map own = by (known_map (Some c.program) past) refl
   where
     k : Setting
     k = setting_of c filed
 
     by : (o : Option ProgramMap) → known_map (Some c.program) past ≡ o → MapApart c filed p past
-    by None known = absurd (true≢false (sym own ∙ ap (λ o. is_switched (pids_of (option_map program_in o)) p) known))
+    by None known = absurd (true≢false (sym own ∙ ap (λ o. on_one (pids_of (option_map program_in o)) p) known))
     by (Some m) known =
         let l = unlisted k past good (listed (Some c.program) past) refl m known in
         let sw = switched_at k past in
@@ -222,7 +221,7 @@ stream-apart c filed p past good cue map own = by (known_map (Some c.program) pa
 
 -- and the counters go on
 pub stream-goes-on : (c : Config) (filed : ℕ → Option Advertisement) (p : List ℕ) (past : List (List ℕ)) → first_fault (reading_cues c) past ≡ None → on c.cue_pid p ≡ false
-    → on_map (listed (Some c.program) past) p ≡ false → is_switched (switched_at (setting_of c filed) past) p ≡ true → (passed : List (List ℕ))
+    → on_map (listed (Some c.program) past) p ≡ false → on_one (switched_at (setting_of c filed) past) p ≡ true → (passed : List (List ℕ))
     → GoOnAs (listed (Some c.program) past) passed (switched_past (setting_of c filed) past) → GoOnAs (listed (Some c.program) (p ∷ past)) passed (switched_past (setting_of c filed) (p ∷ past))
 stream-goes-on c filed p past good cue map own passed h =
     let k = setting_of c filed in

@@ -3,7 +3,7 @@ use Rattle.std.proofs.Common.{◌≡◌, ℕ, zero, suc, ◌+◌, ◌-◌, ◌�
 use Rattle.std.specs.Prelude.{ℤ, Option, None, Some, option_map, is_some, map, replicate, reverse, drop, count_by, slice_get, slice_index_or}
 use Rattle.std.specs.List.{AllByRecursion}
 use Rattle.std.proofs.lemmas.Bool.{true≢false}
-use Rattle.ts_packet.specs.Fields.{on}
+use Rattle.ts_packet.specs.Fields.{on, on_one}
 use Rattle.ts_packet.specs.Numbering.{Counts}
 use Rattle.ts_packet.proofs.FieldLemmas.{off_payload}
 use Rattle.unit_stream.specs.Times.{begins, begins_one, high, unit_time}
@@ -26,7 +26,7 @@ use Rattle.splice_plans.specs.declared.plan.Plan.{Plan}
 use Rattle.splice_plans.specs.declared.stream.SwitchedStream.{SwitchedStream}
 use Rattle.splice_plans.specs.Turning.{waiting}
 use Rattle.splice_plans.specs.Playing.{Adverts, History, is_played, is_inside}
-use Rattle.splice_plans.specs.Switching.{Setting, moves, fate, switched_at, streams_at, high_at, events_at, history_at, is_switched}
+use Rattle.splice_plans.specs.Switching.{Setting, moves, fate, switched_at, streams_at, high_at, events_at, history_at}
 use Rattle.splice_plans.specs.Reporting.{EventCounts as Reported, ReportIs, is_not_fitted, no_counts}
 use Rattle.splice_plans.specs.Known.{nothing_known, padded, part_known, plan_known, plan_found, plan_at, is_crossed_known, GoesAs, adverts_at, behind_at, plans_at, inside_at, moves_at, puts_at, counts_known, is_forgotten}
 use Rattle.splice_plans.proofs.PutLemmas.{puts_at_unit_starts}
@@ -47,18 +47,18 @@ steps-off packed pid p ms true off = let n = off_payload pid p off in simp n ref
 steps-off packed pid p ms false off = simp off refl
 
 -- none of the PIDs is the packet's
-pub switched-off : (pids : List ℕ) (p : List ℕ) → is_switched pids p ≡ false → AllByRecursion (λ pid. on pid p ≡ false) pids
+pub switched-off : (pids : List ℕ) (p : List ℕ) → on_one pids p ≡ false → AllByRecursion (λ pid. on pid p ≡ false) pids
 switched-off [] p h = tt
-switched-off (pid ∷ pids) p h = let r = or-parts (on pid p) (is_switched pids p) h in (r.0, switched-off pids p r.1)
+switched-off (pid ∷ pids) p h = let r = or-parts (on pid p) (on_one pids p) h in (r.0, switched-off pids p r.1)
 
 or-both : (a b : Bool) → a ≡ false → b ≡ false → (Rattle.std.proofs.Common.◌||◌ a b) ≡ false
 or-both true b h k = h
 or-both false b h k = k
 
-pub off-begins : (pids : List ℕ) (p : List ℕ) (past : List (List ℕ)) → is_switched pids p ≡ false → begins_one pids p past ≡ false
+pub off-begins : (pids : List ℕ) (p : List ℕ) (past : List (List ℕ)) → on_one pids p ≡ false → begins_one pids p past ≡ false
 off-begins [] p past h = refl
 off-begins (pid ∷ pids) p past h =
-    let r = or-parts (on pid p) (is_switched pids p) h in
+    let r = or-parts (on pid p) (on_one pids p) h in
     or-both (begins pid p past) (begins_one pids p past) (begins_off pid p past (off_payload pid p r.0)) (off-begins pids p past r.1)
 
 -- ---- before the packet
@@ -81,7 +81,7 @@ plays-before playing k p past none h =
     }
 
 -- a packet of none of the streams passes
-pub plays-passed : (playing : Playing) (k : Setting) (p : List ℕ) (past : List (List ℕ)) → is_switched (switched_at k past) p ≡ false → PlaysBefore playing k p past → PlaysBehind playing k p past
+pub plays-passed : (playing : Playing) (k : Setting) (p : List ℕ) (past : List (List ℕ)) → on_one (switched_at k past) p ≡ false → PlaysBefore playing k p past → PlaysBehind playing k p past
 plays-passed playing k p past off h =
     let sw = switched_at k past in
     let behind = behind_at k past in
@@ -317,7 +317,7 @@ module _ (k : Setting) (p : List ℕ) (past : List (List ℕ)) (known : known_ma
 
 -- ---- a packet of none of the streams, and of another PID than that of the cues
 
-pub plays-quiet : (playing : Playing) (k : Setting) (p : List ℕ) (past : List (List ℕ)) → on k.cue_pid p ≡ false → is_switched (switched_at k past) p ≡ false → length (switched_at k (p ∷ past)) ≤ 8
+pub plays-quiet : (playing : Playing) (k : Setting) (p : List ℕ) (past : List (List ℕ)) → on k.cue_pid p ≡ false → on_one (switched_at k past) p ≡ false → length (switched_at k (p ∷ past)) ≤ 8
     → PlaysFor playing k past → PlaysFor playing k (p ∷ past)
 plays-quiet playing k p past off other few h = by (known_map (Some k.program) past) refl
   where
@@ -328,10 +328,10 @@ plays-quiet playing k p past off other few h = by (known_map (Some k.program) pa
         plays-behind k p past m known off none playing (plays-passed playing k p past other (plays-before playing k p past none h))
 
 -- and behind a packet of one of the streams
-pub plays-after : (playing : Playing) (k : Setting) (p : List ℕ) (past : List (List ℕ)) → on k.cue_pid p ≡ false → is_switched (switched_at k past) p ≡ true
+pub plays-after : (playing : Playing) (k : Setting) (p : List ℕ) (past : List (List ℕ)) → on k.cue_pid p ≡ false → on_one (switched_at k past) p ≡ true
     → begins_one (switched_at k past) p (behind_at k past) ≡ false → PlaysBehind playing k p past → PlaysFor playing k (p ∷ past)
 plays-after playing k p past off own none h = by (known_map (Some k.program) past) refl
   where
     by : (o : Option ProgramMap) → known_map (Some k.program) past ≡ o → PlaysFor playing k (p ∷ past)
-    by None known = absurd (true≢false (sym own ∙ ap (λ o. is_switched (pids_of (option_map program_in o)) p) known))
+    by None known = absurd (true≢false (sym own ∙ ap (λ o. on_one (pids_of (option_map program_in o)) p) known))
     by (Some m) known = plays-behind k p past m known off none playing h

@@ -6,7 +6,7 @@ use Rattle.std.specs.List.{AllByRecursion}
 use Rattle.std.proofs.lemmas.Bool.{true≢false}
 use Rattle.std.proofs.lemmas.Bool.Decides.{nat_tests}
 use Rattle.std.proofs.lemmas.List.{length-map}
-use Rattle.ts_packet.specs.Fields.{on, payload_on, in_error, unit_start}
+use Rattle.ts_packet.specs.Fields.{on, payload_on, in_error, unit_start, on_one, is_among}
 use Rattle.ts_packet.specs.Duplicates.{original, repeats}
 use Rattle.ts_packet.proofs.Cases.{by_test}
 use Rattle.unit_stream.specs.declared.fault.UnitFault.{UnitFault}
@@ -37,10 +37,9 @@ use Rattle.program_follower.proofs.StreamLemmas.{first_is_on, first_within, firs
 use Rattle.pes_time.specs.Line.{ring_of}
 use Rattle.program_laws.proofs.HeadLemmas.{known_stays}
 use Rattle.program_laws.proofs.FaultLemmas.{all_sound, pid_good, not_if_bad}
-use Rattle.splice_laws.specs.Streams.{is_among}
 use Rattle.output_laws.proofs.StepLemmas.{pid_is, test-same}
 use Rattle.ad_library.specs.Advertisements.{Advertisement}
-use Rattle.splice_plans.specs.Switching.{Setting, switched_at, streams_at, high_at, is_switched}
+use Rattle.splice_plans.specs.Switching.{Setting, switched_at, streams_at, high_at}
 use Rattle.splice_plans.specs.Adverts.{setting_of}
 use Rattle.splice_plans.proofs.AdvertLemmas.{libraries_are_steady}
 use Rattle.splice_plans.specs.Known.{AreSeparate, behind_at}
@@ -129,20 +128,20 @@ or-both true b h k = h
 or-both false b h k = k
 
 -- a packet of another PID than theirs
-pub not-among : (x : ℕ) (p : List ℕ) (pids : List ℕ) → on x p ≡ true → is_among x pids ≡ false → is_switched pids p ≡ false
+pub not-among : (x : ℕ) (p : List ℕ) (pids : List ℕ) → on x p ≡ true → is_among x pids ≡ false → on_one pids p ≡ false
 not-among x p [] h a = refl
 not-among x p (pid ∷ pids) h a =
     let r = or-parts (pid == x) (is_among x pids) a in
-    or-both (on pid p) (is_switched pids p) (apart-pid x pid p (back-test pid x r.0) h) (not-among x p pids h r.1)
+    or-both (on pid p) (on_one pids p) (apart-pid x pid p (back-test pid x r.0) h) (not-among x p pids h r.1)
 
-switched-one : (pids : List ℕ) (p : List ℕ) → is_switched pids p ≡ one_of (λ pid. on pid p) pids
+switched-one : (pids : List ℕ) (p : List ℕ) → on_one pids p ≡ one_of (λ pid. on pid p) pids
 switched-one [] p = refl
 switched-one (pid ∷ pids) p = ap (λ b. on pid p || b) (switched-one pids p)
 
-pub none-first : (pids : List ℕ) (p : List ℕ) → first_on pids p ≡ None → is_switched pids p ≡ false
+pub none-first : (pids : List ℕ) (p : List ℕ) → first_on pids p ≡ None → on_one pids p ≡ false
 none-first pids p h = switched-one pids p ∙ none_of (λ pid. on pid p) p (λ pid o. o) pids h
 
-pub one-first : (pids : List ℕ) (p : List ℕ) (i pid : ℕ) → first_on pids p ≡ Some (i, pid) → is_switched pids p ≡ true
+pub one-first : (pids : List ℕ) (p : List ℕ) (i pid : ℕ) → first_on pids p ≡ Some (i, pid) → on_one pids p ≡ true
 one-first pids p i pid h = switched-one pids p ∙ first_of (λ pid. on pid p) p (λ pid o. o) pids (i, pid) h ∙ first_is_on pids p (i, pid) h
 
 -- the first of the PIDs has its place
@@ -199,7 +198,7 @@ pub cue-off-map : (c : Config) (p : List ℕ) (past : List (List ℕ)) → first
 cue-off-map c p past good h = cue-not-map c.cue_pid (reading_cues c) (listed (Some c.program) past) p refl (pid_good (reading_cues c) past good) h
 
 pub cue-switched : (c : Config) (filed : ℕ → Option Advertisement) (p : List ℕ) (past : List (List ℕ)) → first_fault (reading_cues c) past ≡ None → on c.cue_pid p ≡ true
-    → is_switched (switched_at (setting_of c filed) past) p ≡ false
+    → on_one (switched_at (setting_of c filed) past) p ≡ false
 cue-switched c filed p past good h = not-among c.cue_pid p (switched_at (setting_of c filed) past) h (faultless_is_sound (setting_of c filed) past good).apart.cue
 
 -- a packet of cues
@@ -212,7 +211,7 @@ cue-of c filed p past good h = record {
 }
 
 pub map-switched : (c : Config) (filed : ℕ → Option Advertisement) (p : List ℕ) (past : List (List ℕ)) (l : Listed) → first_fault (reading_cues c) past ≡ None → listed (Some c.program) past ≡ Some l
-    → on l.pid p ≡ true → is_switched (switched_at (setting_of c filed) past) p ≡ false
+    → on l.pid p ≡ true → on_one (switched_at (setting_of c filed) past) p ≡ false
 map-switched c filed p past l good e h = not-among l.pid p (switched_at (setting_of c filed) past) h ((faultless_is_sound (setting_of c filed) past good).apart.pmt l e)
 
 -- ---- a packet of a stream
@@ -333,7 +332,7 @@ as-many None = refl
 as-many (Some r) = length-map r.streams (λ (s : ListedStream). s.pid)
 
 module _ (c : Config) (filed : ℕ → Option Advertisement) (p : List ℕ) (past : List (List ℕ)) (i : ℕ) (x : StreamPacket) (h : IsPlace (places.Stream i x) (reading_cues c) p past) where
-  pub own-stream : is_switched (switched_at (setting_of c filed) past) p ≡ true
+  pub own-stream : on_one (switched_at (setting_of c filed) past) p ≡ true
   own-stream = one-first (switched_at (setting_of c filed) past) p i h.2.0 h.2.1.0
 
   listed-now : streams_at (setting_of c filed) (p ∷ past) ≡ streams_at (setting_of c filed) past
@@ -369,7 +368,7 @@ begins-in c filed p past i begun time now streams good sound h time-is now-is st
 pub record Passes (c : Config) (filed : ℕ → Option Advertisement) (p : List ℕ) (past : List (List ℕ)) : Type 0 where
   pub cue : on c.cue_pid p ≡ false
   pub map : on_map (listed (Some c.program) past) p ≡ false
-  pub other : is_switched (switched_at (setting_of c filed) past) p ≡ false
+  pub other : on_one (switched_at (setting_of c filed) past) p ≡ false
 
 pub passes : (c : Config) (filed : ℕ → Option Advertisement) (p : List ℕ) (past : List (List ℕ)) (place : Place) → (place ≡ places.Marked) ⊎ (place ≡ places.Other) → IsPlace place (reading_cues c) p past
     → Passes c filed p past

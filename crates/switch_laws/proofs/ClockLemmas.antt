@@ -6,7 +6,7 @@ use Rattle.std.proofs.lemmas.Bool.{true≢false}
 use Rattle.std.proofs.lemmas.List.{append-nil, reverse-append, reverse-reverse, drop-drop, get_or-drop}
 use Rattle.std.proofs.lemmas.Grind.{common_steps, flat_map-append}
 use Rattle.std.proofs.lemmas.List.Elements.{All-head}
-use Rattle.ts_packet.specs.Fields.{on, pid_of, pcr, with_number}
+use Rattle.ts_packet.specs.Fields.{on, pid_of, pcr, with_number, on_one, is_among}
 use Rattle.ts_packet.specs.Clock.{clock_packet}
 use Rattle.ts_packet.specs.Numbering.{one_past, last_number, number_out}
 use Rattle.ts_packet.proofs.Cases.{by_test}
@@ -22,13 +22,12 @@ use Rattle.program_laws.proofs.FaultLemmas.{same_listed}
 use Rattle.program_laws.proofs.PacketLemmas.{one_past-below}
 use Rattle.program_laws.proofs.WritingLemmas.{listed_below, off_other, carry_off}
 use Rattle.splice_laws.specs.Splicing.{SliceUnit, stream}
-use Rattle.splice_laws.specs.Streams.{is_among}
 use Rattle.unit_stream.specs.Times.{begins_one}
 use Rattle.output_laws.specs.Output.{Move, Keep, Leave, Put, Packing, counter_steps, clock_alone, out_after}
 use Rattle.output_laws.proofs.StepLemmas.{on-clock, on-same, pcr-error}
 use Rattle.output_laws.proofs.GaplessLemmas.{below_16, one_below}
 use Rattle.splice_plans.specs.Playing.{Adverts, History, played, as_played, end_known}
-use Rattle.splice_plans.specs.Switching.{Setting, switched_at, history_at, front_at, rest_at, switching, switched_past, is_switched, moves, puts_by, puts_before, puts_at_end, front_of, end_of_run}
+use Rattle.splice_plans.specs.Switching.{Setting, switched_at, history_at, front_at, rest_at, switching, switched_past, moves, puts_by, puts_before, puts_at_end, front_of, end_of_run}
 use Rattle.splice_plans.specs.Known.{adverts_at}
 use Rattle.switch_laws.specs.Whole.{stands_for, HavePids, TablesAreApart}
 use Rattle.switch_laws.specs.Laws.{ArePackets}
@@ -209,7 +208,7 @@ module _ (k : Setting) (network : List (List ℕ)) (apart : TablesAreApart k net
         let s = packets_stand_as k p past in
         by_test (on k.cue_pid p)
         (λ y. ap (clocks pid) (s.cue n y) ∙ sym (ap (λ l. l ++ []) (off-clock pid p (off_other k.cue_pid pid p not-cue y))))
-        (λ c. by_test (is_switched (switched_at k past) p)
+        (λ c. by_test (on_one (switched_at k past) p)
         (λ w. by_test (is_left k p past)
         (λ d. ap (clocks pid) (s.left n c w d) ∙ alone-clock pid (number_out p (steps_left k p past)) p (below_16 _) low size)
         (λ d. ap (clocks pid) (s.kept n c w d) ∙ ap (λ l. l ++ []) (kept-clock pid (number_out p (steps_before k p past)) p (below_16 _))))

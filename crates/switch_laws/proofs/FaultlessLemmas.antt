@@ -12,11 +12,12 @@ use Rattle.program_follower.specs.declared.purpose.Purpose.{Purpose}
 use Rattle.program_follower.specs.declared.purpose.Listed.{Listed}
 use Rattle.program_follower.specs.Program.{listed, Table, all_tables, known_map, first_map, program_in, pids_of}
 use Rattle.psi_tables.specs.declared.network.NetworkFault.TheVariants.{BadPids, CuePidUsed}
-use Rattle.program_follower.specs.Faults.{first_fault, pids_in, is_in, is_twice, bad_pid, bad_switched, is_pid, if_bad, pmt_pid_fault}
+use Rattle.program_follower.specs.Faults.{first_fault, pids_in, is_twice, bad_pid, bad_switched, is_pid, if_bad, pmt_pid_fault}
 use Rattle.program_follower.proofs.OptionLemmas.{none_both}
 use Rattle.program_laws.proofs.FaultLemmas.{Sound, MapSound, all_sound, not_if_bad, pid_good}
 use Rattle.program_laws.proofs.ReadingLemmas.{no_tables}
-use Rattle.splice_laws.specs.Streams.{is_among, IsOnce}
+use Rattle.ts_packet.specs.Fields.{is_among}
+use Rattle.splice_laws.specs.Streams.{IsOnce}
 use Rattle.output_laws.proofs.GaplessLemmas.{test-true}
 use Rattle.splice_plans.specs.Switching.{Setting, switched_at}
 use Rattle.switch_laws.specs.Standing.{IsSwitchable, FaultlessIsSound}
@@ -38,17 +39,17 @@ none-switched-is f (s ∷ ss) h =
     let r = or-parts (f s.pid) (list_any f (pids_in ss)) h in
     by_test (is_switched s.kind) (λ y. simp y (or-both (f s.pid) (list_any f (pids_in (switched_of ss))) r.0 (none-switched-is f ss r.1))) (λ n. simp n (none-switched-is f ss r.1))
 
-not-in : (x : ℕ) (ss : List Stream) → is_in x (pids_in ss) ≡ false → is_among x (pids_in (switched_of ss)) ≡ false
+not-in : (x : ℕ) (ss : List Stream) → is_among x (pids_in ss) ≡ false → is_among x (pids_in (switched_of ss)) ≡ false
 not-in x [] h = refl
 not-in x (s ∷ ss) h =
-    let r = or-parts (s.pid == x) (is_in x (pids_in ss)) h in
+    let r = or-parts (s.pid == x) (is_among x (pids_in ss)) h in
     by_test (is_switched s.kind) (λ y. simp y (or-both (s.pid == x) (is_among x (pids_in (switched_of ss))) r.0 (not-in x ss r.1))) (λ n. simp n (not-in x ss r.1))
 
 -- one that stands not twice, and is there, stands once
 once : (x : ℕ) (ss : List Stream) → is_twice x (pids_in ss) ≡ false → is_among x (pids_in (switched_of ss)) ≡ true → IsOnce x (pids_in (switched_of ss))
 once x [] t a = absurd (true≢false (sym a))
 once x (s ∷ ss) t a = by_test (s.pid == x)
-    (λ e. let n : is_in x (pids_in ss) ≡ false = simp e at t in
+    (λ e. let n : is_among x (pids_in ss) ≡ false = simp e at t in
     by_test (is_switched s.kind)
     (λ y. simp y (inl (test-true s.pid x e, not-in x ss n)))
     (λ y. let b : is_among x (pids_in (switched_of ss)) ≡ true = simp y at a in absurd (true≢false (sym b ∙ not-in x ss n))))

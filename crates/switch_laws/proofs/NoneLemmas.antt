@@ -4,7 +4,7 @@ use Rattle.std.proofs.Common.{◌≡◌, ℕ, List, [], ◌∷◌, ◌++◌, Boo
 use Rattle.std.specs.Prelude.{filter, ◌==◌}
 use Rattle.std.proofs.lemmas.List.{append-nil, reverse-reverse}
 use Rattle.std.proofs.lemmas.List.Elements.{All-head, All-tail, All-cons, All-nil}
-use Rattle.ts_packet.specs.Fields.{on}
+use Rattle.ts_packet.specs.Fields.{on, on_one, is_among}
 use Rattle.ts_packet.specs.Runs.{onto}
 use Rattle.ts_packet.proofs.Cases.{by_test}
 use Rattle.ts_packet.proofs.RunLemmas.{filter-reverse}
@@ -19,7 +19,7 @@ use Rattle.program_laws.specs.Behind.{Passes}
 use Rattle.program_laws.specs.Cued.{stripping}
 use Rattle.program_laws.proofs.HeadLemmas.{others_pass as others-pass}
 use Rattle.splice_laws.specs.Splicing.{SliceUnit}
-use Rattle.splice_laws.specs.Streams.{is_among, is_dropped}
+use Rattle.splice_laws.specs.Streams.{is_dropped}
 use Rattle.output_laws.specs.Output.{Move, Keep, Leave, out_after, out_at}
 use Rattle.output_laws.specs.Others.{is_off}
 use Rattle.output_laws.specs.Spliced.{puts_at}
@@ -28,7 +28,7 @@ use Rattle.output_laws.proofs.OtherLemmas.{off_on}
 use Rattle.output_laws.proofs.StepLemmas.{test-same}
 use Rattle.program_laws.proofs.ReadingLemmas.{no_tables}
 use Rattle.splice_plans.specs.Playing.{Adverts, History, played, as_played}
-use Rattle.splice_plans.specs.Switching.{Setting, switched_at, events_at, head_at, history_at, front_at, place_at, rest_at, switching, switched_past, is_switched, moves, puts_before, puts_at_end, puts_by, fate, place_of, front_of, end_of_run}
+use Rattle.splice_plans.specs.Switching.{Setting, switched_at, events_at, head_at, history_at, front_at, place_at, rest_at, switching, switched_past, moves, puts_before, puts_at_end, puts_by, fate, place_of, front_of, end_of_run}
 use Rattle.splice_plans.specs.Histories.{IsHistory, AreSteady}
 use Rattle.splice_plans.proofs.HistoryLemmas.{armed_is_history}
 use Rattle.switch_laws.specs.Moving.{sent_in_all, sent_count}
@@ -144,7 +144,7 @@ module _ (k : Setting) (network : List (List ℕ)) (long : ArePackets network) (
 
   place-same : (o : Option ProgramMap) (p : List ℕ) (past more : List (List ℕ)) → network ≡ more ++ (p ∷ past) → known_map wanted past ≡ o → place_at k p past ≡ strip p
   place-same None p past more is known =
-      ap (λ sw. if on k.cue_pid p then [] else (if is_switched sw p then place_of (switched_at k past) (adverts_at k past) (history_at k past) k.packed p (behind_head wanted past) else p ∷ [])) (none-switched k past known)
+      ap (λ sw. if on k.cue_pid p then [] else (if on_one sw p then place_of (switched_at k past) (adverts_at k past) (history_at k past) k.packed p (behind_head wanted past) else p ∷ [])) (none-switched k past known)
   place-same (Some m) p past more is known =
       let there : network ≡ (more ++ p ∷ []) ++ past = is ∙ sym (append_assoc more (p ∷ []) past) in
       let b = behind_head wanted past in
@@ -160,7 +160,7 @@ module _ (k : Setting) (network : List (List ℕ)) (long : ArePackets network) (
       let g = all-kept sw a st ev h (behind_head wanted network) n b (more ++ p ∷ []) w in
       let here : List ℕ → Type 0 = λ q. length q ≡ 188 in
       let size = All-head here p past (packets-each here more (p ∷ past) (subst ArePackets is long)) in
-      pick (on k.cue_pid p) (is_switched sw p) (place_of sw a ev k.packed p b) p
+      pick (on k.cue_pid p) (on_one sw p) (place_of sw a ev k.packed p b) p
       (λ _. ap (λ s. out_at k.packed s (reverse (puts_before sw a ev p b) ++ moves sw a ev b)) f
       ∙ ap (λ ms. out_at k.packed (Keep p) (reverse ms ++ moves sw a ev b)) e
       ∙ ap (λ ms. out_at k.packed (Keep p) ms) g
@@ -276,7 +276,7 @@ module _ (k : Setting) where
       let b = behind_head (Some k.program) past in
       ap (λ c. (if c then front_of (switched_at k past) (adverts_at k past) (history_at k past) k.packed p b else []) ++ body (switching k) (listed (Some k.program) past) p past (tables (Some k.program) p past) out) (not-behind k past known)
       ∙ ap (λ o. body (switching k) o p past (tables (Some k.program) p past) out) h
-      ∙ ap (λ sw. if on k.cue_pid p then [] else (if is_switched sw p then place_of (switched_at k past) (adverts_at k past) (history_at k past) k.packed p b else p ∷ [])) (none-switched k past known)
+      ∙ ap (λ sw. if on k.cue_pid p then [] else (if on_one sw p then place_of (switched_at k past) (adverts_at k past) (history_at k past) k.packed p b else p ∷ [])) (none-switched k past known)
 
   pub without-program : (past : List (List ℕ)) → listed (Some k.program) past ≡ None → switched_past k past ≡ filter others past
   without-program [] h = refl

@@ -5,7 +5,7 @@ use Rattle.std.specs.List.{AllByRecursion}
 use Rattle.std.proofs.lemmas.Bool.{true≢false}
 use Rattle.std.proofs.lemmas.List.{append-nil, reverse-reverse}
 use Rattle.std.proofs.lemmas.List.Elements.{All-head, filter-append}
-use Rattle.ts_packet.specs.Fields.{on, pid_of, pcr}
+use Rattle.ts_packet.specs.Fields.{on, pid_of, pcr, on_one, is_among}
 use Rattle.ts_packet.specs.Numbering.{one_past, last_number, number_out}
 use Rattle.ts_packet.proofs.Cases.{by_test}
 use Rattle.ts_packet.proofs.RunLemmas.{filter-reverse}
@@ -20,14 +20,13 @@ use Rattle.program_laws.specs.Writing.{Along}
 use Rattle.program_laws.specs.Behind.{Passes}
 use Rattle.program_laws.proofs.HeadLemmas.{others_pass as others-pass}
 use Rattle.splice_laws.specs.Splicing.{SliceUnit}
-use Rattle.splice_laws.specs.Streams.{is_among}
 use Rattle.output_laws.specs.Output.{Move, Keep, Leave, Put, Packing, counter_steps, clock_alone, out_at, out_after}
 use Rattle.output_laws.specs.Others.{is_off}
 use Rattle.output_laws.proofs.StepLemmas.{test-same, pid_is}
 use Rattle.output_laws.proofs.GaplessLemmas.{one_below}
 use Rattle.output_laws.proofs.OtherLemmas.{off_on, off-kept, skip_clock}
 use Rattle.splice_plans.specs.Playing.{Adverts, History, played, is_inside}
-use Rattle.splice_plans.specs.Switching.{Setting, switched_at, history_at, front_at, place_at, rest_at, switching, switched_past, is_switched, moves, puts_by, puts_before, puts_at_end, place_of, front_of, end_of_run}
+use Rattle.splice_plans.specs.Switching.{Setting, switched_at, history_at, front_at, place_at, rest_at, switching, switched_past, moves, puts_by, puts_before, puts_at_end, place_of, front_of, end_of_run}
 use Rattle.splice_plans.specs.Known.{adverts_at}
 use Rattle.switch_laws.specs.Whole.{table_pids, pmt_pids, ArePacked, HavePids}
 use Rattle.switch_laws.specs.Standing.{touched, OthersStay}
@@ -117,7 +116,7 @@ module _ (packed : Packing) (all : List ℕ) where
   none-off (q ∷ qs) h = let n = h.0 in simp n (none-off qs h.1)
 
   -- a packet of a switched stream
-  switched-off : (pids : List ℕ) (p : List ℕ) → Within pids all → is_switched pids p ≡ true → (is_off all p ≡ false) × (is_among (pid_of p) all ≡ true)
+  switched-off : (pids : List ℕ) (p : List ℕ) → Within pids all → on_one pids p ≡ true → (is_off all p ≡ false) × (is_among (pid_of p) all ≡ true)
   switched-off [] p w s = absurd (true≢false (sym s))
   switched-off (pid ∷ pids) p w s = by_test (on pid p)
       (λ y. (off_on packed all pid p w.0 y, ap (λ n. is_among n all) (pid_is pid p y) ∙ w.0))
@@ -142,7 +141,7 @@ module _ (packed : Packing) (all : List ℕ) where
         ap (filter (is_off all)) (sym (append-nil (clock_alone (pid_of p) n (pcr p)))) ∙ skip_clock packed all (pid_of p) n (pcr p) [] l a
     fate-off false p S o a l = let e = off-kept packed all p S ∙ o in simp e refl
 
-    pub place-off : (p : List ℕ) (past : List (List ℕ)) → is_switched switched p ≡ true → pid_of p < 8192 → filter (is_off all) (place_of switched ads events packed p past) ≡ filter (is_off all) (p ∷ [])
+    pub place-off : (p : List ℕ) (past : List (List ℕ)) → on_one switched p ≡ true → pid_of p < 8192 → filter (is_off all) (place_of switched ads events packed p past) ≡ filter (is_off all) (p ∷ [])
     place-off p past s l =
         let b = switched-off switched p w s in
         let o = b.0 in
@@ -202,13 +201,13 @@ module _ (k : Setting) (network : List (List ℕ)) (good : ArePacked k.packed (a
 
   place-left : (o : Option ProgramMap) (p : List ℕ) (past more : List (List ℕ)) → network ≡ more ++ (p ∷ past) → known_map wanted past ≡ o → filter takes (place_at k p past) ≡ filter takes (p ∷ [])
   place-left None p past more is known =
-      ap (λ sw. filter takes (if on k.cue_pid p then [] else (if is_switched sw p then place_of (switched_at k past) (adverts_at k past) (history_at k past) k.packed p (behind_head wanted past) else p ∷ []))) (none-switched k past known)
+      ap (λ sw. filter takes (if on k.cue_pid p then [] else (if on_one sw p then place_of (switched_at k past) (adverts_at k past) (history_at k past) k.packed p (behind_head wanted past) else p ∷ []))) (none-switched k past known)
       ∙ strip-left p
   place-left (Some m) p past more is known =
       let s = same-known m p past more is known in
       let f : List ℕ → Type 0 = λ q. pid_of q < 8192 in
       let l = All-head f p past (packets-each f more (p ∷ past) (subst HavePids is pids)) in
-      pick (on k.cue_pid p) (is_switched (switched_at k past) p) (place_of (switched_at k past) (adverts_at k past) (history_at k past) k.packed p (behind_head wanted past)) p (strip-left p)
+      pick (on k.cue_pid p) (on_one (switched_at k past) p) (place_of (switched_at k past) (adverts_at k past) (history_at k past) k.packed p (behind_head wanted past)) p (strip-left p)
       (λ y. place-off k.packed (touched k network) (switched_at k past) (adverts_at k past) (history_at k past) (within-here past s) (good-here past s) p (behind_head wanted past) y l)
 
   pub passes : Along (Passes takes (switching k) wanted) network

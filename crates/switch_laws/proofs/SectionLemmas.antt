@@ -6,7 +6,7 @@ use Rattle.std.specs.List.{AllByRecursion}
 use Rattle.std.proofs.lemmas.Bool.{true≢false, eq-eqb}
 use Rattle.std.proofs.lemmas.List.{append-nil, reverse-reverse}
 use Rattle.std.proofs.lemmas.List.Elements.{All-head}
-use Rattle.ts_packet.specs.Fields.{on, in_error, pid_of, pcr}
+use Rattle.ts_packet.specs.Fields.{on, in_error, pid_of, pcr, on_one, is_among}
 use Rattle.ts_packet.specs.Numbering.{number_out}
 use Rattle.ts_packet.specs.Runs.{onto}
 use Rattle.ts_packet.proofs.Cases.{by_test}
@@ -21,11 +21,10 @@ use Rattle.program_laws.specs.Writing.{Along, ChangedGoesOut, IsClear, table_out
 use Rattle.program_laws.proofs.FaultLemmas.{Each-parts}
 use Rattle.program_laws.proofs.ReadingLemmas.{listed_onto, tables_onto, no_tables}
 use Rattle.program_laws.proofs.WritingLemmas.{off_other, written_reads_again}
-use Rattle.splice_laws.specs.Streams.{is_among}
 use Rattle.output_laws.specs.Output.{Move, Keep, Leave, counter_steps, clock_alone, out_at}
 use Rattle.output_laws.specs.Others.{is_off}
 use Rattle.output_laws.proofs.StepLemmas.{pid_is, on-kept, on-clock, on-same, pcr-error}
-use Rattle.splice_plans.specs.Switching.{Setting, switched_at, history_at, front_at, place_at, rest_at, switching, switched_past, spliced_network, is_switched, front_of, end_of_run}
+use Rattle.splice_plans.specs.Switching.{Setting, switched_at, history_at, front_at, place_at, rest_at, switching, switched_past, spliced_network, front_of, end_of_run}
 use Rattle.splice_plans.specs.Known.{adverts_at}
 use Rattle.switch_laws.specs.Whole.{ArePacked, HavePids}
 use Rattle.switch_laws.specs.Standing.{is_left, done_before}
@@ -57,11 +56,11 @@ or-both : (a b : Bool) → a ≡ false → b ≡ false → (a || b) ≡ false
 or-both true b h k = h
 or-both false b h k = k
 
-none-switches : (pids : List ℕ) (b : ℕ) (p : List ℕ) → is_among b pids ≡ false → on b p ≡ true → is_switched pids p ≡ false
+none-switches : (pids : List ℕ) (b : ℕ) (p : List ℕ) → is_among b pids ≡ false → on b p ≡ true → on_one pids p ≡ false
 none-switches [] b p n y = refl
 none-switches (pid ∷ pids) b p n y =
     let r = or-parts (pid == b) (is_among b pids) n in
-    or-both (on pid p) (is_switched pids p) (off_other b pid p (λ e. true≢false (sym (eq-eqb pid b (sym e)) ∙ r.0)) y) (none-switches pids b p r.1 y)
+    or-both (on pid p) (on_one pids p) (off_other b pid p (λ e. true≢false (sym (eq-eqb pid b (sym e)) ∙ r.0)) y) (none-switches pids b p r.1 y)
 
 -- ---- packets behind the last
 
@@ -127,7 +126,7 @@ module _ (k : Setting) (network : List (List ℕ)) (ok : first_fault (cues_read_
   place-off : (b : ℕ) (p : List ℕ) (past : List (List ℕ)) → on b p ≡ false → pid_of p < 8192 → AllByRecursion (Off b) (place_at k p past)
   place-off b p past off low = by_test (on k.cue_pid p)
       (λ y. subst (AllByRecursion (Off b)) (sym (gone p past y)) tt)
-      (λ c. by_test (is_switched (switched_at k past) p)
+      (λ c. by_test (on_one (switched_at k past) p)
       (λ w. subst (AllByRecursion (Off b)) (sym (own-place k p past c w ∙ by-fate k p past (is_left k p past) refl)) (moved-off b p (done_before k p past) (is_left k p past) off low))
       (λ w. subst (AllByRecursion (Off b)) (sym (other-place k p past c w)) (off, tt)))
 

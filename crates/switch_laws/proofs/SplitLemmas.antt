@@ -5,7 +5,7 @@ use Rattle.std.specs.List.{AllByRecursion}
 use Rattle.std.proofs.lemmas.Bool.{true≢false}
 use Rattle.std.proofs.lemmas.List.{reverse-append, reverse-reverse}
 use Rattle.std.proofs.lemmas.List.Elements.{filter-append}
-use Rattle.ts_packet.specs.Fields.{on, payload_on, pid_of, pcr}
+use Rattle.ts_packet.specs.Fields.{on, payload_on, pid_of, pcr, on_one, is_among}
 use Rattle.ts_packet.specs.Numbering.{one_past, number_out}
 use Rattle.ts_packet.specs.Runs.{onto}
 use Rattle.ts_packet.proofs.Cases.{by_test}
@@ -21,12 +21,11 @@ use Rattle.program_follower.specs.Program.{listed, tables, known_map, behind_hea
 use Rattle.program_laws.specs.Writing.{number_on, section_out, packets_out, body, block}
 use Rattle.program_laws.proofs.PacketLemmas.{one_past-below}
 use Rattle.program_laws.proofs.WritingLemmas.{listed_below}
-use Rattle.splice_laws.specs.Streams.{is_among}
 use Rattle.output_laws.specs.Output.{Move, Keep, Leave, Packing, counter_steps, clock_alone, out_at, out_after, output}
 use Rattle.output_laws.proofs.StepLemmas.{onto_moves, onto-append, out_back, out_onto, payload_on-kept, payload_on-clock}
 use Rattle.output_laws.proofs.SplicedLemmas.{onto_moves-append}
 use Rattle.splice_plans.specs.Playing.{Adverts, History, is_inside}
-use Rattle.splice_plans.specs.Switching.{Setting, switched_at, head_at, history_at, place_at, rest_at, switching, switched_past, spliced_network, events_at, is_switched, moves, puts_before, puts_at_end, fate, place_of, front_of, end_of_run}
+use Rattle.splice_plans.specs.Switching.{Setting, switched_at, head_at, history_at, place_at, rest_at, switching, switched_past, spliced_network, events_at, moves, puts_before, puts_at_end, fate, place_of, front_of, end_of_run}
 use Rattle.switch_laws.specs.Moving.{moves_from, run_moves}
 use Rattle.splice_plans.specs.Known.{adverts_at}
 use Rattle.switch_laws.specs.Whole.{TablesAreApart, run_out, StreamsGoByThemselves}
@@ -95,11 +94,11 @@ module _ (packed : Packing) (switched : List ℕ) (ads : Adverts) (events : Hist
 
 -- ---- a packet of another PID
 
-among-switched : (pid : ℕ) (p : List ℕ) (pids : List ℕ) → is_among pid pids ≡ true → is_switched pids p ≡ false → on pid p ≡ false
+among-switched : (pid : ℕ) (p : List ℕ) (pids : List ℕ) → is_among pid pids ≡ true → on_one pids p ≡ false → on pid p ≡ false
 among-switched pid p [] a s = absurd (true≢false (sym a))
 among-switched pid p (q ∷ qs) a s = by_test (q == pid)
-    (λ e. ap (λ n. on n p) (sym (test-true q pid e)) ∙ or_first (on q p) (is_switched qs p) s)
-    (λ e. among-switched pid p qs (simp e at a) (or_second (on q p) (is_switched qs p) s))
+    (λ e. ap (λ n. on n p) (sym (test-true q pid e)) ∙ or_first (on q p) (on_one qs p) s)
+    (λ e. among-switched pid p qs (simp e at a) (or_second (on q p) (on_one qs p) s))
   where
     or_first : (a b : Bool) → (a || b) ≡ false → a ≡ false
     or_first true b h = absurd (true≢false h)
@@ -145,7 +144,7 @@ module _ (k : Setting) (pid : ℕ) where
     place-taken : is_among pid (switched_at k past) ≡ true → filter takes (place_at k p past) ≡ filter takes own
     place-taken a = by_test (on k.cue_pid p)
         (λ y. simp y (sym (own-none (not-own k.cue_pid p cue y))))
-        (λ y. by_test (is_switched (switched_at k past) p)
+        (λ y. by_test (on_one (switched_at k past) p)
         (λ s. simp (y, s) refl)
         (λ s. let n = off_payload pid p (among-switched pid p (switched_at k past) a s) in simp (y, s) (one-taken p n ∙ sym (own-none n))))
 
@@ -158,7 +157,7 @@ module _ (k : Setting) (pid : ℕ) where
     -- up to its end they pass
     head-place : known_map wanted past ≡ None → filter takes (place_at k p past) ≡ filter takes (p ∷ [])
     head-place known =
-        ap (λ sw. filter takes (if on k.cue_pid p then [] else (if is_switched sw p then own else p ∷ []))) (none-switched k past known)
+        ap (λ sw. filter takes (if on k.cue_pid p then [] else (if on_one sw p then own else p ∷ []))) (none-switched k past known)
         ∙ by_test (on k.cue_pid p)
         (λ y. simp y (sym (one-taken p (not-own k.cue_pid p cue y))))
         (λ y. simp y refl)

@@ -1,14 +1,14 @@
 -- What stands for each packet.
 use Rattle.std.proofs.Common.{◌≡◌, ℕ, List, [], ◌∷◌, Bool, true, false, refl, sym, ap, ◌∙◌, Option, None, Some, if◌then◌else◌}
 use Rattle.std.proofs.lemmas.Bool.{true≢false}
-use Rattle.ts_packet.specs.Fields.{on, in_error, renumbered, with_number}
+use Rattle.ts_packet.specs.Fields.{on, in_error, renumbered, with_number, on_one}
 use Rattle.ts_packet.specs.Numbering.{moved, number_out, Step}
 use Rattle.ts_packet.proofs.Cases.{by_test}
 use Rattle.program_follower.specs.declared.purpose.Listed.{Listed}
 use Rattle.program_follower.specs.Program.{listed, tables, behind_head}
 use Rattle.program_laws.specs.Writing.{body}
 use Rattle.output_laws.specs.Output.{Keep, Leave, out_at}
-use Rattle.splice_plans.specs.Switching.{Setting, switched_at, history_at, switching, switched_past, is_switched, place_at, place_of}
+use Rattle.splice_plans.specs.Switching.{Setting, switched_at, history_at, switching, switched_past, place_at, place_of}
 use Rattle.splice_plans.specs.Known.{adverts_at}
 use Rattle.switch_laws.specs.Whole.{stands_for}
 use Rattle.switch_laws.specs.Standing.{IsNoTable, is_left, done_before, steps_before, PacketsStandAs}
@@ -17,11 +17,11 @@ pub error-off : (pid : ℕ) (p : List ℕ) → in_error p ≡ true → on pid p 
 unfolding on
 error-off pid p e = simp e refl
 
-pub error-none : (pids : List ℕ) (p : List ℕ) → in_error p ≡ true → is_switched pids p ≡ false
+pub error-none : (pids : List ℕ) (p : List ℕ) → in_error p ≡ true → on_one pids p ≡ false
 error-none [] p e = refl
 error-none (pid ∷ pids) p e = let n = error-off pid p e in simp n (error-none pids p e)
 
-switched-error : (pids : List ℕ) (p : List ℕ) → is_switched pids p ≡ true → in_error p ≡ false
+switched-error : (pids : List ℕ) (p : List ℕ) → on_one pids p ≡ true → in_error p ≡ false
 switched-error pids p s = by_test (in_error p) (λ e. absurd (true≢false (sym s ∙ error-none pids p e))) (λ n. n)
 
 renumbered-is : (p : List ℕ) (steps : List Step) → renumbered (moved steps) p ≡ with_number (number_out p steps) p
@@ -39,10 +39,10 @@ module _ (k : Setting) (p : List ℕ) (past : List (List ℕ)) where
   pub is-place : IsNoTable k p past → stands_for k p past ≡ place_at k p past
   is-place n = no-table (listed (Some k.program) past) refl n
 
-  pub other-place : on k.cue_pid p ≡ false → is_switched (switched_at k past) p ≡ false → place_at k p past ≡ p ∷ []
+  pub other-place : on k.cue_pid p ≡ false → on_one (switched_at k past) p ≡ false → place_at k p past ≡ p ∷ []
   other-place c s = simp (c, s) refl
 
-  pub own-place : on k.cue_pid p ≡ false → is_switched (switched_at k past) p ≡ true → place_at k p past ≡ own
+  pub own-place : on k.cue_pid p ≡ false → on_one (switched_at k past) p ≡ true → place_at k p past ≡ own
   own-place c s = simp (c, s) refl
 
   pub by-fate : (d : Bool) → is_left k p past ≡ d → own ≡ out_at k.packed (if d then Leave p else Keep p) (done_before k p past)

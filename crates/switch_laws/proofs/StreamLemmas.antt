@@ -4,13 +4,13 @@ use Rattle.std.specs.Prelude.{All, filter, ◌==◌}
 use Rattle.std.proofs.lemmas.Bool.{true≢false}
 use Rattle.std.proofs.lemmas.List.{reverse-reverse}
 use Rattle.std.proofs.lemmas.List.Elements.{All-head, All-tail, All-cons, All-nil}
-use Rattle.ts_packet.specs.Fields.{payload_on, pid_of}
+use Rattle.ts_packet.specs.Fields.{payload_on, pid_of, is_among}
 use Rattle.ts_packet.specs.Runs.{onto}
 use Rattle.unit_stream.specs.Units.{lead_in}
 use Rattle.unit_stream.specs.Carrying.{CarriesUnits}
 use Rattle.psi_tables.specs.ProgramMap.{ProgramMap}
 use Rattle.program_follower.specs.Program.{known_map, behind_head}
-use Rattle.splice_laws.specs.Streams.{is_among, IsOnce}
+use Rattle.splice_laws.specs.Streams.{IsOnce}
 use Rattle.output_laws.proofs.StepLemmas.{test-same}
 use Rattle.output_laws.specs.Spliced.{placed_payloads}
 use Rattle.splice_plans.specs.Switching.{Setting, switched_at, head_at, history_at, events_at, spliced_network}

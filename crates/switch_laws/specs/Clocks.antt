@@ -1,10 +1,9 @@
 -- The clock references of a switched stream (ISO/IEC 13818-1, 2.4.3.5, program_clock_reference), as one list.
 use Rattle.std.specs.Prelude.{◌≡◌, ℕ, ◌<◌, true, List, [], ◌∷◌, if◌then◌else◌, Option, None, Some, flat_map, reverse}
 use Rattle.std.specs.List.{AllByRecursion}
-use Rattle.ts_packet.specs.Fields.{on, pcr}
+use Rattle.ts_packet.specs.Fields.{on, pcr, is_among}
 use Rattle.event_table.specs.Standing.{Standing}
 use Rattle.splice_laws.specs.Splicing.{SliceUnit}
-use Rattle.splice_laws.specs.Streams.{is_among}
 use Rattle.output_laws.specs.Output.{Packing}
 use Rattle.splice_plans.specs.Playing.{Adverts}
 use Rattle.splice_plans.specs.Switching.{Setting, switched_at, spliced_network}

@@ -1,18 +1,18 @@
 -- What stands in the output for each packet of a network, and the packets of all PIDs that a switch does not touch.
 use Rattle.std.specs.Prelude.{◌≡◌, ℕ, ◌++◌, ◌∷◌, List, [], Bool, true, false, None, Some, map, filter, reverse}
-use Rattle.ts_packet.specs.Fields.{on, in_error, pid_of, pcr, with_number}
+use Rattle.ts_packet.specs.Fields.{on, in_error, pid_of, pcr, with_number, on_one, is_among}
 use Rattle.ts_packet.specs.Numbering.{Step, number_out}
 use Rattle.unit_stream.specs.Fates.{is_left_out}
 use Rattle.psi_tables.specs.Cue.{without_cue_entry}
 use Rattle.program_follower.specs.declared.purpose.Listed.{Listed}
 use Rattle.program_follower.specs.Program.{listed, tables, behind_head}
 use Rattle.program_follower.specs.Faults.{first_fault}
-use Rattle.splice_laws.specs.Streams.{is_among, IsOnce}
+use Rattle.splice_laws.specs.Streams.{IsOnce}
 use Rattle.program_laws.specs.Writing.{section_out, packets_out}
 use Rattle.output_laws.specs.Output.{Move, Leave, counter_steps, clock_alone}
 use Rattle.output_laws.specs.Others.{is_off}
 use Rattle.splice_plans.specs.Playing.{is_inside}
-use Rattle.splice_plans.specs.Switching.{Setting, switched_at, history_at, switched_past, spliced_network, is_switched, moves, puts_before}
+use Rattle.splice_plans.specs.Switching.{Setting, switched_at, history_at, switched_past, spliced_network, moves, puts_before}
 use Rattle.splice_plans.specs.Known.{adverts_at}
 use Rattle.switch_laws.specs.Whole.{stands_for, table_pids, ArePacked, HavePids, TablesAreApart}
 use Rattle.program_follower.specs.Purposes.{cues_read_on}
@@ -48,10 +48,10 @@ pub record StandsAs (k : Setting) (p : List ℕ) (past : List (List ℕ)) : Type
   pub sections : (l : Listed) → listed (Some k.program) past ≡ Some l → on l.pid p ≡ true →
       stands_for k p past ≡ packets_out l.pid (switched_past k past) (map (section_out (without_cue_entry k.cue_pid)) (tables (Some k.program) p past))
   pub cue : IsNoTable k p past → on k.cue_pid p ≡ true → stands_for k p past ≡ []
-  pub other : IsNoTable k p past → on k.cue_pid p ≡ false → is_switched (switched_at k past) p ≡ false → stands_for k p past ≡ p ∷ []
-  pub kept : IsNoTable k p past → on k.cue_pid p ≡ false → is_switched (switched_at k past) p ≡ true → is_left k p past ≡ false →
+  pub other : IsNoTable k p past → on k.cue_pid p ≡ false → on_one (switched_at k past) p ≡ false → stands_for k p past ≡ p ∷ []
+  pub kept : IsNoTable k p past → on k.cue_pid p ≡ false → on_one (switched_at k past) p ≡ true → is_left k p past ≡ false →
       stands_for k p past ≡ with_number (number_out p (steps_before k p past)) p ∷ []
-  pub left : IsNoTable k p past → on k.cue_pid p ≡ false → is_switched (switched_at k past) p ≡ true → is_left k p past ≡ true →
+  pub left : IsNoTable k p past → on k.cue_pid p ≡ false → on_one (switched_at k past) p ≡ true → is_left k p past ≡ true →
       stands_for k p past ≡ clock_alone (pid_of p) (number_out p (steps_left k p past)) (pcr p)
 
 -- THE LAW OF EACH PACKET

@@ -1,6 +1,6 @@
 -- The output for a whole network, beside the network.
 use Rattle.std.specs.Prelude.{◌≡◌, ℕ, ◌<◌, true, false, ◌++◌, ◌∷◌, List, [], not, Option, None, Some, filter, flat_map, reverse, All}
-use Rattle.ts_packet.specs.Fields.{on, pid_of, payload_on}
+use Rattle.ts_packet.specs.Fields.{on, pid_of, payload_on, is_among}
 use Rattle.std.specs.List.{AllByRecursion}
 use Rattle.ts_packet.specs.Runs.{Seen, seen_after}
 use Rattle.unit_stream.specs.Units.{lead_in}
@@ -8,7 +8,7 @@ use Rattle.unit_stream.specs.Carrying.{CarriesUnits}
 use Rattle.unit_stream.specs.UnitPackets.{IsPacked}
 use Rattle.event_table.specs.Standing.{Standing}
 use Rattle.splice_laws.specs.Splicing.{PlayedEvent, SliceUnit}
-use Rattle.splice_laws.specs.Streams.{is_among, IsOnce}
+use Rattle.splice_laws.specs.Streams.{IsOnce}
 use Rattle.program_follower.specs.declared.purpose.Listed.{Listed}
 use Rattle.program_follower.specs.Program.{listed, tables, behind_head}
 use Rattle.program_laws.specs.Writing.{written, body}

@@ -3,7 +3,7 @@ use Rattle.std.proofs.Common.{◌≡◌, ℕ, zero, suc, List, [], ◌∷◌, Bo
 use Rattle.std.specs.Prelude.{ℤ, Contains}
 use Rattle.std.proofs.lemmas.Int.{ints}
 use Rattle.std.proofs.lemmas.Bool.{true≢false}
-use Rattle.ts_packet.specs.Fields.{on, payload_on, unit_start}
+use Rattle.ts_packet.specs.Fields.{on, payload_on, unit_start, on_one}
 use Rattle.ts_packet.specs.Duplicates.{original}
 use Rattle.ts_packet.proofs.Cases.{by_test}
 use Rattle.ts_packet.proofs.FieldLemmas.{off_payload}
@@ -17,7 +17,6 @@ use Rattle.splice_laws.specs.Settled.{stands_now, begun_now, closed_now}
 use Rattle.splice_laws.proofs.SettledLemmas.{switched_pids_are_within}
 use Rattle.splice_laws.proofs.PidLemmas.{pids_are_streams}
 use Rattle.splice_plans.specs.Playing.{sent_of_begun, sent_known, due_at, left_at_end}
-use Rattle.splice_plans.specs.Switching.{is_switched}
 use Rattle.known_laws.proofs.HeadLemmas.{or-parts, off-one}
 use Rattle.thinned_laws.specs.Beside.{Beside, Shared, Here, There, one_run, other_run}
 
@@ -34,20 +33,20 @@ OffAlone pid (There q ∷ rows) = (on pid q ≡ false) × OffAlone pid rows
 abbrev pub OffAll : List ℕ → List Beside → Type 0
 OffAll pids [] = Unit {0}
 OffAll pids (Shared p ∷ rows) = OffAll pids rows
-OffAll pids (Here q ∷ rows) = (is_switched pids q ≡ false) × OffAll pids rows
-OffAll pids (There q ∷ rows) = (is_switched pids q ≡ false) × OffAll pids rows
+OffAll pids (Here q ∷ rows) = (on_one pids q ≡ false) × OffAll pids rows
+OffAll pids (There q ∷ rows) = (on_one pids q ≡ false) × OffAll pids rows
 
 pub off-head : (pid : ℕ) (pids : List ℕ) (rows : List Beside) → OffAll (pid ∷ pids) rows → OffAlone pid rows
 off-head pid pids [] o = tt
 off-head pid pids (Shared p ∷ rows) o = off-head pid pids rows o
-off-head pid pids (Here q ∷ rows) o = ((or-parts (on pid q) (is_switched pids q) o.0).0, off-head pid pids rows o.1)
-off-head pid pids (There q ∷ rows) o = ((or-parts (on pid q) (is_switched pids q) o.0).0, off-head pid pids rows o.1)
+off-head pid pids (Here q ∷ rows) o = ((or-parts (on pid q) (on_one pids q) o.0).0, off-head pid pids rows o.1)
+off-head pid pids (There q ∷ rows) o = ((or-parts (on pid q) (on_one pids q) o.0).0, off-head pid pids rows o.1)
 
 pub off-tail : (pid : ℕ) (pids : List ℕ) (rows : List Beside) → OffAll (pid ∷ pids) rows → OffAll pids rows
 off-tail pid pids [] o = tt
 off-tail pid pids (Shared p ∷ rows) o = off-tail pid pids rows o
-off-tail pid pids (Here q ∷ rows) o = ((or-parts (on pid q) (is_switched pids q) o.0).1, off-tail pid pids rows o.1)
-off-tail pid pids (There q ∷ rows) o = ((or-parts (on pid q) (is_switched pids q) o.0).1, off-tail pid pids rows o.1)
+off-tail pid pids (Here q ∷ rows) o = ((or-parts (on pid q) (on_one pids q) o.0).1, off-tail pid pids rows o.1)
+off-tail pid pids (There q ∷ rows) o = ((or-parts (on pid q) (on_one pids q) o.0).1, off-tail pid pids rows o.1)
 
 pub alike-runs : (pid : ℕ) (rows : List Beside) → OffAlone pid rows → Alike pid (one_run rows) (other_run rows)
 alike-runs pid [] o = alike_none pid []

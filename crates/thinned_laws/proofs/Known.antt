@@ -5,7 +5,7 @@ use Rattle.std.specs.List.{AllByRecursion}
 use Rattle.std.specs.Ordering.{int_eq}
 use Rattle.std.proofs.lemmas.Int.{ints}
 use Rattle.std.proofs.lemmas.Bool.{true≢false}
-use Rattle.ts_packet.specs.Fields.{on, pid_of}
+use Rattle.ts_packet.specs.Fields.{on, pid_of, on_one}
 use Rattle.ts_packet.proofs.Cases.{by_test}
 use Rattle.ts_packet.proofs.FieldLemmas.{off_payload}
 use Rattle.unit_stream.specs.Times.{begins, begins_one, high, unit_time}
@@ -20,7 +20,6 @@ use Rattle.splice_laws.specs.Settled.{stands_now, holds_now, begun_now, closed_n
 use Rattle.splice_laws.specs.Ends.{longest_front}
 use Rattle.splice_laws.proofs.SettledLemmas.{switched_pids_are_within}
 use Rattle.splice_plans.specs.Playing.{Adverts, History, is_played, is_inside, as_played, end_known, up_to_known, sent_known, due_at, closing_at, running_at, left_at_end}
-use Rattle.splice_plans.specs.Switching.{is_switched}
 use Rattle.known_laws.proofs.HeadLemmas.{off-one}
 use Rattle.known_laws.proofs.QuietLemmas.{sent-still}
 use Rattle.thinned_laws.specs.Beside.{Beside, Shared, Here, There, one_run, other_run, AgreeReached}
@@ -29,7 +28,7 @@ use Rattle.thinned_laws.proofs.Flags.{OffAlone, OffAll, begins-same, begins-one-
 
 -- ---- a switched stream's packet
 
-pub switched-in : (pids : List ℕ) (pid : ℕ) → Contains pids pid → (p : List ℕ) → on pid p ≡ true → is_switched pids p ≡ true
+pub switched-in : (pids : List ℕ) (pid : ℕ) → Contains pids pid → (p : List ℕ) → on pid p ≡ true → on_one pids p ≡ true
 switched-in pids pid c p h = at pids c.0 c.1 c.2
   where
     or-left : (a b : Bool) → a ≡ true → (a || b) ≡ true
@@ -40,29 +39,29 @@ switched-in pids pid c p h = at pids c.0 c.1 c.2
     or-right true b h = refl
     or-right false b h = h
 
-    at : (pids : List ℕ) (i : ℕ) → i < length pids → slice_index_or pids i pid ≡ pid → is_switched pids p ≡ true
+    at : (pids : List ℕ) (i : ℕ) → i < length pids → slice_index_or pids i pid ≡ pid → on_one pids p ≡ true
     at [] i l e = absurd (omega arith)
-    at (q ∷ qs) zero l e = or-left (on q p) (is_switched qs p) (ap (λ (n : ℕ). on n p) e ∙ h)
-    at (q ∷ qs) (suc i) l e = or-right (on q p) (is_switched qs p) (at qs i (omega arith) e)
+    at (q ∷ qs) zero l e = or-left (on q p) (on_one qs p) (ap (λ (n : ℕ). on n p) e ∙ h)
+    at (q ∷ qs) (suc i) l e = or-right (on q p) (on_one qs p) (at qs i (omega arith) e)
 
 -- what holds of each of these PIDs, holds of that of the packet
-pub switched-pid : (P : ℕ → Type 0) (pids : List ℕ) (p : List ℕ) → is_switched pids p ≡ true → AllByRecursion P pids → P (pid_of p)
+pub switched-pid : (P : ℕ → Type 0) (pids : List ℕ) (p : List ℕ) → on_one pids p ≡ true → AllByRecursion P pids → P (pid_of p)
 switched-pid P [] p h all = absurd (true≢false (sym h))
 switched-pid P (pid ∷ pids) p h all = by_test (on pid p)
     (λ y. subst P (sym (pid_is pid p y)) all.0)
-    (λ n. switched-pid P pids p (second (on pid p) (is_switched pids p) n h) all.1)
+    (λ n. switched-pid P pids p (second (on pid p) (on_one pids p) n h) all.1)
   where
     second : (a b : Bool) → a ≡ false → (a || b) ≡ true → b ≡ true
     second true b n h = absurd (true≢false n)
     second false b n h = h
 
-begins-switched : (pids : List ℕ) (pid : ℕ) → Contains pids pid → (p : List ℕ) (past : List (List ℕ)) → begins pid p past ≡ true → is_switched pids p ≡ true
+begins-switched : (pids : List ℕ) (pid : ℕ) → Contains pids pid → (p : List ℕ) (past : List (List ℕ)) → begins pid p past ≡ true → on_one pids p ≡ true
 begins-switched pids pid c p past b = by_test (on pid p)
     (λ y. switched-in pids pid c p y)
     (λ n. absurd (true≢false (sym b ∙ begins_off pid p past (off_payload pid p n))))
 
-pub one-switched : (pids : List ℕ) (p : List ℕ) (past : List (List ℕ)) → begins_one pids p past ≡ true → is_switched pids p ≡ true
-one-switched pids p past b = by_test (is_switched pids p) (λ y. y) (λ n. absurd (true≢false (sym b ∙ off-one pids p past n)))
+pub one-switched : (pids : List ℕ) (p : List ℕ) (past : List (List ℕ)) → begins_one pids p past ≡ true → on_one pids p ≡ true
+one-switched pids p past b = by_test (on_one pids p) (λ y. y) (λ n. absurd (true≢false (sym b ∙ off-one pids p past n)))
 
 -- ---- tests
 
@@ -115,7 +114,7 @@ module _ (r : TimedStream) (x : PlayedEvent) (known : List (List ℕ) → Option
 abbrev pub Agrees : List ℕ → History → History → List Beside → Type 0
 Agrees switched one other [] = Unit {0}
 Agrees switched one other (Shared p ∷ rows) =
-    (is_switched switched p ≡ true → AgreeReached (high switched (p ∷ one_run rows)) (one (p ∷ one_run rows)) (other (p ∷ other_run rows)))
+    (on_one switched p ≡ true → AgreeReached (high switched (p ∷ one_run rows)) (one (p ∷ one_run rows)) (other (p ∷ other_run rows)))
     × Agrees switched one other rows
 Agrees switched one other (Here q ∷ rows) = Agrees switched one other rows
 Agrees switched one other (There q ∷ rows) = Agrees switched one other rows
@@ -153,7 +152,7 @@ module _ (switched : List ℕ) (pid : ℕ) (among : Contains switched pid) (ads 
   there = end_known ads other x.start
 
   -- once its start is reached
-  known-at : (p : List ℕ) (rows : List Beside) → Agrees switched one other (Shared p ∷ rows) → is_switched switched p ≡ true → before (high switched (p ∷ one_run rows)) x.start ≡ false
+  known-at : (p : List ℕ) (rows : List Beside) → Agrees switched one other (Shared p ∷ rows) → on_one switched p ≡ true → before (high switched (p ∷ one_run rows)) x.start ≡ false
       → here (p ∷ one_run rows) ≡ there (p ∷ other_run rows)
   known-at p rows g s b = known-same ads (high switched (p ∷ one_run rows)) (one (p ∷ one_run rows)) (other (p ∷ other_run rows)) (meet (p ∷ other_run rows)) (g.0 s) x.start b
 

@@ -3,7 +3,7 @@ use Rattle.std.proofs.Common.{◌≡◌, ℕ, zero, suc, ◌<◌, ◌==◌, List
 use Rattle.std.specs.Prelude.{ℤ, Contains, slice_index_or, flat_map, filter}
 use Rattle.std.specs.List.{AllByRecursion}
 use Rattle.std.proofs.lemmas.Bool.{true≢false}
-use Rattle.ts_packet.specs.Fields.{on, payload_on, pid_of, in_error, pcr, renumbered}
+use Rattle.ts_packet.specs.Fields.{on, payload_on, pid_of, in_error, pcr, renumbered, on_one}
 use Rattle.ts_packet.specs.Numbering.{Step, Kept, Dropped, moved, number_out, one_past, last_number}
 use Rattle.ts_packet.proofs.Cases.{by_test}
 use Rattle.ts_packet.proofs.FieldLemmas.{off_payload, payload_on-on}
@@ -18,7 +18,7 @@ use Rattle.splice_laws.specs.Splicing.{SliceUnit, stream}
 use Rattle.splice_laws.proofs.SettledLemmas.{switched_pids_are_within}
 use Rattle.output_laws.specs.Output.{Move, Keep, Leave, Put, Packing, counter_steps, network, clock_alone, out_at, out_after}
 use Rattle.splice_plans.specs.Playing.{Adverts, History, is_played, is_inside, played, as_played, end_known, closing_at, running_at, left_at_end}
-use Rattle.splice_plans.specs.Switching.{is_switched, puts_by, puts_before, puts_at_end, fate, moves, front_of, place_of, end_of_run}
+use Rattle.splice_plans.specs.Switching.{puts_by, puts_before, puts_at_end, fate, moves, front_of, place_of, end_of_run}
 use Rattle.splice_plans.proofs.PutLemmas.{puts_at_unit_starts}
 use Rattle.known_laws.proofs.HeadLemmas.{or-parts, off-one}
 use Rattle.thinned_laws.specs.Beside.{Beside, Shared, Here, There, one_run, other_run, AgreeReached}
@@ -194,7 +194,7 @@ module _ (switched : List ℕ) (ads : Adverts) (one other : History) (meet : Nev
   ahead : (h g : Option ℤ) (start : ℤ) → h ≡ g → before h start ≡ true → before g start ≡ true
   ahead h g start is b = sym (ap (λ x. before x start) is) ∙ b
 
-  before-switched : (p : List ℕ) (rows : List Beside) → OffAll switched rows → Agrees switched one other (Shared p ∷ rows) → is_switched switched p ≡ true
+  before-switched : (p : List ℕ) (rows : List Beside) → OffAll switched rows → Agrees switched one other (Shared p ∷ rows) → on_one switched p ≡ true
       → puts_before switched ads one p (one_run rows) ≡ puts_before switched ads other p (other_run rows)
   before-switched p rows o g s =
       let h = high switched (p ∷ one_run rows) in
@@ -215,7 +215,7 @@ module _ (switched : List ℕ) (ads : Adverts) (one other : History) (meet : Nev
 
   pub before-same : (p : List ℕ) (rows : List Beside) → OffAll switched rows → Agrees switched one other (Shared p ∷ rows)
       → puts_before switched ads one p (one_run rows) ≡ puts_before switched ads other p (other_run rows)
-  before-same p rows o g = by_test (is_switched switched p)
+  before-same p rows o g = by_test (on_one switched p)
       (λ y. before-switched p rows o g y)
       (λ n. puts_at_unit_starts switched ads one p (one_run rows) (off-one switched p (one_run rows) n)
       ∙ sym (puts_at_unit_starts switched ads other p (other_run rows) (off-one switched p (other_run rows) n)))
@@ -248,17 +248,17 @@ module _ (switched : List ℕ) (ads : Adverts) (one other : History) (meet : Nev
   fate-same p rows o g = ap (λ b. if b then Leave p else Keep p) (out-same p rows o g switched (all-ready switched rows o))
 
   -- a packet of no switched stream is kept, and nothing is put in before it
-  none-out : (goes : ℕ → Option ℤ → Bool) (p : List ℕ) (past : List (List ℕ)) (pids : List ℕ) → is_switched pids p ≡ false → is_left_out goes switched p past pids ≡ false
+  none-out : (goes : ℕ → Option ℤ → Bool) (p : List ℕ) (past : List (List ℕ)) (pids : List ℕ) → on_one pids p ≡ false → is_left_out goes switched p past pids ≡ false
   none-out goes p past [] n = refl
   none-out goes p past (pid ∷ pids) n =
-      let r = or-parts (on pid p) (is_switched pids p) n in
+      let r = or-parts (on pid p) (on_one pids p) n in
       both _ _ (ap (λ b. b && goes pid (unit_time switched pid (p ∷ past))) (off_payload pid p r.0)) (none-out goes p past pids r.1)
     where
       both : (a b : Bool) → a ≡ false → b ≡ false → (a || b) ≡ false
       both true b h k = h
       both false b h k = k
 
-  quiet-moves : (events : History) (q : List ℕ) (past : List (List ℕ)) → is_switched switched q ≡ false → moves switched ads events (q ∷ past) ≡ Keep q ∷ moves switched ads events past
+  quiet-moves : (events : History) (q : List ℕ) (past : List (List ℕ)) → on_one switched q ≡ false → moves switched ads events (q ∷ past) ≡ Keep q ∷ moves switched ads events past
   quiet-moves events q past n =
       ap (λ b. (if b then Leave q else Keep q) ∷ (reverse (puts_before switched ads events q past) ++ moves switched ads events past)) (none-out (λ pid time. is_inside ads (events (q ∷ past)) time) q past switched n)
       ∙ ap (λ (ms : List Move). Keep q ∷ (reverse ms ++ moves switched ads events past)) (puts_at_unit_starts switched ads events q past (off-one switched q past n))
@@ -308,7 +308,7 @@ module _ (switched : List ℕ) (ads : Adverts) (one other : History) (meet : Nev
       (put-by switched switched (played ads (other (p ∷ other_run rows))) (running other p (other_run rows)) (all-in switched)))
       (each-same packed rows o g.1)
 
-  pub place-same : (packed : Packing) (p : List ℕ) (rows : List Beside) → OffAll switched rows → Agrees switched one other (Shared p ∷ rows) → is_switched switched p ≡ true
+  pub place-same : (packed : Packing) (p : List ℕ) (rows : List Beside) → OffAll switched rows → Agrees switched one other (Shared p ∷ rows) → on_one switched p ≡ true
       → place_of switched ads one packed p (one_run rows) ≡ place_of switched ads other packed p (other_run rows)
   place-same packed p rows o g s =
       let puts = puts_before switched ads other p (other_run rows) in

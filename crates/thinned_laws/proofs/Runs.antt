@@ -2,7 +2,7 @@
 use Rattle.std.proofs.Common.{◌≡◌, ℕ, List, [], ◌∷◌, ◌++◌, Bool, true, false, refl, sym, ap, ◌∙◌, subst, Option, None, Some, map, if◌then◌else◌}
 use Rattle.std.specs.Prelude.{ℤ, is_some, option_map}
 use Rattle.std.proofs.lemmas.Bool.{true≢false}
-use Rattle.ts_packet.specs.Fields.{on}
+use Rattle.ts_packet.specs.Fields.{on, on_one, is_among}
 use Rattle.ts_packet.specs.Runs.{onto}
 use Rattle.unit_stream.specs.Times.{high}
 use Rattle.psi_tables.specs.ProgramMap.{ProgramMap}
@@ -12,10 +12,9 @@ use Rattle.program_laws.specs.Writing.{section_out, packets_out, body, block}
 use Rattle.program_laws.proofs.WritingLemmas.{off_other}
 use Rattle.event_table.specs.Standing.{Standing}
 use Rattle.armed_laws.proofs.Proofs.{events_never_meet}
-use Rattle.splice_laws.specs.Streams.{is_among}
 use Rattle.output_laws.specs.Output.{out_after}
 use Rattle.splice_plans.specs.Playing.{Adverts, History}
-use Rattle.splice_plans.specs.Switching.{Setting, switched_at, high_at, events_at, head_at, history_at, is_behind_head, is_switched, front_of, place_of, end_of_run, front_at, place_at, moves, switching, switched_past}
+use Rattle.splice_plans.specs.Switching.{Setting, switched_at, high_at, events_at, head_at, history_at, is_behind_head, front_of, place_of, end_of_run, front_at, place_at, moves, switching, switched_past}
 use Rattle.splice_plans.specs.Known.{adverts_at, behind_at}
 use Rattle.splice_plans.proofs.PutLemmas.{puts_at_unit_starts}
 use Rattle.known_laws.proofs.HeadLemmas.{off-one, none-switched, same-switched, same-history, high-next, history-now, history-next}
@@ -42,7 +41,7 @@ module _ (k : Setting) where
 
   -- with one packet more, behind the head
   next-agrees : (p : List ℕ) (rows : List Beside) → CuesAreApart k (one_run rows) → DifferOn k.cue_pid rows → (m : ProgramMap) → known_map (Some k.program) (one_run rows) ≡ Some m
-      → (is_switched (switched_at k (one_run rows)) p ≡ true → AgreeReached (high_at k (p ∷ one_run rows)) (events_at k (p ∷ one_run rows)) (events_at k (p ∷ other_run rows)))
+      → (on_one (switched_at k (one_run rows)) p ≡ true → AgreeReached (high_at k (p ∷ one_run rows)) (events_at k (p ∷ one_run rows)) (events_at k (p ∷ other_run rows)))
       → AgreeBehind rows → NextAgrees p rows
   next-agrees p rows a d m is now past = (
     λ s. with-three AgreeReached
@@ -124,7 +123,7 @@ module _ (k : Setting) where
         ∙ front-same sw ads (history_at k (one_run rows)) (history_at k (other_run rows)) (never-meet (one_run rows)) (never-meet (other_run rows)) k.packed p (behind_rows k rows) (off-behind rows a d) n
         ∙ to-other (λ s ad h b. front_of s ad h k.packed p b)
 
-    place-by : NextAgrees p rows → is_switched sw p ≡ true → place_of sw ads (history_at k (one_run rows)) k.packed p (behind_at k (one_run rows))
+    place-by : NextAgrees p rows → on_one sw p ≡ true → place_of sw ads (history_at k (one_run rows)) k.packed p (behind_at k (one_run rows))
         ≡ place_of (switched_at k (other_run rows)) (adverts_at k (other_run rows)) (history_at k (other_run rows)) k.packed p (behind_at k (other_run rows))
     place-by n s =
         sym (to-one (λ b. place_of sw ads (history_at k (one_run rows)) k.packed p b))
@@ -147,18 +146,18 @@ module _ (k : Setting) where
     known-if None is b = absurd (true≢false (sym b ∙ ap (λ o. is_some (option_map program_in o)) is))
     known-if (Some m) is b = (m, is)
 
-    known-switched : (o : Option ProgramMap) → known_map (Some k.program) (one_run rows) ≡ o → is_switched sw p ≡ true → (m : ProgramMap) × (known_map (Some k.program) (one_run rows) ≡ Some m)
-    known-switched None is b = absurd (true≢false (sym b ∙ ap (λ (s : List ℕ). is_switched s p) (none-switched k (one_run rows) is)))
+    known-switched : (o : Option ProgramMap) → known_map (Some k.program) (one_run rows) ≡ o → on_one sw p ≡ true → (m : ProgramMap) × (known_map (Some k.program) (one_run rows) ≡ Some m)
+    known-switched None is b = absurd (true≢false (sym b ∙ ap (λ (s : List ℕ). on_one s p) (none-switched k (one_run rows) is)))
     known-switched (Some m) is b = (m, is)
 
-    module _ (now : is_switched sw p ≡ true → AgreeReached (high_at k (p ∷ one_run rows)) (events_at k (p ∷ one_run rows)) (events_at k (p ∷ other_run rows))) (past : AgreeBehind rows) where
+    module _ (now : on_one sw p ≡ true → AgreeReached (high_at k (p ∷ one_run rows)) (events_at k (p ∷ one_run rows)) (events_at k (p ∷ other_run rows))) (past : AgreeBehind rows) where
       front-at-same : front_at k p (one_run rows) ≡ front_at k p (other_run rows)
       front-at-same = if-same (is-behind-same k rows a d)
           (λ b. let m = known-if (known_map (Some k.program) (one_run rows)) refl b in front-by (next-agrees p rows a d m.0 m.1 now past)) refl
 
       place-at-same : place_at k p (one_run rows) ≡ place_at k p (other_run rows)
       place-at-same = ap (λ ps. if on k.cue_pid p then [] else ps)
-          (if-same (ap (λ s. is_switched s p) (switched-same k rows a d))
+          (if-same (ap (λ s. on_one s p) (switched-same k rows a d))
           (λ b. let m = known-switched (known_map (Some k.program) (one_run rows)) refl b in place-by (next-agrees p rows a d m.0 m.1 now past) b) refl)
 
       body-by : (o : Option Listed) (ts : List Table) (out : List (List ℕ)) → body (switching k) o p (one_run rows) ts out ≡ body (switching k) o p (other_run rows) ts out
@@ -180,7 +179,7 @@ module _ (k : Setting) where
   either true ps h = h
   either false ps h = refl
 
-  quiet-block : (q : List ℕ) (past out : List (List ℕ)) → is_switched (switched_at k past) q ≡ false → ((l : Listed) → listed (Some k.program) past ≡ Some l → k.cue_pid ≡ l.pid → ⊥) → on k.cue_pid q ≡ true
+  quiet-block : (q : List ℕ) (past out : List (List ℕ)) → on_one (switched_at k past) q ≡ false → ((l : Listed) → listed (Some k.program) past ≡ Some l → k.cue_pid ≡ l.pid → ⊥) → on k.cue_pid q ≡ true
       → block (switching k) (Some k.program) q past out ≡ []
   quiet-block q past out n apart y =
       ap (λ ps. ps ++ body (switching k) (listed (Some k.program) past) q past (tables (Some k.program) q past) out)
@@ -190,7 +189,7 @@ module _ (k : Setting) where
       ∙ by (listed (Some k.program) past) refl
     where
       none-here : place_at k q past ≡ []
-      none-here = ap (λ b. if b then [] else (if is_switched (switched_at k past) q then place_of (switched_at k past) (adverts_at k past) (history_at k past) k.packed q (behind_at k past) else q ∷ [])) y
+      none-here = ap (λ b. if b then [] else (if on_one (switched_at k past) q then place_of (switched_at k past) (adverts_at k past) (history_at k past) k.packed q (behind_at k past) else q ∷ [])) y
 
       by : (o : Option Listed) → listed (Some k.program) past ≡ o → body (switching k) o q past (tables (Some k.program) q past) out ≡ []
       by None is = none-here

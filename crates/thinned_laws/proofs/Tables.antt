@@ -3,7 +3,7 @@ use Rattle.std.proofs.Common.{◌≡◌, ℕ, ◌==◌, List, [], ◌∷◌, ◌
 use Rattle.std.specs.Prelude.{is_some, option_map}
 use Rattle.std.specs.Option.{option_or}
 use Rattle.std.proofs.lemmas.Bool.{true≢false}
-use Rattle.ts_packet.specs.Fields.{on}
+use Rattle.ts_packet.specs.Fields.{on, on_one, is_among}
 use Rattle.psi_section.specs.Sections.{given}
 use Rattle.psi_section.proofs.RunLemmas.{Alike, alike_on, alike_off, alike_none, alike_back, given_on, given_off}
 use Rattle.psi_tables.specs.ProgramMap.{ProgramMap}
@@ -15,8 +15,7 @@ use Rattle.program_follower.proofs.StepLemmas.{listed_stays}
 use Rattle.program_laws.proofs.WritingLemmas.{off_other}
 use Rattle.program_laws.proofs.ReadingLemmas.{no_since_yet}
 use Rattle.output_laws.proofs.StepLemmas.{test-same}
-use Rattle.splice_laws.specs.Streams.{is_among}
-use Rattle.splice_plans.specs.Switching.{Setting, switched_at, is_switched, is_behind_head}
+use Rattle.splice_plans.specs.Switching.{Setting, switched_at, is_behind_head}
 use Rattle.splice_plans.specs.Known.{adverts_at, behind_at}
 use Rattle.known_laws.proofs.HeadLemmas.{or-parts, none-switched, none-behind, same-switched}
 use Rattle.thinned_laws.specs.Beside.{Beside, Shared, Here, There, one_run, other_run, DifferOn, CuesAreApart}
@@ -30,11 +29,11 @@ off-alone cue pid ne (Shared p ∷ rows) d = off-alone cue pid ne rows d
 off-alone cue pid ne (Here q ∷ rows) d = (off_other cue pid q ne d.0, off-alone cue pid ne rows d.1)
 off-alone cue pid ne (There q ∷ rows) d = (off_other cue pid q ne d.0, off-alone cue pid ne rows d.1)
 
-pub not-switched : (cue : ℕ) (q : List ℕ) → on cue q ≡ true → (pids : List ℕ) → is_among cue pids ≡ false → is_switched pids q ≡ false
+pub not-switched : (cue : ℕ) (q : List ℕ) → on cue q ≡ true → (pids : List ℕ) → is_among cue pids ≡ false → on_one pids q ≡ false
 not-switched cue q y [] n = refl
 not-switched cue q y (pid ∷ pids) n =
     let r = or-parts (pid == cue) (is_among cue pids) n in
-    none (on pid q) (is_switched pids q)
+    none (on pid q) (on_one pids q)
     (off_other cue pid q (λ e. true≢false (sym (test-same cue) ∙ ap (λ m. m == cue) e ∙ r.0)) y)
     (not-switched cue q y pids r.1)
   where

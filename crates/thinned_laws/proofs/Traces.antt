@@ -2,7 +2,7 @@
 use Rattle.std.proofs.Common.{◌≡◌, ◌↔◌, ℕ, List, [], ◌∷◌, ◌++◌, Bool, true, false, refl, sym, ap, ◌∙◌, subst, Option, None, Some, append_assoc, map, if◌then◌else◌}
 use Rattle.std.specs.List.{AllByRecursion}
 use Rattle.std.proofs.lemmas.Bool.{true≢false}
-use Rattle.ts_packet.specs.Fields.{on}
+use Rattle.ts_packet.specs.Fields.{on, is_among}
 use Rattle.ts_packet.specs.Numbering.{one_past}
 use Rattle.ts_packet.specs.Runs.{onto}
 use Rattle.ts_packet.proofs.Cases.{by_test}
@@ -39,7 +39,6 @@ use Rattle.path_laws.proofs.Packets.{run-message, run-packet, run-history, map-p
 use Rattle.path_laws.proofs.Proofs.{requests_are_a_run}
 use Rattle.path_laws.proofs.Whole.{cue_path_in_packets, cue_path_in_packets_at_the_end, cued_stream_brings}
 use Rattle.path_laws.proofs.Thinned.{thinned_brings}
-use Rattle.splice_laws.specs.Streams.{is_among}
 use Rattle.splice_plans.specs.Switching.{Setting, switched_at, high_at, events_at}
 use Rattle.splice_plans.specs.Adverts.{setting_of}
 use Rattle.switch_laws.specs.Standing.{IsSwitchable}

@@ -1,12 +1,11 @@
 -- Two runs side by side that have the same packets, but for packets of the PID of cues.
 use Rattle.std.specs.Prelude.{◌≡◌, ◌↔◌, ℕ, List, [], ◌∷◌, true, false, Option, Some, ℤ}
-use Rattle.ts_packet.specs.Fields.{on}
+use Rattle.ts_packet.specs.Fields.{on, on_one, is_among}
 use Rattle.program_follower.specs.declared.purpose.Listed.{Listed}
 use Rattle.program_follower.specs.Program.{listed}
 use Rattle.event_table.specs.Standing.{Standing}
 use Rattle.cue_laws.specs.Events.{before, In}
-use Rattle.splice_laws.specs.Streams.{is_among}
-use Rattle.splice_plans.specs.Switching.{Setting, switched_at, high_at, events_at, is_switched}
+use Rattle.splice_plans.specs.Switching.{Setting, switched_at, high_at, events_at}
 
 -- a packet of both runs, of the one alone, or of the other alone
 pub data Beside : Type 0 where
@@ -56,7 +55,7 @@ AgreeInAll es fs = (e : Standing) → e.cancelled ≡ false → In e es ↔ In e
 abbrev pub AgreeAlong : Setting → List Beside → Type 0
 AgreeAlong k [] = Unit {0}
 AgreeAlong k (Shared p ∷ rows) =
-    (is_switched (switched_at k (one_run rows)) p ≡ true → AgreeReached (high_at k (p ∷ one_run rows)) (events_at k (p ∷ one_run rows)) (events_at k (p ∷ other_run rows)))
+    (on_one (switched_at k (one_run rows)) p ≡ true → AgreeReached (high_at k (p ∷ one_run rows)) (events_at k (p ∷ one_run rows)) (events_at k (p ∷ other_run rows)))
     × AgreeAlong k rows
 AgreeAlong k (Here q ∷ rows) = AgreeAlong k rows
 AgreeAlong k (There q ∷ rows) = AgreeAlong k rows

@@ -1,6 +1,6 @@
 -- What one transport packet says: the fields of ISO/IEC 13818-1, 2.4.3.2 to 2.4.3.5, over its 188 bytes.
 -- The words that laws over runs use are opaque (`unfoldable`): such a law knows their lemmas and never their bytes.
-use Rattle.std.specs.Prelude.{ℕ, ◌+◌, ◌*◌, ◌/◌, ◌%◌, List, [], ◌∷◌, Bool, not, ◌&&◌, ◌||◌, ◌==◌, if◌then◌else◌, Option, None, Some, is_some, slice_index, take, drop, nat_le, nat_eq}
+use Rattle.std.specs.Prelude.{ℕ, ◌+◌, ◌*◌, ◌/◌, ◌%◌, List, [], ◌∷◌, Bool, false, not, ◌&&◌, ◌||◌, ◌==◌, if◌then◌else◌, Option, None, Some, is_some, slice_index, take, drop, nat_le, nat_eq}
 use lib.Pointwise.{pointwise}
 use Rattle.std.specs.Bool.{beq}
 use Rattle.std.specs.Option.{option_eq}
@@ -62,6 +62,15 @@ with_number n p = slice_index p 0 ∷ slice_index p 1 ∷ slice_index p 2 ∷ (s
 -- a packet of the PID that is not marked in error
 unfoldable pub on : ℕ → List ℕ → Bool
 on pid p = not (in_error p) && (pid_of p == pid)
+
+-- a PID among some; and a packet on one of them
+abbrev pub is_among : ℕ → List ℕ → Bool
+is_among pid [] = false
+is_among pid (q ∷ qs) = (q == pid) || is_among pid qs
+
+abbrev pub on_one : List ℕ → List ℕ → Bool
+on_one [] p = false
+on_one (pid ∷ pids) p = on pid p || on_one pids p
 
 -- a payload packet of the PID
 unfoldable pub payload_on : ℕ → List ℕ → Bool

@@ -3,7 +3,7 @@ use Rattle.std.specs.Prelude.{◌≡◌, ℕ, ◌+◌, ◌-◌, ◌^◌, ◌<◌
 use Rattle.std.specs.Io.KnownBytes.{Consumes, IsAtEnd}
 use Rattle.ts_packet.specs.Packets.{bytes_of, packet_fault}
 use Rattle.ts_packet.specs.declared.tally.Tally.{Tally}
-use Rattle.ts_packet.specs.Transfers.{WentWell, LastMovedNone, LastFailed, TookTurns, FallsShort}
+use Rattle.ts_packet.specs.Transfers.{WentWell, LastMovedNone, NoneFailed, LastFailed, TookTurns, FallsShort}
 use Rattle.ts_packet.specs.declared.packet.PacketFault.{PacketFault}
 use Rattle.ts_packet.specs.declared.packet.PacketFault.TheVariants as packet_faults
 use Rattle.ts_packet.specs.declared.reader.ReadFault.{ReadFault}
@@ -61,9 +61,9 @@ ReadBlamed Failed given old new = new ≡ old
 
 -- the same of any source: a fault of what was read says only that no call failed
 abbrev pub SourceBlamed : ReadFault → ℕ → Tally → Tally → Type 0
-SourceBlamed Truncated given old new = WentWell old new ⊎ LastMovedNone old new
-SourceBlamed SyncLost given old new = WentWell old new ⊎ LastMovedNone old new
-SourceBlamed BadAdaptation given old new = WentWell old new ⊎ LastMovedNone old new
+SourceBlamed Truncated given old new = NoneFailed old new
+SourceBlamed SyncLost given old new = NoneFailed old new
+SourceBlamed BadAdaptation given old new = NoneFailed old new
 SourceBlamed Io given old new = LastFailed old new
 SourceBlamed Turns given old new = TookTurns (2 ^ 20) old new ⊎ ((given ≡ 2 ^ 64 - 1) × (new ≡ old))
 SourceBlamed Failed given old new = new ≡ old

@@ -53,14 +53,18 @@ pub record LastMovedNone (old new : Tally) : Type 0 where
   pub zeros : IsCounted old.zeros new.zeros
   pub halted : new.halted ≡ true
 
--- so but for the last, which failed
+-- no call failed: all moved bytes, or all but the last, which moved none
+abbrev pub NoneFailed : Tally → Tally → Type 0
+NoneFailed old new = WentWell old new ⊎ LastMovedNone old new
+
+-- all went well but the last, which failed
 pub record LastFailed (old new : Tally) : Type 0 where
   pub calls : old.calls ≤ new.calls
   pub failed : IsCounted old.failed new.failed
   pub zeros : new.zeros ≡ old.zeros
   pub halted : new.halted ≡ true
 
--- so, and there were as many as may be
+-- all went well, and there were as many as may be
 pub record TookTurns (n : ℕ) (old new : Tally) : Type 0 where
   pub well : WentWell old new
   pub turns : Rose n old.calls new.calls

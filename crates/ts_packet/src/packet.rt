@@ -1,6 +1,6 @@
 //! One transport packet.
 
-ghost use Rattle.std.specs.Prelude.{◌≡◌, ℕ, List, ◌+◌, ◌*◌, ◌/◌, ◌%◌, ◌<◌, ◌≤◌, ◌^◌, ◌↔◌, if◌then◌else◌, true, false};
+ghost use Rattle.std.specs.Prelude.{◌≡◌, ℕ, List, ◌+◌, ◌*◌, ◌/◌, ◌%◌, ◌<◌, ◌≤◌, ◌^◌, ◌↔◌, ◌&&◌, if◌then◌else◌, true, false};
 ghost use Rattle.std.specs.Prelude.{slice_index, slice_set, length, Some, None, Ok, Err, option_map, drop, IsTrue, is_some, IfOk, OnErr};
 ghost use Rattle.ts_packet.specs.Fields.{in_error, unit_start, pid_of, scrambled, number, payload, random_access, pcr};
 ghost use Rattle.ts_packet.specs.Fields.{with_number, renumbered, has_adaptation, on, payload_on, carries_as, alike};
@@ -283,6 +283,14 @@ impl Packet {
         ensures { result ≡ is_some (payload self.now) }
     {
         self.payload().is_some()
+    }
+
+    /// The packet has a payload, and it is scrambled.
+    #[inline(always)]
+    pub fn has_scrambled_payload(&self) -> bool
+        ensures { result ≡ (is_some (payload self.now) && scrambled self.now) }
+    {
+        self.has_payload() && self.scrambled()
     }
 
     /// A packet of the PID that is not marked in error.

@@ -77,6 +77,7 @@ impl<'a, S: Source> PacketReader<'a, S> {
         ensures later { Later (S.counts self.old.source.now) (S.counts self.new.source.now) }
         ensures given { IfOk result (λ more. (self.old.is_broken ≡ false) × (self.new.is_broken ≡ false)
             × (self.new.given ≡ self.old.given + cond more 1 0)) }
+        ensures none { IfErr result (λ _. self.new.given ≡ self.old.given) }
         ensures counted { IfOk result (λ _. self.new.given < 2 ^ 64) }
         ensures broken { IfErr result (λ _. self.new.is_broken ≡ true) }
         ensures failed { self.old.is_broken ≡ true → (result ≡ Err ReadFault.Failed) × (self.new ≡ self.old) }
@@ -123,6 +124,7 @@ impl<'a, S: Source> PacketReader<'a, S> {
         ensures later { Later (S.counts self.old.source.now) (S.counts self.new.source.now) }
         ensures given { IfOk result (λ o. (self.old.is_broken ≡ false) × (self.new.is_broken ≡ false)
             × (self.new.given ≡ self.old.given + length (option_to_list o))) }
+        ensures none { IfErr result (λ _. self.new.given ≡ self.old.given) }
         ensures counted { IfOk result (λ _. self.new.given < 2 ^ 64) }
         ensures broken { IfErr result (λ _. self.new.is_broken ≡ true) }
         ensures failed { self.old.is_broken ≡ true → (result ≡ Err ReadFault.Failed) × (self.new ≡ self.old) }

@@ -6,7 +6,7 @@ use crate::reader::ReadFault;
 /// What packets are read from, one after another: the bytes of a device, or a text that spells them. After a fault it answers
 /// `Failed`, and nothing of it changes any more.
 pub trait PacketSource {
-    ghost use Rattle.std.specs.Prelude.{◌≡◌, ℕ, ◌+◌, ◌^◌, ◌<◌, List, Option, Bool, true, false, Err, cond, is_err, IfOk, IfErr};
+    ghost use Rattle.std.specs.Prelude.{◌≡◌, ℕ, ◌+◌, ◌^◌, ◌<◌, ◌≤◌, List, Option, Bool, true, false, Err, cond, is_err, IfOk, IfErr};
     ghost use Rattle.ts_packet.specs.declared.reader.ReadFault.TheVariants.{Turns, Failed};
     ghost use Rattle.ts_packet.specs.declared.tally.Tally.{Tally};
     ghost use Rattle.ts_packet.specs.Sources.{GivesInto, Refuses, SourceCounts, SourceBlamed};
@@ -45,7 +45,9 @@ pub trait PacketSource {
         ensures short { result ≡ Err Turns → falls_short self.old self.new }
         ensures given { IfOk result (λ more. (is_broken self.old ≡ false)
             × (given self.new ≡ given self.old + cond more 1 0)) }
+        ensures none { IfErr result (λ _. given self.new ≡ given self.old) }
         ensures counted { IfOk result (λ _. given self.new < 2 ^ 64) }
+        ensures few { (counts self.new).calls ≤ (counts self.old).calls + 2 ^ 20 }
         ensures broken { is_broken self.new ≡ is_err result }
         ensures spent { is_broken self.old ≡ true → (result ≡ Err Failed) × (self.new ≡ self.old) };
 

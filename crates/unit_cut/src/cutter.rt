@@ -1,8 +1,8 @@
 //! Cuts the units of one PID out of a run, packet by packet.
 
-ghost use Rattle.std.specs.Prelude.{◌≡◌, ◌&&◌, ℕ, List, [], ◌∷◌, Option, Some, None, true, false, not, is_some, if◌then◌else◌};
+ghost use Rattle.std.specs.Prelude.{◌≡◌, ℕ, List, [], ◌∷◌, Option, Some, None, true, false, not, is_some, if◌then◌else◌};
 ghost use Rattle.std.specs.Prelude.{Result, Ok, Err, OnOk, IfOk, IfErr};
-ghost use Rattle.ts_packet.specs.Fields.{on, payload, payload_on, scrambled, with_number};
+ghost use Rattle.ts_packet.specs.Fields.{on, payload, payload_on, with_number};
 
 use crate::timing::Timing;
 use pes_time::Time33;
@@ -78,7 +78,7 @@ impl Cutter {
         if !packet.is_on(self.pid) {
             return Ok(true);
         }
-        if has_scrambled_payload(packet) {
+        if packet.has_scrambled_payload() {
             return Err(UnitFault::Scrambled);
         }
         match self.units.feed(packet, kept) {
@@ -139,11 +139,4 @@ impl Cutter {
         self.keep(packet);
         true
     }
-}
-
-/// Whether there is a payload, and it is scrambled.
-fn has_scrambled_payload(packet: &Packet) -> bool
-    ensures { result ≡ (is_some (payload packet.now) && scrambled packet.now) }
-{
-    packet.payload().is_some() && packet.scrambled()
 }
