@@ -11,4 +11,5 @@ pub mod Proofs
 pub mod Packets
 pub mod Streams
 pub mod Whole
+pub mod Copies
 pub mod Thinned

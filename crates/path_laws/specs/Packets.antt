@@ -1,5 +1,5 @@
 -- The cue path in packets: a network with packets of the cue PID put in front of its packets, and what the switch's reader finds in them.
-use Rattle.std.specs.Prelude.{◌≡◌, ◌↔◌, ℕ, ◌<◌, false, List, [], ◌∷◌, ◌++◌, map, reverse, length, ◌==◌, if◌then◌else◌, Some, None}
+use Rattle.std.specs.Prelude.{◌≡◌, ◌↔◌, ℕ, ◌<◌, false, List, [], ◌∷◌, ◌++◌, map, reverse, Some, None}
 use Rattle.std.specs.List.{AllByRecursion}
 use Rattle.wire_fields.specs.Numbers.{AreBytes}
 use Rattle.psi_section.specs.Sections.{sections, sections_after}
@@ -15,7 +15,7 @@ use Rattle.armed_events.specs.Arming.{heard, armed}
 use Rattle.injector.specs.Turns.{events}
 use Rattle.injector.specs.Laws.{own_fronts}
 use Rattle.injector.specs.Senders.{cues_before}
-use Rattle.injector.specs.Steps.{Step, Message, Packet, packets_in, turns_in, sections_before, cue_packets, cued}
+use Rattle.injector.specs.Steps.{Step, Message, Packet, packets_in, turns_in, sections_before, cued}
 use Rattle.cue_laws.specs.Events.{Turn as LineTurn, before, In}
 use Rattle.cue_laws.specs.Thinning.{times}
 use Rattle.cue_laws.specs.Laws.{KeepsEnoughOf}

@@ -1,5 +1,5 @@
 -- The packets of the cued stream, some of the cue PID left out, and some doubled on the spot.
-use Rattle.std.specs.Prelude.{◌≡◌, ◌↔◌, ℕ, zero, suc, ◌+◌, ◌%◌, ◌<◌, false, List, [], ◌∷◌, ◌++◌, Some}
+use Rattle.std.specs.Prelude.{◌≡◌, ◌↔◌, ℕ, ◌+◌, ◌%◌, ◌<◌, nat_lt, true, false, if◌then◌else◌, List, [], ◌∷◌, ◌++◌, Some}
 use Rattle.ts_packet.specs.Numbering.{one_past}
 use Rattle.ts_packet.specs.Duplicates.{repeats}
 use Rattle.program_follower.specs.Following.{high_of}
@@ -14,8 +14,8 @@ use Rattle.injector.specs.Turns.{events}
 use Rattle.injector.specs.Steps.{Step, Message, Packet, packets_in, turns_in, cue_packets, cued}
 use Rattle.cue_laws.specs.Events.{Turn as LineTurn, before, In}
 use Rattle.cue_laws.specs.Laws.{KeepsEnoughOf}
-use Rattle.cue_laws.specs.Thinning.{times}
-use Rattle.path_laws.specs.Path.{Item, Sent, line, asked_line}
+use Rattle.cue_laws.specs.Thinning.{times, TellsAgain, LeavesOutRepeats}
+use Rattle.path_laws.specs.Path.{Item, Sent, Packet as Passing, line, asked_line}
 use Rattle.path_laws.specs.Packets.{IsRunOf, cues_at, sent_in, stream, BringsCues}
 
 -- so many copies of the packet of each cue, the counters those of the cued stream
@@ -23,36 +23,41 @@ abbrev pub thin : ℕ → (List LineTurn → ℕ) → List Item → ℕ → List
 thin pid copies items n [] = []
 thin pid copies items n (cue ∷ cues) = times (copies (line (Sent cue ∷ items))) (first_packet pid n (cue_bytes cue)) (thin pid copies (Sent cue ∷ items) ((n + 1) % 16) cues)
 
--- a packet that is left is no duplicate of the payload packet that is left before it on the PID
-abbrev pub AreFresh : ℕ → (List LineTurn → ℕ) → List Item → ℕ → List (List ℕ) → List CueOut → Type 0
-AreFresh pid copies items n out [] = Unit {0}
-AreFresh pid copies items n out (cue ∷ cues) =
-    (0 < copies (line (Sent cue ∷ items)) → repeats pid (first_packet pid n (cue_bytes cue)) out ≡ false)
-    × AreFresh pid copies (Sent cue ∷ items) ((n + 1) % 16) (times (copies (line (Sent cue ∷ items))) (first_packet pid n (cue_bytes cue)) out) cues
+-- what came up to the last cue of which a copy is left, that cue first; nothing where none is
+abbrev pub last_left : (List LineTurn → ℕ) → List Item → List LineTurn
+last_left copies [] = []
+last_left copies (Sent cue ∷ items) =
+    if nat_lt 0 (copies (line (Sent cue ∷ items))) then line (Sent cue ∷ items) else last_left copies items
+last_left copies (Passing h ∷ items) = last_left copies items
+
+-- A packet that is left and is a duplicate of the payload packet left before it on the PID tells the same again: the cues of two events are
+-- told apart.
+abbrev pub AreToldApart : ℕ → (List LineTurn → ℕ) → List Item → ℕ → List (List ℕ) → List CueOut → Type 0
+AreToldApart pid copies items n out [] = Unit {0}
+AreToldApart pid copies items n out (cue ∷ cues) =
+    (0 < copies (line (Sent cue ∷ items)) → repeats pid (first_packet pid n (cue_bytes cue)) out ≡ true →
+    TellsAgain (last_left copies items) (line (Sent cue ∷ items)))
+    × AreToldApart pid copies (Sent cue ∷ items) ((n + 1) % 16) (times (copies (line (Sent cue ∷ items))) (first_packet pid n (cue_bytes cue)) out) cues
 
 -- the counter of the first cue before the next packet
 abbrev pub next_number : Config → List Step → ℕ
 next_number c past = one_past (number_on c.cue_pid (cued c past))
 
--- in front of each packet stand so many copies of each packet that the injector puts there
+-- in front of each packet stand so many copies of each packet that the injector puts there, and a duplicate tells the same again
 abbrev pub IsThinned : Config → (List LineTurn → ℕ) → (List ℕ → List (List ℕ) → List (List ℕ)) → List Step → Type 0
 IsThinned c copies fronts [] = Unit {0}
 IsThinned c copies fronts (Message m ∷ past) = IsThinned c copies fronts past
 IsThinned c copies fronts (Packet p ∷ past) =
     (fronts p (packets_in past) ≡ thin c.cue_pid copies (sent_in c past) (next_number c past) (cues_at c p past))
-    × AreFresh c.cue_pid copies (sent_in c past) (next_number c past) (stream c fronts past) (cues_at c p past)
+    × AreToldApart c.cue_pid copies (sent_in c past) (next_number c past) (stream c fronts past) (cues_at c p past)
     × IsThinned c copies fronts past
 
--- how many sections copies on the spot give: a packet that comes twice gives its section once
-abbrev pub sections_given : ℕ → ℕ
-sections_given zero = 0
-sections_given (suc zero) = 1
-sections_given (suc (suc n)) = suc (sections_given n)
-
--- THINNED PACKETS: where those that are left are no duplicates of one another, the reader finds the section of each that is left
+-- THINNED PACKETS: where a duplicate tells the same again, the reader finds the section of each cue of which a copy is left, or has found
+-- one before that told the same
 abbrev pub ThinnedBrings : Type 0
 ThinnedBrings = (c : Config) (copies : List LineTurn → ℕ) (fronts : List ℕ → List (List ℕ) → List (List ℕ)) (past : List Step) → IsRunOf c past →
-    IsThinned c copies fronts past → BringsCues c (λ t. sections_given (copies t)) fronts past
+    IsThinned c copies fronts past →
+    (given : List LineTurn → ℕ) × BringsCues c given fronts past × LeavesOutRepeats copies given (line (sent_in c past))
 
 -- the injector's own packets are those of which one copy is left
 abbrev pub ThinnedOfAll : Type 0
@@ -64,6 +69,6 @@ ThinnedOfAll = (c : Config) (p : List ℕ) (past : List Step) → IsRunOf c (Pac
 abbrev pub ThinnedCuePath : Type 0
 ThinnedCuePath = (c : Config) (copies : List LineTurn → ℕ) (fronts : List ℕ → List (List ℕ) → List (List ℕ)) (p last : List ℕ) (past later : List Step) →
     IsRunOf c (Packet last ∷ (later ++ Packet p ∷ past)) → IsThinned c copies fronts (Packet p ∷ past) →
-    KeepsEnoughOf (λ t. sections_given (copies t)) (asked_line c.index (turns_in c.program (Packet last ∷ (later ++ Packet p ∷ past)))) →
+    KeepsEnoughOf copies (asked_line c.index (turns_in c.program (Packet last ∷ (later ++ Packet p ∷ past)))) →
     (e : Standing) → e.cancelled ≡ false → before (high_of (Some c.program) (p ∷ packets_in past)) e.start ≡ false →
     In e (armed c.cue_pid (high_of (Some c.program)) (stream c fronts (Packet p ∷ past))) ↔ In e (events c.index (turns_in c.program (Packet p ∷ past)))

@@ -63,8 +63,8 @@ pub fn cued_stream_brings()
     ensures { CuedStreamBrings }
 {}
 
-/// Where the packets that are left of the injector's are no duplicates of one another, the reader finds the section of each that is left,
-/// of one that is doubled on the spot once.
+/// Where a packet that is left of the injector's and is a duplicate of the payload packet left before it tells the same again, of the same
+/// event, the reader finds the section of each cue of which a copy is left, or has found one before that told the same.
 pub fn thinned_brings()
     ensures { ThinnedBrings }
 {}
@@ -79,7 +79,8 @@ pub fn cue_path_in_packets_at_the_end()
     ensures { CuePathInPacketsAtTheEnd }
 {}
 
-/// So it is with the injector's packets of which some are left out and some doubled.
+/// Behind each packet it is so of the events whose start is reached, too, with the injector's packets of which some are left out and some
+/// doubled, where one that is a duplicate of the packet left before it tells the same again, of the same event.
 pub fn thinned_cue_path()
     ensures { ThinnedCuePath }
 {}

@@ -34,11 +34,10 @@ use Rattle.cued_laws.proofs.CuedLemmas.{cued_is_faultless}
 use Rattle.path_laws.specs.Path.{asked_line}
 use Rattle.injector.specs.Laws.{own_fronts}
 use Rattle.path_laws.specs.Packets.{IsRunOf, stream, BringsCues}
-use Rattle.path_laws.specs.Thinning.{sections_given}
 use Rattle.path_laws.proofs.Packets.{run-message, run-packet, run-history, map-pid}
 use Rattle.path_laws.proofs.Proofs.{requests_are_a_run}
 use Rattle.path_laws.proofs.Whole.{cue_path_in_packets, cue_path_in_packets_at_the_end, cued_stream_brings}
-use Rattle.path_laws.proofs.Thinned.{thinned_brings}
+use Rattle.path_laws.proofs.Thinned.{thinned_brings, given_keeps_enough}
 use Rattle.splice_plans.specs.Switching.{Setting, switched_at, high_at, events_at}
 use Rattle.splice_plans.specs.Adverts.{setting_of}
 use Rattle.switch_laws.specs.Standing.{IsSwitchable}
@@ -341,4 +340,6 @@ lost_cues_leave_no_trace c filed copies fronts p past r b k =
 
 pub thinned_cues_leave_no_trace : ThinnedCuesLeaveNoTrace
 thinned_cues_leave_no_trace c filed copies fronts p past r t k =
-    lost_cues_leave_no_trace c filed (λ s. sections_given (copies s)) fronts p past r (thinned_brings c copies fronts (Packet p ∷ past) r t) k
+    let whole = Packet p ∷ past in
+    let g = thinned_brings c copies fronts whole r t in
+    lost_cues_leave_no_trace c filed g.0 fronts p past r g.1 (given_keeps_enough c copies g.0 whole r g.2 k)

@@ -9,7 +9,7 @@ use Rattle.cue_laws.specs.Events.{Turn as LineTurn}
 use Rattle.cue_laws.specs.Laws.{KeepsEnoughOf}
 use Rattle.path_laws.specs.Path.{asked_line}
 use Rattle.path_laws.specs.Packets.{IsRunOf, stream, BringsCues}
-use Rattle.path_laws.specs.Thinning.{IsThinned, sections_given}
+use Rattle.path_laws.specs.Thinning.{IsThinned}
 use Rattle.splice_plans.specs.Adverts.{setting_of}
 use Rattle.splice_plans.specs.Switching.{Setting, switched_past, spliced_network}
 use Rattle.splice_plans.specs.Reporting.{report_of}
@@ -54,5 +54,5 @@ LostCuesLeaveNoTrace = (c : Config) (filed : ℕ → Option Advertisement) (copi
 abbrev pub ThinnedCuesLeaveNoTrace : Type 0
 ThinnedCuesLeaveNoTrace = (c : Config) (filed : ℕ → Option Advertisement) (copies : List LineTurn → ℕ) (fronts : List ℕ → List (List ℕ) → List (List ℕ)) (p : List ℕ) (past : List Step) →
     IsRunOf c (Packet p ∷ past) → IsThinned c copies fronts (Packet p ∷ past) →
-    KeepsEnoughOf (λ t. sections_given (copies t)) (asked_line c.index (turns_in c.program (Packet p ∷ past))) →
+    KeepsEnoughOf copies (asked_line c.index (turns_in c.program (Packet p ∷ past))) →
     SplicedAlike (setting_of c filed) (stream c fronts (Packet p ∷ past)) (cued c (Packet p ∷ past))

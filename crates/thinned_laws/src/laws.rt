@@ -25,7 +25,8 @@ pub fn lost_cues_leave_no_trace()
     ensures { LostCuesLeaveNoTrace }
 {}
 
-/// So it is with the injector's packets of which some are left out, and some doubled on the spot.
+/// So it is with the injector's packets of which some are left out, and some doubled on the spot, where one that is a duplicate of the packet
+/// left before it tells the same again, of the same event.
 pub fn thinned_cues_leave_no_trace()
     ensures { ThinnedCuesLeaveNoTrace }
 {}
