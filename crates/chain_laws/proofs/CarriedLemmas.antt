@@ -38,7 +38,7 @@ use Rattle.switch_laws.specs.Laws.{ArePackets, IsPlayable}
 use Rattle.switch_laws.specs.Moving.{intervals, sent_in_all}
 use Rattle.splice_plans.specs.Known.{adverts_at}
 use Rattle.switch_laws.specs.Whole.{ArePacked, HavePids, TablesAreApart, IsSwitchedOnce, breaks, slices, placed_in}
-use Rattle.switch_laws.specs.Slices.{IsWholeSlice, IsSliceToAnEnd}
+use Rattle.switch_laws.specs.Slices.{IsWholeSlice, IsOverBehind, IsSliceToAnEnd}
 use Rattle.switch_laws.proofs.IntervalLemmas.{intervals-ordered}
 use Rattle.switch_laws.proofs.SliceLemmas.{slices_are_whole, slices_go_to_an_end}
 use Rattle.switch_laws.proofs.StreamLemmas.{streams_carry, all-reversed}
@@ -47,7 +47,7 @@ use Rattle.armed_laws.proofs.MeetLemmas.{none-meet}
 use Rattle.chain_laws.specs.Breaks.{accepted_by, armed_by, SameTaken}
 use Rattle.chain_laws.specs.Runs.{switched_by, program_by, behind_by, run_by, head_by, adverts_by, played_by, IsWholeRun}
 use Rattle.chain_laws.specs.UnitSplices.{splice_from, slice_payloads, payloads_between, IsConditionedAt}
-use Rattle.chain_laws.specs.Streams.{slice_of, is_reached, GoesOutWhole, GoesOutToAnEnd, CarriesPlaced, StreamsCarryPlaced, break_splice, CarriesSplice, StreamsCarrySplice}
+use Rattle.chain_laws.specs.Streams.{slice_of, is_reached, end_behind, GoesOutWhole, GoesOutToAnEnd, CarriesPlaced, StreamsCarryPlaced, break_splice, CarriesSplice, StreamsCarrySplice}
 use Rattle.chain_laws.proofs.BreakLemmas.{breaks_are_armed}
 use Rattle.chain_laws.proofs.TakenLemmas.{filter-within, begun_both, crossed_both, placed_both, lead_both}
 use Rattle.chain_laws.proofs.RunLemmas.{reads, sound, others, cued-long, cued-pids}
@@ -307,7 +307,14 @@ module _ (c : Config) (filed : ℕ → Option Advertisement) (steps : List Step)
         let g = h.1 (ap (λ ads. is_played ads e) same-adverts ∙ h.0) in
         record {
           stop = g.stop;
-          in_force = (g.later, g.before, g.at, ap (λ ads. end_known ads (history_at k back) e.start g.before) (sym same-adverts) ∙ g.in_force);
+          in_force = (
+            g.later,
+            g.before,
+            g.at,
+            subst (λ sw. IsOverBehind (stream sw pid) (as_played e) (end_behind c filed steps e) b g.before) same-switched
+                (subst (λ ads. IsOverBehind (stream (switched_at k back) pid) (as_played e) (end_known ads (history_at k back) e.start) b g.before) same-adverts g.over),
+            ap (λ ads. end_known ads (history_at k back) e.start g.before) (sym same-adverts) ∙ g.in_force,
+          );
           last = g.last;
           goes = g.goes
               ∙ ap (λ sw. if begun (stream sw pid) (as_played e) b then up_to_end g.stop ((adverts_at k back).units e pid) else []) same-switched

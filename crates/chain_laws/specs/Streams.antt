@@ -15,6 +15,7 @@ use Rattle.output_laws.specs.Spliced.{placed_payloads}
 use Rattle.splice_plans.specs.Playing.{Adverts, played, as_played, is_crossed, end_known}
 use Rattle.splice_plans.specs.Adverts.{setting_of}
 use Rattle.splice_plans.specs.Switching.{history_at}
+use Rattle.switch_laws.specs.Slices.{IsOverBehind}
 use Rattle.chain_laws.specs.Breaks.{accepted_by}
 use Rattle.chain_laws.specs.Runs.{switched_by, behind_by, run_by, lead_by, adverts_by, played_by, output_by, IsWholeRun}
 use Rattle.chain_laws.specs.UnitSplices.{payloads_between, slice_payloads, IsConditionedAt}
@@ -34,16 +35,22 @@ abbrev pub GoesOutWhole : Config → (ℕ → Option Advertisement) → List Ste
 GoesOutWhole c filed steps pid sent e = is_crossed (stream (switched_by c steps) pid) e.start (behind_by c steps) ≡ false →
     sent (as_played e) ≡ (if is_reached (switched_by c steps) pid (behind_by c steps) e then slice_of (adverts_by c filed steps) pid e else [])
 
--- an end of the break that the cues had put in force at some packet of the cued stream
-abbrev pub IsInForce : Config → (ℕ → Option Advertisement) → List Step → Standing → ℤ → Type 0
-IsInForce c filed steps e stop = (later : List (List ℕ)) × (before : List (List ℕ)) × (behind_head (Some c.program) (cued c steps) ≡ later ++ before)
-    × (end_known (adverts_by c filed steps) (history_at (setting_of c filed) (cued c steps)) e.start before ≡ Some stop)
+-- the end of a break that the cues of the cued stream had put in force behind some packets
+abbrev pub end_behind : Config → (ℕ → Option Advertisement) → List Step → Standing → List (List ℕ) → Option ℤ
+end_behind c filed steps e before = end_known (adverts_by c filed steps) (history_at (setting_of c filed) (cued c steps)) e.start before
 
--- Whatever units step back, what goes out is a slice: where the stream reaches the break, all units of its advertisement's stream before an
--- end that was in force, and is not before the last one; and nothing where it does not reach it.
+-- The end of the break that was in force as it was over for the stream: with the unit that closed it, the first to begin outside it once it
+-- had begun, or where no unit did with the last packet.
+abbrev pub IsInForce : Config → (ℕ → Option Advertisement) → List Step → ℕ → Standing → ℤ → Type 0
+IsInForce c filed steps pid e stop = (later : List (List ℕ)) × (before : List (List ℕ)) × (behind_head (Some c.program) (cued c steps) ≡ later ++ before)
+    × IsOverBehind (stream (switched_by c steps) pid) (as_played e) (end_behind c filed steps e) (behind_head (Some c.program) (cued c steps)) before
+    × (end_behind c filed steps e before ≡ Some stop)
+
+-- Whatever units step back, what goes out is a slice: where the stream reaches the break, all units of its advertisement's stream before the
+-- end that was in force as it was over, which is not before the last one; and nothing where it does not reach it.
 pub record GoesOutToAnEnd (c : Config) (filed : ℕ → Option Advertisement) (steps : List Step) (pid : ℕ) (sent : PlayedEvent → List SliceUnit) (e : Standing) : Type 0 where
   pub stop : ℤ
-  pub in_force : IsInForce c filed steps e stop
+  pub in_force : IsInForce c filed steps pid e stop
   pub last : end_of e ≤ℤ stop
   pub goes : sent (as_played e) ≡ (if is_reached (switched_by c steps) pid (behind_by c steps) e then up_to_end stop ((adverts_by c filed steps).units e pid) else [])
 

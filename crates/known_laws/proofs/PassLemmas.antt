@@ -19,7 +19,7 @@ use Rattle.armed_events.specs.Valuing.{values_by}
 use Rattle.armed_events.proofs.PastLemmas.{heard-off}
 use Rattle.armed_laws.specs.Laws.{AreApart, IsApartOf, NoneMeet}
 use Rattle.armed_laws.proofs.MeetLemmas.{none-meet}
-use Rattle.splice_laws.specs.Splicing.{PlayedEvent, stream}
+use Rattle.splice_laws.specs.Splicing.{stream}
 use Rattle.splice_laws.specs.Laws.{Risen}
 use Rattle.splice_laws.specs.Settled.{IsSettled}
 use Rattle.splice_laws.proofs.PidLemmas.{pids_are_streams}

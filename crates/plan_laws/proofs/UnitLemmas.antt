@@ -2,7 +2,7 @@
 use Rattle.std.proofs.Common.{◌≡◌, ℕ, List, ◌∷◌, Bool, true, false, not, ◌&&◌, ◌||◌, refl, sym, ap, ◌∙◌, Option, None, Some}
 use Rattle.std.specs.Prelude.{ℤ, int_le, int_lt}
 use Rattle.std.proofs.lemmas.Bool.{true≢false}
-use lib.Signed.{le_z, lt_z}
+use lib.Signed.{lt_z}
 use Rattle.ts_packet.proofs.Cases.{by_test}
 use Rattle.event_table.specs.Standing.{Standing, end_of, covers, forgotten_at, stands}
 use Rattle.splice_laws.specs.Splicing.{PlayedEvent, TimedStream, at_or_past, below, comes}

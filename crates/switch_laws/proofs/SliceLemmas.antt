@@ -24,7 +24,7 @@ use Rattle.splice_plans.proofs.SentLemmas.{none-unbegun, sent-due}
 use Rattle.splice_plans.specs.Histories.{IsHistory, AreSteady, IsSettledAt}
 use Rattle.splice_plans.proofs.KnownLemmas.{begun-past, ends_never_rise, played_settle, all-settled}
 use Rattle.switch_laws.specs.Moving.{meant_by, units_for, sent_in_all}
-use Rattle.switch_laws.specs.Slices.{SlicesAreWhole, IsSliceToAnEnd, SlicesGoToAnEnd}
+use Rattle.switch_laws.specs.Slices.{SlicesAreWhole, ClosesWith, IsOverBehind, IsSliceToAnEnd, SlicesGoToAnEnd}
 use Rattle.switch_laws.proofs.IntervalLemmas.{IsMeant, all-meant}
 use Rattle.switch_laws.proofs.MoveLemmas.{all-each}
 use Rattle.switch_laws.proofs.OutLemmas.{stays}
@@ -155,9 +155,9 @@ module _ (turns : Turns) (r : TimedStream) (k : IsStream r) (w : NeverPassesHigh
 
   -- ---- on any network
 
-  -- it is the units before an end that was in force at some packet and is not before the last one
-  abbrev UpTo : List (List ℕ) → (ℤ → List SliceUnit) → List SliceUnit → Type 0
-  UpTo past slice out = (later : List (List ℕ)) × (before : List (List ℕ)) × (stop : ℤ) × (past ≡ later ++ before) × (known before ≡ Some stop) × (x.stop ≤ℤ stop) × (out ≡ slice stop)
+  -- it is the units before the end that was in force as it was over, which is not before the last one
+  abbrev UpTo : List (List ℕ) → (List (List ℕ) → Type 0) → (ℤ → List SliceUnit) → List SliceUnit → Type 0
+  UpTo past is_over slice out = (later : List (List ℕ)) × (before : List (List ℕ)) × (stop : ℤ) × (past ≡ later ++ before) × is_over before × (known before ≡ Some stop) × (x.stop ≤ℤ stop) × (out ≡ slice stop)
 
   abbrev slice_to : ℤ → List SliceUnit
   slice_to stop = up_to_end stop units
@@ -171,14 +171,14 @@ module _ (turns : Turns) (r : TimedStream) (k : IsStream r) (w : NeverPassesHigh
       by (Some stop) e (inl same) = (stop, e, omega (arith, ints, same))
       by (Some stop) e (inr ahead) = (stop, e, ahead.1)
 
-  closing-to : (p : List ℕ) (past : List (List ℕ)) → IsKnown (record { packet = p; past = past }) → closed_now r x known past ≡ false → closed_now r x known (p ∷ past) ≡ true → UpTo (p ∷ past) slice_to (sent (p ∷ past))
+  closing-to : (p : List ℕ) (past : List (List ℕ)) → IsKnown (record { packet = p; past = past }) → closed_now r x known past ≡ false → closed_now r x known (p ∷ past) ≡ true → UpTo (p ∷ past) (ClosesWith r x known) slice_to (sent (p ∷ past))
   closing-to p past s still is_shut = by (or-cases (closed_now r x known past) _ is_shut)
     where
       shut : (c : Bool) (a b : List SliceUnit) → c ≡ true → (if c then a else b) ≡ a
       shut true a b h = refl
       shut false a b h = absurd (true≢false (sym h))
 
-      by : (closed_now r x known past ≡ true) ⊎ ((begun_now r x known (p ∷ past) && (r.begins p past && not (holds_now x (known (p ∷ past)) (r.time (p ∷ past))))) ≡ true) → UpTo (p ∷ past) slice_to (sent (p ∷ past))
+      by : (closed_now r x known past ≡ true) ⊎ ((begun_now r x known (p ∷ past) && (r.begins p past && not (holds_now x (known (p ∷ past)) (r.time (p ∷ past))))) ≡ true) → UpTo (p ∷ past) (ClosesWith r x known) slice_to (sent (p ∷ past))
       by (inl b) = absurd (true≢false (sym b ∙ still))
       by (inr g) =
           let e = and-both (begun_now r x known (p ∷ past)) _ g in
@@ -188,6 +188,7 @@ module _ (turns : Turns) (r : TimedStream) (k : IsStream r) (w : NeverPassesHigh
             p ∷ past,
             stop,
             refl,
+            (still, is_shut),
             now,
             last,
             goes (turns p past) (closed_now r x known past) (begun_now r x known (p ∷ past)) (sent_of_begun turns r x known units p past) (sent past) (turned p past f.0) still e.0
@@ -195,20 +196,22 @@ module _ (turns : Turns) (r : TimedStream) (k : IsStream r) (w : NeverPassesHigh
                 ∙ ap (λ o. up_to_known o units) now,
           )
 
-  closed-to : (past : List (List ℕ)) → AlongSeen IsKnown past → closed_now r x known past ≡ true → UpTo past slice_to (sent past)
+  closed-to : (past : List (List ℕ)) → AlongSeen IsKnown past → closed_now r x known past ≡ true → UpTo past (ClosesWith r x known) slice_to (sent past)
   closed-to [] s h = absurd (true≢false (sym h))
   closed-to (p ∷ past) s h = by_test (closed_now r x known past)
-      (λ y. let (later, before, stop, at, now, last, out) = closed-to past s.1 y in (p ∷ later, before, stop, ap (λ l. p ∷ l) at, now, last, stays turns r k x known units falls p past y ∙ out))
+      (λ y. let (later, before, stop, at, over, now, last, out) = closed-to past s.1 y in (p ∷ later, before, stop, ap (λ l. p ∷ l) at, over, now, last, stays turns r k x known units falls p past y ∙ out))
       (λ n. closing-to p past s.0 n h)
 
   -- all that goes out
   pub all-to : (past : List (List ℕ)) → AlongSeen IsKnown past → known past ≡ Some x.stop →
-      UpTo past (λ stop. if begun_now r x known past then up_to_end stop units else []) (sent past ++ left_at_end turns r x known units past)
+      UpTo past (IsOverBehind r x known past) (λ stop. if begun_now r x known past then up_to_end stop units else []) (sent past ++ left_at_end turns r x known units past)
   all-to past s e = by_test (begun_now r x known past)
       (λ b. by_test (closed_now r x known past)
-      (λ y. let (later, before, stop, at, now, last, out) = closed-to past s y in (later, before, stop, at, now, last, simp (b, y) (append-nil (sent past) ∙ out)))
-      (λ n. ([], past, x.stop, refl, e, omega (arith, ints), simp (b, n) (whole-front (sent past) (up_to_known (known past) units) (front-trans (sent past) (run_of (up_to_known (known past) units) (r.high past)) (up_to_known (known past) units) (sent-due turns r k x known units falls past n) (run-front (up_to_known (known past) units) (r.high past))) ∙ ap (λ o. up_to_known o units) e))))
-      (λ n. let none = none-unbegun turns r k x known units falls past n in ([], past, x.stop, refl, e, omega (arith, ints), simp (n, none) refl))
+      (λ y. let (later, before, stop, at, over, now, last, out) = closed-to past s y in (later, before, stop, at, inl over, now, last, simp (b, y) (append-nil (sent past) ∙ out)))
+      (λ n. ([], past, x.stop, refl, inr (refl, n), e, omega (arith, ints), simp (b, n) (whole-front (sent past) (up_to_known (known past) units) (front-trans (sent past) (run_of (up_to_known (known past) units) (r.high past)) (up_to_known (known past) units) (sent-due turns r k x known units falls past n) (run-front (up_to_known (known past) units) (r.high past))) ∙ ap (λ o. up_to_known o units) e))))
+      (λ n. let none = none-unbegun turns r k x known units falls past n in by_test (closed_now r x known past)
+      (λ y. let (later, before, stop, at, over, now, last, out) = closed-to past s y in (later, before, stop, at, inl over, now, last, simp (n, none) refl))
+      (λ m. ([], past, x.stop, refl, inr (refl, m), e, omega (arith, ints), simp (n, none) refl)))
 
 -- ---- of all events
 
@@ -257,13 +260,14 @@ module _ (switched : List ℕ) (ads : Adverts) (steady : AreSteady ads) (events 
       let r = stream switched pid in
       let known = end_known ads events x.start in
       let us = units_for ads pid (meant_by ads (events whole) (as_played x)) in
-      let (later, before, stop, at, now, last, out) = all-to (begins_one switched) r (pids_are_streams switched pid) (switched_pids_are_within switched pid c) (as_played x) known us
+      let (later, before, stop, at, over, now, last, out) = all-to (begins_one switched) r (pids_are_streams switched pid) (switched_pids_are_within switched pid c) (as_played x) known us
       (ends_never_rise switched pid c ads steady events h (as_played x)) (λ p past b. begins-among switched pid c p past b) whole (known-along x y through whole [] refl) (ap (option_map end_of) (m y)) in
       record {
         later = later;
         before = before;
         stop = stop;
         at = at;
+        over = over;
         in_force = now;
         last = last;
         goes = out

@@ -5,6 +5,7 @@ use Rattle.std.proofs.lemmas.Bool.{true≢false}
 use Rattle.std.proofs.lemmas.List.{reverse-reverse}
 use Rattle.std.proofs.lemmas.List.Elements.{All-head, All-tail, All-cons, All-nil}
 use Rattle.ts_packet.specs.Fields.{payload_on, pid_of, is_among}
+use Rattle.ts_packet.specs.Duplicates.{nearest}
 use Rattle.ts_packet.specs.Runs.{onto}
 use Rattle.unit_stream.specs.Units.{lead_in}
 use Rattle.unit_stream.specs.Carrying.{CarriesUnits}
@@ -18,8 +19,8 @@ use Rattle.splice_plans.proofs.HistoryLemmas.{armed_is_history}
 use Rattle.switch_laws.specs.Moving.{intervals, sent_in_all}
 use Rattle.switch_laws.specs.Laws.{IsPlayable}
 use Rattle.splice_plans.specs.Known.{adverts_at}
-use Rattle.switch_laws.specs.Whole.{breaks, placed_in, StreamsCarry}
-use Rattle.switch_laws.proofs.RunLemmas.{runs_carry}
+use Rattle.switch_laws.specs.Whole.{breaks, placed_in, StreamsCarry, StaysGapless, StreamsStayGapless}
+use Rattle.switch_laws.proofs.RunLemmas.{runs_carry, runs_have_units}
 use Rattle.switch_laws.proofs.SoundLemmas.{runs_are_sound}
 use Rattle.switch_laws.proofs.SplitLemmas.{streams_go_by_themselves}
 use Rattle.switch_laws.proofs.WholeLemmas.{none-switched, is-behind, head-joined}
@@ -80,3 +81,24 @@ streams_carry k network apart steady good long pids pid once = by (known_map (So
           streams_go_by_themselves k network apart pid (once-among pid sw once) ∙ ap (λ l. filter (payload_on pid) (reverse (head_at k back)) ++ l) c.1,
           subst (CarriesUnits c.0) (placed-same k back pid) c.2,
         )
+
+pub streams_stay_gapless : StreamsStayGapless
+streams_stay_gapless k network apart steady good pids pid once fed gapless read = by (known_map (Some k.program) (reverse network)) refl
+  where
+    by : (o : Option ProgramMap) → known_map (Some k.program) (reverse network) ≡ o → StaysGapless k network pid read
+    by None known = absurd (true≢false (sym (once-among pid (switched_at k (reverse network)) once) ∙ ap (is_among pid) (none-switched k (reverse network) known)))
+    by (Some m) known =
+        let back = reverse network in
+        let sw = switched_at k (reverse network) in
+        let ads = adverts_at k (reverse network) in
+        let ev = history_at k (reverse network) in
+        let ps = reverse (behind_head (Some k.program) (reverse network)) in
+        let play : IsPlayable sw ads ev = record { steady = steady; history = armed_is_history k back (is-behind k m back known) } in
+        let sound = runs_are_sound sw ads ev k.packed ps good (all-behind (λ (p : List ℕ). pid_of p < 8192) k network pids) in
+        let last = nearest None pid (reverse (reverse (head_at k back))) in
+        let both = runs_have_units sw ads ev play k.packed ps sound pid once fed last gapless.1 read in
+        record {
+          packets = streams_go_by_themselves k network apart pid (once-among pid sw once);
+          gapless = (gapless.0, both.0);
+          units_are = both.1 ∙ placed-same k back pid;
+        }

@@ -2,8 +2,8 @@
 use Rattle.std.specs.Prelude.{◌≡◌, ℕ, ◌<◌, true, false, ◌++◌, ◌∷◌, List, [], not, Option, None, Some, filter, flat_map, reverse, All}
 use Rattle.ts_packet.specs.Fields.{on, pid_of, payload_on, is_among}
 use Rattle.std.specs.List.{AllByRecursion}
-use Rattle.ts_packet.specs.Runs.{Seen, seen_after}
-use Rattle.unit_stream.specs.Units.{lead_in}
+use Rattle.ts_packet.specs.Runs.{Seen, seen_after, IsGaplessPast}
+use Rattle.unit_stream.specs.Units.{units, payloads, lead_in}
 use Rattle.unit_stream.specs.Carrying.{CarriesUnits}
 use Rattle.unit_stream.specs.UnitPackets.{IsPacked}
 use Rattle.event_table.specs.Standing.{Standing}
@@ -13,7 +13,7 @@ use Rattle.program_follower.specs.declared.purpose.Listed.{Listed}
 use Rattle.program_follower.specs.Program.{listed, tables, behind_head}
 use Rattle.program_laws.specs.Writing.{written, body}
 use Rattle.program_laws.specs.Cued.{stripping}
-use Rattle.output_laws.specs.Output.{Packing, output}
+use Rattle.output_laws.specs.Output.{Packing, output, HasComeBefore, AlongMoves}
 use Rattle.output_laws.specs.Others.{is_off}
 use Rattle.output_laws.specs.Spliced.{placed_payloads}
 use Rattle.splice_plans.specs.Known.{adverts_at}
@@ -120,3 +120,25 @@ StreamsCarry = (k : Setting) (network : List (List ℕ)) → TablesAreApart k (r
     (carried : List (List ℕ)) × (filter (payload_on pid) (spliced_network k network)
     ≡ filter (payload_on pid) (reverse (head_at k (reverse network))) ++ (lead_in pid (reverse (behind_head (Some k.program) (reverse network))) ++ carried))
     × CarriesUnits carried (placed_in k (reverse network) pid)
+
+-- ---- gapless streams
+
+-- nothing is put in on the PID before a payload packet of it has come behind the head
+abbrev pub IsFedFirst : Setting → List (List ℕ) → ℕ → Type 0
+IsFedFirst k past pid =
+    AlongMoves (HasComeBefore pid) (reverse (run_moves (switched_at k past) (adverts_at k past) (history_at k past) (reverse (behind_head (Some k.program) past))))
+
+-- The PID's payload packets in the output are those of the head and those of the run behind it. That is gapless with its head, and its units
+-- behind the head are what is placed, whatever streams they are read with.
+pub record StaysGapless (k : Setting) (network : List (List ℕ)) (pid : ℕ) (read : List ℕ) : Type 0 where
+  pub packets : filter (payload_on pid) (spliced_network k network)
+      ≡ filter (payload_on pid) (reverse (head_at k (reverse network))) ++ filter (payload_on pid) (run_out k (reverse network))
+  pub gapless : IsGaplessPast (reverse (head_at k (reverse network))) pid (run_out k (reverse network))
+  pub units_are : payloads (units read pid (run_out k (reverse network))) ≡ placed_in k (reverse network) pid
+
+-- WHERE A SWITCHED STREAM IS GAPLESS, with its head, so it is in the output
+abbrev pub StreamsStayGapless : Type 0
+StreamsStayGapless = (k : Setting) (network : List (List ℕ)) → TablesAreApart k (reverse network) → AreSteady (adverts_at k (reverse network)) →
+    ArePacked k.packed (adverts_at k (reverse network)) → HavePids network → (pid : ℕ) → IsSwitchedOnce k (reverse network) pid → IsFedFirst k (reverse network) pid →
+    IsGaplessPast (reverse (head_at k (reverse network))) pid (reverse (behind_head (Some k.program) (reverse network))) →
+    (read : List ℕ) → StaysGapless k network pid read

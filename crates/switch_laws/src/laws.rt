@@ -3,7 +3,7 @@
 ghost use Rattle.switch_laws.specs.Laws.{MovesBringTheNetwork, RunsAreSettled, RowsArePlaced, RowsAreSpliced};
 ghost use Rattle.switch_laws.specs.Laws.{RunsCarry, RunsHaveUnits, OthersPass, NothingPlayed};
 ghost use Rattle.switch_laws.specs.Whole.{OutputIsInOrder, NothingIsPlayed, NoPacketChanges, NoProgram};
-ghost use Rattle.switch_laws.specs.Whole.{RunsAreSound, StreamsGoByThemselves, StreamsCarry};
+ghost use Rattle.switch_laws.specs.Whole.{RunsAreSound, StreamsGoByThemselves, StreamsCarry, StreamsStayGapless};
 ghost use Rattle.switch_laws.specs.Standing.{PacketsStandAs, OthersStay, FaultlessIsSound};
 ghost use Rattle.switch_laws.specs.Slices.{SlicesAreWhole, SlicesGoToAnEnd};
 ghost use Rattle.switch_laws.specs.Clocks.{ClocksStay};
@@ -85,6 +85,12 @@ pub fn streams_carry()
     ensures { StreamsCarry }
 {}
 
+/// Where a switched stream is gapless, with its head, so it is in the output, and its units behind the head are what is placed, if nothing
+/// is put in before a payload packet of the stream has come behind the head.
+pub fn streams_stay_gapless()
+    ensures { StreamsStayGapless }
+{}
+
 /// For each packet of the network stands itself, with the counter of the rule where it is of a switched stream; or its clock reference
 /// alone, where its unit lies in a played event; or sections, on the PID of the PMT; and for a cue nothing.
 pub fn packets_stand_as()
@@ -108,8 +114,8 @@ pub fn slices_are_whole()
     ensures { SlicesAreWhole }
 {}
 
-/// In any stream, what goes out of an event is all units of its advertisement before an end that was in force at some packet and is not before
-/// its last one, where it is reached, and nothing where it is not.
+/// In any stream, what goes out of an event is all units of its advertisement before the end that was in force as it was over, which is not
+/// before its last one, where it is reached, and nothing where it is not.
 pub fn slices_go_to_an_end()
     ensures { SlicesGoToAnEnd }
 {}
