@@ -29,7 +29,7 @@ pub enum ScriptFault {
     /// The script could not be read on.
     #[error("the script could not be read on")]
     Io,
-    /// More than 2^32 reads did not give the script's end.
+    /// 2^32 reads did not give the script's end.
     #[error("too many reads")]
     Turns,
     /// Memory was refused.

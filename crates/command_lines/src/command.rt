@@ -197,6 +197,10 @@ const CUT: Subcommand = Subcommand {
 };
 
 /// The command line of the program, whose words come without the program's name.
+///
+/// # Errors
+///
+/// Where the allocator refused memory.
 pub fn command<'a>(alloc: Global) -> Result<Command<'a>, AllocError> {
     Command::new(alloc, "dpi_chain")
         .about(ABOUT)

@@ -100,6 +100,11 @@ fn cut_from_lines<R: Read + Drop, F: Write + Drop, O: Write>(
 
 /// Runs the subcommand `cut`: the input file is opened first, then the output file, then memory is taken. Answers what was done,
 /// where the options ask for it.
+///
+/// # Errors
+///
+/// `File` where a file could not be opened or made, `OutOfMemory` where the allocator refused memory, `Lines` where the cut stopped or a
+/// line is no packet's, `Unflushed` where the output could not be flushed at the end. What went out before stands.
 pub fn run_cut<R, I, O>(
     rt: &R,
     options: &CutOptions<'_>,

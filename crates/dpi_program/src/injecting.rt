@@ -214,9 +214,16 @@ where
     }
 }
 
-/// Runs the subcommand `inject`: the network is opened first, then the script or the port, then the output file; then memory is taken,
-/// and where there is a port a client is waited for. Replies to a script are printed as they come, on `faults` where the packets go to
-/// standard output.
+/// Runs the subcommand `inject`, or `run` where the options name advertisements: the network is opened first, then the script or the port,
+/// then the list is loaded with all its advertisements, then the output file is opened. Then the memory of the run is taken, and where
+/// there is a port a client is waited for. Replies to a script are printed as they come, on `faults` where the packets go to standard
+/// output.
+///
+/// # Errors
+///
+/// `File` where a file could not be opened or made, `Accept` where no automation system could connect, `Script` or `List` where that was
+/// not loaded, `OutOfMemory` where the allocator refused memory. `Run` where the run stopped, else `Unflushed` where the output could not
+/// be flushed at the end, else `Print` where a reply could not be printed. What went out before stands.
 pub fn run_inject_command<R, I, O, E>(
     rt: &R,
     options: &InjectOptions<'_>,

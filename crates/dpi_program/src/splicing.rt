@@ -76,6 +76,11 @@ fn run_ends<F: Read + Drop, I: Read, O: Write + Drop>(
 
 /// Runs the subcommand `splice`: the network is opened first, then the list is loaded with all its advertisements, then the output file is
 /// opened.
+///
+/// # Errors
+///
+/// `File` where a file could not be opened or made, `List` where the list was not loaded, `OutOfMemory` where the allocator refused
+/// memory, `Run` where the run stopped, `Unflushed` where the output could not be flushed at the end. What went out before stands.
 pub fn run_splice_command<R, I, O>(
     rt: &R,
     options: &SpliceOptions<'_>,

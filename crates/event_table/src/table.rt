@@ -56,8 +56,8 @@ pub enum ShortenRefusal {
     /// No event of this id stands.
     #[error("no event of this id stands")]
     NoSuchEvent,
-    /// The event is cancelled, or the end does not lie 1 to 2^29 ticks past the high time, or not past the event's start and before its
-    /// present end.
+    /// The event is cancelled, or the end does not lie 1 to 2^29 ticks of 90 kHz past the high time, or not past the event's start, or it
+    /// lies past the present end.
     #[error("the end lies outside the event")]
     BadEnd,
 }
@@ -183,6 +183,11 @@ impl<T: Copy + Default> Table<T> {
 
     /// Arms an event: it stands from now on, after all others, with the value beside it. A repeat of an event that stands is `Same` and
     /// changes nothing.
+    ///
+    /// # Errors
+    ///
+    /// The first of these that applies: `InUse` where another event of this id stands, `Full` where 32 events stand, `Overlap` where the
+    /// interval meets that of an event that stands, the cancelled ones counted each time. Then nothing has changed.
     pub fn arm(&mut self, event: Event, value: T) -> Result<Armed, ArmRefusal>
         requires { CanArm (high_time_of self.old) event }
         ensures answer { (line : Option ℤ) (standing : List Standing) → StandsFor self.old line standing →
@@ -211,8 +216,11 @@ impl<T: Copy + Default> Table<T> {
         Ok(Armed::New)
     }
 
-    /// Cancels the event of this id, where the high time is below its start. It keeps its id, its interval and its value until it is
-    /// forgotten; a second cancel changes nothing.
+    /// Cancels the event of this id. It keeps its id, its interval and its value until it is forgotten; a second cancel changes nothing.
+    ///
+    /// # Errors
+    ///
+    /// `NoSuchEvent` where no event of this id stands; `TooLate` where the high time is at or past its start. Then nothing has changed.
     pub fn cancel(&mut self, id: u32) -> Result<(), CancelRefusal>
         ensures answer { (line : Option ℤ) (standing : List Standing) → StandsFor self.old line standing →
             result ≡ cancel_answer line standing id }
@@ -234,8 +242,13 @@ impl<T: Copy + Default> Table<T> {
         Ok(())
     }
 
-    /// Gives the event of this id an early end, 1 to 2^29 ticks past the high time, above the event's start and below its present end.
-    /// Its present end again is `Same`.
+    /// Gives the event of this id an early end, 1 to 2^29 ticks of 90 kHz past the high time, above the event's start and below its
+    /// present end. Its present end again is `Same`, where it lies as far past the high time.
+    ///
+    /// # Errors
+    ///
+    /// `NoSuchEvent` where no event of this id stands; `BadEnd` where the event is cancelled, or where the end lies elsewhere. Then
+    /// nothing has changed.
     pub fn shorten(&mut self, id: u32, end: Time33) -> Result<Armed, ShortenRefusal>
         ensures answer { (line : Option ℤ) (standing : List Standing) → StandsFor self.old line standing →
             result ≡ shorten_answer line standing id (place line end) }

@@ -45,6 +45,10 @@ pub fn spell(line: &mut [u8], start: usize, bytes: &[u8])
 }
 
 /// The bytes that this text spells by two digits for each; `None` where it spells none.
+///
+/// # Errors
+///
+/// Where the allocator refused memory.
 #[tactic(auto, using(crate::proofs::DigitLemmas::spelled_more, crate::proofs::DigitLemmas::spelled_not_high, crate::proofs::DigitLemmas::spelled_not_low, crate::proofs::DigitLemmas::spelled_half))]
 pub fn bytes_of(alloc: Global, text: &[u8]) -> Result<Option<Vec<u8>>, AllocError>
     ensures { IfOk result (λ bytes. option_map (λ b. b.items) bytes ≡ spelled text.now) }

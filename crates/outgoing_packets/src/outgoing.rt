@@ -35,7 +35,11 @@ impl Outgoing {
         }
     }
 
-    /// Puts the packet as it is. After an error the counters are as they were.
+    /// Puts the packet as it is.
+    ///
+    /// # Errors
+    ///
+    /// The sink's, at this packet. Then the counters are as they were.
     #[inline(always)]
     pub fn pass<S: PacketSink>(&mut self, packet: &Packet, sink: &mut S) -> Result<(), PutFault>
         ensures leads { S.leads sink.old sink.new }
@@ -59,8 +63,11 @@ impl Outgoing {
         Ok(())
     }
 
-    /// Puts the section in packets of this PID. An empty one, which is none, puts nothing. After an error the counters are as they
-    /// were, whatever of the section was put.
+    /// Puts the section in packets of this PID. An empty one, which is none, puts nothing.
+    ///
+    /// # Errors
+    ///
+    /// The sink's. Packets before the one that failed are out, and the counters are as they were, whatever of the section was put.
     pub fn put_section<S: PacketSink>(
         &mut self,
         pid: Pid,
@@ -96,7 +103,11 @@ impl Outgoing {
     }
 
     /// Puts the sections of a map's PID in packets of that PID, the maps of the program with their entry for cues changed. A map without
-    /// room for the entry goes out as it came. After an error the counters are those behind the sections that were put whole.
+    /// room for the entry goes out as it came.
+    ///
+    /// # Errors
+    ///
+    /// The sink's. Packets before the one that failed are out, and the counters are those behind the sections that were put whole.
     #[inline(never)]
     pub fn put_tables<S: PacketSink>(
         &mut self,

@@ -39,6 +39,11 @@ impl<W, L> Asker<W, L> {
 }
 
 /// Runs with cues by this automation.
+///
+/// # Errors
+///
+/// `Accept` where the messages come from a port, and no connection was accepted or it could not be set not to block: the network and
+/// the output are as they were then. `Run` as for [`run_inject`].
 pub fn cue<P, K, W, L>(
     chain: Chain,
     network: &mut P,
@@ -80,6 +85,10 @@ where
 }
 
 /// Runs with cues by this automation, and with the advertisements of a library.
+///
+/// # Errors
+///
+/// `Accept` as for [`cue`], and `Run` as for [`run`].
 pub fn play<P, K, W, L>(
     chain: Chain,
     network: &mut P,

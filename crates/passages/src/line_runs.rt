@@ -13,6 +13,10 @@ use std::io::{BufWriter, Write};
 use ts_packet::{Device, PacketSource, Pid};
 
 /// Runs to lines of digits.
+///
+/// # Errors
+///
+/// Where the allocator refused memory. The fault of a run that stopped stands in the outcome.
 pub fn run_to_lines<S: Passage, P: PacketSource, W: Write + Drop>(
     alloc: Global,
     passage: S,

@@ -29,6 +29,11 @@ pub enum ListenFault {
 
 /// Waits for one client of the listener, and then runs [`run_inject`] with it as the automation. A read that finds nothing is an empty
 /// piece; a reply that the client does not take at once ends its session.
+///
+/// # Errors
+///
+/// `Accept` where no connection was accepted, or it could not be set not to block: the network and the output are as they were then.
+/// `Run` as for [`run_inject`].
 pub fn inject_listening<M, P, L, K>(
     chain: Chain<M>,
     network: &mut P,
@@ -72,6 +77,10 @@ where
 }
 
 /// Waits for one client of the listener, and then runs [`run`] with it as the automation, likewise.
+///
+/// # Errors
+///
+/// `Accept` as for [`inject_listening`], and `Run` as for [`run`].
 pub fn run_listening<M, P, L, K>(
     chain: Chain<M>,
     network: &mut P,

@@ -161,6 +161,10 @@ pub fn let_go<T: Drop, O: Drop>(finished: Finished<T, O>) -> Ended<T>
 }
 
 /// Runs to a writer: many packets a write, or where the network may pause each packet as it comes.
+///
+/// # Errors
+///
+/// Where the allocator refused memory. The fault of a run that stopped stands in the outcome.
 pub fn run_to<S: Passage, P: PacketSource, O: Write + Drop>(
     alloc: Global,
     passage: S,
@@ -202,6 +206,10 @@ impl<T: Drop> Ended<T> {
     ghost use Rattle.std.specs.Prelude.{◌≡◌, IfOk, IfErr, IsOkAnd, IsErrAnd};
 
     /// What the run tells, whose network's device gave this reason for its last failure.
+    ///
+    /// # Errors
+    ///
+    /// The fault of the run, where it stopped.
     pub fn told(self, reading: Option<io::Error>) -> Result<Ran<T>, Stopped>
         ensures done { IfOk self.outcome (λ report. IsOkAnd result (λ ran. ran.report ≡ report)) }
         ensures fault { IfErr self.outcome (λ fault. IsErrAnd result (λ stopped. stopped.fault ≡ fault)) }
@@ -231,6 +239,11 @@ impl<T: Drop> Ended<T> {
 }
 
 /// Runs from a reader.
+///
+/// # Errors
+///
+/// `OutOfMemory` where the allocator refused memory for a buffer; else the fault of the passage, where it stopped; else `Unflushed`
+/// where the output could not be flushed at the end.
 pub fn run_from<S: Passage, R: Read + Drop, O: Write + Drop>(
     alloc: Global,
     passage: S,
@@ -264,7 +277,11 @@ pub fn stopped(fault: ProgramFault, side: Side, reason: Option<io::Error>) -> St
     }
 }
 
-/// What a run tells whose replies were printed, or not: one that could not be printed is a fault where there is no other.
+/// What a run tells whose replies were printed, or not.
+///
+/// # Errors
+///
+/// The fault of the run, where it stopped; else `Print` where a reply could not be printed.
 pub fn with_replies<T: Drop>(
     ran: Result<Ran<T>, Stopped>,
     has_lost_a_reply: bool,

@@ -35,8 +35,11 @@ impl Packetiser {
         self.counter
     }
 
-    /// Puts the packets of a section, which is not empty. After a fault those before the one that failed are out, and the counter
-    /// goes on behind them.
+    /// Puts the packets of a section, which is not empty.
+    ///
+    /// # Errors
+    ///
+    /// The sink's. Packets before the one that failed are out, and the counter goes on behind them.
     pub fn put<S: PacketSink>(&mut self, section: &[u8], sink: &mut S) -> Result<(), PutFault>
         requires { 0 < length section.now }
         ensures leads { S.leads sink.old sink.new }

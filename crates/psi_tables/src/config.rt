@@ -32,8 +32,11 @@ pub struct Config {
 }
 
 impl Config {
-    /// A configuration of this program, this PID for the cues and this index. Where both the program and the PID are wrong, the
-    /// error is `Program`.
+    /// A configuration of this program, this PID for the cues and this index.
+    ///
+    /// # Errors
+    ///
+    /// `Program` where the program's number is 0; else `CuePid` where the PID for the cues is 0x1FFF or below 0x0010.
     pub fn new(program: u16, cue_pid: Pid, index: u16) -> Result<Config, BadConfig>
         ensures ok { IfOk result (λ c. (config_fault program cue_pid ≡ None)
             × (c.program ≡ program) × (c.cue_pid ≡ cue_pid) × (c.index ≡ index)) }

@@ -61,8 +61,11 @@ fn with_entry(map: &[u8], pid: Pid) -> Result<Section, TooLong>
 }
 
 /// The map with an entry for cues on this PID as its last, and the registration descriptor as the last of the program's
-/// descriptors. `CRC_32` is computed again, and the version stays. `TooLong` exactly where `section_length`, which grows by 11,
-/// would be over 1021.
+/// descriptors. `CRC_32` is computed again, and the version stays.
+///
+/// # Errors
+///
+/// [`TooLong`] exactly where `section_length`, which grows by 11, would be over 1021.
 pub fn add_cue(pmt: &Pmt<'_>, pid: Pid) -> Result<Section, TooLong>
     ensures exact { seen_section result ≡ section_or_too_long (with_cue_entry pid (map_of pmt.now.bytes.now)) }
 

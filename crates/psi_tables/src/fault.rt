@@ -13,7 +13,7 @@ pub enum TableFault {
     /// or what the section lists does not fill it exactly.
     #[error("a section of a wrong length")]
     BadLength,
-    /// A program association section that applies now is not the last of its table: `last_section_number` is not 0.
+    /// A program association section that applies now is not the only one of its table: `last_section_number` is not 0.
     #[error("a table of several sections")]
     Sections,
 }

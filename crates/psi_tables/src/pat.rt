@@ -22,6 +22,11 @@ pub struct Pat<'a> {
 #[tactic(auto, unfolding(crate::specs::Association::association_of, crate::specs::Association::pat), using(crate::proofs::AssociationLemmas::association_long, crate::proofs::AssociationLemmas::pairs_there, crate::proofs::AssociationLemmas::association_faultless))]
 impl<'a> Pat<'a> {
     /// Reads a whole section. Its `CRC_32` and its reserved bits are not looked at.
+    ///
+    /// # Errors
+    ///
+    /// The first of `WrongTable`, `BadLength` and `Sections` that applies, as [`TableFault`] says; fewer than three bytes are always
+    /// `BadLength`.
     pub fn read(bytes: &'a [u8]) -> Result<Pat<'a>, TableFault>
         ensures bytes { IfOk result (λ p. p.bytes.now ≡ bytes.now) }
 

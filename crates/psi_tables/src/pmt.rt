@@ -29,6 +29,10 @@ pub struct Pmt<'a> {
 #[tactic(auto, unfolding(crate::specs::ProgramMap::map_of, crate::specs::ProgramMap::pmt), using(crate::proofs::MapLemmas::map_long, crate::proofs::MapLemmas::map_sixteen, crate::proofs::MapLemmas::map_faultless))]
 impl<'a> Pmt<'a> {
     /// Reads a whole section. Its `CRC_32` and its reserved bits are not looked at.
+    ///
+    /// # Errors
+    ///
+    /// The first of `WrongTable` and `BadLength` that applies, as [`TableFault`] says; fewer than three bytes are always `BadLength`.
     pub fn read(bytes: &'a [u8]) -> Result<Pmt<'a>, TableFault>
         ensures bytes { IfOk result (λ p. p.bytes.now ≡ bytes.now) }
 
@@ -86,6 +90,10 @@ impl<'a> Pmt<'a> {
     }
 
     /// The switched streams in order: those of the stream types 0x01, 0x02, 0x03, 0x04, 0x0F, 0x11, 0x1B, 0x24 and 0x81.
+    ///
+    /// # Errors
+    ///
+    /// [`TooManyStreams`] exactly where there are more than eight.
     #[tactic(auto, using(crate::proofs::SwitchedLemmas::switching_more, crate::proofs::SwitchedLemmas::switching_past, crate::proofs::SwitchedLemmas::switching_done, crate::proofs::SwitchedLemmas::switching_full))]
     pub fn switched(&self) -> Result<ArrayVec<Stream, 8>, TooManyStreams>
         ensures { seen_switched result ≡ few_switched (streams_of (map_of self.now.bytes.now)) }

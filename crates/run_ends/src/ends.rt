@@ -81,7 +81,11 @@ fn is_same_file(one: &Metadata, other: &Metadata) -> bool {
     one.is_file() && one.dev() == other.dev() && one.ino() == other.ino()
 }
 
-/// Opens a file to read, with what the system says of it. A directory is refused.
+/// Opens a file to read, with what the system says of it.
+///
+/// # Errors
+///
+/// The system's, where the file cannot be opened or described; `IsADirectory` where it is a directory.
 pub fn open_input<R: Files>(rt: &R, path: &str) -> io::Result<(R::File, Metadata)>
     ensures { IfOk result (λ opened. ¬ IsDir (file_type opened.1)) }
 {
@@ -102,6 +106,10 @@ fn is_input(standing: &Metadata, input: Option<&Metadata>) -> bool {
 }
 
 /// Makes a file to write anew, unless it is one of the three that are read at most: the network, the script, the list.
+///
+/// # Errors
+///
+/// `Other` where it is one of the three, an ordinary file by whatever name; else the system's, where the file cannot be made.
 pub fn create_output<R: Files>(
     rt: &R,
     path: &str,
@@ -120,6 +128,11 @@ pub fn create_output<R: Files>(
 }
 
 /// Opens the files of a run. Nothing is opened for writing before the input is found good, and not where both are the same file.
+///
+/// # Errors
+///
+/// `Input` where the input is a file and could not be opened, as for [`open_input`]; `Output` where the output is a file and could not
+/// be made, as for [`create_output`].
 pub fn open_ends<R: Files>(
     rt: &R,
     input: End<'_>,

@@ -20,8 +20,11 @@ fn told<X: Drop, F: Drop>(outcome: Result<X, F>, flushed: io::Result<()>, lost: 
     }
 }
 
-/// Flushes the writer at the end of a run, also after a fault. A failed flush after a run that went through is the
-/// fault `lost`.
+/// Flushes the writer at the end of a run, also after a fault.
+///
+/// # Errors
+///
+/// The fault of the run, where it stopped; else `lost` where the flush failed.
 pub fn finish<X: Drop, F: Drop, W: Write>(
     outcome: Result<X, F>,
     writer: &mut Attended<W>,
@@ -40,6 +43,11 @@ pub fn finish<X: Drop, F: Drop, W: Write>(
 }
 
 /// Empties a buffer at the end of a run and flushes the writer below it, likewise, and gives that.
+///
+/// # Errors
+///
+/// The fault of the run, where it stopped; else `lost` where the bytes of the buffer were not taken or the flush failed. The writer is
+/// given all the same.
 pub fn finish_buffer<X: Drop, F: Drop, W: Write + Drop>(
     outcome: Result<X, F>,
     writer: BufWriter<Attended<W>>,

@@ -93,8 +93,11 @@ fn read_whole(bytes: &[u8]) -> Result<Message<'_>, BadMessage>
     }
 }
 
-/// Reads a whole message, as `frame` cuts it. The error is a message that breaks the syntax, with its head for the
-/// reply.
+/// Reads a whole message, as `frame` cuts it.
+///
+/// # Errors
+///
+/// [`BadMessage`] exactly where the message breaks the syntax, with its kind and its head for the reply.
 pub fn read(bytes: &[u8]) -> Result<Message<'_>, BadMessage>
     requires { frame_of bytes.now ≡ Whole (length bytes.now) }
 

@@ -24,6 +24,10 @@ use psi_tables::Stream;
 use ts_packet::{Counter, PacketSink, PutFault};
 
 /// Puts the rest of each event that is to close in the stream of this number, in order of start. They are over from then on.
+///
+/// # Errors
+///
+/// The sink's. Packets before the one that failed are out; the counter and the values beside the events are open then.
 pub fn close_all<S: PacketSink>(
     events: &mut ArmedEvents<Plan>,
     stream: usize,
@@ -77,6 +81,10 @@ pub fn close_all<S: PacketSink>(
 }
 
 /// Puts of the event that runs in the stream of this number, if one does, what is due where this is the greatest time, or all.
+///
+/// # Errors
+///
+/// As for [`close_all`].
 pub fn put_running<S: PacketSink>(
     events: &mut ArmedEvents<Plan>,
     high: &Option<Time33>,

@@ -32,6 +32,10 @@ impl SwitchedStream {
     }
 
     /// Puts a packet that is kept, with its counter moved.
+    ///
+    /// # Errors
+    ///
+    /// The sink's, at this packet, which is counted all the same.
     #[inline(always)]
     pub fn keep<S: PacketSink>(&mut self, packet: &Packet, sink: &mut S) -> Result<(), PutFault>
         ensures leads { S.leads sink.old sink.new }
@@ -57,6 +61,10 @@ impl SwitchedStream {
 
     /// Leaves out a packet, and puts its clock reference alone, where it has one. A packet without payload is kept, and a duplicate that is
     /// left out is not counted.
+    ///
+    /// # Errors
+    ///
+    /// The sink's, at the packet that was to go out. The stream has counted then as if it were out.
     pub fn leave<S: PacketSink>(
         &mut self,
         packet: &Packet,

@@ -74,6 +74,10 @@ impl Playing {
 
     /// A unit begins in the stream of this number, of this time where it has one, behind which `high` is the greatest time: puts what goes
     /// out before it.
+    ///
+    /// # Errors
+    ///
+    /// The sink's. Packets before the one that failed are out; how far the events and the streams have come is open then.
     pub fn begin<S: PacketSink>(
         &mut self,
         stream: usize,
@@ -362,6 +366,10 @@ impl Playing {
     }
 
     /// Puts what is left of the events that run, by stream.
+    ///
+    /// # Errors
+    ///
+    /// The sink's. Packets before the one that failed are out; what [`Playing::report`] answers then is open.
     pub fn finish<S: PacketSink>(
         &mut self,
         streams: &[Stream],
@@ -385,6 +393,10 @@ impl Playing {
     }
 
     /// Puts a payload packet of the stream of this number, a duplicate or not, or its clock reference where its unit lies in a played event.
+    ///
+    /// # Errors
+    ///
+    /// The sink's, at the packet that was to go out. How far the stream has come is open then.
     #[inline(always)]
     pub fn put_packet<S: PacketSink>(
         &mut self,
@@ -420,6 +432,10 @@ impl Playing {
     }
 
     /// Puts a packet of the stream of this number that stays whatever is played: one without payload, or one before the first unit.
+    ///
+    /// # Errors
+    ///
+    /// As for [`Playing::put_packet`].
     #[inline(always)]
     pub fn keep<S: PacketSink>(
         &mut self,

@@ -20,6 +20,10 @@ impl PacketList<Global> {
     ghost use Rattle.std.specs.Prelude.{◌≡◌, [], IfOk, false};
 
     /// An empty list with room for this many packets.
+    ///
+    /// # Errors
+    ///
+    /// Where the allocator refused memory.
     pub fn new(alloc: Global, room: usize) -> Result<PacketList<Global>, AllocError>
         ensures { IfOk result (λ l. (l.items.items ≡ []) × (l.room ≡ room) × (l.is_broken ≡ false)) }
     {
@@ -31,6 +35,10 @@ impl<A: Allocator> PacketList<A> {
     ghost use Rattle.std.specs.Prelude.{◌≡◌, [], IfOk, false};
 
     /// An empty list with room for this many packets, in the allocator's memory.
+    ///
+    /// # Errors
+    ///
+    /// As for [`PacketList::new`].
     pub fn new_in(alloc: A, room: usize) -> Result<PacketList<A>, AllocError>
         ensures { IfOk result (λ l. (l.items.items ≡ []) × (l.room ≡ room) × (l.is_broken ≡ false)) }
     {

@@ -51,7 +51,11 @@ impl Model for Packet {
 }
 
 impl Packet {
-    /// The packet that these bytes are, or why they are none. Of a packet that is marked in error only the first byte is judged.
+    /// The packet that these bytes are.
+    ///
+    /// # Errors
+    ///
+    /// `SyncLost`, then `BadAdaptation`, as [`PacketFault`] says. Of a packet that is marked in error only the first byte is judged.
     pub fn from_bytes(bytes: &[u8; 188]) -> Result<Packet, PacketFault>
         ensures { result ≡ or_fault (packet_fault bytes.now) bytes.now }
     {

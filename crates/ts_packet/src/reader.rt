@@ -59,6 +59,12 @@ impl<'a, S: Source> PacketReader<'a, S> {
 
     /// Reads the next packet into the slot, where there is one; false at the end of the bytes. What a fault or the end leaves in
     /// the slot is open.
+    ///
+    /// # Errors
+    ///
+    /// `Truncated`, `SyncLost` or `BadAdaptation` by the bytes that come next, as [`ReadFault`] says; `Io` where a read failed; `Turns`
+    /// where 2^20 reads gave no whole packet, or 2^64 - 1 packets were given before. `Failed` once a fault was answered: then nothing
+    /// is read.
     #[inline(always)]
     pub fn read_into(&mut self, packet: &mut Packet) -> Result<bool, ReadFault>
         ensures exact { self.old.is_broken ≡ false → IfSome (S.remaining self.old.source.now)
@@ -110,6 +116,10 @@ impl<'a, S: Source> PacketReader<'a, S> {
     }
 
     /// The next packet; `None` at the end of the bytes. `read_into` copies less.
+    ///
+    /// # Errors
+    ///
+    /// As for [`PacketReader::read_into`].
     pub fn next(&mut self) -> Result<Option<Packet>, ReadFault>
         ensures same { self.new.source.ghost_name ≡ self.old.source.ghost_name }
         ensures ok { IfOk result (λ o. Gives (S.remaining self.old.source.now) (S.remaining self.new.source.now) o) }

@@ -30,6 +30,11 @@ pub enum FillFault {
 /// Behind a failure or the end nothing more is read.
 ///
 /// The first read stands apart: mostly it gives all, and the size of what it copies is known where this is compiled in.
+///
+/// # Errors
+///
+/// `Io` where a read failed, `Turns` where 2^20 reads neither filled the buffer nor found the end. Then fewer bytes were read than the
+/// buffer takes.
 #[inline(always)]
 pub fn fill<S: Source>(source: &mut S, buf: &mut [u8]) -> Result<usize, FillFault>
     requires { 0 < length buf.old }
@@ -82,10 +87,14 @@ fn fill_rest<S: Source>(source: &mut S, buf: &mut [u8]) -> Result<usize, FillFau
     Err(FillFault::Turns)
 }
 
-/// Writes all the bytes. After a fault a front of them is out. An interrupted write is tried again. Behind a failure, or a write
-/// that took no byte, nothing more is written.
+/// Writes all the bytes. An interrupted write is tried again.
 ///
 /// The first write stands apart, as the first read of `fill` does.
+///
+/// # Errors
+///
+/// `Io` where a write failed, `Stuck` where one took no byte, `Turns` where 2^20 writes did not take all; never `Failed`. Then a front
+/// of the bytes is out, and nothing more is written.
 #[inline(always)]
 pub fn write_whole<W: Target>(target: &mut W, bytes: &[u8]) -> Result<(), PutFault>
     requires { 0 < length bytes.now }

@@ -35,6 +35,10 @@ impl Slots {
     }
 
     /// Reads the next packet, as [`PacketSource::read_packet`] does.
+    ///
+    /// # Errors
+    ///
+    /// The source's, which answers `Failed` from then on. The packet that is kept stays as it is.
     #[inline(always)]
     pub fn read<P: PacketSource>(&mut self, network: &mut P) -> Result<bool, ReadFault>
         ensures kept { kept_of self.new ≡ kept_of self.old }
@@ -58,6 +62,11 @@ impl Slots {
     }
 
     /// Passes the packet that was read on, where it stays, and keeps it, where it is the PID's last payload packet then.
+    ///
+    /// # Errors
+    ///
+    /// The first of `Scrambled`, `HeaderSplit` and `TimeJump` that applies to the packet: then nothing was put. `Sink` where the sink failed
+    /// at it. Pass no packet on after that.
     #[inline(always)]
     pub fn pass<K: PacketSink>(&mut self, cutter: &mut Cutter, sink: &mut K) -> Result<(), CutFault>
         ensures leads { K.leads sink.old sink.new }
