@@ -1,8 +1,7 @@
 -- The plans beside the events, turned one by one.
-use Rattle.std.proofs.Common.{◌≡◌, ℕ, zero, suc, ◌+◌, ◌<◌, ◌≤◌, refl, sym, ap, ◌∙◌, arith, List, [], ◌∷◌, ◌++◌, length, take, drop, Bool, add-one}
+use Rattle.std.proofs.Common.{◌≡◌, ℕ, zero, suc, ◌+◌, ◌<◌, ◌≤◌, refl, sym, ap, ◌∙◌, arith, List, [], ◌∷◌, ◌++◌, length, take, drop, add-one}
 use Rattle.std.specs.Prelude.{ℤ, Option, slice_index_or, slice_set, map}
 use Rattle.std.proofs.lemmas.List.{get_or_default, length-map, set-get_or}
-use Rattle.std.proofs.Math.ListN.{drop_of_length-le}
 use Rattle.event_table.specs.declared.table.Entry.{Entry}
 use Rattle.event_table.specs.Standing.{Standing, on_ring, IsWithin}
 use Rattle.event_table.specs.Tables.{StandsFor, values_of}

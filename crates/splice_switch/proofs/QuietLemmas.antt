@@ -1,6 +1,6 @@
 -- A packet that begins no unit changes nothing of what is known of the events.
 use Rattle.std.proofs.Common.{◌≡◌, ℕ, zero, suc, ◌+◌, List, [], ◌∷◌, length, Bool, true, false, not, ◌&&◌, ◌||◌, if◌then◌else◌, refl, sym, ap, subst, ◌∙◌}
-use Rattle.std.specs.Prelude.{ℤ, Option, None, Some, map, count_by, slice_get, option_map, cond}
+use Rattle.std.specs.Prelude.{ℤ, Option, None, Some, map, count_by, slice_get, cond}
 use Rattle.std.specs.List.{list_any, AllByRecursion}
 use Rattle.std.proofs.lemmas.List.Sums.{sum_by-cons}
 use Rattle.std.proofs.lemmas.Bool.{true≢false}
