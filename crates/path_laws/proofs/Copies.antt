@@ -18,6 +18,7 @@ use Rattle.scte35_codec.specs.Spelling.{cue_bytes, Fits}
 use Rattle.scte35_codec.proofs.GivenLemmas.{cue_given, cue_fits}
 use Rattle.program_laws.specs.Cued.{On}
 use Rattle.cue_laws.specs.Thinning.{times}
+use Rattle.path_laws.specs.Thinning.{sections_given, sections_of}
 use Rattle.path_laws.proofs.Streams.{times-turn}
 
 -- ---- a packet is like itself
@@ -46,19 +47,7 @@ alike-self q = rw (same-number (number q), same-flag (unit_start q), same-payloa
 
 -- ---- how many sections copies on the spot give
 
--- where the first is no duplicate: of two in a row the second is one, and the third is none
-abbrev fresh_sections : ℕ → ℕ
-fresh_sections zero = 0
-fresh_sections (suc zero) = 1
-fresh_sections (suc (suc n)) = suc (fresh_sections n)
-
--- where the first is a duplicate, or where it is none: behind a duplicate the next is none
-abbrev pub sections_of : Bool → ℕ → ℕ
-sections_of false n = fresh_sections n
-sections_of true zero = 0
-sections_of true (suc n) = fresh_sections n
-
-fresh-some : (n : ℕ) → 0 < n → 0 < fresh_sections n
+fresh-some : (n : ℕ) → 0 < n → 0 < sections_given n
 fresh-some zero some = some
 fresh-some (suc zero) some = omega arith
 fresh-some (suc (suc n)) some = omega arith
@@ -103,7 +92,7 @@ module _ (cue : CueOut) (fits : Fits cue) (pid n : ℕ) (pb : pid < 8192) (nb : 
   second-repeats out new = behind q out ∙ ap (λ b. b && not (repeats pid q out)) (alike-self q) ∙ ap not new
 
   fresh-copies : (k : ℕ) (out rest : List (List ℕ)) → (0 < k → repeats pid q out ≡ false)
-      → sections_after out pid (times k q rest) ≡ times (fresh_sections k) (cue_bytes cue) (sections_after (times k q out) pid rest)
+      → sections_after out pid (times k q rest) ≡ times (sections_given k) (cue_bytes cue) (sections_after (times k q out) pid rest)
   fresh-copies zero out rest new = refl
   fresh-copies (suc zero) out rest new = ap (λ l. l ++ sections_after (q ∷ out) pid rest) (fresh-gives out (new (omega arith)))
   fresh-copies (suc (suc k)) out rest new =
@@ -111,7 +100,7 @@ module _ (cue : CueOut) (fits : Fits cue) (pid n : ℕ) (pb : pid < 8192) (nb : 
       ap (λ l. l ++ (given pid q (q ∷ out) ++ sections_after (q ∷ q ∷ out) pid (times k q rest))) (fresh-gives out one)
       ∙ ap (λ l. cue_bytes cue ∷ (l ++ sections_after (q ∷ q ∷ out) pid (times k q rest))) (stale-gives (q ∷ out) (second-repeats out one))
       ∙ ap (λ l. cue_bytes cue ∷ l) (fresh-copies k (q ∷ q ∷ out) rest (λ some. none-behind-stale q (q ∷ out) (second-repeats out one)))
-      ∙ ap (λ l. cue_bytes cue ∷ times (fresh_sections k) (cue_bytes cue) (sections_after l pid rest)) (times-turn k q (q ∷ out) ∙ ap (λ l. q ∷ l) (times-turn k q out))
+      ∙ ap (λ l. cue_bytes cue ∷ times (sections_given k) (cue_bytes cue) (sections_after l pid rest)) (times-turn k q (q ∷ out) ∙ ap (λ l. q ∷ l) (times-turn k q out))
 
   -- the sections of so many copies
   pub copies-give : (b : Bool) (k : ℕ) (out rest : List (List ℕ)) → repeats pid q out ≡ b
@@ -121,7 +110,7 @@ module _ (cue : CueOut) (fits : Fits cue) (pid n : ℕ) (pb : pid < 8192) (nb : 
   copies-give true (suc k) out rest old =
       ap (λ l. l ++ sections_after (q ∷ out) pid (times k q rest)) (stale-gives out old)
       ∙ fresh-copies k (q ∷ out) rest (λ some. none-behind-stale q out old)
-      ∙ ap (λ l. times (fresh_sections k) (cue_bytes cue) (sections_after l pid rest)) (times-turn k q out)
+      ∙ ap (λ l. times (sections_given k) (cue_bytes cue) (sections_after l pid rest)) (times-turn k q out)
 
   -- where a packet behind some copies is a duplicate, they gave a section
   pub repeated-gives : (b : Bool) (k : ℕ) (out : List (List ℕ)) (p : List ℕ) → repeats pid q out ≡ b → 0 < k → repeats pid p (times k q out) ≡ true → 0 < sections_of b k

@@ -27,11 +27,11 @@ use Rattle.cue_laws.specs.Laws.{KeepsEnoughOf}
 use Rattle.cue_laws.proofs.Repeats.{repeats_lose_nothing}
 use Rattle.path_laws.specs.Path.{Item, Sent, Packet as Passing, high_on, sent_onto, line_of, line, asked_line}
 use Rattle.path_laws.specs.Packets.{IsRunOf, cues_at, sent_in, kept, stream, BringsCues}
-use Rattle.path_laws.specs.Thinning.{thin, last_left, AreToldApart, next_number, IsThinned, ThinnedBrings, ThinnedOfAll, ThinnedCuePath}
+use Rattle.path_laws.specs.Thinning.{thin, last_left, AreToldApart, next_number, IsThinned, sections_of, AreGiven, GivesSections, ThinnedBrings, ThinnedOfAll, ThinnedCuePath}
 use Rattle.path_laws.proofs.Packets.{run-message, run-packet, run-history, cues-fit, place-off}
 use Rattle.path_laws.proofs.Proofs.{requests_are_a_run, cues_tell_the_line}
 use Rattle.path_laws.proofs.Streams.{times-turn}
-use Rattle.path_laws.proofs.Copies.{sections_of, sections-none, sections-some, copies-give, repeated-gives, copies-on}
+use Rattle.path_laws.proofs.Copies.{sections-none, sections-some, copies-give, repeated-gives, copies-on}
 use Rattle.path_laws.proofs.Whole.{run-front, cue_path_in_packets}
 
 -- ---- a table of how many sections each cue gives, newest first, in step with what goes over the path: a packet gives none
@@ -220,6 +220,31 @@ stands-cues pid copies given items n out gs (cue ∷ cues) pb nb fits many apart
       subst (Stands pid copies given (sent_onto (Sent cue ∷ items) cues)) (sym (onto-times k q out (thin pid copies (Sent cue ∷ items) ((n + 1) % 16) cues))) rest.1,
     )
 
+-- each cue gives what the table says
+given-cues : (pid : ℕ) (copies given : List LineTurn → ℕ) (items : List Item) (n : ℕ) (out : List (List ℕ)) (gs : List ℕ) (cues : List CueOut)
+    → AsMany given (sent_onto items cues) (numbers_onto pid copies items n out gs cues) → AreGiven pid copies given items n out cues
+given-cues pid copies given items n out gs [] many = tt
+given-cues pid copies given items n out gs (cue ∷ cues) many =
+    let q = first_packet pid n (cue_bytes cue) in
+    let k = copies (line (Sent cue ∷ items)) in
+    let g = sections_of (repeats pid q out) k in (
+      (many-front pid copies given (Sent cue ∷ items) ((n + 1) % 16) (times k q out) (g ∷ gs) cues many).0,
+      given-cues pid copies given (Sent cue ∷ items) ((n + 1) % 16) (times k q out) (g ∷ gs) cues many,
+    )
+
+given-past : (c : Config) (copies given : List LineTurn → ℕ) (fronts : List ℕ → List (List ℕ) → List (List ℕ)) (past : List Step)
+    → AsMany given (sent_in c past) (numbers c copies fronts past) → GivesSections c copies given fronts past
+given-past c copies given fronts [] many = tt
+given-past c copies given fronts (Message m ∷ past) many = given-past c copies given fronts past many
+given-past c copies given fronts (Packet p ∷ past) many =
+    let items = sent_in c past in
+    let n = next_number c past in
+    let out = stream c fronts past in
+    let gs = numbers c copies fronts past in (
+      given-cues c.cue_pid copies given items n out gs (cues_at c p past) many.1,
+      given-past c copies given fronts past (many-front c.cue_pid copies given items n out gs (cues_at c p past) many.1),
+    )
+
 thin-on : (pid : ℕ) (copies : List LineTurn → ℕ) (items : List Item) (n : ℕ) (cues : List CueOut) → pid < 8192 → n < 16 → AllByRecursion Fits cues → AllByRecursion (On pid) (thin pid copies items n cues)
 thin-on pid copies items n [] pb nb fits = tt
 thin-on pid copies items n (cue ∷ cues) pb nb fits =
@@ -263,17 +288,18 @@ stands-past c copies given fronts (Packet p ∷ past) r t many =
 
 -- the choice of the table, and the first one of all that came later
 thinned-gives : (c : Config) (copies : List LineTurn → ℕ) (fronts : List ℕ → List (List ℕ) → List (List ℕ)) (past : List Step) → IsRunOf c past → IsThinned c copies fronts past
-    → (given : List LineTurn → ℕ) × BringsCues c given fronts past × LeavesOutRepeats copies given (line (sent_in c past))
+    → (given : List LineTurn → ℕ) × GivesSections c copies given fronts past × BringsCues c given fronts past × LeavesOutRepeats copies given (line (sent_in c past))
     × ((t : List LineTurn) → length (sent_in c past) < length t → given t ≡ copies t)
 thinned-gives c copies fronts past r t =
     let gs = numbers c copies fronts past in
     let given = looked_up copies gs in
     let size = numbers-length c copies fronts past in
-    let s = stands-past c copies given fronts past r t (looked-many copies (sent_in c past) gs size) in
-    (given, s.0, s.1.leaves, λ t longer. looked-past copies gs t (omega (arith, size)))
+    let many = looked-many copies (sent_in c past) gs size in
+    let s = stands-past c copies given fronts past r t many in
+    (given, given-past c copies given fronts past many, s.0, s.1.leaves, λ t longer. looked-past copies gs t (omega (arith, size)))
 
 pub thinned_brings : ThinnedBrings
-thinned_brings c copies fronts past r t = let g = thinned-gives c copies fronts past r t in (g.0, g.1, g.2)
+thinned_brings c copies fronts past r t = let g = thinned-gives c copies fronts past r t in (g.0, g.1, g.2, g.3)
 
 -- ---- all of them
 
@@ -328,6 +354,6 @@ thinned_cue_path c copies fronts p last past later r t k e un reached =
     let front = Packet p ∷ past in
     let here = run-front c later front (run-packet c last (later ++ front) r) in
     let g = thinned-gives c copies fronts front here t in
-    let leaves = leaves-later copies g.0 (length (sent_in c front)) g.3 c (Packet last ∷ later) front (omega arith) g.2 in
-    cue_path_in_packets c g.0 fronts p last past later r g.1
+    let leaves = leaves-later copies g.0 (length (sent_in c front)) g.4 c (Packet last ∷ later) front (omega arith) g.3 in
+    cue_path_in_packets c g.0 fronts p last past later r g.2
     (given_keeps_enough c copies g.0 (Packet last ∷ (later ++ front)) r leaves.1 k) e un reached

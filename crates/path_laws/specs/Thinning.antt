@@ -1,5 +1,5 @@
 -- The packets of the cued stream, some of the cue PID left out, and some doubled on the spot.
-use Rattle.std.specs.Prelude.{◌≡◌, ◌↔◌, ℕ, ◌+◌, ◌%◌, ◌<◌, nat_lt, true, false, if◌then◌else◌, List, [], ◌∷◌, ◌++◌, Some}
+use Rattle.std.specs.Prelude.{◌≡◌, ◌↔◌, ℕ, zero, suc, ◌+◌, ◌%◌, ◌<◌, nat_lt, Bool, true, false, if◌then◌else◌, List, [], ◌∷◌, ◌++◌, Some}
 use Rattle.ts_packet.specs.Numbering.{one_past}
 use Rattle.ts_packet.specs.Duplicates.{repeats}
 use Rattle.program_follower.specs.Following.{high_of}
@@ -52,12 +52,38 @@ IsThinned c copies fronts (Packet p ∷ past) =
     × AreToldApart c.cue_pid copies (sent_in c past) (next_number c past) (stream c fronts past) (cues_at c p past)
     × IsThinned c copies fronts past
 
--- THINNED PACKETS: where a duplicate tells the same again, the reader finds the section of each cue of which a copy is left, or has found
--- one before that told the same
+-- how many sections copies on the spot give, where the first is no duplicate: of two in a row the second is one, and the third is none
+abbrev pub sections_given : ℕ → ℕ
+sections_given zero = 0
+sections_given (suc zero) = 1
+sections_given (suc (suc n)) = suc (sections_given n)
+
+-- by whether the first is a duplicate: behind a duplicate the next is none
+abbrev pub sections_of : Bool → ℕ → ℕ
+sections_of false n = sections_given n
+sections_of true zero = 0
+sections_of true (suc n) = sections_given n
+
+-- each cue gives the sections of its copies
+abbrev pub AreGiven : ℕ → (List LineTurn → ℕ) → (List LineTurn → ℕ) → List Item → ℕ → List (List ℕ) → List CueOut → Type 0
+AreGiven pid copies given items n out [] = Unit {0}
+AreGiven pid copies given items n out (cue ∷ cues) =
+    (given (line (Sent cue ∷ items)) ≡ sections_of (repeats pid (first_packet pid n (cue_bytes cue)) out) (copies (line (Sent cue ∷ items))))
+    × AreGiven pid copies given (Sent cue ∷ items) ((n + 1) % 16) (times (copies (line (Sent cue ∷ items))) (first_packet pid n (cue_bytes cue)) out) cues
+
+abbrev pub GivesSections : Config → (List LineTurn → ℕ) → (List LineTurn → ℕ) → (List ℕ → List (List ℕ) → List (List ℕ)) → List Step → Type 0
+GivesSections c copies given fronts [] = Unit {0}
+GivesSections c copies given fronts (Message m ∷ past) = GivesSections c copies given fronts past
+GivesSections c copies given fronts (Packet p ∷ past) =
+    AreGiven c.cue_pid copies given (sent_in c past) (next_number c past) (stream c fronts past) (cues_at c p past) × GivesSections c copies given fronts past
+
+-- THINNED PACKETS: the reader finds of each cue the sections of its copies, one where a cue is doubled on the spot and no duplicate of the one
+-- before; and where duplicates tell the same again, what it does not find it has found before
 abbrev pub ThinnedBrings : Type 0
 ThinnedBrings = (c : Config) (copies : List LineTurn → ℕ) (fronts : List ℕ → List (List ℕ) → List (List ℕ)) (past : List Step) → IsRunOf c past →
     IsThinned c copies fronts past →
-    (given : List LineTurn → ℕ) × BringsCues c given fronts past × LeavesOutRepeats copies given (line (sent_in c past))
+    (given : List LineTurn → ℕ) × GivesSections c copies given fronts past × BringsCues c given fronts past
+    × LeavesOutRepeats copies given (line (sent_in c past))
 
 -- the injector's own packets are those of which one copy is left
 abbrev pub ThinnedOfAll : Type 0

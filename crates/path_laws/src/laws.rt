@@ -64,7 +64,7 @@ pub fn cued_stream_brings()
 {}
 
 /// Where a packet that is left of the injector's and is a duplicate of the payload packet left before it tells the same again, of the same
-/// event, the reader finds the section of each cue of which a copy is left, or has found one before that told the same.
+/// event, the reader finds of each cue the sections of its copies, and what it does not find of one it has found before.
 pub fn thinned_brings()
     ensures { ThinnedBrings }
 {}

@@ -342,4 +342,4 @@ pub thinned_cues_leave_no_trace : ThinnedCuesLeaveNoTrace
 thinned_cues_leave_no_trace c filed copies fronts p past r t k =
     let whole = Packet p ∷ past in
     let g = thinned_brings c copies fronts whole r t in
-    lost_cues_leave_no_trace c filed g.0 fronts p past r g.1 (given_keeps_enough c copies g.0 whole r g.2 k)
+    lost_cues_leave_no_trace c filed g.0 fronts p past r g.2 (given_keeps_enough c copies g.0 whole r g.3 k)
