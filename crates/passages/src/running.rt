@@ -1,9 +1,10 @@
 //! Runs between a reader and a writer, whatever is done on the way: the output is flushed at the end, and what is known of a run that
 //! stopped is kept.
 
-ghost use Rattle.std.specs.Prelude.{◌≡◌, ℕ, List, [], Option, true, false, IfOk, IfErr, OnOk, Err, IsErrAnd};
+ghost use Rattle.std.specs.Prelude.{◌≡◌, ℕ, List, [], Option, None, true, false, IfOk, IfErr, OnOk, Err, IsErrAnd};
 ghost use Rattle.ts_packet.specs.Sinks.{Written};
 ghost use Rattle.passages.specs.Runs.{PassesAll};
+ghost use Rattle.passages.specs.Stopping.{side_of, IsStoppedWith, IsStoppedUnopened};
 
 use crate::fault::ProgramFault;
 use crate::tell::{Side, Stopped};
@@ -146,7 +147,8 @@ pub struct Ended<T> {
 
 /// Lets go of the output, but for the reason of its last failure.
 pub fn let_go<T: Drop, O: Drop>(finished: Finished<T, O>) -> Ended<T>
-    ensures { result.outcome ≡ finished.outcome }
+    ensures outcome { result.outcome ≡ finished.outcome }
+    ensures seen { result.seen ≡ finished.seen }
 {
     let Finished {
         outcome,
@@ -192,7 +194,9 @@ pub struct Ran<T> {
 }
 
 /// What was done when a run stopped with this fault.
-fn side_of(fault: ProgramFault) -> Side {
+fn side_of(fault: ProgramFault) -> Side
+    ensures { result ≡ side_of fault }
+{
     match fault {
         ProgramFault::Unflushed
         | ProgramFault::Run(RunFault::Feed(FeedFault::Sink(_)))
@@ -203,7 +207,8 @@ fn side_of(fault: ProgramFault) -> Side {
 }
 
 impl<T: Drop> Ended<T> {
-    ghost use Rattle.std.specs.Prelude.{◌≡◌, IfOk, IfErr, IsOkAnd, IsErrAnd};
+    ghost use Rattle.std.specs.Prelude.{◌≡◌, IfOk, IfErr, IsOkAnd, IsErrAnd, option_map};
+    ghost use Rattle.passages.specs.Stopping.{side_of, reason_at, IsStoppedWith};
 
     /// What the run tells, whose network's device gave this reason for its last failure.
     ///
@@ -212,7 +217,9 @@ impl<T: Drop> Ended<T> {
     /// The fault of the run, where it stopped.
     pub fn told(self, reading: Option<io::Error>) -> Result<Ran<T>, Stopped>
         ensures done { IfOk self.outcome (λ report. IsOkAnd result (λ ran. ran.report ≡ report)) }
-        ensures fault { IfErr self.outcome (λ fault. IsErrAnd result (λ stopped. stopped.fault ≡ fault)) }
+        ensures seen { IfOk self.outcome (λ _. IsOkAnd result (λ ran. ran.seen ≡ self.seen)) }
+        ensures fault { IfErr self.outcome (λ fault. IsErrAnd result (IsStoppedWith fault (side_of fault)
+            (reason_at (side_of fault) reading self.reason) (option_map (λ seen. seen.0) self.seen))) }
     {
         let Ended {
             outcome,
@@ -266,7 +273,7 @@ pub fn run_from<S: Passage, R: Read + Drop, O: Write + Drop>(
 
 /// A run that stopped so, with nothing read of its network.
 pub fn stopped(fault: ProgramFault, side: Side, reason: Option<io::Error>) -> Stopped
-    ensures { result.fault ≡ fault }
+    ensures { IsStoppedWith fault side reason None result }
 {
     Stopped {
         fault,
@@ -288,7 +295,8 @@ pub fn with_replies<T: Drop>(
 ) -> Result<Ran<T>, Stopped>
     ensures kept { has_lost_a_reply ≡ false → result ≡ ran }
     ensures first { IfErr ran (λ stopped. result ≡ Err stopped) }
-    ensures lost { has_lost_a_reply ≡ true → OnOk ran (IsErrAnd result (λ stopped. stopped.fault ≡ ProgramFault.Print)) }
+    ensures lost { has_lost_a_reply ≡ true → OnOk ran (IsErrAnd result
+        (IsStoppedWith ProgramFault.Print Side.Printing None None)) }
 {
     let ran = ran?;
     if has_lost_a_reply {
@@ -299,14 +307,14 @@ pub fn with_replies<T: Drop>(
 
 /// Memory was refused.
 pub fn out_of_memory() -> Stopped
-    ensures { result.fault ≡ ProgramFault.OutOfMemory }
+    ensures { IsStoppedWith ProgramFault.OutOfMemory Side.Reading None None result }
 {
     stopped(ProgramFault::OutOfMemory, Side::Reading, None)
 }
 
 /// A file could not be opened.
 pub fn unopened(unopened: Unopened) -> Stopped
-    ensures { result.fault ≡ ProgramFault.File }
+    ensures { IsStoppedUnopened unopened result }
 {
     let (side, reason) = match unopened {
         Unopened::Input(reason) => (Side::Reading, reason),
