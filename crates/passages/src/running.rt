@@ -148,6 +148,7 @@ pub struct Ended<T> {
 /// Lets go of the output, but for the reason of its last failure.
 pub fn let_go<T: Drop, O: Drop>(finished: Finished<T, O>) -> Ended<T>
     ensures outcome { result.outcome ≡ finished.outcome }
+    ensures reason { result.reason ≡ finished.output.reason }
     ensures seen { result.seen ≡ finished.seen }
 {
     let Finished {

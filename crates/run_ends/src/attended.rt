@@ -56,6 +56,7 @@ impl<D> Attended<D> {
     pub fn into_reason(self) -> Option<io::Error>
     where
         D: Drop,
+        ensures { result ≡ self.reason }
     {
         let Attended {
             inner: _,
