@@ -1,2 +1,4 @@
 pub mod Connections
+pub mod ScriptLines
+pub mod ScriptReading
 pub mod Scripts

@@ -1,10 +1,12 @@
 //! A script: an automation whose bytes stand in a text, each line before a packet of the network, and whose replies are printed.
 
-ghost use Rattle.std.specs.Prelude.{◌≡◌, nat_lt, IfErr, OnOk};
+ghost use Rattle.std.specs.Prelude.{◌≡◌, ◌<◌, ◌^◌, ◌-◌, List, nat_lt, drop, IfErr, IfOk, OnOk};
 ghost use Rattle.std.specs.Bool.{OnTrue};
 ghost use Rattle.std.specs.Io.KnownBytes.{Appends};
 ghost use Rattle.ts_packet.specs.Transfers.{LastMovedNone};
 ghost use Rattle.automations.specs.Scripts.{ScriptBlamed, reply_line};
+ghost use Rattle.automations.specs.ScriptLines.{Gives, ScriptLine, count_due, lines_from};
+ghost use Rattle.automations.specs.ScriptReading.{IsReading, IsWhole};
 
 use crate::script_text::{Line, Reading};
 use chain_engine::{Automation, Taken};
@@ -68,6 +70,7 @@ impl<W> Script<W> {
     ) -> Result<Script<W>, ScriptFault>
     where
         W: Drop,
+        ensures lines { IfOk result (λ s. ((lines : List ScriptLine) × Gives s lines) × (s.packet ≡ 0)) }
         ensures blamed { IfErr result (λ f. ScriptBlamed f (S.counts reader.old) (S.counts reader.new)) }
         ensures ended { OnOk result (LastMovedNone (S.counts reader.old) (S.counts reader.new)) }
     {
@@ -89,6 +92,7 @@ impl<W, M: Allocator> Script<W, M> {
     where
         M: Copy,
         W: Drop,
+        ensures lines { IfOk result (λ s. ((lines : List ScriptLine) × Gives s lines) × (s.packet ≡ 0)) }
         ensures blamed { IfErr result (λ f. ScriptBlamed f (S.counts reader.old) (S.counts reader.new)) }
         ensures ended { OnOk result (LastMovedNone (S.counts reader.old) (S.counts reader.new)) }
     {
@@ -98,7 +102,10 @@ impl<W, M: Allocator> Script<W, M> {
     }
 
     /// The script of a text that was read to its end.
-    pub fn of(reading: Reading<M>, replies: W) -> Script<W, M> {
+    pub fn of(reading: Reading<M>, replies: W) -> Script<W, M>
+        ensures lines { IsWhole reading → Gives result (lines_from reading.bytes.items 0 reading.lines.items) }
+        ensures first { result.packet ≡ 0 }
+    {
         let (bytes, lines) = reading.into_parts();
         Script {
             bytes,
@@ -119,7 +126,10 @@ impl<W, M: Allocator> Script<W, M> {
     }
 
     /// How many bytes come before the packet that is next: those that are left of the line with its number.
-    fn count_due(&self) -> usize {
+    fn count_due(&self) -> usize
+        ensures due { result ≡ count_due self.now.begin self.now.packet (drop self.now.next self.now.lines.items) }
+        ensures within { 0 < result → self.now.next < 2 ^ 64 - 1 }
+    {
         let Some(line) = self.lines.get(self.next) else {
             return 0;
         };
@@ -139,6 +149,7 @@ pub fn load_into<M: Allocator, S: Source>(
     reading: &mut Reading<M>,
     reader: &mut S,
 ) -> Result<(), ScriptFault>
+    ensures whole { IsReading reading.old → OnOk result (IsWhole reading.new) }
     ensures blamed { IfErr result (λ f. ScriptBlamed f (S.counts reader.old) (S.counts reader.new)) }
     ensures ended { OnOk result (LastMovedNone (S.counts reader.old) (S.counts reader.new)) }
 {
@@ -166,8 +177,9 @@ fn print_reply<W: Write>(replies: &mut W, reply: &[u8]) -> bool
 }
 
 impl<W: Write, M: Allocator> Automation for Script<W, M> {
-    ghost use Rattle.std.specs.Prelude.{None};
-    ghost use Rattle.chain_engine.specs.Automation.{CountsAnswer};
+    ghost use Rattle.std.specs.Prelude.{None, List, length, ◌<◌, ◌^◌, ◌-◌, ◌+◌};
+    ghost use Rattle.chain_engine.specs.Automation.{CountsAnswer, CountsTake, IsRoomFor, take_of, piece};
+    ghost use Rattle.automations.specs.ScriptLines.{Gives, ScriptLine, bytes_before};
 
     ghost takes = { λ s. None };
 
@@ -176,7 +188,16 @@ impl<W: Write, M: Allocator> Automation for Script<W, M> {
     ghost failures = { λ s. s.lost };
 
     #[inline(always)]
-    fn take(&mut self, room: &mut [u8]) -> Taken {
+    fn take(&mut self, room: &mut [u8]) -> Taken
+        requires room { length room.old ≡ 4096 }
+        ensures bound { IsRoomFor (length room.new) result }
+        ensures failures { CountsTake result self.old.lost self.new.lost }
+        ensures given { self.old.packet < 2 ^ 64 - 1 → (lines : List ScriptLine) → Gives self.old lines
+            → take_of result room.new ≡ piece (bytes_before self.old.packet lines) }
+        ensures goes_on { self.old.packet < 2 ^ 64 - 1 → (lines : List ScriptLine) → Gives self.old lines
+            → Gives self.new lines }
+        ensures asked { self.old.packet < 2 ^ 64 - 1 → self.new.packet ≡ self.old.packet + 1 }
+    {
         let due = self.count_due();
         self.packet = self.packet.saturating_add(1);
         if due == 0 {

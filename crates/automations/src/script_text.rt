@@ -1,7 +1,8 @@
 //! The text of a script, read byte by byte.
 
-ghost use Rattle.std.specs.Prelude.{IfErr, IfOk, ◌<◌};
+ghost use Rattle.std.specs.Prelude.{◌≡◌, ◌≤◌, ◌<◌, ℕ, nat_le, IfErr, IfOk, OnOk};
 ghost use Rattle.automations.specs.Scripts.{IsOfText};
+ghost use Rattle.automations.specs.ScriptReading.{IsAt, IsInLine, IsReading, IsWhole, next_packet};
 
 use crate::script::ScriptFault;
 use hex_digits::value_of;
@@ -72,7 +73,9 @@ fn half(byte: u8) -> Result<u8, ScriptFault>
 
 impl<M: Allocator + Copy> Reading<M> {
     /// Nothing was read; its memory is this allocator's.
-    pub fn new_in(alloc: M) -> Reading<M> {
+    pub fn new_in(alloc: M) -> Reading<M>
+        ensures { IsReading result }
+    {
         Reading {
             bytes: Vec::new(alloc),
             lines: Vec::new(alloc),
@@ -83,7 +86,9 @@ impl<M: Allocator + Copy> Reading<M> {
 
 impl<M: Allocator> Reading<M> {
     /// Whether lines with this number rise from those before.
-    fn rises(&self, packet: u64) -> bool {
+    fn rises(&self, packet: u64) -> bool
+        ensures { result ≡ nat_le (next_packet 0 self.now.lines.items) packet }
+    {
         match self.lines.last() {
             Some(line) => line.packet < packet,
             None => true,
@@ -92,6 +97,7 @@ impl<M: Allocator> Reading<M> {
 
     /// Ends a line behind so many bytes.
     fn end_line(&mut self, packet: u64, count: usize) -> Result<(), ScriptFault>
+        ensures whole { IsInLine self.old.bytes.items self.old.lines.items packet count → OnOk result (IsWhole self.new) }
         ensures refused { IfErr result IsOfText }
     {
         if count == 0 {
@@ -106,6 +112,7 @@ impl<M: Allocator> Reading<M> {
 
     /// Where the reading stands behind one byte more.
     fn behind(&mut self, byte: u8) -> Result<Place, ScriptFault>
+        ensures at { IsReading self.old → IfOk result (IsAt self.new.bytes.items self.new.lines.items) }
         ensures refused { IfErr result IsOfText }
     {
         match self.place {
@@ -146,6 +153,7 @@ impl<M: Allocator> Reading<M> {
     ///
     /// `BadScript` in the first line that is none, `OutOfMemory` where memory was refused.
     pub fn take_in(&mut self, text: &[u8]) -> Result<(), ScriptFault>
+        ensures goes_on { IsReading self.old → OnOk result (IsReading self.new) }
         ensures refused { IfErr result IsOfText }
     {
         for byte in text {
@@ -160,6 +168,7 @@ impl<M: Allocator> Reading<M> {
     ///
     /// As for [`Reading::take_in`].
     pub fn finish(&mut self) -> Result<(), ScriptFault>
+        ensures whole { IsReading self.old → OnOk result (IsWhole self.new) }
         ensures refused { IfErr result IsOfText }
     {
         match self.place {
@@ -176,7 +185,10 @@ impl<M: Allocator> Reading<M> {
     }
 
     /// The bytes of all lines, and the lines.
-    pub fn into_parts(self) -> (Vec<u8, M>, Vec<Line, M>) {
+    pub fn into_parts(self) -> (Vec<u8, M>, Vec<Line, M>)
+        ensures bytes { result.0 ≡ self.bytes }
+        ensures lines { result.1 ≡ self.lines }
+    {
         let Reading {
             bytes,
             lines,
