@@ -1,2 +1,4 @@
 mod ScriptLemmas
 mod ReadingLemmas
+mod TextLemmas
+mod PlaceLemmas

@@ -4,10 +4,10 @@ use Rattle.std.specs.Prelude.{nat_lt, nat_le, slice_get, Some}
 use Rattle.std.proofs.lemmas.Bool.{lt-ltb, le-leb}
 use Rattle.automations.specs.declared.script_text.Line.{Line}
 use Rattle.automations.specs.ScriptLines.{are_sound}
-use Rattle.automations.specs.ScriptReading.{last_end, next_packet, IsBehind, IsInLine}
+use Rattle.automations.specs.ScriptReading.{last_end, next_line_number, IsBehind, IsInLine}
 use Rattle.automations.proofs.ScriptLemmas.{both, first_sound}
 
-pub last_number : (ls : List Line) (least : ℕ) (l : Line) → slice_get ls (length ls - 1) ≡ Some l → next_packet least ls ≡ l.packet + 1
+pub last_number : (ls : List Line) (least : ℕ) (l : Line) → slice_get ls (length ls - 1) ≡ Some l → next_line_number least ls ≡ l.packet + 1
 last_number [] least l h = absurd (cc)
 last_number (k ∷ []) least l h = let e : k ≡ l = cc in ap (λ (x : Line). x.packet + 1) e
 last_number (k ∷ m ∷ ls) least l h =
@@ -29,7 +29,7 @@ wider b t m n (l ∷ ls) le h =
     (both (nat_le n l.packet) (are_sound l.end m (l.packet + 1) ls) (le-leb n l.packet s.rises) (wider l.end t m (l.packet + 1) ls le s.rest))))
 
 one_more : (begin total least : ℕ) (ls : List Line) (l : Line) → are_sound begin total least ls ≡ true → last_end begin ls < l.end → l.end ≤ total
-    → l.end - last_end begin ls ≤ 4096 → next_packet least ls ≤ l.packet → are_sound begin total least (ls ++ l ∷ []) ≡ true
+    → l.end - last_end begin ls ≤ 4096 → next_line_number least ls ≤ l.packet → are_sound begin total least (ls ++ l ∷ []) ≡ true
 one_more b t n [] l h some inside few rises =
     both (nat_lt b l.end) _ (lt-ltb b l.end some)
     (both (nat_le l.end t) _ (le-leb l.end t inside)

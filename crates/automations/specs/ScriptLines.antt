@@ -43,5 +43,5 @@ pub record GivesFrom (bytes : List ℕ) (begin packet : ℕ) (left : List Line) 
   pub given : are_past packet past ≡ true
   pub sound : are_sound begin (length bytes) packet left ≡ true
 
-abbrev pub Gives : {W M : Type 0} → Script W M → List ScriptLine → Type 0
-Gives s script = GivesFrom s.bytes.items s.begin s.packet (drop s.next s.lines.items) script
+abbrev pub GivesLines : {W M : Type 0} → Script W M → List ScriptLine → Type 0
+GivesLines s script = GivesFrom s.bytes.items s.begin s.packet (drop s.next s.lines.items) script

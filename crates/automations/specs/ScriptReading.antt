@@ -1,10 +1,17 @@
 -- How far a script is read.
-use Rattle.std.specs.Prelude.{◌≡◌, ℕ, ◌+◌, ◌<◌, ◌≤◌, true, List, [], ◌∷◌, length}
+use Rattle.std.specs.Prelude.{◌≡◌, ℕ, ◌+◌, ◌<◌, ◌≤◌, ◌^◌, true, List, [], ◌∷◌, ◌++◌, length, drop, Option, Some, IfSome}
+use Rattle.std.specs.List.{list_all}
+use Rattle.std.specs.Char.{is_ascii_digit}
+use Rattle.std.specs.Str.Parse.{digits_value}
+use Rattle.decimal_numbers.specs.Numbers.{number_below}
+use Rattle.hex_digits.specs.Digits.{spelled, digit_value}
+use Rattle.automations.specs.declared.script.Script.{Script}
 use Rattle.automations.specs.declared.script_text.Line.{Line}
 use Rattle.automations.specs.declared.script_text.Place.{Place}
 use Rattle.automations.specs.declared.script_text.Place.TheVariants.{Start, Number, Bytes, Half}
 use Rattle.automations.specs.declared.script_text.Reading.{Reading}
-use Rattle.automations.specs.ScriptLines.{are_sound}
+use Rattle.automations.specs.ScriptLines.{ScriptLine, GivesLines, are_sound, lines_from}
+use Rattle.automations.specs.ScriptText.{IsScript, SpellsLines}
 
 -- where the last of these lines ends, or from here on where there is none
 abbrev pub last_end : ℕ → List Line → ℕ
@@ -12,9 +19,9 @@ last_end begin [] = begin
 last_end begin (l ∷ ls) = last_end l.end ls
 
 -- the least number of a line behind these
-abbrev pub next_packet : ℕ → List Line → ℕ
-next_packet least [] = least
-next_packet least (l ∷ ls) = next_packet (l.packet + 1) ls
+abbrev pub next_line_number : ℕ → List Line → ℕ
+next_line_number least [] = least
+next_line_number least (l ∷ ls) = next_line_number (l.packet + 1) ls
 
 -- these lines are whole, and so many bytes of one more are there
 pub record IsBehind (bytes : List ℕ) (lines : List Line) (count : ℕ) : Type 0 where
@@ -25,7 +32,7 @@ pub record IsBehind (bytes : List ℕ) (lines : List Line) (count : ℕ) : Type 
 -- the line has this number
 pub record IsInLine (bytes : List ℕ) (lines : List Line) (packet count : ℕ) : Type 0 where
   pub behind : IsBehind bytes lines count
-  pub rises : next_packet 0 lines ≤ packet
+  pub rises : next_line_number 0 lines ≤ packet
 
 -- THE READING stands at this place
 abbrev pub IsAt : List ℕ → List Line → Place → Type 0
@@ -37,6 +44,58 @@ IsAt bytes lines (Half packet count high) = IsInLine bytes lines packet count ×
 abbrev pub IsReading : {M : Type 0} → Reading M → Type 0
 IsReading r = IsAt r.bytes.items r.lines.items r.place
 
--- all of the text was read
-abbrev pub IsWhole : {M : Type 0} → Reading M → Type 0
-IsWhole r = IsBehind r.bytes.items r.lines.items 0
+-- the text is that of whole lines, and this of one more
+pub record TextSoFar (bytes : List ℕ) (lines : List Line) (line text : List ℕ) : Type 0 where
+  pub whole : List ℕ
+  pub text_is : text ≡ whole ++ line
+  pub spells : SpellsLines 0 whole (lines_from bytes 0 lines)
+
+-- these are the digits of a number, or the first of them
+pub record NumberSoFar (digits : List ℕ) (number : ℕ) : Type 0 where
+  pub some : 0 < length digits
+  pub all : list_all is_ascii_digit digits ≡ true
+  pub value : digits_value 10 digits ≡ number
+  pub below : number < 2 ^ 64
+
+-- the text ends with the number of a line, a space, the digits of its bytes so far, and this
+pub record BytesSoFar (bytes : List ℕ) (lines : List Line) (packet : ℕ) (last text : List ℕ) : Type 0 where
+  pub digits : List ℕ
+  pub hex : List ℕ
+  pub number : number_below digits (2 ^ 64) ≡ Some packet
+  pub spelled_so : spelled hex ≡ Some (drop (last_end 0 lines) bytes)
+  pub text_is : TextSoFar bytes lines (digits ++ 32 ∷ (hex ++ last)) text
+
+-- THE TEXT READ SO FAR, where the reading stands at this place
+abbrev pub IsTextAt : List ℕ → List Line → Place → List ℕ → Type 0
+IsTextAt bytes lines Start text = TextSoFar bytes lines [] text
+IsTextAt bytes lines (Number number) text = (digits : List ℕ) × NumberSoFar digits number × TextSoFar bytes lines digits text
+IsTextAt bytes lines (Bytes packet count) text = BytesSoFar bytes lines packet [] text
+IsTextAt bytes lines (Half packet count high) text =
+    (digit : ℕ) × (digit_value digit ≡ Some high) × (high < 16) × BytesSoFar bytes lines packet (digit ∷ []) text
+
+-- THE READING has read this text
+pub record IsScriptRead {M : Type 0} (r : Reading M) (text : List ℕ) : Type 0 where
+  pub reading : IsReading r
+  pub text_is : IsTextAt r.bytes.items r.lines.items r.place text
+
+-- the lines of a reading
+abbrev pub read_lines : {M : Type 0} → Reading M → List ScriptLine
+read_lines r = lines_from r.bytes.items 0 r.lines.items
+
+-- ALL OF A SCRIPT'S TEXT was read
+pub record IsReadWhole {M : Type 0} (r : Reading M) (text : List ℕ) : Type 0 where
+  pub behind : IsBehind r.bytes.items r.lines.items 0
+  pub script : IsScript text (read_lines r)
+
+-- and these bytes were that text, where they are known
+abbrev pub IsReadFrom : {M : Type 0} → Option (List ℕ) → Reading M → Type 0
+IsReadFrom source r = (text : List ℕ) × IfSome source (λ bs. bs ≡ text) × IsReadWhole r text
+
+-- THE SCRIPT WAS LOADED from what these bytes were, where they are known: it is that of their lines, and was asked for nothing
+pub record IsLoaded {W M : Type 0} (s : Script W M) (source : Option (List ℕ)) : Type 0 where
+  pub text : List ℕ
+  pub lines : List ScriptLine
+  pub known : IfSome source (λ bs. bs ≡ text)
+  pub script : IsScript text lines
+  pub gives : GivesLines s lines
+  pub first : s.packet ≡ 0

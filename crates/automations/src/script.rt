@@ -1,12 +1,12 @@
 //! A script: an automation whose bytes stand in a text, each line before a packet of the network, and whose replies are printed.
 
-ghost use Rattle.std.specs.Prelude.{◌≡◌, ◌<◌, ◌^◌, ◌-◌, List, nat_lt, drop, IfErr, IfOk, OnOk};
+ghost use Rattle.std.specs.Prelude.{◌≡◌, ◌<◌, ◌^◌, ◌-◌, ℕ, List, [], nat_lt, drop, IfErr, IfOk, IfSome, OnOk};
 ghost use Rattle.std.specs.Bool.{OnTrue};
 ghost use Rattle.std.specs.Io.KnownBytes.{Appends};
 ghost use Rattle.ts_packet.specs.Transfers.{LastMovedNone};
 ghost use Rattle.automations.specs.Scripts.{ScriptBlamed, reply_line};
-ghost use Rattle.automations.specs.ScriptLines.{Gives, ScriptLine, count_due, lines_from};
-ghost use Rattle.automations.specs.ScriptReading.{IsReading, IsWhole};
+ghost use Rattle.automations.specs.ScriptLines.{GivesLines, count_due};
+ghost use Rattle.automations.specs.ScriptReading.{IsLoaded, IsReadFrom, IsReadWhole, IsScriptRead, read_lines};
 
 use crate::script_text::{Line, Reading};
 use chain_engine::{Automation, Taken};
@@ -70,7 +70,7 @@ impl<W> Script<W> {
     ) -> Result<Script<W>, ScriptFault>
     where
         W: Drop,
-        ensures lines { IfOk result (λ s. ((lines : List ScriptLine) × Gives s lines) × (s.packet ≡ 0)) }
+        ensures lines { IfOk result (λ s. IsLoaded s (S.remaining reader.old)) }
         ensures blamed { IfErr result (λ f. ScriptBlamed f (S.counts reader.old) (S.counts reader.new)) }
         ensures ended { OnOk result (LastMovedNone (S.counts reader.old) (S.counts reader.new)) }
     {
@@ -92,7 +92,7 @@ impl<W, M: Allocator> Script<W, M> {
     where
         M: Copy,
         W: Drop,
-        ensures lines { IfOk result (λ s. ((lines : List ScriptLine) × Gives s lines) × (s.packet ≡ 0)) }
+        ensures lines { IfOk result (λ s. IsLoaded s (S.remaining reader.old)) }
         ensures blamed { IfErr result (λ f. ScriptBlamed f (S.counts reader.old) (S.counts reader.new)) }
         ensures ended { OnOk result (LastMovedNone (S.counts reader.old) (S.counts reader.new)) }
     {
@@ -103,7 +103,7 @@ impl<W, M: Allocator> Script<W, M> {
 
     /// The script of a text that was read to its end.
     pub fn of(reading: Reading<M>, replies: W) -> Script<W, M>
-        ensures lines { IsWhole reading → Gives result (lines_from reading.bytes.items 0 reading.lines.items) }
+        ensures lines { (text : List ℕ) → IsReadWhole reading text → GivesLines result (read_lines reading) }
         ensures first { result.packet ≡ 0 }
     {
         let (bytes, lines) = reading.into_parts();
@@ -149,7 +149,7 @@ pub fn load_into<M: Allocator, S: Source>(
     reading: &mut Reading<M>,
     reader: &mut S,
 ) -> Result<(), ScriptFault>
-    ensures whole { IsReading reading.old → OnOk result (IsWhole reading.new) }
+    ensures whole { IsScriptRead reading.old [] → OnOk result (IsReadFrom (S.remaining reader.old) reading.new) }
     ensures blamed { IfErr result (λ f. ScriptBlamed f (S.counts reader.old) (S.counts reader.new)) }
     ensures ended { OnOk result (LastMovedNone (S.counts reader.old) (S.counts reader.new)) }
 {
@@ -179,7 +179,7 @@ fn print_reply<W: Write>(replies: &mut W, reply: &[u8]) -> bool
 impl<W: Write, M: Allocator> Automation for Script<W, M> {
     ghost use Rattle.std.specs.Prelude.{None, List, length, ◌<◌, ◌^◌, ◌-◌, ◌+◌};
     ghost use Rattle.chain_engine.specs.Automation.{CountsAnswer, CountsTake, IsRoomFor, take_of, piece};
-    ghost use Rattle.automations.specs.ScriptLines.{Gives, ScriptLine, bytes_before};
+    ghost use Rattle.automations.specs.ScriptLines.{GivesLines, ScriptLine, bytes_before};
 
     ghost takes = { λ s. None };
 
@@ -192,10 +192,10 @@ impl<W: Write, M: Allocator> Automation for Script<W, M> {
         requires room { length room.old ≡ 4096 }
         ensures bound { IsRoomFor (length room.new) result }
         ensures failures { CountsTake result self.old.lost self.new.lost }
-        ensures given { self.old.packet < 2 ^ 64 - 1 → (lines : List ScriptLine) → Gives self.old lines
+        ensures given { self.old.packet < 2 ^ 64 - 1 → (lines : List ScriptLine) → GivesLines self.old lines
             → take_of result room.new ≡ piece (bytes_before self.old.packet lines) }
-        ensures goes_on { self.old.packet < 2 ^ 64 - 1 → (lines : List ScriptLine) → Gives self.old lines
-            → Gives self.new lines }
+        ensures goes_on { self.old.packet < 2 ^ 64 - 1 → (lines : List ScriptLine) → GivesLines self.old lines
+            → GivesLines self.new lines }
         ensures asked { self.old.packet < 2 ^ 64 - 1 → self.new.packet ≡ self.old.packet + 1 }
     {
         let due = self.count_due();

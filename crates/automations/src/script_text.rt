@@ -1,8 +1,13 @@
 //! The text of a script, read byte by byte.
 
-ghost use Rattle.std.specs.Prelude.{◌≡◌, ◌≤◌, ◌<◌, ℕ, nat_le, IfErr, IfOk, OnOk};
+ghost use Rattle.std.specs.Prelude.{◌≡◌, ◌≤◌, ◌<◌, ◌+◌, ◌-◌, ◌*◌, ◌^◌, ℕ, List, [], ◌∷◌, ◌++◌, true, Some, nat_le};
+ghost use Rattle.std.specs.Prelude.{IfErr, IfOk, OnOk};
+ghost use Rattle.std.specs.Char.{is_ascii_digit};
+ghost use Rattle.hex_digits.specs.Digits.{digit_value};
 ghost use Rattle.automations.specs.Scripts.{IsOfText};
-ghost use Rattle.automations.specs.ScriptReading.{IsAt, IsInLine, IsReading, IsWhole, next_packet};
+ghost use Rattle.automations.specs.ScriptReading.{IsAt, IsBehind, IsInLine, IsReading, IsScriptRead, IsTextAt, IsReadWhole};
+ghost use Rattle.automations.specs.ScriptReading.{BytesSoFar, read_lines, next_line_number};
+ghost use Rattle.automations.specs.ScriptText.{SpellsLines};
 
 use crate::script::ScriptFault;
 use hex_digits::value_of;
@@ -43,6 +48,7 @@ pub struct Reading<M: Allocator = Global> {
 
 /// The number with a decimal digit more.
 fn with_digit(number: u64, digit: u8) -> Result<u64, ScriptFault>
+    ensures value { IfOk result (λ v. (is_ascii_digit digit ≡ true) × (v ≡ number * 10 + (digit - 48)) × (v < 2 ^ 64)) }
     ensures refused { IfErr result IsOfText }
 {
     let Some(value) = digit.checked_sub(b'0') else {
@@ -62,6 +68,7 @@ fn with_digit(number: u64, digit: u8) -> Result<u64, ScriptFault>
 
 /// The value of a hexadecimal digit.
 fn half(byte: u8) -> Result<u8, ScriptFault>
+    ensures value { IfOk result (λ value. digit_value byte ≡ Some value) }
     ensures below { IfOk result (λ value. value < 16) }
     ensures refused { IfErr result IsOfText }
 {
@@ -74,7 +81,7 @@ fn half(byte: u8) -> Result<u8, ScriptFault>
 impl<M: Allocator + Copy> Reading<M> {
     /// Nothing was read; its memory is this allocator's.
     pub fn new_in(alloc: M) -> Reading<M>
-        ensures { IsReading result }
+        ensures { IsScriptRead result [] }
     {
         Reading {
             bytes: Vec::new(alloc),
@@ -87,7 +94,7 @@ impl<M: Allocator + Copy> Reading<M> {
 impl<M: Allocator> Reading<M> {
     /// Whether lines with this number rise from those before.
     fn rises(&self, packet: u64) -> bool
-        ensures { result ≡ nat_le (next_packet 0 self.now.lines.items) packet }
+        ensures { result ≡ nat_le (next_line_number 0 self.now.lines.items) packet }
     {
         match self.lines.last() {
             Some(line) => line.packet < packet,
@@ -97,7 +104,11 @@ impl<M: Allocator> Reading<M> {
 
     /// Ends a line behind so many bytes.
     fn end_line(&mut self, packet: u64, count: usize) -> Result<(), ScriptFault>
-        ensures whole { IsInLine self.old.bytes.items self.old.lines.items packet count → OnOk result (IsWhole self.new) }
+        ensures whole { IsInLine self.old.bytes.items self.old.lines.items packet count
+            → OnOk result (IsBehind self.new.bytes.items self.new.lines.items 0) }
+        ensures text { (text : List ℕ) → IsInLine self.old.bytes.items self.old.lines.items packet count
+            → BytesSoFar self.old.bytes.items self.old.lines.items packet [] text
+            → OnOk result (SpellsLines 0 (text ++ 10 ∷ []) (read_lines self.new)) }
         ensures refused { IfErr result IsOfText }
     {
         if count == 0 {
@@ -113,6 +124,8 @@ impl<M: Allocator> Reading<M> {
     /// Where the reading stands behind one byte more.
     fn behind(&mut self, byte: u8) -> Result<Place, ScriptFault>
         ensures at { IsReading self.old → IfOk result (IsAt self.new.bytes.items self.new.lines.items) }
+        ensures text { (text : List ℕ) → IsScriptRead self.old text
+            → IfOk result (λ place. IsTextAt self.new.bytes.items self.new.lines.items place (text ++ byte ∷ [])) }
         ensures refused { IfErr result IsOfText }
     {
         match self.place {
@@ -152,12 +165,14 @@ impl<M: Allocator> Reading<M> {
     /// # Errors
     ///
     /// `BadScript` in the first line that is none, `OutOfMemory` where memory was refused.
-    pub fn take_in(&mut self, text: &[u8]) -> Result<(), ScriptFault>
-        ensures goes_on { IsReading self.old → OnOk result (IsReading self.new) }
+    pub fn take_in(&mut self, part: &[u8]) -> Result<(), ScriptFault>
+        ensures ok { (text : List ℕ) → IsScriptRead self.old text → OnOk result (IsScriptRead self.new (text ++ part.now)) }
         ensures refused { IfErr result IsOfText }
     {
-        for byte in text {
+        let mut rest = part;
+        while let Some((byte, behind)) = rest.split_first() {
             self.place = self.behind(*byte)?;
+            rest = behind;
         }
         Ok(())
     }
@@ -168,7 +183,7 @@ impl<M: Allocator> Reading<M> {
     ///
     /// As for [`Reading::take_in`].
     pub fn finish(&mut self) -> Result<(), ScriptFault>
-        ensures whole { IsReading self.old → OnOk result (IsWhole self.new) }
+        ensures ok { (text : List ℕ) → IsScriptRead self.old text → OnOk result (IsReadWhole self.new text) }
         ensures refused { IfErr result IsOfText }
     {
         match self.place {

@@ -1,7 +1,12 @@
-use Rattle.automations.specs.ScriptReading.{IsReading}
+use Rattle.std.proofs.Common.{◌≡◌, ◌++◌, List, ℕ, length}
+use Rattle.automations.specs.ScriptReading.{IsScriptRead}
 use Rattle.automations.proofs.script_text.Reading.take_in.Given as goal
 
+-- what lies before the rest was read
 abbrev pub invariant-loop-byte : goal.invariant-loop-byte
 invariant-loop-byte g l = record {
-  goes_on : IsReading l.initial.self → IsReading l.self;
+  read : (done : List ℕ) × (l.part ≡ done ++ l.rest) × ((text : List ℕ) → IsScriptRead l.initial.self text → IsScriptRead l.self (text ++ done));
 }
+
+abbrev pub decreases-loop-byte : goal.decreases-loop-byte
+decreases-loop-byte g l = length l.rest
