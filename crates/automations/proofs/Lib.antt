@@ -2,3 +2,5 @@ mod ScriptLemmas
 mod ReadingLemmas
 mod TextLemmas
 mod PlaceLemmas
+mod RefusalLemmas
+mod StopLemmas

@@ -9,7 +9,7 @@ use Rattle.std.proofs.lemmas.Bool.Decides.{nat_tests}
 use Rattle.automations.specs.declared.script_text.Line.{Line}
 use Rattle.automations.specs.ScriptLines.{ScriptLine, bytes_before, lines_from, are_sound, are_past, count_due, GivesFrom}
 
-both_true : (a b : Bool) → a && b ≡ true → (a ≡ true) × (b ≡ true)
+pub both_true : (a b : Bool) → a && b ≡ true → (a ≡ true) × (b ≡ true)
 both_true true b h = (refl, h)
 both_true false b h = absurd (cc)
 

@@ -50,7 +50,7 @@ value_after : (n : ℕ) (ds : List ℕ) (c : ℕ) → digits_value_after 10 n (d
 value_after n [] c = refl
 value_after n (d ∷ ds) c = value_after (n * 10 + std_digit d) ds c
 
-std_value : (c : ℕ) → is_ascii_digit c ≡ true → std_digit c ≡ c - 48
+pub std_value : (c : ℕ) → is_ascii_digit c ≡ true → std_digit c ≡ c - 48
 std_value c h = grind (arith, nat_tests)
 
 pub value_more : (ds : List ℕ) (c n : ℕ) → is_ascii_digit c ≡ true → digits_value 10 ds ≡ n → digits_value 10 (ds ++ c ∷ []) ≡ n * 10 + (c - 48)

@@ -23,3 +23,11 @@ SpellsLines least text (l ∷ ls) =
 -- THE TEXT OF A SCRIPT of these lines; the line feed behind the last one may be missing
 abbrev pub IsScript : List ℕ → List ScriptLine → Type 0
 IsScript text lines = SpellsLines 0 text lines ⊎ SpellsLines 0 (text ++ 10 ∷ []) lines
+
+-- no script begins with this text
+abbrev pub BeginsNoScript : List ℕ → Type 0
+BeginsNoScript text = (more : List ℕ) (lines : List ScriptLine) → SpellsLines 0 (text ++ more) lines → ⊥
+
+-- this text is no script
+abbrev pub IsNoScript : List ℕ → Type 0
+IsNoScript text = (lines : List ScriptLine) → IsScript text lines → ⊥

@@ -1,11 +1,12 @@
 //! A script: an automation whose bytes stand in a text, each line before a packet of the network, and whose replies are printed.
 
-ghost use Rattle.std.specs.Prelude.{◌≡◌, ◌<◌, ◌^◌, ◌-◌, ℕ, List, [], nat_lt, drop, IfErr, IfOk, IfSome, OnOk};
+ghost use Rattle.std.specs.Prelude.{◌≡◌, ◌<◌, ◌^◌, ◌-◌, ℕ, List, [], Err, nat_lt, drop, IfErr, IfOk, IfSome, OnOk};
 ghost use Rattle.std.specs.Bool.{OnTrue};
 ghost use Rattle.std.specs.Io.KnownBytes.{Appends};
 ghost use Rattle.ts_packet.specs.Transfers.{LastMovedNone};
 ghost use Rattle.automations.specs.Scripts.{ScriptBlamed, reply_line};
 ghost use Rattle.automations.specs.ScriptLines.{GivesLines, count_due};
+ghost use Rattle.automations.specs.ScriptText.{IsNoScript};
 ghost use Rattle.automations.specs.ScriptReading.{IsLoaded, IsReadFrom, IsReadWhole, IsScriptRead, read_lines};
 
 use crate::script_text::{Line, Reading};
@@ -71,6 +72,7 @@ impl<W> Script<W> {
     where
         W: Drop,
         ensures lines { IfOk result (λ s. IsLoaded s (S.remaining reader.old)) }
+        ensures stops { result ≡ Err ScriptFault.BadScript → IfSome (S.remaining reader.old) IsNoScript }
         ensures blamed { IfErr result (λ f. ScriptBlamed f (S.counts reader.old) (S.counts reader.new)) }
         ensures ended { OnOk result (LastMovedNone (S.counts reader.old) (S.counts reader.new)) }
     {
@@ -93,6 +95,7 @@ impl<W, M: Allocator> Script<W, M> {
         M: Copy,
         W: Drop,
         ensures lines { IfOk result (λ s. IsLoaded s (S.remaining reader.old)) }
+        ensures stops { result ≡ Err ScriptFault.BadScript → IfSome (S.remaining reader.old) IsNoScript }
         ensures blamed { IfErr result (λ f. ScriptBlamed f (S.counts reader.old) (S.counts reader.new)) }
         ensures ended { OnOk result (LastMovedNone (S.counts reader.old) (S.counts reader.new)) }
     {
@@ -149,6 +152,8 @@ pub fn load_into<M: Allocator, S: Source>(
     reading: &mut Reading<M>,
     reader: &mut S,
 ) -> Result<(), ScriptFault>
+    ensures stops { IsScriptRead reading.old [] → result ≡ Err ScriptFault.BadScript
+        → IfSome (S.remaining reader.old) IsNoScript }
     ensures whole { IsScriptRead reading.old [] → OnOk result (IsReadFrom (S.remaining reader.old) reading.new) }
     ensures blamed { IfErr result (λ f. ScriptBlamed f (S.counts reader.old) (S.counts reader.new)) }
     ensures ended { OnOk result (LastMovedNone (S.counts reader.old) (S.counts reader.new)) }

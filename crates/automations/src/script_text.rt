@@ -1,13 +1,13 @@
 //! The text of a script, read byte by byte.
 
-ghost use Rattle.std.specs.Prelude.{◌≡◌, ◌≤◌, ◌<◌, ◌+◌, ◌-◌, ◌*◌, ◌^◌, ℕ, List, [], ◌∷◌, ◌++◌, true, Some, nat_le};
+ghost use Rattle.std.specs.Prelude.{◌≡◌, ◌≤◌, ◌<◌, ◌+◌, ◌-◌, ◌*◌, ◌^◌, ℕ, List, [], ◌∷◌, ◌++◌, true, Some, None, Err, nat_le};
 ghost use Rattle.std.specs.Prelude.{IfErr, IfOk, OnOk};
 ghost use Rattle.std.specs.Char.{is_ascii_digit};
 ghost use Rattle.hex_digits.specs.Digits.{digit_value};
 ghost use Rattle.automations.specs.Scripts.{IsOfText};
 ghost use Rattle.automations.specs.ScriptReading.{IsAt, IsBehind, IsInLine, IsReading, IsScriptRead, IsTextAt, IsReadWhole};
 ghost use Rattle.automations.specs.ScriptReading.{BytesSoFar, read_lines, next_line_number};
-ghost use Rattle.automations.specs.ScriptText.{SpellsLines};
+ghost use Rattle.automations.specs.ScriptText.{BeginsNoScript, IsNoScript, SpellsLines};
 
 use crate::script::ScriptFault;
 use hex_digits::value_of;
@@ -49,6 +49,7 @@ pub struct Reading<M: Allocator = Global> {
 /// The number with a decimal digit more.
 fn with_digit(number: u64, digit: u8) -> Result<u64, ScriptFault>
     ensures value { IfOk result (λ v. (is_ascii_digit digit ≡ true) × (v ≡ number * 10 + (digit - 48)) × (v < 2 ^ 64)) }
+    ensures none { IfErr result (λ _. is_ascii_digit digit ≡ true → 2 ^ 64 ≤ number * 10 + (digit - 48)) }
     ensures refused { IfErr result IsOfText }
 {
     let Some(value) = digit.checked_sub(b'0') else {
@@ -69,6 +70,7 @@ fn with_digit(number: u64, digit: u8) -> Result<u64, ScriptFault>
 /// The value of a hexadecimal digit.
 fn half(byte: u8) -> Result<u8, ScriptFault>
     ensures value { IfOk result (λ value. digit_value byte ≡ Some value) }
+    ensures none { IfErr result (λ _. digit_value byte ≡ None) }
     ensures below { IfOk result (λ value. value < 16) }
     ensures refused { IfErr result IsOfText }
 {
@@ -109,6 +111,7 @@ impl<M: Allocator> Reading<M> {
         ensures text { (text : List ℕ) → IsInLine self.old.bytes.items self.old.lines.items packet count
             → BytesSoFar self.old.bytes.items self.old.lines.items packet [] text
             → OnOk result (SpellsLines 0 (text ++ 10 ∷ []) (read_lines self.new)) }
+        ensures empty { result ≡ Err ScriptFault.BadScript → count ≡ 0 }
         ensures refused { IfErr result IsOfText }
     {
         if count == 0 {
@@ -126,6 +129,8 @@ impl<M: Allocator> Reading<M> {
         ensures at { IsReading self.old → IfOk result (IsAt self.new.bytes.items self.new.lines.items) }
         ensures text { (text : List ℕ) → IsScriptRead self.old text
             → IfOk result (λ place. IsTextAt self.new.bytes.items self.new.lines.items place (text ++ byte ∷ [])) }
+        ensures stops { (text : List ℕ) → IsScriptRead self.old text → result ≡ Err ScriptFault.BadScript
+            → BeginsNoScript (text ++ byte ∷ []) }
         ensures refused { IfErr result IsOfText }
     {
         match self.place {
@@ -142,8 +147,10 @@ impl<M: Allocator> Reading<M> {
             }
             Place::Bytes(packet, count) => {
                 if byte == b'\n' {
-                    self.end_line(packet, count)?;
-                    return Ok(Place::Start);
+                    return match self.end_line(packet, count) {
+                        Ok(()) => Ok(Place::Start),
+                        Err(fault) => Err(fault),
+                    };
                 }
                 if count == MOST {
                     return Err(ScriptFault::BadScript);
@@ -167,11 +174,16 @@ impl<M: Allocator> Reading<M> {
     /// `BadScript` in the first line that is none, `OutOfMemory` where memory was refused.
     pub fn take_in(&mut self, part: &[u8]) -> Result<(), ScriptFault>
         ensures ok { (text : List ℕ) → IsScriptRead self.old text → OnOk result (IsScriptRead self.new (text ++ part.now)) }
+        ensures stops { (text : List ℕ) → IsScriptRead self.old text → result ≡ Err ScriptFault.BadScript
+            → BeginsNoScript (text ++ part.now) }
         ensures refused { IfErr result IsOfText }
     {
         let mut rest = part;
         while let Some((byte, behind)) = rest.split_first() {
-            self.place = self.behind(*byte)?;
+            match self.behind(*byte) {
+                Ok(place) => self.place = place,
+                Err(fault) => return Err(fault),
+            }
             rest = behind;
         }
         Ok(())
@@ -184,6 +196,7 @@ impl<M: Allocator> Reading<M> {
     /// As for [`Reading::take_in`].
     pub fn finish(&mut self) -> Result<(), ScriptFault>
         ensures ok { (text : List ℕ) → IsScriptRead self.old text → OnOk result (IsReadWhole self.new text) }
+        ensures stops { (text : List ℕ) → IsScriptRead self.old text → result ≡ Err ScriptFault.BadScript → IsNoScript text }
         ensures refused { IfErr result IsOfText }
     {
         match self.place {

@@ -1,5 +1,9 @@
 use Rattle.std.proofs.Common.{◌≡◌, ◌++◌, ◌∷◌, [], subst, sym, ◌∙◌, ap, append_assoc, rules}
 use Rattle.automations.specs.ScriptReading.{IsTextAt}
+use Rattle.std.specs.Prelude.{Err}
+use Rattle.automations.specs.declared.script.ScriptFault.TheVariants.{BadScript}
+use Rattle.automations.specs.ScriptText.{BeginsNoScript}
+use Rattle.automations.proofs.StopLemmas.{stops_behind}
 use Rattle.automations.proofs.script_text.Reading.take_in.Goals as goal
 
 pub loop-byte-preserved : goal.loop-byte-preserved
@@ -12,8 +16,19 @@ loop-byte-preserved g c =
         done ++ byte ∷ [],
         e ∙ ap (λ l. done ++ l) first ∙ sym (append_assoc done (byte ∷ []) c.in-Some.behind.now),
         λ text h. record {
-          reading = c.in_ok-self.ensures.at (r text h).reading;
-          text_is = subst (IsTextAt c.behind.new.self.bytes.items c.behind.new.self.lines.items c.in_ok-self.field-0) (append_assoc text done (byte ∷ [])) (c.in_ok-self.ensures.text (text ++ done) (r text h));
+          reading = c.in-Ok.ensures.at (r text h).reading;
+          text_is = subst (IsTextAt c.behind.new.self.bytes.items c.behind.new.self.lines.items c.in-Ok.place) (append_assoc text done (byte ∷ [])) (c.in-Ok.ensures.text (text ++ done) (r text h));
         },
       );
     }
+
+pub returns-in-Err-clause-stops : goal.returns-in-Err-clause-stops
+returns-in-Err-clause-stops g c = λ text h bad.
+    let (done, e, r) = c.loop-byte.invariant.read in
+    let first : c.loop-byte.rest.now ≡ c.in-Some.byte.now ∷ c.in-Some.behind.now = search rules in
+    let byte = c.in-Some.byte.now in
+    let fault : c.in-Err.fault ≡ BadScript = cc in
+    let all = append_assoc (text ++ done) (byte ∷ []) c.in-Some.behind.now ∙ append_assoc text done (byte ∷ c.in-Some.behind.now)
+    ∙ ap (λ l. text ++ l) (sym (e ∙ ap (λ l. done ++ l) first)) in
+    subst BeginsNoScript all
+    (stops_behind ((text ++ done) ++ byte ∷ []) c.in-Some.behind.now (c.in-Err.ensures.stops (text ++ done) (r text h) (ap Err fault)))
