@@ -1,5 +1,7 @@
 pub mod Connections
+pub mod ScriptAnswers
 pub mod ScriptLines
 pub mod ScriptReading
+pub mod ScriptTakes
 pub mod ScriptText
 pub mod Scripts

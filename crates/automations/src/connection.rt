@@ -30,15 +30,23 @@ fn is_nothing(kind: ErrorKind) -> bool {
 }
 
 impl<S: Read + Write> Automation for Connection<S> {
-    ghost use Rattle.std.specs.Prelude.{None, ◌≡◌, length};
+    ghost use Rattle.std.specs.Prelude.{⊤, ◌≡◌, length};
     ghost use Rattle.chain_engine.specs.Automation.{IsRoomFor, CountsTake, CountsAnswer};
     ghost use Rattle.automations.specs.Connections.{IsTakenFrom};
 
-    ghost takes = { λ s. None };
+    ghost takes = { λ s ts t. ⊤ };
 
-    ghost answers = { λ s. None };
+    ghost answers = { λ s xs t. ⊤ };
 
     ghost failures = { λ s. s.failures };
+
+    ghost takes_refl = { λ s. tt };
+
+    ghost takes_trans = { λ s t u xs ys h k. tt };
+
+    ghost answers_refl = { λ s. tt };
+
+    ghost answers_trans = { λ s t u xs ys h k. tt };
 
     #[inline(always)]
     fn take(&mut self, room: &mut [u8]) -> Taken

@@ -182,26 +182,32 @@ fn print_reply<W: Write>(replies: &mut W, reply: &[u8]) -> bool
 }
 
 impl<W: Write, M: Allocator> Automation for Script<W, M> {
-    ghost use Rattle.std.specs.Prelude.{None, List, length, ◌<◌, ◌^◌, ◌-◌, ◌+◌};
-    ghost use Rattle.chain_engine.specs.Automation.{CountsAnswer, CountsTake, IsRoomFor, take_of, piece};
-    ghost use Rattle.automations.specs.ScriptLines.{GivesLines, ScriptLine, bytes_before};
+    ghost use Rattle.std.specs.Prelude.{[], ◌∷◌, length};
+    ghost use Rattle.chain_engine.specs.Automation.{CountsAnswer, CountsTake, IsRoomFor, take_of, answer_of};
+    ghost use Rattle.automations.specs.ScriptTakes.{ScriptTakes, ScriptTakes-refl, ScriptTakes-trans};
+    ghost use Rattle.automations.specs.ScriptAnswers.{ScriptAnswers, ScriptAnswers-refl, ScriptAnswers-trans};
 
-    ghost takes = { λ s. None };
+    ghost takes = { λ s ts t. ScriptTakes s ts t };
 
-    ghost answers = { λ s. None };
+    ghost answers = { λ s xs t. ScriptAnswers W.contents s xs t };
 
     ghost failures = { λ s. s.lost };
+
+    ghost takes_refl = { λ s. ScriptTakes-refl s };
+
+    ghost takes_trans = { λ s t u xs ys h k. ScriptTakes-trans s t u xs ys h k };
+
+    ghost answers_refl = { λ s. ScriptAnswers-refl W.contents s };
+
+    ghost answers_trans = { λ s t u xs ys h k. ScriptAnswers-trans W.contents s t u xs ys h k };
 
     #[inline(always)]
     fn take(&mut self, room: &mut [u8]) -> Taken
         requires room { length room.old ≡ 4096 }
         ensures bound { IsRoomFor (length room.new) result }
+        ensures takes { ScriptTakes self.old (take_of result room.new ∷ []) self.new }
+        ensures answers { ScriptAnswers W.contents self.old [] self.new }
         ensures failures { CountsTake result self.old.lost self.new.lost }
-        ensures given { self.old.packet < 2 ^ 64 - 1 → (lines : List ScriptLine) → GivesLines self.old lines
-            → take_of result room.new ≡ piece (bytes_before self.old.packet lines) }
-        ensures goes_on { self.old.packet < 2 ^ 64 - 1 → (lines : List ScriptLine) → GivesLines self.old lines
-            → GivesLines self.new lines }
-        ensures asked { self.old.packet < 2 ^ 64 - 1 → self.new.packet ≡ self.old.packet + 1 }
     {
         let due = self.count_due();
         self.packet = self.packet.saturating_add(1);
@@ -222,9 +228,9 @@ impl<W: Write, M: Allocator> Automation for Script<W, M> {
     }
 
     fn answer(&mut self, reply: &[u8]) -> bool
+        ensures takes { ScriptTakes self.old [] self.new }
         ensures failures { CountsAnswer result self.old.lost self.new.lost }
-        ensures printed { OnTrue result
-            (Appends (W.contents self.old.replies) (W.contents self.new.replies) (reply_line reply.now)) }
+        ensures answers { ScriptAnswers W.contents self.old (answer_of reply.now result ∷ []) self.new }
     {
         if print_reply(&mut self.replies, reply) {
             return true;

@@ -24,7 +24,7 @@ use Rattle.splice_plans.specs.Switching.{spliced_network}
 use Rattle.splice_plans.specs.Reporting as events
 use Rattle.splice_switch.specs.declared.switch.Switch.{Switch}
 use Rattle.splice_switch.specs.Standing.{FinishFails}
-use Rattle.chain_engine.specs.Automation.{Take, Answer, Told}
+use Rattle.chain_engine.specs.Automation.{Take, Answer}
 use Rattle.chain_engine.specs.Hearing.{Replied}
 use Rattle.chain_engine.specs.Judging.{InjectorJudges}
 use Rattle.chain_engine.specs.Talks.{judged_before}
@@ -146,8 +146,8 @@ sent_step c ms steps p = ap (λ l. reverse l ++ sent_at c p (asked ms steps)) (s
 pub same_packets : (c : Config) (ms : List (List ℕ)) (steps : List Step) (p : List ℕ) → network_fault (writing_cues c) p (packets_in (asked ms steps)) ≡ None → network_fault (writing_cues c) p (packets_in steps) ≡ None
 same_packets c ms steps p = subst (λ q. network_fault (writing_cues c) p q ≡ None) (asked_packets ms steps)
 
-module _ {X : Type 0} (takes : X → Option (List Take)) (answers : X → Option (List Answer)) (old new : X) (lost : Bool) (c : Config) (ts : List Take) (n k : ℕ) (steps : List Step) (more : List Take) (rs : List Reply) where
-  pub hears_so : (i j : Injector) → Told (takes old) (takes new) more → Replied InjectorJudges i j (judged_before (n + length rs) (ts ++ more) k) rs lost (answers old) (answers new) → InjectorStandsFor i c steps
+module _ {X : Type 0} (takes : X → List Take → X → Type 0) (answers : X → List Answer → X → Type 0) (old new : X) (lost : Bool) (c : Config) (ts : List Take) (n k : ℕ) (steps : List Step) (more : List Take) (rs : List Reply) where
+  pub hears_so : (i j : Injector) → takes old more new → Replied InjectorJudges i j (judged_before (n + length rs) (ts ++ more) k) rs lost (λ xs. answers old xs new) → InjectorStandsFor i c steps
       → Hears takes answers old new lost c ts n k steps more rs × InjectorStandsFor j c (heard_steps (ts ++ more) (n + length rs) k steps)
   hears_so i j told replied s =
       let done = asked_judged c (judged_before (n + length rs) (ts ++ more) k) rs i j steps replied.judged s in

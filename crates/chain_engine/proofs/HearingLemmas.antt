@@ -15,24 +15,11 @@ use Rattle.as_session.specs.Runs.{messages_in, take_within}
 use Rattle.as_session.specs.Laws.{left_by}
 use Rattle.as_session.proofs.SplitLemmas.{the_split}
 use Rattle.as_session.proofs.RunLemmas.{Reached, Pends, reached_messages, reached_state, feed_reaches, within_reaches}
-use Rattle.chain_engine.specs.Automation.{Answer, answer_of, Adds, Told}
+use Rattle.chain_engine.specs.Automation.{Answer, answer_of}
 use Rattle.chain_engine.specs.Judging.{JudgesAll}
 use Rattle.chain_engine.specs.Hearing.{answers_to, Replied, HearsPiece}
 use Rattle.chain_engine.specs.declared.hearing.SessionEnd.{SessionEnd}
 use Rattle.chain_engine.specs.declared.hearing.SessionEnd.TheVariants as end
-
--- ---- lists that are told
-
-pub told_none : {X : Type 0} (old : Option (List X)) → Told old old []
-told_none None = tt
-told_none (Some xs) = ap Some (sym (append-nil xs))
-
-pub told_more : {X : Type 0} (a b c : Option (List X)) (xs ys : List X) → Told a b xs → Told b c ys → Told a c (xs ++ ys)
-told_more None b c xs ys h k = tt
-told_more (Some known) None c xs ys h k = absurd (cc)
-told_more (Some known) (Some later) c xs ys h k =
-    let same : later ≡ known ++ xs = cc in
-    k ∙ ap Some (ap (λ l. l ++ ys) same ∙ append_assoc known xs ys)
 
 -- ---- the answers that replies come to
 
@@ -56,29 +43,30 @@ module _ {J : Type 0} (judges : J → MessageReading → Reply → J → Type 0)
   judged_count i j (m ∷ ms) [] h = absurd h
   judged_count i j (m ∷ ms) (r ∷ rs) (x, one, h) = ap suc (judged_count x j ms rs h)
 
-  pub replied_none : (j : J) (ms : List (List ℕ)) (before : Option (List Answer)) → ms ≡ [] → (rs : List Reply) × Replied judges j j ms rs false before before
-  replied_none j ms before e = (
+  pub replied_none : (j : J) (ms : List (List ℕ)) (answers : List Answer → Type 0) → answers [] → ms ≡ [] → (rs : List Reply) × Replied judges j j ms rs false answers
+  replied_none j ms answers none e = (
     [],
     record {
       judged = rw e refl;
       some = λ h. absurd (cc);
-      told = told_none before;
+      told = none;
     },
   )
 
-  module _ (j k : J) (m : List ℕ) (ms : List (List ℕ)) (r : Reply) (before now : Option (List Answer))
+  module _ (j k : J) (m : List ℕ) (ms : List (List ℕ)) (r : Reply) (answers : List Answer → Type 0)
       (e : ms ≡ m ∷ []) (judged : judges j (message_of m) r k) where
-    pub replied_one : (is_given : Bool) → Adds before now (answer_of (reply_bytes r) is_given)
-        → (rs : List Reply) × Replied judges j k ms rs (not is_given) before now
+    pub replied_one : (is_given : Bool) → answers (answer_of (reply_bytes r) is_given ∷ [])
+        → (rs : List Reply) × Replied judges j k ms rs (not is_given) answers
     replied_one true told = (r ∷ [], record { judged = rw e (k, judged, refl); some = λ h. omega arith; told = told })
     replied_one false told = (r ∷ [], record { judged = rw e (k, judged, refl); some = λ h. omega arith; told = told })
 
-  pub replied_more : (i j k : J) (ms ms' : List (List ℕ)) (rs rs' : List Reply) (lost : Bool) (a b c : Option (List Answer))
-      → Replied judges i j ms rs false a b → Replied judges j k ms' rs' lost b c → Replied judges i k (ms ++ ms') (rs ++ rs') lost a c
-  replied_more i j k ms ms' rs rs' lost a b c one two = record {
+  pub replied_more : (i j k : J) (ms ms' : List (List ℕ)) (rs rs' : List Reply) (lost : Bool) (a b c : List Answer → Type 0)
+      → Replied judges i j ms rs false a → Replied judges j k ms' rs' lost b → ((xs ys : List Answer) → a xs → b ys → c (xs ++ ys))
+      → Replied judges i k (ms ++ ms') (rs ++ rs') lost c
+  replied_more i j k ms ms' rs rs' lost a b c one two both = record {
     judged = judged_more i j k ms ms' rs rs' one.judged two.judged;
     some = λ e. let more = two.some e in let all = length-append rs rs' in omega arith;
-    told = subst (Told a c) (sym (answers_more lost rs rs' two.some)) (told_more a b c (answers_to false rs) (answers_to lost rs') one.told two.told);
+    told = subst c (sym (answers_more lost rs rs' two.some)) (both (answers_to false rs) (answers_to lost rs') one.told two.told);
   }
 
 -- ---- a session behind a stream
@@ -131,14 +119,14 @@ broken_more stream more ms r = within_reaches (suc (length more)) stream more sh
 -- ---- a piece
 
 -- A front of the piece was heard, and the messages that end in it were answered.
-pub record HasHeard {J : Type 0} (judges : J → MessageReading → Reply → J → Type 0) (first j : J) (before now : Option (List Answer))
+pub record HasHeard {J : Type 0} (judges : J → MessageReading → Reply → J → Type 0) (first j : J) (answers : List Answer → Type 0)
     (stream piece rest : List ℕ) (s : State) : Type 0 where
   pub front : List ℕ
   pub ms : List (List ℕ)
   pub rs : List Reply
   pub parts : piece ≡ front ++ rest
   pub reached : Reached (stream ++ front) s ((messages_of stream).messages ++ ms)
-  pub replied : Replied judges first j ms rs false before now
+  pub replied : Replied judges first j ms rs false answers
 
 module _ (stream piece front rest : List ℕ) (parts : piece ≡ front ++ rest) where
   -- so many more bytes of it
@@ -198,11 +186,11 @@ module _ (stream piece front rest : List ℕ) (parts : piece ≡ front ++ rest) 
 -- ---- the loop over a piece
 
 module _ {J : Type 0} (judges : J → MessageReading → Reply → J → Type 0) where
-  pub heard_none : (j : J) (before : Option (List Answer)) (stream piece : List ℕ) (s : State)
-      → s ≡ opened (messages_of stream).rest → is_partial (messages_of stream).rest ≡ true → HasHeard judges j j before before stream piece piece s
-  heard_none j before stream piece s e h =
+  pub heard_none : (j : J) (answers : List Answer → Type 0) → answers [] → (stream piece : List ℕ) (s : State)
+      → s ≡ opened (messages_of stream).rest → is_partial (messages_of stream).rest ≡ true → HasHeard judges j j answers stream piece piece s
+  heard_none j answers given stream piece s e h =
       let ms = (messages_of stream).messages in
-      let none = replied_none judges j [] before refl in
+      let none = replied_none judges j [] answers given refl in
       record {
         front = [];
         ms = [];
@@ -212,10 +200,10 @@ module _ {J : Type 0} (judges : J → MessageReading → Reply → J → Type 0)
         replied = none.1;
       }
 
-  module _ (first j k : J) (a b c : Option (List Answer)) (stream piece rest : List ℕ) (s : State)
-      (so_far : HasHeard judges first j a b stream piece rest s) (rs : List Reply) where
-    pub heard_more : (rest' : List ℕ) (s' : State) → Replied judges j k (messages_in (feed_of s rest).gives) rs false b c → s' ≡ (feed_of s rest).after
-        → rest' ≡ drop (feed_of s rest).used rest → HasHeard judges first k a c stream piece rest' s'
+  module _ (first j k : J) (a b c : List Answer → Type 0) (both : (xs ys : List Answer) → a xs → b ys → c (xs ++ ys))
+      (stream piece rest : List ℕ) (s : State) (so_far : HasHeard judges first j a stream piece rest s) (rs : List Reply) where
+    pub heard_more : (rest' : List ℕ) (s' : State) → Replied judges j k (messages_in (feed_of s rest).gives) rs false b → s' ≡ (feed_of s rest).after
+        → rest' ≡ drop (feed_of s rest).used rest → HasHeard judges first k c stream piece rest' s'
     heard_more rest' s' one after behind = record {
       front = so_far.front ++ take (feed_of s rest).used rest;
       ms = so_far.ms ++ messages_in (feed_of s rest).gives;
@@ -223,29 +211,29 @@ module _ {J : Type 0} (judges : J → MessageReading → Reply → J → Type 0)
       parts = parts_more stream piece so_far.front rest so_far.parts (feed_of s rest).used ∙ ap (λ l. (so_far.front ++ take (feed_of s rest).used rest) ++ l) (sym behind);
       reached = subst (λ t. Reached (stream ++ (so_far.front ++ take (feed_of s rest).used rest)) t ((messages_of stream).messages ++ (so_far.ms ++ messages_in (feed_of s rest).gives))) (sym after)
           (reached_more stream piece so_far.front rest so_far.parts s so_far.ms so_far.reached);
-      replied = replied_more judges first j k so_far.ms _ so_far.rs rs false a b c so_far.replied one;
+      replied = replied_more judges first j k so_far.ms _ so_far.rs rs false a b c so_far.replied one both;
     }
 
     abbrev Ends : State → Bool → Option SessionEnd → Type 0
-    Ends s' lost how = (ms : List (List ℕ)) × (all : List Reply) × HearsPiece stream piece ms s' how × Replied judges first k ms all lost a c
+    Ends s' lost how = (ms : List (List ℕ)) × (all : List Reply) × HearsPiece stream piece ms s' how × Replied judges first k ms all lost c
 
-    ends_so : (s' : State) (lost : Bool) (how : Option SessionEnd) → Replied judges j k (messages_in (feed_of s rest).gives) rs lost b c → s' ≡ (feed_of s rest).after
+    ends_so : (s' : State) (lost : Bool) (how : Option SessionEnd) → Replied judges j k (messages_in (feed_of s rest).gives) rs lost b → s' ≡ (feed_of s rest).after
         → HearsPiece stream piece (so_far.ms ++ messages_in (feed_of s rest).gives) (feed_of s rest).after how → Ends s' lost how
     ends_so s' lost how one after hears = (
       so_far.ms ++ messages_in (feed_of s rest).gives,
       so_far.rs ++ rs,
       subst (λ t. HearsPiece stream piece (so_far.ms ++ messages_in (feed_of s rest).gives) t how) (sym after) hears,
-      replied_more judges first j k so_far.ms _ so_far.rs rs lost a b c so_far.replied one,
+      replied_more judges first j k so_far.ms _ so_far.rs rs lost a b c so_far.replied one both,
     )
 
-    pub ends_whole : (s' : State) → Replied judges j k (messages_in (feed_of s rest).gives) rs false b c → s' ≡ (feed_of s rest).after → (feed_of s rest).gives ≡ nothing → Ends s' false None
+    pub ends_whole : (s' : State) → Replied judges j k (messages_in (feed_of s rest).gives) rs false b → s' ≡ (feed_of s rest).after → (feed_of s rest).gives ≡ nothing → Ends s' false None
     ends_whole s' one after e = ends_so s' false None one after (hears_all stream piece so_far.front rest so_far.parts s so_far.ms so_far.reached e)
 
-    pub ends_bad : (s' : State) → Replied judges j k (messages_in (feed_of s rest).gives) rs false b c → s' ≡ (feed_of s rest).after → (feed_of s rest).gives ≡ closed
+    pub ends_bad : (s' : State) → Replied judges j k (messages_in (feed_of s rest).gives) rs false b → s' ≡ (feed_of s rest).after → (feed_of s rest).gives ≡ closed
         → Ends s' false (Some end.BadSize)
     ends_bad s' one after e = ends_so s' false (Some end.BadSize) one after (hears_bad stream piece so_far.front rest so_far.parts s so_far.ms so_far.reached e)
 
-    pub ends_lost : (s' : State) → Replied judges j k (messages_in (feed_of s rest).gives) rs true b c → s' ≡ (feed_of s rest).after → (m : List ℕ) → (feed_of s rest).gives ≡ message m
+    pub ends_lost : (s' : State) → Replied judges j k (messages_in (feed_of s rest).gives) rs true b → s' ≡ (feed_of s rest).after → (m : List ℕ) → (feed_of s rest).gives ≡ message m
         → Ends s' true (Some end.AnswerFailed)
     ends_lost s' one after m e =
         let some : 1 ≡ length (messages_in (feed_of s rest).gives) = sym (ap (λ t. length (messages_in t)) e) in

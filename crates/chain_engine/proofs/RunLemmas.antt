@@ -24,7 +24,7 @@ use Rattle.injector.specs.declared.injector.Injector.{Injector}
 use Rattle.injector.specs.Steps.{Step, Packet, packets_in, cued, sent_at}
 use Rattle.injector.specs.Injecting.{InjectorStandsFor, JudgesBy, FeedFails}
 use Rattle.outgoing_packets.specs.Faults.{KeepsSink}
-use Rattle.chain_engine.specs.Automation.{Take, piece, ended, failed, Answer, Told}
+use Rattle.chain_engine.specs.Automation.{Take, piece, ended, failed, Answer}
 use Rattle.chain_engine.specs.Hearing.{answers_to, lost_by, Replied}
 use Rattle.chain_engine.specs.Judging.{JudgesAll, InjectorJudges}
 use Rattle.chain_engine.specs.Talks.{judged_before, HasTalked, TalkStandsFor, loses, CountsEnd}
@@ -38,7 +38,7 @@ use Rattle.chain_engine.specs.declared.talk.Talk.{Talk}
 use Rattle.chain_engine.specs.declared.chain.Chain.{Chain}
 use Rattle.chain_engine.specs.declared.chain.RunFault.TheVariants.{Read, Feed}
 use Rattle.chain_engine.proofs.StopLemmas.{reverse_onto, reads_stop, packets_stop}
-use Rattle.chain_engine.proofs.HearingLemmas.{told_none, told_more, answers_more}
+use Rattle.chain_engine.proofs.HearingLemmas.{answers_more}
 use Rattle.chain_engine.proofs.TalkLemmas.{goes_closed, open_end}
 use Rattle.chain_engine.proofs.StepsLemmas.{steps_stay, none_asked, asked_cued, before_packets, asked_judged}
 use Rattle.program_follower.specs.Purposes.{writing_cues}
@@ -87,9 +87,13 @@ begins_open (Some TakeFailed) n k (le, (ts, e, o, m)) = absurd (not_empty ts fai
 begins_open (Some BadSize) n k (le, (ts, bs, e, o, m, f)) = absurd (not_empty ts (piece bs) e)
 begins_open (Some AnswerFailed) n k (le, (ts, bs, e, o, l, m)) = absurd (not_empty ts (piece bs) e)
 
-module _ {X : Type 0} (takes : X → Option (List Take)) (answers : X → Option (List Answer)) (failures : X → ℕ) (c : Config) where
+module _ {X : Type 0} (takes : X → List Take → X → Type 0) (takes_refl : (s : X) → takes s [] s)
+    (takes_trans : (s t u : X) (xs ys : List Take) → takes s xs t → takes t ys u → takes s (xs ++ ys) u)
+    (answers : X → List Answer → X → Type 0) (answers_refl : (s : X) → answers s [] s)
+    (answers_trans : (s t u : X) (xs ys : List Answer) → answers s xs t → answers t ys u → answers s (xs ++ ys) u)
+    (failures : X → ℕ) (c : Config) where
   none_exchanged : (x : X) (end : Option SessionEnd) → end ≡ None → Exchanged takes answers failures x x end [] []
-  none_exchanged x None e = record { took = told_none (takes x); answered = told_none (answers x); counted = refl }
+  none_exchanged x None e = record { took = takes_refl x; answered = answers_refl x; counted = refl }
   none_exchanged x (Some end) e = absurd (cc)
 
   pub begun : {M : Type 0} (chain : Chain M) (is_out : List (List ℕ) → Type 0) (x : X) → ChainStandsFor chain c → is_out [] → HasRun c chain.injector chain.talk is_out (Exchanged takes answers failures x x) []
@@ -107,13 +111,13 @@ module _ {X : Type 0} (takes : X → Option (List Take)) (answers : X → Option
   -- ---- the messages before a packet
 
   exchanged_more : (x y z : X) (end end' : Option SessionEnd) (ts more : List Take) (rs rs' : List Reply) → end ≡ None → Exchanged takes answers failures x y end ts rs
-      → Told (takes y) (takes z) more → Told (answers y) (answers z) (answers_to (loses end end') rs') → (loses end end' ≡ true → 0 < length rs')
+      → takes y more z → answers y (answers_to (loses end end') rs') z → (loses end end' ≡ true → 0 < length rs')
       → CountsEnd end end' (failures y) (failures z) → Exchanged takes answers failures x z end' (ts ++ more) (rs ++ rs')
   exchanged_more x y z (Some end) end' ts more rs rs' e h told given some counts = absurd (cc)
   exchanged_more x y z None end' ts more rs rs' e h told given some counts = record {
-    took = told_more (takes x) (takes y) (takes z) ts more h.took told;
-    answered = subst (Told (answers x) (answers z)) (sym (answers_more (lost_by end') rs rs' some))
-        (told_more (answers x) (answers y) (answers z) (answers_to false rs) (answers_to (lost_by end') rs') h.answered given);
+    took = takes_trans x y z ts more h.took told;
+    answered = subst (λ xs. answers x xs z) (sym (answers_more (lost_by end') rs rs' some))
+        (answers_trans x y z (answers_to false rs) (answers_to (lost_by end') rs') h.answered given);
     counted = subst (λ n. CountsEnd None end' n (failures z)) h.counted counts;
   }
 
@@ -138,8 +142,8 @@ module _ {X : Type 0} (takes : X → Option (List Take)) (answers : X → Option
     module _ {M : Type 0} (y z : X) (injector injector' : Injector) (talk talk' : Talk M) (h : HasRun c injector talk is_out (Exchanged takes answers failures x y) ps) where
       abbrev Listens : Type 0
       Listens = (ts : List Take) (n k : ℕ) → TalkStandsFor talk ts n k →
-          (more : List Take) × (rs : List Reply) × Told (takes y) (takes z) more × TalkStandsFor talk' (ts ++ more) (n + length rs) (suc k)
-          × Replied InjectorJudges injector injector' (judged_before (n + length rs) (ts ++ more) k) rs (loses talk.end talk'.end) (answers y) (answers z)
+          (more : List Take) × (rs : List Reply) × takes y more z × TalkStandsFor talk' (ts ++ more) (n + length rs) (suc k)
+          × Replied InjectorJudges injector injector' (judged_before (n + length rs) (ts ++ more) k) rs (loses talk.end talk'.end) (λ xs. answers y xs z)
 
       heard_open : talk.end ≡ None → Listens → CountsEnd talk.end talk'.end (failures y) (failures z) → HasHeard c injector' talk' is_out (Exchanged takes answers failures x z) ps
       heard_open e listens counts =

@@ -13,7 +13,7 @@ use Rattle.as_session.specs.Session.{state_of}
 use Rattle.as_session.specs.Messages.{messages_of, messages_within}
 use Rattle.as_session.proofs.FrameLemmas.{partial_none}
 use Rattle.scte104_codec.specs.Reading.{MessageReading}
-use Rattle.chain_engine.specs.Automation.{Answer, CountsAnswer, Told, Take, piece, ended, failed, bytes_in, bytes_of}
+use Rattle.chain_engine.specs.Automation.{Answer, CountsAnswer, Take, piece, ended, failed, bytes_in, bytes_of}
 use Rattle.chain_engine.specs.Hearing.{HearsPiece, Replied, CanEnd, lost_by}
 use Rattle.chain_engine.specs.declared.hearing.SessionEnd.{SessionEnd}
 use Rattle.chain_engine.specs.declared.hearing.SessionEnd.TheVariants.{Ended, TakeFailed, BadSize, AnswerFailed}
@@ -209,23 +209,23 @@ counts_heard (Some AnswerFailed) old new can h = h
 counts_heard (Some Ended) old new can h = absurd can
 counts_heard (Some TakeFailed) old new can h = absurd can
 
-module _ {J M : Type 0} (judges : J → MessageReading → Reply → J → Type 0) (j i : J) (took takes : Option (List Take)) (before now : Option (List Answer)) (talk : Talk M) (ts : List Take) (n k : ℕ) where
-  pub listened : (more : List Take) (ms : List (List ℕ)) (rs : List Reply) (lost : Bool) → Told took takes more → Goes talk.end (state_of talk.session) (ts ++ more) (n + length ms) k ms
-      → Replied judges j i ms rs lost before now
-      → (x : List Take) × (y : List Reply) × Told took takes x × TalkStandsFor talk (ts ++ x) (n + length y) (suc k) × Replied judges j i (judged_before (n + length y) (ts ++ x) k) y lost before now
+module _ {J M : Type 0} (judges : J → MessageReading → Reply → J → Type 0) (j i : J) (takes : List Take → Type 0) (answers : List Answer → Type 0) (talk : Talk M) (ts : List Take) (n k : ℕ) where
+  pub listened : (more : List Take) (ms : List (List ℕ)) (rs : List Reply) (lost : Bool) → takes more → Goes talk.end (state_of talk.session) (ts ++ more) (n + length ms) k ms
+      → Replied judges j i ms rs lost answers
+      → (x : List Take) × (y : List Reply) × takes x × TalkStandsFor talk (ts ++ x) (n + length y) (suc k) × Replied judges j i (judged_before (n + length y) (ts ++ x) k) y lost answers
   listened more ms rs lost told goes replied =
       let number = judged_count judges j i ms rs replied.judged in (
         more,
         rs,
         told,
         record { talked = subst (λ m. HasTalked talk.end (ts ++ more) (n + m) (suc k)) number goes.talked; pending = goes.pending },
-        subst (λ l. Replied judges j i l rs lost before now) (sym (ap (λ m. judged_before (n + m) (ts ++ more) k) (sym number) ∙ goes.judged)) replied,
+        subst (λ l. Replied judges j i l rs lost answers) (sym (ap (λ m. judged_before (n + m) (ts ++ more) k) (sym number) ∙ goes.judged)) replied,
       )
 
   -- no message is judged
-  pub listened_none : (more : List Take) (lost : Bool) → lost ≡ false → (e : i ≡ j) (f : now ≡ before) → Told took takes more → Goes talk.end (state_of talk.session) (ts ++ more) n k []
-      → (x : List Take) × (y : List Reply) × Told took takes x × TalkStandsFor talk (ts ++ x) (n + length y) (suc k) × Replied judges j i (judged_before (n + length y) (ts ++ x) k) y lost before now
+  pub listened_none : (more : List Take) (lost : Bool) → lost ≡ false → (e : i ≡ j) (f : answers []) → takes more → Goes talk.end (state_of talk.session) (ts ++ more) n k []
+      → (x : List Take) × (y : List Reply) × takes x × TalkStandsFor talk (ts ++ x) (n + length y) (suc k) × Replied judges j i (judged_before (n + length y) (ts ++ x) k) y lost answers
   listened_none more lost l e f told goes =
-      let none = replied_none judges j [] before refl in
-      let there = subst (λ a. Replied judges j i [] none.0 lost before a) (sym f) (subst (λ a. Replied judges j a [] none.0 lost before before) (sym e) (subst (λ b. Replied judges j j [] none.0 b before before) (sym l) none.1)) in
+      let none = replied_none judges j [] answers f refl in
+      let there = subst (λ a. Replied judges j a [] none.0 lost answers) (sym e) (subst (λ b. Replied judges j j [] none.0 b answers) (sym l) none.1) in
       listened more [] none.0 lost told (subst (λ m. Goes talk.end (state_of talk.session) (ts ++ more) m k []) (omega arith) goes) there

@@ -1,5 +1,5 @@
 -- What an automation tells of itself: what its takes gave, the answers that it was given, and how many of them failed.
-use Rattle.std.specs.Prelude.{◌≡◌, ℕ, ◌≤◌, Bool, true, false, List, [], ◌∷◌, ◌++◌, Option, Some, IfSome, take}
+use Rattle.std.specs.Prelude.{◌≡◌, ℕ, ◌≤◌, Bool, true, false, List, [], take}
 use Rattle.std.specs.List.{flat_map}
 use Rattle.ts_packet.specs.Transfers.{IsCounted}
 use Rattle.chain_engine.specs.declared.automation.Taken.{Taken}
@@ -31,14 +31,6 @@ IsRoomFor room (Bytes n) = n ≤ room
 IsRoomFor room Nothing = Unit {0}
 IsRoomFor room Ended = Unit {0}
 IsRoomFor room Failed = Unit {0}
-
--- where a list was known, it is known with one more
-abbrev pub Adds : {X : Type 0} → Option (List X) → Option (List X) → X → Type 0
-Adds old new x = IfSome old (λ xs. new ≡ Some (xs ++ x ∷ []))
-
--- and with these behind it
-abbrev pub Told : {X : Type 0} → Option (List X) → Option (List X) → List X → Type 0
-Told old new ys = IfSome old (λ xs. new ≡ Some (xs ++ ys))
 
 -- a failure is counted, and nothing else is
 abbrev pub CountsTake : Taken → ℕ → ℕ → Type 0

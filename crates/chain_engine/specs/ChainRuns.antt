@@ -17,7 +17,7 @@ use Rattle.splice_plans.specs.Adverts.{setting_of}
 use Rattle.splice_plans.specs.Switching.{spliced_network}
 use Rattle.splice_plans.specs.Reporting as events
 use Rattle.splice_switch.specs.Standing.{FinishFails}
-use Rattle.chain_engine.specs.Automation.{Take, Answer, Told}
+use Rattle.chain_engine.specs.Automation.{Take, Answer}
 use Rattle.chain_engine.specs.Hearing.{answers_to}
 use Rattle.chain_engine.specs.Talks.{TalkStandsFor, judged_before, loses}
 use Rattle.chain_engine.specs.Stops.{first_run_fault, IsLeftBy, StopsBy}
@@ -105,14 +105,14 @@ heard_steps ts n k steps = asked (judged_before n ts k) steps
 
 -- Before a packet these takes and replies came, each reply by the history; the last reply was lost, or none. The functions are an
 -- automation's.
-pub record Hears {X : Type 0} (takes : X → Option (List Take)) (answers : X → Option (List Answer)) (old new : X) (lost : Bool)
+pub record Hears {X : Type 0} (takes : X → List Take → X → Type 0) (answers : X → List Answer → X → Type 0) (old new : X) (lost : Bool)
     (c : Config) (ts : List Take) (n k : ℕ) (steps : List Step) (more : List Take) (rs : List Reply) : Type 0 where
-  pub took : Told (takes old) (takes new) more
-  pub answered : Told (answers old) (answers new) (answers_to lost rs)
+  pub took : takes old more new
+  pub answered : answers old (answers_to lost rs) new
   pub replies : replies_in c (heard_steps (ts ++ more) (n + length rs) k steps) ≡ replies_in c steps ++ rs
 
 -- THE STEP: the automation was heard, and then the packet, which is without fault, was passed on
-pub record Stepped {M X : Type 0} (takes : X → Option (List Take)) (answers : X → Option (List Answer)) (before now : X) (old new : Chain M)
+pub record Stepped {M X : Type 0} (takes : X → List Take → X → Type 0) (answers : X → List Answer → X → Type 0) (before now : X) (old new : Chain M)
     (filed : ℕ → Option Advertisement) (is_out : List (List ℕ) → Type 0) (ts : List Take) (n k : ℕ) (p : List ℕ) (steps : List Step) : Type 0 where
   pub config : new.config ≡ old.config
   pub more : List Take
@@ -122,7 +122,7 @@ pub record Stepped {M X : Type 0} (takes : X → Option (List Take)) (answers : 
   pub stands : HasStepped new filed is_out (ts ++ more) (n + length rs) (suc k) (Packet p ∷ heard_steps (ts ++ more) (n + length rs) k steps)
 
 -- the automation was heard, and then the packet was not passed on; the talk is as it was left
-pub record StepStops {M X : Type 0} (takes : X → Option (List Take)) (answers : X → Option (List Answer)) (before now : X) (old new : Chain M) (fault : FeedFault)
+pub record StepStops {M X : Type 0} (takes : X → List Take → X → Type 0) (answers : X → List Answer → X → Type 0) (before now : X) (old new : Chain M) (fault : FeedFault)
     (filed : ℕ → Option Advertisement) (is_out : List (List ℕ) → Type 0) (fails : List (List ℕ) → List ℕ → PutFault → Type 0)
     (ts : List Take) (n k : ℕ) (p : List ℕ) (steps : List Step) : Type 0 where
   pub more : List Take

@@ -7,7 +7,7 @@ use Rattle.scte104_codec.specs.Framing.{frame_of}
 use Rattle.scte104_codec.specs.declared.framing.Frame.TheVariants.{BadSize}
 use Rattle.as_session.specs.Feeding.{State, opened, Fed, nothing, message, closed}
 use Rattle.as_session.specs.Messages.{messages_of}
-use Rattle.chain_engine.specs.Automation.{Answer, answer_of, Told}
+use Rattle.chain_engine.specs.Automation.{Answer, answer_of}
 use Rattle.chain_engine.specs.Judging.{JudgesAll}
 use Rattle.chain_engine.specs.declared.hearing.Heard.{Heard}
 use Rattle.chain_engine.specs.declared.hearing.Heard.TheVariants as heard
@@ -21,12 +21,12 @@ answers_to lost (r ∷ []) = answer_of (reply_bytes r) (not lost) ∷ []
 answers_to lost (r ∷ s ∷ rs) = answer_of (reply_bytes r) true ∷ answers_to lost (s ∷ rs)
 
 -- These messages were judged in order, which led from the first judge to the second, and the replies given to the
--- automation; the last was lost, or none.
+-- automation; the last was lost, or none. `answers` says which answers it was given.
 pub record Replied {J : Type 0} (judges : J → MessageReading → Reply → J → Type 0) (j k : J)
-    (ms : List (List ℕ)) (rs : List Reply) (lost : Bool) (before now : Option (List Answer)) : Type 0 where
+    (ms : List (List ℕ)) (rs : List Reply) (lost : Bool) (answers : List Answer → Type 0) : Type 0 where
   pub judged : JudgesAll judges j ms rs k
   pub some : lost ≡ true → 0 < length rs
-  pub told : Told before now (answers_to lost rs)
+  pub told : answers (answers_to lost rs)
 
 -- ---- one call of a session
 

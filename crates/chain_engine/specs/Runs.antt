@@ -17,7 +17,7 @@ use Rattle.splice_plans.specs.declared.report.SwitchReport.{SwitchReport}
 use Rattle.injector.specs.Replies.{reply_to}
 use Rattle.injector.specs.Steps.{Step, Message, Packet, turns_in, cued, sent_at, messages_in, accepted_in}
 use Rattle.injector.specs.Steps.{refused_in}
-use Rattle.chain_engine.specs.Automation.{Take, Answer, Told}
+use Rattle.chain_engine.specs.Automation.{Take, Answer}
 use Rattle.chain_engine.specs.Hearing.{answers_to, lost_by}
 use Rattle.chain_engine.specs.Talks.{judged_before, HasTalked, CountsEnd}
 use Rattle.chain_engine.specs.Stops.{first_run_fault, IsLeftBy, StopsBy}
@@ -70,10 +70,10 @@ sent_by c steps = reverse (cued c steps)
 
 -- What the automation gave up to its session's end, where it has ended, and what it was given: all replies, the last
 -- one lost or not. The failure that ended the session is counted. The functions are an automation's.
-pub record Exchanged {X : Type 0} (takes : X → Option (List Take)) (answers : X → Option (List Answer))
+pub record Exchanged {X : Type 0} (takes : X → List Take → X → Type 0) (answers : X → List Answer → X → Type 0)
     (failures : X → ℕ) (old new : X) (ending : Option SessionEnd) (ts : List Take) (rs : List Reply) : Type 0 where
-  pub took : Told (takes old) (takes new) ts
-  pub answered : Told (answers old) (answers new) (answers_to (lost_by ending) rs)
+  pub took : takes old ts new
+  pub answered : answers old (answers_to (lost_by ending) rs) new
   pub counted : CountsEnd None ending (failures old) (failures new)
 
 -- A run has talked before so many packets, and each reply is the one by the history. `exchanged` says so of a

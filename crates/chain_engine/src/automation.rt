@@ -16,14 +16,14 @@ pub enum Taken {
 /// What asks for breaks: an automation system on a connection, or a script. It is asked for a piece of bytes before each packet of the
 /// network, and takes the replies to the messages in them.
 pub trait Automation {
-    ghost use Rattle.std.specs.Prelude.{◌≡◌, ℕ, List, Option, length};
-    ghost use Rattle.chain_engine.specs.Automation.{Take, Answer, take_of, answer_of, IsRoomFor, Adds, CountsTake, CountsAnswer};
+    ghost use Rattle.std.specs.Prelude.{◌≡◌, ℕ, List, [], ◌∷◌, ◌++◌, length};
+    ghost use Rattle.chain_engine.specs.Automation.{Take, Answer, take_of, answer_of, IsRoomFor, CountsTake, CountsAnswer};
 
-    /// What its takes gave so far, in order, where that is known.
-    ghost takes: { Self → Option (List Take) };
+    /// What its takes gave between a state and a later one, in order.
+    ghost takes: { Self → List Take → Self → Type 0 };
 
-    /// The answers that it was given so far, in order, where that is known.
-    ghost answers: { Self → Option (List Answer) };
+    /// The answers that it was given between a state and a later one, in order.
+    ghost answers: { Self → List Answer → Self → Type 0 };
 
     /// How many takes and answers failed. The count stops at the greatest u64.
     ghost failures: { Self → ℕ };
@@ -32,13 +32,21 @@ pub trait Automation {
     fn take(&mut self, room: &mut [u8]) -> Taken
         requires room { length room.old ≡ 4096 }
         ensures bound { IsRoomFor (length room.new) result }
-        ensures takes { Adds (takes self.old) (takes self.new) (take_of result room.new) }
-        ensures answers { answers self.new ≡ answers self.old }
+        ensures takes { takes self.old (take_of result room.new ∷ []) self.new }
+        ensures answers { answers self.old [] self.new }
         ensures failures { CountsTake result (failures self.old) (failures self.new) };
 
     /// Gives a reply, a whole message, and answers whether the automation has it.
     fn answer(&mut self, reply: &[u8]) -> bool
-        ensures takes { takes self.new ≡ takes self.old }
-        ensures answers { Adds (answers self.old) (answers self.new) (answer_of reply.now result) }
+        ensures takes { takes self.old [] self.new }
+        ensures answers { answers self.old (answer_of reply.now result ∷ []) self.new }
         ensures failures { CountsAnswer result (failures self.old) (failures self.new) };
+
+    ghost takes_refl: { (s : Self) → takes s [] s };
+
+    ghost takes_trans: { (s t u : Self) (xs ys : List Take) → takes s xs t → takes t ys u → takes s (xs ++ ys) u };
+
+    ghost answers_refl: { (s : Self) → answers s [] s };
+
+    ghost answers_trans: { (s t u : Self) (xs ys : List Answer) → answers s xs t → answers t ys u → answers s (xs ++ ys) u };
 }

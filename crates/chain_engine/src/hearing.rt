@@ -1,6 +1,6 @@
 //! Pieces of automation bytes, heard: the messages in them are judged and answered.
 
-ghost use Rattle.std.specs.Prelude.{◌≡◌, List, ℕ, length, not};
+ghost use Rattle.std.specs.Prelude.{◌≡◌, List, [], ℕ, length, not};
 ghost use Rattle.scte104_codec.specs.declared.reply.Reply.{Reply};
 ghost use Rattle.as_session.specs.Session.{state_of};
 ghost use Rattle.as_session.specs.Feeding.{feed_of, opened};
@@ -47,9 +47,9 @@ fn hear_one<M: Allocator, J: Judge, U: Automation>(
 ) -> Heard
     ensures after { state_of session.new ≡ (feed_of (state_of session.old) piece.now).after }
     ensures heard { HeardAs (feed_of (state_of session.old) piece.now) (length piece.now) result }
-    ensures takes { U.takes automation.new ≡ U.takes automation.old }
+    ensures takes { U.takes automation.old [] automation.new }
     ensures replied { (rs : List Reply) × Replied J.judges judge.old judge.new
-        (messages_in (feed_of (state_of session.old) piece.now).gives) rs (is_unanswered result) (U.answers automation.old) (U.answers automation.new) }
+        (messages_in (feed_of (state_of session.old) piece.now).gives) rs (is_unanswered result) (λ xs. U.answers automation.old xs automation.new) }
     ensures failures { CountsAnswer (not (is_unanswered result))
         (U.failures automation.old) (U.failures automation.new) }
 {
@@ -72,10 +72,10 @@ pub(crate) fn hear<M: Allocator, J: Judge, U: Automation>(
     judge: &mut J,
     automation: &mut U,
 ) -> Option<SessionEnd>
-    ensures takes { U.takes automation.new ≡ U.takes automation.old }
+    ensures takes { U.takes automation.old [] automation.new }
     ensures heard { (stream : List ℕ) → state_of session.old ≡ opened (messages_of stream).rest →
         (ms : List (List ℕ)) × (rs : List Reply) × HearsPiece stream piece.now ms (state_of session.new) result
-        × Replied J.judges judge.old judge.new ms rs (lost_by result) (U.answers automation.old) (U.answers automation.new) }
+        × Replied J.judges judge.old judge.new ms rs (lost_by result) (λ xs. U.answers automation.old xs automation.new) }
     ensures ends { CanEnd result }
     ensures failures { CountsAnswer (not (lost_by result)) (U.failures automation.old) (U.failures automation.new) }
 {

@@ -37,7 +37,7 @@ impl<M: Allocator> Talk<M> {
     ghost use Rattle.std.specs.Prelude.{◌≡◌, ℕ, suc, ◌+◌, List, ◌++◌, length, true};
     ghost use Rattle.std.specs.Option.{is_some};
     ghost use Rattle.scte104_codec.specs.declared.reply.Reply.{Reply};
-    ghost use Rattle.chain_engine.specs.Automation.{Take, Told};
+    ghost use Rattle.chain_engine.specs.Automation.{Take};
     ghost use Rattle.chain_engine.specs.Hearing.{Replied};
     ghost use Rattle.chain_engine.specs.Talks.{TalkStandsFor, judged_before, loses, CountsEnd};
 
@@ -45,10 +45,10 @@ impl<M: Allocator> Talk<M> {
     #[inline(always)]
     pub(crate) fn listen<J: Judge, U: Automation>(&mut self, judge: &mut J, automation: &mut U)
         ensures talk { (ts : List Take) (n k : ℕ) → TalkStandsFor self.old ts n k →
-            (more : List Take) × (rs : List Reply) × Told (U.takes automation.old) (U.takes automation.new) more
+            (more : List Take) × (rs : List Reply) × U.takes automation.old more automation.new
             × TalkStandsFor self.new (ts ++ more) (n + length rs) (suc k)
             × Replied J.judges judge.old judge.new (judged_before (n + length rs) (ts ++ more) k) rs
-            (loses self.old.end self.new.end) (U.answers automation.old) (U.answers automation.new) }
+            (loses self.old.end self.new.end) (λ xs. U.answers automation.old xs automation.new) }
         ensures closed { is_some self.old.end ≡ true → (self.new ≡ self.old) × (judge.new ≡ judge.old)
             × (automation.new ≡ automation.old) }
         ensures failures { CountsEnd self.old.end self.new.end (U.failures automation.old) (U.failures automation.new) }

@@ -32,13 +32,21 @@ impl<'a> FailAutomation<'a> {
 }
 
 impl Automation for FailAutomation<'_> {
-    ghost use Rattle.std.specs.Prelude.{None};
+    ghost use Rattle.std.specs.Prelude.{⊤};
 
-    ghost takes = { λ s. None };
+    ghost takes = { λ s ts t. ⊤ };
 
-    ghost answers = { λ s. None };
+    ghost answers = { λ s xs t. ⊤ };
 
     ghost failures = { λ s. s.failures };
+
+    ghost takes_refl = { λ s. tt };
+
+    ghost takes_trans = { λ s t u xs ys h k. tt };
+
+    ghost answers_refl = { λ s. tt };
+
+    ghost answers_trans = { λ s t u xs ys h k. tt };
 
     fn take(&mut self, room: &mut [u8]) -> Taken {
         if self.good_takes == 0 {

@@ -7,14 +7,18 @@ use Rattle.psi_tables.specs.declared.config.Config.{Config}
 use Rattle.ts_packet.specs.declared.sink.PutFault.{PutFault}
 use Rattle.ad_library.specs.Advertisements.{Advertisement}
 use Rattle.splice_plans.specs.declared.report.SwitchReport.{SwitchReport}
-use Rattle.chain_engine.specs.Runs.{InjectsAll}
+use Rattle.scte104_codec.specs.declared.reply.Reply.{Reply}
+use Rattle.chain_engine.specs.Automation.{Take}
+use Rattle.chain_engine.specs.declared.hearing.SessionEnd.{SessionEnd}
+use Rattle.chain_engine.specs.Runs.{InjectsAll, Serves}
 use Rattle.chain_engine.specs.Splices.{SplicesAll}
 use Rattle.chain_engine.specs.ChainRuns as chain
 use Rattle.chain_engine.specs.declared.report.Report.{Report}
-use Rattle.chain_engine.specs.declared.chain.RunFault.{RunFault}
-use Rattle.chain_engine.proofs.ForgetLemmas.{chain_stops_so}
+use Rattle.chain_engine.proofs.ForgetLemmas.{stops_so, chain_stops_so}
 use Rattle.unit_cut.specs.Runs.{CutsAll}
-use Rattle.passages.specs.Runs.{PassesAll, Cuts, Cues, Splices, Plays}
+use Rattle.passages.specs.Runs.{PassesAll, Cuts, Cues, Splices, Plays, CuesStop, PlaysStop}
+use Rattle.passages.specs.declared.listening.ListenFault.{ListenFault}
+use Rattle.passages.specs.declared.listening.ListenFault.TheVariants as listen
 
 -- ---- at a device
 
@@ -41,6 +45,15 @@ pub buffered_none : (start : Option (List ℕ)) (form : List (List ℕ) → List
 buffered_none None form e = tt
 buffered_none (Some bs) form e = ap (λ l. Some (bs ++ l)) (sym e)
 
+-- what follows from what is said of an answer
+pub if_ok_so : {T E : Type 0} (r : Result T E) (said said' : T → Type 0) → ((x : T) → said x → said' x) → IfOk r said → IfOk r said'
+if_ok_so (Ok x) said said' so h = so x h
+if_ok_so (Err f) said said' so h = tt
+
+pub if_err_so : {T E : Type 0} (r : Result T E) (said said' : E → Type 0) → ((x : E) → said x → said' x) → IfErr r said → IfErr r said'
+if_err_so (Ok x) said said' so h = tt
+if_err_so (Err f) said said' so h = so f h
+
 -- what holds whatever a run answered
 pub anyway : {T E X : Type 0} (r : Result T E) → X → OnOk r X
 anyway (Ok x) h = h
@@ -63,43 +76,46 @@ pub cuts : (pid from length : ℕ) (input : Option (List ℕ)) (is_out : List (L
 cuts pid from length None is_out report h = tt
 cuts pid from length (Some bs) is_out report h = (_, (h.0, refl), h.1)
 
-pub cues : (c : Config) (told : _) (input : Option (List ℕ)) (is_out : List (List ℕ) → Type 0) (report : Report) → InjectsAll c input is_out told report
-    → PassesAll (Cues c) input is_out report
-cues c told None is_out report h = tt
-cues c told (Some bs) is_out report h = (
-  _,
-  record {
-    sound = h.sound;
-    ts = h.ts;
-    rs = h.rs;
-    serves = record { ending = h.serves.ending; talked = h.serves.talked; exchanges = tt; replies = h.serves.replies };
-    written = refl;
-    counted = h.counted;
-  },
-  h.written,
-)
+module _ (told told' : Option SessionEnd → List Take → List Reply → Type 0) (so : (ending : Option SessionEnd) (ts : List Take) (rs : List Reply) → told ending ts rs → told' ending ts rs) (c : Config) where
+  serves_so : (ts : List Take) (rs : List Reply) (k : ℕ) (steps : _) → Serves c told ts rs k steps → Serves c told' ts rs k steps
+  serves_so ts rs k steps h = record { ending = h.ending; talked = h.talked; exchanges = so h.ending ts rs h.exchanges; replies = h.replies }
+
+  pub cues : (input : Option (List ℕ)) (is_out : List (List ℕ) → Type 0) (report : Report) → InjectsAll c input is_out told report
+      → PassesAll (Cues c told') input is_out report
+  cues None is_out report h = tt
+  cues (Some bs) is_out report h =
+      (_, record { sound = h.sound; ts = h.ts; rs = h.rs; serves = serves_so _ _ _ _ h.serves; written = refl; counted = h.counted }, h.written)
+
+  pub cues_so : (input : Option (List ℕ)) (is_out : List (List ℕ) → Type 0) (report : Report) → PassesAll (Cues c told) input is_out report
+      → PassesAll (Cues c told') input is_out report
+  cues_so None is_out report h = tt
+  cues_so (Some bs) is_out report (ps, h, out) =
+      (ps, record { sound = h.sound; ts = h.ts; rs = h.rs; serves = serves_so _ _ _ _ h.serves; written = h.written; counted = h.counted }, out)
+
+  pub cues_stop_so : (fault : ListenFault) (input : Option (List ℕ)) (is_out : List (List ℕ) → Type 0) (fails : List (List ℕ) → List ℕ → PutFault → Type 0)
+      → CuesStop c told fault input is_out fails → CuesStop c told' fault input is_out fails
+  cues_stop_so listen.Accept input is_out fails h = h
+  cues_stop_so (listen.Run fault) input is_out fails h = stops_so c told told' so fault input is_out fails h
+
+  module _ (filed : ℕ → Option Advertisement) where
+    pub plays : (input : Option (List ℕ)) (is_out : List (List ℕ) → Type 0) (report : Report) → chain.RunsAll c filed input is_out told report
+        → PassesAll (Plays c filed told') input is_out report
+    plays None is_out report h = tt
+    plays (Some bs) is_out report h =
+        (_, record { sound = h.sound; ts = h.ts; rs = h.rs; serves = serves_so _ _ _ _ h.serves; written = refl; counted = h.counted }, h.written)
+
+    pub plays_so : (input : Option (List ℕ)) (is_out : List (List ℕ) → Type 0) (report : Report) → PassesAll (Plays c filed told) input is_out report
+        → PassesAll (Plays c filed told') input is_out report
+    plays_so None is_out report h = tt
+    plays_so (Some bs) is_out report (ps, h, out) =
+        (ps, record { sound = h.sound; ts = h.ts; rs = h.rs; serves = serves_so _ _ _ _ h.serves; written = h.written; counted = h.counted }, out)
+
+    pub plays_stop_so : (fault : ListenFault) (input : Option (List ℕ)) (is_out : List (List ℕ) → Type 0) (fails : List (List ℕ) → List ℕ → PutFault → Type 0)
+        → PlaysStop c filed told fault input is_out fails → PlaysStop c filed told' fault input is_out fails
+    plays_stop_so listen.Accept input is_out fails h = h
+    plays_stop_so (listen.Run fault) input is_out fails h = chain_stops_so c told told' so filed fault input is_out fails h
 
 pub splices : (c : Config) (filed : ℕ → Option Advertisement) (input : Option (List ℕ)) (is_out : List (List ℕ) → Type 0) (report : SwitchReport) → SplicesAll c filed input is_out report
     → PassesAll (Splices c filed) input is_out report
 splices c filed None is_out report h = tt
 splices c filed (Some bs) is_out report h = (_, record { sound = h.sound; written = refl; counted = h.counted }, h.written)
-
-pub plays : (c : Config) (filed : ℕ → Option Advertisement) (told : _) (input : Option (List ℕ)) (is_out : List (List ℕ) → Type 0) (report : Report)
-    → chain.RunsAll c filed input is_out told report → PassesAll (Plays c filed) input is_out report
-plays c filed told None is_out report h = tt
-plays c filed told (Some bs) is_out report h = (
-  _,
-  record {
-    sound = h.sound;
-    ts = h.ts;
-    rs = h.rs;
-    serves = record { ending = h.serves.ending; talked = h.serves.talked; exchanges = tt; replies = h.serves.replies };
-    written = refl;
-    counted = h.counted;
-  },
-  h.written,
-)
-
-pub plays_stop : (c : Config) (filed : ℕ → Option Advertisement) (told : _) (fault : RunFault) (input : Option (List ℕ)) (is_out : List (List ℕ) → Type 0)
-    (fails : List (List ℕ) → List ℕ → PutFault → Type 0) → chain.ChainStops c filed fault input is_out fails told → chain.ChainStops c filed fault input is_out fails (λ ending ts rs. Unit {0})
-plays_stop c filed told fault input is_out fails h = chain_stops_so c told (λ ending ts rs. Unit {0}) (λ e ts rs x. tt) filed fault input is_out fails h

@@ -1,6 +1,6 @@
--- Whole runs of the program: which packets go out for the bytes of a network, and what is told. A script and a connection do not tell their
--- pieces, so of runs with cues some pieces are spoken of.
-use Rattle.std.specs.Prelude.{◌≡◌, ℕ, List, [], Option, None, IfSome, Result, Ok, Err}
+-- Whole runs of the program: which packets go out for the bytes of a network, and what is told. A connection does not tell its pieces, so of
+-- runs with one some pieces are spoken of.
+use Rattle.std.specs.Prelude.{◌≡◌, ℕ, ◌+◌, ◌^◌, ◌<◌, List, [], length, Option, None, IfSome, Result, Ok, Err}
 use Rattle.ts_packet.specs.Packets.{packets_of}
 use Rattle.ts_packet.specs.declared.sink.PutFault.{PutFault}
 use Rattle.unit_cut.specs.Cutting.{cut_between}
@@ -8,11 +8,16 @@ use Rattle.unit_cut.specs.FirstFault.{first_fault}
 use Rattle.psi_tables.specs.declared.config.Config.{Config}
 use Rattle.ad_library.specs.Advertisements.{Advertisement}
 use Rattle.splice_plans.specs.declared.report.SwitchReport.{SwitchReport}
+use Rattle.scte104_codec.specs.declared.reply.Reply.{Reply}
+use Rattle.chain_engine.specs.Automation.{Take}
+use Rattle.chain_engine.specs.declared.hearing.SessionEnd.{SessionEnd}
 use Rattle.chain_engine.specs.Runs.{Injected, InjectStops}
 use Rattle.chain_engine.specs.Splices.{Spliced}
 use Rattle.chain_engine.specs.ChainRuns as chain
 use Rattle.chain_engine.specs.declared.report.Report.{Report}
 use Rattle.chain_engine.specs.declared.chain.RunFault.{RunFault}
+use Rattle.automations.specs.ScriptLines.{ScriptLine, GivesLines}
+use Rattle.automations.specs.ScriptTakes.{takes_from}
 use Rattle.passages.specs.declared.listening.ListenFault.{ListenFault}
 use Rattle.passages.specs.declared.listening.ListenFault.TheVariants as listen
 use Rattle.passages.specs.declared.fault.ProgramFault.{ProgramFault}
@@ -29,9 +34,24 @@ PassesAll passes input is_out report = IfSome input (λ bs. (ps : List (List ℕ
 abbrev pub Cuts : ℕ → ℕ → ℕ → List ℕ → List (List ℕ) → Unit {0} → Type 0
 Cuts pid from length bs ps report = (first_fault pid bs ≡ None) × (ps ≡ cut_between from length pid (packets_of bs))
 
--- `inject`: the network has no fault, these packets are the cued stream of it and of some pieces of messages, and the report counts these
-abbrev pub Cues : Config → List ℕ → List (List ℕ) → Report → Type 0
-Cues c bs ps report = Injected c bs (λ qs. qs ≡ ps) (λ ending ts rs. Unit {0}) report
+-- ---- what is known of the pieces of messages
+
+-- THE TAKES OF AN ASKER: those of a script are its lines', before packet after packet from the next one on, for as long as the packets' numbers
+-- fit 64 bits
+abbrev pub AsksBy : {W L : Type 0} → Asker W L → List Take → Type 0
+AsksBy (asker.Script s) ts = (script : List ScriptLine) → GivesLines s script → s.packet + length ts < 2 ^ 64
+    → ts ≡ takes_from s.packet (length ts) script
+AsksBy (asker.Port listener) ts = Unit {0}
+
+-- nothing is known of the pieces
+abbrev pub Untold : Option SessionEnd → List Take → List Reply → Type 0
+Untold ending ts rs = Unit {0}
+
+-- ---- runs with cues; `told` says what is known of the session's end, takes and replies
+
+-- `inject`: the network has no fault, these packets are the cued stream of it and of the pieces of messages, and the report counts these
+abbrev pub Cues : Config → (Option SessionEnd → List Take → List Reply → Type 0) → List ℕ → List (List ℕ) → Report → Type 0
+Cues c told bs ps report = Injected c bs (λ qs. qs ≡ ps) told report
 
 -- `splice`: the network has no fault, these packets are its spliced stream with the advertisements that are filed so, and the report is by
 -- its events
@@ -39,21 +59,22 @@ abbrev pub Splices : Config → (ℕ → Option Advertisement) → List ℕ → 
 Splices c filed bs ps report = Spliced c filed bs (λ qs. qs ≡ ps) report
 
 -- `run`: the network has no fault, these packets are the spliced stream of its cued stream, and the report counts messages and events
-abbrev pub Plays : Config → (ℕ → Option Advertisement) → List ℕ → List (List ℕ) → Report → Type 0
-Plays c filed bs ps report = chain.Ran c filed bs (λ qs. qs ≡ ps) (λ ending ts rs. Unit {0}) report
+abbrev pub Plays : Config → (ℕ → Option Advertisement) → (Option SessionEnd → List Take → List Reply → Type 0) → List ℕ
+    → List (List ℕ) → Report → Type 0
+Plays c filed told bs ps report = chain.Ran c filed bs (λ qs. qs ≡ ps) told report
 
 -- THE THEOREM of a run with cues that stopped: without a client nothing is out; else the fault says what it says of the network and the
--- devices, and what is out is by some pieces of messages
-abbrev pub CuesStop : Config → ListenFault → Option (List ℕ) → (List (List ℕ) → Type 0)
-    → (List (List ℕ) → List ℕ → PutFault → Type 0) → Type 0
-CuesStop c listen.Accept input is_out fails = is_out []
-CuesStop c (listen.Run fault) input is_out fails = InjectStops c fault input is_out fails (λ ending ts rs. Unit {0})
+-- devices, and what is out is by the pieces of messages
+abbrev pub CuesStop : Config → (Option SessionEnd → List Take → List Reply → Type 0) → ListenFault → Option (List ℕ)
+    → (List (List ℕ) → Type 0) → (List (List ℕ) → List ℕ → PutFault → Type 0) → Type 0
+CuesStop c told listen.Accept input is_out fails = is_out []
+CuesStop c told (listen.Run fault) input is_out fails = InjectStops c fault input is_out fails told
 
 -- and of one with cues and advertisements
-abbrev pub PlaysStop : Config → (ℕ → Option Advertisement) → ListenFault → Option (List ℕ) → (List (List ℕ) → Type 0)
-    → (List (List ℕ) → List ℕ → PutFault → Type 0) → Type 0
-PlaysStop c filed listen.Accept input is_out fails = is_out []
-PlaysStop c filed (listen.Run fault) input is_out fails = chain.ChainStops c filed fault input is_out fails (λ ending ts rs. Unit {0})
+abbrev pub PlaysStop : Config → (ℕ → Option Advertisement) → (Option SessionEnd → List Take → List Reply → Type 0) → ListenFault
+    → Option (List ℕ) → (List (List ℕ) → Type 0) → (List (List ℕ) → List ℕ → PutFault → Type 0) → Type 0
+PlaysStop c filed told listen.Accept input is_out fails = is_out []
+PlaysStop c filed told (listen.Run fault) input is_out fails = chain.ChainStops c filed fault input is_out fails told
 
 -- this is said of the run's answer, where a client came or none was waited for
 abbrev pub IfRan : {R : Type 0} → Result R ListenFault → (Result R RunFault → Type 0) → Type 0

@@ -8,7 +8,7 @@ ghost use Rattle.ad_library.specs.Library.{held};
 ghost use Rattle.chain_engine.specs.Chains.{ChainStandsFor};
 ghost use Rattle.chain_engine.specs.Runs.{NetworkBlamed, OutputBlamed};
 ghost use Rattle.chain_engine.specs.Splices.{NetworkBlamedToEnd};
-ghost use Rattle.passages.specs.Runs.{PassesAll, CuesStop, Cues, PlaysStop, Plays, IfRan, IsPort, told_fault, lost_replies};
+ghost use Rattle.passages.specs.Runs.{PassesAll, AsksBy, CuesStop, Cues, PlaysStop, Plays, IfRan, IsPort, told_fault, lost_replies};
 
 use crate::fault::ProgramFault;
 use crate::listening::{ListenFault, inject_listening, run_listening};
@@ -58,9 +58,10 @@ where
     L::Stream: OpenStream + Read + Write + Drop,
     requires { P.is_broken network.old ≡ false }
     ensures done { (c : Config) (start : Option (List ℕ)) → ChainStandsFor chain c → K.holds out.old start []
-        → IfOk result (PassesAll (Cues c) (P.left network.old) (K.holds out.new start)) }
+        → IfOk result (PassesAll (Cues c (λ _ ts _. AsksBy asker.old ts)) (P.left network.old) (K.holds out.new start)) }
     ensures stop { (c : Config) (start : Option (List ℕ)) → ChainStandsFor chain c → K.holds out.old start []
-        → IfErr result (λ f. CuesStop c f (P.left network.old) (K.holds out.new start) (K.fails out.new start)) }
+        → IfErr result (λ f. CuesStop c (λ _ ts _. AsksBy asker.old ts) f (P.left network.old)
+        (K.holds out.new start) (K.fails out.new start)) }
     ensures read { OnOk result (SourceCounts false (P.has_ended network.old) (P.has_ended network.new)
         (P.counts network.old) (P.counts network.new)) }
     ensures wrote { OnOk result (WentWell (K.counts out.old) (K.counts out.new)) }
@@ -104,9 +105,10 @@ where
     L::Stream: OpenStream + Read + Write + Drop,
     requires { P.is_broken network.old ≡ false }
     ensures done { (c : Config) (start : Option (List ℕ)) → ChainStandsFor chain c → K.holds out.old start []
-        → IfOk result (PassesAll (Plays c (held library.now)) (P.left network.old) (K.holds out.new start)) }
+        → IfOk result (PassesAll (Plays c (held library.now) (λ _ ts _. AsksBy asker.old ts))
+        (P.left network.old) (K.holds out.new start)) }
     ensures stop { (c : Config) (start : Option (List ℕ)) → ChainStandsFor chain c → K.holds out.old start []
-        → IfErr result (λ f. PlaysStop c (held library.now) f (P.left network.old)
+        → IfErr result (λ f. PlaysStop c (held library.now) (λ _ ts _. AsksBy asker.old ts) f (P.left network.old)
         (K.holds out.new start) (K.fails out.new start)) }
     ensures read { OnOk result (SourceCounts false (P.has_ended network.old) (P.has_ended network.new)
         (P.counts network.old) (P.counts network.new)) }

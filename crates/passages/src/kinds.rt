@@ -84,11 +84,11 @@ where
     L: OpenListener,
     L::Stream: OpenStream + Read + Write + Drop,
 {
-    ghost use Rattle.passages.specs.Runs.{Cues};
+    ghost use Rattle.passages.specs.Runs.{Cues, AsksBy};
 
     type Report = Report;
 
-    ghost passes = { λ p. Cues p.options.now.config };
+    ghost passes = { λ p. Cues p.options.now.config (λ ending ts rs. AsksBy p.asker.now ts) };
 
     fn pass<P: PacketSource, K: PacketSink>(
         self,
@@ -126,11 +126,11 @@ where
     L::Stream: OpenStream + Read + Write + Drop,
 {
     ghost use Rattle.ad_library.specs.Library.{held};
-    ghost use Rattle.passages.specs.Runs.{Plays};
+    ghost use Rattle.passages.specs.Runs.{Plays, AsksBy};
 
     type Report = Report;
 
-    ghost passes = { λ p. Plays p.options.now.config (held p.library.now) };
+    ghost passes = { λ p. Plays p.options.now.config (held p.library.now) (λ ending ts rs. AsksBy p.asker.now ts) };
 
     fn pass<P: PacketSource, K: PacketSink>(
         self,

@@ -8,7 +8,7 @@ ghost use Rattle.ad_library.specs.Library.{held};
 ghost use Rattle.chain_engine.specs.Chains.{ChainStandsFor};
 ghost use Rattle.chain_engine.specs.Runs.{NetworkBlamed, OutputBlamed};
 ghost use Rattle.chain_engine.specs.Splices.{NetworkBlamedToEnd};
-ghost use Rattle.passages.specs.Runs.{PassesAll, Cues, CuesStop, Plays, PlaysStop, IfRan};
+ghost use Rattle.passages.specs.Runs.{PassesAll, Untold, Cues, CuesStop, Plays, PlaysStop, IfRan};
 
 use ad_library::AdLibrary;
 use automations::accept;
@@ -49,10 +49,10 @@ where
     requires { P.is_broken network.old ≡ false }
     ensures ok { (c : Config) (start : Option (List ℕ)) (before : List (List ℕ)) → ChainStandsFor chain c
         → K.holds out.old start before
-        → IfOk result (PassesAll (Cues c) (P.left network.old) (λ ps. K.holds out.new start (before ++ ps))) }
+        → IfOk result (PassesAll (Cues c Untold) (P.left network.old) (λ ps. K.holds out.new start (before ++ ps))) }
     ensures err { (c : Config) (start : Option (List ℕ)) (before : List (List ℕ)) → ChainStandsFor chain c
         → K.holds out.old start before
-        → IfErr result (λ f. CuesStop c f (P.left network.old) (λ ps. K.holds out.new start (before ++ ps))
+        → IfErr result (λ f. CuesStop c Untold f (P.left network.old) (λ ps. K.holds out.new start (before ++ ps))
         (λ ps. K.fails out.new start (before ++ ps))) }
     ensures read { OnOk result (SourceCounts false (P.has_ended network.old) (P.has_ended network.new)
         (P.counts network.old) (P.counts network.new)) }
@@ -96,10 +96,10 @@ where
     K: PacketSink,
     requires { P.is_broken network.old ≡ false }
     ensures ok { (c : Config) (start : Option (List ℕ)) (before : List (List ℕ)) → ChainStandsFor chain c
-        → K.holds out.old start before → IfOk result (PassesAll (Plays c (held library.now)) (P.left network.old)
+        → K.holds out.old start before → IfOk result (PassesAll (Plays c (held library.now) Untold) (P.left network.old)
         (λ ps. K.holds out.new start (before ++ ps))) }
     ensures err { (c : Config) (start : Option (List ℕ)) (before : List (List ℕ)) → ChainStandsFor chain c
-        → K.holds out.old start before → IfErr result (λ f. PlaysStop c (held library.now) f (P.left network.old)
+        → K.holds out.old start before → IfErr result (λ f. PlaysStop c (held library.now) Untold f (P.left network.old)
         (λ ps. K.holds out.new start (before ++ ps)) (λ ps. K.fails out.new start (before ++ ps))) }
     ensures read { OnOk result (SourceCounts false (P.has_ended network.old) (P.has_ended network.new)
         (P.counts network.old) (P.counts network.new)) }

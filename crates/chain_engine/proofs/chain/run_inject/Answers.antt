@@ -22,7 +22,7 @@ loop-injector-init g c = record {
   passed = (
     [],
     given_none _ _,
-    λ d start before h held. begun g.U.Automation.takes g.U.Automation.answers g.U.Automation.failures d c.args.chain (λ qs. g.K.PacketSink.holds c.args.out.now start (before ++ qs)) c.args.automation.now h
+    λ d start before h held. begun g.U.Automation.takes g.met.U.Automation.takes_refl g.met.U.Automation.takes_trans g.U.Automation.answers g.met.U.Automation.answers_refl g.met.U.Automation.answers_trans g.U.Automation.failures d c.args.chain (λ qs. g.K.PacketSink.holds c.args.out.now start (before ++ qs)) c.args.automation.now h
         (subst (g.K.PacketSink.holds c.args.out.now start) (sym (append-nil before)) held),
   );
 }
@@ -55,7 +55,7 @@ loop-injector-preserved g c =
         ps ++ p ∷ [],
         given_more _ _ _ _ _ _ ps p n r given.1,
         λ d start before h held.
-            let before_packet = heard g.U.Automation.takes g.U.Automation.answers g.U.Automation.failures d (λ qs. g.K.PacketSink.holds c.loop-injector.out start (before ++ qs)) ps c.args.automation.now
+            let before_packet = heard g.U.Automation.takes g.met.U.Automation.takes_refl g.met.U.Automation.takes_trans g.U.Automation.answers g.met.U.Automation.answers_refl g.met.U.Automation.answers_trans g.U.Automation.failures d (λ qs. g.K.PacketSink.holds c.loop-injector.out start (before ++ qs)) ps c.args.automation.now
             c.loop-injector.automation c.listen.new.automation c.loop-injector.injector c.listen.new.judge c.loop-injector.talk c.listen.new.self (run d start before h held)
             c.listen.ensures.talk c.listen.ensures.closed c.listen.ensures.failures in
             passed d _ ps c.listen.new.judge c.feed.new.self c.listen.new.self (λ qs. g.K.PacketSink.holds c.loop-injector.out start (before ++ qs)) (λ qs. g.K.PacketSink.holds c.feed.new.sink start (before ++ qs)) p before_packet
@@ -72,7 +72,7 @@ returns-in-Err-feed-clause-err g c = λ d start before h held.
     let (ps, n, run) = c.loop-injector.invariant.passed in
     let p = c.read_packet.new.packet in
     let r = rw c.in-Ok-true.field-0-test at c.in-Ok-true.ensures.ok in
-    let before_packet = heard g.U.Automation.takes g.U.Automation.answers g.U.Automation.failures d (λ qs. g.K.PacketSink.holds c.loop-injector.out start (before ++ qs)) ps c.args.automation.now
+    let before_packet = heard g.U.Automation.takes g.met.U.Automation.takes_refl g.met.U.Automation.takes_trans g.U.Automation.answers g.met.U.Automation.answers_refl g.met.U.Automation.answers_trans g.U.Automation.failures d (λ qs. g.K.PacketSink.holds c.loop-injector.out start (before ++ qs)) ps c.args.automation.now
     c.loop-injector.automation c.listen.new.automation c.loop-injector.injector c.listen.new.judge c.loop-injector.talk c.listen.new.self (run d start before h held)
     c.listen.ensures.talk c.listen.ensures.closed c.listen.ensures.failures in
     feed_stops d _ ps c.listen.new.judge c.listen.new.self (λ s qs. g.K.PacketSink.holds s start (before ++ qs)) (λ qs. g.K.PacketSink.fails c.feed.new.sink start (before ++ qs))

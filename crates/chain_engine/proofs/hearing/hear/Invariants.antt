@@ -1,4 +1,4 @@
-use Rattle.std.proofs.Common.{◌≡◌, List, ℕ, length}
+use Rattle.std.proofs.Common.{◌≡◌, List, [], ℕ, length}
 use Rattle.as_session.specs.Session.{state_of}
 use Rattle.as_session.specs.Feeding.{opened}
 use Rattle.as_session.specs.Messages.{messages_of}
@@ -7,10 +7,10 @@ use Rattle.chain_engine.proofs.hearing.hear.Given as goal
 
 abbrev pub invariant-loop-used : goal.invariant-loop-used
 invariant-loop-used g l = record {
-  takes : g.U.Automation.takes l.automation ≡ g.U.Automation.takes l.initial.automation;
+  takes : g.U.Automation.takes l.initial.automation [] l.automation;
   failures : g.U.Automation.failures l.automation ≡ g.U.Automation.failures l.initial.automation;
   heard : (stream : List ℕ) → state_of l.initial.session ≡ opened (messages_of stream).rest →
-      HasHeard g.J.Judge.judges l.initial.judge l.judge (g.U.Automation.answers l.initial.automation) (g.U.Automation.answers l.automation) stream l.piece l.rest (state_of l.session);
+      HasHeard g.J.Judge.judges l.initial.judge l.judge (λ xs. g.U.Automation.answers l.initial.automation xs l.automation) stream l.piece l.rest (state_of l.session);
 }
 
 abbrev pub decreases-loop-used : goal.decreases-loop-used

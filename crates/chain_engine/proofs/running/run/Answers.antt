@@ -33,7 +33,7 @@ loop-fault-init g c = record {
     [],
     given_none _ _,
     λ start before h held_first. (
-      begun g.U.Automation.takes g.U.Automation.answers g.U.Automation.failures c.args.chain.config c.args.chain
+      begun g.U.Automation.takes g.met.U.Automation.takes_refl g.met.U.Automation.takes_trans g.U.Automation.answers g.met.U.Automation.answers_refl g.met.U.Automation.answers_trans g.U.Automation.failures c.args.chain.config c.args.chain
           (WasFed c.args.chain.switch c.args.chain.config (held c.args.library.now) (λ qs. g.K.PacketSink.holds c.args.out.now start (before ++ qs))) c.args.automation.now h
           (record { stands = h.switch (held c.args.library.now); sent = subst (g.K.PacketSink.holds c.args.out.now start) (sym (append-nil before)) held_first }),
       record { bytes = tt; sound = refl },
@@ -69,7 +69,7 @@ loop-fault-preserved g c =
         λ start before own held_first.
             let is_out = WasFed c.loop-fault.switch d filed (λ qs. g.K.PacketSink.holds c.loop-fault.out start (before ++ qs)) in
             let is_out' = WasFed c.pass_on.new.switch d filed (λ qs. g.K.PacketSink.holds c.pass_on.new.out start (before ++ qs)) in
-            let before_packet = heard g.U.Automation.takes g.U.Automation.answers g.U.Automation.failures d is_out ps c.args.automation.now
+            let before_packet = heard g.U.Automation.takes g.met.U.Automation.takes_refl g.met.U.Automation.takes_trans g.U.Automation.answers g.met.U.Automation.answers_refl g.met.U.Automation.answers_trans g.U.Automation.failures d is_out ps c.args.automation.now
             c.loop-fault.automation c.listen.new.automation c.loop-fault.injector c.listen.new.judge c.loop-fault.talk c.listen.new.self (run start before own held_first).0
             c.listen.ensures.talk c.listen.ensures.closed c.listen.ensures.failures in (
               passed d _ ps c.listen.new.judge c.pass_on.new.injector c.listen.new.self is_out is_out' p before_packet
@@ -92,7 +92,7 @@ returns-in-Err-pass_on-clause-err g c = λ d start before h held_first.
     let r = rw c.in-Ok-true.field-0-test at c.in-Ok-true.ensures.ok in
     let own = subst (ChainStandsFor c.args.chain) (sym h.config) h in
     let is_out = WasFed c.loop-fault.switch k filed (λ qs. g.K.PacketSink.holds c.loop-fault.out start (before ++ qs)) in
-    let before_packet = heard g.U.Automation.takes g.U.Automation.answers g.U.Automation.failures k is_out ps c.args.automation.now
+    let before_packet = heard g.U.Automation.takes g.met.U.Automation.takes_refl g.met.U.Automation.takes_trans g.U.Automation.answers g.met.U.Automation.answers_refl g.met.U.Automation.answers_trans g.U.Automation.failures k is_out ps c.args.automation.now
     c.loop-fault.automation c.listen.new.automation c.loop-fault.injector c.listen.new.judge c.loop-fault.talk c.listen.new.self (run start before own held_first).0
     c.listen.ensures.talk c.listen.ensures.closed c.listen.ensures.failures in
     subst (λ w. ChainStops w filed (Feed c.in-Err-pass_on.fault) (g.P.PacketSource.left c.args.network.now) (λ qs. g.K.PacketSink.holds c.pass_on.new.out start (before ++ qs)) (λ qs. g.K.PacketSink.fails c.pass_on.new.out start (before ++ qs)) (Exchanged g.U.Automation.takes g.U.Automation.answers g.U.Automation.failures c.args.automation.now c.listen.new.automation)) h.config
