@@ -15,7 +15,7 @@ use Rattle.injector.specs.Steps.{Step, Message, Packet, packets_in, turns_in, cu
 use Rattle.injector.specs.Injecting.{InjectorStandsFor}
 use Rattle.chain_engine.specs.Automation.{Take, bytes_in, bytes_of}
 use Rattle.chain_engine.specs.Judging.{JudgesAll, InjectorJudges}
-use Rattle.chain_engine.specs.Talks.{messages_in, judged_in, judged_before}
+use Rattle.chain_engine.specs.Talks.{messages_taken, judged_in, judged_before}
 use Rattle.chain_engine.specs.Runs.{asked, steps_of, steps_before, replies_in}
 use Rattle.chain_engine.proofs.TalkLemmas.{judged_none}
 
@@ -45,22 +45,22 @@ messages_front u v =
     )
 
 -- and no more
-pub fewer : (ts : List Take) (j : ℕ) → length (messages_in (take j ts)) ≤ length (messages_in ts)
+pub fewer : (ts : List Take) (j : ℕ) → length (messages_taken (take j ts)) ≤ length (messages_taken ts)
 fewer ts j =
     let (more, e) = messages_front (bytes_of (take j ts)) (bytes_of (drop j ts)) in
     let whole : bytes_of (take j ts) ++ bytes_of (drop j ts) ≡ bytes_of ts = sym (flat_map-append bytes_in (take j ts) (drop j ts)) ∙ ap bytes_of (take-append-drop j ts) in
-    let all : length (messages_of (bytes_of (take j ts) ++ bytes_of (drop j ts))).messages ≡ length (messages_in ts) = ap (λ (b : List ℕ). length (messages_of b).messages) whole in
-    let parts : length (messages_of (bytes_of (take j ts) ++ bytes_of (drop j ts))).messages ≡ length (messages_in (take j ts) ++ more) = ap length e in
-    let sum = length-append (messages_in (take j ts)) more in
+    let all : length (messages_of (bytes_of (take j ts) ++ bytes_of (drop j ts))).messages ≡ length (messages_taken ts) = ap (λ (b : List ℕ). length (messages_of b).messages) whole in
+    let parts : length (messages_of (bytes_of (take j ts) ++ bytes_of (drop j ts))).messages ≡ length (messages_taken (take j ts) ++ more) = ap length e in
+    let sum = length-append (messages_taken (take j ts)) more in
     omega (arith, all, parts, sum)
 
 -- ---- the steps of a front stay
 
-module _ (ts us : List Take) (n m : ℕ) (e : n ≡ length (messages_in ts)) where
+module _ (ts us : List Take) (n m : ℕ) (e : n ≡ length (messages_taken ts)) where
   judged_front : (j : ℕ) → j ≤ length ts → judged_in (n + m) (take j (ts ++ us)) ≡ judged_in n (take j ts)
   judged_front j le =
       let few = fewer ts j in
-      ap (judged_in (n + m)) (take-append-le j ts us le) ∙ take_all (n + m) (messages_in (take j ts)) (omega (arith, few, e)) ∙ sym (take_all n (messages_in (take j ts)) (omega (arith, few, e)))
+      ap (judged_in (n + m)) (take-append-le j ts us le) ∙ take_all (n + m) (messages_taken (take j ts)) (omega (arith, few, e)) ∙ sym (take_all n (messages_taken (take j ts)) (omega (arith, few, e)))
 
   pub judged_stays : (k : ℕ) → suc k ≤ length ts → judged_before (n + m) (ts ++ us) k ≡ judged_before n ts k
   judged_stays k le =

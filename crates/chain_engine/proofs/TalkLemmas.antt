@@ -17,7 +17,7 @@ use Rattle.chain_engine.specs.Automation.{Answer, CountsAnswer, Take, piece, end
 use Rattle.chain_engine.specs.Hearing.{HearsPiece, Replied, CanEnd, lost_by}
 use Rattle.chain_engine.specs.declared.hearing.SessionEnd.{SessionEnd}
 use Rattle.chain_engine.specs.declared.hearing.SessionEnd.TheVariants.{Ended, TakeFailed, BadSize, AnswerFailed}
-use Rattle.chain_engine.specs.Talks.{is_piece, messages_in, judged_in, judged_before, HasTalked, TalkStandsFor, loses, CountsEnd}
+use Rattle.chain_engine.specs.Talks.{is_piece, messages_taken, judged_in, judged_before, HasTalked, TalkStandsFor, loses, CountsEnd}
 use Rattle.chain_engine.specs.declared.talk.Talk.{Talk}
 use Rattle.chain_engine.proofs.HearingLemmas.{replied_none, judged_count}
 
@@ -54,18 +54,18 @@ bytes_more takes t = flat_map-append bytes_in takes (t ∷ []) ∙ ap (λ l. byt
 -- ---- which messages are judged before the packet
 
 -- a take before the packet, behind one for each packet before it
-pub judged_new : (takes : List Take) (t : Take) (k : ℕ) (ms more : List (List ℕ)) → length takes ≡ k → messages_in (takes ++ t ∷ []) ≡ messages_in takes ++ (ms ++ more)
-    → judged_before (length (messages_in takes) + length ms) (takes ++ t ∷ []) k ≡ ms
+pub judged_new : (takes : List Take) (t : Take) (k : ℕ) (ms more : List (List ℕ)) → length takes ≡ k → messages_taken (takes ++ t ∷ []) ≡ messages_taken takes ++ (ms ++ more)
+    → judged_before (length (messages_taken takes) + length ms) (takes ++ t ∷ []) k ≡ ms
 judged_new takes t k ms more e h =
-    let most = length (messages_in takes) + length ms in
+    let most = length (messages_taken takes) + length ms in
     let long = length-append takes (t ∷ []) in
-    let before : judged_in most (take k (takes ++ t ∷ [])) ≡ messages_in takes =
-    ap (judged_in most) (take_front takes (t ∷ []) k e) ∙ take_whole (messages_in takes) most (omega arith) in
-    let all : judged_in most (take (suc k) (takes ++ t ∷ [])) ≡ messages_in takes ++ ms =
+    let before : judged_in most (take k (takes ++ t ∷ [])) ≡ messages_taken takes =
+    ap (judged_in most) (take_front takes (t ∷ []) k e) ∙ take_whole (messages_taken takes) most (omega arith) in
+    let all : judged_in most (take (suc k) (takes ++ t ∷ [])) ≡ messages_taken takes ++ ms =
     ap (judged_in most) (take_whole (takes ++ t ∷ []) (suc k) (omega (arith, long, e)))
-    ∙ ap (take most) (h ∙ sym (append_assoc (messages_in takes) ms more))
-    ∙ take_front (messages_in takes ++ ms) more most (length-append (messages_in takes) ms) in
-    ap (λ l. drop (length l) (judged_in most (take (suc k) (takes ++ t ∷ [])))) before ∙ ap (drop (length (messages_in takes))) all ∙ drop_front (messages_in takes) ms
+    ∙ ap (take most) (h ∙ sym (append_assoc (messages_taken takes) ms more))
+    ∙ take_front (messages_taken takes ++ ms) more most (length-append (messages_taken takes) ms) in
+    ap (λ l. drop (length l) (judged_in most (take (suc k) (takes ++ t ∷ [])))) before ∙ ap (drop (length (messages_taken takes))) all ∙ drop_front (messages_taken takes) ms
 
 -- no take before it
 pub judged_none : (most : ℕ) (takes : List Take) (k : ℕ) → length takes ≤ k → judged_before most takes k ≡ []
@@ -96,8 +96,8 @@ module _ (takes : List Take) (n k : ℕ) (h : HasTalked None takes n k) where
     no_bytes : bytes_of (takes ++ t ∷ []) ≡ bytes_of takes
     no_bytes = bytes_more takes t ∙ ap (λ l. bytes_of takes ++ l) same ∙ append-nil (bytes_of takes)
 
-    no_messages : messages_in (takes ++ t ∷ []) ≡ messages_in takes ++ ([] ++ [])
-    no_messages = ap (λ l. (messages_of l).messages) no_bytes ∙ sym (append-nil (messages_in takes))
+    no_messages : messages_taken (takes ++ t ∷ []) ≡ messages_taken takes ++ ([] ++ [])
+    no_messages = ap (λ l. (messages_of l).messages) no_bytes ∙ sym (append-nil (messages_taken takes))
 
     none_judged : judged_before n (takes ++ t ∷ []) k ≡ []
     none_judged = ap (λ m. judged_before m (takes ++ t ∷ []) k) (h.2 ∙ (omega arith)) ∙ judged_new takes t k [] [] h.0 no_messages
@@ -134,21 +134,21 @@ module _ (takes : List Take) (n k : ℕ) (h : HasTalked None takes n k) where
     stream_more : bytes_of (takes ++ piece bs ∷ []) ≡ bytes_of takes ++ bs
     stream_more = bytes_more takes (piece bs)
 
-    messages_are : (more : List (List ℕ)) → (messages_of (bytes_of takes ++ bs)).messages ≡ (messages_of (bytes_of takes)).messages ++ (ms ++ more) → messages_in (takes ++ piece bs ∷ []) ≡ messages_in takes ++ (ms ++ more)
+    messages_are : (more : List (List ℕ)) → (messages_of (bytes_of takes ++ bs)).messages ≡ (messages_of (bytes_of takes)).messages ++ (ms ++ more) → messages_taken (takes ++ piece bs ∷ []) ≡ messages_taken takes ++ (ms ++ more)
     messages_are more e = ap (λ l. (messages_of l).messages) stream_more ∙ e
 
-    count : (more : List (List ℕ)) → messages_in (takes ++ piece bs ∷ []) ≡ messages_in takes ++ (ms ++ more) → length (messages_in (takes ++ piece bs ∷ [])) ≡ (n + length ms) + length more
+    count : (more : List (List ℕ)) → messages_taken (takes ++ piece bs ∷ []) ≡ messages_taken takes ++ (ms ++ more) → length (messages_taken (takes ++ piece bs ∷ [])) ≡ (n + length ms) + length more
     count more e =
         let a = ap length e in
-        let b = length-append (messages_in takes) (ms ++ more) in
+        let b = length-append (messages_taken takes) (ms ++ more) in
         let c = length-append ms more in
         omega (arith, a, b, c, h.2)
 
-    judged_by : (more : List (List ℕ)) → messages_in (takes ++ piece bs ∷ []) ≡ messages_in takes ++ (ms ++ more) → judged_before (n + length ms) (takes ++ piece bs ∷ []) k ≡ ms
+    judged_by : (more : List (List ℕ)) → messages_taken (takes ++ piece bs ∷ []) ≡ messages_taken takes ++ (ms ++ more) → judged_before (n + length ms) (takes ++ piece bs ∷ []) k ≡ ms
     judged_by more e = ap (λ m. judged_before (m + length ms) (takes ++ piece bs ∷ []) k) h.2 ∙ judged_new takes (piece bs) k ms more h.0 e
 
-    with_none : (messages_of (bytes_of takes ++ bs)).messages ≡ (messages_of (bytes_of takes)).messages ++ ms → messages_in (takes ++ piece bs ∷ []) ≡ messages_in takes ++ (ms ++ [])
-    with_none e = messages_are [] (e ∙ ap (λ l. messages_in takes ++ l) (sym (append-nil ms)))
+    with_none : (messages_of (bytes_of takes ++ bs)).messages ≡ (messages_of (bytes_of takes)).messages ++ ms → messages_taken (takes ++ piece bs ∷ []) ≡ messages_taken takes ++ (ms ++ [])
+    with_none e = messages_are [] (e ∙ ap (λ l. messages_taken takes ++ l) (sym (append-nil ms)))
 
     pub goes_heard : (end : Option SessionEnd) → HearsPiece (bytes_of takes) bs ms s end → (end ≡ None → is_partial (messages_of (bytes_of takes ++ bs)).rest ≡ true)
         → Goes end s (takes ++ piece bs ∷ []) (n + length ms) k ms

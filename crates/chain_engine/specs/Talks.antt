@@ -22,12 +22,12 @@ is_piece ended = false
 is_piece failed = false
 
 -- THE MESSAGES of all pieces joined
-abbrev pub messages_in : List Take → List (List ℕ)
-messages_in takes = (messages_of (bytes_of takes)).messages
+abbrev pub messages_taken : List Take → List (List ℕ)
+messages_taken takes = (messages_of (bytes_of takes)).messages
 
 -- those that are judged: so many, where a reply was lost, else all
 abbrev pub judged_in : ℕ → List Take → List (List ℕ)
-judged_in most takes = take most (messages_in takes)
+judged_in most takes = take most (messages_taken takes)
 
 -- those of them whose last byte stands in the take before packet k, which is judged behind the message
 abbrev pub judged_before : ℕ → List Take → ℕ → List (List ℕ)
@@ -42,20 +42,20 @@ pub record IsOpenBehind (takes : List Take) : Type 0 where
 -- behind all messages; or by the reply to a message that ends in it.
 abbrev pub EndsBy : SessionEnd → List Take → ℕ → Type 0
 EndsBy Ended takes n =
-    (ts : List Take) × (takes ≡ ts ++ ended ∷ []) × IsOpenBehind ts × (n ≡ length (messages_in ts))
+    (ts : List Take) × (takes ≡ ts ++ ended ∷ []) × IsOpenBehind ts × (n ≡ length (messages_taken ts))
 EndsBy TakeFailed takes n =
-    (ts : List Take) × (takes ≡ ts ++ failed ∷ []) × IsOpenBehind ts × (n ≡ length (messages_in ts))
+    (ts : List Take) × (takes ≡ ts ++ failed ∷ []) × IsOpenBehind ts × (n ≡ length (messages_taken ts))
 EndsBy BadSize takes n =
     (ts : List Take) × (bs : List ℕ) × (takes ≡ ts ++ piece bs ∷ []) × IsOpenBehind ts
-    × (n ≡ length (messages_in takes))
+    × (n ≡ length (messages_taken takes))
     × (frame_of (messages_of (bytes_of takes)).rest ≡ frames.BadSize)
 EndsBy AnswerFailed takes n =
     (ts : List Take) × (bs : List ℕ) × (takes ≡ ts ++ piece bs ∷ []) × IsOpenBehind ts
-    × (length (messages_in ts) < n) × (n ≤ length (messages_in takes))
+    × (length (messages_taken ts) < n) × (n ≤ length (messages_taken takes))
 
 -- THE TALK before so many packets: one take for each of them, all messages judged; or up to the session's end
 abbrev pub HasTalked : Option SessionEnd → List Take → ℕ → ℕ → Type 0
-HasTalked None takes n k = (length takes ≡ k) × IsOpenBehind takes × (n ≡ length (messages_in takes))
+HasTalked None takes n k = (length takes ≡ k) × IsOpenBehind takes × (n ≡ length (messages_taken takes))
 HasTalked (Some end) takes n k = (length takes ≤ k) × EndsBy end takes n
 
 -- a talk stands for this

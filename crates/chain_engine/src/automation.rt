@@ -48,5 +48,6 @@ pub trait Automation {
 
     ghost answers_refl: { (s : Self) → answers s [] s };
 
-    ghost answers_trans: { (s t u : Self) (xs ys : List Answer) → answers s xs t → answers t ys u → answers s (xs ++ ys) u };
+    ghost answers_trans: { (s t u : Self) (xs ys : List Answer) → answers s xs t → answers t ys u
+        → answers s (xs ++ ys) u };
 }

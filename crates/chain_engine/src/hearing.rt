@@ -49,7 +49,8 @@ fn hear_one<M: Allocator, J: Judge, U: Automation>(
     ensures heard { HeardAs (feed_of (state_of session.old) piece.now) (length piece.now) result }
     ensures takes { U.takes automation.old [] automation.new }
     ensures replied { (rs : List Reply) × Replied J.judges judge.old judge.new
-        (messages_in (feed_of (state_of session.old) piece.now).gives) rs (is_unanswered result) (λ xs. U.answers automation.old xs automation.new) }
+        (messages_in (feed_of (state_of session.old) piece.now).gives) rs (is_unanswered result)
+        (λ xs. U.answers automation.old xs automation.new) }
     ensures failures { CountsAnswer (not (is_unanswered result))
         (U.failures automation.old) (U.failures automation.new) }
 {

@@ -124,7 +124,8 @@ fn pass_on<K: PacketSink>(
     out: &mut K,
 ) -> Result<(), FeedFault>
     ensures leads { K.leads out.old out.new }
-    ensures ok { (steps : List Step) (start : Option (List ℕ)) (before fed : List (List ℕ)) → InjectorStandsFor injector.old config.now steps
+    ensures ok { (steps : List Step) (start : Option (List ℕ)) (before fed : List (List ℕ))
+        → InjectorStandsFor injector.old config.now steps
         → WasFed switch.old config.now (held library.now) (λ qs. K.holds out.old start (before ++ qs)) fed
         → OnOk result (WasFed switch.new config.now (held library.now) (λ qs. K.holds out.new start (before ++ qs))
         (fed ++ sent_at config.now packet.now steps)) }
@@ -133,13 +134,15 @@ fn pass_on<K: PacketSink>(
     ensures sound { (steps : List Step) → InjectorStandsFor injector.old config.now steps
         → OnOk result (network_fault (writing_cues config.now) packet.now (packets_in steps) ≡ None) }
     ensures bytes { AreBytes packet.now }
-    ensures err { (steps : List Step) (start : Option (List ℕ)) (before fed : List (List ℕ)) → InjectorStandsFor injector.old config.now steps
+    ensures err { (steps : List Step) (start : Option (List ℕ)) (before fed : List (List ℕ))
+        → InjectorStandsFor injector.old config.now steps
         → IsSoundNetwork config.now (packets_in steps) → fed ≡ sent_by config.now steps
         → WasFed switch.old config.now (held library.now) (λ qs. K.holds out.old start (before ++ qs)) fed
         → IfErr result (λ f. PassFails f config.now (held library.now) packet.now steps fed
         (λ qs. K.holds out.new start (before ++ qs)) (λ qs q x. K.fails out.new start (before ++ qs) q x)) }
     ensures well { OnOk result (WentWell (K.counts out.old) (K.counts out.new)) }
-    ensures blamed { IfErr result (λ f. OutputBlamed (RunFault.Feed f) (K.counts out.old) (K.counts out.new) (K.is_full out.new)) }
+    ensures blamed { IfErr result (λ f. OutputBlamed (RunFault.Feed f)
+        (K.counts out.old) (K.counts out.new) (K.is_full out.new)) }
 {
     of_bytes(packet);
     let mut feeding = Feeding {
@@ -184,10 +187,12 @@ impl<M: Allocator> Chain<M> {
             (λ qs. K.holds out.new start (before ++ qs)) ts n k packet.now steps) }
         ensures err { (ts : List Take) (n k : ℕ) (steps : List Step) (start : Option (List ℕ)) (before : List (List ℕ))
             → HasStepped self.old (held library.now) (λ qs. K.holds out.old start (before ++ qs)) ts n k steps
-            → IfErr result (λ f. StepStops U.takes U.answers automation.old automation.new self.old self.new f (held library.now)
-            (λ qs. K.holds out.new start (before ++ qs)) (λ qs q x. K.fails out.new start (before ++ qs) q x) ts n k packet.now steps) }
+            → IfErr result (λ f. StepStops U.takes U.answers automation.old automation.new self.old self.new f
+            (held library.now) (λ qs. K.holds out.new start (before ++ qs))
+            (λ qs q x. K.fails out.new start (before ++ qs) q x) ts n k packet.now steps) }
         ensures well { OnOk result (WentWell (K.counts out.old) (K.counts out.new)) }
-        ensures blamed { IfErr result (λ f. OutputBlamed (RunFault.Feed f) (K.counts out.old) (K.counts out.new) (K.is_full out.new)) }
+        ensures blamed { IfErr result (λ f. OutputBlamed (RunFault.Feed f)
+            (K.counts out.old) (K.counts out.new) (K.is_full out.new)) }
         ensures failed { self.old.is_spent ≡ true → (result ≡ Err FeedFault.Failed) × (self.new ≡ self.old)
             × (automation.new ≡ automation.old) × (out.new ≡ out.old) }
         ensures spent { self.new.is_spent ≡ is_err_or result self.old.is_spent }
