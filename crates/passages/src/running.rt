@@ -15,7 +15,9 @@ use psi_tables::FeedFault;
 use run_ends::{Attended, Unopened, finish, finish_buffer};
 use std::alloc::{AllocError, Global};
 use std::io::{self, BufReader, BufWriter, Read, Write};
-use ts_packet::{Buffered, Device, PacketReader, PacketSink, PacketSource, PacketWriter, Pid};
+use ts_packet::{
+    Blocks, Buffered, Device, PacketReader, PacketSink, PacketSource, PacketWriter, Pid,
+};
 use unit_cut::CutFault;
 
 /// How many bytes a file or a stream is read or written at a time.
@@ -125,7 +127,7 @@ fn run_to_blocks<S: Passage, P: PacketSource, O: Write + Drop>(
     let Ok(buffer) = BufWriter::with_capacity(alloc, BUFFER_SIZE, Attended::new(output)) else {
         return Err(AllocError);
     };
-    let mut target = Device::new(buffer);
+    let mut target = Blocks::new(buffer);
     let mut writer = PacketWriter::new(&mut target);
     let Passed { outcome, seen } = pass_watched(passage, watched, network, &mut writer);
     let (outcome, output) = finish_buffer(outcome, target.into_inner(), ProgramFault::Unflushed);

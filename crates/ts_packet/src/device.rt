@@ -1,10 +1,13 @@
 //! What bytes are read from and written to, with the counts that say what it did.
 
-ghost use Rattle.std.specs.Prelude.{◌≡◌, ◌≢◌, Ok, Err, IfOk, IfErr};
+ghost use Rattle.std.specs.Prelude.{◌≡◌, ◌≢◌, ◌<◌, length, Ok, Err, IfOk, IfErr};
+ghost use Rattle.std.specs.Io.{ReadsAtMost, WritesAtMost};
+ghost use Rattle.std.specs.Io.KnownBytes.{ReadConsumes, WriteAppends};
 ghost use Rattle.std.specs.IoError.{error_kind};
+ghost use Rattle.ts_packet.specs.Transfers.{IsCounted, CountsFailure, CountsZero, halts};
 
 use crate::tally::Tally;
-use std::io::{self, BufRead, BufReader, ErrorKind, Read};
+use std::io::{self, BufRead, BufReader, BufWriter, ErrorKind, Read};
 use thiserror::Error;
 
 /// Why a call of a device gave nothing.
@@ -179,13 +182,28 @@ impl<R: Read> Source for Buffered<R> {
     fn read(&mut self, buf: &mut [u8]) -> Result<usize, DeviceFault> {
         let count = buf.len();
         if self.device.inner.buffer().len() < count {
-            return self.device.read(buf);
+            return read_apart(&mut self.device, buf);
         }
         buf.copy_from_slice(&self.device.inner.buffer()[..count]);
         self.device.inner.consume(count);
         self.device.tally.count(&Ok(count));
         Ok(count)
     }
+}
+
+/// Reads. It stands by itself, so that a read that a buffer serves does not pay for the room that this one takes.
+#[cold]
+#[inline(never)]
+fn read_apart<S: Source>(source: &mut S, buf: &mut [u8]) -> Result<usize, DeviceFault>
+    requires some { 0 < length buf.old }
+    ensures bound { ReadsAtMost result buf.new }
+    ensures bytes { ReadConsumes (S.remaining source.old) (S.remaining source.new) result buf.new }
+    ensures calls { IsCounted (S.counts source.old).calls (S.counts source.new).calls }
+    ensures failures { CountsFailure result (S.counts source.old).failed (S.counts source.new).failed }
+    ensures zeros { CountsZero result (S.counts source.old).zeros (S.counts source.new).zeros }
+    ensures halted { (S.counts source.new).halted ≡ halts result }
+{
+    source.read(buf)
 }
 
 impl<W: io::Write> Target for Device<W> {
@@ -199,4 +217,65 @@ impl<W: io::Write> Target for Device<W> {
         self.tally.count(&answer);
         answer
     }
+}
+
+/// A buffered writer of std, with its counts. A write for which the buffer has room copies its bytes, and calls nothing.
+#[derive(Drop)]
+pub struct Blocks<W: io::Write + Drop> {
+    device: Device<BufWriter<W>>,
+}
+
+impl<W: io::Write + Drop> Blocks<W> {
+    ghost use Rattle.std.specs.Prelude.{◌≡◌};
+    ghost use Rattle.ts_packet.specs.Transfers.{no_tally};
+
+    /// The device over this writer, with no call made.
+    pub fn new(writer: BufWriter<W>) -> Blocks<W>
+        ensures inner { result.device.inner ≡ writer }
+        ensures tally { result.device.tally ≡ no_tally }
+    {
+        Blocks {
+            device: Device::new(writer),
+        }
+    }
+
+    /// The buffered writer, as the calls left it.
+    pub fn into_inner(self) -> BufWriter<W>
+        ensures { result ≡ self.device.inner }
+    {
+        let Blocks { device } = self;
+        device.into_inner()
+    }
+}
+
+impl<W: io::Write + Drop> Target for Blocks<W> {
+    ghost use Rattle.std.specs.Io.Buffered.{writer_contents};
+
+    ghost contents = { λ b. writer_contents W.contents b.device.inner };
+
+    ghost counts = { λ b. b.device.tally };
+
+    #[inline(always)]
+    fn write(&mut self, buf: &[u8]) -> Result<usize, DeviceFault> {
+        let writer = &self.device.inner;
+        if buf.len() < writer.capacity() - writer.buffer().len() {
+            return self.device.write(buf);
+        }
+        write_apart(&mut self.device, buf)
+    }
+}
+
+/// Writes. It stands by itself, so that a write for which a buffer has room does not pay for the room that this one takes.
+#[cold]
+#[inline(never)]
+fn write_apart<W: Target>(target: &mut W, buf: &[u8]) -> Result<usize, DeviceFault>
+    requires some { 0 < length buf.now }
+    ensures bound { WritesAtMost result buf.now }
+    ensures bytes { WriteAppends (W.contents target.old) (W.contents target.new) result buf.now }
+    ensures calls { IsCounted (W.counts target.old).calls (W.counts target.new).calls }
+    ensures failures { CountsFailure result (W.counts target.old).failed (W.counts target.new).failed }
+    ensures zeros { CountsZero result (W.counts target.old).zeros (W.counts target.new).zeros }
+    ensures halted { (W.counts target.new).halted ≡ halts result }
+{
+    target.write(buf)
 }

@@ -19,7 +19,7 @@ pub mod transfer;
 pub mod writer;
 
 pub use counter::Counter;
-pub use device::{Buffered, Device, DeviceFault, Source, Target};
+pub use device::{Blocks, Buffered, Device, DeviceFault, Source, Target};
 pub use follower::{Follower, Last, Mark};
 pub use list::PacketList;
 pub use packet::{Packet, PacketFault};

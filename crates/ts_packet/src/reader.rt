@@ -91,27 +91,38 @@ impl<'a, S: Source> PacketReader<'a, S> {
         if self.is_broken {
             return Err(ReadFault::Failed);
         }
-        self.is_broken = true;
         if self.given == u64::MAX {
+            self.is_broken = true;
             return Err(ReadFault::Turns);
         }
         match packet.fill_from(self.source) {
-            Ok(0) => {
-                self.is_broken = false;
-                Ok(false)
-            }
+            Ok(0) => Ok(false),
             Ok(188) => match packet.fault() {
                 None => {
                     self.given += 1;
-                    self.is_broken = false;
                     Ok(true)
                 }
-                Some(PacketFault::SyncLost) => Err(ReadFault::SyncLost),
-                Some(PacketFault::BadAdaptation) => Err(ReadFault::BadAdaptation),
+                Some(PacketFault::SyncLost) => {
+                    self.is_broken = true;
+                    Err(ReadFault::SyncLost)
+                }
+                Some(PacketFault::BadAdaptation) => {
+                    self.is_broken = true;
+                    Err(ReadFault::BadAdaptation)
+                }
             },
-            Ok(_) => Err(ReadFault::Truncated),
-            Err(FillFault::Io) => Err(ReadFault::Io),
-            Err(FillFault::Turns) => Err(ReadFault::Turns),
+            Ok(_) => {
+                self.is_broken = true;
+                Err(ReadFault::Truncated)
+            }
+            Err(FillFault::Io) => {
+                self.is_broken = true;
+                Err(ReadFault::Io)
+            }
+            Err(FillFault::Turns) => {
+                self.is_broken = true;
+                Err(ReadFault::Turns)
+            }
         }
     }
 

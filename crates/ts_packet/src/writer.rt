@@ -78,13 +78,12 @@ impl<W: Target> PacketSink for PacketWriter<'_, W> {
         if self.is_broken {
             return Err(PutFault::Failed);
         }
-        self.is_broken = true;
         match write_whole(self.target, packet.as_bytes()) {
-            Ok(()) => {
-                self.is_broken = false;
-                Ok(())
+            Ok(()) => Ok(()),
+            Err(fault) => {
+                self.is_broken = true;
+                Err(fault)
             }
-            Err(fault) => Err(fault),
         }
     }
 }

@@ -3,7 +3,7 @@ use Rattle.ts_packet.proofs.WritingLemmas.{Written-more, Written-part}
 use Rattle.ts_packet.proofs.writer.PacketWriterPacketSink.put.Goals as goal
 
 pub returns-in-Ok-clause-ok : goal.returns-in-Ok-clause-ok
-returns-in-Ok-clause-ok g c = λ start ps h. (refl, Written-more _ _ start ps c.args.packet.now h.1 (rw c.as_bytes.ensures.value at c.in-Ok.ensures.ok))
+returns-in-Ok-clause-ok g c = λ start ps h. (h.0, Written-more _ _ start ps c.args.packet.now h.1 (rw c.as_bytes.ensures.value at c.in-Ok.ensures.ok))
 
 pub returns-in-Err-clause-err : goal.returns-in-Err-clause-err
 returns-in-Err-clause-err g c = λ start ps h.
