@@ -16,7 +16,7 @@ use Rattle.program_follower.proofs.StreamLemmas.{payload_of}
 use Rattle.ad_library.specs.declared.gathered.Gathered.{Gathered}
 use Rattle.ad_library.specs.Advertisements.{KeptUnit, with_unit, kept}
 use Rattle.ad_library.specs.Storing.{StoredUnit, Stores, kept_unit, on_line, last_time, longer_stored}
-use Rattle.ad_library.specs.Gathering.{begun_stored, added, is_next, is_repeat, IsGathered, KeepsUnits, last_number, GathersStream, IsWholeStart}
+use Rattle.ad_library.specs.Gathering.{begun_stored, added, is_next, is_repeat, IsGathered, KeepsUnits, last_counter, GathersStream, IsWholeStart}
 
 -- ---- longer units
 
@@ -120,18 +120,18 @@ module _ (pids : List ℕ) (pid : ℕ) (p : List ℕ) (past : List (List ℕ)) w
   keeps_more us NoPayload time g y h = absurd (let e = g.is in let f : true ≡ false = sym y ∙ e in cc)
 
   -- the counter
-  pub counter_more : payload_on pid p ≡ true → Some (number p) ≡ last_number pid (p ∷ past)
+  pub counter_more : payload_on pid p ≡ true → Some (number p) ≡ last_counter pid (p ∷ past)
   counter_more y = simp y refl
 
   next_is : (l : Option Last) → is_next (option_map (λ (k : Last). number k.packet) l) (number p) ≡ follows_on p l
   next_is None = refl
   next_is (Some l) = refl
 
-  gap_original : original pid p past ≡ true → is_gap pid p past ≡ not (is_next (last_number pid past) (number p))
+  gap_original : original pid p past ≡ true → is_gap pid p past ≡ not (is_next (last_counter pid past) (number p))
   gap_original o = ap (λ x. x && not (follows_on p (last_of pid past))) o ∙ ap not (sym (next_is (last_of pid past)))
 
   abbrev pub goes_on : StreamPacket → Bool
-  goes_on part = is_repeat part || is_next (last_number pid past) (number p)
+  goes_on part = is_repeat part || is_next (last_counter pid past) (number p)
 
   pub gap_is : (part : StreamPacket) (time : Option ℕ) → IsGathered part time pids pid p past → payload_on pid p ≡ true → is_gap pid p past ≡ not (goes_on part)
   gap_is (Start begun) time g y = gap_original (begins_original g.is.0)
@@ -161,9 +161,9 @@ gathers_none g pids pid s n = record { units = []; stored = s; keeps = record { 
 
 -- the gap that is told
 pub told : (pids : List ℕ) (pid : ℕ) (p : List ℕ) (past : List (List ℕ)) (part : StreamPacket) (time last : Option ℕ) (n : ℕ) (b v : Bool) → IsGathered part time pids pid p past → payload_on pid p ≡ true
-    → last ≡ last_number pid past → n ≡ number p → b ≡ (is_repeat part || is_next last n) → b ≡ v → is_gap pid p past ≡ not v
+    → last ≡ last_counter pid past → n ≡ number p → b ≡ (is_repeat part || is_next last n) → b ≡ v → is_gap pid p past ≡ not v
 told pids pid p past part time last n b v g y l m e w =
-    gap_is pids pid p past part time g y ∙ ap not (sym (e ∙ ap (λ x. is_repeat part || is_next x n) l ∙ ap (λ k. is_repeat part || is_next (last_number pid past) k) m)) ∙ ap not w
+    gap_is pids pid p past part time g y ∙ ap not (sym (e ∙ ap (λ x. is_repeat part || is_next x n) l ∙ ap (λ k. is_repeat part || is_next (last_counter pid past) k) m)) ∙ ap not w
 
 pub gathers_more : {A : Type 0} (old new : Gathered A) (pids : List ℕ) (pid : ℕ) (p : List ℕ) (past : List (List ℕ)) (part : StreamPacket) (time : Option ℕ) (bs : List ℕ) (access : Bool) (n : ℕ)
     → IsGathered part time pids pid p past → Some bs ≡ payload p → bs ≡ bytes p → access ≡ random_access p → n ≡ number p → new.counter ≡ Some n

@@ -26,7 +26,7 @@ use Rattle.ad_library.specs.declared.fault.AdFault.TheVariants as ad_faults
 use Rattle.ad_library.specs.declared.gathering.Gathering.{Gathering}
 use Rattle.ad_library.specs.Advertisements.{kept_streams, zero_of, Advertisement, advertisement}
 use Rattle.program_follower.specs.Purposes.{reading_advertisement}
-use Rattle.ad_library.specs.Faults.{of_network, as_ad_fault, large_fault, loss_fault, packet_fault, ad_test, end_fault, without_zero, advertisement_fault, ad_cause, Says, of_read, is_of_library, StreamBlamed}
+use Rattle.ad_library.specs.Faults.{of_network, as_ad_fault, large_fault, loss_fault, ad_fault_at, ad_test, end_fault, without_zero, advertisement_fault, ad_cause, Says, of_read, is_of_library, StreamBlamed}
 use Rattle.ad_library.specs.Gathering.{Gathers}
 use Rattle.ad_library.specs.Reading.{AreClean, GathersAll}
 
@@ -39,7 +39,7 @@ pub record HasTaken {A : Type 0} (input left : Option (List ℕ)) (first given :
   pub gathered : Gathers g (reverse packets)
 
 pub one_taken : {A : Type 0} (input left left' : Option (List ℕ)) (first given given' : ℕ) (old new : Gathering A) (p : List ℕ) (h : HasTaken input left first given old) → HasGiven input left' first given' (h.packets ++ p ∷ [])
-    → packet_fault p (reverse h.packets) ≡ None → Gathers new (p ∷ reverse h.packets) → HasTaken input left' first given' new
+    → ad_fault_at p (reverse h.packets) ≡ None → Gathers new (p ∷ reverse h.packets) → HasTaken input left' first given' new
 one_taken input left left' first given given' old new p h r c g = record {
   packets = h.packets ++ p ∷ [];
   read = r;
@@ -101,7 +101,7 @@ of_net : (o : Option NetworkFault) (f : AdFault) → as_ad_fault o ≡ Some f �
 of_net None f e = absurd (cc)
 of_net (Some n) f e = let s : of_network n ≡ f = cc in subst OfPacket s (network_is n)
 
-pub of_packet : (p : List ℕ) (past : List (List ℕ)) (f : AdFault) → packet_fault p past ≡ Some f → OfPacket f
+pub of_packet : (p : List ℕ) (past : List (List ℕ)) (f : AdFault) → ad_fault_at p past ≡ Some f → OfPacket f
 of_packet p past f e =
     of_either (large_fault past) (or_then (as_ad_fault (network_fault reading_advertisement p past)) (loss_fault p past)) f
     (λ g k. of_if _ ad_faults.Large g (record { cause = refl; own = refl }) k)
@@ -118,7 +118,7 @@ every_some P None f = tt
 every_some P (Some x) f = f x
 
 pub take_says : {A : Type 0} (input left left' : Option (List ℕ)) (first given : ℕ) (g : Gathering A) (p : List ℕ) (f : AdFault) (h : HasTaken input left first given g) → WasGiven left left' p
-    → (f ≡ ad_faults.OutOfMemory) ⊎ (packet_fault p (reverse h.packets) ≡ Some f) → IfSome input (Says f) × (is_of_library f ≡ false)
+    → (f ≡ ad_faults.OutOfMemory) ⊎ (ad_fault_at p (reverse h.packets) ≡ Some f) → IfSome input (Says f) × (is_of_library f ≡ false)
 take_says input left left' first given g p f h r (inl e) = subst (λ (x : AdFault). IfSome input (Says x) × (is_of_library x ≡ false)) (sym e) (every_some (Says ad_faults.OutOfMemory) input (λ bs. tt), refl)
 take_says input left left' first given g p f h r (inr e) =
     let k = of_packet p (reverse h.packets) f e in
@@ -208,14 +208,14 @@ quiet_either : (a b : Option AdFault) (f : AdFault) → ((g : AdFault) → a ≡
 quiet_either None b f k l e = l f e
 quiet_either (Some g) b f k l e = k f e
 
-quiet_packet : (p : List ℕ) (past : List (List ℕ)) (f : AdFault) → packet_fault p past ≡ Some f → is_quiet f ≡ true
+quiet_packet : (p : List ℕ) (past : List (List ℕ)) (f : AdFault) → ad_fault_at p past ≡ Some f → is_quiet f ≡ true
 quiet_packet p past f e =
     quiet_either (large_fault past) (or_then (as_ad_fault (network_fault reading_advertisement p past)) (loss_fault p past)) f
     (λ g k. quiet_if _ ad_faults.Large g refl k)
     (λ g k. quiet_either (as_ad_fault (network_fault reading_advertisement p past)) (loss_fault p past) g (quiet_net (network_fault reading_advertisement p past)) (λ h l. quiet_if _ ad_faults.Loss h refl l) k)
     e
 
-pub quiet_take : (p : List ℕ) (past : List (List ℕ)) (f : AdFault) → (f ≡ ad_faults.OutOfMemory) ⊎ (packet_fault p past ≡ Some f) → is_quiet f ≡ true
+pub quiet_take : (p : List ℕ) (past : List (List ℕ)) (f : AdFault) → (f ≡ ad_faults.OutOfMemory) ⊎ (ad_fault_at p past ≡ Some f) → is_quiet f ≡ true
 quiet_take p past f (inl e) = ap is_quiet e
 quiet_take p past f (inr e) = quiet_packet p past f e
 

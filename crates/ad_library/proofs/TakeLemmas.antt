@@ -33,7 +33,7 @@ use Rattle.ad_library.specs.declared.gathered.Gathered.{Gathered}
 use Rattle.ad_library.specs.declared.gathering.Gathering.{Gathering}
 use Rattle.ad_library.specs.Storing.{on_line}
 use Rattle.program_follower.specs.Purposes.{reading_advertisement}
-use Rattle.ad_library.specs.Faults.{as_ad_fault, gap_on_one, large_fault, loss_fault, packet_fault}
+use Rattle.ad_library.specs.Faults.{as_ad_fault, gap_on_one, large_fault, loss_fault, ad_fault_at}
 use Rattle.ad_library.specs.Gathering.{AllGathered, StreamsGathered, StreamsStand, IsOfOne, IsWholeStart, IsNearStart, stream_in, Gathers, IsHeld}
 use Rattle.ad_library.proofs.ProgramLemmas.{NoPayload as NonePayload, streams_apart, none_marked, none_first, none_map}
 use Rattle.ad_library.proofs.StreamsLemmas.{all_off, begins_none, gap_first, begins_first}
@@ -167,20 +167,20 @@ module _ (p : List ℕ) (past : List (List ℕ)) (few : length past < 356962) wh
   not_large : (o : Option AdFault) → behind o ≡ o
   not_large o = ap (λ b. or_then (if b then Some ad_faults.Large else None) o) (few_packets (length past) few)
 
-  by_network : network_fault reading_advertisement p past ≡ None → packet_fault p past ≡ loss_fault p past
+  by_network : network_fault reading_advertisement p past ≡ None → ad_fault_at p past ≡ loss_fault p past
   by_network n = not_large (or_then (as_ad_fault (network_fault reading_advertisement p past)) (loss_fault p past)) ∙ ap (λ o. or_then (as_ad_fault o) (loss_fault p past)) n
 
-  pub is_clean : network_fault reading_advertisement p past ≡ None → gap_on_one (pids_of (program_of None past)) p (behind_head None past) ≡ false → packet_fault p past ≡ None
+  pub is_clean : network_fault reading_advertisement p past ≡ None → gap_on_one (pids_of (program_of None past)) p (behind_head None past) ≡ false → ad_fault_at p past ≡ None
   is_clean n g = by_network n ∙ ap (λ b. if b then Some ad_faults.Loss else None) g
 
-  pub is_lost : network_fault reading_advertisement p past ≡ None → gap_on_one (pids_of (program_of None past)) p (behind_head None past) ≡ true → packet_fault p past ≡ Some ad_faults.Loss
+  pub is_lost : network_fault reading_advertisement p past ≡ None → gap_on_one (pids_of (program_of None past)) p (behind_head None past) ≡ true → ad_fault_at p past ≡ Some ad_faults.Loss
   is_lost n g = by_network n ∙ ap (λ b. if b then Some ad_faults.Loss else None) g
 
-  pub is_refused : (f : AdFault) → as_ad_fault (network_fault reading_advertisement p past) ≡ Some f → packet_fault p past ≡ Some f
+  pub is_refused : (f : AdFault) → as_ad_fault (network_fault reading_advertisement p past) ≡ Some f → ad_fault_at p past ≡ Some f
   is_refused f e = not_large (or_then (as_ad_fault (network_fault reading_advertisement p past)) (loss_fault p past)) ∙ ap (λ o. or_then o (loss_fault p past)) e
 
   pub lost_or : network_fault reading_advertisement p past ≡ None → (f : AdFault) (gap : Bool) → gap_on_one (pids_of (program_of None past)) p (behind_head None past) ≡ gap
-      → (f ≡ ad_faults.OutOfMemory) ⊎ ((f ≡ ad_faults.Loss) × (gap ≡ true)) → (f ≡ ad_faults.OutOfMemory) ⊎ (packet_fault p past ≡ Some f)
+      → (f ≡ ad_faults.OutOfMemory) ⊎ ((f ≡ ad_faults.Loss) × (gap ≡ true)) → (f ≡ ad_faults.OutOfMemory) ⊎ (ad_fault_at p past ≡ Some f)
   lost_or n f gap g (inl e) = inl e
   lost_or n f gap g (inr e) = inr (is_lost n (g ∙ e.1) ∙ ap Some (sym e.0))
 

@@ -47,11 +47,11 @@ abbrev pub loss_fault : List ℕ → List (List ℕ) → Option AdFault
 loss_fault p past = if gap_on_one (pids_of (program_of None past)) p (behind_head None past) then Some Loss else None
 
 -- WHAT IS WRONG WITH A PACKET, by those before it, newest first
-abbrev pub packet_fault : List ℕ → List (List ℕ) → Option AdFault
-packet_fault p past = or_then (large_fault past) (or_then (as_ad_fault (network_fault reading_advertisement p past)) (loss_fault p past))
+abbrev pub ad_fault_at : List ℕ → List (List ℕ) → Option AdFault
+ad_fault_at p past = or_then (large_fault past) (or_then (as_ad_fault (network_fault reading_advertisement p past)) (loss_fault p past))
 
 abbrev pub ad_test : Seen → Option AdFault
-ad_test s = packet_fault s.packet s.past
+ad_test s = ad_fault_at s.packet s.past
 
 -- of a whole stream: it has no program, or no unit with a time
 abbrev pub without_zero : Option Program → Option AdFault

@@ -80,15 +80,15 @@ pub record KeepsUnits (us : List StoredUnit) (pids : List ℕ) (pid : ℕ) (past
   pub newest : option_map on_line (last_time us) ≡ unit_time pids pid past
 
 -- the continuity_counter of the stream's last payload packet
-abbrev pub last_number : ℕ → List (List ℕ) → Option ℕ
-last_number pid past = option_map (λ (l : Last). number l.packet) (last_of pid past)
+abbrev pub last_counter : ℕ → List (List ℕ) → Option ℕ
+last_counter pid past = option_map (λ (l : Last). number l.packet) (last_of pid past)
 
 -- THE STREAM, by the packets behind the head
 pub record GathersStream {A : Type 0} (g : Gathered A) (pids : List ℕ) (pid : ℕ) (past : List (List ℕ)) : Type 0 where
   pub units : List StoredUnit
   pub stored : Stores g.store units
   pub keeps : KeepsUnits units pids pid past
-  pub counter : g.counter ≡ last_number pid past
+  pub counter : g.counter ≡ last_counter pid past
 
 -- ---- all streams
 

@@ -7,7 +7,7 @@ use Rattle.ts_packet.specs.declared.reader.ReadFault.{ReadFault}
 use Rattle.ts_packet.specs.declared.reader.ReadFault.TheVariants as read_faults
 use Rattle.ad_library.specs.declared.fault.AdFault.{AdFault}
 use Rattle.ad_library.specs.declared.fault.AdFault.TheVariants.{OutOfMemory}
-use Rattle.ad_library.specs.Faults.{packet_fault, end_fault, of_read, is_of_library}
+use Rattle.ad_library.specs.Faults.{ad_fault_at, end_fault, of_read, is_of_library}
 use Rattle.ad_library.specs.Reading.{AreClean}
 
 -- ---- one read
@@ -59,7 +59,7 @@ pub record ReadToEnd {X : Type 0} (leads : X → X → Type 0) (left : X → Opt
 abbrev pub LastReadCameTo : {X : Type 0} → (X → Option (List ℕ)) → (X → ℕ) → (X → Tally) → (X → Bool) → (X → Bool) → (X → X → Type 0) → AdFault → List (List ℕ) → X → X → Type 0
 LastReadCameTo left given counts ended broken falls_short fault ps at now =
     ((f : ReadFault) × (fault ≡ of_read f) × ToldFault left given counts ended broken falls_short f at now)
-    ⊎ (((p : List ℕ) × GavePacket left given counts ended broken p at now × IsWhatIsWrong (packet_fault p (reverse ps)) fault)
+    ⊎ (((p : List ℕ) × GavePacket left given counts ended broken p at now × IsWhatIsWrong (ad_fault_at p (reverse ps)) fault)
     ⊎ (ToldEnd left given counts ended broken at now × IsWhatIsWrong (end_fault ps) fault))
 
 -- WHERE A STREAM STOPS with this fault: nothing is wrong with the packets that were given, and behind them one read was made, of which the

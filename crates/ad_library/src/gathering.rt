@@ -13,7 +13,7 @@ ghost use Rattle.program_follower.specs.Streaming.{first_on, IsStreamPacket};
 ghost use Rattle.program_follower.specs.Following.{FollowerStandsFor};
 ghost use Rattle.ad_library.specs.Storing.{on_line};
 ghost use Rattle.program_follower.specs.Purposes.{reading_advertisement};
-ghost use Rattle.ad_library.specs.Faults.{packet_fault};
+ghost use Rattle.ad_library.specs.Faults.{ad_fault_at};
 ghost use Rattle.ad_library.specs.Gathering.{Gathers, AllGathered, StreamsGathered, IsWholeStart, IsNearStart};
 ghost use Rattle.ad_library.specs.Gathering.{HasWay, IsHeld, IsOfOne, StreamsStand, stream_in};
 
@@ -64,9 +64,9 @@ impl<A: Allocator + Copy> Gathering<A> {
         ensures ok { (past : List (List ℕ)) → Gathers self.old past
             → OnOk result (Gathers self.new (packet.now ∷ past)) }
         ensures sound { (past : List (List ℕ)) → Gathers self.old past
-            → OnOk result (packet_fault packet.now past ≡ None) }
+            → OnOk result (ad_fault_at packet.now past ≡ None) }
         ensures err { (past : List (List ℕ)) → Gathers self.old past
-            → IfErr result (λ f. (f ≡ AdFault.OutOfMemory) ⊎ (packet_fault packet.now past ≡ Some f)) }
+            → IfErr result (λ f. (f ≡ AdFault.OutOfMemory) ⊎ (ad_fault_at packet.now past ≡ Some f)) }
     {
         if self.packets >= MAX_PACKETS {
             return Err(AdFault::Large);

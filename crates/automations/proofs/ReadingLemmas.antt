@@ -7,12 +7,12 @@ use Rattle.automations.specs.ScriptLines.{are_sound}
 use Rattle.automations.specs.ScriptReading.{last_end, next_line_number, IsBehind, IsInLine}
 use Rattle.automations.proofs.ScriptLemmas.{both, first_sound}
 
-pub last_number : (ls : List Line) (least : ℕ) (l : Line) → slice_get ls (length ls - 1) ≡ Some l → next_line_number least ls ≡ l.packet + 1
-last_number [] least l h = absurd (cc)
-last_number (k ∷ []) least l h = let e : k ≡ l = cc in ap (λ (x : Line). x.packet + 1) e
-last_number (k ∷ m ∷ ls) least l h =
+pub behind_last_line : (ls : List Line) (least : ℕ) (l : Line) → slice_get ls (length ls - 1) ≡ Some l → next_line_number least ls ≡ l.packet + 1
+behind_last_line [] least l h = absurd (cc)
+behind_last_line (k ∷ []) least l h = let e : k ≡ l = cc in ap (λ (x : Line). x.packet + 1) e
+behind_last_line (k ∷ m ∷ ls) least l h =
     let i : length (k ∷ m ∷ ls) - 1 ≡ suc (length (m ∷ ls) - 1) = omega arith in
-    last_number (m ∷ ls) (k.packet + 1) l (ap (slice_get (k ∷ m ∷ ls)) (sym i) ∙ h)
+    behind_last_line (m ∷ ls) (k.packet + 1) l (ap (slice_get (k ∷ m ∷ ls)) (sym i) ∙ h)
 
 last_behind : (ls : List Line) (begin : ℕ) (l : Line) → last_end begin (ls ++ l ∷ []) ≡ l.end
 last_behind [] begin l = refl

@@ -11,7 +11,7 @@ use Rattle.program_follower.specs.Faults.{network_fault}
 use Rattle.scte104_codec.specs.declared.reply.Reply.{Reply}
 use Rattle.outgoing_packets.specs.Numbers.{FrontFails}
 use Rattle.injector.specs.Injecting.{InjectorStandsFor}
-use Rattle.injector.specs.Steps.{Step, Packet, packets_in, turns_in, sent_at, messages_in, accepted_in, refused_in}
+use Rattle.injector.specs.Steps.{Step, Packet, packets_in, turns_in, sent_at, judged_in, accepted_in, refused_in}
 use Rattle.ad_library.specs.Advertisements.{Advertisement}
 use Rattle.splice_plans.specs.Adverts.{setting_of}
 use Rattle.splice_plans.specs.Switching.{spliced_network}
@@ -38,7 +38,7 @@ chain_sends c filed steps = switch_sends c filed (sent_by c steps)
 
 -- the messages of these steps, counted; each count stops at the greatest u64
 pub record MessagesAre (report : Report) (c : Config) (steps : List Step) : Type 0 where
-  pub messages : report.messages ≡ capped (messages_in (turns_in c.program steps))
+  pub messages : report.messages ≡ capped (judged_in (turns_in c.program steps))
   pub accepted : report.accepted ≡ capped (accepted_in c.index (turns_in c.program steps))
   pub refused : report.refused ≡ capped (refused_in c.index (turns_in c.program steps))
 

@@ -15,7 +15,7 @@ use Rattle.scte104_codec.specs.Reading.{message_of}
 use Rattle.outgoing_packets.specs.Numbers.{FrontFails}
 use Rattle.splice_plans.specs.declared.report.SwitchReport.{SwitchReport}
 use Rattle.injector.specs.Replies.{reply_to}
-use Rattle.injector.specs.Steps.{Step, Message, Packet, turns_in, cued, sent_at, messages_in, accepted_in}
+use Rattle.injector.specs.Steps.{Step, Message, Packet, turns_in, cued, sent_at, judged_in, accepted_in}
 use Rattle.injector.specs.Steps.{refused_in}
 use Rattle.chain_engine.specs.Automation.{Take, Answer}
 use Rattle.chain_engine.specs.Hearing.{answers_to, lost_by}
@@ -56,7 +56,7 @@ no_events = record { played = 0; not_fitted = 0; unconditioned = 0; ignored = 0 
 
 abbrev pub report_of : Config → List Step → Report
 report_of c steps = record {
-  messages = capped (messages_in (turns_in c.program steps));
+  messages = capped (judged_in (turns_in c.program steps));
   accepted = capped (accepted_in c.index (turns_in c.program steps));
   refused = capped (refused_in c.index (turns_in c.program steps));
   switch = no_events;

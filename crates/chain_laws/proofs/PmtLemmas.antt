@@ -11,7 +11,7 @@ use Rattle.ts_packet.proofs.Cases.{by_test}
 use Rattle.ts_packet.proofs.FieldLemmas.{payload_on-on}
 use Rattle.ts_packet.proofs.RunLemmas.{onto-append}
 use Rattle.psi_section.specs.Packetising.{later_packets, rest_packets, section_packets, packets_in_turn, next_packet, first_packet}
-use Rattle.psi_section.proofs.ReadBackLemmas.{IsPayloadOn, turn_carry, first_number, first_on, next_number, next_on}
+use Rattle.psi_section.proofs.ReadBackLemmas.{IsPayloadOn, turn_carry, first_number, first_on, next_packet_number, next_on}
 use Rattle.program_follower.specs.declared.purpose.Listed.{Listed}
 use Rattle.program_follower.specs.Program.{listed, since_pat, tables, all_tables}
 use Rattle.program_follower.proofs.StepLemmas.{listed_stays, tables_off}
@@ -61,7 +61,7 @@ module _ (pid : ℕ) (pb : pid < 8192) where
   later-number (suc count) n bs out nb h =
       let q = next_packet pid n bs in
       let rest = later_packets count pid ((n + 1) % 16) (drop 184 bs) in
-      later-number count ((n + 1) % 16) (drop 184 bs) (q ∷ out) (next-below n) (step-number n q out (payload_on-on pid q (next_on pid n bs pb nb)) (next_number pid n bs pb nb))
+      later-number count ((n + 1) % 16) (drop 184 bs) (q ∷ out) (next-below n) (step-number n q out (payload_on-on pid q (next_on pid n bs pb nb)) (next_packet_number pid n bs pb nb))
       ∙ counted n (length rest)
     where
       counted : (n k : ℕ) → ((n + 1) % 16 + k) % 16 ≡ (n + suc k) % 16

@@ -10,7 +10,7 @@ use Rattle.unit_stream.specs.Times.{begins, high, unit_time}
 use Rattle.unit_stream.specs.Units.{is_original, rest_of_unit, has_payload, rest_of_row, lead_in}
 use Rattle.program_laws.specs.Behind.{TakesAll, SameUnits}
 use Rattle.program_laws.proofs.UnitLemmas.{others_are_no_units}
-use Rattle.splice_laws.specs.Splicing.{PlayedEvent, SliceUnit, TimedStream, stream, at_or_past, below, outside, stands, comes, passed, opens, begun, put_in, slice_at, all_slices_at}
+use Rattle.splice_laws.specs.Splicing.{PlayedEvent, SliceUnit, TimedStream, stream, at_or_past, below, outside, stands, comes, passed, opens, begun, as_inserted, slice_at, all_slices_at}
 use Rattle.output_laws.specs.Spliced.{inserted_payloads, unit_at, placed_payloads}
 use Rattle.splice_plans.specs.Playing.{is_crossed}
 
@@ -131,12 +131,12 @@ module _ (takes : List ℕ → Bool) (switched : List ℕ) (every : AllByRecursi
     slices_taken : (xs : List PlayedEvent) (p : List ℕ) (past : List (List ℕ)) → takes p ≡ true → all_slices_at r xs slice p past ≡ all_slices_at r xs slice p (filter takes past)
     slices_taken [] p past y = refl
     slices_taken (x ∷ xs) p past y =
-        ap (λ us. put_in us ++ all_slices_at r xs slice p past) (slice_taken x (slice x) p past y)
-        ∙ ap (λ l. put_in (slice_at r x (slice x) p (filter takes past)) ++ l) (slices_taken xs p past y)
+        ap (λ us. as_inserted us ++ all_slices_at r xs slice p past) (slice_taken x (slice x) p past y)
+        ∙ ap (λ l. as_inserted (slice_at r x (slice x) p (filter takes past)) ++ l) (slices_taken xs p past y)
 
     slices_not : (xs : List PlayedEvent) (p : List ℕ) (past : List (List ℕ)) → takes p ≡ false → all_slices_at r xs slice p past ≡ []
     slices_not [] p past n = refl
-    slices_not (x ∷ xs) p past n = ap (λ us. put_in us ++ all_slices_at r xs slice p past) (slice_not x (slice x) p past n) ∙ slices_not xs p past n
+    slices_not (x ∷ xs) p past n = ap (λ us. as_inserted us ++ all_slices_at r xs slice p past) (slice_not x (slice x) p past n) ∙ slices_not xs p past n
 
   rest_step : (o s : Bool) (p : List ℕ) (past ps : List (List ℕ)) → original pid p past ≡ o → unit_start p ≡ s →
       rest_of_unit (filter (is_original pid) (seen_after (p ∷ past) ps)) ≡ rest_of_unit (filter (is_original pid) (seen_after (p ∷ filter takes past) (filter takes ps))) →

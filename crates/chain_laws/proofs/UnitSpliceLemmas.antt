@@ -10,7 +10,7 @@ use Rattle.ts_packet.proofs.Cases.{by_test}
 use Rattle.ts_packet.proofs.RunLemmas.{onto}
 use Rattle.unit_stream.specs.Times.{unit_time}
 use Rattle.unit_stream.specs.Units.{units, units_of, is_original, rest_of_unit}
-use Rattle.splice_laws.specs.Splicing.{PlayedEvent, SliceUnit, Out, Network, Inserted, TimedStream, stream, at_or_past, below, holds, outside, comes, passed, opens, begun, put_in, slice_at, all_slices_at, from, up_to}
+use Rattle.splice_laws.specs.Splicing.{PlayedEvent, SliceUnit, Out, Network, Inserted, TimedStream, stream, at_or_past, below, holds, outside, comes, passed, opens, begun, as_inserted, slice_at, all_slices_at, from, up_to}
 use Rattle.splice_laws.specs.Laws.{IsStream, EndsBeforeAll, AreOrdered}
 use Rattle.splice_laws.specs.Rows.{is_between}
 use Rattle.splice_laws.proofs.TimeLemmas.{starts_ordered, past_lower, holds-or_past, holds-past, not-below, timed_past}
@@ -279,7 +279,7 @@ inserted-append [] b = refl
 inserted-append (Network p ∷ a) b = inserted-append a b
 inserted-append (Inserted u ∷ a) b = ap (λ l. u.payload ∷ l) (inserted-append a b)
 
-inserted-in : (us : List SliceUnit) → inserted_payloads (put_in us) ≡ slice_payloads us
+inserted-in : (us : List SliceUnit) → inserted_payloads (as_inserted us) ≡ slice_payloads us
 inserted-in [] = refl
 inserted-in (u ∷ us) = ap (λ l. u.payload ∷ l) (inserted-in us)
 
@@ -292,7 +292,7 @@ module _ (switched : List ℕ) (pid : ℕ) where
     slices-same [] p past = refl
     slices-same (x ∷ xs) p past =
         let us = slice_at (stream switched pid) x (slice x) p past in
-        inserted-append (put_in us) (all_slices_at (stream switched pid) xs slice p past)
+        inserted-append (as_inserted us) (all_slices_at (stream switched pid) xs slice p past)
         ∙ ap (λ l. l ++ inserted_payloads (all_slices_at (stream switched pid) xs slice p past)) (inserted-in us)
         ∙ ap (λ l. slice_payloads us ++ l) (slices-same xs p past)
 

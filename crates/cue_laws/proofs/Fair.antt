@@ -2,7 +2,8 @@
 use Rattle.std.proofs.Common.{◌≡◌, ℕ, Bool, true, false, ◌⊎◌, inl, inr, refl, sym, ap, ◌∙◌, subst, List, [], ◌∷◌, Option, None, Some, arith}
 use Rattle.std.specs.Prelude.{ℤ, ◌<ℤ◌, ◌≤ℤ◌, map, is_some}
 use Rattle.std.proofs.lemmas.Int.{ints}
-use Rattle.cue_laws.specs.Events.{Turn, LineEvent, Started, Cancelled, Ended, Passed, high, before, events, Rises, is_of, fresh, can_cancel, cancel_by, can_end, end_by, or_so}
+use Rattle.cue_laws.specs.Events.{Turn, LineEvent, Started, Cancelled, Ended, Passed, high, before, events, is_of, fresh, can_cancel, cancel_by, can_end, end_by, or_so}
+use Rattle.unit_stream.specs.Clocks.{Rises}
 use Rattle.cue_laws.specs.Cueing.{MayBeAccepted, IsRun, Told, Untold, Known, Never, Sender, told_now, tell, change, senders}
 use Rattle.cue_laws.proofs.Settling.{by_test, both, can_start-parts, can_end-parts}
 use Rattle.cue_laws.proofs.Orders.{Orderly, orderly-none, orderly-map, orderly-fresh, orderly-passed, Clear, clear-can, clear-map, Shrinks, cancel-shrinks, end-shrinks, or-left}

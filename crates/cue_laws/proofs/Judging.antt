@@ -2,7 +2,8 @@
 use Rattle.std.specs.Prelude.{ℤ, pos, ◌+ℤ◌, map}
 use Rattle.std.proofs.Common.{◌≡◌, ℕ, zero, suc, true, sym, ap, ◌∙◌, subst, List, [], ◌∷◌, arith}
 use Rattle.std.proofs.lemmas.Int.{ints}
-use Rattle.cue_laws.specs.Events.{Turn, Started, Cancelled, Ended, Passed, high, before, events, Rises, NeverFalls, stands, covers, name_of, holders, upon}
+use Rattle.cue_laws.specs.Events.{Turn, Started, Cancelled, Ended, Passed, high, before, events, NeverFalls, stands, covers, name_of, holders, upon}
+use Rattle.unit_stream.specs.Clocks.{Rises}
 use Rattle.cue_laws.specs.Thinning.{MayAllCome, times, thinned}
 use Rattle.cue_laws.specs.Cueing.{IsRun, cued}
 use Rattle.cue_laws.specs.Tables.{standing}

@@ -3,7 +3,8 @@ use Rattle.std.proofs.Common.{◌≡◌, ℕ, ◌<◌, ◌≤◌, ◌==◌, Bool
 use Rattle.std.specs.Prelude.{ℤ, pos, ◌+ℤ◌, ◌<ℤ◌, ◌≤ℤ◌, int_lt, map, is_some, if◌then◌else◌}
 use Rattle.std.proofs.lemmas.Int.{ints}
 use Rattle.std.proofs.lemmas.Bool.Decides.{nat_tests}
-use Rattle.cue_laws.specs.Events.{Turn, LineEvent, Started, Cancelled, Ended, Passed, high, before, events, Rises, stands, is_of, bars, count, can_start, fresh, can_cancel, cancel_by, can_end, end_by, or_so, In}
+use Rattle.cue_laws.specs.Events.{Turn, LineEvent, Started, Cancelled, Ended, Passed, high, before, events, stands, is_of, bars, count, can_start, fresh, can_cancel, cancel_by, can_end, end_by, or_so, In}
+use Rattle.unit_stream.specs.Clocks.{Rises}
 use Rattle.cue_laws.specs.Thinning.{MayCome, MayAllCome}
 use Rattle.cue_laws.proofs.Settling.{by_test, both, ge-test, can_start-parts, CanStart, can_end-parts}
 use Rattle.cue_laws.proofs.Lists.{In-mapped, any-false, Distinct, distinct-map}

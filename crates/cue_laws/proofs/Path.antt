@@ -2,7 +2,8 @@
 use Rattle.std.proofs.Common.{◌≡◌, ◌↔◌, ℕ, Bool, true, false, ◌⊎◌, inl, inr, refl, sym, ap, ◌∙◌, subst, List, [], ◌∷◌, ◌++◌, Option, arith, append_assoc}
 use Rattle.std.specs.Prelude.{ℤ, pos, ◌+ℤ◌, int_lt, map, if◌then◌else◌}
 use Rattle.std.proofs.lemmas.Int.{ints}
-use Rattle.cue_laws.specs.Events.{Turn, LineEvent, Started, Cancelled, Ended, Passed, high, events, Rises, stands, cancel_by, end_by, In, upon}
+use Rattle.cue_laws.specs.Events.{Turn, LineEvent, Started, Cancelled, Ended, Passed, high, events, stands, cancel_by, end_by, In, upon}
+use Rattle.unit_stream.specs.Clocks.{Rises}
 use Rattle.cue_laws.specs.Thinning.{MayAllCome, KeepsEnough}
 use Rattle.cue_laws.specs.Cueing.{IsRun, Told, Untold, Known, Never, Sender, is_cancel_new, is_news, current, is_due, end_on, told_on, block_on, told_now, tell, change, senders, cued}
 use Rattle.cue_laws.specs.Laws.{KeepsEnoughOf, CuePath, CuePathAtTheEnd}
@@ -21,9 +22,9 @@ told_by Untold es = es
 told_by (Known t) es = t ∷ es
 told_by Never es = es
 
-abbrev told_of : List Sender → List LineEvent
-told_of [] = []
-told_of (x ∷ xs) = told_by x.told (told_of xs)
+abbrev told_events : List Sender → List LineEvent
+told_events [] = []
+told_events (x ∷ xs) = told_by x.told (told_events xs)
 
 told-parts : (told : Told) (es : List LineEvent) → told_by told [] ++ es ≡ told_by told es
 told-parts Untold es = refl
@@ -33,47 +34,47 @@ told-parts Never es = refl
 told-apart : (front : List LineEvent) (told : Told) (es : List LineEvent) → (front ++ told_by told []) ++ es ≡ front ++ told_by told es
 told-apart front told es = append_assoc front (told_by told []) es ∙ ap (λ l. front ++ l) (told-parts told es)
 
-told_of-change : (f : LineEvent → LineEvent) (xs : List Sender) → told_of (map (change f) xs) ≡ told_of xs
-told_of-change f [] = refl
-told_of-change f (x ∷ xs) = ap (told_by x.told) (told_of-change f xs)
+told_events-change : (f : LineEvent → LineEvent) (xs : List Sender) → told_events (map (change f) xs) ≡ told_events xs
+told_events-change f [] = refl
+told_events-change f (x ∷ xs) = ap (told_by x.told) (told_events-change f xs)
 
 module _ (h later : Option ℤ) where
   -- behind the cues, what was told is the events themselves
-  now_part : (xs : List Sender) (y : LineEvent) → In y (told_of (map (tell h later) xs)) → In y (map event_of xs)
+  now_part : (xs : List Sender) (y : LineEvent) → In y (told_events (map (tell h later) xs)) → In y (map event_of xs)
   now_part [] y i = i
   now_part (x ∷ xs) y i = which x.event x.told i (λ j. now_part xs y j)
     where
-      add : (e : LineEvent) → In y (e ∷ told_of (map (tell h later) xs)) → (In y (told_of (map (tell h later) xs)) → In y (map event_of xs)) → In y (e ∷ map event_of xs)
+      add : (e : LineEvent) → In y (e ∷ told_events (map (tell h later) xs)) → (In y (told_events (map (tell h later) xs)) → In y (map event_of xs)) → In y (e ∷ map event_of xs)
       add e (inl is) more = inl is
       add e (inr j) more = inr (more j)
 
-      which : (e : LineEvent) (told : Told) → In y (told_by (told_now e told) (told_of (map (tell h later) xs)))
-          → (In y (told_of (map (tell h later) xs)) → In y (map event_of xs)) → In y (e ∷ map event_of xs)
+      which : (e : LineEvent) (told : Told) → In y (told_by (told_now e told) (told_events (map (tell h later) xs)))
+          → (In y (told_events (map (tell h later) xs)) → In y (map event_of xs)) → In y (e ∷ map event_of xs)
       which e Untold i more = by_test e.cancelled (λ c. let j = simp c at i in inr (more j)) (λ c. let j = simp c at i in add e j more)
       which e (Known t) i more = add e i more
       which e Never i more = inr (more i)
 
-  now_distinct : (xs : List Sender) → Distinct (map event_of xs) → Distinct (told_of (map (tell h later) xs))
+  now_distinct : (xs : List Sender) → Distinct (map event_of xs) → Distinct (told_events (map (tell h later) xs))
   now_distinct [] d = tt
   now_distinct (x ∷ xs) d = which x.event x.told d.0 (now_distinct xs d.1)
     where
-      which : (e : LineEvent) (told : Told) → ((b : LineEvent) → In b (map event_of xs) → b.start ≡ e.start → ⊥) → Distinct (told_of (map (tell h later) xs))
-          → Distinct (told_by (told_now e told) (told_of (map (tell h later) xs)))
+      which : (e : LineEvent) (told : Told) → ((b : LineEvent) → In b (map event_of xs) → b.start ≡ e.start → ⊥) → Distinct (told_events (map (tell h later) xs))
+          → Distinct (told_by (told_now e told) (told_events (map (tell h later) xs)))
       which e Untold other rest = by_test e.cancelled (λ c. simp c rest) (λ c. simp c ((λ b i is. other b (now_part xs b i) is), rest))
       which e (Known t) other rest = ((λ b i is. other b (now_part xs b i) is), rest)
       which e Never other rest = rest
 
-  now_all : (xs : List Sender) → Fair h xs → (y : LineEvent) → y.cancelled ≡ false → In y (map event_of xs) → In y (told_of (map (tell h later) xs))
+  now_all : (xs : List Sender) → Fair h xs → (y : LineEvent) → y.cancelled ≡ false → In y (map event_of xs) → In y (told_events (map (tell h later) xs))
   now_all [] fair y c i = i
   now_all (x ∷ xs) fair y c (inl is) = which x.event x.told is fair.0
     where
-      which : (e : LineEvent) (told : Told) → y ≡ e → IsFair h e told (map event_of xs) → In y (told_by (told_now e told) (told_of (map (tell h later) xs)))
+      which : (e : LineEvent) (told : Told) → y ≡ e → IsFair h e told (map event_of xs) → In y (told_by (told_now e told) (told_events (map (tell h later) xs)))
       which e Untold is f = let d : e.cancelled ≡ false = sym (ap (λ (z : LineEvent). z.cancelled) is) ∙ c in simp d (inl is)
       which e (Known t) is f = inl is
       which e Never is f = let d : e.cancelled ≡ false = sym (ap (λ (z : LineEvent). z.cancelled) is) ∙ c in absurd (let bad : true ≡ false = sym f ∙ d in cc)
   now_all (x ∷ xs) fair y c (inr i) = which x.event x.told (now_all xs fair.3 y c i)
     where
-      which : (e : LineEvent) (told : Told) → In y (told_of (map (tell h later) xs)) → In y (told_by (told_now e told) (told_of (map (tell h later) xs)))
+      which : (e : LineEvent) (told : Told) → In y (told_events (map (tell h later) xs)) → In y (told_by (told_now e told) (told_events (map (tell h later) xs)))
       which e Untold j = by_test e.cancelled (λ d. simp d j) (λ d. simp d (inr j))
       which e (Known t) j = inr j
       which e Never j = j
@@ -98,15 +99,15 @@ module _ (h later : Option ℤ) where
 
   block : (xs : List Sender) (front : List LineEvent) (rest : List Turn) → Fair h xs → Orderly h (map event_of xs) → (front ≡ []) ⊎ AllTold xs
       → ((x : Sender) → In x xs → stands h x.event ≡ true → Others h x.event.id front)
-      → Goes h rest (front ++ told_of xs) → Goes h (block_on h later xs rest) (front ++ told_of (map (tell h later) xs))
+      → Goes h rest (front ++ told_events xs) → Goes h (block_on h later xs rest) (front ++ told_events (map (tell h later) xs))
   block [] front rest fair order ahead newer g = g
   block (x ∷ xs) front rest fair order ahead newer g =
-      let back = told_of (map (tell h later) xs) in
+      let back = told_events (map (tell h later) xs) in
       let front' = front ++ told_by x.told [] in
       let older : Goes h (block_on h later xs rest) (front' ++ back) =
       block xs front' rest fair.3 (orderly-tail h x.event (map event_of xs) order) (next ahead x.told fair.1 (untold ahead))
       (λ y i s e j t is. others y i s e (In-append e front (told_by x.told []) j) t is)
-      (goes-to h rest (front ++ told_by x.told (told_of xs)) (front' ++ told_of xs) (sym (told-apart front x.told (told_of xs))) g) in
+      (goes-to h rest (front ++ told_by x.told (told_events xs)) (front' ++ told_events xs) (sym (told-apart front x.told (told_events xs))) g) in
       turn x.event x.last x.told (map event_of xs) front back (block_on h later xs rest)
       (record {
         clock = fair.2;
@@ -145,14 +146,14 @@ module _ (h later : Option ℤ) where
           apart y.event (In-map event_of y xs i) s k.1 (sym is ∙ k.0)
 
 -- THE STREAM OF A RUN may come, and what was told is what a splicer has
-pub cued_goes : (run : List Turn) → IsRun run → Goes (high run) (cued run) (told_of (senders run))
+pub cued_goes : (run : List Turn) → IsRun run → Goes (high run) (cued run) (told_events (senders run))
 cued_goes [] r = record { sound = tt; clock = refl; list = refl }
 cued_goes (Started id start end ∷ past) r = cued_goes past r.1
-cued_goes (Cancelled id ∷ past) r = goes-to (high past) (cued past) _ _ (sym (told_of-change (cancel_by (high past) id) (senders past))) (cued_goes past r.1)
-cued_goes (Ended id time ∷ past) r = goes-to (high past) (cued past) _ _ (sym (told_of-change (end_by (high past) id time) (senders past))) (cued_goes past r.1)
+cued_goes (Cancelled id ∷ past) r = goes-to (high past) (cued past) _ _ (sym (told_events-change (cancel_by (high past) id) (senders past))) (cued_goes past r.1)
+cued_goes (Ended id time ∷ past) r = goes-to (high past) (cued past) _ _ (sym (told_events-change (end_by (high past) id time) (senders past))) (cued_goes past r.1)
 cued_goes (Passed later ∷ past) r =
     let s = stand past r.1 in
-    let g : Goes (high past) (block_on (high past) later (senders past) (cued past)) (told_of (map (tell (high past) later) (senders past))) =
+    let g : Goes (high past) (block_on (high past) later (senders past) (cued past)) (told_events (map (tell (high past) later) (senders past))) =
     block (high past) later (senders past) [] (cued past) s.fair (subst (λ l. Orderly (high past) l) (sym s.same) s.order) (inl refl) (λ x i t e j. absurd j) (cued_goes past r.1) in
     record { sound = (subst (λ k. Rises k later) (sym g.clock) r.0, g.sound); clock = refl; list = g.list }
 

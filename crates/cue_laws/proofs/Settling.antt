@@ -3,7 +3,8 @@ use Rattle.std.proofs.Common.{◌≡◌, ℕ, Bool, true, false, not, ◌&&◌, 
 use Rattle.std.specs.Prelude.{ℤ, ◌≤ℤ◌, ◌<ℤ◌, int_le, int_lt, map, if◌then◌else◌}
 use Rattle.std.specs.List.{list_any}
 use Rattle.std.proofs.lemmas.Int.{ints}
-use Rattle.cue_laws.specs.Events.{Turn, LineEvent, Started, Cancelled, Ended, Passed, high, before, events, taken, Rises, NeverFalls, holders, upon, covers, name_of, can_start, fresh, cancel_by, can_cancel, end_by, can_end, or_so, is_of, bars, count}
+use Rattle.cue_laws.specs.Events.{Turn, LineEvent, Started, Cancelled, Ended, Passed, high, before, events, taken, NeverFalls, holders, upon, covers, name_of, can_start, fresh, cancel_by, can_cancel, end_by, can_end, or_so, is_of, bars, count}
+use Rattle.unit_stream.specs.Clocks.{Rises}
 use Rattle.cue_laws.specs.Laws.{Settlement}
 
 -- two cases of a test

@@ -5,7 +5,7 @@ use Rattle.std.proofs.lemmas.Int.{ints}
 use Rattle.cue_laws.specs.Events.{LineEvent, Passed, events, In}
 use Rattle.cue_laws.specs.Thinning.{thinned}
 use Rattle.cue_laws.specs.Cueing.{cued}
-use Rattle.cue_laws.specs.Tables.{put_in, by_start, is_uncancelled, uncancelled_events}
+use Rattle.cue_laws.specs.Tables.{put_by_start, by_start, is_uncancelled, uncancelled_events}
 use Rattle.cue_laws.specs.Laws.{UncancelledEventsAgree}
 use Rattle.cue_laws.proofs.Settling.{by_test, lt-test, ge-test, not_true}
 use Rattle.cue_laws.proofs.Lists.{In-filter, In-filtered, Distinct, distinct-filter}
@@ -19,15 +19,15 @@ abbrev Rising : List LineEvent → Type 0
 Rising [] = Unit {0}
 Rising (a ∷ es) = ((b : LineEvent) → In b es → a.start <ℤ b.start) × Rising es
 
-put_in-from : (a : LineEvent) (es : List LineEvent) (x : LineEvent) → In x (put_in a es) → (x ≡ a) ⊎ In x es
-put_in-from a [] x (inl is) = inl is
-put_in-from a [] x (inr i) = absurd i
-put_in-from a (e ∷ es) x i =
+put_by_start-from : (a : LineEvent) (es : List LineEvent) (x : LineEvent) → In x (put_by_start a es) → (x ≡ a) ⊎ In x es
+put_by_start-from a [] x (inl is) = inl is
+put_by_start-from a [] x (inr i) = absurd i
+put_by_start-from a (e ∷ es) x i =
     by_test (int_lt a.start e.start)
     (λ l. simp l at i)
-    (λ l. let j = simp l at i in later j (λ k. put_in-from a es x k))
+    (λ l. let j = simp l at i in later j (λ k. put_by_start-from a es x k))
   where
-    later : (x ≡ e) ⊎ In x (put_in a es) → (In x (put_in a es) → (x ≡ a) ⊎ In x es) → (x ≡ a) ⊎ ((x ≡ e) ⊎ In x es)
+    later : (x ≡ e) ⊎ In x (put_by_start a es) → (In x (put_by_start a es) → (x ≡ a) ⊎ In x es) → (x ≡ a) ⊎ ((x ≡ e) ⊎ In x es)
     later (inl is) go = inr (inl is)
     later (inr j) go = more (go j)
       where
@@ -35,23 +35,23 @@ put_in-from a (e ∷ es) x i =
         more (inl is) = inl is
         more (inr k) = inr (inr k)
 
-put_in-to : (a : LineEvent) (es : List LineEvent) (x : LineEvent) → (x ≡ a) ⊎ In x es → In x (put_in a es)
-put_in-to a [] x i = i
-put_in-to a (e ∷ es) x i = by_test (int_lt a.start e.start) (λ l. simp l i) (λ l. simp l (later i (λ k. put_in-to a es x k)))
+put_by_start-to : (a : LineEvent) (es : List LineEvent) (x : LineEvent) → (x ≡ a) ⊎ In x es → In x (put_by_start a es)
+put_by_start-to a [] x i = i
+put_by_start-to a (e ∷ es) x i = by_test (int_lt a.start e.start) (λ l. simp l i) (λ l. simp l (later i (λ k. put_by_start-to a es x k)))
   where
-    later : (x ≡ a) ⊎ ((x ≡ e) ⊎ In x es) → ((x ≡ a) ⊎ In x es → In x (put_in a es)) → (x ≡ e) ⊎ In x (put_in a es)
+    later : (x ≡ a) ⊎ ((x ≡ e) ⊎ In x es) → ((x ≡ a) ⊎ In x es → In x (put_by_start a es)) → (x ≡ e) ⊎ In x (put_by_start a es)
     later (inl is) go = inr (go (inl is))
     later (inr (inl is)) go = inl is
     later (inr (inr j)) go = inr (go (inr j))
 
-rising-put : (a : LineEvent) (es : List LineEvent) → Rising es → ((b : LineEvent) → In b es → b.start ≡ a.start → ⊥) → Rising (put_in a es)
+rising-put : (a : LineEvent) (es : List LineEvent) → Rising es → ((b : LineEvent) → In b es → b.start ≡ a.start → ⊥) → Rising (put_by_start a es)
 rising-put a [] r other = ((λ b i. absurd i), tt)
 rising-put a (e ∷ es) r other =
     by_test (int_lt a.start e.start)
     (λ l. let k = lt-test a.start e.start l in simp l ((λ b i. first k b i), r))
     (λ l. let k = ge-test a.start e.start l in
     let strict : e.start <ℤ a.start = past k (other e (inl refl)) in
-    simp l ((λ b i. next strict b (put_in-from a es b i)), rising-put a es r.1 (λ b i. other b (inr i))))
+    simp l ((λ b i. next strict b (put_by_start-from a es b i)), rising-put a es r.1 (λ b i. other b (inr i))))
   where
     first : a.start <ℤ e.start → (b : LineEvent) → (b ≡ e) ⊎ In b es → a.start <ℤ b.start
     first k b (inl is) = subst (λ (z : LineEvent). a.start <ℤ z.start) (sym is) k
@@ -66,7 +66,7 @@ rising-put a (e ∷ es) r other =
 
 by_start-from : (es : List LineEvent) (x : LineEvent) → In x (by_start es) → In x es
 by_start-from [] x i = i
-by_start-from (e ∷ es) x i = later (put_in-from e (by_start es) x i) (λ k. by_start-from es x k)
+by_start-from (e ∷ es) x i = later (put_by_start-from e (by_start es) x i) (λ k. by_start-from es x k)
   where
     later : (x ≡ e) ⊎ In x (by_start es) → (In x (by_start es) → In x es) → (x ≡ e) ⊎ In x es
     later (inl is) go = inl is
@@ -74,8 +74,8 @@ by_start-from (e ∷ es) x i = later (put_in-from e (by_start es) x i) (λ k. by
 
 by_start-to : (es : List LineEvent) (x : LineEvent) → In x es → In x (by_start es)
 by_start-to [] x i = i
-by_start-to (e ∷ es) x (inl is) = put_in-to e (by_start es) x (inl is)
-by_start-to (e ∷ es) x (inr i) = put_in-to e (by_start es) x (inr (by_start-to es x i))
+by_start-to (e ∷ es) x (inl is) = put_by_start-to e (by_start es) x (inl is)
+by_start-to (e ∷ es) x (inr i) = put_by_start-to e (by_start es) x (inr (by_start-to es x i))
 
 rising-sorted : (es : List LineEvent) → Distinct es → Rising (by_start es)
 rising-sorted [] d = tt

@@ -8,13 +8,13 @@ standing [] = []
 standing (s ∷ past) = filter (stands (high (s ∷ past))) (taken (high past) s (standing past))
 
 -- in order of their starts
-abbrev pub put_in : LineEvent → List LineEvent → List LineEvent
-put_in x [] = x ∷ []
-put_in x (e ∷ es) = if int_lt x.start e.start then x ∷ e ∷ es else e ∷ put_in x es
+abbrev pub put_by_start : LineEvent → List LineEvent → List LineEvent
+put_by_start x [] = x ∷ []
+put_by_start x (e ∷ es) = if int_lt x.start e.start then x ∷ e ∷ es else e ∷ put_by_start x es
 
 abbrev pub by_start : List LineEvent → List LineEvent
 by_start [] = []
-by_start (e ∷ es) = put_in e (by_start es)
+by_start (e ∷ es) = put_by_start e (by_start es)
 
 abbrev pub is_uncancelled : LineEvent → Bool
 is_uncancelled e = not e.cancelled

@@ -7,7 +7,7 @@ use chain_engine::Report;
 use command_lines::inject_options::{Asking, InjectOptions};
 use passages::asking::Asker;
 use passages::fault::ProgramFault;
-use passages::kinds::{Cueing, Playing};
+use passages::kinds::{Chaining, Cueing};
 use passages::running::{Ran, run_from, stopped, unopened, with_replies};
 use passages::tell::{CueAccount, Side, Stopped};
 use run_ends::{Attended, Unopened, create_output, open_input};
@@ -51,7 +51,7 @@ where
     let watched = options.is_verbose.then_some(cue_pid);
     let ran = match &library {
         Some(library) => {
-            let passage = Playing {
+            let passage = Chaining {
                 alloc,
                 options: &*options,
                 asker: &mut asker,

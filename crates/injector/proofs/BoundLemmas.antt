@@ -10,7 +10,8 @@ use Rattle.event_table.specs.Standing.{Standing, on_ring, IsWithin}
 use Rattle.event_table.proofs.TimeLemmas.{ring-plus}
 use Rattle.injector.specs.Turns.{Turn, Judged, Passed, high}
 use Rattle.injector.specs.Senders.{Sender, is_none, limit, is_repeated, chosen, stands_now, standing_senders, IsIdle}
-use Rattle.injector.specs.Noting.{ring_limit, ring_next, ring_earlier, ring_reached, next_by, next_of, AtOrAfter, IsDueWithinASecond, Rests, StaysAtRest, LastIn, IsKept, Rises}
+use Rattle.injector.specs.Noting.{ring_limit, ring_next, ring_earlier, ring_reached, next_by, next_of, AtOrAfter, IsDueWithinASecond, Rests, StaysAtRest, LastIn, IsKept}
+use Rattle.unit_stream.specs.Clocks.{Rises}
 use Rattle.injector.specs.Steps.{outcome, is_accepted}
 use Rattle.injector.specs.Injecting.{RestsAt}
 use Rattle.injector.proofs.CueLemmas.{ring-limit, limit-bounds, before-within}

@@ -10,7 +10,7 @@ use Rattle.injector.specs.declared.refusal.Refusal.TheVariants.{BadSyntax}
 use Rattle.injector.specs.Turns.{Turn, Judged, verdict}
 use Rattle.injector.specs.Replies.{reply_with, reply_to}
 use Rattle.event_table.specs.Counting.{one_if}
-use Rattle.injector.specs.Steps.{outcome, is_accepted, is_refused, messages_in, accepted_in, refused_in}
+use Rattle.injector.specs.Steps.{outcome, is_accepted, is_refused, judged_in, accepted_in, refused_in}
 use Rattle.injector.specs.Injecting.{CountsAre}
 
 -- the opID of a reply, and whether it accepts, say what became of the message
@@ -51,7 +51,7 @@ module _ (index : ℕ) (m : MessageReading) (past : List Turn) (before after : M
   pub counted-accepted : is_accepted (outcome index m past) ≡ true → after.accepted ≡ min (before.accepted + 1) (2 ^ 64 - 1) → after.refused ≡ before.refused → CountsAre after index (Judged m ∷ past)
   counted-accepted is one none =
       record {
-        messages = messages ∙ up before.messages (messages_in past) counts.messages;
+        messages = messages ∙ up before.messages (judged_in past) counts.messages;
         accepted = one ∙ up before.accepted (accepted_in index past) counts.accepted ∙ ap (λ b. capped (one_if b + accepted_in index past)) (sym is);
         refused = none ∙ same before.refused (refused_in index past) counts.refused ∙ ap (λ b. capped (one_if b + refused_in index past)) (sym (not-both (outcome index m past) is));
       }
@@ -61,7 +61,7 @@ module _ (index : ℕ) (m : MessageReading) (past : List Turn) (before after : M
   counted-refused reply is op not-accepted one none =
       let refused = (says index m past).refused (sym (ap (λ r. r.op) is) ∙ op) not-accepted in
       record {
-        messages = messages ∙ up before.messages (messages_in past) counts.messages;
+        messages = messages ∙ up before.messages (judged_in past) counts.messages;
         accepted = none ∙ same before.accepted (accepted_in index past) counts.accepted ∙ ap (λ b. capped (one_if b + accepted_in index past)) (sym not-accepted);
         refused = one ∙ up before.refused (refused_in index past) counts.refused ∙ ap (λ b. capped (one_if b + refused_in index past)) (sym refused);
       }

@@ -17,7 +17,8 @@ use Rattle.program_laws.specs.Writing.{packets_out}
 use Rattle.outgoing_packets.proofs.NumberLemmas.{packets-append}
 use Rattle.injector.specs.declared.choice.Choice.{Choice}
 use Rattle.injector.specs.Senders.{Sender, is_none, is_ended, news, current, limit, is_repeated, chosen, no_cue, start_cue, end_cue, cancel_cue, when, cues_by, packed}
-use Rattle.injector.specs.Noting.{told_of, ring_news, ring_limit, ring_repeated, ring_chosen, LastIn, IsKept, Rises}
+use Rattle.injector.specs.Noting.{told_by_cue, ring_news, ring_limit, ring_repeated, ring_chosen, LastIn, IsKept}
+use Rattle.unit_stream.specs.Clocks.{Rises}
 
 pub cue-some : (cue : CueOut) → 0 < length (cue_bytes cue)
 unfolding cue_bytes unchecked_bytes
@@ -32,7 +33,7 @@ ring-limit e = by (not e.cancelled && is_ended e)
     by true = ring-plus e.start e.length
     by false = refl
 
-ring-news : (e : Standing) (t : Option Standing) → ring_news (on_ring e) (option_map told_of t) ≡ news e t
+ring-news : (e : Standing) (t : Option Standing) → ring_news (on_ring e) (option_map told_by_cue t) ≡ news e t
 ring-news e None = refl
 ring-news e (Some t) = refl
 
@@ -75,7 +76,7 @@ ring-repeated e (Some last) (Some high) (Some later) within inside rises =
     ∙ ap (λ b. int_lt high (limit e) && b) (not-before later (last +ℤ pos 90000))
 
 pub ring-chosen : (x : Sender) (high later : Option ℤ) → IsWithin high x.event → IsKept high x → Rises high later
-    → ring_chosen (on_ring x.event) (option_map told_of x.told) (option_map ring_of x.last) (option_map ring_of high) (option_map ring_of later) ≡ chosen x high later
+    → ring_chosen (on_ring x.event) (option_map told_by_cue x.told) (option_map ring_of x.last) (option_map ring_of high) (option_map ring_of later) ≡ chosen x high later
 ring-chosen x high later within kept rises =
     ap (λ n. cond (not (is_none n)) n (cond (ring_repeated (on_ring x.event) (option_map ring_of x.last) (option_map ring_of high) (option_map ring_of later)) (current x.event) no_cue)) (ring-news x.event x.told)
     ∙ ap (λ b. cond (not (is_none (news x.event x.told))) (news x.event x.told) (cond b (current x.event) no_cue)) (ring-repeated x.event x.last high later within kept.last rises)

@@ -32,7 +32,7 @@ use Rattle.program_laws.specs.Cued.{cueing}
 use Rattle.outgoing_packets.specs.declared.entry.CueEntry.TheVariants.{Added}
 use Rattle.outgoing_packets.specs.Entries.{change_of, HasRoom, GoesOut, AllGoOut}
 use Rattle.injector.specs.Turns.{high}
-use Rattle.injector.specs.Noting.{Rises}
+use Rattle.unit_stream.specs.Clocks.{Rises}
 use Rattle.injector.specs.Steps.{Step, Message, Packet, packets_in, turns_in, body_at}
 use Rattle.program_follower.specs.Purposes.{writing_cues}
 

@@ -21,7 +21,7 @@ use Rattle.event_table.specs.Rings.{CanAdvance}
 use Rattle.event_table.specs.Standing.{Standing, on_line, end_of, forgotten_at, has_id, is_full, meets, repeats, arm_answer, cancel_answer, cancel_answer_of, shorten_answer, shorten_answer_of, with_first, with_cancelled, with_end, ending_at, cancelled_one, still_standing, IsTimeAt, stands, is_of}
 use Rattle.event_table.specs.Tables.{StandsFor, high_time_of}
 use Rattle.event_table.proofs.TimeLemmas.{ring-plus, signed-range}
-use Rattle.injector.specs.declared.asked.Asked.{Asked}
+use Rattle.injector.specs.declared.asked.ServedRequest.{ServedRequest}
 use Rattle.injector.specs.declared.refusal.Refusal.{Refusal}
 use Rattle.injector.specs.declared.refusal.Refusal.TheVariants.{NoClock, InUse, Full, Overlap, NoSuchEvent, TooLate, BadEnd}
 use Rattle.scte104_codec.specs.Reading.{MessageReading, multiple, Multiple}
@@ -208,7 +208,7 @@ ended-stands h n start = by ((h +ℤ pos n) -ℤ start) refl
     by (pos k) is = grind (arith, ints)
     by (negsuc k) is = grind (arith, ints)
 
-pub filter-asked : (line : Option ℤ) (events : List Standing) (a : Result Asked Refusal) → filter (stands line) (with_asked line events a) ≡ after_by line (filter (stands line) events) a
+pub filter-asked : (line : Option ℤ) (events : List Standing) (a : Result ServedRequest Refusal) → filter (stands line) (with_asked line events a) ≡ after_by line (filter (stands line) events) a
 filter-asked line events (Err e) = refl
 filter-asked line events (Ok a) = by (verdict_of line (filter (stands line) events) a.request)
   where
@@ -256,7 +256,7 @@ pub advanced-stands : {T : Type 0} (t t' : Table T) (line : Option ℤ) (p : ℕ
 advanced-stands t t' line p later events can stands_before is stands_after =
     restated t' (Some later) _ _ (filter-later t line p later (filter (stands line) events) events can stands_before is) stands_after
 
-pub asked-stands : {T : Type 0} (t' : Table T) (line : Option ℤ) (events : List Standing) (a : Result Asked Refusal) → StandsFor t' line (after_by line (filter (stands line) events) a)
+pub asked-stands : {T : Type 0} (t' : Table T) (line : Option ℤ) (events : List Standing) (a : Result ServedRequest Refusal) → StandsFor t' line (after_by line (filter (stands line) events) a)
     → StandsFor t' line (filter (stands line) (with_asked line events a))
 asked-stands t' line events a after_stands = restated t' line _ _ (sym (filter-asked line events a)) after_stands
 

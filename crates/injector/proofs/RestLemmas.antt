@@ -15,7 +15,7 @@ use Rattle.scte35_codec.specs.Spelling.{cue_bytes}
 use Rattle.program_follower.specs.Program.{Program, program_of, behind_head, pids_of}
 use Rattle.program_follower.specs.Following.{grown, high_of}
 use Rattle.program_follower.proofs.FollowLemmas.{program_stays, grown_is, no_high}
-use Rattle.injector.specs.declared.asked.Asked.{Asked}
+use Rattle.injector.specs.declared.asked.ServedRequest.{ServedRequest}
 use Rattle.injector.specs.declared.refusal.Refusal.{Refusal}
 use Rattle.injector.specs.declared.requests.Requests.{Requests}
 use Rattle.injector.specs.Asking.{is_start, asked_of, asked_of_multiple}
@@ -139,7 +139,7 @@ all-told has line later up (x ∷ xs) all =
 -- ---- a message
 
 -- one that is not accepted changes nothing
-same-judged : (line : Option ℤ) (test : Sender → Bool) (xs : List Sender) (a : Asked) (v : Result (Unit {0}) Refusal) → is_ok v ≡ false → with_judged line test xs a v ≡ xs
+same-judged : (line : Option ℤ) (test : Sender → Bool) (xs : List Sender) (a : ServedRequest) (v : Result (Unit {0}) Refusal) → is_ok v ≡ false → with_judged line test xs a v ≡ xs
 same-judged line test xs a (Err e) is = refl
 same-judged line test xs a (Ok u) is = absurd (let no : true ≡ false = is in cc)
 
@@ -150,7 +150,7 @@ same-refused index (other head) past is = refl
 same-refused index (bad multi head) past is = refl
 same-refused index (multiple m) past is = by (asked_of_multiple index m) is
   where
-    by : (r : Result Asked Refusal) → is_ok (verdict_by (high past) (standing index past) r) ≡ false → with_request (high past) (senders index past) r ≡ senders index past
+    by : (r : Result ServedRequest Refusal) → is_ok (verdict_by (high past) (standing index past) r) ≡ false → with_request (high past) (senders index past) r ≡ senders index past
     by (Err e) is = refl
     by (Ok a) is =
         same-judged (high past) (stands_by (high past) a.request.splice_event_id) (senders index past) a (verdict_of (high past) (events_in (standing_senders index past)) a.request)
@@ -167,7 +167,7 @@ first-timed line test f (x ∷ xs) all = step (test x) (first-timed line test f 
     step true later = All-cons (IsTimed line) (with_event f x) xs (All-head (IsTimed line) x xs all) (All-tail (IsTimed line) x xs all)
     step false later = All-cons (IsTimed line) x (with_first test (with_event f) xs) (All-head (IsTimed line) x xs all) later
 
-timed-judged : (line : Option ℤ) (test : Sender → Bool) (xs : List Sender) (a : Asked) (v : Result (Unit {0}) Refusal) → All (IsTimed line) xs → All (IsTimed line) (with_judged line test xs a v)
+timed-judged : (line : Option ℤ) (test : Sender → Bool) (xs : List Sender) (a : ServedRequest) (v : Result (Unit {0}) Refusal) → All (IsTimed line) xs → All (IsTimed line) (with_judged line test xs a v)
 timed-judged line test xs a (Err e) all = all
 timed-judged line test xs a (Ok u) all = kinds (is_start a.request) (a.request.splice_insert_type == 3)
   where
@@ -184,7 +184,7 @@ timed-judged line test xs a (Ok u) all = kinds (is_start a.request) (a.request.s
     kinds false true = end-case line
     kinds false false = first-timed line test cancelled_one xs all
 
-timed-request : (line : Option ℤ) (xs : List Sender) (a : Result Asked Refusal) → All (IsTimed line) xs → All (IsTimed line) (with_request line xs a)
+timed-request : (line : Option ℤ) (xs : List Sender) (a : Result ServedRequest Refusal) → All (IsTimed line) xs → All (IsTimed line) (with_request line xs a)
 timed-request line xs (Err e) all = all
 timed-request line xs (Ok a) all = timed-judged line (stands_by line a.request.splice_event_id) xs a (verdict_of line (events_in (filter (stands_now line) xs)) a.request) all
 

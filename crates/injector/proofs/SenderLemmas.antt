@@ -11,7 +11,7 @@ use Rattle.event_table.specs.declared.table.Table.{Table}
 use Rattle.event_table.specs.Tables.{high_time_of, values_of}
 use Rattle.event_table.proofs.ListLemmas.{map-map}
 use Rattle.event_table.proofs.TimeLemmas.{signed-range, ring-only}
-use Rattle.injector.specs.declared.asked.Asked.{Asked}
+use Rattle.injector.specs.declared.asked.ServedRequest.{ServedRequest}
 use Rattle.injector.specs.declared.refusal.Refusal.{Refusal}
 use Rattle.injector.specs.declared.notes.Notes.{Notes}
 use Rattle.injector.specs.declared.requests.Requests.{Requests}
@@ -19,7 +19,8 @@ use Rattle.injector.specs.Asking.{is_start, asked_of}
 use Rattle.injector.specs.Verdicts.{time_at, start_event, verdict_of, started, ended, changed}
 use Rattle.injector.specs.Turns.{Turn, Judged, Passed, high, events, standing, with_asked}
 use Rattle.injector.specs.Senders.{Sender, is_none, chosen, tell, told_now, fresh, with_event, begun, cut_short, with_judged, stands_now, stands_by, events_in, with_request, noted_after, senders, standing_senders}
-use Rattle.injector.specs.Noting.{notes_of, IsKept, LastIn, AreNoted, Rises}
+use Rattle.injector.specs.Noting.{notes_of, IsKept, LastIn, AreNoted}
+use Rattle.unit_stream.specs.Clocks.{Rises}
 use Rattle.injector.proofs.ListLemmas.{filter-twice, filter-push, with_first-filter}
 use Rattle.injector.proofs.RequestLemmas.{new-stands, ended-stands}
 
@@ -47,7 +48,7 @@ push-events : (xs : List Sender) (x : Sender) → events_in (xs ++ x ∷ []) ≡
 push-events xs x = map-append (λ (y : Sender). y.event) xs (x ∷ [])
 
 -- an accepted request changes the events as it changes those of the list
-accepted-events : (line : Option ℤ) (test : Standing → Bool) (xs : List Sender) (a : Asked) (v : Result (Unit {0}) Refusal)
+accepted-events : (line : Option ℤ) (test : Standing → Bool) (xs : List Sender) (a : ServedRequest) (v : Result (Unit {0}) Refusal)
     → events_in (with_judged line (λ x. test x.event) xs a v) ≡ changed line test (events_in xs) a.request v
 accepted-events line test xs a (Err e) = refl
 accepted-events line test xs a (Ok u) = kinds (is_start a.request) (a.request.splice_insert_type == 3)
@@ -67,7 +68,7 @@ accepted-events line test xs a (Ok u) = kinds (is_start a.request) (a.request.sp
     kinds false true = end-case line
     kinds false false = first-events test cancelled_one xs
 
-request-events : (line : Option ℤ) (xs : List Sender) (es : List Standing) (a : Result Asked Refusal) → events_in xs ≡ es → events_in (with_request line xs a) ≡ with_asked line es a
+request-events : (line : Option ℤ) (xs : List Sender) (es : List Standing) (a : Result ServedRequest Refusal) → events_in xs ≡ es → events_in (with_request line xs a) ≡ with_asked line es a
 request-events line xs es (Err e) same = same
 request-events line xs es (Ok a) same =
     let test : Standing → Bool = is_of line a.request.splice_event_id in
@@ -130,7 +131,7 @@ told-events index past later = tell-events (high past) later (standing_senders i
 
 -- ---- a message
 
-filter-judged : (line : Option ℤ) (xs : List Sender) (a : Asked) (v : Result (Unit {0}) Refusal)
+filter-judged : (line : Option ℤ) (xs : List Sender) (a : ServedRequest) (v : Result (Unit {0}) Refusal)
     → ((h : ℤ) (n m : ℕ) → stands (Some h) (start_event h a.request) ≡ true)
     → ((h : ℤ) (s : Standing) → stands (Some h) s ≡ true → stands (Some h) (ending_at (time_at h a.request) s) ≡ true)
     → filter (stands_now line) (with_judged line (stands_by line a.request.splice_event_id) xs a v) ≡ with_judged line (λ x. has_id a.request.splice_event_id x.event) (filter (stands_now line) xs) a v
@@ -160,7 +161,7 @@ filter-judged line xs a (Ok u) new ends = kinds (is_start a.request) (a.request.
     kinds false true = end-case line
     kinds false false = cancel-case line
 
-pub filter-request : (line : Option ℤ) (xs : List Sender) (a : Result Asked Refusal) → filter (stands_now line) (with_request line xs a) ≡ noted_after line (filter (stands_now line) xs) a
+pub filter-request : (line : Option ℤ) (xs : List Sender) (a : Result ServedRequest Refusal) → filter (stands_now line) (with_request line xs a) ≡ noted_after line (filter (stands_now line) xs) a
 filter-request line xs (Err e) = refl
 filter-request line xs (Ok a) = filter-judged line xs a (verdict_of line (events_in (filter (stands_now line) xs)) a.request) (λ h n m. new-stands h (90 * a.request.pre_roll_time) (9000 * a.request.break_duration)) (λ h s is. ended-stands h (90 * a.request.pre_roll_time) s.start)
 
@@ -192,7 +193,7 @@ noted-first old new line test f xs same values n =
     record { notes = values ∙ n.notes ∙ sym (first-notes test f xs); kept = first-kept line test f same xs n.kept }
 
 -- an end or a cancel, taken or refused
-pub noted-other : (old new : Requests) (line : Option ℤ) (test : Sender → Bool) (xs : List Sender) (a : Asked) (v : Result (Unit {0}) Refusal) → is_start a.request ≡ false
+pub noted-other : (old new : Requests) (line : Option ℤ) (test : Sender → Bool) (xs : List Sender) (a : ServedRequest) (v : Result (Unit {0}) Refusal) → is_start a.request ≡ false
     → values_of new.table ≡ values_of old.table → AreNoted old line xs → AreNoted new line (with_judged line test xs a v)
 noted-other old new line test xs a (Err e) other values n = record { notes = values ∙ n.notes; kept = n.kept }
 noted-other old new line test xs a (Ok u) other values n = rw other (kinds (a.request.splice_insert_type == 3))

@@ -19,7 +19,8 @@ use Rattle.injector.specs.declared.requests.Requests.{Requests}
 use Rattle.injector.specs.Turns.{Turn, high}
 use Rattle.injector.specs.Requests.{RequestsStandFor}
 use Rattle.injector.specs.Senders.{Sender, is_none, chosen, cues_by, tell, told_now, events_in, standing_senders, packed}
-use Rattle.injector.specs.Noting.{notes_of, told_of, ring_chosen, IsShown, IsKept, LastIn, AreNoted, Sending, NotesStandFor, NotesTold, Rises}
+use Rattle.injector.specs.Noting.{notes_of, told_by_cue, ring_chosen, IsShown, IsKept, LastIn, AreNoted, Sending, NotesStandFor, NotesTold}
+use Rattle.unit_stream.specs.Clocks.{Rises}
 use Rattle.injector.proofs.CueLemmas.{ring-chosen, one-of_three}
 use Rattle.injector.proofs.SenderLemmas.{standing-events}
 
@@ -77,8 +78,8 @@ module _ (r : Requests) (line after : Option ℤ) (done : List Sender) (x : Send
       is
       ∙ ap (λ k. ring_chosen k n.told n.last h l) shown.event_is
       ∙ ap (λ k. ring_chosen (on_ring x.event) k.told k.last h l) shown.notes_are
-      ∙ ap (λ k. ring_chosen (on_ring x.event) (option_map told_of x.told) (option_map ring_of x.last) k l) (h_is ∙ sending.table.high)
-      ∙ ap (λ k. ring_chosen (on_ring x.event) (option_map told_of x.told) (option_map ring_of x.last) (option_map ring_of line) k) l_is
+      ∙ ap (λ k. ring_chosen (on_ring x.event) (option_map told_by_cue x.told) (option_map ring_of x.last) k l) (h_is ∙ sending.table.high)
+      ∙ ap (λ k. ring_chosen (on_ring x.event) (option_map told_by_cue x.told) (option_map ring_of x.last) (option_map ring_of line) k) l_is
       ∙ ring-chosen x line after at_within at_kept rises
 
   tells : (new : Requests) (y : Sender) → tell line after x ≡ y → StandsFor new.table line (events_in (done ++ x ∷ left))

@@ -8,7 +8,7 @@ use Rattle.scte104_codec.specs.Operations.{Operation}
 use Rattle.scte104_codec.specs.OperationsLeft.{operations_left}
 use Rattle.scte104_codec.specs.Asked.{all_known, splice_requests, avail_ids}
 use Rattle.scte104_codec.specs.Reading.{MessageReading, init, alive, other, multiple, bad, Multiple}
-use Rattle.injector.specs.declared.asked.Asked.{Asked}
+use Rattle.injector.specs.declared.asked.ServedRequest.{ServedRequest}
 use Rattle.injector.specs.declared.refusal.Refusal.{Refusal}
 use Rattle.injector.specs.declared.refusal.Refusal.TheVariants.{BadSyntax, WrongVersion, WrongIndex, TimeType}
 use Rattle.injector.specs.declared.refusal.Refusal.TheVariants.{UnknownOp, NoRequest, TwoRequests, BadType}
@@ -38,7 +38,7 @@ is_start r = r.splice_insert_type == 1
 
 -- splice_insert_type is 1 to 5; 2 and 4, a start and an end at once, are not served; at most 14 avail ids; a start has a duration, returns
 -- by itself and has a pre-roll time
-abbrev pub served_of : List Operation → SpliceRequest → Result Asked Refusal
+abbrev pub served_of : List Operation → SpliceRequest → Result ServedRequest Refusal
 served_of os r =
     if nat_lt r.splice_insert_type 1 || nat_lt 5 r.splice_insert_type then Err BadType
     else (if (r.splice_insert_type == 2) || (r.splice_insert_type == 4) then Err Unsupported
@@ -48,12 +48,12 @@ served_of os r =
     else (if is_start r && (r.pre_roll_time == 0) then Err NoPreRoll
     else Ok (record { request = r; avails = record { items = avail_ids os } }))))))
 
-abbrev pub served_if : List Operation → Result SpliceRequest Refusal → Result Asked Refusal
+abbrev pub served_if : List Operation → Result SpliceRequest Refusal → Result ServedRequest Refusal
 served_if os (Ok r) = served_of os r
 served_if os (Err e) = Err e
 
 -- of a multiple operation for this DPI_PID_index
-abbrev pub asked_of_multiple : ℕ → Multiple → Result Asked Refusal
+abbrev pub asked_of_multiple : ℕ → Multiple → Result ServedRequest Refusal
 asked_of_multiple index m =
     if not (m.version == 0) || not (m.cue_version == 0) then Err WrongVersion
     else (if not (m.head.index == index) then Err WrongIndex
@@ -62,7 +62,7 @@ asked_of_multiple index m =
     else served_if m.operations (only_of (splice_requests m.operations)))))
 
 -- of any message: only a multiple operation asks for something
-abbrev pub asked_of : ℕ → MessageReading → Result Asked Refusal
+abbrev pub asked_of : ℕ → MessageReading → Result ServedRequest Refusal
 asked_of index (init head) = Err BadSyntax
 asked_of index (alive head body) = Err BadSyntax
 asked_of index (other head) = Err BadSyntax
@@ -74,5 +74,5 @@ pub record CanStart (r : SpliceRequest) : Type 0 where
   pub duration : 0 < r.break_duration
   pub pre_roll : 0 < r.pre_roll_time
 
-abbrev pub IsStartable : Asked → Type 0
+abbrev pub IsStartable : ServedRequest → Type 0
 IsStartable a = a.request.splice_insert_type ≡ 1 → CanStart a.request

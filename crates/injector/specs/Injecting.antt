@@ -16,7 +16,7 @@ use Rattle.injector.specs.Turns.{Turn, high}
 use Rattle.injector.specs.Senders.{standing_senders}
 use Rattle.injector.specs.Requests.{RequestsStandFor}
 use Rattle.injector.specs.Noting.{NotesStandFor, Rests}
-use Rattle.injector.specs.Steps.{Step, packets_in, turns_in, cued, sent_at, has_news, messages_in}
+use Rattle.injector.specs.Steps.{Step, packets_in, turns_in, cued, sent_at, has_news, judged_in}
 use Rattle.injector.specs.Steps.{accepted_in, refused_in}
 use Rattle.program_follower.specs.Purposes.{writing_cues}
 
@@ -26,7 +26,7 @@ RestsAt rest index past = Rests rest (high past) (standing_senders index past)
 
 -- each count stops at the greatest u64
 pub record CountsAre (counts : MessageCounts) (index : ℕ) (past : List Turn) : Type 0 where
-  pub messages : counts.messages ≡ capped (messages_in past)
+  pub messages : counts.messages ≡ capped (judged_in past)
   pub accepted : counts.accepted ≡ capped (accepted_in index past)
   pub refused : counts.refused ≡ capped (refused_in index past)
 

@@ -4,13 +4,14 @@ use Rattle.std.specs.Prelude.{◌&&◌}
 use Rattle.std.specs.Prelude.{if◌then◌else◌, List, ◌∷◌, ◌++◌, length, drop, replicate, map, All, Option, None, Some}
 use Rattle.std.specs.Prelude.{option_map}
 use Rattle.pes_time.specs.Line.{ring_of}
+use Rattle.unit_stream.specs.Clocks.{Rises}
 use Rattle.event_table.specs.declared.event.Event.{Event}
 use Rattle.event_table.specs.Events.{ring_end}
 use Rattle.event_table.specs.Rings.{is_before_on_ring}
 use Rattle.event_table.specs.Standing.{Standing, on_ring}
 use Rattle.event_table.specs.Tables.{StandsFor, values_of}
-use Rattle.injector.specs.declared.asked.Asked.{Asked}
-use Rattle.injector.specs.declared.notes.AvailIds.{AvailIds}
+use Rattle.injector.specs.declared.asked.ServedRequest.{ServedRequest}
+use Rattle.injector.specs.declared.notes.KeptAvailIds.{KeptAvailIds}
 use Rattle.injector.specs.declared.notes.Told.{Told}
 use Rattle.injector.specs.declared.notes.Notes.{Notes}
 use Rattle.injector.specs.declared.choice.Choice.{Choice}
@@ -19,11 +20,11 @@ use Rattle.injector.specs.Turns.{Turn, Passed, high}
 use Rattle.injector.specs.Requests.{RequestsStandFor}
 use Rattle.injector.specs.Senders.{Sender, is_none, no_cue, limit, tell, events_in, standing_senders, IsIdle}
 
-abbrev pub ids_of : List ℕ → AvailIds
+abbrev pub ids_of : List ℕ → KeptAvailIds
 ids_of ids = record { ids = ids ++ drop (length ids) (replicate 14 0); count = length ids }
 
-abbrev pub told_of : Standing → Told
-told_of e = record { length = e.length; cancelled = e.cancelled }
+abbrev pub told_by_cue : Standing → Told
+told_by_cue e = record { length = e.length; cancelled = e.cancelled }
 
 abbrev pub notes_of : Sender → Notes
 notes_of x =
@@ -31,11 +32,11 @@ notes_of x =
       avail_num = x.avail_num;
       avails_expected = x.avails_expected;
       avails = ids_of x.avails;
-      told = option_map told_of x.told;
+      told = option_map told_by_cue x.told;
       last = option_map ring_of x.last;
     }
 
-abbrev pub notes_asked : Asked → Notes
+abbrev pub notes_asked : ServedRequest → Notes
 notes_asked a =
     record {
       avail_num = a.request.avail_num;
@@ -138,12 +139,6 @@ NotesStandFor requests index past = AreNoted requests (high past) (standing_send
 abbrev pub NotesTold : Requests → ℕ → List Turn → Option ℤ → Type 0
 NotesTold requests index past later =
     AreNoted requests later (map (tell (high past) later) (standing_senders index past))
-
--- the greatest time never falls, and rises by ten seconds at most
-abbrev pub Rises : Option ℤ → Option ℤ → Type 0
-Rises None later = Unit {0}
-Rises (Some high) None = ⊥
-Rises (Some high) (Some later) = (high ≤ℤ later) × (later ≤ℤ (high +ℤ pos 900000))
 
 -- ---- until when no cue is due
 

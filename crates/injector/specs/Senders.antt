@@ -8,7 +8,7 @@ use Rattle.scte35_codec.specs.declared.cue_out.CueOut.TheVariants.{Start, Cancel
 use Rattle.scte35_codec.specs.Spelling.{cue_bytes}
 use Rattle.program_laws.specs.Writing.{packets_out}
 use Rattle.event_table.specs.Standing.{Standing, end_of, has_id, ending_at, cancelled_one, with_first, stands}
-use Rattle.injector.specs.declared.asked.Asked.{Asked}
+use Rattle.injector.specs.declared.asked.ServedRequest.{ServedRequest}
 use Rattle.injector.specs.declared.choice.Choice.{Choice}
 use Rattle.injector.specs.declared.refusal.Refusal.{Refusal}
 use Rattle.injector.specs.Asking.{asked_of, is_start}
@@ -101,7 +101,7 @@ tell high later x = if is_none (chosen x high later) then x else told_now later 
 -- ---- the history
 
 -- an event that was just accepted, of which nothing was told
-abbrev pub fresh : ℤ → Asked → Sender
+abbrev pub fresh : ℤ → ServedRequest → Sender
 fresh high a =
     record {
       event = start_event high a.request;
@@ -115,22 +115,22 @@ fresh high a =
 abbrev pub with_event : (Standing → Standing) → Sender → Sender
 with_event change x = record x { event = change x.event }
 
-abbrev pub begun : Option ℤ → List Sender → Asked → List Sender
+abbrev pub begun : Option ℤ → List Sender → ServedRequest → List Sender
 begun None xs a = xs
 begun (Some high) xs a = xs ++ fresh high a ∷ []
 
-abbrev pub cut_short : Option ℤ → (Sender → Bool) → List Sender → Asked → List Sender
+abbrev pub cut_short : Option ℤ → (Sender → Bool) → List Sender → ServedRequest → List Sender
 cut_short None test xs a = xs
 cut_short (Some high) test xs a = with_first test (with_event (ending_at (time_at high a.request))) xs
 
-abbrev pub with_accepted : Option ℤ → (Sender → Bool) → List Sender → Asked → List Sender
+abbrev pub with_accepted : Option ℤ → (Sender → Bool) → List Sender → ServedRequest → List Sender
 with_accepted high test xs a =
     if is_start a.request then begun high xs a
     else (if a.request.splice_insert_type == 3 then cut_short high test xs a
     else with_first test (with_event cancelled_one) xs)
 
 -- a refused request changes nothing
-abbrev pub with_judged : Option ℤ → (Sender → Bool) → List Sender → Asked → Result (Unit {0}) Refusal → List Sender
+abbrev pub with_judged : Option ℤ → (Sender → Bool) → List Sender → ServedRequest → Result (Unit {0}) Refusal → List Sender
 with_judged high test xs a (Ok u) = with_accepted high test xs a
 with_judged high test xs a (Err e) = xs
 
@@ -145,14 +145,14 @@ abbrev pub events_in : List Sender → List Standing
 events_in xs = map (λ (x : Sender). x.event) xs
 
 -- with one request more
-abbrev pub with_request : Option ℤ → List Sender → Result Asked Refusal → List Sender
+abbrev pub with_request : Option ℤ → List Sender → Result ServedRequest Refusal → List Sender
 with_request high xs (Err e) = xs
 with_request high xs (Ok a) =
     with_judged high (stands_by high a.request.splice_event_id) xs a
     (verdict_of high (events_in (filter (stands_now high) xs)) a.request)
 
 -- of those that stand
-abbrev pub noted_after : Option ℤ → List Sender → Result Asked Refusal → List Sender
+abbrev pub noted_after : Option ℤ → List Sender → Result ServedRequest Refusal → List Sender
 noted_after high xs (Err e) = xs
 noted_after high xs (Ok a) =
     with_judged high (λ x. has_id a.request.splice_event_id x.event) xs a

@@ -87,10 +87,10 @@ has_news index (Judged m ∷ past) = has_news index past || is_accepted (outcome
 has_news index (Passed h ∷ past) = false
 
 -- how many messages were judged, and how many multiple operations were accepted and refused
-abbrev pub messages_in : List Turn → ℕ
-messages_in [] = 0
-messages_in (Judged m ∷ past) = 1 + messages_in past
-messages_in (Passed h ∷ past) = messages_in past
+abbrev pub judged_in : List Turn → ℕ
+judged_in [] = 0
+judged_in (Judged m ∷ past) = 1 + judged_in past
+judged_in (Passed h ∷ past) = judged_in past
 
 abbrev pub accepted_in : ℕ → List Turn → ℕ
 accepted_in index [] = 0

@@ -4,7 +4,7 @@ use Rattle.std.specs.Prelude.{ℕ, ℤ, List, [], ◌∷◌, Option, None, Resul
 use Rattle.std.specs.Prelude.{filter}
 use Rattle.scte104_codec.specs.Reading.{MessageReading, Multiple}
 use Rattle.event_table.specs.Standing.{Standing, stands, is_of}
-use Rattle.injector.specs.declared.asked.Asked.{Asked}
+use Rattle.injector.specs.declared.asked.ServedRequest.{ServedRequest}
 use Rattle.injector.specs.declared.refusal.Refusal.{Refusal}
 use Rattle.injector.specs.Asking.{asked_of, asked_of_multiple}
 use Rattle.injector.specs.Verdicts.{verdict_of, verdict_by, changed}
@@ -21,7 +21,7 @@ high (Judged m ∷ past) = high past
 high (Passed h ∷ past) = h
 
 -- the events, with one request more
-abbrev pub with_asked : Option ℤ → List Standing → Result Asked Refusal → List Standing
+abbrev pub with_asked : Option ℤ → List Standing → Result ServedRequest Refusal → List Standing
 with_asked h events (Err e) = events
 with_asked h events (Ok a) =
     changed h (is_of h a.request.splice_event_id) events a.request

@@ -6,7 +6,7 @@ use Rattle.std.specs.List.{list_any}
 use Rattle.scte104_codec.specs.declared.requests.SpliceRequest.{SpliceRequest}
 use Rattle.event_table.specs.declared.event.Event.{Event}
 use Rattle.event_table.specs.Standing.{Standing, has_begun, has_id, is_full, meets, end_of, ending_at, cancelled_one, with_first}
-use Rattle.injector.specs.declared.asked.Asked.{Asked}
+use Rattle.injector.specs.declared.asked.ServedRequest.{ServedRequest}
 use Rattle.injector.specs.declared.refusal.Refusal.{Refusal}
 use Rattle.injector.specs.declared.refusal.Refusal.TheVariants.{BadSyntax, WrongVersion, WrongIndex, TimeType}
 use Rattle.injector.specs.declared.refusal.Refusal.TheVariants.{UnknownOp, NoRequest, TwoRequests, BadType}
@@ -108,7 +108,7 @@ verdict_of high standing r =
     else cancel_verdict high standing r)
 
 -- of what a message asks for
-abbrev pub verdict_by : Option ℤ → List Standing → Result Asked Refusal → Result (Unit {0}) Refusal
+abbrev pub verdict_by : Option ℤ → List Standing → Result ServedRequest Refusal → Result (Unit {0}) Refusal
 verdict_by high standing (Ok a) = verdict_of high standing a.request
 verdict_by high standing (Err e) = Err e
 
@@ -138,6 +138,6 @@ changed high test events r (Err e) = events
 abbrev pub after : Option ℤ → List Standing → SpliceRequest → Result (Unit {0}) Refusal → List Standing
 after high standing r verdict = changed high (has_id r.splice_event_id) standing r verdict
 
-abbrev pub after_by : Option ℤ → List Standing → Result Asked Refusal → List Standing
+abbrev pub after_by : Option ℤ → List Standing → Result ServedRequest Refusal → List Standing
 after_by high standing (Ok a) = after high standing a.request (verdict_of high standing a.request)
 after_by high standing (Err e) = standing

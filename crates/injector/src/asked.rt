@@ -26,7 +26,7 @@ const CANCEL: u8 = 5;
 
 /// What is asked for: a `splice_request` that this profile serves, and the avail ids of its message.
 #[derive(Debug, Drop)]
-pub(crate) struct Asked {
+pub(crate) struct ServedRequest {
     pub(crate) request: SpliceRequest,
     pub(crate) avails: ArrayVec<u32, 14>,
 }
@@ -46,7 +46,7 @@ fn only_request(message: &Multi<'_>) -> Result<SpliceRequest, Refusal>
 }
 
 /// What the message asks for by this request.
-fn served(message: &Multi<'_>, request: SpliceRequest) -> Result<Asked, Refusal>
+fn served(message: &Multi<'_>, request: SpliceRequest) -> Result<ServedRequest, Refusal>
     ensures value { result ≡ served_of (operations_left message.now.operations) request }
     ensures startable { IfOk result IsStartable }
 {
@@ -71,11 +71,11 @@ fn served(message: &Multi<'_>, request: SpliceRequest) -> Result<Asked, Refusal>
     if starts && request.pre_roll_time == 0 {
         return Err(Refusal::NoPreRoll);
     }
-    Ok(Asked { request, avails })
+    Ok(ServedRequest { request, avails })
 }
 
 /// What the message asks for, or the first reason for a refusal that lies in the message alone.
-pub(crate) fn request_in(message: &Multi<'_>, index: u16) -> Result<Asked, Refusal>
+pub(crate) fn request_in(message: &Multi<'_>, index: u16) -> Result<ServedRequest, Refusal>
     ensures value { result ≡ asked_of_multiple index (fields_of message.now) }
     ensures startable { IfOk result IsStartable }
 {

@@ -6,28 +6,28 @@ ghost use Rattle.event_table.specs.Standing.{on_ring};
 ghost use Rattle.injector.specs.Senders.{Sender, told_now};
 ghost use Rattle.injector.specs.Noting.{ids_of, notes_of, notes_asked};
 
-use crate::asked::Asked;
+use crate::asked::ServedRequest;
 use arrayvec::ArrayVec;
 use event_table::Event;
 use pes_time::Time33;
 
 /// At most 14 avail ids, by value.
 #[derive(Clone, Copy, Debug, PartialEq, Eq)]
-pub(crate) struct AvailIds {
+pub(crate) struct KeptAvailIds {
     ids: [u32; 14],
     count: usize,
 }
 
-impl AvailIds {
+impl KeptAvailIds {
     /// These ids.
-    fn of(avails: &ArrayVec<u32, 14>) -> AvailIds
+    fn of(avails: &ArrayVec<u32, 14>) -> KeptAvailIds
         ensures value { result ≡ ids_of avails.now.items }
         ensures most { length avails.now.items ≤ 14 }
     {
         let mut ids = [0; 14];
         let count = avails.len();
         ids[..count].copy_from_slice(avails.as_slice());
-        AvailIds { ids, count }
+        KeptAvailIds { ids, count }
     }
 
     /// The ids again.
@@ -58,7 +58,7 @@ pub(crate) struct Notes {
     /// `avails_expected`.
     pub(crate) avails_expected: u8,
     /// The `provider_avail_id`s.
-    pub(crate) avails: AvailIds,
+    pub(crate) avails: KeptAvailIds,
     /// The event as it was when its last new cue went out; `None` where none has.
     pub(crate) told: Option<Told>,
     /// The greatest time behind the packet before which its last cue went out.
@@ -71,7 +71,7 @@ impl Default for Notes {
         Notes {
             avail_num: 0,
             avails_expected: 0,
-            avails: AvailIds {
+            avails: KeptAvailIds {
                 ids: [0; 14],
                 count: 0,
             },
@@ -83,14 +83,14 @@ impl Default for Notes {
 
 impl Notes {
     /// Of an event that was asked for, and of which nothing was sent.
-    pub(crate) fn of(asked: &Asked) -> Notes
+    pub(crate) fn of(asked: &ServedRequest) -> Notes
         ensures value { result ≡ notes_asked asked.now }
         ensures most { length asked.now.avails.items ≤ 14 }
     {
         Notes {
             avail_num: asked.request.avail_num,
             avails_expected: asked.request.avails_expected,
-            avails: AvailIds::of(&asked.avails),
+            avails: KeptAvailIds::of(&asked.avails),
             told: None,
             last: None,
         }

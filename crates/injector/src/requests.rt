@@ -14,9 +14,10 @@ ghost use Rattle.injector.specs.Turns.{Turn, Judged, Passed, high};
 ghost use Rattle.injector.specs.Replies.{reply_to};
 ghost use Rattle.injector.specs.Requests.{RequestsStandFor};
 ghost use Rattle.injector.specs.Senders.{Sender, events_in, noted_after, standing_senders, IsIdle};
-ghost use Rattle.injector.specs.Noting.{AreNoted, NotesStandFor, NotesTold, Rises, Rests, Sending, ring_next};
+ghost use Rattle.injector.specs.Noting.{AreNoted, NotesStandFor, NotesTold, Rests, Sending, ring_next};
+ghost use Rattle.unit_stream.specs.Clocks.{Rises};
 
-use crate::asked::{Asked, END_NORMAL, START_NORMAL, request_in};
+use crate::asked::{END_NORMAL, START_NORMAL, ServedRequest, request_in};
 use crate::choice::{earlier, next_time};
 use crate::notes::Notes;
 use crate::refusal::Refusal;
@@ -217,7 +218,7 @@ impl Requests {
     }
 
     /// Judges a request by the events that stand.
-    fn take(&mut self, asked: &Asked) -> Result<(), Refusal>
+    fn take(&mut self, asked: &ServedRequest) -> Result<(), Refusal>
         requires { IsStartable asked.now }
         ensures answer { (line : Option ℤ) (standing : List Standing) → StandsFor self.old.table line standing →
             result ≡ verdict_of line standing asked.now.request }

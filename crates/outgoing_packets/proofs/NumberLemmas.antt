@@ -13,7 +13,7 @@ use Rattle.ts_packet.specs.Runs.{onto}
 use Rattle.ts_packet.proofs.RunLemmas.{onto-append}
 use Rattle.ts_packet.proofs.FieldLemmas.{payload_on-on}
 use Rattle.psi_section.specs.Packetising.{first_packet, next_packet, later_packets, section_packets, packets_in_turn}
-use Rattle.psi_section.proofs.ReadBackLemmas.{first_number, next_number, next_on, section_carry}
+use Rattle.psi_section.proofs.ReadBackLemmas.{first_number, next_packet_number, next_on, section_carry}
 use Rattle.program_follower.specs.Program.{Table}
 use Rattle.program_laws.specs.Writing.{number_on, packets_out, section_out, Off}
 use Rattle.program_laws.proofs.PacketLemmas.{one_past-below}
@@ -40,7 +40,7 @@ upcoming-later : (count pid n : ℕ) (bs : List ℕ) (out : List (List ℕ)) →
 upcoming-later zero pid n bs out pb nb is = is ∙ omega arith
 upcoming-later (suc count) pid n bs out pb nb is =
     let q = next_packet pid n bs in
-    let own : upcoming_on pid (q ∷ out) ≡ (n + 1) % 16 = upcoming-own pid q out (payload_on-on pid q (next_on pid n bs pb nb)) ∙ ap (λ k. (k + 1) % 16) (next_number pid n bs pb nb) in
+    let own : upcoming_on pid (q ∷ out) ≡ (n + 1) % 16 = upcoming-own pid q out (payload_on-on pid q (next_on pid n bs pb nb)) ∙ ap (λ k. (k + 1) % 16) (next_packet_number pid n bs pb nb) in
     let rest = upcoming-later count pid ((n + 1) % 16) (drop 184 bs) (q ∷ out) pb (omega arith) own in
     rest ∙ omega arith
 

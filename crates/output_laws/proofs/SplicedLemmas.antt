@@ -14,8 +14,8 @@ use Rattle.splice_laws.specs.Laws.{AreOrdered, IsStream, CountsOver}
 use Rattle.splice_laws.specs.Streams.{Act, Through, Insert, all_closing, all_running, insert_on, on_each, is_dropped, spliced_at, of_stream, IsOnce}
 use Rattle.splice_laws.proofs.PidLemmas.{pids_are_streams}
 use Rattle.splice_laws.proofs.HistoryLemmas.{running-inside}
-use Rattle.splice_laws.proofs.PlacedLemmas.{nothing_new, put_in-append, swap, AllAt, AllCounted, counted_head, counted_tail, all_counted, all_joined, left_inside, none_at_first, out_counts_all}
-use Rattle.splice_laws.proofs.StreamLemmas.{of_stream-append, once_on, phases, put_in-flat, dropped_is}
+use Rattle.splice_laws.proofs.PlacedLemmas.{nothing_new, as_inserted-append, swap, AllAt, AllCounted, counted_head, counted_tail, all_counted, all_joined, left_inside, none_at_first, out_counts_all}
+use Rattle.splice_laws.proofs.StreamLemmas.{of_stream-append, once_on, phases, as_inserted-flat, dropped_is}
 use Rattle.output_laws.specs.Output.{Move, Keep, Leave, Put, acts, network, Place, Keeping, Leaving, place, KeepsUnitsWhole, Packing, output, Sound, HasComeBefore, AlongMoves, units_out}
 use Rattle.output_laws.specs.Spliced.{puts_on, puts_each, puts_at, fate, moves_after, MovesAreSpliced, inserted_payloads, unit_at, placed_payloads, SplicedCarries, SplicedHasUnits}
 use Rattle.output_laws.specs.Laws.{AreSoundMoves}
@@ -179,9 +179,9 @@ module _ (sw : List ℕ) (xs : List PlayedEvent) (slice : ℕ → PlayedEvent �
         ∙ of_stream-append pid (on_each sw fc) (on_each sw fr)
         ∙ ap (λ l. l ++ of_stream pid (on_each sw fr)) (once_on pid sw fc h)
         ∙ ap (λ l. map (λ (u : SliceUnit). Inserted u) (fc pid) ++ l) (once_on pid sw fr h)
-        ∙ sym (put_in-append (fc pid) (fr pid))
+        ∙ sym (as_inserted-append (fc pid) (fr pid))
         ∙ ap (λ l. map (λ (u : SliceUnit). Inserted u) l) (phases (stream sw pid) (pids_are_streams sw pid) (slice pid) (out pid) xs o p past n)
-        ∙ put_in-flat (λ (x : PlayedEvent). inserted (slice pid x) (out pid x) p past) xs
+        ∙ as_inserted-flat (λ (x : PlayedEvent). inserted (slice pid x) (out pid x) p past) xs
 
     record Inv (S : List Move) (past : List (List ℕ)) : Type 0 where
       pub net : network S ≡ past
@@ -333,7 +333,7 @@ module _ (sw : List ℕ) (xs : List PlayedEvent) (slice : ℕ → PlayedEvent �
         let E = puts_each sw f in
         sym (
         ap (units_out pid S) (sym (append-nil E)) ∙ units_puts pid E [] S (puts_each_are sw f)
-        ∙ ap (λ l. inserted_payloads l ++ []) (ap (of_stream pid) (acts_each sw f) ∙ once_on pid sw f h ∙ put_in-flat (λ (x : PlayedEvent). rest (stream sw pid) x (slice pid x) (out pid x) past) xs)
+        ∙ ap (λ l. inserted_payloads l ++ []) (ap (of_stream pid) (acts_each sw f) ∙ once_on pid sw f h ∙ as_inserted-flat (λ (x : PlayedEvent). rest (stream sw pid) x (slice pid x) (out pid x) past) xs)
         )
     placed_after past (p ∷ ps) S n i =
         let s : Seen = record { packet = p; past = past } in

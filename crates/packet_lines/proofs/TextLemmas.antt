@@ -17,7 +17,7 @@ use Rattle.hex_digits.proofs.DigitLemmas.{length-digits_of}
 use Rattle.hex_digits.proofs.ReadBackLemmas.{spelled-digits_of}
 use Rattle.std.specs.Prelude.{All}
 use Rattle.packet_lines.specs.Lines.{line_of, lines_of}
-use Rattle.packet_lines.specs.Texts.{packet_in, line_before, told_of, bytes_told, left_in, judged, WrittenLines, FailsToWriteLine}
+use Rattle.packet_lines.specs.Texts.{packet_in, line_before, lines_told, bytes_told, left_in, judged, WrittenLines, FailsToWriteLine}
 
 -- the last character of a whole line
 pub one_left : (line : List ℕ) → length line ≡ 377 → drop 376 line ≡ get_or line 376 0 ∷ []
@@ -101,7 +101,7 @@ pub told_step : (text : List ℕ) → 0 < length text → bytes_told text ≡ li
 unfolding bytes_told
 told_step text h =
     let count : (length text + 376) / 377 ≡ suc ((length (drop 377 text) + 376) / 377) = count_more (length text) h ∙ ap (λ k. suc ((k + 376) / 377)) (sym (length-drop 377 text)) in
-    ap (λ k. told_of k text) count
+    ap (λ k. lines_told k text) count
 
 -- what was read is the text's first line, and what is left stands behind it
 record FirstLine (xs ys line : List ℕ) : Type 0 where

@@ -26,13 +26,13 @@ line_before None behind = 0 ∷ []
 line_before (Some p) behind = p ++ behind
 
 -- the bytes of so many lines
-abbrev pub told_of : ℕ → List ℕ → List ℕ
-told_of zero text = []
-told_of (suc n) text = line_before (packet_in (take 377 text)) (told_of n (drop 377 text))
+abbrev pub lines_told : ℕ → List ℕ → List ℕ
+lines_told zero text = []
+lines_told (suc n) text = line_before (packet_in (take 377 text)) (lines_told n (drop 377 text))
 
 -- THE BYTES OF A TEXT: those of the packets of its lines, up to the first line that is no packet's, and one byte in its stead
 unfoldable pub bytes_told : List ℕ → List ℕ
-bytes_told text = told_of ((length text + 376) / 377) text
+bytes_told text = lines_told ((length text + 376) / 377) text
 
 -- what a reader has left of a text, and where the text ended behind the last line that it gave
 abbrev pub left_in : Bool → Option (List ℕ) → Option (List ℕ)

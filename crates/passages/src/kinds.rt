@@ -112,14 +112,14 @@ where
 
 /// A run with cues and the advertisements of a library, as the options say.
 #[derive(Drop)]
-pub struct Playing<'a, W, L> {
+pub struct Chaining<'a, W, L> {
     pub alloc: Global,
     pub options: &'a InjectOptions<'a>,
     pub asker: &'a mut Asker<W, L>,
     pub library: &'a AdLibrary,
 }
 
-impl<W, L> Passage for Playing<'_, W, L>
+impl<W, L> Passage for Chaining<'_, W, L>
 where
     W: Write,
     L: OpenListener,
@@ -137,7 +137,7 @@ where
         network: &mut P,
         out: &mut K,
     ) -> Result<Report, ProgramFault> {
-        let Playing {
+        let Chaining {
             alloc,
             options,
             asker,

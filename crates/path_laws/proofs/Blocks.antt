@@ -14,7 +14,8 @@ use Rattle.injector.specs.Asking.{is_start, asked_of}
 use Rattle.injector.specs.Verdicts.{verdict_of}
 use Rattle.injector.specs.Turns.{Turn, Judged, Passed, high, standing}
 use Rattle.injector.specs.Senders.{Sender, cues_of, stands_now, senders}
-use Rattle.cue_laws.specs.Events.{Turn as LineTurn, LineEvent, before, Rises, In}
+use Rattle.cue_laws.specs.Events.{Turn as LineTurn, LineEvent, before, In}
+use Rattle.unit_stream.specs.Clocks.{Rises}
 use Rattle.cue_laws.specs.Events.{Passed as LinePassed}
 use Rattle.cue_laws.specs.Cueing.{Sender as LineSender, Told, Untold, Known, Never, is_news, is_due, is_second, told_on, block_on, cued}
 use Rattle.cue_laws.specs.Cueing.{senders as line_senders, limit as line_limit}

@@ -29,10 +29,9 @@ use Rattle.program_laws.proofs.PacketLemmas.{Meets, one_past-below, fresh, meets
 use Rattle.program_laws.proofs.WritingLemmas.{carry_off, listed_below}
 use Rattle.program_laws.proofs.FaultLemmas.{not_if_bad, pid_good, no_cue_packets}
 use Rattle.scte104_codec.specs.Reading.{MessageReading}
-use Rattle.injector.specs.Noting.{Rises as InjectorRises}
 use Rattle.injector.specs.Steps.{Step, Message, Packet, packets_in, turns_in, sections_before, cue_packets, body_at, cued}
 use Rattle.injector.proofs.FeedLemmas.{rises-at, turns-high}
-use Rattle.cue_laws.specs.Events.{Rises}
+use Rattle.unit_stream.specs.Clocks.{Rises}
 use Rattle.cue_laws.proofs.Settling.{by_test}
 use Rattle.path_laws.specs.Path.{Item, Sent, sent_onto, IsSteadyHistory}
 use Rattle.path_laws.specs.Packets.{IsRunOf, SectionsReadBack, cues_at, sent_in}
@@ -57,14 +56,9 @@ pub run-history : (c : Config) (past : List Step) → IsRunOf c past → IsStead
 run-history c [] r = tt
 run-history c (Message m ∷ past) r = ((r.requests).0, run-history c past (run-message c m past r))
 run-history c (Packet p ∷ past) r = (
-  subst (λ k. Rises k (high_of (Some c.program) (p ∷ packets_in past))) (sym (turns-high c.program past)) (rises-by (high_of (Some c.program) (packets_in past)) _ (rises-at c p (packets_in past) (fault-parts c p (packets_in past) r.faultless).1)),
+  subst (λ k. Rises k (high_of (Some c.program) (p ∷ packets_in past))) (sym (turns-high c.program past)) (rises-at c p (packets_in past) (fault-parts c p (packets_in past) r.faultless).1),
   run-history c past (run-packet c p past r),
 )
-  where
-    rises-by : (a b : Option ℤ) → InjectorRises a b → Rises a b
-    rises-by None b up = tt
-    rises-by (Some a) None up = up
-    rises-by (Some a) (Some b) up = up
 
 -- ---- the cues fit
 

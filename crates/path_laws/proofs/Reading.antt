@@ -10,7 +10,8 @@ use Rattle.scte35_codec.proofs.WrittenLemmas.{cue_back}
 use Rattle.event_table.specs.Standing.{end_of}
 use Rattle.armed_events.specs.Asking.{asked_of}
 use Rattle.armed_events.specs.Arming.{Heard, change, start_change, end_change, changed, standing_at, with_section}
-use Rattle.cue_laws.specs.Events.{Turn as LineTurn, Started, Passed, high, events, taken, Rises, NeverFalls, cancel_by, end_by}
+use Rattle.cue_laws.specs.Events.{Turn as LineTurn, Started, Passed, high, events, taken, NeverFalls, cancel_by, end_by}
+use Rattle.unit_stream.specs.Clocks.{Rises}
 use Rattle.cue_laws.specs.Thinning.{times, thinned}
 use Rattle.injector.specs.Senders.{start_cue, end_cue, cancel_cue}
 use Rattle.path_laws.specs.Path.{Item, Sent, Packet, high_on, line_of, line, left, heard_on, armed_on}

@@ -11,7 +11,8 @@ use Rattle.injector.specs.Verdicts.{time_at, start_event, start_verdict_at, end_
 use Rattle.injector.specs.Turns.{Turn, Judged, Passed, high, standing}
 use Rattle.injector.specs.Senders.{Sender, with_event, stands_now, stands_by, events_in, with_request, with_judged, senders}
 use Rattle.injector.proofs.SenderLemmas.{standing-events}
-use Rattle.cue_laws.specs.Events.{Turn as LineTurn, Started, Cancelled, Ended, LineEvent, before, events, Rises, can_start, can_cancel, can_end, cancel_by, end_by, In}
+use Rattle.cue_laws.specs.Events.{Turn as LineTurn, Started, Cancelled, Ended, LineEvent, before, events, can_start, can_cancel, can_end, cancel_by, end_by, In}
+use Rattle.unit_stream.specs.Clocks.{Rises}
 use Rattle.cue_laws.specs.Events.{high as line_high, is_of as line_is_of}
 use Rattle.cue_laws.specs.Cueing.{Sender as LineSender, IsRun, change}
 use Rattle.cue_laws.specs.Cueing.{senders as line_senders, tell as line_tell}

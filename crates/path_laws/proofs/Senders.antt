@@ -7,7 +7,8 @@ use Rattle.std.proofs.lemmas.List.{map-append}
 use Rattle.std.proofs.lemmas.Bool.Decides.{nat_tests}
 use Rattle.event_table.specs.Standing.{Standing, end_of, cancelled_one, ending_at, with_first}
 use Rattle.injector.specs.Senders.{Sender, is_none, is_ended, news, current, limit, is_repeated, chosen, tell, told_now, with_event, stands_by, events_in}
-use Rattle.cue_laws.specs.Events.{LineEvent, before, Rises, can_cancel, can_end, cancel_by, end_by, In}
+use Rattle.cue_laws.specs.Events.{LineEvent, before, can_cancel, can_end, cancel_by, end_by, In}
+use Rattle.unit_stream.specs.Clocks.{Rises}
 use Rattle.cue_laws.specs.Events.{is_of as line_is_of}
 use Rattle.cue_laws.specs.Cueing.{Sender as LineSender, Told, Untold, Known, Never, is_cancel_new, or_else, is_news, is_due, is_sent, change}
 use Rattle.cue_laws.specs.Cueing.{limit as line_limit, tell as line_tell, told_now as line_told_now}

@@ -27,7 +27,7 @@ use Rattle.cue_laws.specs.Laws.{KeepsEnoughOf}
 use Rattle.cue_laws.proofs.Repeats.{repeats_lose_nothing}
 use Rattle.path_laws.specs.Path.{Item, Sent, Packet as Passing, high_on, sent_onto, line_of, line, asked_line}
 use Rattle.path_laws.specs.Packets.{IsRunOf, cues_at, sent_in, kept, stream, BringsCues}
-use Rattle.path_laws.specs.Thinning.{thin, last_left, AreToldApart, next_number, IsThinned, sections_of, AreGiven, GivesSections, ThinnedBrings, ThinnedOfAll, ThinnedCuePath}
+use Rattle.path_laws.specs.Thinning.{thin, last_left, AreToldApart, next_cue_number, IsThinned, sections_of, AreGiven, GivesSections, ThinnedBrings, ThinnedOfAll, ThinnedCuePath}
 use Rattle.path_laws.proofs.Packets.{run-message, run-packet, run-history, cues-fit, place-off}
 use Rattle.path_laws.proofs.Proofs.{requests_are_a_run, cues_tell_the_line}
 use Rattle.path_laws.proofs.Streams.{times-turn}
@@ -46,7 +46,7 @@ abbrev numbers : Config → (List LineTurn → ℕ) → (List ℕ → List (List
 numbers c copies fronts [] = []
 numbers c copies fronts (Message m ∷ past) = numbers c copies fronts past
 numbers c copies fronts (Packet p ∷ past) =
-    0 ∷ numbers_onto c.cue_pid copies (sent_in c past) (next_number c past) (stream c fronts past) (numbers c copies fronts past) (cues_at c p past)
+    0 ∷ numbers_onto c.cue_pid copies (sent_in c past) (next_cue_number c past) (stream c fronts past) (numbers c copies fronts past) (cues_at c p past)
 
 -- the choice is that of the table
 abbrev AsMany : (List LineTurn → ℕ) → List Item → List ℕ → Type 0
@@ -120,7 +120,7 @@ numbers-length : (c : Config) (copies : List LineTurn → ℕ) (fronts : List �
 numbers-length c copies fronts [] = refl
 numbers-length c copies fronts (Message m ∷ past) = numbers-length c copies fronts past
 numbers-length c copies fronts (Packet p ∷ past) =
-    ap suc (numbers-onto-length c.cue_pid copies (sent_in c past) (next_number c past) (stream c fronts past) (numbers c copies fronts past) (cues_at c p past) (numbers-length c copies fronts past))
+    ap suc (numbers-onto-length c.cue_pid copies (sent_in c past) (next_cue_number c past) (stream c fronts past) (numbers c copies fronts past) (cues_at c p past) (numbers-length c copies fronts past))
 
 -- ---- what is left out is told again
 
@@ -238,7 +238,7 @@ given-past c copies given fronts [] many = tt
 given-past c copies given fronts (Message m ∷ past) many = given-past c copies given fronts past many
 given-past c copies given fronts (Packet p ∷ past) many =
     let items = sent_in c past in
-    let n = next_number c past in
+    let n = next_cue_number c past in
     let out = stream c fronts past in
     let gs = numbers c copies fronts past in (
       given-cues c.cue_pid copies given items n out gs (cues_at c p past) many.1,
@@ -265,7 +265,7 @@ stands-past c copies given fronts (Message m ∷ past) r t many = stands-past c 
 stands-past c copies given fronts (Packet p ∷ past) r t many =
     let pid = c.cue_pid in
     let items = sent_in c past in
-    let n = next_number c past in
+    let n = next_cue_number c past in
     let out = stream c fronts past in
     let cues = cues_at c p past in
     let qs = fronts p (packets_in past) in
@@ -312,7 +312,7 @@ thin-all pid items n (cue ∷ cues) fits =
     ∙ ap (λ l. first_packet pid n s ∷ l) (thin-all pid (Sent cue ∷ items) ((n + 1) % 16) cues fits.1)
 
 pub thinned_of_all : ThinnedOfAll
-thinned_of_all c p past r = thin-all c.cue_pid (sent_in c past) (next_number c past) (cues_at c p past) (cues-fit c p past r)
+thinned_of_all c p past r = thin-all c.cue_pid (sent_in c past) (next_cue_number c past) (cues_at c p past) (cues-fit c p past r)
 
 -- ---- the cue path
 

@@ -9,7 +9,8 @@ use Rattle.scte35_codec.specs.declared.cue_out.CueOut.TheVariants.{Start, Cancel
 use Rattle.scte35_codec.specs.Spelling.{cue_bytes}
 use Rattle.event_table.specs.Standing.{Standing}
 use Rattle.armed_events.specs.Arming.{Heard, with_section}
-use Rattle.cue_laws.specs.Events.{Turn as LineTurn, Started, Cancelled, Ended, Passed as LinePassed, Rises}
+use Rattle.cue_laws.specs.Events.{Turn as LineTurn, Started, Cancelled, Ended, Passed as LinePassed}
+use Rattle.unit_stream.specs.Clocks.{Rises}
 use Rattle.cue_laws.specs.Thinning.{times}
 use Rattle.injector.specs.declared.refusal.Refusal.{Refusal}
 use Rattle.injector.specs.Asking.{asked_of, is_start}

@@ -40,16 +40,16 @@ AreToldApart pid copies items n out (cue ∷ cues) =
     × AreToldApart pid copies (Sent cue ∷ items) ((n + 1) % 16) (times (copies (line (Sent cue ∷ items))) (first_packet pid n (cue_bytes cue)) out) cues
 
 -- the counter of the first cue before the next packet
-abbrev pub next_number : Config → List Step → ℕ
-next_number c past = one_past (number_on c.cue_pid (cued c past))
+abbrev pub next_cue_number : Config → List Step → ℕ
+next_cue_number c past = one_past (number_on c.cue_pid (cued c past))
 
 -- in front of each packet stand so many copies of each packet that the injector puts there, and a duplicate tells the same again
 abbrev pub IsThinned : Config → (List LineTurn → ℕ) → (List ℕ → List (List ℕ) → List (List ℕ)) → List Step → Type 0
 IsThinned c copies fronts [] = Unit {0}
 IsThinned c copies fronts (Message m ∷ past) = IsThinned c copies fronts past
 IsThinned c copies fronts (Packet p ∷ past) =
-    (fronts p (packets_in past) ≡ thin c.cue_pid copies (sent_in c past) (next_number c past) (cues_at c p past))
-    × AreToldApart c.cue_pid copies (sent_in c past) (next_number c past) (stream c fronts past) (cues_at c p past)
+    (fronts p (packets_in past) ≡ thin c.cue_pid copies (sent_in c past) (next_cue_number c past) (cues_at c p past))
+    × AreToldApart c.cue_pid copies (sent_in c past) (next_cue_number c past) (stream c fronts past) (cues_at c p past)
     × IsThinned c copies fronts past
 
 -- how many sections copies on the spot give, where the first is no duplicate: of two in a row the second is one, and the third is none
@@ -75,7 +75,7 @@ abbrev pub GivesSections : Config → (List LineTurn → ℕ) → (List LineTurn
 GivesSections c copies given fronts [] = Unit {0}
 GivesSections c copies given fronts (Message m ∷ past) = GivesSections c copies given fronts past
 GivesSections c copies given fronts (Packet p ∷ past) =
-    AreGiven c.cue_pid copies given (sent_in c past) (next_number c past) (stream c fronts past) (cues_at c p past) × GivesSections c copies given fronts past
+    AreGiven c.cue_pid copies given (sent_in c past) (next_cue_number c past) (stream c fronts past) (cues_at c p past) × GivesSections c copies given fronts past
 
 -- THINNED PACKETS: the reader finds of each cue the sections of its copies, one where a cue is doubled on the spot and no duplicate of the one
 -- before; and where duplicates tell the same again, what it does not find it has found before
@@ -88,7 +88,7 @@ ThinnedBrings = (c : Config) (copies : List LineTurn → ℕ) (fronts : List ℕ
 -- the injector's own packets are those of which one copy is left
 abbrev pub ThinnedOfAll : Type 0
 ThinnedOfAll = (c : Config) (p : List ℕ) (past : List Step) → IsRunOf c (Packet p ∷ past) →
-    cue_packets c p past (cued c past) ≡ thin c.cue_pid (λ t. 1) (sent_in c past) (next_number c past) (cues_at c p past)
+    cue_packets c p past (cued c past) ≡ thin c.cue_pid (λ t. 1) (sent_in c past) (next_cue_number c past) (cues_at c p past)
 
 -- THE CUE PATH OF THINNED PACKETS: behind each packet of the network, from the injector's packets of which some are left out and some
 -- doubled, a switch has armed an uncancelled event whose start is reached exactly where the injector has accepted it

@@ -70,9 +70,9 @@ module _ (pid n : ℕ) (s : List ℕ) (pb : pid < 8192) (nb : n < 16) where
   unfolding pid_of
   next_pid = omega arith
 
-  pub next_number : number (next_packet pid n s) ≡ n
+  pub next_packet_number : number (next_packet pid n s) ≡ n
   unfolding number
-  next_number = omega arith
+  next_packet_number = omega arith
 
   next_payload : payload (next_packet pid n s) ≡ Some (padded 184 s)
   unfolding payload
@@ -212,12 +212,12 @@ module _ (pid n : ℕ) (bs : List ℕ) (past : List (List ℕ)) (pb : pid < 8192
   next_original : repeats pid (next_packet pid n bs) past ≡ false
   next_original =
       let m = number-below l.packet in
-      let k = next_number pid n bs pb nb in
+      let k = next_packet_number pid n bs pb nb in
       let d : alike l.packet (next_packet pid n bs) ≡ false = different l.packet (next_packet pid n bs) (λ e. let f : number l.packet ≡ n = e ∙ k in omega arith) in
       walk_is_last pid (next_packet pid n bs) past ∙ ap (repeats_last (next_packet pid n bs)) last ∙ ap (λ x. x && not l.is_repeat) d
 
   next_follows : follows_on (next_packet pid n bs) (last_of pid past) ≡ true
-  next_follows = ap (follows_on (next_packet pid n bs)) last ∙ eq-eqb (number (next_packet pid n bs)) ((number l.packet + 1) % 16) (next_number pid n bs pb nb ∙ goes_on)
+  next_follows = ap (follows_on (next_packet pid n bs)) last ∙ eq-eqb (number (next_packet pid n bs)) ((number l.packet + 1) % 16) (next_packet_number pid n bs pb nb ∙ goes_on)
 
   next_taken : packet_taken (next_packet pid n bs) (last_of pid past) (held pid past) ≡ continued (held pid past) (padded 184 bs)
   next_taken =
@@ -248,7 +248,7 @@ module _ (s : List ℕ) (can : CanBeGiven s) where
       let u = t ∙ later_large s can.whole k a b (rw d g) in
       let i : given pid q past ≡ [] = original_gives pid q past (record { finished = []; part = take (k + 184) s }) y w u in
       let j : held pid (q ∷ past) ≡ take (k + 184) s = original_holds pid q past (record { finished = []; part = take (k + 184) s }) y w u in
-      let m : (n + 1) % 16 ≡ (number q + 1) % 16 = ap (λ x. (x + 1) % 16) (sym (next_number pid n (drop k s) pb nb)) in
+      let m : (n + 1) % 16 ≡ (number q + 1) % 16 = ap (λ x. (x + 1) % 16) (sym (next_packet_number pid n (drop k s) pb nb)) in
       let r = later count pid (k + 184) ((n + 1) % 16) (q ∷ past) (record { packet = q; is_repeat = false }) pb (omega arith) (omega arith) (omega arith) (omega arith) j
       (next_last pid n (drop k s) past pb nb l e f) m in
       ap (λ x. x ++ sections_after (q ∷ past) pid more) i ∙ ap (λ x. sections_after (q ∷ past) pid (later_packets count pid ((n + 1) % 16) x)) (drop-drop 184 k s) ∙ r)
@@ -319,7 +319,7 @@ module _ (s : List ℕ) (can : CanBeGiven s) where
       let u = t ∙ later_large s can.whole k a b (rw d g) in
       let j : held pid (q ∷ past) ≡ take (k + 184) s = original_holds pid q past (record { finished = []; part = take (k + 184) s }) y w u in
       let i : failed pid (q ∷ past) ≡ failed pid past = original_fails pid q past (record { finished = []; part = take (k + 184) s }) y w u ∙ zero-add (failed pid past) in
-      let m : (n + 1) % 16 ≡ (number q + 1) % 16 = ap (λ x. (x + 1) % 16) (sym (next_number pid n (drop k s) pb nb)) in
+      let m : (n + 1) % 16 ≡ (number q + 1) % 16 = ap (λ x. (x + 1) % 16) (sym (next_packet_number pid n (drop k s) pb nb)) in
       let r = later_over count pid (k + 184) ((n + 1) % 16) (q ∷ past) (record { packet = q; is_repeat = false }) pb (omega arith) (omega arith) (omega arith) (omega arith) j
       (next_last pid n (drop k s) past pb nb l e f) m in
       subst (λ (x : List ℕ). NothingIsLeft pid past (onto (q ∷ past) (later_packets count pid ((n + 1) % 16) x))) (sym (drop-drop 184 k s)) (over_more pid past (q ∷ past) _ i r))
@@ -392,7 +392,7 @@ later_last : (count pid n : ℕ) (bs : List ℕ) (past : List (List ℕ)) (l : L
 later_last zero pid n bs past l pb nb e f = (l, e, number_none (number l.packet) (number-below l.packet))
 later_last (suc count) pid n bs past l pb nb e f =
     let q = next_packet pid n bs in
-    let k = next_number pid n bs pb nb in
+    let k = next_packet_number pid n bs pb nb in
     let m : (n + 1) % 16 ≡ (number q + 1) % 16 = ap (λ x. (x + 1) % 16) (sym k) in
     let r = later_last count pid ((n + 1) % 16) (drop 184 bs) (q ∷ past) (record { packet = q; is_repeat = false }) pb (omega arith) (next_last pid n bs past pb nb l e f) m in
     (r.0, r.1, number_after (number l.packet) count (number r.0.packet) (number-below l.packet) (r.2 ∙ ap (λ x. (x + count) % 16) (k ∙ f)))

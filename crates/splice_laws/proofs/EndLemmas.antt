@@ -8,7 +8,7 @@ use lib.Signed.{lt_z}
 use Rattle.ts_packet.specs.Runs.{Seen, seen_after}
 use Rattle.ts_packet.proofs.Cases.{by_test}
 use Rattle.ts_packet.proofs.RunLemmas.{onto}
-use Rattle.splice_laws.specs.Splicing.{PlayedEvent, SliceUnit, Out, TimedStream, at_or_past, begun, closed, put_in, kept, inserted, rest, all_inserted, all_rest}
+use Rattle.splice_laws.specs.Splicing.{PlayedEvent, SliceUnit, Out, TimedStream, at_or_past, begun, closed, as_inserted, kept, inserted, rest, all_inserted, all_rest}
 use Rattle.splice_laws.specs.Laws.{Risen, IsStream, CountsAt, CountsOver}
 use Rattle.splice_laws.specs.Settled.{IsAhead, IsSettled}
 use Rattle.splice_laws.specs.Ends.{up_to_end, longest_front, sent, sent_at, unsent, sent_whole, EndsAt, EndSoon, SentIsPlaced}
@@ -241,30 +241,30 @@ module _ (r : TimedStream) (k : IsStream r) (units : PlayedEvent → List SliceU
   both_append a b c d e f = rw (e, f) refl
 
   at_now : (xs : List PlayedEvent) (p : List ℕ) (past ps : List (List ℕ)) → AllSince xs (p ∷ past) → AllEnds xs (seen_after (p ∷ past) ps) →
-      flat_map (λ (x : PlayedEvent). put_in (sent_at r x (units x) (stop x) p past)) xs ≡ all_inserted xs (slice (onto (p ∷ past) ps)) count p past
+      flat_map (λ (x : PlayedEvent). as_inserted (sent_at r x (units x) (stop x) p past)) xs ≡ all_inserted xs (slice (onto (p ∷ past) ps)) count p past
   at_now [] p past ps s n = refl
-  at_now (x ∷ xs) p past ps s n = both_append _ _ _ _ (ap put_in (same-at r k x (units x) (stop x) p past ps s.0 n.0)) (at_now xs p past ps s.1 n.1)
+  at_now (x ∷ xs) p past ps s n = both_append _ _ _ _ (ap as_inserted (same-at r k x (units x) (stop x) p past ps s.0 n.0)) (at_now xs p past ps s.1 n.1)
 
-  rest_now : (xs : List PlayedEvent) (past : List (List ℕ)) → flat_map (λ (x : PlayedEvent). put_in (unsent r x (units x) (stop x) past)) xs ≡ all_rest r xs (slice past) count past
+  rest_now : (xs : List PlayedEvent) (past : List (List ℕ)) → flat_map (λ (x : PlayedEvent). as_inserted (unsent r x (units x) (stop x) past)) xs ≡ all_rest r xs (slice past) count past
   rest_now [] past = refl
-  rest_now (x ∷ xs) past = both_append _ _ _ _ (ap put_in (same-rest r k x (units x) (stop x) past)) (rest_now xs past)
+  rest_now (x ∷ xs) past = both_append _ _ _ _ (ap as_inserted (same-rest r k x (units x) (stop x) past)) (rest_now xs past)
 
   module _ (xs : List PlayedEvent) where
     abbrev puts_now : Seen → List Out
-    puts_now s = flat_map (λ (x : PlayedEvent). put_in (sent_at r x (units x) (stop x) s.packet s.past)) xs ++ kept r xs s.packet s.past
+    puts_now s = flat_map (λ (x : PlayedEvent). as_inserted (sent_at r x (units x) (stop x) s.packet s.past)) xs ++ kept r xs s.packet s.past
 
     abbrev puts : List (List ℕ) → Seen → List Out
     puts end s = all_inserted xs (slice end) count s.packet s.past ++ kept r xs s.packet s.past
 
     now_is_counted : (past ps : List (List ℕ)) → AllSince xs past → AllEnds xs (seen_after past ps) →
-        flat_map puts_now (seen_after past ps) ++ flat_map (λ (x : PlayedEvent). put_in (unsent r x (units x) (stop x) (onto past ps))) xs
+        flat_map puts_now (seen_after past ps) ++ flat_map (λ (x : PlayedEvent). as_inserted (unsent r x (units x) (stop x) (onto past ps))) xs
         ≡ flat_map (puts (onto past ps)) (seen_after past ps) ++ all_rest r xs (slice (onto past ps)) count (onto past ps)
     now_is_counted past [] s n = rest_now xs past
     now_is_counted past (p ∷ ps) s n =
         let t : Seen = record { packet = p; past = past } in
         let E = onto (p ∷ past) ps in
         let m = since_more xs p past ps s n in
-        let U = flat_map (λ (x : PlayedEvent). put_in (unsent r x (units x) (stop x) E)) xs in
+        let U = flat_map (λ (x : PlayedEvent). as_inserted (unsent r x (units x) (stop x) E)) xs in
         append_assoc (puts_now t) (flat_map puts_now (seen_after (p ∷ past) ps)) U
         ∙ ap (λ a. (a ++ kept r xs p past) ++ (flat_map puts_now (seen_after (p ∷ past) ps) ++ U)) (at_now xs p past ps m.0 m.1)
         ∙ ap (λ a. puts E t ++ a) (now_is_counted (p ∷ past) ps m.0 m.1)

@@ -6,7 +6,7 @@ use Rattle.std.proofs.lemmas.List.Elements.{All-head, All-tail}
 use Rattle.ts_packet.specs.Runs.{Seen, seen_after}
 use Rattle.ts_packet.proofs.Cases.{by_test}
 use Rattle.ts_packet.proofs.RunLemmas.{onto}
-use Rattle.splice_laws.specs.Splicing.{PlayedEvent, SliceUnit, Out, TimedStream, at_or_past, holds, passed, opens, begun, closed, put_in, kept, slice_at, all_slices_at}
+use Rattle.splice_laws.specs.Splicing.{PlayedEvent, SliceUnit, Out, TimedStream, at_or_past, holds, passed, opens, begun, closed, as_inserted, kept, slice_at, all_slices_at}
 use Rattle.splice_laws.specs.Laws.{IsStream, IsCrossedOnce, IsConditioned}
 use Rattle.splice_laws.specs.Settled.{IsAhead, NeverPassesHigh}
 use Rattle.splice_laws.specs.Ends.{up_to_end, sent, unsent, sent_whole, EndsAt, EndSoon, EndsMayComeEarlier}
@@ -110,7 +110,7 @@ module _ (r : TimedStream) (k : IsStream r) (one other : PlayedEvent → List Sl
 
   agree_all : (xs : List PlayedEvent) (p : List ℕ) (past ps : List (List ℕ)) → Agree xs (onto (p ∷ past) ps) → all_slices_at r xs one p past ≡ all_slices_at r xs other p past
   agree_all [] p past ps h = refl
-  agree_all (x ∷ xs) p past ps h = both_append _ _ _ _ (ap put_in (agree_at x p past ps h.0)) (agree_all xs p past ps h.1) where
+  agree_all (x ∷ xs) p past ps h = both_append _ _ _ _ (ap as_inserted (agree_at x p past ps h.0)) (agree_all xs p past ps h.1) where
     both_append : (a b c d : List Out) → a ≡ b → c ≡ d → a ++ c ≡ b ++ d
     both_append a b c d e f = rw (e, f) refl
 

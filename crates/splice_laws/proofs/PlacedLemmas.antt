@@ -6,7 +6,7 @@ use Rattle.std.proofs.lemmas.List.Elements.{All-head, All-tail, All-cons, All-ni
 use Rattle.ts_packet.specs.Runs.{Seen, seen_after}
 use Rattle.ts_packet.proofs.Cases.{by_test}
 use Rattle.ts_packet.proofs.RunLemmas.{onto}
-use Rattle.splice_laws.specs.Splicing.{PlayedEvent, SliceUnit, Out, TimedStream, Network, Inserted, holds, outside, comes, passed, opens, begun, closed, out_of, inserted, rest, put_in, kept, all_inserted, all_rest, slice_at, all_slices_at, placed}
+use Rattle.splice_laws.specs.Splicing.{PlayedEvent, SliceUnit, Out, TimedStream, Network, Inserted, holds, outside, comes, passed, opens, begun, closed, out_of, inserted, rest, as_inserted, kept, all_inserted, all_rest, slice_at, all_slices_at, placed}
 use Rattle.splice_laws.specs.Laws.{IsStream, EndsBeforeAll, AreOrdered, CountsAt, CountsOver, CountedIsPlaced, CarriedIsPlaced}
 use Rattle.splice_laws.proofs.TimeLemmas.{starts_ordered, holds-below}
 use Rattle.splice_laws.proofs.StepLemmas.{true_or_false, or_left, both, drop-all, drop-take, joined_one}
@@ -37,12 +37,12 @@ pairs ra sa ia ta rs ss is ts h g s t =
     ∙ append_assoc ia ta (is ++ ts) ∙ ap (λ l. ia ++ l) (sym (append_assoc ta is ts) ∙ ap (λ l. l ++ ts) t ∙ append_assoc is ta ts)
     ∙ sym (append_assoc ia is (ta ++ ts))
 
-pub put_in-append : (a b : List SliceUnit) → put_in (a ++ b) ≡ put_in a ++ put_in b
-put_in-append a b = map-append (λ (u : SliceUnit). Inserted u) a b
+pub as_inserted-append : (a b : List SliceUnit) → as_inserted (a ++ b) ≡ as_inserted a ++ as_inserted b
+as_inserted-append a b = map-append (λ (u : SliceUnit). Inserted u) a b
 
-put_nil : (a : List SliceUnit) (b : List Out) → (a ≡ []) ⊎ (b ≡ []) → put_in a ++ b ≡ b ++ put_in a
+put_nil : (a : List SliceUnit) (b : List Out) → (a ≡ []) ⊎ (b ≡ []) → as_inserted a ++ b ≡ b ++ as_inserted a
 put_nil a b (inl e) = rw e (sym (append-nil b))
-put_nil a b (inr e) = rw e (append-nil (put_in a))
+put_nil a b (inr e) = rw e (append-nil (as_inserted a))
 
 pub nothing_new : (units : List SliceUnit) (m n : ℕ) → m ≡ n → drop m (take n units) ≡ []
 nothing_new units m n e = rw e (drop-take n units)
@@ -96,7 +96,7 @@ module _ (r : TimedStream) (k : IsStream r) (slice : PlayedEvent → List SliceU
       all_inserted xs slice out p past ≡ []
   silent_all x [] l b p past n g h = refl
   silent_all x (y ∷ ys) l b p past n g h =
-      ap (λ l. put_in l ++ all_inserted ys slice out p past) (silent x y l b.0 p past n.0 g h) ∙ silent_all x ys l b.1 p past n.1 g h
+      ap (λ l. as_inserted l ++ all_inserted ys slice out p past) (silent x y l b.0 p past n.0 g h) ∙ silent_all x ys l b.1 p past n.1 g h
 
   -- an event that does not run has no rest
   no_rest : (x : PlayedEvent) (past : List (List ℕ)) → CountsAt r x (slice x) (out x) past → (begun r x past && not (closed r x past)) ≡ false → rest r x (slice x) (out x) past ≡ []
@@ -128,8 +128,8 @@ module _ (r : TimedStream) (k : IsStream r) (slice : PlayedEvent → List SliceU
       let S = slice_at r x (slice x) p past in
       let I = inserted (slice x) (out x) p past in
       let T = rest r x (slice x) (out x) (p ∷ past) in
-      pairs (put_in R) (put_in S) (put_in I) (put_in T) (all_rest r xs slice out past) (all_slices_at r xs slice p past) (all_inserted xs slice out p past) (all_rest r xs slice out (p ∷ past))
-      (sym (put_in-append R S) ∙ ap put_in (joined x p past n.0) ∙ put_in-append I T)
+      pairs (as_inserted R) (as_inserted S) (as_inserted I) (as_inserted T) (all_rest r xs slice out past) (all_slices_at r xs slice p past) (all_inserted xs slice out p past) (all_rest r xs slice out (p ∷ past))
+      (sym (as_inserted-append R S) ∙ ap as_inserted (joined x p past n.0) ∙ as_inserted-append I T)
       (all_joined xs o.2 p past n.1)
       (put_nil S (all_rest r xs slice out past) (one_begins x xs o.0 o.1 p past))
       (put_nil T (all_inserted xs slice out p past) (one_puts x xs o.0 o.1 p past n))
@@ -140,7 +140,7 @@ module _ (r : TimedStream) (k : IsStream r) (slice : PlayedEvent → List SliceU
   left_inside (x ∷ xs) p past n = by_test (begun r x (p ∷ past) && not (closed r x (p ∷ past)))
       (λ g. let h = both _ _ g in let i = running-inside r k x (p ∷ past) h.0 h.1 in inr (simp i))
       (λ g. more (rest r x (slice x) (out x) (p ∷ past)) (all_rest r xs slice out (p ∷ past)) (not (holds x (r.time (p ∷ past)))) (outside xs (r.time (p ∷ past))) (left_inside xs p past n.1) (no_rest x (p ∷ past) n.0.after g)) where
-        more : (a : List SliceUnit) (l : List Out) (b c : Bool) → (l ≡ []) ⊎ (c ≡ false) → a ≡ [] → (put_in a ++ l ≡ []) ⊎ (b && c ≡ false)
+        more : (a : List SliceUnit) (l : List Out) (b c : Bool) → (l ≡ []) ⊎ (c ≡ false) → a ≡ [] → (as_inserted a ++ l ≡ []) ⊎ (b && c ≡ false)
         more a l b c (inl e) h = inl (rw (h, e) refl)
         more a l true c (inr e) h = inr e
         more a l false c (inr e) h = inr refl

@@ -8,7 +8,7 @@ use Rattle.ts_packet.specs.Runs.{Seen, seen_after}
 use Rattle.ts_packet.proofs.Cases.{by_test}
 use Rattle.unit_stream.specs.Times.{begins, unit_time}
 use Rattle.unit_stream.specs.Units.{Row, has_payload, rest_of_row, rows_of, rows, lead_in}
-use Rattle.splice_laws.specs.Splicing.{PlayedEvent, SliceUnit, Out, Network, Inserted, TimedStream, stream, slice_at, all_slices_at, put_in, kept, outside, parts, placed}
+use Rattle.splice_laws.specs.Splicing.{PlayedEvent, SliceUnit, Out, Network, Inserted, TimedStream, stream, slice_at, all_slices_at, as_inserted, kept, outside, parts, placed}
 use Rattle.splice_laws.proofs.PidLemmas.{pids_are_streams}
 use Rattle.splice_laws.specs.Rows.{Item, Own, Played, out_items, own_items, slice_items, slices_before, placed_units_of, is_between, units_between, unit_parts, carried_items}
 
@@ -17,7 +17,7 @@ out_items-append [] b = refl
 out_items-append (Own row ∷ a) b = ap (λ l. map (λ (p : List ℕ). Network p) row.packets ++ l) (out_items-append a b) ∙ sym (append_assoc (map (λ (p : List ℕ). Network p) row.packets) (out_items a) (out_items b))
 out_items-append (Played u ∷ a) b = ap (λ l. Inserted u ∷ l) (out_items-append a b)
 
-pub out_items-slice : (us : List SliceUnit) → out_items (slice_items us) ≡ put_in us
+pub out_items-slice : (us : List SliceUnit) → out_items (slice_items us) ≡ as_inserted us
 out_items-slice [] = refl
 out_items-slice (u ∷ us) = ap (λ l. Inserted u ∷ l) (out_items-slice us)
 
@@ -60,7 +60,7 @@ module _ (goes : Option ℤ → Bool) (sw : List ℕ) (pid : ℕ) where
 three : (A B C : List Item) (P Q R : List Out) → P ≡ out_items A → Q ≡ out_items B → R ≡ out_items C → P ++ (Q ++ R) ≡ out_items (A ++ (B ++ C))
 three A B C P Q R a b c = rw (a, b, c) (sym (out_items-append A (B ++ C) ∙ ap (λ l. out_items A ++ l) (out_items-append B C)))
 
-slice_if : (b : Bool) (us : List SliceUnit) → (if b then put_in us else []) ≡ out_items (if b then slice_items us else [])
+slice_if : (b : Bool) (us : List SliceUnit) → (if b then as_inserted us else []) ≡ out_items (if b then slice_items us else [])
 slice_if true us = sym (out_items-slice us)
 slice_if false us = refl
 
@@ -78,7 +78,7 @@ module _ (sw : List ℕ) (pid : ℕ) (slice : PlayedEvent → List SliceUnit) (r
   first_rows [] ps = picked_rows (is_between None None) sw pid [] ps
   first_rows (x ∷ xs) ps =
       let A = own_items (units_between None (Some x.start) (rows sw pid ps)) in
-      let Q : List Out = if reached x then put_in (slice x) else [] in
+      let Q : List Out = if reached x then as_inserted (slice x) else [] in
       let R = parts (stream sw pid) (Some x.stop) xs reached slice (seen_after [] ps) in
       ap (λ l. l ++ (Q ++ R)) (picked_rows (is_between None (Some x.start)) sw pid [] ps)
       ∙ append_assoc (network (lead_in pid ps)) (out_items A) (Q ++ R)
@@ -88,7 +88,7 @@ module _ (sw : List ℕ) (pid : ℕ) (slice : PlayedEvent → List SliceUnit) (r
 
 none_placed : (r : TimedStream) (xs : List PlayedEvent) (slice : PlayedEvent → List SliceUnit) (p : List ℕ) (past : List (List ℕ)) → r.begins p past ≡ false → all_slices_at r xs slice p past ≡ []
 none_placed r [] slice p past b = refl
-none_placed r (x ∷ xs) slice p past b = let e : slice_at r x (slice x) p past ≡ [] = simp b in ap (λ l. put_in l ++ all_slices_at r xs slice p past) e ∙ none_placed r xs slice p past b
+none_placed r (x ∷ xs) slice p past b = let e : slice_at r x (slice x) p past ≡ [] = simp b in ap (λ l. as_inserted l ++ all_slices_at r xs slice p past) e ∙ none_placed r xs slice p past b
 
 -- a packet of no unit's begin, and one that begins a unit
 going_on : (p : List ℕ) (A F : List Out) (o : Bool) (R : List (List ℕ)) (P : List Item) → A ≡ [] → F ≡ network (if o then R else []) ++ out_items P →
@@ -123,7 +123,7 @@ module _ (sw : List ℕ) (pid : ℕ) (xs : List PlayedEvent) (slice : PlayedEven
   slices_out [] s = refl
   slices_out (y ∷ ys) s =
       let us = slice_at (stream sw pid) y (slice y) s.packet s.past in
-      ap (λ l. put_in us ++ l) (slices_out ys s) ∙ ap (λ l. l ++ out_items (slices_before sw pid ys slice s)) (sym (out_items-slice us)) ∙ sym (out_items-append (slice_items us) (slices_before sw pid ys slice s))
+      ap (λ l. as_inserted us ++ l) (slices_out ys s) ∙ ap (λ l. l ++ out_items (slices_before sw pid ys slice s)) (sym (out_items-slice us)) ∙ sym (out_items-append (slice_items us) (slices_before sw pid ys slice s))
 
   abbrev places : Seen → List Out
   places s = all_slices_at (stream sw pid) xs slice s.packet s.past ++ kept (stream sw pid) xs s.packet s.past

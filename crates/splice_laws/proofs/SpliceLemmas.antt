@@ -6,7 +6,7 @@ use Rattle.std.proofs.lemmas.List.Elements.{All-head, All-tail}
 use Rattle.ts_packet.specs.Runs.{Seen, seen_after}
 use Rattle.ts_packet.proofs.Cases.{by_test}
 use Rattle.ts_packet.proofs.RunLemmas.{onto}
-use Rattle.splice_laws.specs.Splicing.{PlayedEvent, SliceUnit, Out, TimedStream, Network, at_or_past, below, holds, outside, comes, passed, opens, begun, put_in, kept, slice_at, all_slices_at, from, between, part, parts}
+use Rattle.splice_laws.specs.Splicing.{PlayedEvent, SliceUnit, Out, TimedStream, Network, at_or_past, below, holds, outside, comes, passed, opens, begun, as_inserted, kept, slice_at, all_slices_at, from, between, part, parts}
 use Rattle.splice_laws.specs.Laws.{IsStream, EndsBeforeAll, AreOrdered, IsCrossedOnce, IsConditioned, PlacedIsSplice}
 use Rattle.splice_laws.proofs.TimeLemmas.{starts_ordered, past_lower, holds-or_past, holds-past, not-below, timed_past}
 use Rattle.splice_laws.proofs.StepLemmas.{true_or_false}
@@ -92,15 +92,15 @@ module _ (r : TimedStream) (k : IsStream r) where
   newly past ps x = not (begun r x past) && begun r x (onto past ps)
 
   reached_here : (x : PlayedEvent) (units : List SliceUnit) (p : List ℕ) (past ps : List (List ℕ)) →
-      (if newly past (p ∷ ps) x then put_in units else []) ≡ put_in (slice_at r x units p past) ++ (if newly (p ∷ past) ps x then put_in units else [])
+      (if newly past (p ∷ ps) x then as_inserted units else []) ≡ as_inserted (slice_at r x units p past) ++ (if newly (p ∷ past) ps x then as_inserted units else [])
   reached_here x units p past ps = one (begun r x past) (opens r x p past) (passed r x.start past) (begun r x (onto (p ∷ past) ps)) (begun-passed r k x past) (opens-first r k x p past) (begun-stays x (p ∷ past) ps) where
     one : (b o e z : Bool) → (b ≡ true → e ≡ true) → (b ≡ false → o ≡ true → e ≡ false) → (b || o ≡ true → z ≡ true) →
-        (if not b && z then put_in units else []) ≡ put_in (if o && not e then units else []) ++ (if not (b || o) && z then put_in units else [])
+        (if not b && z then as_inserted units else []) ≡ as_inserted (if o && not e then units else []) ++ (if not (b || o) && z then as_inserted units else [])
     one true true true z i j l = refl
     one true true false z i j l = let f = i refl in cc
     one true false e z i j l = refl
     one false true true z i j l = let f = j refl refl in cc
-    one false true false true i j l = sym (append-nil (put_in units))
+    one false true false true i j l = sym (append-nil (as_inserted units))
     one false true false false i j l = let f = l refl in cc
     one false false e z i j l = refl
 
@@ -163,9 +163,9 @@ module _ (r : TimedStream) (k : IsStream r) where
         let G = part r low (Some x.start) (seen_after (p ∷ past) ps) in
         let F = part r low (Some x.start) (seen_after past (p ∷ ps)) in
         let D : List Out = if between r low (Some x.start) s then Network p ∷ [] else [] in
-        let U : List Out = if newly past (p ∷ ps) x then put_in (slice x) else [] in
-        let W : List Out = if newly (p ∷ past) ps x then put_in (slice x) else [] in
-        let S = put_in (slice_at r x (slice x) p past) in
+        let U : List Out = if newly past (p ∷ ps) x then as_inserted (slice x) else [] in
+        let W : List Out = if newly (p ∷ past) ps x then as_inserted (slice x) else [] in
+        let S = as_inserted (slice_at r x (slice x) p past) in
         let P = parts r (Some x.stop) xs (newly past (p ∷ ps)) slice (seen_after past (p ∷ ps)) in
         let T = all_slices_at r xs slice p past in
         let C = own low (x ∷ xs) p past in
@@ -182,13 +182,13 @@ module _ (r : TimedStream) (k : IsStream r) where
         glue_past F G D U W S P T C E Z f u m
         (ap (λ (b : Bool). if b then Network p ∷ [] else []) n)
         (part_none low x.start (p ∷ past) ps h' (All-tail (Crossed x.start) s (seen_after (p ∷ past) ps) c.0) e)
-        (not_newly (begun r x (p ∷ past)) (begun r x (onto (p ∷ past) ps)) (put_in (slice x)) (never-begun x (p ∷ past) ps e))
+        (not_newly (begun r x (p ∷ past)) (begun r x (onto (p ∷ past) ps)) (as_inserted (slice x)) (never-begun x (p ∷ past) ps e))
         (ap (λ (b : Bool). if b then Network p ∷ [] else []) (own_past (r.carries p) (from low t) (holds x t) (at_or_past x.stop t) (outside xs t) (from-past low x xs t l a) (holds-or_past x t a))))
         (λ a.
         let later : at_or_past x.stop t ≡ false = not_later x t o.0 a in
         let free : holds x t ≡ false = not_held x t a in
         glue_below F G D U W S P T C E Z f u m
-        (ap put_in (none_here x (slice x) p past a))
+        (ap as_inserted (none_here x (slice x) p past a))
         (no_slices x slice xs p past o.0 o.1 a)
         (not_own (r.carries p) (at_or_past x.stop t) (outside xs t) (Network p ∷ []) later)
         (ap (λ (b : Bool). if b then Network p ∷ [] else []) (own_below (r.carries p) (from low t) (holds x t) (outside xs t) (at_or_past x.start t) free (outside-below x xs t o.0 o.1 a) a)))

@@ -10,7 +10,7 @@ use Rattle.ts_packet.proofs.Cases.{by_test}
 use Rattle.ts_packet.proofs.FieldLemmas.{payload_on-on}
 use Rattle.ts_packet.proofs.RunLemmas.{onto}
 use Rattle.unit_stream.specs.Times.{unit_time}
-use Rattle.splice_laws.specs.Splicing.{PlayedEvent, SliceUnit, Out, Network, Inserted, TimedStream, stream, begun, closed, out_of, inserted, rest, put_in, kept, outside}
+use Rattle.splice_laws.specs.Splicing.{PlayedEvent, SliceUnit, Out, Network, Inserted, TimedStream, stream, begun, closed, out_of, inserted, rest, as_inserted, kept, outside}
 use Rattle.splice_laws.specs.Laws.{IsStream, EndsBeforeAll, AreOrdered, CountsOver}
 use Rattle.splice_laws.specs.Streams.{Act, Through, Insert, closing, running, insert_on, all_closing, all_running, on_each, is_dropped, spliced_at, of_stream, IsOnce, StreamsCarryByCount, StreamsCarry, StreamsAreSpliced, StreamsCarryNow}
 use Rattle.splice_laws.proofs.StepLemmas.{true_or_false, or_left}
@@ -18,7 +18,7 @@ use Rattle.splice_laws.proofs.PidLemmas.{pids_are_streams}
 use Rattle.splice_laws.specs.Ends.{sent_at, unsent}
 use Rattle.splice_laws.proofs.EndLemmas.{slice, count, AllSince, AllEnds, since_more, all_ends, ends_counted, same-at}
 use Rattle.splice_laws.proofs.PidLaws.{carries_splice_units}
-use Rattle.splice_laws.proofs.PlacedLemmas.{silent, out_counts_all, put_in-append, nothing_new, swap, AllAt, AllCounted, counted_head, counted_tail, all_counted}
+use Rattle.splice_laws.proofs.PlacedLemmas.{silent, out_counts_all, as_inserted-append, nothing_new, swap, AllAt, AllCounted, counted_head, counted_tail, all_counted}
 
 test-same : (q : ℕ) → (q == q) ≡ true
 test-same q = grind (arith, nat_tests)
@@ -82,9 +82,9 @@ module _ (r : TimedStream) (k : IsStream r) (slice : PlayedEvent → List SliceU
               none_if true e = refl
               none_if false e = e
 
-pub put_in-flat : (f : PlayedEvent → List SliceUnit) (xs : List PlayedEvent) → put_in (flat_map f xs) ≡ flat_map (λ (x : PlayedEvent). put_in (f x)) xs
-put_in-flat f [] = refl
-put_in-flat f (x ∷ xs) = put_in-append (f x) (flat_map f xs) ∙ ap (λ l. put_in (f x) ++ l) (put_in-flat f xs)
+pub as_inserted-flat : (f : PlayedEvent → List SliceUnit) (xs : List PlayedEvent) → as_inserted (flat_map f xs) ≡ flat_map (λ (x : PlayedEvent). as_inserted (f x)) xs
+as_inserted-flat f [] = refl
+as_inserted-flat f (x ∷ xs) = as_inserted-append (f x) (flat_map f xs) ∙ ap (λ l. as_inserted (f x) ++ l) (as_inserted-flat f xs)
 
 -- ---- read by streams
 
@@ -93,7 +93,7 @@ of_stream-append pid [] b = refl
 of_stream-append pid (Through p ∷ a) b = by_test (payload_on pid p) (λ y. simp y (ap (λ l. Network p ∷ l) (of_stream-append pid a b))) (λ y. simp y (of_stream-append pid a b))
 of_stream-append pid (Insert q u ∷ a) b = by_test (q == pid) (λ y. simp y (ap (λ l. Inserted u ∷ l) (of_stream-append pid a b))) (λ y. simp y (of_stream-append pid a b))
 
-of_insert-same : (q pid : ℕ) → (q == pid) ≡ true → (us : List SliceUnit) → of_stream pid (insert_on q us) ≡ put_in us
+of_insert-same : (q pid : ℕ) → (q == pid) ≡ true → (us : List SliceUnit) → of_stream pid (insert_on q us) ≡ as_inserted us
 of_insert-same q pid h [] = refl
 of_insert-same q pid h (u ∷ us) = simp h (ap (λ l. Inserted u ∷ l) (of_insert-same q pid h us))
 
@@ -110,12 +110,12 @@ none_on pid [] f h = refl
 none_on pid (q ∷ qs) f h =
     of_stream-append pid (insert_on q (f q)) (on_each qs f) ∙ ap (λ l. l ++ of_stream pid (on_each qs f)) (of_insert-other q pid (or_left (q == pid) _ h) (f q)) ∙ none_on pid qs f (or_right (q == pid) _ h)
 
-pub once_on : (pid : ℕ) (qs : List ℕ) (f : ℕ → List SliceUnit) → IsOnce pid qs → of_stream pid (on_each qs f) ≡ put_in (f pid)
+pub once_on : (pid : ℕ) (qs : List ℕ) (f : ℕ → List SliceUnit) → IsOnce pid qs → of_stream pid (on_each qs f) ≡ as_inserted (f pid)
 once_on pid [] f h = absurd h
 once_on pid (q ∷ qs) f (inl h) =
     of_stream-append pid (insert_on q (f q)) (on_each qs f)
     ∙ ap (λ l. of_stream pid (insert_on q (f q)) ++ l) (none_on pid qs f h.1) ∙ append-nil (of_stream pid (insert_on q (f q)))
-    ∙ of_insert-same q pid (ap (λ n. n == pid) h.0 ∙ test-same pid) (f q) ∙ ap (λ n. put_in (f n)) h.0
+    ∙ of_insert-same q pid (ap (λ n. n == pid) h.0 ∙ test-same pid) (f q) ∙ ap (λ n. as_inserted (f n)) h.0
 once_on pid (q ∷ qs) f (inr h) =
     of_stream-append pid (insert_on q (f q)) (on_each qs f) ∙ ap (λ l. l ++ of_stream pid (on_each qs f)) (of_insert-other q pid h.0 (f q)) ∙ once_on pid qs f h.1
 
@@ -167,7 +167,7 @@ module _ (sw : List ℕ) (xs : List PlayedEvent) (piece : ℕ → PlayedEvent �
   Phased s = all_closing r xs (piece pid) s.packet s.past ++ all_running r xs (piece pid) s.packet s.past ≡ flat_map (λ (x : PlayedEvent). piece pid x s.packet s.past) xs
 
   abbrev puts : Seen → List Out
-  puts s = flat_map (λ (x : PlayedEvent). put_in (piece pid x s.packet s.past)) xs ++ kept r xs s.packet s.past
+  puts s = flat_map (λ (x : PlayedEvent). as_inserted (piece pid x s.packet s.past)) xs ++ kept r xs s.packet s.past
 
   at_packet : (p : List ℕ) (past : List (List ℕ)) → Phased (record { packet = p; past = past }) →
       of_stream pid (spliced_at sw xs piece (record { packet = p; past = past })) ≡ puts (record { packet = p; past = past })
@@ -180,14 +180,14 @@ module _ (sw : List ℕ) (xs : List PlayedEvent) (piece : ℕ → PlayedEvent �
       of_stream-append pid (C ++ R) T
       ∙ ap (λ l. l ++ of_stream pid T) (of_stream-append pid C R)
       ∙ ap (λ l. (l ++ of_stream pid R) ++ of_stream pid T) (once_on pid sw (λ (q : ℕ). all_closing (stream sw q) xs (piece q) p past) h)
-      ∙ ap (λ l. (put_in c ++ l) ++ of_stream pid T) (once_on pid sw (λ (q : ℕ). all_running (stream sw q) xs (piece q) p past) h)
-      ∙ ap (λ l. l ++ of_stream pid T) (sym (put_in-append c d) ∙ ap put_in n ∙ put_in-flat (λ (x : PlayedEvent). piece pid x p past) xs)
-      ∙ ap (λ l. flat_map (λ (x : PlayedEvent). put_in (piece pid x p past)) xs ++ l) (through sw xs p past pid h)
+      ∙ ap (λ l. (as_inserted c ++ l) ++ of_stream pid T) (once_on pid sw (λ (q : ℕ). all_running (stream sw q) xs (piece q) p past) h)
+      ∙ ap (λ l. l ++ of_stream pid T) (sym (as_inserted-append c d) ∙ ap as_inserted n ∙ as_inserted-flat (λ (x : PlayedEvent). piece pid x p past) xs)
+      ∙ ap (λ l. flat_map (λ (x : PlayedEvent). as_inserted (piece pid x p past)) xs ++ l) (through sw xs p past pid h)
 
   pub read_after : (past ps : List (List ℕ)) → All Phased (seen_after past ps) →
       of_stream pid (flat_map (spliced_at sw xs piece) (seen_after past ps) ++ on_each sw (λ (q : ℕ). flat_map (λ (x : PlayedEvent). left q x (onto past ps)) xs))
-      ≡ flat_map puts (seen_after past ps) ++ flat_map (λ (x : PlayedEvent). put_in (left pid x (onto past ps))) xs
-  read_after past [] n = once_on pid sw (λ (q : ℕ). flat_map (λ (x : PlayedEvent). left q x past) xs) h ∙ put_in-flat (λ (x : PlayedEvent). left pid x past) xs
+      ≡ flat_map puts (seen_after past ps) ++ flat_map (λ (x : PlayedEvent). as_inserted (left pid x (onto past ps))) xs
+  read_after past [] n = once_on pid sw (λ (q : ℕ). flat_map (λ (x : PlayedEvent). left q x past) xs) h ∙ as_inserted-flat (λ (x : PlayedEvent). left pid x past) xs
   read_after past (p ∷ ps) n =
       let s : Seen = record { packet = p; past = past } in
       let A = spliced_at sw xs piece s in
@@ -196,7 +196,7 @@ module _ (sw : List ℕ) (xs : List PlayedEvent) (piece : ℕ → PlayedEvent �
       ap (of_stream pid) (append_assoc A F L) ∙ of_stream-append pid A (F ++ L)
       ∙ ap (λ l. l ++ of_stream pid (F ++ L)) (at_packet p past (All-head Phased s (seen_after (p ∷ past) ps) n))
       ∙ ap (λ l. puts s ++ l) (read_after (p ∷ past) ps (All-tail Phased s (seen_after (p ∷ past) ps) n))
-      ∙ sym (append_assoc (puts s) (flat_map puts (seen_after (p ∷ past) ps)) (flat_map (λ (x : PlayedEvent). put_in (left pid x (onto (p ∷ past) ps))) xs))
+      ∙ sym (append_assoc (puts s) (flat_map puts (seen_after (p ∷ past) ps)) (flat_map (λ (x : PlayedEvent). as_inserted (left pid x (onto (p ∷ past) ps))) xs))
 
 -- ---- by a count
 

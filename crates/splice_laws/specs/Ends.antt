@@ -2,7 +2,7 @@
 use Rattle.std.specs.Prelude.{◌≡◌, ℕ, ℤ, ◌≤ℤ◌, ◌++◌, ◌∷◌, List, [], not, ◌&&◌, if◌then◌else◌, Option, Some, All, length, take, drop, reverse, filter, flat_map}
 use lib.Signed.{lt_z}
 use Rattle.ts_packet.specs.Runs.{Seen, seen_after}
-use Rattle.splice_laws.specs.Splicing.{PlayedEvent, SliceUnit, Out, TimedStream, begun, closed, front, put_in, kept, placed}
+use Rattle.splice_laws.specs.Splicing.{PlayedEvent, SliceUnit, Out, TimedStream, begun, closed, front, as_inserted, kept, placed}
 use Rattle.splice_laws.specs.Laws.{IsStream, AreOrdered, IsConditioned}
 use Rattle.splice_laws.specs.Settled.{IsSettled, NeverPassesHigh}
 
@@ -33,8 +33,8 @@ sent_whole r x units stop past = sent r x units stop past ++ unsent r x units st
 
 abbrev pub carried_now : TimedStream → List PlayedEvent → (PlayedEvent → List SliceUnit) → (PlayedEvent → List (List ℕ) → ℤ) → List (List ℕ) → List Out
 carried_now r xs units stop ps =
-    flat_map (λ (s : Seen). flat_map (λ (x : PlayedEvent). put_in (sent_at r x (units x) (stop x) s.packet s.past)) xs ++ kept r xs s.packet s.past) (seen_after [] ps)
-    ++ flat_map (λ (x : PlayedEvent). put_in (unsent r x (units x) (stop x) (reverse ps))) xs
+    flat_map (λ (s : Seen). flat_map (λ (x : PlayedEvent). as_inserted (sent_at r x (units x) (stop x) s.packet s.past)) xs ++ kept r xs s.packet s.past) (seen_after [] ps)
+    ++ flat_map (λ (x : PlayedEvent). as_inserted (unsent r x (units x) (stop x) (reverse ps))) xs
 
 -- the end in force with a packet: it is x's last end, or that is still to come; and it never rises
 pub record EndsAt (r : TimedStream) (x : PlayedEvent) (stop : List (List ℕ) → ℤ) (s : Seen) : Type 0 where

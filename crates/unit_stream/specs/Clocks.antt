@@ -1,5 +1,5 @@
 -- What a clock stands for, and what it says of the begin of a unit.
-use Rattle.std.specs.Prelude.{◌≡◌, ℕ, ℤ, pos, negsuc, ◌-ℤ◌, ◌≤ℤ◌, Option, None, Some, option_map}
+use Rattle.std.specs.Prelude.{◌≡◌, ℕ, ℤ, pos, negsuc, ◌+ℤ◌, ◌-ℤ◌, ◌≤ℤ◌, Option, None, Some, option_map}
 use Rattle.pes_time.specs.Line.{ring_of, place}
 use Rattle.unit_stream.specs.declared.clock.Clock.{Clock}
 use Rattle.unit_stream.specs.declared.clock.Begun.{Begun}
@@ -22,3 +22,9 @@ Tells (Some begun) high stamp = (stamp ≡ Some begun.pts) × (begun.way ≡ way
 abbrev pub IsNear : Option Begun → Type 0
 IsNear None = Unit {0}
 IsNear (Some begun) = (negsuc 899999 ≤ℤ begun.way) × (begun.way ≤ℤ pos 900000)
+
+-- The greatest time never falls, and rises by 900,000 ticks at most.
+abbrev pub Rises : Option ℤ → Option ℤ → Type 0
+Rises None later = Unit {0}
+Rises (Some high) None = ⊥
+Rises (Some high) (Some later) = (high ≤ℤ later) × (later ≤ℤ (high +ℤ pos 900000))

@@ -3,7 +3,8 @@ use Rattle.std.specs.Prelude.{option_map, Some}
 use Rattle.pes_time.specs.Line.{ring_of}
 use Rattle.program_follower.specs.Following.{high_of}
 use Rattle.injector.specs.Turns.{high}
-use Rattle.injector.specs.Noting.{Rises, ring_reached}
+use Rattle.injector.specs.Noting.{ring_reached}
+use Rattle.unit_stream.specs.Clocks.{Rises}
 use Rattle.injector.specs.Steps.{packets_in, turns_in}
 use Rattle.injector.proofs.FeedLemmas.{rises-at, turns-high}
 use Rattle.injector.proofs.RestLemmas.{idle-between}

@@ -9,7 +9,8 @@ use Rattle.outgoing_packets.specs.Numbers.{HasPut}
 use Rattle.outgoing_packets.proofs.NumberLemmas.{fails-behind}
 use Rattle.injector.specs.Turns.{high, Passed}
 use Rattle.injector.specs.Senders.{standing_senders}
-use Rattle.injector.specs.Noting.{Rests, Rises, IsBefore}
+use Rattle.injector.specs.Noting.{Rests, IsBefore}
+use Rattle.unit_stream.specs.Clocks.{Rises}
 use Rattle.injector.specs.Requests.{RequestsStandFor}
 use Rattle.injector.specs.Steps.{Packet as PacketStep, packets_in, turns_in, cued, cue_packets, body_at, sent_at}
 use Rattle.injector.proofs.FeedLemmas.{rises-at, turns-high}

@@ -3,7 +3,7 @@ use Rattle.std.specs.Prelude.{map, Some}
 use Rattle.event_table.specs.Tables.{StandsFor}
 use Rattle.injector.specs.declared.requests.Requests.{Requests}
 use Rattle.injector.specs.Senders.{tell, standing_senders}
-use Rattle.injector.specs.Noting.{Rises}
+use Rattle.unit_stream.specs.Clocks.{Rises}
 use Rattle.injector.proofs.SenderLemmas.{in_pairs, pairs-events, told-events, standing-told, noted-risen, restate-notes, rises-by}
 use Rattle.injector.specs.Turns.{high, events}
 use Rattle.injector.proofs.RequestLemmas.{advanced-stands}

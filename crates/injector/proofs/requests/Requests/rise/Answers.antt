@@ -3,7 +3,7 @@ use Rattle.std.specs.Prelude.{Some}
 use Rattle.event_table.specs.Standing.{IsTimeAt}
 use Rattle.injector.specs.Turns.{Passed, high}
 use Rattle.injector.specs.Requests.{RequestsStandFor}
-use Rattle.injector.specs.Noting.{Rises}
+use Rattle.unit_stream.specs.Clocks.{Rises}
 use Rattle.injector.proofs.SenderLemmas.{same-time, some-line, standing-stays, restate-notes, is-time}
 use Rattle.injector.proofs.requests.Requests.rise.Goals as goal
 

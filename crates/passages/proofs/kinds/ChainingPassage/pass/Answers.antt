@@ -1,5 +1,5 @@
-use Rattle.passages.proofs.kinds.PlayingPassage.pass.Goals.{in-Ok-play, in-Err}
-use Rattle.passages.proofs.kinds.PlayingPassage.pass.Goals as goal
+use Rattle.passages.proofs.kinds.ChainingPassage.pass.Goals.{in-Ok-play, in-Err}
+use Rattle.passages.proofs.kinds.ChainingPassage.pass.Goals as goal
 
 pub returns-clause-done : goal.returns-clause-done
 returns-clause-done g c = λ start held. elim c.match-play.branch [
