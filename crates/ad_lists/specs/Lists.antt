@@ -15,7 +15,7 @@ use Rattle.ad_library.specs.declared.library.AdLibrary.{AdLibrary}
 use Rattle.ad_library.specs.declared.fault.AdFault.{AdFault}
 use Rattle.ad_library.specs.declared.fault.AdFault.TheVariants as ad
 use Rattle.ad_library.specs.Advertisements.{Advertisement, advertisement}
-use Rattle.ad_library.specs.Faults.{Says, StreamBlamed, of_read, packet_fault, end_fault}
+use Rattle.ad_library.specs.Faults.{Says, StreamBlamed, of_read, ad_fault_at, end_fault}
 use Rattle.ad_library.specs.Reading.{AreClean}
 use Rattle.ad_library.specs.Stops.{IsWhatIsWrong, IfOfStream}
 use Rattle.ad_library.specs.Library.{held, filed}
@@ -163,7 +163,7 @@ StallsOver {X} counts remaining first now =
 abbrev pub LastOver : {X : Type 0} → (X → Tally) → (X → Option (List ℕ)) → AdFault → List (List ℕ) → X → X → Type 0
 LastOver counts remaining fault ps at now =
     ((f : ReadFault) × (fault ≡ of_read f) × Refuses false (remaining at) f × SourceBlamed f (length ps) (counts at) (counts now))
-    ⊎ (((p : List ℕ) × WasGiven (remaining at) (remaining now) p × WentWell (counts at) (counts now) × IsWhatIsWrong (packet_fault p (reverse ps)) fault)
+    ⊎ (((p : List ℕ) × WasGiven (remaining at) (remaining now) p × WentWell (counts at) (counts now) × IsWhatIsWrong (ad_fault_at p (reverse ps)) fault)
     ⊎ (IsAtEnd (remaining at) × IsAtEnd (remaining now) × LastMovedNone (counts at) (counts now) × IsWhatIsWrong (end_fault ps) fault))
 
 -- Where a device stops: nothing is wrong with the packets that were read up to some state of it, and behind that it gave one packet more with
