@@ -160,7 +160,7 @@ impl Injector {
         ensures spent { self.new.is_spent ≡ self.old.is_spent }
     {
         match self.follower.feed(packet) {
-            Ok(is_map) => match self.put(is_map, packet, sink) {
+            Ok(place) => match self.put(place.is_map(), packet, sink) {
                 Ok(()) => Ok(()),
                 Err(fault) => Err(FeedFault::Sink(fault)),
             },

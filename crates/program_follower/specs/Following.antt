@@ -10,16 +10,19 @@ use Rattle.program_follower.specs.declared.table_reader.OnTables.{OnTables}
 use Rattle.program_follower.specs.declared.streams.Streams.{Streams}
 use Rattle.program_follower.specs.declared.starts.Starts.{Starts}
 use Rattle.program_follower.specs.declared.streams.StreamPacket.{StreamPacket}
+use Rattle.program_follower.specs.declared.starts.StartPacket.{StartPacket}
 use Rattle.program_follower.specs.declared.follower.ProgramFollower.{ProgramFollower}
 use Rattle.program_follower.specs.declared.start_follower.StartFollower.{StartFollower}
 use Rattle.program_follower.specs.declared.follower.FollowFault.{FollowFault}
 use Rattle.program_follower.specs.declared.follower.FollowFault.TheVariants.{Network, Failed}
 use Rattle.program_follower.specs.declared.follower.Place.{Place}
 use Rattle.program_follower.specs.declared.follower.Place.TheVariants as places
+use Rattle.program_follower.specs.declared.start_follower.StartPlace.{StartPlace}
+use Rattle.program_follower.specs.declared.start_follower.StartPlace.TheVariants as start_places
 use Rattle.program_follower.specs.Program.{listed, Program, program_of, behind_head, pids_of}
 use Rattle.program_follower.specs.Faults.{on_cue}
 use Rattle.program_follower.specs.Standing.{TablesRead}
-use Rattle.program_follower.specs.Streaming.{first_on, StreamsRead, StartsRead, IsOfStream}
+use Rattle.program_follower.specs.Streaming.{first_on, StreamsRead, StartsRead, IsOfStream, IsOfStarts}
 
 -- the streams are followed from the end of the head on
 abbrev pub Since : {S : Type 0} → (S → List ℕ → List (List ℕ) → Type 0) → Option S → Option Program → List (List ℕ) → Type 0
@@ -100,6 +103,19 @@ IsPlace places.Map c p past = (on_cue c.cue_pid p ≡ false) × (on_map (listed 
 IsPlace (places.Stream i x) c p past = (on_cue c.cue_pid p ≡ false) × (on_map (listed c.program past) p ≡ false)
     × IsSwitched (Some (i, x)) c p past
 IsPlace places.Other c p past = (in_error p ≡ false) × (on_cue c.cue_pid p ≡ false) × (on_map (listed c.program past) p ≡ false)
+    × (first_on (pids_of (program_of c.program past)) p ≡ None)
+
+-- of which switched stream a packet is to one that reads the begins of units alone, behind this past
+abbrev pub IsOfStartsAt : Option (ℕ × StartPacket) → Purpose → List ℕ → List (List ℕ) → Type 0
+IsOfStartsAt x c p past = IsOfStarts x (pids_of (program_of c.program past)) p (behind_head c.program past)
+
+-- what a packet is to it behind this past
+abbrev pub IsStartPlace : StartPlace → Purpose → List ℕ → List (List ℕ) → Type 0
+IsStartPlace start_places.Map c p past = on_map (listed c.program past) p ≡ true
+IsStartPlace start_places.Cue c p past = (on_map (listed c.program past) p ≡ false) × (on_cue c.cue_pid p ≡ true)
+IsStartPlace (start_places.Stream i x) c p past = (on_cue c.cue_pid p ≡ false) × (on_map (listed c.program past) p ≡ false)
+    × IsOfStartsAt (Some (i, x)) c p past
+IsStartPlace start_places.Other c p past = (on_cue c.cue_pid p ≡ false) × (on_map (listed c.program past) p ≡ false)
     × (first_on (pids_of (program_of c.program past)) p ≡ None)
 
 -- the fault is this one of the network

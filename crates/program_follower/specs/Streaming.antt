@@ -14,6 +14,8 @@ use Rattle.program_follower.specs.declared.streams.Streams.{Streams}
 use Rattle.program_follower.specs.declared.starts.Starts.{Starts}
 use Rattle.program_follower.specs.declared.streams.StreamPacket.{StreamPacket}
 use Rattle.program_follower.specs.declared.streams.StreamPacket.TheVariants.{Start, More, Repeat, Lead, NoPayload}
+use Rattle.program_follower.specs.declared.starts.StartPacket.{StartPacket}
+use Rattle.program_follower.specs.declared.starts.StartPacket.TheVariants as starts
 
 -- one place farther
 abbrev pub next_place : ℕ × ℕ → ℕ × ℕ
@@ -81,3 +83,13 @@ IsStreamPacket NoPayload pids pid p past = payload_on pid p ≡ false
 abbrev pub IsOfStream : Option (ℕ × StreamPacket) → List ℕ → List ℕ → List (List ℕ) → Type 0
 IsOfStream None pids p past = first_on pids p ≡ None
 IsOfStream (Some x) pids p past = (pid : ℕ) × ((first_on pids p ≡ Some (x.0, pid)) × IsStreamPacket x.1 pids pid p past)
+
+-- what a packet of the PID is to a reader of the begins of units alone
+abbrev pub IsStartPacket : StartPacket → List ℕ → ℕ → List ℕ → List (List ℕ) → Type 0
+IsStartPacket (starts.Start begun) pids pid p past = (begins pid p past ≡ true) × Tells begun (high pids past) (stamp p)
+IsStartPacket starts.NoStart pids pid p past = begins pid p past ≡ false
+
+-- of which stream it is, and what it is there to such a reader
+abbrev pub IsOfStarts : Option (ℕ × StartPacket) → List ℕ → List ℕ → List (List ℕ) → Type 0
+IsOfStarts None pids p past = first_on pids p ≡ None
+IsOfStarts (Some x) pids p past = (pid : ℕ) × ((first_on pids p ≡ Some (x.0, pid)) × IsStartPacket x.1 pids pid p past)

@@ -3,25 +3,56 @@
 ghost use Rattle.std.specs.Prelude.{◌≡◌, ◌≤◌, ◌∷◌, [], ℕ, List, length, Option, Some, None, option_map, OnOk, IfOk, IfErr};
 ghost use Rattle.pes_time.specs.Line.{ring_of};
 ghost use Rattle.unit_stream.specs.Faults.{unit_fault};
-ghost use Rattle.program_follower.specs.Program.{listed, tables, Program, pids_of};
+ghost use Rattle.program_follower.specs.Program.{tables, Program, program_of, pids_of};
 ghost use Rattle.program_follower.specs.Faults.{network_fault};
 ghost use Rattle.program_follower.specs.Standing.{tables_left, lent_program};
-ghost use Rattle.program_follower.specs.Following.{StartsStandFor, OfStartPast, OfBegins, StartsSince, grown, high_of, on_map};
+ghost use Rattle.program_follower.specs.Streaming.{IsOfStarts};
+ghost use Rattle.program_follower.specs.Following.{StartsStandFor, OfStartPast, OfBegins, StartsSince, grown, high_of};
+ghost use Rattle.program_follower.specs.Following.{IsStartPlace, IsOfStartsAt, IsOnTables, streams_of_program};
 
 use crate::follower::of_unit;
 use crate::known::KnownProgram;
 use crate::purpose::Purpose;
-use crate::starts::Starts;
-use crate::table_reader::TableReader;
+use crate::starts::{StartPacket, Starts};
+use crate::table_reader::{OnTables, TableReader};
 use crate::tables::Tables;
 use pes_time::Time33;
 use psi_tables::{NetworkFault, Stream};
 use ts_packet::Packet;
 use unit_stream::UnitFault;
 
-/// Follows one program of a network as [`crate::ProgramFollower`] does, for callers who ask for its faults, its maps and its greatest time
-/// alone. It tells no packet of a stream from another, and so copies none but those with which units begin. It takes no memory. It is not to
-/// be fed behind a fault.
+/// What a packet is to the program that is followed, told by the begins of units alone.
+#[derive(Clone, Copy, Debug, PartialEq, Eq)]
+pub enum StartPlace {
+    /// It is on the PID of the map, behind the PAT: [`StartFollower::tables`] lends the sections that it finishes.
+    Map,
+    /// It is on the PID of the cues.
+    Cue,
+    /// It is of the switched stream of this number in the order of the map, counted from 0, behind the head.
+    Stream(usize, StartPacket),
+    /// It is none of these: marked in error, of another PID, or of the head.
+    Other,
+}
+
+impl StartPlace {
+    ghost use Rattle.program_follower.specs.Program.{listed};
+    ghost use Rattle.program_follower.specs.Following.{on_map};
+
+    /// It is on the PID of the map, behind the PAT.
+    #[inline(always)]
+    pub fn is_map(&self) -> bool
+        ensures { (c : Purpose) (p : List ℕ) (past : List (List ℕ)) → IsStartPlace self.now c p past
+            → result ≡ on_map (listed c.program past) p }
+    {
+        match self {
+            StartPlace::Map => true,
+            StartPlace::Cue | StartPlace::Stream(_, _) | StartPlace::Other => false,
+        }
+    }
+}
+
+/// Follows one program of a network as [`crate::ProgramFollower`] does, and tells what each packet is, but of the packets of a stream only
+/// which begin units. So it copies none but those. It takes no memory. It is not to be fed behind a fault.
 #[derive(Drop)]
 pub struct StartFollower {
     tables: TableReader,
@@ -40,17 +71,16 @@ impl StartFollower {
         }
     }
 
-    /// Takes the next packet of the network, and answers whether it is on the PID of the map, behind the PAT.
+    /// Takes the next packet of the network, and answers what it is.
     ///
     /// # Errors
     ///
     /// What is wrong with the packet behind those before it.
     #[inline(always)]
-    pub fn feed(&mut self, packet: &Packet) -> Result<bool, NetworkFault>
+    pub fn feed(&mut self, packet: &Packet) -> Result<StartPlace, NetworkFault>
         ensures stands { OfStartPast self.old (λ c past. OnOk result (StartsStandFor self.new c (packet.now ∷ past))) }
         ensures sound { OfStartPast self.old (λ c past. OnOk result (network_fault c packet.now past ≡ None)) }
-        ensures place { OfStartPast self.old (λ c past.
-            IfOk result (λ is_map. is_map ≡ on_map (listed c.program past) packet.now)) }
+        ensures place { OfStartPast self.old (λ c past. IfOk result (λ x. IsStartPlace x c packet.now past)) }
         ensures err { OfStartPast self.old (λ c past. IfErr result (λ f. network_fault c packet.now past ≡ Some f)) }
     {
         let on_tables = match self.tables.feed(packet) {
@@ -58,7 +88,7 @@ impl StartFollower {
             Err(fault) => return Err(fault),
         };
         match follow_begins(&mut self.streams, self.tables.known(), packet) {
-            Ok(()) => Ok(on_tables.is_map),
+            Ok(of_stream) => Ok(start_place_of(on_tables, of_stream)),
             Err(fault) => Err(of_unit(fault)),
         }
     }
@@ -81,6 +111,16 @@ impl StartFollower {
             Some(streams) => streams.high(),
         }
     }
+
+    /// The switched streams in the order of the map; none in the head.
+    pub fn streams(&self) -> &[Stream]
+        ensures { OfStartPast self.now (λ c past. result.now ≡ streams_of_program (program_of c.program past)) }
+    {
+        match self.tables.known() {
+            None => &[],
+            Some(known) => known.streams.as_slice(),
+        }
+    }
 }
 
 /// Takes a packet behind the head, and begins to follow the streams at the end of the head. `known` is what is known behind the packet.
@@ -89,25 +129,27 @@ fn follow_begins(
     streams: &mut Option<Starts>,
     known: Option<&KnownProgram>,
     packet: &Packet,
-) -> Result<(), UnitFault>
+) -> Result<Option<(usize, StartPacket)>, UnitFault>
     ensures reads { OfBegins streams.old (lent_program known.entry) (λ r past.
         OnOk result (StartsSince streams.new (lent_program known.entry) (grown r packet.now past))) }
     ensures sound { OfBegins streams.old (lent_program known.entry) (λ r past.
         OnOk result (unit_fault (pids_of r) packet.now past ≡ None)) }
+    ensures is { OfBegins streams.old (lent_program known.entry) (λ r past.
+        IfOk result (λ x. IsOfStarts x (pids_of r) packet.now past)) }
     ensures err { OfBegins streams.old (lent_program known.entry) (λ r past.
         IfErr result (λ f. unit_fault (pids_of r) packet.now past ≡ Some f)) }
 {
     let Some(known) = known else {
-        return Ok(());
+        return Ok(None);
     };
     match streams {
         Some(streams) => match streams.feed(packet) {
-            Ok(()) => Ok(()),
+            Ok(of_stream) => Ok(of_stream),
             Err(fault) => Err(fault),
         },
         None => {
             begin(streams, known.streams.as_slice());
-            Ok(())
+            Ok(None)
         }
     }
 }
@@ -121,4 +163,22 @@ fn begin(streams: &mut Option<Starts>, switched: &[Stream])
     ensures { (r : Program) → r.streams ≡ switched.now → StartsSince streams.new (Some r) [] }
 {
     *streams = Some(Starts::new(switched));
+}
+
+/// What a packet is, by the PIDs of the tables that it is on and by the stream that it is of.
+#[inline(always)]
+fn start_place_of(on_tables: OnTables, of_stream: Option<(usize, StartPacket)>) -> StartPlace
+    ensures { (c : Purpose) (p : List ℕ) (past : List (List ℕ)) → IsOnTables on_tables c p past
+        → IsOfStartsAt of_stream c p past → IsStartPlace result c p past }
+{
+    if on_tables.is_map {
+        return StartPlace::Map;
+    }
+    if on_tables.is_cue {
+        return StartPlace::Cue;
+    }
+    match of_stream {
+        Some((index, part)) => StartPlace::Stream(index, part),
+        None => StartPlace::Other,
+    }
 }

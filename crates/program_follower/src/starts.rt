@@ -1,7 +1,7 @@
 //! Where the units of the switched streams begin behind the head, and the greatest time of these.
 
 ghost use Rattle.std.specs.Prelude.{◌≡◌, ◌<◌, ◌≤◌, ◌≢◌, ◌∷◌, [], ℕ, List, length, Option, Some, None, option_map};
-ghost use Rattle.std.specs.Prelude.{OnOk, IfErr, slice_index_or, true};
+ghost use Rattle.std.specs.Prelude.{OnOk, IfOk, IfErr, slice_index_or, true};
 ghost use Rattle.ts_packet.specs.Fields.{payload_on};
 ghost use Rattle.pes_time.specs.Line.{ring_of};
 ghost use Rattle.unit_stream.specs.Faults.{unit_fault};
@@ -9,15 +9,24 @@ ghost use Rattle.unit_stream.specs.Times.{high};
 ghost use Rattle.unit_stream.specs.Starts.{ReadsStarts, IsBegin};
 ghost use Rattle.unit_stream.specs.Clocks.{ClockAt};
 ghost use Rattle.program_follower.specs.Faults.{pids_in};
-ghost use Rattle.program_follower.specs.Streaming.{AllStartsRead, StartsRead, IsOne, begin_fault};
+ghost use Rattle.program_follower.specs.Streaming.{AllStartsRead, StartsRead, IsOne, begin_fault, IsStartPacket, IsOfStarts};
 
 use crate::places::StreamPlaces;
 use pes_time::Time33;
 use psi_tables::Stream;
 use ts_packet::{Packet, Pid};
-use unit_stream::{Clock, StartReader, UnitFault};
+use unit_stream::{Begun, Clock, StartReader, UnitFault};
 
-/// Follows the begins of the units of up to eight switched streams, and no packet of a unit behind its first.
+/// What a packet of a switched stream is, behind the head, to a reader of the begins of units alone.
+#[derive(Clone, Copy, Debug, PartialEq, Eq)]
+pub enum StartPacket {
+    /// A unit begins. Its PTS, and how far that lies past the greatest time before it; `None` where it has no PTS.
+    Start(Option<Begun>),
+    /// No unit begins: the packet goes on with one, repeats the packet before it, stands before the first unit, or has no payload.
+    NoStart,
+}
+
+/// Follows up to eight switched streams, and tells of their packets only which begin units.
 #[derive(Drop)]
 pub struct Starts {
     places: StreamPlaces,
@@ -47,55 +56,61 @@ impl Starts {
         self.clock.high()
     }
 
-    /// Takes the next packet behind the head, of whatever PID.
+    /// Takes the next packet behind the head, of whatever PID: the number of its stream among these and what it is there, or `None`
+    /// where it is of none.
     ///
     /// # Errors
     ///
     /// The first of `Scrambled`, `HeaderSplit` and `TimeJump` that applies.
     #[inline(always)]
-    pub fn feed(&mut self, packet: &Packet) -> Result<(), UnitFault>
+    pub fn feed(&mut self, packet: &Packet) -> Result<Option<(usize, StartPacket)>, UnitFault>
         ensures reads { (pids : List ℕ) (past : List (List ℕ)) → StartsRead self.old pids past
             → OnOk result (StartsRead self.new pids (packet.now ∷ past)) }
         ensures ok { (pids : List ℕ) (past : List (List ℕ)) → StartsRead self.old pids past
             → OnOk result (unit_fault pids packet.now past ≡ None) }
+        ensures is { (pids : List ℕ) (past : List (List ℕ)) → StartsRead self.old pids past
+            → IfOk result (λ x. IsOfStarts x pids packet.now past) }
         ensures err { (pids : List ℕ) (past : List (List ℕ)) → StartsRead self.old pids past
             → IfErr result (λ f. unit_fault pids packet.now past ≡ Some f) }
     {
         let Some(index) = self.places.place_of(packet) else {
-            return Ok(());
+            return Ok(None);
         };
         if !packet.has_payload() {
-            return Ok(());
+            return Ok(Some((index, StartPacket::NoStart)));
         }
         if packet.scrambled() {
             return Err(UnitFault::Scrambled);
         }
         let begun = feed_at(&mut self.readers, index, packet);
         match pass(&mut self.clock, begun) {
-            Ok(()) => Ok(()),
+            Ok(part) => Ok(Some((index, part))),
             Err(fault) => Err(fault),
         }
     }
 }
 
-/// The clock passes the begin of a unit, where the packet is one, by the payload with which it begins.
+/// What a packet of a stream is, by the payload with which it begins a unit, if it begins one. The clock passes the begin.
 #[tactic(auto, using(crate::proofs::PieceLemmas::high_start, crate::proofs::PieceLemmas::high_other, crate::proofs::PieceLemmas::stamp_in, crate::proofs::PieceLemmas::splits_in))]
 #[inline(always)]
-fn pass(clock: &mut Clock, begun: Option<&[u8]>) -> Result<(), UnitFault>
+fn pass(clock: &mut Clock, begun: Option<&[u8]>) -> Result<StartPacket, UnitFault>
     ensures clock { (pids : List ℕ) (pid : ℕ) (p : List ℕ) (past : List (List ℕ)) → IsOne pids pid p past
         → ClockAt clock.old (high pids past) → IsBegin begun.entry pid p past
         → OnOk result (ClockAt clock.new (high pids (p ∷ past))) }
     ensures sound { (pids : List ℕ) (pid : ℕ) (p : List ℕ) (past : List (List ℕ)) → IsOne pids pid p past
         → ClockAt clock.old (high pids past) → IsBegin begun.entry pid p past
         → OnOk result (begin_fault pids pid p past ≡ None) }
+    ensures is { (pids : List ℕ) (pid : ℕ) (p : List ℕ) (past : List (List ℕ)) → IsOne pids pid p past
+        → ClockAt clock.old (high pids past) → IsBegin begun.entry pid p past
+        → IfOk result (λ x. IsStartPacket x pids pid p past) }
     ensures err { (pids : List ℕ) (pid : ℕ) (p : List ℕ) (past : List (List ℕ)) → IsOne pids pid p past
         → ClockAt clock.old (high pids past) → IsBegin begun.entry pid p past
         → IfErr result (λ f. begin_fault pids pid p past ≡ Some f) }
 {
     match begun {
-        None => Ok(()),
+        None => Ok(StartPacket::NoStart),
         Some(payload) => match clock.begin(payload) {
-            Ok(_) => Ok(()),
+            Ok(start) => Ok(StartPacket::Start(start)),
             Err(fault) => Err(fault),
         },
     }

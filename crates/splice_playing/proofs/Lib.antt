@@ -11,3 +11,4 @@ pub mod FrameLemmas
 pub mod RestOutLemmas
 pub mod LeftLemmas
 pub mod LeftAllLemmas
+pub mod LeavingLemmas

@@ -29,6 +29,9 @@ use Rattle.splice_plans.specs.Known.{nothing_known, AllGo, adverts_at, behind_at
 use Rattle.splice_plans.proofs.AdvertLemmas.{libraries_are_steady}
 use Rattle.known_laws.specs.Laws.{PassesOn}
 use Rattle.splice_playing.specs.declared.playing.Playing.{Playing}
+use Rattle.splice_playing.specs.declared.leaving.LeavingUnit.{LeavingUnit}
+use Rattle.splice_playing.specs.Leaving.{AllTaken}
+use Rattle.splice_playing.proofs.LeavingLemmas.{taken-behind}
 use Rattle.splice_playing.specs.Relations.{PlaysFor, PlaysBehind, BeginsIn}
 use Rattle.known_laws.proofs.PassLemmas.{packets_pass}
 
@@ -97,11 +100,15 @@ module _ (k : Setting) (filed : ℕ → Option Advertisement) (listed : List Lis
       (subst (λ ms. AllGo streams k.packed (inside_at k past (p ∷ behind_at k past)) ms (switched_at k (p ∷ past))) (sym passes.moves)
       (subst (λ sw. AllGo streams k.packed (inside_at k past (p ∷ behind_at k past)) (fate (switched_at k past) (adverts_at k past) (history_at k past) p (behind_at k past) ∷ (reverse (puts_at k p past) ++ moves_at k past)) sw) (sym passes.switched) all))
 
+  pub taken-pass : (units : List LeavingUnit) (streams : List SwitchedStream) → AllTaken units streams (switched_at k past) (p ∷ behind_at k past) → AllTaken units streams (switched_at k (p ∷ past)) (behind_at k (p ∷ past))
+  taken-pass units streams all = taken-behind k units streams p past (behind-by k past number i.pid i.of) all
+
   -- with the same greatest time
   pub stays-for : (playing : Playing) → high_at k (p ∷ past) ≡ high_at k past → PlaysBehind playing k p past → PlaysFor playing k (p ∷ past)
   stays-for playing same b = record {
     events = obeys-same same playing.events b.events;
     plans = values-pass (values_of playing.events.obeyed.table) (standing k.cue_pid (high_at k) (p ∷ past)) (b.plans ∙ ap (values_by (plans_at k past (p ∷ behind_at k past))) (sym (standing-same same)));
     streams = streams-pass playing.streams b.streams;
+    leaving = taken-pass playing.leaving playing.streams b.leaving;
     forgotten = subst (ReportIs playing.forgotten) (sym (passes.same same)) b.forgotten;
   }

@@ -347,6 +347,32 @@ module _ (k : Setting) (number : ℕ) (p : List ℕ) (past : List (List ℕ)) (p
       → counter_steps k.packed pid (Leave p ∷ before k p past) ≡ steps_behind is_repeat p steps-of
   gone-count is_repeat y repeat = count-gone k.packed p (before k p past) pid (behind_at k past) is_repeat y (brought k p past) repeat
 
+  -- one whose unit is left out, where it is told whether it is a duplicate
+  pub record IsLeft (is_repeat : Bool) : Type 0 where
+    pub gone : Bool
+    pub is : is_gone k p past ≡ gone
+    pub place : place_at k p past ≡ left_place is_repeat p steps-of
+    pub count : counter_steps k.packed pid ((if gone then Leave p else Keep p) ∷ before k p past) ≡ steps_behind is_repeat p steps-of
+
+  -- one without payload stays all the same
+  pub left : (is_repeat : Bool) → inside_at k past (p ∷ behind_at k past) pid ≡ true → (payload_on pid p ≡ true → is_repeat ≡ not (original pid p (behind_at k past))) → IsLeft is_repeat
+  left is_repeat inside repeat = by_test (payload_on pid p)
+      (λ y. let gone = gone-is k p past pid cue once-of y ∙ inside in
+      record { gone = true; is = gone; place = gone-place is_repeat gone y (repeat y); count = gone-count is_repeat y (repeat y) })
+      (λ n. let stays = stays-is k p past pid once-of o (ap (λ b. b && in_unit pid (p ∷ behind_at k past)) n) in
+      let none = payload-none pid p o n in
+      record { gone = false; is = stays; place = simp none (kept-place stays); count = simp none kept-count })
+
+  -- and one whose unit is kept
+  pub kept : inside_at k past (p ∷ behind_at k past) pid ≡ false → is_gone k p past ≡ false
+  kept inside = by_test (payload_on pid p) (λ y. gone-is k p past pid cue once-of y ∙ inside) (λ n. stays-is k p past pid once-of o (ap (λ b. b && in_unit pid (p ∷ behind_at k past)) n))
+
+-- no unit lies in an event before the first
+pub inside-begun : (k : Setting) (p : List ℕ) (past : List (List ℕ)) (pid : ℕ) → inside_at k past (p ∷ behind_at k past) pid ≡ true → in_unit pid (p ∷ behind_at k past) ≡ true
+inside-begun k p past pid h = by_test (in_unit pid (p ∷ behind_at k past)) (λ y. y)
+    (λ n. absurd (clash (inside_at k past (p ∷ behind_at k past) pid) h
+    (ap (λ t. is_inside (adverts_at k past) (events_at k past) t) (no-time (switched_at k past) pid (p ∷ behind_at k past) n) ∙ nothing-holds (adverts_at k past) (events_at k past))))
+
 -- the only packet failed
 pub one-fails : (F : List (List ℕ) → List ℕ → Type 0) (place : List (List ℕ)) (q : List ℕ) → place ≡ q ∷ [] → F [] q → FrontFails place F
 one-fails F place q is fails = record { put = []; packet = q; left = []; all = is; fault = fails }

@@ -3,3 +3,4 @@ pub mod Resting
 pub mod Relations
 pub mod Going
 pub mod Forgetting
+pub mod Leaving

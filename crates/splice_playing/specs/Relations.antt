@@ -1,9 +1,8 @@
 -- What the events and streams of a switch stand for: behind a past, before a packet that begins a unit, and behind it.
-use Rattle.std.specs.Prelude.{◌≡◌, ℕ, List, ◌∷◌, ◌++◌, map, reverse, Bool, true, false, not, ◌&&◌, slice_get, Option, None, Some, option_map}
-use Rattle.ts_packet.specs.Fields.{on, payload_on, on_one}
-use Rattle.ts_packet.specs.Duplicates.{original}
+use Rattle.std.specs.Prelude.{◌≡◌, ℕ, List, ◌∷◌, ◌++◌, map, reverse, Bool, true, false, slice_get, Option, None, Some, option_map}
+use Rattle.ts_packet.specs.Fields.{on, on_one}
 use Rattle.pes_time.specs.Line.{ring_of}
-use Rattle.unit_stream.specs.Times.{begins, in_unit, stamp}
+use Rattle.unit_stream.specs.Times.{begins, stamp}
 use Rattle.unit_stream.specs.Faults.{unit_fault}
 use Rattle.psi_tables.specs.declared.stream.Stream.{Stream as ListedStream}
 use Rattle.event_table.specs.Tables.{values_of}
@@ -14,6 +13,7 @@ use Rattle.output_laws.specs.Output.{Move}
 use Rattle.ad_library.specs.Advertisements.{Advertisement}
 use Rattle.splice_plans.specs.declared.plan.Plan.{Plan}
 use Rattle.splice_playing.specs.declared.playing.Playing.{Playing}
+use Rattle.splice_playing.specs.Leaving.{AllTaken, OthersTaken}
 use Rattle.splice_plans.specs.Switching.{Setting, fate, switched_at, streams_at, high_at, history_at}
 use Rattle.splice_plans.specs.Histories.{AreSteady}
 use Rattle.splice_plans.specs.Reporting.{ReportIs}
@@ -26,6 +26,7 @@ pub record PlaysFor (playing : Playing) (k : Setting) (past : List (List ℕ)) :
   pub events : Obeys playing.events k.cue_pid (high_at k) past
   pub plans : values_of playing.events.obeyed.table ≡ values_by (plans_at k past (behind_at k past)) (standing k.cue_pid (high_at k) past)
   pub streams : AllGo playing.streams k.packed (inside_at k past (behind_at k past)) (moves_at k past) (switched_at k past)
+  pub leaving : AllTaken playing.leaving playing.streams (switched_at k past) (behind_at k past)
   pub forgotten : ReportIs playing.forgotten (counts_known k past (is_forgotten (high_at k past)))
 
 -- the packet is of the PID of cues, and of no switched stream
@@ -62,6 +63,7 @@ pub record PlaysBefore (playing : Playing) (k : Setting) (p : List ℕ) (past : 
   pub events : Obeys playing.events k.cue_pid (high_at k) past
   pub plans : values_of playing.events.obeyed.table ≡ values_by (plans_at k past (p ∷ behind_at k past)) (standing k.cue_pid (high_at k) past)
   pub streams : AllGo playing.streams k.packed (inside_at k past (p ∷ behind_at k past)) (moves_before k p past) (switched_at k past)
+  pub leaving : OthersTaken playing.leaving playing.streams (switched_at k past) p (behind_at k past)
   pub forgotten : ReportIs playing.forgotten (counts_known k past (is_forgotten (high_at k past)))
 
 -- and once the packet is out, or what stands in its place, before the greatest time rises
@@ -69,24 +71,16 @@ pub record PlaysBehind (playing : Playing) (k : Setting) (p : List ℕ) (past : 
   pub events : Obeys playing.events k.cue_pid (high_at k) past
   pub plans : values_of playing.events.obeyed.table ≡ values_by (plans_at k past (p ∷ behind_at k past)) (standing k.cue_pid (high_at k) past)
   pub streams : AllGo playing.streams k.packed (inside_at k past (p ∷ behind_at k past)) (fate_at k p past ∷ moves_before k p past) (switched_at k past)
+  pub leaving : AllTaken playing.leaving playing.streams (switched_at k past) (p ∷ behind_at k past)
   pub forgotten : ReportIs playing.forgotten (counts_known k past (is_forgotten (high_at k past)))
 
--- the packet is of the stream of this number and carries payload of a unit, a duplicate or not
-pub record IsPacketOf (k : Setting) (number : ℕ) (is_repeat : Bool) (p : List ℕ) (past : List (List ℕ)) : Type 0 where
-  pub pid : ℕ
-  pub of : slice_get (switched_at k past) number ≡ Some pid
-  pub separate : AreSeparate (switched_at k past)
-  pub payload_is : payload_on pid p ≡ true
-  pub repeat : is_repeat ≡ not (original pid p (behind_at k past))
-  pub cue : on k.cue_pid p ≡ false
-
--- it carries none, or stands before the first unit of the stream
-pub record IsKeptOf (k : Setting) (number : ℕ) (p : List ℕ) (past : List (List ℕ)) : Type 0 where
+-- the packet is of the stream of this number, and begins a unit or does not
+pub record IsPacketOf (k : Setting) (number : ℕ) (is_start : Bool) (p : List ℕ) (past : List (List ℕ)) : Type 0 where
   pub pid : ℕ
   pub of : slice_get (switched_at k past) number ≡ Some pid
   pub separate : AreSeparate (switched_at k past)
   pub on_pid : on pid p ≡ true
-  pub stays : (payload_on pid p && in_unit pid (p ∷ behind_at k past)) ≡ false
+  pub start : is_start ≡ begins pid p (behind_at k past)
   pub cue : on k.cue_pid p ≡ false
 
 -- the network ends with these streams, and with these advertisements for them, and no packet behind its head had a fault

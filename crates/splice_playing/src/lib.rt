@@ -2,6 +2,7 @@
 //! packets come.
 #![tactic(auto)]
 
+mod leaving;
 mod playing;
 
 pub use playing::Playing;

@@ -19,6 +19,7 @@ ghost use Rattle.splice_playing.specs.Forgetting.{with_out, with_first_out, with
 ghost use Rattle.splice_playing.specs.Ready.{is_ready};
 ghost use Rattle.splice_playing.specs.Resting.{is_rest, first_rest, waits_ahead, first_start, comes_before, all_wait, all_start_behind};
 
+use crate::leaving::{LeavingUnit, is_repeat_in};
 use ad_library::AdLibrary;
 use armed_events::ArmedEvents;
 use event_table::{Table, is_before};
@@ -37,6 +38,8 @@ const FAR_AHEAD: u64 = 1 << 31;
 pub struct Playing {
     events: ArmedEvents<Plan>,
     streams: [SwitchedStream; 8],
+    /// Of each stream the unit that is left out of it, where one is.
+    leaving: [LeavingUnit; 8],
     forgotten: SwitchReport,
     /// The time until which all events that stand wait in all streams, or `None` where that is not known.
     rest: Option<Time33>,
@@ -49,7 +52,7 @@ impl Playing {
     ghost use Rattle.splice_playing.specs.Going.{closing_in, closed_in, running_in_all, running_in_one, ran_in_all};
     ghost use Rattle.splice_playing.specs.Going.{KeepsUnit};
     ghost use Rattle.splice_playing.specs.Relations.{PlaysFor, PlaysBefore, PlaysBehind, BeginsIn};
-    ghost use Rattle.splice_playing.specs.Relations.{IsCueOf, IsPacketOf, IsKeptOf, EndsWith, Reports};
+    ghost use Rattle.splice_playing.specs.Relations.{IsCueOf, IsPacketOf, EndsWith, Reports};
 
     /// No event, and nothing is out.
     pub fn new() -> Playing
@@ -58,6 +61,7 @@ impl Playing {
         Playing {
             events: ArmedEvents::new(),
             streams: [SwitchedStream::new(); 8],
+            leaving: [LeavingUnit::new(); 8],
             forgotten: SwitchReport::new(),
             rest: None,
         }
@@ -145,6 +149,7 @@ impl Playing {
             of ≡ slice_index_or streams.now stream of → HasEvents self.old line es → IsNearTime line time.now →
             OnOk result (plans_in self.new ≡ closed_in self.old (held library.now) streams.now stream of line time.now es) }
         ensures keeps { KeepsEvents self.old.events self.new.events }
+        ensures units { self.new.leaving ≡ self.old.leaving }
         ensures forgotten { self.new.forgotten ≡ self.old.forgotten }
         ensures err { (of : Stream) (line : Option ℤ) (es : List Standing) (s : SwitchedStream)
             (begin : Option (List ℕ)) (ps : List (List ℕ)) (steps : List Step) →
@@ -191,6 +196,7 @@ impl Playing {
         ensures others { (i : ℕ) (s : SwitchedStream) → IsOther i (stream % 8) →
             stream_at self.new i s ≡ stream_at self.old i s }
         ensures events { self.new.events ≡ self.old.events }
+        ensures units { self.new.leaving ≡ self.old.leaving }
         ensures forgotten { self.new.forgotten ≡ self.old.forgotten }
     {
         if time.is_some() {
@@ -232,6 +238,7 @@ impl Playing {
             of ≡ slice_index_or streams.now stream of → HasEvents self.old line es → IsNearTime line time.now →
             OnOk result (plans_in self.new ≡ closed_in self.old (held library.now) streams.now stream of line time.now es) }
         ensures keeps { KeepsEvents self.old.events self.new.events }
+        ensures units { self.new.leaving ≡ self.old.leaving }
         ensures forgotten { self.new.forgotten ≡ self.old.forgotten }
         ensures err { (of : Stream) (line : Option ℤ) (es : List Standing) (s : SwitchedStream)
             (begin : Option (List ℕ)) (ps : List (List ℕ)) (steps : List Step) →
@@ -292,6 +299,7 @@ impl Playing {
             IsReached line high.now high_line →
             OnOk result (plans_in self.new ≡ ran_in_all self.old (held library.now) streams.now high_line es) }
         ensures keeps { KeepsEvents self.old.events self.new.events }
+        ensures units { self.new.leaving ≡ self.old.leaving }
         ensures forgotten { self.new.forgotten ≡ self.old.forgotten }
         ensures err { (line high_line : Option ℤ) (es : List Standing)
             (begin : Option (List ℕ)) (ps : List (List ℕ)) (steps : ℕ → List Step) → length streams.now ≤ 8 →
@@ -334,6 +342,7 @@ impl Playing {
             IsReached line high.now high_line →
             OnOk result (plans_in self.new ≡ ran_in_all self.old (held library.now) streams.now high_line es) }
         ensures keeps { KeepsEvents self.old.events self.new.events }
+        ensures units { self.new.leaving ≡ self.old.leaving }
         ensures forgotten { self.new.forgotten ≡ self.old.forgotten }
         ensures err { (line high_line : Option ℤ) (es : List Standing)
             (begin : Option (List ℕ)) (ps : List (List ℕ)) (steps : ℕ → List Step) → length streams.now ≤ 8 →
@@ -392,7 +401,8 @@ impl Playing {
         self.put_running(&None, streams, library, sink)
     }
 
-    /// Puts a payload packet of the stream of this number, a duplicate or not, or its clock reference where its unit lies in a played event.
+    /// Puts a packet of the stream of this number, or its clock reference where its unit lies in a played event. `is_start` says that a unit
+    /// begins with it.
     ///
     /// # Errors
     ///
@@ -402,24 +412,25 @@ impl Playing {
         &mut self,
         stream: usize,
         packet: &Packet,
-        is_repeat: bool,
+        is_start: bool,
         sink: &mut S,
     ) -> Result<(), PutFault>
         ensures leads { S.leads sink.old sink.new }
         ensures ok { (start : Option (List ℕ)) (ps : List (List ℕ)) (k : Setting) (past : List (List ℕ)) →
-            S.holds sink.old start ps → PlaysBefore self.old k packet.now past → IsPacketOf k stream is_repeat packet.now past →
+            S.holds sink.old start ps → PlaysBefore self.old k packet.now past → IsPacketOf k stream is_start packet.now past →
             OnOk result (S.holds sink.new start (ps ++ place_at k packet.now past)) }
         ensures plays { (k : Setting) (past : List (List ℕ)) →
-            PlaysBefore self.old k packet.now past → IsPacketOf k stream is_repeat packet.now past →
+            PlaysBefore self.old k packet.now past → IsPacketOf k stream is_start packet.now past →
             OnOk result (PlaysBehind self.new k packet.now past) }
         ensures err { (start : Option (List ℕ)) (ps : List (List ℕ)) (k : Setting) (past : List (List ℕ)) →
-            S.holds sink.old start ps → PlaysBefore self.old k packet.now past → IsPacketOf k stream is_repeat packet.now past →
+            S.holds sink.old start ps → PlaysBefore self.old k packet.now past → IsPacketOf k stream is_start packet.now past →
             IfErr result (λ f. FrontFails (place_at k packet.now past) (λ put q. S.fails sink.new start (ps ++ put) q f)) }
         ensures well { OnOk result (WentWell (S.counts sink.old) (S.counts sink.new)) }
         ensures blamed { IfErr result (λ f. Blamed f (S.counts sink.old) (S.counts sink.new) (S.is_full sink.new)) }
     {
         let of = self.streams[stream % 8];
         if of.is_leaving {
+            let is_repeat = is_repeat_in(&mut self.leaving, stream % 8, packet, is_start);
             let mut leaving = of;
             let put = leaving.leave(packet, is_repeat, sink);
             self.streams[stream % 8] = leaving;
@@ -428,37 +439,6 @@ impl Playing {
         let mut kept = of;
         let put = kept.keep(packet, sink);
         self.streams[stream % 8] = kept;
-        put
-    }
-
-    /// Puts a packet of the stream of this number that stays whatever is played: one without payload, or one before the first unit.
-    ///
-    /// # Errors
-    ///
-    /// As for [`Playing::put_packet`].
-    #[inline(always)]
-    pub fn keep<S: PacketSink>(
-        &mut self,
-        stream: usize,
-        packet: &Packet,
-        sink: &mut S,
-    ) -> Result<(), PutFault>
-        ensures leads { S.leads sink.old sink.new }
-        ensures ok { (start : Option (List ℕ)) (ps : List (List ℕ)) (k : Setting) (past : List (List ℕ)) →
-            S.holds sink.old start ps → PlaysBefore self.old k packet.now past → IsKeptOf k stream packet.now past →
-            OnOk result (S.holds sink.new start (ps ++ place_at k packet.now past)) }
-        ensures plays { (k : Setting) (past : List (List ℕ)) →
-            PlaysBefore self.old k packet.now past → IsKeptOf k stream packet.now past →
-            OnOk result (PlaysBehind self.new k packet.now past) }
-        ensures err { (start : Option (List ℕ)) (ps : List (List ℕ)) (k : Setting) (past : List (List ℕ)) →
-            S.holds sink.old start ps → PlaysBefore self.old k packet.now past → IsKeptOf k stream packet.now past →
-            IfErr result (λ f. FrontFails (place_at k packet.now past) (λ put q. S.fails sink.new start (ps ++ put) q f)) }
-        ensures well { OnOk result (WentWell (S.counts sink.old) (S.counts sink.new)) }
-        ensures blamed { IfErr result (λ f. Blamed f (S.counts sink.old) (S.counts sink.new) (S.is_full sink.new)) }
-    {
-        let mut of = self.streams[stream % 8];
-        let put = of.keep(packet, sink);
-        self.streams[stream % 8] = of;
         put
     }
 

@@ -32,6 +32,7 @@ use Rattle.splice_plans.specs.Known.{nothing_known, padded, part_known, plan_kno
 use Rattle.splice_plans.proofs.PutLemmas.{puts_at_unit_starts}
 use Rattle.splice_playing.specs.declared.playing.Playing.{Playing}
 use Rattle.splice_playing.specs.Relations.{PlaysFor, PlaysBefore, PlaysBehind}
+use Rattle.splice_playing.proofs.LeavingLemmas.{none-taken, others-taken, first-taken, taken-behind}
 use Rattle.splice_switch.proofs.QuietLemmas.{or-parts, any-none, count-same, count-none, values-same, each-at, begins-none, crossed-known-same, plan-at-same, inside-same}
 
 -- ---- one stream
@@ -77,6 +78,7 @@ plays-before playing k p past none h =
           (λ pid is. inside-same sw ads (events_at k past) pid p behind (each-at (λ q. begins q p behind ≡ false) sw i pid is (begins-none sw p behind none)))
           (λ pid is. ap (λ ms. counter_steps k.packed pid (reverse ms ++ moves_at k past)) (puts_at_unit_starts sw ads (history_at k past) p behind none))
           (h.streams i s below);
+      leaving = others-taken playing.leaving playing.streams sw p behind h.leaving;
       forgotten = h.forgotten;
     }
 
@@ -94,6 +96,7 @@ plays-passed playing k p past off h =
           go-on (slice_index_or playing.streams i s) k.packed (inside_at k past (p ∷ behind)) (inside_at k past (p ∷ behind)) before (fate sw (adverts_at k past) (history_at k past) p behind ∷ before) (slice_get sw i)
           (λ pid is. refl) (λ pid is. steps-off k.packed pid p before left (each-at (λ q. on q p ≡ false) sw i pid is (switched-off sw p off)))
           (h.streams i s below);
+      leaving = none-taken playing.leaving playing.streams sw p behind off h.leaving;
       forgotten = h.forgotten;
     }
 
@@ -206,6 +209,7 @@ module _ (k : Setting) (p : List ℕ) (past : List (List ℕ)) (m : ProgramMap) 
               (go-on (slice_index_or playing.streams i s) k.packed (inside_at k past (p ∷ behind)) (inside_at k (p ∷ past) (behind_at k (p ∷ past)))
               (fate (switched_at k past) (adverts_at k past) (history_at k past) p behind ∷ (reverse (puts_at k p past) ++ moves_at k past)) (moves_at k (p ∷ past)) (slice_get (switched_at k past) i)
               (λ pid is. inside-more pid) (λ pid is. ap (counter_steps k.packed pid) moves-more) (h.streams i s below));
+          leaving = taken-behind k playing.leaving playing.streams p past (ap (λ o. is_some (option_map program_in o)) known) h.leaving;
           forgotten = subst (λ c. ReportIs playing.forgotten c) (sym counts-more) h.forgotten;
         }
 
@@ -312,6 +316,7 @@ module _ (k : Setting) (p : List ℕ) (past : List (List ℕ)) (known : known_ma
     streams = λ i s below.
         goes-still (slice_index_or playing.streams i s) (slice_get (switched_at k (p ∷ past)) i)
         (subst (λ sw. GoesAs (slice_index_or playing.streams i s) k.packed (inside_at k past (behind_at k past)) (moves_at k past) (slice_get sw i)) switched-none (h.streams i s below));
+    leaving = first-taken k playing.leaving playing.streams p past known;
     forgotten = subst (λ c. ReportIs playing.forgotten c) (nothing-counted k past high-none ∙ sym (nothing-counted k (p ∷ past) high-still)) h.forgotten;
   }
 

@@ -21,15 +21,14 @@ use Rattle.psi_tables.specs.ProgramMap.{ProgramMap, streams_of}
 use Rattle.psi_tables.specs.Streams.{switched_of}
 use Rattle.program_follower.specs.declared.purpose.Purpose.{Purpose}
 use Rattle.program_follower.specs.declared.purpose.Listed.{Listed}
-use Rattle.program_follower.specs.declared.streams.StreamPacket.{StreamPacket}
-use Rattle.program_follower.specs.declared.streams.StreamPacket.TheVariants.{Start, More, Repeat, Lead, NoPayload}
-use Rattle.program_follower.specs.declared.follower.Place.{Place}
-use Rattle.program_follower.specs.declared.follower.Place.TheVariants as places
+use Rattle.program_follower.specs.declared.starts.StartPacket.{StartPacket}
+use Rattle.program_follower.specs.declared.starts.StartPacket.TheVariants.{Start, NoStart}
+use Rattle.program_follower.specs.declared.start_follower.StartPlace.TheVariants as places
 use Rattle.program_follower.specs.Purposes.{reading_cues, cues_read_on}
 use Rattle.program_follower.specs.Program.{listed, all_tables, known_map, behind_head, Program, program_in, program_of, pids_of}
 use Rattle.program_follower.specs.Faults.{network_fault, first_fault, cue_fault, pats_fault_at, maps_fault_at, unit_fault_at, as_network, is_pid, pmt_pid_fault, if_bad}
 use Rattle.psi_tables.specs.declared.network.NetworkFault.TheVariants.{CuePidUsed, BadPids}
-use Rattle.program_follower.specs.Following.{IsPlace, on_map, streams_of_program}
+use Rattle.program_follower.specs.Following.{IsStartPlace, on_map, streams_of_program}
 use Rattle.program_follower.specs.Streaming.{first_on, next_place}
 use Rattle.program_follower.proofs.OptionLemmas.{none_both}
 use Rattle.program_follower.proofs.StreamLemmas.{first_is_on, first_within, first_of, none_of, one_of, begins_is, begins_needs}
@@ -45,7 +44,7 @@ use Rattle.splice_plans.specs.Known.{AreSeparate, behind_at}
 use Rattle.switch_laws.proofs.FaultlessLemmas.{faultless_is_sound, first-sound, unlisted}
 use Rattle.switch_laws.proofs.StandingLemmas.{error-off, error-none}
 use Rattle.known_laws.specs.Laws.{AreFaultless}
-use Rattle.splice_playing.specs.Relations.{IsCueOf, BeginsIn, IsPacketOf, IsKeptOf, EndsWith}
+use Rattle.splice_playing.specs.Relations.{IsCueOf, BeginsIn, IsPacketOf, EndsWith}
 use Rattle.splice_switch.proofs.QuietLemmas.{or-parts}
 
 -- ---- the streams of a network without fault
@@ -178,13 +177,6 @@ there-among (q ∷ qs) (suc i) pid h = or-second (q == pid) (is_among pid qs) (t
 pub no-table : (o : Option Listed) (p : List ℕ) → on_map o p ≡ false → (l : Listed) → o ≡ Some l → on l.pid p ≡ false
 no-table o p h l e = ap (λ o. on_map o p) (sym e) ∙ h
 
-marked-off : (o : Option Listed) (p : List ℕ) → in_error p ≡ true → on_map o p ≡ false
-marked-off None p e = refl
-marked-off (Some l) p e = error-off l.pid p e
-
-pub marked-map : (wanted : Option ℕ) (p : List ℕ) (past : List (List ℕ)) → in_error p ≡ true → on_map (listed wanted past) p ≡ false
-marked-map wanted p past e = marked-off (listed wanted past) p e
-
 -- the PID of the cues is not that of the map
 cue-not-map : (cue : ℕ) (c : Purpose) (o : Option Listed) (p : List ℕ) → c.cue_pid ≡ Some cue → pmt_pid_fault c o ≡ None → on cue p ≡ true → on_map o p ≡ false
 cue-not-map cue c None p is good h = refl
@@ -193,8 +185,12 @@ cue-not-map cue c (Some l) p is good h =
     let n : (l.pid == cue) ≡ false = ap (λ o. is_pid o l.pid) (sym is) ∙ not_if_bad (is_pid c.cue_pid l.pid) CuePidUsed r.1 in
     apart-pid cue l.pid p (back-test l.pid cue n) h
 
-pub cue-off-map : (c : Config) (p : List ℕ) (past : List (List ℕ)) → first_fault (reading_cues c) past ≡ None → on c.cue_pid p ≡ true → on_map (listed (Some c.program) past) p ≡ false
+cue-off-map : (c : Config) (p : List ℕ) (past : List (List ℕ)) → first_fault (reading_cues c) past ≡ None → on c.cue_pid p ≡ true → on_map (listed (Some c.program) past) p ≡ false
 cue-off-map c p past good h = cue-not-map c.cue_pid (reading_cues c) (listed (Some c.program) past) p refl (pid_good (reading_cues c) past good) h
+
+-- nor the other way round
+pub map-off-cue : (c : Config) (p : List ℕ) (past : List (List ℕ)) → first_fault (reading_cues c) past ≡ None → on_map (listed (Some c.program) past) p ≡ true → on c.cue_pid p ≡ false
+map-off-cue c p past good h = by_test (on c.cue_pid p) (λ y. absurd (true≢false (sym h ∙ cue-off-map c p past good y))) (λ n. n)
 
 pub cue-switched : (c : Config) (filed : ℕ → Option Advertisement) (p : List ℕ) (past : List (List ℕ)) → first_fault (reading_cues c) past ≡ None → on c.cue_pid p ≡ true
     → on_one (switched_at (setting_of c filed) past) p ≡ false
@@ -218,100 +214,33 @@ map-switched c filed p past l good e h = not-among l.pid p (switched_at (setting
 begins-one-is : (pids : List ℕ) (p : List ℕ) (past : List (List ℕ)) (i pid : ℕ) → first_on pids p ≡ Some (i, pid) → begins_one pids p past ≡ begins pid p past
 begins-one-is pids p past i pid h = begins_is p past pids ∙ first_of (λ q. begins q p past) p (begins_needs p past) pids (i, pid) h
 
-both-parts : (a b : Bool) → (a && b) ≡ true → (a ≡ true) × (b ≡ true)
-both-parts true b h = (refl, h)
-both-parts false b h = absurd (true≢false (sym h))
-
-abbrev pub is-start : StreamPacket → Bool
-is-start (Start begun) = true
-is-start More = false
-is-start Repeat = false
-is-start Lead = false
-is-start NoPayload = false
-
 module _ (c : Config) (filed : ℕ → Option Advertisement) (p : List ℕ) (past : List (List ℕ)) (good : first_fault (reading_cues c) past ≡ None) (i : ℕ) where
   abbrev k : Setting
   k = setting_of c filed
 
-  abbrev behind : List (List ℕ)
-  behind = behind_at (setting_of c filed) past
-
   -- what the follower says of it, where it begins no unit
-  pub quiet-one : (x : StreamPacket) → is-start x ≡ false → IsPlace (places.Stream i x) (reading_cues c) p past → begins_one (switched_at k past) p behind ≡ false
-  quiet-one (Start begun) no-start h = absurd (true≢false no-start)
-  quiet-one More no-start h =
-      begins-one-is (switched_at k past) p behind i h.2.0 h.2.1.0 ∙ begins_not h.2.0 p behind h.2.1.1.1
-  quiet-one Repeat no-start h =
-      begins-one-is (switched_at k past) p behind i h.2.0 h.2.1.0 ∙ begins_repeat h.2.0 p behind h.2.1.1.1
-  quiet-one Lead no-start h =
-      begins-one-is (switched_at k past) p behind i h.2.0 h.2.1.0 ∙ begins_not h.2.0 p behind h.2.1.1.1
-  quiet-one NoPayload no-start h =
-      begins-one-is (switched_at k past) p behind i h.2.0 h.2.1.0 ∙ begins_off h.2.0 p behind h.2.1.1
+  pub quiet-one : IsStartPlace (places.Stream i NoStart) (reading_cues c) p past → begins_one (switched_at k past) p (behind_at k past) ≡ false
+  quiet-one h = begins-one-is (switched_at k past) p (behind_at k past) i h.2.0 h.2.1.0 ∙ h.2.1.1
 
-  pub packet-start : (begun : Option Begun) → IsPlace (places.Stream i (Start begun)) (reading_cues c) p past → IsPacketOf k i false p past
-  packet-start begun h =
-      let original-is = (both-parts (original h.2.0 p behind) (unit_start p) h.2.1.1.0).0 in
-      record {
-        pid = h.2.0;
-        of = first-there (switched_at k past) p (i, h.2.0) h.2.1.0;
-        separate = separate k past good;
-        payload_is = (both-parts (payload_on h.2.0 p) (not (repeats h.2.0 p behind)) original-is).0;
-        repeat = sym (ap not original-is);
-        cue = h.0;
-      }
-
-  pub packet-more : IsPlace (places.Stream i More) (reading_cues c) p past → IsPacketOf k i false p past
-  packet-more h = record {
-    pid = h.2.0;
-    of = first-there (switched_at k past) p (i, h.2.0) h.2.1.0;
-    separate = separate k past good;
-    payload_is = (both-parts (payload_on h.2.0 p) (not (repeats h.2.0 p behind)) h.2.1.1.0).0;
-    repeat = sym (ap not h.2.1.1.0);
-    cue = h.0;
-  }
-
-  pub packet-repeat : IsPlace (places.Stream i Repeat) (reading_cues c) p past → IsPacketOf k i true p past
-  packet-repeat h = record {
-    pid = h.2.0;
-    of = first-there (switched_at k past) p (i, h.2.0) h.2.1.0;
-    separate = separate k past good;
-    payload_is = h.2.1.1.0;
-    repeat = sym (ap not (ap (λ b. b && not (repeats h.2.0 p behind)) h.2.1.1.0 ∙ ap not h.2.1.1.1));
-    cue = h.0;
-  }
-
-  none-in : (a b d : Bool) → d ≡ false → b ≡ false → (a && (b || d)) ≡ false
-  none-in true b d h m = ap (λ x. x || d) m ∙ h
-  none-in false b d h m = refl
-
-  pub kept-lead : IsPlace (places.Stream i Lead) (reading_cues c) p past → IsKeptOf k i p past
-  kept-lead h = record {
+  pub packet-start : (begun : Option Begun) → IsStartPlace (places.Stream i (Start begun)) (reading_cues c) p past → IsPacketOf k i true p past
+  packet-start begun h = record {
     pid = h.2.0;
     of = first-there (switched_at k past) p (i, h.2.0) h.2.1.0;
     separate = separate k past good;
     on_pid = first_is_on (switched_at k past) p (i, h.2.0) h.2.1.0;
-    stays = none-in (payload_on h.2.0 p) (begins h.2.0 p behind) (in_unit h.2.0 behind) h.2.1.1.2 (begins_not h.2.0 p behind h.2.1.1.1);
+    start = sym h.2.1.1.0;
     cue = h.0;
   }
 
-  pub kept-empty : IsPlace (places.Stream i NoPayload) (reading_cues c) p past → IsKeptOf k i p past
-  kept-empty h = record {
+  pub packet-quiet : IsStartPlace (places.Stream i NoStart) (reading_cues c) p past → IsPacketOf k i false p past
+  packet-quiet h = record {
     pid = h.2.0;
     of = first-there (switched_at k past) p (i, h.2.0) h.2.1.0;
     separate = separate k past good;
     on_pid = first_is_on (switched_at k past) p (i, h.2.0) h.2.1.0;
-    stays = ap (λ b. b && in_unit h.2.0 (p ∷ behind)) h.2.1.1;
+    start = sym h.2.1.1;
     cue = h.0;
   }
-
-  -- it stays whatever is played
-  pub kept-of : (x : StreamPacket) → (x ≡ Lead) ⊎ (x ≡ NoPayload) → IsPlace (places.Stream i x) (reading_cues c) p past → IsKeptOf k i p past
-  kept-of x (inl e) h = kept-lead (subst (λ y. IsPlace (places.Stream i y) (reading_cues c) p past) e h)
-  kept-of x (inr e) h = kept-empty (subst (λ y. IsPlace (places.Stream i y) (reading_cues c) p past) e h)
-
-pub no-start-kept : (x : StreamPacket) → (x ≡ Lead) ⊎ (x ≡ NoPayload) → is-start x ≡ false
-no-start-kept x (inl e) = ap is-start e
-no-start-kept x (inr e) = ap is-start e
 
 -- the stamp of a unit that begins
 pub stamp-told : (begun : Option Begun) (high : Option Rattle.std.specs.Prelude.ℤ) (s : Option ℕ) → Tells begun high s → s ≡ option_map (λ (b : Begun). b.pts) begun
@@ -330,7 +259,7 @@ as-many : (o : Option Program) → length (pids_of o) ≡ length (streams_of_pro
 as-many None = refl
 as-many (Some r) = length-map r.streams (λ (s : ListedStream). s.pid)
 
-module _ (c : Config) (filed : ℕ → Option Advertisement) (p : List ℕ) (past : List (List ℕ)) (i : ℕ) (x : StreamPacket) (h : IsPlace (places.Stream i x) (reading_cues c) p past) where
+module _ (c : Config) (filed : ℕ → Option Advertisement) (p : List ℕ) (past : List (List ℕ)) (i : ℕ) (x : StartPacket) (h : IsStartPlace (places.Stream i x) (reading_cues c) p past) where
   pub own-stream : on_one (switched_at (setting_of c filed) past) p ≡ true
   own-stream = one-first (switched_at (setting_of c filed) past) p i h.2.0 h.2.1.0
 
@@ -346,7 +275,7 @@ module _ (c : Config) (filed : ℕ → Option Advertisement) (p : List ℕ) (pas
 
 -- a unit begins
 pub begins-in : (c : Config) (filed : ℕ → Option Advertisement) (p : List ℕ) (past : List (List ℕ)) (i : ℕ) (begun : Option Begun) (time now : Option ℕ) (streams : List ListedStream)
-    → first_fault (reading_cues c) past ≡ None → network_fault (reading_cues c) p past ≡ None → IsPlace (places.Stream i (Start begun)) (reading_cues c) p past
+    → first_fault (reading_cues c) past ≡ None → network_fault (reading_cues c) p past ≡ None → IsStartPlace (places.Stream i (Start begun)) (reading_cues c) p past
     → time ≡ option_map (λ (b : Begun). b.pts) begun → now ≡ option_map ring_of (high_at (setting_of c filed) (p ∷ past)) → streams ≡ streams_at (setting_of c filed) (p ∷ past)
     → BeginsIn (setting_of c filed) filed streams i time now p past
 begins-in c filed p past i begun time now streams good sound h time-is now-is streams-is = record {
@@ -369,14 +298,8 @@ pub record Passes (c : Config) (filed : ℕ → Option Advertisement) (p : List 
   pub map : on_map (listed (Some c.program) past) p ≡ false
   pub other : on_one (switched_at (setting_of c filed) past) p ≡ false
 
-pub passes : (c : Config) (filed : ℕ → Option Advertisement) (p : List ℕ) (past : List (List ℕ)) (place : Place) → (place ≡ places.Marked) ⊎ (place ≡ places.Other) → IsPlace place (reading_cues c) p past
-    → Passes c filed p past
-passes c filed p past place (inl e) h =
-    let marked : in_error p ≡ true = subst (λ x. IsPlace x (reading_cues c) p past) e h in
-    record { cue = error-off c.cue_pid p marked; map = marked-map (Some c.program) p past marked; other = error-none (switched_at (setting_of c filed) past) p marked }
-passes c filed p past place (inr e) h =
-    let other : IsPlace places.Other (reading_cues c) p past = subst (λ x. IsPlace x (reading_cues c) p past) e h in
-    record { cue = other.1; map = other.2; other = none-first (switched_at (setting_of c filed) past) p other.3 }
+pub passes : (c : Config) (filed : ℕ → Option Advertisement) (p : List ℕ) (past : List (List ℕ)) → IsStartPlace places.Other (reading_cues c) p past → Passes c filed p past
+passes c filed p past h = record { cue = h.0; map = h.1; other = none-first (switched_at (setting_of c filed) past) p h.2 }
 
 -- the map's PID, where the packet is on it
 pub record OnMap (o : Option Listed) (p : List ℕ) : Type 0 where

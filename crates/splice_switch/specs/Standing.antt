@@ -4,14 +4,14 @@ use Rattle.ts_packet.specs.declared.sink.PutFault.{PutFault}
 use Rattle.psi_tables.specs.declared.config.Config.{Config}
 use Rattle.psi_tables.specs.declared.network.FeedFault.{FeedFault}
 use Rattle.psi_tables.specs.declared.network.FeedFault.TheVariants.{Network, Sink, Failed}
-use Rattle.program_follower.specs.declared.follower.Place.{Place}
-use Rattle.program_follower.specs.declared.follower.Place.TheVariants as places
-use Rattle.program_follower.specs.declared.streams.StreamPacket.TheVariants.{Start}
+use Rattle.program_follower.specs.declared.start_follower.StartPlace.{StartPlace}
+use Rattle.program_follower.specs.declared.start_follower.StartPlace.TheVariants as places
+use Rattle.program_follower.specs.declared.starts.StartPacket.TheVariants.{Start}
 use Rattle.unit_stream.specs.declared.clock.Begun.{Begun}
 use Rattle.program_follower.specs.declared.purpose.Listed.{Listed}
 use Rattle.program_follower.specs.Purposes.{reading_cues}
 use Rattle.program_follower.specs.Program.{listed}
-use Rattle.program_follower.specs.Following.{FollowerStandsFor, IsPlace}
+use Rattle.program_follower.specs.Following.{StartsStandFor, IsStartPlace}
 use Rattle.program_follower.specs.Faults.{network_fault, first_fault}
 use Rattle.program_laws.specs.Writing.{number_on}
 use Rattle.outgoing_packets.specs.Numbers.{HasPut, FrontFails}
@@ -35,7 +35,7 @@ pub record Numbers (s : Switch) (l : Option Listed) (out : List (List ℕ)) : Ty
 -- It has been given this past, with this library, and answered no fault.
 pub record SwitchStandsFor (s : Switch) (c : Config) (filed : ℕ → Option Advertisement) (past : List (List ℕ)) : Type 0 where
   pub cue_pid : s.cue_pid ≡ c.cue_pid
-  pub follower : FollowerStandsFor s.follower (reading_cues c) past
+  pub follower : StartsStandFor s.follower (reading_cues c) past
   pub clean : first_fault (reading_cues c) past ≡ None
   pub playing : PlaysFor s.playing (setting_of c filed) past
   pub numbers : Numbers s (listed (Some c.program) past) (switched_past (setting_of c filed) past)
@@ -57,13 +57,13 @@ FinishFails (Sink fault) c filed past fails = FrontFails (rest_at (setting_of c 
 FinishFails Failed c filed past fails = ⊥
 
 -- the follower has been given the packet, which is of this place, and nothing was put yet
-pub record IsFollowedAs (s : Switch) (place : Place) (c : Config) (filed : ℕ → Option Advertisement)
+pub record IsFollowedAs (s : Switch) (place : StartPlace) (c : Config) (filed : ℕ → Option Advertisement)
     (p : List ℕ) (past : List (List ℕ)) : Type 0 where
   pub cue_pid : s.cue_pid ≡ c.cue_pid
-  pub follower : FollowerStandsFor s.follower (reading_cues c) (p ∷ past)
+  pub follower : StartsStandFor s.follower (reading_cues c) (p ∷ past)
   pub clean : first_fault (reading_cues c) past ≡ None
   pub sound : network_fault (reading_cues c) p past ≡ None
-  pub place_is : IsPlace place (reading_cues c) p past
+  pub place_is : IsStartPlace place (reading_cues c) p past
   pub playing : PlaysFor s.playing (setting_of c filed) past
   pub numbers : Numbers s (listed (Some c.program) past) (switched_past (setting_of c filed) past)
   pub whole : s.is_spent ≡ false

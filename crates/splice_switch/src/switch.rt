@@ -18,18 +18,19 @@ ghost use Rattle.splice_switch.specs.Standing.{IsFollowedAs, IsStart};
 use ad_library::AdLibrary;
 use outgoing_packets::{CueEntry, Outgoing};
 use pes_time::Time33;
-use program_follower::{FollowFault, Place, ProgramFollower, Purpose, StreamPacket};
+use program_follower::{Purpose, StartFollower, StartPacket, StartPlace};
 use psi_tables::{Config, FeedFault};
 use splice_plans::SwitchReport;
 use splice_playing::Playing;
 use ts_packet::{Packet, PacketSink, Pid, PutFault};
 
-/// Plays advertisements in the place of the units of a network, in the events that its cues arm. To tell duplicates it keeps a
-/// copy of the last payload packet of each switched stream, and of each PID of tables or cues; it takes no memory.
+/// Plays advertisements in the place of the units of a network, in the events that its cues arm. To tell duplicates it keeps a copy of the
+/// last packet of each switched stream with which a unit began, of the last payload packet of a unit that is left out of it, and of the last
+/// one on each PID of tables or cues. It takes no memory.
 #[derive(Drop)]
 pub struct Switch {
     cue_pid: Pid,
-    follower: ProgramFollower,
+    follower: StartFollower,
     playing: Playing,
     out: Outgoing,
     is_spent: bool,
@@ -42,7 +43,7 @@ impl Switch {
     {
         Switch {
             cue_pid: config.cue_pid,
-            follower: ProgramFollower::new(Purpose::reading_cues(&config)),
+            follower: StartFollower::new(Purpose::reading_cues(&config)),
             playing: Playing::new(),
             out: Outgoing::new(),
             is_spent: false,
@@ -160,8 +161,7 @@ impl Switch {
                 Ok(()) => Ok(()),
                 Err(fault) => Err(FeedFault::Sink(fault)),
             },
-            Err(FollowFault::Network(fault)) => Err(FeedFault::Network(fault)),
-            Err(FollowFault::Failed) => Err(FeedFault::Failed),
+            Err(fault) => Err(FeedFault::Network(fault)),
         }
     }
 
@@ -169,7 +169,7 @@ impl Switch {
     #[inline(always)]
     fn put<S: PacketSink>(
         &mut self,
-        place: &Place,
+        place: &StartPlace,
         packet: &Packet,
         library: &AdLibrary,
         sink: &mut S,
@@ -190,17 +190,19 @@ impl Switch {
         ensures spent { self.new.is_spent ≡ self.old.is_spent }
     {
         match place {
-            Place::Marked | Place::Other => self.out.pass(packet, sink),
-            Place::Cue => {
+            StartPlace::Other => self.out.pass(packet, sink),
+            StartPlace::Cue => {
                 self.playing.obey(packet);
                 Ok(())
             }
-            Place::Map => {
+            StartPlace::Map => {
                 let change = CueEntry::Stripped(self.cue_pid);
                 let tables = self.follower.tables();
                 self.out.put_tables(packet.pid(), tables, &change, sink)
             }
-            Place::Stream(stream, part) => self.put_of_stream(*stream, part, packet, library, sink),
+            StartPlace::Stream(stream, part) => {
+                self.put_of_stream(*stream, part, packet, library, sink)
+            }
         }
     }
 
@@ -209,7 +211,7 @@ impl Switch {
     fn put_of_stream<S: PacketSink>(
         &mut self,
         stream: usize,
-        part: &StreamPacket,
+        part: &StartPacket,
         packet: &Packet,
         library: &AdLibrary,
         sink: &mut S,
@@ -217,14 +219,14 @@ impl Switch {
         ensures leads { S.leads sink.old sink.new }
         ensures ok { (start : Option (List ℕ)) (ps : List (List ℕ)) (c : Config) (past : List (List ℕ)) →
             S.holds sink.old start ps →
-            IsFollowedAs self.old (Place.Stream stream part.now) c (held library.now) packet.now past →
+            IsFollowedAs self.old (StartPlace.Stream stream part.now) c (held library.now) packet.now past →
             OnOk result (S.holds sink.new start (ps ++ switched_at_packet (setting_of c (held library.now)) packet.now past)) }
         ensures stands { (c : Config) (past : List (List ℕ)) →
-            IsFollowedAs self.old (Place.Stream stream part.now) c (held library.now) packet.now past →
+            IsFollowedAs self.old (StartPlace.Stream stream part.now) c (held library.now) packet.now past →
             OnOk result (SwitchStandsFor self.new c (held library.now) (packet.now ∷ past)) }
         ensures err { (start : Option (List ℕ)) (ps : List (List ℕ)) (c : Config) (past : List (List ℕ)) →
             S.holds sink.old start ps →
-            IsFollowedAs self.old (Place.Stream stream part.now) c (held library.now) packet.now past →
+            IsFollowedAs self.old (StartPlace.Stream stream part.now) c (held library.now) packet.now past →
             IfErr result (λ f. FrontFails (switched_at_packet (setting_of c (held library.now)) packet.now past)
             (λ put q. S.fails sink.new start (ps ++ put) q f)) }
         ensures well { OnOk result (WentWell (S.counts sink.old) (S.counts sink.new)) }
@@ -232,16 +234,14 @@ impl Switch {
         ensures spent { self.new.is_spent ≡ self.old.is_spent }
     {
         match part {
-            StreamPacket::Start(begun) => {
+            StartPacket::Start(begun) => {
                 let time = match begun {
                     None => None,
                     Some(begun) => Some(begun.pts),
                 };
                 self.put_start(stream, &time, packet, library, sink)
             }
-            StreamPacket::More => self.playing.put_packet(stream, packet, false, sink),
-            StreamPacket::Repeat => self.playing.put_packet(stream, packet, true, sink),
-            StreamPacket::Lead | StreamPacket::NoPayload => self.playing.keep(stream, packet, sink),
+            StartPacket::NoStart => self.playing.put_packet(stream, packet, false, sink),
         }
     }
 
@@ -282,7 +282,7 @@ impl Switch {
             Ok(()) => {}
             Err(fault) => return Err(fault),
         }
-        match self.playing.put_packet(stream, packet, false, sink) {
+        match self.playing.put_packet(stream, packet, true, sink) {
             Ok(()) => {}
             Err(fault) => return Err(fault),
         }

@@ -9,7 +9,7 @@ returns-in-Ok-put-clause-ok g c = λ start ps cfg past held b.
     let p = c.args.packet.now in
     let ps_in = packets_in past in
     let sound = c.in-Ok.ensures.sound (writing_cues cfg) ps_in b.follower in
-    let fed : IsFollowed (record c.args.self.now { follower = c.feed.new.self }) c.in-Ok.is_map cfg p past =
+    let fed : IsFollowed (record c.args.self.now { follower = c.feed.new.self }) c.is_map.result cfg p past =
     record {
       judges = record { requests = b.judges.requests; counted = b.judges.counted };
       notes = b.notes;
@@ -19,7 +19,7 @@ returns-in-Ok-put-clause-ok g c = λ start ps cfg past held b.
         cue_pid = b.cue_pid;
         follower = c.in-Ok.ensures.stands (writing_cues cfg) ps_in b.follower;
         sound = sound;
-        map = c.in-Ok.ensures.place (writing_cues cfg) ps_in b.follower;
+        map = c.is_map.ensures (writing_cues cfg) p ps_in (c.in-Ok.ensures.place (writing_cues cfg) ps_in b.follower);
       };
       out = b.out;
       whole = b.whole;
@@ -31,7 +31,7 @@ returns-in-Ok-put-clause-stands g c = λ cfg past b.
     let p = c.args.packet.now in
     let ps_in = packets_in past in
     let sound = c.in-Ok.ensures.sound (writing_cues cfg) ps_in b.follower in
-    let fed : IsFollowed (record c.args.self.now { follower = c.feed.new.self }) c.in-Ok.is_map cfg p past =
+    let fed : IsFollowed (record c.args.self.now { follower = c.feed.new.self }) c.is_map.result cfg p past =
     record {
       judges = record { requests = b.judges.requests; counted = b.judges.counted };
       notes = b.notes;
@@ -41,7 +41,7 @@ returns-in-Ok-put-clause-stands g c = λ cfg past b.
         cue_pid = b.cue_pid;
         follower = c.in-Ok.ensures.stands (writing_cues cfg) ps_in b.follower;
         sound = sound;
-        map = c.in-Ok.ensures.place (writing_cues cfg) ps_in b.follower;
+        map = c.is_map.ensures (writing_cues cfg) p ps_in (c.in-Ok.ensures.place (writing_cues cfg) ps_in b.follower);
       };
       out = b.out;
       whole = b.whole;
@@ -56,7 +56,7 @@ returns-in-Err-put-clause-err g c = λ start ps cfg past held b.
     let p = c.args.packet.now in
     let ps_in = packets_in past in
     let sound = c.in-Ok.ensures.sound (writing_cues cfg) ps_in b.follower in
-    let fed : IsFollowed (record c.args.self.now { follower = c.feed.new.self }) c.in-Ok.is_map cfg p past =
+    let fed : IsFollowed (record c.args.self.now { follower = c.feed.new.self }) c.is_map.result cfg p past =
     record {
       judges = record { requests = b.judges.requests; counted = b.judges.counted };
       notes = b.notes;
@@ -66,7 +66,7 @@ returns-in-Err-put-clause-err g c = λ start ps cfg past held b.
         cue_pid = b.cue_pid;
         follower = c.in-Ok.ensures.stands (writing_cues cfg) ps_in b.follower;
         sound = sound;
-        map = c.in-Ok.ensures.place (writing_cues cfg) ps_in b.follower;
+        map = c.is_map.ensures (writing_cues cfg) p ps_in (c.in-Ok.ensures.place (writing_cues cfg) ps_in b.follower);
       };
       out = b.out;
       whole = b.whole;

@@ -25,6 +25,14 @@ returns-in-Ok-follow_begins-clause-sound c = λ k past h.
     let goes = goes_to w p past (lent_program c.known.result) (c.known.ensures k (p ∷ past) (c.in-Ok.ensures.reads k past h.tables)) in
     c.in-Ok.ensures.ok k past h.tables ∙ ap as_network (c.in-Ok-follow_begins.ensures.sound (program_of w past) (behind_head w past) goes h.streams)
 
+pub returns-in-Ok-follow_begins-clause-place : goal.returns-in-Ok-follow_begins-clause-place
+returns-in-Ok-follow_begins-clause-place c = λ k past h.
+    let w = k.program in
+    let p = c.args.packet.now in
+    let tables = c.in-Ok.ensures.reads k past h.tables in
+    let goes = goes_to w p past (lent_program c.known.result) (c.known.ensures k (p ∷ past) tables) in
+    c.start_place_of.ensures k p past (c.in-Ok.ensures.on k past h.tables) (c.in-Ok-follow_begins.ensures.is (program_of w past) (behind_head w past) goes h.streams)
+
 pub returns-in-Err-follow_begins-clause-err : goal.returns-in-Err-follow_begins-clause-err
 returns-in-Err-follow_begins-clause-err c = λ k past h.
     let w = k.program in

@@ -5,6 +5,7 @@ use Rattle.ts_packet.specs.Fields.{payload_on, scrambled}
 use Rattle.program_follower.specs.Streaming.{first_on}
 use Rattle.program_follower.proofs.StreamLemmas.{first_is_on, starts_all_off, starts_all_on, starts_all_passed, no_payload_fault, no_payload_high, none_fault, none_high, is_one, fault_scrambled, fault_begin, payload_of, some_starts}
 use Rattle.program_follower.proofs.PlaceLemmas.{unplaced, placed}
+use Rattle.program_follower.proofs.PieceLemmas.{empty_begins_none}
 use Rattle.program_follower.proofs.starts.Starts.feed.Goals as goal
 
 pub returns-in_default-clause-reads : goal.returns-in_default-clause-reads
@@ -41,6 +42,14 @@ returns-then-not-has_payload-clause-ok c = λ ps past h.
     let e : first_on ps p ≡ Some x = at.1 in
     no_payload_fault ps p past x e (payload_of x.1 p (first_is_on ps p x e) ∙ sym c.has_payload.ensures ∙ c.if-not-has_payload.true)
 
+pub returns-then-not-has_payload-clause-is : goal.returns-then-not-has_payload-clause-is
+returns-then-not-has_payload-clause-is c = λ ps past h.
+    let p = c.args.packet.now in
+    let at = placed ps p c.in-Some.index (sym c.in-Some.is ∙ c.place_of.ensures.first ps h.places) in
+    let x : ℕ × ℕ = (c.in-Some.index, at.0) in
+    let e : first_on ps p ≡ Some x = at.1 in
+    (x.1, (e, empty_begins_none x.1 p past (payload_of x.1 p (first_is_on ps p x e) ∙ sym c.has_payload.ensures ∙ c.if-not-has_payload.true)))
+
 pub returns-then-scrambled-clause-err : goal.returns-then-scrambled-clause-err
 returns-then-scrambled-clause-err c = λ ps past h.
     let p = c.args.packet.now in
@@ -74,6 +83,16 @@ returns-in-Ok-clause-ok c = λ ps past h.
     let begins = c.feed_at-begun.ensures.begins some_starts x.1 past y (h.readers p x some_starts e) in
     let n : payload_on x.1 p && scrambled p ≡ false = ap (λ b. b && scrambled p) y ∙ sym c.scrambled.ensures ∙ c.if-scrambled.false in
     fault_begin ps p past x e None n (c.in-Ok.ensures.sound ps x.1 p past (is_one ps p past x e) h.clock begins)
+
+pub returns-in-Ok-clause-is : goal.returns-in-Ok-clause-is
+returns-in-Ok-clause-is c = λ ps past h.
+    let p = c.args.packet.now in
+    let at = placed ps p c.in-Some.index (sym c.in-Some.is ∙ c.place_of.ensures.first ps h.places) in
+    let x : ℕ × ℕ = (c.in-Some.index, at.0) in
+    let e : first_on ps p ≡ Some x = at.1 in
+    let y = payload_of x.1 p (first_is_on ps p x e) ∙ sym c.has_payload.ensures ∙ c.if-not-has_payload.false in
+    let begins = c.feed_at-begun.ensures.begins some_starts x.1 past y (h.readers p x some_starts e) in
+    (x.1, (e, c.in-Ok.ensures.is ps x.1 p past (is_one ps p past x e) h.clock begins))
 
 pub returns-in-Err-clause-err : goal.returns-in-Err-clause-err
 returns-in-Err-clause-err c = λ ps past h.

@@ -13,7 +13,7 @@ use Rattle.splice_plans.specs.Parts.{beside}
 use Rattle.splice_plans.specs.Reporting.{ReportIs, with_counted, is_out_at}
 use Rattle.splice_plans.specs.Switching.{high_at}
 use Rattle.splice_plans.specs.Known.{adverts_at, plans_at, behind_at, counts_known, is_forgotten}
-use Rattle.splice_playing.proofs.PacketLemmas.{passes, none-high, some-high, adverts-are, values-pass, streams-pass, stays-for}
+use Rattle.splice_playing.proofs.PacketLemmas.{passes, none-high, some-high, adverts-are, values-pass, streams-pass, taken-pass, stays-for}
 use Rattle.splice_playing.proofs.WaitingLemmas.{all-still, counts-quiet}
 use Rattle.splice_playing.proofs.UntilLemmas.{near-advance, past-later, rest-goes-on, rest-there}
 use Rattle.splice_playing.proofs.playing.Playing.advance.Goals as goal
@@ -66,6 +66,7 @@ returns-then-is_at_rest c = λ k number time p past b i.
       plans = values-pass k filed listed number time c.args.high.now p past i (values_of c.advance_keeping_all.new.self.obeyed.table) (standing k.cue_pid (high_at k) (p ∷ past))
           (c.advance_keeping_all.ensures.values k.cue_pid (high_at k) p past later.0 (plans_at k past (p ∷ behind_at k past)) i.cue at later.1 all b.events b.plans);
       streams = streams-pass k filed listed number time c.args.high.now p past i c.args.self.now.streams b.streams;
+      leaving = taken-pass k filed listed number time c.args.high.now p past i c.args.self.now.leaving c.args.self.now.streams b.leaving;
       forgotten = subst (ReportIs c.args.self.now.forgotten)
           (sym (pass.counted later.0 later.1 ∙ counts-quiet later.0 (adverts_at k past) es _ (counts_known k past (is_forgotten (high_at k past))) behind)) b.forgotten;
     }
@@ -92,5 +93,6 @@ returns c = λ k number time p past b i.
       plans = values-pass k filed listed number time c.args.high.now p past i (values_of c.advance.new.self.obeyed.table) (standing k.cue_pid (high_at k) (p ∷ past))
           (c.advance.ensures.values k.cue_pid (high_at k) p past later.0 (plans_at k past (p ∷ behind_at k past)) i.cue at later.1 b.events b.plans);
       streams = streams-pass k filed listed number time c.args.high.now p past i c.args.self.now.streams b.streams;
+      leaving = taken-pass k filed listed number time c.args.high.now p past i c.args.self.now.leaving c.args.self.now.streams b.leaving;
       forgotten = subst (ReportIs c.with_forgotten-self.result) (sym (pass.counted later.0 later.1)) counted;
     }

@@ -10,12 +10,14 @@ use Rattle.ad_library.specs.Library.{held}
 use Rattle.outgoing_packets.specs.Numbers.{FrontFails}
 use Rattle.splice_plans.specs.declared.stream.SwitchedStream.{SwitchedStream}
 use Rattle.splice_plans.specs.Reporting.{ReportIs}
-use Rattle.splice_plans.specs.Switching.{front_at, high_at}
+use Rattle.splice_plans.specs.Switching.{front_at, high_at, switched_at}
 use Rattle.splice_plans.specs.Known.{moves_at, behind_at, inside_at, counts_known, is_forgotten}
 use Rattle.plan_laws.specs.Laws.{steps_known, closing_before, running_before, steps_between}
 use Rattle.splice_playing.proofs.StreamLemmas.{some-there}
+use Rattle.splice_playing.specs.Leaving.{OthersTaken}
+use Rattle.splice_playing.proofs.LeavingLemmas.{begun-taken}
 use Rattle.splice_playing.proofs.PacketLemmas.{none-high}
-use Rattle.splice_playing.proofs.BeginLemmas.{on-both, fails-more, fails-behind, all-count, near, reached, few-listed, front-is, closing-is, closed-are, running-is, running-in-is, ran-are, front-none, plans-none, counts-none, counts-between, all-go, count-of, left-is}
+use Rattle.splice_playing.proofs.BeginLemmas.{on-both, fails-more, fails-behind, all-count, low, near, reached, few-listed, front-is, closing-is, closed-are, running-is, running-in-is, ran-are, front-none, plans-none, counts-none, counts-between, all-go, count-of, left-is}
 use Rattle.splice_playing.proofs.playing.Playing.begin.Goals as goal
 
 pub returns-in-Err-clause-err : goal.returns-in-Err-clause-err
@@ -82,6 +84,8 @@ returns-in-None-clause-plays g c = λ k p past f i.
       plans = planned ∙ plans-none k filed listed n c.args.time.now c.args.high.now p past i stands.within of.0 of.1 none;
       streams = all-go k filed listed n c.args.time.now c.args.high.now p past i stands.within of.0 of.1 c.args.self.now.streams c.turn.new.self.streams turn.others c.turn.new.self.streams f.streams left (λ j t. refl)
           (counts-none k filed listed n c.args.time.now c.args.high.now p past i stands.within of.0 of.1 none c.turn.new.self.streams between);
+      leaving = subst (λ us. OthersTaken us c.turn.new.self.streams (switched_at k past) p (behind_at k past)) (sym turn.units)
+          (begun-taken (switched_at k past) n i.pid p (behind_at k past) (low k filed listed n c.args.time.now c.args.high.now p past i) i.of c.args.self.now.leaving c.args.self.now.streams c.turn.new.self.streams c.turn.new.self.streams i.begins_it turn.others (λ j t. refl) f.leaving);
       forgotten = subst (λ r. ReportIs r (counts_known k past (is_forgotten (high_at k past)))) (sym turn.forgotten) f.forgotten;
     }
 
@@ -146,6 +150,8 @@ returns-in-Some-clause-plays g c = λ k p past f i.
       plans = x.0 ∙ ran-are k filed listed n c.args.time.now c.args.high.now p past i stands.within of.0 of.1 vals planned;
       streams = all-go k filed listed n c.args.time.now c.args.high.now p past i stands.within of.0 of.1 c.args.self.now.streams c.turn.new.self.streams turn.others c.put_running.new.self.streams f.streams left put.leaving
           (λ j t l. subst (λ qs. Counts (slice_index_or c.put_running.new.self.streams j t).counter (put_in qs (now j))) (running-in-is k filed listed n c.args.time.now c.args.high.now p past i stands.within of.0 of.1 vals planned j) (x.1 j t l));
+      leaving = subst (λ us. OthersTaken us c.put_running.new.self.streams (switched_at k past) p (behind_at k past)) (sym (put.units ∙ turn.units))
+          (begun-taken (switched_at k past) n i.pid p (behind_at k past) (low k filed listed n c.args.time.now c.args.high.now p past i) i.of c.args.self.now.leaving c.args.self.now.streams c.turn.new.self.streams c.put_running.new.self.streams i.begins_it turn.others put.leaving f.leaving);
       forgotten = subst (λ r. ReportIs r (counts_known k past (is_forgotten (high_at k past)))) (sym (put.forgotten ∙ turn.forgotten)) f.forgotten;
     }) (on-both _ _ c.put_running.result (put.plans (high_at k past) (high_at k (p ∷ past)) es later reach) (put.counted (high_at k past) (high_at k (p ∷ past)) es now few later reach between))
 

@@ -1,4 +1,5 @@
 use Rattle.std.proofs.Common.{refl, false, ◌≡◌, sym, subst, []}
+use Rattle.std.proofs.lemmas.Bool.{true≢false}
 use Rattle.ts_packet.specs.Numbering.{Counts}
 use Rattle.splice_plans.specs.declared.stream.SwitchedStream.{SwitchedStream}
 use Rattle.splice_plans.specs.Switching.{high_at}
@@ -11,5 +12,6 @@ returns c = λ k. record {
   events = c.new.ensures.obeys k.cue_pid (high_at k) refl;
   plans = c.new.ensures.values k.cue_pid (high_at k) (plans_at k [] []) refl;
   streams = λ i s l. subst (λ (t : SwitchedStream). Counts t.counter [] × (t.is_leaving ≡ false)) (sym (each-new c.new-2.result i s l)) (c.new-2.ensures.counter, c.new-2.ensures.leaving);
-  forgotten = c.new-3.ensures;
+  leaving = λ i pid u s l of leaves inside. absurd (true≢false (sym inside));
+  forgotten = c.new-4.ensures;
 }

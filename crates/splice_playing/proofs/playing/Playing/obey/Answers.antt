@@ -3,6 +3,7 @@ use Rattle.splice_plans.specs.Reporting.{ReportIs}
 use Rattle.splice_plans.specs.Switching.{high_at}
 use Rattle.splice_plans.specs.Known.{plans_at, behind_at}
 use Rattle.known_laws.proofs.OtherLemmas.{others_change_nothing}
+use Rattle.splice_playing.proofs.LeavingLemmas.{taken-other}
 use Rattle.splice_playing.proofs.PacketLemmas.{new-is, of-pid}
 use Rattle.splice_playing.proofs.UntilLemmas.{rest-there}
 use Rattle.splice_playing.proofs.playing.Playing.obey.Goals as goal
@@ -20,5 +21,6 @@ returns c = λ k past i f.
       plans = c.feed.ensures.values k.cue_pid (high_at k) past (plans_at k (p ∷ past) (behind_at k (p ∷ past))) (of-pid k.cue_pid p i.cue) n.high f.events
           (λ start ahead. n.fresh start ahead ∙ sym new) (f.plans ∙ n.plans);
       streams = n.streams c.args.self.now.streams f.streams;
+      leaving = taken-other k c.args.self.now.leaving c.args.self.now.streams p past i.other f.leaving;
       forgotten = subst (ReportIs c.args.self.now.forgotten) (sym n.forgotten) f.forgotten;
     }

@@ -18,6 +18,7 @@ invariant-loop-stream g l = record {
   leads : g.S.PacketSink.leads l.initial.sink l.sink;
   well : WentWell (g.S.PacketSink.counts l.initial.sink) (g.S.PacketSink.counts l.sink);
   keeps : KeepsEvents l.initial.self.events l.self.events;
+  units : l.self.leaving ≡ l.initial.self.leaving;
   forgotten : l.self.forgotten ≡ l.initial.self.forgotten;
   leaving : (i : ℕ) (s : SwitchedStream) → (slice_index_or l.self.streams i s).is_leaving ≡ (slice_index_or l.initial.self.streams i s).is_leaving;
   plans : (line high_line : Option ℤ) (es : List Standing) → StandsFor l.initial.self.events.obeyed.table line es → IsReached line l.high high_line

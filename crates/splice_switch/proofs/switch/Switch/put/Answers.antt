@@ -4,7 +4,7 @@ use Rattle.ts_packet.specs.Runs.{onto}
 use Rattle.psi_section.proofs.PacketiserLemmas.{if_err_more}
 use Rattle.unit_packing.proofs.PutLemmas.{on_ok_more}
 use Rattle.ad_library.specs.Library.{held}
-use Rattle.program_follower.specs.declared.follower.Place.TheVariants as places
+use Rattle.program_follower.specs.declared.start_follower.StartPlace.TheVariants as places
 use Rattle.program_follower.specs.Purposes.{reading_cues}
 use Rattle.program_follower.specs.Program.{listed, tables}
 use Rattle.program_follower.specs.Standing.{tables_left}
@@ -15,7 +15,7 @@ use Rattle.splice_plans.specs.Adverts.{setting_of}
 use Rattle.splice_plans.specs.Switching.{switched_at_packet}
 use Rattle.splice_switch.specs.Standing.{IsFollowedAs}
 use Rattle.splice_switch.proofs.PlayLemmas.{plays-quiet}
-use Rattle.splice_switch.proofs.PremiseLemmas.{passes, on-map, separate, clean-more, cue-off-map, cue-switched, cue-of, map-switched}
+use Rattle.splice_switch.proofs.PremiseLemmas.{passes, on-map, separate, clean-more, map-off-cue, cue-switched, cue-of, map-switched}
 use Rattle.splice_switch.proofs.OutLemmas.{other-out, cue-out, tables-strip, map-same, passed-goes-on}
 use Rattle.splice_switch.proofs.switch.Switch.put.Goals as goal
 
@@ -25,9 +25,9 @@ returns-in-Cue-clause-ok g c = λ start ps cfg past h b.
     let filed = held c.args.library.now in
     let k = setting_of cfg filed in
     let b' : IsFollowedAs c.args.self.now places.Cue cfg filed p past = subst (λ x. IsFollowedAs c.args.self.now x cfg filed p past) c.in-Cue.is b in
-    let map = cue-off-map cfg p past b'.clean b'.place_is in
-    let other = cue-switched cfg filed p past b'.clean b'.place_is in
-    let out : switched_at_packet k p past ≡ [] = cue-out k p past map b'.place_is other in
+    let map = b'.place_is.0 in
+    let other = cue-switched cfg filed p past b'.clean b'.place_is.1 in
+    let out : switched_at_packet k p past ≡ [] = cue-out k p past map b'.place_is.1 other in
     subst (g.S.PacketSink.holds c.args.sink.now start) (sym (append-nil ps) ∙ ap (λ l. ps ++ l) (sym out)) h
 
 pub returns-in-Cue-clause-stands : goal.returns-in-Cue-clause-stands
@@ -36,14 +36,14 @@ returns-in-Cue-clause-stands g c = λ cfg past b.
     let filed = held c.args.library.now in
     let k = setting_of cfg filed in
     let b' : IsFollowedAs c.args.self.now places.Cue cfg filed p past = subst (λ x. IsFollowedAs c.args.self.now x cfg filed p past) c.in-Cue.is b in
-    let map = cue-off-map cfg p past b'.clean b'.place_is in
-    let other = cue-switched cfg filed p past b'.clean b'.place_is in
-    let out : switched_at_packet k p past ≡ [] = cue-out k p past map b'.place_is other in
+    let map = b'.place_is.0 in
+    let other = cue-switched cfg filed p past b'.clean b'.place_is.1 in
+    let out : switched_at_packet k p past ≡ [] = cue-out k p past map b'.place_is.1 other in
     record {
       cue_pid = b'.cue_pid;
       follower = b'.follower;
       clean = clean-more (reading_cues cfg) p past b'.clean b'.sound;
-      playing = c.obey.ensures k past (cue-of cfg filed p past b'.clean b'.place_is) b'.playing;
+      playing = c.obey.ensures k past (cue-of cfg filed p past b'.clean b'.place_is.1) b'.playing;
       numbers = record { passed = b'.numbers.passed; put = b'.numbers.put; go_on = passed-goes-on k p past [] b'.numbers.passed out b'.numbers.go_on };
       whole = b'.whole;
     }
@@ -54,7 +54,7 @@ returns-in-Map-clause-ok g c = λ start ps cfg past h b.
     let filed = held c.args.library.now in
     let k = setting_of cfg filed in
     let b' : IsFollowedAs c.args.self.now places.Map cfg filed p past = subst (λ x. IsFollowedAs c.args.self.now x cfg filed p past) c.in-Map.is b in
-    let m = on-map (listed (Some cfg.program) past) p b'.place_is.1 in
+    let m = on-map (listed (Some cfg.program) past) p b'.place_is in
     let passed = b'.numbers.passed in
     let left : tables_left c.tables-tables.result ≡ tables (Some cfg.program) p past = c.tables-tables.ensures (reading_cues cfg) p past b'.follower in
     let cue = c.args.self.now.cue_pid in
@@ -69,7 +69,7 @@ returns-in-Map-clause-stands g c = λ cfg past b.
     let filed = held c.args.library.now in
     let k = setting_of cfg filed in
     let b' : IsFollowedAs c.args.self.now places.Map cfg filed p past = subst (λ x. IsFollowedAs c.args.self.now x cfg filed p past) c.in-Map.is b in
-    let m = on-map (listed (Some cfg.program) past) p b'.place_is.1 in
+    let m = on-map (listed (Some cfg.program) past) p b'.place_is in
     let passed = b'.numbers.passed in
     let left : tables_left c.tables-tables.result ≡ tables (Some cfg.program) p past = c.tables-tables.ensures (reading_cues cfg) p past b'.follower in
     let cue = c.args.self.now.cue_pid in
@@ -83,7 +83,7 @@ returns-in-Map-clause-stands g c = λ cfg past b.
       cue_pid = b'.cue_pid;
       follower = b'.follower;
       clean = clean;
-      playing = plays-quiet c.args.self.now.playing k p past b'.place_is.0 (map-switched cfg filed p past m.listed_as b'.clean m.is m.here) (separate k (p ∷ past) clean).few b'.playing;
+      playing = plays-quiet c.args.self.now.playing k p past (map-off-cue cfg p past b'.clean b'.place_is) (map-switched cfg filed p past m.listed_as b'.clean m.is m.here) (separate k (p ∷ past) clean).few b'.playing;
       numbers = record { passed = onto passed qs; put = put; go_on = passed-goes-on k p past qs passed (sym same) b'.numbers.go_on };
       whole = b'.whole;
     })
@@ -95,7 +95,7 @@ returns-in-Map-clause-err g c = λ start ps cfg past h b.
     let filed = held c.args.library.now in
     let k = setting_of cfg filed in
     let b' : IsFollowedAs c.args.self.now places.Map cfg filed p past = subst (λ x. IsFollowedAs c.args.self.now x cfg filed p past) c.in-Map.is b in
-    let m = on-map (listed (Some cfg.program) past) p b'.place_is.1 in
+    let m = on-map (listed (Some cfg.program) past) p b'.place_is in
     let passed = b'.numbers.passed in
     let left : tables_left c.tables-tables.result ≡ tables (Some cfg.program) p past = c.tables-tables.ensures (reading_cues cfg) p past b'.follower in
     let cue = c.args.self.now.cue_pid in
@@ -108,21 +108,23 @@ pub returns-in-Stream-clause-err : goal.returns-in-Stream-clause-err
 returns-in-Stream-clause-err g c = λ start ps cfg past h b.
     c.put_of_stream.ensures.err start ps cfg past h (subst (λ x. IsFollowedAs c.args.self.now x cfg (held c.args.library.now) c.args.packet.now past) c.in-Stream.is b)
 
-pub returns-in-Marked-clause-ok : goal.returns-in-Marked-clause-ok
-returns-in-Marked-clause-ok g c = λ start ps cfg past h b.
+pub returns-in-Other-clause-ok : goal.returns-in-Other-clause-ok
+returns-in-Other-clause-ok g c = λ start ps cfg past h b.
     let p = c.args.packet.now in
     let filed = held c.args.library.now in
     let k = setting_of cfg filed in
-    let r = passes cfg filed p past c.args.place.now c.in-Marked.is b.place_is in
+    let b' : IsFollowedAs c.args.self.now places.Other cfg filed p past = subst (λ x. IsFollowedAs c.args.self.now x cfg filed p past) c.in-Other.is b in
+    let r = passes cfg filed p past b'.place_is in
     let out : switched_at_packet k p past ≡ p ∷ [] = other-out k p past r.map r.cue r.other in
     subst (λ l. OnOk c.pass.result (g.S.PacketSink.holds c.pass.new.sink start (ps ++ l))) (sym out) (c.pass.ensures.ok start ps h)
 
-pub returns-in-Marked-clause-stands : goal.returns-in-Marked-clause-stands
-returns-in-Marked-clause-stands g c = λ cfg past b.
+pub returns-in-Other-clause-stands : goal.returns-in-Other-clause-stands
+returns-in-Other-clause-stands g c = λ cfg past b.
     let p = c.args.packet.now in
     let filed = held c.args.library.now in
     let k = setting_of cfg filed in
-    let r = passes cfg filed p past c.args.place.now c.in-Marked.is b.place_is in
+    let b' : IsFollowedAs c.args.self.now places.Other cfg filed p past = subst (λ x. IsFollowedAs c.args.self.now x cfg filed p past) c.in-Other.is b in
+    let r = passes cfg filed p past b'.place_is in
     let out : switched_at_packet k p past ≡ p ∷ [] = other-out k p past r.map r.cue r.other in
     let clean = clean-more (reading_cues cfg) p past b.clean b.sound in
     on_ok_more c.pass.result
@@ -136,11 +138,12 @@ returns-in-Marked-clause-stands g c = λ cfg past b.
     })
     (c.pass.ensures.numbers b.numbers.passed b.numbers.put)
 
-pub returns-in-Marked-clause-err : goal.returns-in-Marked-clause-err
-returns-in-Marked-clause-err g c = λ start ps cfg past h b.
+pub returns-in-Other-clause-err : goal.returns-in-Other-clause-err
+returns-in-Other-clause-err g c = λ start ps cfg past h b.
     let p = c.args.packet.now in
     let filed = held c.args.library.now in
     let k = setting_of cfg filed in
-    let r = passes cfg filed p past c.args.place.now c.in-Marked.is b.place_is in
+    let b' : IsFollowedAs c.args.self.now places.Other cfg filed p past = subst (λ x. IsFollowedAs c.args.self.now x cfg filed p past) c.in-Other.is b in
+    let r = passes cfg filed p past b'.place_is in
     let out : switched_at_packet k p past ≡ p ∷ [] = other-out k p past r.map r.cue r.other in
     if_err_more c.pass.result (λ f x. record { put = []; packet = p; left = []; all = out; fault = rw append-nil x }) (c.pass.ensures.err start ps h)

@@ -3,15 +3,15 @@ use Rattle.std.specs.Prelude.{option_map}
 use Rattle.unit_packing.proofs.PutLemmas.{on_ok_more}
 use Rattle.unit_stream.specs.declared.clock.Begun.{Begun}
 use Rattle.ad_library.specs.Library.{held}
-use Rattle.program_follower.specs.declared.follower.Place.TheVariants as places
-use Rattle.program_follower.specs.declared.streams.StreamPacket.TheVariants.{More, Repeat}
+use Rattle.program_follower.specs.declared.start_follower.StartPlace.TheVariants as places
+use Rattle.program_follower.specs.declared.starts.StartPacket.TheVariants.{NoStart}
 use Rattle.program_follower.specs.Purposes.{reading_cues}
 use Rattle.outgoing_packets.specs.Numbers.{FrontFails}
 use Rattle.splice_plans.specs.Adverts.{setting_of}
 use Rattle.splice_plans.specs.Switching.{place_at, switched_at_packet}
 use Rattle.splice_switch.specs.Standing.{IsFollowedAs, IsStart}
 use Rattle.splice_switch.proofs.PlayLemmas.{plays-before, plays-after}
-use Rattle.splice_switch.proofs.PremiseLemmas.{quiet-one, no-start-kept, packet-more, packet-repeat, kept-of, own-stream, clean-more}
+use Rattle.splice_switch.proofs.PremiseLemmas.{quiet-one, packet-quiet, own-stream, clean-more}
 use Rattle.splice_switch.proofs.OutLemmas.{quiet-out, stream-goes-on}
 use Rattle.splice_switch.proofs.switch.Switch.put_of_stream.Goals.{in-None, in-Some}
 use Rattle.splice_switch.proofs.switch.Switch.put_of_stream.Goals as goal
@@ -44,29 +44,29 @@ returns-after-begun-clause-err g c = λ start ps cfg past h b.
     = record { begun = c.in-Start.begun; followed = subst (λ x. IsFollowedAs c.args.self.now (places.Stream c.args.stream x) cfg filed p past) c.in-Start.is b; time_is = time } in
     c.put_start.ensures.err start ps cfg past h s
 
-pub returns-in-More-clause-ok : goal.returns-in-More-clause-ok
-returns-in-More-clause-ok g c = λ start ps cfg past h b.
+pub returns-in-NoStart-clause-ok : goal.returns-in-NoStart-clause-ok
+returns-in-NoStart-clause-ok g c = λ start ps cfg past h b.
     let p = c.args.packet.now in
     let filed = held c.args.library.now in
     let k = setting_of cfg filed in
-    let b' : IsFollowedAs c.args.self.now (places.Stream c.args.stream More) cfg filed p past = subst (λ x. IsFollowedAs c.args.self.now (places.Stream c.args.stream x) cfg filed p past) c.in-More.is b in
-    let none = quiet-one cfg filed p past b'.clean c.args.stream More refl b'.place_is in
+    let b' : IsFollowedAs c.args.self.now (places.Stream c.args.stream NoStart) cfg filed p past = subst (λ x. IsFollowedAs c.args.self.now (places.Stream c.args.stream x) cfg filed p past) c.in-NoStart.is b in
+    let none = quiet-one cfg filed p past b'.clean c.args.stream b'.place_is in
     let before = plays-before c.args.self.now.playing k p past none b'.playing in
-    let packet = packet-more cfg filed p past b'.clean c.args.stream b'.place_is in
+    let packet = packet-quiet cfg filed p past b'.clean c.args.stream b'.place_is in
     let out : switched_at_packet k p past ≡ place_at k p past = quiet-out k p past b'.place_is.1 none in
     subst (λ l. OnOk c.put_packet.result (g.S.PacketSink.holds c.put_packet.new.sink start (ps ++ l))) (sym out) (c.put_packet.ensures.ok start ps k past h before packet)
 
-pub returns-in-More-clause-stands : goal.returns-in-More-clause-stands
-returns-in-More-clause-stands g c = λ cfg past b.
+pub returns-in-NoStart-clause-stands : goal.returns-in-NoStart-clause-stands
+returns-in-NoStart-clause-stands g c = λ cfg past b.
     let p = c.args.packet.now in
     let filed = held c.args.library.now in
     let k = setting_of cfg filed in
-    let b' : IsFollowedAs c.args.self.now (places.Stream c.args.stream More) cfg filed p past = subst (λ x. IsFollowedAs c.args.self.now (places.Stream c.args.stream x) cfg filed p past) c.in-More.is b in
-    let none = quiet-one cfg filed p past b'.clean c.args.stream More refl b'.place_is in
+    let b' : IsFollowedAs c.args.self.now (places.Stream c.args.stream NoStart) cfg filed p past = subst (λ x. IsFollowedAs c.args.self.now (places.Stream c.args.stream x) cfg filed p past) c.in-NoStart.is b in
+    let none = quiet-one cfg filed p past b'.clean c.args.stream b'.place_is in
     let before = plays-before c.args.self.now.playing k p past none b'.playing in
-    let packet = packet-more cfg filed p past b'.clean c.args.stream b'.place_is in
+    let packet = packet-quiet cfg filed p past b'.clean c.args.stream b'.place_is in
     let out : switched_at_packet k p past ≡ place_at k p past = quiet-out k p past b'.place_is.1 none in
-    let own = own-stream cfg filed p past c.args.stream More b'.place_is in
+    let own = own-stream cfg filed p past c.args.stream NoStart b'.place_is in
     on_ok_more c.put_packet.result
     (λ behind. record {
       cue_pid = b'.cue_pid;
@@ -82,114 +82,14 @@ returns-in-More-clause-stands g c = λ cfg past b.
     })
     (c.put_packet.ensures.plays k past before packet)
 
-pub returns-in-More-clause-err : goal.returns-in-More-clause-err
-returns-in-More-clause-err g c = λ start ps cfg past h b.
+pub returns-in-NoStart-clause-err : goal.returns-in-NoStart-clause-err
+returns-in-NoStart-clause-err g c = λ start ps cfg past h b.
     let p = c.args.packet.now in
     let filed = held c.args.library.now in
     let k = setting_of cfg filed in
-    let b' : IsFollowedAs c.args.self.now (places.Stream c.args.stream More) cfg filed p past = subst (λ x. IsFollowedAs c.args.self.now (places.Stream c.args.stream x) cfg filed p past) c.in-More.is b in
-    let none = quiet-one cfg filed p past b'.clean c.args.stream More refl b'.place_is in
+    let b' : IsFollowedAs c.args.self.now (places.Stream c.args.stream NoStart) cfg filed p past = subst (λ x. IsFollowedAs c.args.self.now (places.Stream c.args.stream x) cfg filed p past) c.in-NoStart.is b in
+    let none = quiet-one cfg filed p past b'.clean c.args.stream b'.place_is in
     let before = plays-before c.args.self.now.playing k p past none b'.playing in
-    let packet = packet-more cfg filed p past b'.clean c.args.stream b'.place_is in
+    let packet = packet-quiet cfg filed p past b'.clean c.args.stream b'.place_is in
     let out : switched_at_packet k p past ≡ place_at k p past = quiet-out k p past b'.place_is.1 none in
     subst (λ l. IfErr c.put_packet.result (λ f. FrontFails l (λ put q. g.S.PacketSink.fails c.put_packet.new.sink start (ps ++ put) q f))) (sym out) (c.put_packet.ensures.err start ps k past h before packet)
-
-pub returns-in-Repeat-clause-ok : goal.returns-in-Repeat-clause-ok
-returns-in-Repeat-clause-ok g c = λ start ps cfg past h b.
-    let p = c.args.packet.now in
-    let filed = held c.args.library.now in
-    let k = setting_of cfg filed in
-    let b' : IsFollowedAs c.args.self.now (places.Stream c.args.stream Repeat) cfg filed p past = subst (λ x. IsFollowedAs c.args.self.now (places.Stream c.args.stream x) cfg filed p past) c.in-Repeat.is b in
-    let none = quiet-one cfg filed p past b'.clean c.args.stream Repeat refl b'.place_is in
-    let before = plays-before c.args.self.now.playing k p past none b'.playing in
-    let packet = packet-repeat cfg filed p past b'.clean c.args.stream b'.place_is in
-    let out : switched_at_packet k p past ≡ place_at k p past = quiet-out k p past b'.place_is.1 none in
-    subst (λ l. OnOk c.put_packet-in-Repeat.result (g.S.PacketSink.holds c.put_packet-in-Repeat.new.sink start (ps ++ l))) (sym out) (c.put_packet-in-Repeat.ensures.ok start ps k past h before packet)
-
-pub returns-in-Repeat-clause-stands : goal.returns-in-Repeat-clause-stands
-returns-in-Repeat-clause-stands g c = λ cfg past b.
-    let p = c.args.packet.now in
-    let filed = held c.args.library.now in
-    let k = setting_of cfg filed in
-    let b' : IsFollowedAs c.args.self.now (places.Stream c.args.stream Repeat) cfg filed p past = subst (λ x. IsFollowedAs c.args.self.now (places.Stream c.args.stream x) cfg filed p past) c.in-Repeat.is b in
-    let none = quiet-one cfg filed p past b'.clean c.args.stream Repeat refl b'.place_is in
-    let before = plays-before c.args.self.now.playing k p past none b'.playing in
-    let packet = packet-repeat cfg filed p past b'.clean c.args.stream b'.place_is in
-    let out : switched_at_packet k p past ≡ place_at k p past = quiet-out k p past b'.place_is.1 none in
-    let own = own-stream cfg filed p past c.args.stream Repeat b'.place_is in
-    on_ok_more c.put_packet-in-Repeat.result
-    (λ behind. record {
-      cue_pid = b'.cue_pid;
-      follower = b'.follower;
-      clean = clean-more (reading_cues cfg) p past b'.clean b'.sound;
-      playing = plays-after c.put_packet-in-Repeat.new.self k p past b'.place_is.0 own none behind;
-      numbers = record {
-        passed = b'.numbers.passed;
-        put = b'.numbers.put;
-        go_on = stream-goes-on cfg filed p past b'.clean b'.place_is.0 b'.place_is.1 own b'.numbers.passed b'.numbers.go_on;
-      };
-      whole = b'.whole;
-    })
-    (c.put_packet-in-Repeat.ensures.plays k past before packet)
-
-pub returns-in-Repeat-clause-err : goal.returns-in-Repeat-clause-err
-returns-in-Repeat-clause-err g c = λ start ps cfg past h b.
-    let p = c.args.packet.now in
-    let filed = held c.args.library.now in
-    let k = setting_of cfg filed in
-    let b' : IsFollowedAs c.args.self.now (places.Stream c.args.stream Repeat) cfg filed p past = subst (λ x. IsFollowedAs c.args.self.now (places.Stream c.args.stream x) cfg filed p past) c.in-Repeat.is b in
-    let none = quiet-one cfg filed p past b'.clean c.args.stream Repeat refl b'.place_is in
-    let before = plays-before c.args.self.now.playing k p past none b'.playing in
-    let packet = packet-repeat cfg filed p past b'.clean c.args.stream b'.place_is in
-    let out : switched_at_packet k p past ≡ place_at k p past = quiet-out k p past b'.place_is.1 none in
-    subst (λ l. IfErr c.put_packet-in-Repeat.result (λ f. FrontFails l (λ put q. g.S.PacketSink.fails c.put_packet-in-Repeat.new.sink start (ps ++ put) q f))) (sym out) (c.put_packet-in-Repeat.ensures.err start ps k past h before packet)
-
-pub returns-in-Lead-clause-ok : goal.returns-in-Lead-clause-ok
-returns-in-Lead-clause-ok g c = λ start ps cfg past h b.
-    let p = c.args.packet.now in
-    let filed = held c.args.library.now in
-    let k = setting_of cfg filed in
-    let b' : IsFollowedAs c.args.self.now (places.Stream c.args.stream c.args.part.now) cfg filed p past = b in
-    let none = quiet-one cfg filed p past b'.clean c.args.stream c.args.part.now (no-start-kept c.args.part.now c.in-Lead.is) b'.place_is in
-    let before = plays-before c.args.self.now.playing k p past none b'.playing in
-    let packet = kept-of cfg filed p past b'.clean c.args.stream c.args.part.now c.in-Lead.is b'.place_is in
-    let out : switched_at_packet k p past ≡ place_at k p past = quiet-out k p past b'.place_is.1 none in
-    subst (λ l. OnOk c.keep.result (g.S.PacketSink.holds c.keep.new.sink start (ps ++ l))) (sym out) (c.keep.ensures.ok start ps k past h before packet)
-
-pub returns-in-Lead-clause-stands : goal.returns-in-Lead-clause-stands
-returns-in-Lead-clause-stands g c = λ cfg past b.
-    let p = c.args.packet.now in
-    let filed = held c.args.library.now in
-    let k = setting_of cfg filed in
-    let b' : IsFollowedAs c.args.self.now (places.Stream c.args.stream c.args.part.now) cfg filed p past = b in
-    let none = quiet-one cfg filed p past b'.clean c.args.stream c.args.part.now (no-start-kept c.args.part.now c.in-Lead.is) b'.place_is in
-    let before = plays-before c.args.self.now.playing k p past none b'.playing in
-    let packet = kept-of cfg filed p past b'.clean c.args.stream c.args.part.now c.in-Lead.is b'.place_is in
-    let out : switched_at_packet k p past ≡ place_at k p past = quiet-out k p past b'.place_is.1 none in
-    let own = own-stream cfg filed p past c.args.stream c.args.part.now b'.place_is in
-    on_ok_more c.keep.result
-    (λ behind. record {
-      cue_pid = b'.cue_pid;
-      follower = b'.follower;
-      clean = clean-more (reading_cues cfg) p past b'.clean b'.sound;
-      playing = plays-after c.keep.new.self k p past b'.place_is.0 own none behind;
-      numbers = record {
-        passed = b'.numbers.passed;
-        put = b'.numbers.put;
-        go_on = stream-goes-on cfg filed p past b'.clean b'.place_is.0 b'.place_is.1 own b'.numbers.passed b'.numbers.go_on;
-      };
-      whole = b'.whole;
-    })
-    (c.keep.ensures.plays k past before packet)
-
-pub returns-in-Lead-clause-err : goal.returns-in-Lead-clause-err
-returns-in-Lead-clause-err g c = λ start ps cfg past h b.
-    let p = c.args.packet.now in
-    let filed = held c.args.library.now in
-    let k = setting_of cfg filed in
-    let b' : IsFollowedAs c.args.self.now (places.Stream c.args.stream c.args.part.now) cfg filed p past = b in
-    let none = quiet-one cfg filed p past b'.clean c.args.stream c.args.part.now (no-start-kept c.args.part.now c.in-Lead.is) b'.place_is in
-    let before = plays-before c.args.self.now.playing k p past none b'.playing in
-    let packet = kept-of cfg filed p past b'.clean c.args.stream c.args.part.now c.in-Lead.is b'.place_is in
-    let out : switched_at_packet k p past ≡ place_at k p past = quiet-out k p past b'.place_is.1 none in
-    subst (λ l. IfErr c.keep.result (λ f. FrontFails l (λ put q. g.S.PacketSink.fails c.keep.new.sink start (ps ++ put) q f))) (sym out) (c.keep.ensures.err start ps k past h before packet)

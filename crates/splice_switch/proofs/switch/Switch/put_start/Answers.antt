@@ -1,7 +1,7 @@
 use Rattle.std.proofs.Common.{◌≡◌, ◌∷◌, ◌++◌, [], sym, ap, subst, ◌∙◌, append_assoc, arith}
 use Rattle.std.proofs.lemmas.List.{append-nil}
 use Rattle.ad_library.specs.Library.{held}
-use Rattle.program_follower.specs.declared.streams.StreamPacket.TheVariants.{Start}
+use Rattle.program_follower.specs.declared.starts.StartPacket.TheVariants.{Start}
 use Rattle.program_follower.specs.Purposes.{reading_cues}
 use Rattle.outgoing_packets.proofs.NumberLemmas.{fails-behind}
 use Rattle.splice_plans.specs.Adverts.{setting_of}

@@ -1,8 +1,5 @@
-use Rattle.std.proofs.Common.{subst}
 use Rattle.ad_library.specs.Library.{held}
 use Rattle.program_follower.specs.Purposes.{reading_cues}
-use Rattle.program_follower.specs.Faults.{network_fault}
-use Rattle.program_follower.specs.Following.{IsNetwork}
 use Rattle.splice_switch.specs.Standing.{IsFollowedAs}
 use Rattle.splice_switch.proofs.switch.Switch.take.Goals as goal
 
@@ -41,8 +38,8 @@ returns-in-Ok-put-clause-stands g c = λ cfg past b.
 pub returns-in-Ok-put-clause-sound : goal.returns-in-Ok-put-clause-sound
 returns-in-Ok-put-clause-sound g c = λ cfg past b. c.in-Ok.ensures.sound (reading_cues cfg) past b.follower
 
-pub returns-in-Err-clause-err : goal.returns-in-Err-clause-err
-returns-in-Err-clause-err g c = λ start ps cfg past h b.
+pub returns-in-Err-put-clause-err : goal.returns-in-Err-put-clause-err
+returns-in-Err-put-clause-err g c = λ start ps cfg past h b.
     let p = c.args.packet.now in
     let fed : IsFollowedAs (record c.args.self.now { follower = c.feed.new.self }) c.in-Ok.place cfg (held c.args.library.now) p past =
     record {
@@ -55,12 +52,7 @@ returns-in-Err-clause-err g c = λ start ps cfg past h b.
       numbers = record { passed = b.numbers.passed; put = b.numbers.put; go_on = b.numbers.go_on };
       whole = b.whole;
     } in
-    c.in-Err.ensures.err start ps cfg past h fed
+    c.in-Err-put.ensures.err start ps cfg past h fed
 
-pub returns-in-Err-Network-clause-err : goal.returns-in-Err-Network-clause-err
-returns-in-Err-Network-clause-err g c = λ start ps cfg past h b.
-    subst (λ f. IsNetwork f (network_fault (reading_cues cfg) c.args.packet.now past)) c.in-Err-Network.field-0-is (c.in-Err-Network.ensures.err (reading_cues cfg) past b.follower)
-
-pub returns-in-Err-Failed-clause-err : goal.returns-in-Err-Failed-clause-err
-returns-in-Err-Failed-clause-err g c = λ start ps cfg past h b.
-    subst (λ f. IsNetwork f (network_fault (reading_cues cfg) c.args.packet.now past)) c.in-Err-Failed.field-0-is (c.in-Err-Failed.ensures.err (reading_cues cfg) past b.follower)
+pub returns-in-Err-clause-err : goal.returns-in-Err-clause-err
+returns-in-Err-clause-err g c = λ start ps cfg past h b. c.in-Err.ensures.err (reading_cues cfg) past b.follower
