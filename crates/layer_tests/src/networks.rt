@@ -1,7 +1,9 @@
 //! Small networks for the tests: tables and units as they come, and what the follower says of their last packet.
 
 use crate::fronts::first_bytes;
-use program_follower::{FollowFault, Place, ProgramFollower, Purpose, StartFollower, StreamPacket};
+use program_follower::{
+    FollowFault, Place, ProgramFollower, Purpose, StartFollower, StartPacket, StartPlace, StreamPacket,
+};
 use psi_section::crc;
 use psi_tables::NetworkFault;
 use std::alloc::{AllocError, Global};
@@ -320,12 +322,21 @@ fn feed(alloc: Global, network: &mut Network, came: &Came) -> Result<Told, Alloc
     }
 }
 
-/// What one follower tells is what the other answers.
-fn is_same(told: Told, answer: Result<bool, NetworkFault>) -> bool {
+/// What one follower tells is what the other answers, which tells of the packets of a stream only which begin units.
+fn is_same(told: Told, answer: Result<StartPlace, NetworkFault>) -> bool {
     match (told, answer) {
         (Wrong(fault), Err(other)) => fault == other,
         (Wrong(_), Ok(_)) | (_, Err(_)) => false,
-        (told, Ok(is_map)) => is_map == (told == OnMap),
+        (told, Ok(StartPlace::Map)) => told == OnMap,
+        (told, Ok(StartPlace::Cue)) => told == Cue,
+        (told, Ok(StartPlace::Other)) => told == Other || told == Marked,
+        (told, Ok(StartPlace::Stream(index, StartPacket::Start(_)))) => told == Start(index),
+        (told, Ok(StartPlace::Stream(index, StartPacket::NoStart))) => {
+            told == More(index)
+                || told == Repeat(index)
+                || told == Lead(index)
+                || told == NoPayload(index)
+        }
     }
 }
 
