@@ -2,7 +2,8 @@
 
 use crate::fronts::first_bytes;
 use program_follower::{
-    FollowFault, Place, ProgramFollower, Purpose, StartFollower, StartPacket, StartPlace, StreamPacket,
+    FollowFault, Place, ProgramFollower, Purpose, StartFollower, StartPacket, StartPlace,
+    StreamPacket,
 };
 use psi_section::crc;
 use psi_tables::NetworkFault;
