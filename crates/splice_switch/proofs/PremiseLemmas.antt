@@ -1,20 +1,18 @@
 -- What a packet of a network without fault is to the switch.
-use Rattle.std.proofs.Common.{◌≡◌, ℕ, zero, suc, ◌≤◌, ◌<◌, ◌==◌, List, [], ◌∷◌, length, Bool, true, false, not, ◌&&◌, ◌||◌, if◌then◌else◌, refl, sym, ap, subst, ◌∙◌, arith, add-one, ◌⊎◌, inl, inr}
+use Rattle.std.proofs.Common.{◌≡◌, ℕ, zero, suc, ◌≤◌, ◌<◌, ◌==◌, List, [], ◌∷◌, length, Bool, true, false, ◌||◌, if◌then◌else◌, refl, sym, ap, subst, ◌∙◌, arith, add-one}
 use Rattle.std.specs.Prelude.{Option, None, Some, option_map, is_some, slice_get, nat_lt}
 use Rattle.std.specs.Option.{option_or}
 use Rattle.std.proofs.lemmas.Bool.{true≢false}
 use Rattle.std.proofs.lemmas.Bool.Decides.{nat_tests}
 use Rattle.std.proofs.lemmas.List.{length-map}
-use Rattle.ts_packet.specs.Fields.{on, payload_on, in_error, unit_start, on_one, is_among}
-use Rattle.ts_packet.specs.Duplicates.{original, repeats}
+use Rattle.ts_packet.specs.Fields.{on, on_one, is_among}
 use Rattle.ts_packet.proofs.Cases.{by_test}
 use Rattle.unit_stream.specs.declared.fault.UnitFault.{UnitFault}
 use Rattle.unit_stream.specs.declared.fault.UnitFault.TheVariants.{Scrambled, HeaderSplit, TimeJump}
 use Rattle.unit_stream.specs.declared.clock.Begun.{Begun}
-use Rattle.unit_stream.specs.Times.{begins, begins_one, in_unit, high, stamp}
+use Rattle.unit_stream.specs.Times.{begins, begins_one, high, stamp}
 use Rattle.unit_stream.specs.Clocks.{Tells}
 use Rattle.unit_stream.specs.Faults.{unit_fault}
-use Rattle.unit_stream.proofs.ClockLemmas.{begins_off, begins_not, begins_repeat}
 use Rattle.psi_tables.specs.declared.config.Config.{Config}
 use Rattle.psi_tables.specs.declared.stream.Stream.{Stream as ListedStream}
 use Rattle.psi_tables.specs.ProgramMap.{ProgramMap, streams_of}
@@ -42,7 +40,6 @@ use Rattle.splice_plans.specs.Adverts.{setting_of}
 use Rattle.splice_plans.proofs.AdvertLemmas.{libraries_are_steady}
 use Rattle.splice_plans.specs.Known.{AreSeparate, behind_at}
 use Rattle.switch_laws.proofs.FaultlessLemmas.{faultless_is_sound, first-sound, unlisted}
-use Rattle.switch_laws.proofs.StandingLemmas.{error-off, error-none}
 use Rattle.known_laws.specs.Laws.{AreFaultless}
 use Rattle.splice_playing.specs.Relations.{IsCueOf, BeginsIn, IsPacketOf, EndsWith}
 use Rattle.splice_switch.proofs.QuietLemmas.{or-parts}

@@ -1,5 +1,5 @@
 use Rattle.std.proofs.Common.{◌<◌, ◌∷◌, length, rules, sym, subst, ◌∙◌}
-use Rattle.std.specs.Prelude.{slice_index_or, is_some}
+use Rattle.std.specs.Prelude.{slice_index_or}
 use Rattle.std.proofs.lemmas.List.{get_or-set_same, get_or_default}
 use Rattle.ts_packet.specs.Fields.{payload_on}
 use Rattle.splice_playing.specs.Leaving.{HasTaken}

@@ -1,4 +1,4 @@
-use Rattle.std.proofs.Common.{◌<◌, ◌%◌, ◌++◌, ◌∷◌, length, true, false, refl, rules, sym, subst, ◌∙◌}
+use Rattle.std.proofs.Common.{◌<◌, ◌%◌, ◌++◌, ◌∷◌, length, false, refl, rules, sym, subst, ◌∙◌}
 use Rattle.std.specs.Prelude.{OnOk}
 use Rattle.std.proofs.lemmas.Bool.{true≢false}
 use Rattle.std.proofs.lemmas.List.{append-nil}
