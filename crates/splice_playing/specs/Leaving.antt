@@ -9,12 +9,14 @@ use Rattle.splice_playing.specs.declared.leaving.LeavingUnit.{LeavingUnit}
 abbrev pub HasTaken : LeavingUnit → ℕ → List (List ℕ) → Type 0
 HasTaken unit pid past = Follows unit.follower unit.last pid past
 
--- each has, of the streams whose unit is left out
+-- so has each of the streams whose unit is left out
 abbrev pub AllTaken : List LeavingUnit → List SwitchedStream → List ℕ → List (List ℕ) → Type 0
-AllTaken units streams switched past = (i pid : ℕ) (u : LeavingUnit) (s : SwitchedStream) → i < 8 → slice_get switched i ≡ Some pid →
-    (slice_index_or streams i s).is_leaving ≡ true → in_unit pid past ≡ true → HasTaken (slice_index_or units i u) pid past
+AllTaken units streams switched past = (i pid : ℕ) (u : LeavingUnit) (s : SwitchedStream) → i < 8
+    → slice_get switched i ≡ Some pid → (slice_index_or streams i s).is_leaving ≡ true → in_unit pid past ≡ true
+    → HasTaken (slice_index_or units i u) pid past
 
--- and of those in which this packet begins no unit
+-- and so has each of them in which this packet begins no unit
 abbrev pub OthersTaken : List LeavingUnit → List SwitchedStream → List ℕ → List ℕ → List (List ℕ) → Type 0
-OthersTaken units streams switched p past = (i pid : ℕ) (u : LeavingUnit) (s : SwitchedStream) → i < 8 → slice_get switched i ≡ Some pid →
-    (slice_index_or streams i s).is_leaving ≡ true → begins pid p past ≡ false → in_unit pid past ≡ true → HasTaken (slice_index_or units i u) pid past
+OthersTaken units streams switched p past = (i pid : ℕ) (u : LeavingUnit) (s : SwitchedStream) → i < 8
+    → slice_get switched i ≡ Some pid → (slice_index_or streams i s).is_leaving ≡ true
+    → begins pid p past ≡ false → in_unit pid past ≡ true → HasTaken (slice_index_or units i u) pid past
