@@ -17,10 +17,9 @@ use Rattle.ad_library.specs.Storing.{StoredUnit, Stores, on_line}
 use Rattle.ad_library.specs.Faults.{end_fault, without_zero}
 use Rattle.ad_library.specs.Gathering.{GathersStream, AllGathered, StreamsGathered}
 use Rattle.ad_library.specs.Filing.{kept_of, ArePast, least_of_places, StoresStream, AllStored, AreOf}
-use Rattle.std.proofs.lemmas.Bool.{eq-eqb}
+use Rattle.std.proofs.lemmas.Bool.{eq-eqb, and_from, and_parts}
 use Rattle.ad_library.specs.declared.ad_stream.AdStream.{AdStream}
 use Rattle.ad_library.specs.Zeros.{has_zero}
-use Rattle.ad_library.proofs.PlacingLemmas.{both, both_true}
 use Rattle.ad_library.proofs.FilingLemmas.{NotBefore, NoneBefore, none_before, are_past, kept_reverse, least_stored, lower_of_push}
 
 -- ---- the streams that are left
@@ -188,8 +187,8 @@ of_gathered {A} {Z} o v past e h = subst (λ (x : Option (Vec (Gathered A) Z)). 
 pub one_same : {A : Type 0} (z : ℕ) (old new : List (AdStream A)) (x : AdStream A) → list_all (has_zero z) old ≡ true → x.zero ≡ z → new ≡ old ++ x ∷ [] → list_all (has_zero z) new ≡ true
 one_same {A} z old new x h e i = ap (list_all (has_zero z)) i ∙ all_snoc old h where
   all_snoc : (xs : List (AdStream A)) → list_all (has_zero z) xs ≡ true → list_all (has_zero z) (xs ++ x ∷ []) ≡ true
-  all_snoc [] k = both (x.zero == z) true (eq-eqb x.zero z e) refl
-  all_snoc (y ∷ ys) k = let r = both_true (y.zero == z) (list_all (has_zero z) ys) k in both (y.zero == z) (list_all (has_zero z) (ys ++ x ∷ [])) r.0 (all_snoc ys r.1)
+  all_snoc [] k = and_from (x.zero == z) true (eq-eqb x.zero z e) refl
+  all_snoc (y ∷ ys) k = let r = and_parts (y.zero == z) (list_all (has_zero z) ys) k in and_from (y.zero == z) (list_all (has_zero z) (ys ++ x ∷ [])) r.0 (all_snoc ys r.1)
 
 pub stored_as : {A : Type 0} (gs hs : List (Gathered A)) (ks : List KeptStream) → gs ≡ hs → AllStored hs ks → AllStored gs ks
 stored_as {A} gs hs ks e h = subst (λ (xs : List (Gathered A)). AllStored xs ks) (sym e) h

@@ -4,7 +4,7 @@ use Rattle.std.specs.Int.{int_min}
 use Rattle.std.specs.List.{AllByRecursion}
 use Rattle.std.proofs.Common.{◌≡◌, ℕ, zero, suc, ◌-◌, ◌≤◌, List, [], ◌∷◌, ◌++◌, map, true, false, ◌&&◌, ◌==◌, refl, sym, ap, ◌∙◌, subst, Option, Some, None, length, arith, take, drop}
 use Rattle.std.proofs.lemmas.Int.{ints}
-use Rattle.std.proofs.lemmas.Bool.{leb-true, le-leb, eq-eqb}
+use Rattle.std.proofs.lemmas.Bool.{leb-true, le-leb, eq-eqb, and_from, and_parts}
 use Rattle.std.proofs.lemmas.List.{reverse-append, map-append, take-append-le, length-append, append-nil}
 use Rattle.std.proofs.lemmas.List.Elements.{All-head, All-tail}
 use Rattle.std.proofs.Math.Seq.{take-length}
@@ -15,7 +15,7 @@ use Rattle.ad_library.specs.Advertisements.{KeptUnit, with_unit, kept, KeptStrea
 use Rattle.ad_library.specs.Storing.{StoredUnit, kept_unit, on_line, joined, places_of, place_of, greatest_of, StampsAreWhole}
 use Rattle.ad_library.specs.Placing.{start_or, unit_at, units_at, is_placed, are_placed, tops_are}
 use Rattle.ad_library.specs.Filing.{kept_of, ArePast, least_of_places}
-use Rattle.ad_library.proofs.PlacingLemmas.{both_true, both, last_top}
+use Rattle.ad_library.proofs.PlacingLemmas.{last_top}
 
 pub kept_cons : (u : StoredUnit) (us : List StoredUnit) → kept_of (u ∷ us) ≡ kept_of us ++ kept_unit u ∷ []
 kept_cons u us = reverse-append (kept_unit u ∷ []) (map kept_unit us)
@@ -27,10 +27,10 @@ top_snoc t [] p = refl
 top_snoc t (q ∷ qs) p = top_snoc q.top qs p
 
 tops_snoc : (t : ℕ) (ps : List UnitPlace) (p : UnitPlace) → tops_are t ps ≡ true → p.top ≡ max (last_top t ps) p.time → tops_are t (ps ++ p ∷ []) ≡ true
-tops_snoc t [] p h e = both (p.top == max t p.time) true (eq-eqb p.top (max t p.time) e) refl
+tops_snoc t [] p h e = and_from (p.top == max t p.time) true (eq-eqb p.top (max t p.time) e) refl
 tops_snoc t (q ∷ qs) p h e =
-    let r = both_true (q.top == max t q.time) (tops_are q.top qs) h in
-    both (q.top == max t q.time) (tops_are q.top (qs ++ p ∷ [])) r.0 (tops_snoc q.top qs p r.1 e)
+    let r = and_parts (q.top == max t q.time) (tops_are q.top qs) h in
+    and_from (q.top == max t q.time) (tops_are q.top (qs ++ p ∷ [])) r.0 (tops_snoc q.top qs p r.1 e)
 
 greatest_is : (us : List StoredUnit) → last_top 0 (places_of us) ≡ greatest_of us
 greatest_is [] = refl
@@ -76,28 +76,28 @@ module _ (least : ℕ) (bs cs : List ℕ) where
 
   one_placed : (q : UnitPlace) (stop : ℕ) → is_placed least q stop bs ≡ true → (is_placed least q stop (bs ++ cs) ≡ true) × (unit_at least q stop (bs ++ cs) ≡ unit_at least q stop bs)
   one_placed q stop h =
-      let a = both_true (nat_le q.start stop) (nat_le stop (length bs) && (nat_le least q.time && not (is_split (slice_range bs q.start stop)))) h in
-      let b = both_true (nat_le stop (length bs)) (nat_le least q.time && not (is_split (slice_range bs q.start stop))) a.1 in
-      let c = both_true (nat_le least q.time) (not (is_split (slice_range bs q.start stop))) b.1 in
+      let a = and_parts (nat_le q.start stop) (nat_le stop (length bs) && (nat_le least q.time && not (is_split (slice_range bs q.start stop)))) h in
+      let b = and_parts (nat_le stop (length bs)) (nat_le least q.time && not (is_split (slice_range bs q.start stop))) a.1 in
+      let c = and_parts (nat_le least q.time) (not (is_split (slice_range bs q.start stop))) b.1 in
       let le = leb-true stop (length bs) b.0 in
       let same = range_more bs cs q.start stop le in
       let more = longer_bytes in (
-        both (nat_le q.start stop) (nat_le stop (length (bs ++ cs)) && (nat_le least q.time && not (is_split (slice_range (bs ++ cs) q.start stop)))) a.0
-            (both (nat_le stop (length (bs ++ cs))) (nat_le least q.time && not (is_split (slice_range (bs ++ cs) q.start stop))) (le-leb stop (length (bs ++ cs)) (omega (arith, le, more)))
-            (both (nat_le least q.time) (not (is_split (slice_range (bs ++ cs) q.start stop))) c.0 (ap (λ x. not (is_split x)) same ∙ c.1))),
+        and_from (nat_le q.start stop) (nat_le stop (length (bs ++ cs)) && (nat_le least q.time && not (is_split (slice_range (bs ++ cs) q.start stop)))) a.0
+            (and_from (nat_le stop (length (bs ++ cs))) (nat_le least q.time && not (is_split (slice_range (bs ++ cs) q.start stop))) (le-leb stop (length (bs ++ cs)) (omega (arith, le, more)))
+            (and_from (nat_le least q.time) (not (is_split (slice_range (bs ++ cs) q.start stop))) c.0 (ap (λ x. not (is_split x)) same ∙ c.1))),
         ap (λ x. let y : AdvertUnit = record { offset = pos (q.time - least); payload = x; random_access = q.random_access } in y) same,
       )
 
   snoc_placed : (ps : List UnitPlace) (p : UnitPlace) → are_placed least ps bs ≡ true → p.start ≡ length bs → is_placed least p (length (bs ++ cs)) (bs ++ cs) ≡ true
       → (are_placed least (ps ++ p ∷ []) (bs ++ cs) ≡ true) × (units_at least (ps ++ p ∷ []) (bs ++ cs) ≡ units_at least ps bs ++ unit_at least p (length (bs ++ cs)) (bs ++ cs) ∷ [])
-  snoc_placed [] p h e k = (both (is_placed least p (length (bs ++ cs)) (bs ++ cs)) true k refl, refl)
+  snoc_placed [] p h e k = (and_from (is_placed least p (length (bs ++ cs)) (bs ++ cs)) true k refl, refl)
   snoc_placed (q ∷ qs) p h e k =
       let stop = start_or qs (length bs) in
-      let r = both_true (is_placed least q stop bs) (are_placed least qs bs) h in
+      let r = and_parts (is_placed least q stop bs) (are_placed least qs bs) h in
       let own = one_placed q stop r.0 in
       let rest = snoc_placed qs p r.1 e k in
       let at : start_or (qs ++ p ∷ []) (length (bs ++ cs)) ≡ stop = start_snoc qs p (length (bs ++ cs)) (length bs) e in (
-        both (is_placed least q (start_or (qs ++ p ∷ []) (length (bs ++ cs))) (bs ++ cs)) (are_placed least (qs ++ p ∷ []) (bs ++ cs)) (ap (λ n. is_placed least q n (bs ++ cs)) at ∙ own.0) rest.0,
+        and_from (is_placed least q (start_or (qs ++ p ∷ []) (length (bs ++ cs))) (bs ++ cs)) (are_placed least (qs ++ p ∷ []) (bs ++ cs)) (ap (λ n. is_placed least q n (bs ++ cs)) at ∙ own.0) rest.0,
         ap (λ u. u ∷ units_at least (qs ++ p ∷ []) (bs ++ cs)) (ap (λ n. unit_at least q n (bs ++ cs)) at ∙ own.1) ∙ ap (λ us. unit_at least q stop bs ∷ us) rest.1,
       )
 
@@ -116,9 +116,9 @@ newest_placed : (least : ℕ) (u : StoredUnit) (us : List StoredUnit) → least 
 newest_placed least u us le w =
     let bs = joined us ++ u.payload in
     let n = longer_bytes least (joined us) u.payload in
-    both (nat_le (length (joined us)) (length bs)) (nat_le (length bs) (length bs) && (nat_le least u.time && not (is_split (slice_range bs (length (joined us)) (length bs))))) (le-leb (length (joined us)) (length bs) n)
-    (both (nat_le (length bs) (length bs)) (nat_le least u.time && not (is_split (slice_range bs (length (joined us)) (length bs)))) (le-leb (length bs) (length bs) (omega arith))
-    (both (nat_le least u.time) (not (is_split (slice_range bs (length (joined us)) (length bs)))) (le-leb least u.time le)
+    and_from (nat_le (length (joined us)) (length bs)) (nat_le (length bs) (length bs) && (nat_le least u.time && not (is_split (slice_range bs (length (joined us)) (length bs))))) (le-leb (length (joined us)) (length bs) n)
+    (and_from (nat_le (length bs) (length bs)) (nat_le least u.time && not (is_split (slice_range bs (length (joined us)) (length bs)))) (le-leb (length bs) (length bs) (omega arith))
+    (and_from (nat_le least u.time) (not (is_split (slice_range bs (length (joined us)) (length bs)))) (le-leb least u.time le)
     (ap (λ x. not (is_split x)) (range_last (joined us) u.payload) ∙ ap not w)))
 
 pub stored_placed : (least : ℕ) (us : List StoredUnit) → ArePast least us → All StampsAreWhole us

@@ -47,7 +47,7 @@ module _ (pids : List ℕ) (pid : ℕ) (p : List ℕ) (past : List (List ℕ)) (
   high_next Lead is t b = same_high refl (t.other refl) (b ∙ begins_not pid p past is.1)
   high_next NoPayload is t b = same_high refl (t.other refl) (b ∙ begins_off pid p past is)
 
-get_lt : {X : Type 0} (xs : List X) (i : ℕ) (x : X) → slice_get xs i ≡ Some x → i < length xs
+pub get_lt : {X : Type 0} (xs : List X) (i : ℕ) (x : X) → slice_get xs i ≡ Some x → i < length xs
 get_lt [] i x e = absurd (cc)
 get_lt (y ∷ ys) zero x e = omega arith
 get_lt (y ∷ ys) (suc i) x e = let lt = get_lt ys i x e in omega arith

@@ -2,7 +2,7 @@
 use Rattle.std.proofs.Common.{◌≡◌, ℕ, zero, suc, ◌+◌, ◌-◌, ◌<◌, ◌≤◌, List, [], ◌∷◌, Bool, true, false, not, ◌&&◌, ◌||◌, ◌==◌, max, length, drop, refl, sym, ap, arith, ◌∙◌}
 use Rattle.std.specs.Prelude.{nat_le, slice_range, slice_get, Option, Some, None, is_some, option_map}
 use Rattle.std.specs.List.{list_all, list_any}
-use Rattle.std.proofs.lemmas.Bool.{leb-true, le-leb, leb-false, lt-ltb, le-ltb, eqb-true}
+use Rattle.std.proofs.lemmas.Bool.{leb-true, le-leb, leb-false, lt-ltb, le-ltb, eqb-true, and_from, and_parts, not-true}
 use Rattle.std.proofs.Math.Bool.{or-false}
 use Rattle.ts_packet.proofs.Cases.{by_test}
 use Rattle.pes_time.specs.Stamps.{is_split, is_untimed}
@@ -10,35 +10,23 @@ use Rattle.ad_library.specs.declared.store.UnitPlace.{UnitPlace}
 use Rattle.ad_library.specs.Advertisements.{AdvertUnit, is_below, slice_of, reaches_end}
 use Rattle.ad_library.specs.Placing.{start_or, unit_at, units_at, is_placed, are_placed, is_topped, tops_rise, tops_are}
 
-pub both_true : (a b : Bool) → a && b ≡ true → (a ≡ true) × (b ≡ true)
-both_true true b h = (refl, h)
-both_true false b h = absurd (cc)
-
-pub both : (a b : Bool) → a ≡ true → b ≡ true → a && b ≡ true
-both true b h k = k
-both false b h k = absurd (cc)
-
-not_true : (b : Bool) → not b ≡ true → b ≡ false
-not_true true e = absurd (cc)
-not_true false e = refl
-
 -- ---- one place
 
 module _ (least : ℕ) (p : UnitPlace) (stop : ℕ) (bs : List ℕ) (h : is_placed least p stop bs ≡ true) where
   pub starts : p.start ≤ stop
-  starts = leb-true p.start stop (both_true _ _ h).0
+  starts = leb-true p.start stop (and_parts _ _ h).0
 
   pub stops : stop ≤ length bs
-  stops = leb-true stop (length bs) (both_true _ _ (both_true _ _ h).1).0
+  stops = leb-true stop (length bs) (and_parts _ _ (and_parts _ _ h).1).0
 
   third : nat_le least p.time && not (is_split (slice_range bs p.start stop)) ≡ true
-  third = (both_true (nat_le stop (length bs)) (nat_le least p.time && not (is_split (slice_range bs p.start stop))) (both_true _ _ h).1).1
+  third = (and_parts (nat_le stop (length bs)) (nat_le least p.time && not (is_split (slice_range bs p.start stop))) (and_parts _ _ h).1).1
 
   pub past : least ≤ p.time
-  past = leb-true least p.time (both_true (nat_le least p.time) (not (is_split (slice_range bs p.start stop))) third).0
+  past = leb-true least p.time (and_parts (nat_le least p.time) (not (is_split (slice_range bs p.start stop))) third).0
 
   pub reads : is_split (slice_range bs p.start stop) ≡ false
-  reads = not_true (is_split (slice_range bs p.start stop)) (both_true (nat_le least p.time) (not (is_split (slice_range bs p.start stop))) third).1
+  reads = not-true (is_split (slice_range bs p.start stop)) (and_parts (nat_le least p.time) (not (is_split (slice_range bs p.start stop))) third).1
 
 -- bytes whose stamps can be read are not empty
 pub fills : (bs : List ℕ) → is_split bs ≡ false → 0 < length bs
@@ -50,13 +38,13 @@ fills (b ∷ bs) h = omega arith
 
 module _ (least : ℕ) (ps qs : List UnitPlace) (p : UnitPlace) (bs : List ℕ) (e : ps ≡ p ∷ qs) where
   pub first_placed : are_placed least ps bs ≡ true → is_placed least p (start_or qs (length bs)) bs ≡ true
-  first_placed h = (both_true _ _ (ap (λ xs. are_placed least xs bs) (sym e) ∙ h)).0
+  first_placed h = (and_parts _ _ (ap (λ xs. are_placed least xs bs) (sym e) ∙ h)).0
 
   pub rest_placed : are_placed least ps bs ≡ true → are_placed least qs bs ≡ true
-  rest_placed h = (both_true _ _ (ap (λ xs. are_placed least xs bs) (sym e) ∙ h)).1
+  rest_placed h = (and_parts _ _ (ap (λ xs. are_placed least xs bs) (sym e) ∙ h)).1
 
   pub rest_rises : tops_rise ps ≡ true → tops_rise qs ≡ true
-  rest_rises h = (both_true _ _ (both_true _ _ (ap tops_rise (sym e) ∙ h)).1).1
+  rest_rises h = (and_parts _ _ (and_parts _ _ (ap tops_rise (sym e) ∙ h)).1).1
 
   pub first_below : (size : ℕ) → p.time - least < size → slice_of size (units_at least ps bs) ≡ unit_at least p (start_or qs (length bs)) bs ∷ slice_of size (units_at least qs bs)
   first_below size lt = ap (λ xs. slice_of size (units_at least xs bs)) e ∙ (let t = lt-ltb (p.time - least) size lt in simp t refl)
@@ -68,21 +56,21 @@ module _ (least : ℕ) (ps qs : List UnitPlace) (p : UnitPlace) (bs : List ℕ) 
 
 all_at : {X : Type 0} (f : X → Bool) (xs : List X) (n : ℕ) (x : X) → list_all f xs ≡ true → slice_get xs n ≡ Some x → f x ≡ true
 all_at f [] n x h e = absurd (cc)
-all_at f (y ∷ ys) zero x h e = let s : y ≡ x = cc in ap f (sym s) ∙ (both_true (f y) (list_all f ys) h).0
-all_at f (y ∷ ys) (suc n) x h e = all_at f ys n x (both_true (f y) (list_all f ys) h).1 e
+all_at f (y ∷ ys) zero x h e = let s : y ≡ x = cc in ap f (sym s) ∙ (and_parts (f y) (list_all f ys) h).0
+all_at f (y ∷ ys) (suc n) x h e = all_at f ys n x (and_parts (f y) (list_all f ys) h).1 e
 
 module _ (least limit : ℕ) (bs : List ℕ) where
   front_at : (ps : List UnitPlace) (n : ℕ) (q : UnitPlace) → tops_rise ps ≡ true → slice_get ps n ≡ Some q → q.top - least < limit
       → drop (suc n) (slice_of limit (units_at least ps bs)) ≡ slice_of limit (units_at least (drop (suc n) ps) bs)
   front_at [] n q h e lt = absurd (cc)
   front_at (p ∷ ps) zero q h e lt =
-      let own = leb-true p.time p.top (both_true (nat_le p.time p.top) (list_all (is_topped p) ps && tops_rise ps) h).0 in
+      let own = leb-true p.time p.top (and_parts (nat_le p.time p.top) (list_all (is_topped p) ps && tops_rise ps) h).0 in
       let s : p ≡ q = cc in
       let t : p.top ≡ q.top = ap (λ (x : UnitPlace). x.top) s in
       ap (drop 1) (first_below least (p ∷ ps) ps p bs refl limit (omega arith))
   front_at (p ∷ ps) (suc n) q h e lt =
-      let own = leb-true p.time p.top (both_true (nat_le p.time p.top) (list_all (is_topped p) ps && tops_rise ps) h).0 in
-      let more = both_true (list_all (is_topped p) ps) (tops_rise ps) (both_true (nat_le p.time p.top) (list_all (is_topped p) ps && tops_rise ps) h).1 in
+      let own = leb-true p.time p.top (and_parts (nat_le p.time p.top) (list_all (is_topped p) ps && tops_rise ps) h).0 in
+      let more = and_parts (list_all (is_topped p) ps) (tops_rise ps) (and_parts (nat_le p.time p.top) (list_all (is_topped p) ps && tops_rise ps) h).1 in
       let over = leb-true p.top q.top (all_at (is_topped p) ps n q more.0 e) in
       ap (drop (suc (suc n))) (first_below least (p ∷ ps) ps p bs refl limit (omega arith)) ∙ front_at ps n q more.1 e lt
 
@@ -126,17 +114,17 @@ none_seen f (Some x) h = absurd (cc)
 all_topped : (p : UnitPlace) (t : ℕ) (ps : List UnitPlace) → p.top ≤ t → tops_are t ps ≡ true → list_all (is_topped p) ps ≡ true
 all_topped p t [] le h = refl
 all_topped p t (q ∷ qs) le h =
-    let r = both_true (q.top == max t q.time) (tops_are q.top qs) h in
+    let r = and_parts (q.top == max t q.time) (tops_are q.top qs) h in
     let e = eqb-true q.top (max t q.time) r.0 in
-    both (is_topped p q) (list_all (is_topped p) qs) (le-leb p.top q.top (omega arith)) (all_topped p q.top qs (omega arith) r.1)
+    and_from (is_topped p q) (list_all (is_topped p) qs) (le-leb p.top q.top (omega arith)) (all_topped p q.top qs (omega arith) r.1)
 
 pub tops_rising : (t : ℕ) (ps : List UnitPlace) → tops_are t ps ≡ true → tops_rise ps ≡ true
 tops_rising t [] h = refl
 tops_rising t (p ∷ ps) h =
-    let r = both_true (p.top == max t p.time) (tops_are p.top ps) h in
+    let r = and_parts (p.top == max t p.time) (tops_are p.top ps) h in
     let e = eqb-true p.top (max t p.time) r.0 in
-    both (nat_le p.time p.top) (list_all (is_topped p) ps && tops_rise ps) (le-leb p.time p.top (omega arith))
-    (both (list_all (is_topped p) ps) (tops_rise ps) (all_topped p p.top ps (omega arith) r.1) (tops_rising p.top ps r.1))
+    and_from (nat_le p.time p.top) (list_all (is_topped p) ps && tops_rise ps) (le-leb p.time p.top (omega arith))
+    (and_from (list_all (is_topped p) ps) (tops_rise ps) (all_topped p p.top ps (omega arith) r.1) (tops_rising p.top ps r.1))
 
 abbrev pub is_reached : ℕ → ℕ → ℕ → Bool
 is_reached limit least t = nat_le (limit - 45000) (t - least)
@@ -180,7 +168,7 @@ module _ (limit least : ℕ) (bs : List ℕ) where
   reached_by : (t : ℕ) (ps : List UnitPlace) → tops_are t ps ≡ true → is_reached limit least (last_top t ps) ≡ is_reached limit least t || any_reached ps
   reached_by t [] h = sym (or-false (is_reached limit least t))
   reached_by t (p ∷ ps) h =
-      let r = both_true (p.top == max t p.time) (tops_are p.top ps) h in
+      let r = and_parts (p.top == max t p.time) (tops_are p.top ps) h in
       let e = eqb-true p.top (max t p.time) r.0 in
       let top : is_reached limit least p.top ≡ is_reached limit least t || is_reached limit least p.time = ap (is_reached limit least) e ∙ at_max t p.time in
       let own = reached_is p (start_or ps (length bs)) in

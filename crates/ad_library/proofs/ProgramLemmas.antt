@@ -3,9 +3,10 @@ use Rattle.std.specs.Option.{option_or}
 use Rattle.std.specs.List.{AllByRecursion, list_any}
 use Rattle.std.specs.Prelude.{option_map}
 use Rattle.std.proofs.Common.{◌≡◌, ℕ, List, [], ◌∷◌, Bool, true, false, ◌||◌, ◌==◌, refl, sym, ap, ◌∙◌, subst, Option, Some, None, if◌then◌else◌}
-use Rattle.std.proofs.lemmas.Bool.{eq-eqb}
+use Rattle.std.proofs.lemmas.Bool.{eq-eqb, or_from, or_parts, or_right}
 use Rattle.ts_packet.specs.Fields.{in_error, on, payload_on, is_among}
 use Rattle.ts_packet.proofs.Cases.{by_test}
+use Rattle.ts_packet.proofs.FieldLemmas.{off_payload}
 use Rattle.unit_stream.proofs.ReadingLemmas.{error_off}
 use Rattle.psi_tables.specs.declared.stream.Stream.{Stream}
 use Rattle.psi_tables.specs.Streams.{is_switched, switched_of, pid_in}
@@ -15,35 +16,23 @@ use Rattle.program_follower.specs.declared.purpose.Listed.{Listed}
 use Rattle.program_follower.specs.Program.{listed, Table, all_tables, first_map, known_map, Program, program_in, program_of}
 use Rattle.program_follower.specs.Faults.{pids_in, is_twice, bad_pid, bad_switched, first_fault}
 use Rattle.program_follower.specs.Streaming.{next_place, first_on}
-use Rattle.program_follower.proofs.StreamLemmas.{one_pid, off_payload}
+use Rattle.program_follower.proofs.StreamLemmas.{one_pid}
 use Rattle.program_laws.proofs.FaultLemmas.{Each-map, MapSound, all_sound}
 use Rattle.program_laws.proofs.ReadingLemmas.{no_tables}
 use Rattle.ad_library.specs.Gathering.{AreDistinct}
-
-pub or_none : (a b : Bool) → a || b ≡ false → (a ≡ false) × (b ≡ false)
-or_none true b h = absurd (cc)
-or_none false b h = (refl, h)
-
-pub or_false : (a b : Bool) → a ≡ false → b ≡ false → a || b ≡ false
-or_false true b h k = absurd (cc)
-or_false false b h k = k
-
-or_true : (a b : Bool) → b ≡ true → a || b ≡ true
-or_true true b h = refl
-or_true false b h = h
 
 both : {P : Type 0} (b : Bool) → b ≡ true → b ≡ false → P
 both b h k = absurd (let e : true ≡ false = sym h ∙ k in cc)
 
 -- ---- PIDs that stand once
 
-in_switched : (x : ℕ) (ss : List Stream) → is_among x (pids_in ss) ≡ false → is_among x (pids_in (switched_of ss)) ≡ false
+pub in_switched : (x : ℕ) (ss : List Stream) → is_among x (pids_in ss) ≡ false → is_among x (pids_in (switched_of ss)) ≡ false
 in_switched x [] h = refl
 in_switched x (s ∷ ss) h =
-    let r = or_none (s.pid == x) (is_among x (pids_in ss)) h in
+    let r = or_parts (s.pid == x) (is_among x (pids_in ss)) h in
     let more = in_switched x ss r.1 in
     by_test (is_switched s.kind)
-    (λ y. simp y (or_false (s.pid == x) (is_among x (pids_in (switched_of ss))) r.0 more))
+    (λ y. simp y (or_from (s.pid == x) (is_among x (pids_in (switched_of ss))) r.0 more))
     (λ n. simp n more)
 
 abbrev AllIn : List ℕ → List ℕ → Type 0
@@ -53,27 +42,27 @@ all_in : (ss : List Stream) → AllIn (pids_in ss) (pids_in (switched_of ss))
 all_in [] = tt
 all_in (s ∷ ss) =
     let more : AllIn (s.pid ∷ pids_in ss) (pids_in (switched_of ss)) =
-    Each-map (λ x. is_among x (pids_in ss) ≡ true) (λ x. is_among x (s.pid ∷ pids_in ss) ≡ true) (λ x h. or_true (s.pid == x) (is_among x (pids_in ss)) h) (pids_in (switched_of ss)) (all_in ss) in
+    Each-map (λ x. is_among x (pids_in ss) ≡ true) (λ x. is_among x (s.pid ∷ pids_in ss) ≡ true) (λ x h. or_right (s.pid == x) (is_among x (pids_in ss)) h) (pids_in (switched_of ss)) (all_in ss) in
     let own : is_among s.pid (s.pid ∷ pids_in ss) ≡ true = ap (λ b. b || is_among s.pid (pids_in ss)) (eq-eqb s.pid s.pid refl) in
     by_test (is_switched s.kind) (λ y. simp y (own, more)) (λ n. simp n more)
 
 once_rest : (y : ℕ) (all pids : List ℕ) → AllIn all pids → list_any (bad_switched (y ∷ all)) pids ≡ false → list_any (bad_switched all) pids ≡ false
 once_rest y all [] i h = refl
 once_rest y all (x ∷ xs) i h =
-    let r = or_none (bad_switched (y ∷ all) x) (list_any (bad_switched (y ∷ all)) xs) h in
-    let b = or_none (x == 8191) (is_twice x (y ∷ all)) r.0 in
+    let r = or_parts (bad_switched (y ∷ all) x) (list_any (bad_switched (y ∷ all)) xs) h in
+    let b = or_parts (x == 8191) (is_twice x (y ∷ all)) r.0 in
     let here : is_twice x all ≡ false = by_test (y == x)
     (λ e. let t : is_twice x (y ∷ all) ≡ is_among x all = ap (λ c. if c then is_among x all else is_twice x all) e in both (is_among x all) i.0 (sym t ∙ b.1))
     (λ n. let t : is_twice x (y ∷ all) ≡ is_twice x all = ap (λ c. if c then is_among x all else is_twice x all) n in sym t ∙ b.1) in
-    or_false (bad_switched all x) (list_any (bad_switched all) xs) (or_false (x == 8191) (is_twice x all) b.0 here) (once_rest y all xs i.1 r.1)
+    or_from (bad_switched all x) (list_any (bad_switched all) xs) (or_from (x == 8191) (is_twice x all) b.0 here) (once_rest y all xs i.1 r.1)
 
 apart_switched : (ss : List Stream) → list_any (bad_switched (pids_in ss)) (pids_in (switched_of ss)) ≡ false → AreDistinct (pids_in (switched_of ss))
 apart_switched [] h = tt
 apart_switched (s ∷ ss) h =
     by_test (is_switched s.kind)
     (λ y. let k : list_any (bad_switched (s.pid ∷ pids_in ss)) (s.pid ∷ pids_in (switched_of ss)) ≡ false = simp y at h in
-    let r = or_none (bad_switched (s.pid ∷ pids_in ss) s.pid) (list_any (bad_switched (s.pid ∷ pids_in ss)) (pids_in (switched_of ss))) k in
-    let b = or_none (s.pid == 8191) (is_twice s.pid (s.pid ∷ pids_in ss)) r.0 in
+    let r = or_parts (bad_switched (s.pid ∷ pids_in ss) s.pid) (list_any (bad_switched (s.pid ∷ pids_in ss)) (pids_in (switched_of ss))) k in
+    let b = or_parts (s.pid == 8191) (is_twice s.pid (s.pid ∷ pids_in ss)) r.0 in
     let out : is_among s.pid (pids_in ss) ≡ false = sym (ap (λ c. if c then is_among s.pid (pids_in ss) else is_twice s.pid (pids_in ss)) (eq-eqb s.pid s.pid refl)) ∙ b.1 in
     let rest = apart_switched ss (once_rest s.pid (pids_in ss) (pids_in (switched_of ss)) (all_in ss) r.1) in
     simp y (in_switched s.pid ss out, rest))
@@ -84,8 +73,8 @@ apart_switched (s ∷ ss) h =
 in_bad : (pid : ℕ) (xs : List ℕ) → list_any (bad_pid pid) xs ≡ false → is_among pid xs ≡ false
 in_bad pid [] h = refl
 in_bad pid (x ∷ xs) h =
-    let r = or_none (bad_pid pid x) (list_any (bad_pid pid) xs) h in
-    or_false (x == pid) (is_among pid xs) (or_none (x == 0) (x == pid) r.0).1 (in_bad pid xs r.1)
+    let r = or_parts (bad_pid pid x) (list_any (bad_pid pid) xs) h in
+    or_from (x == pid) (is_among pid xs) (or_parts (x == 0) (x == pid) r.0).1 (in_bad pid xs r.1)
 
 -- ---- of a program
 
@@ -100,8 +89,8 @@ apart_in : (c : Purpose) (pid : ℕ) (o : Option ProgramMap) (r : Program) → M
 apart_in c pid None r g e = absurd (cc)
 apart_in c pid (Some m) r g e =
     let ss = streams_of m in
-    let bad = or_none (list_any (bad_pid pid) (pid_in m.pcr_field ∷ pids_in ss)) (list_any (bad_switched (pids_in ss)) (pids_in (switched_of ss))) g.pids in
-    let none = or_none (bad_pid pid (pid_in m.pcr_field)) (list_any (bad_pid pid) (pids_in ss)) bad.0 in
+    let bad = or_parts (list_any (bad_pid pid) (pid_in m.pcr_field ∷ pids_in ss)) (list_any (bad_switched (pids_in ss)) (pids_in (switched_of ss))) g.pids in
+    let none = or_parts (bad_pid pid (pid_in m.pcr_field)) (list_any (bad_pid pid) (pids_in ss)) bad.0 in
     subst (StreamsApart pid) (same_program m r e) (record { apart = apart_switched ss bad.1; off_map = in_switched pid ss (in_bad pid (pids_in ss) none.1) })
 
 first_sound : (c : Purpose) (pid : ℕ) (ts : List Table) → AllByRecursion (λ (t : Table). MapSound c pid t.program_map) ts → MapSound c pid (first_map ts)
@@ -146,6 +135,6 @@ none_first p (pid ∷ pids) h =
 pub none_map : (p : List ℕ) (x : ℕ) (pids : List ℕ) → on x p ≡ true → is_among x pids ≡ false → NoPayload p pids
 none_map p x [] o h = tt
 none_map p x (pid ∷ pids) o h =
-    let r = or_none (pid == x) (is_among x pids) h in
+    let r = or_parts (pid == x) (is_among x pids) h in
     let off : on pid p ≡ false = by_test (on pid p) (λ y. both (pid == x) (eq-eqb pid x (one_pid pid x p y o)) r.0) (λ n. n) in
     (off_payload pid p off, none_map p x pids o r.1)

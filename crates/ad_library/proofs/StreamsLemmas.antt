@@ -2,21 +2,22 @@
 use Rattle.std.specs.Prelude.{option_map, slice_get, take, ◌<◌}
 use Rattle.std.proofs.Common.{◌≡◌, ℕ, suc, ◌+◌, List, [], ◌∷◌, ◌++◌, Bool, true, false, not, ◌&&◌, ◌||◌, ◌==◌, refl, sym, ap, ◌∙◌, subst, Option, Some, None, length, arith, get_or}
 use Rattle.std.proofs.Math.ListN.{set}
-use Rattle.std.proofs.lemmas.Bool.{eq-eqb}
+use Rattle.std.proofs.lemmas.Bool.{eq-eqb, or_from, or_parts}
 use Rattle.std.proofs.lemmas.List.{take_more}
 use Rattle.ts_packet.specs.Fields.{on, unit_start, is_among}
 use Rattle.ts_packet.specs.Duplicates.{repeats, is_gap}
 use Rattle.ts_packet.proofs.Cases.{by_test}
+use Rattle.ts_packet.proofs.FieldLemmas.{off_payload}
 use Rattle.unit_stream.specs.Times.{begins, begins_one}
 use Rattle.psi_tables.specs.declared.stream.Stream.{Stream}
 use Rattle.program_follower.specs.Faults.{pids_in}
 use Rattle.program_follower.specs.Streaming.{next_place, first_on}
-use Rattle.program_follower.proofs.StreamLemmas.{one_of, NeedsOn, first_of, off_payload, one_pid, begins_is, begins_needs}
+use Rattle.program_follower.proofs.StreamLemmas.{one_of, NeedsOn, first_of, one_pid, begins_is, begins_needs}
 use Rattle.ad_library.specs.declared.gathered.Gathered.{Gathered}
 use Rattle.ad_library.specs.Faults.{gap_on_one}
 use Rattle.ad_library.specs.Gathering.{AllGathered, AreDistinct, GathersStream}
 use Rattle.ad_library.proofs.GatheredLemmas.{off, no_gap}
-use Rattle.ad_library.proofs.ProgramLemmas.{or_none, or_false, NoPayload}
+use Rattle.ad_library.proofs.ProgramLemmas.{NoPayload}
 
 -- ---- one stream more
 
@@ -45,11 +46,11 @@ module _ (p : List ℕ) (past : List (List ℕ)) where
 
   pub begins_none : (pids : List ℕ) → NoPayload p pids → begins_one pids p past ≡ false
   begins_none [] n = refl
-  begins_none (pid ∷ pids) n = or_false (begins pid p past) (begins_one pids p past) (ap (λ b. (b && not (repeats pid p past)) && unit_start p) n.0) (begins_none pids n.1)
+  begins_none (pid ∷ pids) n = or_from (begins pid p past) (begins_one pids p past) (ap (λ b. (b && not (repeats pid p past)) && unit_start p) n.0) (begins_none pids n.1)
 
   pub gaps_none : (pids : List ℕ) → NoPayload p pids → gap_on_one pids p past ≡ false
   gaps_none [] n = refl
-  gaps_none (pid ∷ pids) n = or_false (is_gap pid p past) (gap_on_one pids p past) (no_gap pids pid p past n.0) (gaps_none pids n.1)
+  gaps_none (pid ∷ pids) n = or_from (is_gap pid p past) (gap_on_one pids p past) (no_gap pids pid p past n.0) (gaps_none pids n.1)
 
   -- ---- a packet of one of them
 
@@ -73,7 +74,7 @@ module _ (p : List ℕ) (past : List (List ℕ)) where
   none_behind : (pid : ℕ) (ss : List Stream) → on pid p ≡ true → is_among pid (pids_in ss) ≡ false → NoPayload p (pids_in ss)
   none_behind pid [] o h = tt
   none_behind pid (s ∷ ss) o h =
-      let r = or_none (s.pid == pid) (is_among pid (pids_in ss)) h in
+      let r = or_parts (s.pid == pid) (is_among pid (pids_in ss)) h in
       let not_on : on s.pid p ≡ false = by_test (on s.pid p) (λ y. absurd (let e = one_pid s.pid pid p y o in let f : (s.pid == pid) ≡ true = eq-eqb s.pid pid e in let g : true ≡ false = sym f ∙ r.0 in cc)) (λ n. n) in
       (off_payload s.pid p not_on, none_behind pid ss o r.1)
 

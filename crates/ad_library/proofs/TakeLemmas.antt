@@ -86,7 +86,7 @@ jump_by : (b : Bool) → (if b then Some unit_faults.TimeJump else None) ≡ Non
 jump_by true h = absurd (cc)
 jump_by false h = refl
 
-jump_sound : (line : Option ℤ) (split : Bool) (s : Option ℕ) → start_fault line split s ≡ None → jumps line s ≡ false
+pub jump_sound : (line : Option ℤ) (split : Bool) (s : Option ℕ) → start_fault line split s ≡ None → jumps line s ≡ false
 jump_sound line true s h = absurd (cc)
 jump_sound line false s h = jump_by (jumps line s) h
 

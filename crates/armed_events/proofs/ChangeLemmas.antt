@@ -4,7 +4,7 @@ use Rattle.std.specs.Prelude.{ℤ, pos, negsuc, ◌+ℤ◌, ◌-ℤ◌, ◌≤�
 use Rattle.std.specs.List.{list_any}
 use Rattle.std.specs.Ordering.{int_eq}
 use Rattle.std.proofs.lemmas.Int.{ints}
-use Rattle.std.proofs.lemmas.Bool.{true≢false}
+use Rattle.std.proofs.lemmas.Bool.{true≢false, and_parts}
 use Rattle.std.proofs.lemmas.List.Elements.{filter-append}
 use Rattle.pes_time.specs.Line.{place}
 use Rattle.event_table.specs.Standing.{Standing, on_line, has_id, is_ahead_of, end_of, is_early_end, repeats, arm_answer, cancel_answer, shorten_answer, shorten_answer_of, with_first, cancelled_one, ending_at, with_cancelled, stands}
@@ -20,7 +20,6 @@ use Rattle.armed_events.specs.declared.asked.Asked.{Asked}
 use Rattle.armed_events.specs.declared.asked.Asked.TheVariants.{Start, End, Cancel, Unfit, Nothing}
 use Rattle.armed_events.specs.Arming.{is_fresh, Change, Keep, Ignore, by_arm_answer, by_shorten_answer, by_cancel_answer, start_change, change, standing_at, changed}
 use Rattle.armed_events.specs.Obeying.{after_change}
-use Rattle.armed_events.proofs.TestLemmas.{and-parts}
 
 -- ---- what the table's answers make of it
 
@@ -82,7 +81,7 @@ grown start time = by (time -ℤ start) refl
 ending-stands : (line : Option ℤ) (time : ℤ) → is_ahead_of line time ≡ true → (s : Standing) → stands line (ending_at time s) ≡ true
 ending-stands None time h s = refl
 ending-stands (Some high) time h s =
-    let p = and-parts (int_lt high time) (int_le time (high +ℤ pos (2 ^ 29))) h in
+    let p = and_parts (int_lt high time) (int_le time (high +ℤ pos (2 ^ 29))) h in
     later high time (s.start +ℤ pos (unsigned_abs (time -ℤ s.start))) p.0 (grown s.start time)
   where
     later : (high time end : ℤ) → int_lt high time ≡ true → time ≤ℤ end → int_lt high (end +ℤ pos 900000) ≡ true
@@ -92,7 +91,7 @@ ending-stands (Some high) time h s =
 starting-stands : (line : Option ℤ) (e : Standing) → is_ahead_of line e.start ≡ true → stands line e ≡ true
 starting-stands None e h = refl
 starting-stands (Some high) e h =
-    let p = and-parts (int_lt high e.start) (int_le e.start (high +ℤ pos (2 ^ 29))) h in
+    let p = and_parts (int_lt high e.start) (int_le e.start (high +ℤ pos (2 ^ 29))) h in
     later high e.start e.length p.0
   where
     later : (high start : ℤ) (n : ℕ) → int_lt high start ≡ true → int_lt high ((start +ℤ pos n) +ℤ pos 900000) ≡ true
@@ -115,7 +114,7 @@ start-fits line events e true c a h = refl
 start-fits line events e false false a h = refl
 start-fits line events e false true (Ok New) h =
     filter-append (stands line) events (e ∷ [])
-    ∙ ap (λ l. standing_at line events ++ l) (keep-last line e (starting-stands line e (and-parts (is_fresh e) (is_ahead_of line e.start) h).1))
+    ∙ ap (λ l. standing_at line events ++ l) (keep-last line e (starting-stands line e (and_parts (is_fresh e) (is_ahead_of line e.start) h).1))
 start-fits line events e false true (Ok Same) h = refl
 start-fits line events e false true (Err f) h = refl
 

@@ -1,14 +1,15 @@
 -- The code's test of an event is that of its interval on the line.
 use Rattle.std.proofs.Common.{◌≡◌, ℕ, ◌^◌, ◌<◌, ◌≤◌, ◌==◌, nat_lt, nat_le, Bool, true, false, not, ◌&&◌, List, refl, sym, ◌∙◌, subst, arith}
-use Rattle.std.specs.Prelude.{ℤ, pos, ◌+ℤ◌, ◌≤ℤ◌, ◌<ℤ◌, int_le, int_lt, Option, None, Some}
-use Rattle.std.proofs.lemmas.Int.{ints}
+use Rattle.std.specs.Prelude.{ℤ, Option, None, Some}
 use Rattle.std.proofs.lemmas.Bool.Decides.{nat_tests, same_from_decides}
+use Rattle.std.proofs.lemmas.Bool.{and_from, and_parts}
 use Rattle.pes_time.specs.Line.{signed, ring_of, place}
 use Rattle.event_table.specs.declared.event.Event.{Event}
 use Rattle.event_table.specs.declared.table.Table.{Table}
 use Rattle.event_table.specs.Events.{CanArm, IsArmable}
 use Rattle.event_table.specs.Standing.{Standing, on_line, is_ahead_of}
 use Rattle.event_table.specs.Tables.{StandsFor}
+use Rattle.event_table.proofs.TableLemmas.{is_ahead-is, is_ahead-from}
 use Rattle.armed_events.specs.Arming.{is_fresh}
 
 -- the test tells it
@@ -18,13 +19,6 @@ Tells b P = (b ≡ true → P) × (P → b ≡ true)
 and-false : (b : Bool) → (b && false) ≡ false
 and-false true = refl
 and-false false = refl
-
-pub and-both : (a b : Bool) → a ≡ true → b ≡ true → (a && b) ≡ true
-and-both a b x y = simp (x, y) refl
-
-pub and-parts : (a b : Bool) → (a && b) ≡ true → (a ≡ true) × (b ≡ true)
-and-parts true b h = (refl, h)
-and-parts false b h = (h, absurd (grind (arith, h)))
 
 none-false : (b : Bool) → (b ≡ true → ⊥) → b ≡ false
 none-false true h = absurd (h refl)
@@ -44,20 +38,14 @@ fresh-parts : (c : Bool) (l a : ℕ) → (not c && (l == a && (nat_lt 0 l && nat
 fresh-parts true l a h = absurd (grind (arith, h))
 fresh-parts false l a h = record { uncancelled = refl; whole = grind (arith, nat_tests); some = grind (arith, nat_tests); most = grind (arith, nat_tests) }
 
-ahead-true : (h way : ℤ) → pos 0 <ℤ way → way ≤ℤ pos (2 ^ 29) → (int_lt h (h +ℤ way) && int_le (h +ℤ way) (h +ℤ pos (2 ^ 29))) ≡ true
-ahead-true h way above below = grind (arith, ints)
-
-ahead-parts : (h way : ℤ) → (int_lt h (h +ℤ way) && int_le (h +ℤ way) (h +ℤ pos (2 ^ 29))) ≡ true → (pos 0 <ℤ way) × (way ≤ℤ pos (2 ^ 29))
-ahead-parts h way is = (grind (arith, ints), grind (arith, ints))
-
 armable-decides : (h : ℤ) (e : Event) → Tells (is_fresh (on_line (Some h) e) && is_ahead_of (Some h) (place (Some h) e.start)) (IsArmable (ring_of h) e)
 armable-decides h e = (to, from)
   where
     to : (is_fresh (on_line (Some h) e) && is_ahead_of (Some h) (place (Some h) e.start)) ≡ true → IsArmable (ring_of h) e
     to is =
-        let both = and-parts (is_fresh (on_line (Some h) e)) (is_ahead_of (Some h) (place (Some h) e.start)) is in
+        let both = and_parts (is_fresh (on_line (Some h) e)) (is_ahead_of (Some h) (place (Some h) e.start)) is in
         let f = fresh-parts e.cancelled e.length e.asked both.0 in
-        let a = ahead-parts h (signed e.start (ring_of h)) both.1 in
+        let a = is_ahead-from h (signed e.start (ring_of h)) both.1 in
         record {
           fresh = record { uncancelled = f.uncancelled; whole = f.whole; some = f.some; most = f.most };
           ahead = record { above = a.0; below = a.1 };
@@ -65,9 +53,9 @@ armable-decides h e = (to, from)
 
     from : IsArmable (ring_of h) e → (is_fresh (on_line (Some h) e) && is_ahead_of (Some h) (place (Some h) e.start)) ≡ true
     from can =
-        and-both (is_fresh (on_line (Some h) e)) (is_ahead_of (Some h) (place (Some h) e.start))
+        and_from (is_fresh (on_line (Some h) e)) (is_ahead_of (Some h) (place (Some h) e.start))
         (fresh-true e.cancelled e.length e.asked can.fresh.uncancelled can.fresh.whole can.fresh.some can.fresh.most)
-        (ahead-true h (signed e.start (ring_of h)) can.ahead.above can.ahead.below)
+        (is_ahead-is h (signed e.start (ring_of h)) can.ahead.above can.ahead.below)
 
 -- whether an event may be armed
 pub can-arm : {T : Type 0} → (t : Table T) (line : Option ℤ) (standing : List Standing) (e : Event) (b : Bool) → StandsFor t line standing → Tells b (CanArm t.last e)

@@ -23,8 +23,10 @@ use Rattle.armed_events.specs.Asking.{asked_of}
 use Rattle.armed_events.specs.Arming.{is_fresh, Keep, Ignore, by_arm_answer, by_shorten_answer, by_cancel_answer, change, standing_at, changed, Heard, with_section, with_sections, heard, armed}
 use Rattle.splice_laws.specs.Laws.{Risen}
 use Rattle.splice_laws.specs.Settled.{IsAhead}
-use Rattle.armed_laws.specs.Laws.{Becomes, Grows, NeverFalls}
-use Rattle.armed_laws.proofs.TimeLemmas.{ahead-of, not-begun, ahead-before, new-end, early-parts}
+use Rattle.splice_laws.proofs.SettledLemmas.{risen-trans}
+use Rattle.splice_laws.proofs.TableLemmas.{ahead-before}
+use Rattle.armed_laws.specs.Laws.{Becomes, Grows, OnlyRises}
+use Rattle.armed_laws.proofs.TimeLemmas.{ahead-of, not-begun, new-end, early-parts}
 
 -- ---- one event
 
@@ -209,17 +211,11 @@ sections-grow line (s ∷ ss) h =
 pub packet-grows : (pid : ℕ) (high : List (List ℕ) → Option ℤ) (p : List ℕ) (past : List (List ℕ)) → Grows (high past) (armed pid high past) (armed pid high (p ∷ past))
 packet-grows pid high p past = sections-grow (high past) (given pid p past) (heard pid high past)
 
-risen-on : (a b c : Option ℤ) → Risen a b → Risen b c → Risen a c
-risen-on None b c h k = tt
-risen-on (Some a) None c h k = absurd h
-risen-on (Some a) (Some b) None h k = absurd k
-risen-on (Some a) (Some b) (Some c) h k = omega (arith, ints, h, k)
-
-later-risen : (high : List (List ℕ) → Option ℤ) → NeverFalls high → (more past : List (List ℕ)) → Risen (high past) (high (more ++ past))
+later-risen : (high : List (List ℕ) → Option ℤ) → OnlyRises high → (more past : List (List ℕ)) → Risen (high past) (high (more ++ past))
 later-risen high never [] past = same-risen (high past)
-later-risen high never (p ∷ more) past = risen-on (high past) (high (more ++ past)) (high (p ∷ (more ++ past))) (later-risen high never more past) (never p (more ++ past))
+later-risen high never (p ∷ more) past = risen-trans (high past) (high (more ++ past)) (high (p ∷ (more ++ past))) (later-risen high never more past) (never p (more ++ past))
 
-pub packets-grow : (pid : ℕ) (high : List (List ℕ) → Option ℤ) → NeverFalls high → (more past : List (List ℕ)) → Grows (high past) (armed pid high past) (armed pid high (more ++ past))
+pub packets-grow : (pid : ℕ) (high : List (List ℕ) → Option ℤ) → OnlyRises high → (more past : List (List ℕ)) → Grows (high past) (armed pid high past) (armed pid high (more ++ past))
 packets-grow pid high never [] past = same-grows (high past) (armed pid high past)
 packets-grow pid high never (p ∷ more) past =
     grows-on (high past) (high (more ++ past)) (later-risen high never more past) (armed pid high past) (armed pid high (more ++ past)) (armed pid high (p ∷ (more ++ past)))

@@ -1,4 +1,4 @@
-mod TimeLemmas
+pub mod TimeLemmas
 pub mod GrowLemmas
 pub mod MeetLemmas
 pub mod Proofs

@@ -3,7 +3,6 @@ use Rattle.std.proofs.Common.{◌≡◌, ◌^◌, Bool, true, false, ◌&&◌, r
 use Rattle.std.specs.Prelude.{ℤ, pos, negsuc, ◌+ℤ◌, ◌-ℤ◌, ◌≤ℤ◌, ◌<ℤ◌, int_le, int_lt, unsigned_abs, Option, None, Some}
 use Rattle.std.proofs.lemmas.Int.{ints}
 use Rattle.event_table.specs.Standing.{Standing, end_of, is_ahead_of, is_early_end, has_begun, ending_at}
-use Rattle.splice_laws.specs.Laws.{Risen}
 use Rattle.splice_laws.specs.Settled.{IsAhead}
 
 pub ahead-of : (line : Option ℤ) (time : ℤ) → is_ahead_of line time ≡ true → IsAhead line time
@@ -20,11 +19,6 @@ not-begun (Some high) s h = by high s.start h
   where
     by : (high start : ℤ) → int_le start high ≡ false → high <ℤ start
     by high start h = grind (arith, ints, h)
-
-pub ahead-before : (a b : Option ℤ) (edge : ℤ) → Risen a b → IsAhead b edge → IsAhead a edge
-ahead-before None b edge r h = tt
-ahead-before (Some a) None edge r h = absurd r
-ahead-before (Some a) (Some b) edge r h = omega (arith, ints, r, h)
 
 -- the end that is set
 pub new-end : (time : ℤ) (s : Standing) → s.start <ℤ time → end_of (ending_at time s) ≡ time

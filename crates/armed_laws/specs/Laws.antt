@@ -21,8 +21,8 @@ Grows line (e ∷ es) [] = ⊥
 Grows line (e ∷ es) (x ∷ later) = Becomes line e x × Grows line es later
 
 -- the greatest time never falls
-abbrev pub NeverFalls : (List (List ℕ) → Option ℤ) → Type 0
-NeverFalls high = (p : List ℕ) (past : List (List ℕ)) → Risen (high past) (high (p ∷ past))
+abbrev pub OnlyRises : (List (List ℕ) → Option ℤ) → Type 0
+OnlyRises high = (p : List ℕ) (past : List (List ℕ)) → Risen (high past) (high (p ∷ past))
 
 -- THE LAW OF ARMED EVENTS
 abbrev pub EventsGrow : Type 0
@@ -30,7 +30,7 @@ EventsGrow = (pid : ℕ) (high : List (List ℕ) → Option ℤ) (p : List ℕ) 
 
 -- THE LAW OF SETTLEMENT: over any number of packets
 abbrev pub EventsSettle : Type 0
-EventsSettle = (pid : ℕ) (high : List (List ℕ) → Option ℤ) → NeverFalls high → (more past : List (List ℕ)) → Grows (high past) (armed pid high past) (armed pid high (more ++ past))
+EventsSettle = (pid : ℕ) (high : List (List ℕ) → Option ℤ) → OnlyRises high → (more past : List (List ℕ)) → Grows (high past) (armed pid high past) (armed pid high (more ++ past))
 
 -- one ends before the other starts
 abbrev pub AreApart : Standing → Standing → Type 0

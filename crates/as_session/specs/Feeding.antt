@@ -12,7 +12,7 @@ pub data State : Type 0 where
 pub data Given : Type 0 where
   nothing : Given
   message : List ℕ → Given
-  closed : Given
+  tells_shut : Given
 
 pub record Fed : Type 0 where
   pub used : ℕ
@@ -25,11 +25,11 @@ fed_by pending piece (NeedMore n) = record { used = length piece; gives = nothin
 -- it is whole: it is used up to its end, and nothing is pending
 fed_by pending piece (Whole size) = record { used = size - length pending; gives = message (take size (pending ++ piece)); after = opened [] }
 -- its size is bad: the fourth byte closes the session
-fed_by pending piece BadSize = record { used = 4 - length pending; gives = closed; after = shut }
+fed_by pending piece BadSize = record { used = 4 - length pending; gives = tells_shut; after = shut }
 
 abbrev pub feed_of : State → List ℕ → Fed
 feed_of (opened pending) piece = fed_by pending piece (frame_of (pending ++ piece))
-feed_of shut piece = record { used = 0; gives = closed; after = shut }
+feed_of shut piece = record { used = 0; gives = tells_shut; after = shut }
 
 -- how many bytes are pending
 abbrev pub end_of : State → ℕ

@@ -1,6 +1,6 @@
 -- Whole runs of a session: one call after another.
 use Rattle.std.specs.Prelude.{ℕ, zero, suc, List, [], ◌∷◌, ◌++◌, length, take, drop}
-use Rattle.as_session.specs.Feeding.{State, Given, nothing, message, closed, Fed, feed_of}
+use Rattle.as_session.specs.Feeding.{State, Given, nothing, message, tells_shut, Fed, feed_of}
 
 -- the messages that came out, and the session then
 pub record Received : Type 0 where
@@ -10,14 +10,14 @@ pub record Received : Type 0 where
 abbrev pub messages_in : Given → List (List ℕ)
 messages_in nothing = []
 messages_in (message m) = m ∷ []
-messages_in closed = []
+messages_in tells_shut = []
 
 -- ---- a piece that is fed to its end: what a call leaves of it is fed again
 
 abbrev pub taken_by : (State → List ℕ → Received) → List ℕ → Fed → Given → Received
 taken_by again piece fed nothing = record { messages = []; after = fed.after }
 taken_by again piece fed (message m) = let others = again fed.after (drop fed.used piece) in record { messages = m ∷ others.messages; after = others.after }
-taken_by again piece fed closed = record { messages = []; after = fed.after }
+taken_by again piece fed tells_shut = record { messages = []; after = fed.after }
 
 -- in at most so many calls
 unfoldable pub take_within : ℕ → State → List ℕ → Received

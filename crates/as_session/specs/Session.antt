@@ -7,7 +7,7 @@ use Rattle.as_session.specs.declared.session.Got.{Got}
 use Rattle.as_session.specs.declared.session.Got.TheVariants as got
 use Rattle.as_session.specs.declared.session.Step.{Step}
 use Rattle.as_session.specs.declared.session.Step.TheVariants as step
-use Rattle.as_session.specs.Feeding.{State, opened, shut, Given, nothing, message, closed, feed_of}
+use Rattle.as_session.specs.Feeding.{State, opened, shut, Given, nothing, message, tells_shut, feed_of}
 
 abbrev pub state_of : {A : Type 0} → Session A → State
 state_of s = if s.is_closed then shut else opened s.pending.items
@@ -19,13 +19,13 @@ IsFed old piece new = state_of new ≡ (feed_of (state_of old) piece).after
 abbrev pub given : Got → Given
 given got.None = nothing
 given (got.Message m) = message m.now
-given got.Closed = closed
+given got.Closed = tells_shut
 
 -- what a step gives, whose message lies in the session
 abbrev pub step_given : {A : Type 0} → Session A → Step → Given
 step_given s step.Nothing = nothing
 step_given s (step.Message size) = message (take size s.message.items)
-step_given s step.Closed = closed
+step_given s step.Closed = tells_shut
 
 -- a message of a step lies in the session, and used some of the piece
 abbrev pub MessageFits : ℕ → Step → Type 0

@@ -1,11 +1,11 @@
 -- Lines that are read one after another.
 use Rattle.std.proofs.Common.{◌≡◌, ℕ, suc, ◌+◌, ◌-◌, ◌<◌, ◌≤◌, List, [], ◌∷◌, ◌++◌, true, length, refl, sym, ap, arith, ◌∙◌}
 use Rattle.std.specs.Prelude.{nat_lt, nat_le, slice_get, Some}
-use Rattle.std.proofs.lemmas.Bool.{lt-ltb, le-leb}
+use Rattle.std.proofs.lemmas.Bool.{lt-ltb, le-leb, and_from}
 use Rattle.automations.specs.declared.script_text.Line.{Line}
 use Rattle.automations.specs.ScriptLines.{are_sound}
 use Rattle.automations.specs.ScriptReading.{last_end, next_line_number, IsBehind, IsInLine}
-use Rattle.automations.proofs.ScriptLemmas.{both, first_sound}
+use Rattle.automations.proofs.ScriptLemmas.{first_sound}
 
 pub behind_last_line : (ls : List Line) (least : ℕ) (l : Line) → slice_get ls (length ls - 1) ≡ Some l → next_line_number least ls ≡ l.packet + 1
 behind_last_line [] least l h = absurd (cc)
@@ -23,24 +23,24 @@ wider b t m n [] le h = refl
 wider b t m n (l ∷ ls) le h =
     let s = first_sound b t n l ls h in
     let i = s.inside in
-    both (nat_lt b l.end) _ (lt-ltb b l.end s.some)
-    (both (nat_le l.end m) _ (le-leb l.end m (omega (arith, le, i)))
-    (both (nat_le (l.end - b) 4096) _ (le-leb (l.end - b) 4096 s.few)
-    (both (nat_le n l.packet) (are_sound l.end m (l.packet + 1) ls) (le-leb n l.packet s.rises) (wider l.end t m (l.packet + 1) ls le s.rest))))
+    and_from (nat_lt b l.end) _ (lt-ltb b l.end s.some)
+    (and_from (nat_le l.end m) _ (le-leb l.end m (omega (arith, le, i)))
+    (and_from (nat_le (l.end - b) 4096) _ (le-leb (l.end - b) 4096 s.few)
+    (and_from (nat_le n l.packet) (are_sound l.end m (l.packet + 1) ls) (le-leb n l.packet s.rises) (wider l.end t m (l.packet + 1) ls le s.rest))))
 
 one_more : (begin total least : ℕ) (ls : List Line) (l : Line) → are_sound begin total least ls ≡ true → last_end begin ls < l.end → l.end ≤ total
     → l.end - last_end begin ls ≤ 4096 → next_line_number least ls ≤ l.packet → are_sound begin total least (ls ++ l ∷ []) ≡ true
 one_more b t n [] l h some inside few rises =
-    both (nat_lt b l.end) _ (lt-ltb b l.end some)
-    (both (nat_le l.end t) _ (le-leb l.end t inside)
-    (both (nat_le (l.end - b) 4096) _ (le-leb (l.end - b) 4096 few)
-    (both (nat_le n l.packet) true (le-leb n l.packet rises) refl)))
+    and_from (nat_lt b l.end) _ (lt-ltb b l.end some)
+    (and_from (nat_le l.end t) _ (le-leb l.end t inside)
+    (and_from (nat_le (l.end - b) 4096) _ (le-leb (l.end - b) 4096 few)
+    (and_from (nat_le n l.packet) true (le-leb n l.packet rises) refl)))
 one_more b t n (k ∷ ls) l h some inside few rises =
     let s = first_sound b t n k ls h in
-    both (nat_lt b k.end) _ (lt-ltb b k.end s.some)
-    (both (nat_le k.end t) _ (le-leb k.end t s.inside)
-    (both (nat_le (k.end - b) 4096) _ (le-leb (k.end - b) 4096 s.few)
-    (both (nat_le n k.packet) (are_sound k.end t (k.packet + 1) (ls ++ l ∷ [])) (le-leb n k.packet s.rises)
+    and_from (nat_lt b k.end) _ (lt-ltb b k.end s.some)
+    (and_from (nat_le k.end t) _ (le-leb k.end t s.inside)
+    (and_from (nat_le (k.end - b) 4096) _ (le-leb (k.end - b) 4096 s.few)
+    (and_from (nat_le n k.packet) (are_sound k.end t (k.packet + 1) (ls ++ l ∷ [])) (le-leb n k.packet s.rises)
     (one_more k.end t (k.packet + 1) ls l s.rest some inside few rises))))
 
 -- a line ends

@@ -5,7 +5,7 @@ use Rattle.std.specs.List.{list_all}
 use Rattle.std.specs.Char.{is_ascii_digit, digit_value as std_digit}
 use Rattle.std.specs.Str.Parse.{digits_value, digits_value_after}
 use Rattle.std.proofs.lemmas.Bool.Decides.{nat_tests}
-use Rattle.std.proofs.lemmas.Bool.{ltb-true, eqb-true, eqb-false}
+use Rattle.std.proofs.lemmas.Bool.{ltb-true, eqb-true, eqb-false, and_from, and_parts}
 use Rattle.ts_packet.proofs.Cases.{by_test}
 use Rattle.std.proofs.lemmas.List.{length-append}
 use Rattle.std.proofs.lemmas.List.Folds.{list_all-append}
@@ -13,7 +13,6 @@ use Rattle.decimal_numbers.specs.Numbers.{is_number, number_below}
 use Rattle.hex_digits.specs.Digits.{spelled, digit_value, byte_before}
 use Rattle.automations.specs.ScriptLines.{ScriptLine}
 use Rattle.automations.specs.ScriptText.{SpellsLines}
-use Rattle.automations.proofs.ScriptLemmas.{both, both_true}
 use Rattle.automations.proofs.TextLemmas.{next_of, std_value}
 
 -- ---- where a list is cut
@@ -29,14 +28,14 @@ unfolding others is_other
 cut_once c [] [] r s h k e = (refl, cc)
 cut_once c [] (y ∷ b) r s h k e =
     let q : c ≡ y = cc in
-    absurd (let g = (both_true (not (y == c)) (list_all (is_other c) b) k).0 in grind (arith, nat_tests))
+    absurd (let g = (and_parts (not (y == c)) (list_all (is_other c) b) k).0 in grind (arith, nat_tests))
 cut_once c (x ∷ a) [] r s h k e =
     let q : x ≡ c = cc in
-    absurd (let g = (both_true (not (x == c)) (list_all (is_other c) a) h).0 in grind (arith, nat_tests))
+    absurd (let g = (and_parts (not (x == c)) (list_all (is_other c) a) h).0 in grind (arith, nat_tests))
 cut_once c (x ∷ a) (y ∷ b) r s h k e =
     let q : x ≡ y = cc in
     let t : a ++ c ∷ r ≡ b ++ c ∷ s = cc in
-    let i = cut_once c a b r s (both_true (not (x == c)) (list_all (is_other c) a) h).1 (both_true (not (y == c)) (list_all (is_other c) b) k).1 t in
+    let i = cut_once c a b r s (and_parts (not (x == c)) (list_all (is_other c) a) h).1 (and_parts (not (y == c)) (list_all (is_other c) b) k).1 t in
     (ap (λ z. z ∷ a) q ∙ ap (λ l. y ∷ l) i.0, i.1)
 
 -- the cut lies behind this byte, which is another
@@ -51,11 +50,11 @@ cut_behind c d [] [] r s h ne e = absurd (ne (cc))
 cut_behind c d [] (y ∷ b) r s h ne e = record { rest = b; is = let q : y ≡ d = cc in ap (λ z. z ∷ b) q; left = cc }
 cut_behind c d (x ∷ a) [] r s h ne e =
     let q : x ≡ c = cc in
-    absurd (let g = (both_true (not (x == c)) (list_all (is_other c) a) h).0 in grind (arith, nat_tests))
+    absurd (let g = (and_parts (not (x == c)) (list_all (is_other c) a) h).0 in grind (arith, nat_tests))
 cut_behind c d (x ∷ a) (y ∷ b) r s h ne e =
     let q : y ≡ x = cc in
     let t : a ++ d ∷ r ≡ b ++ c ∷ s = cc in
-    let i = cut_behind c d a b r s (both_true (not (x == c)) (list_all (is_other c) a) h).1 ne t in
+    let i = cut_behind c d a b r s (and_parts (not (x == c)) (list_all (is_other c) a) h).1 ne t in
     record { rest = i.rest; is = ap (λ z. z ∷ b) q ∙ ap (λ l. x ∷ l) i.is; left = i.left }
 
 -- ---- digits are no line feeds and no spaces
@@ -68,8 +67,8 @@ pub digits_other : (c : ℕ) (ds : List ℕ) → c < 48 → list_all is_ascii_di
 unfolding others
 digits_other c [] lt h = refl
 digits_other c (d ∷ ds) lt h =
-    let g = both_true (is_ascii_digit d) (list_all is_ascii_digit ds) h in
-    both (is_other c d) (list_all (is_other c) ds) (digit_other c d lt g.0) (digits_other c ds lt g.1)
+    let g = and_parts (is_ascii_digit d) (list_all is_ascii_digit ds) h in
+    and_from (is_other c d) (list_all (is_other c) ds) (digit_other c d lt g.0) (digits_other c ds lt g.1)
 
 pub record Pair (a b : ℕ) (hex bs : List ℕ) : Type 0 where
   pub high : ℕ
@@ -102,8 +101,8 @@ spelled_other [] bs h = refl
 spelled_other (a ∷ []) bs h = absurd (cc)
 spelled_other (a ∷ b ∷ hex) bs h =
     let p = first_pair a b hex bs h in
-    both (is_other 10 a) (list_all (is_other 10) (b ∷ hex)) (hex_other a p.high p.high_is)
-    (both (is_other 10 b) (list_all (is_other 10) hex) (hex_other b p.low p.low_is) (spelled_other hex p.rest p.rest_is))
+    and_from (is_other 10 a) (list_all (is_other 10) (b ∷ hex)) (hex_other a p.high p.high_is)
+    (and_from (is_other 10 b) (list_all (is_other 10) hex) (hex_other b p.low p.low_is) (spelled_other hex p.rest p.rest_is))
 
 -- ---- hexadecimal digits behind others
 
@@ -167,7 +166,7 @@ value_on n (d ∷ ds) rest = value_on (n * 10 + std_digit d) ds rest
 
 all_second : (ds rest : List ℕ) → list_all is_ascii_digit (ds ++ rest) ≡ true → list_all is_ascii_digit rest ≡ true
 all_second [] rest h = h
-all_second (d ∷ ds) rest h = all_second ds rest (both_true (is_ascii_digit d) (list_all is_ascii_digit (ds ++ rest)) h).1
+all_second (d ∷ ds) rest h = all_second ds rest (and_parts (is_ascii_digit d) (list_all is_ascii_digit (ds ++ rest)) h).1
 
 -- what the digits of a line's number are
 pub record Number (digits : List ℕ) (n : ℕ) : Type 0 where
@@ -183,8 +182,8 @@ by_bool false x y n h e = absurd (cc)
 pub number_of : (digits : List ℕ) (n : ℕ) → number_below digits 18446744073709551616 ≡ Some n → Number digits n
 number_of digits n h =
     let b = by_bool (is_number digits && nat_lt (digits_value 10 digits) 18446744073709551616) (Some (digits_value 10 digits)) None n h refl in
-    let t = both_true (is_number digits) (nat_lt (digits_value 10 digits) 18446744073709551616) b.0 in
-    let u = both_true (nat_lt 0 (length digits)) (list_all is_ascii_digit digits) t.0 in
+    let t = and_parts (is_number digits) (nat_lt (digits_value 10 digits) 18446744073709551616) b.0 in
+    let u = and_parts (nat_lt 0 (length digits)) (list_all is_ascii_digit digits) t.0 in
     let v : digits_value 10 digits ≡ n = let w = b.1 in cc in
     let lt = ltb-true (digits_value 10 digits) 18446744073709551616 t.1 in
     record {
@@ -198,12 +197,12 @@ number_of digits n h =
 
 pub others_both : (c : ℕ) (a b : List ℕ) → others c a ≡ true → others c b ≡ true → others c (a ++ b) ≡ true
 unfolding others
-others_both c a b h k = list_all-append (is_other c) a b ∙ both (list_all (is_other c) a) (list_all (is_other c) b) h k
+others_both c a b h k = list_all-append (is_other c) a b ∙ and_from (list_all (is_other c) a) (list_all (is_other c) b) h k
 
 not_among : (c : ℕ) (a r : List ℕ) → others c (a ++ c ∷ r) ≡ true → ⊥
 unfolding others is_other
-not_among c [] r h = let g = (both_true (not (c == c)) (list_all (is_other c) r) h).0 in grind (arith, nat_tests)
-not_among c (x ∷ a) r h = not_among c a r (both_true (is_other c x) (list_all (is_other c) (a ++ c ∷ r)) h).1
+not_among c [] r h = let g = (and_parts (not (c == c)) (list_all (is_other c) r) h).0 in grind (arith, nat_tests)
+not_among c (x ∷ a) r h = not_among c a r (and_parts (is_other c x) (list_all (is_other c) (a ++ c ∷ r)) h).1
 
 pub space_other : is_other 10 32 ≡ true
 unfolding is_other
@@ -211,7 +210,7 @@ space_other = refl
 
 pub one_other : (c b : ℕ) (bs : List ℕ) → is_other c b ≡ true → others c bs ≡ true → others c (b ∷ bs) ≡ true
 unfolding others
-one_other c b bs h k = both (is_other c b) (list_all (is_other c) bs) h k
+one_other c b bs h k = and_from (is_other c b) (list_all (is_other c) bs) h k
 
 -- the digits of a number, a space, and those of bytes
 pub line_other : (digits hex : List ℕ) (n : ℕ) (bs : List ℕ) → Number digits n → spelled hex ≡ Some bs → others 10 (digits ++ 32 ∷ hex) ≡ true
@@ -287,7 +286,7 @@ pub no_digit : (least : ℕ) (ds more : List ℕ) (b n : ℕ) → list_all is_as
 no_digit least ds more b n all value ne great h =
     let c = cut_behind 32 b ds h.digits more (h.hex ++ 10 ∷ h.rest) (digits_other 32 ds (omega arith) all) ne h.is in
     let whole = ap (list_all is_ascii_digit) (sym c.is) ∙ h.number.all in
-    let own = (both_true (is_ascii_digit b) (list_all is_ascii_digit c.rest) (all_second ds (b ∷ c.rest) whole)).0 in
+    let own = (and_parts (is_ascii_digit b) (list_all is_ascii_digit c.rest) (all_second ds (b ∷ c.rest) whole)).0 in
     let over = great own in
     let on = value_on 0 ds (b ∷ c.rest) ∙ ap (λ v. digits_value_after 10 v (b ∷ c.rest)) value in
     let grows = at_least (n * 10 + std_digit b) c.rest in

@@ -1,21 +1,13 @@
 -- What a script gives before a packet, by what it gave.
-use Rattle.std.proofs.Common.{◌≡◌, ◌≢◌, ℕ, suc, min, ◌+◌, ◌-◌, ◌<◌, ◌≤◌, List, [], ◌∷◌, ◌++◌, Bool, true, false, ◌&&◌, length, take, drop, get_or, refl, sym, ap, arith, ◌∙◌, append_assoc}
+use Rattle.std.proofs.Common.{◌≡◌, ◌≢◌, ℕ, suc, min, ◌+◌, ◌-◌, ◌<◌, ◌≤◌, List, [], ◌∷◌, ◌++◌, true, length, take, drop, get_or, refl, sym, ap, arith, ◌∙◌, append_assoc}
 use Rattle.std.specs.Prelude.{nat_lt, nat_le, slice_range}
 use Rattle.ts_packet.proofs.Cases.{by_test}
 use Rattle.std.proofs.Math.Seq.{drop-cons}
 use Rattle.std.proofs.lemmas.List.{take-append-le, take_all}
-use Rattle.std.proofs.lemmas.Bool.{leb-true, le-leb, ltb-true, ltb-false, lt-ltb}
+use Rattle.std.proofs.lemmas.Bool.{leb-true, le-leb, ltb-true, ltb-false, lt-ltb, and_from, and_parts}
 use Rattle.std.proofs.lemmas.Bool.Decides.{nat_tests}
 use Rattle.automations.specs.declared.script_text.Line.{Line}
 use Rattle.automations.specs.ScriptLines.{ScriptLine, bytes_before, lines_from, are_sound, are_past, count_due, GivesFrom}
-
-pub both_true : (a b : Bool) → a && b ≡ true → (a ≡ true) × (b ≡ true)
-both_true true b h = (refl, h)
-both_true false b h = absurd (cc)
-
-pub both : (a b : Bool) → a ≡ true → b ≡ true → a && b ≡ true
-both true b h k = k
-both false b h k = absurd (cc)
 
 -- ---- the first of sound lines
 
@@ -28,10 +20,10 @@ pub record Sound (begin total least : ℕ) (l : Line) (ls : List Line) : Type 0 
 
 pub first_sound : (begin total least : ℕ) (l : Line) (ls : List Line) → are_sound begin total least (l ∷ ls) ≡ true → Sound begin total least l ls
 first_sound b t n l ls h =
-    let h1 = both_true (nat_lt b l.end) _ h in
-    let h2 = both_true (nat_le l.end t) _ h1.1 in
-    let h3 = both_true (nat_le (l.end - b) 4096) _ h2.1 in
-    let h4 = both_true (nat_le n l.packet) (are_sound l.end t (l.packet + 1) ls) h3.1 in
+    let h1 = and_parts (nat_lt b l.end) _ h in
+    let h2 = and_parts (nat_le l.end t) _ h1.1 in
+    let h3 = and_parts (nat_le (l.end - b) 4096) _ h2.1 in
+    let h4 = and_parts (nat_le n l.packet) (are_sound l.end t (l.packet + 1) ls) h3.1 in
     record {
       some = ltb-true b l.end h1.0;
       inside = leb-true l.end t h2.0;
@@ -42,10 +34,10 @@ first_sound b t n l ls h =
 
 pub is_sound : (begin total least more : ℕ) (l : Line) (ls : List Line) → Sound begin total least l ls → more ≤ l.packet → are_sound begin total more (l ∷ ls) ≡ true
 is_sound b t n m l ls s le =
-    both (nat_lt b l.end) _ (lt-ltb b l.end s.some)
-    (both (nat_le l.end t) _ (le-leb l.end t s.inside)
-    (both (nat_le (l.end - b) 4096) _ (le-leb (l.end - b) 4096 s.few)
-    (both (nat_le m l.packet) (are_sound l.end t (l.packet + 1) ls) (le-leb m l.packet le) s.rest)))
+    and_from (nat_lt b l.end) _ (lt-ltb b l.end s.some)
+    (and_from (nat_le l.end t) _ (le-leb l.end t s.inside)
+    (and_from (nat_le (l.end - b) 4096) _ (le-leb (l.end - b) 4096 s.few)
+    (and_from (nat_le m l.packet) (are_sound l.end t (l.packet + 1) ls) (le-leb m l.packet le) s.rest)))
 
 -- ---- the bytes before a packet
 
@@ -67,7 +59,7 @@ none_later bs b t least n (l ∷ ls) h lt =
 pub past_over : (n : ℕ) (past rest : List ScriptLine) → are_past n past ≡ true → bytes_before n (past ++ rest) ≡ bytes_before n rest
 past_over n [] rest h = refl
 past_over n (l ∷ past) rest h =
-    let g = both_true (nat_lt l.packet n) (are_past n past) h in
+    let g = and_parts (nat_lt l.packet n) (are_past n past) h in
     let lt = ltb-true l.packet n g.0 in
     let apart : l.packet ≢ n = λ e. absurd (omega (arith, e, lt)) in
     other n l (past ++ rest) apart ∙ past_over n past rest g.1
@@ -77,16 +69,16 @@ past_over n (l ∷ past) rest h =
 pub past_on : (n : ℕ) (past : List ScriptLine) → are_past n past ≡ true → are_past (n + 1) past ≡ true
 past_on n [] h = refl
 past_on n (l ∷ past) h =
-    let g = both_true (nat_lt l.packet n) (are_past n past) h in
+    let g = and_parts (nat_lt l.packet n) (are_past n past) h in
     let lt = ltb-true l.packet n g.0 in
-    both (nat_lt l.packet (n + 1)) (are_past (n + 1) past) (lt-ltb l.packet (n + 1) (omega (arith, lt))) (past_on n past g.1)
+    and_from (nat_lt l.packet (n + 1)) (are_past (n + 1) past) (lt-ltb l.packet (n + 1) (omega (arith, lt))) (past_on n past g.1)
 
 pub past_more : (n : ℕ) (past : List ScriptLine) (l : ScriptLine) → are_past n past ≡ true → l.packet ≡ n → are_past (n + 1) (past ++ l ∷ []) ≡ true
-past_more n [] l h e = both (nat_lt l.packet (n + 1)) true (lt-ltb l.packet (n + 1) (omega (arith, e))) refl
+past_more n [] l h e = and_from (nat_lt l.packet (n + 1)) true (lt-ltb l.packet (n + 1) (omega (arith, e))) refl
 past_more n (k ∷ past) l h e =
-    let g = both_true (nat_lt k.packet n) (are_past n past) h in
+    let g = and_parts (nat_lt k.packet n) (are_past n past) h in
     let lt = ltb-true k.packet n g.0 in
-    both (nat_lt k.packet (n + 1)) (are_past (n + 1) (past ++ l ∷ [])) (lt-ltb k.packet (n + 1) (omega (arith, lt))) (past_more n past l g.1 e)
+    and_from (nat_lt k.packet (n + 1)) (are_past (n + 1) (past ++ l ∷ [])) (lt-ltb k.packet (n + 1) (omega (arith, lt))) (past_more n past l g.1 e)
 
 -- ---- the line that comes next
 

@@ -5,7 +5,7 @@ use Rattle.std.specs.List.{list_all}
 use Rattle.std.specs.Char.{is_ascii_digit}
 use Rattle.std.specs.Str.Parse.{digits_value, digits_value_after}
 use Rattle.std.specs.Char.{digit_value as std_digit}
-use Rattle.std.proofs.lemmas.Bool.{lt-ltb}
+use Rattle.std.proofs.lemmas.Bool.{lt-ltb, and_from}
 use Rattle.std.proofs.lemmas.List.{take-append-le, drop-append-le, length-drop}
 use Rattle.std.proofs.lemmas.Bool.Decides.{nat_tests}
 use Rattle.std.proofs.lemmas.List.Folds.{list_all-append}
@@ -15,7 +15,7 @@ use Rattle.automations.specs.declared.script_text.Line.{Line}
 use Rattle.automations.specs.ScriptLines.{ScriptLine, are_sound, lines_from}
 use Rattle.automations.specs.ScriptReading.{last_end, next_line_number}
 use Rattle.automations.specs.ScriptText.{IsLine, SpellsLines}
-use Rattle.automations.proofs.ScriptLemmas.{both, first_sound}
+use Rattle.automations.proofs.ScriptLemmas.{first_sound}
 
 -- ---- hexadecimal digits
 
@@ -57,7 +57,7 @@ pub value_more : (ds : List ℕ) (c n : ℕ) → is_ascii_digit c ≡ true → d
 value_more ds c n h e = value_after 0 ds c ∙ ap (λ v. v * 10 + std_digit c) e ∙ ap (λ v. n * 10 + v) (std_value c h)
 
 pub digits_more : (ds : List ℕ) (c : ℕ) → list_all is_ascii_digit ds ≡ true → is_ascii_digit c ≡ true → list_all is_ascii_digit (ds ++ c ∷ []) ≡ true
-digits_more ds c h k = list_all-append is_ascii_digit ds (c ∷ []) ∙ both (list_all is_ascii_digit ds) (list_all is_ascii_digit (c ∷ [])) h (both (is_ascii_digit c) true k refl)
+digits_more ds c h k = list_all-append is_ascii_digit ds (c ∷ []) ∙ and_from (list_all is_ascii_digit ds) (list_all is_ascii_digit (c ∷ [])) h (and_from (is_ascii_digit c) true k refl)
 
 pub number_is : (ds : List ℕ) (n : ℕ) → 0 < length ds → list_all is_ascii_digit ds ≡ true → digits_value 10 ds ≡ n → n < 18446744073709551616 → number_below ds 18446744073709551616 ≡ Some n
 number_is ds n some h e lt =

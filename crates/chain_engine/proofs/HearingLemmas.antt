@@ -9,7 +9,7 @@ use Rattle.scte104_codec.specs.declared.framing.Frame.{Frame}
 use Rattle.scte104_codec.specs.declared.framing.Frame.TheVariants.{NeedMore, Whole, BadSize}
 use Rattle.scte104_codec.specs.Framing.{frame_of}
 use Rattle.as_session.specs.Pending.{is_partial}
-use Rattle.as_session.specs.Feeding.{State, opened, shut, nothing, message, closed, Fed, feed_of, fed_by}
+use Rattle.as_session.specs.Feeding.{State, opened, shut, nothing, message, tells_shut, Fed, feed_of, fed_by}
 use Rattle.as_session.specs.Messages.{messages_of}
 use Rattle.as_session.specs.Runs.{messages_in, take_within}
 use Rattle.as_session.specs.Laws.{left_by}
@@ -102,12 +102,12 @@ nothing_left : (s : State) (piece : List ℕ) → (feed_of s piece).gives ≡ no
 nothing_left (opened pending) piece e = let h = nothing_by pending piece (frame_of (pending ++ piece)) e in (h.0, (pending ++ piece, h.1))
 nothing_left shut piece e = absurd (cc)
 
-closed_by : (pending piece : List ℕ) (f : Frame) → (fed_by pending piece f).gives ≡ closed → (fed_by pending piece f).after ≡ shut
+closed_by : (pending piece : List ℕ) (f : Frame) → (fed_by pending piece f).gives ≡ tells_shut → (fed_by pending piece f).after ≡ shut
 closed_by pending piece (NeedMore n) e = absurd (cc)
 closed_by pending piece (Whole size) e = absurd (cc)
 closed_by pending piece BadSize e = refl
 
-closed_after : (s : State) (piece : List ℕ) → (feed_of s piece).gives ≡ closed → (feed_of s piece).after ≡ shut
+closed_after : (s : State) (piece : List ℕ) → (feed_of s piece).gives ≡ tells_shut → (feed_of s piece).after ≡ shut
 closed_after (opened pending) piece e = closed_by pending piece (frame_of (pending ++ piece)) e
 closed_after shut piece e = refl
 
@@ -162,7 +162,7 @@ module _ (stream piece front rest : List ℕ) (parts : piece ≡ front ++ rest) 
         (reached_messages (stream ++ piece) (feed_of s rest).after _ there, left_open _ p (messages_of (stream ++ piece)).rest (frame_of (messages_of (stream ++ piece)).rest) left (reached_state (stream ++ piece) (feed_of s rest).after _ there))
 
     -- a bad size
-    pub hears_bad : (feed_of s rest).gives ≡ closed → HearsPiece stream piece (ms ++ messages_in (feed_of s rest).gives) (feed_of s rest).after (Some end.BadSize)
+    pub hears_bad : (feed_of s rest).gives ≡ tells_shut → HearsPiece stream piece (ms ++ messages_in (feed_of s rest).gives) (feed_of s rest).after (Some end.BadSize)
     hears_bad e =
         let n = (feed_of s rest).used in
         let here = subst (λ x. Reached (stream ++ (front ++ take n rest)) x ((messages_of stream).messages ++ (ms ++ messages_in (feed_of s rest).gives))) (closed_after s rest e) reached_more in
@@ -229,7 +229,7 @@ module _ {J : Type 0} (judges : J → MessageReading → Reply → J → Type 0)
     pub ends_whole : (s' : State) → Replied judges j k (messages_in (feed_of s rest).gives) rs false b → s' ≡ (feed_of s rest).after → (feed_of s rest).gives ≡ nothing → Ends s' false None
     ends_whole s' one after e = ends_so s' false None one after (hears_all stream piece so_far.front rest so_far.parts s so_far.ms so_far.reached e)
 
-    pub ends_bad : (s' : State) → Replied judges j k (messages_in (feed_of s rest).gives) rs false b → s' ≡ (feed_of s rest).after → (feed_of s rest).gives ≡ closed
+    pub ends_bad : (s' : State) → Replied judges j k (messages_in (feed_of s rest).gives) rs false b → s' ≡ (feed_of s rest).after → (feed_of s rest).gives ≡ tells_shut
         → Ends s' false (Some end.BadSize)
     ends_bad s' one after e = ends_so s' false (Some end.BadSize) one after (hears_bad stream piece so_far.front rest so_far.parts s so_far.ms so_far.reached e)
 

@@ -25,11 +25,12 @@ use Rattle.splice_plans.specs.Switching.{switched_at_packet}
 use Rattle.splice_switch.specs.declared.switch.Switch.{Switch}
 use Rattle.splice_switch.specs.Standing.{SwitchStandsFor, FeedFails}
 use Rattle.outgoing_packets.specs.Faults.{KeepsSink}
+use Rattle.outgoing_packets.proofs.NumberLemmas.{front-moved}
 use Rattle.chain_engine.specs.Runs as runs
 use Rattle.chain_engine.specs.Splices.{switch_sends}
 use Rattle.chain_engine.specs.Nested.{WasFed, SwitchFails, fed_behind, FeedingHolds, FeedingFails, IsSoundNetwork, PassFails}
 use Rattle.chain_engine.proofs.StopLemmas.{reverse_onto}
-use Rattle.chain_engine.proofs.SpliceLemmas.{sent_more, fails_so}
+use Rattle.chain_engine.proofs.SpliceLemmas.{sent_more}
 
 -- ---- the list tells both of its parts
 
@@ -95,7 +96,7 @@ module _ {K : Type 0} (holds : K → Option (List ℕ) → List (List ℕ) → T
       subst (λ w. holds w start (h.before ++ switch_sends c filed h.fed)) (sym kept) h.was_fed.sent,
     )
     why (Sink f) kept refuses =
-        fails_so (switched_at_packet (setting_of c filed) p (reverse h.fed)) (λ put q. fails out' start ((h.before ++ switch_sends c filed h.fed) ++ put) q f) (λ put q. fails out' start (h.before ++ (switch_sends c filed h.fed ++ put)) q f)
+        front-moved (switched_at_packet (setting_of c filed) p (reverse h.fed)) (λ put q. fails out' start ((h.before ++ switch_sends c filed h.fed) ++ put) q f) (λ put q. fails out' start (h.before ++ (switch_sends c filed h.fed ++ put)) q f)
         (λ put q. subst (λ l. fails out' start l q f) (append_assoc h.before (switch_sends c filed h.fed) put))
         (refuses (h.before ++ switch_sends c filed h.fed) (reverse h.fed) h.was_fed.sent h.was_fed.stands)
     why Failed kept refuses = absurd (refuses (h.before ++ switch_sends c filed h.fed) (reverse h.fed) h.was_fed.sent h.was_fed.stands)

@@ -19,7 +19,6 @@ use Rattle.program_follower.specs.FirstFault.{network_test}
 use Rattle.program_follower.specs.Purposes.{reading_cues}
 use Rattle.program_follower.proofs.RunLemmas.{ends_sound}
 use Rattle.ad_library.specs.Advertisements.{Advertisement}
-use Rattle.outgoing_packets.specs.Numbers.{FrontFails}
 use Rattle.splice_plans.specs.declared.report.SwitchReport.{SwitchReport}
 use Rattle.splice_plans.specs.Adverts.{setting_of}
 use Rattle.splice_plans.specs.Switching.{switched_past, switched_at_packet, rest_at}
@@ -27,6 +26,7 @@ use Rattle.splice_plans.specs.Reporting.{ReportIs, report_of}
 use Rattle.splice_switch.specs.declared.switch.Switch.{Switch}
 use Rattle.splice_switch.specs.Standing.{SwitchStandsFor, FeedFails, FinishFails}
 use Rattle.outgoing_packets.specs.Faults.{KeepsSink}
+use Rattle.outgoing_packets.proofs.NumberLemmas.{front-moved}
 use Rattle.chain_engine.specs.Stops.{as_run_fault, first_run_fault}
 use Rattle.chain_engine.specs.Splices.{switch_sends, SplicesAll, SpliceLeaves, SpliceStops}
 use Rattle.chain_engine.specs.declared.chain.RunFault.TheVariants.{Read, Feed}
@@ -104,18 +104,14 @@ module _ (c : Config) (filed : ℕ → Option Advertisement) where
         packets_stop (reading_cues c) ps h.sound (SpliceLeaves c filed (Feed (Sink f)) (is_out t) fails) input left left' p r g (Sink f) tt (λ bs rest. k)
     feed_stops switch is_out fails s t input left left' p r g h Failed kept k = absurd k
 
--- what follows from how a sink failed
-pub fails_so : (packets : List (List ℕ)) (fails fails' : List (List ℕ) → List ℕ → Type 0) → ((put : List (List ℕ)) (q : List ℕ) → fails put q → fails' put q) → FrontFails packets fails → FrontFails packets fails'
-fails_so packets fails fails' so h = record { put = h.put; packet = h.packet; left = h.left; all = h.all; fault = so h.put h.packet h.fault }
-
 pub feed_fails_so : (fault : FeedFault) (c : Config) (filed : ℕ → Option Advertisement) (p : List ℕ) (past : List (List ℕ)) (fails fails' : List (List ℕ) → List ℕ → PutFault → Type 0)
     → ((put : List (List ℕ)) (q : List ℕ) (f : PutFault) → fails put q f → fails' put q f) → FeedFails fault c filed p past fails → FeedFails fault c filed p past fails'
 feed_fails_so (Network f) c filed p past fails fails' so h = h
-feed_fails_so (Sink f) c filed p past fails fails' so h = fails_so (switched_at_packet (setting_of c filed) p past) (λ put q. fails put q f) (λ put q. fails' put q f) (λ put q. so put q f) h
+feed_fails_so (Sink f) c filed p past fails fails' so h = front-moved (switched_at_packet (setting_of c filed) p past) (λ put q. fails put q f) (λ put q. fails' put q f) (λ put q. so put q f) h
 feed_fails_so Failed c filed p past fails fails' so h = absurd h
 
 pub finish_fails_so : (fault : FeedFault) (c : Config) (filed : ℕ → Option Advertisement) (past : List (List ℕ)) (fails fails' : List (List ℕ) → List ℕ → PutFault → Type 0)
     → ((put : List (List ℕ)) (q : List ℕ) (f : PutFault) → fails put q f → fails' put q f) → FinishFails fault c filed past fails → FinishFails fault c filed past fails'
 finish_fails_so (Network f) c filed past fails fails' so h = absurd h
-finish_fails_so (Sink f) c filed past fails fails' so h = fails_so (rest_at (setting_of c filed) past) (λ put q. fails put q f) (λ put q. fails' put q f) (λ put q. so put q f) h
+finish_fails_so (Sink f) c filed past fails fails' so h = front-moved (rest_at (setting_of c filed) past) (λ put q. fails put q f) (λ put q. fails' put q f) (λ put q. so put q f) h
 finish_fails_so Failed c filed past fails fails' so h = absurd h

@@ -5,7 +5,7 @@ use Rattle.scte104_codec.specs.Reading.{MessageReading}
 use Rattle.scte104_codec.specs.Replies.{reply_bytes}
 use Rattle.scte104_codec.specs.Framing.{frame_of}
 use Rattle.scte104_codec.specs.declared.framing.Frame.TheVariants.{BadSize}
-use Rattle.as_session.specs.Feeding.{State, opened, Fed, nothing, message, closed}
+use Rattle.as_session.specs.Feeding.{State, opened, Fed, nothing, message, tells_shut}
 use Rattle.as_session.specs.Messages.{messages_of}
 use Rattle.chain_engine.specs.Automation.{Answer, answer_of}
 use Rattle.chain_engine.specs.Judging.{JudgesAll}
@@ -40,7 +40,7 @@ abbrev pub HeardAs : Fed → ℕ → Heard → Type 0
 HeardAs fed size heard.Nothing = fed.gives ≡ nothing
 HeardAs fed size (heard.Answered used is_given) =
     (m : List ℕ) × (fed.gives ≡ message m) × (used ≡ fed.used) × (0 < used) × (used ≤ size)
-HeardAs fed size heard.Closed = fed.gives ≡ closed
+HeardAs fed size heard.Closed = fed.gives ≡ tells_shut
 
 -- ---- one piece
 

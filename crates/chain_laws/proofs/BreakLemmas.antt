@@ -3,31 +3,29 @@ use Rattle.std.specs.Prelude.{◌<ℤ◌, ◌≤ℤ◌, ◌+ℤ◌, ℤ, pos, in
 use Rattle.std.proofs.Common.{◌≡◌, ◌⊎◌, inl, inr, refl, sym, ap, ◌∙◌, subst, ℕ, ◌<◌, List, [], ◌∷◌, ◌++◌, length, Bool, true, arith}
 use Rattle.std.proofs.lemmas.Int.{ints}
 use Rattle.std.proofs.lemmas.List.Sums.{length-filter}
+use Rattle.ts_packet.proofs.Cases.{by_test}
 use Rattle.program_follower.specs.Following.{high_of}
 use Rattle.psi_tables.specs.declared.config.Config.{Config}
 use Rattle.event_table.specs.Standing.{Standing}
 use Rattle.armed_laws.specs.Laws.{IsApartOf, NoneMeet}
 use Rattle.armed_laws.proofs.MeetLemmas.{none-meet}
 use Rattle.splice_plans.specs.Playing.{put_by_start, by_start}
-use Rattle.injector.specs.Turns.{Turn, high, events}
-use Rattle.injector.specs.Senders.{senders, events_in}
-use Rattle.injector.proofs.SenderLemmas.{senders-events}
-use Rattle.cue_laws.specs.Cueing.{senders as line_senders}
+use Rattle.injector.specs.Turns.{events}
 use Rattle.injector.specs.Steps.{Step, Message, Packet, turns_in, cued}
 use Rattle.cue_laws.specs.Events.{LineEvent, In}
 use Rattle.cue_laws.specs.Events.{events as line_events}
-use Rattle.cue_laws.proofs.Settling.{by_test, lt-test, ge-test}
+use Rattle.cue_laws.proofs.Settling.{lt-test, ge-test}
 use Rattle.cue_laws.proofs.Lists.{In-filter, In-filtered}
 use Rattle.cue_laws.proofs.Lists.{Distinct as LineDistinct}
 use Rattle.cue_laws.proofs.Fair.{stand}
-use Rattle.path_laws.specs.Path.{asked_line, IsSteadyHistory}
+use Rattle.path_laws.specs.Path.{asked_line}
 use Rattle.path_laws.specs.Packets.{IsRunOf}
 use Rattle.path_laws.proofs.Alike.{Alike, In-pushed, alike-in}
 use Rattle.path_laws.proofs.Switch.{IsView}
 use Rattle.path_laws.proofs.Requests.{stood}
-use Rattle.path_laws.proofs.Senders.{view-senders}
 use Rattle.path_laws.proofs.Packets.{run-history}
 use Rattle.path_laws.proofs.Whole.{cued_stream_arms}
+use Rattle.path_laws.proofs.Proofs.{events-alike}
 use Rattle.chain_laws.specs.Breaks.{accepted_by, armed_by, SameTaken, BreaksAreArmed}
 
 -- ---- no two have one start
@@ -58,13 +56,6 @@ distinct-alike xs (y ∷ ys) a d =
     (distinct-pushed a.0 a.1 (distinct-alike a.0 ys a.4 d.1)
     (λ b i is. let r = alike-in IsView b a.0 ys a.4 i in
     d.0 r.0 r.1 (ap (λ (e : LineEvent). e.start) (sym r.2) ∙ is ∙ ap (λ (e : LineEvent). e.start) a.3)))
-
--- the injector's events on the line
-events-alike : (index : ℕ) (past : List Turn) → IsSteadyHistory index past → Alike IsView (events index past) (line_events (asked_line index past))
-events-alike index past i =
-    let s = stood index past i in
-    subst (λ xs. Alike IsView xs (line_events (asked_line index past))) (senders-events index past)
-    (subst (Alike IsView (events_in (senders index past))) (stand (asked_line index past) s.accepted).same (view-senders (high past) (senders index past) (line_senders (asked_line index past)) s.alike))
 
 pub accepted-distinct : (c : Config) (steps : List Step) → IsRunOf c steps → Distinct (accepted_by c steps)
 accepted-distinct c steps r =

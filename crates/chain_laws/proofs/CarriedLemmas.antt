@@ -1,8 +1,8 @@
 -- What a switched stream of the output carries, said of the network's packets.
-use Rattle.std.proofs.Common.{◌≡◌, ℕ, ℤ, suc, ◌<◌, inl, inr, arith, List, [], ◌∷◌, ◌++◌, Bool, true, false, ◌&&◌, ◌||◌, refl, sym, ap, ◌∙◌, subst, Option, None, Some, if◌then◌else◌, length, drop, map, reverse, append_assoc}
-use Rattle.std.specs.Prelude.{filter, All, Contains, is_some, int_lt, not, ◌==◌}
+use Rattle.std.proofs.Common.{◌≡◌, ℕ, ℤ, ◌<◌, List, [], ◌∷◌, ◌++◌, Bool, true, false, ◌&&◌, ◌||◌, refl, sym, ap, ◌∙◌, subst, Option, None, Some, if◌then◌else◌, length, drop, map, reverse, append_assoc}
+use Rattle.std.specs.Prelude.{filter, All, is_some, int_lt, not, ◌==◌}
 use Rattle.std.specs.List.{AllByRecursion}
-use Rattle.std.proofs.lemmas.Bool.{true≢false}
+use Rattle.std.proofs.lemmas.Bool.{true≢false, or_parts, eqb-true}
 use Rattle.std.proofs.lemmas.List.{append_cancel_left, reverse-reverse}
 use Rattle.std.proofs.lemmas.List.Elements.{All-nil, All-cons, filter-append}
 use Rattle.ts_packet.specs.Fields.{on, payload_on, pid_of, on_one, is_among}
@@ -16,7 +16,6 @@ use Rattle.psi_tables.specs.declared.config.Config.{Config}
 use Rattle.program_follower.specs.declared.purpose.Listed.{Listed}
 use Rattle.program_follower.specs.Program.{Program, listed, program_of, behind_head, pids_of}
 use Rattle.program_follower.specs.Following.{streams_of_program}
-use Rattle.program_follower.proofs.StreamLemmas.{one_pid}
 use Rattle.program_laws.specs.Behind.{TakesAll}
 use Rattle.event_table.specs.Standing.{Standing, end_of}
 use Rattle.ad_library.specs.Advertisements.{Advertisement}
@@ -26,8 +25,6 @@ use Rattle.splice_laws.specs.Laws.{AreOrdered, IsCrossedOnce}
 use Rattle.splice_laws.specs.Streams.{IsOnce}
 use Rattle.splice_laws.specs.Ends.{up_to_end}
 use Rattle.output_laws.specs.Spliced.{placed_payloads}
-use Rattle.output_laws.proofs.GaplessLemmas.{test-true}
-use Rattle.output_laws.proofs.StepLemmas.{test-same}
 use Rattle.splice_plans.specs.Playing.{Adverts, is_played, is_crossed, put_by_start, by_start, played, as_played, end_known}
 use Rattle.splice_plans.specs.Histories.{AreSteady}
 use Rattle.splice_plans.specs.Adverts.{adverts_of, packed_units, setting_of}
@@ -43,6 +40,9 @@ use Rattle.switch_laws.proofs.IntervalLemmas.{intervals-ordered}
 use Rattle.switch_laws.proofs.SliceLemmas.{slices_are_whole, slices_go_to_an_end}
 use Rattle.switch_laws.proofs.StreamLemmas.{streams_carry, all-reversed}
 use Rattle.switch_laws.proofs.WholeLemmas.{head-joined}
+use Rattle.switch_laws.proofs.SectionLemmas.{none-switches}
+use Rattle.switch_laws.proofs.OtherLemmas.{among-self}
+use Rattle.switch_laws.proofs.RunLemmas.{once-contained}
 use Rattle.armed_laws.proofs.MeetLemmas.{none-meet}
 use Rattle.chain_laws.specs.Breaks.{accepted_by, armed_by, SameTaken}
 use Rattle.chain_laws.specs.Runs.{switched_by, program_by, behind_by, run_by, head_by, adverts_by, played_by, IsWholeRun}
@@ -55,32 +55,16 @@ use Rattle.chain_laws.proofs.UnitSpliceLemmas.{placed_is_unit_splice}
 
 -- ---- PIDs
 
-or-parts : (a b : Bool) → (a || b) ≡ false → (a ≡ false) × (b ≡ false)
-or-parts true b h = absurd (true≢false h)
-or-parts false b h = (refl, h)
-
--- a packet of another PID is of none of these
-pub apart-on : (pids : List ℕ) (a : ℕ) (q : List ℕ) → is_among a pids ≡ false → on a q ≡ true → on_one pids q ≡ false
-apart-on [] a q n o = refl
-apart-on (x ∷ pids) a q n o =
-    let r = or-parts (x == a) (is_among a pids) n in
-    by_test (on x q)
-    (λ y. absurd (true≢false (sym (ap (λ m. m == a) (one_pid x a q y o) ∙ test-same a) ∙ r.0)))
-    (λ y. simp y (apart-on pids a q r.1 o))
-
 pub off-one : (pids : List ℕ) (pid : ℕ) (q : List ℕ) → is_among pid pids ≡ true → on_one pids q ≡ false → on pid q ≡ false
 off-one [] pid q a n = absurd (true≢false (sym a))
 off-one (x ∷ pids) pid q a n =
-    let r = or-parts (on x q) (on_one pids q) n in
+    let r = or_parts (on x q) (on_one pids q) n in
     by_test (x == pid)
-    (λ e. ap (λ m. on m q) (sym (test-true x pid e)) ∙ r.0)
+    (λ e. ap (λ m. on m q) (sym (eqb-true x pid e)) ∙ r.0)
     (λ e. off-one pids pid q (simp e at a) r.1)
 
 pub takes-pid : (pids : List ℕ) (pid : ℕ) → is_among pid pids ≡ true → TakesAll (on_one pids) pid
 takes-pid pids pid a q n = off_payload pid q (off-one pids pid q a n)
-
-among-first : (x : ℕ) (pids : List ℕ) → is_among x (x ∷ pids) ≡ true
-among-first x pids = ap (λ b. b || is_among x pids) (test-same x)
 
 among-later : (x y : ℕ) (pids : List ℕ) → is_among x pids ≡ true → is_among x (y ∷ pids) ≡ true
 among-later x y pids h = or-true (y == x) (is_among x pids) h
@@ -91,23 +75,10 @@ among-later x y pids h = or-true (y == x) (is_among x pids) h
 
 takes-each : (pids all : List ℕ) → ((x : ℕ) → is_among x pids ≡ true → is_among x all ≡ true) → AllByRecursion (TakesAll (on_one all)) pids
 takes-each [] all h = tt
-takes-each (x ∷ pids) all h = (takes-pid all x (h x (among-first x pids)), takes-each pids all (λ y a. h y (among-later y x pids a)))
+takes-each (x ∷ pids) all h = (takes-pid all x (h x (among-self x pids)), takes-each pids all (λ y a. h y (among-later y x pids a)))
 
 pub takes-own : (pids : List ℕ) → AllByRecursion (TakesAll (on_one pids)) pids
 takes-own pids = takes-each pids pids (λ x a. a)
-
-once-contained : (pid : ℕ) (pids : List ℕ) → IsOnce pid pids → Contains pids pid
-once-contained pid [] o = absurd o
-once-contained pid (q ∷ qs) (inl o) = (0, first-below, o.0)
-  where
-    first-below : 0 < length (q ∷ qs)
-    first-below = omega arith
-once-contained pid (q ∷ qs) (inr o) =
-    let c = once-contained pid qs o.1 in
-    (suc c.0, suc-below c.0 (length qs) c.1, c.2)
-  where
-    suc-below : (a b : ℕ) → a < b → suc a < suc b
-    suc-below a b h = omega (arith, h)
 
 -- ---- streams
 
@@ -130,7 +101,7 @@ crossed-after : (r : TimedStream) (edge : ℤ) (past ps : List (List ℕ)) → i
 crossed-after r edge past [] h = (All-nil (Crossed r edge), h)
 crossed-after r edge past (p ∷ ps) h =
     let m = crossed-after r edge (p ∷ past) ps h in
-    let o = or-parts (is_crossed r edge past) _ m.1 in
+    let o = or_parts (is_crossed r edge past) _ m.1 in
     (All-cons (Crossed r edge) (record { packet = p; past = past }) (seen_after (p ∷ past) ps) (one-crossed o.1) m.0, o.0)
   where
     one-crossed : (r.begins p past && (passed r edge past && below edge (r.time (p ∷ past)))) ≡ false → r.begins p past ≡ true → passed r edge past ≡ true → below edge (r.time (p ∷ past)) ≡ false
@@ -195,7 +166,7 @@ module _ (c : Config) (filed : ℕ → Option Advertisement) (steps : List Step)
   same-behind = (reads c filed steps w.run).packets
 
   pub same-all : filter (on_one (switched_by c steps)) (cued c steps) ≡ filter (on_one (switched_by c steps)) (packets_in steps)
-  same-all = others c filed steps w.run (on_one (switched_by c steps)) (λ q y. apart-on (switched_by c steps) c.cue_pid q cue-apart y) (λ l h q y. apart-on (switched_by c steps) l.pid q (map-apart l h) y)
+  same-all = others c filed steps w.run (on_one (switched_by c steps)) (λ q y. none-switches (switched_by c steps) c.cue_pid q cue-apart y) (λ l h q y. none-switches (switched_by c steps) l.pid q (map-apart l h) y)
 
   abbrev network_head : List (List ℕ)
   network_head = drop (length (behind_by c steps)) (packets_in steps)

@@ -7,6 +7,7 @@ use Rattle.ts_packet.specs.Fields.{on, pcr, pid_of, in_error, adaptation_control
 use Rattle.ts_packet.proofs.Cases.{by_test}
 use Rattle.ts_packet.proofs.RunLemmas.{filter-reverse}
 use Rattle.unit_packing.specs.Packing.{room, field, unit_packet, later_unit_packets}
+use Rattle.unit_packing.proofs.SaidLemmas.{flags_clock}
 use Rattle.psi_tables.specs.declared.config.Config.{Config}
 use Rattle.ad_library.specs.Advertisements.{Advertisement}
 use Rattle.injector.specs.Steps.{Step, packets_in, cued}
@@ -39,26 +40,12 @@ full-bare a b d n part h =
     let control : (16 + n) / 16 % 4 ≡ 1 = omega (arith, h) in
     no-flag (in_error p) (adaptation_control p == 2 || adaptation_control p == 3) (nat_le 7 (adaptation_length p)) (slice_index p 5 / 16 % 2 == 1) (take 6 (drop 6 p)) (rw control refl)
 
--- the flags: none in a field of length 0
-field-bare : (access : Bool) (l : ℕ) (part : List ℕ) → (nat_le 7 l && (slice_index (field access l ++ part) 0 / 16 % 2 == 1)) ≡ false
-field-bare access zero part = refl
-field-bare true (suc j) part = and-false (nat_le 7 (suc j))
-  where
-    and-false : (b : Bool) → (b && false) ≡ false
-    and-false true = refl
-    and-false false = refl
-field-bare false (suc j) part = and-false (nat_le 7 (suc j))
-  where
-    and-false : (b : Bool) → (b && false) ≡ false
-    and-false true = refl
-    and-false false = refl
-
 stuffed-bare : (a b d x l : ℕ) (access : Bool) (part : List ℕ) → pcr (a ∷ b ∷ d ∷ x ∷ l ∷ (field access l ++ part)) ≡ None
 unfolding pcr
 stuffed-bare a b d x l access part =
     let p = a ∷ b ∷ d ∷ x ∷ l ∷ (field access l ++ part) in
     no-flag (in_error p) (adaptation_control p == 2 || adaptation_control p == 3) (nat_le 7 l) (slice_index p 5 / 16 % 2 == 1) (take 6 (drop 6 p))
-    (within (adaptation_control p == 2 || adaptation_control p == 3) _ (field-bare access l part))
+    (within (adaptation_control p == 2 || adaptation_control p == 3) _ (flags_clock access l part))
   where
     within : (a b : Bool) → b ≡ false → (a && b) ≡ false
     within true b h = h

@@ -1,12 +1,11 @@
 -- From what a run answers to the headline.
-use Rattle.std.proofs.Common.{◌≡◌, ℕ, zero, suc, ◌*◌, ◌/◌, ◌-◌, ◌≤◌, List, [], ◌∷◌, refl, sym, ap, ◌∙◌, subst, Option, None, Some, length, drop, reverse, min, arith}
-use Rattle.std.specs.Prelude.{option_map}
+use Rattle.std.proofs.Common.{◌≡◌, ℕ, zero, suc, ◌*◌, ◌/◌, ◌-◌, ◌≤◌, List, [], ◌∷◌, refl, sym, ap, ◌∙◌, subst, Option, None, length, drop, reverse, min, arith}
 use Rattle.std.specs.Option.{option_or}
 use Rattle.std.specs.List.{AllByRecursion}
 use Rattle.std.proofs.lemmas.List.{reverse-reverse, length-take, length-drop}
 use Rattle.ts_packet.specs.Packets.{packets_of, last_part, packet_fault, parts}
 use Rattle.ts_packet.specs.Runs.{Seen, seen_after, onto}
-use Rattle.ts_packet.specs.FirstFault.{or_then, first_of, named, fault_of, fault_behind}
+use Rattle.ts_packet.specs.FirstFault.{first_of, named, fault_of, fault_behind}
 use Rattle.wire_fields.specs.Numbers.{AreBytes}
 use Rattle.wire_fields.proofs.Cells.{AreBytes-take, AreBytes-drop}
 use Rattle.psi_tables.specs.declared.config.Config.{Config}
@@ -14,6 +13,7 @@ use Rattle.program_follower.specs.declared.purpose.Purpose.{Purpose}
 use Rattle.program_follower.specs.Faults.{first_fault, network_fault}
 use Rattle.program_follower.specs.FirstFault.{network_test}
 use Rattle.program_laws.specs.Writing.{Along}
+use Rattle.program_laws.proofs.FirstFaultLemmas.{or_none, no_test}
 use Rattle.ad_library.specs.Advertisements.{Advertisement}
 use Rattle.ad_library.specs.declared.library.AdLibrary.{AdLibrary}
 use Rattle.ad_library.specs.Library.{held, IsLibrary}
@@ -25,11 +25,11 @@ use Rattle.splice_plans.specs.Reporting.{ReportIs, report_of}
 use Rattle.switch_laws.specs.Laws.{ArePackets}
 use Rattle.switch_laws.proofs.StreamLemmas.{all-reversed}
 use Rattle.chain_engine.specs.Automation.{Take}
-use Rattle.chain_engine.specs.Talks.{judged_before}
 use Rattle.chain_engine.specs.Stops.{as_run_fault, first_run_fault}
-use Rattle.chain_engine.specs.Runs.{asked, steps_of}
+use Rattle.chain_engine.specs.Runs.{steps_of}
 use Rattle.chain_engine.specs.declared.chain.RunFault.{RunFault}
 use Rattle.chain_engine.specs.declared.chain.RunFault.TheVariants.{Read}
+use Rattle.chain_engine.proofs.StepsLemmas.{steps_packets}
 use Rattle.chain_laws.specs.Breaks.{EndsWithPacket}
 use Rattle.chain_laws.specs.Runs.{IsWholeRun}
 use Rattle.chain_laws.specs.Headline.{history_of, IsGiven, IsSpliced, RunsAreSo, HistoriesAreSo}
@@ -44,14 +44,6 @@ use Rattle.chain_laws.proofs.UnchangedLemmas.{others-unchanged, unlisted-unchang
 use Rattle.program_follower.specs.Purposes.{writing_cues}
 
 -- ---- the history
-
-asked-packets : (ms : List (List ℕ)) (past : List Step) → packets_in (asked ms past) ≡ packets_in past
-asked-packets [] past = refl
-asked-packets (m ∷ ms) past = asked-packets ms _
-
-history-packets : (most : ℕ) (ts : List Take) (past : List (List ℕ)) → packets_in (steps_of most ts past) ≡ past
-history-packets most ts [] = refl
-history-packets most ts (p ∷ past) = ap (λ l. p ∷ l) (asked-packets (judged_before most ts (length past)) (steps_of most ts past) ∙ history-packets most ts past)
 
 history-ends : (most : ℕ) (ts : List Take) (past : List (List ℕ)) → EndsWithPacket (steps_of most ts past)
 history-ends most ts [] = tt
@@ -88,14 +80,6 @@ bytes-onto past (p ∷ ps) h k = bytes-onto (p ∷ past) ps (k.0, h) k.1
 
 -- ---- without fault
 
-or_none : {A : Type 0} (x y : Option A) → or_then x y ≡ None → (x ≡ None) × (y ≡ None)
-or_none None y h = (refl, h)
-or_none (Some x) y h = absurd (cc)
-
-no_test : {A B : Type 0} (f : A → B) (o : Option A) → option_map f o ≡ None → o ≡ None
-no_test f None h = refl
-no_test f (Some x) h = absurd (cc)
-
 module _ (c : Purpose) where
   abbrev at : Seen → Option RunFault
   at s = fault_of Read (network_test as_run_fault c) s
@@ -119,7 +103,7 @@ module _ (c : Config) (filed : ℕ → Option Advertisement) (library : IsLibrar
   steps = history_of bs ts rs
 
   packets-are : packets_in (history_of bs ts rs) ≡ reverse (packets_of bs)
-  packets-are = history-packets (length rs) ts (reverse (packets_of bs))
+  packets-are = steps_packets (length rs) ts (reverse (packets_of bs))
 
   whole-run : IsGiven bs ts → IsWholeRun c filed (history_of bs ts rs)
   whole-run g = record {

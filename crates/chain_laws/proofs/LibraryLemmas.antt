@@ -2,6 +2,7 @@
 use Rattle.std.proofs.Common.{◌≡◌, ℕ, ℤ, zero, suc, ◌<◌, ◌%◌, List, [], ◌∷◌, ◌++◌, refl, sym, subst, Option, None, Some, length, map, arith}
 use Rattle.std.specs.Prelude.{◌-ℤ◌, filter, slice_get, option_map, ◌==◌}
 use Rattle.std.specs.List.{AllByRecursion}
+use Rattle.std.proofs.lemmas.Bool.{eqb-true}
 use Rattle.ts_packet.proofs.Cases.{by_test}
 use Rattle.pes_time.proofs.ReadLemmas.{restamp_moves_alone}
 use Rattle.pes_time.specs.Line.{ring_of}
@@ -16,7 +17,6 @@ use Rattle.ad_library.specs.Advertisements.{AdvertUnit, AdvertStream, Advertisem
 use Rattle.ad_library.specs.Library.{HasBytes, IsLibrary}
 use Rattle.injector.specs.Steps.{packets_in}
 use Rattle.splice_laws.specs.Splicing.{SliceUnit}
-use Rattle.output_laws.proofs.GaplessLemmas.{test-true}
 use Rattle.splice_plans.specs.Adverts.{slice_unit, units_of, kind_and_place, units_at, packed_units}
 use Rattle.chain_laws.specs.Libraries.{LibrariesArePacked}
 
@@ -39,7 +39,7 @@ program-below (Some m) = switched-below m.entries
 kind-below : (pid : ℕ) (before ss : List Stream) (which : ℕ × ℕ) → kind_and_place pid before ss ≡ Some which → AllByRecursion Below ss → pid < 8192
 kind-below pid before [] which h b = cc
 kind-below pid before (s ∷ ss) which h b = by_test (s.pid == pid)
-    (λ y. subst (λ n. n < 8192) (test-true s.pid pid y) b.0)
+    (λ y. subst (λ n. n < 8192) (eqb-true s.pid pid y) b.0)
     (λ n. kind-below pid (before ++ s ∷ []) ss which (simp n at h) b.1)
 
 -- ---- units

@@ -4,6 +4,7 @@ use Rattle.std.specs.Prelude.{filter}
 use Rattle.std.specs.List.{AllByRecursion}
 use Rattle.std.proofs.lemmas.List.{append-nil, map-append}
 use Rattle.std.proofs.lemmas.List.Elements.{filter-append}
+use Rattle.switch_laws.proofs.SplitLemmas.{filter-onto}
 use Rattle.ts_packet.specs.Fields.{on, number}
 use Rattle.ts_packet.specs.Numbering.{one_past}
 use Rattle.ts_packet.specs.Runs.{onto}
@@ -21,10 +22,6 @@ use Rattle.program_laws.proofs.ReadingLemmas.{since_onto, no_since, no_since_yet
 use Rattle.chain_laws.specs.Tables.{up_to_pat}
 
 -- ---- lists
-
-pub filter-onto : (f : List ℕ → Bool) (past qs : List (List ℕ)) → filter f (onto past qs) ≡ onto (filter f past) (filter f qs)
-filter-onto f past [] = refl
-filter-onto f past (q ∷ qs) = filter-onto f (q ∷ past) qs ∙ by_test (f q) (λ y. simp y refl) (λ n. simp n refl)
 
 pub filter-none : (f : List ℕ → Bool) (qs : List (List ℕ)) → AllByRecursion (λ q. f q ≡ false) qs → filter f qs ≡ []
 filter-none f [] h = refl

@@ -34,17 +34,15 @@ use Rattle.injector.proofs.CuedLemmas.{cued-is-written}
 use Rattle.splice_plans.specs.Adverts.{setting_of}
 use Rattle.splice_plans.specs.Switching.{Setting, switched_at, place_at, rest_at, switching, switched_past}
 use Rattle.switch_laws.proofs.WholeLemmas.{reverse-onto, none-switched}
+use Rattle.switch_laws.proofs.SplitLemmas.{filter-onto}
+use Rattle.switch_laws.proofs.SectionLemmas.{no-more}
 use Rattle.chain_laws.specs.Runs.{switched_by, output_by, IsWholeRun}
 use Rattle.chain_laws.specs.Tables.{up_to_pat, pmt_packets, PmtIsSections}
 use Rattle.chain_laws.proofs.RunLemmas.{reads}
 use Rattle.chain_laws.proofs.CarriedLemmas.{map-apart}
 use Rattle.chain_laws.proofs.TableLemmas.{front-clear, place-clear, end-clear, out-is, stripped-by, not-cue}
-use Rattle.chain_laws.proofs.PmtLemmas.{filter-onto, filter-none, number-own, IsClearOn, step-before, before, up-at, up-behind, map-out}
+use Rattle.chain_laws.proofs.PmtLemmas.{filter-none, number-own, IsClearOn, step-before, before, up-at, up-behind, map-out}
 use Rattle.program_follower.specs.Purposes.{writing_cues}
-
-or-none : (o : Option Listed) → option_or o None ≡ o
-or-none None = refl
-or-none (Some l) = refl
 
 sections-of : (change : ProgramMap → ProgramMap) (ts : List Table) → map (section_out change) ts ≡ map (λ (t : Table). t.section) (map (table_out change) ts)
 sections-of change [] = refl
@@ -94,7 +92,7 @@ module _ (c : Config) (F : List ℕ → List (List ℕ) → List (List ℕ)) (pi
       quiet =
           listed_onto sought (F p past) (sent past)
           ∙ ap (λ ss. option_or (listed sought (sent past)) (first_listed sought ss)) (others_give 0 (F p past) (sent past) (cues-off 0 not-zero (F p past) h.0))
-          ∙ or-none (listed sought (sent past))
+          ∙ no-more (listed sought (sent past))
 
       here : (o : Option Listed) → listed (Some c.program) past ≡ o →
           written (cueing c.cue_pid F) (Some c.program) (p ∷ past) ≡ onto (written (cueing c.cue_pid F) (Some c.program) past) (F p past ++ body (cueing c.cue_pid F) o p past (tables (Some c.program) p past) (written (cueing c.cue_pid F) (Some c.program) past))

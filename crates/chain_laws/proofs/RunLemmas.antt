@@ -50,7 +50,7 @@ each-append : {A : Type 0} (P : A → Type 0) (xs ys : List A) → AllByRecursio
 each-append P [] ys h k = k
 each-append P (x ∷ xs) ys h k = (h.0, each-append P xs ys h.1 k)
 
-each-onto : (P : List ℕ → Type 0) (past ps : List (List ℕ)) → AllByRecursion P past → AllByRecursion P ps → AllByRecursion P (onto past ps)
+pub each-onto : (P : List ℕ → Type 0) (past ps : List (List ℕ)) → AllByRecursion P past → AllByRecursion P ps → AllByRecursion P (onto past ps)
 each-onto P past [] h k = h
 each-onto P past (p ∷ ps) h k = each-onto P (p ∷ past) ps (k.0, h) k.1
 

@@ -1,12 +1,12 @@
 -- The tables of the output, and the PID of the cues.
-use Rattle.std.proofs.Common.{◌≡◌, ℕ, ◌<◌, List, [], ◌∷◌, ◌++◌, Bool, true, false, not, ◌||◌, refl, sym, ap, ◌∙◌, subst, Option, None, Some, if◌then◌else◌, append_assoc, map, reverse}
+use Rattle.std.proofs.Common.{◌≡◌, ℕ, ◌<◌, List, [], ◌∷◌, ◌++◌, Bool, true, false, ◌||◌, refl, sym, ap, ◌∙◌, subst, Option, None, Some, if◌then◌else◌, append_assoc, map, reverse}
 use Rattle.std.specs.Prelude.{filter, option_map, ◌==◌}
 use Rattle.std.specs.Option.{option_or}
 use Rattle.std.specs.List.{AllByRecursion, list_any}
-use Rattle.std.proofs.lemmas.Bool.{true≢false, eq-eqb}
+use Rattle.std.proofs.lemmas.Bool.{true≢false, eq-eqb, or_parts, or_right, eqb-true}
 use Rattle.std.proofs.lemmas.List.{reverse-reverse, append-nil}
 use Rattle.std.proofs.lemmas.List.Elements.{All-head}
-use Rattle.ts_packet.specs.Fields.{in_error, on, pid_of, on_one, is_among}
+use Rattle.ts_packet.specs.Fields.{on, pid_of, on_one, is_among}
 use Rattle.ts_packet.specs.Runs.{onto}
 use Rattle.ts_packet.proofs.Cases.{by_test}
 use Rattle.ts_packet.proofs.RunLemmas.{filter-reverse}
@@ -16,10 +16,10 @@ use Rattle.psi_section.proofs.ReadBackLemmas.{turn_carry}
 use Rattle.wire_fields.specs.Numbers.{AreBytes}
 use Rattle.psi_tables.specs.declared.config.Config.{Config}
 use Rattle.psi_tables.specs.declared.stream.Stream.{Stream}
-use Rattle.psi_tables.specs.Streams.{Entry, pid_in, switched_of, stream_of}
+use Rattle.psi_tables.specs.Streams.{pid_in, switched_of}
 use Rattle.psi_tables.specs.Streams.{is_switched as is_kind_switched}
 use Rattle.psi_tables.specs.ProgramMap.{ProgramMap, pmt, pmt_section, streams_of}
-use Rattle.psi_tables.specs.Cue.{with_cue_entry, without_cue_entry, lists_pid}
+use Rattle.psi_tables.specs.Cue.{with_cue_entry, without_cue_entry}
 use Rattle.program_follower.specs.declared.purpose.Listed.{Listed}
 use Rattle.program_follower.specs.Program.{listed, first_listed, Table, table_of, map_read, tables, all_tables, first_map, known_map, program_in, behind_head, pids_of}
 use Rattle.program_follower.specs.Faults.{is_pid, pids_in, bad_pid, bad_switched, pmt_pid_fault, if_bad}
@@ -29,7 +29,7 @@ use Rattle.program_follower.proofs.StreamLemmas.{one_pid}
 use Rattle.program_laws.specs.Writing.{Along, number_on, section_out, table_out, packets_out, body, Off, MapGoesOut, ChangedGoesOut, IsClear, ReadsAgain, block}
 use Rattle.program_laws.specs.CueEntry.{EntryGoes}
 use Rattle.program_laws.proofs.ByteLemmas.{all_bytes}
-use Rattle.program_laws.proofs.CuedLemmas.{IsRead, all_read}
+use Rattle.program_laws.proofs.CuedLemmas.{IsRead, all_read, any_entries}
 use Rattle.program_laws.proofs.EntryOutLemmas.{entry_goes_out}
 use Rattle.program_laws.proofs.FaultLemmas.{Each-map, Each-both, Each-parts, MapSound, all_sound, pid_good, not_if_bad}
 use Rattle.program_laws.proofs.PacketLemmas.{one_past-below}
@@ -41,64 +41,34 @@ use Rattle.injector.specs.Steps.{cued as sent_cues}
 use Rattle.path_laws.proofs.Packets.{map-pid}
 use Rattle.output_laws.specs.Others.{is_off}
 use Rattle.output_laws.proofs.OtherLemmas.{off_on}
-use Rattle.output_laws.proofs.GaplessLemmas.{test-true}
-use Rattle.output_laws.proofs.StepLemmas.{test-same, pid_is}
 use Rattle.splice_plans.specs.Adverts.{packed_units, setting_of}
 use Rattle.splice_plans.specs.Switching.{Setting, switched_at, history_at, front_at, place_at, place_of, front_of, rest_at, switching, switched_past, end_of_run}
 use Rattle.splice_plans.specs.Known.{adverts_at}
 use Rattle.switch_laws.specs.Whole.{ArePacked, HavePids}
 use Rattle.switch_laws.proofs.FaultlessLemmas.{first-sound}
-use Rattle.switch_laws.proofs.OtherLemmas.{front-off, end-off, place-off}
+use Rattle.switch_laws.proofs.OtherLemmas.{front-off, end-off, place-off, among-self}
 use Rattle.switch_laws.proofs.WholeLemmas.{reverse-onto, packets-each, listed-later, known-later, adverts-same, switched-same, none-switched, not-behind, is-behind}
+use Rattle.switch_laws.proofs.SectionLemmas.{none-switches, among-off}
 use Rattle.chain_laws.specs.Runs.{switched_by, output_by, IsWholeRun}
 use Rattle.chain_laws.specs.Tables.{HasTables, TablesAreTheNetworks}
-use Rattle.chain_laws.proofs.RunLemmas.{reads, cued-pids}
+use Rattle.chain_laws.proofs.RunLemmas.{reads, cued-pids, each-onto}
 use Rattle.chain_laws.proofs.CarriedLemmas.{same-switched, same-adverts, cue-apart, map-apart}
+use Rattle.chain_laws.proofs.PmtLemmas.{filter-none}
 use Rattle.program_follower.specs.Purposes.{writing_cues}
 
 -- ---- packets off a PID
-
-or-parts : (a b : Bool) → (a || b) ≡ false → (a ≡ false) × (b ≡ false)
-or-parts true b h = absurd (true≢false h)
-or-parts false b h = (refl, h)
-
-or-true : (a b : Bool) → b ≡ true → (a || b) ≡ true
-or-true true b h = refl
-or-true false b h = h
 
 each-append : {A : Type 0} (P : A → Type 0) (xs ys : List A) → AllByRecursion P xs → AllByRecursion P ys → AllByRecursion P (xs ++ ys)
 each-append P [] ys h k = k
 each-append P (x ∷ xs) ys h k = (h.0, each-append P xs ys h.1 k)
 
-each-onto : (P : List ℕ → Type 0) (past ps : List (List ℕ)) → AllByRecursion P past → AllByRecursion P ps → AllByRecursion P (onto past ps)
-each-onto P past [] h k = h
-each-onto P past (p ∷ ps) h k = each-onto P (p ∷ past) ps (k.0, h) k.1
-
 none-of : (f : List ℕ → Bool) (ps : List (List ℕ)) → filter f ps ≡ [] → AllByRecursion (λ p. f p ≡ false) ps
 none-of f [] h = tt
 none-of f (p ∷ ps) h = by_test (f p) (λ y. absurd (let bad = simp y at h in cc)) (λ n. (n, none-of f ps (simp n at h)))
 
-none-left : (f : List ℕ → Bool) (ps : List (List ℕ)) → AllByRecursion (λ p. f p ≡ false) ps → filter f ps ≡ []
-none-left f [] h = refl
-none-left f (p ∷ ps) h = let n = h.0 in simp n (none-left f ps h.1)
-
--- a packet of one of these PIDs is of no other
-off-apart : (all : List ℕ) (a : ℕ) (q : List ℕ) → is_among a all ≡ false → is_off all q ≡ false → on a q ≡ false
-off-apart all a q n o =
-    by_test (on a q)
-    (λ y. absurd (true≢false (sym (not-off (is_among (pid_of q) all) (or-parts (in_error q) (not (is_among (pid_of q) all)) o).1) ∙ ap (λ m. is_among m all) (pid_is a q y) ∙ n)))
-    (λ y. y)
-  where
-    not-off : (b : Bool) → not b ≡ false → b ≡ true
-    not-off true h = refl
-    not-off false h = absurd (true≢false h)
-
-among-self : (pid : ℕ) (qs : List ℕ) → is_among pid (pid ∷ qs) ≡ true
-among-self pid qs = ap (λ b. b || is_among pid qs) (test-same pid)
-
 within : (pids all : List ℕ) → ((x : ℕ) → is_among x pids ≡ true → is_among x all ≡ true) → AllByRecursion (λ pid. is_among pid all ≡ true) pids
 within [] all h = tt
-within (x ∷ pids) all h = (h x (among-self x pids), within pids all (λ y a. h y (or-true (x == y) (is_among y pids) a)))
+within (x ∷ pids) all h = (h x (among-self x pids), within pids all (λ y a. h y (or_right (x == y) (is_among y pids) a)))
 
 switched-off : (pids all : List ℕ) (p : List ℕ) → AllByRecursion (λ pid. is_among pid all ≡ true) pids → on_one pids p ≡ true → is_off all p ≡ false
 switched-off [] all p w s = absurd (true≢false (sym s))
@@ -130,7 +100,7 @@ module _ (k : Setting) (back : List (List ℕ)) (good : ArePacked k.packed (adve
         let s = same-known m p past more is known in
         let f = front_of (switched_at k past) (adverts_at k past) (history_at k past) k.packed p (behind_head wanted past) in
         subst (λ c. AllByRecursion (Off a) (if c then f else [])) (sym (is-behind k m past known))
-        (Each-map (λ q. is_off (switched_at k past) q ≡ false) (Off a) (λ q o. off-apart (switched_at k past) a q (none-here past s) o) f
+        (Each-map (λ q. is_off (switched_at k past) q ≡ false) (Off a) (λ q o. among-off (switched_at k past) a q (none-here past s) o) f
         (front-off k.packed (switched_at k past) (switched_at k past) (adverts_at k past) (history_at k past) (self past) (good-here past s) p (behind_head wanted past)))
 
     pub rest-apart : (o : Option ProgramMap) → known_map (Some k.program) back ≡ o → AllByRecursion (Off a) (rest_at k back)
@@ -139,7 +109,7 @@ module _ (k : Setting) (back : List (List ℕ)) (good : ArePacked k.packed (adve
     rest-apart (Some m) known =
         let f = end_of_run (switched_at k back) (adverts_at k back) (history_at k back) k.packed (behind_head wanted back) in
         subst (λ c. AllByRecursion (Off a) (if c then f else [])) (sym (is-behind k m back known))
-        (Each-map (λ q. is_off (switched_at k back) q ≡ false) (Off a) (λ q o. off-apart (switched_at k back) a q none o) f
+        (Each-map (λ q. is_off (switched_at k back) q ≡ false) (Off a) (λ q o. among-off (switched_at k back) a q none o) f
         (end-off k.packed (switched_at k back) (switched_at k back) (adverts_at k back) (history_at k back) (self back) good (behind_head wanted back)))
 
     switched-place : (m : ProgramMap) (p : List ℕ) (past more : List (List ℕ)) → back ≡ more ++ (p ∷ past) → known_map (Some k.program) past ≡ Some m → on_one (switched_at k past) p ≡ true →
@@ -150,8 +120,8 @@ module _ (k : Setting) (back : List (List ℕ)) (good : ArePacked k.packed (adve
         let l = All-head f p past (packets-each f more (p ∷ past) (subst HavePids is pids)) in
         let out = place_of (switched_at k past) (adverts_at k past) (history_at k past) k.packed p (behind_head wanted past) in
         let gone = place-off k.packed (switched_at k past) (switched_at k past) (adverts_at k past) (history_at k past) (self past) (good-here past s) p (behind_head wanted past) y l
-        ∙ none-left (is_off (switched_at k past)) (p ∷ []) (switched-off (switched_at k past) (switched_at k past) p (self past) y, tt) in
-        Each-map (λ q. is_off (switched_at k past) q ≡ false) (Off a) (λ q o. off-apart (switched_at k past) a q (none-here past s) o) out (none-of (is_off (switched_at k past)) out gone)
+        ∙ filter-none (is_off (switched_at k past)) (p ∷ []) (switched-off (switched_at k past) (switched_at k past) p (self past) y, tt) in
+        Each-map (λ q. is_off (switched_at k past) q ≡ false) (Off a) (λ q o. among-off (switched_at k past) a q (none-here past s) o) out (none-of (is_off (switched_at k past)) out gone)
 
     pick : (c s : Bool) (out : List (List ℕ)) (p : List ℕ) → on a p ≡ false → (s ≡ true → AllByRecursion (Off a) out) → AllByRecursion (Off a) (if c then [] else (if s then out else p ∷ []))
     pick true s out p n h = tt
@@ -165,28 +135,15 @@ module _ (k : Setting) (back : List (List ℕ)) (good : ArePacked k.packed (adve
     place-apart (Some m) p past more is known n =
         pick (on k.cue_pid p) (on_one (switched_at k past) p) (place_of (switched_at k past) (adverts_at k past) (history_at k past) k.packed p (behind_head wanted past)) p n (switched-place m p past more is known)
 
--- a packet of a PID that is not switched, but of the cues, passes
-not-switched : (pids : List ℕ) (a : ℕ) (p : List ℕ) → is_among a pids ≡ false → on a p ≡ true → on_one pids p ≡ false
-not-switched [] a p n o = refl
-not-switched (x ∷ pids) a p n o =
-    let r = or-parts (x == a) (is_among a pids) n in
-    by_test (on x p)
-    (λ y. absurd (true≢false (sym (ap (λ m. m == a) (one_pid x a p y o) ∙ test-same a) ∙ r.0)))
-    (λ y. simp y (not-switched pids a p r.1 o))
-
 -- ---- a whole run
-
-any_entries : (cue : ℕ) (es : List Entry) → list_any (is_pid (Some cue)) (pids_in (map stream_of es)) ≡ list_any (lists_pid cue) es
-any_entries cue [] = refl
-any_entries cue (e ∷ es) = ap (λ b. lists_pid cue e || b) (any_entries cue es)
 
 not-among : (x : ℕ) (f : ℕ → Bool) (ss : List Stream) → f x ≡ true → list_any f (pids_in ss) ≡ false → is_among x (pids_in (switched_of ss)) ≡ false
 not-among x f [] y n = refl
 not-among x f (s ∷ ss) y n =
-    let r = or-parts (f s.pid) (list_any f (pids_in ss)) n in
+    let r = or_parts (f s.pid) (list_any f (pids_in ss)) n in
     by_test (is_kind_switched s.kind)
     (λ z. by_test (s.pid == x)
-    (λ e. absurd (true≢false (sym (ap f (test-true s.pid x e) ∙ y) ∙ r.0)))
+    (λ e. absurd (true≢false (sym (ap f (eqb-true s.pid x e) ∙ y) ∙ r.0)))
     (λ e. simp (z, e) (not-among x f ss y r.1)))
     (λ z. simp z (not-among x f ss y r.1))
 
@@ -226,7 +183,7 @@ module _ (c : Config) (filed : ℕ → Option Advertisement) (steps : List Step)
           bytes = b;
           given = g;
           room = sound.room;
-          free = sym (any_entries c.cue_pid m.entries) ∙ (or-parts (is_pid (Some c.cue_pid) (pid_in m.pcr_field)) (list_any (is_pid (Some c.cue_pid)) (pids_in (streams_of m))) used).1;
+          free = sym (any_entries c.cue_pid m.entries) ∙ (or_parts (is_pid (Some c.cue_pid) (pid_in m.pcr_field)) (list_any (is_pid (Some c.cue_pid)) (pids_in (streams_of m))) used).1;
         })
 
     abbrev Goes : Table → Type 0
@@ -271,8 +228,8 @@ module _ (c : Config) (filed : ℕ → Option Advertisement) (steps : List Step)
     zero-by None h = ap (λ o. is_among 0 (pids_of (option_map program_in o))) h
     zero-by (Some m) h =
         let s = first-sound (writing_cues c) l.pid m (all_tables (Some c.program) net) (all_sound (writing_cues c) net l w.run.faultless known) h in
-        let bad = or-parts (list_any (bad_pid l.pid) (pid_in m.pcr_field ∷ pids_in (streams_of m))) (list_any (bad_switched (pids_in (streams_of m))) (pids_in (switched_of (streams_of m)))) s.pids in
-        let each = or-parts (bad_pid l.pid (pid_in m.pcr_field)) (list_any (bad_pid l.pid) (pids_in (streams_of m))) bad.0 in
+        let bad = or_parts (list_any (bad_pid l.pid) (pid_in m.pcr_field ∷ pids_in (streams_of m))) (list_any (bad_switched (pids_in (streams_of m))) (pids_in (switched_of (streams_of m)))) s.pids in
+        let each = or_parts (bad_pid l.pid (pid_in m.pcr_field)) (list_any (bad_pid l.pid) (pids_in (streams_of m))) bad.0 in
         ap (λ o. is_among 0 (pids_of (option_map program_in o))) h ∙ not-among 0 (bad_pid l.pid) (streams_of m) refl each.1
 
     pub not-cue : c.cue_pid ≡ l.pid → ⊥
@@ -282,7 +239,7 @@ module _ (c : Config) (filed : ℕ → Option Advertisement) (steps : List Step)
     not-zero e =
         let g : pmt_pid_fault (writing_cues c) (Some l) ≡ None = ap (pmt_pid_fault (writing_cues c)) (sym known) ∙ pid_good (writing_cues c) net w.run.faultless in
         let r = none_both (if_bad ((l.pid == 0) || (l.pid == 8191)) BadPids) (if_bad (l.pid == c.cue_pid) CuePidUsed) g in
-        true≢false (sym (eq-eqb l.pid 0 e) ∙ (or-parts (l.pid == 0) (l.pid == 8191) (not_if_bad ((l.pid == 0) || (l.pid == 8191)) BadPids r.0)).0)
+        true≢false (sym (eq-eqb l.pid 0 e) ∙ (or_parts (l.pid == 0) (l.pid == 8191) (not_if_bad ((l.pid == 0) || (l.pid == 8191)) BadPids r.0)).0)
 
   zero-apart : (o : Option Listed) → listed (Some c.program) (packets_in steps) ≡ o → is_among 0 (switched_by c steps) ≡ false
   zero-apart None h = ap (λ ts. is_among 0 (pids_of (option_map program_in (first_map ts)))) (no_tables (Some c.program) net h)
@@ -313,7 +270,7 @@ module _ (c : Config) (filed : ℕ → Option Advertisement) (steps : List Step)
   keeps : (p : List ℕ) (past more : List (List ℕ)) → sent_cues c steps ≡ more ++ (p ∷ past) → on 0 p ≡ true → place_at (setting_of c filed) p past ≡ p ∷ []
   keeps p past more is y =
       let z = zero-apart (listed (Some c.program) net) refl in
-      let s = not-switched (switched_at k past) 0 p (switched-sub 0 p past more is z (known_map (Some c.program) past) refl) y in
+      let s = none-switches (switched_at k past) 0 p (switched-sub 0 p past more is z (known_map (Some c.program) past) refl) y in
       by_test (on c.cue_pid p)
       (λ o. absurd (w.run.not_pat (one_pid c.cue_pid 0 p o y)))
       (λ o. simp (o, s) refl)
@@ -418,7 +375,7 @@ module _ (c : Config) (filed : ℕ → Option Advertisement) (steps : List Step)
       ap (filter (on c.cue_pid)) (sym (reverse-reverse (output_by c filed steps)))
       ∙ filter-reverse (on c.cue_pid) (reverse (output_by c filed steps))
       ∙ ap reverse (ap (filter (on c.cue_pid)) out-is
-      ∙ none-left (on c.cue_pid) (onto (switched_past k back) end) (each-onto (Off c.cue_pid) (switched_past k back) end (cue-from back [] refl) (end-clear c.cue_pid (cue-apart c filed steps w))))
+      ∙ filter-none (on c.cue_pid) (onto (switched_past k back) end) (each-onto (Off c.cue_pid) (switched_past k back) end (cue-from back [] refl) (end-clear c.cue_pid (cue-apart c filed steps w))))
 
   pub has-tables : HasTables c filed steps
   has-tables = record {

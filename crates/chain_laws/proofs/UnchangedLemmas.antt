@@ -2,7 +2,7 @@
 use Rattle.std.proofs.Common.{◌≡◌, ℕ, ◌<◌, List, [], ◌∷◌, ◌++◌, Bool, true, false, ◌&&◌, ◌||◌, refl, sym, ap, ◌∙◌, subst, Option, None, Some, length, map, reverse}
 use Rattle.std.specs.Prelude.{filter, flat_map, not, count_by, ◌==◌}
 use Rattle.std.specs.List.{AllByRecursion, list_any}
-use Rattle.std.proofs.lemmas.Bool.{true≢false}
+use Rattle.std.proofs.lemmas.Bool.{true≢false, or_right}
 use Rattle.std.proofs.lemmas.List.{reverse-reverse}
 use Rattle.std.proofs.lemmas.List.Sums.{length-filter}
 use Rattle.ts_packet.specs.Fields.{on, pid_of, on_one, is_among}
@@ -24,7 +24,6 @@ use Rattle.injector.specs.Steps.{cued as sent_cues}
 use Rattle.splice_laws.specs.Splicing.{stream}
 use Rattle.output_laws.specs.Others.{is_off}
 use Rattle.output_laws.proofs.OtherLemmas.{off_on}
-use Rattle.output_laws.proofs.StepLemmas.{test-same}
 use Rattle.splice_plans.specs.Playing.{Adverts, is_played, is_crossed, played, as_played}
 use Rattle.splice_plans.specs.Adverts.{packed_units, setting_of}
 use Rattle.splice_plans.specs.Histories.{AreSteady}
@@ -36,7 +35,7 @@ use Rattle.splice_plans.specs.Known.{adverts_at}
 use Rattle.switch_laws.specs.Whole.{ArePacked, HavePids, pmt_pids, table_pids}
 use Rattle.switch_laws.specs.Standing.{touched}
 use Rattle.switch_laws.proofs.NoneLemmas.{nothing_is_played, no_packet_changes, no_program}
-use Rattle.switch_laws.proofs.OtherLemmas.{others_stay}
+use Rattle.switch_laws.proofs.OtherLemmas.{others_stay, among-self}
 use Rattle.switch_laws.proofs.WholeLemmas.{output_is_in_order}
 use Rattle.switch_laws.proofs.StandingLemmas.{packets_stand_as}
 use Rattle.switch_laws.proofs.StreamLemmas.{all-reversed}
@@ -70,13 +69,6 @@ unplayed-at k back =
     (reverse-reverse back) (λ s l n. (nothing_is_played k (reverse back) s l n, no_packet_changes k (reverse back) s l n))
 
 -- ---- lists of PIDs
-
-or-true : (a b : Bool) → b ≡ true → (a || b) ≡ true
-or-true true b h = refl
-or-true false b h = h
-
-self-among : (pid : ℕ) (qs : List ℕ) → is_among pid (pid ∷ qs) ≡ true
-self-among pid qs = ap (λ b. b || is_among pid qs) (test-same pid)
 
 map-empty : {A B : Type 0} (f : A → B) (xs : List A) → map f xs ≡ [] → xs ≡ []
 map-empty f [] h = refl
@@ -123,13 +115,13 @@ module _ (c : Config) (filed : ℕ → Option Advertisement) (steps : List Step)
 
     map-off : (o : Option Listed) (l : Listed) → o ≡ Some l → is_among l.pid ((c.cue_pid ∷ pmt_pids o) ++ more) ≡ true
     map-off None l h = cc
-    map-off (Some x) l h = let e : x.pid ≡ l.pid = cc in or-true (c.cue_pid == l.pid) (is_among l.pid (x.pid ∷ more)) (ap (λ n. is_among l.pid (n ∷ more)) e ∙ self-among l.pid more)
+    map-off (Some x) l h = let e : x.pid ≡ l.pid = cc in or_right (c.cue_pid == l.pid) (is_among l.pid (x.pid ∷ more)) (ap (λ n. is_among l.pid (n ∷ more)) e ∙ among-self l.pid more)
 
     pub off-same : filter (is_off (table_pids_by c steps ++ more)) (reverse (sent_cues c steps)) ≡ filter (is_off (table_pids_by c steps ++ more)) (network_of steps)
     off-same =
         filter-reverse (is_off pids) back
         ∙ ap reverse (others c filed steps w.run (is_off pids)
-        (λ q y. off_on packed_units pids c.cue_pid q (self-among c.cue_pid (pmt_pids (listed (Some c.program) (packets_in steps)) ++ more)) y)
+        (λ q y. off_on packed_units pids c.cue_pid q (among-self c.cue_pid (pmt_pids (listed (Some c.program) (packets_in steps)) ++ more)) y)
         (λ l h q y. off_on packed_units pids l.pid q (map-off (listed (Some c.program) (packets_in steps)) l h) y))
         ∙ sym (filter-reverse (is_off pids) (packets_in steps))
 

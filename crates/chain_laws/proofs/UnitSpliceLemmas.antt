@@ -1,6 +1,6 @@
 -- In a conditioned stream what is placed is the splice of its units.
 use Rattle.std.specs.Prelude.{ℤ, ◌≤ℤ◌, filter, if◌then◌else◌}
-use Rattle.std.proofs.Common.{◌≡◌, ℕ, List, [], ◌∷◌, ◌++◌, reverse, Bool, true, false, not, ◌&&◌, ◌||◌, refl, sym, ap, ◌∙◌, Option, None, Some, append_assoc}
+use Rattle.std.proofs.Common.{◌≡◌, ℕ, List, [], ◌∷◌, ◌++◌, reverse, Bool, true, false, not, ◌&&◌, ◌||◌, refl, sym, ap, ◌∙◌, Option, None, Some}
 use Rattle.std.specs.List.{AllByRecursion}
 use Rattle.std.proofs.lemmas.List.{append-nil}
 use Rattle.ts_packet.specs.Fields.{unit_start, bytes}
@@ -10,7 +10,7 @@ use Rattle.ts_packet.proofs.Cases.{by_test}
 use Rattle.ts_packet.proofs.RunLemmas.{onto}
 use Rattle.unit_stream.specs.Times.{unit_time}
 use Rattle.unit_stream.specs.Units.{units, units_of, is_original, rest_of_unit}
-use Rattle.splice_laws.specs.Splicing.{PlayedEvent, SliceUnit, Out, Network, Inserted, TimedStream, stream, at_or_past, below, holds, outside, comes, passed, opens, begun, as_inserted, slice_at, all_slices_at, from, up_to}
+use Rattle.splice_laws.specs.Splicing.{PlayedEvent, SliceUnit, TimedStream, stream, at_or_past, below, holds, outside, comes, passed, opens, begun, as_inserted, slice_at, all_slices_at, from, up_to}
 use Rattle.splice_laws.specs.Laws.{IsStream, EndsBeforeAll, AreOrdered}
 use Rattle.splice_laws.specs.Rows.{is_between}
 use Rattle.splice_laws.proofs.TimeLemmas.{starts_ordered, past_lower, holds-or_past, holds-past, not-below, timed_past}
@@ -18,38 +18,11 @@ use Rattle.splice_laws.proofs.StepLemmas.{true_or_false}
 use Rattle.splice_laws.proofs.HistoryLemmas.{begun-passed, passed-dead}
 use Rattle.splice_laws.proofs.PlacedLemmas.{opens-first}
 use Rattle.splice_laws.proofs.PidLemmas.{pids_are_streams}
+use Rattle.splice_laws.proofs.SpliceLemmas.{not_between, not_newly, not_own, own_past, own_below, glue_past, glue_below}
 use Rattle.output_laws.specs.Spliced.{placed_payloads, inserted_payloads, unit_at}
+use Rattle.output_laws.proofs.SplicedLemmas.{payloads-append}
 use Rattle.splice_plans.specs.Playing.{is_crossed}
 use Rattle.chain_laws.specs.UnitSplices.{payloads_between, slice_payloads, splice_from, PlacedIsUnitSplice}
-
-not_between : (c f a : Bool) → a ≡ true → c && (f && not a) ≡ false
-not_between false f a h = refl
-not_between true false a h = refl
-not_between true true a h = ap not h
-
-not_newly : {A : Type 0} (b z : Bool) (l : List A) → (b ≡ false → z ≡ false) → (if not b && z then l else []) ≡ []
-not_newly true z l h = refl
-not_newly false z l h = let e = h refl in simp e
-
-not_own : {A : Type 0} (c q o : Bool) (l : List A) → q ≡ false → (if c && (q && o) then l else []) ≡ []
-not_own false q o l h = refl
-not_own true q o l h = simp h
-
-own_past : (c f h q o : Bool) → f ≡ true → h ≡ not q → c && (f && (not h && o)) ≡ c && (q && o)
-own_past c f h true o e g = simp (e, g)
-own_past c f h false o e g = simp (e, g)
-
-own_below : (c f h o a : Bool) → h ≡ false → o ≡ true → a ≡ false → c && (f && (not h && o)) ≡ c && (f && not a)
-own_below c f h o a e g d = simp (e, g, d)
-
--- F G the parts up to the event, U W the event where it is reached, P Z those behind it: with the packet and without; D C E the packet, S T the slices at it
-glue_past : {A : Type 0} (F G D U W S P T C E Z : List A) → F ≡ D ++ G → U ≡ S ++ W → P ≡ T ++ (E ++ Z) → D ≡ [] → G ≡ [] → W ≡ [] → C ≡ E →
-    F ++ (U ++ P) ≡ (S ++ T) ++ (C ++ (G ++ (W ++ Z)))
-glue_past F G D U W S P T C E Z f u p d g w c = simp (f, u, p, d, g, w, c, append_assoc)
-
-glue_below : {A : Type 0} (F G D U W S P T C E Z : List A) → F ≡ D ++ G → U ≡ S ++ W → P ≡ T ++ (E ++ Z) → S ≡ [] → T ≡ [] → E ≡ [] → C ≡ D →
-    F ++ (U ++ P) ≡ (S ++ T) ++ (C ++ (G ++ (W ++ Z)))
-glue_below F G D U W S P T C E Z f u p s t e c = simp (f, u, p, s, t, e, c, append_assoc)
 
 module _ (r : TimedStream) (k : IsStream r) (unit : List ℕ → List (List ℕ) → List (List ℕ) → List ℕ) where
   -- of the packets behind a past, which begin units: those of units between two edges
@@ -274,11 +247,6 @@ module _ (r : TimedStream) (k : IsStream r) (unit : List ℕ → List (List ℕ)
 
 -- ---- the units of a PID
 
-inserted-append : (a b : List Out) → inserted_payloads (a ++ b) ≡ inserted_payloads a ++ inserted_payloads b
-inserted-append [] b = refl
-inserted-append (Network p ∷ a) b = inserted-append a b
-inserted-append (Inserted u ∷ a) b = ap (λ l. u.payload ∷ l) (inserted-append a b)
-
 inserted-in : (us : List SliceUnit) → inserted_payloads (as_inserted us) ≡ slice_payloads us
 inserted-in [] = refl
 inserted-in (u ∷ us) = ap (λ l. u.payload ∷ l) (inserted-in us)
@@ -292,7 +260,7 @@ module _ (switched : List ℕ) (pid : ℕ) where
     slices-same [] p past = refl
     slices-same (x ∷ xs) p past =
         let us = slice_at (stream switched pid) x (slice x) p past in
-        inserted-append (as_inserted us) (all_slices_at (stream switched pid) xs slice p past)
+        payloads-append (as_inserted us) (all_slices_at (stream switched pid) xs slice p past)
         ∙ ap (λ l. l ++ inserted_payloads (all_slices_at (stream switched pid) xs slice p past)) (inserted-in us)
         ∙ ap (λ l. slice_payloads us ++ l) (slices-same xs p past)
 

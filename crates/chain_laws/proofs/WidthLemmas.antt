@@ -4,6 +4,7 @@ use Rattle.std.specs.Prelude.{nat_lt, ◌==◌, not, ◌&&◌, ◌||◌}
 use Rattle.std.specs.List.{AllByRecursion}
 use Rattle.std.proofs.lemmas.Grind.{flat_map-append}
 use Rattle.std.proofs.lemmas.List.{take-append-drop}
+use Rattle.ts_packet.proofs.Cases.{by_test}
 use Rattle.wire_fields.specs.Numbers.{AreBytes}
 use Rattle.psi_tables.specs.declared.config.Config.{Config}
 use Rattle.scte104_codec.specs.declared.requests.SpliceRequest.{SpliceRequest}
@@ -14,7 +15,6 @@ use Rattle.scte104_codec.specs.Widths.{AllFieldsFit, MultipleFits, ReadingFits}
 use Rattle.scte104_codec.proofs.WidthLemmas.{front_bytes}
 use Rattle.as_session.specs.Laws.{IsInWidth}
 use Rattle.as_session.proofs.WidthLemmas.{each_message_fits}
-use Rattle.cue_laws.proofs.Settling.{by_test}
 use Rattle.injector.specs.Asking.{is_start, only_of, served_of, served_if, asked_of_multiple}
 use Rattle.injector.specs.Steps.{Step, Message}
 use Rattle.path_laws.specs.Path.{FitsIn, RequestFits}

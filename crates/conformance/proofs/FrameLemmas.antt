@@ -1,11 +1,12 @@
 -- The front of some bytes that a whole frame names is whole by itself.
-use Rattle.std.proofs.Common.{◌≡◌, ℕ, ◌-◌, ◌≤◌, List, [], ◌∷◌, ◌++◌, length, take, drop, Bool, true, false, Option, Some, None, refl, sym, ap, ◌∙◌, arith}
+use Rattle.std.proofs.Common.{◌≡◌, ℕ, ◌-◌, ◌≤◌, List, [], ◌∷◌, ◌++◌, length, take, drop, Bool, true, false, Some, None, refl, sym, ap, ◌∙◌, arith}
 use Rattle.std.specs.Prelude.{nat_lt, if◌then◌else◌}
 use Rattle.std.proofs.lemmas.Bool.{ltb-false, le-ltb}
 use Rattle.std.proofs.lemmas.List.{take-append-drop, length-take-le}
 use Rattle.scte104_codec.specs.declared.framing.Frame.TheVariants.{NeedMore, Whole}
 use Rattle.wire_fields.specs.Numbers.{number16_at}
 use Rattle.scte104_codec.specs.Framing.{least_size, size_in, frame_by, frame_of}
+use Rattle.scte104_codec.proofs.FrameLemmas.{whole_by}
 
 -- ---- a size that stands there is no less than the least
 
@@ -31,19 +32,6 @@ record IsWhole (bytes : List ℕ) (size : ℕ) : Type 0 where
   pub four : 4 ≤ length bytes
   pub sized : size_in bytes ≡ Some size
   pub fits : size ≤ length bytes
-
-whole_sized : (b : Bool) (bytes : List ℕ) (n size : ℕ) → nat_lt (length bytes) n ≡ b → (if b then NeedMore (n - length bytes) else Whole n) ≡ Whole size → (n ≡ size) × (size ≤ length bytes)
-whole_sized true bytes n size e h = absurd cc
-whole_sized false bytes n size e h =
-    let same : n ≡ size = cc in
-    let le : n ≤ length bytes = ltb-false (length bytes) n e in
-    (same, omega arith)
-
-whole_by : (bytes : List ℕ) (o : Option ℕ) (size : ℕ) → size_in bytes ≡ o → frame_by bytes o ≡ Whole size → (size_in bytes ≡ Some size) × (size ≤ length bytes)
-whole_by bytes None size e h = absurd cc
-whole_by bytes (Some n) size e h =
-    let p = whole_sized _ bytes n size refl h in
-    (e ∙ ap (λ (k : ℕ). Some k) p.0, p.1)
 
 whole_long : (b : Bool) (bytes : List ℕ) (size : ℕ) → nat_lt (length bytes) 4 ≡ b → (if b then NeedMore (4 - length bytes) else frame_by bytes (size_in bytes)) ≡ Whole size → IsWhole bytes size
 whole_long true bytes size e h = absurd cc

@@ -3,9 +3,11 @@ use Rattle.std.proofs.Common.{◌≡◌, ℕ, ◌<◌, ◌≤◌, ◌==◌, Bool
 use Rattle.std.specs.Prelude.{ℤ, pos, ◌+ℤ◌, ◌<ℤ◌, ◌≤ℤ◌, int_lt, filter, map, is_some, if◌then◌else◌}
 use Rattle.std.proofs.lemmas.Int.{ints}
 use Rattle.std.proofs.lemmas.Bool.Decides.{nat_tests}
+use Rattle.std.proofs.lemmas.Bool.{and_from, and_left, and_parts}
+use Rattle.ts_packet.proofs.Cases.{by_test}
 use Rattle.cue_laws.specs.Events.{LineEvent, Started, Cancelled, Ended, before, taken, stands, is_of, bars, count, can_start, fresh, can_cancel, cancel_by, can_end, end_by, or_so, In}
 use Rattle.cue_laws.specs.Thinning.{Repeats}
-use Rattle.cue_laws.proofs.Settling.{by_test, both, lt-test, lt-is, can_start-parts, CanStart, and_off}
+use Rattle.cue_laws.proofs.Settling.{lt-test, lt-is, can_start-parts, CanStart}
 use Rattle.cue_laws.proofs.Lists.{In-map, In-mapped, In-filter, In-filtered, any-false, any-none, Distinct, distinct-filter, distinct-map, no_more}
 use Rattle.cue_laws.proofs.Orders.{Orderly, before-more, is_of-parts, is_of-is, or-left}
 
@@ -66,7 +68,7 @@ skip_cancel h id es all b = record {
 abbrev pub IsCancelledBy : Option ℤ → ℕ → List LineEvent → Type 0
 IsCancelledBy h id all = (t : LineEvent) → In t all → can_cancel h id t ≡ true → t.cancelled ≡ true
 
-or-split : (a b : Bool) → or_so a b ≡ true → (a ≡ true) ⊎ (b ≡ true)
+pub or-split : (a b : Bool) → or_so a b ≡ true → (a ≡ true) ⊎ (b ≡ true)
 or-split a true is = inr refl
 or-split a false is = inl is
 
@@ -89,7 +91,7 @@ take_cancel h id es all done b =
     which a t i m (inl c) = m.cancelled c
     which a t i m (inr c) = done t i (sym (match-can_cancel h id a t m) ∙ c)
 
--- where the event there is not cancelled, an end does the same to both
+-- where the event there is not cancelled, an end does the same to and_parts
 end_same : (h : Option ℤ) (id : ℕ) (time : ℤ) (a t : LineEvent) → Match a t → (is_of h id t ≡ true → t.cancelled ≡ false) → can_end h id time a ≡ can_end h id time t
 end_same h id time a t m un =
     by_test (is_of h id t)
@@ -99,7 +101,7 @@ end_same h id time a t m un =
     ∙ ap (λ v. is_of h id t && (not v && (int_lt a.start time && (before h time && int_lt time a.end)))) c
     ∙ ap (λ v. is_of h id t && (not t.cancelled && (int_lt v time && (before h time && int_lt time a.end)))) m.start
     ∙ ap (λ v. is_of h id t && (not t.cancelled && (int_lt t.start time && (before h time && int_lt time v)))) m.end)
-    (λ s. and_off (is_of h id a) _ (match-is_of h id a t m ∙ s) ∙ sym (and_off (is_of h id t) _ s))
+    (λ s. and_left (is_of h id a) _ (match-is_of h id a t m ∙ s) ∙ sym (and_left (is_of h id t) _ s))
 
 pub take_end : (h : Option ℤ) (id : ℕ) (time : ℤ) (es all : List LineEvent) → ((t : LineEvent) → In t all → is_of h id t ≡ true → t.cancelled ≡ false)
     → Below es all → Below (taken h (Ended id time) es) (taken h (Ended id time) all)
@@ -146,12 +148,9 @@ there-stands h id start end all x o x_is =
     let s = o.some x x_is.there in let r = x_is.repeats in
     before-more h start (x.end +ℤ pos 900000) x_is.ahead (omega (arith, ints, s, r.same_start))
 
-and-is : (a b : Bool) → a ≡ true → b ≡ true → (a && b) ≡ true
-and-is a b p q = cc
-
 can_start-is : (h : Option ℤ) (id : ℕ) (start end : ℤ) (es : List LineEvent) → CanStart h id start end es → can_start h id start end es ≡ true
 can_start-is h id start end es c =
-    and-is _ _ c.clock (and-is _ _ (lt-is start end c.some) (and-is _ _ c.ahead (and-is _ _ (ap not c.unused) (and-is _ _ c.room (ap not c.free)))))
+    and_from _ _ c.clock (and_from _ _ (lt-is start end c.some) (and_from _ _ c.ahead (and_from _ _ (ap not c.unused) (and_from _ _ c.room (ap not c.free)))))
 
 -- here it can be armed, where it is not there yet
 pub start_taken : (h : Option ℤ) (id : ℕ) (start end : ℤ) (es all : List LineEvent) (x : LineEvent) → Orderly h all → IsThere h id start end all x → Below es all
@@ -177,8 +176,8 @@ start_taken h id start end es all x o x_is b none =
     barred : (a : LineEvent) → In a es → bars h start end a ≡ true → ⊥
     barred a i t =
         let m = b.part a i in
-        let p = (both (stands h a) _ t).1 in
-        let q = both (int_lt start a.end) (int_lt a.start end) p in
+        let p = (and_parts (stands h a) _ t).1 in
+        let q = and_parts (int_lt start a.end) (int_lt a.start end) p in
         split a m.0 m.2 (lt-test start a.end q.0) (lt-test a.start end q.1) (o.apart m.0 x m.1 x_is.there (λ is. none a i (m.2.start ∙ is ∙ x_is.repeats.same_start)))
       where
         split : (a t : LineEvent) → Match a t → start <ℤ a.end → a.start <ℤ end → (t.end ≤ℤ x.start) ⊎ (x.end ≤ℤ t.start) → ⊥

@@ -1,9 +1,11 @@
 -- The cues before a packet do to a list of what was told what they are to say.
 use Rattle.std.proofs.Common.{◌≡◌, ℕ, true, false, ◌⊎◌, inl, inr, refl, sym, ap, ◌∙◌, subst, List, [], ◌∷◌, ◌++◌, Option}
 use Rattle.std.specs.Prelude.{ℤ, map, is_some, if◌then◌else◌}
+use Rattle.std.proofs.lemmas.Bool.{and_left}
+use Rattle.ts_packet.proofs.Cases.{by_test}
 use Rattle.cue_laws.specs.Events.{Turn, LineEvent, Started, Cancelled, Ended, high, before, events, stands, is_of, can_start, fresh, can_cancel, cancel_by, can_end, end_by, In}
 use Rattle.cue_laws.specs.Thinning.{MayAllCome, Repeats}
-use Rattle.cue_laws.proofs.Settling.{by_test, can_start-parts, and_off}
+use Rattle.cue_laws.proofs.Settling.{can_start-parts}
 use Rattle.cue_laws.proofs.Lists.{any-false}
 use Rattle.cue_laws.proofs.Orders.{is_of-parts, is_of-is, or-neither}
 
@@ -64,7 +66,7 @@ other-off : (h : Option ℤ) (id : ℕ) (es : List LineEvent) → Others h id es
 other-off h id es others e i = by_test (is_of h id e) (λ o. let p = is_of-parts h id e o in absurd (others e i p.0 p.1)) (λ o. o)
 
 pub cancel-off : (h : Option ℤ) (id : ℕ) (e : LineEvent) → is_of h id e ≡ false → cancel_by h id e ≡ e
-cancel-off h id e o = ap (λ b. record { id = e.id; start = e.start; asked = e.asked; end = e.end; cancelled = b }) (or-neither e.cancelled (can_cancel h id e) (and_off (is_of h id e) (before h e.start) o))
+cancel-off h id e o = ap (λ b. record { id = e.id; start = e.start; asked = e.asked; end = e.end; cancelled = b }) (or-neither e.cancelled (can_cancel h id e) (and_left (is_of h id e) (before h e.start) o))
 
 pub end-off : (h : Option ℤ) (id : ℕ) (time : ℤ) (e : LineEvent) → can_end h id time e ≡ false → end_by h id time e ≡ e
 end-off h id time e c = ap (λ b. record { id = e.id; start = e.start; asked = e.asked; end = (if b then time else e.end); cancelled = e.cancelled }) c
@@ -114,7 +116,7 @@ module _ (h : Option ℤ) (e : LineEvent) (front back : List LineEvent) (here : 
       (map_middle (end_by h e.id time) front back t t' (λ x i. off x (other-off h e.id front here x i)) (λ x i. off x (other-off h e.id back there x i)) is) g
     where
       off : (x : LineEvent) → is_of h e.id x ≡ false → end_by h e.id time x ≡ x
-      off x o = end-off h e.id time x (and_off (is_of h e.id x) _ o)
+      off x o = end-off h e.id time x (and_left (is_of h e.id x) _ o)
 
       which : (x : LineEvent) → is_of h e.id x ≡ true → In x front ⊎ In x (t ∷ back) → x.cancelled ≡ false
       which x of (inl i) = let o = other-off h e.id front here x i in let bad : true ≡ false = sym of ∙ o in cc

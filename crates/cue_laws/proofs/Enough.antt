@@ -1,15 +1,17 @@
--- A stream that loses nothing keeps enough; and a time that is reached is held by the same events on both sides.
+-- A stream that loses nothing keeps enough; and a time that is reached is held by the same events on and_parts sides.
 use Rattle.std.proofs.Common.{◌≡◌, ◌↔◌, ℕ, Bool, true, false, not, ◌⊎◌, inl, inr, refl, sym, ap, ◌∙◌, subst, List, [], ◌∷◌, Option, None, Some, arith}
 use Rattle.std.specs.Prelude.{ℤ, ◌<ℤ◌, ◌≤ℤ◌, int_le, int_lt, filter, map}
 use Rattle.std.proofs.lemmas.Int.{ints}
-use Rattle.cue_laws.specs.Events.{Turn, LineEvent, Name, Started, Cancelled, Ended, Passed, high, before, events, can_start, fresh, can_cancel, cancel_by, end_by, or_so, In, covers, name_of}
+use Rattle.std.proofs.lemmas.Bool.{and_parts, not-true}
+use Rattle.ts_packet.proofs.Cases.{by_test}
+use Rattle.cue_laws.specs.Events.{Turn, LineEvent, Name, Started, Cancelled, Ended, Passed, high, before, events, can_start, fresh, can_cancel, cancel_by, end_by, In, covers, name_of}
 use Rattle.cue_laws.specs.Thinning.{MayAllCome, thinned, KeepsStart, KeepsCancel, KeepsEnds}
 use Rattle.cue_laws.specs.Cueing.{IsRun, cued}
 use Rattle.cue_laws.specs.Laws.{CuePathHolders, NothingLostIsEnough, Invariant, NoStartRefused, CuedIsSound}
-use Rattle.cue_laws.proofs.Settling.{by_test, both, lt-test, not_true}
+use Rattle.cue_laws.proofs.Settling.{lt-test}
 use Rattle.cue_laws.proofs.Lists.{In-mapped, In-filter, In-filtered, Distinct, distinct-filter, has_start}
 use Rattle.cue_laws.proofs.Orders.{Orderly, is_of-parts}
-use Rattle.cue_laws.proofs.Below.{Below}
+use Rattle.cue_laws.proofs.Below.{Below, or-split}
 use Rattle.cue_laws.proofs.Thin.{below}
 use Rattle.cue_laws.proofs.Lost.{origin, kept_armed, ends_front}
 use Rattle.cue_laws.proofs.Fair.{stand}
@@ -42,10 +44,6 @@ keeps_named copies x y name (Cancelled id ∷ past) (inr k) = inr (keeps_named c
 keeps_named copies x y name (Ended id time ∷ past) k = keeps_named copies x y name past k
 keeps_named copies x y name (Passed h ∷ past) k = keeps_named copies x y name past k
 
-or-cases : (a b : Bool) → or_so a b ≡ true → (a ≡ true) ⊎ (b ≡ true)
-or-cases a true is = inr refl
-or-cases a false is = inl is
-
 -- an event is cancelled by a cancel
 cancel_origin : (all : List Turn) (x : LineEvent) → In x (events all) → x.cancelled ≡ true → KeepsCancel ones x all
 cancel_origin [] x i c = absurd i
@@ -60,13 +58,13 @@ cancel_origin (Started id start end ∷ past) x i c =
 cancel_origin (Cancelled id ∷ past) x i c =
     let r = In-mapped (cancel_by (high past) id) x (events past) i in
     let old : name_of r.0 ≡ name_of x = sym (ap name_of r.2) in
-    which r.0 r.1 old (or-cases r.0.cancelled (can_cancel (high past) id r.0) (sym (ap (λ (z : LineEvent). z.cancelled) r.2) ∙ c)) (λ d. cancel_origin past r.0 r.1 d)
+    which r.0 r.1 old (or-split r.0.cancelled (can_cancel (high past) id r.0) (sym (ap (λ (z : LineEvent). z.cancelled) r.2) ∙ c)) (λ d. cancel_origin past r.0 r.1 d)
   where
     which : (e : LineEvent) → In e (events past) → name_of e ≡ name_of x → (e.cancelled ≡ true) ⊎ (can_cancel (high past) id e ≡ true) → (e.cancelled ≡ true → KeepsCancel ones e past)
         → KeepsCancel ones x (Cancelled id ∷ past)
     which e j name (inl d) later = inr (keeps_named ones e x name past (later d))
     which e j name (inr d) later =
-        let p = both (is_of_it e) (before (high past) e.start) d in
+        let p = and_parts (is_of_it e) (before (high past) e.start) d in
         inl (omega arith, sym (is_of-parts (high past) id e p.0).1 ∙ ap (λ (z : Name). z.id) name, ap (before (high past)) (sym (ap (λ (z : Name). z.start) name)) ∙ p.1, (e, j, name))
       where
         is_of_it : LineEvent → Bool
@@ -123,8 +121,8 @@ le-test a b is = grind (arith, ints)
 
 pub covers-parts : (time : ℤ) (e : LineEvent) → covers time e ≡ true → Covers time e
 covers-parts time e c =
-    let p = both (not e.cancelled) _ c in let q = both (int_le e.start time) (int_lt time e.end) p.1 in
-    record { uncancelled = not_true e.cancelled p.0; from = le-test _ _ q.0; to = lt-test _ _ q.1 }
+    let p = and_parts (not e.cancelled) _ c in let q = and_parts (int_le e.start time) (int_lt time e.end) p.1 in
+    record { uncancelled = not-true e.cancelled p.0; from = le-test _ _ q.0; to = lt-test _ _ q.1 }
 
 reached_start : (h : Option ℤ) (time start : ℤ) → before h time ≡ false → start ≤ℤ time → before h start ≡ false
 reached_start None time start b l = b

@@ -1,12 +1,15 @@
 -- What holds of the injector's events and what was told of them.
-use Rattle.std.proofs.Common.{◌≡◌, ℕ, Bool, true, false, ◌⊎◌, inl, inr, refl, sym, ap, ◌∙◌, subst, List, [], ◌∷◌, Option, None, Some, arith}
+use Rattle.std.proofs.Common.{◌≡◌, ℕ, true, false, ◌⊎◌, inl, inr, refl, sym, ap, ◌∙◌, subst, List, [], ◌∷◌, Option, None, Some, arith}
 use Rattle.std.specs.Prelude.{ℤ, ◌<ℤ◌, ◌≤ℤ◌, map, is_some}
 use Rattle.std.proofs.lemmas.Int.{ints}
-use Rattle.cue_laws.specs.Events.{Turn, LineEvent, Started, Cancelled, Ended, Passed, high, before, events, is_of, fresh, can_cancel, cancel_by, can_end, end_by, or_so}
+use Rattle.std.proofs.lemmas.Bool.{and_parts}
+use Rattle.ts_packet.proofs.Cases.{by_test}
+use Rattle.cue_laws.specs.Events.{Turn, LineEvent, Started, Cancelled, Ended, Passed, high, before, events, is_of, fresh, can_cancel, cancel_by, can_end, end_by}
 use Rattle.unit_stream.specs.Clocks.{Rises}
 use Rattle.cue_laws.specs.Cueing.{MayBeAccepted, IsRun, Told, Untold, Known, Never, Sender, told_now, tell, change, senders}
-use Rattle.cue_laws.proofs.Settling.{by_test, both, can_start-parts, can_end-parts}
+use Rattle.cue_laws.proofs.Settling.{can_start-parts, can_end-parts}
 use Rattle.cue_laws.proofs.Orders.{Orderly, orderly-none, orderly-map, orderly-fresh, orderly-passed, Clear, clear-can, clear-map, Shrinks, cancel-shrinks, end-shrinks, or-left}
+use Rattle.cue_laws.proofs.Below.{or-split}
 
 -- what was told of an event is true, but for what is new
 pub record IsKnown (h : Option ℤ) (e t : LineEvent) : Type 0 where
@@ -81,10 +84,6 @@ fair-change h f shrinks keeps (x ∷ xs) a = (
   fair-change h f shrinks keeps xs a.3,
 )
 
-or-cases : (a b : Bool) → or_so a b ≡ true → (a ≡ true) ⊎ (b ≡ true)
-or-cases a true is = inr refl
-or-cases a false is = inl is
-
 cancel-keeps : (h : Option ℤ) (id : ℕ) → Keeps h (cancel_by h id)
 cancel-keeps h id e t k = record {
   id = k.id;
@@ -93,12 +92,12 @@ cancel-keeps h id e t k = record {
   earlier = k.earlier;
   end_new = k.end_new;
   cancelled = λ c. or-left e.cancelled (can_cancel h id e) (k.cancelled c);
-  cancel_new = λ c n. which n (or-cases e.cancelled (can_cancel h id e) c);
+  cancel_new = λ c n. which n (or-split e.cancelled (can_cancel h id e) c);
 }
   where
     which : t.cancelled ≡ false → (e.cancelled ≡ true) ⊎ (can_cancel h id e ≡ true) → before h e.start ≡ true
     which n (inl c) = k.cancel_new c n
-    which n (inr c) = (both (is_of h id e) (before h e.start) c).1
+    which n (inr c) = (and_parts (is_of h id e) (before h e.start) c).1
 
 end-keeps : (h : Option ℤ) (id : ℕ) (time : ℤ) → Keeps h (end_by h id time)
 end-keeps h id time e t k = record {

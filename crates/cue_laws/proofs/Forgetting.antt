@@ -3,9 +3,11 @@ use Rattle.std.specs.Prelude.{ℤ, pos, ◌+ℤ◌, int_lt, filter, map, is_some
 use Rattle.std.specs.List.{list_any}
 use Rattle.std.proofs.Common.{◌≡◌, ℕ, ◌==◌, nat_lt, Bool, true, false, not, ◌&&◌, refl, sym, ap, ◌∙◌, List, [], ◌∷◌, length, Option, arith}
 use Rattle.std.proofs.lemmas.Int.{ints}
+use Rattle.std.proofs.lemmas.Bool.{and_parts}
+use Rattle.ts_packet.proofs.Cases.{by_test}
 use Rattle.cue_laws.specs.Events.{LineEvent, Started, Cancelled, Ended, Passed, high, before, events, taken, stands, is_of, bars, count, can_start, fresh, cancel_by, can_end, end_by}
 use Rattle.cue_laws.specs.Tables.{ForgettingIsSafe}
-use Rattle.cue_laws.proofs.Settling.{by_test, both, can_end-parts}
+use Rattle.cue_laws.proofs.Settling.{can_end-parts}
 use Rattle.cue_laws.proofs.Orders.{before-more, before-back, is_of-parts}
 
 any-filter : (p q : LineEvent → Bool) → ((e : LineEvent) → p e ≡ true → q e ≡ true) → (es : List LineEvent) → list_any p (filter q es) ≡ list_any p es
@@ -43,11 +45,11 @@ stands-ended h id time e =
 can_start-filter : (h : Option ℤ) (id : ℕ) (start end : ℤ) (es : List LineEvent) → can_start h id start end (filter (stands h) es) ≡ can_start h id start end es
 can_start-filter h id start end es =
     ap (λ b. is_some h && (int_lt start end && (before h start && (not b && (nat_lt (count h (filter (stands h) es)) 32 && not (list_any (bars h start end) (filter (stands h) es)))))))
-    (any-filter (is_of h id) (stands h) (λ e o. (both (stands h e) (e.id == id) o).0) es)
+    (any-filter (is_of h id) (stands h) (λ e o. (and_parts (stands h e) (e.id == id) o).0) es)
     ∙ ap (λ l. is_some h && (int_lt start end && (before h start && (not (list_any (is_of h id) es) && (nat_lt (length l) 32 && not (list_any (bars h start end) (filter (stands h) es)))))))
     (filter-filter (stands h) (stands h) (λ e o. o) es)
     ∙ ap (λ b. is_some h && (int_lt start end && (before h start && (not (list_any (is_of h id) es) && (nat_lt (count h es) 32 && not b)))))
-    (any-filter (bars h start end) (stands h) (λ e o. (both (stands h e) (int_lt start e.end && int_lt e.start end) o).0) es)
+    (any-filter (bars h start end) (stands h) (λ e o. (and_parts (stands h e) (int_lt start e.end && int_lt e.start end) o).0) es)
 
 added-filter : (p : LineEvent → Bool) (b : Bool) (x : LineEvent) (es : List LineEvent) → filter p (if b then x ∷ filter p es else filter p es) ≡ filter p (if b then x ∷ es else es)
 added-filter p true x es = ap (λ l. if p x then x ∷ l else l) (filter-filter p p (λ e o. o) es)

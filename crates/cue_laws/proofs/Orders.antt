@@ -3,10 +3,12 @@ use Rattle.std.proofs.Common.{◌≡◌, ℕ, ◌<◌, ◌≤◌, ◌==◌, Bool
 use Rattle.std.specs.Prelude.{ℤ, pos, ◌+ℤ◌, ◌<ℤ◌, ◌≤ℤ◌, int_lt, map, is_some, if◌then◌else◌}
 use Rattle.std.proofs.lemmas.Int.{ints}
 use Rattle.std.proofs.lemmas.Bool.Decides.{nat_tests}
+use Rattle.std.proofs.lemmas.Bool.{and_parts}
+use Rattle.ts_packet.proofs.Cases.{by_test}
 use Rattle.cue_laws.specs.Events.{Turn, LineEvent, Started, Cancelled, Ended, Passed, high, before, events, stands, is_of, bars, count, can_start, fresh, can_cancel, cancel_by, can_end, end_by, or_so, In}
 use Rattle.unit_stream.specs.Clocks.{Rises}
 use Rattle.cue_laws.specs.Thinning.{MayCome, MayAllCome}
-use Rattle.cue_laws.proofs.Settling.{by_test, both, ge-test, can_start-parts, CanStart, can_end-parts}
+use Rattle.cue_laws.proofs.Settling.{ge-test, can_start-parts, CanStart, can_end-parts}
 use Rattle.cue_laws.proofs.Lists.{In-mapped, any-false, Distinct, distinct-map}
 
 pub before-more : (h : Option ℤ) (a b : ℤ) → before h a ≡ true → a ≤ℤ b → before h b ≡ true
@@ -25,7 +27,7 @@ forgotten-before None end start f b = absurd (let no : true ≡ false = f in cc)
 forgotten-before (Some h) end start f b = grind (arith, ints)
 
 pub is_of-parts : (h : Option ℤ) (id : ℕ) (e : LineEvent) → is_of h id e ≡ true → (stands h e ≡ true) × (e.id ≡ id)
-is_of-parts h id e of = let p = both (stands h e) (e.id == id) of in let q = p.1 in (p.0, grind (arith, nat_tests))
+is_of-parts h id e of = let p = and_parts (stands h e) (e.id == id) of in let q = p.1 in (p.0, grind (arith, nat_tests))
 
 pub is_of-is : (h : Option ℤ) (id : ℕ) (e : LineEvent) → stands h e ≡ true → e.id ≡ id → is_of h id e ≡ true
 is_of-is h id e s i = let t : (e.id == id) ≡ true = grind (arith, nat_tests) in simp (s, t)

@@ -2,12 +2,13 @@
 use Rattle.std.proofs.Common.{◌≡◌, ◌↔◌, ℕ, Bool, true, false, ◌⊎◌, inl, inr, refl, sym, ap, ◌∙◌, subst, List, [], ◌∷◌, ◌++◌, Option, arith, append_assoc}
 use Rattle.std.specs.Prelude.{ℤ, pos, ◌+ℤ◌, int_lt, map, if◌then◌else◌}
 use Rattle.std.proofs.lemmas.Int.{ints}
+use Rattle.ts_packet.proofs.Cases.{by_test}
 use Rattle.cue_laws.specs.Events.{Turn, LineEvent, Started, Cancelled, Ended, Passed, high, events, stands, cancel_by, end_by, In, upon}
 use Rattle.unit_stream.specs.Clocks.{Rises}
 use Rattle.cue_laws.specs.Thinning.{MayAllCome, KeepsEnough}
 use Rattle.cue_laws.specs.Cueing.{IsRun, Told, Untold, Known, Never, Sender, is_cancel_new, is_news, current, is_due, end_on, told_on, block_on, told_now, tell, change, senders, cued}
 use Rattle.cue_laws.specs.Laws.{KeepsEnoughOf, CuePath, CuePathAtTheEnd}
-use Rattle.cue_laws.proofs.Settling.{by_test, ge-test, lt-test}
+use Rattle.cue_laws.proofs.Settling.{ge-test, lt-test}
 use Rattle.cue_laws.proofs.Lists.{In-map, Distinct}
 use Rattle.cue_laws.proofs.Orders.{Orderly, orderly-tail, before-more}
 use Rattle.cue_laws.proofs.Lost.{lost_cues, lost_cues_at_the_end}

@@ -3,13 +3,11 @@ use Rattle.std.proofs.Common.{◌≡◌, ℕ, Bool, true, false, not, ◌&&◌, 
 use Rattle.std.specs.Prelude.{ℤ, ◌≤ℤ◌, ◌<ℤ◌, int_le, int_lt, map, if◌then◌else◌}
 use Rattle.std.specs.List.{list_any}
 use Rattle.std.proofs.lemmas.Int.{ints}
+use Rattle.std.proofs.lemmas.Bool.{and_left, and_parts, not-true}
+use Rattle.ts_packet.proofs.Cases.{by_test}
 use Rattle.cue_laws.specs.Events.{Turn, LineEvent, Started, Cancelled, Ended, Passed, high, before, events, taken, NeverFalls, holders, upon, covers, name_of, can_start, fresh, cancel_by, can_cancel, end_by, can_end, or_so, is_of, bars, count}
 use Rattle.unit_stream.specs.Clocks.{Rises}
 use Rattle.cue_laws.specs.Laws.{Settlement}
-
--- two cases of a test
-pub by_test : {P : Type 0} (b : Bool) → (b ≡ true → P) → (b ≡ false → P) → P
-by_test {P} b s t = (elim b as (λ v. (v ≡ true → P) → (v ≡ false → P) → P) [ true ↦ λ h k. h refl | false ↦ λ h k. k refl ]) s t
 
 -- a time that is reached stays reached
 pub reached_later : (h later : Option ℤ) (time : ℤ) → Rises h later → before h time ≡ false → before later time ≡ false
@@ -25,12 +23,6 @@ holders-map time f names same (e ∷ es) =
     by_test (covers time e)
     (λ c. simp (same e, c, names e, holders-map time f names same es))
     (λ c. simp (same e, c, holders-map time f names same es))
-
--- the parts of a conjunction
-pub both : (a b : Bool) → (a && b) ≡ true → (a ≡ true) × (b ≡ true)
-both true true is = (refl, refl)
-both true false is = absurd (let no : false ≡ true = is in cc)
-both false b is = absurd (let no : false ≡ true = is in cc)
 
 pub lt-test : (a b : ℤ) → int_lt a b ≡ true → a <ℤ b
 lt-test a b is = grind (arith, ints)
@@ -51,14 +43,11 @@ cancel_off true false c k = refl
 cancel_off false true c k = let n = k refl in cc
 cancel_off false false c k = refl
 
-pub and_off : (a b : Bool) → a ≡ false → (a && b) ≡ false
-and_off a b is = cc
-
 covers-cancelled : (h : Option ℤ) (id : ℕ) (time : ℤ) → before h time ≡ false → (e : LineEvent) → covers time (cancel_by h id e) ≡ covers time e
 covers-cancelled None id time b e = absurd (let no : true ≡ false = b in cc)
 covers-cancelled (Some h) id time b e =
     cancel_off e.cancelled (can_cancel (Some h) id e) (int_le e.start time && int_lt time e.end)
-    (λ can. let ahead = lt-test h e.start (both (is_of (Some h) id e) (before (Some h) e.start) can).1 in let late = ge-test h time b in and_off _ _ (le-false e.start time (omega (arith, ints))))
+    (λ can. let ahead = lt-test h e.start (and_parts (is_of (Some h) id e) (before (Some h) e.start) can).1 in let late = ge-test h time b in and_left _ _ (le-false e.start time (omega (arith, ints))))
 
 end_off : (time end old : ℤ) (b : Bool) → (b ≡ true → (time <ℤ end) × (time <ℤ old)) → int_lt time (if b then end else old) ≡ int_lt time old
 end_off time end old true k = let f = k refl in lt-is _ _ f.0 ∙ sym (lt-is _ _ f.1)
@@ -71,17 +60,13 @@ pub record CanEnd (h : Option ℤ) (id : ℕ) (end : ℤ) (e : LineEvent) : Type
   pub ahead : before h end ≡ true
   pub earlier : end <ℤ e.end
 
-pub not_true : (a : Bool) → not a ≡ true → a ≡ false
-not_true true is = cc
-not_true false is = refl
-
 pub can_end-parts : (h : Option ℤ) (id : ℕ) (end : ℤ) (e : LineEvent) → can_end h id end e ≡ true → CanEnd h id end e
 can_end-parts h id end e can =
-    let a = both (is_of h id e) _ can in
-    let b = both (not e.cancelled) _ a.1 in
-    let c = both (int_lt e.start end) _ b.1 in
-    let d = both (before h end) _ c.1 in
-    record { of = a.0; uncancelled = not_true _ b.0; past = lt-test _ _ c.0; ahead = d.0; earlier = lt-test _ _ d.1 }
+    let a = and_parts (is_of h id e) _ can in
+    let b = and_parts (not e.cancelled) _ a.1 in
+    let c = and_parts (int_lt e.start end) _ b.1 in
+    let d = and_parts (before h end) _ c.1 in
+    record { of = a.0; uncancelled = not-true _ b.0; past = lt-test _ _ c.0; ahead = d.0; earlier = lt-test _ _ d.1 }
 
 covers-ended : (h : Option ℤ) (id : ℕ) (end time : ℤ) → before h time ≡ false → (e : LineEvent) → covers time (end_by h id end e) ≡ covers time e
 covers-ended None id end time b e = absurd (let no : true ≡ false = b in cc)
@@ -104,12 +89,12 @@ pub record CanStart (h : Option ℤ) (id : ℕ) (start end : ℤ) (es : List Lin
 
 pub can_start-parts : (h : Option ℤ) (id : ℕ) (start end : ℤ) (es : List LineEvent) → can_start h id start end es ≡ true → CanStart h id start end es
 can_start-parts h id start end es can =
-    let a = both (is_some h) _ can in
-    let b = both (int_lt start end) _ a.1 in
-    let c = both (before h start) _ b.1 in
-    let d = both (not (list_any (is_of h id) es)) _ c.1 in
-    let e = both (nat_lt (count h es) 32) _ d.1 in
-    record { clock = a.0; some = lt-test _ _ b.0; ahead = c.0; unused = not_true _ d.0; room = e.0; free = not_true _ e.1 }
+    let a = and_parts (is_some h) _ can in
+    let b = and_parts (int_lt start end) _ a.1 in
+    let c = and_parts (before h start) _ b.1 in
+    let d = and_parts (not (list_any (is_of h id) es)) _ c.1 in
+    let e = and_parts (nat_lt (count h es) 32) _ d.1 in
+    record { clock = a.0; some = lt-test _ _ b.0; ahead = c.0; unused = not-true _ d.0; room = e.0; free = not-true _ e.1 }
 
 pub settled_step : (h : Option ℤ) (s : Turn) (es : List LineEvent) (time : ℤ) → before h time ≡ false → holders time (taken h s es) ≡ holders time es
 settled_step h (Started id start end) es time b =

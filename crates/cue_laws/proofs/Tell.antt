@@ -2,9 +2,11 @@
 use Rattle.std.proofs.Common.{◌≡◌, Bool, true, false, not, ◌&&◌, ◌⊎◌, inl, inr, refl, sym, ap, ◌∙◌, subst, List, [], ◌∷◌, ◌++◌, Option, arith}
 use Rattle.std.specs.Prelude.{ℤ, pos, ◌+ℤ◌, ◌<ℤ◌, ◌≤ℤ◌, int_lt, is_some, if◌then◌else◌}
 use Rattle.std.proofs.lemmas.Int.{ints}
+use Rattle.std.proofs.lemmas.Bool.{and_from, and_parts, not-true}
+use Rattle.ts_packet.proofs.Cases.{by_test}
 use Rattle.cue_laws.specs.Events.{Turn, LineEvent, Started, Cancelled, Ended, before, stands, is_of, can_start, fresh, can_cancel, cancel_by, can_end, end_by, In}
 use Rattle.cue_laws.specs.Cueing.{Known, is_cancel_new, or_else, is_news, current, limit, is_due, is_second, end_on, cancel_on, repeat_on, told_on}
-use Rattle.cue_laws.proofs.Settling.{by_test, both, lt-test, ge-test, lt-is, can_end-parts, not_true}
+use Rattle.cue_laws.proofs.Settling.{lt-test, ge-test, lt-is, can_end-parts}
 use Rattle.cue_laws.proofs.Lists.{Distinct}
 use Rattle.cue_laws.proofs.Orders.{Orderly, orderly-clear, orderly-tail, before-more, is_of-is, Clear, or-left, or-right}
 use Rattle.cue_laws.proofs.Below.{start_taken}
@@ -21,15 +23,12 @@ pub record About (h : Option ℤ) (e : LineEvent) (older front back : List LineE
   pub part : (y : LineEvent) → In y back → In y older
   pub distinct : Distinct back
 
-and-is : (a b : Bool) → a ≡ true → b ≡ true → (a && b) ≡ true
-and-is a b p q = cc
-
-or_else-false : (a b : Bool) → or_else a b ≡ false → (a ≡ false) × (b ≡ false)
+pub or_else-false : (a b : Bool) → or_else a b ≡ false → (a ≡ false) × (b ≡ false)
 or_else-false true b is = absurd (let bad : true ≡ false = is in cc)
 or_else-false false b is = (refl, is)
 
--- where no cancel is new, both or neither are cancelled
-same_flag : (a b : Bool) → (a && not b) ≡ false → (b ≡ true → a ≡ true) → b ≡ a
+-- where no cancel is new, and_parts or neither are cancelled
+pub same_flag : (a b : Bool) → (a && not b) ≡ false → (b ≡ true → a ≡ true) → b ≡ a
 same_flag true true is k = refl
 same_flag true false is k = absurd (let bad : true ≡ false = is in cc)
 same_flag false true is k = let bad = k refl in cc
@@ -76,7 +75,7 @@ module _ (h later : Option ℤ) (e : LineEvent) (older front back : List LineEve
       let l = limit-cancelled e c in
       if_goes h (is_due h later e last) (current e) rest (front ++ back)
       (λ due.
-      let b : before h e.start ≡ true = ap (before h) (sym l.0) ∙ (both (before h (limit e)) (is_second last later) due).0 in
+      let b : before h e.start ≡ true = ap (before h) (sym l.0) ∙ (and_parts (before h (limit e)) (is_second last later) due).0 in
       let s = stands_start b in
       subst (λ x. Goes h (x ∷ rest) (front ++ back)) (sym l.1) (cancel_none h e front back (about.newer s) (about.others s) rest g))
       (λ due. g)
@@ -85,7 +84,7 @@ module _ (h later : Option ℤ) (e : LineEvent) (older front back : List LineEve
   repeat_known : (last : Option ℤ) (rest : List Turn) → Goes h rest (front ++ (e ∷ back)) → Goes h (repeat_on h later e last rest) (front ++ (e ∷ back))
   repeat_known last rest g =
       if_goes h (is_due h later e last) (current e) rest (front ++ (e ∷ back))
-      (λ due. let b = (both (before h (limit e)) (is_second last later) due).0 in
+      (λ due. let b = (and_parts (before h (limit e)) (is_second last later) due).0 in
       by_test e.cancelled
       (λ c. let l = limit-cancelled e c in
       let s = stands_start (ap (before h) (sym l.0) ∙ b) in
@@ -116,7 +115,7 @@ module _ (h later : Option ℤ) (e : LineEvent) (older front back : List LineEve
       let st : stands h t ≡ true = (let x = k.earlier in before-more h e.end (t.end +ℤ pos 900000) new.0 (omega (arith, ints, x))) in
       let of : is_of h e.id t ≡ true = is_of-is h e.id t st k.id in
       let past : int_lt t.start e.end ≡ true = (let x = some_here in let y = k.start in lt-is t.start e.end (omega (arith, ints, x, y))) in
-      let can : can_end h e.id e.end t ≡ true = and-is _ _ of (and-is _ _ (ap not new.1) (and-is _ _ past (and-is _ _ new.0 l))) in
+      let can : can_end h e.id e.end t ≡ true = and_from _ _ of (and_from _ _ (ap not new.1) (and_from _ _ past (and_from _ _ new.0 l))) in
       end_middle h e front back (about.newer s) (about.others s) rest e.end t _ new.1
       (ap (λ b. record { id = t.id; start = t.start; asked = t.asked; end = (if b then e.end else t.end); cancelled = t.cancelled }) can) g)
       (λ l.
@@ -132,10 +131,10 @@ module _ (h later : Option ℤ) (e : LineEvent) (older front back : List LineEve
       let u : LineEvent = record { id = t.id; start = t.start; asked = t.asked; end = e.end; cancelled = t.cancelled } in
       if_goes h (is_cancel_new e t) (Cancelled e.id) rest (front ++ (e ∷ back))
       (λ n.
-      let p = both e.cancelled (not t.cancelled) n in
-      let ahead = k.cancel_new p.0 (not_true t.cancelled p.1) in
+      let p = and_parts e.cancelled (not t.cancelled) n in
+      let ahead = k.cancel_new p.0 (not-true t.cancelled p.1) in
       let s = stands_start ahead in
-      let can : can_cancel h e.id u ≡ true = and-is _ _ (is_of-is h e.id u s k.id) (ap (before h) k.start ∙ ahead) in
+      let can : can_cancel h e.id u ≡ true = and_from _ _ (is_of-is h e.id u s k.id) (ap (before h) k.start ∙ ahead) in
       let same : cancel_by h e.id u ≡ e = equal_events (cancel_by h e.id u) e k.id k.start k.asked refl (or-right u.cancelled (can_cancel h e.id u) can ∙ sym p.0) in
       cancel_middle h e front back (about.newer s) (about.others s) rest u e same g)
       (λ n. goes-to h rest _ _ (ap (λ z. front ++ (z ∷ back)) (equal_events u e k.id k.start k.asked refl (same_flag e.cancelled t.cancelled n k.cancelled))) g)
@@ -164,7 +163,7 @@ module _ (h later : Option ℤ) (e : LineEvent) (older front back : List LineEve
       let st : stands h asked_for ≡ true = before-more h e.start (e.asked +ℤ pos 900000) clear.ahead (omega (arith, ints, v)) in
       let ahead : before h e.end ≡ true = before-more h e.start e.end clear.ahead (omega (arith, ints, w)) in
       let can : can_end h e.id e.end asked_for ≡ true =
-      and-is _ _ (is_of-is h e.id asked_for st refl) (and-is _ _ (lt-is e.start e.end w) (and-is _ _ ahead l)) in
+      and_from _ _ (is_of-is h e.id asked_for st refl) (and_from _ _ (lt-is e.start e.end w) (and_from _ _ ahead l)) in
       let same : end_by h e.id e.end asked_for ≡ e =
       ap (λ b. record { id = e.id; start = e.start; asked = e.asked; end = (if b then e.end else e.asked); cancelled = false }) can
       ∙ ap (λ b. record { id = e.id; start = e.start; asked = e.asked; end = e.end; cancelled = b }) (sym c) in

@@ -2,9 +2,10 @@
 use Rattle.std.proofs.Common.{◌≡◌, ℕ, ◌<◌, zero, suc, true, false, ◌⊎◌, inl, inr, refl, sym, ap, ◌∙◌, subst, List, [], ◌∷◌, Option, arith}
 use Rattle.std.specs.Prelude.{ℤ, map, if◌then◌else◌}
 use Rattle.std.proofs.lemmas.Int.{ints}
+use Rattle.ts_packet.proofs.Cases.{by_test}
 use Rattle.cue_laws.specs.Events.{Turn, LineEvent, Started, Cancelled, Ended, Passed, high, events, taken, is_of, can_start, fresh, can_cancel, cancel_by, can_end, end_by, In}
 use Rattle.cue_laws.specs.Thinning.{MayCome, MayAllCome, Repeats, times, thinned, KeepsEnds}
-use Rattle.cue_laws.proofs.Settling.{by_test, can_end-parts}
+use Rattle.cue_laws.proofs.Settling.{can_end-parts}
 use Rattle.cue_laws.proofs.Lists.{In-mapped}
 use Rattle.cue_laws.proofs.Orders.{Orderly, orderly, orderly_step, or-right, end-shrinks, stands-back, is_of-parts, is_of-is}
 use Rattle.cue_laws.proofs.Below.{Below, below-none, IsThere, skip_start, skip_cancel, take_start, take_cancel, take_end}

@@ -2,12 +2,14 @@
 use Rattle.std.specs.Prelude.{◌<ℤ◌, ◌≤ℤ◌, int_lt, filter}
 use Rattle.std.proofs.Common.{◌≡◌, ◌⊎◌, inl, inr, refl, sym, ap, ◌∙◌, subst, List, [], ◌∷◌, arith}
 use Rattle.std.proofs.lemmas.Int.{ints}
+use Rattle.std.proofs.lemmas.Bool.{not-true}
+use Rattle.ts_packet.proofs.Cases.{by_test}
 use Rattle.cue_laws.specs.Events.{LineEvent, Passed, events, In}
 use Rattle.cue_laws.specs.Thinning.{thinned}
 use Rattle.cue_laws.specs.Cueing.{cued}
 use Rattle.cue_laws.specs.Tables.{put_by_start, by_start, is_uncancelled, uncancelled_events}
 use Rattle.cue_laws.specs.Laws.{UncancelledEventsAgree}
-use Rattle.cue_laws.proofs.Settling.{by_test, lt-test, ge-test, not_true}
+use Rattle.cue_laws.proofs.Settling.{lt-test, ge-test}
 use Rattle.cue_laws.proofs.Lists.{In-filter, In-filtered, Distinct, distinct-filter}
 use Rattle.cue_laws.proofs.Orders.{Orderly}
 use Rattle.cue_laws.proofs.Below.{Below}
@@ -117,9 +119,9 @@ uncancelled_events_agree copies h past r k =
     (rising-sorted (filter is_uncancelled here) (distinct-filter is_uncancelled here part.distinct))
     (rising-sorted (filter is_uncancelled there) (distinct-filter is_uncancelled there order.distinct))
     (λ x i. let p = In-filtered is_uncancelled x here (by_start-from (filter is_uncancelled here) x i) in
-    by_start-to (filter is_uncancelled there) x (In-filter is_uncancelled x there ((cue_path_at_the_end copies h past r k x (not_true x.cancelled p.1)).0 p.0) p.1))
+    by_start-to (filter is_uncancelled there) x (In-filter is_uncancelled x there ((cue_path_at_the_end copies h past r k x (not-true x.cancelled p.1)).0 p.0) p.1))
     (λ x i. let p = In-filtered is_uncancelled x there (by_start-from (filter is_uncancelled there) x i) in
-    by_start-to (filter is_uncancelled here) x (In-filter is_uncancelled x here ((cue_path_at_the_end copies h past r k x (not_true x.cancelled p.1)).1 p.0) p.1))
+    by_start-to (filter is_uncancelled here) x (In-filter is_uncancelled x here ((cue_path_at_the_end copies h past r k x (not-true x.cancelled p.1)).1 p.0) p.1))
   where
     here : List LineEvent
     here = events (thinned copies (cued (Passed h ∷ past)))

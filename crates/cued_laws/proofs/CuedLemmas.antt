@@ -9,7 +9,6 @@ use Rattle.ts_packet.specs.Fields.{on, on_one}
 use Rattle.ts_packet.specs.Numbering.{one_past}
 use Rattle.ts_packet.specs.Runs.{onto}
 use Rattle.ts_packet.proofs.Cases.{by_test}
-use Rattle.ts_packet.proofs.FieldLemmas.{payload_on-on}
 use Rattle.ts_packet.proofs.RunLemmas.{onto-append}
 use Rattle.psi_section.specs.Sections.{given, sections_after}
 use Rattle.psi_section.proofs.GivenLemmas.{All-both}
@@ -36,7 +35,7 @@ use Rattle.program_laws.proofs.ReadingLemmas.{tables_onto}
 use Rattle.program_laws.proofs.WritingLemmas.{listed_below, carry_off, first_map-out}
 use Rattle.injector.specs.Steps.{Packet, packets_in, cued, sent_at}
 use Rattle.injector.specs.Laws.{own_fronts}
-use Rattle.injector.proofs.CuedLemmas.{cued-is-written}
+use Rattle.injector.proofs.CuedLemmas.{cued-is-written, carried-on}
 use Rattle.cued_laws.specs.Laws.{ArePacketsOfBytes, CuedIsFaultless, InjectedIsFaultless, NoneSentIsAtFault}
 use Rattle.cued_laws.proofs.UnitLemmas.{unit_same}
 use Rattle.cued_laws.proofs.PacketLemmas.{pid_parts, cue_of_none, parts_none, quiet_maps, Quiet, quiet}
@@ -45,9 +44,6 @@ use Rattle.cued_laws.proofs.TableLemmas.{entries_sound, IsOfBoth, block_sound}
 -- what stands behind the same front
 behind_front : {A : Type 0} (front xs ys : List A) → front ++ xs ≡ front ++ ys → xs ≡ ys
 behind_front front xs ys e = sym (drop-append_seam front xs) ∙ ap (drop (length front)) e ∙ drop-append_seam front ys
-
-carried_on : (pid : ℕ) (qs : List (List ℕ)) → AllByRecursion (IsPayloadOn pid) qs → AllByRecursion (On pid) qs
-carried_on pid qs all = Each-map (IsPayloadOn pid) (On pid) (λ q y. payload_on-on pid q y) qs all
 
 module _ (wanted : Option ℕ) (cue : ℕ) where
   abbrev R : Purpose
@@ -180,7 +176,7 @@ module _ (wanted : Option ℕ) (cue : ℕ) where
         both : AllByRecursion (IsOfBoth wanted cue not_pat l) (cues p past ++ packets)
         both = All-both (IsOfBoth wanted cue not_pat l) (cues p past) packets
             (Each-map (On cue) (IsOfBoth wanted cue not_pat l) (λ q h. inl h) (cues p past) all.0)
-            (Each-map (On l.pid) (IsOfBoth wanted cue not_pat l) (λ q h. inr h) packets (carried_on l.pid packets carry))
+            (Each-map (On l.pid) (IsOfBoth wanted cue not_pat l) (λ q h. inr h) packets (carried-on l.pid packets carry))
 
         out_is : out_of (p ∷ past) ≡ onto out (cues p past ++ packets)
         out_is = ap (λ o. onto out (whole o)) known ∙ (let e : onto out (whole (Some l)) ≡ onto out (cues p past ++ packets) = simp y refl in e)

@@ -3,15 +3,13 @@ use Rattle.std.specs.Option.{option_or}
 use Rattle.std.proofs.Common.{◌≡◌, ℕ, List, [], ◌∷◌, Bool, true, false, ◌||◌, ◌==◌, refl, sym, ap, ◌∙◌, Option, Some, None, if◌then◌else◌}
 use Rattle.std.specs.Prelude.{filter, is_some, option_map}
 use Rattle.std.specs.List.{AllByRecursion, list_any}
-use Rattle.std.proofs.lemmas.Bool.{eq-eqb}
+use Rattle.std.proofs.lemmas.Bool.{eq-eqb, or_parts}
 use Rattle.ts_packet.specs.Fields.{on, on_one}
 use Rattle.ts_packet.specs.Runs.{onto}
-use Rattle.ts_packet.proofs.Cases.{by_test}
 use Rattle.psi_section.specs.Sections.{given}
 use Rattle.psi_section.proofs.RunLemmas.{given_off}
 use Rattle.psi_tables.specs.declared.network.NetworkFault.TheVariants.{BadPids, CuePidUsed}
-use Rattle.psi_tables.specs.declared.stream.Stream.{Stream}
-use Rattle.psi_tables.specs.Streams.{pid_in, switched_of, is_switched}
+use Rattle.psi_tables.specs.Streams.{pid_in, switched_of}
 use Rattle.psi_tables.specs.ProgramMap.{ProgramMap, streams_of}
 use Rattle.unit_stream.specs.Faults.{unit_fault}
 use Rattle.program_follower.specs.declared.purpose.Purpose.{Purpose}
@@ -25,7 +23,8 @@ use Rattle.program_laws.proofs.FaultLemmas.{not_if_bad, MapSound, all_sound, pid
 use Rattle.program_laws.proofs.ReadingLemmas.{no_tables, none_at_pat}
 use Rattle.program_laws.proofs.WritingLemmas.{off_other}
 use Rattle.program_laws.proofs.HeadLemmas.{nothing_behind}
-use Rattle.cued_laws.proofs.UnitLemmas.{or_none, unit_off}
+use Rattle.program_laws.proofs.SplicedLemmas.{any_switched}
+use Rattle.cued_laws.proofs.UnitLemmas.{unit_off}
 use Rattle.program_follower.specs.Purposes.{cues_read_on}
 
 -- ---- PIDs
@@ -40,19 +39,10 @@ other_number a b n e = let t : (b == a) ≡ true = eq-eqb b a (sym e) in let f :
 not_one : (a : ℕ) (f : ℕ → Bool) → f a ≡ true → (pids : List ℕ) → list_any f pids ≡ false → (q : List ℕ) → on a q ≡ true → on_one pids q ≡ false
 not_one a f is [] none q y = refl
 not_one a f is (pid ∷ pids) none q y =
-    let r = or_none (f pid) (list_any f pids) none in
+    let r = or_parts (f pid) (list_any f pids) none in
     let other : a ≡ pid → ⊥ = (λ e. let g : true ≡ false = sym is ∙ ap f e ∙ r.0 in cc) in
     let n : on pid q ≡ false = off_other a pid q other y in
     ap (λ b. b || on_one pids q) n ∙ not_one a f is pids r.1 q y
-
-switched_none : (f : ℕ → Bool) (ss : List Stream) → list_any f (pids_in ss) ≡ false → list_any f (pids_in (switched_of ss)) ≡ false
-switched_none f [] none = refl
-switched_none f (s ∷ ss) none =
-    let r = or_none (f s.pid) (list_any f (pids_in ss)) none in
-    let more = switched_none f ss r.1 in
-    by_test (is_switched s.kind)
-    (λ y. simp y (ap (λ b. b || list_any f (pids_in (switched_of ss))) r.0 ∙ more))
-    (λ n. simp n more)
 
 -- what no fault says of the first map
 map_sound : (c : Purpose) (pid : ℕ) (ts : List Table) → AllByRecursion (λ (t : Table). MapSound c pid t.program_map) ts → MapSound c pid (first_map ts)
@@ -71,7 +61,7 @@ module _ (wanted : Option ℕ) (cue : ℕ) (not_pat : cue ≡ 0 → ⊥) where
   pid_parts out l ok known =
       let g : pmt_pid_fault R (Some l) ≡ None = ap (pmt_pid_fault R) (sym known) ∙ pid_good R out ok in
       let r = none_both (if_bad ((l.pid == 0) || (l.pid == 8191)) BadPids) (if_bad (is_pid (Some cue) l.pid) CuePidUsed) g in
-      let zero = or_none (l.pid == 0) (l.pid == 8191) (not_if_bad ((l.pid == 0) || (l.pid == 8191)) BadPids r.0) in
+      let zero = or_parts (l.pid == 0) (l.pid == 8191) (not_if_bad ((l.pid == 0) || (l.pid == 8191)) BadPids r.0) in
       let used : (l.pid == cue) ≡ false = not_if_bad (is_pid (Some cue) l.pid) CuePidUsed r.1 in
       ((λ e. other_number 0 l.pid zero.0 (sym e)), other_number cue l.pid used)
 
@@ -79,7 +69,7 @@ module _ (wanted : Option ℕ) (cue : ℕ) (not_pat : cue ≡ 0 → ⊥) where
   cue_apart : (pid : ℕ) (o : Option ProgramMap) → MapSound R pid o → (q : List ℕ) → on cue q ≡ true → on_one (pids_of (option_map program_in o)) q ≡ false
   cue_apart pid None g q y = refl
   cue_apart pid (Some m) g q y =
-      let r = or_none (is_pid (Some cue) (pid_in m.pcr_field)) (list_any (is_pid (Some cue)) (pids_in (switched_of (streams_of m)))) g.cue in
+      let r = or_parts (is_pid (Some cue) (pid_in m.pcr_field)) (list_any (is_pid (Some cue)) (pids_in (switched_of (streams_of m)))) g.cue in
       not_one cue (is_pid (Some cue)) (eq-eqb cue cue refl) (pids_in (switched_of (streams_of m))) r.1 q y
 
   or_true : (a b : Bool) → b ≡ true → a || b ≡ true
@@ -89,9 +79,9 @@ module _ (wanted : Option ℕ) (cue : ℕ) (not_pat : cue ≡ 0 → ⊥) where
   map_apart : (pid : ℕ) (o : Option ProgramMap) → MapSound R pid o → (q : List ℕ) → on pid q ≡ true → on_one (pids_of (option_map program_in o)) q ≡ false
   map_apart pid None g q y = refl
   map_apart pid (Some m) g q y =
-      let bad = or_none (list_any (bad_pid pid) (pid_in m.pcr_field ∷ pids_in (streams_of m))) (list_any (bad_switched (pids_in (streams_of m))) (pids_in (switched_of (streams_of m)))) g.pids in
-      let r = or_none (bad_pid pid (pid_in m.pcr_field)) (list_any (bad_pid pid) (pids_in (streams_of m))) bad.0 in
-      not_one pid (bad_pid pid) (or_true (pid == 0) (pid == pid) (eq-eqb pid pid refl)) (pids_in (switched_of (streams_of m))) (switched_none (bad_pid pid) (streams_of m) r.1) q y
+      let bad = or_parts (list_any (bad_pid pid) (pid_in m.pcr_field ∷ pids_in (streams_of m))) (list_any (bad_switched (pids_in (streams_of m))) (pids_in (switched_of (streams_of m)))) g.pids in
+      let r = or_parts (bad_pid pid (pid_in m.pcr_field)) (list_any (bad_pid pid) (pids_in (streams_of m))) bad.0 in
+      not_one pid (bad_pid pid) (or_true (pid == 0) (pid == pid) (eq-eqb pid pid refl)) (pids_in (switched_of (streams_of m))) (any_switched (bad_pid pid) (streams_of m) r.1) q y
 
   sound_at : (out : List (List ℕ)) (l : Listed) → first_fault R out ≡ None → listed wanted out ≡ Some l → MapSound R l.pid (known_map wanted out)
   sound_at out l ok known = map_sound R l.pid (all_tables wanted out) (all_sound R out l ok known)

@@ -2,6 +2,7 @@
 use Rattle.std.proofs.Common.{◌≡◌, ℕ, List, [], ◌∷◌, Bool, true, false, not, ◌&&◌, ◌||◌, refl, sym, ap, ◌∙◌, Some, None, if◌then◌else◌}
 use Rattle.std.specs.Prelude.{filter}
 use Rattle.std.specs.List.{AllByRecursion}
+use Rattle.std.proofs.lemmas.Bool.{or_parts}
 use Rattle.ts_packet.specs.Fields.{on, payload_on, unit_start, on_one}
 use Rattle.ts_packet.specs.Duplicates.{repeats}
 use Rattle.ts_packet.proofs.Cases.{by_test}
@@ -10,17 +11,14 @@ use Rattle.unit_stream.specs.Times.{begins, begins_one, high, raised, stamp, spl
 use Rattle.unit_stream.specs.Faults.{scrambled_one, start_fault, unit_fault}
 use Rattle.unit_stream.specs.declared.fault.UnitFault.TheVariants.{Scrambled}
 use Rattle.program_laws.specs.Behind.{TakesAll}
-
-pub or_none : (a b : Bool) → a || b ≡ false → (a ≡ false) × (b ≡ false)
-or_none true b h = cc
-or_none false b h = (refl, h)
+use Rattle.program_laws.proofs.CuedLemmas.{takes_within}
 
 -- ---- a packet of no switched PID
 
 scrambled_off : (pids : List ℕ) (q : List ℕ) → on_one pids q ≡ false → scrambled_one pids q ≡ false
 scrambled_off [] q n = refl
 scrambled_off (pid ∷ pids) q n =
-    let r = or_none (on pid q) (on_one pids q) n in
+    let r = or_parts (on pid q) (on_one pids q) n in
     let k = off_payload pid q r.0 in
     let m = scrambled_off pids q r.1 in
     simp k m
@@ -28,7 +26,7 @@ scrambled_off (pid ∷ pids) q n =
 begins_off : (pids : List ℕ) (q : List ℕ) (past : List (List ℕ)) → on_one pids q ≡ false → begins_one pids q past ≡ false
 begins_off [] q past n = refl
 begins_off (pid ∷ pids) q past n =
-    let r = or_none (on pid q) (on_one pids q) n in
+    let r = or_parts (on pid q) (on_one pids q) n in
     let k = off_payload pid q r.0 in
     let m = begins_off pids q past r.1 in
     simp k m
@@ -79,13 +77,6 @@ module _ (takes : List ℕ → Bool) where
 
   one_same : (pids : List ℕ) → AllByRecursion (TakesAll takes) pids → (p : List ℕ) (past other : List (List ℕ)) → filter takes past ≡ filter takes other → begins_one pids p past ≡ begins_one pids p other
   one_same pids h p past other e = one_taken pids h p past ∙ ap (begins_one pids p) e ∙ sym (one_taken pids h p other)
-
-takes_within : (pids all : List ℕ) → ((q : List ℕ) → on_one all q ≡ false → on_one pids q ≡ false) → AllByRecursion (TakesAll (on_one all)) pids
-takes_within [] all h = tt
-takes_within (pid ∷ pids) all h = (
-  λ q n. off_payload pid q (or_none (on pid q) (on_one pids q) (h q n)).0,
-  takes_within pids all (λ q n. (or_none (on pid q) (on_one pids q) (h q n)).1),
-)
 
 same_high : (pids : List ℕ) → AllByRecursion (TakesAll (on_one pids)) pids → (past other : List (List ℕ)) → filter (on_one pids) past ≡ filter (on_one pids) other → high pids past ≡ high pids other
 same_high pids every past other e = high_taken (on_one pids) pids every past ∙ ap (high pids) e ∙ sym (high_taken (on_one pids) pids every other)

@@ -4,6 +4,7 @@ use Rattle.std.specs.List.{list_all}
 use Rattle.std.specs.Char.{is_ascii_digit}
 use Rattle.std.specs.Str.Parse.{digits_value, without_leading_plus, IsNumeral}
 use Rattle.std.proofs.lemmas.Str.Parse.{parse_digits, IsDigitsTest, IsNumeralModel, numerals_by_value}
+use Rattle.std.proofs.lemmas.Bool.{and_parts}
 use Rattle.decimal_numbers.specs.Numbers.{is_number}
 
 tells : IsDigitsTest (λ ds. list_all is_ascii_digit ds ≡ true)
@@ -12,15 +13,8 @@ tells = search rules
 own : IsNumeralModel (λ ds. list_all is_ascii_digit ds ≡ true) (digits_value 10)
 own = numerals_by_value _ tells
 
-both : (a b : Bool) → (a && b) ≡ true → (a ≡ true) × (b ≡ true)
-both true b e = (refl, e)
-both false b e = (e, absurd (false_is_not_true e))
-  where
-    false_is_not_true : false ≡ true → ⊥
-    false_is_not_true h = grind (arith, h)
-
 positive : (text : List ℕ) → is_number text ≡ true → (0 < length text) × (list_all is_ascii_digit text ≡ true)
-positive text e = let h : (nat_lt 0 (length text) ≡ true) × (list_all is_ascii_digit text ≡ true) = both (nat_lt 0 (length text)) (list_all is_ascii_digit text) e in (grind (arith, h.0), h.1)
+positive text e = let h : (nat_lt 0 (length text) ≡ true) × (list_all is_ascii_digit text ≡ true) = and_parts (nat_lt 0 (length text)) (list_all is_ascii_digit text) e in (grind (arith, h.0), h.1)
 
 -- a number that is below the limit is given
 pub below_limit : (right : Bool) (x v limit : ℕ) → right ≡ true → x ≡ v → x < limit → Some x ≡ (if right && nat_lt v limit then Some v else None)

@@ -4,7 +4,7 @@ use Rattle.std.specs.Prelude.{ℤ, pos, ◌+ℤ◌, ◌-ℤ◌, ◌<ℤ◌, ◌�
 use Rattle.std.specs.List.{list_any, position}
 use Rattle.std.specs.Ordering.{int_eq}
 use Rattle.std.proofs.lemmas.Int.{ints}
-use Rattle.std.proofs.lemmas.Bool.{or_parts}
+use Rattle.std.proofs.lemmas.Bool.{or_parts, and_parts}
 use Rattle.std.proofs.lemmas.List.Elements.{All-append, All-cons, All-nil, All-head, All-tail, All-filter, filter_passes}
 use Rattle.std.proofs.lemmas.List.{length-map, map-append, map-set}
 use Rattle.std.proofs.Math.Seq.{map-set_same}
@@ -261,10 +261,10 @@ pub shorten-new : (line : Option ℤ) (standing : List Standing) (id : ℕ) (tim
 shorten-new line standing id time s is ahead cancelled same early = rw (is, ahead, cancelled, same, early) refl
 
 -- whether a time lies ahead of the high time, on the ring and on the line
-is_ahead-is : (h w : ℤ) → pos 0 <ℤ w → w ≤ℤ pos (2 ^ 29) → (int_lt h (h +ℤ w) && int_le (h +ℤ w) (h +ℤ pos (2 ^ 29))) ≡ true
+pub is_ahead-is : (h w : ℤ) → pos 0 <ℤ w → w ≤ℤ pos (2 ^ 29) → (int_lt h (h +ℤ w) && int_le (h +ℤ w) (h +ℤ pos (2 ^ 29))) ≡ true
 is_ahead-is h w above below = grind (arith, ints)
 
-is_ahead-from : (h w : ℤ) → (int_lt h (h +ℤ w) && int_le (h +ℤ w) (h +ℤ pos (2 ^ 29))) ≡ true → (pos 0 <ℤ w) × (w ≤ℤ pos (2 ^ 29))
+pub is_ahead-from : (h w : ℤ) → (int_lt h (h +ℤ w) && int_le (h +ℤ w) (h +ℤ pos (2 ^ 29))) ≡ true → (pos 0 <ℤ w) × (w ≤ℤ pos (2 ^ 29))
 is_ahead-from h w is = (grind (arith, ints), grind (arith, ints))
 
 pub is_ahead-line : (line : Option ℤ) (p : ℕ) → IsAheadOf (option_map ring_of line) p → is_ahead_of line (place_of line p) ≡ true
@@ -324,11 +324,6 @@ ending-within (Some h) s time reach ahead early =
     let parts = early-parts s.start time (end_of s) early in
     ending-reach h s time reach parts.0 (ahead-of h time ahead) parts.1
 
-both-ends : (a b : Bool) → (a && b) ≡ true → (a ≡ true) × (b ≡ true)
-both-ends true true is = (refl, refl)
-both-ends true false is = absurd (let nothing : false ≡ true = is in cc)
-both-ends false b is = absurd (let nothing : false ≡ true = is in cc)
-
 -- the new length on the line is the way on the ring
 length-within : (line : Option ℤ) (p : ℕ) → p < 2 ^ 33 → IsAheadOf (option_map ring_of line) p → (s : Standing) → IsWithin line s
     → unsigned_abs (place_of line p -ℤ s.start) ≡ unsigned_abs (signed p (ring_of s.start))
@@ -354,7 +349,7 @@ shortened-stands t t' line standing id place e p fits can stands is at early hig
     let early' : is_early_end s (place_of line p) ≡ true
     = sym (early-within line p fits can' s f.within) ∙ subst (λ x. ends_early_on_ring x p ≡ true) (sym f.ring) early in
     let length : unsigned_abs (place_of line p -ℤ s.start) ≡ unsigned_abs (signed p (ring_of s.start)) = length-within line p fits can' s f.within in
-    let parts = both-ends (int_lt s.start (place_of line p)) (int_lt (place_of line p) (end_of s)) early' in
+    let parts = and_parts (int_lt s.start (place_of line p)) (int_lt (place_of line p) (end_of s)) early' in
     changed-stands t t' line standing id place e (ended_on_ring p e) (ending_at (place_of line p)) f stands is at
     (ap (lasting (on_ring s)) length ∙ ap (ended_on_ring p) f.ring)
     (ending-within line s (place_of line p) f.within can early')
@@ -374,11 +369,11 @@ early-end t line standing id e p f fits can stands =
     subst (λ x. ends_early_on_ring x p ≡ is_early_end f.event (place_of line p)) f.ring (early-within line p fits (is_ahead-line_from line p can) f.event f.within)
 
 -- the next high time stands on the ring where it is said to, and lies in the window
-ring-time : (line : Option ℤ) (p : ℕ) (later : ℤ) → p < 2 ^ 33 → IsTimeAt line p later → ring_of later ≡ p
+pub ring-time : (line : Option ℤ) (p : ℕ) (later : ℤ) → p < 2 ^ 33 → IsTimeAt line p later → ring_of later ≡ p
 ring-time None p later fits is = is
 ring-time (Some h) p later fits is = ap ring_of is ∙ ring-lift h p fits
 
-kept-within : (line : Option ℤ) (p : ℕ) (later : ℤ) → p < 2 ^ 33 → CanAdvance (option_map ring_of line) p → IsTimeAt line p later → (s : Standing) → IsWithin line s
+pub kept-within : (line : Option ℤ) (p : ℕ) (later : ℤ) → p < 2 ^ 33 → CanAdvance (option_map ring_of line) p → IsTimeAt line p later → (s : Standing) → IsWithin line s
     → is_before_on_ring p ((ring_end (on_ring s) + 900000) % 2 ^ 33) ≡ int_lt later (forgotten_at s)
 kept-within None p later fits can is s nothing = absurd nothing
 kept-within (Some h) p later fits can is s reach =

@@ -1,5 +1,5 @@
 -- The time until which no cue is due.
-use Rattle.std.proofs.Common.{◌≡◌, ℕ, ◌+◌, ◌%◌, ◌^◌, Bool, true, false, not, ◌&&◌, ◌||◌, cond, List, [], ◌∷◌, ◌++◌, refl, ap, sym, ◌∙◌, subst, arith}
+use Rattle.std.proofs.Common.{◌≡◌, ℕ, ◌+◌, ◌%◌, ◌^◌, Bool, true, false, not, ◌&&◌, cond, List, [], ◌∷◌, ◌++◌, refl, ap, sym, ◌∙◌, subst, arith}
 use Rattle.std.specs.Prelude.{ℤ, pos, ◌+ℤ◌, ◌<ℤ◌, int_lt, int_le, filter, All, Option, None, Some, option_map}
 use Rattle.std.proofs.lemmas.Int.{ints}
 use Rattle.std.proofs.lemmas.List.Elements.{All-nil, All-cons, All-head, All-tail, All-push, All-filter}
@@ -224,7 +224,3 @@ stays-at-rest rest index past later rises kept quiet r free =
 
 pub rests-asked : (index : ℕ) (m : MessageReading) (past : List Turn) (rest : Option ℕ) → is_accepted (outcome index m past) ≡ false → RestsAt rest index past → RestsAt rest index (Judged m ∷ past)
 rests-asked index m past rest refused r = subst (λ xs. Rests rest (high past) (filter (stands_now (high past)) xs)) (sym (same-refused index m past refused)) r
-
-pub neither : (a b : Bool) → a || b ≡ false → (a ≡ false) × (b ≡ false)
-neither false b is = (refl, is)
-neither true b is = absurd (let no : true ≡ false = is in cc)

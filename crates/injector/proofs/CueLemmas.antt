@@ -1,6 +1,6 @@
 -- Cues in packets, and which go out.
 use Rattle.std.proofs.Common.{◌≡◌, ℕ, ◌+◌, ◌%◌, ◌^◌, ◌<◌, Bool, true, false, not, ◌&&◌, cond, List, ◌++◌, length, refl, ap, ◌∙◌, arith}
-use Rattle.std.specs.Prelude.{ℤ, pos, ◌+ℤ◌, ◌-ℤ◌, ◌≤ℤ◌, ◌<ℤ◌, int_lt, int_le, map, Option, None, Some, option_map}
+use Rattle.std.specs.Prelude.{ℤ, pos, ◌+ℤ◌, ◌-ℤ◌, ◌≤ℤ◌, ◌<ℤ◌, int_lt, map, Option, None, Some, option_map}
 use Rattle.std.proofs.lemmas.Int.{ints}
 use Rattle.pes_time.specs.Line.{ring_of, signed}
 use Rattle.scte35_codec.specs.declared.cue_out.CueOut.{CueOut}
@@ -10,6 +10,7 @@ use Rattle.event_table.specs.Events.{ring_end}
 use Rattle.event_table.specs.Rings.{is_before_on_ring}
 use Rattle.event_table.specs.Standing.{Standing, on_ring, end_of, IsInReach, IsWithin}
 use Rattle.event_table.proofs.TimeLemmas.{ring-plus, signed-range}
+use Rattle.event_table.proofs.EventLemmas.{not-lt}
 use Rattle.std.proofs.lemmas.List.{map-append}
 use Rattle.ts_packet.specs.Runs.{onto}
 use Rattle.ts_packet.proofs.RunLemmas.{onto-append}
@@ -48,9 +49,6 @@ limit-bounds high e r = by (not e.cancelled && is_ended e)
 pub before-within : (a b : ℤ) → b ≤ℤ (a +ℤ pos (2 ^ 32)) → a <ℤ (b +ℤ pos (2 ^ 32)) → is_before_on_ring (ring_of a) (ring_of b) ≡ int_lt a b
 before-within a b low top = let way : signed (ring_of a) (ring_of b) ≡ a -ℤ b = signed-range a b low top in rw way (grind (arith, ints))
 
-not-before : (a b : ℤ) → not (int_lt a b) ≡ int_le b a
-not-before a b = grind (arith, ints)
-
 ring-repeated : (e : Standing) (last high later : Option ℤ) → IsWithin high e → LastIn high e.start last → Rises high later
     → ring_repeated (on_ring e) (option_map ring_of last) (option_map ring_of high) (option_map ring_of later) ≡ is_repeated e last high later
 ring-repeated e None high later within inside rises = refl
@@ -73,7 +71,7 @@ ring-repeated e (Some last) (Some high) (Some later) within inside rises =
     = ap (is_before_on_ring (ring_of later)) (ring-plus last 90000) ∙ before-within later (last +ℤ pos 90000) (omega (arith, ints)) (omega (arith, ints)) in
     ap (λ b. b && not (is_before_on_ring (ring_of later) ((ring_of last + 90000) % 2 ^ 33))) limit_is
     ∙ ap (λ b. int_lt high (limit e) && not b) second
-    ∙ ap (λ b. int_lt high (limit e) && b) (not-before later (last +ℤ pos 90000))
+    ∙ ap (λ b. int_lt high (limit e) && b) (not-lt later (last +ℤ pos 90000))
 
 pub ring-chosen : (x : Sender) (high later : Option ℤ) → IsWithin high x.event → IsKept high x → Rises high later
     → ring_chosen (on_ring x.event) (option_map told_by_cue x.told) (option_map ring_of x.last) (option_map ring_of high) (option_map ring_of later) ≡ chosen x high later

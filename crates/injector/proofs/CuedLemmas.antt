@@ -27,7 +27,7 @@ number-others : (pid : ℕ) (qs out : List (List ℕ)) → AllByRecursion (Off p
 number-others pid [] out off = refl
 number-others pid (q ∷ qs) out off = number-others pid qs (q ∷ out) off.1 ∙ (let f : number_on pid (q ∷ out) ≡ number_on pid out = simp off.0 in f)
 
-carried-on : (pid : ℕ) (qs : List (List ℕ)) → AllByRecursion (IsPayloadOn pid) qs → AllByRecursion (On pid) qs
+pub carried-on : (pid : ℕ) (qs : List (List ℕ)) → AllByRecursion (IsPayloadOn pid) qs → AllByRecursion (On pid) qs
 carried-on pid [] all = tt
 carried-on pid (q ∷ qs) all = (payload_on-on pid q all.0, carried-on pid qs all.1)
 

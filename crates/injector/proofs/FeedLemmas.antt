@@ -29,6 +29,7 @@ use Rattle.program_follower.specs.Following.{grown, on_map, high_of}
 use Rattle.program_follower.proofs.FollowLemmas.{program_stays, grown_is, no_high}
 use Rattle.program_laws.specs.Writing.{packets_out, section_out, body}
 use Rattle.program_laws.specs.Cued.{cueing}
+use Rattle.program_laws.proofs.ReadingLemmas.{or_first}
 use Rattle.outgoing_packets.specs.declared.entry.CueEntry.TheVariants.{Added}
 use Rattle.outgoing_packets.specs.Entries.{change_of, HasRoom, GoesOut, AllGoOut}
 use Rattle.injector.specs.Turns.{high}
@@ -37,10 +38,6 @@ use Rattle.injector.specs.Steps.{Step, Message, Packet, packets_in, turns_in, bo
 use Rattle.program_follower.specs.Purposes.{writing_cues}
 
 -- ---- faults
-
-first-none : {A : Type 0} (x y : Option A) → option_or x y ≡ None → x ≡ None
-first-none None y is = refl
-first-none (Some a) y is = absurd (let no : Some a ≡ None = is in cc)
 
 second-none : {A : Type 0} (x y : Option A) → option_or x y ≡ None → y ≡ None
 second-none None y is = is
@@ -58,7 +55,7 @@ no-unit (Some TimeJump) is = absurd (let no : as_network (Some TimeJump) ≡ Non
 
 module _ (c : Config) (p : List ℕ) (past : List (List ℕ)) (good : network_fault (writing_cues c) p past ≡ None) where
   no-cue : on_cue (Some c.cue_pid) p ≡ false
-  no-cue = none-if (on_cue (Some c.cue_pid) p) _ (first-none (cue_fault (writing_cues c) p) _ good)
+  no-cue = none-if (on_cue (Some c.cue_pid) p) _ (or_first (cue_fault (writing_cues c) p) _ good)
 
   behind-cue : option_or (pats_fault (writing_cues c) (listed (Some c.program) past) (given 0 p past))
       (option_or (maps_fault (writing_cues c) (listed (Some c.program) past) (first_map (all_tables (Some c.program) past)) (tables (Some c.program) p past))
@@ -70,7 +67,7 @@ module _ (c : Config) (p : List ℕ) (past : List (List ℕ)) (good : network_fa
   behind-pats = second-none (pats_fault (writing_cues c) (listed (Some c.program) past) (given 0 p past)) _ behind-cue
 
   pub no-maps : maps_fault (writing_cues c) (listed (Some c.program) past) (first_map (all_tables (Some c.program) past)) (tables (Some c.program) p past) ≡ None
-  no-maps = first-none _ (as_network (unit_fault (pids_of (program_of (Some c.program) past)) p (behind_head (Some c.program) past))) behind-pats
+  no-maps = or_first _ (as_network (unit_fault (pids_of (program_of (Some c.program) past)) p (behind_head (Some c.program) past))) behind-pats
 
   pub no-units : unit_fault (pids_of (program_of (Some c.program) past)) p (behind_head (Some c.program) past) ≡ None
   no-units = no-unit _ (second-none (maps_fault (writing_cues c) (listed (Some c.program) past) (first_map (all_tables (Some c.program) past)) (tables (Some c.program) p past)) _ behind-pats)
@@ -143,7 +140,7 @@ all-room c pid first program (s ∷ ss) good can =
     let t : Table = table_of program s in
     let some = (sound s (All-head CanBeGiven s ss can)).least in
     All-cons (GoesOut (Added c.cue_pid)) t (map (table_of program) ss)
-    (record { some = omega arith; room = map-room c pid first t.program_map (first-none (table_fault (writing_cues c) pid first t.program_map) _ good) })
+    (record { some = omega arith; room = map-room c pid first t.program_map (or_first (table_fault (writing_cues c) pid first t.program_map) _ good) })
     (all-room c pid (option_or first t.program_map) program ss (second-none (table_fault (writing_cues c) pid first t.program_map) _ good) (All-tail CanBeGiven s ss can))
 
 pub tables-go : (c : Config) (p : List ℕ) (past : List (List ℕ)) → network_fault (writing_cues c) p past ≡ None → AllGoOut (Added c.cue_pid) (tables (Some c.program) p past)

@@ -85,7 +85,7 @@ record IsAtRest (has : Bool) (line : Option ℤ) (x : Sender) : Type 0 where
 nothing-new : (e : Standing) → is_none (news e (Some e)) ≡ true
 nothing-new e = grind arith
 
-some-current : (e : Standing) → is_none (current e) ≡ false
+pub some-current : (e : Standing) → is_none (current e) ≡ false
 some-current e = by e.cancelled (is_ended e)
   where
     by : (k d : Bool) → is_none (record { start = not k && not d; end = not k && d; cancel = k }) ≡ false

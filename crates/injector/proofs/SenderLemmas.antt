@@ -35,7 +35,7 @@ first-events test f (x ∷ xs) = step (test x.event) (first-events test f xs)
     step true later = refl
     step false later = ap (λ es. x.event ∷ es) later
 
-filter-events : (p : Standing → Bool) (xs : List Sender) → events_in (filter (λ x. p x.event) xs) ≡ filter p (events_in xs)
+pub filter-events : (p : Standing → Bool) (xs : List Sender) → events_in (filter (λ x. p x.event) xs) ≡ filter p (events_in xs)
 filter-events p [] = refl
 filter-events p (x ∷ xs) = step (p x.event) (filter-events p xs)
   where

@@ -1,35 +1,30 @@
 -- Of an event that is still to come nothing is known.
-use Rattle.std.proofs.Common.{◌≡◌, ℕ, suc, ◌+◌, ◌-◌, ◌≤◌, List, [], ◌∷◌, ◌++◌, Bool, true, false, not, ◌&&◌, ◌||◌, refl, ap, ◌∙◌, Option, None, Some, length, map, if◌then◌else◌, arith}
+use Rattle.std.proofs.Common.{◌≡◌, ℕ, suc, ◌+◌, ◌-◌, ◌≤◌, List, [], ◌∷◌, ◌++◌, Bool, true, false, not, ◌&&◌, ◌||◌, refl, ap, ◌∙◌, Option, length, map, if◌then◌else◌, arith}
 use Rattle.std.specs.Prelude.{ℤ, Contains, replicate}
 use Rattle.std.specs.List.{list_any, AllByRecursion}
-use Rattle.std.proofs.lemmas.Int.{ints}
-use Rattle.std.proofs.lemmas.Bool.{true≢false}
+use Rattle.std.proofs.lemmas.Bool.{true≢false, or_from}
 use Rattle.std.proofs.lemmas.List.{length-replicate, replicate-append-replicate}
+use Rattle.program_laws.proofs.FaultLemmas.{Each-map}
 use Rattle.ts_packet.proofs.Cases.{by_test}
 use Rattle.unit_stream.specs.Times.{begins_one, high}
 use Rattle.event_table.specs.Standing.{Standing}
 use Rattle.splice_laws.specs.Splicing.{PlayedEvent, SliceUnit, TimedStream, stream}
-use Rattle.splice_laws.specs.Laws.{Risen, IsStream}
+use Rattle.splice_laws.specs.Laws.{IsStream}
 use Rattle.splice_laws.specs.Settled.{IsAhead, NeverPassesHigh, begun_now, closed_now, holds_now}
 use Rattle.splice_laws.proofs.PidLemmas.{pids_are_streams}
 use Rattle.splice_laws.proofs.SettledLemmas.{switched_pids_are_within}
+use Rattle.splice_laws.proofs.TableLemmas.{ahead-before}
 use Rattle.splice_plans.specs.declared.plan.Stage.TheVariants.{Waiting}
 use Rattle.splice_plans.specs.declared.plan.Part.{Part}
 use Rattle.splice_plans.specs.Playing.{Adverts, History, Turns, as_played, end_known, sent_known, sent_of_begun}
 use Rattle.splice_plans.specs.Turning.{waiting}
 use Rattle.splice_plans.specs.Known.{stage_known, crosses_known, crossed_known, nothing_known, padded, part_known, is_crossed_known, plan_known}
 use Rattle.splice_plans.proofs.KnownLemmas.{begun-past}
-use Rattle.known_laws.proofs.HeadLemmas.{or-none as or-false}
 use Rattle.known_laws.proofs.QuietLemmas.{same-stage, same-part, same-plan}
-
-pub ahead-earlier : (a b : Option ℤ) (edge : ℤ) → Risen a b → IsAhead b edge → IsAhead a edge
-ahead-earlier None b edge r h = tt
-ahead-earlier (Some a) None edge r h = absurd r
-ahead-earlier (Some a) (Some b) edge r h = omega (arith, ints, r, h)
 
 module _ (r : TimedStream) (k : IsStream r) (w : NeverPassesHigh r) (x : PlayedEvent) (known : List (List ℕ) → Option ℤ) where
   earlier : (p : List ℕ) (past : List (List ℕ)) → IsAhead (r.high (p ∷ past)) x.start → IsAhead (r.high past) x.start
-  earlier p past a = ahead-earlier (r.high past) (r.high (p ∷ past)) x.start (k.rises p past) a
+  earlier p past a = ahead-before (r.high past) (r.high (p ∷ past)) x.start (k.rises p past) a
 
   not-begun : (past : List (List ℕ)) → IsAhead (r.high past) x.start → begun_now r x known past ≡ false
   not-begun past a = by_test (begun_now r x known past) (λ b. absurd (begun-past r k w x known past b a)) (λ n. n)
@@ -72,13 +67,9 @@ module _ (r : TimedStream) (k : IsStream r) (w : NeverPassesHigh r) (x : PlayedE
 
 -- ---- in all streams
 
-pub each-map : {X : Type 0} (P Q : X → Type 0) → ((x : X) → P x → Q x) → (xs : List X) → AllByRecursion P xs → AllByRecursion Q xs
-each-map P Q f [] h = tt
-each-map P Q f (x ∷ xs) h = (f x h.0, each-map P Q f xs h.1)
-
 pub all-in : (pids : List ℕ) → AllByRecursion (Contains pids) pids
 all-in [] = tt
-all-in (pid ∷ pids) = (first, each-map (Contains pids) (Contains (pid ∷ pids)) later pids (all-in pids))
+all-in (pid ∷ pids) = (first, Each-map (Contains pids) (Contains (pid ∷ pids)) later pids (all-in pids))
   where
     first : Contains (pid ∷ pids) pid
     first = (0, omega arith, refl)
@@ -104,7 +95,7 @@ module _ (switched : List ℕ) (few : length switched ≤ 8) (ads : Adverts) (ev
   any-ahead : (pids : List ℕ) → AllByRecursion (Contains switched) pids → list_any (λ pid. crossed_known (stream switched pid) (as_played e) (end_known ads events e.start) past) pids ≡ false
   any-ahead [] h = refl
   any-ahead (pid ∷ pids) h =
-      or-false _ _ (crossed-ahead (stream switched pid) (pids_are_streams switched pid) (switched_pids_are_within switched pid h.0) (as_played e) (end_known ads events e.start) past a)
+      or_from _ _ (crossed-ahead (stream switched pid) (pids_are_streams switched pid) (switched_pids_are_within switched pid h.0) (as_played e) (end_known ads events e.start) past a)
       (any-ahead pids h.1)
 
   filled : (n : ℕ) → n ≤ 8 → padded (replicate n waiting) ≡ replicate 8 waiting

@@ -1,8 +1,8 @@
 -- Which units cross an event's start or its end, by the flags that its last end gives.
-use Rattle.std.proofs.Common.{◌≡◌, ℕ, zero, suc, ◌<◌, List, [], ◌∷◌, Bool, true, false, not, ◌&&◌, ◌||◌, ◌⊎◌, inl, inr, refl, sym, ap, ◌∙◌, Option, None, Some, if◌then◌else◌, arith, length}
-use Rattle.std.specs.Prelude.{ℤ, pos, ◌+ℤ◌, ◌-ℤ◌, ◌≤ℤ◌, Contains, slice_index_or}
+use Rattle.std.proofs.Common.{◌≡◌, ℕ, List, [], ◌∷◌, Bool, true, false, not, ◌&&◌, ◌||◌, ◌⊎◌, inl, inr, refl, sym, ap, ◌∙◌, Option, None, Some, if◌then◌else◌, arith}
+use Rattle.std.specs.Prelude.{ℤ, pos, ◌+ℤ◌, ◌-ℤ◌, ◌≤ℤ◌, Contains}
 use Rattle.std.proofs.lemmas.Int.{ints}
-use Rattle.std.proofs.lemmas.Bool.{true≢false}
+use Rattle.std.proofs.lemmas.Bool.{true≢false, or_left}
 use Rattle.ts_packet.proofs.Cases.{by_test}
 use Rattle.pes_time.specs.Line.{place}
 use Rattle.unit_stream.specs.Times.{begins, begins_one, high, unit_time, stamp, splits, timed}
@@ -12,14 +12,14 @@ use Rattle.unit_stream.specs.declared.fault.UnitFault.TheVariants.{Scrambled, He
 use Rattle.splice_laws.specs.Splicing.{PlayedEvent, TimedStream, at_or_past, below, holds, stands, begun, closed}
 use Rattle.splice_laws.specs.Laws.{Risen, IsStream}
 use Rattle.splice_laws.specs.Settled.{IsAhead, IsSettled, IsSettledSince, NeverPassesHigh}
-use Rattle.splice_laws.proofs.SettledLemmas.{flags_settle}
-use Rattle.splice_laws.proofs.EndLemmas.{not-ahead}
+use Rattle.splice_laws.proofs.SettledLemmas.{flags_settle, begins-among}
+use Rattle.splice_laws.proofs.EndLemmas.{not-ahead, settled-low}
 use Rattle.splice_laws.proofs.HistoryLemmas.{closed-begun, running-inside}
+use Rattle.splice_laws.proofs.TableLemmas.{ahead-before}
 use Rattle.splice_plans.specs.declared.plan.Stage.{Stage}
 use Rattle.splice_plans.specs.declared.plan.Stage.TheVariants.{Waiting, Running, Over}
 use Rattle.splice_plans.specs.Known.{stage_known, below_known, crosses_known, crossed_known}
 use Rattle.known_laws.proofs.QuietLemmas.{stage_of, same-stage}
-use Rattle.known_laws.proofs.AheadLemmas.{ahead-earlier}
 
 -- ---- units and edges
 
@@ -50,19 +50,9 @@ gone-ahead x None h' r s a = true≢false s
 gone-ahead x (Some h) None r s a = r
 gone-ahead x (Some h) (Some h') r s a = grind (arith, ints)
 
-settled-least : (x : PlayedEvent) (stop : ℤ) (h : Option ℤ) → IsSettled x (Some stop) h → x.stop ≤ℤ stop
-settled-least x stop h (inl is) = rw is (at x.stop)
-  where
-    at : (a : ℤ) → a ≤ℤ a
-    at a = omega (arith, ints)
-settled-least x stop h (inr k) = k.1
-
 or-later : (a c : Bool) → c ≡ true → (a || (true && c)) ≡ true
 or-later true c h = refl
 or-later false c h = h
-
-pub or-first : (a b : Bool) → a ≡ true → (a || b) ≡ true
-or-first a b h = rw h refl
 
 still-closed : (a b g d : Bool) → g ≡ false → (a || (b && (g && d))) ≡ true → a ≡ true
 still-closed a b true d n h = absurd (true≢false n)
@@ -108,13 +98,13 @@ module _ (r : TimedStream) (k : IsStream r) (w : NeverPassesHigh r) (x : PlayedE
   pub begun-behind : (past : List (List ℕ)) → begun r x past ≡ true → IsAhead (r.high past) x.start → ⊥
   begun-behind [] b a = true≢false (sym b)
   begun-behind (p ∷ past) b a = by_test (begun r x past)
-      (λ y. begun-behind past y (ahead-earlier (r.high past) (r.high (p ∷ past)) x.start (k.rises p past) a))
+      (λ y. begun-behind past y (ahead-before (r.high past) (r.high (p ∷ past)) x.start (k.rises p past) a))
       (λ n. not-ahead x.start (r.time (p ∷ past)) (r.high (p ∷ past)) (w (p ∷ past))
       (new-begun (begun r x past) (r.begins p past) (at_or_past x.start (r.time (p ∷ past))) (stands x (r.high past)) n b) a)
 
   crosses-over : (stop t : Option ℤ) (h : Option ℤ) → (IsAhead h x.start → ⊥) → IsSettled x stop h → below x.stop t ≡ true → below_known r x known stop t ≡ true
   crosses-over None t h past s b = absurd (past s)
-  crosses-over (Some stop) t h past s b = below-more x.stop stop t (settled-least x stop h s) b
+  crosses-over (Some stop) t h past s b = below-more x.stop stop t (settled-low x stop h s) b
 
   -- a unit below the end, of an event that is closed, has crossed it
   module _ (p : List ℕ) (past : List (List ℕ)) (s : SettledAll (p ∷ past)) (c : closed r x (p ∷ past) ≡ true) (b : below x.stop (r.time (p ∷ past)) ≡ true) where
@@ -129,7 +119,7 @@ module _ (r : TimedStream) (k : IsStream r) (w : NeverPassesHigh r) (x : PlayedE
     goes-on : r.begins p past ≡ false → (closed r x past ≡ true → below x.stop (r.time past) ≡ true → crossed_known r x known past ≡ true) → crossed_known r x known (p ∷ past) ≡ true
     goes-on n before =
         let was : closed r x past ≡ true = still-closed (closed r x past) (begun r x (p ∷ past)) (r.begins p past) (not (holds x (r.time (p ∷ past)))) n c in
-        or-first (crossed_known r x known past) _ (before was (ap (below x.stop) (sym (k.steady p past n)) ∙ b))
+        or_left (crossed_known r x known past) _ (before was (ap (below x.stop) (sym (k.steady p past n)) ∙ b))
 
     starts : r.begins p past ≡ true → crossed_known r x known (p ∷ past) ≡ true
     starts y = by_test (closed r x past)
@@ -162,7 +152,7 @@ module _ (r : TimedStream) (k : IsStream r) (w : NeverPassesHigh r) (x : PlayedE
         (ap (λ st. crosses_known r x known st (known (p ∷ past)) (r.time (p ∷ past))) is ∙ none)
 
     already : crossed_known r x known past ≡ true → crossed_known r x known (p ∷ past) ≡ crossed_known r x known past
-    already h = or-first (crossed_known r x known past) _ h ∙ sym h
+    already h = or_left (crossed_known r x known past) _ h ∙ sym h
 
     not-below-start : (r.time (p ∷ past) ≡ r.time past) ⊎ (below x.stop (r.time (p ∷ past)) ≡ false) → begun r x past ≡ true → closed r x past ≡ false → below x.start (r.time (p ∷ past)) ≡ false
     not-below-start (inl same) b c = ap (below x.start) same ∙ in-past x (r.time past) (running-inside r k x past b c)
@@ -181,18 +171,6 @@ module _ (r : TimedStream) (k : IsStream r) (w : NeverPassesHigh r) (x : PlayedE
         (λ b. same-by Waiting (stage-settled past s.1 ∙ ap (λ a. stage_of a (begun r x past)) c ∙ ap (λ a. stage_of false a) b) refl))
 
 -- ---- units of a PID
-
-pub begins-among : (sw : List ℕ) (pid : ℕ) → Contains sw pid → (p : List ℕ) (past : List (List ℕ)) → begins pid p past ≡ true → begins_one sw p past ≡ true
-begins-among sw pid c p past b = at sw c.0 c.1 c.2
-  where
-    or_right : (a b : Bool) → b ≡ true → (a || b) ≡ true
-    or_right true b h = refl
-    or_right false b h = h
-
-    at : (sw : List ℕ) (i : ℕ) → i < length sw → slice_index_or sw i pid ≡ pid → begins_one sw p past ≡ true
-    at [] i l e = absurd (omega arith)
-    at (q ∷ qs) zero l e = or-first (begins q p past) _ (rw e b)
-    at (q ∷ qs) (suc i) l e = or_right (begins q p past) _ (at qs i (omega arith) e)
 
 near-above : (h t : ℤ) → is_far (t -ℤ h) ≡ false → h ≤ℤ (t +ℤ pos 900000)
 near-above h t near = grind (arith, ints)

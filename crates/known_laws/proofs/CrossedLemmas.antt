@@ -2,7 +2,7 @@
 use Rattle.std.proofs.Common.{◌≡◌, ℕ, List, [], ◌∷◌, Bool, true, false, not, ◌&&◌, ◌||◌, ◌⊎◌, inl, inr, refl, sym, ap, ◌∙◌, Option, None, Some, arith}
 use Rattle.std.specs.Prelude.{ℤ, ◌≤ℤ◌, is_some}
 use Rattle.std.proofs.lemmas.Int.{ints}
-use Rattle.std.proofs.lemmas.Bool.{true≢false}
+use Rattle.std.proofs.lemmas.Bool.{true≢false, or_left, or_right}
 use Rattle.ts_packet.proofs.Cases.{by_test}
 use Rattle.splice_laws.specs.Splicing.{PlayedEvent, TimedStream, at_or_past, below, holds, stands, comes, passed, begun, closed}
 use Rattle.splice_laws.specs.Laws.{IsStream}
@@ -10,17 +10,13 @@ use Rattle.splice_laws.specs.Settled.{IsAhead, IsSettled, NeverPassesHigh}
 use Rattle.splice_laws.proofs.EndLemmas.{not-ahead}
 use Rattle.splice_laws.proofs.TimeLemmas.{holds-below, not-below, timed_past}
 use Rattle.splice_laws.proofs.HistoryLemmas.{passed-lower, begun-passed, passed-dead}
+use Rattle.splice_laws.proofs.TableLemmas.{ahead-before}
 use Rattle.splice_plans.specs.declared.plan.Stage.{Stage}
 use Rattle.splice_plans.specs.declared.plan.Stage.TheVariants.{Waiting, Running, Over}
 use Rattle.splice_plans.specs.Playing.{is_crossed}
 use Rattle.splice_plans.specs.Known.{stage_known, below_known, crosses_known, crossed_known}
 use Rattle.known_laws.proofs.QuietLemmas.{stage_of, crossed-still}
-use Rattle.known_laws.proofs.AheadLemmas.{ahead-earlier}
-use Rattle.known_laws.proofs.CrossLemmas.{SettledAll, stage-settled, begun-behind, below-more, below-less, out-below, past-below, new-closed, new-begun, or-first}
-
-or-second : (a b : Bool) → b ≡ true → (a || b) ≡ true
-or-second true b h = refl
-or-second false b h = h
+use Rattle.known_laws.proofs.CrossLemmas.{SettledAll, stage-settled, begun-behind, below-more, below-less, out-below, past-below, new-closed, new-begun}
 
 first-closed : (a b g d : Bool) → a ≡ false → (a || (b && (g && d))) ≡ true → (b ≡ true) × (g ≡ true)
 first-closed true b g d n h = absurd (true≢false n)
@@ -109,7 +105,7 @@ module _ (r : TimedStream) (k : IsStream r) where
       (λ y. by_test (passed r edge past)
       (λ was. both-true (is_crossed r edge past) (r.begins p past) (passed r edge past) (below edge (r.time (p ∷ past))) y was b)
       (λ was. absurd (past-below edge (r.time (p ∷ past)) (came-past (r.begins p past) _ (came (passed r edge past) (comes r edge p past) was h)) b)))
-      (λ n. or-first (is_crossed r edge past) _ (edge-crossed edge past (only (passed r edge past) (r.begins p past) (at_or_past edge (r.time (p ∷ past))) n h) (ap (below edge) (sym (k.steady p past n)) ∙ b)))
+      (λ n. or_left (is_crossed r edge past) _ (edge-crossed edge past (only (passed r edge past) (r.begins p past) (at_or_past edge (r.time (p ∷ past))) n h) (ap (below edge) (sym (k.steady p past n)) ∙ b)))
     where
       only : (a g c : Bool) → g ≡ false → (a || (g && c)) ≡ true → a ≡ true
       only true g c n h = refl
@@ -119,7 +115,7 @@ module _ (r : TimedStream) (k : IsStream r) where
   passed-behind : NeverPassesHigh r → (edge : ℤ) (past : List (List ℕ)) → passed r edge past ≡ true → IsAhead (r.high past) edge → ⊥
   passed-behind w edge [] h a = true≢false (sym h)
   passed-behind w edge (p ∷ past) h a = by_test (passed r edge past)
-      (λ was. passed-behind w edge past was (ahead-earlier (r.high past) (r.high (p ∷ past)) edge (k.rises p past) a))
+      (λ was. passed-behind w edge past was (ahead-before (r.high past) (r.high (p ∷ past)) edge (k.rises p past) a))
       (λ was. not-ahead edge (r.time (p ∷ past)) (r.high (p ∷ past)) (w (p ∷ past)) (came-past (r.begins p past) _ (came (passed r edge past) (comes r edge p past) was h)) a)
 
   module _ (x : PlayedEvent) (order : x.start ≤ℤ x.stop) where
@@ -159,8 +155,8 @@ module _ (r : TimedStream) (k : IsStream r) where
     closed-how (p ∷ past) c = by_test (closed r x past) (λ was. keep (closed-how past was)) new
       where
         keep : (passed r x.stop past ≡ true) ⊎ (is_crossed r x.start past ≡ true) → (passed r x.stop (p ∷ past) ≡ true) ⊎ (is_crossed r x.start (p ∷ past) ≡ true)
-        keep (inl h) = inl (or-first (passed r x.stop past) _ h)
-        keep (inr h) = inr (or-first (is_crossed r x.start past) _ h)
+        keep (inl h) = inl (or_left (passed r x.stop past) _ h)
+        keep (inr h) = inr (or_left (is_crossed r x.start past) _ h)
 
         new : closed r x past ≡ false → (passed r x.stop (p ∷ past) ≡ true) ⊎ (is_crossed r x.start (p ∷ past) ≡ true)
         new was =
@@ -175,7 +171,7 @@ module _ (r : TimedStream) (k : IsStream r) where
             (new-begun (begun r x past) (r.begins p past) (at_or_past x.start (r.time (p ∷ past))) (stands x (r.high past)) ran parts.0) low)))
             (λ b.
             let top = not-below x.stop (r.time (p ∷ past)) b (begun-timed (p ∷ past) parts.0) in
-            inl (or-second (passed r x.stop past) (r.begins p past && at_or_past x.stop (r.time (p ∷ past))) (and-both (r.begins p past) _ parts.1 top)))
+            inl (or_right (passed r x.stop past) (r.begins p past && at_or_past x.stop (r.time (p ∷ past))) (and-both (r.begins p past) _ parts.1 top)))
           where
             and-both : (a b : Bool) → a ≡ true → b ≡ true → (a && b) ≡ true
             and-both a b h k = rw (h, k) refl
@@ -205,9 +201,9 @@ module _ (r : TimedStream) (k : IsStream r) where
             ∙ ap (λ a. a || crosses_known r x known stage (known (p ∷ past)) t) before
 
         end-is : passed r x.stop past ≡ true → (stop : Option ℤ) → IsSettled x stop (r.high (p ∷ past)) → begun r x past ≡ true → below_known r x known stop t ≡ below x.stop t
-        end-is h None st b = absurd (begun-behind r k w x known past b (ahead-earlier (r.high past) (r.high (p ∷ past)) x.start (k.rises p past) st))
+        end-is h None st b = absurd (begun-behind r k w x known past b (ahead-before (r.high past) (r.high (p ∷ past)) x.start (k.rises p past) st))
         end-is h (Some stop) (inl is) b = ap (λ e. below e t) is
-        end-is h (Some stop) (inr a) b = absurd (passed-behind w x.stop past h (ahead-earlier (r.high past) (r.high (p ∷ past)) x.stop (k.rises p past) a.0))
+        end-is h (Some stop) (inr a) b = absurd (passed-behind w x.stop past h (ahead-before (r.high past) (r.high (p ∷ past)) x.stop (k.rises p past) a.0))
 
         when-over : r.begins p past ≡ true → closed r x past ≡ true → begun r x past ≡ true → (passed r x.stop past ≡ true) ⊎ (is_crossed r x.start past ≡ true) → crossed_known r x known (p ∷ past) ≡ crossed_in_all (p ∷ past)
         when-over y c b (inl h) =
@@ -216,8 +212,8 @@ module _ (r : TimedStream) (k : IsStream r) where
             ∙ over-sum (is_crossed r x.start past) (below x.start t) (is_crossed r x.stop past) (below x.stop t) (r.begins p past) (passed r x.start past) (passed r x.stop past)
             (below-more x.start x.stop t order) y (begun-passed r k x past b) h
         when-over y c b (inr h) =
-            or-first (crossed_known r x known past) _ (before ∙ or-first (is_crossed r x.start past) _ h)
-            ∙ sym (or-first (is_crossed r x.start (p ∷ past)) _ (or-first (is_crossed r x.start past) _ h))
+            or_left (crossed_known r x known past) _ (before ∙ or_left (is_crossed r x.start past) _ h)
+            ∙ sym (or_left (is_crossed r x.start (p ∷ past)) _ (or_left (is_crossed r x.start past) _ h))
 
         when-running : r.begins p past ≡ true → closed r x past ≡ false → begun r x past ≡ true → crossed_known r x known (p ∷ past) ≡ crossed_in_all (p ∷ past)
         when-running y c b =

@@ -1,8 +1,8 @@
 -- One packet more: in the head of a network, at its end, and behind it.
-use Rattle.std.proofs.Common.{◌≡◌, ℕ, List, [], ◌∷◌, ◌++◌, Bool, true, false, ◌&&◌, ◌||◌, refl, sym, ap, ◌∙◌, Option, None, Some, if◌then◌else◌, length, drop}
+use Rattle.std.proofs.Common.{◌≡◌, ℕ, List, [], ◌∷◌, ◌++◌, Bool, true, false, ◌&&◌, refl, sym, ap, ◌∙◌, Option, None, Some, if◌then◌else◌, length, drop}
 use Rattle.std.specs.Option.{option_or}
 use Rattle.std.specs.Prelude.{is_some, option_map, Result}
-use Rattle.std.proofs.lemmas.Bool.{true≢false}
+use Rattle.std.proofs.lemmas.Bool.{or_from, or_parts}
 use Rattle.ts_packet.specs.Fields.{on, on_one}
 use Rattle.ts_packet.proofs.FieldLemmas.{off_payload}
 use Rattle.psi_tables.specs.ProgramMap.{ProgramMap}
@@ -24,20 +24,12 @@ use Rattle.armed_events.specs.Arming.{is_fresh, Ignore, by_arm_answer, change, s
 use Rattle.splice_plans.specs.Switching.{Setting, switched_at, streams_at, high_at, events_at, head_at, history_at, is_behind_head}
 use Rattle.splice_plans.specs.Known.{behind_at, adverts_at}
 
-pub or-parts : (a b : Bool) → (a || b) ≡ false → (a ≡ false) × (b ≡ false)
-or-parts true b h = absurd (true≢false h)
-or-parts false b h = (refl, h)
-
-pub or-none : (a b : Bool) → a ≡ false → b ≡ false → (a || b) ≡ false
-or-none true b h k = h
-or-none false b h k = k
-
 -- a packet of no switched stream begins no unit
 pub off-one : (pids : List ℕ) (p : List ℕ) (past : List (List ℕ)) → on_one pids p ≡ false → begins_one pids p past ≡ false
 off-one [] p past h = refl
 off-one (pid ∷ pids) p past h =
-    let r = or-parts (on pid p) (on_one pids p) h in
-    or-none _ (begins_one pids p past) (begins_off pid p past (off_payload pid p r.0)) (off-one pids p past r.1)
+    let r = or_parts (on pid p) (on_one pids p) h in
+    or_from _ (begins_one pids p past) (begins_off pid p past (off_payload pid p r.0)) (off-one pids p past r.1)
 
 -- ---- before there is a greatest time nothing is armed
 

@@ -1,9 +1,9 @@
 -- A packet of no switched stream, as one with cues, changes nothing.
-use Rattle.std.proofs.Common.{◌≡◌, ℕ, ◌^◌, zero, suc, ◌≤◌, List, [], ◌∷◌, ◌++◌, Bool, true, false, ◌&&◌, refl, sym, ap, ◌∙◌, subst, Option, None, Some, length, reverse, if◌then◌else◌, arith}
-use Rattle.std.specs.Prelude.{ℤ, pos, ◌+ℤ◌, ◌<ℤ◌, Contains, slice_index_or, slice_get, filter, find, int_lt, int_le}
+use Rattle.std.proofs.Common.{◌≡◌, ℕ, zero, suc, ◌≤◌, List, [], ◌∷◌, ◌++◌, Bool, false, ◌&&◌, refl, sym, ap, ◌∙◌, subst, Option, None, Some, length, reverse, if◌then◌else◌}
+use Rattle.std.specs.Prelude.{ℤ, Contains, slice_index_or, slice_get, filter, find}
 use Rattle.std.specs.Ordering.{int_eq}
-use Rattle.std.proofs.lemmas.Int.{ints}
 use Rattle.std.proofs.lemmas.Option.{slice_get_within, get_or_from_slice_get}
+use Rattle.std.proofs.lemmas.Bool.{or_from, or_parts}
 use Rattle.ts_packet.specs.Fields.{on, on_one}
 use Rattle.ts_packet.specs.Numbering.{Kept, Counts}
 use Rattle.ts_packet.proofs.FieldLemmas.{off_payload}
@@ -12,12 +12,12 @@ use Rattle.unit_stream.specs.Fates.{is_left_out}
 use Rattle.unit_stream.proofs.ClockLemmas.{begins_off}
 use Rattle.psi_tables.specs.ProgramMap.{ProgramMap}
 use Rattle.program_follower.specs.Program.{known_map}
-use Rattle.event_table.specs.Standing.{Standing, is_ahead_of, stands}
+use Rattle.event_table.specs.Standing.{Standing, stands}
 use Rattle.armed_events.specs.Arming.{standing}
 use Rattle.armed_events.specs.Valuing.{values_by}
 use Rattle.armed_laws.specs.Laws.{Grows}
 use Rattle.armed_laws.proofs.GrowLemmas.{packet-grows}
-use Rattle.splice_laws.specs.Settled.{IsAhead}
+use Rattle.armed_laws.proofs.TimeLemmas.{ahead-of}
 use Rattle.splice_laws.proofs.SettledLemmas.{switched_pids_are_within}
 use Rattle.output_laws.specs.Output.{Move, Keep, Leave, Packing, counter_steps}
 use Rattle.splice_plans.specs.declared.plan.Plan.{Plan}
@@ -28,7 +28,7 @@ use Rattle.splice_plans.specs.Histories.{AreSteady}
 use Rattle.splice_plans.specs.Known.{plan_found, plan_at, GoesAs, AllGo, adverts_at, behind_at, plans_at, inside_at, moves_at, counts_known, is_forgotten}
 use Rattle.splice_plans.proofs.PutLemmas.{puts_at_unit_starts}
 use Rattle.known_laws.specs.Laws.{ChangesNothing, OthersChangeNothing}
-use Rattle.known_laws.proofs.HeadLemmas.{or-parts, or-none, off-one, none-switched, none-high, first-behind, first-high, none-armed, first-armed, same-switched, same-adverts, more-behind, same-history, high-next}
+use Rattle.known_laws.proofs.HeadLemmas.{off-one, none-switched, none-high, first-behind, first-high, none-armed, first-armed, same-switched, same-adverts, more-behind, same-history, high-next}
 use Rattle.known_laws.proofs.QuietLemmas.{plan-still, any-crossed-still}
 use Rattle.known_laws.proofs.SameLemmas.{found-same, found-ahead}
 use Rattle.known_laws.proofs.HeldLemmas.{inside-same}
@@ -49,26 +49,18 @@ values-same v w h (e ∷ es) = ap (λ x. x ∷ values_by v es) (h e.start) ∙ a
 pub contained : (pids : List ℕ) (i pid : ℕ) → slice_get pids i ≡ Some pid → Contains pids pid
 contained pids i pid h = (i, slice_get_within pids i pid h, get_or_from_slice_get pids i pid pid h)
 
-ahead-of : (line : Option ℤ) (time : ℤ) → is_ahead_of line time ≡ true → IsAhead line time
-ahead-of None time h = tt
-ahead-of (Some high) time h = by high time (int_le time (high +ℤ pos (2 ^ 29))) h
-  where
-    by : (high time : ℤ) (b : Bool) → (int_lt high time && b) ≡ true → high <ℤ time
-    by high time true h = grind (arith, ints, h)
-    by high time false h = absurd (grind (arith, h))
-
 -- ---- behind the head
 
-off-at : (pids : List ℕ) (p : List ℕ) (i pid : ℕ) → on_one pids p ≡ false → slice_get pids i ≡ Some pid → on pid p ≡ false
+pub off-at : (pids : List ℕ) (p : List ℕ) (i pid : ℕ) → on_one pids p ≡ false → slice_get pids i ≡ Some pid → on pid p ≡ false
 off-at [] p i pid n h = cc
-off-at (q ∷ pids) p zero pid n h = let same : q ≡ pid = cc in ap (λ a. on a p) (sym same) ∙ (or-parts (on q p) (on_one pids p) n).0
-off-at (q ∷ pids) p (suc i) pid n h = off-at pids p i pid (or-parts (on q p) (on_one pids p) n).1 h
+off-at (q ∷ pids) p zero pid n h = let same : q ≡ pid = cc in ap (λ a. on a p) (sym same) ∙ (or_parts (on q p) (on_one pids p) n).0
+off-at (q ∷ pids) p (suc i) pid n h = off-at pids p i pid (or_parts (on q p) (on_one pids p) n).1 h
 
 none-left-out : (goes : ℕ → Option ℤ → Bool) (switched : List ℕ) (p : List ℕ) (past : List (List ℕ)) (pids : List ℕ) → on_one pids p ≡ false → is_left_out goes switched p past pids ≡ false
 none-left-out goes switched p past [] n = refl
 none-left-out goes switched p past (pid ∷ pids) n =
-    let r = or-parts (on pid p) (on_one pids p) n in
-    or-none _ (is_left_out goes switched p past pids) (ap (λ b. b && goes pid (unit_time switched pid (p ∷ past))) (off_payload pid p r.0)) (none-left-out goes switched p past pids r.1)
+    let r = or_parts (on pid p) (on_one pids p) n in
+    or_from _ (is_left_out goes switched p past pids) (ap (λ b. b && goes pid (unit_time switched pid (p ∷ past))) (off_payload pid p r.0)) (none-left-out goes switched p past pids r.1)
 
 module _ (switched : List ℕ) (ads : Adverts) (steady : AreSteady ads) (events : History) (p : List ℕ) (past : List (List ℕ)) (off : on_one switched p ≡ false) where
   quiet : begins_one switched p past ≡ false

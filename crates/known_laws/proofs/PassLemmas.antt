@@ -6,6 +6,7 @@ use Rattle.std.specs.Ordering.{int_eq}
 use Rattle.std.proofs.lemmas.Int.{ints}
 use Rattle.std.proofs.lemmas.Bool.{true≢false}
 use Rattle.std.proofs.lemmas.List.Elements.{All-head, All-tail}
+use Rattle.program_laws.proofs.FaultLemmas.{Each-map, Each-both}
 use Rattle.ts_packet.proofs.Cases.{by_test}
 use Rattle.ts_packet.specs.Fields.{on}
 use Rattle.unit_stream.specs.Times.{begins, high, unit_time}
@@ -37,14 +38,10 @@ use Rattle.splice_plans.proofs.HistoryLemmas.{armed_is_history, never-falls}
 use Rattle.known_laws.specs.Laws.{PassesOn, PacketsPass}
 use Rattle.known_laws.proofs.HeadLemmas.{same-switched, same-adverts, more-behind, same-history, high-next, history-next}
 use Rattle.known_laws.proofs.QuietLemmas.{crossed-still}
-use Rattle.known_laws.proofs.AheadLemmas.{each-map, all-in}
+use Rattle.known_laws.proofs.AheadLemmas.{all-in}
 use Rattle.known_laws.proofs.CountLemmas.{count-cons, same-count, counts_of, same-counts}
 use Rattle.known_laws.proofs.CrossLemmas.{SettledAll, gone-crossed, unit-near}
 use Rattle.known_laws.proofs.OtherLemmas.{same-five}
-
-pub each-both : {X : Type 0} (P Q : X → Type 0) (xs : List X) → AllByRecursion P xs → AllByRecursion Q xs → AllByRecursion (λ x. P x × Q x) xs
-each-both P Q [] h k = tt
-each-both P Q (x ∷ xs) h k = ((h.0, k.0), each-both P Q xs h.1 k.1)
 
 pub to-each : {X : Type 0} (P : X → Type 0) (xs : List X) → All P xs → AllByRecursion P xs
 to-each P [] h = tt
@@ -75,8 +72,8 @@ itself (e ∷ es) n =
     let same = equal e.start in
     let other : Standing → Type 0 = λ x. int_eq e.start x.start ≡ false in (
       simp same refl,
-      each-map (λ x. other x × IsFound es x) (IsFound (e ∷ es)) (λ x h. let no = h.0 in simp no h.1) es
-          (each-both other (IsFound es) es (all-differ e es n.0 n.1 n.2) (itself es n.2)),
+      Each-map (λ x. other x × IsFound es x) (IsFound (e ∷ es)) (λ x h. let no = h.0 in simp no h.1) es
+          (Each-both other (IsFound es) es (all-differ e es n.0 n.1 n.2) (itself es n.2)),
     )
   where
     equal : (a : ℤ) → int_eq a a ≡ true
@@ -161,11 +158,11 @@ module _ (switched : List ℕ) (ads : Adverts) (steady : AreSteady ads) (events 
       each-none (e ∷ es) = ((λ plays gone. tt), each-none es)
   over-on (pid ∷ pids) all =
       let settled = IsSettledIn switched pid all.0 ads steady events h (p ∷ past) in
-      each-map (λ e. settled e × IsOverOn pids e) (IsOverOn (pid ∷ pids)) (λ e k. λ plays gone. (crossed-on pid all.0 e k.0 plays gone, k.1 plays gone)) (events (p ∷ past))
-      (each-both settled (IsOverOn pids) (events (p ∷ past)) (settled-all switched pid all.0 ads steady events h [] (p ∷ past)) (over-on pids all.1))
+      Each-map (λ e. settled e × IsOverOn pids e) (IsOverOn (pid ∷ pids)) (λ e k. λ plays gone. (crossed-on pid all.0 e k.0 plays gone, k.1 plays gone)) (events (p ∷ past))
+      (Each-both settled (IsOverOn pids) (events (p ∷ past)) (settled-all switched pid all.0 ads steady events h [] (p ∷ past)) (over-on pids all.1))
 
   pub all-over : AllByRecursion IsOver (events (p ∷ past))
-  all-over = each-map (IsOverOn switched) IsOver (λ e k. λ plays gone. any-crossed e switched (k plays gone)) (events (p ∷ past)) (over-on switched (all-in switched))
+  all-over = Each-map (IsOverOn switched) IsOver (λ e k. λ plays gone. any-crossed e switched (k plays gone)) (events (p ∷ past)) (over-on switched (all-in switched))
 
 -- ---- counts over those that stand and those that do not
 
@@ -296,7 +293,7 @@ module _ (k : Setting) (p : List ℕ) (past : List (List ℕ)) (m : ProgramMap) 
   still-counts =
       let f : Standing → Bool = λ e. is_forgotten line e && (is_played ads e && is_crossed_known sw ads hist next e) in
       let g : Standing → Bool = λ e. is_forgotten line e && (is_played ads e && is_crossed_known sw ads hist (behind_at k past) e) in
-      same-counts refl refl (same-count f g es (each-map IsOverNow (λ e. f e ≡ g e) same-gone es over))
+      same-counts refl refl (same-count f g es (Each-map IsOverNow (λ e. f e ≡ g e) same-gone es over))
 
   module _ (later : ℤ) (rises : Risen line (Some later)) where
     abbrev v : ℤ → Plan
@@ -330,7 +327,7 @@ module _ (k : Setting) (p : List ℕ) (past : List (List ℕ)) (m : ProgramMap) 
         (counted-split line later rises v (is_played ads) (is_played ads) plays es (each-fact (IsCounted line later rises v (is_played ads) (is_played ads) plays) (λ e. ((λ _. refl), (λ _. refl))) es))
         (counted-split line later rises v (is_not_fitted ads) (is_not_fitted ads) unfit es (each-fact (IsCounted line later rises v (is_not_fitted ads) (is_not_fitted ads) unfit) (λ e. ((λ _. refl), (λ _. refl))) es))
         (counted-split line later rises v crossed crossed_before told es
-        (each-map (λ e. IsOverNow e × IsFound es e) (IsCounted line later rises v crossed crossed_before told) fact es (each-both IsOverNow (IsFound es) es over found)))
+        (Each-map (λ e. IsOverNow e × IsFound es e) (IsCounted line later rises v crossed crossed_before told) fact es (Each-both IsOverNow (IsFound es) es over found)))
 
   risen-to : (later : ℤ) → high_at k (p ∷ past) ≡ Some later → Risen line (Some later)
   risen-to later h = subst (λ l. Risen line l) h (never-falls k p past)

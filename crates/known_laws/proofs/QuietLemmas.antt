@@ -2,7 +2,7 @@
 use Rattle.std.proofs.Common.{◌≡◌, ℕ, List, [], ◌∷◌, Bool, true, false, not, ◌&&◌, ◌||◌, refl, ap, ◌∙◌, Option, length, map, if◌then◌else◌}
 use Rattle.std.specs.Prelude.{ℤ}
 use Rattle.std.specs.List.{list_any}
-use Rattle.std.proofs.lemmas.Bool.{true≢false}
+use Rattle.std.proofs.lemmas.Bool.{true≢false, or_parts}
 use Rattle.unit_stream.specs.Times.{begins, begins_one}
 use Rattle.event_table.specs.Standing.{Standing}
 use Rattle.splice_laws.specs.Splicing.{PlayedEvent, SliceUnit, TimedStream, stream, at_or_past}
@@ -13,14 +13,13 @@ use Rattle.splice_plans.specs.declared.plan.Part.{Part}
 use Rattle.splice_plans.specs.declared.plan.Plan.{Plan}
 use Rattle.splice_plans.specs.Playing.{Adverts, History, Turns, as_played, end_known, sent_known, sent_of_begun}
 use Rattle.splice_plans.specs.Known.{stage_known, crosses_known, crossed_known, padded, part_known, is_crossed_known, plan_known}
-use Rattle.known_laws.proofs.HeadLemmas.{or-parts}
 
-or-alone : (a b c d : Bool) → b ≡ false → (a || ((b && c) && d)) ≡ a
+pub or-alone : (a b c d : Bool) → b ≡ false → (a || ((b && c) && d)) ≡ a
 or-alone a true c d h = absurd (true≢false h)
 or-alone true false c d h = refl
 or-alone false false c d h = refl
 
-or-beside : (a b c d : Bool) → c ≡ false → (a || (b && (c && d))) ≡ a
+pub or-beside : (a b c d : Bool) → c ≡ false → (a || (b && (c && d))) ≡ a
 or-beside a b true d h = absurd (true≢false h)
 or-beside true b false d h = refl
 or-beside false true false d h = refl
@@ -80,7 +79,7 @@ module _ (switched : List ℕ) (ads : Adverts) (events : History) (e : Standing)
   parts-still : (pids : List ℕ) → begins_one pids p past ≡ false → map (part_known switched ads events e (p ∷ past)) pids ≡ map (part_known switched ads events e past) pids
   parts-still [] h = refl
   parts-still (pid ∷ pids) h =
-      let b = or-parts (begins pid p past) (begins_one pids p past) h in
+      let b = or_parts (begins pid p past) (begins_one pids p past) h in
       ap (λ part. part ∷ map (part_known switched ads events e (p ∷ past)) pids) (part-still pid b.0)
       ∙ ap (λ parts. part_known switched ads events e past pid ∷ parts) (parts-still pids b.1)
 
@@ -88,7 +87,7 @@ module _ (switched : List ℕ) (ads : Adverts) (events : History) (e : Standing)
       ≡ list_any (λ pid. crossed_known (stream switched pid) (as_played e) (end_known ads events e.start) past) pids
   any-still [] h = refl
   any-still (pid ∷ pids) h =
-      let b = or-parts (begins pid p past) (begins_one pids p past) h in
+      let b = or_parts (begins pid p past) (begins_one pids p past) h in
       both (crossed-still (stream switched pid) (as_played e) (end_known ads events e.start) p past b.0) (any-still pids b.1)
     where
       both : {a b c d : Bool} → a ≡ b → c ≡ d → (a || c) ≡ (b || d)

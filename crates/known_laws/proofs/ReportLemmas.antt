@@ -3,6 +3,7 @@ use Rattle.std.proofs.Common.{◌≡◌, ℕ, ◌+◌, List, [], ◌∷◌, Bool
 use Rattle.std.specs.Prelude.{ℤ, filter, count_by, Contains, is_some, option_map}
 use Rattle.std.specs.List.{list_any, AllByRecursion}
 use Rattle.std.proofs.lemmas.Bool.{true≢false}
+use Rattle.program_laws.proofs.FaultLemmas.{Each-map, Each-both}
 use Rattle.ts_packet.proofs.Cases.{by_test}
 use Rattle.unit_stream.specs.Times.{high}
 use Rattle.psi_tables.specs.ProgramMap.{ProgramMap}
@@ -25,10 +26,10 @@ use Rattle.splice_plans.specs.Reporting.{is_not_fitted, is_unconditioned, is_any
 use Rattle.splice_plans.proofs.HistoryLemmas.{armed_is_history}
 use Rattle.known_laws.specs.Laws.{AreFaultless, IsWholeReport, ReportsAreWhole, PlansTellCrossings}
 use Rattle.known_laws.proofs.HeadLemmas.{none-armed, history-now}
-use Rattle.known_laws.proofs.AheadLemmas.{each-map, all-in}
+use Rattle.known_laws.proofs.AheadLemmas.{all-in}
 use Rattle.known_laws.proofs.CountLemmas.{count-cons, same-count}
 use Rattle.known_laws.proofs.CrossLemmas.{unit-near}
-use Rattle.known_laws.proofs.PassLemmas.{each-both, each-fact, ordered, IsFound, itself, IsSettledIn, settled-all}
+use Rattle.known_laws.proofs.PassLemmas.{each-fact, ordered, IsFound, itself, IsSettledIn, settled-all}
 use Rattle.known_laws.proofs.CrossedLemmas.{AllNear, crossed-as}
 
 -- ---- the plans beside the events that stand
@@ -140,16 +141,16 @@ module _ (switched : List ℕ) (ads : Adverts) (steady : AreSteady ads) (events 
     as-on [] all = each-fact (IsAsOn []) (λ e. λ plays. tt) (events past)
     as-on (pid ∷ pids) all =
         let settled = IsSettledIn switched pid all.0 ads steady events h past in
-        each-map (λ e. settled e × IsAsOn pids e) (IsAsOn (pid ∷ pids))
+        Each-map (λ e. settled e × IsAsOn pids e) (IsAsOn (pid ∷ pids))
         (λ e s. λ plays. (
           crossed-as (stream switched pid) (pids_are_streams switched pid) (as_played e) (ordered e) (switched_pids_are_within switched pid all.0)
               (end_known ads events e.start) past (s.0 plays) (near-all pid all.0 e past f),
           s.1 plays,
         )) (events past)
-        (each-both settled (IsAsOn pids) (events past) (settled-all switched pid all.0 ads steady events h [] past) (as-on pids all.1))
+        (Each-both settled (IsAsOn pids) (events past) (settled-all switched pid all.0 ads steady events h [] past) (as-on pids all.1))
 
     pub all-as : AllByRecursion IsAsAll (events past)
-    all-as = each-map (IsAsOn switched) IsAsAll (λ e s. λ plays. any-as e switched (s plays)) (events past) (as-on switched (all-in switched))
+    all-as = Each-map (IsAsOn switched) IsAsAll (λ e s. λ plays. any-as e switched (s plays)) (events past) (as-on switched (all-in switched))
 
 -- ---- the report
 
@@ -190,7 +191,7 @@ module _ (k : Setting) (past : List (List ℕ)) (plans : List Plan) (steady : Ar
         played = ap (λ (n : ℕ). n + count_by (gone (high_at k past) (is_played ads)) es) (count-beside (λ e c. is_any e && is_played ads e) known some plans h) ∙ both-counted (high_at k past) (is_played ads) es;
         not_fitted = ap (λ (n : ℕ). n + count_by (gone (high_at k past) (is_not_fitted ads)) es) (count-beside (λ e c. is_any e && is_not_fitted ads e) known some plans h) ∙ both-counted (high_at k past) (is_not_fitted ads) es;
         unconditioned = ap (λ (n : ℕ). n + count_by (gone (high_at k past) a) es) (count-beside (λ e c. is_any e && (is_played ads e && c)) known some plans h) ∙ both-counted (high_at k past) a es
-            ∙ same-count a b es (each-map IsKnownAs (λ e. a e ≡ b e) same-one es (known-by (known_map (Some k.program) past) refl));
+            ∙ same-count a b es (Each-map IsKnownAs (λ e. a e ≡ b e) same-one es (known-by (known_map (Some k.program) past) refl));
       }
 
 pub reports_are_whole : ReportsAreWhole

@@ -1,7 +1,8 @@
 -- What the output carries, with no premise on counters.
 use Rattle.std.specs.Prelude.{◌==◌, filter, map, All}
-use Rattle.std.proofs.Common.{◌≡◌, ℕ, ◌<◌, List, [], ◌∷◌, ◌++◌, true, false, refl, sym, ap, ◌∙◌, Option, None, Some, length}
+use Rattle.std.proofs.Common.{◌≡◌, ℕ, ◌<◌, List, [], ◌∷◌, ◌++◌, false, refl, sym, ap, ◌∙◌, Option, None, Some, length}
 use Rattle.std.proofs.lemmas.List.Elements.{All-head, All-tail}
+use Rattle.std.proofs.lemmas.Bool.{eqb-true}
 use Rattle.ts_packet.specs.Fields.{on, pid_of, pcr, payload_on, unit_start, bytes, renumbered}
 use Rattle.ts_packet.specs.Duplicates.{repeats}
 use Rattle.ts_packet.specs.Numbering.{moved, number_out, last_number, one_past}
@@ -10,15 +11,15 @@ use Rattle.ts_packet.proofs.Cases.{by_test}
 use Rattle.ts_packet.proofs.FieldLemmas.{payload_on-on, payload_on-renumbered, start-renumbered, bytes-renumbered}
 use Rattle.ts_packet.proofs.Renumbered.{renumbered-zero}
 use Rattle.unit_stream.specs.Units.{has_payload, rest_of_row}
-use Rattle.unit_stream.specs.Carrying.{Joins, CarriesUnits}
+use Rattle.unit_stream.specs.Carrying.{CarriesUnits}
 use Rattle.unit_stream.specs.UnitPackets.{AllOn}
 use Rattle.unit_stream.proofs.PackedLemmas.{carries_one}
-use Rattle.unit_cut.proofs.CutCarries.{row_joins}
+use Rattle.unit_cut.proofs.CutCarries.{row_joins, first_kept}
 use Rattle.splice_laws.specs.Splicing.{SliceUnit}
 use Rattle.output_laws.specs.Output.{Move, Keep, Leave, Put, network, Packing, counter_steps, clock_alone, out_after, Sound, Place, Keeping, Leaving, Between, behind_put, place, KeepsUnitsWhole, AlongMoves, units_out}
 use Rattle.output_laws.specs.Laws.{OutputCarriesUnits}
 use Rattle.output_laws.proofs.StepLemmas.{onto_moves, along_past, test-same, kept_on, payload_on-kept, payload_on-clock}
-use Rattle.output_laws.proofs.GaplessLemmas.{test-true, below_16, one_below, other_pid, es}
+use Rattle.output_laws.proofs.GaplessLemmas.{below_16, one_below, other_pid, es}
 use Rattle.output_laws.proofs.UnitLemmas.{between, between_left, rest_of}
 
 -- the packets of the row that runs, where it is kept
@@ -41,10 +42,6 @@ row_behind : (st : Place) (l : List (List ℕ)) → row_at (behind_put st) l ≡
 row_behind Keeping l = refl
 row_behind Leaving l = refl
 row_behind Between l = refl
-
-first_kept : (q : List ℕ) (bs rest : List ℕ) (qs row left us : List (List ℕ)) → unit_start q ≡ true → bytes q ≡ bs → qs ≡ row ++ left → Joins (Some q) row rest → CarriesUnits left us
-    → CarriesUnits (q ∷ qs) ((bs ++ rest) ∷ us)
-first_kept q bs rest qs row left us s e f j c = (q ∷ row, left, ap (λ l. q ∷ l) f, (s, (rest, ap (λ l. l ++ rest) (sym e), j)), c)
 
 module _ (pid : ℕ) where
   abbrev pub row_of : List Move → List Move → List (List ℕ)
@@ -146,7 +143,7 @@ module _ (packed : Packing) (pid : ℕ) where
       let i = carried_after (Put q u ∷ past) ss s w in
       let v = (along_past (λ (s : Move) (before : List Move). Sound packed s) (Put q u ∷ past) ss s).0 in
       by_test (q == pid)
-      (λ e. let j = test-true q pid e in rw j (carried_put_same u past ss (rw j at v) (rw j at w) (rw j at i)))
+      (λ e. let j = eqb-true q pid e in rw j (carried_put_same u past ss (rw j at v) (rw j at w) (rw j at i)))
       (λ e.
       let qs = packed q u (one_past (last_number (counter_steps packed q past))) in
       let k = v (one_past (last_number (counter_steps packed q past))) (one_below (last_number (counter_steps packed q past))) in

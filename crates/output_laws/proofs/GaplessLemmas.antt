@@ -1,7 +1,8 @@
 -- The output of a gapless run is gapless.
 use Rattle.std.specs.Prelude.{◌==◌, is_some}
 use Rattle.std.proofs.Common.{◌≡◌, ℕ, ◌+◌, ◌%◌, ◌<◌, List, [], ◌∷◌, Bool, true, false, refl, sym, ap, ◌∙◌, Option, None, Some, arith, length, reverse}
-use Rattle.std.proofs.lemmas.Bool.Decides.{nat_tests}
+use Rattle.std.proofs.lemmas.Bool.{eqb-true}
+use Rattle.unit_cut.proofs.Counted.{moved-dropped}
 use Rattle.ts_packet.specs.declared.follower.Last.{Last}
 use Rattle.ts_packet.specs.Fields.{on, pid_of, number, pcr, payload_on, renumbered}
 use Rattle.ts_packet.specs.Clock.{clock_packet}
@@ -16,13 +17,10 @@ use Rattle.unit_stream.specs.UnitPackets.{AllOn, BeginsAlone, CountsFrom}
 use Rattle.splice_laws.specs.Splicing.{SliceUnit}
 use Rattle.output_laws.specs.Output.{Move, Keep, Leave, Put, network, Packing, counter_steps, kept_packet, clock_alone, output, Sound, Place, Keeping, Leaving, Between, behind_put, place, KeepsUnitsWhole, has_come, HasComeBefore, AlongMoves}
 use Rattle.output_laws.specs.Laws.{OutputStaysGapless}
-use Rattle.output_laws.proofs.StepLemmas.{network_onto, out_back, out_onto, test-same, pid_is, payload-some, payload-none, kept_on, on-kept, payload_on-kept, payload_on-clock, on-clock, number-clock, pcr-error, on-same, moved-dropped, moved-put}
+use Rattle.output_laws.proofs.StepLemmas.{network_onto, out_back, out_onto, test-same, pid_is, payload-some, payload-none, kept_on, on-kept, payload_on-kept, payload_on-clock, on-clock, number-clock, pcr-error, on-same, moved-put}
 use Rattle.output_laws.proofs.MatchLemmas.{and_left, Matched, repeats_kept, next_kept, next_moved, same_moved, left_moved, next_left, repeat_left, repeats_same}
 use Rattle.unit_stream.proofs.PackedLemmas.{Numbered, AllOriginal, Ends, put_gapless, put_originals, put_ends}
 use Rattle.output_laws.proofs.PutLemmas.{LastIs, put_last}
-
-pub test-true : (q pid : ℕ) → (q == pid) ≡ true → q ≡ pid
-test-true q pid h = grind (arith, nat_tests)
 
 pub below_16 : (m : ℕ) → m % 16 < 16
 below_16 m = omega arith
@@ -186,7 +184,7 @@ module _ (packed : Packing) (pid : ℕ) (b : Option (List ℕ)) where
   here_put : (q : ℕ) (u : SliceUnit) (past : List Move) → Sound packed (Put q u) → HasComeBefore pid (Put q u) past → Here past → Here (Put q u ∷ past)
   here_put q u past s f h =
       by_test (q == pid)
-      (λ e. let i = test-true q pid e in rw i (here_put_same u past (rw i at s) (f e) h))
+      (λ e. let i = eqb-true q pid e in rw i (here_put_same u past (rw i at s) (f e) h))
       (λ e.
       let k = s (one_past (last_number (es packed q past))) (one_below (last_number (es packed q past))) in
       let n = not_on q (packed q u (one_past (last_number (es packed q past)))) (out_back packed past) e k.on_pid in
@@ -247,7 +245,7 @@ module _ (packed : Packing) (pid : ℕ) (b : Option (List ℕ)) where
           same = λ o _.
               let i : (pid_of p == pid) ≡ true = sym (on-clock pid (pid_of p) n c l) ∙ o in
               let j = on-same p pid (pcr-error p c e) ∙ i in
-              rw (nearest_is_last b pid O) (clock_number p past k h j q (number-clock (pid_of p) n c (below_16 _) ∙ ap (λ m. number_out p (counter_steps packed m (Leave p ∷ past))) (test-true (pid_of p) pid i)));
+              rw (nearest_is_last b pid O) (clock_number p past k h j q (number-clock (pid_of p) n c (below_16 _) ∙ ap (λ m. number_out p (counter_steps packed m (Leave p ∷ past))) (eqb-true (pid_of p) pid i)));
         },
         g,
       )
@@ -280,7 +278,7 @@ module _ (packed : Packing) (pid : ℕ) (b : Option (List ℕ)) where
       let h = here past s.1 w.1 f.1 g in
       let i = gapless_out past s.1 w.1 f.1 g in
       by_test (q == pid)
-      (λ e. let j = test-true q pid e in rw j (step_put_same u past (rw j at s.0) (f.0 e) h i))
+      (λ e. let j = eqb-true q pid e in rw j (step_put_same u past (rw j at s.0) (f.0 e) h i))
       (λ e. let k = s.0 (one_past (last_number (es packed q past))) (one_below (last_number (es packed q past))) in
       not_steps q (packed q u (one_past (last_number (es packed q past)))) (out_back packed past) e k.on_pid i)
 

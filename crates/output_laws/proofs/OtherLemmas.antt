@@ -2,6 +2,7 @@
 use Rattle.std.specs.Prelude.{All, ◌==◌, ◌||◌, filter, if◌then◌else◌}
 use Rattle.std.proofs.Common.{◌≡◌, ℕ, ◌%◌, ◌+◌, ◌<◌, List, [], ◌∷◌, ◌++◌, Bool, true, false, not, refl, sym, ap, ◌∙◌, Option, None, Some, length}
 use Rattle.std.proofs.lemmas.List.Elements.{All-head, All-tail}
+use Rattle.std.proofs.lemmas.Bool.{eqb-true}
 use Rattle.ts_packet.specs.Fields.{in_error, pid_of, on, number, pcr, payload_on, renumbered, is_among}
 use Rattle.ts_packet.specs.Clock.{clock_packet}
 use Rattle.ts_packet.specs.Numbering.{moved, number_out, last_number, one_past}
@@ -12,7 +13,7 @@ use Rattle.unit_stream.specs.UnitPackets.{AllOn}
 use Rattle.output_laws.specs.Output.{Move, Keep, Leave, Put, network, Packing, counter_steps, kept_packet, clock_alone, out_after, Sound, AlongMoves}
 use Rattle.output_laws.specs.Others.{is_off, ChangesOnly, OthersPass}
 use Rattle.output_laws.proofs.StepLemmas.{onto_moves, along_past, pid_is, error_is, error-clock, pid-clock}
-use Rattle.output_laws.proofs.GaplessLemmas.{test-true, one_below}
+use Rattle.output_laws.proofs.GaplessLemmas.{one_below}
 
 off-renumbered : (pids : List ℕ) (n : ℕ) (p : List ℕ) → is_off pids (renumbered n p) ≡ is_off pids p
 unfolding renumbered
@@ -50,7 +51,7 @@ module _ (packed : Packing) (pids : List ℕ) where
       (λ y. simp y (unmoved pid past a w.1))
   unmoved pid (Put q u ∷ past) a w =
       by_test (q == pid)
-      (λ e. let g : true ≡ false = sym w.0 ∙ ap (λ n. is_among n pids) (test-true q pid e) ∙ a in cc)
+      (λ e. let g : true ≡ false = sym w.0 ∙ ap (λ n. is_among n pids) (eqb-true q pid e) ∙ a in cc)
       (λ e. simp e (unmoved pid past a w.1))
 
   pub off-kept : (p : List ℕ) (past : List Move) → is_off pids (kept_packet packed p past) ≡ is_off pids p

@@ -1,6 +1,6 @@
 -- The moves of a splice keep whole units, and put slices in their places.
 use Rattle.std.specs.Prelude.{All, ℤ, ◌==◌, if◌then◌else◌, filter, flat_map, map, reverse}
-use Rattle.std.proofs.Common.{◌≡◌, ℕ, List, [], ◌∷◌, ◌++◌, Bool, true, false, not, ◌&&◌, ◌⊎◌, inl, inr, refl, sym, ap, ◌∙◌, Option, None, append_assoc, length, subst}
+use Rattle.std.proofs.Common.{◌≡◌, ℕ, List, [], ◌∷◌, ◌++◌, Bool, true, false, not, ◌&&◌, ◌⊎◌, inl, inr, refl, sym, ap, ◌∙◌, Option, append_assoc, length, subst}
 use Rattle.std.proofs.lemmas.List.{append-nil}
 use Rattle.ts_packet.specs.Fields.{payload_on, bytes}
 use Rattle.ts_packet.specs.Runs.{Seen, seen_after, IsGaplessAfter}
@@ -9,6 +9,7 @@ use Rattle.ts_packet.proofs.RunLemmas.{onto}
 use Rattle.unit_stream.specs.Times.{begins, unit_time}
 use Rattle.unit_stream.specs.Carrying.{CarriesUnits}
 use Rattle.unit_stream.specs.Units.{is_original, rest_of_unit, lead_in, units, payloads}
+use Rattle.unit_stream.proofs.ClockLemmas.{begins_off}
 use Rattle.splice_laws.specs.Splicing.{PlayedEvent, SliceUnit, Out, Network, Inserted, TimedStream, stream, begun, closed, out_of, inserted, rest, holds, outside, all_inserted, all_rest, all_slices_at}
 use Rattle.splice_laws.specs.Laws.{AreOrdered, IsStream, CountsOver}
 use Rattle.splice_laws.specs.Streams.{Act, Through, Insert, all_closing, all_running, insert_on, on_each, is_dropped, spliced_at, of_stream, IsOnce}
@@ -16,6 +17,7 @@ use Rattle.splice_laws.proofs.PidLemmas.{pids_are_streams}
 use Rattle.splice_laws.proofs.HistoryLemmas.{running-inside}
 use Rattle.splice_laws.proofs.PlacedLemmas.{nothing_new, as_inserted-append, swap, AllAt, AllCounted, counted_head, counted_tail, all_counted, all_joined, left_inside, none_at_first, out_counts_all}
 use Rattle.splice_laws.proofs.StreamLemmas.{of_stream-append, once_on, phases, as_inserted-flat, dropped_is}
+use Rattle.splice_laws.proofs.RowLemmas.{outside-none}
 use Rattle.output_laws.specs.Output.{Move, Keep, Leave, Put, acts, network, Place, Keeping, Leaving, place, KeepsUnitsWhole, Packing, output, Sound, HasComeBefore, AlongMoves, units_out}
 use Rattle.output_laws.specs.Spliced.{puts_on, puts_each, puts_at, fate, moves_after, MovesAreSpliced, inserted_payloads, unit_at, placed_payloads, SplicedCarries, SplicedHasUnits}
 use Rattle.output_laws.specs.Laws.{AreSoundMoves}
@@ -108,7 +110,7 @@ pub onto_moves-append : (S a b : List Move) → onto_moves S (a ++ b) ≡ onto_m
 onto_moves-append S [] b = refl
 onto_moves-append S (s ∷ a) b = onto_moves-append (s ∷ S) a b
 
-payloads-append : (a b : List Out) → inserted_payloads (a ++ b) ≡ inserted_payloads a ++ inserted_payloads b
+pub payloads-append : (a b : List Out) → inserted_payloads (a ++ b) ≡ inserted_payloads a ++ inserted_payloads b
 payloads-append [] b = refl
 payloads-append (Network p ∷ a) b = payloads-append a b
 payloads-append (Inserted u ∷ a) b = ap (λ l. u.payload ∷ l) (payloads-append a b)
@@ -138,9 +140,6 @@ module _ (r : TimedStream) (k : IsStream r) (slice : PlayedEvent → List SliceU
 abbrev fate_place : Bool → Place
 fate_place true = Keeping
 fate_place false = Leaving
-
-begins-payload : (pid : ℕ) (p : List ℕ) (past : List (List ℕ)) → payload_on pid p ≡ false → begins pid p past ≡ false
-begins-payload pid p past y = simp y
 
 module _ (sw : List ℕ) (xs : List PlayedEvent) (slice : ℕ → PlayedEvent → List SliceUnit) (out : ℕ → PlayedEvent → List (List ℕ) → ℕ) where
   puts_are : (p : List ℕ) (past : List (List ℕ)) → IsPuts (puts_at sw xs slice out p past)
@@ -237,12 +236,12 @@ module _ (sw : List ℕ) (xs : List PlayedEvent) (slice : ℕ → PlayedEvent �
       inv_other : (d : Bool) → payload_on pid p ≡ false → Inv ((if d then Leave p else Keep p) ∷ behind) (p ∷ past)
       inv_other true y = record {
         net = ap (λ l. p ∷ l) net_behind;
-        at = other_at (payload_on pid p) Leaving y ∙ place_behind (begins-payload pid p past y);
+        at = other_at (payload_on pid p) Leaving y ∙ place_behind (begins_off pid p past y);
         whole = (λ z b. let f : true ≡ false = sym z ∙ y in cc, whole_behind);
       }
       inv_other false y = record {
         net = ap (λ l. p ∷ l) net_behind;
-        at = other_at (payload_on pid p) Keeping y ∙ place_behind (begins-payload pid p past y);
+        at = other_at (payload_on pid p) Keeping y ∙ place_behind (begins_off pid p past y);
         whole = (λ z b. let f : true ≡ false = sym z ∙ y in cc, whole_behind);
       }
 
@@ -316,9 +315,9 @@ module _ (sw : List ℕ) (xs : List PlayedEvent) (slice : ℕ → PlayedEvent �
         (λ g. subst P (sym (fate_is p past S n i y true g)) (keep_units p past ps B rest (net_behind p past S n i) m g))
         (λ g. subst P (sym (fate_is p past S n i y false g)) (ap (λ l. l ++ units_out pid (Leave p ∷ B) rest) (no_unit p past ps (and_right (begins pid p past) _ g)))))
         (λ y.
-        let b = begins-payload pid p past y in
+        let b = begins_off pid p past y in
         ap (λ l. l ++ units_out pid (fate sw xs p past ∷ B) rest) (no_unit p past ps (and_left (begins pid p past) _ b))
-        ∙ other_units (is_dropped sw xs p past sw) p B rest (begins-payload pid p (network B) y))
+        ∙ other_units (is_dropped sw xs p past sw) p B rest (begins_off pid p (network B) y))
 
     turn : {A : Type 0} (R S I T K F : List A) → R ++ S ≡ I ++ T → T ++ K ≡ K ++ T → R ++ (S ++ (K ++ F)) ≡ I ++ (K ++ (T ++ F))
     turn R S I T K F e g =
@@ -358,10 +357,6 @@ module _ (sw : List ℕ) (xs : List PlayedEvent) (slice : ℕ → PlayedEvent �
           apart : (T : List Out) (K : List (List ℕ)) {o : Bool} → (o ≡ false → K ≡ []) → (T ≡ []) ⊎ (o ≡ false) → inserted_payloads T ++ K ≡ K ++ inserted_payloads T
           apart T K f (inl e) = swap (inserted_payloads T) K (inl (ap inserted_payloads e))
           apart T K f (inr e) = swap (inserted_payloads T) K (inr (f e))
-
-outside-none : (xs : List PlayedEvent) → outside xs None ≡ true
-outside-none [] = refl
-outside-none (x ∷ xs) = outside-none xs
 
 -- ---- for any count
 

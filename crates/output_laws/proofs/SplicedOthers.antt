@@ -1,6 +1,7 @@
 -- A splice leaves out packets of switched PIDs alone, and puts units in on them alone.
-use Rattle.std.specs.Prelude.{All, ◌==◌, ◌||◌, filter, flat_map, if◌then◌else◌}
+use Rattle.std.specs.Prelude.{All, ◌==◌, filter, flat_map, if◌then◌else◌}
 use Rattle.std.proofs.Common.{◌≡◌, ℕ, List, [], ◌∷◌, Bool, true, false, refl, sym, ap, ◌∙◌, length, subst}
+use Rattle.std.proofs.lemmas.Bool.{or_left, or_right}
 use Rattle.ts_packet.specs.Fields.{payload_on, is_among}
 use Rattle.ts_packet.proofs.Cases.{by_test}
 use Rattle.ts_packet.proofs.FieldLemmas.{payload_on-on}
@@ -17,21 +18,13 @@ abbrev Sub : List ℕ → List ℕ → Type 0
 Sub [] sw = Unit {0}
 Sub (q ∷ qs) sw = (is_among q sw ≡ true) × Sub qs sw
 
-or_true : (a b : Bool) → b ≡ true → a || b ≡ true
-or_true true b e = refl
-or_true false b e = e
-
-or_first : (a b : Bool) → a ≡ true → a || b ≡ true
-or_first true b e = refl
-or_first false b e = cc
-
 sub_more : (x : ℕ) (qs sw : List ℕ) → Sub qs sw → Sub qs (x ∷ sw)
 sub_more x [] sw h = tt
-sub_more x (q ∷ qs) sw h = (or_true (x == q) (is_among q sw) h.0, sub_more x qs sw h.1)
+sub_more x (q ∷ qs) sw h = (or_right (x == q) (is_among q sw) h.0, sub_more x qs sw h.1)
 
 sub_self : (sw : List ℕ) → Sub sw sw
 sub_self [] = tt
-sub_self (q ∷ sw) = (or_first (q == q) (is_among q sw) (test-same q), sub_more q sw sw (sub_self sw))
+sub_self (q ∷ sw) = (or_left (q == q) (is_among q sw) (test-same q), sub_more q sw sw (sub_self sw))
 
 module _ (packed : Packing) (sw : List ℕ) where
   abbrev Here : List Move → Type 0

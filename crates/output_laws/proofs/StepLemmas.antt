@@ -1,14 +1,16 @@
 -- One move more: what the network has brought, what goes out, and the counters.
 use Rattle.std.specs.Prelude.{if◌then◌else◌, ◌==◌, count_by, is_some, cond}
-use Rattle.std.proofs.Common.{◌≡◌, ℕ, ◌+◌, ◌%◌, ◌/◌, ◌<◌, List, [], ◌∷◌, ◌++◌, Bool, true, false, ◌&&◌, refl, sym, ap, ◌∙◌, Option, None, Some, arith, length}
+use Rattle.std.proofs.Common.{◌≡◌, ℕ, ◌+◌, ◌<◌, List, [], ◌∷◌, ◌++◌, Bool, true, false, ◌&&◌, refl, sym, ap, ◌∙◌, Option, None, Some, arith, length}
 use Rattle.std.proofs.lemmas.List.Sums.{sum_by-cons}
 use Rattle.ts_packet.specs.Fields.{in_error, pid_of, payload, payload_on, on, number, pcr, renumbered}
-use Rattle.ts_packet.specs.Numbering.{Step, Kept, Dropped, Inserted, is_inserted, is_dropped, moved}
+use Rattle.ts_packet.specs.Numbering.{Step, Inserted, is_inserted, is_dropped, moved}
 use Rattle.ts_packet.specs.Clock.{clock_packet}
 use Rattle.std.proofs.lemmas.Bool.Decides.{nat_tests}
+use Rattle.std.proofs.lemmas.Bool.{and_right}
 use Rattle.ts_packet.proofs.Cases.{by_test}
 use Rattle.ts_packet.proofs.FieldLemmas.{on-renumbered, payload_on-renumbered}
 use Rattle.ts_packet.proofs.RunLemmas.{onto}
+use Rattle.ts_packet.proofs.ClockLemmas.{control-clock, first_five}
 use Rattle.unit_stream.specs.UnitPackets.{put_in}
 use Rattle.output_laws.specs.Output.{Move, Keep, Leave, Put, network, Packing, counter_steps, kept_packet, out_at, out_after, AlongMoves}
 
@@ -83,16 +85,9 @@ payload_on-kept packed pid p past = by_test (in_error p) (λ e. simp e) (λ e. s
 
 -- ---- a clock reference alone
 
-and-false : (a b : Bool) → b ≡ false → a && b ≡ false
-and-false true b h = h
-and-false false b h = refl
-
 none_either : (b : Bool) {o : Option (List ℕ)} → o ≡ None → (if b then None else o) ≡ None
 none_either true h = refl
 none_either false h = h
-
-control-clock : (n : ℕ) → n < 16 → (32 + n) / 16 % 4 ≡ 2
-control-clock n h = omega arith
 
 payload-clock : (pid n : ℕ) (c : List ℕ) → n < 16 → payload (clock_packet pid n c) ≡ None
 unfolding payload
@@ -100,10 +95,7 @@ payload-clock pid n c k = none_either (in_error (clock_packet pid n c)) (rw (con
 
 pub payload_on-clock : (pid k n : ℕ) (c : List ℕ) → n < 16 → payload_on pid (clock_packet k n c) ≡ false
 unfolding payload_on
-payload_on-clock pid k n c h = and-false (on pid (clock_packet k n c)) _ (ap is_some (payload-clock k n c h))
-
-first_five : (pid : ℕ) → pid < 8192 → pid / 256 / 128 % 2 ≡ 0
-first_five pid h = omega arith
+payload_on-clock pid k n c h = and_right (on pid (clock_packet k n c)) _ (ap is_some (payload-clock k n c h))
 
 pub error-clock : (k n : ℕ) (c : List ℕ) → k < 8192 → in_error (clock_packet k n c) ≡ false
 unfolding in_error
@@ -131,16 +123,8 @@ on-same p pid h = rw h refl
 
 -- ---- what was moved
 
-pub moved-kept : (p : List ℕ) (es : List Step) → moved (Kept p ∷ es) ≡ moved es
-moved-kept p es = refl
-
 count-cons : (f : Step → Bool) (e : Step) (es : List Step) → count_by f (e ∷ es) ≡ cond (f e) 1 0 + count_by f es
 count-cons f e es = sum_by-cons (λ x. cond (f x) 1 0) e es
-
-pub moved-dropped : (p : List ℕ) (es : List Step) → moved (Dropped p ∷ es) ≡ moved es + 15
-moved-dropped p es =
-    let a : count_by is_inserted (Dropped p ∷ es) ≡ 0 + count_by is_inserted es = count-cons is_inserted (Dropped p) es in
-    let b : count_by is_dropped (Dropped p ∷ es) ≡ 1 + count_by is_dropped es = count-cons is_dropped (Dropped p) es in omega arith
 
 pub moved-inserted : (es : List Step) → moved (Inserted ∷ es) ≡ moved es + 1
 moved-inserted es =

@@ -2,6 +2,7 @@
 use Rattle.std.specs.Prelude.{◌==◌, filter, flat_map}
 use Rattle.std.proofs.Common.{◌≡◌, ℕ, ◌<◌, List, [], ◌∷◌, ◌++◌, true, false, refl, sym, ap, ◌∙◌, Option, None, Some, append_assoc}
 use Rattle.std.proofs.lemmas.List.{append-nil}
+use Rattle.std.proofs.lemmas.Bool.{eqb-true}
 use Rattle.ts_packet.specs.Fields.{pid_of, pcr, payload_on, unit_start, bytes}
 use Rattle.ts_packet.specs.Duplicates.{repeats, Gapless}
 use Rattle.ts_packet.specs.Numbering.{number_out, last_number, one_past}
@@ -16,7 +17,7 @@ use Rattle.output_laws.specs.Output.{Move, Keep, Leave, Put, network, Packing, c
 use Rattle.output_laws.specs.Laws.{OutputHasUnits}
 use Rattle.unit_stream.proofs.PackedLemmas.{AllOriginal}
 use Rattle.output_laws.proofs.StepLemmas.{onto_moves, network_onto, out_back, along_past, test-same, kept_on, payload_on-kept, payload_on-clock}
-use Rattle.output_laws.proofs.GaplessLemmas.{test-true, below_16, one_below, other_pid, Here, here, kept_repeats, kept_new, put_originals_here}
+use Rattle.output_laws.proofs.GaplessLemmas.{below_16, one_below, other_pid, Here, here, kept_repeats, kept_new, put_originals_here}
 
 -- what is left of the unit that runs, where it is kept
 abbrev pub rest_at : Place → List ℕ → List ℕ
@@ -183,7 +184,7 @@ module _ (packed : Packing) (pid : ℕ) (b : Option (List ℕ)) where
       let at = good_past (Put q u ∷ past) ss g in
       let h = here packed pid b past at.sound.1 at.whole.1 at.fed.1 at.gapless in
       by_test (q == pid)
-      (λ e. let j = test-true q pid e in rw j (rest_put_same u past ss (rw j at at.sound.0) (at.fed.0 e) h (rw j at g.whole)))
+      (λ e. let j = eqb-true q pid e in rw j (rest_put_same u past ss (rw j at at.sound.0) (at.fed.0 e) h (rw j at g.whole)))
       (λ e.
       let qs = packed q u (one_past (last_number (counter_steps packed q past))) in
       let k = at.sound.0 (one_past (last_number (counter_steps packed q past))) (one_below (last_number (counter_steps packed q past))) in
@@ -229,7 +230,7 @@ module _ (packed : Packing) (pid : ℕ) (b : Option (List ℕ)) where
         let at = good_past (Put q u ∷ past) ss g in
         let h = here packed pid b past at.sound.1 at.whole.1 at.fed.1 at.gapless in
         by_test (q == pid)
-        (λ e. let j = test-true q pid e in rw j (units_put_same u past ss (rw j at at.sound.0) (at.fed.0 e) h (rw j at x) (rw j at i)))
+        (λ e. let j = eqb-true q pid e in rw j (units_put_same u past ss (rw j at at.sound.0) (at.fed.0 e) h (rw j at x) (rw j at i)))
         (λ e.
         let qs = packed q u (one_past (last_number (counter_steps packed q past))) in
         let k = at.sound.0 (one_past (last_number (counter_steps packed q past))) (one_below (last_number (counter_steps packed q past))) in

@@ -12,6 +12,7 @@ use Rattle.ts_packet.specs.declared.tally.Tally.{Tally}
 use Rattle.ts_packet.proofs.Cases.{by_test}
 use Rattle.ts_packet.specs.Transfers.{Filled, WentWell, LastMovedNone}
 use Rattle.ts_packet.specs.declared.packet.PacketFault.{PacketFault}
+use Rattle.ts_packet.proofs.WritingLemmas.{appended}
 use Rattle.hex_digits.specs.Digits.{spelled, byte_before, digit_value, digits_of}
 use Rattle.hex_digits.proofs.DigitLemmas.{length-digits_of}
 use Rattle.hex_digits.proofs.ReadBackLemmas.{spelled-digits_of}
@@ -39,11 +40,6 @@ line_ended line packet size line_size =
 lines_more : (ps : List (List ℕ)) (p : List ℕ) → lines_of (ps ++ p ∷ []) ≡ lines_of ps ++ line_of p
 lines_more [] p = append-nil (line_of p)
 lines_more (q ∷ ps) p = ap (λ l. line_of q ++ l) (lines_more ps p) ∙ sym (append_assoc (line_of q) (lines_of ps) (line_of p))
-
-appended : (a b : Option (List ℕ)) (xs ys : List ℕ) → a ≡ Some xs → Appends a b ys → b ≡ Some (xs ++ ys)
-appended (Some x) (Some y) xs ys e h = let f : x ≡ xs = cc in rw (h, f) refl
-appended (Some x) None xs ys e h = absurd h
-appended None b xs ys e h = absurd (cc)
 
 pub written_more : (a b start : Option (List ℕ)) (ps : List (List ℕ)) (p : List ℕ) → WrittenLines a start ps → Appends a b (line_of p) → WrittenLines b start (ps ++ p ∷ [])
 written_more a b None ps p h k = tt

@@ -3,8 +3,8 @@ use Rattle.std.proofs.Common.{◌≡◌, Bool, true, false, ◌||◌, ◌⊎◌,
 use Rattle.std.specs.Prelude.{map, filter, find, None, Some}
 use Rattle.std.specs.List.{list_any}
 use Rattle.std.proofs.lemmas.List.{map-append}
+use Rattle.ts_packet.proofs.Cases.{by_test}
 use Rattle.cue_laws.specs.Events.{In}
-use Rattle.cue_laws.proofs.Settling.{by_test}
 use Rattle.event_table.specs.Standing.{with_first}
 
 -- ---- one list

@@ -1,11 +1,13 @@
 -- All cues before a packet, and the whole path.
-use Rattle.std.proofs.Common.{◌≡◌, ℕ, ◌==◌, Bool, true, false, ◌&&◌, cond, inl, inr, refl, sym, ap, ◌∙◌, subst, List, [], ◌∷◌, ◌++◌, arith}
+use Rattle.std.proofs.Common.{◌≡◌, ℕ, ◌==◌, Bool, true, false, cond, inl, inr, refl, sym, ap, ◌∙◌, subst, List, [], ◌∷◌, ◌++◌, arith}
 use Rattle.std.specs.Prelude.{ℤ, pos, ◌+ℤ◌, ◌≤ℤ◌, int_lt, filter, Option, None, Some, Result, Ok, Err}
 use Rattle.std.specs.List.{flat_map}
 use Rattle.std.proofs.lemmas.Int.{ints}
 use Rattle.std.proofs.lemmas.List.{append-nil}
 use Rattle.std.proofs.lemmas.List.Elements.{filter-append}
 use Rattle.std.proofs.lemmas.Grind.{flat_map-append}
+use Rattle.std.proofs.lemmas.Bool.{and_left}
+use Rattle.ts_packet.proofs.Cases.{by_test}
 use Rattle.scte104_codec.specs.declared.requests.SpliceRequest.{SpliceRequest}
 use Rattle.scte35_codec.specs.declared.cue_out.CueOut.{CueOut}
 use Rattle.event_table.specs.Standing.{Standing, end_of}
@@ -19,7 +21,7 @@ use Rattle.unit_stream.specs.Clocks.{Rises}
 use Rattle.cue_laws.specs.Events.{Passed as LinePassed}
 use Rattle.cue_laws.specs.Cueing.{Sender as LineSender, Told, Untold, Known, Never, is_news, is_due, is_second, told_on, block_on, cued}
 use Rattle.cue_laws.specs.Cueing.{senders as line_senders, limit as line_limit}
-use Rattle.cue_laws.proofs.Settling.{by_test, lt-test}
+use Rattle.cue_laws.proofs.Settling.{lt-test}
 use Rattle.cue_laws.proofs.Fair.{IsFair, IsKnown, Fair, stand}
 use Rattle.path_laws.specs.Path.{Item, Sent, sent_onto, path, with_asked, with_verdict, asked_line, IsSteadyHistory}
 use Rattle.path_laws.proofs.Alike.{Alike, In-last, In-front}
@@ -37,12 +39,9 @@ limit-below start n asked false = by_test (int_lt (start +ℤ pos n) asked) (λ 
 past-forgotten : (h end time : ℤ) → int_lt h (end +ℤ pos 900000) ≡ false → time ≤ℤ end → int_lt h time ≡ false
 past-forgotten h end time gone below = grind (arith, ints)
 
-and-first : (a b : Bool) → a ≡ false → (a && b) ≡ false
-and-first a b is = cc
-
 module _ (h : ℤ) (later : Option ℤ) (e : Standing) (gone : int_lt h (end_of e +ℤ pos 900000) ≡ false) where
   not-due : (last : Option ℤ) → is_due (Some h) later (view e) last ≡ false
-  not-due last = and-first (before (Some h) (line_limit (view e))) (is_second last later)
+  not-due last = and_left (before (Some h) (line_limit (view e))) (is_second last later)
       (past-forgotten h (end_of e) (line_limit (view e)) gone (limit-below e.start e.length (e.start +ℤ pos e.asked) e.cancelled))
 
   not-news : (k : LineEvent) → IsKnown (Some h) (view e) k → is_news (view e) k ≡ false

@@ -2,13 +2,13 @@
 use Rattle.std.proofs.Common.{◌≡◌, ℕ, ◌<◌, ◌≤◌, ◌==◌, nat_lt, Bool, true, false, not, ◌&&◌, ◌||◌, List, length, arith}
 use Rattle.std.specs.Prelude.{Result, Ok, Err}
 use Rattle.std.proofs.lemmas.Bool.Decides.{nat_tests}
+use Rattle.ts_packet.proofs.Cases.{by_test}
 use Rattle.scte104_codec.specs.declared.requests.SpliceRequest.{SpliceRequest}
 use Rattle.scte104_codec.specs.Operations.{Operation}
 use Rattle.scte104_codec.specs.Asked.{all_known, splice_requests, avail_ids}
 use Rattle.scte104_codec.specs.Reading.{MessageReading, init, alive, other, multiple, bad, Multiple}
 use Rattle.injector.specs.declared.refusal.Refusal.{Refusal}
 use Rattle.injector.specs.Asking.{is_start, only_of, served_of, served_if, asked_of_multiple, asked_of}
-use Rattle.cue_laws.proofs.Settling.{by_test}
 
 -- at most 14 avail ids, and a start has a duration and a pre-roll time
 pub record IsServed (r : SpliceRequest) (avails : List ℕ) : Type 0 where

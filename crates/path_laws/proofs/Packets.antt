@@ -1,5 +1,5 @@
 -- The cues in packets.
-use Rattle.std.proofs.Common.{◌≡◌, ℕ, ◌==◌, Bool, true, false, ◌||◌, refl, sym, ap, ◌∙◌, subst, List, [], ◌∷◌, ◌++◌, append_assoc}
+use Rattle.std.proofs.Common.{◌≡◌, ℕ, ◌==◌, true, false, ◌||◌, refl, sym, ap, ◌∙◌, subst, List, [], ◌∷◌, ◌++◌, append_assoc}
 use Rattle.std.specs.Prelude.{map, reverse, All, Option, Some, None}
 use Rattle.std.specs.List.{AllByRecursion}
 use Rattle.std.proofs.lemmas.Bool.{eq-eqb}
@@ -10,6 +10,7 @@ use Rattle.ts_packet.specs.Duplicates.{last_of}
 use Rattle.ts_packet.specs.Numbering.{one_past}
 use Rattle.ts_packet.specs.Runs.{onto}
 use Rattle.ts_packet.proofs.RunLemmas.{onto-append, reverse-cons}
+use Rattle.ts_packet.proofs.Cases.{by_test}
 use Rattle.psi_section.specs.Sections.{sections, sections_after}
 use Rattle.psi_section.specs.Laws.{CanBeGiven}
 use Rattle.psi_section.proofs.RunLemmas.{sections_after-append, others_give}
@@ -32,7 +33,6 @@ use Rattle.scte104_codec.specs.Reading.{MessageReading}
 use Rattle.injector.specs.Steps.{Step, Message, Packet, packets_in, turns_in, sections_before, cue_packets, body_at, cued}
 use Rattle.injector.proofs.FeedLemmas.{rises-at, turns-high}
 use Rattle.unit_stream.specs.Clocks.{Rises}
-use Rattle.cue_laws.proofs.Settling.{by_test}
 use Rattle.path_laws.specs.Path.{Item, Sent, sent_onto, IsSteadyHistory}
 use Rattle.path_laws.specs.Packets.{IsRunOf, SectionsReadBack, cues_at, sent_in}
 use Rattle.path_laws.proofs.Reading.{AreNear}
@@ -74,10 +74,6 @@ given-all [] fits = All-nil CanBeGiven
 given-all (cue ∷ cues) fits = All-cons CanBeGiven (cue_bytes cue) (map cue_bytes cues) (cue_given cue fits.0) (given-all cues fits.1)
 
 -- ---- what else goes out
-
-or-none : (a b : Bool) → (a || b) ≡ false → (a ≡ false) × (b ≡ false)
-or-none true b is = cc
-or-none false b is = (refl, is)
 
 -- the PID of the map is not that of the cues
 pub map-pid : (c : Config) (past : List (List ℕ)) (l : Listed) → first_fault (writing_cues c) past ≡ None → listed (Some c.program) past ≡ Some l → l.pid ≡ c.cue_pid → ⊥

@@ -4,6 +4,7 @@ use Rattle.std.specs.Prelude.{ℤ, map, filter, Option, None, Some, Result, Ok, 
 use Rattle.std.specs.List.{list_any}
 use Rattle.std.specs.Ordering.{int_eq}
 use Rattle.std.proofs.lemmas.Int.{ints}
+use Rattle.ts_packet.proofs.Cases.{by_test}
 use Rattle.pes_time.specs.Line.{place}
 use Rattle.scte35_codec.specs.declared.cue_out.CueOut.{CueOut}
 use Rattle.scte35_codec.specs.declared.cue_out.CueOut.TheVariants.{Start, Cancel, End}
@@ -23,7 +24,6 @@ use Rattle.injector.specs.Asking.{asked_of as request_of}
 use Rattle.injector.specs.Turns.{Turn, Judged, Passed, high}
 use Rattle.injector.specs.Senders.{Sender, is_none, chosen, tell, with_event, fresh, stands_by, stands_now, events_in, with_judged, with_request, senders}
 use Rattle.cue_laws.specs.Events.{LineEvent, In}
-use Rattle.cue_laws.proofs.Settling.{by_test}
 use Rattle.cue_laws.proofs.Lists.{Distinct, In-map}
 use Rattle.path_laws.specs.Path.{Item, Sent, Packet, high_on, left, armed_on}
 use Rattle.cue_laws.specs.Events.{Turn as LineTurn}

@@ -31,7 +31,7 @@ use Rattle.path_laws.proofs.Programs.{Named, program_at, programs-known, always-
 
 -- ---- the injector's events on the line
 
-events-alike : (index : ℕ) (past : List Turn) → IsSteadyHistory index past → Alike IsView (events index past) (line_events (asked_line index past))
+pub events-alike : (index : ℕ) (past : List Turn) → IsSteadyHistory index past → Alike IsView (events index past) (line_events (asked_line index past))
 events-alike index past i =
     let s = stood index past i in
     subst (λ xs. Alike IsView xs (line_events (asked_line index past))) (senders-events index past)

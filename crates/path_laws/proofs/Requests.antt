@@ -2,6 +2,8 @@
 use Rattle.std.proofs.Common.{◌≡◌, ℕ, ◌*◌, ◌^◌, ◌<◌, ◌≤◌, ◌==◌, Bool, true, false, not, ◌&&◌, refl, sym, ap, ◌∙◌, subst, List, [], ◌∷◌, ◌++◌, arith, if◌then◌else◌}
 use Rattle.std.specs.Prelude.{ℤ, pos, ◌+ℤ◌, ◌≤ℤ◌, int_lt, int_le, map, filter, find, Option, None, Some, Result, Ok, Err}
 use Rattle.std.proofs.lemmas.Int.{ints}
+use Rattle.std.proofs.lemmas.Bool.{and_parts}
+use Rattle.ts_packet.proofs.Cases.{by_test}
 use Rattle.scte104_codec.specs.declared.requests.SpliceRequest.{SpliceRequest}
 use Rattle.event_table.specs.Standing.{Standing, end_of, has_begun, has_id, cancelled_one, ending_at, with_first, stands, is_of}
 use Rattle.injector.specs.declared.refusal.Refusal.{Refusal}
@@ -10,13 +12,12 @@ use Rattle.injector.specs.Asking.{is_start, asked_of}
 use Rattle.injector.specs.Verdicts.{time_at, start_event, start_verdict_at, end_verdict_at, cancel_verdict_at, verdict_of}
 use Rattle.injector.specs.Turns.{Turn, Judged, Passed, high, standing}
 use Rattle.injector.specs.Senders.{Sender, with_event, stands_now, stands_by, events_in, with_request, with_judged, senders}
-use Rattle.injector.proofs.SenderLemmas.{standing-events}
+use Rattle.injector.proofs.SenderLemmas.{standing-events, filter-events}
 use Rattle.cue_laws.specs.Events.{Turn as LineTurn, Started, Cancelled, Ended, LineEvent, before, events, can_start, can_cancel, can_end, cancel_by, end_by, In}
 use Rattle.unit_stream.specs.Clocks.{Rises}
 use Rattle.cue_laws.specs.Events.{high as line_high, is_of as line_is_of}
 use Rattle.cue_laws.specs.Cueing.{Sender as LineSender, IsRun, change}
 use Rattle.cue_laws.specs.Cueing.{senders as line_senders, tell as line_tell}
-use Rattle.cue_laws.proofs.Settling.{by_test, both}
 use Rattle.cue_laws.proofs.Fair.{IsFair, Fair, stand, event_of}
 use Rattle.cue_laws.proofs.Lists.{In-map}
 use Rattle.cue_laws.proofs.Orders.{Orderly}
@@ -31,10 +32,6 @@ pub record Stood (h : Option ℤ) (xs : List Sender) (run : List LineTurn) : Typ
   pub clock : line_high run ≡ h
   pub accepted : IsRun run
   pub alike : Alike (IsSender h) xs (line_senders run)
-
-filter-events : (p : Standing → Bool) (xs : List Sender) → events_in (filter (λ x. p x.event) xs) ≡ filter p (events_in xs)
-filter-events p [] = refl
-filter-events p (x ∷ xs) = by_test (p x.event) (λ u. simp u (ap (λ es. x.event ∷ es) (filter-events p xs))) (λ u. simp u (filter-events p xs))
 
 -- ---- what stands at a time
 
@@ -78,7 +75,7 @@ module _ (h : ℤ) (xs : List Sender) (run : List LineTurn) (s : Stood (Some h) 
       → Stood (Some h) (with_first (stands_by (Some h) id) (with_event cancelled_one) xs) (Cancelled id ∷ run)
   cancel-stood id verdict =
       let e = cancel-by-found id (find (is_of (Some h) id) (events_in xs)) refl (ap (cancel_verdict_at (Some h)) (sym (found-is id)) ∙ verdict) in
-      let mine : line_is_of (Some h) id e.0 ≡ true = (both (line_is_of (Some h) id e.0) (before (Some h) (e.0).start) e.2).0 in
+      let mine : line_is_of (Some h) id e.0 ≡ true = (and_parts (line_is_of (Some h) id e.0) (before (Some h) (e.0).start) e.2).0 in
       record {
         clock = s.clock;
         accepted = ((e.0, e.1, ap (λ k. can_cancel k id e.0) s.clock ∙ e.2), s.accepted);
@@ -109,7 +106,7 @@ module _ (h : ℤ) (xs : List Sender) (run : List LineTurn) (s : Stood (Some h) 
   end-stood r small verdict =
       let id = r.splice_event_id in
       let e = end-by-found r (find (is_of (Some h) id) (events_in xs)) refl (ap (λ f. end_verdict_at (Some h) f r) (sym (found-is id)) ∙ verdict) in
-      let mine : line_is_of (Some h) id e.0 ≡ true = (both (line_is_of (Some h) id e.0) _ e.2).0 in
+      let mine : line_is_of (Some h) id e.0 ≡ true = (and_parts (line_is_of (Some h) id e.0) _ e.2).0 in
       record {
         clock = s.clock;
         accepted = ((e.0, e.1, ap (λ k. can_end k id (time_at h r) e.0) s.clock ∙ e.2), s.accepted);

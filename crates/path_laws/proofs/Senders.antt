@@ -5,19 +5,24 @@ use Rattle.std.specs.List.{list_any, AllByRecursion}
 use Rattle.std.proofs.lemmas.Int.{ints}
 use Rattle.std.proofs.lemmas.List.{map-append}
 use Rattle.std.proofs.lemmas.Bool.Decides.{nat_tests}
+use Rattle.std.proofs.lemmas.Bool.{and_parts}
+use Rattle.ts_packet.proofs.Cases.{by_test}
 use Rattle.event_table.specs.Standing.{Standing, end_of, cancelled_one, ending_at, with_first}
-use Rattle.injector.specs.Senders.{Sender, is_none, is_ended, news, current, limit, is_repeated, chosen, tell, told_now, with_event, stands_by, events_in}
+use Rattle.injector.specs.Senders.{Sender, is_none, is_ended, news, limit, is_repeated, chosen, tell, told_now, with_event, stands_by, events_in}
+use Rattle.injector.proofs.RestLemmas.{some-current}
 use Rattle.cue_laws.specs.Events.{LineEvent, before, can_cancel, can_end, cancel_by, end_by, In}
 use Rattle.unit_stream.specs.Clocks.{Rises}
 use Rattle.cue_laws.specs.Events.{is_of as line_is_of}
 use Rattle.cue_laws.specs.Cueing.{Sender as LineSender, Told, Untold, Known, Never, is_cancel_new, or_else, is_news, is_due, is_sent, change}
 use Rattle.cue_laws.specs.Cueing.{limit as line_limit, tell as line_tell, told_now as line_told_now}
-use Rattle.cue_laws.proofs.Settling.{by_test, both, ge-test, can_end-parts}
+use Rattle.cue_laws.proofs.Settling.{ge-test, can_end-parts}
 use Rattle.cue_laws.proofs.Lost.{equal_events}
 use Rattle.cue_laws.proofs.Fair.{IsKnown, IsFair, Fair, event_of}
 use Rattle.cue_laws.proofs.Orders.{or-right}
+use Rattle.cue_laws.proofs.Block.{end-off}
+use Rattle.cue_laws.proofs.Tell.{or_else-false, same_flag}
 use Rattle.path_laws.proofs.Alike.{Alike, AtMostOnce, alike-map, alike-first}
-use Rattle.path_laws.proofs.Switch.{view, IsView, cancel-off, end-off}
+use Rattle.path_laws.proofs.Switch.{view, IsView, cancel-off}
 use Rattle.event_table.proofs.EventLemmas.{ending-end}
 
 -- the fields of an event that is held at a time
@@ -36,7 +41,7 @@ abbrev pub IsHeldAt : Option ℤ → Sender → Type 0
 IsHeldAt None x = ⊥
 IsHeldAt (Some h) x = IsHeld h x
 
--- what was told of an event, on both sides
+-- what was told of an event, on and_parts sides
 abbrev pub SameTold : Standing → Option Standing → Told → Type 0
 SameTold e None Untold = Unit {0}
 SameTold e None (Known k) = ⊥
@@ -111,14 +116,11 @@ repeated-is h later e None = sym (and-false (int_lt h (line_limit (view e))))
 repeated-is h None e (Some last) = sym (and-false (int_lt h (line_limit (view e))))
 repeated-is h (Some later) e (Some last) = ap (λ t. int_lt h t && int_le (last +ℤ pos 90000) later) (limit-is e)
 
-pub current-some : (e : Standing) → is_none (current e) ≡ false
-current-some e = by_test e.cancelled (λ c. simp c refl) (λ c. by_test (is_ended e) (λ d. simp (c, d) refl) (λ d. simp (c, d) refl))
-
 chosen-none : (h later : Option ℤ) (x : Sender) → is_none (chosen x h later) ≡ not (or_else (not (is_none (news x.event x.told))) (is_repeated x.event x.last h later))
 chosen-none h later x =
     by_test (is_none (news x.event x.told))
     (λ n. by_test (is_repeated x.event x.last h later)
-    (λ r. let c = current-some x.event in simp (n, r, c) refl)
+    (λ r. let c = some-current x.event in simp (n, r, c) refl)
     (λ r. simp (n, r) refl))
     (λ n. simp n refl)
 
@@ -152,16 +154,6 @@ held-later h l up x k = record {
   count = k.count;
   avails = k.avails;
 }
-
-or_else-false : (a b : Bool) → or_else a b ≡ false → (a ≡ false) × (b ≡ false)
-or_else-false true b is = absurd (let bad : true ≡ false = is in cc)
-or_else-false false b is = (refl, is)
-
-same_flag : (a b : Bool) → (a && not b) ≡ false → (b ≡ true → a ≡ true) → b ≡ a
-same_flag true true is k = refl
-same_flag true false is k = absurd (let bad : true ≡ false = is in cc)
-same_flag false true is k = let bad = k refl in cc
-same_flag false false is k = refl
 
 -- what was told is the event, where nothing is new
 nothing-new : (h : Option ℤ) (e k : LineEvent) → IsKnown h e k → is_news e k ≡ false → k ≡ e
@@ -295,7 +287,7 @@ module _ (h : ℤ) (id : ℕ) where
       → Alike (IsSender (Some h)) (with_first (stands_by (Some h) id) (with_event cancelled_one) xs) (map (change (cancel_by (Some h) id)) ys)
   cancel-senders xs ys a once can =
       alike-first (IsSender (Some h)) (stands_by (Some h) id) is_mine mine-is (with_event cancelled_one) (change (cancel_by (Some h) id))
-      (λ y off. ap (with_event_of y) (cancel-off (Some h) id y.event (by_test (can_cancel (Some h) id y.event) (λ c. absurd (let bad : true ≡ false = sym (both (line_is_of (Some h) id y.event) (before (Some h) (y.event).start) c).0 ∙ off in cc)) (λ c. c))))
+      (λ y off. ap (with_event_of y) (cancel-off (Some h) id y.event (by_test (can_cancel (Some h) id y.event) (λ c. absurd (let bad : true ≡ false = sym (and_parts (line_is_of (Some h) id y.event) (before (Some h) (y.event).start) c).0 ∙ off in cc)) (λ c. c))))
       xs ys (λ x y i same on. cancel-sender x y same (can y i on)) (mine-once ys once) a
 
   pub end-senders : (time : ℤ) → time ≤ℤ (h +ℤ pos (2 ^ 29)) → (xs : List Sender) (ys : List LineSender) → Alike (IsSender (Some h)) xs ys → AtMostOnce (line_is_of (Some h) id) (map event_of ys)
@@ -317,7 +309,7 @@ fair-in h (z ∷ ys) fair y (inr i) = fair-in h ys fair.3 y i
 pub tell-senders : (h later : Option ℤ) → Rises h later → (xs : List Sender) (ys : List LineSender) → Fair h ys → Alike (IsSender h) xs ys → Alike (IsSender later) (map (tell h later) xs) (map (line_tell h later) ys)
 tell-senders h later r xs ys fair a = alike-map (IsSender h) (IsSender later) (tell h later) (line_tell h later) xs ys (λ x y i same. let f = fair-in h ys fair y i in tell-sender h later r x y f.0 same f.1) a
 
--- the events of both
+-- the events of and_parts
 pub view-senders : (h : Option ℤ) (xs : List Sender) (ys : List LineSender) → Alike (IsSender h) xs ys → Alike IsView (events_in xs) (map event_of ys)
 view-senders h xs [] a = ap events_in a
 view-senders h xs (y ∷ ys) a = (events_in a.0, (a.1).event, ap events_in a.2 ∙ map-append (λ (x : Sender). x.event) a.0 (a.1 ∷ []), (a.3).event_is, view-senders h a.0 ys a.4)

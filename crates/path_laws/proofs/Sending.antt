@@ -3,6 +3,8 @@ use Rattle.std.proofs.Common.{◌≡◌, ℕ, ◌^◌, ◌<◌, ◌≤◌, nat_l
 use Rattle.std.specs.Prelude.{ℤ, pos, negsuc, ◌+ℤ◌, ◌≤ℤ◌, ◌<ℤ◌, int_lt, Option, None, Some}
 use Rattle.std.proofs.lemmas.Int.{ints}
 use Rattle.std.proofs.lemmas.Bool.Decides.{nat_tests}
+use Rattle.std.proofs.lemmas.Bool.{and_parts}
+use Rattle.ts_packet.proofs.Cases.{by_test}
 use Rattle.pes_time.specs.Line.{ring_of, place, lift}
 use Rattle.scte35_codec.specs.declared.cue_out.CueOut.{CueOut}
 use Rattle.scte35_codec.specs.declared.cue_out.CueOut.TheVariants.{Start, Cancel, End}
@@ -11,7 +13,7 @@ use Rattle.injector.specs.Senders.{Sender, is_none, is_ended, news, current, is_
 use Rattle.cue_laws.specs.Events.{Turn as LineTurn, Started, Cancelled, Ended, LineEvent, before}
 use Rattle.cue_laws.specs.Cueing.{Sender as LineSender, Told, Untold, Known, Never, is_news, is_due, end_on, cancel_on, repeat_on, told_on}
 use Rattle.cue_laws.specs.Cueing.{limit as line_limit, current as line_current}
-use Rattle.cue_laws.proofs.Settling.{by_test, both, lt-test}
+use Rattle.cue_laws.proofs.Settling.{lt-test}
 use Rattle.cue_laws.proofs.Fair.{IsFair, IsKnown}
 use Rattle.path_laws.specs.Telling.{IsClose}
 use Rattle.path_laws.specs.Path.{Item, Sent, Packet, high_on, sent_onto, line_of, line}
@@ -122,7 +124,7 @@ module _ (program : ℤ → ℕ) (h : ℤ) (later : Option ℤ) (items : List It
   repeated-sent x held name none =
       by_test (is_repeated x.event x.last (Some h) later)
       (λ r. let due : is_due (Some h) later (view x.event) x.last ≡ true = sym (repeated-is h later x.event x.last) ∙ r in
-      let ahead = (both (before (Some h) (line_limit (view x.event))) _ due).0 in
+      let ahead = (and_parts (before (Some h) (line_limit (view x.event))) _ due).0 in
       simp (none, r) (subst (λ w. Tells program (Some h) (sent_onto items (cues_by x (current x.event))) (cond w (line_current (view x.event) ∷ rest) rest)) (sym due) (current-sent x held name ahead)))
       (λ r. let due : is_due (Some h) later (view x.event) x.last ≡ false = sym (repeated-is h later x.event x.last) ∙ r in
       simp (none, r) (subst (λ w. Tells program (Some h) items (cond w (line_current (view x.event) ∷ rest) rest)) (sym due) t))

@@ -1,13 +1,13 @@
 -- What a stream with some of its cues arms.
-use Rattle.std.proofs.Common.{◌≡◌, ℕ, zero, suc, ◌==◌, Bool, true, false, ◌||◌, cond, refl, sym, ap, ◌∙◌, subst, List, [], ◌∷◌, ◌++◌, is_some}
+use Rattle.std.proofs.Common.{◌≡◌, ℕ, zero, suc, ◌==◌, true, false, ◌||◌, cond, refl, sym, ap, ◌∙◌, subst, List, [], ◌∷◌, ◌++◌, is_some}
 use Rattle.std.specs.Prelude.{ℤ, map, filter, Option, Some, None, option_map}
 use Rattle.std.specs.Option.{option_or}
 use Rattle.std.specs.List.{AllByRecursion, list_any}
-use Rattle.std.proofs.lemmas.Bool.{eq-eqb}
+use Rattle.std.proofs.lemmas.Bool.{eq-eqb, or_parts}
 use Rattle.ts_packet.specs.Fields.{on, on_one}
 use Rattle.ts_packet.specs.Runs.{onto}
 use Rattle.ts_packet.proofs.RunLemmas.{onto-append}
-use Rattle.ts_packet.proofs.FieldLemmas.{off_payload}
+use Rattle.ts_packet.proofs.Cases.{by_test}
 use Rattle.unit_stream.specs.Times.{high as unit_high}
 use Rattle.psi_section.specs.Sections.{given, sections_after}
 use Rattle.psi_section.proofs.RunLemmas.{given_off}
@@ -23,20 +23,18 @@ use Rattle.program_follower.specs.Faults.{first_fault, is_pid, pids_in}
 use Rattle.program_follower.proofs.StepLemmas.{known_off}
 use Rattle.program_follower.proofs.OptionLemmas.{option_or-none}
 use Rattle.program_laws.specs.Writing.{Along, body, Off}
-use Rattle.program_laws.specs.Behind.{TakesAll}
 use Rattle.program_laws.specs.Cued.{On, cueing, CuedReads}
 use Rattle.program_laws.proofs.ReadingLemmas.{no_tables, none_at_pat}
 use Rattle.program_laws.proofs.WritingLemmas.{off_other}
 use Rattle.program_laws.proofs.HeadLemmas.{nothing_behind}
 use Rattle.program_laws.proofs.UnitLemmas.{others_are_no_units}
 use Rattle.program_laws.proofs.FaultLemmas.{MapSound, all_sound}
-use Rattle.program_laws.proofs.CuedLemmas.{cued_stream_reads}
+use Rattle.program_laws.proofs.CuedLemmas.{cued_stream_reads, takes_within}
 use Rattle.armed_events.specs.Arming.{Heard, with_section, with_sections, heard}
 use Rattle.injector.specs.Steps.{Step, Message, Packet, packets_in, turns_in}
 use Rattle.injector.proofs.FeedLemmas.{turns-high}
 use Rattle.cue_laws.specs.Events.{Turn as LineTurn}
 use Rattle.cue_laws.specs.Thinning.{times}
-use Rattle.cue_laws.proofs.Settling.{by_test}
 use Rattle.path_laws.specs.Path.{Item, Sent, high_on, sent_onto, line, left, heard_on}
 use Rattle.path_laws.specs.Packets.{IsRunOf, cues_at, sent_in, kept, stream, BringsCues, StreamArms}
 use Rattle.path_laws.proofs.Reading.{high-left}
@@ -91,10 +89,6 @@ heard-others pid greatest out (q ∷ qs) off =
 
 -- ---- packets of the cue PID change no time
 
-or-none : (a b : Bool) → (a || b) ≡ false → (a ≡ false) × (b ≡ false)
-or-none true b is = cc
-or-none false b is = (refl, is)
-
 -- the cue PID is none of these
 abbrev Apart : ℕ → List ℕ → Type 0
 Apart a pids = AllByRecursion (λ pid. a ≡ pid → ⊥) pids
@@ -102,7 +96,7 @@ Apart a pids = AllByRecursion (λ pid. a ≡ pid → ⊥) pids
 apart-by : (cue : ℕ) (ss : List Stream) → list_any (is_pid (Some cue)) (pids_in ss) ≡ false → Apart cue (pids_in (switched_of ss))
 apart-by cue [] k = tt
 apart-by cue (s ∷ ss) k =
-    let r = or-none (s.pid == cue) (list_any (is_pid (Some cue)) (pids_in ss)) k in
+    let r = or_parts (s.pid == cue) (list_any (is_pid (Some cue)) (pids_in ss)) k in
     let more = apart-by cue ss r.1 in
     by_test (is_switched s.kind)
     (λ y. simp y ((λ e. let t : (s.pid == cue) ≡ true = eq-eqb s.pid cue (sym e) in absurd (let f = r.0 in let bad : true ≡ false = sym t ∙ f in cc)), more))
@@ -112,7 +106,7 @@ apart-map : (c : Config) (pid : ℕ) (o : Option ProgramMap) → MapSound (writi
 apart-map c pid None g = tt
 apart-map c pid (Some m) g =
     let used : list_any (is_pid (Some c.cue_pid)) (pid_in m.pcr_field ∷ pids_in (streams_of m)) ≡ false = g.cue in
-    apart-by c.cue_pid (streams_of m) (or-none (is_pid (Some c.cue_pid) (pid_in m.pcr_field)) (list_any (is_pid (Some c.cue_pid)) (pids_in (streams_of m))) used).1
+    apart-by c.cue_pid (streams_of m) (or_parts (is_pid (Some c.cue_pid) (pid_in m.pcr_field)) (list_any (is_pid (Some c.cue_pid)) (pids_in (streams_of m))) used).1
 
 first-sound : (c : Config) (pid : ℕ) (ts : List Table) → AllByRecursion (λ (t : Table). MapSound (writing_cues c) pid t.program_map) ts → MapSound (writing_cues c) pid (first_map ts)
 first-sound c pid [] h = tt
@@ -130,13 +124,6 @@ apart-on : (cue : ℕ) (pids : List ℕ) → Apart cue pids → (q : List ℕ) �
 apart-on cue [] h q y = refl
 apart-on cue (pid ∷ pids) h q y = let n = off_other cue pid q h.0 y in ap (λ b. b || on_one pids q) n ∙ apart-on cue pids h.1 q y
 
-takes-all : (pids all : List ℕ) → ((q : List ℕ) → on_one all q ≡ false → on_one pids q ≡ false) → AllByRecursion (TakesAll (on_one all)) pids
-takes-all [] all h = tt
-takes-all (pid ∷ pids) all h = (
-  λ q n. off_payload pid q (or-none (on pid q) (on_one pids q) (h q n)).0,
-  takes-all pids all (λ q n. (or-none (on pid q) (on_one pids q) (h q n)).1),
-)
-
 none-high : (past : List (List ℕ)) → unit_high [] past ≡ None
 none-high [] = refl
 none-high (p ∷ past) = none-high past
@@ -145,7 +132,7 @@ none-high (p ∷ past) = none-high past
 high-same : (pids : List ℕ) (past other : List (List ℕ)) → filter (on_one pids) past ≡ filter (on_one pids) other → unit_high pids past ≡ unit_high pids other
 high-same [] past other same = none-high past ∙ sym (none-high other)
 high-same (pid ∷ pids) past other same =
-    let every = takes-all (pid ∷ pids) (pid ∷ pids) (λ q n. n) in
+    let every = takes_within (pid ∷ pids) (pid ∷ pids) (λ q n. n) in
     (others_are_no_units (on_one (pid ∷ pids)) (pid ∷ pids) pid past other every every.0 same).high
 
 -- the cues stand on no PID of the program

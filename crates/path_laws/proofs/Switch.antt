@@ -5,6 +5,8 @@ use Rattle.std.specs.List.{list_any}
 use Rattle.std.specs.Ordering.{int_eq}
 use Rattle.std.proofs.lemmas.Int.{ints}
 use Rattle.std.proofs.lemmas.Bool.Decides.{nat_tests}
+use Rattle.std.proofs.lemmas.Bool.{and_left, and_parts, and_right}
+use Rattle.ts_packet.proofs.Cases.{by_test}
 use Rattle.event_table.specs.Standing.{Standing, end_of, has_id, is_full, is_ahead_of, is_early_end, has_begun, meets, repeats, cancel_answer_of, cancel_answer, shorten_answer_of, shorten_answer, cancelled_one, ending_at, with_first, stands, is_of}
 use Rattle.event_table.specs.declared.table.Armed.TheVariants.{New, Same}
 use Rattle.event_table.specs.declared.table.ArmRefusal.TheVariants.{InUse, Full, Overlap}
@@ -13,9 +15,10 @@ use Rattle.armed_events.specs.Arming.{is_fresh, Keep, Ignore, by_arm_answer, by_
 use Rattle.event_table.proofs.EventLemmas.{ending-end}
 use Rattle.cue_laws.specs.Events.{Turn, Started, Cancelled, Ended, Passed, LineEvent, high, before, events, taken, NeverFalls, can_start, can_cancel, can_end, cancel_by, end_by, In, count, bars}
 use Rattle.cue_laws.specs.Events.{stands as line_stands, is_of as line_is_of}
-use Rattle.cue_laws.proofs.Settling.{by_test, both, lt-test, and_off, can_start-parts, can_end-parts}
+use Rattle.cue_laws.proofs.Settling.{lt-test, can_start-parts, can_end-parts}
 use Rattle.cue_laws.proofs.Lists.{Distinct, any-none}
 use Rattle.cue_laws.proofs.Orders.{Orderly, orderly-none, orderly-map, orderly-fresh, orderly-passed, cancel-shrinks, end-shrinks, is_of-parts, or-neither, or-right}
+use Rattle.cue_laws.proofs.Block.{end-off}
 use Rattle.path_laws.proofs.Alike.{Alike, AtMostOnce, alike-in, alike-any, alike-count, alike-first, find-none, find-some, map-off, map-same}
 
 -- the event as the definitions on the line have it
@@ -90,23 +93,13 @@ cancel-off h id e off = ap (λ c. made c) (or-neither e.cancelled (can_cancel h 
     made : Bool → LineEvent
     made c = record { id = e.id; start = e.start; asked = e.asked; end = e.end; cancelled = c }
 
-pub end-off : (h : Option ℤ) (id : ℕ) (time : ℤ) (e : LineEvent) → can_end h id time e ≡ false → end_by h id time e ≡ e
-end-off h id time e off = simp off refl
-
-off-first : (a b : Bool) → a ≡ false → (a && b) ≡ false
-off-first a b is = and_off a b is
-
-off-second : (a b : Bool) → b ≡ false → (a && b) ≡ false
-off-second true b is = is
-off-second false b is = refl
-
 -- ---- cancels
 
 module _ (h : Option ℤ) (id : ℕ) (xs : List Standing) (ys : List LineEvent) (o : Orderly h ys) (a : Alike IsView xs ys) where
   nothing-cancelled : (y : LineEvent) → In y ys → line_is_of h id y ≡ true → before h y.start ≡ false → map (cancel_by h id) ys ≡ ys
   nothing-cancelled y i t late = map-same (cancel_by h id) ys (λ z j. by_test (line_is_of h id z)
-      (λ u. cancel-off h id z (off-second (line_is_of h id z) (before h z.start) (ap (λ (e : LineEvent). before h e.start) (the-one h id ys o z y j i u t) ∙ late)))
-      (λ u. cancel-off h id z (off-first (line_is_of h id z) (before h z.start) u)))
+      (λ u. cancel-off h id z (and_right (line_is_of h id z) (before h z.start) (ap (λ (e : LineEvent). before h e.start) (the-one h id ys o z y j i u t) ∙ late)))
+      (λ u. cancel-off h id z (and_left (line_is_of h id z) (before h z.start) u)))
 
   begun-is : (s : Standing) → has_begun h s ≡ not (before h s.start)
   begun-is s = by h
@@ -121,7 +114,7 @@ module _ (h : Option ℤ) (id : ℕ) (xs : List Standing) (ys : List LineEvent) 
   some-cancelled : (y : LineEvent) → In y ys → line_is_of h id y ≡ true → before h y.start ≡ true → Alike IsView (with_first (is_of h id) cancelled_one xs) (map (cancel_by h id) ys)
   some-cancelled y i t early =
       alike-first IsView (is_of h id) (line_is_of h id) (is_of-view h id) cancelled_one (cancel_by h id)
-      (λ z u. cancel-off h id z (off-first (line_is_of h id z) (before h z.start) u)) xs ys
+      (λ z u. cancel-off h id z (and_left (line_is_of h id z) (before h z.start) u)) xs ys
       (λ s z j v u. let same = the-one h id ys o z y j i u t in
       let can : can_cancel h id z ≡ true = let e = ap (λ (w : LineEvent). before h w.start) same ∙ early in simp (u, e) refl in
       ap made v ∙ ap (λ c. with_c z c) (sym (or-right z.cancelled (can_cancel h id z) can)))
@@ -136,7 +129,7 @@ module _ (h : Option ℤ) (id : ℕ) (xs : List Standing) (ys : List LineEvent) 
   cancel-found : (f : Option Standing) → find (is_of h id) xs ≡ f → Alike IsView (changed h (by_cancel_answer id (cancel_answer_of h f)) xs) (map (cancel_by h id) ys)
   cancel-found None is =
       let none : list_any (line_is_of h id) ys ≡ false = sym (alike-any IsView (is_of h id) (line_is_of h id) (is_of-view h id) xs ys a) ∙ find-none (is_of h id) xs is in
-      subst (Alike IsView xs) (sym (map-off (line_is_of h id) (cancel_by h id) (λ z u. cancel-off h id z (off-first (line_is_of h id z) (before h z.start) u)) ys none)) a
+      subst (Alike IsView xs) (sym (map-off (line_is_of h id) (cancel_by h id) (λ z u. cancel-off h id z (and_left (line_is_of h id z) (before h z.start) u)) ys none)) a
   cancel-found (Some s) is =
       let f = find-some (is_of h id) s xs is in
       let r = alike-in IsView s xs ys a f.0 in
@@ -157,12 +150,12 @@ module _ (h : ℤ) (id : ℕ) (time : ℤ) (near : time ≤ℤ (h +ℤ pos (2 ^ 
   nothing-ended : (y : LineEvent) → In y ys → line_is_of (Some h) id y ≡ true → can_end (Some h) id time y ≡ false → map (end_by (Some h) id time) ys ≡ ys
   nothing-ended y i t off = map-same (end_by (Some h) id time) ys (λ z j. by_test (line_is_of (Some h) id z)
       (λ u. end-off (Some h) id time z (ap (can_end (Some h) id time) (the-one (Some h) id ys o z y j i u t) ∙ off))
-      (λ u. end-off (Some h) id time z (off-first (line_is_of (Some h) id z) _ u)))
+      (λ u. end-off (Some h) id time z (and_left (line_is_of (Some h) id z) _ u)))
 
   some-ended : (y : LineEvent) → In y ys → line_is_of (Some h) id y ≡ true → can_end (Some h) id time y ≡ true → Alike IsView (with_first (is_of (Some h) id) (ending_at time) xs) (map (end_by (Some h) id time) ys)
   some-ended y i t can =
       alike-first IsView (is_of (Some h) id) (line_is_of (Some h) id) (is_of-view (Some h) id) (ending_at time) (end_by (Some h) id time)
-      (λ z u. end-off (Some h) id time z (off-first (line_is_of (Some h) id z) _ u)) xs ys
+      (λ z u. end-off (Some h) id time z (and_left (line_is_of (Some h) id z) _ u)) xs ys
       (λ s z j v u. let same = the-one (Some h) id ys o z y j i u t in
       let now : can_end (Some h) id time z ≡ true = ap (can_end (Some h) id time) same ∙ can in
       let past = (can_end-parts (Some h) id time z now).past in
@@ -208,15 +201,15 @@ module _ (h : ℤ) (id : ℕ) (time : ℤ) (near : time ≤ℤ (h +ℤ pos (2 ^ 
 
       can : (w : LineEvent) → view s ≡ w → can_end (Some h) id time w ≡ true
       can w same =
-          let early = both (int_lt s.start time) (int_lt time (end_of s)) eis in
-          let ahead = both (int_lt h time) _ bis in
+          let early = and_parts (int_lt s.start time) (int_lt time (end_of s)) eis in
+          let ahead = and_parts (int_lt h time) _ bis in
           tests w true (ap (line_is_of (Some h) id) (sym same ∙ v) ∙ t) (sym (ap (λ (z : LineEvent). z.cancelled) same) ∙ cis)
           (ap (λ (z : LineEvent). int_lt z.start time) (sym same) ∙ early.0) ahead.0 (ap (λ (z : LineEvent). int_lt time z.end) (sym same) ∙ early.1)
 
   end-found : (f : Option Standing) → find (is_of (Some h) id) xs ≡ f → Alike IsView (changed (Some h) (by_shorten_answer id time (shorten_answer_of (Some h) time f)) xs) (map (end_by (Some h) id time) ys)
   end-found None is =
       let none : list_any (line_is_of (Some h) id) ys ≡ false = sym (alike-any IsView (is_of (Some h) id) (line_is_of (Some h) id) (is_of-view (Some h) id) xs ys a) ∙ find-none (is_of (Some h) id) xs is in
-      subst (Alike IsView xs) (sym (map-off (line_is_of (Some h) id) (end_by (Some h) id time) (λ z u. end-off (Some h) id time z (off-first (line_is_of (Some h) id z) _ u)) ys none)) a
+      subst (Alike IsView xs) (sym (map-off (line_is_of (Some h) id) (end_by (Some h) id time) (λ z u. end-off (Some h) id time z (and_left (line_is_of (Some h) id z) _ u)) ys none)) a
   end-found (Some s) is =
       let f = find-some (is_of (Some h) id) s xs is in
       let r = alike-in IsView s xs ys a f.0 in
@@ -252,7 +245,7 @@ module _ (h : ℤ) (id : ℕ) (start : ℤ) (ticks program : ℕ) (near : start 
   full-is = full-by (length here) (count (Some h) ys) (alike-count IsView (stands (Some h)) (line_stands (Some h)) (λ s e v. ap (line_stands (Some h)) v) xs ys a) o.room
 
   repeats-id : (s : Standing) → repeats event s ≡ true → has_id id s ≡ true
-  repeats-id s is = let p = both _ _ is in let q = both _ _ p.0 in let r = both _ _ q.0 in same s.id r.0
+  repeats-id s is = let p = and_parts _ _ is in let q = and_parts _ _ p.0 in let r = and_parts _ _ q.0 in same s.id r.0
     where
       same : (n : ℕ) → (id == n) ≡ true → (n == id) ≡ true
       same n e = grind (arith, nat_tests)

@@ -3,6 +3,7 @@ use Rattle.std.proofs.Common.{◌≡◌, ℕ, zero, suc, ◌+◌, ◌%◌, ◌<�
 use Rattle.std.proofs.lemmas.Bool.Decides.{nat_tests}
 use Rattle.std.specs.Prelude.{ℤ, map, nat_lt, Option, Some}
 use Rattle.std.specs.List.{AllByRecursion}
+use Rattle.std.proofs.lemmas.Bool.{eq-eqb}
 use Rattle.ts_packet.specs.Fields.{alike}
 use Rattle.ts_packet.specs.Duplicates.{repeats}
 use Rattle.ts_packet.specs.Runs.{onto}
@@ -73,9 +74,6 @@ line-length [] = refl
 line-length (Sent cue ∷ items) = ap suc (line-length items)
 line-length (Passing h ∷ items) = ap suc (line-length items)
 
-at-test : (n m : ℕ) → n ≡ m → (n == m) ≡ true
-at-test n m is = grind (arith, nat_tests)
-
 off-test : (n m : ℕ) → n < m → (n == m) ≡ false
 off-test n m less = grind (arith, nat_tests)
 
@@ -99,7 +97,7 @@ looked-many later [] [] s = tt
 looked-many later [] (g ∷ gs) s = absurd (omega arith)
 looked-many later (i ∷ items) [] s = absurd (omega arith)
 looked-many later (i ∷ items) (g ∷ gs) s =
-    let here = at-test (length (line (i ∷ items))) (suc (length gs)) (line-length (i ∷ items) ∙ s) in
+    let here = eq-eqb (length (line (i ∷ items))) (suc (length gs)) (line-length (i ∷ items) ∙ s) in
     let rest : length items ≡ length gs = omega arith in
     (ap (λ b. cond b g (looked_up later gs (line (i ∷ items)))) here, looked-later later g gs items gs (omega arith) (looked-many later items gs rest))
 

@@ -7,7 +7,6 @@ use Rattle.std.proofs.lemmas.Bool.Decides.{nat_tests}
 use Rattle.ts_packet.specs.Fields.{on}
 use Rattle.ts_packet.specs.Numbering.{one_past}
 use Rattle.ts_packet.specs.Runs.{onto}
-use Rattle.ts_packet.proofs.FieldLemmas.{payload_on-on}
 use Rattle.psi_section.specs.Sections.{sections_after}
 use Rattle.psi_section.specs.Packetising.{packets_in_turn}
 use Rattle.psi_section.proofs.ReadBackLemmas.{IsPayloadOn, turn_carry}
@@ -29,6 +28,7 @@ use Rattle.cue_laws.specs.Laws.{KeepsEnoughOf}
 use Rattle.cue_laws.proofs.Enough.{nothing_lost_is_enough}
 use Rattle.path_laws.specs.Path.{Item, Sent, left, armed_on, asked_line, IsSteadyHistory}
 use Rattle.injector.specs.Laws.{own_fronts}
+use Rattle.injector.proofs.CuedLemmas.{carried-on}
 use Rattle.path_laws.specs.Packets.{IsRunOf, cues_at, sent_in, kept, stream, BringsCues, CuePathInPackets, CuePathInPacketsAtTheEnd, CuedStreamBrings, CuedStreamArms}
 use Rattle.path_laws.proofs.Packets.{run-message, run-packet, run-history, map-pid, cues-back}
 use Rattle.path_laws.proofs.Streams.{stream_arms}
@@ -134,16 +134,12 @@ stream-is c fronts (Packet p ∷ past) r a =
     ∙ ap (λ qs. onto (cued c past) (qs ++ body (cueing c.cue_pid fronts) o p (packets_in past) ts (cued c past))) a.0
     ∙ ap (λ rest. onto (cued c past) (cue_packets c p past (cued c past) ++ rest)) (body-same c fronts p past o ts before refl)
 
-carries-on : (pid : ℕ) (qs : List (List ℕ)) → AllByRecursion (IsPayloadOn pid) qs → AllByRecursion (On pid) qs
-carries-on pid [] all = tt
-carries-on pid (q ∷ qs) all = (payload_on-on pid q all.0, carries-on pid qs all.1)
-
 stream-brings : (c : Config) (fronts : List ℕ → List (List ℕ) → List (List ℕ)) (past : List Step) → IsRunOf c past → Agrees c fronts past → BringsCues c (λ t. 1) fronts past
 stream-brings c fronts [] r a = tt
 stream-brings c fronts (Message m ∷ past) r a = stream-brings c fronts past (run-message c m past r) a
 stream-brings c fronts (Packet p ∷ past) r a =
     let before = run-packet c p past r in (
-      subst (AllByRecursion (On c.cue_pid)) (sym a.0) (carries-on c.cue_pid (cue_packets c p past (cued c past)) (cue-carry c p past before)),
+      subst (AllByRecursion (On c.cue_pid)) (sym a.0) (carried-on c.cue_pid (cue_packets c p past (cued c past)) (cue-carry c p past before)),
       ap (λ out. sections_after out c.cue_pid (fronts p (packets_in past))) (stream-is c fronts past before a.1)
           ∙ ap (sections_after (cued c past) c.cue_pid) a.0
           ∙ cues-back c p past r

@@ -7,7 +7,7 @@ use Rattle.std.proofs.Math.ListN.{get_or-append}
 use Rattle.pes_time.specs.Stamps.{shows, is_headless, other_start_code, stamp_count, stamp_at, is_untimed, is_split, head_of, stamp_of}
 use Rattle.pes_time.specs.declared.head.PesHead.TheVariants.{Timed, Untimed}
 
-or-true : (a : Bool) → (a || true) ≡ true
+pub or-true : (a : Bool) → (a || true) ≡ true
 or-true true = refl
 or-true false = refl
 

@@ -1,6 +1,6 @@
 -- A split payload goes on in two ways that are read differently: with the rest of a header whose stamps end in 0, or in 1.
 use Rattle.std.proofs.Common.{◌≡◌, ◌≢◌, ℕ, ◌+◌, ◌-◌, ◌*◌, ◌/◌, ◌<◌, ◌≤◌, ◌==◌, inl, inr, Bool, true, false, not, ◌||◌, nat_lt, List, [], ◌∷◌, length, get_or, drop, ◌++◌, refl, sym, ◌∙◌, ap, arith, length-append, length-drop}
-use Rattle.std.proofs.lemmas.Bool.{cases_order}
+use Rattle.std.proofs.lemmas.Bool.{cases_order, or_from}
 use Rattle.std.proofs.lemmas.Bool.Decides.{nat_tests}
 use Rattle.std.proofs.lemmas.List.{get_or-drop}
 use Rattle.std.proofs.Math.Bool.{and-false}
@@ -72,12 +72,9 @@ silent a h =
       s8 = or-false-right (t0 || t1 || t2 || t3 || t6 || t7) t8 h;
     }
 
-or-false : (a b : Bool) → a ≡ false → b ≡ false → (a || b) ≡ false
-or-false a b p q = rw (p, q)
-
 silent-untimed : (a : List ℕ) → Silent a → is_untimed a ≡ false
 unfolding is_untimed
-silent-untimed a s = or-false _ _ (or-false _ _ (or-false _ _ (or-false _ _ (or-false _ _ (or-false _ _ s.s0 s.s1) s.s2) s.s3) s.s6) s.s7) s.s8
+silent-untimed a s = or_from _ _ (or_from _ _ (or_from _ _ (or_from _ _ (or_from _ _ (or_from _ _ s.s0 s.s1) s.s2) s.s3) s.s6) s.s7) s.s8
 
 hides : (a : List ℕ) (k : ℕ) (test : ℕ → Bool) → test (get_or a k 0) ≡ false → shows a k test ≡ false
 hides a k test e = rw e (and-false (nat_lt k (length a)))

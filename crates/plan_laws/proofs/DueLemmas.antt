@@ -2,31 +2,25 @@
 use Rattle.std.proofs.Common.{◌≡◌, ℕ, List, [], ◌∷◌, Bool, true, false, not, ◌&&◌, ◌||◌, ◌⊎◌, inl, inr, refl, sym, ap, ◌∙◌, Option, None, Some, arith, if◌then◌else◌, length, drop}
 use Rattle.std.specs.Prelude.{ℤ, pos, ◌+ℤ◌, int_lt, is_some}
 use Rattle.std.proofs.lemmas.Int.{ints}
-use Rattle.std.proofs.lemmas.Bool.{true≢false}
+use Rattle.std.proofs.lemmas.Bool.{true≢false, or_left}
+use Rattle.std.proofs.Math.Seq.{drop-length}
 use lib.Signed.{le_z, lt_z}
 use Rattle.ts_packet.proofs.Cases.{by_test}
 use Rattle.event_table.specs.Standing.{Standing, end_of, forgotten_at, stands}
 use Rattle.splice_laws.specs.Splicing.{PlayedEvent, SliceUnit, TimedStream, at_or_past, comes}
-use Rattle.splice_laws.specs.Laws.{IsStream, Risen}
+use Rattle.splice_laws.specs.Laws.{IsStream}
 use Rattle.splice_laws.specs.Settled.{IsAhead, begun_now, closed_now, stands_now}
 use Rattle.splice_laws.specs.Ends.{up_to_end, longest_front}
 use Rattle.splice_laws.proofs.EndLemmas.{run_of, longest-run}
+use Rattle.splice_laws.proofs.TimeLemmas.{due-later}
 use Rattle.splice_plans.specs.Playing.{Adverts, Turns, is_played, as_played, up_to_known, sent_of_begun, sent_known, due_at, closing_at, running_at}
 use Rattle.splice_plans.specs.Laws.{EndFalls, EndsFall}
 use Rattle.plan_laws.proofs.StageLemmas.{begun-some, none-begun, begun-stays, closed-stays, lt-same}
 use Rattle.plan_laws.proofs.ToldLemmas.{end_if}
 
-drop-all : (us : List SliceUnit) → drop (length us) us ≡ []
-drop-all [] = refl
-drop-all (u ∷ us) = drop-all us
-
 or-first : (a b : Bool) → (a || b) ≡ false → a ≡ false
 or-first true b h = absurd (true≢false h)
 or-first false b h = refl
-
-or-one : (a b : Bool) → a ≡ true → (a || b) ≡ true
-or-one true b h = refl
-or-one false b h = absurd (true≢false (sym h))
 
 pick : (b : Bool) (us vs : List SliceUnit) → us ≡ vs → (if b then vs else us) ≡ vs
 pick true us vs h = refl
@@ -64,11 +58,6 @@ all-due [] stop h r = refl
 all-due (u ∷ us) stop h r = by_test (lt_z u.time stop)
     (λ l. let d = due-below u.time stop h r l in simp (l, d) (ap (λ l. u ∷ l) (all-due us stop h r)))
     (λ l. simp l (all-due us stop h r))
-
-reached-later : (stop : ℤ) (h h' : Option ℤ) → Risen h h' → at_or_past stop h ≡ true → at_or_past stop h' ≡ true
-reached-later stop None h' r a = absurd (true≢false (sym a))
-reached-later stop (Some h) None r a = absurd r
-reached-later stop (Some h) (Some h') r a = grind (arith, ints)
 
 -- one that has come to its end does not end earlier any more
 end-same : (a stop : ℤ) (h : Option ℤ) → at_or_past stop h ≡ true → (a ≡ stop) ⊎ IsAhead h stop → a ≡ stop
@@ -116,7 +105,7 @@ module _ (turns : Turns) (r : TimedStream) (k : IsStream r) (x : PlayedEvent) (k
     due_now = due_at turns r x known units p past
 
     same-none : sent (p ∷ past) ≡ sent past → due_now ≡ []
-    same-none h = ap (drop (length (sent past))) h ∙ drop-all (sent past)
+    same-none h = ap (drop (length (sent past))) h ∙ drop-length (sent past)
 
     pub sent-closed : closed_now r x known past ≡ true → sent (p ∷ past) ≡ sent past
     sent-closed c = was-closed (of-begun p past) (sent past) (turns p past) (closed_now r x known past) (begun_now r x known (p ∷ past)) c
@@ -195,9 +184,9 @@ module _ (turns : Turns) (r : TimedStream) (k : IsStream r) (x : PlayedEvent) (k
           let y = played-if b in
           let end : end_if ads e ≡ Some (end_of e) = simp y refl in
           let is : sent past ≡ up_to_end (end_of e) units = all-out past (end_of e) b c (before ∙ end) (end-reached (r.high past) out) in
-          let later = reached-later (end_of e) (r.high past) (r.high (p ∷ past)) (k.rises p past) (end-reached (r.high past) out) in
+          let later = due-later (end_of e) (r.high past) (r.high (p ∷ past)) (k.rises p past) (end-reached (r.high past) out) in
           same-none (by_test (turns p past)
-          (λ t. goes-on (of-begun p past) (sent past) (turns p past) (closed_now r x known past) (begun_now r x known (p ∷ past)) t c (or-one (begun_now r x known past) _ b) ∙ of-reached p past (end_of e) (now ∙ end) later ∙ sym is)
+          (λ t. goes-on (of-begun p past) (sent past) (turns p past) (closed_now r x known past) (begun_now r x known (p ∷ past)) t c (or_left (begun_now r x known past) _ b) ∙ of-reached p past (end_of e) (now ∙ end) later ∙ sym is)
           (λ t. not-turn (of-begun p past) (sent past) (turns p past) (not (closed_now r x known past) && begun_now r x known (p ∷ past)) t))
 
       none-due : due_now ≡ []

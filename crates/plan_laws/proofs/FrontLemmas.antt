@@ -1,7 +1,7 @@
 -- What goes out before a packet that begins a unit, and what the counters have counted then: the rest of what the packet closes, and then what is due of what runs on.
 use Rattle.std.proofs.Common.{◌≡◌, ℕ, zero, suc, ◌+◌, ◌==◌, ◌<◌, ◌≤◌, List, [], ◌∷◌, ◌++◌, Bool, true, false, ◌⊎◌, inl, inr, refl, sym, ap, ◌∙◌, subst, Option, None, Some, arith, if◌then◌else◌, length, map, reverse}
 use Rattle.std.specs.Prelude.{ℤ, slice_get, slice_index_or, flat_map}
-use Rattle.std.proofs.lemmas.Bool.{true≢false}
+use Rattle.std.proofs.lemmas.Bool.{true≢false, eqb-true}
 use Rattle.std.proofs.lemmas.Bool.Decides.{nat_tests}
 use Rattle.std.proofs.lemmas.List.{append-nil, length-map}
 use Rattle.std.proofs.lemmas.Option.{slice_get_cases}
@@ -35,9 +35,6 @@ use Rattle.plan_laws.proofs.RunLemmas.{small, all-are-told, told, is-of, all-of,
 use Rattle.plan_laws.proofs.StreamsLemmas.{ads, es, turned, put, Counted, all-put}
 use Rattle.plan_laws.proofs.CountersLemmas.{all-counted}
 use Rattle.plan_laws.proofs.ClosingLemmas.{close, other-none, unstamped-none, closing-put}
-
-test-true : (a c : ℕ) → (a == c) ≡ true → a ≡ c
-test-true a c k = grind (arith, nat_tests)
 
 test-same : (a : ℕ) → (a == a) ≡ true
 test-same a = grind (arith, nat_tests)
@@ -164,7 +161,7 @@ module _ (filed : ℕ → Option Advertisement) (streams : List Stream) (events 
     next-counted : Counted filed streams events p past h stay s n pid there b 0 steps_next (pushed now closing)
     next-counted j q is l = by_test (j == n)
         (λ e.
-        let same : j ≡ n = test-true j n e in
+        let same : j ≡ n = eqb-true j n e in
         let o : Some pid ≡ Some q = sym there ∙ ap (slice_get pids) (sym same) ∙ is in
         let q_is : pid ≡ q = cc in
         pick-first _ _ (j == n) e
@@ -184,7 +181,7 @@ module _ (filed : ℕ → Option Advertisement) (streams : List Stream) (events 
         differ : (j q : ℕ) → slice_get pids j ≡ Some q → (j == n) ≡ false → (pid == q) ≡ false
         differ j q is e = by_test (pid == q)
             (λ t.
-            let same : pid ≡ q = test-true pid q t in
+            let same : pid ≡ q = eqb-true pid q t in
             let here : slice_get pids j ≡ Some pid = is ∙ ap (λ z. let o : Option ℕ = Some z in o) (sym same) in
             let at : j ≡ n = once-place pids pid j n (s.alone pid (among-get pids n pid there)) here there in
             absurd (true≢false (sym (ap (λ m. m == n) at ∙ test-same n) ∙ e)))
@@ -232,7 +229,7 @@ module _ (filed : ℕ → Option Advertisement) (streams : List Stream) (events 
       where
         other : (c : Bool) → (i == n) ≡ c → (i == n) ≡ false
         other true e =
-            let o : Some pid ≡ None = sym there ∙ ap (slice_get pids) (sym (test-true i n e)) ∙ is in
+            let o : Some pid ≡ None = sym there ∙ ap (slice_get pids) (sym (eqb-true i n e)) ∙ is in
             absurd (cc)
         other false e = e
 

@@ -3,7 +3,7 @@ use Rattle.std.proofs.Common.{◌≡◌, ℕ, ◌%◌, List, [], ◌∷◌, Bool
 use Rattle.std.specs.Prelude.{ℤ, pos, ◌+ℤ◌, ◌≤ℤ◌, int_le, int_lt, slice_get, slice_index_or, filter}
 use Rattle.std.specs.List.{list_any, AllByRecursion}
 use Rattle.std.proofs.lemmas.Int.{ints}
-use Rattle.std.proofs.lemmas.Bool.{true≢false}
+use Rattle.std.proofs.lemmas.Bool.{true≢false, and_right}
 use Rattle.std.proofs.lemmas.List.{length-map}
 use lib.Signed.{le_z, lt_z}
 use Rattle.ts_packet.proofs.Cases.{by_test}
@@ -42,14 +42,10 @@ begun-not-waiting true b h = refl
 begun-not-waiting false true h = refl
 begun-not-waiting false false h = absurd (true≢false (sym h))
 
-none-right : (a b : Bool) → b ≡ false → (a && b) ≡ false
-none-right true b h = h
-none-right false b h = refl
-
 -- an event that stands no longer does not hold a unit that may begin
 forgotten-holds-not : (line : Option ℤ) (e : Standing) (t : ℤ) → IsNearHigh line t → stands line e ≡ false → holds (as_played e) (Some t) ≡ false
 forgotten-holds-not None e t near out = absurd (true≢false out)
-forgotten-holds-not (Some h) e t near out = none-right (le_z e.start t) (lt_z t (end_of e)) (past (end_of e) t h near.0 out)
+forgotten-holds-not (Some h) e t near out = and_right (le_z e.start t) (lt_z t (end_of e)) (past (end_of e) t h near.0 out)
   where
     past : (stop t h : ℤ) → h ≤ℤ (t +ℤ pos 900000) → int_lt h (stop +ℤ pos 900000) ≡ false → lt_z t stop ≡ false
     past stop t h low out = grind (arith, ints, low, out)
@@ -99,7 +95,7 @@ module _ (filed : ℕ → Option Advertisement) (streams : List Stream) (events 
         ∙ sym (ap (λ g. g && holds (as_played e) (Some t)) y ∙ holds-is e (Some (end_of e)) t (Some t) refl refl))
         (λ y.
         ap (λ g. covers t e && not (is_waiting g)) (never-staged (stream pids pid) ads e (known filed streams events p past e) (falls filed streams events p past h e n pid there) p past told.before told.now b t time_is up (p ∷ past) told.now y)
-        ∙ none-right (covers t e) false refl ∙ sym (ap (λ g. g && holds (as_played e) (Some t)) y))
+        ∙ and_right (covers t e) false refl ∙ sym (ap (λ g. g && holds (as_played e) (Some t)) y))
       where
         or-two : (a b : Bool) → b ≡ true → (a || b) ≡ true
         or-two true b h = refl
@@ -110,7 +106,7 @@ module _ (filed : ℕ → Option Advertisement) (streams : List Stream) (events 
     all-lie [] told = refl
     all-lie (e ∷ evs) told = by_test (stands (high pids past) e)
         (λ y. simp y (ap (λ g. g || list_any lies (beside (filter (stands (high pids past)) evs) (map plan (filter (stands (high pids past)) evs)))) (one-lies e told.0 y) ∙ ap (λ g. inside e || g) (all-lie evs told.1)))
-        (λ y. let none : inside e ≡ false = none-right (is_played ads e) (holds (as_played e) (Some t)) (forgotten-holds-not (high pids past) e t near y) in
+        (λ y. let none : inside e ≡ false = and_right (is_played ads e) (holds (as_played e) (Some t)) (forgotten-holds-not (high pids past) e t near y) in
         simp y (all-lie evs told.1 ∙ sym (ap (λ g. g || list_any inside evs) none)))
 
   pub lies-as-left : (st : Option ℕ) → stamp p ≡ st → IsNearTime (high pids past) st

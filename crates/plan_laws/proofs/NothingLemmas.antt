@@ -32,7 +32,7 @@ none-closed : (filed : ℕ → Option Advertisement) (streams : List Stream) (n 
 none-closed filed streams n of line None = refl
 none-closed filed streams n of line (Some t) = refl
 
-none-within : (es : List Standing) → All (IsWithin None) es → es ≡ []
+pub none-within : (es : List Standing) → All (IsWithin None) es → es ≡ []
 none-within [] a = refl
 none-within (e ∷ es) a = absurd (All-head (IsWithin None) e es a)
 

@@ -1,7 +1,7 @@
 -- The plan of an event that stands: before the packet, once the packet has closed what it closes, and as each stream runs on.
 use Rattle.std.proofs.Common.{◌≡◌, ℕ, zero, suc, ◌+◌, ◌%◌, ◌<◌, List, [], ◌∷◌, ◌++◌, Bool, true, false, not, ◌&&◌, ◌||◌, ⊎_elim, refl, sym, ap, ◌∙◌, subst, Option, None, Some, arith, if◌then◌else◌, length, take, drop, map}
 use Rattle.std.specs.Prelude.{ℤ, slice_get, slice_index_or, slice_set, Contains}
-use Rattle.std.proofs.lemmas.Bool.{true≢false, cases_order}
+use Rattle.std.proofs.lemmas.Bool.{true≢false, cases_order, or_parts}
 use Rattle.std.proofs.lemmas.List.{length-map}
 use Rattle.ts_packet.proofs.Cases.{by_test}
 use Rattle.unit_stream.specs.Times.{begins, begins_one, high, unit_time}
@@ -47,19 +47,10 @@ contained xs n x h = (n, get-within xs n x h, get-or xs n x h)
 abbrev make : Stage → ℕ → Part
 make stage sent = record { stage = stage; sent = sent }
 
--- a unit begins in some stream where it does in one of them
-or-true : (a b : Bool) → b ≡ true → (a || b) ≡ true
-or-true true b h = refl
-or-true false b h = h
-
-or-parts : (a b : Bool) → (a || b) ≡ false → (a ≡ false) × (b ≡ false)
-or-parts true b h = absurd (true≢false h)
-or-parts false b h = (refl, h)
-
 pub none-begins : (xs : List ℕ) (n pid : ℕ) (p : List ℕ) (past : List (List ℕ)) → slice_get xs n ≡ Some pid → begins_one xs p past ≡ false → begins pid p past ≡ false
 none-begins [] n pid p past h b = absurd (cc)
-none-begins (y ∷ xs) zero pid p past h b = let is : y ≡ pid = cc in ap (λ q. begins q p past) (sym is) ∙ (or-parts (begins y p past) (begins_one xs p past) b).0
-none-begins (y ∷ xs) (suc n) pid p past h b = none-begins xs n pid p past h (or-parts (begins y p past) (begins_one xs p past) b).1
+none-begins (y ∷ xs) zero pid p past h b = let is : y ≡ pid = cc in ap (λ q. begins q p past) (sym is) ∙ (or_parts (begins y p past) (begins_one xs p past) b).0
+none-begins (y ∷ xs) (suc n) pid p past h b = none-begins xs n pid p past h (or_parts (begins y p past) (begins_one xs p past) b).1
 
 -- ---- one part changed
 
@@ -114,7 +105,7 @@ either j n a b = ⊎_elim a (λ r. b (λ e. ⊎_elim (λ l. absurd (omega (arith
 same-pid : (xs : List ℕ) (j n q pid : ℕ) → j ≡ n → slice_get xs j ≡ Some q → slice_get xs n ≡ Some pid → pid ≡ q
 same-pid xs j n q pid e h k = let is : Some pid ≡ Some q = sym k ∙ ap (slice_get xs) (sym e) ∙ h in cc
 
-pick-first : {A : Type 0} (x y : A) (b : Bool) → b ≡ true → (if b then x else y) ≡ x
+pub pick-first : {A : Type 0} (x y : A) (b : Bool) → b ≡ true → (if b then x else y) ≡ x
 pick-first x y true h = refl
 pick-first x y false h = absurd (true≢false (sym h))
 
@@ -147,7 +138,7 @@ idle-sent true false m n h k = absurd (true≢false h)
 idle-sent false true m n h k = refl
 idle-sent false false m n h k = k refl
 
-running-flags : (c b : Bool) → is_running (stage_by c b) ≡ (b && not c)
+pub running-flags : (c b : Bool) → is_running (stage_by c b) ≡ (b && not c)
 running-flags true true = refl
 running-flags true false = refl
 running-flags false true = refl

@@ -2,7 +2,7 @@
 use Rattle.std.proofs.Common.{◌≡◌, ℕ, List, [], ◌∷◌, Bool, true, false, not, ◌&&◌, ◌||◌, ◌⊎◌, inl, inr, refl, sym, ap, ◌∙◌, Option, None, Some, arith, if◌then◌else◌}
 use Rattle.std.specs.Prelude.{ℤ, int_le, int_lt, is_some}
 use Rattle.std.proofs.lemmas.Int.{ints}
-use Rattle.std.proofs.lemmas.Bool.{true≢false}
+use Rattle.std.proofs.lemmas.Bool.{true≢false, and_parts}
 use lib.Signed.{le_z, lt_z}
 use Rattle.ts_packet.proofs.Cases.{by_test}
 use Rattle.event_table.specs.Standing.{Standing, covers}
@@ -18,10 +18,6 @@ use Rattle.splice_plans.specs.Known.{stage_known, crossed_known}
 pub or-cases : (a b : Bool) → (a || b) ≡ true → (a ≡ true) ⊎ (b ≡ true)
 or-cases true b h = inl refl
 or-cases false b h = inr h
-
-pub and-both : (a b : Bool) → (a && b) ≡ true → (a ≡ true) × (b ≡ true)
-and-both true b h = (refl, h)
-and-both false b h = absurd (true≢false (sym h))
 
 pub le-same : (a b : ℤ) → le_z a b ≡ int_le a b
 le-same a b = grind (arith, ints)
@@ -116,7 +112,7 @@ module _ (r : TimedStream) (x : PlayedEvent) (known : List (List ℕ) → Option
       by : (closed_now r x known past ≡ true) ⊎ ((begun_now r x known (p ∷ past) && (r.begins p past && not (holds_now x (known (p ∷ past)) (r.time (p ∷ past))))) ≡ true)
           → (closed_now r x known past ≡ true → begun_now r x known past ≡ true) → begun_now r x known (p ∷ past) ≡ true
       by (inl c) before = or-one (begun_now r x known past) _ (before c)
-      by (inr c) before = (and-both (begun_now r x known (p ∷ past)) _ c).0
+      by (inr c) before = (and_parts (begun_now r x known (p ∷ past)) _ c).0
 
   pub begun-some : EndsFall r x known → (past : List (List ℕ)) → begun_now r x known past ≡ true → is_some (known past) ≡ true
   begun-some falls [] h = absurd (true≢false (sym h))
@@ -125,7 +121,7 @@ module _ (r : TimedStream) (x : PlayedEvent) (known : List (List ℕ) → Option
       by : (begun_now r x known past ≡ true) ⊎ ((comes r x.start p past && stands_now x (known (p ∷ past)) (r.high past)) ≡ true)
           → (begun_now r x known past ≡ true → is_some (known past) ≡ true) → is_some (known (p ∷ past)) ≡ true
       by (inl b) before = some-after (known past) (known (p ∷ past)) (r.high past) (before b) (falls p past b)
-      by (inr c) before = stands-some x (known (p ∷ past)) (r.high past) (and-both (comes r x.start p past) _ c).1
+      by (inr c) before = stands-some x (known (p ∷ past)) (r.high past) (and_parts (comes r x.start p past) _ c).1
 
   pub none-begun : EndsFall r x known → (past : List (List ℕ)) → known past ≡ None → begun_now r x known past ≡ false
   none-begun falls past h = by_test (begun_now r x known past) (λ b. absurd (true≢false (sym (begun-some falls past b) ∙ ap is_some h))) (λ n. n)

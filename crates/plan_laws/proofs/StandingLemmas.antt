@@ -3,7 +3,7 @@ use Rattle.std.proofs.Common.{◌≡◌, ℕ, zero, suc, ◌==◌, ◌<◌, List
 use Rattle.std.specs.Prelude.{slice_get, slice_index_or, find, filter}
 use Rattle.std.specs.List.{AllByRecursion}
 use Rattle.std.specs.Ordering.{int_eq}
-use Rattle.std.proofs.lemmas.Bool.{true≢false}
+use Rattle.std.proofs.lemmas.Bool.{true≢false, and_parts}
 use Rattle.std.proofs.lemmas.Bool.Decides.{nat_tests}
 use Rattle.ts_packet.proofs.Cases.{by_test}
 use Rattle.ts_packet.specs.Fields.{payload_on, unit_start, is_among}
@@ -17,7 +17,6 @@ use Rattle.splice_laws.specs.Streams.{IsOnce}
 use Rattle.splice_laws.proofs.StreamLemmas.{same-pid}
 use Rattle.splice_plans.specs.Playing.{Adverts, History}
 use Rattle.splice_plans.specs.Known.{AreSeparate, plan_at, plan_found, plan_known}
-use Rattle.plan_laws.proofs.StageLemmas.{and-both}
 use Rattle.plan_laws.proofs.ToldLemmas.{IsFoundIn, all-found}
 
 -- ---- of some events, those that pass
@@ -76,7 +75,7 @@ once-place (y ∷ xs) x (suc j) (suc n) (inl o) h k = absurd (true≢false (sym 
 once-place (y ∷ xs) x (suc j) (suc n) (inr o) h k = ap suc (once-place xs x j n o.1 h k)
 
 begins-payload : (q : ℕ) (p : List ℕ) (past : List (List ℕ)) → begins q p past ≡ true → payload_on q p ≡ true
-begins-payload q p past b = (and-both (payload_on q p) (not (repeats q p past)) (and-both (payload_on q p && not (repeats q p past)) (unit_start p) b).0).0
+begins-payload q p past b = (and_parts (payload_on q p) (not (repeats q p past)) (and_parts (payload_on q p && not (repeats q p past)) (unit_start p) b).0).0
 
 pub others-begin-not : (xs : List ℕ) → AreSeparate xs → (n pid : ℕ) → slice_get xs n ≡ Some pid → (p : List ℕ) (past : List (List ℕ)) → begins pid p past ≡ true
     → (j q : ℕ) → slice_get xs j ≡ Some q → (j ≡ n → ⊥) → begins q p past ≡ false

@@ -1,9 +1,9 @@
 -- The time of a sound unit, and whether units lie in played events.
-use Rattle.std.proofs.Common.{◌≡◌, ℕ, List, ◌∷◌, Bool, true, false, ◌||◌, refl, sym, ap, ◌∙◌, subst, Option, None, Some, arith, if◌then◌else◌}
+use Rattle.std.proofs.Common.{◌≡◌, ℕ, List, ◌∷◌, Bool, true, false, refl, sym, ap, ◌∙◌, subst, Option, None, Some, arith, if◌then◌else◌}
 use Rattle.std.specs.Prelude.{ℤ, pos, negsuc, ◌+ℤ◌, ◌-ℤ◌, ◌≤ℤ◌, option_map}
 use Rattle.std.specs.Int.{int_max}
 use Rattle.std.proofs.lemmas.Int.{ints}
-use Rattle.std.proofs.lemmas.Bool.{true≢false}
+use Rattle.std.proofs.lemmas.Bool.{true≢false, or_parts}
 use lib.Signed.{lt_z}
 use Rattle.pes_time.specs.Line.{ring_of, place}
 use Rattle.unit_stream.specs.Times.{begins_one, stamp, splits, raised, high}
@@ -19,6 +19,7 @@ use Rattle.splice_plans.specs.Known.{behind_at, adverts_at}
 use Rattle.plan_laws.specs.Laws.{Starts, StartsAreNear, HighIsReached, OthersLieAsBefore}
 use Rattle.plan_laws.proofs.StandingLemmas.{others-begin-not, begins-some}
 use Rattle.plan_laws.proofs.RunLemmas.{has-head, high-is}
+use Rattle.plan_laws.proofs.PlanLemmas.{pick-first}
 
 no-fault : (c b s j : Bool) → (if c then Some Scrambled else (if b then (if s then Some HeaderSplit else (if j then Some TimeJump else None)) else None)) ≡ None → b ≡ true → j ≡ false
 no-fault true b s j h k = absurd (cc)
@@ -27,12 +28,8 @@ no-fault false true false true h k = absurd (cc)
 no-fault false true false false h k = refl
 no-fault false false s j h k = absurd (true≢false (sym k))
 
-or-parts : (a b : Bool) → (a || b) ≡ false → (a ≡ false) × (b ≡ false)
-or-parts true b h = absurd (true≢false h)
-or-parts false b h = (refl, h)
-
 not-far : (t h : ℤ) → is_far (t -ℤ h) ≡ false → (h ≤ℤ (t +ℤ pos 900000)) × (t ≤ℤ (h +ℤ pos 900000))
-not-far t h f = let o = or-parts (lt_z (pos 900000) (t -ℤ h)) (lt_z (t -ℤ h) (negsuc 899999)) f in (low t h o.1, top t h o.0)
+not-far t h f = let o = or_parts (lt_z (pos 900000) (t -ℤ h)) (lt_z (t -ℤ h) (negsuc 899999)) f in (low t h o.1, top t h o.0)
   where
     low : (t h : ℤ) → lt_z (t -ℤ h) (negsuc 899999) ≡ false → h ≤ℤ (t +ℤ pos 900000)
     low t h f = grind (arith, ints, f)
@@ -66,17 +63,13 @@ reached-by (Some h) None n = (refl, same-low h, low-more h)
 reached-by None (Some t) n = refl
 reached-by (Some h) (Some t) n = (refl, max-low h (place (Some h) t), max-top h (place (Some h) t) n.1)
 
-pick : {A : Type 0} (x y : A) (b : Bool) → b ≡ true → (if b then x else y) ≡ x
-pick x y true h = refl
-pick x y false h = absurd (true≢false (sym h))
-
 pub starts_are_near : StartsAreNear
 starts_are_near k filed n pid p past s = near-time (switched_at k past) p (behind_at k past) s.sound (begins-some (switched_at k past) n pid s.of p (behind_at k past) s.begins_it)
 
 pub high-raised : (k : Setting) (filed : ℕ → Option Advertisement) (n pid : ℕ) (p : List ℕ) (past : List (List ℕ)) → Starts k filed n pid p past → high_at k (p ∷ past) ≡ raised (high_at k past) (stamp p)
 high-raised k filed n pid p past s =
     high-is k p past (has-head k p past n pid s.of)
-    ∙ pick (raised (high_at k past) (stamp p)) (high_at k past) (begins_one (switched_at k past) p (behind_at k past)) (begins-some (switched_at k past) n pid s.of p (behind_at k past) s.begins_it)
+    ∙ pick-first (raised (high_at k past) (stamp p)) (high_at k past) (begins_one (switched_at k past) p (behind_at k past)) (begins-some (switched_at k past) n pid s.of p (behind_at k past) s.begins_it)
 
 pub high_is_reached : HighIsReached
 high_is_reached k filed n pid p past s =

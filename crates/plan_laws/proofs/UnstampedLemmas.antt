@@ -2,7 +2,7 @@
 use Rattle.std.proofs.Common.{◌≡◌, ℕ, List, [], ◌∷◌, Bool, true, false, not, ◌&&◌, ◌||◌, ◌⊎◌, inl, inr, refl, sym, ap, ◌∙◌, Option, None, Some, arith}
 use Rattle.std.specs.Prelude.{ℤ, ◌≤ℤ◌}
 use Rattle.std.proofs.lemmas.Int.{ints}
-use Rattle.std.proofs.lemmas.Bool.{true≢false}
+use Rattle.std.proofs.lemmas.Bool.{true≢false, and_parts, or_left, or_right, not-false, not-true}
 use lib.Signed.{le_z, lt_z}
 use Rattle.ts_packet.proofs.Cases.{by_test}
 use Rattle.event_table.specs.Standing.{Standing}
@@ -15,24 +15,8 @@ use Rattle.splice_plans.specs.declared.plan.Stage.TheVariants.{Running, Over}
 use Rattle.splice_plans.specs.Playing.{Adverts, is_played, as_played}
 use Rattle.splice_plans.specs.Laws.{EndFalls, EndsFall}
 use Rattle.splice_plans.specs.Known.{stage_known, below_known, crosses_known, crossed_known}
-use Rattle.plan_laws.proofs.StageLemmas.{and-both, stage_by, now-closed-begun, none-begun, none-closed, begun-stays, closed-stays}
+use Rattle.plan_laws.proofs.StageLemmas.{stage_by, now-closed-begun, none-begun, none-closed, begun-stays, closed-stays}
 use Rattle.plan_laws.proofs.ToldLemmas.{end_if}
-
-flip : (b : Bool) → not b ≡ true → b ≡ false
-flip true h = absurd (true≢false (sym h))
-flip false h = refl
-
-flip-back : (b : Bool) → not b ≡ false → b ≡ true
-flip-back true h = refl
-flip-back false h = absurd (true≢false h)
-
-or-one : (a b : Bool) → a ≡ true → (a || b) ≡ true
-or-one true b h = refl
-or-one false b h = absurd (true≢false (sym h))
-
-or-two : (a b : Bool) → b ≡ true → (a || b) ≡ true
-or-two true b h = refl
-or-two false b h = h
 
 past-not-below : (start : ℤ) (t : Option ℤ) → at_or_past start t ≡ true → below start t ≡ false
 past-not-below start None h = refl
@@ -41,7 +25,7 @@ past-not-below start (Some t) h = grind (arith, ints)
 held-past : (x : PlayedEvent) (o t : Option ℤ) → holds_now x o t ≡ true → at_or_past x.start t ≡ true
 held-past x None t h = absurd (true≢false (sym h))
 held-past x (Some o) None h = absurd (true≢false (sym h))
-held-past x (Some o) (Some t) h = (and-both (le_z x.start t) (lt_z t o) h).0
+held-past x (Some o) (Some t) h = (and_parts (le_z x.start t) (lt_z t o) h).0
 
 -- a time below the end that does not lie in the event lies below the start
 not-held-below : (r : TimedStream) (x : PlayedEvent) (known : List (List ℕ) → Option ℤ) (o t : Option ℤ) → below_known r x known o t ≡ true → holds_now x o t ≡ false → (at_or_past x.start t ≡ false) × (below x.start t ≡ true)
@@ -72,8 +56,8 @@ module _ (r : TimedStream) (k : IsStream r) where
   time-passed : (edge : ℤ) (past : List (List ℕ)) → at_or_past edge (r.time past) ≡ true → passed r edge past ≡ true
   time-passed edge [] h = absurd (true≢false (sym (ap (at_or_past edge) (sym k.fresh) ∙ h)))
   time-passed edge (p ∷ past) h = by_test (r.begins p past)
-      (λ b. or-two (passed r edge past) (comes r edge p past) (both (r.begins p past) (at_or_past edge (r.time (p ∷ past))) b h))
-      (λ b. or-one (passed r edge past) (comes r edge p past) (time-passed edge past (ap (at_or_past edge) (sym (k.steady p past b)) ∙ h)))
+      (λ b. or_right (passed r edge past) (comes r edge p past) (both (r.begins p past) (at_or_past edge (r.time (p ∷ past))) b h))
+      (λ b. or_left (passed r edge past) (comes r edge p past) (time-passed edge past (ap (at_or_past edge) (sym (k.steady p past b)) ∙ h)))
     where
       both : (a b : Bool) → a ≡ true → b ≡ true → (a && b) ≡ true
       both a b h k = rw h k
@@ -95,7 +79,7 @@ module _ (r : TimedStream) (k : IsStream r) where
 
     begun-same : begun r x (p ∷ past) ≡ begun r x past
     begun-same = by_test (begun r x past)
-        (λ y. or-one (begun r x past) (opens r x p past) y ∙ sym y)
+        (λ y. or_left (begun r x past) (opens r x p past) y ∙ sym y)
         (λ n. ap (λ o. begun r x past || o) (opens-not n) ∙ or-false (begun r x past))
       where
         or-false : (a : Bool) → (a || false) ≡ a
@@ -104,7 +88,7 @@ module _ (r : TimedStream) (k : IsStream r) where
 
     closed-same : closed r x (p ∷ past) ≡ closed r x past
     closed-same = by_test (closed r x past)
-        (λ y. or-one (closed r x past) _ y ∙ sym y)
+        (λ y. or_left (closed r x past) _ y ∙ sym y)
         (λ n. ap (λ g. closed r x past || (g && (r.begins p past && not (holds x (r.time (p ∷ past)))))) begun-same
         ∙ ap (λ t. closed r x past || (begun r x past && (r.begins p past && not (holds x t)))) same
         ∙ by_test (begun r x past)
@@ -135,7 +119,7 @@ module _ (r : TimedStream) (k : IsStream r) (x : PlayedEvent) (known : List (Lis
     where
       opened : (c b g h : Bool) → b ≡ true → g ≡ true → (c || (b && (g && not h))) ≡ false → h ≡ true
       opened true b g h i j l = absurd (true≢false l)
-      opened false true true h i j l = flip-back h l
+      opened false true true h i j l = not-false h l
       opened false true false h i j l = absurd (true≢false (sym j))
       opened false false g h i j l = absurd (true≢false (sym i))
 
@@ -150,8 +134,8 @@ module _ (r : TimedStream) (k : IsStream r) (x : PlayedEvent) (known : List (Lis
   crossed-already : (past : List (List ℕ)) → closed_now r x known past ≡ true → below_known r x known (known past) (r.time past) ≡ true → crossed_known r x known past ≡ true
   crossed-already [] c h = absurd (true≢false (sym c))
   crossed-already (p ∷ past) c h = by_test (r.begins p past)
-      (λ g. or-two (crossed_known r x known past) _ (both (r.begins p past) _ g (by_test (closed_now r x known past) over (λ n. closes n g))))
-      (λ g. or-one (crossed_known r x known past) _ (
+      (λ g. or_right (crossed_known r x known past) _ (both (r.begins p past) _ g (by_test (closed_now r x known past) over (λ n. closes n g))))
+      (λ g. or_left (crossed_known r x known past) _ (
       let was = sym (closed-stays r x known p past g) ∙ c in
       crossed-already past was (below-was p past (r.time past) (now-closed-begun r x known past was) (ap (below_known r x known (known (p ∷ past))) (sym (k.steady p past g)) ∙ h))))
     where
@@ -173,11 +157,11 @@ module _ (r : TimedStream) (k : IsStream r) (x : PlayedEvent) (known : List (Lis
         where
           shut-by : (c b g h : Bool) → c ≡ false → (c || (b && (g && not h))) ≡ true → (b ≡ true) × (h ≡ false)
           shut-by true b g h n y = absurd (true≢false n)
-          shut-by false b g h n y = let a = and-both b (g && not h) y in (a.0, flip h (and-both g (not h) a.1).1)
+          shut-by false b g h n y = let a = and_parts b (g && not h) y in (a.0, not-true h (and_parts g (not h) a.1).1)
 
           began : (b g a s : Bool) → a ≡ false → (b || ((g && a) && s)) ≡ true → b ≡ true
           began true g a s n y = refl
-          began false true a s n y = absurd (true≢false (sym (and-both a s y).0 ∙ n))
+          began false true a s n y = absurd (true≢false (sym (and_parts a s y).0 ∙ n))
           began false false a s n y = absurd (true≢false (sym y))
 
 -- ---- a unit without a stamp
@@ -210,7 +194,7 @@ module _ (r : TimedStream) (k : IsStream r) (ads : Adverts) (e : Standing) (know
 
   pub unstamped-crossed : crossed_known r x known (p ∷ past) ≡ crossed_known r x known past
   unstamped-crossed = by_test (crossed_known r x known past)
-      (λ y. or-one (crossed_known r x known past) _ y ∙ sym y)
+      (λ y. or_left (crossed_known r x known past) _ y ∙ sym y)
       (λ n. none (crossed_known r x known past) (r.begins p past) _ (by_test (closed_now r x known past) (over n) opened))
     where
       none : (c g z : Bool) → z ≡ false → (c || (g && z)) ≡ c

@@ -3,6 +3,7 @@ use Rattle.std.proofs.Common.{◌≡◌, ℕ, List, [], ◌∷◌, Bool, true, f
 use Rattle.std.specs.Prelude.{None}
 use Rattle.std.specs.Bool.{Decides}
 use Rattle.std.specs.List.{list_any}
+use Rattle.std.proofs.lemmas.Bool.{and_parts, or_left}
 use Rattle.ts_packet.proofs.Cases.{by_test}
 use Rattle.psi_tables.specs.declared.stream.Stream.{Stream}
 use Rattle.psi_tables.specs.Streams.{is_switched, switched_of}
@@ -17,23 +18,19 @@ among f ss = list_any f (pids_in ss)
 abbrev pub among_switched : (ℕ → Bool) → List Stream → Bool
 among_switched f ss = list_any f (pids_in (switched_of ss))
 
-or_here : (a b : Bool) → a ≡ true → a || b ≡ true
-or_here true b h = refl
-or_here false b h = absurd (cc)
-
-or_later : (a b : Bool) → a ≡ false → a || b ≡ b
+pub or_later : (a b : Bool) → a ≡ false → a || b ≡ b
 or_later true b h = absurd (cc)
 or_later false b h = refl
 
 module _ (f : ℕ → Bool) (all rest rest' : List Stream) (s : Stream) (e : rest ≡ s ∷ rest') where
   pub found_listed : among f rest ≡ among f all → f s.pid ≡ true → true ≡ among f all
-  found_listed h y = sym (or_here (f s.pid) (among f rest') y) ∙ ap (among f) (sym e) ∙ h
+  found_listed h y = sym (or_left (f s.pid) (among f rest') y) ∙ ap (among f) (sym e) ∙ h
 
   pub passed_listed : among f rest ≡ among f all → f s.pid ≡ false → among f rest' ≡ among f all
   passed_listed h n = sym (or_later (f s.pid) (among f rest') n) ∙ ap (among f) (sym e) ∙ h
 
   pub found_switched : among_switched f rest ≡ among_switched f all → is_switched s.kind ≡ true → f s.pid ≡ true → true ≡ among_switched f all
-  found_switched h k y = let a : among_switched f (s ∷ rest') ≡ true = simp k (or_here (f s.pid) (among_switched f rest') y) in sym a ∙ ap (among_switched f) (sym e) ∙ h
+  found_switched h k y = let a : among_switched f (s ∷ rest') ≡ true = simp k (or_left (f s.pid) (among_switched f rest') y) in sym a ∙ ap (among_switched f) (sym e) ∙ h
 
   pub other_switched : among_switched f rest ≡ among_switched f all → is_switched s.kind ≡ false → among_switched f rest' ≡ among_switched f all
   other_switched h k = let a : among_switched f (s ∷ rest') ≡ among_switched f rest' = simp k refl in sym a ∙ ap (among_switched f) (sym e) ∙ h
@@ -50,7 +47,7 @@ twice_from false pid ss = is_twice pid (pids_in ss)
 
 module _ (pid : ℕ) (all rest rest' : List Stream) (s : Stream) (e : rest ≡ s ∷ rest') where
   pub found_twice : twice_from true pid rest ≡ is_twice pid (pids_in all) → (s.pid == pid) ≡ true → true ≡ is_twice pid (pids_in all)
-  found_twice h y = sym (or_here (s.pid == pid) (is_among pid (pids_in rest')) y) ∙ ap (λ x. is_among pid (pids_in x)) (sym e) ∙ h
+  found_twice h y = sym (or_left (s.pid == pid) (is_among pid (pids_in rest')) y) ∙ ap (λ x. is_among pid (pids_in x)) (sym e) ∙ h
 
   pub found_once : twice_from false pid rest ≡ is_twice pid (pids_in all) → (s.pid == pid) ≡ true → twice_from true pid rest' ≡ is_twice pid (pids_in all)
   found_once h y = let a : is_twice pid (pids_in (s ∷ rest')) ≡ is_among pid (pids_in rest') = simp y refl in sym a ∙ ap (λ x. is_twice pid (pids_in x)) (sym e) ∙ h
@@ -74,10 +71,6 @@ no_cue_used c streams pcr_pid h =
 
 -- ---- the same streams
 
-pub both_true : (a b : Bool) → a && b ≡ true → (a ≡ true) × (b ≡ true)
-both_true true b h = (refl, h)
-both_true false b h = absurd (cc)
-
 made : ℕ → ℕ → Stream
 made kind pid = record { kind = kind; pid = pid }
 
@@ -86,7 +79,7 @@ same_is [] [] h = refl
 same_is [] (t ∷ ts) h = absurd (cc)
 same_is (s ∷ ss) [] h = absurd (cc)
 same_is (s ∷ ss) (t ∷ ts) h =
-    let r = both_true ((s.kind == t.kind) && (s.pid == t.pid)) (same_streams ss ts) h in
+    let r = and_parts ((s.kind == t.kind) && (s.pid == t.pid)) (same_streams ss ts) h in
     ap (λ x. x ∷ ss) ((stream_decides s t).0 r.0) ∙ ap (λ xs. t ∷ xs) (same_is ss ts r.1)
 
 pub same_self : (ss : List Stream) → same_streams ss ss ≡ true

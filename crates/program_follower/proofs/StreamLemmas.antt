@@ -1,14 +1,14 @@
 -- The stream that a packet is of.
 use Rattle.std.proofs.Common.{◌≡◌, ℕ, suc, ◌+◌, ◌<◌, ◌≤◌, List, [], ◌∷◌, Bool, true, false, not, ◌&&◌, ◌||◌, ◌==◌, refl, sym, ap, subst, ◌∙◌, arith, length, if◌then◌else◌, Option, Some, None}
 use Rattle.std.specs.Prelude.{is_some, option_map, ◌≢◌, slice_index_or}
-use Rattle.std.proofs.lemmas.Bool.{eqb-true, eq-eqb}
+use Rattle.std.proofs.lemmas.Bool.{eqb-true, eq-eqb, and_parts, or_from}
 use Rattle.std.proofs.Math.Bool.{and-false}
 use Rattle.std.proofs.Math.ListN.{set}
 use Rattle.std.proofs.lemmas.List.{get_or-set_same, get_or-set_other}
 use Rattle.ts_packet.specs.Fields.{in_error, pid_of, on, payload, payload_on, scrambled, unit_start}
 use Rattle.ts_packet.specs.Duplicates.{repeats}
 use Rattle.ts_packet.proofs.Cases.{by_test}
-use Rattle.ts_packet.proofs.FieldLemmas.{payload_on-on}
+use Rattle.ts_packet.proofs.FieldLemmas.{off_payload}
 use Rattle.psi_tables.specs.declared.stream.Stream.{Stream}
 use Rattle.unit_stream.specs.declared.reader.UnitReader.{UnitReader}
 use Rattle.unit_stream.specs.declared.fault.UnitFault.{UnitFault}
@@ -22,17 +22,14 @@ use Rattle.unit_stream.proofs.ClockLemmas.{begins_off}
 use Rattle.unit_stream.proofs.StartLemmas.{starts_passed}
 use Rattle.program_follower.specs.Faults.{pids_in}
 use Rattle.program_follower.specs.Streaming.{next_place, first_on, AllFirst, AllRead, AllStartsRead, IsOne, begin_fault}
+use Rattle.program_follower.proofs.JudgingLemmas.{or_later}
 
 -- ---- of one PID
-
-both_true : (a b : Bool) → a && b ≡ true → (a ≡ true) × (b ≡ true)
-both_true true b h = (refl, h)
-both_true false b h = absurd (cc)
 
 -- two packets that are of one PID are of the same PIDs
 pub on_parts : (pid : ℕ) (p : List ℕ) → on pid p ≡ true → (not (in_error p) ≡ true) × (pid_of p ≡ pid)
 unfolding on
-on_parts pid p h = let r = both_true (not (in_error p)) (pid_of p == pid) h in (r.0, eqb-true (pid_of p) pid r.1)
+on_parts pid p h = let r = and_parts (not (in_error p)) (pid_of p == pid) h in (r.0, eqb-true (pid_of p) pid r.1)
 
 pub one_pid : (a b : ℕ) (p : List ℕ) → on a p ≡ true → on b p ≡ true → a ≡ b
 one_pid a b p h k = sym (on_parts a p h).1 ∙ (on_parts b p k).1
@@ -61,7 +58,7 @@ moved_some : (o : Option (ℕ × ℕ)) (x : ℕ × ℕ) → option_map next_plac
 moved_some None x h = absurd (cc)
 moved_some (Some y) x h = record { place = y; is = refl; next = cc }
 
-some_is : (a b : ℕ × ℕ) → Some a ≡ Some b → a ≡ b
+pub some_is : (a b : ℕ × ℕ) → Some a ≡ Some b → a ≡ b
 some_is a b h = cc
 
 pub first_is_on : (pids : List ℕ) (p : List ℕ) (x : ℕ × ℕ) → first_on pids p ≡ Some x → on x.1 p ≡ true
@@ -101,42 +98,31 @@ one_of f (pid ∷ pids) = f pid || one_of f pids
 abbrev pub NeedsOn : (ℕ → Bool) → List ℕ → Type 0
 NeedsOn f p = (pid : ℕ) → on pid p ≡ false → f pid ≡ false
 
-or_false : (a b : Bool) → a ≡ false → b ≡ false → a || b ≡ false
-or_false true b h k = absurd (cc)
-or_false false b h k = k
-
 or_same : (a b : Bool) → (a ≡ false → b ≡ false) → a || b ≡ a
 or_same true b h = refl
 or_same false b h = h refl
 
-or_right : (a b : Bool) → a ≡ false → a || b ≡ b
-or_right true b h = absurd (cc)
-or_right false b h = refl
-
 module _ (f : ℕ → Bool) (p : List ℕ) (needs : NeedsOn f p) where
   none_but : (pid : ℕ) (pids : List ℕ) → on pid p ≡ true → f pid ≡ false → one_of f pids ≡ false
   none_but pid [] h k = refl
-  none_but pid (x ∷ xs) h k = or_false (f x) (one_of f xs) (by_test (on x p) (λ y. ap f (one_pid x pid p y h) ∙ k) (needs x)) (none_but pid xs h k)
+  none_but pid (x ∷ xs) h k = or_from (f x) (one_of f xs) (by_test (on x p) (λ y. ap f (one_pid x pid p y h) ∙ k) (needs x)) (none_but pid xs h k)
 
   pub first_of : (pids : List ℕ) (x : ℕ × ℕ) → first_on pids p ≡ Some x → one_of f pids ≡ f x.1
   first_of [] x h = absurd (cc)
   first_of (pid ∷ pids) x h =
       by_test (on pid p)
       (λ y. or_same (f pid) (one_of f pids) (none_but pid pids y) ∙ ap f (ap (λ (z : ℕ × ℕ). z.1) (some_is (0, pid) x (simp y at h))))
-      (λ n. let r = moved_some (first_on pids p) x (simp n at h) in or_right (f pid) (one_of f pids) (needs pid n) ∙ first_of pids r.place r.is ∙ ap f (ap (λ (z : ℕ × ℕ). z.1) r.next))
+      (λ n. let r = moved_some (first_on pids p) x (simp n at h) in or_later (f pid) (one_of f pids) (needs pid n) ∙ first_of pids r.place r.is ∙ ap f (ap (λ (z : ℕ × ℕ). z.1) r.next))
 
   pub none_of : (pids : List ℕ) → first_on pids p ≡ None → one_of f pids ≡ false
   none_of [] h = refl
   none_of (pid ∷ pids) h =
       by_test (on pid p)
       (λ y. absurd (let e : Some (0, pid) ≡ None = simp y at h in cc))
-      (λ n. or_false (f pid) (one_of f pids) (needs pid n) (none_of pids (moved_none (first_on pids p) (simp n at h)))) where
+      (λ n. or_from (f pid) (one_of f pids) (needs pid n) (none_of pids (moved_none (first_on pids p) (simp n at h)))) where
         moved_none : (o : Option (ℕ × ℕ)) → option_map next_place o ≡ None → o ≡ None
         moved_none None h = refl
         moved_none (Some y) h = absurd (cc)
-
-pub off_payload : (pid : ℕ) (p : List ℕ) → on pid p ≡ false → payload_on pid p ≡ false
-off_payload pid p o = by_test (payload_on pid p) (λ k. let m = payload_on-on pid p k in cc) (λ k. k)
 
 abbrev pub scrambled_on : List ℕ → ℕ → Bool
 scrambled_on p pid = payload_on pid p && scrambled p

@@ -94,7 +94,7 @@ impl Streams {
 }
 
 /// What a packet of a stream is, by what it brings to the stream's units. The clock passes the begin of a unit.
-#[tactic(auto, using(crate::proofs::PieceLemmas::high_start, crate::proofs::PieceLemmas::high_other, crate::proofs::PieceLemmas::no_begin, crate::proofs::PieceLemmas::repeat_begins_none, crate::proofs::PieceLemmas::empty_begins_none, crate::proofs::PieceLemmas::stamp_in, crate::proofs::PieceLemmas::splits_in))]
+#[tactic(auto, using(crate::proofs::PieceLemmas::high_start, crate::proofs::PieceLemmas::high_other, unit_stream::proofs::ClockLemmas::begins_not, unit_stream::proofs::ClockLemmas::begins_repeat, unit_stream::proofs::ClockLemmas::begins_off, crate::proofs::PieceLemmas::stamp_in, crate::proofs::PieceLemmas::splits_in))]
 #[inline(always)]
 fn stream_packet(clock: &mut Clock, piece: Piece<'_>) -> Result<StreamPacket, UnitFault>
     ensures clock { (pids : List ℕ) (pid : ℕ) (p : List ℕ) (past : List (List ℕ)) → IsOne pids pid p past

@@ -4,7 +4,7 @@ use Rattle.std.proofs.Common.{◌≡◌, ℕ, ◌<◌, List, [], ◌∷◌, Bool
 use Rattle.std.specs.List.{AllByRecursion}
 use Rattle.std.specs.Prelude.{filter, option_map}
 use Rattle.std.specs.List.{list_any}
-use Rattle.std.proofs.lemmas.Bool.{eq-eqb}
+use Rattle.std.proofs.lemmas.Bool.{eq-eqb, or_parts}
 use Rattle.ts_packet.specs.Fields.{on, on_one}
 use Rattle.ts_packet.proofs.Cases.{by_test}
 use Rattle.psi_section.specs.Sections.{given}
@@ -34,10 +34,6 @@ use Rattle.program_laws.proofs.EntryOutLemmas.{entry_goes_out}
 use Rattle.program_laws.proofs.ByteLemmas.{all_bytes}
 use Rattle.program_follower.proofs.OptionLemmas.{none_both}
 use Rattle.program_laws.proofs.FaultLemmas.{not_if_bad, Each-map, Each-both, Each-parts, same_listed, MapSound, all_sound, pid_good}
-
-or_none : (a b : Bool) → a || b ≡ false → (a ≡ false) × (b ≡ false)
-or_none true b h = cc
-or_none false b h = (refl, h)
 
 pub ons_off : (a b : ℕ) (qs : List (List ℕ)) → (a ≡ b → ⊥) → AllByRecursion (On a) qs → AllByRecursion (Off b) qs
 ons_off a b [] ne h = tt
@@ -110,7 +106,7 @@ all_read wanted (p ∷ past) l e = by_known (listed wanted past) refl (λ f. all
 
 -- ---- what no fault says of PIDs
 
-any_entries : (cue : ℕ) (es : List Entry) → list_any (is_pid (Some cue)) (pids_in (map stream_of es)) ≡ list_any (lists_pid cue) es
+pub any_entries : (cue : ℕ) (es : List Entry) → list_any (is_pid (Some cue)) (pids_in (map stream_of es)) ≡ list_any (lists_pid cue) es
 any_entries cue [] = refl
 any_entries cue (e ∷ es) = ap (λ b. lists_pid cue e || b) (any_entries cue es)
 
@@ -121,7 +117,7 @@ Apart a pids = AllByRecursion (λ pid. a ≡ pid → ⊥) pids
 apart_by : (a : ℕ) (f : ℕ → Bool) → f a ≡ true → (ss : List Stream) → list_any f (pids_in ss) ≡ false → Apart a (pids_in (switched_of ss))
 apart_by a f h [] k = tt
 apart_by a f h (s ∷ ss) k =
-    let r = or_none (f s.pid) (list_any f (pids_in ss)) k in
+    let r = or_parts (f s.pid) (list_any f (pids_in ss)) k in
     let more = apart_by a f h ss r.1 in
     by_test (is_switched s.kind)
     (λ y. simp y ((λ e. let g : f a ≡ f s.pid = ap f e in let c : f a ≡ false = g ∙ r.0 in absurd (let t = sym h ∙ c in cc)), more))
@@ -131,11 +127,11 @@ apart_on : (a : ℕ) (pids : List ℕ) → Apart a pids → (q : List ℕ) → o
 apart_on a [] h q y = refl
 apart_on a (pid ∷ pids) h q y = let n = off_other a pid q h.0 y in ap (λ b. b || on_one pids q) n ∙ apart_on a pids h.1 q y
 
-takes_within : (pids all : List ℕ) → ((q : List ℕ) → on_one all q ≡ false → on_one pids q ≡ false) → AllByRecursion (TakesAll (on_one all)) pids
+pub takes_within : (pids all : List ℕ) → ((q : List ℕ) → on_one all q ≡ false → on_one pids q ≡ false) → AllByRecursion (TakesAll (on_one all)) pids
 takes_within [] all h = tt
 takes_within (pid ∷ pids) all h = (
-  λ q n. off_payload pid q (or_none (on pid q) (on_one pids q) (h q n)).0,
-  takes_within pids all (λ q n. (or_none (on pid q) (on_one pids q) (h q n)).1),
+  λ q n. off_payload pid q (or_parts (on pid q) (on_one pids q) (h q n)).0,
+  takes_within pids all (λ q n. (or_parts (on pid q) (on_one pids q) (h q n)).1),
 )
 
 -- ---- the law
@@ -149,7 +145,7 @@ module _ (c : Purpose) (cue : ℕ) (past : List (List ℕ)) (is_cue : c.cue_pid 
         (not_if_bad ((l.pid == 0) || (l.pid == 8191)) BadPids r.0, not_if_bad (is_pid c.cue_pid l.pid) CuePidUsed r.1)
 
     not_zero : l.pid ≡ 0 → ⊥
-    not_zero e = let r = (or_none (l.pid == 0) (l.pid == 8191) pid_parts.0).0 in let t : (l.pid == 0) ≡ true = eq-eqb l.pid 0 e in absurd (let f = sym t ∙ r in cc)
+    not_zero e = let r = (or_parts (l.pid == 0) (l.pid == 8191) pid_parts.0).0 in let t : (l.pid == 0) ≡ true = eq-eqb l.pid 0 e in absurd (let f = sym t ∙ r in cc)
 
     not_cue : cue ≡ l.pid → ⊥
     not_cue e =
@@ -169,7 +165,7 @@ module _ (c : Purpose) (cue : ℕ) (past : List (List ℕ)) (is_cue : c.cue_pid 
         ap (λ o. list_any (is_pid o) (pid_in m.pcr_field ∷ pids_in (streams_of m))) (sym is_cue)
         ∙ ap (λ x. list_any (is_pid c.cue_pid) (pid_in m.pcr_field ∷ pids_in (if x then streams_of m else switched_of (streams_of m)))) (sym writes)
         ∙ sound.cue in
-        let free : list_any (lists_pid cue) m.entries ≡ false = sym (any_entries cue m.entries) ∙ (or_none (is_pid (Some cue) (pid_in m.pcr_field)) (list_any (is_pid (Some cue)) (pids_in (streams_of m))) used).1 in
+        let free : list_any (lists_pid cue) m.entries ≡ false = sym (any_entries cue m.entries) ∙ (or_parts (is_pid (Some cue) (pid_in m.pcr_field)) (list_any (is_pid (Some cue)) (pids_in (streams_of m))) used).1 in
         entry_goes_out l.program cue s m below (record { reads = r; bytes = b; given = g; room = room; free = free })
 
     abbrev Goes : Table → Type 0
@@ -228,13 +224,13 @@ module _ (c : Purpose) (cue : ℕ) (past : List (List ℕ)) (is_cue : c.cue_pid 
   apart_sound : (l : Listed) (o : Option ProgramMap) → MapSound c l.pid o → Apart l.pid (pids_of (option_map program_in o)) × Apart cue (pids_of (option_map program_in o))
   apart_sound l None g = (tt, tt)
   apart_sound l (Some m) g =
-      let bad = or_none (list_any (bad_pid l.pid) (pid_in m.pcr_field ∷ pids_in (streams_of m))) (list_any (bad_switched (pids_in (streams_of m))) (pids_in (switched_of (streams_of m)))) g.pids in
-      let none = or_none (bad_pid l.pid (pid_in m.pcr_field)) (list_any (bad_pid l.pid) (pids_in (streams_of m))) bad.0 in
+      let bad = or_parts (list_any (bad_pid l.pid) (pid_in m.pcr_field ∷ pids_in (streams_of m))) (list_any (bad_switched (pids_in (streams_of m))) (pids_in (switched_of (streams_of m)))) g.pids in
+      let none = or_parts (bad_pid l.pid (pid_in m.pcr_field)) (list_any (bad_pid l.pid) (pids_in (streams_of m))) bad.0 in
       let used : list_any (is_pid (Some cue)) (pid_in m.pcr_field ∷ pids_in (streams_of m)) ≡ false =
       ap (λ o. list_any (is_pid o) (pid_in m.pcr_field ∷ pids_in (streams_of m))) (sym is_cue)
       ∙ ap (λ x. list_any (is_pid c.cue_pid) (pid_in m.pcr_field ∷ pids_in (if x then streams_of m else switched_of (streams_of m)))) (sym writes)
       ∙ g.cue in
-      let free = or_none (is_pid (Some cue) (pid_in m.pcr_field)) (list_any (is_pid (Some cue)) (pids_in (streams_of m))) used in (
+      let free = or_parts (is_pid (Some cue) (pid_in m.pcr_field)) (list_any (is_pid (Some cue)) (pids_in (streams_of m))) used in (
         apart_by l.pid (bad_pid l.pid) (or_true (l.pid == 0) (l.pid == l.pid) (eq-eqb l.pid l.pid refl)) (streams_of m) none.1,
         apart_by cue (is_pid (Some cue)) (eq-eqb cue cue refl) (streams_of m) free.1,
       )

@@ -17,11 +17,11 @@ use Rattle.program_laws.specs.CueEntry.{EntryGoesOut}
 
 -- ---- what was read
 
-if_some : (b : Bool) (x m : ProgramMap) → (if b then Some x else None) ≡ Some m → (b ≡ true) × (x ≡ m)
+pub if_some : (b : Bool) (x m : ProgramMap) → (if b then Some x else None) ≡ Some m → (b ≡ true) × (x ≡ m)
 if_some true x m h = (refl, cc)
 if_some false x m h = absurd (cc)
 
-read_is : (program : ℕ) (r : Result ProgramMap TableFault) (m : ProgramMap) → map_read program r ≡ Some m → (r ≡ Ok m) × (is_map_of program m ≡ true)
+pub read_is : (program : ℕ) (r : Result ProgramMap TableFault) (m : ProgramMap) → map_read program r ≡ Some m → (r ≡ Ok m) × (is_map_of program m ≡ true)
 read_is program (Err e) m h = absurd (cc)
 read_is program (Ok x) m h = let k = if_some (is_map_of program x) x m h in (ap (λ y. let r : Result ProgramMap TableFault = Ok y in r) k.1, ap (is_map_of program) (sym k.1) ∙ k.0)
 

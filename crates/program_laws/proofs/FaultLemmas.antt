@@ -1,9 +1,9 @@
 -- What a run without fault says.
 use Rattle.std.specs.Option.{option_or}
-use Rattle.std.proofs.Common.{◌≡◌, ℕ, List, [], ◌∷◌, ◌++◌, Bool, true, false, not, ◌&&◌, ◌==◌, refl, sym, ap, ◌∙◌, length, Option, Some, None, Result, Ok, Err, if◌then◌else◌}
+use Rattle.std.proofs.Common.{◌≡◌, ℕ, List, [], ◌∷◌, ◌++◌, Bool, true, false, ◌&&◌, ◌==◌, refl, sym, ap, ◌∙◌, length, Option, Some, None, Result, Ok, Err, if◌then◌else◌}
 use Rattle.std.specs.List.{AllByRecursion}
 use Rattle.std.specs.Prelude.{nat_lt, option_map}
-use Rattle.std.proofs.lemmas.Bool.{eqb-true}
+use Rattle.std.proofs.lemmas.Bool.{eqb-true, and_parts, not-false}
 use Rattle.ts_packet.proofs.Cases.{by_test}
 use Rattle.ts_packet.specs.Fields.{on}
 use Rattle.psi_section.specs.Sections.{given}
@@ -21,7 +21,7 @@ use Rattle.program_follower.specs.Faults.{on_cue, if_bad, pmt_pid_fault, differs
 use Rattle.unit_stream.specs.Faults.{unit_fault}
 use Rattle.program_laws.specs.Writing.{Along}
 use Rattle.program_laws.specs.Cued.{PairsAgree, PatsAgree, MapAgrees, NothingChanges, NoCuePackets}
-use Rattle.program_follower.proofs.JudgingLemmas.{both_true, same_is}
+use Rattle.program_follower.proofs.JudgingLemmas.{same_is}
 use Rattle.program_follower.proofs.OptionLemmas.{none_both}
 use Rattle.program_laws.proofs.StepLemmas.{tables_grow, kept}
 use Rattle.program_follower.proofs.OptionLemmas.{option_or-assoc}
@@ -156,15 +156,11 @@ sound_tables c pid first (t ∷ ts) h =
     let r = none_both (table_fault c pid first t.program_map) (tables_fault c pid (option_or first t.program_map) ts) h in
     (sound_table c pid first t.program_map r.0, sound_tables c pid (option_or first t.program_map) ts r.1)
 
-not_not : (b : Bool) → not b ≡ false → b ≡ true
-not_not true h = refl
-not_not false h = absurd (cc)
-
 unchanged : (first m : ProgramMap) → changed (Some first) m ≡ false → program_in first ≡ program_in m
 unchanged first m h =
     let a = same_streams (switched_of (streams_of m)) (switched_of (streams_of first)) in
     let b = pid_in m.pcr_field == pid_in first.pcr_field in
-    let r = both_true a b (not_not (a && b) h) in
+    let r = and_parts a b (not-false (a && b) h) in
     let e = same_is (switched_of (streams_of m)) (switched_of (streams_of first)) r.0 in
     let f = eqb-true (pid_in m.pcr_field) (pid_in first.pcr_field) r.1 in
     sym (ap (λ ss. let x : Program = record { streams = ss; pcr_pid = pid_in m.pcr_field } in x) e ∙ ap (λ n. let x : Program = record { streams = switched_of (streams_of first); pcr_pid = n } in x) f)

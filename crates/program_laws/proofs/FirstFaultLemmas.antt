@@ -70,7 +70,7 @@ few_more_bytes c ps rest a l =
 
 -- ---- without fault
 
-or_none : {A : Type 0} (x y : Option A) → or_then x y ≡ None → (x ≡ None) × (y ≡ None)
+pub or_none : {A : Type 0} (x y : Option A) → or_then x y ≡ None → (x ≡ None) × (y ≡ None)
 or_none None y h = (refl, h)
 or_none (Some x) y h = absurd (cc)
 
@@ -79,7 +79,7 @@ no_name name None h = refl
 no_name name (Some packet_faults.SyncLost) h = absurd (cc)
 no_name name (Some packet_faults.BadAdaptation) h = absurd (cc)
 
-no_test : {A B : Type 0} (f : A → B) (o : Option A) → option_map f o ≡ None → o ≡ None
+pub no_test : {A B : Type 0} (f : A → B) (o : Option A) → option_map f o ≡ None → o ≡ None
 no_test f None h = refl
 no_test f (Some x) h = absurd (cc)
 

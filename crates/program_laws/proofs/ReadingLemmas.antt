@@ -44,7 +44,7 @@ tables_onto wanted (q ∷ qs) out l h =
 
 -- ---- before the PAT
 
-or_first : {A : Type 0} (x y : Option A) → option_or x y ≡ None → x ≡ None
+pub or_first : {A : Type 0} (x y : Option A) → option_or x y ≡ None → x ≡ None
 or_first None y h = refl
 or_first (Some x) y h = cc
 

@@ -3,7 +3,7 @@ use Rattle.std.specs.Option.{option_or}
 use Rattle.std.proofs.Common.{◌≡◌, ℕ, ◌+◌, ◌<◌, List, [], ◌∷◌, ◌++◌, Bool, true, false, ◌||◌, ◌==◌, refl, sym, ap, ◌∙◌, arith, length, Option, Some, None, if◌then◌else◌}
 use Rattle.std.specs.Prelude.{nat_lt, option_map}
 use Rattle.std.specs.List.{list_any}
-use Rattle.std.proofs.lemmas.Bool.{ne_eqb, eqb-true, eq-eqb}
+use Rattle.std.proofs.lemmas.Bool.{ne_eqb, eqb-true, eq-eqb, or_from, or_parts}
 use Rattle.std.proofs.lemmas.List.{map-append}
 use Rattle.std.proofs.lemmas.List.Folds.{list_any-append}
 use Rattle.ts_packet.proofs.Cases.{by_test}
@@ -21,21 +21,13 @@ use Rattle.program_laws.proofs.EntryOutLemmas.{with_same}
 use Rattle.program_laws.proofs.FaultLemmas.{sound_map}
 use Rattle.program_follower.specs.Purposes.{cues_written_on, cues_read_on}
 
-or_parts : (a b : Bool) → a || b ≡ false → (a ≡ false) × (b ≡ false)
-or_parts true b h = cc
-or_parts false b h = (refl, h)
-
-or_both : (a b : Bool) → a ≡ false → b ≡ false → a || b ≡ false
-or_both true b h k = h
-or_both false b h k = k
-
 -- what no entry is, no switched one is
-any_switched : (f : ℕ → Bool) (ss : List Stream) → list_any f (pids_in ss) ≡ false → list_any f (pids_in (switched_of ss)) ≡ false
+pub any_switched : (f : ℕ → Bool) (ss : List Stream) → list_any f (pids_in ss) ≡ false → list_any f (pids_in (switched_of ss)) ≡ false
 any_switched f [] h = refl
 any_switched f (s ∷ ss) h =
     let r = or_parts (f s.pid) (list_any f (pids_in ss)) h in
     let more = any_switched f ss r.1 in
-    by_test (is_switched s.kind) (λ y. simp y (or_both (f s.pid) (list_any f (pids_in (switched_of ss))) r.0 more)) (λ n. simp n more)
+    by_test (is_switched s.kind) (λ y. simp y (or_from (f s.pid) (list_any f (pids_in (switched_of ss))) r.0 more)) (λ n. simp n more)
 
 in_more : (x y : ℕ) (ys : List ℕ) → (y == x) ≡ false → is_among x (ys ++ y ∷ []) ≡ is_among x ys
 in_more x y [] h = ap (λ b. b || false) h
@@ -45,7 +37,7 @@ twice_more : (x y : ℕ) (ys : List ℕ) → (y == x) ≡ false → is_twice x (
 twice_more x y [] h = simp h refl
 twice_more x y (z ∷ ys) h = ap (λ b. if z == x then b else is_twice x (ys ++ y ∷ [])) (in_more x y ys h) ∙ ap (λ b. if z == x then is_among x ys else b) (twice_more x y ys h)
 
-back_test : (x y : ℕ) → (x == y) ≡ false → (y == x) ≡ false
+pub back_test : (x y : ℕ) → (x == y) ≡ false → (y == x) ≡ false
 back_test x y h = by_test (y == x) (λ t. absurd (let f : (x == y) ≡ true = eq-eqb x y (sym (eqb-true y x t)) in let g = sym f ∙ h in cc)) (λ n. n)
 
 switched_more : (cue : ℕ) (pids sw : List ℕ) → list_any (is_pid (Some cue)) sw ≡ false → list_any (bad_switched pids) sw ≡ false → list_any (bad_switched (pids ++ cue ∷ [])) sw ≡ false
@@ -54,7 +46,7 @@ switched_more cue pids (x ∷ sw) h k =
     let r = or_parts (x == cue) (list_any (is_pid (Some cue)) sw) h in
     let q = or_parts (bad_switched pids x) (list_any (bad_switched pids) sw) k in
     let t = twice_more x cue pids (back_test x cue r.0) in
-    or_both (bad_switched (pids ++ cue ∷ []) x) (list_any (bad_switched (pids ++ cue ∷ [])) sw) (ap (λ b. (x == 8191) || b) t ∙ q.0) (switched_more cue pids sw r.1 q.1)
+    or_from (bad_switched (pids ++ cue ∷ []) x) (list_any (bad_switched (pids ++ cue ∷ [])) sw) (ap (λ b. (x == 8191) || b) t ∙ q.0) (switched_more cue pids sw r.1 q.1)
 
 -- the entries
 pids_more : (cue : ℕ) (m : ProgramMap) → cue < 8192 → pids_in (streams_of (with_cue_entry cue m)) ≡ pids_in (streams_of m) ++ cue ∷ []
@@ -92,20 +84,20 @@ entry_is_no_fault wanted cue pmt_pid first m below no_zero no_pmt h =
     let bad = or_parts (list_any (bad_pid pmt_pid) (pcr ∷ ps)) (list_any (bad_switched ps) (pids_in (switched_of (streams_of m)))) s.pids in
     let used = or_parts (is_pid (Some cue) pcr) (list_any (is_pid (Some cue)) ps) s.cue in
     let apart = any_switched (is_pid (Some cue)) (streams_of m) used.1 in
-    let own : bad_pid pmt_pid cue ≡ false = or_both (cue == 0) (cue == pmt_pid) (ne_eqb cue 0 no_zero) (ne_eqb cue pmt_pid no_pmt) in
+    let own : bad_pid pmt_pid cue ≡ false = or_from (cue == 0) (cue == pmt_pid) (ne_eqb cue 0 no_zero) (ne_eqb cue pmt_pid no_pmt) in
     let all : list_any (bad_pid pmt_pid) ((pcr ∷ ps) ++ cue ∷ []) ≡ false =
-    list_any-append (bad_pid pmt_pid) (pcr ∷ ps) (cue ∷ []) ∙ or_both (list_any (bad_pid pmt_pid) (pcr ∷ ps)) (bad_pid pmt_pid cue || false) bad.0 (or_both (bad_pid pmt_pid cue) false own refl) in
+    list_any-append (bad_pid pmt_pid) (pcr ∷ ps) (cue ∷ []) ∙ or_from (list_any (bad_pid pmt_pid) (pcr ∷ ps)) (bad_pid pmt_pid cue || false) bad.0 (or_from (bad_pid pmt_pid cue) false own refl) in
     let few : nat_lt 8 (length (switched_of (streams_of n))) ≡ false = ap (λ xs. nat_lt 8 (length xs)) sw ∙ s.few in
     let pids : bad_pids pmt_pid (streams_of n) (pid_in n.pcr_field) ≡ false =
     ap (λ x. list_any (bad_pid pmt_pid) (x ∷ pids_in (streams_of n)) || list_any (bad_switched (pids_in (streams_of n))) (pids_in (switched_of (streams_of n)))) clock
     ∙ ap (λ xs. list_any (bad_pid pmt_pid) (pcr ∷ xs) || list_any (bad_switched xs) (pids_in (switched_of (streams_of n)))) more
     ∙ ap (λ xs. list_any (bad_pid pmt_pid) (pcr ∷ (ps ++ cue ∷ [])) || list_any (bad_switched (ps ++ cue ∷ [])) (pids_in xs)) sw
-    ∙ or_both (list_any (bad_pid pmt_pid) (pcr ∷ (ps ++ cue ∷ []))) (list_any (bad_switched (ps ++ cue ∷ [])) (pids_in (switched_of (streams_of m)))) all
+    ∙ or_from (list_any (bad_pid pmt_pid) (pcr ∷ (ps ++ cue ∷ []))) (list_any (bad_switched (ps ++ cue ∷ [])) (pids_in (switched_of (streams_of m)))) all
     (switched_more cue ps (pids_in (switched_of (streams_of m))) apart bad.1) in
     let cues : cue_used (cues_read_on wanted cue) (streams_of n) (pid_in n.pcr_field) ≡ false =
     ap (λ x. list_any (is_pid (Some cue)) (x ∷ pids_in (switched_of (streams_of n)))) clock
     ∙ ap (λ xs. list_any (is_pid (Some cue)) (pcr ∷ pids_in xs)) sw
-    ∙ or_both (is_pid (Some cue) pcr) (list_any (is_pid (Some cue)) (pids_in (switched_of (streams_of m)))) used.0 apart in
+    ∙ or_from (is_pid (Some cue) pcr) (list_any (is_pid (Some cue)) (pids_in (switched_of (streams_of m)))) used.0 apart in
     fine (nat_lt 8 (length (switched_of (streams_of n)))) TooManyStreams _ few
     (fine (bad_pids pmt_pid (streams_of n) (pid_in n.pcr_field)) BadPids _ pids
     (fine (cue_used (cues_read_on wanted cue) (streams_of n) (pid_in n.pcr_field)) CuePidUsed _ cues

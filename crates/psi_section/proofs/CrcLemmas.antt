@@ -8,7 +8,7 @@ use Rattle.std.specs.Prelude.{bit_xor}
 use Rattle.std.specs.Int.Bits.{xor_assoc, xor_zero_l, xor_zero_r, xor_self}
 use Rattle.std.proofs.Math.Nat.{mul_comm}
 use Rattle.std.proofs.lemmas.Nat.{pow_pos, xor_comm, xor_lt, xor_shr, xor_mod, xor_block}
-use Rattle.psi_section.specs.Crc.{generator, reduced, with_bit, bits_of, with_bits, remainder_after, crc_remainder, crc, closed}
+use Rattle.psi_section.specs.Crc.{generator, reduced, with_bit, bits_of, with_bits, remainder_after, crc_remainder, crc, with_crc}
 use Rattle.byteorder.specs.Endian.{big_bytes}
 
 -- ---- sums
@@ -293,6 +293,6 @@ pub word_closes : (r : ℕ) → r < 2 ^ 32 → crc_remainder r (big_bytes 4 r) �
 unfolding crc_remainder
 word_closes r h = own_word r h
 
-pub crc_closed : (bs : List ℕ) → crc (closed bs) ≡ 0
+pub crc_closed : (bs : List ℕ) → crc (with_crc bs) ≡ 0
 unfolding crc crc_remainder
 crc_closed bs = remainder-append (2 ^ 32 - 1) bs (big_bytes 4 (crc bs)) ∙ own_word (remainder_after (2 ^ 32 - 1) bs) (remainder_below (2 ^ 32 - 1) (omega arith) bs)

@@ -1,9 +1,9 @@
 -- What is given can be given again, and is bytes where packets are.
-use Rattle.std.proofs.Common.{◌≡◌, ℕ, zero, suc, ◌-◌, List, [], ◌∷◌, ◌++◌, Bool, true, false, not, ◌==◌, arith, refl, sym, ap, ◌∙◌, length, take, drop, if◌then◌else◌, nat_le}
+use Rattle.std.proofs.Common.{◌≡◌, ℕ, zero, suc, ◌-◌, List, [], ◌∷◌, ◌++◌, Bool, true, false, ◌==◌, arith, refl, sym, ap, ◌∙◌, length, take, drop, if◌then◌else◌, nat_le}
 use Rattle.std.specs.Prelude.{filter, All}
 use Rattle.std.specs.List.{AllByRecursion}
 use Rattle.std.proofs.lemmas.List.Elements.{All-from_recursion}
-use Rattle.std.proofs.lemmas.Bool.{eq-eqb, ne_eqb}
+use Rattle.std.proofs.lemmas.Bool.{eq-eqb, ne_eqb, not-true}
 use Rattle.std.proofs.lemmas.List.{append-nil, length-take-le}
 use Rattle.ts_packet.specs.Fields.{unit_start, bytes}
 use Rattle.ts_packet.specs.Duplicates.{original, last_of}
@@ -65,15 +65,11 @@ finished_whole : (pid : ℕ) (p : List ℕ) (past : List (List ℕ)) → AllByRe
 finished_whole pid p past =
     finished_if (original pid p past) (packet_taken p (last_of pid past) (held pid past)) (payload_whole (unit_start p) (unbroken p (last_of pid past) (held pid past)) (bytes p))
 
-not_bad : (b : Bool) → not b ≡ true → b ≡ false
-not_bad true h = cc
-not_bad false h = refl
-
 good_can : (ss : List (List ℕ)) → AllByRecursion IsWhole ss → AllByRecursion CanBeGiven (filter is_good ss)
 good_can [] h = tt
 good_can (s ∷ ss) h =
     by_test (is_good s)
-    (λ y. simp y (record { whole = h.0; good = not_bad (is_bad s) y }, good_can ss h.1))
+    (λ y. simp y (record { whole = h.0; good = not-true (is_bad s) y }, good_can ss h.1))
     (λ n. simp n (good_can ss h.1))
 
 pub given_can_each : (pid : ℕ) (p : List ℕ) (past : List (List ℕ)) → AllByRecursion CanBeGiven (given pid p past)

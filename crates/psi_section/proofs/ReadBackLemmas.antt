@@ -383,7 +383,7 @@ length-later (suc count) pid n bs = ap suc (length-later count pid ((n + 1) % 16
 number_after : (a k m : ℕ) → a < 16 → m ≡ ((a + 1) % 16 + k) % 16 → m ≡ (a + suc k) % 16
 number_after a k m h e = omega arith
 
-number_none : (a : ℕ) → a < 16 → a ≡ (a + 0) % 16
+pub number_none : (a : ℕ) → a < 16 → a ≡ (a + 0) % 16
 number_none a h = omega arith
 
 -- the last payload packet behind those in which a section goes on

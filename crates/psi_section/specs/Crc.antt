@@ -39,5 +39,5 @@ unfoldable pub crc : List ℕ → ℕ
 crc bs = crc_remainder (2 ^ 32 - 1) bs
 
 -- bytes with their CRC_32 behind them, most significant byte first
-abbrev pub closed : List ℕ → List ℕ
-closed bs = bs ++ big_bytes 4 (crc bs)
+abbrev pub with_crc : List ℕ → List ℕ
+with_crc bs = bs ++ big_bytes 4 (crc bs)

@@ -7,7 +7,7 @@ use Rattle.psi_section.specs.declared.front.Front.TheVariants.{Whole}
 use Rattle.psi_section.specs.Sections.{section_length, has_crc, front_of, is_bad, held, given, failed, given_by, sections_with, sections, sections_after}
 use Rattle.byteorder.specs.Endian.{big_bytes}
 use Rattle.wire_fields.specs.Numbers.{AreBytes}
-use Rattle.psi_section.specs.Crc.{crc, closed}
+use Rattle.psi_section.specs.Crc.{crc, with_crc}
 use Rattle.psi_section.specs.Packetising.{first_packet, section_packets, packets_in_turn}
 
 -- a packet behind others adds the sections that it finishes
@@ -91,5 +91,5 @@ ReadBackInTurn = (pid n : ℕ) (ss past : List (List ℕ)) → pid < 8192 → n 
 
 -- Bytes with their CRC_32 behind have the CRC_32 0, and with another word behind they don't.
 pub record CrcCloses : Type 0 where
-  pub closes : (bs : List ℕ) → crc (closed bs) ≡ 0
+  pub closes : (bs : List ℕ) → crc (with_crc bs) ≡ 0
   pub alone : (bs : List ℕ) (word : ℕ) → word < 2 ^ 32 → crc (bs ++ big_bytes 4 word) ≡ 0 → word ≡ crc bs

@@ -2,7 +2,7 @@
 
 ghost use Rattle.std.specs.Prelude.{◌≡◌, ◌<◌, ◌≤◌, ◌+◌, ◌∷◌, [], replicate};
 ghost use Rattle.arrayvec.specs.ArrayVec.{array_vec_len};
-ghost use Rattle.psi_section.specs.Crc.{crc, crc_remainder, closed};
+ghost use Rattle.psi_section.specs.Crc.{crc, crc_remainder, with_crc};
 
 use crate::tables::TABLES;
 use arrayvec::ArrayVec;
@@ -23,7 +23,7 @@ pub fn crc(bytes: &[u8]) -> u32
 /// Puts the bytes' CRC_32 behind them, so that the CRC_32 of the whole is 0.
 pub fn seal<const N: usize>(section: &mut ArrayVec<u8, N>)
     requires { array_vec_len section.old + 4 ≤ N }
-    ensures value { section.new.items ≡ closed section.old.items }
+    ensures value { section.new.items ≡ with_crc section.old.items }
     ensures checked { crc section.new.items ≡ 0 }
 {
     let remainder = crc(section.as_slice());

@@ -2,7 +2,7 @@
 use Rattle.std.proofs.Common.{◌≡◌, ℕ, ◌+◌, ◌-◌, ◌*◌, ◌/◌, ◌%◌, ◌≤◌, Bool, true, false, List, [], ◌∷◌, ◌++◌, length, take, drop, slice_index, None, Ok, refl, sym, ap, ◌∙◌, arith}
 use Rattle.std.specs.Prelude.{is_some, not, nat_lt, nat_le, ◌==◌, ◌&&◌}
 use Rattle.std.specs.List.{flat_map}
-use Rattle.std.proofs.lemmas.Bool.{le-ltb, le-leb, eq-eqb, eqb-true}
+use Rattle.std.proofs.lemmas.Bool.{le-ltb, le-leb, eq-eqb, eqb-true, and_from, not-false}
 use Rattle.std.proofs.lemmas.List.{length-drop, length-take, length-append, take_at, drop_at, take-append-drop, drop-append-le}
 use Rattle.byteorder.specs.Endian.{big_bytes}
 use Rattle.psi_section.specs.Sections.{section_length, has_syntax}
@@ -11,7 +11,6 @@ use Rattle.wire_fields.specs.Numbers.{number16_at, number32_at}
 use Rattle.psi_tables.specs.Sections.{is_table, has_size, before_crc, is_current}
 use Rattle.psi_tables.specs.Runs.{run_of, things_of}
 use Rattle.psi_tables.specs.Association.{IsPair, pair_bytes, pair_at, Association, IsAssociation, pat_section, pairs_in, association_of, pat_fills, pat_fault, pat}
-use Rattle.psi_tables.proofs.Chains.{both_are, unless}
 use Rattle.wire_fields.proofs.Cells.{AreBytes-drop, AreBytes-take, field16, field32, one_at, two_at, four_at, number16_fits, number32_fits}
 use Rattle.psi_tables.proofs.SectionLemmas.{length_is, syntax_is}
 use Rattle.psi_tables.proofs.RunLemmas.{Spelled, things_spelled, things_back, fills_back}
@@ -42,7 +41,7 @@ size_of_pairs bytes is =
     let size = is.size in
     omega (arith, length-drop 8 (before_crc bytes), length-take (length bytes - 4) bytes)
 
-field_of : (n size : ℕ) → n % 4096 ≡ size → n ≡ n / 4096 * 4096 + size
+pub field_of : (n size : ℕ) → n % 4096 ≡ size → n ≡ n / 4096 * 4096 + size
 field_of n size e = omega arith
 
 pub association_spelled : (bytes : List ℕ) → AreBytes bytes → IsPat bytes → bytes ≡ pat_section (association_of bytes)
@@ -71,7 +70,7 @@ association_spelled bytes are is =
 
 -- a table that applies now is whole
 whole_by : (current : Bool) (last : ℕ) → (current && not (last == 0)) ≡ false → current ≡ true → last ≡ 0
-whole_by true last h e = eqb-true last 0 (unless (last == 0) h)
+whole_by true last h e = eqb-true last 0 (not-false (last == 0) h)
 whole_by false last h e = cc
 
 pub association_fits : (bytes : List ℕ) → AreBytes bytes → IsPat bytes → IsAssociation (association_of bytes)
@@ -117,10 +116,10 @@ no_fault : (bytes : List ℕ) → IsPat bytes → pat_fault bytes ≡ None
 unfolding pat_fault pat_fills
 no_fault bytes is =
     let long = is.long in
-    let table : is_table 0 bytes ≡ true = both_are (slice_index bytes 0 == 0) (has_syntax bytes) (eq-eqb _ _ is.id) (eq-eqb _ _ is.syntax) in
+    let table : is_table 0 bytes ≡ true = and_from (slice_index bytes 0 == 0) (has_syntax bytes) (eq-eqb _ _ is.id) (eq-eqb _ _ is.syntax) in
     let sized : has_size 12 bytes ≡ true =
-    both_are (nat_le (section_length bytes) 1021 && (section_length bytes + 3 == length bytes)) (nat_le 12 (length bytes))
-    (both_are (nat_le (section_length bytes) 1021) (section_length bytes + 3 == length bytes) (le-leb _ _ is.most) (eq-eqb _ _ is.size)) (le-leb _ _ long) in
+    and_from (nat_le (section_length bytes) 1021 && (section_length bytes + 3 == length bytes)) (nat_le 12 (length bytes))
+    (and_from (nat_le (section_length bytes) 1021) (section_length bytes + 3 == length bytes) (le-leb _ _ is.most) (eq-eqb _ _ is.size)) (le-leb _ _ long) in
     let here : nat_lt (length bytes) 3 ≡ false = le-ltb (length bytes) 3 (omega arith) in
     rw (here, table, sized, is.filled, is.whole) refl
 

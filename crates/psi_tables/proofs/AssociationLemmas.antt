@@ -1,14 +1,14 @@
 -- A program association section that has no fault.
 use Rattle.std.proofs.Common.{◌≡◌, ℕ, ◌+◌, ◌-◌, ◌/◌, ◌%◌, ◌≤◌, List, length, slice_index, true, false, None, ap, ◌∙◌, arith}
 use Rattle.std.specs.Prelude.{is_none, is_some, not, nat_lt, nat_le, ◌==◌, ◌&&◌}
-use Rattle.std.proofs.lemmas.Bool.{leb-true, eqb-true}
+use Rattle.std.proofs.lemmas.Bool.{leb-true, eqb-true, and_parts, not-false}
 use Rattle.std.proofs.lemmas.List.{length-drop, length-take}
 use Rattle.psi_tables.specs.declared.fault.TableFault.TheVariants.{WrongTable, BadLength, Sections}
 use Rattle.psi_section.specs.Sections.{section_length, has_syntax}
 use Rattle.psi_tables.specs.Sections.{is_table, has_size, before_crc, is_current}
 use Rattle.psi_tables.specs.Runs.{run_of}
 use Rattle.psi_tables.specs.Association.{pair_at, pairs_in, pat_fills, pat_fault}
-use Rattle.psi_tables.proofs.Chains.{guarded, unless, both, none_is}
+use Rattle.psi_tables.proofs.Chains.{guarded, none_is}
 use Rattle.psi_tables.proofs.PairLemmas.{pairs_fill}
 
 pub record IsPat (bytes : List ℕ) : Type 0 where
@@ -27,10 +27,10 @@ faultless bytes h =
     let second = guarded (not (is_table 0 bytes)) WrongTable _ first.1 in
     let third = guarded (not (has_size 12 bytes && is_some (run_of pair_at (pairs_in bytes)))) BadLength _ second.1 in
     let fourth = guarded (is_current (slice_index bytes 5) && not (slice_index bytes 7 == 0)) Sections None third.1 in
-    let table = both (slice_index bytes 0 == 0) (has_syntax bytes) (unless (is_table 0 bytes) second.0) in
-    let fills = both (has_size 12 bytes) (is_some (run_of pair_at (pairs_in bytes))) (unless _ third.0) in
-    let sized = both (nat_le (section_length bytes) 1021 && (section_length bytes + 3 == length bytes)) (nat_le 12 (length bytes)) fills.0 in
-    let parts = both (nat_le (section_length bytes) 1021) (section_length bytes + 3 == length bytes) sized.0 in
+    let table = and_parts (slice_index bytes 0 == 0) (has_syntax bytes) (not-false (is_table 0 bytes) second.0) in
+    let fills = and_parts (has_size 12 bytes) (is_some (run_of pair_at (pairs_in bytes))) (not-false _ third.0) in
+    let sized = and_parts (nat_le (section_length bytes) 1021 && (section_length bytes + 3 == length bytes)) (nat_le 12 (length bytes)) fills.0 in
+    let parts = and_parts (nat_le (section_length bytes) 1021) (section_length bytes + 3 == length bytes) sized.0 in
     record {
       id = eqb-true _ _ table.0;
       syntax = eqb-true _ _ table.1;
@@ -58,6 +58,6 @@ pairs_there bytes h = let long = (faultless bytes h).long in omega (arith, lengt
 pub filled_long : (bytes : List ℕ) → pat_fills bytes ≡ true → 12 ≤ length bytes
 unfolding pat_fills
 filled_long bytes h =
-    let fills = both (has_size 12 bytes) (is_some (run_of pair_at (pairs_in bytes))) h in
-    let sized = both (nat_le (section_length bytes) 1021 && (section_length bytes + 3 == length bytes)) (nat_le 12 (length bytes)) fills.0 in
+    let fills = and_parts (has_size 12 bytes) (is_some (run_of pair_at (pairs_in bytes))) h in
+    let sized = and_parts (nat_le (section_length bytes) 1021 && (section_length bytes + 3 == length bytes)) (nat_le 12 (length bytes)) fills.0 in
     leb-true _ _ sized.1

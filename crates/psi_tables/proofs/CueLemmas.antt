@@ -9,7 +9,7 @@ use Rattle.wire_fields.specs.Numbers.{AreBytes}
 use Rattle.psi_tables.specs.Descriptors.{Descriptor, cue_registration, descriptor_bytes, without_registration}
 use Rattle.psi_tables.specs.Streams.{Entry, entry_bytes}
 use Rattle.psi_tables.specs.ProgramMap.{ProgramMap, map_length, body_with, pmt_section, descriptors_bytes, entries_bytes, info_in, entries_in, map_of, pmt_fault}
-use Rattle.psi_section.specs.Crc.{closed}
+use Rattle.psi_section.specs.Crc.{with_crc}
 use Rattle.psi_tables.specs.Cue.{cue_entry, sealed, with_cue_entry, lists_pid, without_pid, without_cue_entry, section_or_too_long}
 use Rattle.psi_tables.proofs.MapLemmas.{faultless}
 use Rattle.psi_tables.proofs.MapGrammar.{loops_of_map}
@@ -18,7 +18,7 @@ abbrev with_loops : ProgramMap → List Descriptor → List Entry → ProgramMap
 with_loops m ds es = record m { descriptors = ds; entries = es }
 
 sealed_section : (m : ProgramMap) (ds : List Descriptor) (es : List Entry) (info entries : List ℕ) → descriptors_bytes ds ≡ info → entries_bytes es ≡ entries
-    → pmt_section (sealed (with_loops m ds es)) ≡ closed (body_with m info entries)
+    → pmt_section (sealed (with_loops m ds es)) ≡ with_crc (body_with m info entries)
 unfolding body_with
 sealed_section m ds es info entries d e = rw (d, e) refl
 
@@ -47,7 +47,7 @@ module _ (bytes : List ℕ) (pid : ℕ) (sound : is_none (pmt_fault bytes) ≡ t
       ∙ ap (λ (xs : List ℕ). sized_answer (with_cue_entry pid (map_of bytes)) info xs) (more_listed e)
 
   pub added : info ≡ info_in bytes ++ descriptor_bytes cue_registration → entries ≡ entries_in bytes ++ entry_bytes (cue_entry pid) → map_length info entries ≤ 1021
-      → Ok (closed (body_with (map_of bytes) info entries)) ≡ section_or_too_long (with_cue_entry pid (map_of bytes))
+      → Ok (with_crc (body_with (map_of bytes) info entries)) ≡ section_or_too_long (with_cue_entry pid (map_of bytes))
   unfolding with_cue_entry
   added i e le =
       let m = map_of bytes in
@@ -62,7 +62,7 @@ module _ (bytes : List ℕ) (pid : ℕ) (sound : is_none (pmt_fault bytes) ≡ t
       sym (by_sizes i e ∙ rw test refl)
 
   pub stripped : entries ≡ entries_bytes (without_pid pid (map_of bytes).entries) → list_any (lists_pid pid) (map_of bytes).entries ≡ true → info ≡ descriptors_bytes (without_registration (map_of bytes).descriptors)
-      → closed (body_with (map_of bytes) info entries) ≡ pmt_section (without_cue_entry pid (map_of bytes))
+      → with_crc (body_with (map_of bytes) info entries) ≡ pmt_section (without_cue_entry pid (map_of bytes))
   unfolding without_cue_entry
   stripped e any i =
       let m = map_of bytes in
@@ -70,7 +70,7 @@ module _ (bytes : List ℕ) (pid : ℕ) (sound : is_none (pmt_fault bytes) ≡ t
       sym (rw any section)
 
   pub unstripped : entries ≡ entries_bytes (without_pid pid (map_of bytes).entries) → list_any (lists_pid pid) (map_of bytes).entries ≡ false → info ≡ info_in bytes
-      → closed (body_with (map_of bytes) info entries) ≡ pmt_section (without_cue_entry pid (map_of bytes))
+      → with_crc (body_with (map_of bytes) info entries) ≡ pmt_section (without_cue_entry pid (map_of bytes))
   unfolding without_cue_entry
   unstripped e any i =
       let m = map_of bytes in

@@ -1,7 +1,7 @@
 -- What is read of a program map is what its bytes spell, and nothing else.
 use Rattle.std.proofs.Common.{◌≡◌, ℕ, ◌+◌, ◌-◌, ◌*◌, ◌/◌, ◌%◌, ◌≤◌, true, false, List, [], ◌∷◌, ◌++◌, length, take, drop, slice_index, Option, None, Ok, refl, sym, ap, ◌∙◌, arith}
 use Rattle.std.specs.Prelude.{is_none, is_some, nat_lt, nat_le, ◌==◌, ◌&&◌}
-use Rattle.std.proofs.lemmas.Bool.{le-ltb, le-leb, eq-eqb}
+use Rattle.std.proofs.lemmas.Bool.{le-ltb, le-leb, eq-eqb, and_from}
 use Rattle.std.proofs.lemmas.List.{length-drop, length-take, length-append, take_at, drop_at, take-append-drop, drop-append-le}
 use Rattle.byteorder.specs.Endian.{big_bytes}
 use Rattle.psi_tables.specs.declared.fault.TableFault.{TableFault}
@@ -13,13 +13,13 @@ use Rattle.psi_tables.specs.Runs.{run_of, things_of}
 use Rattle.psi_tables.specs.Descriptors.{IsDescriptor, descriptor_bytes, descriptor_at}
 use Rattle.psi_tables.specs.Streams.{IsEntry, entry_bytes, entry_at}
 use Rattle.psi_tables.specs.ProgramMap.{ProgramMap, IsProgramMap, map_length, body_with, map_body, pmt_section, descriptors_bytes, entries_bytes, info_length, info_in, entries_in, map_of, pmt_fills, pmt_fault, pmt}
-use Rattle.psi_tables.proofs.Chains.{both_are}
 use Rattle.wire_fields.proofs.Cells.{AreBytes-drop, AreBytes-take, field16, field32, one_at, two_at, four_at, number16_fits, number32_fits}
 use Rattle.psi_tables.proofs.SectionLemmas.{length_is, syntax_is}
 use Rattle.psi_tables.proofs.RunLemmas.{Spelled, things_spelled, things_back, fills_back}
 use Rattle.psi_tables.proofs.DescriptorLemmas.{descriptor_shortens, descriptor_fits, descriptor_back}
 use Rattle.psi_tables.proofs.EntryLemmas.{entry_shortens, entry_fits, entry_back}
 use Rattle.psi_tables.proofs.MapLemmas.{IsPmt}
+use Rattle.psi_tables.proofs.AssociationGrammar.{field_of}
 
 -- ---- read, then spelled
 
@@ -56,9 +56,6 @@ sizes bytes is =
       omega (arith, length-take n behind, length-drop 12 (before_crc bytes), length-take (length bytes - 4) bytes),
       omega (arith, length-take n behind, length-drop n behind, length-drop 12 (before_crc bytes), length-take (length bytes - 4) bytes),
     )
-
-field_of : (n size : ℕ) → n % 4096 ≡ size → n ≡ n / 4096 * 4096 + size
-field_of n size e = omega arith
 
 -- the section by the bytes of its loops
 map_is : (bytes : List ℕ) → AreBytes bytes → IsPmt bytes → bytes ≡ body_with (map_of bytes) (info_in bytes) (entries_in bytes) ++ big_bytes 4 (number32_at bytes (length bytes - 4))
@@ -160,10 +157,10 @@ unfolding pmt_fault pmt_fills
 no_fault bytes is =
     let long = is.long in
     let size = is.size in
-    let table : is_table 2 bytes ≡ true = both_are (slice_index bytes 0 == 2) (has_syntax bytes) (eq-eqb _ _ is.id) (eq-eqb _ _ is.syntax) in
+    let table : is_table 2 bytes ≡ true = and_from (slice_index bytes 0 == 2) (has_syntax bytes) (eq-eqb _ _ is.id) (eq-eqb _ _ is.syntax) in
     let sized : has_size 16 bytes ≡ true =
-    both_are (nat_le (section_length bytes) 1021 && (section_length bytes + 3 == length bytes)) (nat_le 16 (length bytes))
-    (both_are (nat_le (section_length bytes) 1021) (section_length bytes + 3 == length bytes) (le-leb _ _ is.most) (eq-eqb _ _ is.size)) (le-leb _ _ (omega arith)) in
+    and_from (nat_le (section_length bytes) 1021 && (section_length bytes + 3 == length bytes)) (nat_le 16 (length bytes))
+    (and_from (nat_le (section_length bytes) 1021) (section_length bytes + 3 == length bytes) (le-leb _ _ is.most) (eq-eqb _ _ is.size)) (le-leb _ _ (omega arith)) in
     let here : nat_lt (length bytes) 3 ≡ false = le-ltb (length bytes) 3 (omega arith) in
     let room : nat_le (16 + info_length bytes) (length bytes) ≡ true = le-leb _ _ is.long in
     rw (here, table, sized, room, is.described, is.listed) refl

@@ -1,7 +1,7 @@
 -- A program map section that has no fault.
 use Rattle.std.proofs.Common.{◌≡◌, ℕ, ◌+◌, ◌-◌, ◌/◌, ◌%◌, ◌≤◌, List, length, drop, slice_index, true, None, arith}
 use Rattle.std.specs.Prelude.{is_none, is_some, not, nat_lt, nat_le, ◌==◌, ◌&&◌}
-use Rattle.std.proofs.lemmas.Bool.{leb-true, eqb-true}
+use Rattle.std.proofs.lemmas.Bool.{leb-true, eqb-true, and_parts, not-false}
 use Rattle.std.proofs.lemmas.List.{length-drop, length-take}
 use Rattle.psi_tables.specs.declared.fault.TableFault.TheVariants.{WrongTable, BadLength}
 use Rattle.psi_section.specs.Sections.{section_length, has_syntax}
@@ -10,7 +10,7 @@ use Rattle.psi_tables.specs.Runs.{run_of}
 use Rattle.psi_tables.specs.Descriptors.{descriptor_at}
 use Rattle.psi_tables.specs.Streams.{entry_at}
 use Rattle.psi_tables.specs.ProgramMap.{info_length, info_in, entries_in, pmt_fills, pmt_fault}
-use Rattle.psi_tables.proofs.Chains.{guarded, unless, both, none_is}
+use Rattle.psi_tables.proofs.Chains.{guarded, none_is}
 
 pub record IsPmt (bytes : List ℕ) : Type 0 where
   pub id : slice_index bytes 0 ≡ 2
@@ -30,12 +30,12 @@ faultless bytes h =
     let first = guarded (nat_lt (length bytes) 3) BadLength _ h in
     let second = guarded (not (is_table 2 bytes)) WrongTable _ first.1 in
     let third = guarded (not (has_size 16 bytes && long && described && listed)) BadLength None second.1 in
-    let table = both (slice_index bytes 0 == 2) (has_syntax bytes) (unless (is_table 2 bytes) second.0) in
-    let fills = both (has_size 16 bytes && long && described) listed (unless _ third.0) in
-    let fills' = both (has_size 16 bytes && long) described fills.0 in
-    let fills'' = both (has_size 16 bytes) long fills'.0 in
-    let sized = both (nat_le (section_length bytes) 1021 && (section_length bytes + 3 == length bytes)) (nat_le 16 (length bytes)) fills''.0 in
-    let parts = both (nat_le (section_length bytes) 1021) (section_length bytes + 3 == length bytes) sized.0 in
+    let table = and_parts (slice_index bytes 0 == 2) (has_syntax bytes) (not-false (is_table 2 bytes) second.0) in
+    let fills = and_parts (has_size 16 bytes && long && described) listed (not-false _ third.0) in
+    let fills' = and_parts (has_size 16 bytes && long) described fills.0 in
+    let fills'' = and_parts (has_size 16 bytes) long fills'.0 in
+    let sized = and_parts (nat_le (section_length bytes) 1021 && (section_length bytes + 3 == length bytes)) (nat_le 16 (length bytes)) fills''.0 in
+    let parts = and_parts (nat_le (section_length bytes) 1021) (section_length bytes + 3 == length bytes) sized.0 in
     record {
       id = eqb-true _ _ table.0;
       syntax = eqb-true _ _ table.1;

@@ -2,13 +2,12 @@
 use Rattle.std.proofs.Common.{◌≡◌, ℕ, ◌+◌, ◌<◌, ◌≤◌, List, [], ◌∷◌, ◌++◌, length, Bool, true, false, Result, Ok, Err, refl, sym, ap, ◌∙◌, arith, append_assoc}
 use Rattle.std.specs.Prelude.{◌==◌, ◌&&◌, nat_lt}
 use Rattle.std.specs.Bool.{Decides}
-use Rattle.std.proofs.lemmas.Bool.{le-ltb, lt-ltb, eqb-true}
+use Rattle.std.proofs.lemmas.Bool.{le-ltb, lt-ltb, eqb-true, and_parts}
 use Rattle.std.proofs.lemmas.List.{append-nil, length-append}
 use Rattle.std.proofs.lemmas.Bool.Decides.{Decides-eqb}
 use Rattle.psi_tables.specs.declared.stream.Stream.{Stream}
 use Rattle.psi_tables.specs.declared.fault.TooManyStreams.{TooManyStreams}
 use Rattle.psi_tables.specs.Streams.{is_switched, switched_of, few_switched}
-use Rattle.psi_tables.proofs.Chains.{both}
 
 -- the list so far, and what is to come
 pub record Switching (found rest all : List Stream) : Type 0 where
@@ -55,7 +54,7 @@ stream_of_parts a b p q = ap (λ (k : ℕ). made k a.pid) p ∙ ap (λ (n : ℕ)
 
 pub stream_decides : (a b : Stream) → Decides ((a.kind == b.kind) && (a.pid == b.pid)) (a ≡ b)
 stream_decides a b = (
-  λ h. let parts = both (a.kind == b.kind) (a.pid == b.pid) h in stream_of_parts a b (eqb-true _ _ parts.0) (eqb-true _ _ parts.1),
+  λ h. let parts = and_parts (a.kind == b.kind) (a.pid == b.pid) h in stream_of_parts a b (eqb-true _ _ parts.0) (eqb-true _ _ parts.1),
   λ e. rw ((Decides-eqb a.kind b.kind).1 (ap (λ (s : Stream). s.kind) e), (Decides-eqb a.pid b.pid).1 (ap (λ (s : Stream). s.pid) e)) refl,
 )
 

@@ -2,7 +2,7 @@
 
 ghost use Rattle.std.specs.Prelude.{◌≡◌, ◌+◌, ◌<◌, ◌≤◌, ◌++◌, length};
 ghost use Rattle.psi_tables.specs.ProgramMap.{map_of, map_length, body_with};
-ghost use Rattle.psi_section.specs.Crc.{closed};
+ghost use Rattle.psi_section.specs.Crc.{with_crc};
 
 use arrayvec::ArrayVec;
 use psi_section::seal;
@@ -40,7 +40,7 @@ fn body_of(map: &[u8], info: &[u8], entries: &[u8]) -> Section
 pub fn map_with(map: &[u8], info: &[u8], entries: &[u8]) -> Section
     requires long { 16 ≤ length map.now }
     requires size { map_length info.now entries.now ≤ 1021 }
-    ensures { result.items ≡ closed (body_with (map_of map.now) info.now entries.now) }
+    ensures { result.items ≡ with_crc (body_with (map_of map.now) info.now entries.now) }
 {
     let mut out = body_of(map, info, entries);
     seal(&mut out);

@@ -30,14 +30,14 @@ pub record IsWhole (bytes : List ℕ) (size : ℕ) : Type 0 where
   pub sized : size_in bytes ≡ Some size
   pub fits : size ≤ length bytes
 
-whole_sized : (b : Bool) (bytes : List ℕ) (n size : ℕ) → nat_lt (length bytes) n ≡ b → (if b then NeedMore (n - length bytes) else Whole n) ≡ Whole size → (n ≡ size) × (size ≤ length bytes)
+pub whole_sized : (b : Bool) (bytes : List ℕ) (n size : ℕ) → nat_lt (length bytes) n ≡ b → (if b then NeedMore (n - length bytes) else Whole n) ≡ Whole size → (n ≡ size) × (size ≤ length bytes)
 whole_sized true bytes n size e h = absurd cc
 whole_sized false bytes n size e h =
     let same : n ≡ size = cc in
     let le : n ≤ length bytes = ltb-false (length bytes) n e in
     (same, omega arith)
 
-whole_by : (bytes : List ℕ) (o : Option ℕ) (size : ℕ) → size_in bytes ≡ o → frame_by bytes o ≡ Whole size → (size_in bytes ≡ Some size) × (size ≤ length bytes)
+pub whole_by : (bytes : List ℕ) (o : Option ℕ) (size : ℕ) → size_in bytes ≡ o → frame_by bytes o ≡ Whole size → (size_in bytes ≡ Some size) × (size ≤ length bytes)
 whole_by bytes None size e h = absurd cc
 whole_by bytes (Some n) size e h =
     let p = whole_sized _ bytes n size refl h in

@@ -3,7 +3,7 @@
 use Rattle.std.specs.Prelude.{ℕ, ◌+◌, ◌*◌, ◌<◌, ◌^◌, true, false, List, [], ◌∷◌, ◌++◌, length, Some, None}
 use Rattle.std.specs.List.{flat_map, AllByRecursion}
 use Rattle.byteorder.specs.Endian.{big_bytes}
-use Rattle.psi_section.specs.Crc.{closed}
+use Rattle.psi_section.specs.Crc.{with_crc}
 use Rattle.scte35_codec.specs.declared.cue_out.CueOut.{CueOut}
 use Rattle.scte35_codec.specs.declared.cue_out.CueOut.TheVariants.{Start, Cancel, End}
 use Rattle.scte35_codec.specs.Reading.{CueReading, insert, cancel}
@@ -44,7 +44,7 @@ unchecked_bytes (Cancel event) = head_bytes 5 0 ++ (big_bytes 4 event ++ (0xFF �
 unchecked_bytes (End event time) = head_bytes 15 0 ++ end_bytes event time ++ loop_bytes []
 
 unfoldable pub cue_bytes : CueOut → List ℕ
-cue_bytes cue = closed (unchecked_bytes cue)
+cue_bytes cue = with_crc (unchecked_bytes cue)
 
 -- what such a cue says
 abbrev pub told_of : CueOut → CueReading

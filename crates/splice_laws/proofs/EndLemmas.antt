@@ -88,7 +88,7 @@ not-ahead edge None h w a k = true_or_false false a refl
 not-ahead edge (Some t) None w a k = absurd w
 not-ahead edge (Some t) (Some h) w a k = grind (arith, ints)
 
-settled-low : (x : PlayedEvent) (stop : ℤ) (h : Option ℤ) → IsSettled x (Some stop) h → x.stop ≤ℤ stop
+pub settled-low : (x : PlayedEvent) (stop : ℤ) (h : Option ℤ) → IsSettled x (Some stop) h → x.stop ≤ℤ stop
 settled-low x stop h (inl e) = rw e (at x.stop) where
   at : (a : ℤ) → a ≤ℤ a
   at a = grind (arith, ints)

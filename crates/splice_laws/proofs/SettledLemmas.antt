@@ -79,7 +79,7 @@ holds_settle r w x known past s = holds-settled x known (r.time past) (r.high pa
 
 -- ---- PIDs
 
-risen-trans : (a b c : Option ℤ) → Risen a b → Risen b c → Risen a c
+pub risen-trans : (a b c : Option ℤ) → Risen a b → Risen b c → Risen a c
 risen-trans None b c h k = tt
 risen-trans (Some a) None c h k = absurd h
 risen-trans (Some a) (Some b) None h k = absurd k
@@ -97,7 +97,7 @@ timed-risen h None before w = w
 timed-risen None (Some t) before w = same _
 timed-risen (Some h) (Some t) before w = max-above h _
 
-begins-among : (sw : List ℕ) (pid : ℕ) → Contains sw pid → (p : List ℕ) (past : List (List ℕ)) → begins pid p past ≡ true → begins_one sw p past ≡ true
+pub begins-among : (sw : List ℕ) (pid : ℕ) → Contains sw pid → (p : List ℕ) (past : List (List ℕ)) → begins pid p past ≡ true → begins_one sw p past ≡ true
 begins-among sw pid c p past b = at sw c.0 c.1 c.2 where
   or_left : (a b : Bool) → a ≡ true → a || b ≡ true
   or_left a b h = rw h refl

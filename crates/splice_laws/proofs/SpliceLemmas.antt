@@ -13,32 +13,32 @@ use Rattle.splice_laws.proofs.StepLemmas.{true_or_false}
 use Rattle.splice_laws.proofs.HistoryLemmas.{begun-passed, passed-dead}
 use Rattle.splice_laws.proofs.PlacedLemmas.{opens-first}
 
-not_between : (c f a : Bool) → a ≡ true → c && (f && not a) ≡ false
+pub not_between : (c f a : Bool) → a ≡ true → c && (f && not a) ≡ false
 not_between false f a h = refl
 not_between true false a h = refl
 not_between true true a h = ap not h
 
-not_newly : {A : Type 0} (b z : Bool) (l : List A) → (b ≡ false → z ≡ false) → (if not b && z then l else []) ≡ []
+pub not_newly : {A : Type 0} (b z : Bool) (l : List A) → (b ≡ false → z ≡ false) → (if not b && z then l else []) ≡ []
 not_newly true z l h = refl
 not_newly false z l h = let e = h refl in simp e
 
-not_own : {A : Type 0} (c q o : Bool) (l : List A) → q ≡ false → (if c && (q && o) then l else []) ≡ []
+pub not_own : {A : Type 0} (c q o : Bool) (l : List A) → q ≡ false → (if c && (q && o) then l else []) ≡ []
 not_own false q o l h = refl
 not_own true q o l h = simp h
 
-own_past : (c f h q o : Bool) → f ≡ true → h ≡ not q → c && (f && (not h && o)) ≡ c && (q && o)
+pub own_past : (c f h q o : Bool) → f ≡ true → h ≡ not q → c && (f && (not h && o)) ≡ c && (q && o)
 own_past c f h true o e g = simp (e, g)
 own_past c f h false o e g = simp (e, g)
 
-own_below : (c f h o a : Bool) → h ≡ false → o ≡ true → a ≡ false → c && (f && (not h && o)) ≡ c && (f && not a)
+pub own_below : (c f h o a : Bool) → h ≡ false → o ≡ true → a ≡ false → c && (f && (not h && o)) ≡ c && (f && not a)
 own_below c f h o a e g d = simp (e, g, d)
 
 -- F G the parts up to the event, U W the event where it is reached, P Z those behind it: with the packet and without; D C E the packet, S T the slices at it
-glue_past : {A : Type 0} (F G D U W S P T C E Z : List A) → F ≡ D ++ G → U ≡ S ++ W → P ≡ T ++ (E ++ Z) → D ≡ [] → G ≡ [] → W ≡ [] → C ≡ E →
+pub glue_past : {A : Type 0} (F G D U W S P T C E Z : List A) → F ≡ D ++ G → U ≡ S ++ W → P ≡ T ++ (E ++ Z) → D ≡ [] → G ≡ [] → W ≡ [] → C ≡ E →
     F ++ (U ++ P) ≡ (S ++ T) ++ (C ++ (G ++ (W ++ Z)))
 glue_past F G D U W S P T C E Z f u p d g w c = simp (f, u, p, d, g, w, c, append_assoc)
 
-glue_below : {A : Type 0} (F G D U W S P T C E Z : List A) → F ≡ D ++ G → U ≡ S ++ W → P ≡ T ++ (E ++ Z) → S ≡ [] → T ≡ [] → E ≡ [] → C ≡ D →
+pub glue_below : {A : Type 0} (F G D U W S P T C E Z : List A) → F ≡ D ++ G → U ≡ S ++ W → P ≡ T ++ (E ++ Z) → S ≡ [] → T ≡ [] → E ≡ [] → C ≡ D →
     F ++ (U ++ P) ≡ (S ++ T) ++ (C ++ (G ++ (W ++ Z)))
 glue_below F G D U W S P T C E Z f u p s t e c = simp (f, u, p, s, t, e, c, append_assoc)
 

@@ -4,6 +4,7 @@ use Rattle.std.proofs.Common.{◌≡◌, ℕ, List, [], ◌∷◌, ◌++◌, Boo
 use Rattle.std.proofs.lemmas.List.{append-nil}
 use Rattle.std.proofs.lemmas.List.Elements.{All-head, All-tail, All-cons, All-nil}
 use Rattle.std.proofs.lemmas.Bool.Decides.{nat_tests}
+use Rattle.std.proofs.lemmas.Bool.{eqb-true}
 use Rattle.ts_packet.specs.Fields.{payload_on, on, pid_of, is_among}
 use Rattle.ts_packet.specs.Runs.{Seen, seen_after}
 use Rattle.ts_packet.proofs.Cases.{by_test}
@@ -23,12 +24,9 @@ use Rattle.splice_laws.proofs.PlacedLemmas.{silent, out_counts_all, as_inserted-
 test-same : (q : ℕ) → (q == q) ≡ true
 test-same q = grind (arith, nat_tests)
 
-test-true : (q pid : ℕ) → (q == pid) ≡ true → q ≡ pid
-test-true q pid h = grind (arith, nat_tests)
-
 pub same-pid : (q pid : ℕ) (p : List ℕ) → payload_on q p ≡ true → payload_on pid p ≡ true → q ≡ pid
 unfolding on
-same-pid q pid p h g = let a = payload_on-on q p h in let b = payload_on-on pid p g in sym (test-true (pid_of p) q (and_right _ _ a)) ∙ test-true (pid_of p) pid (and_right _ _ b) where
+same-pid q pid p h g = let a = payload_on-on q p h in let b = payload_on-on pid p g in sym (eqb-true (pid_of p) q (and_right _ _ a)) ∙ eqb-true (pid_of p) pid (and_right _ _ b) where
   and_right : (a b : Bool) → a && b ≡ true → b ≡ true
   and_right true b h = h
   and_right false true h = refl

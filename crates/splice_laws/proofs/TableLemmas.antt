@@ -11,7 +11,7 @@ use Rattle.splice_laws.proofs.TimeLemmas.{stands-later}
 use Rattle.splice_laws.proofs.HistoryLemmas.{closed-begun}
 use Rattle.splice_laws.proofs.SettledLemmas.{early, early-out}
 
-ahead-before : (h h' : Option ℤ) (edge : ℤ) → Risen h h' → IsAhead h' edge → IsAhead h edge
+pub ahead-before : (h h' : Option ℤ) (edge : ℤ) → Risen h h' → IsAhead h' edge → IsAhead h edge
 ahead-before None h' edge g a = tt
 ahead-before (Some h) None edge g a = absurd g
 ahead-before (Some h) (Some h') edge g a = grind (arith, ints)

@@ -9,7 +9,7 @@ use Rattle.splice_plans.specs.Laws.{SwitchGrows}
 one_more : (more : List (List ℕ)) (p : List ℕ) (past : List (List ℕ)) → (more ++ p ∷ []) ++ past ≡ more ++ (p ∷ past)
 one_more more p past = search (rules, append_assoc)
 
-onto_grows : (past ps : List (List ℕ)) → (more : List (List ℕ)) × (onto past ps ≡ more ++ past)
+pub onto_grows : (past ps : List (List ℕ)) → (more : List (List ℕ)) × (onto past ps ≡ more ++ past)
 onto_grows past [] = ([], refl)
 onto_grows past (p ∷ ps) = let g = onto_grows (p ∷ past) ps in (g.0 ++ p ∷ [], g.1 ∙ sym (one_more g.0 p past))
 

@@ -7,7 +7,7 @@ use Rattle.unit_stream.specs.Times.{high}
 use Rattle.program_follower.specs.Program.{known_map, behind_head, program_in, pids_of}
 use Rattle.program_laws.proofs.HeadLemmas.{known_stays, nothing_behind}
 use Rattle.armed_events.specs.Arming.{armed}
-use Rattle.armed_laws.specs.Laws.{Grows, NeverFalls}
+use Rattle.armed_laws.specs.Laws.{Grows, OnlyRises}
 use Rattle.armed_laws.proofs.GrowLemmas.{packets-grow}
 use Rattle.armed_laws.proofs.MeetLemmas.{none-meet}
 use Rattle.splice_laws.specs.Laws.{Risen}
@@ -40,7 +40,7 @@ module _ (k : Setting) where
       let after : high_at k (p ∷ past) ≡ high (pids m) (p ∷ behind_head wanted past) = high-is (p ∷ past) m (known_stays wanted p past m is) ∙ ap (high (pids m)) (behind-more p past m is) in
       rw (high-is past m is, after) ((pids_are_streams (pids m) 0).rises p (behind_head wanted past))
 
-  pub never-falls : NeverFalls (high_at k)
+  pub never-falls : OnlyRises (high_at k)
   never-falls p past = never-by p past (known_map wanted past) refl
 
   -- behind a head

@@ -1,30 +1,27 @@
 -- The ends that are known of events, by what becomes of these.
-use Rattle.std.proofs.Common.{◌≡◌, ℕ, ◌<◌, List, [], ◌∷◌, ◌++◌, Bool, true, false, not, ◌&&◌, ◌||◌, ◌⊎◌, inl, inr, refl, sym, ap, ◌∙◌, Option, None, Some, arith, append_assoc}
+use Rattle.std.proofs.Common.{◌≡◌, ℕ, ◌<◌, List, [], ◌∷◌, ◌++◌, Bool, true, false, not, ◌&&◌, ◌||◌, ◌⊎◌, inl, inr, refl, sym, ap, ◌∙◌, Option, Some, arith, append_assoc}
 use Rattle.std.specs.Prelude.{ℤ, pos, ◌+ℤ◌, ◌≤ℤ◌, option_map, find, All, Contains}
 use Rattle.std.specs.Ordering.{int_eq}
 use Rattle.std.proofs.lemmas.Int.{ints}
-use Rattle.std.proofs.lemmas.Bool.{true≢false}
+use Rattle.std.proofs.lemmas.Bool.{true≢false, and_left}
 use Rattle.std.proofs.lemmas.List.Elements.{All-cons, All-nil, All-head, All-tail}
 use Rattle.ts_packet.proofs.Cases.{by_test}
 use Rattle.unit_stream.specs.Times.{high}
 use Rattle.event_table.specs.Standing.{Standing, end_of}
 use Rattle.armed_laws.specs.Laws.{Becomes, Grows, AreApart, IsApartOf, NoneMeet}
 use Rattle.splice_laws.specs.Splicing.{PlayedEvent, TimedStream, stream, at_or_past}
-use Rattle.splice_laws.specs.Laws.{IsStream, Risen}
+use Rattle.splice_laws.specs.Laws.{IsStream}
 use Rattle.splice_laws.specs.Settled.{IsAhead, IsSettled, IsSettledSince, NeverPassesHigh, begun_now, stands_now}
 use Rattle.splice_laws.proofs.EndLemmas.{not-ahead}
 use Rattle.splice_laws.proofs.PidLemmas.{pids_are_streams}
 use Rattle.splice_laws.proofs.SettledLemmas.{flags_settle, switched_pids_are_within}
+use Rattle.splice_laws.proofs.TableLemmas.{ahead-before}
 use Rattle.splice_plans.specs.Playing.{Adverts, History, is_played, as_played, end_known}
 use Rattle.splice_plans.specs.Laws.{EndFalls}
 use Rattle.splice_plans.specs.Histories.{IsHistory, AreSteady, EndsNeverRise, IsSettledAt, PlayedSettle}
 
 low : (a : ℤ) → a ≤ℤ a
 low a = omega (arith, ints)
-
-and-left : (a b : Bool) → a ≡ false → (a && b) ≡ false
-and-left true b h = absurd (true≢false h)
-and-left false b h = refl
 
 and-right : (a b c : Bool) → a ≡ true → b ≡ c → (a && b) ≡ (a && c)
 and-right a b c h k = ap (λ d. a && d) k
@@ -55,7 +52,7 @@ module _ (ads : Adverts) (steady : AreSteady ads) (line : Option ℤ) where
   same-meant start past e x b = by_test (int_eq e.start start)
       (λ is. ap (λ s. int_eq s start && is_played ads x) b.start
       ∙ ap (λ p. int_eq e.start start && p) (same-played e x b (uncancelled e x b (λ ahead. past (rw (sym (same-start e.start start is)) ahead)))))
-      (λ is. and-left (int_eq x.start start) (is_played ads x) (ap (λ s. int_eq s start) b.start ∙ is) ∙ sym (and-left (int_eq e.start start) (is_played ads e) is))
+      (λ is. and_left (int_eq x.start start) (is_played ads x) (ap (λ s. int_eq s start) b.start ∙ is) ∙ sym (and_left (int_eq e.start start) (is_played ads e) is))
 
   falls-one : (e x : Standing) → (end_of x ≡ end_of e) ⊎ (IsAhead line (end_of x) × (end_of x ≤ℤ end_of e)) → EndFalls line (Some (end_of e)) (Some (end_of x))
   falls-one e x (inl is) = (rw is (low (end_of e)), inl (sym is))
@@ -114,7 +111,7 @@ module _ (ads : Adverts) (steady : AreSteady ads) (line : Option ℤ) where
       by s n t h a = grind (arith, ints, h, a)
 
   not-meant : (e y x : Standing) → Becomes line e y → 0 < y.length → 0 < x.length → AreApart y x → is_meant x.start e ≡ false
-  not-meant e y x b h k a = and-left (int_eq e.start x.start) (is_played ads e) (ap (λ s. int_eq s x.start) (sym b.start) ∙ starts-differ y x h k a)
+  not-meant e y x b h k a = and_left (int_eq e.start x.start) (is_played ads e) (ap (λ s. int_eq s x.start) (sym b.start) ∙ starts-differ y x h k a)
 
   settled-one : (e y x : Standing) (es : List Standing) → Becomes line e y → 0 < y.length → 0 < x.length → AreApart y x → Settled es x → Settled (e ∷ es) x
   settled-one e y x es b h k a s is =
@@ -141,11 +138,6 @@ module _ (ads : Adverts) (steady : AreSteady ads) (line : Option ℤ) where
 
 -- ---- in a stream
 
-ahead-earlier : (a b : Option ℤ) (edge : ℤ) → Risen a b → IsAhead b edge → IsAhead a edge
-ahead-earlier None b edge r h = tt
-ahead-earlier (Some a) None edge r h = absurd r
-ahead-earlier (Some a) (Some b) edge r h = omega (arith, ints, r, h)
-
 module _ (r : TimedStream) (k : IsStream r) (w : NeverPassesHigh r) (x : PlayedEvent) (known : List (List ℕ) → Option ℤ) where
   begun-by : (a b c s : Bool) (edge : ℤ) (t : Option ℤ) → (a || ((b && c) && s)) ≡ true → (a ≡ true) ⊎ (c ≡ true)
   begun-by true b c s edge t h = inl refl
@@ -157,7 +149,7 @@ module _ (r : TimedStream) (k : IsStream r) (w : NeverPassesHigh r) (x : PlayedE
   pub begun-past : (past : List (List ℕ)) → begun_now r x known past ≡ true → IsAhead (r.high past) x.start → ⊥
   begun-past [] h ahead = true≢false (sym h)
   begun-past (p ∷ past) h ahead = either (begun-by (begun_now r x known past) (r.begins p past) (at_or_past x.start (r.time (p ∷ past))) (stands_now x (known (p ∷ past)) (r.high past)) x.start (r.time (p ∷ past)) h)
-      (λ b. begun-past past b (ahead-earlier (r.high past) (r.high (p ∷ past)) x.start (k.rises p past) ahead))
+      (λ b. begun-past past b (ahead-before (r.high past) (r.high (p ∷ past)) x.start (k.rises p past) ahead))
     where
       either : (begun_now r x known past ≡ true) ⊎ (at_or_past x.start (r.time (p ∷ past)) ≡ true) → (begun_now r x known past ≡ true → ⊥) → ⊥
       either (inl b) earlier = earlier b

@@ -2,6 +2,7 @@
 use Rattle.std.proofs.Common.{◌≡◌, ℕ, ◌∷◌, ◌++◌, [], List, Bool, true, false, not, ◌&&◌, if◌then◌else◌, length, drop, refl, ap, ◌∙◌}
 use Rattle.std.specs.Prelude.{ℤ, Option, map, flat_map}
 use Rattle.std.proofs.lemmas.Bool.{true≢false}
+use Rattle.std.proofs.Math.Seq.{drop-length}
 use Rattle.unit_stream.specs.Times.{begins_one}
 use Rattle.event_table.specs.Standing.{Standing}
 use Rattle.splice_laws.specs.Splicing.{PlayedEvent, SliceUnit, TimedStream, stream}
@@ -10,10 +11,6 @@ use Rattle.output_laws.specs.Output.{Put}
 use Rattle.splice_plans.specs.Playing.{Turns, played, as_played, end_known, sent_of_begun, sent_known, due_at, closing_at, running_at}
 use Rattle.splice_plans.specs.Switching.{puts_by}
 use Rattle.splice_plans.specs.Laws.{PutsAtUnitStarts}
-
-drop-all : (us : List SliceUnit) → drop (length us) us ≡ []
-drop-all [] = refl
-drop-all (u ∷ us) = drop-all us
 
 none-either : (b : Bool) (us : List SliceUnit) → us ≡ [] → (if b then us else []) ≡ []
 none-either true us h = h
@@ -32,7 +29,7 @@ module _ (turns : Turns) (r : TimedStream) (x : PlayedEvent) (known : List (List
       pick false b us vs e = refl
 
   none-due : due_at turns r x known units p past ≡ []
-  none-due = ap (λ us. drop (length (sent_known turns r x known units past)) us) same ∙ drop-all (sent_known turns r x known units past)
+  none-due = ap (λ us. drop (length (sent_known turns r x known units past)) us) same ∙ drop-length (sent_known turns r x known units past)
 
   none-closing : closing_at turns r x known units p past ≡ []
   none-closing = none-either (closed_now r x known (p ∷ past)) (due_at turns r x known units p past) none-due

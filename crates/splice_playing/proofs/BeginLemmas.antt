@@ -3,6 +3,7 @@ use Rattle.std.proofs.Common.{◌≡◌, ℕ, zero, suc, ◌%◌, ◌<◌, ◌�
 use Rattle.std.specs.Prelude.{ℤ, All, slice_get, slice_index_or, Result, Ok, Err, OnOk}
 use Rattle.std.proofs.lemmas.List.{append-nil, length-map}
 use Rattle.std.proofs.lemmas.Option.{none-some, same_Some, slice_get_within}
+use Rattle.std.proofs.lemmas.Bool.{eq-eqb}
 use Rattle.ts_packet.specs.Numbering.{Step, Counts}
 use Rattle.unit_stream.specs.Times.{stamp}
 use Rattle.unit_stream.specs.UnitPackets.{put_in}
@@ -24,7 +25,7 @@ use Rattle.splice_plans.specs.Known.{GoesAs, AllGo, behind_at, plans_at, inside_
 use Rattle.plan_laws.specs.Laws.{steps_of, steps_known, Starts, IsReady, closing_before, plans_between, steps_between, running_before, running_in}
 use Rattle.splice_playing.specs.Relations.{BeginsIn}
 use Rattle.splice_playing.proofs.StreamLemmas.{slot-old}
-use Rattle.splice_playing.proofs.PlaceLemmas.{clash, same-test}
+use Rattle.splice_playing.proofs.PlaceLemmas.{clash}
 use Rattle.plan_laws.proofs.TimeLemmas.{starts_are_near, high_is_reached, others_lie_as_before}
 use Rattle.plan_laws.proofs.JoinedLemmas.{front_goes_out, plans_go_on, counters_go_on}
 use Rattle.plan_laws.proofs.NothingLemmas.{nothing_stands}
@@ -184,10 +185,10 @@ module _ (k : Setting) (filed : ℕ → Option Advertisement) (listed : List Str
               let is : number ≡ j = grind (arith, h) in
               let t = there s in
               subst (λ m. Counts (slice_index_or turned m s).counter (steps_between k filed number of p past m)) is
-              (subst (λ b. Counts (slice_index_or turned number s).counter (if b then put_in (closing_before k filed number of p past) (steps number) else steps number)) (sym (same-test number number refl))
+              (subst (λ b. Counts (slice_index_or turned number s).counter (if b then put_in (closing_before k filed number of p past) (steps number) else steps number)) (sym (eq-eqb number number refl))
               (subst (λ (x : SwitchedStream). Counts x.counter (put_in (closing_before k filed number of p past) (steps number))) (sym t.2) (counted t.0 t.1)))
           by j s l false h =
-              let differ : number ≡ j → ⊥ = λ is. clash (j == number) (same-test j number (sym is)) h in
+              let differ : number ≡ j → ⊥ = λ is. clash (j == number) (eq-eqb j number (sym is)) h in
               subst (λ b. Counts (slice_index_or turned j s).counter (if b then put_in (closing_before k filed number of p past) (steps j) else steps j)) (sym h)
               (subst (λ (x : SwitchedStream). Counts x.counter (steps j)) (sym (others j s (other-of j differ))) (all j s l))
 
@@ -204,7 +205,7 @@ module _ (k : Setting) (filed : ℕ → Option Advertisement) (listed : List Str
             keeps j s ∙ ap (λ m. (slice_index_or turned m s).is_leaving) (sym is) ∙ ap (λ (x : SwitchedStream). x.is_leaving) t.2 ∙ left t.0 t.1
             ∙ ap (inside_at k past (p ∷ behind_at k past)) same
         leaves j s l q h false e =
-            let differ : number ≡ j → ⊥ = λ is. clash (number == j) (same-test number j is) e in
+            let differ : number ≡ j → ⊥ = λ is. clash (number == j) (eq-eqb number j is) e in
             keeps j s ∙ ap (λ (x : SwitchedStream). x.is_leaving) (others j s (other-of j differ))
             ∙ leaves-as (slice_index_or old j s) k.packed (inside_at k past (behind_at k past)) (moves_at k past) (slice_get (switched_at k past) j) (was j s l) q h
             ∙ sym (others_lie_as_before k filed number i.pid p past starts j q h (λ is. differ (sym is)))

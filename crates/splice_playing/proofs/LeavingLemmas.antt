@@ -1,7 +1,7 @@
 -- What tells the duplicates of units that are left out, with one packet more.
 use Rattle.std.proofs.Common.{◌≡◌, ℕ, ◌%◌, ◌<◌, ◌==◌, ◌||◌, List, [], ◌∷◌, length, Bool, true, false, refl, sym, ap, ◌∙◌, subst, arith, Option, None, Some}
 use Rattle.std.specs.Prelude.{is_some, option_map, slice_get, slice_index_or, slice_set}
-use Rattle.std.proofs.lemmas.Bool.{true≢false}
+use Rattle.std.proofs.lemmas.Bool.{true≢false, eq-eqb}
 use Rattle.std.proofs.lemmas.Option.{same_Some}
 use Rattle.ts_packet.specs.declared.follower.Follower.{Follower}
 use Rattle.ts_packet.specs.Fields.{on, on_one, payload, payload_on, pid_of}
@@ -20,9 +20,10 @@ use Rattle.splice_plans.specs.Fronts.{IsOther}
 use Rattle.splice_plans.specs.Switching.{Setting, switched_at, is_behind_head}
 use Rattle.splice_plans.specs.Known.{behind_at}
 use Rattle.known_laws.proofs.HeadLemmas.{same-switched, more-behind, first-behind}
+use Rattle.known_laws.proofs.OtherLemmas.{off-at}
 use Rattle.splice_playing.specs.declared.leaving.LeavingUnit.{LeavingUnit}
 use Rattle.splice_playing.specs.Leaving.{HasTaken, AllTaken, OthersTaken}
-use Rattle.splice_playing.proofs.PlaceLemmas.{clash, same-test, on-switched, other-pid, off-other}
+use Rattle.splice_playing.proofs.PlaceLemmas.{clash, other-pid, off-other}
 use Rattle.splice_playing.proofs.StreamLemmas.{slot-new, slot-old, slot-other}
 
 -- a packet without payload on the PID changes nothing
@@ -49,15 +50,12 @@ without-payload pid p h = by_test (payload_on pid p) (λ y. absurd (clash (is_so
 pub with-payload : (pid : ℕ) (p : List ℕ) → on pid p ≡ true → is_some (payload p) ≡ true → payload_on pid p ≡ true
 with-payload pid p o h = by_test (payload_on pid p) (λ y. y) (λ n. absurd (clash (is_some (payload p)) h (payload-none pid p o n)))
 
-off-in : (switched : List ℕ) (p : List ℕ) (i pid : ℕ) → on_one switched p ≡ false → slice_get switched i ≡ Some pid → on pid p ≡ false
-off-in switched p i pid off of = by_test (on pid p) (λ o. absurd (clash (on_one switched p) (on-switched pid switched i p of o) off)) (λ n. n)
-
 -- ---- a packet of none of the streams
 
 pub none-taken : (units : List LeavingUnit) (streams : List SwitchedStream) (switched : List ℕ) (p : List ℕ) (past : List (List ℕ)) → on_one switched p ≡ false
     → OthersTaken units streams switched p past → AllTaken units streams switched (p ∷ past)
 none-taken units streams switched p past off all = λ i pid u s l of leaves inside.
-    let y = off_payload pid p (off-in switched p i pid off of) in
+    let y = off_payload pid p (off-at switched p i pid off of) in
     let none = begins_off pid p past y in
     takes-none (slice_index_or units i u) pid p past y (all i pid u s l of leaves none (was-in pid p past none inside))
 
@@ -88,7 +86,7 @@ module _ (switched : List ℕ) (n pid : ℕ) (p : List ℕ) (past : List (List �
           → begins q p past ≡ false → in_unit q past ≡ true → (b : Bool) → (n == i) ≡ b → HasTaken (slice_index_or units i u) q past
       by i q u s l at leaves none inside true e = absurd (clash (begins pid p past) begun (ap (λ r. begins r p past) (number-is i q (slot-is i e) at) ∙ none))
       by i q u s l at leaves none inside false e =
-          let differ : n ≡ i → ⊥ = λ is. clash (n == i) (same-test n i is) e in
+          let differ : n ≡ i → ⊥ = λ is. clash (n == i) (eq-eqb n i is) e in
           let left : (slice_index_or old i s).is_leaving ≡ true
           = sym (ap (λ (x : SwitchedStream). x.is_leaving) (others i s (other-of i differ))) ∙ sym (keeps i s) ∙ leaves in
           all i q u s l at left inside
@@ -120,7 +118,7 @@ module _ (switched : List ℕ) (n pid : ℕ) (p : List ℕ) (past : List (List �
           subst (λ m. HasTaken (slice_index_or after m u) q (p ∷ past)) slot
           (subst (λ r. HasTaken (slice_index_or after (n % 8) u) r (p ∷ past)) same (own left (subst (λ r. in_unit r (p ∷ past) ≡ true) (sym same) inside) u))
       by i q u s l at leaves inside false e =
-          let differ : n ≡ i → ⊥ = λ is. clash (n == i) (same-test n i is) e in
+          let differ : n ≡ i → ⊥ = λ is. clash (n == i) (eq-eqb n i is) e in
           let none = off_payload q p (off-other pid q p o (other-pid pid q switched n i once of at differ)) in
           let old = begins_off q p past none in
           let left : (slice_index_or streams i s).is_leaving ≡ true = sym (ap (λ (x : SwitchedStream). x.is_leaving) (slot-other streams n y below i s low differ)) ∙ leaves in

@@ -1,7 +1,7 @@
 -- What is left at the end goes out stream by stream, and so does that of a whole network.
-use Rattle.std.proofs.Common.{◌≡◌, ℕ, ◌+◌, ◌<◌, ◌≤◌, ◌==◌, List, [], ◌∷◌, ◌++◌, Bool, true, false, ◌||◌, inl, inr, refl, sym, ap, ◌∙◌, subst, append_assoc, Option, None, Some, arith, length, map, length-append}
+use Rattle.std.proofs.Common.{◌≡◌, ℕ, ◌+◌, ◌<◌, ◌≤◌, ◌==◌, List, [], ◌∷◌, ◌++◌, Bool, true, false, inl, inr, refl, sym, ap, ◌∙◌, subst, append_assoc, Option, None, Some, arith, length, map, length-append}
 use Rattle.std.specs.Prelude.{slice_get, slice_index_or, is_some}
-use Rattle.std.proofs.lemmas.Bool.{true≢false}
+use Rattle.std.proofs.lemmas.Bool.{true≢false, or_left, or_parts, or_right}
 use Rattle.std.proofs.lemmas.Bool.Decides.{nat_tests}
 use Rattle.std.proofs.lemmas.List.{length-map}
 use Rattle.ts_packet.specs.Numbering.{Step}
@@ -43,21 +43,9 @@ test-same q = grind (arith, nat_tests)
 test-turned : (a b : ℕ) → (a == b) ≡ false → (b == a) ≡ false
 test-turned a b h = grind (arith, nat_tests, h)
 
-or-parts : (a b : Bool) → (a || b) ≡ false → (a ≡ false) × (b ≡ false)
-or-parts true b h = absurd (true≢false h)
-or-parts false b h = (refl, h)
-
-or-one : (a b : Bool) → a ≡ true → (a || b) ≡ true
-or-one true b h = refl
-or-one false b h = absurd (true≢false (sym h))
-
-or-two : (a b : Bool) → b ≡ true → (a || b) ≡ true
-or-two true b h = refl
-or-two false b h = h
-
 all-differ : (pid : ℕ) (ss : List Stream) → is_among pid (pids_in ss) ≡ false → AllDiffer pid ss
 all-differ pid [] h = tt
-all-differ pid (s ∷ ss) h = let parts = or-parts (s.pid == pid) (is_among pid (pids_in ss)) h in (test-turned s.pid pid parts.0, all-differ pid ss parts.1)
+all-differ pid (s ∷ ss) h = let parts = or_parts (s.pid == pid) (is_among pid (pids_in ss)) h in (test-turned s.pid pid parts.0, all-differ pid ss parts.1)
 
 abbrev AreOnce : List ℕ → Type 0
 AreOnce pids = (pid : ℕ) → is_among pid pids ≡ true → IsOnce pid pids
@@ -73,8 +61,8 @@ later-once pid q qs a (inr later) = later.1
 all-distinct : (ss : List Stream) → AreOnce (pids_in ss) → AllDistinct ss
 all-distinct [] once = tt
 all-distinct (s ∷ ss) once = (
-  all-differ s.pid ss (first-once s.pid (pids_in ss) (once s.pid (or-one (s.pid == s.pid) (is_among s.pid (pids_in ss)) (test-same s.pid)))),
-  all-distinct ss (λ pid a. later-once pid s.pid (pids_in ss) a (once pid (or-two (s.pid == pid) (is_among pid (pids_in ss)) a))),
+  all-differ s.pid ss (first-once s.pid (pids_in ss) (once s.pid (or_left (s.pid == s.pid) (is_among s.pid (pids_in ss)) (test-same s.pid)))),
+  all-distinct ss (λ pid a. later-once pid s.pid (pids_in ss) a (once pid (or_right (s.pid == pid) (is_among pid (pids_in ss)) a))),
 )
 
 -- ---- of all streams

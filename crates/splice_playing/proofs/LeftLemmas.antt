@@ -1,5 +1,5 @@
 -- What is left at the end of the events of a past: in each stream at most one event runs, and the rest of its slice goes out.
-use Rattle.std.proofs.Common.{◌≡◌, ℕ, ◌%◌, ◌<◌, List, [], ◌∷◌, ◌++◌, Bool, true, false, not, ◌&&◌, inl, inr, refl, sym, ap, ◌∙◌, Option, None, Some, arith, if◌then◌else◌, length, drop, take, map}
+use Rattle.std.proofs.Common.{◌≡◌, ℕ, ◌%◌, ◌<◌, List, [], ◌∷◌, ◌++◌, Bool, true, false, not, ◌&&◌, inl, inr, refl, sym, ap, ◌∙◌, Option, None, Some, arith, length, drop, take, map}
 use Rattle.std.specs.Prelude.{ℤ, pos, ◌+ℤ◌, int_lt, slice_get, find, flat_map, option_map, All, Contains}
 use Rattle.std.specs.List.{AllByRecursion}
 use Rattle.std.specs.Ordering.{int_eq}
@@ -7,6 +7,7 @@ use Rattle.std.proofs.lemmas.Int.{ints}
 use Rattle.std.proofs.lemmas.Bool.{true≢false}
 use Rattle.std.proofs.lemmas.List.{append-nil, length-map}
 use Rattle.std.proofs.lemmas.List.Elements.{All-head, All-tail}
+use Rattle.std.proofs.Math.Seq.{drop-length}
 use lib.Signed.{le_z}
 use Rattle.ts_packet.proofs.Cases.{by_test}
 use Rattle.ts_packet.specs.Numbering.{Step}
@@ -35,33 +36,15 @@ use Rattle.splice_plans.specs.Parts.{is_running, beside, delta_in, packets_in, p
 use Rattle.splice_plans.specs.Known.{part_known, is_crossed_known, plan_known}
 use Rattle.splice_plans.proofs.AdvertLemmas.{libraries_are_steady}
 use Rattle.splice_plans.proofs.KnownLemmas.{played_settle}
-use Rattle.plan_laws.proofs.StageLemmas.{stage_by, none-begun}
+use Rattle.plan_laws.proofs.StageLemmas.{none-begun}
 use Rattle.plan_laws.proofs.ToldLemmas.{IsFoundIn, all-found, end_if}
 use Rattle.plan_laws.proofs.PartLemmas.{get-within, get-map}
 use Rattle.plan_laws.proofs.PlayedLemmas.{put_on, as_played_units, rest_filed, rest-all, rest-packets}
 use Rattle.plan_laws.proofs.DueLemmas.{all-out}
-use Rattle.plan_laws.proofs.PlanLemmas.{IsOf, contained, none-begins, part-there, falls, slice-is, shut-flags}
+use Rattle.plan_laws.proofs.PlanLemmas.{IsOf, contained, none-begins, part-there, falls, slice-is, shut-flags, pick-first, pick-second, running-flags}
 use Rattle.plan_laws.proofs.RunningLemmas.{none-filter}
 use Rattle.plan_laws.proofs.StandingLemmas.{all-filter, pids_in}
 use Rattle.plan_laws.proofs.OrderLemmas.{AreAlone, sorted-same}
-
-pick-first : {A : Type 0} (x y : A) (b : Bool) → b ≡ true → (if b then x else y) ≡ x
-pick-first x y true h = refl
-pick-first x y false h = absurd (true≢false (sym h))
-
-pick-second : {A : Type 0} (x y : A) (b : Bool) → b ≡ false → (if b then x else y) ≡ y
-pick-second x y true h = absurd (true≢false h)
-pick-second x y false h = refl
-
-drop-all : (us : List SliceUnit) → drop (length us) us ≡ []
-drop-all [] = refl
-drop-all (u ∷ us) = drop-all us
-
-running-flags : (c b : Bool) → is_running (stage_by c b) ≡ (b && not c)
-running-flags true true = refl
-running-flags true false = refl
-running-flags false true = refl
-running-flags false false = refl
 
 -- one that stands no longer has come to its end
 end-reached : (e : Standing) (h : Option ℤ) → stands h e ≡ false → at_or_past (end_of e) h ≡ true
@@ -180,7 +163,7 @@ module _ (filed : ℕ → Option Advertisement) (streams : List Stream) (events 
         let all : sent q e ≡ up_to_end (end_of e) (ads.units e q)
         = all-out (begins_one pids) (stream pids q) (pids_are_streams pids q) (as_played e) (end_at e) (ads.units e q) (ends-fall e)
         (λ p past b. none-begins pids i q p past there b) (λ p past b. simp b refl) past (end_of e) flags.0 flags.1 (end-is e knows flags.0) (end-reached e (high pids past) out) in
-        run-left e knows y ∙ ap (drop (length (sent q e))) (sym all) ∙ drop-all (sent q e))
+        run-left e knows y ∙ ap (drop (length (sent q e))) (sym all) ∙ drop-length (sent q e))
         (idle-left e)
 
     not-played : (es : List Standing) → AllByRecursion Knows es → AllByRecursion (λ e. is_played ads e ≡ false → left q e ≡ []) es

@@ -1,7 +1,7 @@
 -- A packet of a switched stream on its way out: what stands in its place, what its counter counts, and that the other streams stay.
 use Rattle.std.proofs.Common.{◌≡◌, ℕ, zero, suc, ◌%◌, ◌<◌, List, [], ◌∷◌, ◌++◌, reverse, length, drop, Bool, true, false, not, ◌&&◌, ◌||◌, ◌==◌, inl, inr, refl, sym, ap, ◌∙◌, subst, arith, if◌then◌else◌, Option, None, Some}
 use Rattle.std.specs.Prelude.{ℤ, is_some, map, flat_map, slice_get, slice_index_or, slice_set}
-use Rattle.std.proofs.lemmas.Bool.{true≢false}
+use Rattle.std.proofs.lemmas.Bool.{true≢false, or_right, eq-eqb}
 use Rattle.std.proofs.lemmas.List.{reverse-append}
 use Rattle.std.proofs.lemmas.Option.{none-some, same_Some, slice_get_within}
 use Rattle.ts_packet.specs.Fields.{on, payload, payload_on, pid_of, pcr, renumbered, on_one, is_among}
@@ -19,7 +19,7 @@ use Rattle.armed_events.proofs.PastLemmas.{heard-off}
 use Rattle.splice_laws.specs.Splicing.{SliceUnit}
 use Rattle.splice_laws.specs.Streams.{IsOnce}
 use Rattle.output_laws.specs.Output.{Move, Keep, Leave, Put, network, Packing, counter_steps, out_at, clock_alone}
-use Rattle.output_laws.proofs.StepLemmas.{test-same, pid_is, payload-some, payload-none, kept_on}
+use Rattle.output_laws.proofs.StepLemmas.{pid_is, payload-some, payload-none, kept_on}
 use Rattle.outgoing_packets.specs.Numbers.{FrontFails}
 use Rattle.splice_plans.specs.declared.stream.SwitchedStream.{SwitchedStream}
 use Rattle.splice_plans.specs.Playing.{Adverts, History, played, is_inside, is_played}
@@ -30,10 +30,6 @@ use Rattle.splice_playing.proofs.StreamLemmas.{slot-new, slot-old, slot-other}
 
 -- ---- PIDs by their numbers
 
-or-true : (a b : Bool) → b ≡ true → (a || b) ≡ true
-or-true true b h = refl
-or-true false b h = h
-
 or-left : (a b : Bool) → (a || b) ≡ false → a ≡ false
 or-left true b h = h
 or-left false b h = refl
@@ -42,16 +38,13 @@ or-right : (a b : Bool) → (a || b) ≡ false → b ≡ false
 or-right true b h = absurd (true≢false h)
 or-right false b h = h
 
-pub same-test : (a b : ℕ) → a ≡ b → (a == b) ≡ true
-same-test a b h = rw h (test-same b)
-
 pub clash : (b : Bool) → b ≡ true → b ≡ false → ⊥
 clash b h k = true≢false (sym h ∙ k)
 
 pub among-by : (pid : ℕ) (pids : List ℕ) (n : ℕ) → slice_get pids n ≡ Some pid → is_among pid pids ≡ true
 among-by pid [] n h = absurd (none-some pid h)
-among-by pid (q ∷ pids) zero h = ap (λ b. b || is_among pid pids) (same-test q pid (same_Some q pid h))
-among-by pid (q ∷ pids) (suc n) h = or-true (q == pid) (is_among pid pids) (among-by pid pids n h)
+among-by pid (q ∷ pids) zero h = ap (λ b. b || is_among pid pids) (eq-eqb q pid (same_Some q pid h))
+among-by pid (q ∷ pids) (suc n) h = or_right (q == pid) (is_among pid pids) (among-by pid pids n h)
 
 not-among : (pid q : ℕ) (pids : List ℕ) (i : ℕ) → is_among pid pids ≡ false → slice_get pids i ≡ Some q → (q == pid) ≡ false
 not-among pid q [] i none h = absurd (none-some q h)
@@ -63,7 +56,7 @@ pub other-pid : (pid q : ℕ) (pids : List ℕ) (n i : ℕ) → IsOnce pid pids 
 other-pid pid q [] n i once h k differ = absurd once
 other-pid pid q (r ∷ pids) zero zero once h k differ = absurd (differ refl)
 other-pid pid q (r ∷ pids) zero (suc i) (inl once) h k differ = not-among pid q pids i once.1 k
-other-pid pid q (r ∷ pids) zero (suc i) (inr once) h k differ = absurd (clash (r == pid) (same-test r pid (same_Some r pid h)) once.0)
+other-pid pid q (r ∷ pids) zero (suc i) (inr once) h k differ = absurd (clash (r == pid) (eq-eqb r pid (same_Some r pid h)) once.0)
 other-pid pid q (r ∷ pids) (suc n) zero (inl once) h k differ = absurd (clash (is_among pid pids) (among-by pid pids n h) once.1)
 other-pid pid q (r ∷ pids) (suc n) zero (inr once) h k differ = ap (λ m. m == pid) (sym (same_Some r q k)) ∙ once.0
 other-pid pid q (r ∷ pids) (suc n) (suc i) (inl once) h k differ = absurd (clash (is_among pid pids) (among-by pid pids n h) once.1)
@@ -71,12 +64,12 @@ other-pid pid q (r ∷ pids) (suc n) (suc i) (inr once) h k differ = other-pid p
 
 -- a packet of one PID is on no other
 pub off-other : (pid q : ℕ) (p : List ℕ) → on pid p ≡ true → (q == pid) ≡ false → on q p ≡ false
-off-other pid q p o differ = by_test (on q p) (λ h. absurd (clash (q == pid) (same-test q pid (sym (pid_is q p h) ∙ pid_is pid p o)) differ)) (λ h. h)
+off-other pid q p o differ = by_test (on q p) (λ h. absurd (clash (q == pid) (eq-eqb q pid (sym (pid_is q p h) ∙ pid_is pid p o)) differ)) (λ h. h)
 
 pub on-switched : (pid : ℕ) (pids : List ℕ) (n : ℕ) (p : List ℕ) → slice_get pids n ≡ Some pid → on pid p ≡ true → on_one pids p ≡ true
 on-switched pid [] n p h o = absurd (none-some pid h)
 on-switched pid (q ∷ pids) zero p h o = ap (λ b. b || on_one pids p) (ap (λ r. on r p) (same_Some q pid h) ∙ o)
-on-switched pid (q ∷ pids) (suc n) p h o = or-true (on q p) (on_one pids p) (on-switched pid pids n p h o)
+on-switched pid (q ∷ pids) (suc n) p h o = or_right (on q p) (on_one pids p) (on-switched pid pids n p h o)
 
 -- ---- what the network has brought
 
@@ -216,7 +209,7 @@ no-time sw pid (p ∷ past) h =
     let n = or-left (begins pid p past) (in_unit pid past) h in
     simp n (no-time sw pid past (or-right (begins pid p past) (in_unit pid past) h))
 
-nothing-holds : (ads : Adverts) (es : List Standing) → is_inside ads es None ≡ false
+pub nothing-holds : (ads : Adverts) (es : List Standing) → is_inside ads es None ≡ false
 nothing-holds ads [] = refl
 nothing-holds ads (e ∷ es) = none (is_played ads e) (is_inside ads es None) (nothing-holds ads es)
   where
@@ -292,7 +285,7 @@ module _ (streams : List SwitchedStream) (y : SwitchedStream) (n : ℕ) (below :
           (subst (λ o. GoesAs (slice_index_or (slice_set streams (n % 8) y) n s) packed is_in (m ∷ M) o) (sym of)
           (subst (λ (t : SwitchedStream). Goes t packed pid (m ∷ M) (is_in pid)) (sym (slot-new streams n y below s low)) goes))
       slot i s l false h =
-          let differ : n ≡ i → ⊥ = λ is. clash (n == i) (same-test n i is) h in
+          let differ : n ≡ i → ⊥ = λ is. clash (n == i) (eq-eqb n i is) h in
           subst (λ (t : SwitchedStream). GoesAs t packed is_in (m ∷ M) (slice_get switched i)) (sym (slot-other streams n y below i s low differ))
           (goes-other (slice_index_or streams i s) packed is_in m M (slice_get switched i) (λ q h. same q (other-pid pid q switched n i once of h differ)) (all i s l))
 

@@ -1,21 +1,17 @@
 -- Events counted one by one.
 use Rattle.std.proofs.Common.{◌≡◌, ℕ, zero, suc, ◌+◌, ◌^◌, ◌%◌, ◌<◌, ◌≤◌, refl, sym, ap, ◌∙◌, subst, arith, List, [], ◌∷◌, length, take, Bool, true, false, not, ◌&&◌}
-use Rattle.std.specs.Prelude.{ℤ, Option, None, Some, option_map, int_lt, slice_index_or, count_by}
+use Rattle.std.specs.Prelude.{ℤ, Option, slice_index_or, count_by}
 use Rattle.std.proofs.lemmas.List.{get_or_default, length-map, take_all}
 use Rattle.std.proofs.lemmas.List.Sums.{count_by_more_yes, count_by_more_no}
-use Rattle.pes_time.specs.Line.{ring_of, signed}
-use Rattle.pes_time.proofs.LineLemmas.{ring-lift}
 use Rattle.psi_section.specs.Assembling.{capped}
 use Rattle.event_table.specs.declared.event.Event.{Event}
 use Rattle.event_table.specs.declared.table.Entry.{Entry}
 use Rattle.event_table.specs.declared.table.Table.{Table}
-use Rattle.event_table.specs.Standing.{Standing, on_ring, end_of, forgotten_at, IsTimeAt, IsWithin}
+use Rattle.event_table.specs.Standing.{Standing, on_ring, IsTimeAt, IsWithin}
 use Rattle.event_table.specs.Events.{ring_end}
 use Rattle.event_table.specs.Rings.{CanAdvance, is_before_on_ring}
 use Rattle.event_table.specs.Tables.{StandsFor, high_time_of, values_of}
-use Rattle.event_table.proofs.TableLemmas.{length-entries}
-use Rattle.event_table.proofs.TimeLemmas.{InWindow, before-window, ring-plus}
-use Rattle.event_table.proofs.EventLemmas.{next-window, forgotten-window, ring_end-on_ring}
+use Rattle.event_table.proofs.TableLemmas.{length-entries, kept-within}
 use Rattle.splice_plans.specs.declared.plan.Plan.{Plan}
 use Rattle.splice_plans.specs.declared.report.SwitchReport.{SwitchReport}
 use Rattle.splice_plans.specs.Playing.{Adverts, is_played}
@@ -119,18 +115,6 @@ one-same a a' b b' d d' c h k m = ap (λ x. with_one x b d c) h ∙ ap (λ x. wi
 
 -- ---- those that are forgotten
 
-ring-time : (line : Option ℤ) (p : ℕ) (later : ℤ) → p < 2 ^ 33 → IsTimeAt line p later → ring_of later ≡ p
-ring-time None p later fits is = is
-ring-time (Some h) p later fits is = ap ring_of is ∙ ring-lift h p fits
-
-out-within : (line : Option ℤ) (p : ℕ) (later : ℤ) → p < 2 ^ 33 → CanAdvance (option_map ring_of line) p → IsTimeAt line p later → (s : Standing) → IsWithin line s
-    → is_before_on_ring p ((ring_end (on_ring s) + 900000) % 2 ^ 33) ≡ int_lt later (forgotten_at s)
-out-within None p later fits can is s nothing = absurd nothing
-out-within (Some h) p later fits can is s reach =
-    let window : InWindow h later = next-window h (signed p (ring_of h)) later is can.above can.below in
-    rw (ring_end-on_ring s, ring-plus (end_of s) 900000, sym (ring-time (Some h) p later fits is))
-    (before-window h later (forgotten_at s) window (forgotten-window h s reach))
-
 module _ (t : Table Plan) (line : Option ℤ) (es : List Standing) (s : StandsFor t line es) (p : ℕ) (later : ℤ) (fits : p < 2 ^ 33) (can : CanAdvance (high_time_of t) p) (is : IsTimeAt line p later)
     (at : ℕ) (below : at < length t.entries.items) (entry : Entry Plan) (there : entry ≡ slice_index_or t.entries.items at entry) where
   pair-within : IsWithin line (pair t line es s at below entry there).0
@@ -139,4 +123,4 @@ module _ (t : Table Plan) (line : Option ℤ) (es : List Standing) (s : StandsFo
   pub out-is : not (is_before_on_ring p ((ring_end entry.event + 900000) % 2 ^ 33)) ≡ is_out_at later (pair t line es s at below entry there).0
   out-is =
       ap (λ (e : Event). not (is_before_on_ring p ((ring_end e + 900000) % 2 ^ 33))) (event-is t line es s at below entry there)
-      ∙ ap not (out-within line p later fits (subst (λ h. CanAdvance h p) s.high can) is (pair t line es s at below entry there).0 pair-within)
+      ∙ ap not (kept-within line p later fits (subst (λ h. CanAdvance h p) s.high can) is (pair t line es s at below entry there).0 pair-within)

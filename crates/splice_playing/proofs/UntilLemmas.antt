@@ -5,6 +5,7 @@ use Rattle.std.specs.List.{list_all}
 use Rattle.std.proofs.lemmas.Int.{ints}
 use Rattle.std.proofs.lemmas.Bool.{true≢false, and_parts}
 use Rattle.std.proofs.lemmas.Option.{none-some, same_Some}
+use Rattle.plan_laws.proofs.NothingLemmas.{none-within}
 use Rattle.pes_time.specs.Line.{signed, ring_of, lift, place, Near}
 use Rattle.pes_time.proofs.LineLemmas.{ring-lift}
 use Rattle.event_table.specs.declared.event.Event.{Event}
@@ -102,10 +103,6 @@ past-all h time rest time_fits rest_fits near before (e ∷ es) (x ∷ xs) same 
     (subst (λ (ev : Event). int_le (signed rest (ring_of h)) (signed ev.start (ring_of h)) ≡ true) event here.2)
     (subst (λ t. is_before_on_ring t rest ≡ true) (sym (ring-lift h time time_fits)) before) in
     rw one (past-all h time rest time_fits rest_fits near before es xs (later-same x.event (on_ring e) _ _ same) (all-later (IsInReach h) e es within) parts.1)
-
-none-within : (es : List Standing) → All (IsWithin None) es → es ≡ []
-none-within [] all = refl
-none-within (e ∷ es) all = absurd (all 0 e (omega arith))
 
 pub past-by : (table : Table Plan) (line : Option ℤ) (es : List Standing) (rest time : ℕ) → rest < 2 ^ 33 → time < 2 ^ 33 → StandsFor table line es → IsNearHigh line (place line time)
     → is_rest (Some rest) table ≡ true → is_before_on_ring time rest ≡ true → all_start_past (place line time) es ≡ true

@@ -1,10 +1,10 @@
 -- What goes out for a packet.
-use Rattle.std.proofs.Common.{◌≡◌, ℕ, ◌+◌, ◌%◌, ◌<◌, ◌==◌, zero, suc, List, [], ◌∷◌, ◌++◌, length, map, take, drop, Bool, true, false, not, ◌&&◌, if◌then◌else◌, refl, sym, ap, subst, ◌∙◌, arith}
+use Rattle.std.proofs.Common.{◌≡◌, ℕ, ◌+◌, ◌%◌, ◌<◌, ◌==◌, zero, suc, List, [], ◌∷◌, ◌++◌, length, map, take, drop, Bool, true, false, not, if◌then◌else◌, refl, sym, ap, subst, ◌∙◌, arith}
 use Rattle.std.specs.Prelude.{Option, None, Some, option_map, flat_map, reverse}
 use Rattle.std.specs.List.{AllByRecursion}
 use Rattle.std.specs.Prelude.{All}
 use Rattle.std.proofs.lemmas.List.Elements.{All-nil, All-cons, All-head, All-tail}
-use Rattle.std.proofs.lemmas.Bool.{true≢false}
+use Rattle.std.proofs.lemmas.Bool.{true≢false, and_right, or_parts}
 use Rattle.ts_packet.specs.Fields.{on, in_error, pid_of, pcr, on_one, is_among}
 use Rattle.ts_packet.specs.Numbering.{number_out, one_past, last_number}
 use Rattle.ts_packet.specs.Runs.{onto}
@@ -42,7 +42,6 @@ use Rattle.splice_plans.proofs.PutLemmas.{puts_at_unit_starts}
 use Rattle.switch_laws.proofs.BringLemmas.{closing_rule, running_rule}
 use Rattle.switch_laws.proofs.FaultlessLemmas.{faultless_is_sound, unlisted}
 use Rattle.switch_laws.proofs.StandingLemmas.{is-place, packets_stand_as}
-use Rattle.splice_switch.proofs.QuietLemmas.{or-parts}
 use Rattle.splice_switch.proofs.PlayLemmas.{off-begins}
 use Rattle.splice_switch.specs.Standing.{GoOnAs}
 use Rattle.splice_switch.proofs.PremiseLemmas.{no-table, map-switched, OnMap}
@@ -86,13 +85,9 @@ module _ (k : Setting) (p : List ℕ) (past : List (List ℕ)) where
 
 -- ---- packets of the streams are of no other PID
 
-none-and : (a b : Bool) → b ≡ false → (a && b) ≡ false
-none-and true b h = h
-none-and false b h = refl
-
 off-of : (other : ℕ) (q : List ℕ) → (pid_of q == other) ≡ false → on other q ≡ false
 unfolding on
-off-of other q h = none-and (not (in_error q)) (pid_of q == other) h
+off-of other q h = and_right (not (in_error q)) (pid_of q == other) h
 
 pid-unit : (pid n : ℕ) (start access : Bool) (part : List ℕ) → pid < 8192 → pid_of (unit_packet pid n start access part) ≡ pid
 unfolding pid_of unit_packet
@@ -177,7 +172,7 @@ all-below (e ∷ es) = by_test (is_switched_kind e.kind) (λ y. simp y (below-pi
 
 join-apart : (other : ℕ) (pids : List ℕ) → AllByRecursion (λ pid. pid < 8192) pids → is_among other pids ≡ false → AllByRecursion (IsApart other) pids
 join-apart other [] h a = tt
-join-apart other (pid ∷ pids) h a = let r = or-parts (pid == other) (is_among other pids) a in ((h.0, r.0), join-apart other pids h.1 r.1)
+join-apart other (pid ∷ pids) h a = let r = or_parts (pid == other) (is_among other pids) a in ((h.0, r.0), join-apart other pids h.1 r.1)
 
 -- a packet of one of them
 apart-on : (other : ℕ) (pids : List ℕ) (p : List ℕ) → AllByRecursion (IsApart other) pids → on_one pids p ≡ true → IsApart other (pid_of p)

@@ -2,7 +2,7 @@
 use Rattle.std.proofs.Common.{◌≡◌, ℕ, zero, suc, ◌+◌, ◌-◌, ◌≤◌, List, [], ◌∷◌, ◌++◌, length, Bool, true, false, ◌&&◌, if◌then◌else◌, refl, sym, ap, subst, ◌∙◌, arith}
 use Rattle.std.specs.Prelude.{ℤ, Option, None, Some, option_map, is_some, map, replicate, reverse, drop, count_by, slice_get, slice_index_or}
 use Rattle.std.specs.List.{AllByRecursion}
-use Rattle.std.proofs.lemmas.Bool.{true≢false}
+use Rattle.std.proofs.lemmas.Bool.{true≢false, or_parts}
 use Rattle.ts_packet.specs.Fields.{on, on_one}
 use Rattle.ts_packet.specs.Numbering.{Counts}
 use Rattle.ts_packet.proofs.FieldLemmas.{off_payload}
@@ -33,7 +33,8 @@ use Rattle.splice_plans.proofs.PutLemmas.{puts_at_unit_starts}
 use Rattle.splice_playing.specs.declared.playing.Playing.{Playing}
 use Rattle.splice_playing.specs.Relations.{PlaysFor, PlaysBefore, PlaysBehind}
 use Rattle.splice_playing.proofs.LeavingLemmas.{none-taken, others-taken, first-taken, taken-behind}
-use Rattle.splice_switch.proofs.QuietLemmas.{or-parts, any-none, count-same, count-none, values-same, each-at, begins-none, crossed-known-same, plan-at-same, inside-same}
+use Rattle.splice_playing.proofs.PlaceLemmas.{nothing-holds}
+use Rattle.splice_switch.proofs.QuietLemmas.{any-none, count-same, count-none, values-same, each-at, begins-none, crossed-known-same, plan-at-same, inside-same}
 
 -- ---- one stream
 
@@ -50,7 +51,7 @@ steps-off packed pid p ms false off = simp off refl
 -- none of the PIDs is the packet's
 pub switched-off : (pids : List ℕ) (p : List ℕ) → on_one pids p ≡ false → AllByRecursion (λ pid. on pid p ≡ false) pids
 switched-off [] p h = tt
-switched-off (pid ∷ pids) p h = let r = or-parts (on pid p) (on_one pids p) h in (r.0, switched-off pids p r.1)
+switched-off (pid ∷ pids) p h = let r = or_parts (on pid p) (on_one pids p) h in (r.0, switched-off pids p r.1)
 
 or-both : (a b : Bool) → a ≡ false → b ≡ false → (Rattle.std.proofs.Common.◌||◌ a b) ≡ false
 or-both true b h k = h
@@ -59,7 +60,7 @@ or-both false b h k = k
 pub off-begins : (pids : List ℕ) (p : List ℕ) (past : List (List ℕ)) → on_one pids p ≡ false → begins_one pids p past ≡ false
 off-begins [] p past h = refl
 off-begins (pid ∷ pids) p past h =
-    let r = or-parts (on pid p) (on_one pids p) h in
+    let r = or_parts (on pid p) (on_one pids p) h in
     or-both (begins pid p past) (begins_one pids p past) (begins_off pid p past (off_payload pid p r.0)) (off-begins pids p past r.1)
 
 -- ---- before the packet
@@ -248,9 +249,6 @@ none-and : (b : Bool) → (b && false) ≡ false
 none-and true = refl
 none-and false = refl
 
-inside-none : (ads : Adverts) (es : List Standing) → is_inside ads es None ≡ false
-inside-none ads es = any-none (λ e. is_played ads e && false) es (λ e. none-and (is_played ads e))
-
 nothing-counted : (k : Setting) (past : List (List ℕ)) → high_at k past ≡ None → counts_known k past (is_forgotten (high_at k past)) ≡ no_counts
 unfolding made-counts
 nothing-counted k past none =
@@ -293,7 +291,7 @@ module _ (k : Setting) (p : List ℕ) (past : List (List ℕ)) (known : known_ma
       ap (λ b. plans_at k (p ∷ past) b start) behind-still ∙ at-nothing (switched_at k (p ∷ past)) (adverts_at k (p ∷ past)) (history_at k (p ∷ past)) few (events_at k (p ∷ past)) start
 
   inside-still : (pid : ℕ) → inside_at k (p ∷ past) (behind_at k (p ∷ past)) pid ≡ false
-  inside-still pid = ap (λ b. inside_at k (p ∷ past) b pid) behind-still ∙ inside-none (adverts_at k (p ∷ past)) (events_at k (p ∷ past))
+  inside-still pid = ap (λ b. inside_at k (p ∷ past) b pid) behind-still ∙ nothing-holds (adverts_at k (p ∷ past)) (events_at k (p ∷ past))
 
   moves-still : moves_at k (p ∷ past) ≡ []
   moves-still = ap (moves (switched_at k (p ∷ past)) (adverts_at k (p ∷ past)) (history_at k (p ∷ past))) behind-still

@@ -2,7 +2,7 @@
 use Rattle.std.proofs.Common.{◌≡◌, ℕ, zero, suc, ◌≤◌, ◌<◌, ◌==◌, List, [], ◌∷◌, length, Bool, true, false, ◌||◌, if◌then◌else◌, refl, sym, ap, subst, ◌∙◌, arith, add-one}
 use Rattle.std.specs.Prelude.{Option, None, Some, option_map, is_some, slice_get, nat_lt}
 use Rattle.std.specs.Option.{option_or}
-use Rattle.std.proofs.lemmas.Bool.{true≢false}
+use Rattle.std.proofs.lemmas.Bool.{true≢false, or_from, or_parts}
 use Rattle.std.proofs.lemmas.Bool.Decides.{nat_tests}
 use Rattle.std.proofs.lemmas.List.{length-map}
 use Rattle.ts_packet.specs.Fields.{on, on_one, is_among}
@@ -33,6 +33,7 @@ use Rattle.program_follower.proofs.StreamLemmas.{first_is_on, first_within, firs
 use Rattle.pes_time.specs.Line.{ring_of}
 use Rattle.program_laws.proofs.HeadLemmas.{known_stays}
 use Rattle.program_laws.proofs.FaultLemmas.{all_sound, pid_good, not_if_bad}
+use Rattle.program_laws.proofs.SplicedLemmas.{back_test}
 use Rattle.output_laws.proofs.StepLemmas.{pid_is, test-same}
 use Rattle.ad_library.specs.Advertisements.{Advertisement}
 use Rattle.splice_plans.specs.Switching.{Setting, switched_at, streams_at, high_at}
@@ -42,7 +43,6 @@ use Rattle.splice_plans.specs.Known.{AreSeparate, behind_at}
 use Rattle.switch_laws.proofs.FaultlessLemmas.{faultless_is_sound, first-sound, unlisted}
 use Rattle.known_laws.specs.Laws.{AreFaultless}
 use Rattle.splice_playing.specs.Relations.{IsCueOf, BeginsIn, IsPacketOf, EndsWith}
-use Rattle.splice_switch.proofs.QuietLemmas.{or-parts}
 
 -- ---- the streams of a network without fault
 
@@ -115,19 +115,12 @@ apart-pid a b p n h = by_test (on b p)
     (λ y. absurd (let same : a ≡ b = sym (pid_is a p h) ∙ pid_is b p y in true≢false (sym (test-same b) ∙ ap (λ x. x == b) (sym same) ∙ n)))
     (λ z. z)
 
-back-test : (a b : ℕ) → (a == b) ≡ false → (b == a) ≡ false
-back-test a b h = grind (arith, nat_tests, h)
-
-or-both : (a b : Bool) → a ≡ false → b ≡ false → (a || b) ≡ false
-or-both true b h k = h
-or-both false b h k = k
-
 -- a packet of another PID than theirs
 pub not-among : (x : ℕ) (p : List ℕ) (pids : List ℕ) → on x p ≡ true → is_among x pids ≡ false → on_one pids p ≡ false
 not-among x p [] h a = refl
 not-among x p (pid ∷ pids) h a =
-    let r = or-parts (pid == x) (is_among x pids) a in
-    or-both (on pid p) (on_one pids p) (apart-pid x pid p (back-test pid x r.0) h) (not-among x p pids h r.1)
+    let r = or_parts (pid == x) (is_among x pids) a in
+    or_from (on pid p) (on_one pids p) (apart-pid x pid p (back_test pid x r.0) h) (not-among x p pids h r.1)
 
 switched-one : (pids : List ℕ) (p : List ℕ) → on_one pids p ≡ one_of (λ pid. on pid p) pids
 switched-one [] p = refl
@@ -180,7 +173,7 @@ cue-not-map cue c None p is good h = refl
 cue-not-map cue c (Some l) p is good h =
     let r = none_both (if_bad ((l.pid == 0) || (l.pid == 8191)) BadPids) (if_bad (is_pid c.cue_pid l.pid) CuePidUsed) good in
     let n : (l.pid == cue) ≡ false = ap (λ o. is_pid o l.pid) (sym is) ∙ not_if_bad (is_pid c.cue_pid l.pid) CuePidUsed r.1 in
-    apart-pid cue l.pid p (back-test l.pid cue n) h
+    apart-pid cue l.pid p (back_test l.pid cue n) h
 
 cue-off-map : (c : Config) (p : List ℕ) (past : List (List ℕ)) → first_fault (reading_cues c) past ≡ None → on c.cue_pid p ≡ true → on_map (listed (Some c.program) past) p ≡ false
 cue-off-map c p past good h = cue-not-map c.cue_pid (reading_cues c) (listed (Some c.program) past) p refl (pid_good (reading_cues c) past good) h

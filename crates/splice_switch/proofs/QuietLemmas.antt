@@ -1,39 +1,23 @@
 -- A packet that begins no unit changes nothing of what is known of the events.
-use Rattle.std.proofs.Common.{◌≡◌, ℕ, zero, suc, ◌+◌, List, [], ◌∷◌, length, Bool, true, false, not, ◌&&◌, ◌||◌, if◌then◌else◌, refl, sym, ap, subst, ◌∙◌}
+use Rattle.std.proofs.Common.{◌≡◌, ℕ, zero, suc, ◌+◌, List, [], ◌∷◌, length, Bool, false, not, ◌&&◌, ◌||◌, if◌then◌else◌, refl, sym, ap, subst, ◌∙◌}
 use Rattle.std.specs.Prelude.{ℤ, Option, None, Some, map, count_by, slice_get, cond}
 use Rattle.std.specs.List.{list_any, AllByRecursion}
 use Rattle.std.proofs.lemmas.List.Sums.{sum_by-cons}
-use Rattle.std.proofs.lemmas.Bool.{true≢false}
+use Rattle.std.proofs.lemmas.Bool.{or_parts}
+use Rattle.known_laws.proofs.QuietLemmas.{or-alone, or-beside, or-none, sent-still}
 use Rattle.unit_stream.specs.Times.{begins, begins_one, unit_time}
 use Rattle.event_table.specs.Standing.{Standing}
 use Rattle.armed_events.specs.Valuing.{values_by}
-use Rattle.splice_laws.specs.Splicing.{PlayedEvent, SliceUnit, TimedStream, stream, at_or_past}
+use Rattle.splice_laws.specs.Splicing.{PlayedEvent, TimedStream, stream, at_or_past}
 use Rattle.splice_laws.specs.Settled.{begun_now, closed_now, stands_now, holds_now}
 use Rattle.splice_plans.specs.declared.plan.Stage.{Stage}
 use Rattle.splice_plans.specs.declared.plan.Part.{Part}
 use Rattle.splice_plans.specs.declared.plan.Plan.{Plan}
 use Rattle.splice_plans.specs.declared.plan.Stage.TheVariants.{Waiting, Running, Over}
-use Rattle.splice_plans.specs.Playing.{Turns, Adverts, History, as_played, end_known, is_inside, sent_of_begun, sent_known}
+use Rattle.splice_plans.specs.Playing.{Adverts, History, as_played, end_known, is_inside, sent_known}
 use Rattle.splice_plans.specs.Known.{stage_known, crosses_known, crossed_known, part_known, is_crossed_known, padded, plan_known, plan_found, plan_at}
 
 -- ---- lists
-
-pub or-parts : (a b : Bool) → (a || b) ≡ false → (a ≡ false) × (b ≡ false)
-or-parts true b h = absurd (true≢false h)
-or-parts false b h = (refl, h)
-
-or-first : (a b c : Bool) → b ≡ false → (a || (b && c)) ≡ a
-or-first true b c h = refl
-or-first false b c h = rw h refl
-
-or-deep : (a b c d : Bool) → b ≡ false → (a || ((b && c) && d)) ≡ a
-or-deep true b c d h = refl
-or-deep false b c d h = rw h refl
-
-or-middle : (a b c d : Bool) → c ≡ false → (a || (b && (c && d))) ≡ a
-or-middle true b c d h = refl
-or-middle false true c d h = rw h refl
-or-middle false false c d h = refl
 
 if-not : {X : Type 0} (a b : Bool) (x y : X) → a ≡ false → (if a && b then x else y) ≡ y
 if-not a b x y h = rw h refl
@@ -78,16 +62,16 @@ BeginsNone pids p past = AllByRecursion (λ pid. begins pid p past ≡ false) pi
 
 pub begins-none : (pids : List ℕ) (p : List ℕ) (past : List (List ℕ)) → begins_one pids p past ≡ false → BeginsNone pids p past
 begins-none [] p past h = tt
-begins-none (pid ∷ pids) p past h = let r = or-parts (begins pid p past) (begins_one pids p past) h in (r.0, begins-none pids p past r.1)
+begins-none (pid ∷ pids) p past h = let r = or_parts (begins pid p past) (begins_one pids p past) h in (r.0, begins-none pids p past r.1)
 
 -- ---- one event in one stream
 
 module _ (r : TimedStream) (x : PlayedEvent) (known : List (List ℕ) → Option ℤ) (p : List ℕ) (past : List (List ℕ)) (n : r.begins p past ≡ false) where
   begun-same : begun_now r x known (p ∷ past) ≡ begun_now r x known past
-  begun-same = or-deep (begun_now r x known past) (r.begins p past) (at_or_past x.start (r.time (p ∷ past))) (stands_now x (known (p ∷ past)) (r.high past)) n
+  begun-same = or-alone (begun_now r x known past) (r.begins p past) (at_or_past x.start (r.time (p ∷ past))) (stands_now x (known (p ∷ past)) (r.high past)) n
 
   closed-same : closed_now r x known (p ∷ past) ≡ closed_now r x known past
-  closed-same = or-middle (closed_now r x known past) (begun_now r x known (p ∷ past)) (r.begins p past) (not (holds_now x (known (p ∷ past)) (r.time (p ∷ past)))) n
+  closed-same = or-beside (closed_now r x known past) (begun_now r x known (p ∷ past)) (r.begins p past) (not (holds_now x (known (p ∷ past)) (r.time (p ∷ past)))) n
 
   stage-same : stage_known r x known (p ∷ past) ≡ stage_known r x known past
   stage-same =
@@ -95,12 +79,7 @@ module _ (r : TimedStream) (x : PlayedEvent) (known : List (List ℕ) → Option
       ∙ ap (λ b. if closed_now r x known past then Over else (if b then Running else Waiting)) begun-same
 
   crossed-same : crossed_known r x known (p ∷ past) ≡ crossed_known r x known past
-  crossed-same = or-first (crossed_known r x known past) (r.begins p past) (crosses_known r x known (stage_known r x known past) (known (p ∷ past)) (r.time (p ∷ past))) n
-
-sent-same : (turns : Turns) (r : TimedStream) (x : PlayedEvent) (known : List (List ℕ) → Option ℤ) (units : List SliceUnit) (p : List ℕ) (past : List (List ℕ)) → turns p past ≡ false
-    → sent_known turns r x known units (p ∷ past) ≡ sent_known turns r x known units past
-sent-same turns r x known units p past h =
-    if-not (turns p past) (not (closed_now r x known past) && begun_now r x known (p ∷ past)) (sent_of_begun turns r x known units p past) (sent_known turns r x known units past) h
+  crossed-same = or-none (crossed_known r x known past) (r.begins p past) (crosses_known r x known (stage_known r x known past) (known (p ∷ past)) (r.time (p ∷ past))) n
 
 -- ---- the plans
 
@@ -118,7 +97,7 @@ module _ (switched : List ℕ) (ads : Adverts) (events : History) (p : List ℕ)
       let known = end_known ads events e.start in
       let sent = sent_known (begins_one switched) r (as_played e) known (ads.units e pid) in
       ap (λ s. made-part s (length (sent (p ∷ past)))) (stage-same r (as_played e) known p past n)
-      ∙ ap (λ us. made-part (stage_known r (as_played e) known past) (length us)) (sent-same (begins_one switched) r (as_played e) known (ads.units e pid) p past none)
+      ∙ ap (λ us. made-part (stage_known r (as_played e) known past) (length us)) (sent-still (begins_one switched) r (as_played e) known (ads.units e pid) p past none)
 
   pub crossed-known-same : (e : Standing) → is_crossed_known switched ads events (p ∷ past) e ≡ is_crossed_known switched ads events past e
   crossed-known-same e =

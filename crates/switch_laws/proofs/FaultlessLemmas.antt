@@ -3,7 +3,7 @@ use Rattle.std.proofs.Common.{◌≡◌, ℕ, List, [], ◌∷◌, Bool, true, f
 use Rattle.std.specs.Prelude.{◌==◌, option_map}
 use Rattle.std.specs.Option.{option_or}
 use Rattle.std.specs.List.{AllByRecursion, list_any}
-use Rattle.std.proofs.lemmas.Bool.{true≢false, eq-eqb}
+use Rattle.std.proofs.lemmas.Bool.{true≢false, eq-eqb, or_from, or_parts, eqb-true}
 use Rattle.ts_packet.proofs.Cases.{by_test}
 use Rattle.psi_tables.specs.declared.stream.Stream.{Stream}
 use Rattle.psi_tables.specs.Streams.{switched_of, is_switched, pid_in}
@@ -16,34 +16,19 @@ use Rattle.program_follower.specs.Faults.{first_fault, pids_in, is_twice, bad_pi
 use Rattle.program_follower.proofs.OptionLemmas.{none_both}
 use Rattle.program_laws.proofs.FaultLemmas.{Sound, MapSound, all_sound, not_if_bad, pid_good}
 use Rattle.program_laws.proofs.ReadingLemmas.{no_tables}
+use Rattle.program_laws.proofs.SplicedLemmas.{any_switched}
 use Rattle.ts_packet.specs.Fields.{is_among}
 use Rattle.splice_laws.specs.Streams.{IsOnce}
-use Rattle.output_laws.proofs.GaplessLemmas.{test-true}
 use Rattle.splice_plans.specs.Switching.{Setting, switched_at}
 use Rattle.switch_laws.specs.Standing.{IsSwitchable, FaultlessIsSound}
 use Rattle.switch_laws.proofs.WholeLemmas.{none-switched}
 use Rattle.program_follower.specs.Purposes.{cues_read_on}
 
-or-parts : (a b : Bool) → (a || b) ≡ false → (a ≡ false) × (b ≡ false)
-or-parts true b h = absurd (true≢false h)
-or-parts false b h = (refl, h)
-
-or-both : (a b : Bool) → a ≡ false → b ≡ false → (a || b) ≡ false
-or-both true b h k = h
-or-both false b h k = k
-
--- what no stream is, no switched one is
-none-switched-is : (f : ℕ → Bool) (ss : List Stream) → list_any f (pids_in ss) ≡ false → list_any f (pids_in (switched_of ss)) ≡ false
-none-switched-is f [] h = refl
-none-switched-is f (s ∷ ss) h =
-    let r = or-parts (f s.pid) (list_any f (pids_in ss)) h in
-    by_test (is_switched s.kind) (λ y. simp y (or-both (f s.pid) (list_any f (pids_in (switched_of ss))) r.0 (none-switched-is f ss r.1))) (λ n. simp n (none-switched-is f ss r.1))
-
 not-in : (x : ℕ) (ss : List Stream) → is_among x (pids_in ss) ≡ false → is_among x (pids_in (switched_of ss)) ≡ false
 not-in x [] h = refl
 not-in x (s ∷ ss) h =
-    let r = or-parts (s.pid == x) (is_among x (pids_in ss)) h in
-    by_test (is_switched s.kind) (λ y. simp y (or-both (s.pid == x) (is_among x (pids_in (switched_of ss))) r.0 (not-in x ss r.1))) (λ n. simp n (not-in x ss r.1))
+    let r = or_parts (s.pid == x) (is_among x (pids_in ss)) h in
+    by_test (is_switched s.kind) (λ y. simp y (or_from (s.pid == x) (is_among x (pids_in (switched_of ss))) r.0 (not-in x ss r.1))) (λ n. simp n (not-in x ss r.1))
 
 -- one that stands not twice, and is there, stands once
 once : (x : ℕ) (ss : List Stream) → is_twice x (pids_in ss) ≡ false → is_among x (pids_in (switched_of ss)) ≡ true → IsOnce x (pids_in (switched_of ss))
@@ -51,7 +36,7 @@ once x [] t a = absurd (true≢false (sym a))
 once x (s ∷ ss) t a = by_test (s.pid == x)
     (λ e. let n : is_among x (pids_in ss) ≡ false = simp e at t in
     by_test (is_switched s.kind)
-    (λ y. simp y (inl (test-true s.pid x e, not-in x ss n)))
+    (λ y. simp y (inl (eqb-true s.pid x e, not-in x ss n)))
     (λ y. let b : is_among x (pids_in (switched_of ss)) ≡ true = simp y at a in absurd (true≢false (sym b ∙ not-in x ss n))))
     (λ e. let n : is_twice x (pids_in ss) ≡ false = simp e at t in
     by_test (is_switched s.kind)
@@ -60,13 +45,13 @@ once x (s ∷ ss) t a = by_test (s.pid == x)
 
 among-any : (x : ℕ) (f : ℕ → Bool) (qs : List ℕ) → ((q : ℕ) → f q ≡ false → (q == x) ≡ false) → list_any f qs ≡ false → is_among x qs ≡ false
 among-any x f [] h n = refl
-among-any x f (q ∷ qs) h n = let r = or-parts (f q) (list_any f qs) n in or-both (q == x) (is_among x qs) (h q r.0) (among-any x f qs h r.1)
+among-any x f (q ∷ qs) h n = let r = or_parts (f q) (list_any f qs) n in or_from (q == x) (is_among x qs) (h q r.0) (among-any x f qs h r.1)
 
 any-among : (x : ℕ) (f : ℕ → Bool) (qs : List ℕ) → list_any f qs ≡ false → is_among x qs ≡ true → f x ≡ false
 any-among x f [] n a = absurd (true≢false (sym a))
 any-among x f (q ∷ qs) n a =
-    let r = or-parts (f q) (list_any f qs) n in
-    by_test (q == x) (λ e. ap f (sym (test-true q x e)) ∙ r.0) (λ e. any-among x f qs r.1 (simp e at a))
+    let r = or_parts (f q) (list_any f qs) n in
+    by_test (q == x) (λ e. ap f (sym (eqb-true q x e)) ∙ r.0) (λ e. any-among x f qs r.1 (simp e at a))
 
 -- the first map is one of those that were read
 same-map : (n m : ProgramMap) → Some n ≡ Some m → n ≡ m
@@ -95,9 +80,9 @@ module _ (k : Setting) (past : List (List ℕ)) (h : first_fault (cues_read_on (
   by-map m l known e =
       let s = first-sound purpose l.pid m (all_tables (Some k.program) past) (all_sound purpose past l h e) known in
       let ss = streams_of m in
-      let bad = or-parts (list_any (bad_pid l.pid) (pid_in m.pcr_field ∷ pids_in ss)) (list_any (bad_switched (pids_in ss)) (pids_in (switched_of ss))) s.pids in
-      let each = or-parts (bad_pid l.pid (pid_in m.pcr_field)) (list_any (bad_pid l.pid) (pids_in ss)) bad.0 in
-      let cue = or-parts (is_pid (Some k.cue_pid) (pid_in m.pcr_field)) (list_any (is_pid (Some k.cue_pid)) (pids_in (switched_of ss))) s.cue in
+      let bad = or_parts (list_any (bad_pid l.pid) (pid_in m.pcr_field ∷ pids_in ss)) (list_any (bad_switched (pids_in ss)) (pids_in (switched_of ss))) s.pids in
+      let each = or_parts (bad_pid l.pid (pid_in m.pcr_field)) (list_any (bad_pid l.pid) (pids_in ss)) bad.0 in
+      let cue = or_parts (is_pid (Some k.cue_pid) (pid_in m.pcr_field)) (list_any (is_pid (Some k.cue_pid)) (pids_in (switched_of ss))) s.cue in
       let sw : switched_at k past ≡ pids_in (switched_of ss) = ap (λ o. pids_of (option_map program_in o)) known in
       record {
         apart = record {
@@ -106,12 +91,12 @@ module _ (k : Setting) (past : List (List ℕ)) (h : first_fault (cues_read_on (
               let same : l ≡ other = same-listed l other (sym e ∙ g) in
               ap (λ (l : Listed). is_among l.pid (switched_at k past)) (sym same)
               ∙ ap (is_among l.pid) sw
-              ∙ among-any l.pid (bad_pid l.pid) (pids_in (switched_of ss)) (λ q n. (or-parts (q == 0) (q == l.pid) n).1) (none-switched-is (bad_pid l.pid) ss each.1);
+              ∙ among-any l.pid (bad_pid l.pid) (pids_in (switched_of ss)) (λ q n. (or_parts (q == 0) (q == l.pid) n).1) (any_switched (bad_pid l.pid) ss each.1);
         };
         once = λ pid a.
             let here : is_among pid (pids_in (switched_of ss)) ≡ true = sym (ap (is_among pid) sw) ∙ a in
             let t = any-among pid (bad_switched (pids_in ss)) (pids_in (switched_of ss)) bad.1 here in
-            subst (IsOnce pid) (sym sw) (once pid ss (or-parts (pid == 8191) (is_twice pid (pids_in ss)) t).1 here);
+            subst (IsOnce pid) (sym sw) (once pid ss (or_parts (pid == 8191) (is_twice pid (pids_in ss)) t).1 here);
       }
     where
       same-listed : (l other : Listed) → Some l ≡ Some other → l ≡ other
@@ -134,7 +119,7 @@ module _ (k : Setting) (past : List (List ℕ)) (h : first_fault (cues_read_on (
       let c = purpose k past h in
       let g : pmt_pid_fault c (Some l) ≡ None = ap (pmt_pid_fault c) (sym known) ∙ pid_good c past h in
       let r = none_both (if_bad ((l.pid == 0) || (l.pid == 8191)) BadPids) (if_bad (is_pid c.cue_pid l.pid) CuePidUsed) g in
-      let z = or-parts (l.pid == 0) (l.pid == 8191) (not_if_bad ((l.pid == 0) || (l.pid == 8191)) BadPids r.0) in
+      let z = or_parts (l.pid == 0) (l.pid == 8191) (not_if_bad ((l.pid == 0) || (l.pid == 8191)) BadPids r.0) in
       true≢false (sym (eq-eqb l.pid 0 e) ∙ z.0)
 
   zero-by : (m : ProgramMap) (l : Listed) → known_map (Some k.program) past ≡ Some m → listed (Some k.program) past ≡ Some l → is_among 0 (switched_at k past) ≡ false
@@ -142,10 +127,10 @@ module _ (k : Setting) (past : List (List ℕ)) (h : first_fault (cues_read_on (
       let c = purpose k past h in
       let s = first-sound c l.pid m (all_tables (Some k.program) past) (all_sound c past l h e) known in
       let ss = streams_of m in
-      let bad = or-parts (list_any (bad_pid l.pid) (pid_in m.pcr_field ∷ pids_in ss)) (list_any (bad_switched (pids_in ss)) (pids_in (switched_of ss))) s.pids in
-      let each = or-parts (bad_pid l.pid (pid_in m.pcr_field)) (list_any (bad_pid l.pid) (pids_in ss)) bad.0 in
+      let bad = or_parts (list_any (bad_pid l.pid) (pid_in m.pcr_field ∷ pids_in ss)) (list_any (bad_switched (pids_in ss)) (pids_in (switched_of ss))) s.pids in
+      let each = or_parts (bad_pid l.pid (pid_in m.pcr_field)) (list_any (bad_pid l.pid) (pids_in ss)) bad.0 in
       ap (λ o. is_among 0 (pids_of (option_map program_in o))) known
-      ∙ among-any 0 (bad_pid l.pid) (pids_in (switched_of ss)) (λ q n. (or-parts (q == 0) (q == l.pid) n).0) (none-switched-is (bad_pid l.pid) ss each.1)
+      ∙ among-any 0 (bad_pid l.pid) (pids_in (switched_of ss)) (λ q n. (or_parts (q == 0) (q == l.pid) n).0) (any_switched (bad_pid l.pid) ss each.1)
 
   zero-known : (o : Option ProgramMap) → known_map (Some k.program) past ≡ o → is_among 0 (switched_at k past) ≡ false
   zero-known None known = ap (is_among 0) (none-switched k past known)

@@ -1,8 +1,7 @@
 -- The program's maps go out without the entry for the cues.
-use Rattle.std.proofs.Common.{◌≡◌, ℕ, List, [], ◌∷◌, Bool, true, false, refl, sym, ap, ◌∙◌, Option, None, Some, Result, Ok, Err, if◌then◌else◌}
+use Rattle.std.proofs.Common.{◌≡◌, ℕ, List, [], ◌∷◌, refl, ap, ◌∙◌, Option, None, Some, if◌then◌else◌}
 use Rattle.std.specs.List.{AllByRecursion}
 use Rattle.wire_fields.specs.Numbers.{AreBytes}
-use Rattle.psi_tables.specs.declared.fault.TableFault.{TableFault}
 use Rattle.psi_tables.specs.ProgramMap.{ProgramMap, pmt}
 use Rattle.psi_tables.specs.Cue.{without_cue_entry}
 use Rattle.psi_tables.proofs.ReadBackLemmas.{map_reads, maps_read_back}
@@ -10,15 +9,8 @@ use Rattle.program_follower.specs.Program.{Table, all_tables, is_map_of, map_rea
 use Rattle.program_laws.specs.Writing.{ChangedGoesOut, MapGoesOut}
 use Rattle.program_laws.proofs.ByteLemmas.{all_bytes}
 use Rattle.program_laws.proofs.CuedLemmas.{IsRead, all_read}
+use Rattle.program_laws.proofs.EntryOutLemmas.{read_is}
 use Rattle.switch_laws.specs.Sections.{BytesGoOut}
-
-if-some : (b : Bool) (x m : ProgramMap) → (if b then Some x else None) ≡ Some m → (b ≡ true) × (x ≡ m)
-if-some true x m h = (refl, cc)
-if-some false x m h = absurd (cc)
-
-read-is : (program : ℕ) (r : Result ProgramMap TableFault) (m : ProgramMap) → map_read program r ≡ Some m → (r ≡ Ok m) × (is_map_of program m ≡ true)
-read-is program (Err e) m h = absurd (cc)
-read-is program (Ok x) m h = let k = if-some (is_map_of program x) x m h in (ap (λ y. let r : Result ProgramMap TableFault = Ok y in r) k.1, ap (is_map_of program) (sym k.1) ∙ k.0)
 
 without-of : (program pid : ℕ) (m : ProgramMap) → is_map_of program (without_cue_entry pid m) ≡ is_map_of program m
 unfolding without_cue_entry
@@ -27,7 +19,7 @@ without-of program pid m = refl
 one-goes : (program pid : ℕ) (s : List ℕ) (o : Option ProgramMap) → map_read program (pmt s) ≡ o → AreBytes s → MapGoesOut (without_cue_entry pid) program o
 one-goes program pid s None r b = tt
 one-goes program pid s (Some m) r b =
-    let is = read-is program (pmt s) m r in
+    let is = read_is program (pmt s) m r in
     let back = (maps_read_back m (map_reads s m b is.0).0).stripped pid in
     record {
       reads = ap (map_read program) back.reads ∙ ap (λ b. if b then Some (without_cue_entry pid m) else None) (without-of program pid m ∙ is.1);

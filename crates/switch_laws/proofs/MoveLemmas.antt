@@ -21,6 +21,7 @@ use Rattle.splice_plans.specs.Playing.{Adverts, History, is_played, played, put_
 use Rattle.splice_plans.specs.Switching.{puts_by, puts_before, fate}
 use Rattle.splice_plans.specs.Histories.{IsHistory, AreSteady, IsSettledAt}
 use Rattle.splice_plans.proofs.KnownLemmas.{ends_never_rise, played_settle}
+use Rattle.splice_plans.proofs.GrowLemmas.{onto_grows}
 use Rattle.switch_laws.specs.Moving.{intervals, meant_by, units_for, sent_in_all, sent_count, moves_from}
 use Rattle.switch_laws.proofs.BringLemmas.{closing_rule, running_rule, end_rule}
 use Rattle.switch_laws.proofs.IntervalLemmas.{IsMeant, all-meant, intervals-ordered, outside-any}
@@ -33,10 +34,6 @@ use Rattle.switch_laws.proofs.PieceLemmas.{Ready, Ended, same-pieces, same-end}
 pub all-each : {A : Type 0} (P : A → Type 0) (xs : List A) → All P xs → AllByRecursion P xs
 all-each P [] a = tt
 all-each P (x ∷ xs) a = (All-head P x xs a, all-each P xs (All-tail P x xs a))
-
-onto-more : (past ps : List (List ℕ)) → (more : List (List ℕ)) × (onto past ps ≡ more ++ past)
-onto-more past [] = ([], refl)
-onto-more past (p ∷ ps) = let g = onto-more (p ∷ past) ps in (g.0 ++ p ∷ [], g.1 ∙ sym (append_assoc g.0 (p ∷ []) past))
 
 -- what is put on each of these PIDs
 each-pid : (pids : List ℕ) (es : List Standing) (rule : ℕ → Standing → List SliceUnit) (f : ℕ → List SliceUnit) → AllByRecursion (λ pid. flat_map (rule pid) es ≡ f pid) pids → puts_by pids es rule ≡ puts_each pids f
@@ -146,7 +143,7 @@ module _ (switched : List ℕ) (ads : Adverts) (steady : AreSteady ads) (events 
   pub same-moves : (past ps : List (List ℕ)) → whole ≡ onto past ps → moves_from switched ads events past ps ≡ moves_after switched xs slice out past ps
   same-moves past [] is = moves-at-end past is
   same-moves past (p ∷ ps) is =
-      let g = onto-more (p ∷ past) ps in
+      let g = onto_grows (p ∷ past) ps in
       let there : whole ≡ g.0 ++ (p ∷ past) = is ∙ g.1 in
       ap (λ ms. ms ++ (fate switched ads events p past ∷ moves_from switched ads events (p ∷ past) ps)) (same-puts p past g.0 there)
       ∙ ap (λ m. puts_at switched xs slice out p past ++ (m ∷ moves_from switched ads events (p ∷ past) ps)) (same-fate p past g.0 there)
@@ -180,7 +177,7 @@ module _ (switched : List ℕ) (ads : Adverts) (steady : AreSteady ads) (events 
     count-one : (x : Standing) → IsToldThrough x → is_played ads x ≡ true → (past ps : List (List ℕ)) → whole ≡ onto past ps → All (CountsHere (as_played x)) (seen_after past ps)
     count-one x t is past [] e = All-nil (CountsHere (as_played x))
     count-one x t is past (p ∷ ps) e =
-        let g = onto-more (p ∷ past) ps in
+        let g = onto_grows (p ∷ past) ps in
         let there : whole ≡ g.0 ++ (p ∷ past) = e ∙ g.1 in
         let before : whole ≡ (g.0 ++ p ∷ []) ++ past = there ∙ sym (append_assoc g.0 (p ∷ []) past) in
         let us = units_for ads pid (meant_by ads (events whole) (as_played x)) in

@@ -1,5 +1,4 @@
 -- Where no event is played, and where no program is listed, nothing is put in and nothing but the cues left out.
-use Rattle.std.specs.Option.{option_or}
 use Rattle.std.proofs.Common.{◌≡◌, ℕ, List, [], ◌∷◌, ◌++◌, Bool, true, false, not, ◌||◌, refl, sym, ap, ◌∙◌, Option, None, Some, append_assoc, if◌then◌else◌, subst, map, length, reverse}
 use Rattle.std.specs.Prelude.{filter, ◌==◌}
 use Rattle.std.proofs.lemmas.List.{append-nil, reverse-reverse}
@@ -26,7 +25,7 @@ use Rattle.output_laws.specs.Spliced.{puts_at}
 use Rattle.output_laws.proofs.Unchanged.{same_packet}
 use Rattle.output_laws.proofs.OtherLemmas.{off_on}
 use Rattle.output_laws.proofs.StepLemmas.{test-same}
-use Rattle.program_laws.proofs.ReadingLemmas.{no_tables}
+use Rattle.program_laws.proofs.ReadingLemmas.{no_tables, or_first}
 use Rattle.splice_plans.specs.Playing.{Adverts, History, played, as_played}
 use Rattle.splice_plans.specs.Switching.{Setting, switched_at, events_at, head_at, history_at, front_at, place_at, rest_at, switching, switched_past, moves, puts_before, puts_at_end, puts_by, fate, place_of, front_of, end_of_run}
 use Rattle.splice_plans.specs.Histories.{IsHistory, AreSteady}
@@ -255,14 +254,10 @@ no_packet_changes k network steady long none =
 
 -- ---- without a program
 
-option-none : {A : Type 0} (x y : Option A) → option_or x y ≡ None → x ≡ None
-option-none None y h = refl
-option-none (Some x) y h = cc
-
 module _ (k : Setting) where
   none-before : (more past : List (List ℕ)) → listed (Some k.program) (more ++ past) ≡ None → listed (Some k.program) past ≡ None
   none-before [] past h = h
-  none-before (p ∷ more) past h = none-before more past (option-none (listed (Some k.program) (more ++ past)) _ h)
+  none-before (p ∷ more) past h = none-before more past (or_first (listed (Some k.program) (more ++ past)) _ h)
 
   abbrev others : List ℕ → Bool
   others p = not (on k.cue_pid p)
@@ -281,7 +276,7 @@ module _ (k : Setting) where
   pub without-program : (past : List (List ℕ)) → listed (Some k.program) past ≡ None → switched_past k past ≡ filter others past
   without-program [] h = refl
   without-program (p ∷ past) h =
-      let n = option-none (listed (Some k.program) past) _ h in
+      let n = or_first (listed (Some k.program) past) _ h in
       ap (onto (switched_past k past)) (one-packet p past (switched_past k past) n)
       ∙ by_test (on k.cue_pid p) (λ y. simp y (without-program past n)) (λ y. simp y (ap (λ l. p ∷ l) (without-program past n)))
 

@@ -1,8 +1,8 @@
 -- The packets of other PIDs stay.
-use Rattle.std.proofs.Common.{◌≡◌, ℕ, ◌<◌, List, [], ◌∷◌, ◌++◌, Bool, true, false, ◌||◌, refl, sym, ap, ◌∙◌, Option, None, Some, append_assoc, if◌then◌else◌, subst, map, reverse}
+use Rattle.std.proofs.Common.{◌≡◌, ℕ, ◌<◌, List, [], ◌∷◌, ◌++◌, Bool, true, false, refl, sym, ap, ◌∙◌, Option, None, Some, append_assoc, if◌then◌else◌, subst, map, reverse}
 use Rattle.std.specs.Prelude.{filter, flat_map, ◌==◌}
 use Rattle.std.specs.List.{AllByRecursion}
-use Rattle.std.proofs.lemmas.Bool.{true≢false}
+use Rattle.std.proofs.lemmas.Bool.{true≢false, or_left, or_right}
 use Rattle.std.proofs.lemmas.List.{append-nil, reverse-reverse}
 use Rattle.std.proofs.lemmas.List.Elements.{All-head, filter-append}
 use Rattle.ts_packet.specs.Fields.{on, pid_of, pcr, on_one, is_among}
@@ -37,24 +37,16 @@ use Rattle.switch_laws.proofs.WholeLemmas.{along-each, packets-each, listed-late
 
 -- ---- lists of PIDs
 
-pub or-second : (a b : Bool) → b ≡ true → (a || b) ≡ true
-or-second true b h = refl
-or-second false b h = h
-
-or-first : (a b : Bool) → a ≡ true → (a || b) ≡ true
-or-first true b h = refl
-or-first false b h = absurd (true≢false (sym h))
-
 among-behind : (pid : ℕ) (qs ps : List ℕ) → is_among pid ps ≡ true → is_among pid (qs ++ ps) ≡ true
 among-behind pid [] ps h = h
-among-behind pid (q ∷ qs) ps h = or-second (q == pid) (is_among pid (qs ++ ps)) (among-behind pid qs ps h)
+among-behind pid (q ∷ qs) ps h = or_right (q == pid) (is_among pid (qs ++ ps)) (among-behind pid qs ps h)
 
 among-before : (pid : ℕ) (qs ps : List ℕ) → is_among pid qs ≡ true → is_among pid (qs ++ ps) ≡ true
 among-before pid [] ps h = absurd (true≢false (sym h))
-among-before pid (q ∷ qs) ps h = by_test (q == pid) (λ y. or-first (q == pid) (is_among pid (qs ++ ps)) y) (λ n. or-second (q == pid) (is_among pid (qs ++ ps)) (among-before pid qs ps (simp n at h)))
+among-before pid (q ∷ qs) ps h = by_test (q == pid) (λ y. or_left (q == pid) (is_among pid (qs ++ ps)) y) (λ n. or_right (q == pid) (is_among pid (qs ++ ps)) (among-before pid qs ps (simp n at h)))
 
-among-self : (pid : ℕ) (qs : List ℕ) → is_among pid (pid ∷ qs) ≡ true
-among-self pid qs = or-first (pid == pid) (is_among pid qs) (test-same pid)
+pub among-self : (pid : ℕ) (qs : List ℕ) → is_among pid (pid ∷ qs) ≡ true
+among-self pid qs = or_left (pid == pid) (is_among pid qs) (test-same pid)
 
 -- each of these is one of those
 abbrev pub Within : List ℕ → List ℕ → Type 0
@@ -62,7 +54,7 @@ Within pids all = AllByRecursion (λ pid. is_among pid all ≡ true) pids
 
 within-more : (q : ℕ) (pids all : List ℕ) → Within pids all → Within pids (q ∷ all)
 within-more q [] all w = tt
-within-more q (pid ∷ pids) all w = (or-second (q == pid) (is_among pid all) w.0, within-more q pids all w.1)
+within-more q (pid ∷ pids) all w = (or_right (q == pid) (is_among pid all) w.0, within-more q pids all w.1)
 
 pub within-self : (pids : List ℕ) → Within pids pids
 within-self [] = tt
@@ -169,7 +161,7 @@ module _ (k : Setting) (network : List (List ℕ)) (good : ArePacked k.packed (a
       let there : listed (Some k.program) network ≡ Some l = ap (listed (Some k.program)) e ∙ listed-later (Some k.program) l (more ++ p ∷ []) past h in
       off_on k.packed (touched k network) l.pid q
       (ap (λ (o : Option Listed). is_among l.pid (k.cue_pid ∷ (pmt_pids o ++ switched_at k network))) there
-      ∙ or-second (k.cue_pid == l.pid) (is_among l.pid (l.pid ∷ switched_at k network)) (among-self l.pid (switched_at k network))) o
+      ∙ or_right (k.cue_pid == l.pid) (is_among l.pid (l.pid ∷ switched_at k network)) (among-self l.pid (switched_at k network))) o
 
   same-known : (m : ProgramMap) (p : List ℕ) (past more : List (List ℕ)) → network ≡ more ++ (p ∷ past) → known_map wanted past ≡ Some m → known_map wanted past ≡ known_map wanted network
   same-known m p past more is known =

@@ -12,10 +12,6 @@ use Rattle.splice_plans.specs.Laws.{EndsFall}
 use Rattle.splice_plans.proofs.SentLemmas.{none-unbegun, sent-grows}
 use Rattle.std.specs.Prelude.{ℤ}
 
-pub drop-all : (us : List SliceUnit) → drop (length us) us ≡ []
-drop-all [] = refl
-drop-all (u ∷ us) = drop-all us
-
 module _ (turns : Turns) (r : TimedStream) (k : IsStream r) (x : PlayedEvent) (known : List (List ℕ) → Option ℤ) (units : List SliceUnit) (falls : EndsFall r x known) where
   abbrev sent : List (List ℕ) → List SliceUnit
   sent = sent_known turns r x known units

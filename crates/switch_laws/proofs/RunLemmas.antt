@@ -29,7 +29,7 @@ runs_are_settled switched ads events k ps =
     record { ordered = ordered switched ads k.steady events k.history (reverse ps); moves = same-moves switched ads k.steady events k.history (reverse ps) [] ps refl }
 
 -- one of these PIDs
-once-contained : (pid : ℕ) (pids : List ℕ) → IsOnce pid pids → Contains pids pid
+pub once-contained : (pid : ℕ) (pids : List ℕ) → IsOnce pid pids → Contains pids pid
 once-contained pid [] o = absurd o
 once-contained pid (q ∷ qs) (inl o) = (0, first-below, o.0)
   where

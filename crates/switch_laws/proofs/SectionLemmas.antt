@@ -3,7 +3,7 @@ use Rattle.std.proofs.Common.{◌≡◌, ℕ, ◌<◌, List, [], ◌∷◌, ◌+
 use Rattle.std.specs.Prelude.{◌==◌}
 use Rattle.std.specs.Option.{option_or}
 use Rattle.std.specs.List.{AllByRecursion}
-use Rattle.std.proofs.lemmas.Bool.{true≢false, eq-eqb}
+use Rattle.std.proofs.lemmas.Bool.{true≢false, eq-eqb, or_from, or_parts, or_right}
 use Rattle.std.proofs.lemmas.List.{append-nil, reverse-reverse}
 use Rattle.std.proofs.lemmas.List.Elements.{All-head}
 use Rattle.ts_packet.specs.Fields.{on, in_error, pid_of, pcr, on_one, is_among}
@@ -30,7 +30,7 @@ use Rattle.switch_laws.specs.Whole.{ArePacked, HavePids}
 use Rattle.switch_laws.specs.Standing.{is_left, done_before}
 use Rattle.switch_laws.specs.Sections.{MapsGoOut, SectionsStay}
 use Rattle.switch_laws.proofs.FaultlessLemmas.{faultless_is_sound, map-not-zero, zero-apart}
-use Rattle.switch_laws.proofs.OtherLemmas.{or-second, within-self, front-off, end-off}
+use Rattle.switch_laws.proofs.OtherLemmas.{within-self, front-off, end-off}
 use Rattle.switch_laws.proofs.StandingLemmas.{other-place, own-place, by-fate}
 use Rattle.switch_laws.proofs.StreamLemmas.{all-reversed}
 use Rattle.switch_laws.proofs.WholeLemmas.{packets-each, listed-later, known-later, adverts-same, switched-same, none-switched, not-behind, is-behind, reverse-onto}
@@ -38,9 +38,9 @@ use Rattle.program_follower.specs.Purposes.{cues_read_on}
 
 -- ---- packets of other PIDs
 
-among-off : (pids : List ℕ) (b : ℕ) (q : List ℕ) → is_among b pids ≡ false → is_off pids q ≡ false → on b q ≡ false
+pub among-off : (pids : List ℕ) (b : ℕ) (q : List ℕ) → is_among b pids ≡ false → is_off pids q ≡ false → on b q ≡ false
 among-off pids b q n o = by_test (on b q)
-    (λ y. let t : is_off pids q ≡ true = ap (λ x. in_error q || not (is_among x pids)) (pid_is b q y) ∙ or-second (in_error q) (not (is_among b pids)) (ap not n) in
+    (λ y. let t : is_off pids q ≡ true = ap (λ x. in_error q || not (is_among x pids)) (pid_is b q y) ∙ or_right (in_error q) (not (is_among b pids)) (ap not n) in
     absurd (true≢false (sym t ∙ o)))
     (λ f. f)
 
@@ -48,23 +48,15 @@ among-offs : (pids : List ℕ) (b : ℕ) (qs : List (List ℕ)) → is_among b p
 among-offs pids b [] n h = tt
 among-offs pids b (q ∷ qs) n h = (among-off pids b q n h.0, among-offs pids b qs n h.1)
 
-or-parts : (a b : Bool) → (a || b) ≡ false → (a ≡ false) × (b ≡ false)
-or-parts true b h = absurd (true≢false h)
-or-parts false b h = (refl, h)
-
-or-both : (a b : Bool) → a ≡ false → b ≡ false → (a || b) ≡ false
-or-both true b h k = h
-or-both false b h k = k
-
-none-switches : (pids : List ℕ) (b : ℕ) (p : List ℕ) → is_among b pids ≡ false → on b p ≡ true → on_one pids p ≡ false
+pub none-switches : (pids : List ℕ) (b : ℕ) (p : List ℕ) → is_among b pids ≡ false → on b p ≡ true → on_one pids p ≡ false
 none-switches [] b p n y = refl
 none-switches (pid ∷ pids) b p n y =
-    let r = or-parts (pid == b) (is_among b pids) n in
-    or-both (on pid p) (on_one pids p) (off_other b pid p (λ e. true≢false (sym (eq-eqb pid b (sym e)) ∙ r.0)) y) (none-switches pids b p r.1 y)
+    let r = or_parts (pid == b) (is_among b pids) n in
+    or_from (on pid p) (on_one pids p) (off_other b pid p (λ e. true≢false (sym (eq-eqb pid b (sym e)) ∙ r.0)) y) (none-switches pids b p r.1 y)
 
 -- ---- packets behind the last
 
-no-more : (x : Option Listed) → option_or x None ≡ x
+pub no-more : (x : Option Listed) → option_or x None ≡ x
 no-more None = refl
 no-more (Some l) = refl
 

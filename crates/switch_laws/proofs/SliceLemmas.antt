@@ -1,6 +1,6 @@
 -- In a conditioned stream the units of an event before its last end go out.
-use Rattle.std.proofs.Common.{◌≡◌, ℕ, ◌<◌, zero, suc, List, [], ◌∷◌, ◌++◌, Bool, true, false, not, ◌&&◌, ◌||◌, ◌⊎◌, inl, inr, refl, sym, ap, ◌∙◌, Option, None, Some, append_assoc, if◌then◌else◌, subst, length, drop, reverse, arith}
-use Rattle.std.specs.Prelude.{ℤ, ◌≤ℤ◌, slice_index_or, All, Contains, is_some, option_map}
+use Rattle.std.proofs.Common.{◌≡◌, ℕ, List, [], ◌∷◌, ◌++◌, Bool, true, false, not, ◌&&◌, ◌||◌, ◌⊎◌, inl, inr, refl, sym, ap, ◌∙◌, Option, None, Some, append_assoc, if◌then◌else◌, subst, length, drop, reverse, arith}
+use Rattle.std.specs.Prelude.{ℤ, ◌≤ℤ◌, All, Contains, is_some, option_map}
 use Rattle.std.specs.List.{AllByRecursion}
 use Rattle.std.proofs.lemmas.Int.{ints}
 use Rattle.std.proofs.lemmas.Bool.{true≢false}
@@ -16,7 +16,7 @@ use Rattle.splice_laws.specs.Settled.{IsAhead, IsSettled, NeverPassesHigh, begun
 use Rattle.splice_laws.specs.Ends.{up_to_end, longest_front}
 use Rattle.splice_laws.proofs.TimeLemmas.{not-below, timed_past}
 use Rattle.splice_laws.proofs.PidLemmas.{pids_are_streams}
-use Rattle.splice_laws.proofs.SettledLemmas.{switched_pids_are_within}
+use Rattle.splice_laws.proofs.SettledLemmas.{switched_pids_are_within, begins-among}
 use Rattle.splice_laws.proofs.EndLemmas.{run_of, IsFront, front-trans, run-front, drop-front}
 use Rattle.splice_plans.specs.Playing.{Adverts, History, Turns, is_played, as_played, end_known, up_to_known, sent_of_begun, sent_known, left_at_end}
 use Rattle.splice_plans.specs.Laws.{EndsFall}
@@ -214,20 +214,6 @@ module _ (turns : Turns) (r : TimedStream) (k : IsStream r) (w : NeverPassesHigh
       (λ m. ([], past, x.stop, refl, inr (refl, m), e, omega (arith, ints), simp (n, none) refl)))
 
 -- ---- of all events
-
-begins-among : (sw : List ℕ) (pid : ℕ) → Contains sw pid → (p : List ℕ) (past : List (List ℕ)) → begins pid p past ≡ true → begins_one sw p past ≡ true
-begins-among sw pid c p past b = at sw c.0 c.1 c.2 where
-  or_left : (a b : Bool) → a ≡ true → a || b ≡ true
-  or_left a b h = rw h refl
-
-  or_right : (a b : Bool) → b ≡ true → a || b ≡ true
-  or_right true b h = refl
-  or_right false b h = h
-
-  at : (sw : List ℕ) (i : ℕ) → i < length sw → slice_index_or sw i pid ≡ pid → begins_one sw p past ≡ true
-  at [] i l e = absurd (omega arith)
-  at (q ∷ qs) zero l e = or_left (begins q p past) _ (rw e b)
-  at (q ∷ qs) (suc i) l e = or_right (begins q p past) _ (at qs i (omega arith) e)
 
 module _ (switched : List ℕ) (ads : Adverts) (steady : AreSteady ads) (events : History) (h : IsHistory (high switched) events) (pid : ℕ) (c : Contains switched pid) (whole : List (List ℕ)) where
   -- with a packet, of an event of the end

@@ -2,7 +2,7 @@
 use Rattle.std.proofs.Common.{◌≡◌, ℕ, ◌<◌, ◌%◌, List, [], ◌∷◌, ◌++◌, Bool, true, false, ◌||◌, refl, sym, ap, ◌∙◌, Option, None, Some, append_assoc, if◌then◌else◌, subst, map, length, reverse, arith}
 use Rattle.std.specs.Prelude.{filter, ◌==◌, is_some, drop}
 use Rattle.std.specs.List.{AllByRecursion}
-use Rattle.std.proofs.lemmas.Bool.{true≢false}
+use Rattle.std.proofs.lemmas.Bool.{true≢false, eqb-true}
 use Rattle.std.proofs.lemmas.List.{reverse-append, reverse-reverse}
 use Rattle.std.proofs.lemmas.List.Elements.{filter-append}
 use Rattle.ts_packet.specs.Fields.{on, payload_on, pid_of, pcr, on_one, is_among}
@@ -15,7 +15,6 @@ use Rattle.unit_stream.specs.Fates.{is_left_out}
 use Rattle.psi_tables.specs.ProgramMap.{ProgramMap}
 use Rattle.psi_section.proofs.ReadBackLemmas.{IsPayloadOn, turn_carry}
 use Rattle.program_follower.proofs.StreamLemmas.{one_pid}
-use Rattle.output_laws.proofs.GaplessLemmas.{test-true}
 use Rattle.program_follower.specs.declared.purpose.Listed.{Listed}
 use Rattle.program_follower.specs.Program.{listed, tables, known_map, behind_head}
 use Rattle.program_laws.specs.Writing.{number_on, section_out, packets_out, body, block}
@@ -97,7 +96,7 @@ module _ (packed : Packing) (switched : List ℕ) (ads : Adverts) (events : Hist
 among-switched : (pid : ℕ) (p : List ℕ) (pids : List ℕ) → is_among pid pids ≡ true → on_one pids p ≡ false → on pid p ≡ false
 among-switched pid p [] a s = absurd (true≢false (sym a))
 among-switched pid p (q ∷ qs) a s = by_test (q == pid)
-    (λ e. ap (λ n. on n p) (sym (test-true q pid e)) ∙ or_first (on q p) (on_one qs p) s)
+    (λ e. ap (λ n. on n p) (sym (eqb-true q pid e)) ∙ or_first (on q p) (on_one qs p) s)
     (λ e. among-switched pid p qs (simp e at a) (or_second (on q p) (on_one qs p) s))
   where
     or_first : (a b : Bool) → (a || b) ≡ false → a ≡ false

@@ -2,7 +2,7 @@
 use Rattle.std.proofs.Common.{◌≡◌, ℕ, zero, suc, List, [], ◌∷◌, Bool, true, false, not, ◌&&◌, ◌||◌, refl, sym, ap, ◌∙◌, Option, None, Some, length, drop, if◌then◌else◌, arith}
 use Rattle.std.specs.Prelude.{ℤ, Contains}
 use Rattle.std.proofs.lemmas.Int.{ints}
-use Rattle.std.proofs.lemmas.Bool.{true≢false}
+use Rattle.std.proofs.lemmas.Bool.{true≢false, and_parts, or_parts}
 use Rattle.ts_packet.specs.Fields.{on, payload_on, unit_start, on_one}
 use Rattle.ts_packet.specs.Duplicates.{original}
 use Rattle.ts_packet.proofs.Cases.{by_test}
@@ -17,7 +17,7 @@ use Rattle.splice_laws.specs.Settled.{stands_now, begun_now, closed_now}
 use Rattle.splice_laws.proofs.SettledLemmas.{switched_pids_are_within}
 use Rattle.splice_laws.proofs.PidLemmas.{pids_are_streams}
 use Rattle.splice_plans.specs.Playing.{sent_of_begun, sent_known, due_at, left_at_end}
-use Rattle.known_laws.proofs.HeadLemmas.{or-parts, off-one}
+use Rattle.known_laws.proofs.HeadLemmas.{off-one}
 use Rattle.thinned_laws.specs.Beside.{Beside, Shared, Here, There, one_run, other_run}
 
 -- ---- packets of one run alone
@@ -39,14 +39,14 @@ OffAll pids (There q ∷ rows) = (on_one pids q ≡ false) × OffAll pids rows
 pub off-head : (pid : ℕ) (pids : List ℕ) (rows : List Beside) → OffAll (pid ∷ pids) rows → OffAlone pid rows
 off-head pid pids [] o = tt
 off-head pid pids (Shared p ∷ rows) o = off-head pid pids rows o
-off-head pid pids (Here q ∷ rows) o = ((or-parts (on pid q) (on_one pids q) o.0).0, off-head pid pids rows o.1)
-off-head pid pids (There q ∷ rows) o = ((or-parts (on pid q) (on_one pids q) o.0).0, off-head pid pids rows o.1)
+off-head pid pids (Here q ∷ rows) o = ((or_parts (on pid q) (on_one pids q) o.0).0, off-head pid pids rows o.1)
+off-head pid pids (There q ∷ rows) o = ((or_parts (on pid q) (on_one pids q) o.0).0, off-head pid pids rows o.1)
 
 pub off-tail : (pid : ℕ) (pids : List ℕ) (rows : List Beside) → OffAll (pid ∷ pids) rows → OffAll pids rows
 off-tail pid pids [] o = tt
 off-tail pid pids (Shared p ∷ rows) o = off-tail pid pids rows o
-off-tail pid pids (Here q ∷ rows) o = ((or-parts (on pid q) (on_one pids q) o.0).1, off-tail pid pids rows o.1)
-off-tail pid pids (There q ∷ rows) o = ((or-parts (on pid q) (on_one pids q) o.0).1, off-tail pid pids rows o.1)
+off-tail pid pids (Here q ∷ rows) o = ((or_parts (on pid q) (on_one pids q) o.0).1, off-tail pid pids rows o.1)
+off-tail pid pids (There q ∷ rows) o = ((or_parts (on pid q) (on_one pids q) o.0).1, off-tail pid pids rows o.1)
 
 pub alike-runs : (pid : ℕ) (rows : List Beside) → OffAlone pid rows → Alike pid (one_run rows) (other_run rows)
 alike-runs pid [] o = alike_none pid []
@@ -112,14 +112,6 @@ stays-reached edge None later w b = absurd (true≢false b)
 stays-reached edge (Some h) None w b = absurd w
 stays-reached edge (Some h) (Some later) w b = grind (arith, ints)
 
-pub and-parts : (a b : Bool) → (a && b) ≡ true → (a ≡ true) × (b ≡ true)
-and-parts true b h = (refl, h)
-and-parts false b h = absurd (true≢false (sym h))
-
-or-none : (a b : Bool) → a ≡ false → b ≡ false → (a || b) ≡ false
-or-none true b h k = h
-or-none false b h k = k
-
 module _ (switched : List ℕ) (pid : ℕ) (among : Contains switched pid) (x : PlayedEvent) (known : List (List ℕ) → Option ℤ) where
   abbrev r : TimedStream
   r = stream switched pid
@@ -129,8 +121,8 @@ module _ (switched : List ℕ) (pid : ℕ) (among : Contains switched pid) (x : 
   reached [] b = absurd (true≢false (sym b))
   reached (p ∷ past) b = by_test (begun_now r x known past)
       (λ y. stays-reached x.start (high switched past) (high switched (p ∷ past)) ((pids_are_streams switched pid).rises p past) (reached past y))
-      (λ n. let c = and-parts (comes r x.start p past) (stands_now x (known (p ∷ past)) (high switched past)) (second (begun_now r x known past) _ n b) in
-      let d = and-parts (begins pid p past) (at_or_past x.start (unit_time switched pid (p ∷ past))) c.0 in
+      (λ n. let c = and_parts (comes r x.start p past) (stands_now x (known (p ∷ past)) (high switched past)) (second (begun_now r x known past) _ n b) in
+      let d = and_parts (begins pid p past) (at_or_past x.start (unit_time switched pid (p ∷ past))) c.0 in
       reached-by x.start (unit_time switched pid (p ∷ past)) (high switched (p ∷ past)) (switched_pids_are_within switched pid among (p ∷ past)) d.1)
     where
       second : (a b : Bool) → a ≡ false → (a || b) ≡ true → b ≡ true
@@ -141,7 +133,7 @@ module _ (switched : List ℕ) (pid : ℕ) (among : Contains switched pid) (x : 
   not-begun past h = by_test (begun_now r x known past) (λ y. absurd (true≢false (sym h ∙ reached past y))) (λ n. n)
 
   begun-before : (p : List ℕ) (past : List (List ℕ)) → begun_now r x known (p ∷ past) ≡ false → begun_now r x known past ≡ false
-  begun-before p past h = (or-parts (begun_now r x known past) (comes r x.start p past && stands_now x (known (p ∷ past)) (high switched past)) h).0
+  begun-before p past h = (or_parts (begun_now r x known past) (comes r x.start p past && stands_now x (known (p ∷ past)) (high switched past)) h).0
 
   pub sent-none : (units : List SliceUnit) (past : List (List ℕ)) → begun_now r x known past ≡ false → sent_known (begins_one switched) r x known units past ≡ []
   sent-none units [] h = refl

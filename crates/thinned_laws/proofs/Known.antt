@@ -4,7 +4,7 @@ use Rattle.std.specs.Prelude.{ℤ, Contains, slice_index_or, find, option_map}
 use Rattle.std.specs.List.{AllByRecursion}
 use Rattle.std.specs.Ordering.{int_eq}
 use Rattle.std.proofs.lemmas.Int.{ints}
-use Rattle.std.proofs.lemmas.Bool.{true≢false}
+use Rattle.std.proofs.lemmas.Bool.{true≢false, and_parts, not-true}
 use Rattle.ts_packet.specs.Fields.{on, pid_of, on_one}
 use Rattle.ts_packet.proofs.Cases.{by_test}
 use Rattle.ts_packet.proofs.FieldLemmas.{off_payload}
@@ -21,10 +21,10 @@ use Rattle.splice_laws.specs.Ends.{longest_front}
 use Rattle.splice_laws.proofs.SettledLemmas.{switched_pids_are_within}
 use Rattle.splice_plans.specs.Playing.{Adverts, History, is_played, is_inside, as_played, end_known, up_to_known, sent_known, due_at, closing_at, running_at, left_at_end}
 use Rattle.known_laws.proofs.HeadLemmas.{off-one}
-use Rattle.known_laws.proofs.QuietLemmas.{sent-still}
+use Rattle.known_laws.proofs.QuietLemmas.{sent-still, or-alone, or-beside}
 use Rattle.thinned_laws.specs.Beside.{Beside, Shared, Here, There, one_run, other_run, AgreeReached}
 use Rattle.thinned_laws.proofs.Lists.{distinct-starts, same-found, same-any}
-use Rattle.thinned_laws.proofs.Flags.{OffAlone, OffAll, begins-same, begins-one-same, high-same, time-same, reached-by, and-parts, reached}
+use Rattle.thinned_laws.proofs.Flags.{OffAlone, OffAll, begins-same, begins-one-same, high-same, time-same, reached-by, reached}
 
 -- ---- a switched stream's packet
 
@@ -70,7 +70,7 @@ and-same {a} {b} {s} {t} h k = by_test a
     (λ y. let z = sym h ∙ y in let e = k y in simp (y, z) e)
     (λ n. let z = sym h ∙ n in simp (n, z) refl)
 
-or-same : {a b c d : Bool} → a ≡ b → c ≡ d → (a || c) ≡ (b || d)
+pub or-same : {a b c d : Bool} → a ≡ b → c ≡ d → (a || c) ≡ (b || d)
 or-same h k = rw (h, k) refl
 
 pub if-same : {A : Type 0} {t u : Bool} {x y z w : A} → t ≡ u → (t ≡ true → x ≡ y) → z ≡ w → (if t then x else z) ≡ (if u then y else w)
@@ -81,32 +81,17 @@ if-same {A} {t} {u} {x} {y} {z} {w} h k l = by_test t
 int-same : (a b : ℤ) → int_eq a b ≡ true → a ≡ b
 int-same a b h = grind (arith, ints, h)
 
-not-is : (c : Bool) → not c ≡ true → c ≡ false
-not-is true h = absurd (true≢false (sym h))
-not-is false h = refl
-
 pub played-stays : (ads : Adverts) (e : Standing) → is_played ads e ≡ true → e.cancelled ≡ false
-played-stays ads e h = not-is e.cancelled (and-parts (not e.cancelled) (ads.fits e) h).0
+played-stays ads e h = not-true e.cancelled (and_parts (not e.cancelled) (ads.fits e) h).0
 
 -- ---- a packet that begins no unit of the stream
 
-or-quiet : (a b c d : Bool) → b ≡ false → (a || ((b && c) && d)) ≡ a
-or-quiet a true c d h = absurd (true≢false h)
-or-quiet true false c d h = refl
-or-quiet false false c d h = refl
-
-or-calm : (a b c d : Bool) → c ≡ false → (a || (b && (c && d))) ≡ a
-or-calm a b true d h = absurd (true≢false h)
-or-calm true b false d h = refl
-or-calm false true false d h = refl
-or-calm false false false d h = refl
-
 module _ (r : TimedStream) (x : PlayedEvent) (known : List (List ℕ) → Option ℤ) (p : List ℕ) (past : List (List ℕ)) (none : r.begins p past ≡ false) where
   begun-still : begun_now r x known (p ∷ past) ≡ begun_now r x known past
-  begun-still = or-quiet (begun_now r x known past) (r.begins p past) (at_or_past x.start (r.time (p ∷ past))) (stands_now x (known (p ∷ past)) (r.high past)) none
+  begun-still = or-alone (begun_now r x known past) (r.begins p past) (at_or_past x.start (r.time (p ∷ past))) (stands_now x (known (p ∷ past)) (r.high past)) none
 
   closed-still : closed_now r x known (p ∷ past) ≡ closed_now r x known past
-  closed-still = or-calm (closed_now r x known past) (begun_now r x known (p ∷ past)) (r.begins p past) (not (holds_now x (known (p ∷ past)) (r.time (p ∷ past)))) none
+  closed-still = or-beside (closed_now r x known past) (begun_now r x known (p ∷ past)) (r.begins p past) (not (holds_now x (known (p ∷ past)) (r.time (p ∷ past)))) none
 
 -- ---- events of two runs
 
@@ -127,17 +112,17 @@ module _ (ads : Adverts) where
   pub known-same : (h : Option ℤ) (es fs : List Standing) → NoneMeet fs → AgreeReached h es fs → (start : ℤ) → before h start ≡ false
       → option_map end_of (find (λ e. int_eq e.start start && is_played ads e) es) ≡ option_map end_of (find (λ e. int_eq e.start start && is_played ads e) fs)
   known-same h es fs n a start past = ap (option_map end_of) (same-found (λ e. int_eq e.start start && is_played ads e) es fs (distinct-starts fs n)
-      (λ x y s t. int-same x.start start (and-parts (int_eq x.start start) (is_played ads x) s).0 ∙ sym (int-same y.start start (and-parts (int_eq y.start start) (is_played ads y) t).0))
-      (λ e t. let p = and-parts (int_eq e.start start) (is_played ads e) t in
+      (λ x y s t. int-same x.start start (and_parts (int_eq x.start start) (is_played ads x) s).0 ∙ sym (int-same y.start start (and_parts (int_eq y.start start) (is_played ads y) t).0))
+      (λ e t. let p = and_parts (int_eq e.start start) (is_played ads e) t in
       a e (played-stays ads e p.1) (ap (before h) (int-same e.start start p.0) ∙ past)))
 
   pub inside-same : (h t : Option ℤ) → Risen t h → (es fs : List Standing) → AgreeReached h es fs → is_inside ads es t ≡ is_inside ads fs t
   inside-same h t w es fs a = same-any (λ e. is_played ads e && holds (as_played e) t) es fs
-      (λ e k. let p = and-parts (is_played ads e) (holds (as_played e) t) k in a e (played-stays ads e p.0) (reached-by e.start t h w (held-past (as_played e) t p.1)))
+      (λ e k. let p = and_parts (is_played ads e) (holds (as_played e) t) k in a e (played-stays ads e p.0) (reached-by e.start t h w (held-past (as_played e) t p.1)))
     where
       held-past : (x : PlayedEvent) (t : Option ℤ) → holds x t ≡ true → at_or_past x.start t ≡ true
       held-past x None h = absurd (true≢false (sym h))
-      held-past x (Some t) h = (and-parts _ _ h).0
+      held-past x (Some t) h = (and_parts _ _ h).0
 
 -- ---- one event in one stream
 
@@ -164,7 +149,7 @@ module _ (switched : List ℕ) (pid : ℕ) (among : Contains switched pid) (ads 
   begun-same (Shared p ∷ rows) o a g =
       or-same (begun-same rows o a g.1)
       (and-same (comes-same p rows o a)
-      (λ y. let c = and-parts (begins pid p (one_run rows)) (at_or_past x.start (unit_time switched pid (p ∷ one_run rows))) y in
+      (λ y. let c = and_parts (begins pid p (one_run rows)) (at_or_past x.start (unit_time switched pid (p ∷ one_run rows))) y in
       let s = begins-switched switched pid among p (one_run rows) c.0 in
       let b = reached-by x.start (unit_time switched pid (p ∷ one_run rows)) (high switched (p ∷ one_run rows)) (switched_pids_are_within switched pid among (p ∷ one_run rows)) c.1 in
       ap (λ (o : Option ℤ). stands_now x o (high switched (one_run rows))) (known-at p rows g s b)
@@ -197,7 +182,7 @@ module _ (switched : List ℕ) (pid : ℕ) (among : Contains switched pid) (ads 
       where
         three : {t u c d b e : Bool} {us vs ws zs : List SliceUnit} → t ≡ u → c ≡ d → b ≡ e → (t ≡ true → b ≡ true → us ≡ vs) → ws ≡ zs
             → (if t && (not c && b) then us else ws) ≡ (if u && (not d && e) then vs else zs)
-        three {t} {u} {c} {d} {b} {e} {us} {vs} {ws} {zs} h k l m n = if-same (rw (h, k, l) refl) (λ y. let p = and-parts t (not c && b) y in m p.0 (and-parts (not c) b p.1).1) n
+        three {t} {u} {c} {d} {b} {e} {us} {vs} {ws} {zs} h k l m n = if-same (rw (h, k, l) refl) (λ y. let p = and_parts t (not c && b) y in m p.0 (and_parts (not c) b p.1).1) n
 
         front-same : {c d : Bool} {k l : Option ℤ} {h m : Option ℤ} → c ≡ d → k ≡ l → h ≡ m
             → (if c then up_to_known k units else longest_front (up_to_known k units) h) ≡ (if d then up_to_known l units else longest_front (up_to_known l units) m)
@@ -224,7 +209,7 @@ module _ (switched : List ℕ) (pid : ℕ) (among : Contains switched pid) (ads 
         → left_at_end (begins_one switched) r x here units (one_run rows) ≡ left_at_end (begins_one switched) r x there units (other_run rows)
     left-same rows o a g last =
         if-same (and-same (begun-same rows o a g) (λ y. ap not (closed-same rows o a g)))
-        (λ y. let b = reached switched pid among x here (one_run rows) (and-parts (begun_now r x here (one_run rows)) (not (closed_now r x here (one_run rows))) y).0 in
+        (λ y. let b = reached switched pid among x here (one_run rows) (and_parts (begun_now r x here (one_run rows)) (not (closed_now r x here (one_run rows))) y).0 in
         ap (λ (us : List SliceUnit). drop (length us) (up_to_known (here (one_run rows)) units)) (sent-same rows o a g)
         ∙ ap (λ (k : Option ℤ). drop (length (sent_known (begins_one switched) r x there units (other_run rows))) (up_to_known k units))
         (known-same ads (high switched (one_run rows)) (one (one_run rows)) (other (other_run rows)) (meet (other_run rows)) last x.start b))

@@ -2,7 +2,7 @@
 use Rattle.std.proofs.Common.{◌≡◌, ℕ, zero, suc, ◌<◌, ◌==◌, List, [], ◌∷◌, ◌++◌, Bool, true, false, not, ◌&&◌, ◌||◌, refl, sym, ap, ◌∙◌, subst, Option, length, map, reverse, if◌then◌else◌, arith}
 use Rattle.std.specs.Prelude.{ℤ, Contains, slice_index_or, flat_map, filter}
 use Rattle.std.specs.List.{AllByRecursion}
-use Rattle.std.proofs.lemmas.Bool.{true≢false}
+use Rattle.std.proofs.lemmas.Bool.{true≢false, or_parts}
 use Rattle.ts_packet.specs.Fields.{on, payload_on, pid_of, in_error, pcr, renumbered, on_one}
 use Rattle.ts_packet.specs.Numbering.{Step, Kept, Dropped, moved, number_out, one_past, last_number}
 use Rattle.ts_packet.proofs.Cases.{by_test}
@@ -20,7 +20,8 @@ use Rattle.output_laws.specs.Output.{Move, Keep, Leave, Put, Packing, counter_st
 use Rattle.splice_plans.specs.Playing.{Adverts, History, is_played, is_inside, played, as_played, end_known, closing_at, running_at, left_at_end}
 use Rattle.splice_plans.specs.Switching.{puts_by, puts_before, puts_at_end, fate, moves, front_of, place_of, end_of_run}
 use Rattle.splice_plans.proofs.PutLemmas.{puts_at_unit_starts}
-use Rattle.known_laws.proofs.HeadLemmas.{or-parts, off-one}
+use Rattle.known_laws.proofs.HeadLemmas.{off-one}
+use Rattle.known_laws.proofs.AheadLemmas.{all-in}
 use Rattle.thinned_laws.specs.Beside.{Beside, Shared, Here, There, one_run, other_run, AgreeReached}
 use Rattle.thinned_laws.proofs.Lists.{distinct-starts, same-chosen}
 use Rattle.thinned_laws.proofs.Flags.{OffAlone, OffAll, off-head, off-tail, original-same, high-same, time-same, due-none, left-none}
@@ -34,13 +35,6 @@ all-later q (x ∷ xs) all a = ((suc a.0.0, more a.0.0 (length all) a.0.1, a.0.2
   where
     more : (i n : ℕ) → i < n → suc i < suc n
     more i n l = omega arith
-
-pub all-in : (all : List ℕ) → AllByRecursion (Contains all) all
-all-in [] = tt
-all-in (q ∷ all) = ((zero, first (length all), refl), all-later q all all (all-in all))
-  where
-    first : (n : ℕ) → 0 < suc n
-    first n = omega arith
 
 pub off-each : (pids : List ℕ) (rows : List Beside) → OffAll pids rows → AllByRecursion (λ pid. OffAlone pid rows) pids
 off-each [] rows o = tt
@@ -251,7 +245,7 @@ module _ (switched : List ℕ) (ads : Adverts) (one other : History) (meet : Nev
   none-out : (goes : ℕ → Option ℤ → Bool) (p : List ℕ) (past : List (List ℕ)) (pids : List ℕ) → on_one pids p ≡ false → is_left_out goes switched p past pids ≡ false
   none-out goes p past [] n = refl
   none-out goes p past (pid ∷ pids) n =
-      let r = or-parts (on pid p) (on_one pids p) n in
+      let r = or_parts (on pid p) (on_one pids p) n in
       both _ _ (ap (λ b. b && goes pid (unit_time switched pid (p ∷ past))) (off_payload pid p r.0)) (none-out goes p past pids r.1)
     where
       both : (a b : Bool) → a ≡ false → b ≡ false → (a || b) ≡ false

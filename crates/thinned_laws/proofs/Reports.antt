@@ -3,6 +3,8 @@ use Rattle.std.proofs.Common.{◌≡◌, ℕ, List, [], ◌∷◌, ◌++◌, Boo
 use Rattle.std.specs.Prelude.{ℤ, Contains, count_by}
 use Rattle.std.specs.List.{list_any, AllByRecursion}
 use Rattle.std.proofs.lemmas.List.{reverse-reverse}
+use Rattle.std.proofs.lemmas.Bool.{and_parts}
+use Rattle.known_laws.proofs.QuietLemmas.{or-none}
 use Rattle.ts_packet.specs.Fields.{on}
 use Rattle.ts_packet.proofs.FieldLemmas.{off_payload}
 use Rattle.unit_stream.specs.Times.{begins, unit_time}
@@ -17,20 +19,13 @@ use Rattle.splice_plans.specs.Reporting.{is_not_fitted, is_unconditioned}
 use Rattle.thinned_laws.specs.Beside.{Beside, Shared, Here, There, one_run, other_run, DifferOn, CuesAreApart, AgreeAlong, AgreeAtTheEnd}
 use Rattle.thinned_laws.specs.Laws.{CountedAlike, SameEventsSameNetwork}
 use Rattle.thinned_laws.proofs.Lists.{Distinct, distinct-starts, same-counted, count-tests}
-use Rattle.thinned_laws.proofs.Flags.{OffAlone, OffAll, begins-same, time-same, and-parts}
-use Rattle.thinned_laws.proofs.Known.{and-same, if-same, played-stays}
+use Rattle.thinned_laws.proofs.Flags.{OffAlone, OffAll, begins-same, time-same}
+use Rattle.thinned_laws.proofs.Known.{and-same, if-same, played-stays, or-same}
 use Rattle.thinned_laws.proofs.Moves.{all-ready}
 use Rattle.thinned_laws.proofs.Tables.{switched-same, adverts-same, is-behind-same, behind_rows, behind-one, behind-other}
 use Rattle.thinned_laws.proofs.Runs.{same_events_same_output, agree-behind, off-behind, rest-by}
 
 -- ---- units that cross an edge
-
-or-same : {a b c d : Bool} → a ≡ b → c ≡ d → (a || c) ≡ (b || d)
-or-same h k = rw (h, k) refl
-
-or-quiet : (a b c : Bool) → b ≡ false → (a || (b && c)) ≡ a
-or-quiet true b c h = refl
-or-quiet false b c h = ap (λ x. x && c) h
 
 module _ (switched : List ℕ) (pid : ℕ) (edge : ℤ) where
   abbrev r : TimedStream
@@ -44,9 +39,9 @@ module _ (switched : List ℕ) (pid : ℕ) (edge : ℤ) where
   passed-same (Shared p ∷ rows) o a =
       or-same (passed-same rows o a) (and-same (begins-same pid rows a p) (λ y. ap (at_or_past edge) (time-same switched pid (Shared p ∷ rows) o a)))
   passed-same (Here q ∷ rows) o a =
-      or-quiet (passed r edge (one_run rows)) (begins pid q (one_run rows)) (at_or_past edge (unit_time switched pid (q ∷ one_run rows))) (quiet q (one_run rows) a.0) ∙ passed-same rows o.1 a.1
+      or-none (passed r edge (one_run rows)) (begins pid q (one_run rows)) (at_or_past edge (unit_time switched pid (q ∷ one_run rows))) (quiet q (one_run rows) a.0) ∙ passed-same rows o.1 a.1
   passed-same (There q ∷ rows) o a =
-      passed-same rows o.1 a.1 ∙ sym (or-quiet (passed r edge (other_run rows)) (begins pid q (other_run rows)) (at_or_past edge (unit_time switched pid (q ∷ other_run rows))) (quiet q (other_run rows) a.0))
+      passed-same rows o.1 a.1 ∙ sym (or-none (passed r edge (other_run rows)) (begins pid q (other_run rows)) (at_or_past edge (unit_time switched pid (q ∷ other_run rows))) (quiet q (other_run rows) a.0))
 
   crossed-same : (rows : List Beside) → OffAll switched rows → OffAlone pid rows → is_crossed r edge (one_run rows) ≡ is_crossed r edge (other_run rows)
   crossed-same [] o a = refl
@@ -54,10 +49,10 @@ module _ (switched : List ℕ) (pid : ℕ) (edge : ℤ) where
       or-same (crossed-same rows o a)
       (and-same (begins-same pid rows a p) (λ y. and-same (passed-same rows o a) (λ z. ap (below edge) (time-same switched pid (Shared p ∷ rows) o a))))
   crossed-same (Here q ∷ rows) o a =
-      or-quiet (is_crossed r edge (one_run rows)) (begins pid q (one_run rows)) (passed r edge (one_run rows) && below edge (unit_time switched pid (q ∷ one_run rows))) (quiet q (one_run rows) a.0) ∙ crossed-same rows o.1 a.1
+      or-none (is_crossed r edge (one_run rows)) (begins pid q (one_run rows)) (passed r edge (one_run rows) && below edge (unit_time switched pid (q ∷ one_run rows))) (quiet q (one_run rows) a.0) ∙ crossed-same rows o.1 a.1
   crossed-same (There q ∷ rows) o a =
       crossed-same rows o.1 a.1
-      ∙ sym (or-quiet (is_crossed r edge (other_run rows)) (begins pid q (other_run rows)) (passed r edge (other_run rows) && below edge (unit_time switched pid (q ∷ other_run rows))) (quiet q (other_run rows) a.0))
+      ∙ sym (or-none (is_crossed r edge (other_run rows)) (begins pid q (other_run rows)) (passed r edge (other_run rows) && below edge (unit_time switched pid (q ∷ other_run rows))) (quiet q (other_run rows) a.0))
 
 any-crossed-same : (switched : List ℕ) (rows : List Beside) → OffAll switched rows → (e : Standing) → (pids : List ℕ) → AllByRecursion (λ pid. Contains switched pid × OffAlone pid rows) pids →
     list_any (λ pid. is_crossed (stream switched pid) e.start (one_run rows) || is_crossed (stream switched pid) (end_of e) (one_run rows)) pids
@@ -90,7 +85,7 @@ module _ (k : Setting) (rows : List Beside) (a : CuesAreApart k (one_run rows)) 
   not-is false h = refl
 
   unfitted-stays : (ads : Adverts) (e : Standing) → is_not_fitted ads e ≡ true → e.cancelled ≡ false
-  unfitted-stays ads e h = not-is e.cancelled (and-parts (not e.cancelled) (not (ads.fits e)) h).0
+  unfitted-stays ads e h = not-is e.cancelled (and_parts (not e.cancelled) (not (ads.fits e)) h).0
 
   conditions : (e : Standing) → is_unconditioned (switched_at k (one_run rows)) (behind_at k (one_run rows)) e ≡ is_unconditioned (switched_at k (other_run rows)) (behind_at k (other_run rows)) e
   conditions e =
@@ -109,7 +104,7 @@ module _ (k : Setting) (rows : List Beside) (a : CuesAreApart k (one_run rows)) 
         ∙ ap (λ ads. count_by (is_not_fitted ads) (events_at k (other_run rows))) (adverts-same k rows a d);
     unconditioned =
         counted (λ e. is_played (adverts_at k (one_run rows)) e && is_unconditioned (switched_at k (one_run rows)) (behind_at k (one_run rows)) e)
-        (λ e t. played-stays (adverts_at k (one_run rows)) e (and-parts (is_played (adverts_at k (one_run rows)) e) (is_unconditioned (switched_at k (one_run rows)) (behind_at k (one_run rows)) e) t).0)
+        (λ e t. played-stays (adverts_at k (one_run rows)) e (and_parts (is_played (adverts_at k (one_run rows)) e) (is_unconditioned (switched_at k (one_run rows)) (behind_at k (one_run rows)) e) t).0)
         ∙ count-tests (λ e. is_played (adverts_at k (one_run rows)) e && is_unconditioned (switched_at k (one_run rows)) (behind_at k (one_run rows)) e)
         (λ e. is_played (adverts_at k (other_run rows)) e && is_unconditioned (switched_at k (other_run rows)) (behind_at k (other_run rows)) e)
         (λ e. and-same (ap (λ ads. is_played ads e) (adverts-same k rows a d)) (λ y. conditions e)) (events_at k (other_run rows));

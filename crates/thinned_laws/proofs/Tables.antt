@@ -2,7 +2,7 @@
 use Rattle.std.proofs.Common.{◌≡◌, ℕ, ◌==◌, List, [], ◌∷◌, ◌++◌, Bool, true, false, ◌||◌, refl, sym, ap, ◌∙◌, subst, Option, None, Some, if◌then◌else◌}
 use Rattle.std.specs.Prelude.{is_some, option_map}
 use Rattle.std.specs.Option.{option_or}
-use Rattle.std.proofs.lemmas.Bool.{true≢false}
+use Rattle.std.proofs.lemmas.Bool.{true≢false, or_parts}
 use Rattle.ts_packet.specs.Fields.{on, on_one, is_among}
 use Rattle.psi_section.specs.Sections.{given}
 use Rattle.psi_section.proofs.RunLemmas.{Alike, alike_on, alike_off, alike_none, alike_back, given_on, given_off}
@@ -17,7 +17,7 @@ use Rattle.program_laws.proofs.ReadingLemmas.{no_since_yet}
 use Rattle.output_laws.proofs.StepLemmas.{test-same}
 use Rattle.splice_plans.specs.Switching.{Setting, switched_at, is_behind_head}
 use Rattle.splice_plans.specs.Known.{adverts_at, behind_at}
-use Rattle.known_laws.proofs.HeadLemmas.{or-parts, none-switched, none-behind, same-switched}
+use Rattle.known_laws.proofs.HeadLemmas.{none-switched, none-behind, same-switched}
 use Rattle.thinned_laws.specs.Beside.{Beside, Shared, Here, There, one_run, other_run, DifferOn, CuesAreApart}
 use Rattle.thinned_laws.proofs.Flags.{OffAlone, OffAll, alike-runs}
 
@@ -32,7 +32,7 @@ off-alone cue pid ne (There q ∷ rows) d = (off_other cue pid q ne d.0, off-alo
 pub not-switched : (cue : ℕ) (q : List ℕ) → on cue q ≡ true → (pids : List ℕ) → is_among cue pids ≡ false → on_one pids q ≡ false
 not-switched cue q y [] n = refl
 not-switched cue q y (pid ∷ pids) n =
-    let r = or-parts (pid == cue) (is_among cue pids) n in
+    let r = or_parts (pid == cue) (is_among cue pids) n in
     none (on pid q) (on_one pids q)
     (off_other cue pid q (λ e. true≢false (sym (test-same cue) ∙ ap (λ m. m == cue) e ∙ r.0)) y)
     (not-switched cue q y pids r.1)

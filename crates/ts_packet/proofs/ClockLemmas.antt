@@ -25,14 +25,14 @@ clock_packet-is pid number n c h e = ap (λ k. 71 ∷ (k / 256) ∷ (k % 256) �
 
 -- ---- what it says
 
-first_five : (pid : ℕ) → pid < 8192 → pid / 256 / 128 % 2 ≡ 0
+pub first_five : (pid : ℕ) → pid < 8192 → pid / 256 / 128 % 2 ≡ 0
 first_five pid h = omega arith
 
 error-clock : (pid n : ℕ) (c : List ℕ) → pid < 8192 → in_error (clock_packet pid n c) ≡ false
 unfolding in_error
 error-clock pid n c h = rw (first_five pid h) refl
 
-control-clock : (n : ℕ) → n < 16 → (32 + n) / 16 % 4 ≡ 2
+pub control-clock : (n : ℕ) → n < 16 → (32 + n) / 16 % 4 ≡ 2
 control-clock n h = omega arith
 
 front_six : (c : List ℕ) → length c ≡ 6 → take 6 (c ++ replicate 176 255) ≡ c

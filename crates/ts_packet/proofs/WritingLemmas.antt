@@ -12,7 +12,7 @@ pub bytes_of-snoc : (ps : List (List ℕ)) (p : List ℕ) → bytes_of (ps ++ p 
 bytes_of-snoc ps p = bytes_of-append ps (p ∷ []) ∙ ap (λ l. bytes_of ps ++ l) (append-nil p)
 
 -- where known bytes grow
-appended : (a b : Option (List ℕ)) (xs ys : List ℕ) → a ≡ Some xs → Appends a b ys → b ≡ Some (xs ++ ys)
+pub appended : (a b : Option (List ℕ)) (xs ys : List ℕ) → a ≡ Some xs → Appends a b ys → b ≡ Some (xs ++ ys)
 appended (Some x) (Some y) xs ys e h = let f : x ≡ xs = cc in rw (h, f) refl
 appended (Some x) None xs ys e h = absurd h
 appended None b xs ys e h = absurd (cc)

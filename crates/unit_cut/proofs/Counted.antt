@@ -28,13 +28,13 @@ module _ (goes : Option ℤ → Bool) (sw : List ℕ) (pid : ℕ) where
 
 -- ---- the steps
 
-moved-kept : (p : List ℕ) (es : List Step) → moved (Kept p ∷ es) ≡ moved es
+pub moved-kept : (p : List ℕ) (es : List Step) → moved (Kept p ∷ es) ≡ moved es
 moved-kept p es =
     let a = sum_by-cons (λ e. cond (is_inserted e) 1 0) (Kept p) es in
     let b = sum_by-cons (λ e. cond (is_dropped e) 1 0) (Kept p) es in
     omega (arith, a, b)
 
-moved-dropped : (p : List ℕ) (es : List Step) → moved (Dropped p ∷ es) ≡ moved es + 15
+pub moved-dropped : (p : List ℕ) (es : List Step) → moved (Dropped p ∷ es) ≡ moved es + 15
 moved-dropped p es =
     let a = sum_by-cons (λ e. cond (is_inserted e) 1 0) (Dropped p) es in
     let b = sum_by-cons (λ e. cond (is_dropped e) 1 0) (Dropped p) es in

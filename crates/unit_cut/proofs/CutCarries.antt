@@ -24,7 +24,7 @@ pub row_joins : (n pid : ℕ) (past ps : List (List ℕ)) → RowJoins (renumber
 row_joins n pid past ps = rows.row_joins (renumbered n) (alike-renumbered n) (start-renumbered n) (bytes-renumbered n) pid past ps
 
 -- a row's first packet, kept, in front of the rest
-first_kept : (q : List ℕ) (bs rest : List ℕ) (qs row left us : List (List ℕ)) → unit_start q ≡ true → bytes q ≡ bs → qs ≡ row ++ left → Joins (Some q) row rest → CarriesUnits left us
+pub first_kept : (q : List ℕ) (bs rest : List ℕ) (qs row left us : List (List ℕ)) → unit_start q ≡ true → bytes q ≡ bs → qs ≡ row ++ left → Joins (Some q) row rest → CarriesUnits left us
     → CarriesUnits (q ∷ qs) ((bs ++ rest) ∷ us)
 first_kept q bs rest qs row left us s e f j c = (q ∷ row, left, ap (λ l. q ∷ l) f, (s, (rest, ap (λ l. l ++ rest) (sym e), j)), c)
 

@@ -11,7 +11,7 @@ use Rattle.ts_packet.proofs.RunLemmas.{packet_or, nearest_is_last}
 use Rattle.unit_stream.specs.Times.{unit_time}
 use Rattle.unit_cut.proofs.Counted.{gone, kept_as, cut_back}
 
-and_left : (a b : Bool) → a && b ≡ true → a ≡ true
+pub and_left : (a b : Bool) → a && b ≡ true → a ≡ true
 and_left true b h = refl
 and_left false b h = h
 

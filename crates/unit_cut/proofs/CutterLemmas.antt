@@ -3,7 +3,6 @@ use Rattle.std.specs.Prelude.{ℤ, IfSome}
 use Rattle.std.proofs.Common.{◌≡◌, ℕ, List, [], ◌∷◌, Bool, true, false, not, refl, sym, ap, ◌∙◌, Option, None, Some, ◌||◌, ◌&&◌, if◌then◌else◌, Ok, is_some}
 use Rattle.pes_time.specs.Line.{lift}
 use Rattle.ts_packet.specs.Fields.{on, payload_on, payload, scrambled}
-use Rattle.ts_packet.specs.Duplicates.{original, repeats}
 use Rattle.ts_packet.specs.Numbering.{Step, Kept, Dropped}
 use Rattle.ts_packet.proofs.Cases.{by_test}
 use Rattle.unit_stream.specs.Times.{begins, begins_one, high, raised, timed, unit_time, first_time, first_after, stamp, splits}
@@ -124,6 +123,3 @@ settled k p past true true q e f c w = cc
 settled k p past true false q e f c w = (f, c, w refl)
 settled k p past false true q e f c w = (f, c)
 settled k p past false false q e f c w = cc
-
-pub original_is : (pid : ℕ) (p : List ℕ) (past : List (List ℕ)) → payload_on pid p ≡ true → repeats pid p past ≡ true → original pid p past ≡ false
-original_is pid p past y r = simp (y, r)

@@ -74,7 +74,7 @@ and_false true = refl
 and_false false = refl
 
 -- the flags: none in a field of length 0
-flags_clock : (access : Bool) (l : ℕ) (part : List ℕ) → (nat_le 7 l && (slice_index (field access l ++ part) 0 / 16 % 2 == 1)) ≡ false
+pub flags_clock : (access : Bool) (l : ℕ) (part : List ℕ) → (nat_le 7 l && (slice_index (field access l ++ part) 0 / 16 % 2 == 1)) ≡ false
 flags_clock access zero part = refl
 flags_clock true (suc j) part = and_false (nat_le 7 (suc j))
 flags_clock false (suc j) part = and_false (nat_le 7 (suc j))

@@ -1,6 +1,7 @@
 -- The pieces of a reader join to units.
-use Rattle.std.proofs.Common.{◌≡◌, ℕ, List, [], ◌∷◌, ◌++◌, reverse, Bool, true, false, not, ◌&&◌, ◌||◌, refl, sym, ap, ◌∙◌, if◌then◌else◌}
+use Rattle.std.proofs.Common.{◌≡◌, ℕ, List, [], ◌∷◌, ◌++◌, reverse, Bool, true, false, not, ◌&&◌, refl, sym, ap, ◌∙◌, if◌then◌else◌}
 use Rattle.std.proofs.lemmas.List.{map-append}
+use Rattle.std.proofs.lemmas.Bool.{or_parts}
 use Rattle.ts_packet.specs.Fields.{payload_on, bytes, unit_start, random_access}
 use Rattle.ts_packet.specs.Duplicates.{original, repeats}
 use Rattle.ts_packet.proofs.Cases.{by_test}
@@ -12,13 +13,9 @@ use Rattle.unit_stream.specs.declared.reader.Piece.TheVariants.{Start, More, Dup
 use Rattle.unit_stream.proofs.UnitLemmas.{units_grow, units_in_order}
 use Rattle.unit_stream.proofs.ReadingLemmas.{error_off}
 
-or_none : (a b : Bool) → a || b ≡ false → (a ≡ false) × (b ≡ false)
-or_none true b h = absurd (cc)
-or_none false b h = (refl, h)
-
 no_units_more : (sw : List ℕ) (pid : ℕ) (p : List ℕ) (past : List (List ℕ)) → (in_unit pid past ≡ false → units_back sw pid past ≡ []) → in_unit pid (p ∷ past) ≡ false → units_back sw pid (p ∷ past) ≡ []
 no_units_more sw pid p past i h =
-    let (b, n) = or_none (begins pid p past) (in_unit pid past) h in
+    let (b, n) = or_parts (begins pid p past) (in_unit pid past) h in
     let none = i n in
     by_test (original pid p past) (λ o. let s : unit_start p ≡ false = simp o at b in simp (o, s, none)) (λ o. simp o none)
 
@@ -52,7 +49,7 @@ begins_by pid p past o s e f = ap (λ t. t && unit_start p) e ∙ ap (λ t. o &&
 not_original : (pid : ℕ) (p : List ℕ) (past : List (List ℕ)) → payload_on pid p ≡ false → original pid p past ≡ false
 not_original pid p past y = ap (λ t. t && not (repeats pid p past)) y
 
-repeated : (pid : ℕ) (p : List ℕ) (past : List (List ℕ)) → payload_on pid p ≡ true → repeats pid p past ≡ true → original pid p past ≡ false
+pub repeated : (pid : ℕ) (p : List ℕ) (past : List (List ℕ)) → payload_on pid p ≡ true → repeats pid p past ≡ true → original pid p past ≡ false
 repeated pid p past y r = ap (λ t. t && not (repeats pid p past)) y ∙ ap not r
 
 nothing : (sw : List ℕ) (pid : ℕ) (ps : List (List ℕ)) (p : List ℕ) → original pid p (reverse ps) ≡ false → payloads (units sw pid (ps ++ p ∷ [])) ≡ payloads (units sw pid ps)

@@ -2,6 +2,7 @@
 use Rattle.std.proofs.Common.{◌≡◌, ℕ, List, [], ◌∷◌, Bool, true, false, not, ◌&&◌, ◌==◌, refl, sym, ap, ◌∙◌, Option, Some, None}
 use Rattle.std.specs.Prelude.{is_some, option_map}
 use Rattle.std.specs.Borrow.{Bor}
+use Rattle.std.proofs.lemmas.Bool.{and_right}
 use Rattle.ts_packet.specs.Fields.{on, payload_on, payload, unit_start, alike, carries_as, number}
 use Rattle.ts_packet.specs.Duplicates.{original, repeats}
 use Rattle.ts_packet.proofs.Cases.{by_test}
@@ -10,14 +11,10 @@ use Rattle.unit_stream.specs.Starts.{since_more, ReadsStarts, IsBegin}
 use Rattle.unit_stream.proofs.ReadingLemmas.{bytes_are}
 use Rattle.unit_stream.specs.declared.starts.StartReader.{StartReader}
 
-and_none : (a b : Bool) → b ≡ false → a && b ≡ false
-and_none true b h = h
-and_none false b h = refl
-
 -- packets whose start bits differ are not alike
 unlike : (q p : List ℕ) → unit_start q ≡ false → unit_start p ≡ true → alike q p ≡ false
 unfolding alike carries_as
-unlike q p h k = and_none (number q == number p) _ (rw (h, k) refl)
+unlike q p h k = and_right (number q == number p) _ (rw (h, k) refl)
 
 same_repeats : (pid : ℕ) (q p : List ℕ) (past : List (List ℕ)) → unit_start p ≡ true
     → ((r : List ℕ) → unit_start r ≡ true → repeats pid r (since_more pid past) ≡ repeats pid r past)

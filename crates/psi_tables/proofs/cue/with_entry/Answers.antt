@@ -2,7 +2,7 @@ use Rattle.std.proofs.Common.{◌≡◌, ◌<◌, ◌≤◌, ◌++◌, List, ℕ
 use Rattle.psi_tables.specs.Descriptors.{cue_registration, descriptor_bytes}
 use Rattle.psi_tables.specs.Streams.{entry_bytes}
 use Rattle.psi_tables.specs.ProgramMap.{info_in, entries_in, map_length, map_of, body_with}
-use Rattle.psi_section.specs.Crc.{closed}
+use Rattle.psi_section.specs.Crc.{with_crc}
 use Rattle.psi_tables.specs.Cue.{cue_entry}
 use Rattle.psi_tables.proofs.CueLemmas.{added, too_long}
 use Rattle.psi_tables.proofs.ReadBackLemmas.{added_reads}
@@ -21,5 +21,5 @@ returns c =
     let entries : c.joined-entries.result.items ≡ entries_in c.args.map.now ++ entry_bytes (cue_entry c.args.pid) = c.joined-entries.ensures ∙ rw (c.loops.ensures.entries, c.entry_of.ensures.value) refl in
     let short : map_length c.joined-info.result.items c.joined-entries.result.items ≤ 1021 = omega (arith, c.len.ensures.value, c.len-2.ensures.value) in
     let made = added c.args.map.now c.args.pid c.requires (λ i. omega (arith, c.type_inv.map i)) c.joined-info.result.items c.joined-entries.result.items info entries short in
-    let written : c.map_with.result.items ≡ closed (body_with (map_of c.args.map.now) c.joined-info.result.items c.joined-entries.result.items) = c.map_with.ensures ∙ rw (c.as_slice.ensures.value, c.as_slice-2.ensures.value) refl in
+    let written : c.map_with.result.items ≡ with_crc (body_with (map_of c.args.map.now) c.joined-info.result.items c.joined-entries.result.items) = c.map_with.ensures ∙ rw (c.as_slice.ensures.value, c.as_slice-2.ensures.value) refl in
     record { exact = rw written made; reads = added_reads c.args.map.now c.args.pid c.requires (λ i. omega (arith, c.type_inv.map i)) c.map_with.result.items c.entry_of.ensures.below (rw written made) }

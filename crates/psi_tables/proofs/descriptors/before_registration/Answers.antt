@@ -1,15 +1,14 @@
 use Rattle.std.proofs.Common.{◌≡◌, ◌+◌, true, false, sym, ap, length, List, ℕ, ◌∙◌, arith, length-append}
 use Rattle.std.specs.Prelude.{◌==◌, ◌&&◌}
 use Rattle.psi_tables.specs.Descriptors.{registers_cues}
-use Rattle.psi_tables.proofs.Chains.{both}
-use Rattle.std.proofs.lemmas.Bool.{eqb-true}
+use Rattle.std.proofs.lemmas.Bool.{eqb-true, and_parts}
 use Rattle.psi_tables.proofs.DescriptorLemmas.{descriptor_kept, descriptors_fill_more, last_dropped, none_kept, front_fits, kept_all, last_of}
 use Rattle.psi_tables.proofs.descriptors.before_registration.Goals as goal
 
 pub returns-then-ends_in_registration-clause-value : goal.returns-then-ends_in_registration-clause-value
 returns-then-ends_in_registration-clause-value c =
     let both-are : ((length c.in-Some.after.now == 0) && registers_cues c.in-Some.front.now) ≡ true = sym c.ends_in_registration.ensures ∙ c.if-ends_in_registration.true in
-    let parts = both (length c.in-Some.after.now == 0) (registers_cues c.in-Some.front.now) both-are in
+    let parts = and_parts (length c.in-Some.after.now == 0) (registers_cues c.in-Some.front.now) both-are in
     kept_all _ _ _ (last_dropped c.loop-front.rest.now c.in-Some.front.now c.in-Some.after.now c.in-Some.ensures (eqb-true _ _ parts.0) parts.1) c.loop-front.invariant.so_far
 
 pub loop-front-preserved : goal.loop-front-preserved

@@ -1,10 +1,11 @@
 use Rattle.std.proofs.Common.{◌≡◌, sym, ap, ◌∙◌, subst}
+use Rattle.std.proofs.lemmas.Bool.{and_parts}
 use Rattle.event_table.specs.Standing.{on_line, is_ahead_of}
 use Rattle.event_table.specs.Tables.{StandsFor, values_of}
 use Rattle.armed_events.specs.Arming.{Change, is_fresh}
 use Rattle.armed_events.specs.Obeying.{after_change, is_obeyed}
 use Rattle.armed_events.specs.Valuing.{values_by}
-use Rattle.armed_events.proofs.TestLemmas.{can-arm, and-parts}
+use Rattle.armed_events.proofs.TestLemmas.{can-arm}
 use Rattle.armed_events.proofs.ChangeLemmas.{start-refused, start-answered, arm-after}
 use Rattle.armed_events.proofs.ValueLemmas.{arm-values, arm-adds, ok-obeyed}
 use Rattle.armed_events.proofs.obeying.Obeyed.start.Goals as goal
@@ -45,7 +46,7 @@ returns-clause-values g c = λ line standing value s fresh is.
     let answered = start-answered line standing e c.arm.result (sym (c.is_repeat.ensures line standing s) ∙ c.if-is_repeat.false) can (c.arm.ensures.answer line standing s) in
     subst (λ (x : Change). values_of c.arm.new.self ≡ values_by value (after_change x standing)) (sym answered)
     (arm-values value c.args.self.now.table c.arm.new.self standing e c.args.fresh c.arm.result c.arm.ensures.value c.arm.ensures.same c.arm.ensures.refused
-    (fresh e.start (and-parts (is_fresh e) (is_ahead_of line e.start) can).1) is)
+    (fresh e.start (and_parts (is_fresh e) (is_ahead_of line e.start) can).1) is)
 
 pub returns-clause-added : goal.returns-clause-added
 returns-clause-added g c = arm-adds c.args.self.now.table c.arm.new.self c.args.fresh c.arm.result c.arm.ensures.value c.arm.ensures.same c.arm.ensures.refused

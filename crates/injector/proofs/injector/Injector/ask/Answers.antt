@@ -1,7 +1,8 @@
 use Rattle.std.proofs.Common.{sym, ◌∙◌}
+use Rattle.std.proofs.lemmas.Bool.{or_parts}
 use Rattle.scte104_codec.specs.Views.{reading_of}
 use Rattle.injector.specs.Steps.{turns_in, outcome, is_accepted, has_news}
-use Rattle.injector.proofs.BoundLemmas.{rests-asked, neither}
+use Rattle.injector.proofs.BoundLemmas.{rests-asked}
 use Rattle.injector.proofs.injector.Injector.ask.Goals as goal
 
 pub returns-clause-stands : goal.returns-clause-stands
@@ -20,7 +21,7 @@ returns-clause-stands c = λ cfg past b.
       notes = c.ask-reply.ensures.notes cfg.index turns b.judges.requests b.notes;
       news = has;
       rest = λ quiet.
-          let both = neither (has_news cfg.index turns) acc (sym has ∙ quiet) in
+          let both = or_parts (has_news cfg.index turns) acc (sym has ∙ quiet) in
           rests-asked cfg.index m turns c.args.self.now.rest both.1 (b.rest (b.news ∙ both.0));
       follower = b.follower;
       out = b.out;

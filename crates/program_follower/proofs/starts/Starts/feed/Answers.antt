@@ -1,11 +1,11 @@
 use Rattle.std.proofs.Common.{◌≡◌, ℕ, ◌&&◌, false, Some, None, sym, ap, ◌∙◌}
 use Rattle.std.specs.Prelude.{option_map}
+use Rattle.unit_stream.proofs.ClockLemmas.{begins_off}
 use Rattle.pes_time.specs.Line.{ring_of}
 use Rattle.ts_packet.specs.Fields.{payload_on, scrambled}
 use Rattle.program_follower.specs.Streaming.{first_on}
 use Rattle.program_follower.proofs.StreamLemmas.{first_is_on, starts_all_off, starts_all_on, starts_all_passed, no_payload_fault, no_payload_high, none_fault, none_high, is_one, fault_scrambled, fault_begin, payload_of, some_starts}
 use Rattle.program_follower.proofs.PlaceLemmas.{unplaced, placed}
-use Rattle.program_follower.proofs.PieceLemmas.{empty_begins_none}
 use Rattle.program_follower.proofs.starts.Starts.feed.Goals as goal
 
 pub returns-in_default-clause-reads : goal.returns-in_default-clause-reads
@@ -48,7 +48,7 @@ returns-then-not-has_payload-clause-is c = λ ps past h.
     let at = placed ps p c.in-Some.index (sym c.in-Some.is ∙ c.place_of.ensures.first ps h.places) in
     let x : ℕ × ℕ = (c.in-Some.index, at.0) in
     let e : first_on ps p ≡ Some x = at.1 in
-    (x.1, (e, empty_begins_none x.1 p past (payload_of x.1 p (first_is_on ps p x e) ∙ sym c.has_payload.ensures ∙ c.if-not-has_payload.true)))
+    (x.1, (e, begins_off x.1 p past (payload_of x.1 p (first_is_on ps p x e) ∙ sym c.has_payload.ensures ∙ c.if-not-has_payload.true)))
 
 pub returns-then-scrambled-clause-err : goal.returns-then-scrambled-clause-err
 returns-then-scrambled-clause-err c = λ ps past h.

@@ -9,7 +9,8 @@ use Rattle.unit_cut.specs.Standing.{BeginsWith, TimingFor, goes_by}
 use Rattle.unit_cut.proofs.Counted.{numbered_is}
 use Rattle.unit_stream.proofs.ReadingLemmas.{off, error_off, passes, kept_became}
 use Rattle.unit_stream.proofs.ClockLemmas.{stamp_is, splits_is, begins_off, begins_not, begins_repeat, fault_scrambled}
-use Rattle.unit_cut.proofs.CutterLemmas.{scrambled_is, scrambled_off, fault_still, fault_start, timing_same, timing_start, cut_is, cut_off, begins_with, events_settled, events_repeated, settled, original_is}
+use Rattle.unit_stream.proofs.PieceLemmas.{repeated}
+use Rattle.unit_cut.proofs.CutterLemmas.{scrambled_is, scrambled_off, fault_still, fault_start, timing_same, timing_start, cut_is, cut_off, begins_with, events_settled, events_repeated, settled}
 use Rattle.unit_cut.proofs.cutter.Cutter.feed.Goals as goal
 
 -- ---- of another PID, or marked
@@ -158,7 +159,7 @@ returns-in-Duplicate-clause-stands c = λ k past b h.
       same = c.settle_duplicate.ensures.pid ∙ h.same;
       units = rw c.settle_duplicate.ensures.units (kept_became _ k.pid p _ _ _ c.settle_duplicate.ensures.carries (c.in-Duplicate.ensures.reads k.pid past h.units));
       timing = rw c.settle_duplicate.ensures.timing timing;
-      counter = subst (Counts _) (events_repeated _ _ _ _ p (steps (goes_by k) (k.pid ∷ []) k.pid past) o (original_is k.pid p past brings.0 brings.1) (c.settle_duplicate.ensures.stays ∙ ap not (sym (cut_is k p past _ brings.0 timing.going)))) (c.settle_duplicate.ensures.counts (steps (goes_by k) (k.pid ∷ []) k.pid past) h.counter);
+      counter = subst (Counts _) (events_repeated _ _ _ _ p (steps (goes_by k) (k.pid ∷ []) k.pid past) o (repeated k.pid p past brings.0 brings.1) (c.settle_duplicate.ensures.stays ∙ ap not (sym (cut_is k p past _ brings.0 timing.going)))) (c.settle_duplicate.ensures.counts (steps (goes_by k) (k.pid ∷ []) k.pid past) h.counter);
     }
 
 -- ---- without payload
