@@ -150,7 +150,7 @@ of_none places.Map p past s h e = by_program (program_of None past) refl where
   by_program None k = tt
   by_program (Some r) k =
       let a = streams_apart reading_advertisement past r s k in
-      none_map p a.known.pid (pids_in r.streams) (map_off (listed None past) p a.known a.listed_is h.1) a.streams.off_map
+      none_map p a.known.pid (pids_in r.streams) (map_off (listed None past) p a.known a.listed_is h) a.streams.off_map
 of_none places.Other p past s h e = none_first p (pids_of (program_of None past)) h.3
 of_none (places.Stream j q) p past s h e = absurd (cc)
 

@@ -32,7 +32,7 @@ use ts_packet::{Packet, PacketSink, PacketSource, PutFault, ReadFault};
 /// A sink that feeds a switch. It keeps the fault of the switch, and answers `Failed` from then on.
 struct Feeding<'a, K: PacketSink> {
     switch: &'a mut Switch,
-    config: Config,
+    config: &'a Config,
     library: &'a AdLibrary,
     out: &'a mut K,
     fault: Option<FeedFault>,
@@ -44,9 +44,9 @@ impl<K: PacketSink> PacketSink for Feeding<'_, K> {
     ghost use Rattle.ad_library.specs.Library.{held};
     ghost use Rattle.chain_engine.specs.Nested.{FeedingHolds, FeedingFails, FaultKept, FaultKept-refl, FaultKept-trans};
 
-    ghost holds = { λ g start ps. FeedingHolds K.holds g.switch.now g.config (held g.library.now) g.out.now start ps };
+    ghost holds = { λ g start ps. FeedingHolds K.holds g.switch.now g.config.now (held g.library.now) g.out.now start ps };
 
-    ghost fails = { λ g start ps p f. FeedingFails K.holds K.fails g.fault g.config (held g.library.now) g.out.now start ps p f };
+    ghost fails = { λ g start ps p f. FeedingFails K.holds K.fails g.fault g.config.now (held g.library.now) g.out.now start ps p f };
 
     ghost is_broken = { λ g. g.switch.now.is_spent };
 
@@ -55,7 +55,7 @@ impl<K: PacketSink> PacketSink for Feeding<'_, K> {
     ghost is_full = { λ g. K.is_full g.out.now };
 
     ghost leads = { λ g h. (h.switch.ghost_name ≡ g.switch.ghost_name) × (h.out.ghost_name ≡ g.out.ghost_name)
-        × (h.library.now ≡ g.library.now) × (h.config ≡ g.config) × K.leads g.out.now h.out.now
+        × (h.library.now ≡ g.library.now) × (h.config.now ≡ g.config.now) × K.leads g.out.now h.out.now
         × (g.switch.now.is_spent ≡ true → h ≡ g)
         × FaultKept g.fault h.fault h.switch.now.is_spent (K.counts g.out.now) (K.counts h.out.now) (K.is_full h.out.now) };
 
@@ -147,7 +147,7 @@ fn pass_on<K: PacketSink>(
     of_bytes(packet);
     let mut feeding = Feeding {
         switch,
-        config: *config,
+        config,
         library,
         out,
         fault: None,

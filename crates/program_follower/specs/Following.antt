@@ -7,6 +7,7 @@ use Rattle.psi_tables.specs.declared.stream.Stream.{Stream}
 use Rattle.program_follower.specs.declared.purpose.Purpose.{Purpose}
 use Rattle.program_follower.specs.declared.purpose.Listed.{Listed}
 use Rattle.program_follower.specs.declared.table_reader.OnTables.{OnTables}
+use Rattle.program_follower.specs.declared.table_reader.OnTables.TheVariants as on_tables
 use Rattle.program_follower.specs.declared.streams.Streams.{Streams}
 use Rattle.program_follower.specs.declared.starts.Starts.{Starts}
 use Rattle.program_follower.specs.declared.streams.StreamPacket.{StreamPacket}
@@ -80,10 +81,11 @@ abbrev pub on_map : Option Listed → List ℕ → Bool
 on_map None p = false
 on_map (Some l) p = on l.pid p
 
--- which of the PIDs of the tables and of the cues it is on
-pub record IsOnTables (x : OnTables) (c : Purpose) (p : List ℕ) (past : List (List ℕ)) : Type 0 where
-  pub cue : x.is_cue ≡ on_cue c.cue_pid p
-  pub map : x.is_map ≡ on_map (listed c.program past) p
+-- which of the PIDs of the map and of the cues it is on
+abbrev pub IsOnTables : OnTables → Purpose → List ℕ → List (List ℕ) → Type 0
+IsOnTables on_tables.Map c p past = on_map (listed c.program past) p ≡ true
+IsOnTables on_tables.Cue c p past = (on_map (listed c.program past) p ≡ false) × (on_cue c.cue_pid p ≡ true)
+IsOnTables on_tables.Neither c p past = (on_cue c.cue_pid p ≡ false) × (on_map (listed c.program past) p ≡ false)
 
 -- it is on none of them
 pub record IsElsewhere (c : Purpose) (p : List ℕ) (past : List (List ℕ)) : Type 0 where
@@ -98,8 +100,8 @@ IsSwitched x c p past = IsOfStream x (pids_of (program_of c.program past)) p (be
 -- what a packet is behind this past
 abbrev pub IsPlace : Place → Purpose → List ℕ → List (List ℕ) → Type 0
 IsPlace places.Marked c p past = in_error p ≡ true
-IsPlace places.Cue c p past = on_cue c.cue_pid p ≡ true
-IsPlace places.Map c p past = (on_cue c.cue_pid p ≡ false) × (on_map (listed c.program past) p ≡ true)
+IsPlace places.Map c p past = on_map (listed c.program past) p ≡ true
+IsPlace places.Cue c p past = (on_map (listed c.program past) p ≡ false) × (on_cue c.cue_pid p ≡ true)
 IsPlace (places.Stream i x) c p past = (on_cue c.cue_pid p ≡ false) × (on_map (listed c.program past) p ≡ false)
     × IsSwitched (Some (i, x)) c p past
 IsPlace places.Other c p past = (in_error p ≡ false) × (on_cue c.cue_pid p ≡ false) × (on_map (listed c.program past) p ≡ false)

@@ -216,11 +216,10 @@ fn place_of(on_tables: OnTables, of_stream: Option<(usize, StreamPacket)>, packe
     ensures { (c : Purpose) (past : List (List ℕ)) → IsOnTables on_tables c packet.now past
         → IsSwitched of_stream c packet.now past → IsPlace result c packet.now past }
 {
-    if on_tables.is_cue {
-        return Place::Cue;
-    }
-    if on_tables.is_map {
-        return Place::Map;
+    match on_tables {
+        OnTables::Map => return Place::Map,
+        OnTables::Cue => return Place::Cue,
+        OnTables::Neither => {}
     }
     if let Some((index, part)) = of_stream {
         return Place::Stream(index, part);

@@ -171,14 +171,12 @@ fn start_place_of(on_tables: OnTables, of_stream: Option<(usize, StartPacket)>) 
     ensures { (c : Purpose) (p : List ℕ) (past : List (List ℕ)) → IsOnTables on_tables c p past
         → IsOfStartsAt of_stream c p past → IsStartPlace result c p past }
 {
-    if on_tables.is_map {
-        return StartPlace::Map;
-    }
-    if on_tables.is_cue {
-        return StartPlace::Cue;
-    }
-    match of_stream {
-        Some((index, part)) => StartPlace::Stream(index, part),
-        None => StartPlace::Other,
+    match on_tables {
+        OnTables::Map => StartPlace::Map,
+        OnTables::Cue => StartPlace::Cue,
+        OnTables::Neither => match of_stream {
+            Some((index, part)) => StartPlace::Stream(index, part),
+            None => StartPlace::Other,
+        },
     }
 }

@@ -4,7 +4,7 @@ ghost use Rattle.std.specs.Prelude.{◌≡◌, ◌∷◌, [], ℕ, List, Option,
 ghost use Rattle.program_follower.specs.Program.{listed, tables, program_of};
 ghost use Rattle.program_follower.specs.Faults.{network_fault, unit_fault_at, on_cue};
 ghost use Rattle.program_follower.specs.Standing.{TablesRead, OfTables, tables_left, lent_program, or_zero};
-ghost use Rattle.program_follower.specs.Following.{IsOnTables, IsElsewhere};
+ghost use Rattle.program_follower.specs.Following.{IsOnTables, IsElsewhere, on_map};
 
 use crate::known::KnownProgram;
 use crate::map_reader::MapReader;
@@ -16,11 +16,13 @@ use ts_packet::{Packet, Pid};
 
 /// On which of the PIDs of a program's map and cues a packet is.
 #[derive(Clone, Copy, Debug, PartialEq, Eq)]
-pub struct OnTables {
-    /// It is on the PID of the cues.
-    pub is_cue: bool,
+pub enum OnTables {
     /// It is on the PID of the map, behind the PAT.
-    pub is_map: bool,
+    Map,
+    /// It is on the PID of the cues, and not on that of the map.
+    Cue,
+    /// It is on neither.
+    Neither,
 }
 
 /// Reads the PATs of a network and the maps of one program.
@@ -66,10 +68,7 @@ impl TableReader {
             return self.take(packet);
         }
         self.maps.pass();
-        Ok(OnTables {
-            is_cue: false,
-            is_map: false,
-        })
+        Ok(OnTables::Neither)
     }
 
     /// The packet may be on a PID of the tables or of the cues: a packet of another PID tells nothing of them.
@@ -102,7 +101,7 @@ impl TableReader {
         }
         self.map_pid = map_pid(self.pats.listed());
         match self.maps.feed(&self.purpose, listed, packet) {
-            Ok(is_map) => Ok(OnTables { is_cue, is_map }),
+            Ok(is_map) => Ok(on_tables(is_map, is_cue)),
             Err(fault) => Err(fault),
         }
     }
@@ -131,6 +130,20 @@ impl TableReader {
         ensures { OfTables self.now (λ c past. result ≡ listed c.program past) }
     {
         self.pats.listed()
+    }
+}
+
+/// On which of the two PIDs a packet is, by whether it is on each.
+fn on_tables(is_map: bool, is_cue: bool) -> OnTables
+    ensures { (c : Purpose) (p : List ℕ) (past : List (List ℕ)) → is_map ≡ on_map (listed c.program past) p
+        → is_cue ≡ on_cue c.cue_pid p → IsOnTables result c p past }
+{
+    if is_map {
+        OnTables::Map
+    } else if is_cue {
+        OnTables::Cue
+    } else {
+        OnTables::Neither
     }
 }
 
