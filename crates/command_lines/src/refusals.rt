@@ -1,4 +1,4 @@
-//! What is told of a command line that names no run, and the exit status.
+//! What is told where a run came to a fault, or a command line names no run, and the exit status.
 
 ghost use Rattle.std.specs.Prelude.{◌≡◌, ◌≢◌};
 ghost use Rattle.clap.specs.Values.{kind_of};
@@ -8,11 +8,22 @@ use clap::error::ErrorKind;
 use std::fmt;
 use std::io::Write;
 
+/// The exit status where all is done.
+pub const DONE: u8 = 0;
+
 /// The exit status after a fault, as where memory was refused.
-pub const FAULT: u8 = 1;
+const FAULT: u8 = 1;
 
 /// The exit status where the command line is not taken, or names no run.
 pub const USAGE: u8 = 2;
+
+/// Prints the line of the fault of this name, and answers the exit status.
+pub fn report<E: Write>(faults: &mut E, name: &str) -> u8
+    ensures { result ≡ 1 }
+{
+    let _ = writeln!(faults, "fault: {name}");
+    FAULT
+}
 
 /// Answers a command line that names no run, help and version among them: its text is printed on `faults`.
 pub fn answer<E: Write>(faults: &mut E, error: &Error) -> u8
@@ -20,8 +31,7 @@ pub fn answer<E: Write>(faults: &mut E, error: &Error) -> u8
     ensures mistake { kind_of error.now ≢ ErrorKind.OutOfMemory → result ≡ 2 }
 {
     if error.kind() == ErrorKind::OutOfMemory {
-        let _ = writeln!(faults, "fault: OutOfMemory");
-        return FAULT;
+        return report(faults, "OutOfMemory");
     }
     let _ = write!(faults, "{error}");
     USAGE

@@ -1,11 +1,11 @@
 //! The program `dpi_chain`: `program` of `dpi_program`, over the process's words, streams and files.
 #![tactic(auto)]
 
-ghost use Rattle.std.specs.Prelude.{◌≡◌, ◌≢◌, ◌≤◌, IfOk};
+ghost use Rattle.std.specs.Prelude.{◌≤◌, IfOk};
 
+use command_lines::words::unread;
 use dpi_program::program::program;
 use std::alloc::AllocError;
-use std::io::{ErrorKind, Write};
 use std::process::ExitCode;
 use std::{env, io};
 
@@ -27,22 +27,9 @@ fn status(rt: &HostRuntime) -> io::Result<u8>
     ))
 }
 
-/// Says why the words were not read, and answers the status: 2 where one is not UTF-8, 1 where memory was refused.
-fn refused<E: Write>(faults: &mut E, kind: ErrorKind) -> u8
-    ensures words { kind ≡ ErrorKind.InvalidData → result ≡ 2 }
-    ensures memory { kind ≢ ErrorKind.InvalidData → result ≡ 1 }
-{
-    if kind == ErrorKind::InvalidData {
-        let _ = writeln!(faults, "error: an argument is not UTF-8 text");
-        return 2;
-    }
-    let _ = writeln!(faults, "fault: OutOfMemory");
-    1
-}
-
 fn main(rt: HostRuntime) -> ExitCode {
     match status(&rt) {
         Ok(number) => ExitCode::from(number),
-        Err(error) => ExitCode::from(refused(&mut rt.stderr(), error.kind())),
+        Err(error) => ExitCode::from(unread(&mut rt.stderr(), error.kind())),
     }
 }

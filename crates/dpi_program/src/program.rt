@@ -9,7 +9,7 @@ use command_lines::command::{CUT_USAGE, CutOptions, command, cut_options};
 use command_lines::inject_options::{
     INJECT_USAGE, InjectOptions, RUN_USAGE, inject_options, run_options,
 };
-use command_lines::refusals::{FAULT, USAGE, answer, refuse};
+use command_lines::refusals::{DONE, USAGE, answer, refuse, report};
 use command_lines::splice_options::{SPLICE_USAGE, SpliceOptions, splice_options};
 use passages::fault::{ProgramFault, fault_name};
 use passages::tell::{Side, SpliceAccount, Stopped, Trouble};
@@ -18,23 +18,11 @@ use std::io::{Read, Write};
 use std::net::Net;
 use std::rt::Files;
 
-/// The exit status where all is done.
-const DONE: u8 = 0;
-
-/// Prints the fault's line, and answers its status.
-fn report<E: Write>(faults: &mut E, fault: ProgramFault) -> u8
-    ensures { result ≡ 1 }
-{
-    let name = fault_name(fault);
-    let _ = writeln!(faults, "fault: {name}");
-    FAULT
-}
-
 /// Prints the fault's line, and behind it what is known of it where that is asked for.
 fn report_stopped<E: Write>(faults: &mut E, options: &CutOptions<'_>, stopped: &Stopped) -> u8
     ensures { result ≡ 1 }
 {
-    let status = report(faults, stopped.fault);
+    let status = report(faults, fault_name(stopped.fault));
     if options.is_verbose && stopped.fault != ProgramFault::OutOfMemory {
         let name = match stopped.side {
             Side::Reading => options.input.input_name(),
@@ -64,7 +52,7 @@ fn print_report<W: Write>(printed: &mut W, injected: &Injected) -> bool {
 fn report_inject<E: Write>(faults: &mut E, options: &InjectOptions<'_>, stopped: &Stopped) -> u8
     ensures { result ≡ 1 }
 {
-    let status = report(faults, stopped.fault);
+    let status = report(faults, fault_name(stopped.fault));
     if options.is_verbose && stopped.fault != ProgramFault::OutOfMemory {
         let name = match stopped.side {
             Side::Reading => options.network.input_name(),
@@ -105,7 +93,7 @@ where
         print_report(output, &injected)
     };
     if !is_out {
-        return report(faults, ProgramFault::Print);
+        return report(faults, fault_name(ProgramFault::Print));
     }
     if let Some(account) = injected.account {
         let _ = write!(faults, "{account}");
@@ -128,7 +116,7 @@ fn print_switched<W: Write>(printed: &mut W, report: &SwitchReport) -> bool {
 fn report_splice<E: Write>(faults: &mut E, options: &SpliceOptions<'_>, stopped: &Stopped) -> u8
     ensures { result ≡ 1 }
 {
-    let status = report(faults, stopped.fault);
+    let status = report(faults, fault_name(stopped.fault));
     if options.is_verbose && stopped.fault != ProgramFault::OutOfMemory {
         let name = match stopped.side {
             Side::Reading => options.network.input_name(),
@@ -166,7 +154,7 @@ where
         print_switched(output, &spliced.report)
     };
     if !is_out {
-        return report(faults, ProgramFault::Print);
+        return report(faults, fault_name(ProgramFault::Print));
     }
     if let Some((read, written)) = spliced.seen {
         let account = SpliceAccount { read, written };
@@ -219,7 +207,7 @@ where
     ensures { result ≤ 2 }
 {
     let Ok(line) = command(rt.alloc()) else {
-        return report(faults, ProgramFault::OutOfMemory);
+        return report(faults, fault_name(ProgramFault::OutOfMemory));
     };
     let matches = match line.try_get_matches_from(words) {
         Ok(matches) => matches,

@@ -78,6 +78,15 @@ pub record IsFollowed (i : Injector) (is_map : Bool) (c : Config) (p : List ℕ)
   pub out : HasPut i.out (cued c past)
   pub whole : i.is_spent ≡ false
 
+-- nothing changes but until when no cue is due, and that a request was accepted
+pub record KeepsAllButRest (old new : Injector) : Type 0 where
+  pub cue_pid : new.cue_pid ≡ old.cue_pid
+  pub requests : new.requests ≡ old.requests
+  pub follower : new.follower ≡ old.follower
+  pub out : new.out ≡ old.out
+  pub counts : new.counts ≡ old.counts
+  pub is_spent : new.is_spent ≡ old.is_spent
+
 -- nothing else changes
 pub record KeepsRest (old new : Injector) : Type 0 where
   pub cue_pid : new.cue_pid ≡ old.cue_pid

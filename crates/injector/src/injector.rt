@@ -17,7 +17,7 @@ ghost use Rattle.injector.specs.Noting.{NotesStandFor, StaysAtRest};
 ghost use Rattle.injector.specs.Steps.{Step, Message as MessageStep, Packet as PacketStep, packets_in, turns_in};
 ghost use Rattle.injector.specs.Steps.{body_at, sent_at};
 ghost use Rattle.injector.specs.Injecting.{InjectorStandsFor, JudgesBy, FeedFails, CountsAre, network_answer};
-ghost use Rattle.injector.specs.Injecting.{IsFollowed, IsBodyOf, RestsAt, KeepsRest};
+ghost use Rattle.injector.specs.Injecting.{IsFollowed, IsBodyOf, RestsAt, KeepsRest, KeepsAllButRest};
 ghost use Rattle.outgoing_packets.specs.Faults.{FeedBlamed, KeepsSink, is_err_or};
 ghost use Rattle.program_follower.specs.Purposes.{writing_cues};
 ghost use Rattle.program_follower.specs.Following.{high_of};
@@ -206,8 +206,7 @@ impl Injector {
             Err(fault) => return Err(fault),
         }
         self.requests.rise(later);
-        self.rest = self.rest_behind(is_due);
-        self.has_news = false;
+        self.note_rest(is_due);
         Ok(())
     }
 
@@ -215,24 +214,27 @@ impl Injector {
     /// time that is kept, or a request was accepted since the last packet. It looks at no event.
     #[inline(always)]
     fn is_due(&self, later: &Option<Time33>) -> bool
-        ensures { (is_map : Bool) (c : Config) (p : List ℕ) (past : List Step) → IsFollowed self.now is_map c p past →
+        ensures stays { (is_map : Bool) (c : Config) (p : List ℕ) (past : List Step) → IsFollowed self.now is_map c p past →
             later.now ≡ option_map ring_of (high_of (Some c.program) (p ∷ packets_in past)) → result ≡ false →
             StaysAtRest self.now.rest c.index (high_of (Some c.program) (p ∷ packets_in past)) (turns_in c.program past) }
+        ensures news { result ≡ false → self.now.has_news ≡ false }
     {
         self.has_news || is_reached(self.rest, *later)
     }
 
-    /// The time until which no cue is due behind a packet: that from before where none was due, and else by each event.
+    /// Notes behind a packet until when no cue is due: by each event where one may have been due before it, and else what was noted holds.
     #[inline(always)]
-    fn rest_behind(&self, is_due: bool) -> Option<Time33>
-        ensures { (index : ℕ) (past : List Turn) → RequestsStandFor self.now.requests index past →
-            NotesStandFor self.now.requests index past → IsIdle index (high past) past →
-            (is_due ≡ false → RestsAt self.now.rest index past) → RestsAt result index past }
+    fn note_rest(&mut self, is_due: bool)
+        ensures rest { (index : ℕ) (past : List Turn) → RequestsStandFor self.old.requests index past →
+            NotesStandFor self.old.requests index past → IsIdle index (high past) past →
+            (is_due ≡ false → RestsAt self.old.rest index past) → RestsAt self.new.rest index past }
+        ensures news { (is_due ≡ false → self.old.has_news ≡ false) → self.new.has_news ≡ false }
+        ensures kept { KeepsAllButRest self.old self.new }
     {
         if is_due {
-            return self.requests.rest();
+            self.rest = self.requests.rest();
+            self.has_news = false;
         }
-        self.rest
     }
 
     /// Puts the packet, or the sections that it finishes on the PID of the map.

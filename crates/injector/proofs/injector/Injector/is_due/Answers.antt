@@ -11,8 +11,8 @@ use Rattle.injector.proofs.RestLemmas.{idle-between}
 use Rattle.injector.proofs.BoundLemmas.{stays-at-rest}
 use Rattle.injector.proofs.injector.Injector.is_due.Goals as goal
 
-pub returns-else-self : goal.returns-else-self
-returns-else-self c = λ is_map cfg p past fed time none.
+pub returns-else-self-clause-stays : goal.returns-else-self-clause-stays
+returns-else-self-clause-stays c = λ is_map cfg p past fed time none.
     let turns = turns_in cfg.program past in
     let line = high_of (Some cfg.program) (p ∷ packets_in past) in
     let quiet = c.if-self.false in

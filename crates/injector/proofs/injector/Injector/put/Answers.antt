@@ -9,7 +9,7 @@ use Rattle.outgoing_packets.specs.Numbers.{HasPut}
 use Rattle.outgoing_packets.proofs.NumberLemmas.{fails-behind}
 use Rattle.injector.specs.Turns.{high, Passed}
 use Rattle.injector.specs.Senders.{standing_senders}
-use Rattle.injector.specs.Noting.{Rests, IsBefore}
+use Rattle.injector.specs.Noting.{Rests, IsBefore, NotesStandFor}
 use Rattle.unit_stream.specs.Clocks.{Rises}
 use Rattle.injector.specs.Requests.{RequestsStandFor}
 use Rattle.injector.specs.Steps.{Packet as PacketStep, packets_in, turns_in, cued, cue_packets, body_at, sent_at}
@@ -27,7 +27,7 @@ returns-in-Err-clause-err g c = λ start ps cfg past held b.
     let is : c.high-later.result ≡ option_map ring_of line = c.high-later.ensures (writing_cues cfg) (p ∷ packets_in past) b.body.follower in
     let rises : Rises (high turns) line = subst (λ h. Rises h line) (sym (turns-high cfg.program past)) (rises-at cfg p (packets_in past) b.body.sound) in
     let before : IsBefore c.is_due-is_due.result c.args.self.now.requests c.high-later.result cfg.index turns line
-    = record { stands = b.judges.requests; notes = b.notes; rises = rises; time = is; idle = λ none. (c.is_due-is_due.ensures c.args.is_map cfg p past b is none).idle } in
+    = record { stands = b.judges.requests; notes = b.notes; rises = rises; time = is; idle = λ none. (c.is_due-is_due.ensures.stays c.args.is_map cfg p past b is none).idle } in
     let out = cued cfg past in
     let cues = packets_out c.args.self.now.cue_pid out (Rattle.injector.specs.Steps.sections_before cfg p past) in
     let same : cues ≡ cue_packets cfg p past out = ap (λ q. packets_out q out (Rattle.injector.specs.Steps.sections_before cfg p past)) b.body.cue_pid in
@@ -46,7 +46,7 @@ returns-in-Err-put_body-clause-err g c = λ start ps cfg past held b.
     let is : c.high-later.result ≡ option_map ring_of line = c.high-later.ensures (writing_cues cfg) (p ∷ packets_in past) b.body.follower in
     let rises : Rises (high turns) line = subst (λ h. Rises h line) (sym (turns-high cfg.program past)) (rises-at cfg p (packets_in past) b.body.sound) in
     let before : IsBefore c.is_due-is_due.result c.args.self.now.requests c.high-later.result cfg.index turns line
-    = record { stands = b.judges.requests; notes = b.notes; rises = rises; time = is; idle = λ none. (c.is_due-is_due.ensures c.args.is_map cfg p past b is none).idle } in
+    = record { stands = b.judges.requests; notes = b.notes; rises = rises; time = is; idle = λ none. (c.is_due-is_due.ensures.stays c.args.is_map cfg p past b is none).idle } in
     let out = cued cfg past in
     let cues = packets_out c.args.self.now.cue_pid out (Rattle.injector.specs.Steps.sections_before cfg p past) in
     let same : cues ≡ cue_packets cfg p past out = ap (λ q. packets_out q out (Rattle.injector.specs.Steps.sections_before cfg p past)) b.body.cue_pid in
@@ -67,7 +67,7 @@ returns-clause-ok g c = λ start ps cfg past held b.
     let is : c.high-later.result ≡ option_map ring_of line = c.high-later.ensures (writing_cues cfg) (p ∷ packets_in past) b.body.follower in
     let rises : Rises (high turns) line = subst (λ h. Rises h line) (sym (turns-high cfg.program past)) (rises-at cfg p (packets_in past) b.body.sound) in
     let before : IsBefore c.is_due-is_due.result c.args.self.now.requests c.high-later.result cfg.index turns line
-    = record { stands = b.judges.requests; notes = b.notes; rises = rises; time = is; idle = λ none. (c.is_due-is_due.ensures c.args.is_map cfg p past b is none).idle } in
+    = record { stands = b.judges.requests; notes = b.notes; rises = rises; time = is; idle = λ none. (c.is_due-is_due.ensures.stays c.args.is_map cfg p past b is none).idle } in
     let out = cued cfg past in
     let cues = packets_out c.args.self.now.cue_pid out (Rattle.injector.specs.Steps.sections_before cfg p past) in
     let same : cues ≡ cue_packets cfg p past out = ap (λ q. packets_out q out (Rattle.injector.specs.Steps.sections_before cfg p past)) b.body.cue_pid in
@@ -86,7 +86,7 @@ returns-clause-stands g c = λ cfg past b.
     let is : c.high-later.result ≡ option_map ring_of line = c.high-later.ensures (writing_cues cfg) (p ∷ packets_in past) b.body.follower in
     let rises : Rises (high turns) line = subst (λ h. Rises h line) (sym (turns-high cfg.program past)) (rises-at cfg p (packets_in past) b.body.sound) in
     let before : IsBefore c.is_due-is_due.result c.args.self.now.requests c.high-later.result cfg.index turns line
-    = record { stands = b.judges.requests; notes = b.notes; rises = rises; time = is; idle = λ none. (c.is_due-is_due.ensures c.args.is_map cfg p past b is none).idle } in
+    = record { stands = b.judges.requests; notes = b.notes; rises = rises; time = is; idle = λ none. (c.is_due-is_due.ensures.stays c.args.is_map cfg p past b is none).idle } in
     let out = cued cfg past in
     let cues = packets_out c.args.self.now.cue_pid out (Rattle.injector.specs.Steps.sections_before cfg p past) in
     let same : cues ≡ cue_packets cfg p past out = ap (λ q. packets_out q out (Rattle.injector.specs.Steps.sections_before cfg p past)) b.body.cue_pid in
@@ -98,20 +98,25 @@ returns-clause-stands g c = λ cfg past b.
     let requests : RequestsStandFor c.put_body.new.self.requests cfg.index turns = subst (λ r. RequestsStandFor r cfg.index turns) (sym k.requests) due in
     let n = subst (λ n. Rattle.injector.specs.Injecting.CountsAre n cfg.index turns) (sym k.counts) b.judges.counted in
     let noted = subst (λ r. Rattle.injector.specs.Noting.NotesTold r cfg.index turns line) (sym k.requests) told in
+    let m = c.note_rest.ensures.kept in
+    let risen = c.rise.ensures.stands cfg.index turns line requests rises is in
+    let notes = c.rise.ensures.notes cfg.index turns line requests noted rises is in
     record {
       judges = record {
-        requests = c.rise.ensures.stands cfg.index turns line requests rises is;
-        counted = record { messages = n.messages; accepted = n.accepted; refused = n.refused };
+        requests = subst (λ r. RequestsStandFor r cfg.index (Passed line ∷ turns)) (sym m.requests) risen;
+        counted = subst (λ x. Rattle.injector.specs.Injecting.CountsAre x cfg.index (Passed line ∷ turns)) (sym m.counts)
+            (record { messages = n.messages; accepted = n.accepted; refused = n.refused });
       };
-      cue_pid = k.cue_pid ∙ b.body.cue_pid;
-      notes = c.rise.ensures.notes cfg.index turns line requests noted rises is;
-      news = refl;
-      rest = λ quiet. c.rest_behind-self.ensures cfg.index (Passed line ∷ turns) (c.rise.ensures.stands cfg.index turns line requests rises is) (c.rise.ensures.notes cfg.index turns line requests noted rises is)
+      cue_pid = m.cue_pid ∙ k.cue_pid ∙ b.body.cue_pid;
+      notes = subst (λ r. NotesStandFor r cfg.index (Passed line ∷ turns)) (sym m.requests) notes;
+      news = c.note_rest.ensures.news (λ none. k.has_news ∙ c.is_due-is_due.ensures.news none);
+      rest = λ quiet. c.note_rest.ensures.rest cfg.index (Passed line ∷ turns) risen notes
           (idle-between cfg (PacketStep p ∷ past) line refl refl)
-          (λ none. subst (λ r. Rests r line (standing_senders cfg.index (Passed line ∷ turns))) (sym k.rest) (c.is_due-is_due.ensures c.args.is_map cfg p past b is none).rests);
-      follower = subst (λ f. Rattle.program_follower.specs.Following.StartsStandFor f (writing_cues cfg) (p ∷ packets_in past)) (sym k.follower) b.body.follower;
-      out = subst (HasPut c.put_body.new.self.out) (sym (onto-append out cues more) ∙ ap (onto out) (sym sent))
+          (λ none. subst (λ r. Rests r line (standing_senders cfg.index (Passed line ∷ turns))) (sym k.rest) (c.is_due-is_due.ensures.stays c.args.is_map cfg p past b is none).rests);
+      follower = subst (λ f. Rattle.program_follower.specs.Following.StartsStandFor f (writing_cues cfg) (p ∷ packets_in past)) (sym k.follower ∙ sym m.follower) b.body.follower;
+      out = subst (λ o. HasPut o (cued cfg (PacketStep p ∷ past))) (sym m.out)
+          (subst (HasPut c.put_body.new.self.out) (sym (onto-append out cues more) ∙ ap (onto out) (sym sent))
           (c.in-Ok-put_body.ensures.numbers (onto out cues) cfg (packets_in past) (c.in-Ok.ensures.numbers out cfg.index turns line b.out before)
-          (record { cue_pid = b.body.cue_pid; follower = b.body.follower; sound = b.body.sound; map = b.body.map }));
-      whole = k.is_spent ∙ b.whole;
+          (record { cue_pid = b.body.cue_pid; follower = b.body.follower; sound = b.body.sound; map = b.body.map })));
+      whole = m.is_spent ∙ k.is_spent ∙ b.whole;
     }
