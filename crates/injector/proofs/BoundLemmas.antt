@@ -202,11 +202,10 @@ all-waits bound line later rises (x ∷ xs) kept waits =
     All-cons (Waits bound later) x xs (waits-later x.event bound x.last line later rises here.last (All-head (Waits bound line) x xs waits))
     (all-waits bound line later rises xs (All-tail (IsKept line) x xs kept) (All-tail (Waits bound line) x xs waits))
 
-pub stays-at-rest : (rest : Option ℕ) (index : ℕ) (past : List Turn) (later : Option ℤ) → Rises (high past) later → All (IsKept (high past)) (standing_senders index past) → IsIdle index (high past) past
-    → RestsAt rest index past → ring_reached rest (option_map ring_of later) ≡ false → StaysAtRest rest index later past
-stays-at-rest rest index past later rises kept quiet r free =
+stays-below : (rest : Option ℕ) (index : ℕ) (past : List Turn) (later : Option ℤ) → Rises (high past) later → All (IsKept (high past)) (standing_senders index past) → IsIdle index (high past) past
+    → (r : RestsAt rest index past) → NotReached r.bound later → StaysAtRest rest index later past
+stays-below rest index past later rises kept quiet r below =
     let xs = standing_senders index past in
-    let below : NotReached r.bound later = not-reached r.bound (high past) later rises r.ahead (ap (λ q. ring_reached q (option_map ring_of later)) (sym r.kept) ∙ free) in
     let idle : IsIdle index later past = all-idle r.bound (high past) later below xs quiet r.waits in
     let same : standing_senders index (Passed later ∷ past) ≡ filter (stands_now later) xs = standing-told index past later rises ∙ ap (filter (stands_now later)) (none-told (high past) later xs idle) in
     record {
@@ -219,6 +218,22 @@ stays-at-rest rest index past later rises kept quiet r free =
             waits = All-filter (stands_now later) (Waits r.bound later) xs (all-waits r.bound (high past) later rises xs kept r.waits);
           });
     }
+
+pub stays-at-rest : (rest : Option ℕ) (index : ℕ) (past : List Turn) (later : Option ℤ) → Rises (high past) later → All (IsKept (high past)) (standing_senders index past) → IsIdle index (high past) past
+    → RestsAt rest index past → ring_reached rest (option_map ring_of later) ≡ false → StaysAtRest rest index later past
+stays-at-rest rest index past later rises kept quiet r free = stays-below rest index past later rises kept quiet r
+    (not-reached r.bound (high past) later rises r.ahead (ap (λ q. ring_reached q (option_map ring_of later)) (sym r.kept) ∙ free))
+
+not-reached-yet : (bound line : Option ℤ) → IsDueWithinASecond bound line → NotReached bound line
+not-reached-yet None line ahead = tt
+not-reached-yet (Some b) None ahead = tt
+not-reached-yet (Some b) (Some h) ahead = ahead.0
+
+-- the same where the greatest time stays
+pub stays-still : (rest : Option ℕ) (index : ℕ) (past : List Turn) (later : Option ℤ) → Rises (high past) later → All (IsKept (high past)) (standing_senders index past) → IsIdle index (high past) past
+    → RestsAt rest index past → high past ≡ later → StaysAtRest rest index later past
+stays-still rest index past later rises kept quiet r same = stays-below rest index past later rises kept quiet r
+    (subst (NotReached r.bound) same (not-reached-yet r.bound (high past) r.ahead))
 
 -- ---- a message that is not accepted
 

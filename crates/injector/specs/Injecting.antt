@@ -7,7 +7,7 @@ use Rattle.psi_tables.specs.declared.network.FeedFault.{FeedFault}
 use Rattle.psi_tables.specs.declared.network.FeedFault.TheVariants.{Network, Sink, Failed}
 use Rattle.psi_tables.specs.declared.network.NetworkFault.{NetworkFault}
 use Rattle.program_follower.specs.Program.{listed}
-use Rattle.program_follower.specs.Following.{StartsStandFor, on_map}
+use Rattle.program_follower.specs.Following.{StartsStandFor, on_map, high_of}
 use Rattle.program_follower.specs.Faults.{network_fault}
 use Rattle.outgoing_packets.specs.Numbers.{HasPut, FrontFails}
 use Rattle.injector.specs.declared.counts.MessageCounts.{MessageCounts}
@@ -77,6 +77,12 @@ pub record IsFollowed (i : Injector) (is_map : Bool) (c : Config) (p : List ℕ)
   pub body : IsBodyOf i is_map c p (packets_in past)
   pub out : HasPut i.out (cued c past)
   pub whole : i.is_spent ≡ false
+
+-- the packet was followed and is not on the PID of the map, the greatest time stays with it, and no request was accepted since the last one
+pub record IsStill (i : Injector) (c : Config) (p : List ℕ) (past : List Step) : Type 0 where
+  pub followed : IsFollowed i false c p past
+  pub quiet : i.has_news ≡ false
+  pub high : high_of (Some c.program) (p ∷ packets_in past) ≡ high_of (Some c.program) (packets_in past)
 
 -- nothing changes but until when no cue is due, and that a request was accepted
 pub record KeepsAllButRest (old new : Injector) : Type 0 where

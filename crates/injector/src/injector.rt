@@ -17,10 +17,11 @@ ghost use Rattle.injector.specs.Noting.{NotesStandFor, StaysAtRest};
 ghost use Rattle.injector.specs.Steps.{Step, Message as MessageStep, Packet as PacketStep, packets_in, turns_in};
 ghost use Rattle.injector.specs.Steps.{body_at, sent_at};
 ghost use Rattle.injector.specs.Injecting.{InjectorStandsFor, JudgesBy, FeedFails, CountsAre, network_answer};
-ghost use Rattle.injector.specs.Injecting.{IsFollowed, IsBodyOf, RestsAt, KeepsRest, KeepsAllButRest};
+ghost use Rattle.injector.specs.Injecting.{IsFollowed, IsStill, IsBodyOf, RestsAt, KeepsRest, KeepsAllButRest};
 ghost use Rattle.outgoing_packets.specs.Faults.{FeedBlamed, KeepsSink, is_err_or};
 ghost use Rattle.program_follower.specs.Purposes.{writing_cues};
-ghost use Rattle.program_follower.specs.Following.{high_of};
+ghost use Rattle.program_follower.specs.Program.{listed};
+ghost use Rattle.program_follower.specs.Following.{high_of, on_map, IsStartPlace};
 
 use crate::choice::is_reached;
 use crate::counts::{MessageCounts, counted, has_news_behind};
@@ -28,7 +29,7 @@ use crate::cues::put_due;
 use crate::requests::Requests;
 use outgoing_packets::{CueEntry, Outgoing};
 use pes_time::Time33;
-use program_follower::{Purpose, StartFollower};
+use program_follower::{Purpose, StartFollower, StartPlace};
 use psi_tables::{Config, FeedFault};
 use scte104_codec::{BadMessage, Message, Reply};
 use ts_packet::{Packet, PacketSink, Pid, PutFault};
@@ -160,12 +161,55 @@ impl Injector {
         ensures spent { self.new.is_spent ≡ self.old.is_spent }
     {
         match self.follower.feed(packet) {
-            Ok(place) => match self.put(place.is_map(), packet, sink) {
-                Ok(()) => Ok(()),
-                Err(fault) => Err(FeedFault::Sink(fault)),
-            },
+            Ok(place) => {
+                if self.may_be_due(&place) {
+                    return match self.put(place.is_map(), packet, sink) {
+                        Ok(()) => Ok(()),
+                        Err(fault) => Err(FeedFault::Sink(fault)),
+                    };
+                }
+                match self.put_still(packet, sink) {
+                    Ok(()) => Ok(()),
+                    Err(fault) => Err(FeedFault::Sink(fault)),
+                }
+            }
             Err(fault) => Err(FeedFault::Network(fault)),
         }
+    }
+
+    /// Whether a cue may be due before a packet of this place, or it goes out as another: where the greatest time stays and no request was
+    /// accepted since the last packet, none is.
+    #[inline(always)]
+    fn may_be_due(&self, place: &StartPlace) -> bool
+        ensures quiet { result ≡ false → self.now.has_news ≡ false }
+        ensures still { (c : Purpose) (p : List ℕ) (past : List (List ℕ)) → IsStartPlace place.now c p past
+            → result ≡ false → high_of c.program (p ∷ past) ≡ high_of c.program past }
+        ensures elsewhere { (c : Purpose) (p : List ℕ) (past : List (List ℕ)) → IsStartPlace place.now c p past
+            → result ≡ false → on_map (listed c.program past) p ≡ false }
+    {
+        self.has_news || place.may_rise()
+    }
+
+    /// Puts a packet as it came, where no cue can be due before it. Of the events nothing changes.
+    #[inline(always)]
+    fn put_still<S: PacketSink>(&mut self, packet: &Packet, sink: &mut S) -> Result<(), PutFault>
+        ensures leads { S.leads sink.old sink.new }
+        ensures ok { (start : Option (List ℕ)) (ps : List (List ℕ)) (c : Config) (past : List Step) →
+            S.holds sink.old start ps → IsStill self.old c packet.now past →
+            OnOk result (S.holds sink.new start (ps ++ sent_at c packet.now past)) }
+        ensures stands { (c : Config) (past : List Step) → IsStill self.old c packet.now past →
+            OnOk result (InjectorStandsFor self.new c (PacketStep packet.now ∷ past)) }
+        ensures err { (start : Option (List ℕ)) (ps : List (List ℕ)) (c : Config) (past : List Step) →
+            S.holds sink.old start ps → IsStill self.old c packet.now past →
+            IfErr result (λ f. FrontFails (sent_at c packet.now past)
+            (λ put p. S.fails sink.new start (ps ++ put) p f)) }
+        ensures judges { (c : Config) (past : List Step) → JudgesBy self.old c past →
+            IfErr result (λ _. JudgesBy self.new c past) }
+        ensures spent { self.new.is_spent ≡ self.old.is_spent }
+        ensures well { OnOk result (WentWell (S.counts sink.old) (S.counts sink.new)) }
+        ensures blamed { IfErr result (λ f. Blamed f (S.counts sink.old) (S.counts sink.new) (S.is_full sink.new)) }
+    {
+        self.put_body(false, packet, sink)
     }
 
     /// Puts what goes out for a packet that was followed, which is on the PID of the map or not.

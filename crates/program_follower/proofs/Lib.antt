@@ -9,3 +9,4 @@ pub mod FollowLemmas
 pub mod ElsewhereLemmas
 pub mod PieceLemmas
 pub mod RunLemmas
+mod StillLemmas

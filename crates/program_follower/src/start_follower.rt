@@ -35,6 +35,7 @@ pub enum StartPlace {
 }
 
 impl StartPlace {
+    ghost use Rattle.std.specs.Prelude.{false};
     ghost use Rattle.program_follower.specs.Program.{listed};
     ghost use Rattle.program_follower.specs.Following.{on_map};
 
@@ -47,6 +48,22 @@ impl StartPlace {
         match self {
             StartPlace::Map => true,
             StartPlace::Cue | StartPlace::Stream(_, _) | StartPlace::Other => false,
+        }
+    }
+
+    /// The greatest time of the units that have begun may be another behind the packet, or it is on the PID of a table or of the cues.
+    #[inline(always)]
+    #[tactic(auto, using(crate::proofs::StillLemmas::still_other))]
+    pub fn may_rise(&self) -> bool
+        ensures still { (c : Purpose) (p : List ℕ) (past : List (List ℕ)) → IsStartPlace self.now c p past
+            → result ≡ false → high_of c.program (p ∷ past) ≡ high_of c.program past }
+        ensures elsewhere { (c : Purpose) (p : List ℕ) (past : List (List ℕ)) → IsStartPlace self.now c p past
+            → result ≡ false → on_map (listed c.program past) p ≡ false }
+    {
+        match self {
+            StartPlace::Stream(_, part) => part.is_start(),
+            StartPlace::Other => false,
+            StartPlace::Map | StartPlace::Cue => true,
         }
     }
 }

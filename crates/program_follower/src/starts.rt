@@ -26,6 +26,22 @@ pub enum StartPacket {
     NoStart,
 }
 
+impl StartPacket {
+    ghost use Rattle.unit_stream.specs.Times.{begins};
+
+    /// A unit begins with it.
+    #[inline(always)]
+    pub fn is_start(&self) -> bool
+        ensures { (pids : List ℕ) (pid : ℕ) (p : List ℕ) (past : List (List ℕ)) → IsStartPacket self.now pids pid p past
+            → result ≡ begins pid p past }
+    {
+        match self {
+            StartPacket::Start(_) => true,
+            StartPacket::NoStart => false,
+        }
+    }
+}
+
 /// Follows up to eight switched streams, and tells of their packets only which begin units.
 #[derive(Drop)]
 pub struct Starts {
