@@ -1,14 +1,16 @@
 -- Where no unit begins, the greatest time behind the head stays.
-use Rattle.std.proofs.Common.{◌≡◌, ℕ, List, ◌∷◌, false, refl, sym, ap, ◌∙◌, Option, None, Some, if◌then◌else◌}
-use Rattle.unit_stream.specs.Times.{begins, high, raised, stamp}
+use Rattle.std.proofs.Common.{◌≡◌, ℕ, List, ◌∷◌, Bool, true, false, ◌||◌, refl, sym, ap, ◌∙◌, Option, None, Some, if◌then◌else◌}
+use Rattle.std.proofs.Math.Bool.{or-false}
+use Rattle.std.proofs.lemmas.Bool.{or_from, or_left, or_right}
+use Rattle.unit_stream.specs.Times.{begins, begins_one, high, raised, stamp}
 use Rattle.program_follower.specs.declared.purpose.Purpose.{Purpose}
 use Rattle.program_follower.specs.declared.start_follower.StartPlace.TheVariants as places
 use Rattle.program_follower.specs.declared.starts.StartPacket.{StartPacket}
 use Rattle.program_follower.specs.Program.{Program, program_of, behind_head, pids_of}
 use Rattle.program_follower.specs.Streaming.{first_on, IsStartPacket}
-use Rattle.program_follower.specs.Following.{grown, high_of, IsStartPlace}
+use Rattle.program_follower.specs.Following.{grown, high_of, IsStartPlace, may_rise}
 use Rattle.program_follower.proofs.FollowLemmas.{program_stays, grown_is, no_high}
-use Rattle.program_follower.proofs.StreamLemmas.{none_high, is_one}
+use Rattle.program_follower.proofs.StreamLemmas.{none_begins, none_high, is_one}
 
 still_by : (wanted : Option ℕ) (p : List ℕ) (past : List (List ℕ)) (r : Option Program) → program_of wanted past ≡ r
     → high (pids_of r) (p ∷ behind_head wanted past) ≡ high (pids_of r) (behind_head wanted past)
@@ -41,3 +43,24 @@ still_stream c p past i x h none =
     let (pid, both) = h.2 in
     let one = is_one pids p b (i, pid) both.0 in
     still c.program p past (ap (λ t. if t then raised (high pids b) (stamp p) else high pids b) (one.begins_it ∙ none pid both.1))
+
+-- ---- exactly when it may rise
+
+pub rises_other : (c : Purpose) (p : List ℕ) (past : List (List ℕ)) → IsStartPlace places.Other c p past → false ≡ may_rise c p past
+rises_other c p past h = sym (or_from _ _ (none_begins (pids_of (program_of c.program past)) p (behind_head c.program past) h.2) (or_from _ _ h.1 h.0))
+
+pub rises_map : (c : Purpose) (p : List ℕ) (past : List (List ℕ)) → IsStartPlace places.Map c p past → true ≡ may_rise c p past
+rises_map c p past h = sym (or_right _ _ (or_left _ _ h))
+
+pub rises_cue : (c : Purpose) (p : List ℕ) (past : List (List ℕ)) → IsStartPlace places.Cue c p past → true ≡ may_rise c p past
+rises_cue c p past h = sym (or_right _ _ (or_right _ _ h.1))
+
+pub rises_stream : (c : Purpose) (p : List ℕ) (past : List (List ℕ)) (i : ℕ) (x : StartPacket) (r : Bool) → IsStartPlace (places.Stream i x) c p past
+    → ((pid : ℕ) → IsStartPacket x (pids_of (program_of c.program past)) pid p (behind_head c.program past) → r ≡ begins pid p (behind_head c.program past))
+    → r ≡ may_rise c p past
+rises_stream c p past i x r h is =
+    let pids = pids_of (program_of c.program past) in
+    let b = behind_head c.program past in
+    let (pid, both) = h.2 in
+    let one = is_one pids p b (i, pid) both.0 in
+    is pid both.1 ∙ sym one.begins_it ∙ sym (ap (λ t. begins_one pids p b || t) (or_from _ _ h.1 h.0) ∙ or-false (begins_one pids p b))

@@ -222,14 +222,17 @@ first_pid (s ∷ ss) q x d h =
 -- ---- one packet more
 
 module _ (pids : List ℕ) (p : List ℕ) (past : List (List ℕ)) where
+  pub none_begins : first_on pids p ≡ None → begins_one pids p past ≡ false
+  none_begins h = begins_is p past pids ∙ none_of (begins_on p past) p (begins_needs p past) pids h
+
   pub none_fault : first_on pids p ≡ None → unit_fault pids p past ≡ None
   none_fault h =
       let a = scrambled_is p pids ∙ none_of (scrambled_on p) p (scrambled_needs p) pids h in
-      let b = begins_is p past pids ∙ none_of (begins_on p past) p (begins_needs p past) pids h in
+      let b = none_begins h in
       simp (a, b) refl
 
   pub none_high : first_on pids p ≡ None → high pids (p ∷ past) ≡ high pids past
-  none_high h = let b = begins_is p past pids ∙ none_of (begins_on p past) p (begins_needs p past) pids h in simp b refl
+  none_high h = let b = none_begins h in simp b refl
 
   module _ (x : ℕ × ℕ) (h : first_on pids p ≡ Some x) where
     pub of_begins : begins_one pids p past ≡ begins x.1 p past

@@ -1,7 +1,7 @@
 -- What a follower stands for after the packets that it has seen, newest first, and what a packet is to it.
-use Rattle.std.specs.Prelude.{◌≡◌, ℕ, ℤ, List, [], ◌∷◌, Bool, true, false, Option, Some, None}
+use Rattle.std.specs.Prelude.{◌≡◌, ℕ, ℤ, List, [], ◌∷◌, Bool, true, false, Option, Some, None, ◌||◌}
 use Rattle.ts_packet.specs.Fields.{in_error, on}
-use Rattle.unit_stream.specs.Times.{high}
+use Rattle.unit_stream.specs.Times.{high, begins_one}
 use Rattle.psi_tables.specs.declared.network.NetworkFault.{NetworkFault}
 use Rattle.psi_tables.specs.declared.stream.Stream.{Stream}
 use Rattle.program_follower.specs.declared.purpose.Purpose.{Purpose}
@@ -119,6 +119,12 @@ IsStartPlace (start_places.Stream i x) c p past = (on_cue c.cue_pid p ≡ false)
     × IsOfStartsAt (Some (i, x)) c p past
 IsStartPlace start_places.Other c p past = (on_cue c.cue_pid p ≡ false) × (on_map (listed c.program past) p ≡ false)
     × (first_on (pids_of (program_of c.program past)) p ≡ None)
+
+-- a unit of a switched stream begins with the packet, or it is on the PID of the map or on that of the cues: with no other the greatest
+-- time rises
+abbrev pub may_rise : Purpose → List ℕ → List (List ℕ) → Bool
+may_rise c p past = begins_one (pids_of (program_of c.program past)) p (behind_head c.program past)
+    || (on_map (listed c.program past) p || on_cue c.cue_pid p)
 
 -- the fault is this one of the network
 abbrev pub IsNetwork : FollowFault → Option NetworkFault → Type 0

@@ -27,7 +27,7 @@ use unit_stream::UnitFault;
 pub enum Place {
     /// It is marked in error.
     Marked,
-    /// It is on the PID of the cues.
+    /// It is on the PID of the cues, and not on that of the map.
     Cue,
     /// It is on the PID of the map, behind the PAT: [`ProgramFollower::tables`] lends the sections that it finishes.
     Map,

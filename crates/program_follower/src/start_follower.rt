@@ -26,7 +26,7 @@ use unit_stream::UnitFault;
 pub enum StartPlace {
     /// It is on the PID of the map, behind the PAT: [`StartFollower::tables`] lends the sections that it finishes.
     Map,
-    /// It is on the PID of the cues.
+    /// It is on the PID of the cues, and not on that of the map.
     Cue,
     /// It is of the switched stream of this number in the order of the map, counted from 0, behind the head.
     Stream(usize, StartPacket),
@@ -37,7 +37,7 @@ pub enum StartPlace {
 impl StartPlace {
     ghost use Rattle.std.specs.Prelude.{false};
     ghost use Rattle.program_follower.specs.Program.{listed};
-    ghost use Rattle.program_follower.specs.Following.{on_map};
+    ghost use Rattle.program_follower.specs.Following.{on_map, may_rise};
 
     /// It is on the PID of the map, behind the PAT.
     #[inline(always)]
@@ -51,10 +51,13 @@ impl StartPlace {
         }
     }
 
-    /// The greatest time of the units that have begun may be another behind the packet, or it is on the PID of a table or of the cues.
+    /// A unit of a switched stream begins with the packet, or it is on the PID of the map or on that of the cues. With each other one the
+    /// greatest time stays.
     #[inline(always)]
-    #[tactic(auto, using(crate::proofs::StillLemmas::still_other))]
+    #[tactic(auto, using(crate::proofs::StillLemmas::still_other, crate::proofs::StillLemmas::rises_other, crate::proofs::StillLemmas::rises_map, crate::proofs::StillLemmas::rises_cue))]
     pub fn may_rise(&self) -> bool
+        ensures exact { (c : Purpose) (p : List ℕ) (past : List (List ℕ)) → IsStartPlace self.now c p past
+            → result ≡ may_rise c p past }
         ensures still { (c : Purpose) (p : List ℕ) (past : List (List ℕ)) → IsStartPlace self.now c p past
             → result ≡ false → high_of c.program (p ∷ past) ≡ high_of c.program past }
         ensures elsewhere { (c : Purpose) (p : List ℕ) (past : List (List ℕ)) → IsStartPlace self.now c p past
