@@ -5,7 +5,7 @@ use Rattle.std.specs.List.{AllByRecursion}
 use Rattle.std.proofs.Common.{◌≡◌, ℕ, zero, suc, ◌-◌, ◌≤◌, List, [], ◌∷◌, ◌++◌, map, true, false, ◌&&◌, ◌==◌, refl, sym, ap, ◌∙◌, subst, Option, Some, None, length, arith, take, drop}
 use Rattle.std.proofs.lemmas.Int.{ints}
 use Rattle.std.proofs.lemmas.Bool.{leb-true, le-leb, eq-eqb, and_from, and_parts}
-use Rattle.std.proofs.lemmas.List.{reverse-append, map-append, take-append-le, length-append, append-nil}
+use Rattle.std.proofs.lemmas.List.{reverse-append, map-append, take-append-le, length-append, append-nil, drop_at}
 use Rattle.std.proofs.lemmas.List.Elements.{All-head, All-tail}
 use Rattle.std.proofs.Math.Seq.{take-length}
 use Rattle.pes_time.specs.Stamps.{is_split}
@@ -56,15 +56,11 @@ range_more (x ∷ bs) cs (suc a) (suc b) le =
     let z : suc b - suc a ≡ b - a = omega arith in
     ap (λ n. take n (drop a (bs ++ cs))) z ∙ range_more bs cs a b (omega arith) ∙ sym (ap (λ n. take n (drop a bs)) z)
 
-drop_front : (bs cs : List ℕ) → drop (length bs) (bs ++ cs) ≡ cs
-drop_front [] cs = refl
-drop_front (b ∷ bs) cs = drop_front bs cs
-
 range_last : (bs cs : List ℕ) → slice_range (bs ++ cs) (length bs) (length (bs ++ cs)) ≡ cs
 range_last bs cs =
     let n = length-append bs cs in
     let z : length (bs ++ cs) - length bs ≡ length cs = omega (arith, n) in
-    ap (λ k. take k (drop (length bs) (bs ++ cs))) z ∙ ap (take (length cs)) (drop_front bs cs) ∙ take-length cs
+    ap (λ k. take k (drop (length bs) (bs ++ cs))) z ∙ ap (take (length cs)) ((drop_at bs cs (length bs) refl)) ∙ take-length cs
 
 start_snoc : (ps : List UnitPlace) (p : UnitPlace) (m n : ℕ) → p.start ≡ n → start_or (ps ++ p ∷ []) m ≡ start_or ps n
 start_snoc [] p m n e = e

@@ -74,12 +74,12 @@ module _ (pids : List ℕ) (pid : ℕ) (p : List ℕ) (past : List (List ℕ)) w
         newest = ap (option_map on_line) (last_longer us (bytes p)) ∙ h.newest ∙ sym time;
       }
 
-  timed_is : (own before : Option ℕ) (line : Option ℤ) (s : Option ℕ) → option_map on_line own ≡ option_map (place (high pids past)) s → option_map on_line before ≡ line
-      → option_map on_line (option_or own before) ≡ timed (high pids past) s line
-  timed_is None before line None h k = k
-  timed_is None before line (Some s) h k = absurd (cc)
-  timed_is (Some t) before line None h k = absurd (cc)
-  timed_is (Some t) before line (Some s) h k = h
+  timed_is : (own before : Option ℕ) (latest : Option ℤ) (s : Option ℕ) → option_map on_line own ≡ option_map (place (high pids past)) s → option_map on_line before ≡ latest
+      → option_map on_line (option_or own before) ≡ timed (high pids past) s latest
+  timed_is None before latest None h k = k
+  timed_is None before latest (Some s) h k = absurd (cc)
+  timed_is (Some t) before latest None h k = absurd (cc)
+  timed_is (Some t) before latest (Some s) h k = h
 
   begun_keeps : (us : List StoredUnit) (t : Option ℕ) → begins pid p past ≡ true → KeepsUnits us pids pid past → option_map on_line t ≡ unit_time pids pid (p ∷ past)
       → (t ≡ None → last_time us ≡ None) → KeepsUnits (begun_stored t (random_access p) (bytes p) us) pids pid (p ∷ past)

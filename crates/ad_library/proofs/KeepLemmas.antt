@@ -1,7 +1,7 @@
 -- A packet of one of the streams that are gathered.
 use Rattle.std.specs.Prelude.{option_map, slice_get, Vec, vec_len, ◌<◌}
-use Rattle.std.proofs.lemmas.Option.{slice_get-get_or}
-use Rattle.std.proofs.Common.{◌≡◌, ℕ, zero, suc, length, arith, get_or, List, [], ◌∷◌, Bool, true, false, refl, sym, ap, ◌∙◌, subst, Option, Some, None}
+use Rattle.std.proofs.lemmas.Option.{slice_get-get_or, slice_get_within}
+use Rattle.std.proofs.Common.{◌≡◌, ℕ, arith, get_or, List, ◌∷◌, true, false, refl, sym, ap, ◌∙◌, subst, Option, Some, None}
 use Rattle.std.proofs.Math.ListN.{set}
 use Rattle.pes_time.specs.Line.{place}
 use Rattle.unit_stream.specs.Times.{begins, begins_one, high, raised, stamp}
@@ -12,6 +12,7 @@ use Rattle.program_follower.specs.declared.streams.StreamPacket.TheVariants.{Sta
 use Rattle.program_follower.specs.Faults.{pids_in}
 use Rattle.program_follower.specs.Streaming.{IsStreamPacket}
 use Rattle.program_follower.proofs.StreamLemmas.{first_is_on}
+use Rattle.ts_packet.proofs.Cases.{true_or_false}
 use Rattle.ad_library.specs.declared.gathered.Gathered.{Gathered}
 use Rattle.ad_library.specs.Storing.{on_line}
 use Rattle.ad_library.specs.Gathering.{AllGathered, GathersStream, IsGathered, IsTold, IsUnitStart, StreamsStand, IsOfOne}
@@ -23,34 +24,26 @@ pub record Passed (old new : Option ℕ) (part : StreamPacket) (time : Option �
   pub raised_so : (s : Option ℕ) → IsTold part (option_map on_line old) s → option_map on_line new ≡ raised (option_map on_line old) s
   pub other : IsUnitStart part ≡ false → new ≡ old
 
-not_both : {P : Type 0} (b : Bool) → b ≡ true → b ≡ false → P
-not_both b h k = absurd (let e : true ≡ false = sym h ∙ k in cc)
-
-module _ (pids : List ℕ) (pid : ℕ) (p : List ℕ) (past : List (List ℕ)) (old new time : Option ℕ) (line : option_map on_line old ≡ high pids past) where
+module _ (pids : List ℕ) (pid : ℕ) (p : List ℕ) (past : List (List ℕ)) (old new time : Option ℕ) (latest : option_map on_line old ≡ high pids past) where
   own_is : (part : StreamPacket) → IsStreamPacket part pids pid p past → Passed old new part time → begins pid p past ≡ true
       → option_map on_line time ≡ option_map (place (high pids past)) (stamp p)
   own_is (Start begun) is t b =
-      t.own (stamp p) (subst (λ l. IsTold (Start begun) l (stamp p)) (sym line) is.1) ∙ ap (λ l. option_map (place l) (stamp p)) line
-  own_is More is t b = not_both _ b (begins_not pid p past is.1)
-  own_is Repeat is t b = not_both _ b (begins_repeat pid p past is.1)
-  own_is Lead is t b = not_both _ b (begins_not pid p past is.1)
-  own_is NoPayload is t b = not_both _ b (begins_off pid p past is)
+      t.own (stamp p) (subst (λ l. IsTold (Start begun) l (stamp p)) (sym latest) is.1) ∙ ap (λ l. option_map (place l) (stamp p)) latest
+  own_is More is t b = true_or_false _ b (begins_not pid p past is.1)
+  own_is Repeat is t b = true_or_false _ b (begins_repeat pid p past is.1)
+  own_is Lead is t b = true_or_false _ b (begins_not pid p past is.1)
+  own_is NoPayload is t b = true_or_false _ b (begins_off pid p past is)
 
   same_high : IsUnitStart (Start None) ≡ true → new ≡ old → begins_one pids p past ≡ false → option_map on_line new ≡ high pids (p ∷ past)
-  same_high u e n = ap (option_map on_line) e ∙ line ∙ sym (high_same pids p past n)
+  same_high u e n = ap (option_map on_line) e ∙ latest ∙ sym (high_same pids p past n)
 
   high_next : (part : StreamPacket) → IsStreamPacket part pids pid p past → Passed old new part time → begins_one pids p past ≡ begins pid p past → option_map on_line new ≡ high pids (p ∷ past)
   high_next (Start begun) is t b =
-      t.raised_so (stamp p) (subst (λ l. IsTold (Start begun) l (stamp p)) (sym line) is.1) ∙ ap (λ l. raised l (stamp p)) line ∙ sym (high_begun pids p past (b ∙ is.0))
+      t.raised_so (stamp p) (subst (λ l. IsTold (Start begun) l (stamp p)) (sym latest) is.1) ∙ ap (λ l. raised l (stamp p)) latest ∙ sym (high_begun pids p past (b ∙ is.0))
   high_next More is t b = same_high refl (t.other refl) (b ∙ begins_not pid p past is.1)
   high_next Repeat is t b = same_high refl (t.other refl) (b ∙ begins_repeat pid p past is.1)
   high_next Lead is t b = same_high refl (t.other refl) (b ∙ begins_not pid p past is.1)
   high_next NoPayload is t b = same_high refl (t.other refl) (b ∙ begins_off pid p past is)
-
-pub get_lt : {X : Type 0} (xs : List X) (i : ℕ) (x : X) → slice_get xs i ≡ Some x → i < length xs
-get_lt [] i x e = absurd (cc)
-get_lt (y ∷ ys) zero x e = omega arith
-get_lt (y ∷ ys) (suc i) x e = let lt = get_lt ys i x e in omega arith
 
 -- what a place of a list lends
 pub got : {X Z : Type 0} (v : Vec X Z) (i : ℕ) (x : X) → i < vec_len v → x ≡ get_or v.items i x → Some x ≡ slice_get v.items i
@@ -81,7 +74,7 @@ module _ {A Z : Type 0} (v : Vec (Gathered A) Z) (high1 high2 time : Option ℕ)
   pub not_there : {P : Type 0} → (index < vec_len v → P) → P
   not_there e =
       let (g, at, is) = found p past v.items ss (pids_in ss) one h.stand.streams_are h.first_is in
-      let lt = get_lt v.items one.0 g at in
+      let lt = slice_get_within v.items one.0 g at in
       let size = v.ok.0 in
       let place = h.place_is in
       e (omega (arith, lt, size, place))

@@ -1,11 +1,10 @@
 -- The switched streams of a program without fault: no PID stands twice among them, and none is that of the map.
-use Rattle.std.specs.Option.{option_or}
 use Rattle.std.specs.List.{AllByRecursion, list_any}
 use Rattle.std.specs.Prelude.{option_map}
-use Rattle.std.proofs.Common.{◌≡◌, ℕ, List, [], ◌∷◌, Bool, true, false, ◌||◌, ◌==◌, refl, sym, ap, ◌∙◌, subst, Option, Some, None, if◌then◌else◌}
+use Rattle.std.proofs.Common.{◌≡◌, ℕ, List, [], ◌∷◌, true, false, ◌||◌, ◌==◌, refl, sym, ap, ◌∙◌, subst, Option, Some, None, if◌then◌else◌}
 use Rattle.std.proofs.lemmas.Bool.{eq-eqb, or_from, or_parts, or_right}
 use Rattle.ts_packet.specs.Fields.{in_error, on, payload_on, is_among}
-use Rattle.ts_packet.proofs.Cases.{by_test}
+use Rattle.ts_packet.proofs.Cases.{by_test, true_or_false}
 use Rattle.ts_packet.proofs.FieldLemmas.{off_payload}
 use Rattle.unit_stream.proofs.ReadingLemmas.{error_off}
 use Rattle.psi_tables.specs.declared.stream.Stream.{Stream}
@@ -13,27 +12,15 @@ use Rattle.psi_tables.specs.Streams.{is_switched, switched_of, pid_in}
 use Rattle.psi_tables.specs.ProgramMap.{ProgramMap, streams_of}
 use Rattle.program_follower.specs.declared.purpose.Purpose.{Purpose}
 use Rattle.program_follower.specs.declared.purpose.Listed.{Listed}
-use Rattle.program_follower.specs.Program.{listed, Table, all_tables, first_map, known_map, Program, program_in, program_of}
+use Rattle.program_follower.specs.Program.{listed, all_tables, first_map, known_map, Program, program_in, program_of}
 use Rattle.program_follower.specs.Faults.{pids_in, is_twice, bad_pid, bad_switched, first_fault}
 use Rattle.program_follower.specs.Streaming.{next_place, first_on}
-use Rattle.program_follower.proofs.StreamLemmas.{one_pid}
-use Rattle.program_laws.proofs.FaultLemmas.{Each-map, MapSound, all_sound}
+use Rattle.program_follower.proofs.StreamLemmas.{one_pid, in_switched}
+use Rattle.program_laws.proofs.FaultLemmas.{Each-map, MapSound, all_sound, first_sound}
 use Rattle.program_laws.proofs.ReadingLemmas.{no_tables}
 use Rattle.ad_library.specs.Gathering.{AreDistinct}
 
-both : {P : Type 0} (b : Bool) → b ≡ true → b ≡ false → P
-both b h k = absurd (let e : true ≡ false = sym h ∙ k in cc)
-
 -- ---- PIDs that stand once
-
-pub in_switched : (x : ℕ) (ss : List Stream) → is_among x (pids_in ss) ≡ false → is_among x (pids_in (switched_of ss)) ≡ false
-in_switched x [] h = refl
-in_switched x (s ∷ ss) h =
-    let r = or_parts (s.pid == x) (is_among x (pids_in ss)) h in
-    let more = in_switched x ss r.1 in
-    by_test (is_switched s.kind)
-    (λ y. simp y (or_from (s.pid == x) (is_among x (pids_in (switched_of ss))) r.0 more))
-    (λ n. simp n more)
 
 abbrev AllIn : List ℕ → List ℕ → Type 0
 AllIn all pids = AllByRecursion (λ x. is_among x all ≡ true) pids
@@ -52,7 +39,7 @@ once_rest y all (x ∷ xs) i h =
     let r = or_parts (bad_switched (y ∷ all) x) (list_any (bad_switched (y ∷ all)) xs) h in
     let b = or_parts (x == 8191) (is_twice x (y ∷ all)) r.0 in
     let here : is_twice x all ≡ false = by_test (y == x)
-    (λ e. let t : is_twice x (y ∷ all) ≡ is_among x all = ap (λ c. if c then is_among x all else is_twice x all) e in both (is_among x all) i.0 (sym t ∙ b.1))
+    (λ e. let t : is_twice x (y ∷ all) ≡ is_among x all = ap (λ c. if c then is_among x all else is_twice x all) e in true_or_false (is_among x all) i.0 (sym t ∙ b.1))
     (λ n. let t : is_twice x (y ∷ all) ≡ is_twice x all = ap (λ c. if c then is_among x all else is_twice x all) n in sym t ∙ b.1) in
     or_from (bad_switched all x) (list_any (bad_switched all) xs) (or_from (x == 8191) (is_twice x all) b.0 here) (once_rest y all xs i.1 r.1)
 
@@ -93,13 +80,6 @@ apart_in c pid (Some m) r g e =
     let none = or_parts (bad_pid pid (pid_in m.pcr_field)) (list_any (bad_pid pid) (pids_in ss)) bad.0 in
     subst (StreamsApart pid) (same_program m r e) (record { apart = apart_switched ss bad.1; off_map = in_switched pid ss (in_bad pid (pids_in ss) none.1) })
 
-first_sound : (c : Purpose) (pid : ℕ) (ts : List Table) → AllByRecursion (λ (t : Table). MapSound c pid t.program_map) ts → MapSound c pid (first_map ts)
-first_sound c pid [] h = tt
-first_sound c pid (t ∷ ts) h = by_map t.program_map (first_map ts) h.0 (first_sound c pid ts h.1) where
-  by_map : (o x : Option ProgramMap) → MapSound c pid o → MapSound c pid x → MapSound c pid (option_or o x)
-  by_map None x g k = k
-  by_map (Some m) x g k = g
-
 -- THE STREAMS of a program without fault
 pub record ListedApart (c : Purpose) (past : List (List ℕ)) (ss : List Stream) : Type 0 where
   pub known : Listed
@@ -136,5 +116,5 @@ pub none_map : (p : List ℕ) (x : ℕ) (pids : List ℕ) → on x p ≡ true �
 none_map p x [] o h = tt
 none_map p x (pid ∷ pids) o h =
     let r = or_parts (pid == x) (is_among x pids) h in
-    let off : on pid p ≡ false = by_test (on pid p) (λ y. both (pid == x) (eq-eqb pid x (one_pid pid x p y o)) r.0) (λ n. n) in
+    let off : on pid p ≡ false = by_test (on pid p) (λ y. true_or_false (pid == x) (eq-eqb pid x (one_pid pid x p y o)) r.0) (λ n. n) in
     (off_payload pid p off, none_map p x pids o r.1)

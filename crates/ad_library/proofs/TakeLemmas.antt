@@ -11,10 +11,9 @@ use Rattle.pes_time.specs.Line.{place}
 use Rattle.unit_stream.specs.Clocks.{Tells, IsNear}
 use Rattle.unit_stream.specs.Times.{begins_one, high, stamp, splits}
 use Rattle.unit_stream.specs.Faults.{scrambled_one, start_fault, jumps, is_far, unit_fault}
-use Rattle.unit_stream.specs.declared.fault.UnitFault.{UnitFault}
 use Rattle.unit_stream.specs.declared.fault.UnitFault.TheVariants as unit_faults
 use Rattle.unit_stream.specs.declared.clock.Begun.{Begun}
-use Rattle.unit_stream.proofs.ClockLemmas.{splits_is, high_same}
+use Rattle.unit_stream.proofs.ClockLemmas.{splits_is, high_same, jump_sound}
 use Rattle.psi_tables.specs.declared.stream.Stream.{Stream}
 use Rattle.program_follower.specs.declared.purpose.Listed.{Listed}
 use Rattle.program_follower.specs.declared.streams.StreamPacket.{StreamPacket}
@@ -22,11 +21,11 @@ use Rattle.program_follower.specs.declared.streams.StreamPacket.TheVariants.{Sta
 use Rattle.program_follower.specs.declared.follower.Place.{Place}
 use Rattle.program_follower.specs.declared.follower.Place.TheVariants as places
 use Rattle.program_follower.specs.Program.{listed, Program, program_of, known_map, behind_head, pids_of}
-use Rattle.program_follower.specs.Faults.{pids_in, as_network, cue_fault, pats_fault_at, maps_fault_at, unit_fault_at, network_fault, first_fault}
+use Rattle.program_follower.specs.Faults.{pids_in, cue_fault, pats_fault_at, maps_fault_at, unit_fault_at, network_fault, first_fault}
 use Rattle.program_follower.specs.Streaming.{first_on, IsStreamPacket}
 use Rattle.program_follower.specs.Following.{FollowerStandsFor, IsPlace, grown, streams_of_program, on_map}
 use Rattle.program_follower.proofs.OptionLemmas.{none_both}
-use Rattle.program_follower.proofs.FollowLemmas.{program_stays, grown_is, known_program, no_high}
+use Rattle.program_follower.proofs.FollowLemmas.{program_stays, grown_is, known_program, no_high, no_unit_fault}
 use Rattle.ad_library.specs.declared.fault.AdFault.{AdFault}
 use Rattle.ad_library.specs.declared.fault.AdFault.TheVariants as ad_faults
 use Rattle.ad_library.specs.declared.gathered.Gathered.{Gathered}
@@ -55,19 +54,13 @@ some_known gs past ss e is all = by_known (program_of None past) (known_program 
 
 -- ---- what no fault says of a unit that begins
 
-as_none : (o : Option UnitFault) → as_network o ≡ None → o ≡ None
-as_none None h = refl
-as_none (Some unit_faults.Scrambled) h = absurd (cc)
-as_none (Some unit_faults.HeaderSplit) h = absurd (cc)
-as_none (Some unit_faults.TimeJump) h = absurd (cc)
-
 pub unit_sound : (p : List ℕ) (past : List (List ℕ)) → network_fault reading_advertisement p past ≡ None → unit_fault (pids_of (program_of None past)) p (behind_head None past) ≡ None
 unit_sound p past h =
     let c = reading_advertisement in
     let a = none_both (cue_fault c p) (option_or (pats_fault_at c p past) (option_or (maps_fault_at c p past) (unit_fault_at c p past))) h in
     let b = none_both (pats_fault_at c p past) (option_or (maps_fault_at c p past) (unit_fault_at c p past)) a.1 in
     let d = none_both (maps_fault_at c p past) (unit_fault_at c p past) b.1 in
-    as_none (unit_fault (pids_of (program_of None past)) p (behind_head None past)) d.1
+    no_unit_fault (unit_fault (pids_of (program_of None past)) p (behind_head None past)) d.1
 
 start_sound : (pids : List ℕ) (p : List ℕ) (past : List (List ℕ)) → unit_fault pids p past ≡ None → begins_one pids p past ≡ true → start_fault (high pids past) (splits p) (stamp p) ≡ None
 start_sound pids p past h b =
@@ -78,23 +71,15 @@ start_sound pids p past h b =
     (λ n. sym (ap (λ x. if x then Some unit_faults.Scrambled else (if begins_one pids p past then start_fault (high pids past) (splits p) (stamp p) else None)) n
     ∙ ap (λ x. if x then start_fault (high pids past) (splits p) (stamp p) else None) b) ∙ h)
 
-split_sound : (line : Option ℤ) (split : Bool) (s : Option ℕ) → start_fault line split s ≡ None → split ≡ false
-split_sound line true s h = absurd (cc)
-split_sound line false s h = refl
-
-jump_by : (b : Bool) → (if b then Some unit_faults.TimeJump else None) ≡ None → b ≡ false
-jump_by true h = absurd (cc)
-jump_by false h = refl
-
-pub jump_sound : (line : Option ℤ) (split : Bool) (s : Option ℕ) → start_fault line split s ≡ None → jumps line s ≡ false
-jump_sound line true s h = absurd (cc)
-jump_sound line false s h = jump_by (jumps line s) h
+split_sound : (latest : Option ℤ) (split : Bool) (s : Option ℕ) → start_fault latest split s ≡ None → split ≡ false
+split_sound latest true s h = absurd (cc)
+split_sound latest false s h = refl
 
 not_far : (d : ℤ) → is_far d ≡ false → (negsuc 899999 ≤ℤ d) × (d ≤ℤ pos 900000)
 not_far d h = (grind (arith, ints), grind (arith, ints))
 
-near_by : (line : Option ℤ) (begun : Option Begun) (s : Option ℕ) → Tells begun line s → jumps line s ≡ false → IsNear begun
-near_by line None s t j = tt
+near_by : (latest : Option ℤ) (begun : Option Begun) (s : Option ℕ) → Tells begun latest s → jumps latest s ≡ false → IsNear begun
+near_by latest None s t j = tt
 near_by None (Some begun) s t j =
     let e : begun.way ≡ pos 0 = t.1 in (grind (arith, ints), grind (arith, ints))
 near_by (Some h) (Some begun) s t j =

@@ -120,11 +120,11 @@ pub record HasWay (t : ℕ) : Type 0 where
 
 -- a unit begins so
 abbrev pub IsTold : StreamPacket → Option ℤ → Option ℕ → Type 0
-IsTold (Start begun) line stamp = Tells begun line stamp
-IsTold More line stamp = ⊥
-IsTold Repeat line stamp = ⊥
-IsTold Lead line stamp = ⊥
-IsTold NoPayload line stamp = ⊥
+IsTold (Start begun) latest stamp = Tells begun latest stamp
+IsTold More latest stamp = ⊥
+IsTold Repeat latest stamp = ⊥
+IsTold Lead latest stamp = ⊥
+IsTold NoPayload latest stamp = ⊥
 
 abbrev pub IsUnitStart : StreamPacket → Bool
 IsUnitStart (Start begun) = true

@@ -64,7 +64,7 @@ fn moved(time: u64, way: i64) -> u64
 
 /// The greatest time, with one more.
 fn later(high: Option<u64>, time: u64) -> u64
-    ensures line { Some (on_line result) ≡ raise (option_map on_line high) (on_line time) }
+    ensures latest { Some (on_line result) ≡ raise (option_map on_line high) (on_line time) }
     ensures held { (count : ℕ) → IfSome high (IsHeld count) → IsHeld (count + 1) time → IsHeld (count + 1) result }
 {
     match high {

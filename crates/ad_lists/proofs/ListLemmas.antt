@@ -1,8 +1,8 @@
 -- Lines of a list, read and loaded one after another.
 use Rattle.std.proofs.Common.{◌≡◌, ◌≢◌, ℕ, ◌^◌, ◌<◌, List, [], ◌∷◌, ◌++◌, length, Bool, true, false, not, ◌&&◌, ◌||◌, ◌==◌, cond, nat_lt, Option, Some, None, is_some, refl, sym, ap, ◌∙◌, subst, append_assoc, arith, ◌⊎◌, inl, inr}
-use Rattle.std.specs.Prelude.{if◌then◌else◌, IfSome, IfErr, OnOk, Result, Ok, Err}
+use Rattle.std.specs.Prelude.{if◌then◌else◌, IfSome}
 use Rattle.std.proofs.lemmas.List.{append-nil}
-use Rattle.std.specs.Io.KnownBytes.{Consumes, IsAtEnd}
+use Rattle.std.specs.Io.KnownBytes.{Consumes}
 use Rattle.indexmap.specs.IndexMap.{index_map_len}
 use Rattle.ts_packet.specs.declared.tally.Tally.{Tally}
 use Rattle.ts_packet.specs.Sources.{HasRead, Stalled, Exhausted, SourceBlamed}
@@ -13,7 +13,7 @@ use Rattle.ad_library.specs.Stops.{StoppedAt, LastReadCameTo}
 use Rattle.ad_library.specs.Advertisements.{Advertisement}
 use Rattle.ad_library.specs.Library.{held}
 use Rattle.decimal_numbers.specs.Numbers.{number_below}
-use Rattle.ad_lists.specs.Lists.{is_blank, entry_of, paired, is_good, is_line, text_of, with_number, numbers_of, has_number, are_apart, IsAdvert, FilesOne, IsFiled, IsRead, BlamesAd, BlamesStream, BlamesLine, EndsLine, Blames, StopsAt, StallsOver, StopsOver, LastOver}
+use Rattle.ad_lists.specs.Lists.{is_blank, entry_of, paired, is_list_line, is_line, text_of, with_number, numbers_of, has_number, are_apart, IsAdvert, FilesOne, IsFiled, IsRead, BlamesAd, BlamesStream, BlamesLine, EndsLine, Blames, StopsAt, StallsOver, StopsOver, LastOver}
 use Rattle.ad_lists.specs.declared.list.Loading.{Loading}
 use Rattle.ad_lists.specs.declared.list.ListFault.{ListFault}
 use Rattle.ad_lists.specs.declared.list.ListFault.TheVariants.{BadList, File, Io, Turns, Ad, OutOfMemory}
@@ -140,7 +140,7 @@ entry_filed old new line ls e known blank entry h a =
     }
 
 -- a line that is neither blank nor an entry
-pub bad_line : (line : List ℕ) → is_blank line ≡ false → entry_of line ≡ None → is_good line ≡ false
+pub bad_line : (line : List ℕ) → is_blank line ≡ false → entry_of line ≡ None → is_list_line line ≡ false
 bad_line line blank none = λ i. blank i || is_some (none i)
 
 -- what is told of an entry's stream, told of the line
@@ -182,21 +182,6 @@ take_stops f text done part rest behind more b e first h =
     ∙ ap (λ p. text ++ (p ++ more)) (sym (e ∙ ap (λ r. done ++ r) first))) h
 
 -- ---- reads of the list
-
-pub ok_on : {T E : Type 0} {X Y : Type 0} (r : Result T E) → (X → Y) → OnOk r X → OnOk r Y
-ok_on (Ok v) f h = f h
-ok_on (Err e) f h = tt
-
-pub err_on : {T E : Type 0} {P Q : E → Type 0} (r : Result T E) → ((e : E) → P e → Q e) → IfErr r P → IfErr r Q
-err_on (Ok v) f h = tt
-err_on (Err e) f h = f e h
-
--- all of it was read
-pub at_end : (a b c : Option (List ℕ)) (bs none : List ℕ) → Consumes a b bs → Consumes b c none → none ≡ [] → IsAtEnd c → IfSome a (λ all. all ≡ bs)
-at_end None b c bs none p q e end = tt
-at_end (Some x) None c bs none p q e end = absurd p
-at_end (Some x) (Some y) None bs none p q e end = absurd q
-at_end (Some x) (Some y) (Some z) bs none p q e end = p ∙ ap (λ l. bs ++ l) (q ∙ (λ i. e i ++ end i)) ∙ append-nil bs
 
 -- it stops within what was read last
 pub stops_within : (f : ListFault) (a b c : Option (List ℕ)) (bs part : List ℕ) → Consumes a b bs → Consumes b c part → ((more : List ℕ) → StopsAt f (bs ++ (part ++ more)))

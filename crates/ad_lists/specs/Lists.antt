@@ -45,8 +45,8 @@ entry_of line = cond (is_utf8 line && nat_lt 0 (length (after_first is_space lin
     (paired (number_below (before_first is_space line) (2 ^ 16)) (after_first is_space line)) None
 
 -- a line that is not refused
-abbrev pub is_good : List ℕ → Bool
-is_good line = is_blank line || is_some (entry_of line)
+abbrev pub is_list_line : List ℕ → Bool
+is_list_line line = is_blank line || is_some (entry_of line)
 
 -- ---- many lines
 
@@ -94,7 +94,7 @@ pub record FilesOne {A : Type 0} (known : Option (List ℕ)) (old new : AdLibrar
 
 -- THE LIBRARY of these lines: none is bad and no number stands twice; an advertisement is filed under each of their numbers, and nothing else
 pub record IsFiled {A : Type 0} (library : AdLibrary A) (ls : List (List ℕ)) : Type 0 where
-  pub good : list_all is_good ls ≡ true
+  pub good : list_all is_list_line ls ≡ true
   pub apart : are_apart (numbers_of ls) ≡ true
   pub numbers : (id : ℕ) → is_some (held library id) ≡ has_number id (numbers_of ls)
   pub adverts : (id : ℕ) → IfSome (held library id) IsAdvert
@@ -185,7 +185,7 @@ DeviceStopsAt counts remaining OutOfMemory first now = StopsOver counts remainin
 
 -- of a line behind these numbers: a bad one is neither blank nor an entry; the other faults come at entries
 abbrev pub BlamesLine : ListFault → List ℕ → List ℕ → Type 0
-BlamesLine BadList line ns = is_good line ≡ false
+BlamesLine BadList line ns = is_list_line line ≡ false
 BlamesLine File line ns = IsSome (entry_of line)
 BlamesLine Io line ns = ⊥
 BlamesLine Turns line ns = ⊥
@@ -215,7 +215,7 @@ pub record StopsAt (fault : ListFault) (text : List ℕ) : Type 0 where
   pub text_is : text ≡ text_of before ++ (part ++ rest)
   pub line : is_line part ≡ true
   pub lines : list_all is_line before ≡ true
-  pub good : list_all is_good before ≡ true
+  pub good : list_all is_list_line before ≡ true
   pub apart : are_apart (numbers_of before) ≡ true
   pub blamed : Blames fault part rest (numbers_of before)
 

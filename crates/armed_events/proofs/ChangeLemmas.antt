@@ -23,31 +23,31 @@ use Rattle.armed_events.specs.Obeying.{after_change}
 
 -- ---- what the table's answers make of it
 
-pub start-repeated : (line : Option ℤ) (standing : List Standing) (e : Standing) → list_any (repeats e) standing ≡ true → start_change line standing e ≡ Keep
-start-repeated line standing e r = rw r refl
+pub start-repeated : (latest : Option ℤ) (standing : List Standing) (e : Standing) → list_any (repeats e) standing ≡ true → start_change latest standing e ≡ Keep
+start-repeated latest standing e r = rw r refl
 
-pub start-refused : (line : Option ℤ) (standing : List Standing) (e : Standing) → list_any (repeats e) standing ≡ false → (is_fresh e && is_ahead_of line e.start) ≡ false
-    → start_change line standing e ≡ Ignore
-start-refused line standing e r c = rw (r, c) refl
+pub start-refused : (latest : Option ℤ) (standing : List Standing) (e : Standing) → list_any (repeats e) standing ≡ false → (is_fresh e && is_ahead_of latest e.start) ≡ false
+    → start_change latest standing e ≡ Ignore
+start-refused latest standing e r c = rw (r, c) refl
 
-pub start-answered : (line : Option ℤ) (standing : List Standing) (e : Standing) (a : Result Armed ArmRefusal) → list_any (repeats e) standing ≡ false
-    → (is_fresh e && is_ahead_of line e.start) ≡ true → a ≡ arm_answer standing e → start_change line standing e ≡ by_arm_answer e a
-start-answered line standing e a r c is =
-    picked (list_any (repeats e) standing) (is_fresh e && is_ahead_of line e.start) (by_arm_answer e (arm_answer standing e)) r c ∙ ap (by_arm_answer e) (sym is)
+pub start-answered : (latest : Option ℤ) (standing : List Standing) (e : Standing) (a : Result Armed ArmRefusal) → list_any (repeats e) standing ≡ false
+    → (is_fresh e && is_ahead_of latest e.start) ≡ true → a ≡ arm_answer standing e → start_change latest standing e ≡ by_arm_answer e a
+start-answered latest standing e a r c is =
+    picked (list_any (repeats e) standing) (is_fresh e && is_ahead_of latest e.start) (by_arm_answer e (arm_answer standing e)) r c ∙ ap (by_arm_answer e) (sym is)
   where
     picked : (b c : Bool) (x : Change) → b ≡ false → c ≡ true → (if b then Keep else (if c then x else Ignore)) ≡ x
     picked b c x p q = rw (p, q) refl
 
-pub arm-after : {T : Type 0} → (t t' : Table T) (line : Option ℤ) (standing : List Standing) (e : Standing) (a : Result Armed ArmRefusal) → StandsFor t line standing
-    → (a ≡ Ok New → StandsFor t' line (standing ++ e ∷ [])) → (a ≡ Ok Same → t' ≡ t) → OnErr a (t' ≡ t) → StandsFor t' line (after_change (by_arm_answer e a) standing)
-arm-after t t' line standing e (Ok New) s new same refused = new refl
-arm-after t t' line standing e (Ok Same) s new same refused = rw (same refl) s
-arm-after t t' line standing e (Err f) s new same refused = rw refused s
+pub arm-after : {T : Type 0} → (t t' : Table T) (latest : Option ℤ) (standing : List Standing) (e : Standing) (a : Result Armed ArmRefusal) → StandsFor t latest standing
+    → (a ≡ Ok New → StandsFor t' latest (standing ++ e ∷ [])) → (a ≡ Ok Same → t' ≡ t) → OnErr a (t' ≡ t) → StandsFor t' latest (after_change (by_arm_answer e a) standing)
+arm-after t t' latest standing e (Ok New) s new same refused = new refl
+arm-after t t' latest standing e (Ok Same) s new same refused = rw (same refl) s
+arm-after t t' latest standing e (Err f) s new same refused = rw refused s
 
-pub cancel-after : {T : Type 0} → (t t' : Table T) (line : Option ℤ) (standing : List Standing) (id : ℕ) (a : Result (Unit {0}) CancelRefusal) → StandsFor t line standing
-    → (a ≡ Ok tt → StandsFor t' line (with_cancelled id standing)) → OnErr a (t' ≡ t) → StandsFor t' line (after_change (by_cancel_answer id a) standing)
-cancel-after t t' line standing id (Ok u) s done refused = done refl
-cancel-after t t' line standing id (Err f) s done refused = rw refused s
+pub cancel-after : {T : Type 0} → (t t' : Table T) (latest : Option ℤ) (standing : List Standing) (id : ℕ) (a : Result (Unit {0}) CancelRefusal) → StandsFor t latest standing
+    → (a ≡ Ok tt → StandsFor t' latest (with_cancelled id standing)) → OnErr a (t' ≡ t) → StandsFor t' latest (after_change (by_cancel_answer id a) standing)
+cancel-after t t' latest standing id (Ok u) s done refused = done refl
+cancel-after t t' latest standing id (Err f) s done refused = rw refused s
 
 -- ---- those that stand, after a change of all
 
@@ -78,7 +78,7 @@ grown start time = by (time -ℤ start) refl
     by (negsuc n) is = omega (arith, ints)
 
 -- an end ahead of the greatest time leaves the event standing
-ending-stands : (line : Option ℤ) (time : ℤ) → is_ahead_of line time ≡ true → (s : Standing) → stands line (ending_at time s) ≡ true
+ending-stands : (latest : Option ℤ) (time : ℤ) → is_ahead_of latest time ≡ true → (s : Standing) → stands latest (ending_at time s) ≡ true
 ending-stands None time h s = refl
 ending-stands (Some high) time h s =
     let p = and_parts (int_lt high time) (int_le time (high +ℤ pos (2 ^ 29))) h in
@@ -88,7 +88,7 @@ ending-stands (Some high) time h s =
     later high time end h g = grind (arith, ints)
 
 -- so does a start
-starting-stands : (line : Option ℤ) (e : Standing) → is_ahead_of line e.start ≡ true → stands line e ≡ true
+starting-stands : (latest : Option ℤ) (e : Standing) → is_ahead_of latest e.start ≡ true → stands latest e ≡ true
 starting-stands None e h = refl
 starting-stands (Some high) e h =
     let p = and_parts (int_lt high e.start) (int_le e.start (high +ℤ pos (2 ^ 29))) h in
@@ -97,26 +97,26 @@ starting-stands (Some high) e h =
     later : (high start : ℤ) (n : ℕ) → int_lt high start ≡ true → int_lt high ((start +ℤ pos n) +ℤ pos 900000) ≡ true
     later high start n h = grind (arith, ints)
 
-cancelled-stands : (line : Option ℤ) (s : Standing) → stands line s ≡ true → stands line (cancelled_one s) ≡ true
+cancelled-stands : (latest : Option ℤ) (s : Standing) → stands latest s ≡ true → stands latest (cancelled_one s) ≡ true
 cancelled-stands None s h = refl
 cancelled-stands (Some high) s h = h
 
 -- what is left standing by a change is what it makes of those that stand
 abbrev Fits : Option ℤ → List Standing → Change → Type 0
-Fits line events c = standing_at line (changed line c events) ≡ after_change c (standing_at line events)
+Fits latest events c = standing_at latest (changed latest c events) ≡ after_change c (standing_at latest events)
 
-keep-last : (line : Option ℤ) (e : Standing) → stands line e ≡ true → standing_at line (e ∷ []) ≡ e ∷ []
-keep-last line e h = simp h refl
+keep-last : (latest : Option ℤ) (e : Standing) → stands latest e ≡ true → standing_at latest (e ∷ []) ≡ e ∷ []
+keep-last latest e h = simp h refl
 
-start-fits : (line : Option ℤ) (events : List Standing) (e : Standing) (b c : Bool) (a : Result Armed ArmRefusal) → (is_fresh e && is_ahead_of line e.start) ≡ c
-    → Fits line events (if b then Keep else (if c then by_arm_answer e a else Ignore))
-start-fits line events e true c a h = refl
-start-fits line events e false false a h = refl
-start-fits line events e false true (Ok New) h =
-    filter-append (stands line) events (e ∷ [])
-    ∙ ap (λ l. standing_at line events ++ l) (keep-last line e (starting-stands line e (and_parts (is_fresh e) (is_ahead_of line e.start) h).1))
-start-fits line events e false true (Ok Same) h = refl
-start-fits line events e false true (Err f) h = refl
+start-fits : (latest : Option ℤ) (events : List Standing) (e : Standing) (b c : Bool) (a : Result Armed ArmRefusal) → (is_fresh e && is_ahead_of latest e.start) ≡ c
+    → Fits latest events (if b then Keep else (if c then by_arm_answer e a else Ignore))
+start-fits latest events e true c a h = refl
+start-fits latest events e false false a h = refl
+start-fits latest events e false true (Ok New) h =
+    filter-append (stands latest) events (e ∷ [])
+    ∙ ap (λ l. standing_at latest events ++ l) (keep-last latest e (starting-stands latest e (and_parts (is_fresh e) (is_ahead_of latest e.start) h).1))
+start-fits latest events e false true (Ok Same) h = refl
+start-fits latest events e false true (Err f) h = refl
 
 abbrev is_taken : Result Armed ShortenRefusal → Bool
 is_taken (Ok a) = true
@@ -126,33 +126,33 @@ refused-not-taken : {X : Type 0} (f : ShortenRefusal) → Err f ≡ Ok New → X
 refused-not-taken f is = absurd (true≢false (sym (ap is_taken is)))
 
 -- an end that is taken lies ahead
-new-ahead-of : (line : Option ℤ) (time : ℤ) (s : Standing) (ahead : Bool) → (if not ahead then Err BadEnd
+new-ahead-of : (latest : Option ℤ) (time : ℤ) (s : Standing) (ahead : Bool) → (if not ahead then Err BadEnd
     else if s.cancelled then Err BadEnd else if int_eq time (end_of s) then Ok Same else if is_early_end s time then Ok New else Err BadEnd) ≡ Ok New → ahead ≡ true
-new-ahead-of line time s true is = refl
-new-ahead-of line time s false is = refused-not-taken BadEnd is
+new-ahead-of latest time s true is = refl
+new-ahead-of latest time s false is = refused-not-taken BadEnd is
 
-new-ahead : (line : Option ℤ) (id : ℕ) (time : ℤ) (found : Option Standing) → shorten_answer_of line time found ≡ Ok New → is_ahead_of line time ≡ true
-new-ahead line id time None is = refused-not-taken NothingToShorten is
-new-ahead line id time (Some s) is = new-ahead-of line time s (is_ahead_of line time) is
+new-ahead : (latest : Option ℤ) (id : ℕ) (time : ℤ) (found : Option Standing) → shorten_answer_of latest time found ≡ Ok New → is_ahead_of latest time ≡ true
+new-ahead latest id time None is = refused-not-taken NothingToShorten is
+new-ahead latest id time (Some s) is = new-ahead-of latest time s (is_ahead_of latest time) is
 
-end-fits : (line : Option ℤ) (events : List Standing) (id : ℕ) (time : ℤ) (a : Result Armed ShortenRefusal) → shorten_answer line (standing_at line events) id time ≡ a
-    → Fits line events (by_shorten_answer id time a)
-end-fits line events id time (Ok New) h =
-    let ahead = new-ahead line id time (find (has_id id) (standing_at line events)) h in
-    filter-with_first (stands line) (has_id id) (ending_at time) (λ s _. ending-stands line time ahead s) events
-end-fits line events id time (Ok Same) h = refl
-end-fits line events id time (Err f) h = refl
+end-fits : (latest : Option ℤ) (events : List Standing) (id : ℕ) (time : ℤ) (a : Result Armed ShortenRefusal) → shorten_answer latest (standing_at latest events) id time ≡ a
+    → Fits latest events (by_shorten_answer id time a)
+end-fits latest events id time (Ok New) h =
+    let ahead = new-ahead latest id time (find (has_id id) (standing_at latest events)) h in
+    filter-with_first (stands latest) (has_id id) (ending_at time) (λ s _. ending-stands latest time ahead s) events
+end-fits latest events id time (Ok Same) h = refl
+end-fits latest events id time (Err f) h = refl
 
-cancel-fits : (line : Option ℤ) (events : List Standing) (id : ℕ) (a : Result (Unit {0}) CancelRefusal) → Fits line events (by_cancel_answer id a)
-cancel-fits line events id (Ok u) = filter-with_first (stands line) (has_id id) cancelled_one (cancelled-stands line) events
-cancel-fits line events id (Err f) = refl
+cancel-fits : (latest : Option ℤ) (events : List Standing) (id : ℕ) (a : Result (Unit {0}) CancelRefusal) → Fits latest events (by_cancel_answer id a)
+cancel-fits latest events id (Ok u) = filter-with_first (stands latest) (has_id id) cancelled_one (cancelled-stands latest) events
+cancel-fits latest events id (Err f) = refl
 
-pub change-fits : (line : Option ℤ) (events : List Standing) (asked : Asked)
-    → standing_at line (changed line (change line (standing_at line events) asked) events) ≡ after_change (change line (standing_at line events) asked) (standing_at line events)
-change-fits line events (Start e) =
-    let n = on_line line e in
-    start-fits line events n (list_any (repeats n) (standing_at line events)) (is_fresh n && is_ahead_of line n.start) (arm_answer (standing_at line events) n) refl
-change-fits line events (End id time) = end-fits line events id (place line time) (shorten_answer line (standing_at line events) id (place line time)) refl
-change-fits line events (Cancel id) = cancel-fits line events id (cancel_answer line (standing_at line events) id)
-change-fits line events Unfit = refl
-change-fits line events Nothing = refl
+pub change-fits : (latest : Option ℤ) (events : List Standing) (asked : Asked)
+    → standing_at latest (changed latest (change latest (standing_at latest events) asked) events) ≡ after_change (change latest (standing_at latest events) asked) (standing_at latest events)
+change-fits latest events (Start e) =
+    let n = on_line latest e in
+    start-fits latest events n (list_any (repeats n) (standing_at latest events)) (is_fresh n && is_ahead_of latest n.start) (arm_answer (standing_at latest events) n) refl
+change-fits latest events (End id time) = end-fits latest events id (place latest time) (shorten_answer latest (standing_at latest events) id (place latest time)) refl
+change-fits latest events (Cancel id) = cancel-fits latest events id (cancel_answer latest (standing_at latest events) id)
+change-fits latest events Unfit = refl
+change-fits latest events Nothing = refl

@@ -3,13 +3,13 @@ use Rattle.std.proofs.Common.{◌≡◌, ℕ, ◌+◌, ◌-◌, ◌^◌, Bool, t
 use Rattle.std.specs.Prelude.{ℤ, pos, ◌+ℤ◌, ◌≤ℤ◌, int_lt, min, filter, Option, None, Some}
 use Rattle.std.proofs.lemmas.Int.{ints}
 use Rattle.pes_time.specs.Line.{signed, ring_of}
-use Rattle.ts_packet.specs.Fields.{on, payload_on}
+use Rattle.ts_packet.specs.Fields.{on}
 use Rattle.event_table.specs.Rings.{CanAdvance}
 use Rattle.event_table.specs.Standing.{Standing, forgotten_at, still_standing, IsTimeAt, stands}
 use Rattle.event_table.specs.declared.table.Table.{Table}
 use Rattle.event_table.specs.Tables.{StandsFor, values_of}
-use Rattle.psi_section.specs.Sections.{given}
 use Rattle.psi_section.specs.Assembling.{capped}
+use Rattle.psi_section.proofs.RunLemmas.{given_off}
 use Rattle.armed_events.specs.declared.asked.Asked.{Asked}
 use Rattle.armed_events.specs.declared.obeying.Obeyed.{Obeyed}
 use Rattle.armed_events.specs.Arming.{Change, Arm, Shorten, TakeBack, Keep, Ignore, change, standing_at, changed, is_ignored, Heard, with_change, with_sections, heard, armed, standing}
@@ -41,28 +41,24 @@ one-more n i h = omega arith
 
 -- ---- one section
 
-module _ {T : Type 0} (old new : Obeyed T) (line : Option ℤ) (h : Heard) (asked : Asked) where
+module _ {T : Type 0} (old new : Obeyed T) (latest : Option ℤ) (h : Heard) (asked : Asked) where
   abbrev c : Change
-  c = change line (standing_at line h.events) asked
+  c = change latest (standing_at latest h.events) asked
 
-  fitting : StandsFor new.table line (after_change c (standing_at line h.events)) → StandsFor new.table line (standing_at line (changed line c h.events))
-  fitting s = subst (λ (l : List Standing). StandsFor new.table line l) (sym (change-fits line h.events asked)) s
+  fitting : StandsFor new.table latest (after_change c (standing_at latest h.events)) → StandsFor new.table latest (standing_at latest (changed latest c h.events))
+  fitting s = subst (λ (l : List Standing). StandsFor new.table latest l) (sym (change-fits latest h.events asked)) s
 
-  pub obeyed-for : ObeyedFor old line h → StandsFor new.table line (after_change c (standing_at line h.events)) → is_obeyed c ≡ true → new.ignored ≡ old.ignored → ObeyedFor new line (with_change line c h)
+  pub obeyed-for : ObeyedFor old latest h → StandsFor new.table latest (after_change c (standing_at latest h.events)) → is_obeyed c ≡ true → new.ignored ≡ old.ignored → ObeyedFor new latest (with_change latest c h)
   obeyed-for o s y same = record { table = fitting s; count = same ∙ o.count ∙ same-count h.ignored (is_ignored c) (obeyed-none c y) }
 
-  pub ignored-for : ObeyedFor old line h → StandsFor new.table line (after_change c (standing_at line h.events)) → is_obeyed c ≡ false → new.ignored ≡ min (old.ignored + 1) (2 ^ 64 - 1) → ObeyedFor new line (with_change line c h)
+  pub ignored-for : ObeyedFor old latest h → StandsFor new.table latest (after_change c (standing_at latest h.events)) → is_obeyed c ≡ false → new.ignored ≡ min (old.ignored + 1) (2 ^ 64 - 1) → ObeyedFor new latest (with_change latest c h)
   ignored-for o s n more =
       record { table = fitting s; count = more ∙ ap (λ k. min (k + 1) (2 ^ 64 - 1)) o.count ∙ one-more h.ignored (is_ignored c) (refused-one c n) }
 
 -- ---- packets of other PIDs
 
-pub given-off : (pid : ℕ) (p : List ℕ) (past : List (List ℕ)) → on pid p ≡ false → given pid p past ≡ []
-unfolding payload_on
-given-off pid p past o = simp o refl
-
 pub heard-off : (pid : ℕ) (high : List (List ℕ) → Option ℤ) (p : List ℕ) (past : List (List ℕ)) → on pid p ≡ false → heard pid high (p ∷ past) ≡ heard pid high past
-heard-off pid high p past o = ap (λ ss. with_sections (high past) ss (heard pid high past)) (given-off pid p past o)
+heard-off pid high p past o = ap (λ ss. with_sections (high past) ss (heard pid high past)) (given_off pid p past o)
 
 -- ---- the greatest time rises
 
@@ -83,8 +79,8 @@ still a b le t h = grind (arith, ints)
 later-than : (h way : ℤ) → pos 0 ≤ℤ way → h ≤ℤ (h +ℤ way)
 later-than h way le = omega (arith, ints)
 
-risen : {T : Type 0} → (t : Table T) (line : Option ℤ) (later : ℤ) (r : ℕ) (some : List Standing) → StandsFor t line some → CanAdvance t.last r → IsTimeAt line r later → (events : List Standing)
-    → still_standing later (standing_at line events) ≡ standing_at (Some later) events
+risen : {T : Type 0} → (t : Table T) (latest : Option ℤ) (later : ℤ) (r : ℕ) (some : List Standing) → StandsFor t latest some → CanAdvance t.last r → IsTimeAt latest r later → (events : List Standing)
+    → still_standing later (standing_at latest events) ≡ standing_at (Some later) events
 risen t None later r some s can at events = narrowed (stands None) (stands (Some later)) (λ e _. refl) events
 risen t (Some h) later r some s can at events =
     let can' : CanAdvance (Some (ring_of h)) r = subst (λ (x : Option ℕ). CanAdvance x r) s.high can in
@@ -92,10 +88,10 @@ risen t (Some h) later r some s can at events =
     narrowed (stands (Some h)) (stands (Some later)) (λ e. still h later le (forgotten_at e)) events
 
 -- once the table has advanced
-pub advanced-for : {T : Type 0} → (old new : Obeyed T) (line : Option ℤ) (later : ℤ) (r : ℕ) (h : Heard) → ObeyedFor old line h → CanAdvance old.table.last r → IsTimeAt line r later
-    → StandsFor new.table (Some later) (still_standing later (standing_at line h.events)) → new.ignored ≡ old.ignored → ObeyedFor new (Some later) h
-advanced-for old new line later r h o can at s same = record {
-  table = subst (λ (l : List Standing). StandsFor new.table (Some later) l) (risen old.table line later r (standing_at line h.events) o.table can at h.events) s;
+pub advanced-for : {T : Type 0} → (old new : Obeyed T) (latest : Option ℤ) (later : ℤ) (r : ℕ) (h : Heard) → ObeyedFor old latest h → CanAdvance old.table.last r → IsTimeAt latest r later
+    → StandsFor new.table (Some later) (still_standing later (standing_at latest h.events)) → new.ignored ≡ old.ignored → ObeyedFor new (Some later) h
+advanced-for old new latest later r h o can at s same = record {
+  table = subst (λ (l : List Standing). StandsFor new.table (Some later) l) (risen old.table latest later r (standing_at latest h.events) o.table can at h.events) s;
   count = same ∙ o.count;
 }
 
@@ -106,8 +102,8 @@ advanced-past new pid high p past later off is o =
     (subst (λ (l : Option ℤ). ObeyedFor new l (heard pid high past)) (sym is) o)
 
 -- nothing yet
-pub nothing-heard : {T : Type 0} → (t : Table T) (line : Option ℤ) → line ≡ None → StandsFor t None [] → ObeyedFor (record { table = t; ignored = 0 }) line (record { events = []; ignored = 0 })
-nothing-heard t line is s = record { table = rw is s; count = omega arith }
+pub nothing-heard : {T : Type 0} → (t : Table T) (latest : Option ℤ) → latest ≡ None → StandsFor t None [] → ObeyedFor (record { table = t; ignored = 0 }) latest (record { events = []; ignored = 0 })
+nothing-heard t latest is s = record { table = rw is s; count = omega arith }
 
 -- and the values beside those that still stand are theirs
 pub advanced-values : {T : Type 0} → (t t' : Table T) (value : ℤ → T) (pid : ℕ) (high : List (List ℕ) → Option ℤ) (p : List ℕ) (past : List (List ℕ)) (later : ℤ) (r : ℕ) → on pid p ≡ false

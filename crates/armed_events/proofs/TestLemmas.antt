@@ -10,15 +10,12 @@ use Rattle.event_table.specs.Events.{CanArm, IsArmable}
 use Rattle.event_table.specs.Standing.{Standing, on_line, is_ahead_of}
 use Rattle.event_table.specs.Tables.{StandsFor}
 use Rattle.event_table.proofs.TableLemmas.{is_ahead-is, is_ahead-from}
+use Rattle.std.proofs.Math.Bool.{and-false}
 use Rattle.armed_events.specs.Arming.{is_fresh}
 
 -- the test tells it
 abbrev pub Tells : Bool → Type 0 → Type 0
 Tells b P = (b ≡ true → P) × (P → b ≡ true)
-
-and-false : (b : Bool) → (b && false) ≡ false
-and-false true = refl
-and-false false = refl
 
 none-false : (b : Bool) → (b ≡ true → ⊥) → b ≡ false
 none-false true h = absurd (h refl)
@@ -58,8 +55,8 @@ armable-decides h e = (to, from)
         (is_ahead-is h (signed e.start (ring_of h)) can.ahead.above can.ahead.below)
 
 -- whether an event may be armed
-pub can-arm : {T : Type 0} → (t : Table T) (line : Option ℤ) (standing : List Standing) (e : Event) (b : Bool) → StandsFor t line standing → Tells b (CanArm t.last e)
-    → b ≡ (is_fresh (on_line line e) && is_ahead_of line (place line e.start))
+pub can-arm : {T : Type 0} → (t : Table T) (latest : Option ℤ) (standing : List Standing) (e : Event) (b : Bool) → StandsFor t latest standing → Tells b (CanArm t.last e)
+    → b ≡ (is_fresh (on_line latest e) && is_ahead_of latest (place latest e.start))
 can-arm t None standing e b s d =
     let d' : Tells b (CanArm None e) = subst (λ (h : Option ℕ). Tells b (CanArm h e)) s.high d in
     none-false b d'.0 ∙ sym (and-false (is_fresh (on_line None e)))

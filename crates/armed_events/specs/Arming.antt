@@ -47,38 +47,38 @@ by_cancel_answer id (Err refusal) = Ignore
 
 -- a repeat of an event that stands changes nothing, however late it comes
 abbrev pub start_change : Option ℤ → List Standing → Standing → Change
-start_change line standing e =
+start_change latest standing e =
     if list_any (repeats e) standing then Keep
-    else (if is_fresh e && is_ahead_of line e.start then by_arm_answer e (arm_answer standing e) else Ignore)
+    else (if is_fresh e && is_ahead_of latest e.start then by_arm_answer e (arm_answer standing e) else Ignore)
 
 abbrev pub end_change : Option ℤ → List Standing → ℕ → ℤ → Change
-end_change line standing id time = by_shorten_answer id time (shorten_answer line standing id time)
+end_change latest standing id time = by_shorten_answer id time (shorten_answer latest standing id time)
 
 abbrev pub cancel_change : Option ℤ → List Standing → ℕ → Change
-cancel_change line standing id = by_cancel_answer id (cancel_answer line standing id)
+cancel_change latest standing id = by_cancel_answer id (cancel_answer latest standing id)
 
 -- what a cue changes where these events stand
 abbrev pub change : Option ℤ → List Standing → Asked → Change
-change line standing (Start e) = start_change line standing (on_line line e)
-change line standing (End id time) = end_change line standing id (place line time)
-change line standing (Cancel id) = cancel_change line standing id
-change line standing Unfit = Ignore
-change line standing Nothing = Keep
+change latest standing (Start e) = start_change latest standing (on_line latest e)
+change latest standing (End id time) = end_change latest standing id (place latest time)
+change latest standing (Cancel id) = cancel_change latest standing id
+change latest standing Unfit = Ignore
+change latest standing Nothing = Keep
 
 -- ---- what stands
 
 abbrev pub standing_at : Option ℤ → List Standing → List Standing
-standing_at line events = filter (stands line) events
+standing_at latest events = filter (stands latest) events
 
 -- ---- all events
 
 -- the events after a change
 abbrev pub changed : Option ℤ → Change → List Standing → List Standing
-changed line (Arm e) events = events ++ e ∷ []
-changed line (Shorten id time) events = with_first (is_of line id) (ending_at time) events
-changed line (TakeBack id) events = with_first (is_of line id) cancelled_one events
-changed line Keep events = events
-changed line Ignore events = events
+changed latest (Arm e) events = events ++ e ∷ []
+changed latest (Shorten id time) events = with_first (is_of latest id) (ending_at time) events
+changed latest (TakeBack id) events = with_first (is_of latest id) cancelled_one events
+changed latest Keep events = events
+changed latest Ignore events = events
 
 abbrev pub is_ignored : Change → ℕ
 is_ignored (Arm e) = 0
@@ -93,15 +93,15 @@ pub record Heard : Type 0 where
   pub ignored : ℕ
 
 abbrev pub with_change : Option ℤ → Change → Heard → Heard
-with_change line c heard = record { events = changed line c heard.events; ignored = is_ignored c + heard.ignored }
+with_change latest c heard = record { events = changed latest c heard.events; ignored = is_ignored c + heard.ignored }
 
 -- after one section more
 abbrev pub with_section : Option ℤ → List ℕ → Heard → Heard
-with_section line s heard = with_change line (change line (standing_at line heard.events) (asked_of (cue_of s))) heard
+with_section latest s heard = with_change latest (change latest (standing_at latest heard.events) (asked_of (cue_of s))) heard
 
 abbrev pub with_sections : Option ℤ → List (List ℕ) → Heard → Heard
-with_sections line [] heard = heard
-with_sections line (s ∷ ss) heard = with_sections line ss (with_section line s heard)
+with_sections latest [] heard = heard
+with_sections latest (s ∷ ss) heard = with_sections latest ss (with_section latest s heard)
 
 -- The cues of a PID are taken as they end, each by the greatest time before its last packet.
 abbrev pub heard : ℕ → (List (List ℕ) → Option ℤ) → List (List ℕ) → Heard

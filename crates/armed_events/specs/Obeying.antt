@@ -24,8 +24,8 @@ is_obeyed Keep = true
 is_obeyed Ignore = false
 
 -- the table stands for those events that stand at the greatest time, and the count is that of the ignored cues, or the greatest count
-pub record ObeyedFor {T : Type 0} (obeyed : Obeyed T) (line : Option ℤ) (heard : Heard) : Type 0 where
-  pub table : StandsFor obeyed.table line (standing_at line heard.events)
+pub record ObeyedFor {T : Type 0} (obeyed : Obeyed T) (latest : Option ℤ) (heard : Heard) : Type 0 where
+  pub table : StandsFor obeyed.table latest (standing_at latest heard.events)
   pub count : obeyed.ignored ≡ capped heard.ignored
 
 -- The code has been given this past, newest first, of which `high` says the greatest time.

@@ -12,7 +12,7 @@ module _ {T : Type 0} where
 
   -- an event that is armed starts ahead of the greatest time, and this is its value
   abbrev pub IsFreshAhead : (ℤ → T) → Option ℤ → T → Type 0
-  IsFreshAhead value line fresh = (start : ℤ) → is_ahead_of line start ≡ true → value start ≡ fresh
+  IsFreshAhead value latest fresh = (start : ℤ) → is_ahead_of latest start ≡ true → value start ≡ fresh
 
   -- every value stays, in its place, and each that is added behind them is this one
   abbrev pub AddsOnly : T → List T → List T → Type 0
@@ -20,7 +20,7 @@ module _ {T : Type 0} where
 
   -- beside the events that stand are these values
   abbrev pub AreBeside : Obeyed T → (ℤ → T) → Option ℤ → Heard → Type 0
-  AreBeside obeyed value line heard = values_of obeyed.table ≡ values_by value (standing_at line heard.events)
+  AreBeside obeyed value latest heard = values_of obeyed.table ≡ values_by value (standing_at latest heard.events)
 
   abbrev pub Keeps : ArmedEvents T → (ℤ → T) → ℕ → (List (List ℕ) → Option ℤ) → List (List ℕ) → Type 0
   Keeps events value pid high past = values_of events.obeyed.table ≡ values_by value (standing pid high past)

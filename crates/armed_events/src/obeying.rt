@@ -30,14 +30,14 @@ impl<T: Copy + Default> Obeyed<T> {
 
     /// Arms the event with this value, where it is no repeat of one that stands. Answers whether the cue is obeyed, as a repeat is.
     fn start(&mut self, event: Event, fresh: T) -> bool
-        ensures answer { (line : Option ℤ) (standing : List Standing) → StandsFor self.old.table line standing →
-            result ≡ is_obeyed (start_change line standing (on_line line event)) }
-        ensures stands { (line : Option ℤ) (standing : List Standing) → StandsFor self.old.table line standing →
-            StandsFor self.new.table line (after_change (start_change line standing (on_line line event)) standing) }
-        ensures values { (line : Option ℤ) (standing : List Standing) (value : ℤ → T) →
-            StandsFor self.old.table line standing → IsFreshAhead value line fresh →
+        ensures answer { (latest : Option ℤ) (standing : List Standing) → StandsFor self.old.table latest standing →
+            result ≡ is_obeyed (start_change latest standing (on_line latest event)) }
+        ensures stands { (latest : Option ℤ) (standing : List Standing) → StandsFor self.old.table latest standing →
+            StandsFor self.new.table latest (after_change (start_change latest standing (on_line latest event)) standing) }
+        ensures values { (latest : Option ℤ) (standing : List Standing) (value : ℤ → T) →
+            StandsFor self.old.table latest standing → IsFreshAhead value latest fresh →
             values_of self.old.table ≡ values_by value standing →
-            values_of self.new.table ≡ values_by value (after_change (start_change line standing (on_line line event)) standing) }
+            values_of self.new.table ≡ values_by value (after_change (start_change latest standing (on_line latest event)) standing) }
         ensures added { AddsOnly fresh (values_of self.old.table) (values_of self.new.table) }
         ensures ignored { self.new.ignored ≡ self.old.ignored }
         ensures high { high_time_of self.new.table ≡ high_time_of self.old.table }
@@ -53,13 +53,13 @@ impl<T: Copy + Default> Obeyed<T> {
 
     /// Ends the event of this id early. Answers whether the cue is obeyed.
     fn end(&mut self, id: u32, time: Time33) -> bool
-        ensures answer { (line : Option ℤ) (standing : List Standing) → StandsFor self.old.table line standing →
-            result ≡ is_obeyed (end_change line standing id (place line time)) }
-        ensures stands { (line : Option ℤ) (standing : List Standing) → StandsFor self.old.table line standing →
-            StandsFor self.new.table line (after_change (end_change line standing id (place line time)) standing) }
-        ensures values { (line : Option ℤ) (standing : List Standing) (value : ℤ → T) → StandsFor self.old.table line standing →
+        ensures answer { (latest : Option ℤ) (standing : List Standing) → StandsFor self.old.table latest standing →
+            result ≡ is_obeyed (end_change latest standing id (place latest time)) }
+        ensures stands { (latest : Option ℤ) (standing : List Standing) → StandsFor self.old.table latest standing →
+            StandsFor self.new.table latest (after_change (end_change latest standing id (place latest time)) standing) }
+        ensures values { (latest : Option ℤ) (standing : List Standing) (value : ℤ → T) → StandsFor self.old.table latest standing →
             values_of self.old.table ≡ values_by value standing →
-            values_of self.new.table ≡ values_by value (after_change (end_change line standing id (place line time)) standing) }
+            values_of self.new.table ≡ values_by value (after_change (end_change latest standing id (place latest time)) standing) }
         ensures kept { values_of self.new.table ≡ values_of self.old.table }
         ensures ignored { self.new.ignored ≡ self.old.ignored }
         ensures high { high_time_of self.new.table ≡ high_time_of self.old.table }
@@ -69,13 +69,13 @@ impl<T: Copy + Default> Obeyed<T> {
 
     /// Cancels the event of this id. Answers whether the cue is obeyed.
     fn cancel(&mut self, id: u32) -> bool
-        ensures answer { (line : Option ℤ) (standing : List Standing) → StandsFor self.old.table line standing →
-            result ≡ is_obeyed (cancel_change line standing id) }
-        ensures stands { (line : Option ℤ) (standing : List Standing) → StandsFor self.old.table line standing →
-            StandsFor self.new.table line (after_change (cancel_change line standing id) standing) }
-        ensures values { (line : Option ℤ) (standing : List Standing) (value : ℤ → T) → StandsFor self.old.table line standing →
+        ensures answer { (latest : Option ℤ) (standing : List Standing) → StandsFor self.old.table latest standing →
+            result ≡ is_obeyed (cancel_change latest standing id) }
+        ensures stands { (latest : Option ℤ) (standing : List Standing) → StandsFor self.old.table latest standing →
+            StandsFor self.new.table latest (after_change (cancel_change latest standing id) standing) }
+        ensures values { (latest : Option ℤ) (standing : List Standing) (value : ℤ → T) → StandsFor self.old.table latest standing →
             values_of self.old.table ≡ values_by value standing →
-            values_of self.new.table ≡ values_by value (after_change (cancel_change line standing id) standing) }
+            values_of self.new.table ≡ values_by value (after_change (cancel_change latest standing id) standing) }
         ensures kept { values_of self.new.table ≡ values_of self.old.table }
         ensures ignored { self.new.ignored ≡ self.old.ignored }
         ensures high { high_time_of self.new.table ≡ high_time_of self.old.table }
@@ -85,14 +85,14 @@ impl<T: Copy + Default> Obeyed<T> {
 
     /// Does what a cue asks for. Answers whether it is obeyed, as one that asks for nothing is.
     fn obey(&mut self, asked: Asked, fresh: T) -> bool
-        ensures answer { (line : Option ℤ) (standing : List Standing) → StandsFor self.old.table line standing →
-            result ≡ is_obeyed (change line standing asked) }
-        ensures stands { (line : Option ℤ) (standing : List Standing) → StandsFor self.old.table line standing →
-            StandsFor self.new.table line (after_change (change line standing asked) standing) }
-        ensures values { (line : Option ℤ) (standing : List Standing) (value : ℤ → T) →
-            StandsFor self.old.table line standing → IsFreshAhead value line fresh →
+        ensures answer { (latest : Option ℤ) (standing : List Standing) → StandsFor self.old.table latest standing →
+            result ≡ is_obeyed (change latest standing asked) }
+        ensures stands { (latest : Option ℤ) (standing : List Standing) → StandsFor self.old.table latest standing →
+            StandsFor self.new.table latest (after_change (change latest standing asked) standing) }
+        ensures values { (latest : Option ℤ) (standing : List Standing) (value : ℤ → T) →
+            StandsFor self.old.table latest standing → IsFreshAhead value latest fresh →
             values_of self.old.table ≡ values_by value standing →
-            values_of self.new.table ≡ values_by value (after_change (change line standing asked) standing) }
+            values_of self.new.table ≡ values_by value (after_change (change latest standing asked) standing) }
         ensures added { AddsOnly fresh (values_of self.old.table) (values_of self.new.table) }
         ensures ignored { self.new.ignored ≡ self.old.ignored }
         ensures high { high_time_of self.new.table ≡ high_time_of self.old.table }
@@ -108,11 +108,11 @@ impl<T: Copy + Default> Obeyed<T> {
 
     /// Takes a section: a cue is obeyed, or counts as ignored.
     fn take(&mut self, section: &[u8], fresh: T)
-        ensures obeyed { (line : Option ℤ) (heard : Heard) → ObeyedFor self.old line heard →
-            ObeyedFor self.new line (with_section line section.now heard) }
-        ensures values { (line : Option ℤ) (heard : Heard) (value : ℤ → T) → ObeyedFor self.old line heard →
-            IsFreshAhead value line fresh →
-            AreBeside self.old value line heard → AreBeside self.new value line (with_section line section.now heard) }
+        ensures obeyed { (latest : Option ℤ) (heard : Heard) → ObeyedFor self.old latest heard →
+            ObeyedFor self.new latest (with_section latest section.now heard) }
+        ensures values { (latest : Option ℤ) (heard : Heard) (value : ℤ → T) → ObeyedFor self.old latest heard →
+            IsFreshAhead value latest fresh →
+            AreBeside self.old value latest heard → AreBeside self.new value latest (with_section latest section.now heard) }
         ensures added { AddsOnly fresh (values_of self.old.table) (values_of self.new.table) }
         ensures high { high_time_of self.new.table ≡ high_time_of self.old.table }
     {
@@ -124,12 +124,12 @@ impl<T: Copy + Default> Obeyed<T> {
 
     /// Takes sections in order.
     fn take_all(&mut self, sections: Sections<'_>, fresh: T)
-        ensures obeyed { (line : Option ℤ) (heard : Heard) → ObeyedFor self.old line heard →
-            ObeyedFor self.new line (with_sections line (sections_left sections.entry) heard) }
-        ensures values { (line : Option ℤ) (heard : Heard) (value : ℤ → T) → ObeyedFor self.old line heard →
-            IsFreshAhead value line fresh →
-            AreBeside self.old value line heard →
-            AreBeside self.new value line (with_sections line (sections_left sections.entry) heard) }
+        ensures obeyed { (latest : Option ℤ) (heard : Heard) → ObeyedFor self.old latest heard →
+            ObeyedFor self.new latest (with_sections latest (sections_left sections.entry) heard) }
+        ensures values { (latest : Option ℤ) (heard : Heard) (value : ℤ → T) → ObeyedFor self.old latest heard →
+            IsFreshAhead value latest fresh →
+            AreBeside self.old value latest heard →
+            AreBeside self.new value latest (with_sections latest (sections_left sections.entry) heard) }
         ensures added { AddsOnly fresh (values_of self.old.table) (values_of self.new.table) }
         ensures high { high_time_of self.new.table ≡ high_time_of self.old.table }
     {

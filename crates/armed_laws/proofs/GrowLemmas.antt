@@ -1,6 +1,6 @@
 -- What one cue, and one packet, make of the events.
 use Rattle.std.proofs.Common.{◌≡◌, ℕ, Bool, true, false, not, ◌&&◌, List, [], ◌∷◌, ◌++◌, ◌⊎◌, inl, inr, refl, sym, ap, ◌∙◌, arith, if◌then◌else◌}
-use Rattle.std.specs.Prelude.{ℤ, ◌≤ℤ◌, All, filter, find, Option, None, Some, Result, Ok, Err}
+use Rattle.std.specs.Prelude.{ℤ, ◌≤ℤ◌, All, filter, find, Option, Some, Result, Ok, Err}
 use Rattle.std.specs.List.{list_any}
 use Rattle.std.specs.Ordering.{int_eq}
 use Rattle.std.proofs.lemmas.Int.{ints}
@@ -25,32 +25,33 @@ use Rattle.splice_laws.specs.Laws.{Risen}
 use Rattle.splice_laws.specs.Settled.{IsAhead}
 use Rattle.splice_laws.proofs.SettledLemmas.{risen-trans}
 use Rattle.splice_laws.proofs.TableLemmas.{ahead-before}
+use Rattle.splice_laws.proofs.PidLemmas.{same-risen}
 use Rattle.armed_laws.specs.Laws.{Becomes, Grows, OnlyRises}
 use Rattle.armed_laws.proofs.TimeLemmas.{ahead-of, not-begun, new-end, early-parts}
 
 -- ---- one event
 
-pub same-becomes : (line : Option ℤ) (e : Standing) → Becomes line e e
-same-becomes line e = record { id = refl; start = refl; asked = refl; program = refl; cancelled = inl refl; end = inl refl }
+pub same-becomes : (latest : Option ℤ) (e : Standing) → Becomes latest e e
+same-becomes latest e = record { id = refl; start = refl; asked = refl; program = refl; cancelled = inl refl; end = inl refl }
 
-pub same-grows : (line : Option ℤ) (es : List Standing) → Grows line es es
-same-grows line [] = All-nil (λ (x : Standing). IsAhead line x.start)
-same-grows line (e ∷ es) = (same-becomes line e, same-grows line es)
+pub same-grows : (latest : Option ℤ) (es : List Standing) → Grows latest es es
+same-grows latest [] = All-nil (λ (x : Standing). IsAhead latest x.start)
+same-grows latest (e ∷ es) = (same-becomes latest e, same-grows latest es)
 
-pub one-armed : (line : Option ℤ) (e : Standing) → IsAhead line e.start → (es : List Standing) → Grows line es (es ++ e ∷ [])
-one-armed line e h [] = All-cons (λ (x : Standing). IsAhead line x.start) e [] h (All-nil (λ (x : Standing). IsAhead line x.start))
-one-armed line e h (x ∷ es) = (same-becomes line x, one-armed line e h es)
+pub one-armed : (latest : Option ℤ) (e : Standing) → IsAhead latest e.start → (es : List Standing) → Grows latest es (es ++ e ∷ [])
+one-armed latest e h [] = All-cons (λ (x : Standing). IsAhead latest x.start) e [] h (All-nil (λ (x : Standing). IsAhead latest x.start))
+one-armed latest e h (x ∷ es) = (same-becomes latest x, one-armed latest e h es)
 
 -- ---- the first that passes a test
 
-module _ (line : Option ℤ) (test : Standing → Bool) (f : Standing → Standing) where
-  first-one : (b : Bool) (e : Standing) (es : List Standing) → test e ≡ b → ((s : Standing) → find test (e ∷ es) ≡ Some s → Becomes line s (f s))
-      → (((s : Standing) → find test es ≡ Some s → Becomes line s (f s)) → Grows line es (with_first test f es)) → Grows line (e ∷ es) (with_first test f (e ∷ es))
-  first-one true e es h ok later = simp h ((ok e (simp h refl), same-grows line es))
-  first-one false e es h ok later = simp h ((same-becomes line e, later (λ s is. ok s (simp h is))))
+module _ (latest : Option ℤ) (test : Standing → Bool) (f : Standing → Standing) where
+  first-one : (b : Bool) (e : Standing) (es : List Standing) → test e ≡ b → ((s : Standing) → find test (e ∷ es) ≡ Some s → Becomes latest s (f s))
+      → (((s : Standing) → find test es ≡ Some s → Becomes latest s (f s)) → Grows latest es (with_first test f es)) → Grows latest (e ∷ es) (with_first test f (e ∷ es))
+  first-one true e es h ok later = simp h ((ok e (simp h refl), same-grows latest es))
+  first-one false e es h ok later = simp h ((same-becomes latest e, later (λ s is. ok s (simp h is))))
 
-  pub first-grows : (es : List Standing) → ((s : Standing) → find test es ≡ Some s → Becomes line s (f s)) → Grows line es (with_first test f es)
-  first-grows [] ok = All-nil (λ (x : Standing). IsAhead line x.start)
+  pub first-grows : (es : List Standing) → ((s : Standing) → find test es ≡ Some s → Becomes latest s (f s)) → Grows latest es (with_first test f es)
+  first-grows [] ok = All-nil (λ (x : Standing). IsAhead latest x.start)
   first-grows (e ∷ es) ok = first-one (test e) e es refl ok (first-grows es)
 
 module _ {X : Type 0} (f g : X → Bool) where
@@ -73,12 +74,12 @@ is_cancel (Err f) = false
 abbrev by_begun : Bool → Result (Unit {0}) CancelRefusal
 by_begun b = if b then Err TooLate else Ok tt
 
-cancel-of : (line : Option ℤ) (s : Standing) (b : Bool) → has_begun line s ≡ b → by_begun b ≡ Ok tt → IsAhead line s.start
-cancel-of line s true h is = absurd (true≢false (sym (ap is_cancel is)))
-cancel-of line s false h is = not-begun line s h
+cancel-of : (latest : Option ℤ) (s : Standing) (b : Bool) → has_begun latest s ≡ b → by_begun b ≡ Ok tt → IsAhead latest s.start
+cancel-of latest s true h is = absurd (true≢false (sym (ap is_cancel is)))
+cancel-of latest s false h is = not-begun latest s h
 
-cancel-becomes : (line : Option ℤ) (s : Standing) → cancel_answer_of line (Some s) ≡ Ok tt → Becomes line s (cancelled_one s)
-cancel-becomes line s is = record { id = refl; start = refl; asked = refl; program = refl; cancelled = inr (cancel-of line s (has_begun line s) refl is, refl); end = inl refl }
+cancel-becomes : (latest : Option ℤ) (s : Standing) → cancel_answer_of latest (Some s) ≡ Ok tt → Becomes latest s (cancelled_one s)
+cancel-becomes latest s is = record { id = refl; start = refl; asked = refl; program = refl; cancelled = inr (cancel-of latest s (has_begun latest s) refl is, refl); end = inl refl }
 
 -- ---- ends
 
@@ -87,24 +88,24 @@ is_end (Ok New) = true
 is_end (Ok Same) = false
 is_end (Err f) = false
 
-pub record Ended (line : Option ℤ) (time : ℤ) (s : Standing) : Type 0 where
-  pub ahead : is_ahead_of line time ≡ true
+pub record Ended (latest : Option ℤ) (time : ℤ) (s : Standing) : Type 0 where
+  pub ahead : is_ahead_of latest time ≡ true
   pub early : is_early_end s time ≡ true
 
-ended-by : (line : Option ℤ) (time : ℤ) (s : Standing) (a c d e : Bool) → is_ahead_of line time ≡ a → is_early_end s time ≡ e
-    → (if not a then Err BadEnd else if c then Err BadEnd else if d then Ok Same else if e then Ok New else Err BadEnd) ≡ Ok New → Ended line time s
-ended-by line time s false c d e h k is = absurd (true≢false (sym (ap is_end is)))
-ended-by line time s true true d e h k is = absurd (true≢false (sym (ap is_end is)))
-ended-by line time s true false true e h k is = absurd (true≢false (sym (ap is_end is)))
-ended-by line time s true false false false h k is = absurd (true≢false (sym (ap is_end is)))
-ended-by line time s true false false true h k is = record { ahead = h; early = k }
+ended-by : (latest : Option ℤ) (time : ℤ) (s : Standing) (a c d e : Bool) → is_ahead_of latest time ≡ a → is_early_end s time ≡ e
+    → (if not a then Err BadEnd else if c then Err BadEnd else if d then Ok Same else if e then Ok New else Err BadEnd) ≡ Ok New → Ended latest time s
+ended-by latest time s false c d e h k is = absurd (true≢false (sym (ap is_end is)))
+ended-by latest time s true true d e h k is = absurd (true≢false (sym (ap is_end is)))
+ended-by latest time s true false true e h k is = absurd (true≢false (sym (ap is_end is)))
+ended-by latest time s true false false false h k is = absurd (true≢false (sym (ap is_end is)))
+ended-by latest time s true false false true h k is = record { ahead = h; early = k }
 
-pub ended : (line : Option ℤ) (time : ℤ) (s : Standing) → shorten_answer_of line time (Some s) ≡ Ok New → Ended line time s
-ended line time s is = ended-by line time s (is_ahead_of line time) s.cancelled (int_eq time (end_of s)) (is_early_end s time) refl refl is
+pub ended : (latest : Option ℤ) (time : ℤ) (s : Standing) → shorten_answer_of latest time (Some s) ≡ Ok New → Ended latest time s
+ended latest time s is = ended-by latest time s (is_ahead_of latest time) s.cancelled (int_eq time (end_of s)) (is_early_end s time) refl refl is
 
-end-becomes : (line : Option ℤ) (time : ℤ) (s : Standing) → shorten_answer_of line time (Some s) ≡ Ok New → Becomes line s (ending_at time s)
-end-becomes line time s is =
-    let e = ended line time s is in
+end-becomes : (latest : Option ℤ) (time : ℤ) (s : Standing) → shorten_answer_of latest time (Some s) ≡ Ok New → Becomes latest s (ending_at time s)
+end-becomes latest time s is =
+    let e = ended latest time s is in
     let parts = early-parts s time e.early in
     let new : end_of (ending_at time s) ≡ time = new-end time s parts.0 in
     record {
@@ -113,44 +114,44 @@ end-becomes line time s is =
       asked = refl;
       program = refl;
       cancelled = inl refl;
-      end = inr (rw new (ahead-of line time e.ahead), rw new parts.1);
+      end = inr (rw new (ahead-of latest time e.ahead), rw new parts.1);
     }
 
 -- ---- a cue
 
-start-grows : (line : Option ℤ) (es : List Standing) (e : Standing) (b c : Bool) (a : Result Armed ArmRefusal) → (c ≡ true → IsAhead line e.start)
-    → Grows line es (changed line (if b then Keep else (if c then by_arm_answer e a else Ignore)) es)
-start-grows line es e true c a h = same-grows line es
-start-grows line es e false false a h = same-grows line es
-start-grows line es e false true (Ok New) h = one-armed line e (h refl) es
-start-grows line es e false true (Ok Same) h = same-grows line es
-start-grows line es e false true (Err f) h = same-grows line es
+start-grows : (latest : Option ℤ) (es : List Standing) (e : Standing) (b c : Bool) (a : Result Armed ArmRefusal) → (c ≡ true → IsAhead latest e.start)
+    → Grows latest es (changed latest (if b then Keep else (if c then by_arm_answer e a else Ignore)) es)
+start-grows latest es e true c a h = same-grows latest es
+start-grows latest es e false false a h = same-grows latest es
+start-grows latest es e false true (Ok New) h = one-armed latest e (h refl) es
+start-grows latest es e false true (Ok Same) h = same-grows latest es
+start-grows latest es e false true (Err f) h = same-grows latest es
 
-end-grows : (line : Option ℤ) (es : List Standing) (id : ℕ) (time : ℤ) (a : Result Armed ShortenRefusal) → shorten_answer line (standing_at line es) id time ≡ a
-    → Grows line es (changed line (by_shorten_answer id time a) es)
-end-grows line es id time (Ok New) is = first-grows line (is_of line id) (ending_at time) es
-    (λ s found. end-becomes line time s (ap (shorten_answer_of line time) (sym (sym (find-filter (stands line) (has_id id) es) ∙ found)) ∙ is))
-end-grows line es id time (Ok Same) is = same-grows line es
-end-grows line es id time (Err f) is = same-grows line es
+end-grows : (latest : Option ℤ) (es : List Standing) (id : ℕ) (time : ℤ) (a : Result Armed ShortenRefusal) → shorten_answer latest (standing_at latest es) id time ≡ a
+    → Grows latest es (changed latest (by_shorten_answer id time a) es)
+end-grows latest es id time (Ok New) is = first-grows latest (is_of latest id) (ending_at time) es
+    (λ s found. end-becomes latest time s (ap (shorten_answer_of latest time) (sym (sym (find-filter (stands latest) (has_id id) es) ∙ found)) ∙ is))
+end-grows latest es id time (Ok Same) is = same-grows latest es
+end-grows latest es id time (Err f) is = same-grows latest es
 
-cancel-grows : (line : Option ℤ) (es : List Standing) (id : ℕ) (a : Result (Unit {0}) CancelRefusal) → cancel_answer line (standing_at line es) id ≡ a
-    → Grows line es (changed line (by_cancel_answer id a) es)
-cancel-grows line es id (Ok u) is = first-grows line (is_of line id) cancelled_one es
-    (λ s found. cancel-becomes line s (ap (cancel_answer_of line) (sym (sym (find-filter (stands line) (has_id id) es) ∙ found)) ∙ is))
-cancel-grows line es id (Err f) is = same-grows line es
+cancel-grows : (latest : Option ℤ) (es : List Standing) (id : ℕ) (a : Result (Unit {0}) CancelRefusal) → cancel_answer latest (standing_at latest es) id ≡ a
+    → Grows latest es (changed latest (by_cancel_answer id a) es)
+cancel-grows latest es id (Ok u) is = first-grows latest (is_of latest id) cancelled_one es
+    (λ s found. cancel-becomes latest s (ap (cancel_answer_of latest) (sym (sym (find-filter (stands latest) (has_id id) es) ∙ found)) ∙ is))
+cancel-grows latest es id (Err f) is = same-grows latest es
 
-pub both-ahead : (line : Option ℤ) (e : Standing) (b : Bool) → (b && is_ahead_of line e.start) ≡ true → IsAhead line e.start
-both-ahead line e true h = ahead-of line e.start h
-both-ahead line e false h = absurd (true≢false (sym h))
+pub both-ahead : (latest : Option ℤ) (e : Standing) (b : Bool) → (b && is_ahead_of latest e.start) ≡ true → IsAhead latest e.start
+both-ahead latest e true h = ahead-of latest e.start h
+both-ahead latest e false h = absurd (true≢false (sym h))
 
-pub change-grows : (line : Option ℤ) (es : List Standing) (asked : Asked) → Grows line es (changed line (change line (standing_at line es) asked) es)
-change-grows line es (Start e) =
-    let n = on_line line e in
-    start-grows line es n (list_any (repeats n) (standing_at line es)) (is_fresh n && is_ahead_of line n.start) (arm_answer (standing_at line es) n) (both-ahead line n (is_fresh n))
-change-grows line es (End id time) = end-grows line es id (place line time) (shorten_answer line (standing_at line es) id (place line time)) refl
-change-grows line es (Cancel id) = cancel-grows line es id (cancel_answer line (standing_at line es) id) refl
-change-grows line es Unfit = same-grows line es
-change-grows line es Nothing = same-grows line es
+pub change-grows : (latest : Option ℤ) (es : List Standing) (asked : Asked) → Grows latest es (changed latest (change latest (standing_at latest es) asked) es)
+change-grows latest es (Start e) =
+    let n = on_line latest e in
+    start-grows latest es n (list_any (repeats n) (standing_at latest es)) (is_fresh n && is_ahead_of latest n.start) (arm_answer (standing_at latest es) n) (both-ahead latest n (is_fresh n))
+change-grows latest es (End id time) = end-grows latest es id (place latest time) (shorten_answer latest (standing_at latest es) id (place latest time)) refl
+change-grows latest es (Cancel id) = cancel-grows latest es id (cancel_answer latest (standing_at latest es) id) refl
+change-grows latest es Unfit = same-grows latest es
+change-grows latest es Nothing = same-grows latest es
 
 -- ---- one after another
 
@@ -195,18 +196,11 @@ module _ (a b : Option ℤ) (r : Risen a b) where
   grows-on (e ∷ es) (x ∷ fs) [] h k = absurd k
   grows-on (e ∷ es) (x ∷ fs) (y ∷ gs) h k = (becomes-on e x y h.0 k.0, grows-on es fs gs h.1 k.1)
 
-same-risen : (h : Option ℤ) → Risen h h
-same-risen None = tt
-same-risen (Some h) = at h
-  where
-    at : (h : ℤ) → h ≤ℤ h
-    at h = omega (arith, ints)
-
-sections-grow : (line : Option ℤ) (ss : List (List ℕ)) (h : Heard) → Grows line h.events (with_sections line ss h).events
-sections-grow line [] h = same-grows line h.events
-sections-grow line (s ∷ ss) h =
-    grows-on line line (same-risen line) h.events (with_section line s h).events (with_sections line ss (with_section line s h)).events
-    (change-grows line h.events (asked_of (cue_of s))) (sections-grow line ss (with_section line s h))
+sections-grow : (latest : Option ℤ) (ss : List (List ℕ)) (h : Heard) → Grows latest h.events (with_sections latest ss h).events
+sections-grow latest [] h = same-grows latest h.events
+sections-grow latest (s ∷ ss) h =
+    grows-on latest latest (same-risen latest) h.events (with_section latest s h).events (with_sections latest ss (with_section latest s h)).events
+    (change-grows latest h.events (asked_of (cue_of s))) (sections-grow latest ss (with_section latest s h))
 
 pub packet-grows : (pid : ℕ) (high : List (List ℕ) → Option ℤ) (p : List ℕ) (past : List (List ℕ)) → Grows (high past) (armed pid high past) (armed pid high (p ∷ past))
 packet-grows pid high p past = sections-grow (high past) (given pid p past) (heard pid high past)

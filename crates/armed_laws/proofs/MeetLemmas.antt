@@ -21,6 +21,7 @@ use Rattle.armed_events.specs.declared.asked.Asked.TheVariants.{Start, End, Canc
 use Rattle.armed_events.specs.Asking.{asked_of}
 use Rattle.armed_events.specs.Arming.{is_fresh, Keep, Ignore, by_arm_answer, by_shorten_answer, by_cancel_answer, change, standing_at, changed, Heard, with_section, with_sections, heard, armed}
 use Rattle.splice_laws.specs.Settled.{IsAhead}
+use Rattle.std.specs.Ordering.{int_eq}
 use Rattle.armed_laws.specs.Laws.{AreApart, IsApartOf, NoneMeet}
 use Rattle.armed_laws.proofs.TimeLemmas.{early-parts, new-end}
 use Rattle.armed_laws.proofs.GrowLemmas.{find-filter, Ended, ended, both-ahead}
@@ -33,11 +34,11 @@ pub record Narrows (e x : Standing) : Type 0 where
   pub end : end_of x ≤ℤ end_of e
   pub some : 0 < e.length → 0 < x.length
 
-low : (a : ℤ) → a ≤ℤ a
-low a = omega (arith, ints)
+pub same-low : (a : ℤ) → a ≤ℤ a
+same-low a = omega (arith, ints)
 
 same-narrows : (e : Standing) → Narrows e e
-same-narrows e = record { start = refl; end = low (end_of e); some = λ h. h }
+same-narrows e = record { start = refl; end = same-low (end_of e); some = λ h. h }
 
 left : (a b c : ℤ) → a ≤ℤ b → b ≤ℤ c → a ≤ℤ c
 left a b c h k = omega (arith, ints, h, k)
@@ -80,10 +81,10 @@ module _ (test : Standing → Bool) (f : Standing → Standing) where
   meet-first (e ∷ es) ok none = meet-first-one (test e) e es refl ok none (meet-first es)
 
 cancel-narrows : (s : Standing) → Narrows s (cancelled_one s)
-cancel-narrows s = record { start = refl; end = low (end_of s); some = λ h. h }
+cancel-narrows s = record { start = refl; end = same-low (end_of s); some = λ h. h }
 
-end-narrows : (line : Option ℤ) (time : ℤ) (s : Standing) → Ended line time s → Narrows s (ending_at time s)
-end-narrows line time s e =
+end-narrows : (latest : Option ℤ) (time : ℤ) (s : Standing) → Ended latest time s → Narrows s (ending_at time s)
+end-narrows latest time s e =
     let parts = early-parts s time e.early in
     record { start = refl; end = rw (new-end time s parts.0) parts.1; some = λ h. some s.start time parts.0 }
   where
@@ -92,7 +93,7 @@ end-narrows line time s e =
 
 -- ---- one event more
 
-module _ (line : Option ℤ) (e : Standing) (ahead : IsAhead line e.start) where
+module _ (latest : Option ℤ) (e : Standing) (ahead : IsAhead latest e.start) where
   met-not : (f : Standing) → meets e f ≡ false → AreApart f e
   met-not f h = by e.start (end_of e) f.start (end_of f) (int_lt e.start (end_of f)) refl h
     where
@@ -100,10 +101,10 @@ module _ (line : Option ℤ) (e : Standing) (ahead : IsAhead line e.start) where
       by s t u v true k h = inr (grind (arith, ints, h))
       by s t u v false k h = inl (grind (arith, ints, k))
 
-  past-not : (f : Standing) → stands line f ≡ false → AreApart f e
-  past-not f h = past-by line f (end_of f) e.start ahead h
+  past-not : (f : Standing) → stands latest f ≡ false → AreApart f e
+  past-not f h = past-by latest f (end_of f) e.start ahead h
     where
-      past-by : (line : Option ℤ) (f : Standing) (end start : ℤ) → IsAhead line start → stands line f ≡ false → (end_of f ≤ℤ start) ⊎ (end_of e ≤ℤ f.start)
+      past-by : (latest : Option ℤ) (f : Standing) (end start : ℤ) → IsAhead latest start → stands latest f ≡ false → (end_of f ≤ℤ start) ⊎ (end_of e ≤ℤ f.start)
       past-by None f end start a h = absurd (true≢false h)
       past-by (Some high) f end start a h = inl (below high (end_of f) start a h)
         where
@@ -113,24 +114,24 @@ module _ (line : Option ℤ) (e : Standing) (ahead : IsAhead line e.start) where
   abbrev Apart : Standing → Type 0
   Apart f = AreApart f e
 
-  any-off : (f : Standing) (es : List Standing) → stands line f ≡ false → list_any (meets e) (filter (stands line) (f ∷ es)) ≡ list_any (meets e) (filter (stands line) es)
+  any-off : (f : Standing) (es : List Standing) → stands latest f ≡ false → list_any (meets e) (filter (stands latest) (f ∷ es)) ≡ list_any (meets e) (filter (stands latest) es)
   any-off f es h = simp h refl
 
-  any-on : (f : Standing) (es : List Standing) → stands line f ≡ true → meets e f ≡ false → list_any (meets e) (filter (stands line) (f ∷ es)) ≡ list_any (meets e) (filter (stands line) es)
+  any-on : (f : Standing) (es : List Standing) → stands latest f ≡ true → meets e f ≡ false → list_any (meets e) (filter (stands latest) (f ∷ es)) ≡ list_any (meets e) (filter (stands latest) es)
   any-on f es h k = simp (h, k) refl
 
-  any-met : (f : Standing) (es : List Standing) → stands line f ≡ true → meets e f ≡ true → list_any (meets e) (filter (stands line) (f ∷ es)) ≡ true
+  any-met : (f : Standing) (es : List Standing) → stands latest f ≡ true → meets e f ≡ true → list_any (meets e) (filter (stands latest) (f ∷ es)) ≡ true
   any-met f es h k = simp (h, k) refl
 
-  each-one : (a b : Bool) (f : Standing) (es : List Standing) → stands line f ≡ a → meets e f ≡ b → list_any (meets e) (filter (stands line) (f ∷ es)) ≡ false
-      → (list_any (meets e) (filter (stands line) es) ≡ false → All Apart es) → All Apart (f ∷ es)
+  each-one : (a b : Bool) (f : Standing) (es : List Standing) → stands latest f ≡ a → meets e f ≡ b → list_any (meets e) (filter (stands latest) (f ∷ es)) ≡ false
+      → (list_any (meets e) (filter (stands latest) es) ≡ false → All Apart es) → All Apart (f ∷ es)
   each-one false b f es h k none later = All-cons Apart f es (past-not f h) (later (sym (any-off f es h) ∙ none))
   each-one true true f es h k none later = absurd (true≢false (sym (any-met f es h k) ∙ none))
   each-one true false f es h k none later = All-cons Apart f es (met-not f k) (later (sym (any-on f es h k) ∙ none))
 
-  each-apart : (es : List Standing) → list_any (meets e) (filter (stands line) es) ≡ false → All Apart es
+  each-apart : (es : List Standing) → list_any (meets e) (filter (stands latest) es) ≡ false → All Apart es
   each-apart [] none = All-nil Apart
-  each-apart (f ∷ es) none = each-one (stands line f) (meets e f) f es refl refl none (each-apart es)
+  each-apart (f ∷ es) none = each-one (stands latest f) (meets e f) f es refl refl none (each-apart es)
 
   apart-append : (x : Standing) (es : List Standing) → AreApart x e → IsApartOf x es → IsApartOf x (es ++ e ∷ [])
   apart-append x [] a apart = (a, tt)
@@ -165,40 +166,50 @@ fresh-some e b h = by e.cancelled e.length e.asked b h
     by false l a true h = grind (arith, nat_tests, h)
     by false l a false h = absurd (grind (arith, nat_tests, h))
 
-start-meets : (line : Option ℤ) (es : List Standing) (e : Standing) (b c : Bool) (a : Result Armed ArmRefusal) → (is_fresh e && is_ahead_of line e.start) ≡ c → arm_answer (standing_at line es) e ≡ a
-    → NoneMeet es → NoneMeet (changed line (if b then Keep else (if c then by_arm_answer e a else Ignore)) es)
-start-meets line es e true c a h k none = none
-start-meets line es e false false a h k none = none
-start-meets line es e false true (Ok New) h k none =
-    let ahead = both-ahead line e (is_fresh e) h in
-    meet-append line e ahead (fresh-some e (is_ahead_of line e.start) h) es (each-apart line e ahead es (not-met (standing_at line es) e k)) none
-start-meets line es e false true (Ok Same) h k none = none
-start-meets line es e false true (Err f) h k none = none
+start-meets : (latest : Option ℤ) (es : List Standing) (e : Standing) (b c : Bool) (a : Result Armed ArmRefusal) → (is_fresh e && is_ahead_of latest e.start) ≡ c → arm_answer (standing_at latest es) e ≡ a
+    → NoneMeet es → NoneMeet (changed latest (if b then Keep else (if c then by_arm_answer e a else Ignore)) es)
+start-meets latest es e true c a h k none = none
+start-meets latest es e false false a h k none = none
+start-meets latest es e false true (Ok New) h k none =
+    let ahead = both-ahead latest e (is_fresh e) h in
+    meet-append latest e ahead (fresh-some e (is_ahead_of latest e.start) h) es (each-apart latest e ahead es (not-met (standing_at latest es) e k)) none
+start-meets latest es e false true (Ok Same) h k none = none
+start-meets latest es e false true (Err f) h k none = none
 
-end-meets : (line : Option ℤ) (es : List Standing) (id : ℕ) (time : ℤ) (a : Result Armed ShortenRefusal) → shorten_answer line (standing_at line es) id time ≡ a
-    → NoneMeet es → NoneMeet (changed line (by_shorten_answer id time a) es)
-end-meets line es id time (Ok New) is none = meet-first (is_of line id) (ending_at time) es
-    (λ s found. end-narrows line time s (ended line time s (ap (shorten_answer_of line time) (sym (sym (find-filter (stands line) (has_id id) es) ∙ found)) ∙ is))) none
-end-meets line es id time (Ok Same) is none = none
-end-meets line es id time (Err f) is none = none
+end-meets : (latest : Option ℤ) (es : List Standing) (id : ℕ) (time : ℤ) (a : Result Armed ShortenRefusal) → shorten_answer latest (standing_at latest es) id time ≡ a
+    → NoneMeet es → NoneMeet (changed latest (by_shorten_answer id time a) es)
+end-meets latest es id time (Ok New) is none = meet-first (is_of latest id) (ending_at time) es
+    (λ s found. end-narrows latest time s (ended latest time s (ap (shorten_answer_of latest time) (sym (sym (find-filter (stands latest) (has_id id) es) ∙ found)) ∙ is))) none
+end-meets latest es id time (Ok Same) is none = none
+end-meets latest es id time (Err f) is none = none
 
-cancel-meets : (line : Option ℤ) (es : List Standing) (id : ℕ) (a : Result (Unit {0}) CancelRefusal) → NoneMeet es → NoneMeet (changed line (by_cancel_answer id a) es)
-cancel-meets line es id (Ok u) none = meet-first (is_of line id) cancelled_one es (λ s found. cancel-narrows s) none
-cancel-meets line es id (Err f) none = none
+cancel-meets : (latest : Option ℤ) (es : List Standing) (id : ℕ) (a : Result (Unit {0}) CancelRefusal) → NoneMeet es → NoneMeet (changed latest (by_cancel_answer id a) es)
+cancel-meets latest es id (Ok u) none = meet-first (is_of latest id) cancelled_one es (λ s found. cancel-narrows s) none
+cancel-meets latest es id (Err f) none = none
 
-change-meets : (line : Option ℤ) (es : List Standing) (asked : Asked) → NoneMeet es → NoneMeet (changed line (change line (standing_at line es) asked) es)
-change-meets line es (Start e) none =
-    let n = on_line line e in
-    start-meets line es n (list_any (repeats n) (standing_at line es)) (is_fresh n && is_ahead_of line n.start) (arm_answer (standing_at line es) n) refl refl none
-change-meets line es (End id time) none = end-meets line es id (place line time) (shorten_answer line (standing_at line es) id (place line time)) refl none
-change-meets line es (Cancel id) none = cancel-meets line es id (cancel_answer line (standing_at line es) id) none
-change-meets line es Unfit none = none
-change-meets line es Nothing none = none
+change-meets : (latest : Option ℤ) (es : List Standing) (asked : Asked) → NoneMeet es → NoneMeet (changed latest (change latest (standing_at latest es) asked) es)
+change-meets latest es (Start e) none =
+    let n = on_line latest e in
+    start-meets latest es n (list_any (repeats n) (standing_at latest es)) (is_fresh n && is_ahead_of latest n.start) (arm_answer (standing_at latest es) n) refl refl none
+change-meets latest es (End id time) none = end-meets latest es id (place latest time) (shorten_answer latest (standing_at latest es) id (place latest time)) refl none
+change-meets latest es (Cancel id) none = cancel-meets latest es id (cancel_answer latest (standing_at latest es) id) none
+change-meets latest es Unfit none = none
+change-meets latest es Nothing none = none
 
-sections-meet : (line : Option ℤ) (ss : List (List ℕ)) (h : Heard) → NoneMeet h.events → NoneMeet (with_sections line ss h).events
-sections-meet line [] h none = none
-sections-meet line (s ∷ ss) h none = sections-meet line ss (with_section line s h) (change-meets line h.events (asked_of (cue_of s)) none)
+sections-meet : (latest : Option ℤ) (ss : List (List ℕ)) (h : Heard) → NoneMeet h.events → NoneMeet (with_sections latest ss h).events
+sections-meet latest [] h none = none
+sections-meet latest (s ∷ ss) h none = sections-meet latest ss (with_section latest s h) (change-meets latest h.events (asked_of (cue_of s)) none)
 
 pub none-meet : (pid : ℕ) (high : List (List ℕ) → Option ℤ) (past : List (List ℕ)) → NoneMeet (armed pid high past)
 none-meet pid high [] = tt
 none-meet pid high (p ∷ past) = sections-meet (high past) (given pid p past) (heard pid high past) (none-meet pid high past)
+
+pub starts-differ : (a b : Standing) → 0 < a.length → 0 < b.length → AreApart a b → int_eq a.start b.start ≡ false
+starts-differ a b h k (inl e) = by a.start a.length b.start h e
+  where
+    by : (s : ℤ) (n : ℕ) (t : ℤ) → 0 < n → (s +ℤ pos n) ≤ℤ t → int_eq s t ≡ false
+    by s n t h e = grind (arith, ints, h, e)
+starts-differ a b h k (inr e) = by b.start b.length a.start k e
+  where
+    by : (s : ℤ) (n : ℕ) (t : ℤ) → 0 < n → (s +ℤ pos n) ≤ℤ t → int_eq t s ≡ false
+    by s n t h e = grind (arith, ints, h, e)

@@ -5,7 +5,7 @@ use Rattle.std.proofs.lemmas.Int.{ints}
 use Rattle.event_table.specs.Standing.{Standing, end_of, is_ahead_of, is_early_end, has_begun, ending_at}
 use Rattle.splice_laws.specs.Settled.{IsAhead}
 
-pub ahead-of : (line : Option ℤ) (time : ℤ) → is_ahead_of line time ≡ true → IsAhead line time
+pub ahead-of : (latest : Option ℤ) (time : ℤ) → is_ahead_of latest time ≡ true → IsAhead latest time
 ahead-of None time h = tt
 ahead-of (Some high) time h = by high time (int_le time (high +ℤ pos (2 ^ 29))) h
   where
@@ -13,7 +13,7 @@ ahead-of (Some high) time h = by high time (int_le time (high +ℤ pos (2 ^ 29))
     by high time true h = grind (arith, ints, h)
     by high time false h = absurd (grind (arith, h))
 
-pub not-begun : (line : Option ℤ) (s : Standing) → has_begun line s ≡ false → IsAhead line s.start
+pub not-begun : (latest : Option ℤ) (s : Standing) → has_begun latest s ≡ false → IsAhead latest s.start
 not-begun None s h = tt
 not-begun (Some high) s h = by high s.start h
   where

@@ -6,19 +6,19 @@ use Rattle.splice_laws.specs.Settled.{IsAhead}
 use Rattle.armed_events.specs.Arming.{armed}
 
 -- From e comes x, where this was the greatest time: an event may be cancelled before its start, and may end early, but not before that time.
-pub record Becomes (line : Option ℤ) (e x : Standing) : Type 0 where
+pub record Becomes (latest : Option ℤ) (e x : Standing) : Type 0 where
   pub id : x.id ≡ e.id
   pub start : x.start ≡ e.start
   pub asked : x.asked ≡ e.asked
   pub program : x.program ≡ e.program
-  pub cancelled : (x.cancelled ≡ e.cancelled) ⊎ (IsAhead line e.start × (x.cancelled ≡ true))
-  pub end : (end_of x ≡ end_of e) ⊎ (IsAhead line (end_of x) × (end_of x ≤ℤ end_of e))
+  pub cancelled : (x.cancelled ≡ e.cancelled) ⊎ (IsAhead latest e.start × (x.cancelled ≡ true))
+  pub end : (end_of x ≡ end_of e) ⊎ (IsAhead latest (end_of x) × (end_of x ≤ℤ end_of e))
 
 -- events in order of arming, and what comes of them: none is left out, and those that are armed since are still to come
 abbrev pub Grows : Option ℤ → List Standing → List Standing → Type 0
-Grows line [] later = All (λ (x : Standing). IsAhead line x.start) later
-Grows line (e ∷ es) [] = ⊥
-Grows line (e ∷ es) (x ∷ later) = Becomes line e x × Grows line es later
+Grows latest [] later = All (λ (x : Standing). IsAhead latest x.start) later
+Grows latest (e ∷ es) [] = ⊥
+Grows latest (e ∷ es) (x ∷ later) = Becomes latest e x × Grows latest es later
 
 -- the greatest time never falls
 abbrev pub OnlyRises : (List (List ℕ) → Option ℤ) → Type 0

@@ -16,14 +16,6 @@ size_of_front (a ∷ b ∷ []) le = absurd (omega arith)
 size_of_front (a ∷ b ∷ c ∷ []) le = absurd (omega arith)
 size_of_front (a ∷ b ∷ c ∷ d ∷ xs) le = refl
 
-pub size_goes_on : (xs more : List ℕ) → 4 ≤ length xs → size_in (xs ++ more) ≡ size_in xs
-unfolding size_in number16_at
-size_goes_on [] more le = absurd (omega arith)
-size_goes_on (a ∷ []) more le = absurd (omega arith)
-size_goes_on (a ∷ b ∷ []) more le = absurd (omega arith)
-size_goes_on (a ∷ b ∷ c ∷ []) more le = absurd (omega arith)
-size_goes_on (a ∷ b ∷ c ∷ d ∷ xs) more le = refl
-
 -- ---- a frame, by what is known of the bytes
 
 pub frame_short : (xs : List ℕ) → length xs < 4 → frame_of xs ≡ NeedMore (4 - length xs)
@@ -39,9 +31,6 @@ frame_bad xs le e = frame_long xs le ∙ ap (frame_by xs) e
 
 pub frame_below : (xs : List ℕ) (size : ℕ) → 4 ≤ length xs → size_in xs ≡ Some size → length xs < size → frame_of xs ≡ NeedMore (size - length xs)
 frame_below xs size le e lt = frame_long xs le ∙ ap (frame_by xs) e ∙ rw (lt-ltb (length xs) size lt) refl
-
-pub frame_whole : (xs : List ℕ) (size : ℕ) → 4 ≤ length xs → size_in xs ≡ Some size → size ≤ length xs → frame_of xs ≡ Whole size
-frame_whole xs size le e fits = frame_long xs le ∙ ap (frame_by xs) e ∙ rw (le-ltb (length xs) size fits) refl
 
 -- ---- bytes that need more
 

@@ -5,8 +5,9 @@ use Rattle.std.proofs.lemmas.Bool.{cases_lt}
 use Rattle.std.proofs.lemmas.List.{length-append, length-take, take-append-drop, take_all}
 use Rattle.scte104_codec.specs.declared.framing.Frame.TheVariants.{NeedMore, Whole, BadSize}
 use Rattle.scte104_codec.specs.Framing.{size_in, frame_of}
+use Rattle.scte104_codec.proofs.FrameLemmas.{size_goes_on, frame_whole}
 use Rattle.as_session.specs.Pending.{is_partial, TakesIn}
-use Rattle.as_session.proofs.FrameLemmas.{size_goes_on, frame_short, frame_bad, frame_below, frame_whole, partial_below}
+use Rattle.as_session.proofs.FrameLemmas.{frame_short, frame_bad, frame_below, partial_below}
 
 -- the ring after the first part
 pub record First (pending piece ring : List ℕ) (used : ℕ) : Type 0 where

@@ -8,13 +8,13 @@ use Rattle.std.proofs.lemmas.List.{length-append, length-drop, length-take-le, t
 use Rattle.scte104_codec.specs.declared.framing.Frame.{Frame}
 use Rattle.scte104_codec.specs.declared.framing.Frame.TheVariants.{NeedMore, Whole, BadSize}
 use Rattle.scte104_codec.specs.Framing.{size_in, frame_of}
-use Rattle.scte104_codec.proofs.FrameLemmas.{is_whole}
+use Rattle.scte104_codec.proofs.FrameLemmas.{is_whole, size_goes_on}
 use Rattle.as_session.specs.Pending.{is_partial, needs_more}
 use Rattle.as_session.specs.Feeding.{State, opened, shut, fed_by, feed_of}
 use Rattle.as_session.specs.Messages.{IsMessage, NoneFirst, joined, Split, messages_of}
 use Rattle.as_session.specs.Runs.{messages_in, taken_by, take_within, take_piece, take_pieces, given_in, used_in}
 use Rattle.as_session.specs.Laws.{left_by}
-use Rattle.as_session.proofs.FrameLemmas.{size_goes_on, frame_bad, partial_none, partial_below, bad_parts}
+use Rattle.as_session.proofs.FrameLemmas.{frame_bad, partial_none, partial_below, bad_parts}
 use Rattle.as_session.proofs.SplitLemmas.{front_of, only_split}
 
 -- these bytes begin with a bad size, and are behind these messages

@@ -4,15 +4,11 @@ use Rattle.std.specs.List.{AllByRecursion}
 use Rattle.std.proofs.lemmas.List.{length-append, length-drop, length-take-le, take-append-drop, take_at, drop_at, nil_from_length}
 use Rattle.scte104_codec.specs.declared.framing.Frame.{Frame}
 use Rattle.scte104_codec.specs.declared.framing.Frame.TheVariants.{NeedMore, Whole, BadSize}
-use Rattle.scte104_codec.specs.Framing.{least_size, size_in, frame_of}
-use Rattle.scte104_codec.proofs.FrameLemmas.{is_whole, is_size}
+use Rattle.scte104_codec.specs.Framing.{size_in, frame_of}
+use Rattle.scte104_codec.proofs.FrameLemmas.{is_whole, is_size, least_twelve, size_goes_on, frame_whole}
 use Rattle.as_session.specs.Messages.{IsMessage, NoneFirst, joined, Split, Splits, split_by, messages_within, messages_of}
-use Rattle.as_session.proofs.FrameLemmas.{size_goes_on, frame_whole}
 
 -- ---- the message at the front
-
-least_twelve : (bytes : List ℕ) → 12 ≤ least_size bytes
-least_twelve bytes = grind arith
 
 -- a whole message at the front of some bytes
 pub record Front (bytes : List ℕ) (size : ℕ) : Type 0 where

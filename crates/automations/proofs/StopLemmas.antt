@@ -1,7 +1,6 @@
 -- Where the text of a script stops to be one.
 use Rattle.std.proofs.Common.{◌≡◌, ◌≢◌, ℕ, ◌+◌, ◌-◌, ◌*◌, ◌<◌, ◌≤◌, List, [], ◌∷◌, ◌++◌, true, inl, inr, length, drop, sym, ap, arith, ◌∙◌, append_assoc, subst}
 use Rattle.std.specs.Prelude.{Option, Some, None, IfSome, Result, Ok, Err, OnOk}
-use Rattle.std.specs.Io.KnownBytes.{Consumes, IsAtEnd}
 use Rattle.std.specs.Char.{is_ascii_digit}
 use Rattle.std.proofs.lemmas.List.{append-nil, length-append, length-drop}
 use Rattle.hex_digits.specs.Digits.{digit_value}
@@ -110,13 +109,6 @@ pub stops_behind : (text more : List ℕ) → BeginsNoScript text → BeginsNoSc
 stops_behind text more h = λ rest lns k. h (more ++ rest) lns (subst (λ t. SpellsLines 0 t lns) (append_assoc text more rest) k)
 
 -- ---- all bytes of a source
-
--- what was read to the end is all
-pub at_end : (a b c : Option (List ℕ)) (bs none : List ℕ) → Consumes a b bs → Consumes b c none → none ≡ [] → IsAtEnd c → IfSome a (λ all. all ≡ bs)
-at_end None b c bs none p q e end = tt
-at_end (Some x) None c bs none p q e end = absurd p
-at_end (Some x) (Some y) None bs none p q e end = absurd q
-at_end (Some x) (Some y) (Some z) bs none p q e end = p ∙ ap (λ l. bs ++ l) (q ∙ ap (λ l. l ++ z) e ∙ end) ∙ append-nil bs
 
 pub all_no_script : (a : Option (List ℕ)) (text : List ℕ) → IfSome a (λ all. all ≡ text) → IsNoScript text → IfSome a IsNoScript
 all_no_script None text e h = tt

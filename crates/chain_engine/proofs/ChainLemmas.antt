@@ -24,6 +24,7 @@ use Rattle.splice_plans.specs.Switching.{spliced_network}
 use Rattle.splice_plans.specs.Reporting as events
 use Rattle.splice_switch.specs.declared.switch.Switch.{Switch}
 use Rattle.splice_switch.specs.Standing.{FinishFails}
+use Rattle.ts_packet.proofs.RunLemmas.{reverse-onto}
 use Rattle.chain_engine.specs.Automation.{Take, Answer}
 use Rattle.chain_engine.specs.Hearing.{Replied}
 use Rattle.chain_engine.specs.Judging.{InjectorJudges}
@@ -38,7 +39,7 @@ use Rattle.chain_engine.specs.declared.report.Report.{Report}
 use Rattle.chain_engine.specs.declared.talk.Talk.{Talk}
 use Rattle.chain_engine.specs.declared.chain.RunFault.TheVariants.{Read, Feed}
 use Rattle.chain_engine.proofs.StepsLemmas.{none_asked, before_packets, asked_cued, asked_packets, asked_judged}
-use Rattle.chain_engine.proofs.StopLemmas.{reverse_onto, reads_stop, packets_stop, ends_stop}
+use Rattle.chain_engine.proofs.StopLemmas.{reads_stop, packets_stop, ends_stop}
 use Rattle.chain_engine.proofs.RunLemmas.{HasRun, HasHeard, few_takes}
 use Rattle.chain_engine.proofs.NestedLemmas.{one_more}
 use Rattle.program_follower.specs.Purposes.{writing_cues}
@@ -141,7 +142,7 @@ module _ (c : Config) (filed : ℕ → Option Advertisement) (exchanged : Option
 -- ---- one packet
 
 pub sent_step : (c : Config) (ms : List (List ℕ)) (steps : List Step) (p : List ℕ) → sent_by c steps ++ sent_at c p (asked ms steps) ≡ sent_by c (Packet p ∷ asked ms steps)
-sent_step c ms steps p = ap (λ l. reverse l ++ sent_at c p (asked ms steps)) (sym (asked_cued c ms steps)) ∙ sym (reverse_onto (cued c (asked ms steps)) (sent_at c p (asked ms steps)))
+sent_step c ms steps p = ap (λ l. reverse l ++ sent_at c p (asked ms steps)) (sym (asked_cued c ms steps)) ∙ sym (reverse-onto (cued c (asked ms steps)) (sent_at c p (asked ms steps)))
 
 pub same_packets : (c : Config) (ms : List (List ℕ)) (steps : List Step) (p : List ℕ) → network_fault (writing_cues c) p (packets_in (asked ms steps)) ≡ None → network_fault (writing_cues c) p (packets_in steps) ≡ None
 same_packets c ms steps p = subst (λ q. network_fault (writing_cues c) p q ≡ None) (asked_packets ms steps)

@@ -26,10 +26,10 @@ use Rattle.splice_switch.specs.declared.switch.Switch.{Switch}
 use Rattle.splice_switch.specs.Standing.{SwitchStandsFor, FeedFails}
 use Rattle.outgoing_packets.specs.Faults.{KeepsSink}
 use Rattle.outgoing_packets.proofs.NumberLemmas.{front-moved}
+use Rattle.ts_packet.proofs.RunLemmas.{reverse-onto}
 use Rattle.chain_engine.specs.Runs as runs
 use Rattle.chain_engine.specs.Splices.{switch_sends}
 use Rattle.chain_engine.specs.Nested.{WasFed, SwitchFails, fed_behind, FeedingHolds, FeedingFails, IsSoundNetwork, PassFails}
-use Rattle.chain_engine.proofs.StopLemmas.{reverse_onto}
 use Rattle.chain_engine.proofs.SpliceLemmas.{sent_more}
 
 -- ---- the list tells both of its parts
@@ -134,7 +134,7 @@ module _ {K : Type 0} (holds : K → Option (List ℕ) → List (List ℕ) → T
         → sent_at c p steps ≡ put ++ q ∷ left → network_fault (reading_cues c) q (reverse (fed ++ put)) ≡ Some f → ⊥
     none_found p steps put q left f s is all h =
         let none = none_sent_is_at_fault c p steps put left q s.sound s.bytes all in
-        let past : reverse (fed ++ put) ≡ onto (cued c steps) put = ap (λ l. reverse (l ++ put)) is ∙ ap reverse (sym (reverse_onto (cued c steps) put)) ∙ reverse-reverse (onto (cued c steps) put) in
+        let past : reverse (fed ++ put) ≡ onto (cued c steps) put = ap (λ l. reverse (l ++ put)) is ∙ ap reverse (sym (reverse-onto (cued c steps) put)) ∙ reverse-reverse (onto (cued c steps) put) in
         let e : None ≡ Some f = sym none ∙ ap (network_fault (reading_cues c) q) (sym past) ∙ h in
         cc
 

@@ -8,7 +8,7 @@ use Rattle.ts_packet.specs.declared.tally.Tally.{Tally}
 use Rattle.ts_packet.specs.declared.reader.ReadFault.{ReadFault}
 use Rattle.ts_packet.specs.declared.reader.ReadFault.TheVariants as read_faults
 use Rattle.ts_packet.specs.declared.sink.PutFault.{PutFault}
-use Rattle.ts_packet.proofs.CountLemmas.{well-refl, well-trans, blamed-after}
+use Rattle.ts_packet.proofs.CountLemmas.{well-refl, blamed-after, by_end}
 use Rattle.ts_packet.proofs.RunBlameLemmas.{read_turns}
 use Rattle.psi_tables.specs.declared.config.Config.{Config}
 use Rattle.psi_tables.specs.declared.network.FeedFault.{FeedFault}
@@ -32,16 +32,12 @@ use Rattle.chain_engine.specs.declared.chain.RunFault.TheVariants.{Read, Feed}
 
 -- ---- what was read
 
-so_far : (ended : Bool) (a b : Tally) → ReadSo ended a b → WentWell a b ⊎ LastMovedNone a b
-so_far false a b h = inl h
-so_far true a b h = inr h
-
 to_end : (before ended : Bool) (a b : Tally) → SourceCounts false before ended a b → WentWell a b ⊎ LastMovedNone a b
 to_end false ended a b h = inr h
 to_end true ended a b h = inl (subst (λ w. WentWell a w) (sym h) (well-refl a))
 
 fed : (before ended : Bool) (a b : Tally) → ReadSo ended a b ⊎ SourceCounts false before ended a b → WentWell a b ⊎ LastMovedNone a b
-fed before ended a b (inl h) = so_far ended a b h
+fed before ended a b (inl h) = by_end ended a b h
 fed before ended a b (inr h) = to_end before ended a b h
 
 -- the reads for a packet took all their turns, or the source has given all packets that it may
@@ -131,11 +127,6 @@ chain_sound c filed None is_out exchanged report h = tt
 chain_sound c filed (Some bs) is_out exchanged report h = h.sound
 
 -- ---- what was written up to the fault
-
-pub out_blamed : (fault : FeedFault) (a b c : Tally) (full : Bool) → WentWell a b → OutputBlamed (Feed fault) b c full → OutputBlamed (Feed fault) a c full
-out_blamed (Network f) a b c full w h = well-trans a b c w h
-out_blamed (Sink f) a b c full w h = blamed-after f a b c full w h
-out_blamed Failed a b c full w h = well-trans a b c w h
 
 unchanged : (a b c : Tally) → WentWell a b → c ≡ b → WentWell a c
 unchanged a b c w e = subst (λ t. WentWell a t) (sym e) w

@@ -24,6 +24,7 @@ use Rattle.injector.specs.declared.injector.Injector.{Injector}
 use Rattle.injector.specs.Steps.{Step, Packet, packets_in, cued, sent_at}
 use Rattle.injector.specs.Injecting.{InjectorStandsFor, JudgesBy, FeedFails}
 use Rattle.outgoing_packets.specs.Faults.{KeepsSink}
+use Rattle.ts_packet.proofs.RunLemmas.{reverse-onto}
 use Rattle.chain_engine.specs.Automation.{Take, piece, ended, failed, Answer}
 use Rattle.chain_engine.specs.Hearing.{answers_to, lost_by, Replied}
 use Rattle.chain_engine.specs.Judging.{JudgesAll, InjectorJudges}
@@ -37,7 +38,7 @@ use Rattle.chain_engine.specs.declared.report.Report.{Report}
 use Rattle.chain_engine.specs.declared.talk.Talk.{Talk}
 use Rattle.chain_engine.specs.declared.chain.Chain.{Chain}
 use Rattle.chain_engine.specs.declared.chain.RunFault.TheVariants.{Read, Feed}
-use Rattle.chain_engine.proofs.StopLemmas.{reverse_onto, reads_stop, packets_stop}
+use Rattle.chain_engine.proofs.StopLemmas.{reads_stop, packets_stop}
 use Rattle.chain_engine.proofs.HearingLemmas.{answers_more}
 use Rattle.chain_engine.proofs.TalkLemmas.{goes_closed, open_end}
 use Rattle.chain_engine.proofs.StepsLemmas.{steps_stay, none_asked, asked_cued, before_packets, asked_judged}
@@ -202,7 +203,7 @@ module _ (c : Config) (exchanged : Option SessionEnd → List Take → List Repl
         talks = subst (λ k. TalkStandsFor talk h.ts (length h.rs) k) (omega (arith, long)) h.talks;
         exchanges = h.exchanges;
         replies = h.replies ∙ ap (replies_in c) (sym now);
-        out = subst is_out' (sym (reverse_onto (cued c steps) (sent_at c p steps)) ∙ ap (sent_by c) (sym now)) out;
+        out = subst is_out' (sym (reverse-onto (cued c steps) (sent_at c p steps)) ∙ ap (sent_by c) (sym now)) out;
       }
 
   -- ---- the end

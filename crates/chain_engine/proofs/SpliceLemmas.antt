@@ -27,10 +27,11 @@ use Rattle.splice_switch.specs.declared.switch.Switch.{Switch}
 use Rattle.splice_switch.specs.Standing.{SwitchStandsFor, FeedFails, FinishFails}
 use Rattle.outgoing_packets.specs.Faults.{KeepsSink}
 use Rattle.outgoing_packets.proofs.NumberLemmas.{front-moved}
+use Rattle.ts_packet.proofs.RunLemmas.{reverse-onto}
 use Rattle.chain_engine.specs.Stops.{as_run_fault, first_run_fault}
 use Rattle.chain_engine.specs.Splices.{switch_sends, SplicesAll, SpliceLeaves, SpliceStops}
 use Rattle.chain_engine.specs.declared.chain.RunFault.TheVariants.{Read, Feed}
-use Rattle.chain_engine.proofs.StopLemmas.{reverse_onto, reads_stop, packets_stop, ends_stop}
+use Rattle.chain_engine.proofs.StopLemmas.{reads_stop, packets_stop, ends_stop}
 
 -- what is known between two packets
 pub record HasSpliced (c : Config) (filed : ℕ → Option Advertisement) (switch : Switch) (is_out : List (List ℕ) → Type 0) (ps : List (List ℕ)) : Type 0 where
@@ -46,7 +47,7 @@ module _ (c : Config) (filed : ℕ → Option Advertisement) where
   pub sent_more : (ps : List (List ℕ)) (p : List ℕ) → switch_sends c filed ps ++ switched_at_packet (setting_of c filed) p (reverse ps) ≡ switch_sends c filed (ps ++ p ∷ [])
   sent_more ps p =
       let k = setting_of c filed in
-      sym (reverse_onto (switched_past k (reverse ps)) (switched_at_packet k p (reverse ps))) ∙ ap (λ q. reverse (switched_past k q)) (sym (reverse-append ps (p ∷ [])))
+      sym (reverse-onto (switched_past k (reverse ps)) (switched_at_packet k p (reverse ps))) ∙ ap (λ q. reverse (switched_past k q)) (sym (reverse-append ps (p ∷ [])))
 
   module _ (ps : List (List ℕ)) where
     -- a packet is passed on

@@ -2,11 +2,11 @@
 use Rattle.std.specs.Prelude.{All, option_map, replicate}
 use Rattle.std.specs.Io.KnownBytes.{IsAtEnd}
 use Rattle.std.proofs.Common.{◌≡◌, ℕ, ◌≤◌, false, List, [], ◌∷◌, ◌++◌, reverse, take, drop, Option, None, Some, refl, sym, ap, ◌∙◌, arith, append_assoc, length}
-use Rattle.std.proofs.lemmas.List.{append-nil, reverse-append}
+use Rattle.std.proofs.lemmas.List.{append-nil}
 use Rattle.ts_packet.specs.Fields as fields
 use Rattle.ts_packet.specs.Packets.{packets_of, bytes_of, packet_fault}
 use Rattle.ts_packet.specs.Sources.{WasGiven, HasRead, Refuses}
-use Rattle.ts_packet.specs.Runs.{Seen, seen_after, onto}
+use Rattle.ts_packet.specs.Runs.{Seen, seen_after}
 use Rattle.ts_packet.specs.FirstFault.{fault_of, named, or_then, sound_front, Cause, OfInput, OfDevice, OfNothing, read_cause, SaysBy}
 use Rattle.ts_packet.specs.declared.packet.PacketFault.TheVariants as packet_faults
 use Rattle.ts_packet.specs.declared.reader.ReadFault.{ReadFault}
@@ -28,10 +28,6 @@ pub both_said : (A B : Type 0) (cause : Cause) → SaysBy cause A → SaysBy cau
 both_said A B OfInput a b = (a, b)
 both_said A B OfDevice a b = tt
 both_said A B OfNothing a b = a
-
-pub reverse_onto : (past ps : List (List ℕ)) → reverse (onto past ps) ≡ reverse past ++ ps
-reverse_onto past [] = sym (append-nil (reverse past))
-reverse_onto past (p ∷ ps) = reverse_onto (p ∷ past) ps ∙ ap (λ l. l ++ ps) (reverse-append (p ∷ []) past) ∙ append_assoc (reverse past) (p ∷ []) ps
 
 module _ (k : Purpose) (ps : List (List ℕ)) where
   abbrev pub PassTests : Type 0

@@ -2,7 +2,7 @@
 use Rattle.std.proofs.Common.{◌≡◌, ℕ, suc, ◌+◌, ◌≤◌, Bool, true, false, not, List, [], ◌∷◌, ◌++◌, length, take, drop, Option, None, Some, refl, sym, ap, subst, ◌∙◌, arith, append_assoc, length-append, ◌&&◌}
 use Rattle.std.specs.Option.{is_some}
 use Rattle.std.specs.List.{list_all}
-use Rattle.std.proofs.lemmas.List.{append-nil}
+use Rattle.std.proofs.lemmas.List.{append-nil, drop_at}
 use Rattle.std.proofs.lemmas.Grind.{flat_map-append}
 use lib.Seq.{take_all, take-append-le}
 use Rattle.scte104_codec.specs.declared.reply.Reply.{Reply}
@@ -13,6 +13,7 @@ use Rattle.as_session.specs.Session.{state_of}
 use Rattle.as_session.specs.Messages.{messages_of, messages_within}
 use Rattle.as_session.proofs.FrameLemmas.{partial_none}
 use Rattle.scte104_codec.specs.Reading.{MessageReading}
+use Rattle.std.proofs.Math.Seq.{drop-length}
 use Rattle.chain_engine.specs.Automation.{Answer, CountsAnswer, Take, piece, ended, failed, bytes_in, bytes_of}
 use Rattle.chain_engine.specs.Hearing.{HearsPiece, Replied, CanEnd, lost_by}
 use Rattle.chain_engine.specs.declared.hearing.SessionEnd.{SessionEnd}
@@ -28,13 +29,6 @@ take_front xs ys n e = take-append-le n xs ys (omega (arith, e)) ∙ take_all n 
 
 take_whole : {X : Type 0} (xs : List X) (n : ℕ) → length xs ≤ n → take n xs ≡ xs
 take_whole xs n le = take_all n xs le
-
-drop_front : {X : Type 0} (xs ys : List X) → drop (length xs) (xs ++ ys) ≡ ys
-drop_front [] ys = refl
-drop_front (x ∷ xs) ys = drop_front xs ys
-
-drop_self : {X : Type 0} (xs : List X) → drop (length xs) xs ≡ []
-drop_self xs = ap (drop (length xs)) (sym (append-nil xs)) ∙ drop_front xs []
 
 all_more : (takes : List Take) (t : Take) → list_all is_piece takes ≡ true → is_piece t ≡ true → list_all is_piece (takes ++ t ∷ []) ≡ true
 all_more [] t h k = rw k refl
@@ -65,14 +59,14 @@ judged_new takes t k ms more e h =
     ap (judged_in most) (take_whole (takes ++ t ∷ []) (suc k) (omega (arith, long, e)))
     ∙ ap (take most) (h ∙ sym (append_assoc (messages_taken takes) ms more))
     ∙ take_front (messages_taken takes ++ ms) more most (length-append (messages_taken takes) ms) in
-    ap (λ l. drop (length l) (judged_in most (take (suc k) (takes ++ t ∷ [])))) before ∙ ap (drop (length (messages_taken takes))) all ∙ drop_front (messages_taken takes) ms
+    ap (λ l. drop (length l) (judged_in most (take (suc k) (takes ++ t ∷ [])))) before ∙ ap (drop (length (messages_taken takes))) all ∙ (drop_at (messages_taken takes) ms (length (messages_taken takes)) refl)
 
 -- no take before it
 pub judged_none : (most : ℕ) (takes : List Take) (k : ℕ) → length takes ≤ k → judged_before most takes k ≡ []
 judged_none most takes k le =
     let here : judged_in most (take k takes) ≡ judged_in most takes = ap (judged_in most) (take_whole takes k le) in
     let next : judged_in most (take (suc k) takes) ≡ judged_in most takes = ap (judged_in most) (take_whole takes (suc k) (omega (arith, le))) in
-    ap (λ l. drop (length l) (judged_in most (take (suc k) takes))) here ∙ ap (drop (length (judged_in most takes))) next ∙ drop_self (judged_in most takes)
+    ap (λ l. drop (length l) (judged_in most (take (suc k) takes))) here ∙ ap (drop (length (judged_in most takes))) next ∙ drop-length (judged_in most takes)
 
 -- ---- a take
 

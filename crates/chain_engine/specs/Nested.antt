@@ -73,7 +73,7 @@ FaultKept before now spent old new full =
 pub FaultKept-refl : (x : Option FeedFault) (spent : Bool) (a : Tally) (full : Bool) → FaultKept x x spent a a full
 FaultKept-refl x spent a full = inl (refl, well-refl a)
 
-Blamed-behind : (fault : FeedFault) (a b c : Tally) (full : Bool) → WentWell a b → OutputBlamed (Feed fault) b c full → OutputBlamed (Feed fault) a c full
+pub Blamed-behind : (fault : FeedFault) (a b c : Tally) (full : Bool) → WentWell a b → OutputBlamed (Feed fault) b c full → OutputBlamed (Feed fault) a c full
 Blamed-behind (Network f) a b c full w h = well-trans a b c w h
 Blamed-behind (Sink f) a b c full w h = blamed-after f a b c full w h
 Blamed-behind Failed a b c full w h = well-trans a b c w h

@@ -1,6 +1,6 @@
 -- What a switched stream of the output carries, said of the network's packets.
 use Rattle.std.proofs.Common.{◌≡◌, ℕ, ℤ, ◌<◌, List, [], ◌∷◌, ◌++◌, Bool, true, false, ◌&&◌, ◌||◌, refl, sym, ap, ◌∙◌, subst, Option, None, Some, if◌then◌else◌, length, drop, map, reverse, append_assoc}
-use Rattle.std.specs.Prelude.{filter, All, is_some, int_lt, not, ◌==◌}
+use Rattle.std.specs.Prelude.{filter, All, is_some, int_lt, ◌==◌}
 use Rattle.std.specs.List.{AllByRecursion}
 use Rattle.std.proofs.lemmas.Bool.{true≢false, or_parts, eqb-true}
 use Rattle.std.proofs.lemmas.List.{append_cancel_left, reverse-reverse}
@@ -25,7 +25,7 @@ use Rattle.splice_laws.specs.Laws.{AreOrdered, IsCrossedOnce}
 use Rattle.splice_laws.specs.Streams.{IsOnce}
 use Rattle.splice_laws.specs.Ends.{up_to_end}
 use Rattle.output_laws.specs.Spliced.{placed_payloads}
-use Rattle.splice_plans.specs.Playing.{Adverts, is_played, is_crossed, put_by_start, by_start, played, as_played, end_known}
+use Rattle.splice_plans.specs.Playing.{is_played, is_crossed, put_by_start, by_start, played, as_played, end_known}
 use Rattle.splice_plans.specs.Histories.{AreSteady}
 use Rattle.splice_plans.specs.Adverts.{adverts_of, packed_units, setting_of}
 use Rattle.splice_plans.specs.Switching.{Setting, switched_at, streams_at, events_at, head_at, history_at, spliced_network}
@@ -38,12 +38,13 @@ use Rattle.switch_laws.specs.Whole.{ArePacked, HavePids, TablesAreApart, IsSwitc
 use Rattle.switch_laws.specs.Slices.{IsWholeSlice, IsOverBehind, IsSliceToAnEnd}
 use Rattle.switch_laws.proofs.IntervalLemmas.{intervals-ordered}
 use Rattle.switch_laws.proofs.SliceLemmas.{slices_are_whole, slices_go_to_an_end}
-use Rattle.switch_laws.proofs.StreamLemmas.{streams_carry, all-reversed}
+use Rattle.switch_laws.proofs.StreamLemmas.{placed_is_carried, all-reversed}
 use Rattle.switch_laws.proofs.WholeLemmas.{head-joined}
 use Rattle.switch_laws.proofs.SectionLemmas.{none-switches}
 use Rattle.switch_laws.proofs.OtherLemmas.{among-self}
 use Rattle.switch_laws.proofs.RunLemmas.{once-contained}
 use Rattle.armed_laws.proofs.MeetLemmas.{none-meet}
+use Rattle.splice_plans.proofs.KnownLemmas.{played-stays}
 use Rattle.chain_laws.specs.Breaks.{accepted_by, armed_by, SameTaken}
 use Rattle.chain_laws.specs.Runs.{switched_by, program_by, behind_by, run_by, head_by, adverts_by, played_by, IsWholeRun}
 use Rattle.chain_laws.specs.UnitSplices.{splice_from, slice_payloads, payloads_between, IsConditionedAt}
@@ -90,7 +91,7 @@ streams-at k back =
     subst (λ past. TablesAreApart k past → AreSteady (adverts_at k past) → ArePacked k.packed (adverts_at k past) → ArePackets (reverse back) → HavePids (reverse back) → (pid : ℕ) → IsSwitchedOnce k past pid →
     (carried : List (List ℕ)) × (filter (payload_on pid) (spliced_network k (reverse back))
     ≡ filter (payload_on pid) (reverse (head_at k past)) ++ (lead_in pid (reverse (behind_head (Some k.program) past)) ++ carried))
-    × CarriesUnits carried (placed_in k past pid)) (reverse-reverse back) (λ a s g l h pid o. streams_carry k (reverse back) a s g l h pid o)
+    × CarriesUnits carried (placed_in k past pid)) (reverse-reverse back) (λ a s g l h pid o. placed_is_carried k (reverse back) a s g l h pid o)
 
 -- ---- what goes out of an event
 
@@ -124,13 +125,6 @@ each-sorted P test (e ∷ es) a = by_test (test e)
 pub each-map : {P Q : Standing → Type 0} → ((e : Standing) → P e → Q e) → (es : List Standing) → AllByRecursion P es → AllByRecursion Q es
 each-map f [] a = tt
 each-map f (e ∷ es) a = (f e a.0, each-map f es a.1)
-
-played-uncancelled : (ads : Adverts) (e : Standing) → is_played ads e ≡ true → e.cancelled ≡ false
-played-uncancelled ads e h = by e.cancelled (ads.fits e) h
-  where
-    by : (c f : Bool) → (not c && f) ≡ true → c ≡ false
-    by true f h = absurd (true≢false (sym h))
-    by false f h = refl
 
 -- ---- a whole run
 
@@ -189,7 +183,7 @@ module _ (c : Config) (filed : ℕ → Option Advertisement) (steps : List Step)
   steady = libraries_are_steady filed (streams_at k back)
 
   pub same-taken : SameTaken (is_played (adverts_by c filed steps)) (armed_by c steps) (accepted_by c steps)
-  same-taken = breaks_are_armed c steps w.run w.whole (is_played (adverts_by c filed steps)) (played-uncancelled (adverts_by c filed steps))
+  same-taken = breaks_are_armed c steps w.run w.whole (is_played (adverts_by c filed steps)) (played-stays (adverts_by c filed steps))
 
   same-breaks : breaks (setting_of c filed) (cued c steps) ≡ played_by c filed steps
   same-breaks = ap (λ ads. intervals ads (events_at k back)) same-adverts ∙ ap (map as_played) same-taken.sorted

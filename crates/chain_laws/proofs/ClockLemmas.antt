@@ -20,6 +20,7 @@ use Rattle.switch_laws.specs.Whole.{HavePids, TablesAreApart}
 use Rattle.switch_laws.specs.Clocks.{listed_clock, clock_on, clocks, HasNoClock, HaveNoClocks}
 use Rattle.switch_laws.proofs.ClockLemmas.{clocks_stay}
 use Rattle.switch_laws.proofs.StreamLemmas.{all-reversed}
+use Rattle.path_laws.proofs.Thinned.{next-below}
 use Rattle.chain_laws.specs.Runs.{network_of, switched_by, output_by, IsWholeRun}
 use Rattle.chain_laws.specs.Clocks.{ClocksAreTheNetworks, UnitsHaveNoClocks}
 use Rattle.chain_laws.proofs.RunLemmas.{cued-long, cued-pids}
@@ -56,9 +57,6 @@ unfolding unit_packet
 unit-bare pid n start access part h = by_test (length part == 184)
     (λ y. simp y (full-bare 71 (pid / 256 + (if start then 64 else 0)) (pid % 256) n part h))
     (λ e. simp e (stuffed-bare 71 (pid / 256 + (if start then 64 else 0)) (pid % 256) (48 + n) (183 - length part) access part))
-
-next-below : (n : ℕ) → (n + 1) % 16 < 16
-next-below n = omega arith
 
 later-bare : (count pid n : ℕ) (bs : List ℕ) → n < 16 → AllByRecursion HasNoClock (later_unit_packets count pid n bs)
 later-bare zero pid n bs h = tt

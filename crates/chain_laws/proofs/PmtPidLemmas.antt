@@ -8,7 +8,7 @@ use Rattle.ts_packet.specs.Fields.{on, on_one, is_among}
 use Rattle.ts_packet.specs.Numbering.{one_past}
 use Rattle.ts_packet.specs.Runs.{onto}
 use Rattle.ts_packet.proofs.Cases.{by_test}
-use Rattle.ts_packet.proofs.RunLemmas.{filter-reverse, onto-append}
+use Rattle.ts_packet.proofs.RunLemmas.{filter-reverse, onto-append, reverse-onto}
 use Rattle.wire_fields.specs.Numbers.{AreBytes}
 use Rattle.psi_section.specs.Packetising.{packets_in_turn}
 use Rattle.psi_section.proofs.RunLemmas.{others_give}
@@ -33,7 +33,7 @@ use Rattle.injector.specs.Laws.{own_fronts}
 use Rattle.injector.proofs.CuedLemmas.{cued-is-written}
 use Rattle.splice_plans.specs.Adverts.{setting_of}
 use Rattle.splice_plans.specs.Switching.{Setting, switched_at, place_at, rest_at, switching, switched_past}
-use Rattle.switch_laws.proofs.WholeLemmas.{reverse-onto, none-switched}
+use Rattle.switch_laws.proofs.WholeLemmas.{none-switched}
 use Rattle.switch_laws.proofs.SplitLemmas.{filter-onto}
 use Rattle.switch_laws.proofs.SectionLemmas.{no-more}
 use Rattle.chain_laws.specs.Runs.{switched_by, output_by, IsWholeRun}

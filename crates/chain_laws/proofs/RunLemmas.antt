@@ -3,11 +3,11 @@ use Rattle.std.proofs.Common.{◌≡◌, ℕ, zero, suc, ◌+◌, ◌-◌, ◌<�
 use Rattle.std.specs.Prelude.{filter, replicate, All, slice_index}
 use Rattle.std.specs.List.{AllByRecursion}
 use Rattle.std.proofs.lemmas.List.{length-append, length-take, length-replicate}
-use Rattle.std.proofs.lemmas.List.Elements.{All-nil, All-cons, All-head, All-tail}
+use Rattle.std.proofs.lemmas.List.Elements.{All-nil, All-cons, recursion_from_All}
 use Rattle.ts_packet.specs.Fields.{pid_of, on}
 use Rattle.ts_packet.specs.Runs.{onto}
 use Rattle.ts_packet.proofs.Cases.{by_test}
-use Rattle.ts_packet.proofs.FieldLemmas.{payload_on-on}
+use Rattle.ts_packet.proofs.FieldLemmas.{payload_on-on, pid_is}
 use Rattle.wire_fields.specs.Numbers.{AreBytes}
 use Rattle.psi_section.specs.Packetising.{padded, later_packets, section_packets, packets_in_turn}
 use Rattle.psi_section.proofs.ReadBackLemmas.{IsPayloadOn, turn_carry}
@@ -21,8 +21,7 @@ use Rattle.program_laws.specs.Cued.{On, cueing, CuedReads}
 use Rattle.program_laws.proofs.PacketLemmas.{one_past-below}
 use Rattle.program_laws.proofs.WritingLemmas.{listed_below}
 use Rattle.program_laws.proofs.FaultLemmas.{Each-map}
-use Rattle.program_laws.proofs.HeadLemmas.{others_pass}
-use Rattle.output_laws.proofs.StepLemmas.{pid_is}
+use Rattle.program_laws.proofs.HeadLemmas.{others_are_written}
 use Rattle.injector.specs.Steps.{Step, Message, Packet, packets_in, sections_before, cue_packets, body_at, cued}
 use Rattle.injector.specs.Laws.{own_fronts}
 use Rattle.injector.proofs.CuedLemmas.{cued-is-written, cued-reads-again}
@@ -34,6 +33,7 @@ use Rattle.switch_laws.specs.Laws.{ArePackets}
 use Rattle.switch_laws.specs.Whole.{HavePids}
 use Rattle.switch_laws.specs.Standing.{IsSwitchable}
 use Rattle.switch_laws.proofs.FaultlessLemmas.{faultless_is_sound}
+use Rattle.psi_section.proofs.GivenLemmas.{each-append}
 use Rattle.chain_laws.specs.Runs.{switched_by}
 
 -- ---- lists
@@ -41,14 +41,6 @@ use Rattle.chain_laws.specs.Runs.{switched_by}
 pub each-all : {A : Type 0} (P : A → Type 0) (xs : List A) → AllByRecursion P xs → All P xs
 each-all P [] h = All-nil P
 each-all P (x ∷ xs) h = All-cons P x xs h.0 (each-all P xs h.1)
-
-pub all-each : {A : Type 0} (P : A → Type 0) (xs : List A) → All P xs → AllByRecursion P xs
-all-each P [] a = tt
-all-each P (x ∷ xs) a = (All-head P x xs a, all-each P xs (All-tail P x xs a))
-
-each-append : {A : Type 0} (P : A → Type 0) (xs ys : List A) → AllByRecursion P xs → AllByRecursion P ys → AllByRecursion P (xs ++ ys)
-each-append P [] ys h k = k
-each-append P (x ∷ xs) ys h k = (h.0, each-append P xs ys h.1 k)
 
 pub each-onto : (P : List ℕ → Type 0) (past ps : List (List ℕ)) → AllByRecursion P past → AllByRecursion P ps → AllByRecursion P (onto past ps)
 each-onto P past [] h k = h
@@ -115,7 +107,7 @@ module _ (P : List ℕ → Type 0) (turn : (pid n : ℕ) (ss : List (List ℕ)) 
       (body-each c p (packets_in past) (onto out qs) (tables (Some c.program) p (packets_in past)) (listed (Some c.program) (packets_in past)) h.0 refl))
 
 pub cued-long : (c : Config) (steps : List Step) → IsRunOf c steps → ArePackets (packets_in steps) → ArePackets (cued c steps)
-cued-long c steps r long = each-all IsLong (cued c steps) (cued-each IsLong (λ pid n ss l k. turn-long pid n ss) c steps r.cue_pid (all-each IsLong (packets_in steps) long))
+cued-long c steps r long = each-all IsLong (cued c steps) (cued-each IsLong (λ pid n ss l k. turn-long pid n ss) c steps r.cue_pid (recursion_from_All IsLong (packets_in steps) long))
 
 bytes-along : (past : List (List ℕ)) → Along (λ p past. AreBytes p) past → AllByRecursion HasPid past
 bytes-along [] h = tt
@@ -159,4 +151,4 @@ module _ (c : Config) (filed : ℕ → Option Advertisement) (steps : List Step)
     others =
         let w = cued-is-written c steps r.faultless in
         ap (filter takes) w.stream
-        ∙ others_pass takes (cueing c.cue_pid (own_fronts c steps)) (Some c.program) (packets_in steps) (pass-along (packets_in steps) w.cues (λ l known. known))
+        ∙ others_are_written takes (cueing c.cue_pid (own_fronts c steps)) (Some c.program) (packets_in steps) (pass-along (packets_in steps) w.cues (λ l known. known))

@@ -9,7 +9,7 @@ use Rattle.std.proofs.lemmas.List.Elements.{All-head}
 use Rattle.ts_packet.specs.Fields.{on, pid_of, on_one, is_among}
 use Rattle.ts_packet.specs.Runs.{onto}
 use Rattle.ts_packet.proofs.Cases.{by_test}
-use Rattle.ts_packet.proofs.RunLemmas.{filter-reverse}
+use Rattle.ts_packet.proofs.RunLemmas.{filter-reverse, reverse-onto}
 use Rattle.psi_section.specs.Laws.{CanBeGiven}
 use Rattle.psi_section.proofs.RunLemmas.{others_give}
 use Rattle.psi_section.proofs.ReadBackLemmas.{turn_carry}
@@ -47,8 +47,9 @@ use Rattle.splice_plans.specs.Known.{adverts_at}
 use Rattle.switch_laws.specs.Whole.{ArePacked, HavePids}
 use Rattle.switch_laws.proofs.FaultlessLemmas.{first-sound}
 use Rattle.switch_laws.proofs.OtherLemmas.{front-off, end-off, place-off, among-self}
-use Rattle.switch_laws.proofs.WholeLemmas.{reverse-onto, packets-each, listed-later, known-later, adverts-same, switched-same, none-switched, not-behind, is-behind}
+use Rattle.switch_laws.proofs.WholeLemmas.{packets-each, listed-later, known-later, adverts-same, switched-same, none-switched, not-behind, is-behind}
 use Rattle.switch_laws.proofs.SectionLemmas.{none-switches, among-off}
+use Rattle.psi_section.proofs.GivenLemmas.{each-append}
 use Rattle.chain_laws.specs.Runs.{switched_by, output_by, IsWholeRun}
 use Rattle.chain_laws.specs.Tables.{HasTables, TablesAreTheNetworks}
 use Rattle.chain_laws.proofs.RunLemmas.{reads, cued-pids, each-onto}
@@ -57,10 +58,6 @@ use Rattle.chain_laws.proofs.PmtLemmas.{filter-none}
 use Rattle.program_follower.specs.Purposes.{writing_cues}
 
 -- ---- packets off a PID
-
-each-append : {A : Type 0} (P : A → Type 0) (xs ys : List A) → AllByRecursion P xs → AllByRecursion P ys → AllByRecursion P (xs ++ ys)
-each-append P [] ys h k = k
-each-append P (x ∷ xs) ys h k = (h.0, each-append P xs ys h.1 k)
 
 none-of : (f : List ℕ → Bool) (ps : List (List ℕ)) → filter f ps ≡ [] → AllByRecursion (λ p. f p ≡ false) ps
 none-of f [] h = tt

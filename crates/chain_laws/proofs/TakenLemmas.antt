@@ -13,6 +13,7 @@ use Rattle.program_laws.proofs.UnitLemmas.{others_are_no_units}
 use Rattle.splice_laws.specs.Splicing.{PlayedEvent, SliceUnit, TimedStream, stream, at_or_past, below, outside, stands, comes, passed, opens, begun, as_inserted, slice_at, all_slices_at}
 use Rattle.output_laws.specs.Spliced.{inserted_payloads, unit_at, placed_payloads}
 use Rattle.splice_plans.specs.Playing.{is_crossed}
+use Rattle.std.proofs.Math.Bool.{or-false}
 
 pub filter-twice : {A : Type 0} (f : A → Bool) (xs : List A) → filter f (filter f xs) ≡ filter f xs
 filter-twice f [] = refl
@@ -24,10 +25,6 @@ filter-within f g w [] = refl
 filter-within f g w (x ∷ xs) = by_test (f x)
     (λ y. by_test (g x) (λ z. simp (y, z) (ap (λ l. x ∷ l) (filter-within f g w xs))) (λ z. simp (y, z) (filter-within f g w xs)))
     (λ n. let z = w x n in simp (n, z) (filter-within f g w xs))
-
-or-none : (a : Bool) → (a || false) ≡ a
-or-none true = refl
-or-none false = refl
 
 module _ (takes : List ℕ → Bool) (switched : List ℕ) (every : AllByRecursion (TakesAll takes) switched) (pid : ℕ) (all : TakesAll takes pid) where
   abbrev r : TimedStream
@@ -94,7 +91,7 @@ module _ (takes : List ℕ → Bool) (switched : List ℕ) (every : AllByRecursi
       ap (λ b. b || comes r edge p past) (passed_taken edge past)
       ∙ ap (λ b. passed r edge (filter takes past) || b) (comes_taken edge p past y)))
       (λ n. rw (left p past n) (
-      ap (λ b. passed r edge past || b) (comes_not edge p past n) ∙ or-none (passed r edge past) ∙ passed_taken edge past))
+      ap (λ b. passed r edge past || b) (comes_not edge p past n) ∙ or-false (passed r edge past) ∙ passed_taken edge past))
 
   pub begun_taken : (x : PlayedEvent) (past : List (List ℕ)) → begun r x past ≡ begun r x (filter takes past)
   begun_taken x [] = refl
@@ -103,7 +100,7 @@ module _ (takes : List ℕ → Bool) (switched : List ℕ) (every : AllByRecursi
       ap (λ b. b || opens r x p past) (begun_taken x past)
       ∙ ap (λ b. begun r x (filter takes past) || b) (opens_taken x p past y)))
       (λ n. rw (left p past n) (
-      ap (λ b. begun r x past || b) (opens_not x p past n) ∙ or-none (begun r x past) ∙ begun_taken x past))
+      ap (λ b. begun r x past || b) (opens_not x p past n) ∙ or-false (begun r x past) ∙ begun_taken x past))
 
   pub crossed_taken : (edge : ℤ) (past : List (List ℕ)) → is_crossed r edge past ≡ is_crossed r edge (filter takes past)
   crossed_taken edge [] = refl
@@ -115,7 +112,7 @@ module _ (takes : List ℕ → Bool) (switched : List ℕ) (every : AllByRecursi
       ∙ ap (λ t. is_crossed r edge (filter takes past) || (begins pid p (filter takes past) && (passed r edge (filter takes past) && below edge t))) (time_with p past y)))
       (λ n. rw (left p past n) (
       ap (λ b. is_crossed r edge past || (b && (passed r edge past && below edge (unit_time switched pid (p ∷ past))))) (begins_not p past n)
-      ∙ or-none (is_crossed r edge past) ∙ crossed_taken edge past))
+      ∙ or-false (is_crossed r edge past) ∙ crossed_taken edge past))
 
   -- ---- what is placed
 

@@ -6,7 +6,7 @@ use Rattle.std.proofs.lemmas.List.{append-nil}
 use Rattle.ts_packet.specs.Fields.{unit_start, bytes}
 use Rattle.ts_packet.specs.Duplicates.{original}
 use Rattle.ts_packet.specs.Runs.{seen_after}
-use Rattle.ts_packet.proofs.Cases.{by_test}
+use Rattle.ts_packet.proofs.Cases.{by_test, true_or_false}
 use Rattle.ts_packet.proofs.RunLemmas.{onto}
 use Rattle.unit_stream.specs.Times.{unit_time}
 use Rattle.unit_stream.specs.Units.{units, units_of, is_original, rest_of_unit}
@@ -14,7 +14,6 @@ use Rattle.splice_laws.specs.Splicing.{PlayedEvent, SliceUnit, TimedStream, stre
 use Rattle.splice_laws.specs.Laws.{IsStream, EndsBeforeAll, AreOrdered}
 use Rattle.splice_laws.specs.Rows.{is_between}
 use Rattle.splice_laws.proofs.TimeLemmas.{starts_ordered, past_lower, holds-or_past, holds-past, not-below, timed_past}
-use Rattle.splice_laws.proofs.StepLemmas.{true_or_false}
 use Rattle.splice_laws.proofs.HistoryLemmas.{begun-passed, passed-dead}
 use Rattle.splice_laws.proofs.PlacedLemmas.{opens-first}
 use Rattle.splice_laws.proofs.PidLemmas.{pids_are_streams}

@@ -11,12 +11,12 @@ use Rattle.conformance.specs.declared.sections.Found.{Found}
 -- ---- packets
 
 -- the packet that these bytes are, where they are one
-abbrev pub packet_in : List ℕ → Option (List ℕ)
-packet_in bytes = if (length bytes == 188) && is_none (packet_fault bytes) then Some bytes else None
+abbrev pub good_packet : List ℕ → Option (List ℕ)
+good_packet bytes = if (length bytes == 188) && is_none (packet_fault bytes) then Some bytes else None
 
 -- the packet that this word spells
 abbrev pub packet_of : List ℕ → Option (List ℕ)
-packet_of word = option_and_then packet_in (spelled word)
+packet_of word = option_and_then good_packet (spelled word)
 
 -- a byte before the first of some words
 abbrev pub before_word : ℕ → List (List ℕ) → List (List ℕ)

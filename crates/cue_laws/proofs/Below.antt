@@ -5,10 +5,13 @@ use Rattle.std.proofs.lemmas.Int.{ints}
 use Rattle.std.proofs.lemmas.Bool.Decides.{nat_tests}
 use Rattle.std.proofs.lemmas.Bool.{and_from, and_left, and_parts}
 use Rattle.ts_packet.proofs.Cases.{by_test}
-use Rattle.cue_laws.specs.Events.{LineEvent, Started, Cancelled, Ended, before, taken, stands, is_of, bars, count, can_start, fresh, can_cancel, cancel_by, can_end, end_by, or_so, In}
+use Rattle.pes_time.proofs.IntLemmas.{lt-test, lt-is}
+use Rattle.ts_packet.specs.Membership.{In}
+use Rattle.ts_packet.proofs.MembershipLemmas.{In-map, In-mapped, In-filter, In-filtered, any-false, any-none}
+use Rattle.cue_laws.specs.Events.{LineEvent, Started, Cancelled, Ended, before, taken, stands, is_of, bars, count, can_start, fresh, can_cancel, cancel_by, can_end, end_by, or_so}
 use Rattle.cue_laws.specs.Thinning.{Repeats}
-use Rattle.cue_laws.proofs.Settling.{lt-test, lt-is, can_start-parts, CanStart}
-use Rattle.cue_laws.proofs.Lists.{In-map, In-mapped, In-filter, In-filtered, any-false, any-none, Distinct, distinct-filter, distinct-map, no_more}
+use Rattle.cue_laws.proofs.Settling.{can_start-parts, CanStart}
+use Rattle.cue_laws.proofs.Lists.{Distinct, distinct-filter, distinct-map, no_more}
 use Rattle.cue_laws.proofs.Orders.{Orderly, before-more, is_of-parts, is_of-is, or-left}
 
 -- the same event: here it may be uncancelled where it is cancelled there

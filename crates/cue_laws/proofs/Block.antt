@@ -3,10 +3,11 @@ use Rattle.std.proofs.Common.{◌≡◌, ℕ, true, false, ◌⊎◌, inl, inr, 
 use Rattle.std.specs.Prelude.{ℤ, map, is_some, if◌then◌else◌}
 use Rattle.std.proofs.lemmas.Bool.{and_left}
 use Rattle.ts_packet.proofs.Cases.{by_test}
-use Rattle.cue_laws.specs.Events.{Turn, LineEvent, Started, Cancelled, Ended, high, before, events, stands, is_of, can_start, fresh, can_cancel, cancel_by, can_end, end_by, In}
+use Rattle.ts_packet.specs.Membership.{In}
+use Rattle.ts_packet.proofs.MembershipLemmas.{any-false}
+use Rattle.cue_laws.specs.Events.{Turn, LineEvent, Started, Cancelled, Ended, high, before, events, stands, is_of, can_start, fresh, can_cancel, cancel_by, can_end, end_by}
 use Rattle.cue_laws.specs.Thinning.{MayAllCome, Repeats}
 use Rattle.cue_laws.proofs.Settling.{can_start-parts}
-use Rattle.cue_laws.proofs.Lists.{any-false}
 use Rattle.cue_laws.proofs.Orders.{is_of-parts, is_of-is, or-neither}
 
 -- a stream that may come, with the greatest time and the events after it

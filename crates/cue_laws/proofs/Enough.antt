@@ -4,12 +4,14 @@ use Rattle.std.specs.Prelude.{ℤ, ◌<ℤ◌, ◌≤ℤ◌, int_le, int_lt, fil
 use Rattle.std.proofs.lemmas.Int.{ints}
 use Rattle.std.proofs.lemmas.Bool.{and_parts, not-true}
 use Rattle.ts_packet.proofs.Cases.{by_test}
-use Rattle.cue_laws.specs.Events.{Turn, LineEvent, Name, Started, Cancelled, Ended, Passed, high, before, events, can_start, fresh, can_cancel, cancel_by, end_by, In, covers, name_of}
+use Rattle.pes_time.proofs.IntLemmas.{lt-test}
+use Rattle.ts_packet.specs.Membership.{In}
+use Rattle.ts_packet.proofs.MembershipLemmas.{In-mapped, In-filter, In-filtered}
+use Rattle.cue_laws.specs.Events.{Turn, LineEvent, Name, Started, Cancelled, Ended, Passed, high, before, events, can_start, fresh, can_cancel, cancel_by, end_by, covers, name_of}
 use Rattle.cue_laws.specs.Thinning.{MayAllCome, thinned, KeepsStart, KeepsCancel, KeepsEnds}
 use Rattle.cue_laws.specs.Cueing.{IsRun, cued}
 use Rattle.cue_laws.specs.Laws.{CuePathHolders, NothingLostIsEnough, Invariant, NoStartRefused, CuedIsSound}
-use Rattle.cue_laws.proofs.Settling.{lt-test}
-use Rattle.cue_laws.proofs.Lists.{In-mapped, In-filter, In-filtered, Distinct, distinct-filter, has_start}
+use Rattle.cue_laws.proofs.Lists.{Distinct, distinct-filter, has_start}
 use Rattle.cue_laws.proofs.Orders.{Orderly, is_of-parts}
 use Rattle.cue_laws.proofs.Below.{Below, or-split}
 use Rattle.cue_laws.proofs.Thin.{below}

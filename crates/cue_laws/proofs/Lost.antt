@@ -1,15 +1,17 @@
 -- Lost cues change no event that is never cancelled, once its start is reached.
-use Rattle.std.proofs.Common.{◌≡◌, ℕ, ◌<◌, zero, suc, Bool, true, false, ◌⊎◌, inl, inr, refl, sym, ap, ◌∙◌, subst, List, [], ◌∷◌, Option, arith}
+use Rattle.std.proofs.Common.{◌≡◌, ℕ, ◌<◌, zero, suc, true, false, ◌⊎◌, inl, inr, refl, sym, ap, ◌∙◌, subst, List, [], ◌∷◌, Option, arith}
 use Rattle.std.specs.Prelude.{ℤ, pos, ◌+ℤ◌, ◌<ℤ◌, map}
 use Rattle.std.proofs.lemmas.Int.{ints}
 use Rattle.std.proofs.lemmas.Bool.{and_right}
 use Rattle.ts_packet.proofs.Cases.{by_test}
-use Rattle.cue_laws.specs.Events.{Turn, LineEvent, Name, Started, Cancelled, Ended, Passed, high, before, events, taken, NeverFalls, stands, is_of, can_start, fresh, can_cancel, cancel_by, end_by, or_so, name_of, In, upon}
+use Rattle.ts_packet.specs.Membership.{In}
+use Rattle.ts_packet.proofs.MembershipLemmas.{In-map, In-mapped}
+use Rattle.cue_laws.specs.Events.{Turn, LineEvent, Name, Started, Cancelled, Ended, Passed, high, before, events, taken, NeverFalls, stands, is_of, can_start, fresh, can_cancel, cancel_by, end_by, name_of, upon}
 use Rattle.cue_laws.specs.Thinning.{MayCome, MayAllCome, times, thinned, KeepsEnds, KeepsStart, KeepsCancel, Knows}
 use Rattle.cue_laws.specs.Laws.{LostCues, LostCuesAtTheEnd}
 use Rattle.cue_laws.proofs.Settling.{reached_upon}
-use Rattle.cue_laws.proofs.Lists.{In-map, In-mapped, has_start}
-use Rattle.cue_laws.proofs.Orders.{Orderly, orderly, orderly_step, or-right, before-more, Shrinks, cancel-shrinks, end-shrinks, is_of-is}
+use Rattle.cue_laws.proofs.Lists.{has_start}
+use Rattle.cue_laws.proofs.Orders.{Orderly, orderly, orderly_step, or-right, before-more, Shrinks, cancel-shrinks, end-shrinks, is_of-is, or-neither}
 use Rattle.cue_laws.proofs.Below.{Below, Match, match-can_cancel, start_taken}
 use Rattle.cue_laws.proofs.Thin.{high-starts, high-thinned, there, below_starts, below}
 
@@ -321,16 +323,12 @@ cancel_before copies x front (Passed h ∷ later) s b k = cancel_before copies x
 abbrev Stays : LineEvent → List LineEvent → Type 0
 Stays x es = (y : LineEvent) × In y es × (name_of y ≡ name_of x) × (y.cancelled ≡ x.cancelled)
 
-pub or_neither : (a b : Bool) → b ≡ false → or_so a b ≡ a
-or_neither a true is = cc
-or_neither a false is = refl
-
 stays_step : (h : Option ℤ) (s : Turn) (es : List LineEvent) (x : LineEvent) → before h x.start ≡ false → Stays x es → Stays x (taken h s es)
 stays_step h (Started id start end) es x b y = by_test (can_start h id start end es) (λ can. simp can (y.0, inr y.1, y.2, y.3)) (λ can. simp can y)
 stays_step h (Cancelled id) es x b y =
     let start : y.0.start ≡ x.start = ap (λ (z : Name). z.start) y.2 in
     let late : before h y.0.start ≡ false = ap (before h) start ∙ b in
-    (cancel_by h id y.0, In-map (cancel_by h id) y.0 es y.1, y.2, or_neither y.0.cancelled (can_cancel h id y.0) (and_right (is_of h id y.0) (before h y.0.start) late) ∙ y.3)
+    (cancel_by h id y.0, In-map (cancel_by h id) y.0 es y.1, y.2, or-neither y.0.cancelled (can_cancel h id y.0) (and_right (is_of h id y.0) (before h y.0.start) late) ∙ y.3)
 stays_step h (Ended id time) es x b y = (end_by h id time y.0, In-map (end_by h id time) y.0 es y.1, y.2, y.3)
 stays_step h (Passed later) es x b y = y
 

@@ -2,7 +2,8 @@
 use Rattle.std.specs.Prelude.{pos, ◌≤ℤ◌, ◌+ℤ◌}
 use Rattle.std.proofs.Common.{◌≡◌, true, false, inl, inr, refl, sym, ap, ◌∙◌, subst, arith}
 use Rattle.std.proofs.lemmas.Int.{ints}
-use Rattle.cue_laws.specs.Events.{LineEvent, events, In}
+use Rattle.ts_packet.specs.Membership.{In}
+use Rattle.cue_laws.specs.Events.{LineEvent, events}
 use Rattle.cue_laws.specs.Thinning.{thinned, KeepsStart, KeepsCancel}
 use Rattle.cue_laws.specs.Cueing.{cued}
 use Rattle.cue_laws.specs.Needed.{EndsAreNeeded, CancelsAreNeeded, OrderIsNeeded, later_first, shortened, ended_then_cancelled, without_ends, second, first, started_then_cancelled, without_cancels}

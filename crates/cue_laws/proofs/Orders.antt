@@ -5,11 +5,14 @@ use Rattle.std.proofs.lemmas.Int.{ints}
 use Rattle.std.proofs.lemmas.Bool.Decides.{nat_tests}
 use Rattle.std.proofs.lemmas.Bool.{and_parts}
 use Rattle.ts_packet.proofs.Cases.{by_test}
-use Rattle.cue_laws.specs.Events.{Turn, LineEvent, Started, Cancelled, Ended, Passed, high, before, events, stands, is_of, bars, count, can_start, fresh, can_cancel, cancel_by, can_end, end_by, or_so, In}
+use Rattle.pes_time.proofs.IntLemmas.{ge-test}
+use Rattle.ts_packet.specs.Membership.{In}
+use Rattle.ts_packet.proofs.MembershipLemmas.{In-mapped, any-false}
+use Rattle.cue_laws.specs.Events.{Turn, LineEvent, Started, Cancelled, Ended, Passed, high, before, events, stands, is_of, bars, count, can_start, fresh, can_cancel, cancel_by, can_end, end_by, or_so}
 use Rattle.unit_stream.specs.Clocks.{Rises}
 use Rattle.cue_laws.specs.Thinning.{MayCome, MayAllCome}
-use Rattle.cue_laws.proofs.Settling.{ge-test, can_start-parts, CanStart, can_end-parts}
-use Rattle.cue_laws.proofs.Lists.{In-mapped, any-false, Distinct, distinct-map}
+use Rattle.cue_laws.proofs.Settling.{can_start-parts, CanStart, can_end-parts}
+use Rattle.cue_laws.proofs.Lists.{Distinct, distinct-map}
 
 pub before-more : (h : Option ℤ) (a b : ℤ) → before h a ≡ true → a ≤ℤ b → before h b ≡ true
 before-more None a b t l = refl

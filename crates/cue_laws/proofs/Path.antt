@@ -3,13 +3,15 @@ use Rattle.std.proofs.Common.{◌≡◌, ◌↔◌, ℕ, Bool, true, false, ◌�
 use Rattle.std.specs.Prelude.{ℤ, pos, ◌+ℤ◌, int_lt, map, if◌then◌else◌}
 use Rattle.std.proofs.lemmas.Int.{ints}
 use Rattle.ts_packet.proofs.Cases.{by_test}
-use Rattle.cue_laws.specs.Events.{Turn, LineEvent, Started, Cancelled, Ended, Passed, high, events, stands, cancel_by, end_by, In, upon}
+use Rattle.pes_time.proofs.IntLemmas.{lt-test, ge-test}
+use Rattle.ts_packet.specs.Membership.{In}
+use Rattle.ts_packet.proofs.MembershipLemmas.{In-map}
+use Rattle.cue_laws.specs.Events.{Turn, LineEvent, Started, Cancelled, Ended, Passed, high, events, stands, cancel_by, end_by, upon}
 use Rattle.unit_stream.specs.Clocks.{Rises}
 use Rattle.cue_laws.specs.Thinning.{MayAllCome, KeepsEnough}
 use Rattle.cue_laws.specs.Cueing.{IsRun, Told, Untold, Known, Never, Sender, is_cancel_new, is_news, current, is_due, end_on, told_on, block_on, told_now, tell, change, senders, cued}
 use Rattle.cue_laws.specs.Laws.{KeepsEnoughOf, CuePath, CuePathAtTheEnd}
-use Rattle.cue_laws.proofs.Settling.{ge-test, lt-test}
-use Rattle.cue_laws.proofs.Lists.{In-map, Distinct}
+use Rattle.cue_laws.proofs.Lists.{Distinct}
 use Rattle.cue_laws.proofs.Orders.{Orderly, orderly-tail, before-more}
 use Rattle.cue_laws.proofs.Lost.{lost_cues, lost_cues_at_the_end}
 use Rattle.cue_laws.proofs.Fair.{IsKnown, IsFair, AllTold, Fair, event_of, stand}

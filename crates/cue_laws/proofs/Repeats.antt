@@ -4,12 +4,14 @@ use Rattle.std.specs.Prelude.{ℤ, pos, ◌+ℤ◌, ◌<ℤ◌, map, if◌then�
 use Rattle.std.proofs.lemmas.Int.{ints}
 use Rattle.std.proofs.lemmas.Bool.Decides.{nat_tests}
 use Rattle.ts_packet.proofs.Cases.{by_test}
-use Rattle.cue_laws.specs.Events.{Turn, LineEvent, Name, Started, Cancelled, Ended, Passed, high, before, events, taken, NeverFalls, stands, is_of, can_start, fresh, cancel_by, can_end, end_by, name_of, In, upon}
+use Rattle.pes_time.proofs.IntLemmas.{lt-is}
+use Rattle.ts_packet.specs.Membership.{In}
+use Rattle.ts_packet.proofs.MembershipLemmas.{In-mapped}
+use Rattle.cue_laws.specs.Events.{Turn, LineEvent, Name, Started, Cancelled, Ended, Passed, high, before, events, taken, NeverFalls, stands, is_of, can_start, fresh, cancel_by, can_end, end_by, name_of, upon}
 use Rattle.cue_laws.specs.Thinning.{MayAllCome, times, thinned, id_in, count_of, TellsAgain, IsToldBefore, LeavesOne, LeavesOutRepeats, KeepsEnds, KeepsStart, KeepsCancel, Knows}
 use Rattle.cue_laws.specs.Cueing.{cued}
 use Rattle.cue_laws.specs.Laws.{RepeatsLoseNothing}
-use Rattle.cue_laws.proofs.Settling.{lt-is, can_end-parts, reached_upon}
-use Rattle.cue_laws.proofs.Lists.{In-mapped}
+use Rattle.cue_laws.proofs.Settling.{can_end-parts, reached_upon}
 use Rattle.cue_laws.proofs.Orders.{before-more, is_of-parts, is_of-is, Shrinks, cancel-shrinks, end-shrinks}
 use Rattle.cue_laws.proofs.Lost.{In-times, In-under, falls, kept_later}
 use Rattle.cue_laws.proofs.Block.{end-off, map_same}

@@ -5,6 +5,7 @@ use Rattle.std.specs.List.{list_any}
 use Rattle.std.proofs.lemmas.Int.{ints}
 use Rattle.std.proofs.lemmas.Bool.{and_left, and_parts, not-true}
 use Rattle.ts_packet.proofs.Cases.{by_test}
+use Rattle.pes_time.proofs.IntLemmas.{lt-test, ge-test, lt-is}
 use Rattle.cue_laws.specs.Events.{Turn, LineEvent, Started, Cancelled, Ended, Passed, high, before, events, taken, NeverFalls, holders, upon, covers, name_of, can_start, fresh, cancel_by, can_cancel, end_by, can_end, or_so, is_of, bars, count}
 use Rattle.unit_stream.specs.Clocks.{Rises}
 use Rattle.cue_laws.specs.Laws.{Settlement}
@@ -24,17 +25,8 @@ holders-map time f names same (e ∷ es) =
     (λ c. simp (same e, c, names e, holders-map time f names same es))
     (λ c. simp (same e, c, holders-map time f names same es))
 
-pub lt-test : (a b : ℤ) → int_lt a b ≡ true → a <ℤ b
-lt-test a b is = grind (arith, ints)
-
-pub ge-test : (a b : ℤ) → int_lt a b ≡ false → b ≤ℤ a
-ge-test a b is = grind (arith, ints)
-
 le-false : (a b : ℤ) → b <ℤ a → int_le a b ≡ false
 le-false a b is = grind (arith, ints)
-
-pub lt-is : (a b : ℤ) → a <ℤ b → int_lt a b ≡ true
-lt-is a b is = grind (arith, ints)
 
 -- a cancel bears on no time that is reached
 cancel_off : (a b c : Bool) → (b ≡ true → c ≡ false) → (not (or_so a b) && c) ≡ (not a && c)

@@ -4,9 +4,11 @@ use Rattle.std.specs.Prelude.{ℤ, pos, ◌+ℤ◌, ◌<ℤ◌, ◌≤ℤ◌, in
 use Rattle.std.proofs.lemmas.Int.{ints}
 use Rattle.std.proofs.lemmas.Bool.{and_from, and_parts, not-true}
 use Rattle.ts_packet.proofs.Cases.{by_test}
-use Rattle.cue_laws.specs.Events.{Turn, LineEvent, Started, Cancelled, Ended, before, stands, is_of, can_start, fresh, can_cancel, cancel_by, can_end, end_by, In}
+use Rattle.pes_time.proofs.IntLemmas.{lt-test, ge-test, lt-is}
+use Rattle.ts_packet.specs.Membership.{In}
+use Rattle.cue_laws.specs.Events.{Turn, LineEvent, Started, Cancelled, Ended, before, stands, is_of, can_start, fresh, can_cancel, cancel_by, can_end, end_by}
 use Rattle.cue_laws.specs.Cueing.{Known, is_cancel_new, or_else, is_news, current, limit, is_due, is_second, end_on, cancel_on, repeat_on, told_on}
-use Rattle.cue_laws.proofs.Settling.{lt-test, ge-test, lt-is, can_end-parts}
+use Rattle.cue_laws.proofs.Settling.{can_end-parts}
 use Rattle.cue_laws.proofs.Lists.{Distinct}
 use Rattle.cue_laws.proofs.Orders.{Orderly, orderly-clear, orderly-tail, before-more, is_of-is, Clear, or-left, or-right}
 use Rattle.cue_laws.proofs.Below.{start_taken}

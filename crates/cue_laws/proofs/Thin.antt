@@ -3,10 +3,11 @@ use Rattle.std.proofs.Common.{◌≡◌, ℕ, ◌<◌, zero, suc, true, false, �
 use Rattle.std.specs.Prelude.{ℤ, map, if◌then◌else◌}
 use Rattle.std.proofs.lemmas.Int.{ints}
 use Rattle.ts_packet.proofs.Cases.{by_test}
-use Rattle.cue_laws.specs.Events.{Turn, LineEvent, Started, Cancelled, Ended, Passed, high, events, taken, is_of, can_start, fresh, can_cancel, cancel_by, can_end, end_by, In}
+use Rattle.ts_packet.specs.Membership.{In}
+use Rattle.ts_packet.proofs.MembershipLemmas.{In-mapped}
+use Rattle.cue_laws.specs.Events.{Turn, LineEvent, Started, Cancelled, Ended, Passed, high, events, taken, is_of, can_start, fresh, can_cancel, cancel_by, can_end, end_by}
 use Rattle.cue_laws.specs.Thinning.{MayCome, MayAllCome, Repeats, times, thinned, KeepsEnds}
 use Rattle.cue_laws.proofs.Settling.{can_end-parts}
-use Rattle.cue_laws.proofs.Lists.{In-mapped}
 use Rattle.cue_laws.proofs.Orders.{Orderly, orderly, orderly_step, or-right, end-shrinks, stands-back, is_of-parts, is_of-is}
 use Rattle.cue_laws.proofs.Below.{Below, below-none, IsThere, skip_start, skip_cancel, take_start, take_cancel, take_end}
 

@@ -4,13 +4,15 @@ use Rattle.std.proofs.Common.{◌≡◌, ◌⊎◌, inl, inr, refl, sym, ap, ◌
 use Rattle.std.proofs.lemmas.Int.{ints}
 use Rattle.std.proofs.lemmas.Bool.{not-true}
 use Rattle.ts_packet.proofs.Cases.{by_test}
-use Rattle.cue_laws.specs.Events.{LineEvent, Passed, events, In}
+use Rattle.pes_time.proofs.IntLemmas.{lt-test, ge-test}
+use Rattle.ts_packet.specs.Membership.{In}
+use Rattle.ts_packet.proofs.MembershipLemmas.{In-filter, In-filtered}
+use Rattle.cue_laws.specs.Events.{LineEvent, Passed, events}
 use Rattle.cue_laws.specs.Thinning.{thinned}
 use Rattle.cue_laws.specs.Cueing.{cued}
 use Rattle.cue_laws.specs.Tables.{put_by_start, by_start, is_uncancelled, uncancelled_events}
 use Rattle.cue_laws.specs.Laws.{UncancelledEventsAgree}
-use Rattle.cue_laws.proofs.Settling.{lt-test, ge-test}
-use Rattle.cue_laws.proofs.Lists.{In-filter, In-filtered, Distinct, distinct-filter}
+use Rattle.cue_laws.proofs.Lists.{Distinct, distinct-filter}
 use Rattle.cue_laws.proofs.Orders.{Orderly}
 use Rattle.cue_laws.proofs.Below.{Below}
 use Rattle.cue_laws.proofs.Thin.{below}

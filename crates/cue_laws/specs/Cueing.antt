@@ -1,6 +1,7 @@
 -- What the injector sends: its events with what was told of each, and the stream of cues of a run of accepted requests.
 use Rattle.std.specs.Prelude.{◌≡◌, Bool, true, false, not, ◌&&◌, if◌then◌else◌, List, [], ◌∷◌, map, ℤ, pos, ◌+ℤ◌, int_le, int_lt, Option, None, Some}
-use Rattle.cue_laws.specs.Events.{Turn, Started, Cancelled, Ended, Passed, LineEvent, high, before, events, can_start, can_cancel, can_end, fresh, cancel_by, end_by, In}
+use Rattle.ts_packet.specs.Membership.{In}
+use Rattle.cue_laws.specs.Events.{Turn, Started, Cancelled, Ended, Passed, LineEvent, high, before, events, can_start, can_cancel, can_end, fresh, cancel_by, end_by}
 use Rattle.unit_stream.specs.Clocks.{Rises}
 
 -- the request may be accepted behind these turns

@@ -1,6 +1,7 @@
 -- The laws, over the definitions alone.
 use Rattle.std.specs.Prelude.{◌≡◌, ◌↔◌, ◌⊎◌, ℕ, true, false, List, ◌∷◌, ℤ, Option, pos, ◌+ℤ◌}
-use Rattle.cue_laws.specs.Events.{Turn, Started, Passed, LineEvent, high, before, events, NeverFalls, holders, upon, In}
+use Rattle.ts_packet.specs.Membership.{In}
+use Rattle.cue_laws.specs.Events.{Turn, Started, Passed, LineEvent, high, before, events, NeverFalls, holders, upon}
 use Rattle.cue_laws.specs.Thinning.{MayAllCome, thinned, IsThinned, KeepsEnough, KeepsStart, KeepsCancel, KeepsEnds, LeavesOutRepeats}
 use Rattle.cue_laws.specs.Cueing.{IsRun, cued}
 use Rattle.cue_laws.specs.Tables.{standing, uncancelled_events}

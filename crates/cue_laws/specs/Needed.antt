@@ -1,6 +1,7 @@
 -- Why the premises of thinning stand there: runs that lack one of them alone.
 use Rattle.std.specs.Prelude.{◌≡◌, ℕ, true, false, List, [], ◌∷◌, pos, Some}
-use Rattle.cue_laws.specs.Events.{Turn, Started, Cancelled, Ended, Passed, LineEvent, events, In}
+use Rattle.ts_packet.specs.Membership.{In}
+use Rattle.cue_laws.specs.Events.{Turn, Started, Cancelled, Ended, Passed, LineEvent, events}
 use Rattle.cue_laws.specs.Thinning.{thinned, KeepsStart, KeepsCancel, KeepsEnds}
 use Rattle.cue_laws.specs.Cueing.{IsRun, cued}
 

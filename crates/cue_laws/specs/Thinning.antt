@@ -1,6 +1,7 @@
 -- Streams of cues: those that a splicer which misses nothing can obey, and what is left of one on the way.
 use Rattle.std.specs.Prelude.{◌≡◌, ℕ, ◌<◌, ◌==◌, zero, suc, true, false, ◌⊎◌, List, [], ◌∷◌, length, filter, ℤ, Option, None, Some, is_some}
-use Rattle.cue_laws.specs.Events.{Turn, Started, Cancelled, Ended, Passed, LineEvent, high, before, events, is_of, can_start, name_of, In, upon}
+use Rattle.ts_packet.specs.Membership.{In}
+use Rattle.cue_laws.specs.Events.{Turn, Started, Cancelled, Ended, Passed, LineEvent, high, before, events, is_of, can_start, name_of, upon}
 use Rattle.unit_stream.specs.Clocks.{Rises}
 
 -- the event is there as it was first asked for

@@ -11,7 +11,7 @@ use Rattle.ts_packet.specs.Runs.{onto}
 use Rattle.ts_packet.proofs.Cases.{by_test}
 use Rattle.ts_packet.proofs.RunLemmas.{onto-append}
 use Rattle.psi_section.specs.Sections.{given, sections_after}
-use Rattle.psi_section.proofs.GivenLemmas.{All-both}
+use Rattle.psi_section.proofs.GivenLemmas.{each-append}
 use Rattle.psi_section.proofs.ReadBackLemmas.{IsPayloadOn, turn_carry}
 use Rattle.psi_section.proofs.RunLemmas.{Alike, given_on, alike_on, alike_off, alike_none, alike_back, others_alike}
 use Rattle.psi_tables.specs.declared.fault.TableFault.{TableFault}
@@ -174,7 +174,7 @@ module _ (wanted : Option ℕ) (cue : ℕ) where
         other = pid_parts wanted cue not_pat out l s.sound known_out
 
         both : AllByRecursion (IsOfBoth wanted cue not_pat l) (cues p past ++ packets)
-        both = All-both (IsOfBoth wanted cue not_pat l) (cues p past) packets
+        both = each-append (IsOfBoth wanted cue not_pat l) (cues p past) packets
             (Each-map (On cue) (IsOfBoth wanted cue not_pat l) (λ q h. inl h) (cues p past) all.0)
             (Each-map (On l.pid) (IsOfBoth wanted cue not_pat l) (λ q h. inr h) packets (carried-on l.pid packets carry))
 
@@ -201,7 +201,7 @@ module _ (wanted : Option ℕ) (cue : ℕ) where
         written_out : GoesOn (onto out (cues p past ++ packets))
         written_out =
             let end = onto out (cues p past ++ packets) in
-            let offs = All-both (Off 0) (cues p past) packets (ons_off cue 0 (cues p past) not_pat all.0) (carry_off l.pid 0 packets other.0 carry) in
+            let offs = each-append (Off 0) (cues p past) packets (ons_off cue 0 (cues p past) not_pat all.0) (carry_off l.pid 0 packets other.0 carry) in
             let z = others_alike 0 (cues p past ++ packets) out past offs s.zero in
             let off = (ons_off l.pid 0 (p ∷ []) other.0 (y, tt)).0 in (
               block_sound wanted cue not_pat l (cues p past ++ packets) out known_out s.sound both maps_sound,

@@ -14,12 +14,12 @@ use Rattle.psi_tables.specs.ProgramMap.{ProgramMap, streams_of}
 use Rattle.unit_stream.specs.Faults.{unit_fault}
 use Rattle.program_follower.specs.declared.purpose.Purpose.{Purpose}
 use Rattle.program_follower.specs.declared.purpose.Listed.{Listed}
-use Rattle.program_follower.specs.Program.{first_listed, listed, Table, tables, all_tables, first_map, known_map, program_in, program_of, behind_head, pids_of}
+use Rattle.program_follower.specs.Program.{first_listed, listed, tables, all_tables, first_map, known_map, program_in, program_of, behind_head, pids_of}
 use Rattle.program_follower.specs.Faults.{is_pid, if_bad, pmt_pid_fault, pats_fault, pids_in, bad_pid, bad_switched, tables_fault, maps_fault, as_network, network_fault, first_fault}
 use Rattle.program_follower.proofs.OptionLemmas.{option_or-none, none_both}
 use Rattle.program_follower.proofs.StepLemmas.{tables_off, known_off}
 use Rattle.program_laws.specs.Cued.{On}
-use Rattle.program_laws.proofs.FaultLemmas.{not_if_bad, MapSound, all_sound, pid_good}
+use Rattle.program_laws.proofs.FaultLemmas.{not_if_bad, MapSound, all_sound, pid_good, first_sound}
 use Rattle.program_laws.proofs.ReadingLemmas.{no_tables, none_at_pat}
 use Rattle.program_laws.proofs.WritingLemmas.{off_other}
 use Rattle.program_laws.proofs.HeadLemmas.{nothing_behind}
@@ -43,15 +43,6 @@ not_one a f is (pid ∷ pids) none q y =
     let other : a ≡ pid → ⊥ = (λ e. let g : true ≡ false = sym is ∙ ap f e ∙ r.0 in cc) in
     let n : on pid q ≡ false = off_other a pid q other y in
     ap (λ b. b || on_one pids q) n ∙ not_one a f is pids r.1 q y
-
--- what no fault says of the first map
-map_sound : (c : Purpose) (pid : ℕ) (ts : List Table) → AllByRecursion (λ (t : Table). MapSound c pid t.program_map) ts → MapSound c pid (first_map ts)
-map_sound c pid [] h = tt
-map_sound c pid (t ∷ ts) h = by t.program_map h.0 (map_sound c pid ts h.1)
-  where
-    by : (o : Option ProgramMap) → MapSound c pid o → MapSound c pid (first_map ts) → MapSound c pid (option_or o (first_map ts))
-    by None k later = later
-    by (Some m) k later = k
 
 module _ (wanted : Option ℕ) (cue : ℕ) (not_pat : cue ≡ 0 → ⊥) where
   abbrev R : Purpose
@@ -84,7 +75,7 @@ module _ (wanted : Option ℕ) (cue : ℕ) (not_pat : cue ≡ 0 → ⊥) where
       not_one pid (bad_pid pid) (or_true (pid == 0) (pid == pid) (eq-eqb pid pid refl)) (pids_in (switched_of (streams_of m))) (any_switched (bad_pid pid) (streams_of m) r.1) q y
 
   sound_at : (out : List (List ℕ)) (l : Listed) → first_fault R out ≡ None → listed wanted out ≡ Some l → MapSound R l.pid (known_map wanted out)
-  sound_at out l ok known = map_sound R l.pid (all_tables wanted out) (all_sound R out l ok known)
+  sound_at out l ok known = first_sound R l.pid (all_tables wanted out) (all_sound R out l ok known)
 
   pub cue_of_none : (out : List (List ℕ)) → first_fault R out ≡ None → (q : List ℕ) → on cue q ≡ true → on_one (pids_of (program_of wanted out)) q ≡ false
   cue_of_none out ok q y = by (listed wanted out) refl

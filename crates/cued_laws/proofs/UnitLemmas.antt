@@ -12,6 +12,7 @@ use Rattle.unit_stream.specs.Faults.{scrambled_one, start_fault, unit_fault}
 use Rattle.unit_stream.specs.declared.fault.UnitFault.TheVariants.{Scrambled}
 use Rattle.program_laws.specs.Behind.{TakesAll}
 use Rattle.program_laws.proofs.CuedLemmas.{takes_within}
+use Rattle.unit_stream.proofs.ClockLemmas.{begins_off_all}
 
 -- ---- a packet of no switched PID
 
@@ -23,18 +24,10 @@ scrambled_off (pid ∷ pids) q n =
     let m = scrambled_off pids q r.1 in
     simp k m
 
-begins_off : (pids : List ℕ) (q : List ℕ) (past : List (List ℕ)) → on_one pids q ≡ false → begins_one pids q past ≡ false
-begins_off [] q past n = refl
-begins_off (pid ∷ pids) q past n =
-    let r = or_parts (on pid q) (on_one pids q) n in
-    let k = off_payload pid q r.0 in
-    let m = begins_off pids q past r.1 in
-    simp k m
-
 pub unit_off : (pids : List ℕ) (q : List ℕ) (past : List (List ℕ)) → on_one pids q ≡ false → unit_fault pids q past ≡ None
 unit_off pids q past n =
     let s = scrambled_off pids q n in
-    let b = begins_off pids q past n in
+    let b = begins_off_all pids q past n in
     simp (s, b)
 
 -- ---- the same packets of the switched PIDs

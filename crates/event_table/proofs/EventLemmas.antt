@@ -5,6 +5,7 @@ use Rattle.std.proofs.lemmas.Int.{ints}
 use Rattle.std.proofs.lemmas.Bool.Decides.{nat_tests}
 use Rattle.pes_time.specs.Line.{signed, ring_of, lift}
 use Rattle.pes_time.proofs.LineLemmas.{ring-lift, lift-above, lift-below}
+use Rattle.pes_time.proofs.IntLemmas.{lt-test}
 use Rattle.event_table.specs.declared.event.Event.{Event}
 use Rattle.event_table.specs.Rings.{is_before_on_ring}
 use Rattle.event_table.specs.Events.{covers_on_ring, meets_on_ring, repeats_on_ring, ring_end, IsArmable}
@@ -29,9 +30,6 @@ early-by start time false = grind (arith, ints)
 pub ahead-of : (high time : ℤ) → (int_lt high time && int_le time (high +ℤ pos (2 ^ 29))) ≡ true → high <ℤ time
 ahead-of high time is = grind (arith, ints)
 
-lt-true : (a b : ℤ) → int_lt a b ≡ true → a <ℤ b
-lt-true a b is = grind (arith, ints)
-
 -- the test of two numbers that are read as two others
 pub read-same : (a b p q : ℕ) → a ≡ p → b ≡ q → a ≡ b → (p == q) ≡ true
 read-same a b p q a_is b_is same = let is : p ≡ q = cc in grind (arith, nat_tests)
@@ -55,7 +53,7 @@ meets-least false end time other_start before apart = refl
 pub meets-less : (start end time other_start other_end : ℤ) → int_lt start time ≡ true → int_lt time end ≡ true
     → (int_lt start other_end && int_lt other_start end) ≡ false → (int_lt start other_end && int_lt other_start (start +ℤ pos (unsigned_abs (time -ℤ start)))) ≡ false
 meets-less start end time other_start other_end past before apart =
-    rw (ending-end start time (lt-true start time past)) (meets-least (int_lt start other_end) end time other_start (lt-true time end before) apart)
+    rw (ending-end start time (lt-test start time past)) (meets-least (int_lt start other_end) end time other_start (lt-test time end before) apart)
 
 pub early-parts : (start time end : ℤ) → (int_lt start time && int_lt time end) ≡ true → (start <ℤ time) × (time <ℤ end)
 early-parts start time end early = (grind (arith, ints), grind (arith, ints))
@@ -70,7 +68,7 @@ next-window high way later is above below = record { low = omega (arith, ints); 
 
 pub next-reach : (high way later : ℤ) (s : Standing) → later ≡ high +ℤ way → pos 0 ≤ℤ way → IsInReach high s → int_lt later (forgotten_at s) ≡ true → IsInReach later s
 next-reach high way later s is above reach stands =
-    record { some = reach.some; shortened = reach.shortened; most = reach.most; start = omega (arith, ints); stands = lt-true later (forgotten_at s) stands }
+    record { some = reach.some; shortened = reach.shortened; most = reach.most; start = omega (arith, ints); stands = lt-test later (forgotten_at s) stands }
 
 pub high-window : (high : ℤ) → InWindow high high
 high-window high = record { low = omega (arith, ints); top = omega (arith, ints) }

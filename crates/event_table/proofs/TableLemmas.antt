@@ -39,42 +39,42 @@ any-entry p t = sym (list_any-map (λ entry. entry.event) (λ _. Unit {0}) p (λ
 pub place-entry : {T : Type 0} (p : Event → Bool) (t : Table T) → position (λ entry. p entry.event) t.entries.items ≡ position p (events_of t)
 place-entry p t = sym (position-map (λ entry. entry.event) (λ _. Unit {0}) p (λ entry. p entry.event) (λ _ _. refl) t.entries.items (λ k d below. tt))
 
-pub place-id : {T : Type 0} (t : Table T) (line : Option ℤ) (standing : List Standing) (id : ℕ) → StandsFor t line standing
+pub place-id : {T : Type 0} (t : Table T) (latest : Option ℤ) (standing : List Standing) (id : ℕ) → StandsFor t latest standing
     → position (λ entry. entry.event.id == id) t.entries.items ≡ position (has_id id) standing
-place-id t line standing id stands =
-    place-entry (λ e. e.id == id) t ∙ rw stands.events (position-map on_ring (IsWithin line) (λ e. e.id == id) (has_id id) (λ s _. refl) standing stands.within)
+place-id t latest standing id stands =
+    place-entry (λ e. e.id == id) t ∙ rw stands.events (position-map on_ring (IsWithin latest) (λ e. e.id == id) (has_id id) (λ s _. refl) standing stands.within)
 
-pub length-entries : {T : Type 0} (t : Table T) (line : Option ℤ) (standing : List Standing) → StandsFor t line standing → length t.entries.items ≡ length standing
-length-entries t line standing stands =
+pub length-entries : {T : Type 0} (t : Table T) (latest : Option ℤ) (standing : List Standing) → StandsFor t latest standing → length t.entries.items ≡ length standing
+length-entries t latest standing stands =
     sym (length-map t.entries.items (λ entry. entry.event)) ∙ ap length stands.events ∙ length-map standing on_ring
 
-repeats-within : (line : Option ℤ) (e : Event) → e.start < 2 ^ 33 → (s : Standing) → IsWithin line s → repeats_on_ring e (on_ring s) ≡ repeats (on_line line e) s
+repeats-within : (latest : Option ℤ) (e : Event) → e.start < 2 ^ 33 → (s : Standing) → IsWithin latest s → repeats_on_ring e (on_ring s) ≡ repeats (on_line latest e) s
 repeats-within None e fits s nothing = absurd nothing
 repeats-within (Some high) e fits s reach = repeats-near high e fits s reach
 
-covers-within : (line : Option ℤ) (p : ℕ) → p < 2 ^ 33 → (s : Standing) → IsWithin line s → covers_on_ring (on_ring s) p ≡ covers (place_of line p) s
+covers-within : (latest : Option ℤ) (p : ℕ) → p < 2 ^ 33 → (s : Standing) → IsWithin latest s → covers_on_ring (on_ring s) p ≡ covers (place_of latest p) s
 covers-within None p fits s nothing = absurd nothing
 covers-within (Some high) p fits s reach = covers-near high p fits s reach
 
-pub any-repeats : {T : Type 0} (t : Table T) (line : Option ℤ) (standing : List Standing) (e : Event) → e.start < 2 ^ 33 → StandsFor t line standing
-    → list_any (λ entry. repeats_on_ring e entry.event) t.entries.items ≡ list_any (repeats (on_line line e)) standing
-any-repeats t line standing e fits stands = any-entry (repeats_on_ring e) t ∙ rw stands.events (list_any-map on_ring (IsWithin line) _ _ (repeats-within line e fits) standing stands.within)
+pub any-repeats : {T : Type 0} (t : Table T) (latest : Option ℤ) (standing : List Standing) (e : Event) → e.start < 2 ^ 33 → StandsFor t latest standing
+    → list_any (λ entry. repeats_on_ring e entry.event) t.entries.items ≡ list_any (repeats (on_line latest e)) standing
+any-repeats t latest standing e fits stands = any-entry (repeats_on_ring e) t ∙ rw stands.events (list_any-map on_ring (IsWithin latest) _ _ (repeats-within latest e fits) standing stands.within)
 
-pub find-covers : {T : Type 0} (t : Table T) (line : Option ℤ) (standing : List Standing) (p : ℕ) → p < 2 ^ 33 → StandsFor t line standing
-    → position (λ entry. covers_on_ring entry.event p) t.entries.items ≡ position (covers (place_of line p)) standing
-find-covers t line standing p fits stands = place-entry (λ e. covers_on_ring e p) t ∙ rw stands.events (position-map on_ring (IsWithin line) _ _ (covers-within line p fits) standing stands.within)
+pub find-covers : {T : Type 0} (t : Table T) (latest : Option ℤ) (standing : List Standing) (p : ℕ) → p < 2 ^ 33 → StandsFor t latest standing
+    → position (λ entry. covers_on_ring entry.event p) t.entries.items ≡ position (covers (place_of latest p)) standing
+find-covers t latest standing p fits stands = place-entry (λ e. covers_on_ring e p) t ∙ rw stands.events (position-map on_ring (IsWithin latest) _ _ (covers-within latest p fits) standing stands.within)
 
-pub any-has_id : {T : Type 0} (t : Table T) (line : Option ℤ) (standing : List Standing) (id : ℕ) → StandsFor t line standing
+pub any-has_id : {T : Type 0} (t : Table T) (latest : Option ℤ) (standing : List Standing) (id : ℕ) → StandsFor t latest standing
     → list_any (λ entry. entry.event.id == id) t.entries.items ≡ list_any (has_id id) standing
-any-has_id t line standing id stands = any-entry (λ e. e.id == id) t ∙ rw stands.events (list_any-map on_ring (IsWithin line) (λ e. e.id == id) (has_id id) (λ s _. refl) standing stands.within)
+any-has_id t latest standing id stands = any-entry (λ e. e.id == id) t ∙ rw stands.events (list_any-map on_ring (IsWithin latest) (λ e. e.id == id) (has_id id) (λ s _. refl) standing stands.within)
 
 meets-within : (high : ℤ) (e : Event) → e.start < 2 ^ 33 → CanArm (Some (ring_of high)) e → (s : Standing) → IsInReach high s
     → meets_on_ring e (on_ring s) ≡ meets (on_line (Some high) e) s
 meets-within high e fits can s reach =
     ap (λ a. meets_on_ring a (on_ring s)) (sym (on_ring-on_line high e fits)) ∙ meets-near high (on_line (Some high) e) s (armable-reach high e fits can) reach
 
-pub any-meets : {T : Type 0} (t : Table T) (line : Option ℤ) (standing : List Standing) (e : Event) → e.start < 2 ^ 33 → CanArm t.last e → StandsFor t line standing
-    → list_any (λ entry. meets_on_ring e entry.event) t.entries.items ≡ list_any (meets (on_line line e)) standing
+pub any-meets : {T : Type 0} (t : Table T) (latest : Option ℤ) (standing : List Standing) (e : Event) → e.start < 2 ^ 33 → CanArm t.last e → StandsFor t latest standing
+    → list_any (λ entry. meets_on_ring e entry.event) t.entries.items ≡ list_any (meets (on_line latest e)) standing
 any-meets t None standing e fits can stands = absurd (subst (λ h. CanArm h e) stands.high can)
 any-meets t (Some high) standing e fits can stands =
     any-entry (meets_on_ring e) t ∙ rw stands.events (list_any-map on_ring (IsInReach high) _ _ (meets-within high e fits (subst (λ h. CanArm h e) stands.high can)) standing stands.within)
@@ -94,8 +94,8 @@ pub arm-new : (standing : List Standing) (n : Standing) → list_any (repeats n)
     → list_any (meets n) standing ≡ false → Ok New ≡ arm_answer standing n
 arm-new standing n r i f m = rw (r, i, f, m) refl
 
-pub is_full-items : {T : Type 0} (t : Table T) (line : Option ℤ) (standing : List Standing) → StandsFor t line standing → (length t.entries.items == 32) ≡ is_full standing
-is_full-items t line standing stands = ap (λ n. n == 32) (length-entries t line standing stands)
+pub is_full-items : {T : Type 0} (t : Table T) (latest : Option ℤ) (standing : List Standing) → StandsFor t latest standing → (length t.entries.items == 32) ≡ is_full standing
+is_full-items t latest standing stands = ap (λ n. n == 32) (length-entries t latest standing stands)
 
 -- one entry more
 pub pushed-events : {T : Type 0} (entries entries' : List (Entry T)) (entry : Entry T) → entries' ≡ entries ++ entry ∷ []
@@ -126,17 +126,17 @@ put-same_values entries entries' place old entry items at same =
     ap (map (λ x. x.value)) items ∙ map-set_same (λ x. x.value) entries place entry old (same ∙ ap (λ x. x.value) at)
 
 -- a table with the events and the high time of another stands for what that one does
-pub same-stands : {T : Type 0} (t t' : Table T) (line : Option ℤ) (standing : List Standing) → t'.last ≡ t.last → events_of t' ≡ events_of t → StandsFor t line standing → StandsFor t' line standing
-same-stands t t' line standing high events stands = record { high = high ∙ stands.high; events = events ∙ stands.events; within = stands.within; apart = stands.apart }
+pub same-stands : {T : Type 0} (t t' : Table T) (latest : Option ℤ) (standing : List Standing) → t'.last ≡ t.last → events_of t' ≡ events_of t → StandsFor t latest standing → StandsFor t' latest standing
+same-stands t t' latest standing high events stands = record { high = high ∙ stands.high; events = events ∙ stands.events; within = stands.within; apart = stands.apart }
 
 -- with no high time nothing may be armed
 pub arm-line : {X T : Type 0} (t : Table T) (standing : List Standing) (e : Event) → CanArm t.last e → StandsFor t None standing → X
 arm-line t standing e can stands = absurd (subst (λ h. CanArm h e) stands.high can)
 
 -- the list with the event added behind all others
-pub arm-stands : {T : Type 0} (t t' : Table T) (line : Option ℤ) (standing : List Standing) (e : Event) → e.start < 2 ^ 33 → CanArm t.last e → StandsFor t line standing
-    → list_any (has_id e.id) standing ≡ false → list_any (meets (on_line line e)) standing ≡ false
-    → t'.last ≡ t.last → events_of t' ≡ events_of t ++ e ∷ [] → StandsFor t' line (standing ++ on_line line e ∷ [])
+pub arm-stands : {T : Type 0} (t t' : Table T) (latest : Option ℤ) (standing : List Standing) (e : Event) → e.start < 2 ^ 33 → CanArm t.last e → StandsFor t latest standing
+    → list_any (has_id e.id) standing ≡ false → list_any (meets (on_line latest e)) standing ≡ false
+    → t'.last ≡ t.last → events_of t' ≡ events_of t ++ e ∷ [] → StandsFor t' latest (standing ++ on_line latest e ∷ [])
 arm-stands t t' None standing e fits can stands new_id apart high items = arm-line t standing e can stands
 arm-stands t t' (Some h) standing e fits can stands new_id apart high items =
     let n : Standing = on_line (Some h) e in
@@ -151,24 +151,24 @@ arm-stands t t' (Some h) standing e fits can stands new_id apart high items =
     }
 
 -- the event of the line that a look-up by id found, and what stands at its place on the ring
-pub record Found (line : Option ℤ) (standing : List Standing) (id : ℕ) (e : Event) : Type 0 where
+pub record Found (latest : Option ℤ) (standing : List Standing) (id : ℕ) (e : Event) : Type 0 where
   pub event : Standing
   pub is : find (has_id id) standing ≡ Some event
   pub ring : on_ring event ≡ e
-  pub within : IsWithin line event
+  pub within : IsWithin latest event
 
-find-id : {T : Type 0} (t : Table T) (line : Option ℤ) (standing : List Standing) (id : ℕ) → StandsFor t line standing
+find-id : {T : Type 0} (t : Table T) (latest : Option ℤ) (standing : List Standing) (id : ℕ) → StandsFor t latest standing
     → find (λ e. e.id == id) (events_of t) ≡ option_map on_ring (find (has_id id) standing)
-find-id t line standing id stands = rw stands.events (find-map on_ring (IsWithin line) (λ e. e.id == id) (has_id id) (λ s _. refl) standing stands.within)
+find-id t latest standing id stands = rw stands.events (find-map on_ring (IsWithin latest) (λ e. e.id == id) (has_id id) (λ s _. refl) standing stands.within)
 
-pub found : {T : Type 0} (t : Table T) (line : Option ℤ) (standing : List Standing) (id place : ℕ) (e : Event) → StandsFor t line standing
-    → position (λ e. e.id == id) (events_of t) ≡ Some place → e ≡ slice_index_or (events_of t) place e → Found line standing id e
-found t line standing id place e stands is at =
-    from (find (has_id id) standing) refl (sym (find-id t line standing id stands) ∙ (found-at (λ e. e.id == id) e e (events_of t) place is at).0)
+pub found : {T : Type 0} (t : Table T) (latest : Option ℤ) (standing : List Standing) (id place : ℕ) (e : Event) → StandsFor t latest standing
+    → position (λ e. e.id == id) (events_of t) ≡ Some place → e ≡ slice_index_or (events_of t) place e → Found latest standing id e
+found t latest standing id place e stands is at =
+    from (find (has_id id) standing) refl (sym (find-id t latest standing id stands) ∙ (found-at (λ e. e.id == id) e e (events_of t) place is at).0)
   where
-    from : (o : Option Standing) → find (has_id id) standing ≡ o → option_map on_ring o ≡ Some e → Found line standing id e
+    from : (o : Option Standing) → find (has_id id) standing ≡ o → option_map on_ring o ≡ Some e → Found latest standing id e
     from None here is = absurd (let nothing : None ≡ Some e = is in cc)
-    from (Some s) here is = record { event = s; is = here; ring = cc; within = All-find (has_id id) (IsWithin line) s standing here stands.within }
+    from (Some s) here is = record { event = s; is = here; ring = cc; within = All-find (has_id id) (IsWithin latest) s standing here stands.within }
 
 -- the same of the place in the list of entries
 pub event-place : {T : Type 0} (t : Table T) (id : ℕ) {o : Option ℕ} → position (λ entry. entry.event.id == id) t.entries.items ≡ o → position (λ e. e.id == id) (events_of t) ≡ o
@@ -177,88 +177,88 @@ event-place t id is = sym (place-entry (λ e. e.id == id) t) ∙ is
 pub event-at : {T : Type 0} (t : Table T) (place : ℕ) (entry : Entry T) → entry ≡ slice_index_or t.entries.items place entry → entry.event ≡ slice_index_or (events_of t) place entry.event
 event-at t place entry at = ap (λ x. x.event) at ∙ sym (get_or-map (λ x. x.event) t.entries.items place entry)
 
-pub nothing-found : {T : Type 0} (t : Table T) (line : Option ℤ) (standing : List Standing) (id : ℕ) → StandsFor t line standing
+pub nothing-found : {T : Type 0} (t : Table T) (latest : Option ℤ) (standing : List Standing) (id : ℕ) → StandsFor t latest standing
     → position (λ e. e.id == id) (events_of t) ≡ None → find (has_id id) standing ≡ None
-nothing-found t line standing id stands is =
-    from (find (has_id id) standing) refl (sym (find-id t line standing id stands) ∙ not_found (λ e. e.id == id) (events_of t) is)
+nothing-found t latest standing id stands is =
+    from (find (has_id id) standing) refl (sym (find-id t latest standing id stands) ∙ not_found (λ e. e.id == id) (events_of t) is)
   where
     from : (o : Option Standing) → find (has_id id) standing ≡ o → option_map on_ring o ≡ None → find (has_id id) standing ≡ None
     from None here is = here
     from (Some s) here is = absurd (let nothing : Some (on_ring s) ≡ None = is in cc)
 
 -- the event found, changed on the ring and on the line
-pub changed-stands : {T : Type 0} (t t' : Table T) (line : Option ℤ) (standing : List Standing) (id place : ℕ) (e e' : Event) (change : Standing → Standing) (f : Found line standing id e)
-    → StandsFor t line standing → position (λ e. e.id == id) (events_of t) ≡ Some place → e ≡ slice_index_or (events_of t) place e
-    → on_ring (change f.event) ≡ e' → IsWithin line (change f.event)
+pub changed-stands : {T : Type 0} (t t' : Table T) (latest : Option ℤ) (standing : List Standing) (id place : ℕ) (e e' : Event) (change : Standing → Standing) (f : Found latest standing id e)
+    → StandsFor t latest standing → position (λ e. e.id == id) (events_of t) ≡ Some place → e ≡ slice_index_or (events_of t) place e
+    → on_ring (change f.event) ≡ e' → IsWithin latest (change f.event)
     → ((x : Standing) → IsApart f.event x → IsApart (change f.event) x) → ((x : Standing) → IsApart x f.event → IsApart x (change f.event))
-    → t'.last ≡ t.last → events_of t' ≡ slice_set (events_of t) place e' → StandsFor t' line (with_first (has_id id) change standing)
-changed-stands t t' line standing id place e e' change f stands is at ring within after before high items =
+    → t'.last ≡ t.last → events_of t' ≡ slice_set (events_of t) place e' → StandsFor t' latest (with_first (has_id id) change standing)
+changed-stands t t' latest standing id place e e' change f stands is at ring within after before high items =
     let one : with_first (has_id id) change standing ≡ with_first (has_id id) (λ _. change f.event) standing = with_first-found (has_id id) change f.event standing f.is in
     rw one (record {
       high = high ∙ stands.high;
       events = items ∙ (found-at (λ e. e.id == id) e' e (events_of t) place is at).1
           ∙ ap (λ xs. with_first (λ e. e.id == id) (λ _. e') xs) stands.events
           ∙ ap (λ y. with_first (λ e. e.id == id) (λ _. y) (map on_ring standing)) (sym ring)
-          ∙ with_first-map on_ring (IsWithin line) (λ e. e.id == id) (has_id id) (λ s _. refl) (change f.event) standing stands.within;
-      within = All-with_first (has_id id) (IsWithin line) (change f.event) within standing stands.within;
+          ∙ with_first-map on_ring (IsWithin latest) (λ e. e.id == id) (has_id id) (λ s _. refl) (change f.event) standing stands.within;
+      within = All-with_first (has_id id) (IsWithin latest) (change f.event) within standing stands.within;
       apart = AllPairs-with_first (has_id id) IsApart f.event (change f.event) after before standing f.is stands.apart;
     })
 
-has_begun-within : (line : Option ℤ) (s : Standing) → IsWithin line s → has_reached_on_ring (option_map ring_of line) (ring_of s.start) ≡ has_begun line s
+has_begun-within : (latest : Option ℤ) (s : Standing) → IsWithin latest s → has_reached_on_ring (option_map ring_of latest) (ring_of s.start) ≡ has_begun latest s
 has_begun-within None s nothing = absurd nothing
 has_begun-within (Some h) s reach =
     rw (before-window h h s.start (high-window h) (start-window h s reach)) (not-lt h s.start)
 
-pub reached : {T : Type 0} (t : Table T) (line : Option ℤ) (standing : List Standing) (id : ℕ) (e : Event) (f : Found line standing id e) → StandsFor t line standing
-    → has_reached_on_ring t.last e.start ≡ has_begun line f.event
-reached t line standing id e f stands =
+pub reached : {T : Type 0} (t : Table T) (latest : Option ℤ) (standing : List Standing) (id : ℕ) (e : Event) (f : Found latest standing id e) → StandsFor t latest standing
+    → has_reached_on_ring t.last e.start ≡ has_begun latest f.event
+reached t latest standing id e f stands =
     let start : e.start ≡ ring_of f.event.start = sym (ap (λ x. x.start) f.ring) in
-    rw (stands.high, start) (has_begun-within line f.event f.within)
+    rw (stands.high, start) (has_begun-within latest f.event f.within)
 
-pub cancel-nothing : (line : Option ℤ) (standing : List Standing) (id : ℕ) → find (has_id id) standing ≡ None → Err NoSuchEvent ≡ cancel_answer line standing id
-cancel-nothing line standing id is = rw is refl
+pub cancel-nothing : (latest : Option ℤ) (standing : List Standing) (id : ℕ) → find (has_id id) standing ≡ None → Err NoSuchEvent ≡ cancel_answer latest standing id
+cancel-nothing latest standing id is = rw is refl
 
-pub cancel-late : (line : Option ℤ) (standing : List Standing) (id : ℕ) (s : Standing) → find (has_id id) standing ≡ Some s → has_begun line s ≡ true → Err TooLate ≡ cancel_answer line standing id
-cancel-late line standing id s is begun = rw (is, begun) refl
+pub cancel-late : (latest : Option ℤ) (standing : List Standing) (id : ℕ) (s : Standing) → find (has_id id) standing ≡ Some s → has_begun latest s ≡ true → Err TooLate ≡ cancel_answer latest standing id
+cancel-late latest standing id s is begun = rw (is, begun) refl
 
-pub cancel-done : (line : Option ℤ) (standing : List Standing) (id : ℕ) (s : Standing) → find (has_id id) standing ≡ Some s → has_begun line s ≡ false → Ok tt ≡ cancel_answer line standing id
-cancel-done line standing id s is begun = rw (is, begun) refl
+pub cancel-done : (latest : Option ℤ) (standing : List Standing) (id : ℕ) (s : Standing) → find (has_id id) standing ≡ Some s → has_begun latest s ≡ false → Ok tt ≡ cancel_answer latest standing id
+cancel-done latest standing id s is begun = rw (is, begun) refl
 
-cancelled-within : (line : Option ℤ) (s : Standing) → IsWithin line s → IsWithin line (cancelled_one s)
+cancelled-within : (latest : Option ℤ) (s : Standing) → IsWithin latest s → IsWithin latest (cancelled_one s)
 cancelled-within None s nothing = nothing
 cancelled-within (Some h) s reach = record { some = reach.some; shortened = reach.shortened; most = reach.most; start = reach.start; stands = reach.stands }
 
-pub cancelled-stands : {T : Type 0} (t t' : Table T) (line : Option ℤ) (standing : List Standing) (id place : ℕ) (e : Event) → StandsFor t line standing
+pub cancelled-stands : {T : Type 0} (t t' : Table T) (latest : Option ℤ) (standing : List Standing) (id place : ℕ) (e : Event) → StandsFor t latest standing
     → position (λ e. e.id == id) (events_of t) ≡ Some place → e ≡ slice_index_or (events_of t) place e
-    → t'.last ≡ t.last → events_of t' ≡ slice_set (events_of t) place (cancelled_event e) → StandsFor t' line (with_cancelled id standing)
-cancelled-stands t t' line standing id place e stands is at high items =
-    let f = found t line standing id place e stands is at in
-    changed-stands t t' line standing id place e (cancelled_event e) cancelled_one f stands is at
-    (ap cancelled_event f.ring) (cancelled-within line f.event f.within)
+    → t'.last ≡ t.last → events_of t' ≡ slice_set (events_of t) place (cancelled_event e) → StandsFor t' latest (with_cancelled id standing)
+cancelled-stands t t' latest standing id place e stands is at high items =
+    let f = found t latest standing id place e stands is at in
+    changed-stands t t' latest standing id place e (cancelled_event e) cancelled_one f stands is at
+    (ap cancelled_event f.ring) (cancelled-within latest f.event f.within)
     (λ x apart. record { ids = apart.ids; times = apart.times }) (λ x apart. record { ids = apart.ids; times = apart.times }) high items
 
-pub shorten-nothing : (line : Option ℤ) (standing : List Standing) (id : ℕ) (time : ℤ) → find (has_id id) standing ≡ None → Err NothingToShorten ≡ shorten_answer line standing id time
-shorten-nothing line standing id time is = rw is refl
+pub shorten-nothing : (latest : Option ℤ) (standing : List Standing) (id : ℕ) (time : ℤ) → find (has_id id) standing ≡ None → Err NothingToShorten ≡ shorten_answer latest standing id time
+shorten-nothing latest standing id time is = rw is refl
 
-pub shorten-far : (line : Option ℤ) (standing : List Standing) (id : ℕ) (time : ℤ) (s : Standing) → find (has_id id) standing ≡ Some s → is_ahead_of line time ≡ false
-    → Err BadEnd ≡ shorten_answer line standing id time
-shorten-far line standing id time s is far = rw (is, far) refl
+pub shorten-far : (latest : Option ℤ) (standing : List Standing) (id : ℕ) (time : ℤ) (s : Standing) → find (has_id id) standing ≡ Some s → is_ahead_of latest time ≡ false
+    → Err BadEnd ≡ shorten_answer latest standing id time
+shorten-far latest standing id time s is far = rw (is, far) refl
 
-pub shorten-cancelled : (line : Option ℤ) (standing : List Standing) (id : ℕ) (time : ℤ) (s : Standing) → find (has_id id) standing ≡ Some s → is_ahead_of line time ≡ true
-    → s.cancelled ≡ true → Err BadEnd ≡ shorten_answer line standing id time
-shorten-cancelled line standing id time s is ahead cancelled = rw (is, ahead, cancelled) refl
+pub shorten-cancelled : (latest : Option ℤ) (standing : List Standing) (id : ℕ) (time : ℤ) (s : Standing) → find (has_id id) standing ≡ Some s → is_ahead_of latest time ≡ true
+    → s.cancelled ≡ true → Err BadEnd ≡ shorten_answer latest standing id time
+shorten-cancelled latest standing id time s is ahead cancelled = rw (is, ahead, cancelled) refl
 
-pub shorten-same : (line : Option ℤ) (standing : List Standing) (id : ℕ) (time : ℤ) (s : Standing) → find (has_id id) standing ≡ Some s → is_ahead_of line time ≡ true
-    → s.cancelled ≡ false → int_eq time (end_of s) ≡ true → Ok Same ≡ shorten_answer line standing id time
-shorten-same line standing id time s is ahead cancelled same = rw (is, ahead, cancelled, same) refl
+pub shorten-same : (latest : Option ℤ) (standing : List Standing) (id : ℕ) (time : ℤ) (s : Standing) → find (has_id id) standing ≡ Some s → is_ahead_of latest time ≡ true
+    → s.cancelled ≡ false → int_eq time (end_of s) ≡ true → Ok Same ≡ shorten_answer latest standing id time
+shorten-same latest standing id time s is ahead cancelled same = rw (is, ahead, cancelled, same) refl
 
-pub shorten-bad : (line : Option ℤ) (standing : List Standing) (id : ℕ) (time : ℤ) (s : Standing) → find (has_id id) standing ≡ Some s → is_ahead_of line time ≡ true
-    → s.cancelled ≡ false → int_eq time (end_of s) ≡ false → is_early_end s time ≡ false → Err BadEnd ≡ shorten_answer line standing id time
-shorten-bad line standing id time s is ahead cancelled same early = rw (is, ahead, cancelled, same, early) refl
+pub shorten-bad : (latest : Option ℤ) (standing : List Standing) (id : ℕ) (time : ℤ) (s : Standing) → find (has_id id) standing ≡ Some s → is_ahead_of latest time ≡ true
+    → s.cancelled ≡ false → int_eq time (end_of s) ≡ false → is_early_end s time ≡ false → Err BadEnd ≡ shorten_answer latest standing id time
+shorten-bad latest standing id time s is ahead cancelled same early = rw (is, ahead, cancelled, same, early) refl
 
-pub shorten-new : (line : Option ℤ) (standing : List Standing) (id : ℕ) (time : ℤ) (s : Standing) → find (has_id id) standing ≡ Some s → is_ahead_of line time ≡ true
-    → s.cancelled ≡ false → int_eq time (end_of s) ≡ false → is_early_end s time ≡ true → Ok New ≡ shorten_answer line standing id time
-shorten-new line standing id time s is ahead cancelled same early = rw (is, ahead, cancelled, same, early) refl
+pub shorten-new : (latest : Option ℤ) (standing : List Standing) (id : ℕ) (time : ℤ) (s : Standing) → find (has_id id) standing ≡ Some s → is_ahead_of latest time ≡ true
+    → s.cancelled ≡ false → int_eq time (end_of s) ≡ false → is_early_end s time ≡ true → Ok New ≡ shorten_answer latest standing id time
+shorten-new latest standing id time s is ahead cancelled same early = rw (is, ahead, cancelled, same, early) refl
 
 -- whether a time lies ahead of the high time, on the ring and on the line
 pub is_ahead-is : (h w : ℤ) → pos 0 <ℤ w → w ≤ℤ pos (2 ^ 29) → (int_lt h (h +ℤ w) && int_le (h +ℤ w) (h +ℤ pos (2 ^ 29))) ≡ true
@@ -267,37 +267,37 @@ is_ahead-is h w above below = grind (arith, ints)
 pub is_ahead-from : (h w : ℤ) → (int_lt h (h +ℤ w) && int_le (h +ℤ w) (h +ℤ pos (2 ^ 29))) ≡ true → (pos 0 <ℤ w) × (w ≤ℤ pos (2 ^ 29))
 is_ahead-from h w is = (grind (arith, ints), grind (arith, ints))
 
-pub is_ahead-line : (line : Option ℤ) (p : ℕ) → IsAheadOf (option_map ring_of line) p → is_ahead_of line (place_of line p) ≡ true
+pub is_ahead-line : (latest : Option ℤ) (p : ℕ) → IsAheadOf (option_map ring_of latest) p → is_ahead_of latest (place_of latest p) ≡ true
 is_ahead-line None p nothing = absurd nothing
 is_ahead-line (Some h) p ahead = is_ahead-is h (signed p (ring_of h)) ahead.above ahead.below
 
-pub is_ahead-line_from : (line : Option ℤ) (p : ℕ) → is_ahead_of line (place_of line p) ≡ true → IsAheadOf (option_map ring_of line) p
+pub is_ahead-line_from : (latest : Option ℤ) (p : ℕ) → is_ahead_of latest (place_of latest p) ≡ true → IsAheadOf (option_map ring_of latest) p
 is_ahead-line_from None p is = absurd (let no : false ≡ true = is in cc)
 is_ahead-line_from (Some h) p is = let parts = is_ahead-from h (signed p (ring_of h)) is in record { above = parts.0; below = parts.1 }
 
-is_ahead-told : (line : Option ℤ) (p : ℕ) (b : Bool) → (IsTrue b ↔ IsAheadOf (option_map ring_of line) p) → is_ahead_of line (place_of line p) ≡ b
-is_ahead-told line p true tells = is_ahead-line line p (tells.0 refl)
-is_ahead-told line p false tells = told (is_ahead_of line (place_of line p)) refl
+is_ahead-told : (latest : Option ℤ) (p : ℕ) (b : Bool) → (IsTrue b ↔ IsAheadOf (option_map ring_of latest) p) → is_ahead_of latest (place_of latest p) ≡ b
+is_ahead-told latest p true tells = is_ahead-line latest p (tells.0 refl)
+is_ahead-told latest p false tells = told (is_ahead_of latest (place_of latest p)) refl
   where
-    told : (b : Bool) → is_ahead_of line (place_of line p) ≡ b → b ≡ false
-    told true is = let no : false ≡ true = tells.1 (is_ahead-line_from line p is) in cc
+    told : (b : Bool) → is_ahead_of latest (place_of latest p) ≡ b → b ≡ false
+    told true is = let no : false ≡ true = tells.1 (is_ahead-line_from latest p is) in cc
     told false is = refl
 
-pub ahead-told : {T : Type 0} (t : Table T) (line : Option ℤ) (standing : List Standing) (p : ℕ) (b : Bool) → (IsTrue b ↔ IsAheadOf t.last p) → StandsFor t line standing
-    → is_ahead_of line (place_of line p) ≡ b
-ahead-told t line standing p b tells stands = is_ahead-told line p b (subst (λ h. IsTrue b ↔ IsAheadOf h p) stands.high tells)
+pub ahead-told : {T : Type 0} (t : Table T) (latest : Option ℤ) (standing : List Standing) (p : ℕ) (b : Bool) → (IsTrue b ↔ IsAheadOf t.last p) → StandsFor t latest standing
+    → is_ahead_of latest (place_of latest p) ≡ b
+ahead-told t latest standing p b tells stands = is_ahead-told latest p b (subst (λ h. IsTrue b ↔ IsAheadOf h p) stands.high tells)
 
 -- the end that is asked for lies ahead of the high time
 ahead-window : (high : ℤ) (p : ℕ) → IsAheadOnRing (ring_of high) p → InWindow high (lift high p)
 ahead-window high p ahead = let above = ahead.above in let below = ahead.below in record { low = omega (arith, ints); top = omega (arith, ints) }
 
-same-end-within : (line : Option ℤ) (p : ℕ) → p < 2 ^ 33 → IsAheadOf (option_map ring_of line) p → (s : Standing) → IsWithin line s
-    → (p == ring_end (on_ring s)) ≡ int_eq (place_of line p) (end_of s)
+same-end-within : (latest : Option ℤ) (p : ℕ) → p < 2 ^ 33 → IsAheadOf (option_map ring_of latest) p → (s : Standing) → IsWithin latest s
+    → (p == ring_end (on_ring s)) ≡ int_eq (place_of latest p) (end_of s)
 same-end-within None p fits nothing s within = absurd nothing
 same-end-within (Some h) p fits ahead s reach = rw (ring_end-on_ring s) (same-place h p (end_of s) fits (end-window h s reach))
 
-early-within : (line : Option ℤ) (p : ℕ) → p < 2 ^ 33 → IsAheadOf (option_map ring_of line) p → (s : Standing) → IsWithin line s
-    → ends_early_on_ring (on_ring s) p ≡ is_early_end s (place_of line p)
+early-within : (latest : Option ℤ) (p : ℕ) → p < 2 ^ 33 → IsAheadOf (option_map ring_of latest) p → (s : Standing) → IsWithin latest s
+    → ends_early_on_ring (on_ring s) p ≡ is_early_end s (place_of latest p)
 early-within None p fits nothing s within = absurd nothing
 early-within (Some h) p fits ahead s reach =
     let t : ℤ = lift h p in
@@ -317,7 +317,7 @@ ending-apart_from : (time : ℤ) (s x : Standing) → int_lt s.start time ≡ tr
 ending-apart_from time s x past before apart =
     record { ids = apart.ids; times = meets-comm x (ending_at time s) ∙ meets-less s.start (end_of s) time x.start (end_of x) past before (meets-comm s x ∙ apart.times) }
 
-ending-within : (line : Option ℤ) (s : Standing) (time : ℤ) → IsWithin line s → is_ahead_of line time ≡ true → is_early_end s time ≡ true → IsWithin line (ending_at time s)
+ending-within : (latest : Option ℤ) (s : Standing) (time : ℤ) → IsWithin latest s → is_ahead_of latest time ≡ true → is_early_end s time ≡ true → IsWithin latest (ending_at time s)
 ending-within None s time nothing ahead early = nothing
 ending-within (Some h) s time reach ahead early =
     let end : end_of (ending_at time s) ≡ time = ending-end s.start time (early-parts s.start time (end_of s) early).0 in
@@ -325,8 +325,8 @@ ending-within (Some h) s time reach ahead early =
     ending-reach h s time reach parts.0 (ahead-of h time ahead) parts.1
 
 -- the new length on the line is the way on the ring
-length-within : (line : Option ℤ) (p : ℕ) → p < 2 ^ 33 → IsAheadOf (option_map ring_of line) p → (s : Standing) → IsWithin line s
-    → unsigned_abs (place_of line p -ℤ s.start) ≡ unsigned_abs (signed p (ring_of s.start))
+length-within : (latest : Option ℤ) (p : ℕ) → p < 2 ^ 33 → IsAheadOf (option_map ring_of latest) p → (s : Standing) → IsWithin latest s
+    → unsigned_abs (place_of latest p -ℤ s.start) ≡ unsigned_abs (signed p (ring_of s.start))
 length-within None p fits nothing s within = absurd nothing
 length-within (Some h) p fits ahead s reach =
     let near = near-window h (lift h p) s.start (ahead-window h p ahead) (start-window h s reach) in
@@ -338,42 +338,42 @@ length-within (Some h) p fits ahead s reach =
 abbrev lasting : Event → ℕ → Event
 lasting e length = record e { length = length }
 
-pub shortened-stands : {T : Type 0} (t t' : Table T) (line : Option ℤ) (standing : List Standing) (id place : ℕ) (e : Event) (p : ℕ) → p < 2 ^ 33 → is_ahead_of line (place_of line p) ≡ true → StandsFor t line standing
+pub shortened-stands : {T : Type 0} (t t' : Table T) (latest : Option ℤ) (standing : List Standing) (id place : ℕ) (e : Event) (p : ℕ) → p < 2 ^ 33 → is_ahead_of latest (place_of latest p) ≡ true → StandsFor t latest standing
     → position (λ e. e.id == id) (events_of t) ≡ Some place → e ≡ slice_index_or (events_of t) place e
     → ends_early_on_ring e p ≡ true
-    → t'.last ≡ t.last → events_of t' ≡ slice_set (events_of t) place (ended_on_ring p e) → StandsFor t' line (with_end id (place_of line p) standing)
-shortened-stands t t' line standing id place e p fits can stands is at early high items =
-    let f = found t line standing id place e stands is at in
+    → t'.last ≡ t.last → events_of t' ≡ slice_set (events_of t) place (ended_on_ring p e) → StandsFor t' latest (with_end id (place_of latest p) standing)
+shortened-stands t t' latest standing id place e p fits can stands is at early high items =
+    let f = found t latest standing id place e stands is at in
     let s : Standing = f.event in
-    let can' : IsAheadOf (option_map ring_of line) p = is_ahead-line_from line p can in
-    let early' : is_early_end s (place_of line p) ≡ true
-    = sym (early-within line p fits can' s f.within) ∙ subst (λ x. ends_early_on_ring x p ≡ true) (sym f.ring) early in
-    let length : unsigned_abs (place_of line p -ℤ s.start) ≡ unsigned_abs (signed p (ring_of s.start)) = length-within line p fits can' s f.within in
-    let parts = and_parts (int_lt s.start (place_of line p)) (int_lt (place_of line p) (end_of s)) early' in
-    changed-stands t t' line standing id place e (ended_on_ring p e) (ending_at (place_of line p)) f stands is at
+    let can' : IsAheadOf (option_map ring_of latest) p = is_ahead-line_from latest p can in
+    let early' : is_early_end s (place_of latest p) ≡ true
+    = sym (early-within latest p fits can' s f.within) ∙ subst (λ x. ends_early_on_ring x p ≡ true) (sym f.ring) early in
+    let length : unsigned_abs (place_of latest p -ℤ s.start) ≡ unsigned_abs (signed p (ring_of s.start)) = length-within latest p fits can' s f.within in
+    let parts = and_parts (int_lt s.start (place_of latest p)) (int_lt (place_of latest p) (end_of s)) early' in
+    changed-stands t t' latest standing id place e (ended_on_ring p e) (ending_at (place_of latest p)) f stands is at
     (ap (lasting (on_ring s)) length ∙ ap (ended_on_ring p) f.ring)
-    (ending-within line s (place_of line p) f.within can early')
-    (λ x apart. ending-apart (place_of line p) s x parts.0 parts.1 apart)
-    (λ x apart. ending-apart_from (place_of line p) s x parts.0 parts.1 apart)
+    (ending-within latest s (place_of latest p) f.within can early')
+    (λ x apart. ending-apart (place_of latest p) s x parts.0 parts.1 apart)
+    (λ x apart. ending-apart_from (place_of latest p) s x parts.0 parts.1 apart)
     high items
 
 -- the answers' tests, at the event found
-pub same-end : {T : Type 0} (t : Table T) (line : Option ℤ) (standing : List Standing) (id : ℕ) (e : Event) (p : ℕ) (f : Found line standing id e) → p < 2 ^ 33 → is_ahead_of line (place_of line p) ≡ true → StandsFor t line standing
-    → (p == ring_end e) ≡ int_eq (place_of line p) (end_of f.event)
-same-end t line standing id e p f fits can stands =
-    subst (λ x. (p == ring_end x) ≡ int_eq (place_of line p) (end_of f.event)) f.ring (same-end-within line p fits (is_ahead-line_from line p can) f.event f.within)
+pub same-end : {T : Type 0} (t : Table T) (latest : Option ℤ) (standing : List Standing) (id : ℕ) (e : Event) (p : ℕ) (f : Found latest standing id e) → p < 2 ^ 33 → is_ahead_of latest (place_of latest p) ≡ true → StandsFor t latest standing
+    → (p == ring_end e) ≡ int_eq (place_of latest p) (end_of f.event)
+same-end t latest standing id e p f fits can stands =
+    subst (λ x. (p == ring_end x) ≡ int_eq (place_of latest p) (end_of f.event)) f.ring (same-end-within latest p fits (is_ahead-line_from latest p can) f.event f.within)
 
-pub early-end : {T : Type 0} (t : Table T) (line : Option ℤ) (standing : List Standing) (id : ℕ) (e : Event) (p : ℕ) (f : Found line standing id e) → p < 2 ^ 33 → is_ahead_of line (place_of line p) ≡ true → StandsFor t line standing
-    → ends_early_on_ring e p ≡ is_early_end f.event (place_of line p)
-early-end t line standing id e p f fits can stands =
-    subst (λ x. ends_early_on_ring x p ≡ is_early_end f.event (place_of line p)) f.ring (early-within line p fits (is_ahead-line_from line p can) f.event f.within)
+pub early-end : {T : Type 0} (t : Table T) (latest : Option ℤ) (standing : List Standing) (id : ℕ) (e : Event) (p : ℕ) (f : Found latest standing id e) → p < 2 ^ 33 → is_ahead_of latest (place_of latest p) ≡ true → StandsFor t latest standing
+    → ends_early_on_ring e p ≡ is_early_end f.event (place_of latest p)
+early-end t latest standing id e p f fits can stands =
+    subst (λ x. ends_early_on_ring x p ≡ is_early_end f.event (place_of latest p)) f.ring (early-within latest p fits (is_ahead-line_from latest p can) f.event f.within)
 
 -- the next high time stands on the ring where it is said to, and lies in the window
-pub ring-time : (line : Option ℤ) (p : ℕ) (later : ℤ) → p < 2 ^ 33 → IsTimeAt line p later → ring_of later ≡ p
+pub ring-time : (latest : Option ℤ) (p : ℕ) (later : ℤ) → p < 2 ^ 33 → IsTimeAt latest p later → ring_of later ≡ p
 ring-time None p later fits is = is
 ring-time (Some h) p later fits is = ap ring_of is ∙ ring-lift h p fits
 
-pub kept-within : (line : Option ℤ) (p : ℕ) (later : ℤ) → p < 2 ^ 33 → CanAdvance (option_map ring_of line) p → IsTimeAt line p later → (s : Standing) → IsWithin line s
+pub kept-within : (latest : Option ℤ) (p : ℕ) (later : ℤ) → p < 2 ^ 33 → CanAdvance (option_map ring_of latest) p → IsTimeAt latest p later → (s : Standing) → IsWithin latest s
     → is_before_on_ring p ((ring_end (on_ring s) + 900000) % 2 ^ 33) ≡ int_lt later (forgotten_at s)
 kept-within None p later fits can is s nothing = absurd nothing
 kept-within (Some h) p later fits can is s reach =
@@ -381,38 +381,38 @@ kept-within (Some h) p later fits can is s reach =
     rw (ring_end-on_ring s, ring-plus (end_of s) 900000, sym (ring-time (Some h) p later fits is))
     (before-window h later (forgotten_at s) window (forgotten-window h s reach))
 
-still-within : (line : Option ℤ) (p : ℕ) (later : ℤ) → CanAdvance (option_map ring_of line) p → IsTimeAt line p later → (s : Standing) → IsWithin line s
+still-within : (latest : Option ℤ) (p : ℕ) (later : ℤ) → CanAdvance (option_map ring_of latest) p → IsTimeAt latest p later → (s : Standing) → IsWithin latest s
     → int_lt later (forgotten_at s) ≡ true → IsInReach later s
 still-within None p later can is s nothing stands = absurd nothing
 still-within (Some h) p later can is s reach stands = next-reach h (signed p (ring_of h)) later s is can.above reach stands
 
-pub advanced-stands : {T : Type 0} (t t' : Table T) (line : Option ℤ) (standing : List Standing) (p : ℕ) (later : ℤ) → p < 2 ^ 33 → CanAdvance t.last p → StandsFor t line standing → IsTimeAt line p later
+pub advanced-stands : {T : Type 0} (t t' : Table T) (latest : Option ℤ) (standing : List Standing) (p : ℕ) (later : ℤ) → p < 2 ^ 33 → CanAdvance t.last p → StandsFor t latest standing → IsTimeAt latest p later
     → t'.last ≡ Some p → events_of t' ≡ filter (λ e. is_before_on_ring p ((ring_end e + 900000) % 2 ^ 33)) (events_of t)
     → StandsFor t' (Some later) (still_standing later standing)
-advanced-stands t t' line standing p later fits can stands is high items =
-    let can' : CanAdvance (option_map ring_of line) p = subst (λ h. CanAdvance h p) stands.high can in
+advanced-stands t t' latest standing p later fits can stands is high items =
+    let can' : CanAdvance (option_map ring_of latest) p = subst (λ h. CanAdvance h p) stands.high can in
     let test : Standing → Bool = λ s. int_lt later (forgotten_at s) in
     let passes = filter_passes test standing in
-    let within = All-filter test (IsWithin line) standing stands.within in
+    let within = All-filter test (IsWithin latest) standing stands.within in
     record {
-      high = high ∙ ap Some (sym (ring-time line p later fits is));
+      high = high ∙ ap Some (sym (ring-time latest p later fits is));
       events = items ∙ ap (filter (λ e. is_before_on_ring p ((ring_end e + 900000) % 2 ^ 33))) stands.events
-          ∙ filter-map on_ring (IsWithin line) (λ e. is_before_on_ring p ((ring_end e + 900000) % 2 ^ 33)) test (kept-within line p later fits can' is) standing stands.within;
-      within = λ k d below. still-within line p later can' is (slice_index_or (filter test standing) k d) (within k d below) (passes k d below);
+          ∙ filter-map on_ring (IsWithin latest) (λ e. is_before_on_ring p ((ring_end e + 900000) % 2 ^ 33)) test (kept-within latest p later fits can' is) standing stands.within;
+      within = λ k d below. still-within latest p later can' is (slice_index_or (filter test standing) k d) (within k d below) (passes k d below);
       apart = AllPairs-filter IsApart test standing stands.apart;
     }
 
 -- where all are kept they stand as they did
-pub kept-stands : {T : Type 0} (t t' : Table T) (line : Option ℤ) (standing : List Standing) (p : ℕ) (later : ℤ) → p < 2 ^ 33 → CanAdvance t.last p → StandsFor t line standing → IsTimeAt line p later
+pub kept-stands : {T : Type 0} (t t' : Table T) (latest : Option ℤ) (standing : List Standing) (p : ℕ) (later : ℤ) → p < 2 ^ 33 → CanAdvance t.last p → StandsFor t latest standing → IsTimeAt latest p later
     → t'.last ≡ Some p → events_of t' ≡ events_of t → still_standing later standing ≡ standing → StandsFor t' (Some later) standing
-kept-stands t t' line standing p later fits can stands is high items all =
-    let can' : CanAdvance (option_map ring_of line) p = subst (λ h. CanAdvance h p) stands.high can in
+kept-stands t t' latest standing p later fits can stands is high items all =
+    let can' : CanAdvance (option_map ring_of latest) p = subst (λ h. CanAdvance h p) stands.high can in
     let test : Standing → Bool = λ s. int_lt later (forgotten_at s) in
     let passes : All (λ s. test s ≡ true) standing = subst (All (λ s. test s ≡ true)) all (filter_passes test standing) in
     record {
-      high = high ∙ ap Some (sym (ring-time line p later fits is));
+      high = high ∙ ap Some (sym (ring-time latest p later fits is));
       events = items ∙ stands.events;
-      within = λ k d below. still-within line p later can' is (slice_index_or standing k d) (stands.within k d below) (passes k d below);
+      within = λ k d below. still-within latest p later can' is (slice_index_or standing k d) (stands.within k d below) (passes k d below);
       apart = stands.apart;
     }
 
@@ -421,29 +421,29 @@ pub events-kept : {T : Type 0} (p : Event → Bool) (entries : List (Entry T)) �
 events-kept p entries = sym (filter-map (λ entry. entry.event) (λ _. Unit {0}) p (λ entry. p entry.event) (λ _ _. refl) entries (λ k d below. tt))
 
 -- the values that are kept are those of the events that still stand
-pub values-kept : {T : Type 0} (t : Table T) (entries' : List (Entry T)) (line : Option ℤ) (standing : List Standing) (p : ℕ) (later : ℤ) (value : Standing → T) → p < 2 ^ 33 → CanAdvance t.last p
-    → StandsFor t line standing → IsTimeAt line p later → values_of t ≡ map value standing
+pub values-kept : {T : Type 0} (t : Table T) (entries' : List (Entry T)) (latest : Option ℤ) (standing : List Standing) (p : ℕ) (later : ℤ) (value : Standing → T) → p < 2 ^ 33 → CanAdvance t.last p
+    → StandsFor t latest standing → IsTimeAt latest p later → values_of t ≡ map value standing
     → entries' ≡ filter (λ entry. is_before_on_ring p ((ring_end entry.event + 900000) % 2 ^ 33)) t.entries.items
     → map (λ entry. entry.value) entries' ≡ map value (still_standing later standing)
-values-kept {T} t entries' line standing p later value fits can stands is values items =
-    let can' : CanAdvance (option_map ring_of line) p = subst (λ h. CanAdvance h p) stands.high can in
+values-kept {T} t entries' latest standing p later value fits can stands is values items =
+    let can' : CanAdvance (option_map ring_of latest) p = subst (λ h. CanAdvance h p) stands.high can in
     let entry_of : Standing → Entry T = λ s. record { event = on_ring s; value = value s } in
     let all : t.entries.items ≡ map entry_of standing
     = map-joined (λ entry. entry.event) (λ entry. entry.value) on_ring value entry_of (λ entry s event value. record-of entry s event value) t.entries.items standing stands.events values in
     ap (map (λ entry. entry.value)) (items ∙ ap (filter (λ entry. is_before_on_ring p ((ring_end entry.event + 900000) % 2 ^ 33))) all
-    ∙ filter-map entry_of (IsWithin line) (λ entry. is_before_on_ring p ((ring_end entry.event + 900000) % 2 ^ 33)) (λ s. int_lt later (forgotten_at s)) (kept-within line p later fits can' is) standing stands.within)
+    ∙ filter-map entry_of (IsWithin latest) (λ entry. is_before_on_ring p ((ring_end entry.event + 900000) % 2 ^ 33)) (λ s. int_lt later (forgotten_at s)) (kept-within latest p later fits can' is) standing stands.within)
     ∙ map-map entry_of (λ entry. entry.value) (still_standing later standing)
   where
     record-of : (entry : Entry T) (s : Standing) → entry.event ≡ on_ring s → entry.value ≡ value s → entry ≡ record { event = on_ring s; value = value s }
     record-of entry s event_is value_is = let build : Event → T → Entry T = λ e v. record { event = e; value = v } in ap (λ e. build e entry.value) event_is ∙ ap (build (on_ring s)) value_is
 
 -- and so are those that stand beside the events in pairs
-pub pairs-kept : {T : Type 0} (t : Table T) (entries' : List (Entry T)) (line : Option ℤ) (pairs : List (Standing × T)) (p : ℕ) (later : ℤ) → p < 2 ^ 33 → CanAdvance t.last p
-    → StandsFor t line (map (λ x. x.0) pairs) → IsTimeAt line p later → values_of t ≡ map (λ x. x.1) pairs
+pub pairs-kept : {T : Type 0} (t : Table T) (entries' : List (Entry T)) (latest : Option ℤ) (pairs : List (Standing × T)) (p : ℕ) (later : ℤ) → p < 2 ^ 33 → CanAdvance t.last p
+    → StandsFor t latest (map (λ x. x.0) pairs) → IsTimeAt latest p later → values_of t ≡ map (λ x. x.1) pairs
     → entries' ≡ filter (λ entry. is_before_on_ring p ((ring_end entry.event + 900000) % 2 ^ 33)) t.entries.items
     → map (λ entry. entry.value) entries' ≡ map (λ x. x.1) (filter (λ x. int_lt later (forgotten_at x.0)) pairs)
-pairs-kept {T} t entries' line pairs p later fits can stands is values items =
-    let can' : CanAdvance (option_map ring_of line) p = subst (λ h. CanAdvance h p) stands.high can in
+pairs-kept {T} t entries' latest pairs p later fits can stands is values items =
+    let can' : CanAdvance (option_map ring_of latest) p = subst (λ h. CanAdvance h p) stands.high can in
     let first : Standing × T → Standing = λ x. x.0 in
     let second : Standing × T → T = λ x. x.1 in
     let entry_of : Standing × T → Entry T = λ x. record { event = on_ring x.0; value = x.1 } in
@@ -451,12 +451,12 @@ pairs-kept {T} t entries' line pairs p later fits can stands is values items =
     let all : t.entries.items ≡ map entry_of pairs
     = map-joined (λ entry. entry.event) (λ entry. entry.value) (λ (x : Standing × T). on_ring x.0) second entry_of (λ entry s event value. record-of entry s event value) t.entries.items pairs events_are values in
     ap (map (λ entry. entry.value)) (items ∙ ap (filter (λ entry. is_before_on_ring p ((ring_end entry.event + 900000) % 2 ^ 33))) all
-    ∙ filter-map entry_of (λ x. IsWithin line x.0) (λ entry. is_before_on_ring p ((ring_end entry.event + 900000) % 2 ^ 33)) (λ x. int_lt later (forgotten_at x.0)) (λ x w. kept-within line p later fits can' is x.0 w) pairs (within pairs stands.within))
+    ∙ filter-map entry_of (λ x. IsWithin latest x.0) (λ entry. is_before_on_ring p ((ring_end entry.event + 900000) % 2 ^ 33)) (λ x. int_lt later (forgotten_at x.0)) (λ x w. kept-within latest p later fits can' is x.0 w) pairs (within pairs stands.within))
     ∙ map-map entry_of (λ entry. entry.value) (filter (λ x. int_lt later (forgotten_at x.0)) pairs)
   where
     record-of : (entry : Entry T) (s : Standing × T) → entry.event ≡ on_ring s.0 → entry.value ≡ s.1 → entry ≡ record { event = on_ring s.0; value = s.1 }
     record-of entry s event_is value_is = let build : Event → T → Entry T = λ e v. record { event = e; value = v } in ap (λ e. build e entry.value) event_is ∙ ap (build (on_ring s.0)) value_is
 
-    within : (pairs : List (Standing × T)) → All (IsWithin line) (map (λ x. x.0) pairs) → All (λ (x : Standing × T). IsWithin line x.0) pairs
-    within [] all = All-nil (λ (x : Standing × T). IsWithin line x.0)
-    within (x ∷ xs) all = All-cons (λ (y : Standing × T). IsWithin line y.0) x xs (All-head (IsWithin line) x.0 (map (λ y. y.0) xs) all) (within xs (All-tail (IsWithin line) x.0 (map (λ y. y.0) xs) all))
+    within : (pairs : List (Standing × T)) → All (IsWithin latest) (map (λ x. x.0) pairs) → All (λ (x : Standing × T). IsWithin latest x.0) pairs
+    within [] all = All-nil (λ (x : Standing × T). IsWithin latest x.0)
+    within (x ∷ xs) all = All-cons (λ (y : Standing × T). IsWithin latest y.0) x xs (All-head (IsWithin latest) x.0 (map (λ y. y.0) xs) all) (within xs (All-tail (IsWithin latest) x.0 (map (λ y. y.0) xs) all))

@@ -39,10 +39,6 @@ pub ring-turn : (a : ℤ) → ring_of (a +ℤ pos (2 ^ 33)) ≡ ring_of a
 ring-turn (pos a) = grind (arith, ints)
 ring-turn (negsuc a) = grind (arith, ints)
 
--- the time near the high time that stands at p
-pub lifted-low : (high : ℤ) (p : ℕ) → p < 2 ^ 33 → high ≤ℤ (lift high p +ℤ pos (2 ^ 32))
-lifted-low high p fits = lift-below high p fits
-
 -- the test of two places is that of the times there
 pub same-place : (high : ℤ) (p : ℕ) (time : ℤ) → p < 2 ^ 33 → InWindow high time → (p == ring_of time) ≡ int_eq (lift high p) time
 same-place high p time fits window =

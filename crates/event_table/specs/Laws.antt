@@ -14,7 +14,7 @@ HaveNoTimeInCommon a b = (time : ℤ) → Holds a time → Holds b time → ⊥
 
 -- no two standing events ever meet
 abbrev pub NoTwoMeet : {T : Type 0} → Table T → Type 0
-NoTwoMeet table = (line : Option ℤ) (standing : List Standing) → StandsFor table line standing → AllPairs HaveNoTimeInCommon standing
+NoTwoMeet table = (latest : Option ℤ) (standing : List Standing) → StandsFor table latest standing → AllPairs HaveNoTimeInCommon standing
 
 -- the times that a table compares: those where a unit may lie, the high time and the next one among them; start, end and forgetting of each event that stands; the start that may
 -- be armed or the end that may be set, and the end of what may be armed

@@ -37,7 +37,7 @@ on_ring s = record { id = s.id; start = ring_of s.start; length = s.length; aske
 
 -- the event of the line that an event of the ring means, by the high time
 abbrev pub on_line : Option ℤ → Event → Standing
-on_line line e = record { id = e.id; start = place line e.start; length = e.length; asked = e.asked; program = e.program; cancelled = e.cancelled }
+on_line latest e = record { id = e.id; start = place latest e.start; length = e.length; asked = e.asked; program = e.program; cancelled = e.cancelled }
 
 -- the integer t is one that stands at the next high time: by the last high time, or any where there was none
 abbrev pub IsTimeAt : Option ℤ → ℕ → ℤ → Type 0
@@ -59,7 +59,7 @@ stands (Some high) s = int_lt high (forgotten_at s)
 
 -- it stands, with this id; those that are forgotten may have had the same
 abbrev pub is_of : Option ℤ → ℕ → Standing → Bool
-is_of line id s = stands line s && has_id id s
+is_of latest id s = stands latest s && has_id id s
 
 -- the event is not cancelled and holds the time
 abbrev pub covers : ℤ → Standing → Bool
@@ -92,12 +92,12 @@ has_begun None s = false
 has_begun (Some high) s = int_le s.start high
 
 abbrev pub cancel_answer_of : Option ℤ → Option Standing → Result (Unit {0}) CancelRefusal
-cancel_answer_of line None = Err NoSuchEvent
-cancel_answer_of line (Some s) = if has_begun line s then Err TooLate else Ok tt
+cancel_answer_of latest None = Err NoSuchEvent
+cancel_answer_of latest (Some s) = if has_begun latest s then Err TooLate else Ok tt
 
 -- the answer to a cancel
 abbrev pub cancel_answer : Option ℤ → List Standing → ℕ → Result (Unit {0}) CancelRefusal
-cancel_answer line standing id = cancel_answer_of line (find (has_id id) standing)
+cancel_answer latest standing id = cancel_answer_of latest (find (has_id id) standing)
 
 -- the time lies 1 to 2^29 ticks past the high time
 abbrev pub is_ahead_of : Option ℤ → ℤ → Bool
@@ -109,9 +109,9 @@ abbrev pub is_early_end : Standing → ℤ → Bool
 is_early_end s time = int_lt s.start time && int_lt time (end_of s)
 
 abbrev pub shorten_answer_of : Option ℤ → ℤ → Option Standing → Result Armed ShortenRefusal
-shorten_answer_of line time None = Err NothingToShorten
-shorten_answer_of line time (Some s) =
-    if not (is_ahead_of line time) then Err BadEnd
+shorten_answer_of latest time None = Err NothingToShorten
+shorten_answer_of latest time (Some s) =
+    if not (is_ahead_of latest time) then Err BadEnd
     else if s.cancelled then Err BadEnd
     else if int_eq time (end_of s) then Ok Same
     else if is_early_end s time then Ok New
@@ -119,7 +119,7 @@ shorten_answer_of line time (Some s) =
 
 -- the answer to an early end
 abbrev pub shorten_answer : Option ℤ → List Standing → ℕ → ℤ → Result Armed ShortenRefusal
-shorten_answer line standing id time = shorten_answer_of line time (find (has_id id) standing)
+shorten_answer latest standing id time = shorten_answer_of latest time (find (has_id id) standing)
 
 -- the list with its first element that passes the test changed, and all others as they were
 abbrev pub with_first : {X : Type 0} → (X → Bool) → (X → X) → List X → List X

@@ -20,8 +20,8 @@ module _ {T : Type 0} where
 
 -- The table stands for a list of events on the line, in order of arming, and an integer high time: both stand on the ring where the table
 -- says, no two events meet or share an id, and each is within reach of the high time.
-pub record StandsFor {T : Type 0} (table : Table T) (line : Option ℤ) (standing : List Standing) : Type 0 where
-  pub high : high_time_of table ≡ option_map ring_of line
+pub record StandsFor {T : Type 0} (table : Table T) (latest : Option ℤ) (standing : List Standing) : Type 0 where
+  pub high : high_time_of table ≡ option_map ring_of latest
   pub events : events_of table ≡ map on_ring standing
-  pub within : All (IsWithin line) standing
+  pub within : All (IsWithin latest) standing
   pub apart : AllPairs IsApart standing

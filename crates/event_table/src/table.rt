@@ -113,8 +113,8 @@ impl<T: Copy + Default> Table<T> {
     /// The last high time, or `None` before the first call of [`Table::advance`].
     pub fn high(&self) -> Option<Time33>
         ensures value { result ≡ high_time_of self.now }
-        ensures line { (line : Option ℤ) (standing : List Standing) → StandsFor self.now line standing →
-            result ≡ option_map ring_of line }
+        ensures latest { (latest : Option ℤ) (standing : List Standing) → StandsFor self.now latest standing →
+            result ≡ option_map ring_of latest }
     {
         self.last
     }
@@ -122,7 +122,7 @@ impl<T: Copy + Default> Table<T> {
     /// The events that stand, in order of arming, those that are cancelled among them, each with its value.
     pub fn standing(&self) -> &[Entry<T>]
         ensures entries { result.now ≡ self.now.entries.items }
-        ensures list { (line : Option ℤ) (standing : List Standing) → StandsFor self.now line standing →
+        ensures list { (latest : Option ℤ) (standing : List Standing) → StandsFor self.now latest standing →
             map (λ entry. entry.event) result.now ≡ map on_ring standing }
         ensures values { map (λ entry. entry.value) result.now ≡ values_of self.now }
         ensures most { length result.now ≤ 32 }
@@ -132,7 +132,7 @@ impl<T: Copy + Default> Table<T> {
 
     /// Where in [`Table::standing`] the event of this id stands, cancelled or not, or `None`.
     pub fn find(&self, id: u32) -> Option<usize>
-        ensures place { (line : Option ℤ) (standing : List Standing) → StandsFor self.now line standing →
+        ensures place { (latest : Option ℤ) (standing : List Standing) → StandsFor self.now latest standing →
             result ≡ position (has_id id) standing }
         ensures below { IfSome result (λ place. place < length self.now.entries.items) }
     {
@@ -141,7 +141,7 @@ impl<T: Copy + Default> Table<T> {
 
     /// Whether an event of this id stands, cancelled or not.
     pub fn has_id(&self, id: u32) -> bool
-        ensures { (line : Option ℤ) (standing : List Standing) → StandsFor self.now line standing →
+        ensures { (latest : Option ℤ) (standing : List Standing) → StandsFor self.now latest standing →
             result ≡ list_any (has_id id) standing }
     {
         self.has_entry_of(id)
@@ -152,8 +152,8 @@ impl<T: Copy + Default> Table<T> {
         requires { place < length self.old.entries.items }
         ensures values { values_of self.new ≡ slice_set (values_of self.old) place value }
         ensures events { events_of self.new ≡ events_of self.old }
-        ensures stands { (line : Option ℤ) (standing : List Standing) → StandsFor self.old line standing →
-            StandsFor self.new line standing }
+        ensures stands { (latest : Option ℤ) (standing : List Standing) → StandsFor self.old latest standing →
+            StandsFor self.new latest standing }
         ensures high { high_time_of self.new ≡ high_time_of self.old }
     {
         let entry = self.entry_at(place);
@@ -175,8 +175,8 @@ impl<T: Copy + Default> Table<T> {
     /// Whether the event repeats one that stands, cancelled or not: equal in id, start, length first asked and program. It may lie
     /// anywhere, also before the high time, where `arm` takes none.
     pub fn is_repeat(&self, event: &Event) -> bool
-        ensures { (line : Option ℤ) (standing : List Standing) → StandsFor self.now line standing →
-            result ≡ list_any (repeats (on_line line event.now)) standing }
+        ensures { (latest : Option ℤ) (standing : List Standing) → StandsFor self.now latest standing →
+            result ≡ list_any (repeats (on_line latest event.now)) standing }
     {
         self.has_repeat_of(*event)
     }
@@ -190,11 +190,11 @@ impl<T: Copy + Default> Table<T> {
     /// interval meets that of an event that stands, the cancelled ones counted each time. Then nothing has changed.
     pub fn arm(&mut self, event: Event, value: T) -> Result<Armed, ArmRefusal>
         requires { CanArm (high_time_of self.old) event }
-        ensures answer { (line : Option ℤ) (standing : List Standing) → StandsFor self.old line standing →
-            result ≡ arm_answer standing (on_line line event) }
+        ensures answer { (latest : Option ℤ) (standing : List Standing) → StandsFor self.old latest standing →
+            result ≡ arm_answer standing (on_line latest event) }
         ensures new { result ≡ Ok Armed.New →
-            (line : Option ℤ) (standing : List Standing) → StandsFor self.old line standing →
-            StandsFor self.new line (standing ++ on_line line event ∷ []) }
+            (latest : Option ℤ) (standing : List Standing) → StandsFor self.old latest standing →
+            StandsFor self.new latest (standing ++ on_line latest event ∷ []) }
         ensures value { result ≡ Ok Armed.New → values_of self.new ≡ values_of self.old ++ value ∷ [] }
         ensures same { result ≡ Ok Armed.Same → self.new ≡ self.old }
         ensures refused { OnErr result (self.new ≡ self.old) }
@@ -222,11 +222,11 @@ impl<T: Copy + Default> Table<T> {
     ///
     /// `NoSuchEvent` where no event of this id stands; `TooLate` where the high time is at or past its start. Then nothing has changed.
     pub fn cancel(&mut self, id: u32) -> Result<(), CancelRefusal>
-        ensures answer { (line : Option ℤ) (standing : List Standing) → StandsFor self.old line standing →
-            result ≡ cancel_answer line standing id }
+        ensures answer { (latest : Option ℤ) (standing : List Standing) → StandsFor self.old latest standing →
+            result ≡ cancel_answer latest standing id }
         ensures cancelled { result ≡ Ok tt →
-            (line : Option ℤ) (standing : List Standing) → StandsFor self.old line standing →
-            StandsFor self.new line (with_cancelled id standing) }
+            (latest : Option ℤ) (standing : List Standing) → StandsFor self.old latest standing →
+            StandsFor self.new latest (with_cancelled id standing) }
         ensures values { values_of self.new ≡ values_of self.old }
         ensures refused { OnErr result (self.new ≡ self.old) }
         ensures high { high_time_of self.new ≡ high_time_of self.old }
@@ -250,11 +250,11 @@ impl<T: Copy + Default> Table<T> {
     /// `NoSuchEvent` where no event of this id stands; `BadEnd` where the event is cancelled, or where the end lies elsewhere. Then
     /// nothing has changed.
     pub fn shorten(&mut self, id: u32, end: Time33) -> Result<Armed, ShortenRefusal>
-        ensures answer { (line : Option ℤ) (standing : List Standing) → StandsFor self.old line standing →
-            result ≡ shorten_answer line standing id (place line end) }
+        ensures answer { (latest : Option ℤ) (standing : List Standing) → StandsFor self.old latest standing →
+            result ≡ shorten_answer latest standing id (place latest end) }
         ensures new { result ≡ Ok Armed.New →
-            (line : Option ℤ) (standing : List Standing) → StandsFor self.old line standing →
-            StandsFor self.new line (with_end id (place line end) standing) }
+            (latest : Option ℤ) (standing : List Standing) → StandsFor self.old latest standing →
+            StandsFor self.new latest (with_end id (place latest end) standing) }
         ensures values { values_of self.new ≡ values_of self.old }
         ensures same { result ≡ Ok Armed.Same → self.new ≡ self.old }
         ensures refused { OnErr result (self.new ≡ self.old) }
@@ -283,8 +283,8 @@ impl<T: Copy + Default> Table<T> {
     /// The place in [`Table::standing`] of the uncancelled event that holds this time, or `None`. The time is the one nearest to the high
     /// time among those that the ring shows so.
     pub fn at(&self, time: Time33) -> Option<usize>
-        ensures place { (line : Option ℤ) (standing : List Standing) → StandsFor self.now line standing →
-            result ≡ position (covers (place line time)) standing }
+        ensures place { (latest : Option ℤ) (standing : List Standing) → StandsFor self.now latest standing →
+            result ≡ position (covers (place latest time)) standing }
         ensures below { IfSome result (λ place. place < length self.now.entries.items) }
     {
         self.first_over(time)
@@ -307,15 +307,15 @@ impl<T: Copy + Default> Table<T> {
     /// Takes this time as the high time, and forgets each event whose end lies 900,000 ticks or more before it, with its value.
     pub fn advance(&mut self, high: Time33)
         requires { CanAdvance (high_time_of self.old) high }
-        ensures stands { (line : Option ℤ) (standing : List Standing) (later : ℤ) → StandsFor self.old line standing →
-            IsTimeAt line high later → StandsFor self.new (Some later) (still_standing later standing) }
-        ensures values { (line : Option ℤ) (standing : List Standing) (later : ℤ) (value : Standing → T) →
-            StandsFor self.old line standing → IsTimeAt line high later → values_of self.old ≡ map value standing →
+        ensures stands { (latest : Option ℤ) (standing : List Standing) (later : ℤ) → StandsFor self.old latest standing →
+            IsTimeAt latest high later → StandsFor self.new (Some later) (still_standing later standing) }
+        ensures values { (latest : Option ℤ) (standing : List Standing) (later : ℤ) (value : Standing → T) →
+            StandsFor self.old latest standing → IsTimeAt latest high later → values_of self.old ≡ map value standing →
             values_of self.new ≡ map value (still_standing later standing) }
 
         // Each event that still stands keeps its own value, whatever the values are.
-        ensures pairs { (line : Option ℤ) (pairs : List (Standing × T)) (later : ℤ) →
-            StandsFor self.old line (map (λ x. x.0) pairs) → IsTimeAt line high later →
+        ensures pairs { (latest : Option ℤ) (pairs : List (Standing × T)) (later : ℤ) →
+            StandsFor self.old latest (map (λ x. x.0) pairs) → IsTimeAt latest high later →
             values_of self.old ≡ map (λ x. x.1) pairs →
             values_of self.new ≡ map (λ x. x.1) (filter (λ x. int_lt later (forgotten_at x.0)) pairs) }
         ensures high { high_time_of self.new ≡ Some high }
@@ -328,8 +328,8 @@ impl<T: Copy + Default> Table<T> {
     /// Takes this time as the high time, where it forgets no event. None is looked at.
     pub fn advance_keeping_all(&mut self, high: Time33)
         requires { CanAdvance (high_time_of self.old) high }
-        ensures stands { (line : Option ℤ) (standing : List Standing) (later : ℤ) → StandsFor self.old line standing →
-            IsTimeAt line high later → still_standing later standing ≡ standing → StandsFor self.new (Some later) standing }
+        ensures stands { (latest : Option ℤ) (standing : List Standing) (later : ℤ) → StandsFor self.old latest standing →
+            IsTimeAt latest high later → still_standing later standing ≡ standing → StandsFor self.new (Some later) standing }
         ensures entries { self.new.entries ≡ self.old.entries }
         ensures high { high_time_of self.new ≡ Some high }
     {

@@ -75,8 +75,8 @@ at-own (Some n) = omega (arith, ints)
 
 -- ---- one event
 
-ring-next-by : (e : Standing) (last line : Option ℤ) → IsWithin line e → ring_next (on_ring e) (option_map ring_of last) (option_map ring_of line) ≡ option_map ring_of (next_by e last line)
-ring-next-by e None line within = refl
+ring-next-by : (e : Standing) (last latest : Option ℤ) → IsWithin latest e → ring_next (on_ring e) (option_map ring_of last) (option_map ring_of latest) ≡ option_map ring_of (next_by e last latest)
+ring-next-by e None latest within = refl
 ring-next-by e (Some l) None within = refl
 ring-next-by e (Some l) (Some h) within =
     let bounds = limit-bounds h e within in
@@ -108,17 +108,17 @@ next-ahead h x kept none = by x.last kept.last (chosen-none x (Some h) (Some h) 
 
 -- ---- events
 
-all-earlier : (line a b : Option ℤ) (xs : List Sender) → All (λ x. AtOrAfter a (next_of line x)) xs → All (λ x. AtOrAfter (earlier_of a b) (next_of line x)) xs
-all-earlier line a b [] all = All-nil (λ x. AtOrAfter (earlier_of a b) (next_of line x))
-all-earlier line a b (x ∷ xs) all =
-    All-cons (λ y. AtOrAfter (earlier_of a b) (next_of line y)) x xs (earlier-left a b (next_of line x) (All-head (λ y. AtOrAfter a (next_of line y)) x xs all))
-    (all-earlier line a b xs (All-tail (λ y. AtOrAfter a (next_of line y)) x xs all))
+all-earlier : (latest a b : Option ℤ) (xs : List Sender) → All (λ x. AtOrAfter a (next_of latest x)) xs → All (λ x. AtOrAfter (earlier_of a b) (next_of latest x)) xs
+all-earlier latest a b [] all = All-nil (λ x. AtOrAfter (earlier_of a b) (next_of latest x))
+all-earlier latest a b (x ∷ xs) all =
+    All-cons (λ y. AtOrAfter (earlier_of a b) (next_of latest y)) x xs (earlier-left a b (next_of latest x) (All-head (λ y. AtOrAfter a (next_of latest y)) x xs all))
+    (all-earlier latest a b xs (All-tail (λ y. AtOrAfter a (next_of latest y)) x xs all))
 
-pub rests_none : (line : Option ℤ) → Rests None line []
-rests_none line = record { bound = None; kept = refl; ahead = tt; waits = All-nil (λ x. AtOrAfter None (next_of line x)) }
+pub rests_none : (latest : Option ℤ) → Rests None latest []
+rests_none latest = record { bound = None; kept = refl; ahead = tt; waits = All-nil (λ x. AtOrAfter None (next_of latest x)) }
 
-pub rests-push : (acc : Option ℕ) (line : Option ℤ) (done : List Sender) (x : Sender) → IsWithin line x.event → IsKept line x → is_none (chosen x line line) ≡ true → Rests acc line done
-    → Rests (ring_earlier acc (ring_next (on_ring x.event) (option_map ring_of x.last) (option_map ring_of line))) line (done ++ x ∷ [])
+pub rests-push : (acc : Option ℕ) (latest : Option ℤ) (done : List Sender) (x : Sender) → IsWithin latest x.event → IsKept latest x → is_none (chosen x latest latest) ≡ true → Rests acc latest done
+    → Rests (ring_earlier acc (ring_next (on_ring x.event) (option_map ring_of x.last) (option_map ring_of latest))) latest (done ++ x ∷ [])
 rests-push acc None done x within kept none r = absurd within
 rests-push acc (Some h) done x within kept none r =
     let n = next_of (Some h) x in
@@ -139,9 +139,9 @@ NotReached None later = Unit {0}
 NotReached (Some bound) None = Unit {0}
 NotReached (Some bound) (Some later) = later <ℤ bound
 
-not-reached : (bound line later : Option ℤ) → Rises line later → IsDueWithinASecond bound line → ring_reached (option_map ring_of bound) (option_map ring_of later) ≡ false → NotReached bound later
-not-reached None line later rises ahead free = tt
-not-reached (Some b) line None rises ahead free = tt
+not-reached : (bound latest later : Option ℤ) → Rises latest later → IsDueWithinASecond bound latest → ring_reached (option_map ring_of bound) (option_map ring_of later) ≡ false → NotReached bound later
+not-reached None latest later rises ahead free = tt
+not-reached (Some b) latest None rises ahead free = tt
 not-reached (Some b) None (Some t) rises ahead free = absurd ahead
 not-reached (Some b) (Some h) (Some t) rises ahead free =
     let up = rises.0 in
@@ -152,14 +152,14 @@ not-reached (Some b) (Some h) (Some t) rises ahead free =
     let is : not (int_lt t b) ≡ false = ap not (sym same) ∙ free in
     grind (arith, ints)
 
-ahead-later : (bound line later : Option ℤ) → Rises line later → IsDueWithinASecond bound line → NotReached bound later → IsDueWithinASecond bound later
-ahead-later None line later rises ahead below = tt
+ahead-later : (bound latest later : Option ℤ) → Rises latest later → IsDueWithinASecond bound latest → NotReached bound later → IsDueWithinASecond bound later
+ahead-later None latest later rises ahead below = tt
 ahead-later (Some b) None later rises ahead below = absurd ahead
 ahead-later (Some b) (Some h) None rises ahead below = absurd rises
 ahead-later (Some b) (Some h) (Some t) rises ahead below = let up = rises.0 in let top = ahead.1 in (below, omega (arith, ints))
 
-not-repeated : (e : Standing) (bound last line later : Option ℤ) → AtOrAfter bound (next_by e last line) → NotReached bound later → is_repeated e last line later ≡ false
-not-repeated e bound None line later after below = refl
+not-repeated : (e : Standing) (bound last latest later : Option ℤ) → AtOrAfter bound (next_by e last latest) → NotReached bound later → is_repeated e last latest later ≡ false
+not-repeated e bound None latest later after below = refl
 not-repeated e bound (Some l) None later after below = refl
 not-repeated e bound (Some l) (Some h) None after below = refl
 not-repeated e bound (Some l) (Some h) (Some t) after below = step (int_lt h (limit e)) after
@@ -172,8 +172,8 @@ not-repeated e bound (Some l) (Some h) (Some t) after below = step (int_lt h (li
         by None at under = absurd at
         by (Some b) at under = grind (arith, ints)
 
-waits-later : (e : Standing) (bound last line later : Option ℤ) → Rises line later → LastIn line e.start last → AtOrAfter bound (next_by e last line) → AtOrAfter bound (next_by e last later)
-waits-later e bound None line later rises inside after = tt
+waits-later : (e : Standing) (bound last latest later : Option ℤ) → Rises latest later → LastIn latest e.start last → AtOrAfter bound (next_by e last latest) → AtOrAfter bound (next_by e last later)
+waits-later e bound None latest later rises inside after = tt
 waits-later e bound (Some l) None later rises inside after = absurd inside
 waits-later e bound (Some l) (Some h) None rises inside after = absurd rises
 waits-later e bound (Some l) (Some h) (Some t) rises inside after = step (int_lt t (limit e)) refl
@@ -186,21 +186,21 @@ waits-later e bound (Some l) (Some h) (Some t) rises inside after = step (int_lt
         subst (λ b. AtOrAfter bound (cond b (Some (l +ℤ pos 90000)) None)) still after
 
 abbrev Waits : Option ℤ → Option ℤ → Sender → Type 0
-Waits bound line x = AtOrAfter bound (next_of line x)
+Waits bound latest x = AtOrAfter bound (next_of latest x)
 
-all-idle : (bound line later : Option ℤ) → NotReached bound later → (xs : List Sender) → All (λ x. is_none (chosen x line line) ≡ true) xs → All (Waits bound line) xs → All (λ x. is_none (chosen x line later) ≡ true) xs
-all-idle bound line later below [] quiet waits = All-nil (λ x. is_none (chosen x line later) ≡ true)
-all-idle bound line later below (x ∷ xs) quiet waits =
-    All-cons (λ y. is_none (chosen y line later) ≡ true) x xs
-    (none-chosen x line later (chosen-none x line line (All-head (λ y. is_none (chosen y line line) ≡ true) x xs quiet)).0 (not-repeated x.event bound x.last line later (All-head (Waits bound line) x xs waits) below))
-    (all-idle bound line later below xs (All-tail (λ y. is_none (chosen y line line) ≡ true) x xs quiet) (All-tail (Waits bound line) x xs waits))
+all-idle : (bound latest later : Option ℤ) → NotReached bound later → (xs : List Sender) → All (λ x. is_none (chosen x latest latest) ≡ true) xs → All (Waits bound latest) xs → All (λ x. is_none (chosen x latest later) ≡ true) xs
+all-idle bound latest later below [] quiet waits = All-nil (λ x. is_none (chosen x latest later) ≡ true)
+all-idle bound latest later below (x ∷ xs) quiet waits =
+    All-cons (λ y. is_none (chosen y latest later) ≡ true) x xs
+    (none-chosen x latest later (chosen-none x latest latest (All-head (λ y. is_none (chosen y latest latest) ≡ true) x xs quiet)).0 (not-repeated x.event bound x.last latest later (All-head (Waits bound latest) x xs waits) below))
+    (all-idle bound latest later below xs (All-tail (λ y. is_none (chosen y latest latest) ≡ true) x xs quiet) (All-tail (Waits bound latest) x xs waits))
 
-all-waits : (bound line later : Option ℤ) → Rises line later → (xs : List Sender) → All (IsKept line) xs → All (Waits bound line) xs → All (Waits bound later) xs
-all-waits bound line later rises [] kept waits = All-nil (Waits bound later)
-all-waits bound line later rises (x ∷ xs) kept waits =
-    let here = All-head (IsKept line) x xs kept in
-    All-cons (Waits bound later) x xs (waits-later x.event bound x.last line later rises here.last (All-head (Waits bound line) x xs waits))
-    (all-waits bound line later rises xs (All-tail (IsKept line) x xs kept) (All-tail (Waits bound line) x xs waits))
+all-waits : (bound latest later : Option ℤ) → Rises latest later → (xs : List Sender) → All (IsKept latest) xs → All (Waits bound latest) xs → All (Waits bound later) xs
+all-waits bound latest later rises [] kept waits = All-nil (Waits bound later)
+all-waits bound latest later rises (x ∷ xs) kept waits =
+    let here = All-head (IsKept latest) x xs kept in
+    All-cons (Waits bound later) x xs (waits-later x.event bound x.last latest later rises here.last (All-head (Waits bound latest) x xs waits))
+    (all-waits bound latest later rises xs (All-tail (IsKept latest) x xs kept) (All-tail (Waits bound latest) x xs waits))
 
 stays-below : (rest : Option ℕ) (index : ℕ) (past : List Turn) (later : Option ℤ) → Rises (high past) later → All (IsKept (high past)) (standing_senders index past) → IsIdle index (high past) past
     → (r : RestsAt rest index past) → NotReached r.bound later → StaysAtRest rest index later past
@@ -224,8 +224,8 @@ pub stays-at-rest : (rest : Option ℕ) (index : ℕ) (past : List Turn) (later 
 stays-at-rest rest index past later rises kept quiet r free = stays-below rest index past later rises kept quiet r
     (not-reached r.bound (high past) later rises r.ahead (ap (λ q. ring_reached q (option_map ring_of later)) (sym r.kept) ∙ free))
 
-not-reached-yet : (bound line : Option ℤ) → IsDueWithinASecond bound line → NotReached bound line
-not-reached-yet None line ahead = tt
+not-reached-yet : (bound latest : Option ℤ) → IsDueWithinASecond bound latest → NotReached bound latest
+not-reached-yet None latest ahead = tt
 not-reached-yet (Some b) None ahead = tt
 not-reached-yet (Some b) (Some h) ahead = ahead.0
 

@@ -12,20 +12,17 @@ use Rattle.ts_packet.proofs.FieldLemmas.{payload_on-on}
 use Rattle.psi_tables.specs.declared.config.Config.{Config}
 use Rattle.program_follower.specs.declared.purpose.Listed.{Listed}
 use Rattle.program_follower.specs.Program.{listed, Table, tables}
-use Rattle.program_laws.specs.Writing.{Along, written, body, number_on, Off}
+use Rattle.program_laws.specs.Writing.{Along, written, body, number_on}
 use Rattle.program_laws.specs.Cued.{cueing, On, cued as cued_network}
 use Rattle.program_laws.proofs.CuedLemmas.{ons_off, cued_stream_reads}
 use Rattle.program_laws.proofs.FaultLemmas.{no_cue_packets}
 use Rattle.program_laws.proofs.PacketLemmas.{one_past-below}
+use Rattle.outgoing_packets.proofs.NumberLemmas.{number-others}
 use Rattle.injector.specs.Steps.{Step, Message, Packet, packets_in, sections_before, cue_packets, cued, body_at}
 use Rattle.injector.specs.Laws.{own_fronts, CuedIsWritten, CuedReadsAgain}
 use Rattle.program_follower.specs.Purposes.{writing_cues}
 
 -- ---- lists of packets
-
-number-others : (pid : ℕ) (qs out : List (List ℕ)) → AllByRecursion (Off pid) qs → number_on pid (onto out qs) ≡ number_on pid out
-number-others pid [] out off = refl
-number-others pid (q ∷ qs) out off = number-others pid qs (q ∷ out) off.1 ∙ (let f : number_on pid (q ∷ out) ≡ number_on pid out = simp off.0 in f)
 
 pub carried-on : (pid : ℕ) (qs : List (List ℕ)) → AllByRecursion (IsPayloadOn pid) qs → AllByRecursion (On pid) qs
 carried-on pid [] all = tt

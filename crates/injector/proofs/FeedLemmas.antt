@@ -1,13 +1,12 @@
 -- A packet that goes out: the greatest time rises, and its tables have room for the entry of the cues.
-use Rattle.std.proofs.Common.{◌≡◌, ℕ, ◌==◌, Bool, true, false, not, ◌&&◌, cond, List, [], ◌∷◌, length, refl, ap, sym, ◌∙◌, subst, arith}
+use Rattle.std.proofs.Common.{◌≡◌, ℕ, ◌==◌, Bool, true, false, ◌&&◌, cond, List, [], ◌∷◌, length, refl, ap, sym, ◌∙◌, subst, arith}
 use Rattle.std.specs.Prelude.{ℤ, map, All, nat_lt, Option, None, Some, option_map}
 use Rattle.std.specs.Int.{int_max}
 use Rattle.std.specs.Option.{option_or}
 use Rattle.std.proofs.lemmas.Int.{ints}
-use Rattle.std.proofs.lemmas.Bool.{eqb-true}
 use Rattle.std.proofs.lemmas.List.Elements.{All-nil, All-cons, All-head, All-tail}
 use Rattle.pes_time.specs.Line.{place}
-use Rattle.ts_packet.specs.Fields.{in_error, pid_of, on}
+use Rattle.ts_packet.specs.Fields.{pid_of}
 use Rattle.psi_section.specs.Sections.{given}
 use Rattle.psi_section.specs.Laws.{CanBeGiven}
 use Rattle.psi_section.proofs.GivenLemmas.{given_can, sound}
@@ -16,8 +15,6 @@ use Rattle.psi_tables.specs.declared.network.NetworkFault.{NetworkFault}
 use Rattle.psi_tables.specs.declared.network.NetworkFault.TheVariants.{TooManyStreams, BadPids, CuePidUsed, ProgramChanged, PmtTooLong}
 use Rattle.psi_tables.specs.Streams.{pid_in, switched_of}
 use Rattle.psi_tables.specs.ProgramMap.{ProgramMap, streams_of}
-use Rattle.unit_stream.specs.declared.fault.UnitFault.{UnitFault}
-use Rattle.unit_stream.specs.declared.fault.UnitFault.TheVariants.{Scrambled, HeaderSplit, TimeJump}
 use Rattle.unit_stream.specs.Times.{high as unit_high, begins_one, raised, stamp}
 use Rattle.unit_stream.specs.Faults.{unit_fault}
 use Rattle.event_table.specs.Laws.{MayAdvance}
@@ -26,12 +23,13 @@ use Rattle.program_follower.specs.declared.purpose.Listed.{Listed}
 use Rattle.program_follower.specs.Program.{listed, since_pat, Table, table_of, tables, all_tables, first_map, Program, program_in, program_of, behind_head, pids_of}
 use Rattle.program_follower.specs.Faults.{network_fault, cue_fault, on_cue, if_bad, bad_pids, cue_used, changed_from, pats_fault, table_fault, tables_fault, maps_fault, as_network, too_long}
 use Rattle.program_follower.specs.Following.{grown, on_map, high_of}
-use Rattle.program_follower.proofs.FollowLemmas.{program_stays, grown_is, no_high}
+use Rattle.program_follower.proofs.FollowLemmas.{program_stays, grown_is, no_high, no_unit_fault}
 use Rattle.program_laws.specs.Writing.{packets_out, section_out, body}
 use Rattle.program_laws.specs.Cued.{cueing}
 use Rattle.program_laws.proofs.ReadingLemmas.{or_first}
 use Rattle.outgoing_packets.specs.declared.entry.CueEntry.TheVariants.{Added}
 use Rattle.outgoing_packets.specs.Entries.{change_of, HasRoom, GoesOut, AllGoOut}
+use Rattle.ts_packet.proofs.FieldLemmas.{pid_is}
 use Rattle.injector.specs.Turns.{high}
 use Rattle.unit_stream.specs.Clocks.{Rises}
 use Rattle.injector.specs.Steps.{Step, Message, Packet, packets_in, turns_in, body_at}
@@ -46,12 +44,6 @@ second-none (Some a) y is = absurd (let no : Some a ≡ None = is in cc)
 none-if : {A : Type 0} (b : Bool) (a : A) → cond b (Some a) None ≡ None → b ≡ false
 none-if true a is = absurd (let no : Some a ≡ None = is in cc)
 none-if false a is = refl
-
-no-unit : (o : Option UnitFault) → as_network o ≡ None → o ≡ None
-no-unit None is = refl
-no-unit (Some Scrambled) is = absurd (let no : as_network (Some Scrambled) ≡ None = is in cc)
-no-unit (Some HeaderSplit) is = absurd (let no : as_network (Some HeaderSplit) ≡ None = is in cc)
-no-unit (Some TimeJump) is = absurd (let no : as_network (Some TimeJump) ≡ None = is in cc)
 
 module _ (c : Config) (p : List ℕ) (past : List (List ℕ)) (good : network_fault (writing_cues c) p past ≡ None) where
   no-cue : on_cue (Some c.cue_pid) p ≡ false
@@ -70,7 +62,7 @@ module _ (c : Config) (p : List ℕ) (past : List (List ℕ)) (good : network_fa
   no-maps = or_first _ (as_network (unit_fault (pids_of (program_of (Some c.program) past)) p (behind_head (Some c.program) past))) behind-pats
 
   pub no-units : unit_fault (pids_of (program_of (Some c.program) past)) p (behind_head (Some c.program) past) ≡ None
-  no-units = no-unit _ (second-none (maps_fault (writing_cues c) (listed (Some c.program) past) (first_map (all_tables (Some c.program) past)) (tables (Some c.program) p past)) _ behind-pats)
+  no-units = no_unit_fault _ (second-none (maps_fault (writing_cues c) (listed (Some c.program) past) (first_map (all_tables (Some c.program) past)) (tables (Some c.program) p past)) _ behind-pats)
 
 -- ---- the greatest time
 
@@ -153,14 +145,6 @@ tables-go c p past good = by (listed (Some c.program) past) (no-maps c p past go
 
 -- ---- what stands in the place of a packet
 
-own-pid : (pid : ℕ) (p : List ℕ) → on pid p ≡ true → pid_of p ≡ pid
-unfolding on
-own-pid pid p h = eqb-true (pid_of p) pid (second (not (in_error p)) (pid_of p == pid) h)
-  where
-    second : (x y : Bool) → x && y ≡ true → y ≡ true
-    second true y h = h
-    second false y h = cc
-
 pub body-off : (c : Config) (p : List ℕ) (past puts : List (List ℕ)) → on_map (listed (Some c.program) past) p ≡ false → body_at c p past puts ≡ p ∷ []
 body-off c p past puts off = by (listed (Some c.program) past) off
   where
@@ -170,7 +154,7 @@ body-off c p past puts off = by (listed (Some c.program) past) off
 
 pub body-map : (c : Config) (p : List ℕ) (past puts : List (List ℕ)) (cue pid : ℕ) (ts : List Table) → on_map (listed (Some c.program) past) p ≡ true → cue ≡ c.cue_pid → pid ≡ pid_of p
     → ts ≡ tables (Some c.program) p past → packets_out pid puts (map (section_out (change_of (Added cue))) ts) ≡ body_at c p past puts
-body-map c p past puts cue pid ts here cue_is pid_is ts_is =
+body-map c p past puts cue pid ts here cue_is out_is ts_is =
     ap (λ q. packets_out pid puts (map (section_out (change_of (Added q))) ts)) cue_is
     ∙ ap (λ l. packets_out pid puts (map (section_out (change_of (Added c.cue_pid))) l)) ts_is
     ∙ by (listed (Some c.program) past) here
@@ -178,4 +162,4 @@ body-map c p past puts cue pid ts here cue_is pid_is ts_is =
     by : (l : Option Listed) → on_map l p ≡ true
         → packets_out pid puts (map (section_out (change_of (Added c.cue_pid))) (tables (Some c.program) p past)) ≡ body (cueing c.cue_pid (λ q qs. [])) l p past (tables (Some c.program) p past) puts
     by None here = absurd (let no : false ≡ true = here in cc)
-    by (Some l) here = rw here (ap (λ q. packets_out q puts (map (section_out (change_of (Added c.cue_pid))) (tables (Some c.program) p past))) (pid_is ∙ own-pid l.pid p here))
+    by (Some l) here = rw here (ap (λ q. packets_out q puts (map (section_out (change_of (Added c.cue_pid))) (tables (Some c.program) p past))) (out_is ∙ pid_is l.pid p here))

@@ -40,22 +40,22 @@ pre_roll-small : (ms : ℕ) → ms < 65536 → 90 * ms ≤ 2 ^ 29
 pre_roll-small ms fits = omega arith
 
 -- the high time on the line, where there is one on the ring
-pub record OnLine (line : Option ℤ) (high : ℕ) : Type 0 where
+pub record OnLine (latest : Option ℤ) (high : ℕ) : Type 0 where
   pub time : ℤ
-  pub is : line ≡ Some time
+  pub is : latest ≡ Some time
   pub ring : high ≡ ring_of time
 
-pub on-line : {T : Type 0} (t : Table T) (line : Option ℤ) (standing : List Standing) (high : ℕ) → high_time_of t ≡ Some high → StandsFor t line standing → OnLine line high
+pub on-line : {T : Type 0} (t : Table T) (latest : Option ℤ) (standing : List Standing) (high : ℕ) → high_time_of t ≡ Some high → StandsFor t latest standing → OnLine latest high
 on-line t None standing high is stands = absurd (let no : Some high ≡ None = sym is ∙ stands.high in cc)
 on-line t (Some h) standing high is stands = let same : Some high ≡ Some (ring_of h) = sym is ∙ stands.high in record { time = h; is = refl; ring = cc }
 
-pub time-place : (line : Option ℤ) (high : ℕ) (o : OnLine line high) (r : SpliceRequest) → r.pre_roll_time < 65536
-    → place line ((high + 90 * r.pre_roll_time) % 2 ^ 33) ≡ time_at o.time r
-time-place line high o r fits = rw (o.is, o.ring) (later-place o.time (90 * r.pre_roll_time) (pre_roll-small r.pre_roll_time fits))
+pub time-place : (latest : Option ℤ) (high : ℕ) (o : OnLine latest high) (r : SpliceRequest) → r.pre_roll_time < 65536
+    → place latest ((high + 90 * r.pre_roll_time) % 2 ^ 33) ≡ time_at o.time r
+time-place latest high o r fits = rw (o.is, o.ring) (later-place o.time (90 * r.pre_roll_time) (pre_roll-small r.pre_roll_time fits))
 
 -- the same list by another name
-pub restated : {T : Type 0} (t : Table T) (line : Option ℤ) (xs ys : List Standing) → xs ≡ ys → StandsFor t line xs → StandsFor t line ys
-restated t line xs ys same stands_as_xs = subst (λ zs. StandsFor t line zs) same stands_as_xs
+pub restated : {T : Type 0} (t : Table T) (latest : Option ℤ) (xs ys : List Standing) → xs ≡ ys → StandsFor t latest xs → StandsFor t latest ys
+restated t latest xs ys same stands_as_xs = subst (λ zs. StandsFor t latest zs) same stands_as_xs
 
 -- CANCELS
 abbrev pub told_cancel : Result (Unit {0}) CancelRefusal → Result (Unit {0}) Refusal
@@ -63,16 +63,16 @@ told_cancel (Ok u) = Ok tt
 told_cancel (Err cancel_refusal.NoSuchEvent) = Err NoSuchEvent
 told_cancel (Err cancel_refusal.TooLate) = Err TooLate
 
-pub cancel-told : (line : Option ℤ) (standing : List Standing) (r : SpliceRequest) → told_cancel (cancel_answer line standing r.splice_event_id) ≡ cancel_verdict line standing r
-cancel-told line standing r = by (find (has_id r.splice_event_id) standing)
+pub cancel-told : (latest : Option ℤ) (standing : List Standing) (r : SpliceRequest) → told_cancel (cancel_answer latest standing r.splice_event_id) ≡ cancel_verdict latest standing r
+cancel-told latest standing r = by (find (has_id r.splice_event_id) standing)
   where
     begun : (b : Bool) → told_cancel (cond b (Err cancel_refusal.TooLate) (Ok tt)) ≡ cond b (Err TooLate) (Ok tt)
     begun true = refl
     begun false = refl
 
-    by : (o : Option Standing) → told_cancel (cancel_answer_of line o) ≡ cancel_verdict_at line o
+    by : (o : Option Standing) → told_cancel (cancel_answer_of latest o) ≡ cancel_verdict_at latest o
     by None = refl
-    by (Some s) = elim line as (λ l. told_cancel (cancel_answer_of l (Some s)) ≡ cancel_verdict_at l (Some s)) [ None ↦ refl | Some h ↦ begun (int_le s.start h) ]
+    by (Some s) = elim latest as (λ l. told_cancel (cancel_answer_of l (Some s)) ≡ cancel_verdict_at l (Some s)) [ None ↦ refl | Some h ↦ begun (int_le s.start h) ]
 
 -- ENDS
 abbrev pub told_end : Result Armed ShortenRefusal → Result (Unit {0}) Refusal
@@ -111,21 +111,21 @@ end-told h standing r fits = by (find (has_id r.splice_event_id) standing)
         rw (ahead-is h (90 * r.pre_roll_time) (pre_roll-small r.pre_roll_time fits))
         (end-tests (int_lt h (time_at h r)) s.cancelled (int_eq (time_at h r) (end_of s)) (int_lt s.start (time_at h r)) (int_lt (time_at h r) (end_of s)) (same-not_below (time_at h r) (end_of s)))
 
-pub end-answer : (line : Option ℤ) (standing : List Standing) (high : ℕ) (o : OnLine line high) (r : SpliceRequest) (end : ℕ) (answer : Result Armed ShortenRefusal) → r.pre_roll_time < 65536
-    → end ≡ (high + 90 * r.pre_roll_time) % 2 ^ 33 → answer ≡ shorten_answer line standing r.splice_event_id (place line end) → told_end answer ≡ end_verdict line standing r
-end-answer line standing high o r end answer fits end_is is =
-    ap told_end (is ∙ ap (λ t. shorten_answer line standing r.splice_event_id t) (ap (place line) end_is ∙ time-place line high o r fits))
+pub end-answer : (latest : Option ℤ) (standing : List Standing) (high : ℕ) (o : OnLine latest high) (r : SpliceRequest) (end : ℕ) (answer : Result Armed ShortenRefusal) → r.pre_roll_time < 65536
+    → end ≡ (high + 90 * r.pre_roll_time) % 2 ^ 33 → answer ≡ shorten_answer latest standing r.splice_event_id (place latest end) → told_end answer ≡ end_verdict latest standing r
+end-answer latest standing high o r end answer fits end_is is =
+    ap told_end (is ∙ ap (λ t. shorten_answer latest standing r.splice_event_id t) (ap (place latest) end_is ∙ time-place latest high o r fits))
     ∙ subst (λ l. told_end (shorten_answer l standing r.splice_event_id (time_at o.time r)) ≡ end_verdict l standing r) (sym o.is) (end-told o.time standing r fits)
 
-pub ended-is : (line : Option ℤ) (standing : List Standing) (high : ℕ) (o : OnLine line high) (r : SpliceRequest) (end : ℕ) → r.pre_roll_time < 65536
-    → end ≡ (high + 90 * r.pre_roll_time) % 2 ^ 33 → with_end r.splice_event_id (place line end) standing ≡ ended line (has_id r.splice_event_id) standing r
-ended-is line standing high o r end fits end_is =
-    ap (λ t. with_end r.splice_event_id t standing) (ap (place line) end_is ∙ time-place line high o r fits)
+pub ended-is : (latest : Option ℤ) (standing : List Standing) (high : ℕ) (o : OnLine latest high) (r : SpliceRequest) (end : ℕ) → r.pre_roll_time < 65536
+    → end ≡ (high + 90 * r.pre_roll_time) % 2 ^ 33 → with_end r.splice_event_id (place latest end) standing ≡ ended latest (has_id r.splice_event_id) standing r
+ended-is latest standing high o r end fits end_is =
+    ap (λ t. with_end r.splice_event_id t standing) (ap (place latest) end_is ∙ time-place latest high o r fits)
     ∙ subst (λ l. with_end r.splice_event_id (time_at o.time r) standing ≡ ended l (has_id r.splice_event_id) standing r) (sym o.is) refl
 
 -- before the first time no event stands, so none can end
-pub end-no_time : {T : Type 0} (t : Table T) (line : Option ℤ) (standing : List Standing) (r : SpliceRequest) → high_time_of t ≡ None → StandsFor t line standing
-    → Err NoSuchEvent ≡ end_verdict line standing r
+pub end-no_time : {T : Type 0} (t : Table T) (latest : Option ℤ) (standing : List Standing) (r : SpliceRequest) → high_time_of t ≡ None → StandsFor t latest standing
+    → Err NoSuchEvent ≡ end_verdict latest standing r
 end-no_time t (Some h) standing r is stands = absurd (let no : None ≡ Some (ring_of h) = sym is ∙ stands.high in cc)
 end-no_time t None [] r is stands = refl
 end-no_time t None (s ∷ standing) r is stands = absurd (stands.within 0 s (omega arith))
@@ -162,38 +162,38 @@ start-told h standing r =
     start-tests (list_any (repeats (start_event h r)) standing) (list_any (has_id r.splice_event_id) standing) (is_full standing) (list_any (meets (start_event h r)) standing)
     (any-mono (repeats (start_event h r)) (has_id r.splice_event_id) (λ s is. repeats-id (start_event h r) s is) standing)
 
-event-line : (line : Option ℤ) (high : ℕ) (o : OnLine line high) (r : SpliceRequest) → r.pre_roll_time < 65536 → on_line line (event_on_ring high r) ≡ start_event o.time r
-event-line line high o r fits = ap (λ t. at t) (time-place line high o r fits)
+event-line : (latest : Option ℤ) (high : ℕ) (o : OnLine latest high) (r : SpliceRequest) → r.pre_roll_time < 65536 → on_line latest (event_on_ring high r) ≡ start_event o.time r
+event-line latest high o r fits = ap (λ t. at t) (time-place latest high o r fits)
   where
     at : ℤ → Standing
     at t = record { id = r.splice_event_id; start = t; length = 9000 * r.break_duration; asked = 9000 * r.break_duration; program = r.unique_program_id; cancelled = false }
 
-pub start-answer : (line : Option ℤ) (standing : List Standing) (high : ℕ) (o : OnLine line high) (r : SpliceRequest) (event : Event) (answer : Result Armed ArmRefusal) → r.pre_roll_time < 65536
-    → event ≡ event_on_ring high r → answer ≡ arm_answer standing (on_line line event) → told_start answer ≡ start_verdict line standing r
-start-answer line standing high o r event answer fits event_is is =
-    ap told_start (is ∙ ap (arm_answer standing) (ap (on_line line) event_is ∙ event-line line high o r fits))
+pub start-answer : (latest : Option ℤ) (standing : List Standing) (high : ℕ) (o : OnLine latest high) (r : SpliceRequest) (event : Event) (answer : Result Armed ArmRefusal) → r.pre_roll_time < 65536
+    → event ≡ event_on_ring high r → answer ≡ arm_answer standing (on_line latest event) → told_start answer ≡ start_verdict latest standing r
+start-answer latest standing high o r event answer fits event_is is =
+    ap told_start (is ∙ ap (arm_answer standing) (ap (on_line latest) event_is ∙ event-line latest high o r fits))
     ∙ start-told o.time standing r ∙ ap (λ l. start_verdict l standing r) (sym o.is)
 
-pub started-is : (line : Option ℤ) (standing : List Standing) (high : ℕ) (o : OnLine line high) (r : SpliceRequest) (event : Event) → r.pre_roll_time < 65536
-    → event ≡ event_on_ring high r → standing ++ on_line line event ∷ [] ≡ started line standing r
-started-is line standing high o r event fits event_is =
-    ap (λ s. standing ++ s ∷ []) (ap (on_line line) event_is ∙ event-line line high o r fits) ∙ ap (λ l. started l standing r) (sym o.is)
+pub started-is : (latest : Option ℤ) (standing : List Standing) (high : ℕ) (o : OnLine latest high) (r : SpliceRequest) (event : Event) → r.pre_roll_time < 65536
+    → event ≡ event_on_ring high r → standing ++ on_line latest event ∷ [] ≡ started latest standing r
+started-is latest standing high o r event fits event_is =
+    ap (λ s. standing ++ s ∷ []) (ap (on_line latest) event_is ∙ event-line latest high o r fits) ∙ ap (λ l. started l standing r) (sym o.is)
 
-pub start-no_time : {T : Type 0} (t : Table T) (line : Option ℤ) (standing : List Standing) (r : SpliceRequest) → high_time_of t ≡ None → StandsFor t line standing
-    → Err NoClock ≡ start_verdict line standing r
+pub start-no_time : {T : Type 0} (t : Table T) (latest : Option ℤ) (standing : List Standing) (r : SpliceRequest) → high_time_of t ≡ None → StandsFor t latest standing
+    → Err NoClock ≡ start_verdict latest standing r
 start-no_time t (Some h) standing r is stands = absurd (let no : None ≡ Some (ring_of h) = sym is ∙ stands.high in cc)
 start-no_time t None standing r is stands = refl
 
 -- a cancel that was taken, or refused
-pub after-cancel : {T : Type 0} (t t' : Table T) (line : Option ℤ) (standing : List Standing) (r : SpliceRequest) (verdict : Result (Unit {0}) Refusal)
-    → is_start r ≡ false → (r.splice_insert_type == 3) ≡ false → verdict ≡ cancel_verdict line standing r
-    → (verdict ≡ Ok tt → StandsFor t' line (with_cancelled r.splice_event_id standing)) → OnErr verdict (t' ≡ t) → StandsFor t line standing
-    → StandsFor t' line (after line standing r (verdict_of line standing r))
-after-cancel t t' line standing r verdict not_start not_end is taken kept stands =
-    rw (not_start, not_end) (subst (λ v. StandsFor t' line (after line standing r v)) is (by verdict taken kept))
+pub after-cancel : {T : Type 0} (t t' : Table T) (latest : Option ℤ) (standing : List Standing) (r : SpliceRequest) (verdict : Result (Unit {0}) Refusal)
+    → is_start r ≡ false → (r.splice_insert_type == 3) ≡ false → verdict ≡ cancel_verdict latest standing r
+    → (verdict ≡ Ok tt → StandsFor t' latest (with_cancelled r.splice_event_id standing)) → OnErr verdict (t' ≡ t) → StandsFor t latest standing
+    → StandsFor t' latest (after latest standing r (verdict_of latest standing r))
+after-cancel t t' latest standing r verdict not_start not_end is taken kept stands =
+    rw (not_start, not_end) (subst (λ v. StandsFor t' latest (after latest standing r v)) is (by verdict taken kept))
   where
-    by : (v : Result (Unit {0}) Refusal) → (v ≡ Ok tt → StandsFor t' line (with_cancelled r.splice_event_id standing)) → OnErr v (t' ≡ t)
-        → StandsFor t' line (after line standing r v)
+    by : (v : Result (Unit {0}) Refusal) → (v ≡ Ok tt → StandsFor t' latest (with_cancelled r.splice_event_id standing)) → OnErr v (t' ≡ t)
+        → StandsFor t' latest (after latest standing r v)
     by (Ok u) taken kept = rw (not_start, not_end) (taken refl)
     by (Err e) taken kept = rw kept stands
 
@@ -208,9 +208,9 @@ ended-stands h n start = by ((h +ℤ pos n) -ℤ start) refl
     by (pos k) is = grind (arith, ints)
     by (negsuc k) is = grind (arith, ints)
 
-pub filter-asked : (line : Option ℤ) (events : List Standing) (a : Result ServedRequest Refusal) → filter (stands line) (with_asked line events a) ≡ after_by line (filter (stands line) events) a
-filter-asked line events (Err e) = refl
-filter-asked line events (Ok a) = by (verdict_of line (filter (stands line) events) a.request)
+pub filter-asked : (latest : Option ℤ) (events : List Standing) (a : Result ServedRequest Refusal) → filter (stands latest) (with_asked latest events a) ≡ after_by latest (filter (stands latest) events) a
+filter-asked latest events (Err e) = refl
+filter-asked latest events (Ok a) = by (verdict_of latest (filter (stands latest) events) a.request)
   where
     start-case : (l : Option ℤ) → filter (stands l) (started l events a.request) ≡ started l (filter (stands l) events) a.request
     start-case None = refl
@@ -224,25 +224,25 @@ filter-asked line events (Ok a) = by (verdict_of line (filter (stands line) even
     cancel-stays None s is = refl
     cancel-stays (Some h) s is = is
 
-    cancel-case : filter (stands line) (with_first (is_of line a.request.splice_event_id) cancelled_one events) ≡ with_first (has_id a.request.splice_event_id) cancelled_one (filter (stands line) events)
-    cancel-case = with_first-filter (stands line) (has_id a.request.splice_event_id) cancelled_one (cancel-stays line) events
+    cancel-case : filter (stands latest) (with_first (is_of latest a.request.splice_event_id) cancelled_one events) ≡ with_first (has_id a.request.splice_event_id) cancelled_one (filter (stands latest) events)
+    cancel-case = with_first-filter (stands latest) (has_id a.request.splice_event_id) cancelled_one (cancel-stays latest) events
 
     kinds : (b c : Bool)
-        → filter (stands line) (cond b (started line events a.request) (cond c (ended line (is_of line a.request.splice_event_id) events a.request) (with_first (is_of line a.request.splice_event_id) cancelled_one events)))
-        ≡ cond b (started line (filter (stands line) events) a.request) (cond c (ended line (has_id a.request.splice_event_id) (filter (stands line) events) a.request) (with_first (has_id a.request.splice_event_id) cancelled_one (filter (stands line) events)))
-    kinds true c = start-case line
-    kinds false true = end-case line
+        → filter (stands latest) (cond b (started latest events a.request) (cond c (ended latest (is_of latest a.request.splice_event_id) events a.request) (with_first (is_of latest a.request.splice_event_id) cancelled_one events)))
+        ≡ cond b (started latest (filter (stands latest) events) a.request) (cond c (ended latest (has_id a.request.splice_event_id) (filter (stands latest) events) a.request) (with_first (has_id a.request.splice_event_id) cancelled_one (filter (stands latest) events)))
+    kinds true c = start-case latest
+    kinds false true = end-case latest
     kinds false false = cancel-case
 
-    by : (v : Result (Unit {0}) Refusal) → filter (stands line) (changed line (is_of line a.request.splice_event_id) events a.request v) ≡ after line (filter (stands line) events) a.request v
+    by : (v : Result (Unit {0}) Refusal) → filter (stands latest) (changed latest (is_of latest a.request.splice_event_id) events a.request v) ≡ after latest (filter (stands latest) events) a.request v
     by (Ok u) = kinds (is_start a.request) (a.request.splice_insert_type == 3)
     by (Err e) = refl
 
 -- a higher time leaves fewer
-pub filter-later : {T : Type 0} (t : Table T) (line : Option ℤ) (p : ℕ) (later : ℤ) (standing events : List Standing) → CanAdvance (high_time_of t) p → StandsFor t line standing
-    → IsTimeAt line p later → still_standing later (filter (stands line) events) ≡ filter (stands (Some later)) events
-filter-later t line p later standing events can table is =
-    filter-twice (stands (Some later)) (stands line) (implies line (subst (λ h. CanAdvance h p) table.high can) is) events
+pub filter-later : {T : Type 0} (t : Table T) (latest : Option ℤ) (p : ℕ) (later : ℤ) (standing events : List Standing) → CanAdvance (high_time_of t) p → StandsFor t latest standing
+    → IsTimeAt latest p later → still_standing later (filter (stands latest) events) ≡ filter (stands (Some later)) events
+filter-later t latest p later standing events can table is =
+    filter-twice (stands (Some later)) (stands latest) (implies latest (subst (λ h. CanAdvance h p) table.high can) is) events
   where
     below : (h later end : ℤ) → h ≤ℤ later → int_lt later end ≡ true → int_lt h end ≡ true
     below h later end le lt = grind (arith, ints)
@@ -251,17 +251,17 @@ filter-later t line p later standing events can table is =
     implies None can is s lt = refl
     implies (Some h) can is s lt = let above = can.above in below h later (forgotten_at s) (omega (arith, ints)) lt
 
-pub advanced-stands : {T : Type 0} (t t' : Table T) (line : Option ℤ) (p : ℕ) (later : ℤ) (events : List Standing) → CanAdvance (high_time_of t) p → StandsFor t line (filter (stands line) events)
-    → IsTimeAt line p later → StandsFor t' (Some later) (still_standing later (filter (stands line) events)) → StandsFor t' (Some later) (filter (stands (Some later)) events)
-advanced-stands t t' line p later events can stands_before is stands_after =
-    restated t' (Some later) _ _ (filter-later t line p later (filter (stands line) events) events can stands_before is) stands_after
+pub advanced-stands : {T : Type 0} (t t' : Table T) (latest : Option ℤ) (p : ℕ) (later : ℤ) (events : List Standing) → CanAdvance (high_time_of t) p → StandsFor t latest (filter (stands latest) events)
+    → IsTimeAt latest p later → StandsFor t' (Some later) (still_standing later (filter (stands latest) events)) → StandsFor t' (Some later) (filter (stands (Some later)) events)
+advanced-stands t t' latest p later events can stands_before is stands_after =
+    restated t' (Some later) _ _ (filter-later t latest p later (filter (stands latest) events) events can stands_before is) stands_after
 
-pub asked-stands : {T : Type 0} (t' : Table T) (line : Option ℤ) (events : List Standing) (a : Result ServedRequest Refusal) → StandsFor t' line (after_by line (filter (stands line) events) a)
-    → StandsFor t' line (filter (stands line) (with_asked line events a))
-asked-stands t' line events a after_stands = restated t' line _ _ (sym (filter-asked line events a)) after_stands
+pub asked-stands : {T : Type 0} (t' : Table T) (latest : Option ℤ) (events : List Standing) (a : Result ServedRequest Refusal) → StandsFor t' latest (after_by latest (filter (stands latest) events) a)
+    → StandsFor t' latest (filter (stands latest) (with_asked latest events a))
+asked-stands t' latest events a after_stands = restated t' latest _ _ (sym (filter-asked latest events a)) after_stands
 
-pub judged-stands : {T : Type 0} (t' : Table T) (line : Option ℤ) (events : List Standing) (own index : ℕ) (m : Multiple) (reading : MessageReading) → reading ≡ multiple m → own ≡ index
-    → StandsFor t' line (after_by line (filter (stands line) events) (asked_of_multiple own m)) → StandsFor t' line (filter (stands line) (with_asked line events (asked_of index reading)))
-judged-stands t' line events own index m reading is same after_stands =
-    subst (λ x. StandsFor t' line (filter (stands line) (with_asked line events (asked_of index x)))) (sym is)
-    (asked-stands t' line events (asked_of_multiple index m) (subst (λ i. StandsFor t' line (after_by line (filter (stands line) events) (asked_of_multiple i m))) same after_stands))
+pub judged-stands : {T : Type 0} (t' : Table T) (latest : Option ℤ) (events : List Standing) (own index : ℕ) (m : Multiple) (reading : MessageReading) → reading ≡ multiple m → own ≡ index
+    → StandsFor t' latest (after_by latest (filter (stands latest) events) (asked_of_multiple own m)) → StandsFor t' latest (filter (stands latest) (with_asked latest events (asked_of index reading)))
+judged-stands t' latest events own index m reading is same after_stands =
+    subst (λ x. StandsFor t' latest (filter (stands latest) (with_asked latest events (asked_of index x)))) (sym is)
+    (asked-stands t' latest events (asked_of_multiple index m) (subst (λ i. StandsFor t' latest (after_by latest (filter (stands latest) events) (asked_of_multiple i m))) same after_stands))

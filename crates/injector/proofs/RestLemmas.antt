@@ -15,6 +15,7 @@ use Rattle.scte35_codec.specs.Spelling.{cue_bytes}
 use Rattle.program_follower.specs.Program.{Program, program_of, behind_head, pids_of}
 use Rattle.program_follower.specs.Following.{grown, high_of}
 use Rattle.program_follower.proofs.FollowLemmas.{program_stays, grown_is, no_high}
+use Rattle.std.proofs.Math.Bool.{or-false}
 use Rattle.injector.specs.declared.asked.ServedRequest.{ServedRequest}
 use Rattle.injector.specs.declared.refusal.Refusal.{Refusal}
 use Rattle.injector.specs.declared.requests.Requests.{Requests}
@@ -36,19 +37,19 @@ Climbs None later = Unit {0}
 Climbs (Some h) None = ⊥
 Climbs (Some h) (Some l) = h ≤ℤ l
 
-climbs-none : (line : Option ℤ) → Climbs line None → line ≡ None
+climbs-none : (latest : Option ℤ) → Climbs latest None → latest ≡ None
 climbs-none None up = refl
 climbs-none (Some h) up = absurd up
 
-climbs-same : (line : Option ℤ) → Climbs line line
+climbs-same : (latest : Option ℤ) → Climbs latest latest
 climbs-same None = tt
 climbs-same (Some h) = grind (arith, ints)
 
 climbs-max : (h t : ℤ) → h ≤ℤ int_max h t
 climbs-max h t = grind (arith, ints)
 
-climbs-raised : (line : Option ℤ) (s : Option ℕ) → Climbs line (raised line s)
-climbs-raised line None = climbs-same line
+climbs-raised : (latest : Option ℤ) (s : Option ℕ) → Climbs latest (raised latest s)
+climbs-raised latest None = climbs-same latest
 climbs-raised None (Some t) = tt
 climbs-raised (Some h) (Some t) = climbs-max h (place (Some h) t)
 
@@ -78,9 +79,9 @@ climbs-at program p past = by (program_of (Some program) past) refl
 -- ---- one event at rest
 
 -- what was sent was sent at some time; and unless a request was accepted, nothing is due while the greatest time stays
-record IsAtRest (has : Bool) (line : Option ℤ) (x : Sender) : Type 0 where
-  timed : line ≡ None → x.last ≡ None
-  rest : has ≡ false → is_none (chosen x line line) ≡ true
+record IsAtRest (has : Bool) (latest : Option ℤ) (x : Sender) : Type 0 where
+  timed : latest ≡ None → x.last ≡ None
+  rest : has ≡ false → is_none (chosen x latest latest) ≡ true
 
 nothing-new : (e : Standing) → is_none (news e (Some e)) ≡ true
 nothing-new e = grind arith
@@ -94,19 +95,19 @@ some-current e = by e.cancelled (is_ended e)
     by false false = refl
 
 -- nothing is chosen where nothing is new and nothing is repeated
-pub none-chosen : (x : Sender) (line later : Option ℤ) → is_none (news x.event x.told) ≡ true → is_repeated x.event x.last line later ≡ false → is_none (chosen x line later) ≡ true
-none-chosen x line later none not-again = rw none (rw not-again refl)
+pub none-chosen : (x : Sender) (latest later : Option ℤ) → is_none (news x.event x.told) ≡ true → is_repeated x.event x.last latest later ≡ false → is_none (chosen x latest later) ≡ true
+none-chosen x latest later none not-again = rw none (rw not-again refl)
 
-pub chosen-none : (x : Sender) (line later : Option ℤ) → is_none (chosen x line later) ≡ true → (is_none (news x.event x.told) ≡ true) × (is_repeated x.event x.last line later ≡ false)
-chosen-none x line later none = by (is_none (news x.event x.told)) (is_repeated x.event x.last line later) refl refl
+pub chosen-none : (x : Sender) (latest later : Option ℤ) → is_none (chosen x latest later) ≡ true → (is_none (news x.event x.told) ≡ true) × (is_repeated x.event x.last latest later ≡ false)
+chosen-none x latest later none = by (is_none (news x.event x.told)) (is_repeated x.event x.last latest later) refl refl
   where
-    by : (n r : Bool) → is_none (news x.event x.told) ≡ n → is_repeated x.event x.last line later ≡ r → (is_none (news x.event x.told) ≡ true) × (is_repeated x.event x.last line later ≡ false)
+    by : (n r : Bool) → is_none (news x.event x.told) ≡ n → is_repeated x.event x.last latest later ≡ r → (is_none (news x.event x.told) ≡ true) × (is_repeated x.event x.last latest later ≡ false)
     by true false n_is r_is = (n_is, r_is)
     by true true n_is r_is = absurd (let no : is_none (current x.event) ≡ true = rw (n_is, r_is) at none in let is = some-current x.event in cc)
     by false r n_is r_is = absurd (let no : is_none (news x.event x.told) ≡ true = rw n_is at none in cc)
 
-not-again : (e : Standing) (last line later : Option ℤ) → Climbs line later → (line ≡ None → last ≡ None) → is_repeated e last line later ≡ false → is_repeated e last later later ≡ false
-not-again e None line later up timed is = refl
+not-again : (e : Standing) (last latest later : Option ℤ) → Climbs latest later → (latest ≡ None → last ≡ None) → is_repeated e last latest later ≡ false → is_repeated e last later later ≡ false
+not-again e None latest later up timed is = refl
 not-again e (Some t) None later up timed is = absurd (let no : Some t ≡ None = timed refl in cc)
 not-again e (Some t) (Some h) None up timed is = absurd up
 not-again e (Some t) (Some h) (Some l) up timed is = grind (arith, ints)
@@ -115,14 +116,14 @@ just-sent : (e : Standing) (later : Option ℤ) → is_repeated e later later la
 just-sent e None = refl
 just-sent e (Some l) = grind (arith, ints)
 
-rest-told : (has : Bool) (line later : Option ℤ) → Climbs line later → (x : Sender) → IsAtRest has line x → IsAtRest false later (tell line later x)
-rest-told has line later up x before = by (is_none (chosen x line later)) refl
+rest-told : (has : Bool) (latest later : Option ℤ) → Climbs latest later → (x : Sender) → IsAtRest has latest x → IsAtRest false later (tell latest later x)
+rest-told has latest later up x before = by (is_none (chosen x latest later)) refl
   where
-    by : (b : Bool) → is_none (chosen x line later) ≡ b → IsAtRest false later (cond b x (told_now later x))
-    by true is = let c = chosen-none x line later is in
+    by : (b : Bool) → is_none (chosen x latest later) ≡ b → IsAtRest false later (cond b x (told_now later x))
+    by true is = let c = chosen-none x latest later is in
         record {
-          timed = λ none. before.timed (climbs-none line (subst (Climbs line) none up));
-          rest = λ no. none-chosen x later later c.0 (not-again x.event x.last line later up before.timed c.1);
+          timed = λ none. before.timed (climbs-none latest (subst (Climbs latest) none up));
+          rest = λ no. none-chosen x later later c.0 (not-again x.event x.last latest later up before.timed c.1);
         }
     by false is =
         record {
@@ -130,18 +131,18 @@ rest-told has line later up x before = by (is_none (chosen x line later)) refl
           rest = λ no. none-chosen (told_now later x) later later (nothing-new x.event) (just-sent x.event later);
         }
 
-all-told : (has : Bool) (line later : Option ℤ) → Climbs line later → (xs : List Sender) → All (IsAtRest has line) xs → All (IsAtRest false later) (map (tell line later) xs)
-all-told has line later up [] all = All-nil (IsAtRest false later)
-all-told has line later up (x ∷ xs) all =
-    All-cons (IsAtRest false later) (tell line later x) (map (tell line later) xs) (rest-told has line later up x (All-head (IsAtRest has line) x xs all))
-    (all-told has line later up xs (All-tail (IsAtRest has line) x xs all))
+all-told : (has : Bool) (latest later : Option ℤ) → Climbs latest later → (xs : List Sender) → All (IsAtRest has latest) xs → All (IsAtRest false later) (map (tell latest later) xs)
+all-told has latest later up [] all = All-nil (IsAtRest false later)
+all-told has latest later up (x ∷ xs) all =
+    All-cons (IsAtRest false later) (tell latest later x) (map (tell latest later) xs) (rest-told has latest later up x (All-head (IsAtRest has latest) x xs all))
+    (all-told has latest later up xs (All-tail (IsAtRest has latest) x xs all))
 
 -- ---- a message
 
 -- one that is not accepted changes nothing
-same-judged : (line : Option ℤ) (test : Sender → Bool) (xs : List Sender) (a : ServedRequest) (v : Result (Unit {0}) Refusal) → is_ok v ≡ false → with_judged line test xs a v ≡ xs
-same-judged line test xs a (Err e) is = refl
-same-judged line test xs a (Ok u) is = absurd (let no : true ≡ false = is in cc)
+same-judged : (latest : Option ℤ) (test : Sender → Bool) (xs : List Sender) (a : ServedRequest) (v : Result (Unit {0}) Refusal) → is_ok v ≡ false → with_judged latest test xs a v ≡ xs
+same-judged latest test xs a (Err e) is = refl
+same-judged latest test xs a (Ok u) is = absurd (let no : true ≡ false = is in cc)
 
 pub same-refused : (index : ℕ) (m : MessageReading) (past : List Turn) → is_accepted (outcome index m past) ≡ false → with_request (high past) (senders index past) (asked_of index m) ≡ senders index past
 same-refused index (init head) past is = refl
@@ -157,50 +158,46 @@ same-refused index (multiple m) past is = by (asked_of_multiple index m) is
         (ap (λ es. is_ok (verdict_of (high past) es a.request)) (standing-events index past) ∙ is)
 
 abbrev IsTimed : Option ℤ → Sender → Type 0
-IsTimed line x = line ≡ None → x.last ≡ None
+IsTimed latest x = latest ≡ None → x.last ≡ None
 
-first-timed : (line : Option ℤ) (test : Sender → Bool) (f : Standing → Standing) (xs : List Sender) → All (IsTimed line) xs → All (IsTimed line) (with_first test (with_event f) xs)
-first-timed line test f [] all = all
-first-timed line test f (x ∷ xs) all = step (test x) (first-timed line test f xs (All-tail (IsTimed line) x xs all))
+first-timed : (latest : Option ℤ) (test : Sender → Bool) (f : Standing → Standing) (xs : List Sender) → All (IsTimed latest) xs → All (IsTimed latest) (with_first test (with_event f) xs)
+first-timed latest test f [] all = all
+first-timed latest test f (x ∷ xs) all = step (test x) (first-timed latest test f xs (All-tail (IsTimed latest) x xs all))
   where
-    step : (b : Bool) → All (IsTimed line) (with_first test (with_event f) xs) → All (IsTimed line) (cond b (with_event f x ∷ xs) (x ∷ with_first test (with_event f) xs))
-    step true later = All-cons (IsTimed line) (with_event f x) xs (All-head (IsTimed line) x xs all) (All-tail (IsTimed line) x xs all)
-    step false later = All-cons (IsTimed line) x (with_first test (with_event f) xs) (All-head (IsTimed line) x xs all) later
+    step : (b : Bool) → All (IsTimed latest) (with_first test (with_event f) xs) → All (IsTimed latest) (cond b (with_event f x ∷ xs) (x ∷ with_first test (with_event f) xs))
+    step true later = All-cons (IsTimed latest) (with_event f x) xs (All-head (IsTimed latest) x xs all) (All-tail (IsTimed latest) x xs all)
+    step false later = All-cons (IsTimed latest) x (with_first test (with_event f) xs) (All-head (IsTimed latest) x xs all) later
 
-timed-judged : (line : Option ℤ) (test : Sender → Bool) (xs : List Sender) (a : ServedRequest) (v : Result (Unit {0}) Refusal) → All (IsTimed line) xs → All (IsTimed line) (with_judged line test xs a v)
-timed-judged line test xs a (Err e) all = all
-timed-judged line test xs a (Ok u) all = kinds (is_start a.request) (a.request.splice_insert_type == 3)
+timed-judged : (latest : Option ℤ) (test : Sender → Bool) (xs : List Sender) (a : ServedRequest) (v : Result (Unit {0}) Refusal) → All (IsTimed latest) xs → All (IsTimed latest) (with_judged latest test xs a v)
+timed-judged latest test xs a (Err e) all = all
+timed-judged latest test xs a (Ok u) all = kinds (is_start a.request) (a.request.splice_insert_type == 3)
   where
-    start-case : (l : Option ℤ) → All (IsTimed line) (begun l xs a)
+    start-case : (l : Option ℤ) → All (IsTimed latest) (begun l xs a)
     start-case None = all
-    start-case (Some h) = All-push (IsTimed line) xs (fresh h a) all (λ none. refl)
+    start-case (Some h) = All-push (IsTimed latest) xs (fresh h a) all (λ none. refl)
 
-    end-case : (l : Option ℤ) → All (IsTimed line) (cut_short l test xs a)
+    end-case : (l : Option ℤ) → All (IsTimed latest) (cut_short l test xs a)
     end-case None = all
-    end-case (Some h) = first-timed line test (ending_at (time_at h a.request)) xs all
+    end-case (Some h) = first-timed latest test (ending_at (time_at h a.request)) xs all
 
-    kinds : (b c : Bool) → All (IsTimed line) (cond b (begun line xs a) (cond c (cut_short line test xs a) (with_first test (with_event cancelled_one) xs)))
-    kinds true c = start-case line
-    kinds false true = end-case line
-    kinds false false = first-timed line test cancelled_one xs all
+    kinds : (b c : Bool) → All (IsTimed latest) (cond b (begun latest xs a) (cond c (cut_short latest test xs a) (with_first test (with_event cancelled_one) xs)))
+    kinds true c = start-case latest
+    kinds false true = end-case latest
+    kinds false false = first-timed latest test cancelled_one xs all
 
-timed-request : (line : Option ℤ) (xs : List Sender) (a : Result ServedRequest Refusal) → All (IsTimed line) xs → All (IsTimed line) (with_request line xs a)
-timed-request line xs (Err e) all = all
-timed-request line xs (Ok a) all = timed-judged line (stands_by line a.request.splice_event_id) xs a (verdict_of line (events_in (filter (stands_now line) xs)) a.request) all
+timed-request : (latest : Option ℤ) (xs : List Sender) (a : Result ServedRequest Refusal) → All (IsTimed latest) xs → All (IsTimed latest) (with_request latest xs a)
+timed-request latest xs (Err e) all = all
+timed-request latest xs (Ok a) all = timed-judged latest (stands_by latest a.request.splice_event_id) xs a (verdict_of latest (events_in (filter (stands_now latest) xs)) a.request) all
 
-times-of : (has : Bool) (line : Option ℤ) (xs : List Sender) → All (IsAtRest has line) xs → All (IsTimed line) xs
-times-of has line [] all = All-nil (IsTimed line)
-times-of has line (x ∷ xs) all = let here = All-head (IsAtRest has line) x xs all in All-cons (IsTimed line) x xs here.timed (times-of has line xs (All-tail (IsAtRest has line) x xs all))
+times-of : (has : Bool) (latest : Option ℤ) (xs : List Sender) → All (IsAtRest has latest) xs → All (IsTimed latest) xs
+times-of has latest [] all = All-nil (IsTimed latest)
+times-of has latest (x ∷ xs) all = let here = All-head (IsAtRest has latest) x xs all in All-cons (IsTimed latest) x xs here.timed (times-of has latest xs (All-tail (IsAtRest has latest) x xs all))
 
-stirred : (line : Option ℤ) (xs : List Sender) → All (IsTimed line) xs → All (IsAtRest true line) xs
-stirred line [] all = All-nil (IsAtRest true line)
-stirred line (x ∷ xs) all =
-    All-cons (IsAtRest true line) x xs (record { timed = All-head (IsTimed line) x xs all; rest = λ no. absurd (let e : true ≡ false = no in cc) })
-    (stirred line xs (All-tail (IsTimed line) x xs all))
-
-or-false : (b : Bool) → b || false ≡ b
-or-false true = refl
-or-false false = refl
+stirred : (latest : Option ℤ) (xs : List Sender) → All (IsTimed latest) xs → All (IsAtRest true latest) xs
+stirred latest [] all = All-nil (IsAtRest true latest)
+stirred latest (x ∷ xs) all =
+    All-cons (IsAtRest true latest) x xs (record { timed = All-head (IsTimed latest) x xs all; rest = λ no. absurd (let e : true ≡ false = no in cc) })
+    (stirred latest xs (All-tail (IsTimed latest) x xs all))
 
 or-true : (b : Bool) → b || true ≡ true
 or-true true = refl
@@ -229,10 +226,10 @@ all-at-rest c (Packet p ∷ past) =
     (subst (λ h. Climbs h (high_of (Some c.program) (p ∷ packets_in past))) (sym (turns-high c.program past)) (climbs-at c.program p (packets_in past)))
     (senders c.index (turns_in c.program past)) (all-at-rest c past)
 
-none-due : (line : Option ℤ) (xs : List Sender) → All (IsAtRest false line) xs → All (λ x. is_none (chosen x line line) ≡ true) xs
-none-due line [] all = All-nil (λ x. is_none (chosen x line line) ≡ true)
-none-due line (x ∷ xs) all = let here = All-head (IsAtRest false line) x xs all in
-    All-cons (λ y. is_none (chosen y line line) ≡ true) x xs (here.rest refl) (none-due line xs (All-tail (IsAtRest false line) x xs all))
+none-due : (latest : Option ℤ) (xs : List Sender) → All (IsAtRest false latest) xs → All (λ x. is_none (chosen x latest latest) ≡ true) xs
+none-due latest [] all = All-nil (λ x. is_none (chosen x latest latest) ≡ true)
+none-due latest (x ∷ xs) all = let here = All-head (IsAtRest false latest) x xs all in
+    All-cons (λ y. is_none (chosen y latest latest) ≡ true) x xs (here.rest refl) (none-due latest xs (All-tail (IsAtRest false latest) x xs all))
 
 -- no event has a cue where the greatest time stays, and nothing was accepted
 pub idle-between : (c : Config) (past : List Step) (later : Option ℤ) → has_news c.index (turns_in c.program past) ≡ false → high (turns_in c.program past) ≡ later → IsIdle c.index later (turns_in c.program past)
@@ -244,31 +241,31 @@ idle-between c past later quiet same =
 
 -- ---- what idle events send
 
-no-cues : (line later : Option ℤ) (xs : List Sender) → All (λ x. is_none (chosen x line later) ≡ true) xs → flat_map (cues_of line later) xs ≡ []
-no-cues line later [] all = refl
-no-cues line later (x ∷ xs) all =
-    ap (λ l. l ++ flat_map (cues_of line later) xs) (none-cues x (chosen x line later) (All-head (λ y. is_none (chosen y line later) ≡ true) x xs all))
-    ∙ no-cues line later xs (All-tail (λ y. is_none (chosen y line later) ≡ true) x xs all)
+no-cues : (latest later : Option ℤ) (xs : List Sender) → All (λ x. is_none (chosen x latest later) ≡ true) xs → flat_map (cues_of latest later) xs ≡ []
+no-cues latest later [] all = refl
+no-cues latest later (x ∷ xs) all =
+    ap (λ l. l ++ flat_map (cues_of latest later) xs) (none-cues x (chosen x latest later) (All-head (λ y. is_none (chosen y latest later) ≡ true) x xs all))
+    ∙ no-cues latest later xs (All-tail (λ y. is_none (chosen y latest later) ≡ true) x xs all)
 
-same-tell : (line later : Option ℤ) (x : Sender) → is_none (chosen x line later) ≡ true → tell line later x ≡ x
-same-tell line later x none = ap (λ b. cond b x (told_now later x)) none
+same-tell : (latest later : Option ℤ) (x : Sender) → is_none (chosen x latest later) ≡ true → tell latest later x ≡ x
+same-tell latest later x none = ap (λ b. cond b x (told_now later x)) none
 
-pub none-told : (line later : Option ℤ) (xs : List Sender) → All (λ x. is_none (chosen x line later) ≡ true) xs → map (tell line later) xs ≡ xs
-none-told line later [] all = refl
-none-told line later (x ∷ xs) all =
-    ap (λ y. y ∷ map (tell line later) xs) (same-tell line later x (All-head (λ y. is_none (chosen y line later) ≡ true) x xs all))
-    ∙ ap (λ ys. x ∷ ys) (none-told line later xs (All-tail (λ y. is_none (chosen y line later) ≡ true) x xs all))
+pub none-told : (latest later : Option ℤ) (xs : List Sender) → All (λ x. is_none (chosen x latest later) ≡ true) xs → map (tell latest later) xs ≡ xs
+none-told latest later [] all = refl
+none-told latest later (x ∷ xs) all =
+    ap (λ y. y ∷ map (tell latest later) xs) (same-tell latest later x (All-head (λ y. is_none (chosen y latest later) ≡ true) x xs all))
+    ∙ ap (λ ys. x ∷ ys) (none-told latest later xs (All-tail (λ y. is_none (chosen y latest later) ≡ true) x xs all))
 
 pub idle-cues : (index : ℕ) (later : Option ℤ) (past : List Turn) → IsIdle index later past → cues_before index later past ≡ []
 idle-cues index later past idle = no-cues (high past) later (standing_senders index past) idle
 
-pub idle-told : (r : Requests) (place : Option ℕ) (index : ℕ) (past : List Turn) (line : Option ℤ) → IsBefore false r place index past line → NotesTold r index past line
-idle-told r place index past line b =
+pub idle-told : (r : Requests) (place : Option ℕ) (index : ℕ) (past : List Turn) (latest : Option ℤ) → IsBefore false r place index past latest → NotesTold r index past latest
+idle-told r place index past latest b =
     let xs = standing_senders index past in
     let within : All (IsWithin (high past)) (events_in xs) = subst (All (IsWithin (high past))) (sym (standing-events index past)) b.stands.table.within in
     record {
-      notes = b.notes.notes ∙ ap (map notes_of) (sym (none-told (high past) line xs (b.idle refl)));
-      kept = all-kept (high past) line b.rises xs within b.notes.kept;
+      notes = b.notes.notes ∙ ap (map notes_of) (sym (none-told (high past) latest xs (b.idle refl)));
+      kept = all-kept (high past) latest b.rises xs within b.notes.kept;
     }
 
 pub no-cue-between : NoCueBetween

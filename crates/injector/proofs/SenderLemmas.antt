@@ -48,10 +48,10 @@ push-events : (xs : List Sender) (x : Sender) → events_in (xs ++ x ∷ []) ≡
 push-events xs x = map-append (λ (y : Sender). y.event) xs (x ∷ [])
 
 -- an accepted request changes the events as it changes those of the list
-accepted-events : (line : Option ℤ) (test : Standing → Bool) (xs : List Sender) (a : ServedRequest) (v : Result (Unit {0}) Refusal)
-    → events_in (with_judged line (λ x. test x.event) xs a v) ≡ changed line test (events_in xs) a.request v
-accepted-events line test xs a (Err e) = refl
-accepted-events line test xs a (Ok u) = kinds (is_start a.request) (a.request.splice_insert_type == 3)
+accepted-events : (latest : Option ℤ) (test : Standing → Bool) (xs : List Sender) (a : ServedRequest) (v : Result (Unit {0}) Refusal)
+    → events_in (with_judged latest (λ x. test x.event) xs a v) ≡ changed latest test (events_in xs) a.request v
+accepted-events latest test xs a (Err e) = refl
+accepted-events latest test xs a (Ok u) = kinds (is_start a.request) (a.request.splice_insert_type == 3)
   where
     start-case : (l : Option ℤ) → events_in (begun l xs a) ≡ started l (events_in xs) a.request
     start-case None = refl
@@ -62,30 +62,30 @@ accepted-events line test xs a (Ok u) = kinds (is_start a.request) (a.request.sp
     end-case (Some h) = first-events test (ending_at (time_at h a.request)) xs
 
     kinds : (b c : Bool)
-        → events_in (cond b (begun line xs a) (cond c (cut_short line (λ x. test x.event) xs a) (with_first (λ x. test x.event) (with_event cancelled_one) xs)))
-        ≡ cond b (started line (events_in xs) a.request) (cond c (ended line test (events_in xs) a.request) (with_first test cancelled_one (events_in xs)))
-    kinds true c = start-case line
-    kinds false true = end-case line
+        → events_in (cond b (begun latest xs a) (cond c (cut_short latest (λ x. test x.event) xs a) (with_first (λ x. test x.event) (with_event cancelled_one) xs)))
+        ≡ cond b (started latest (events_in xs) a.request) (cond c (ended latest test (events_in xs) a.request) (with_first test cancelled_one (events_in xs)))
+    kinds true c = start-case latest
+    kinds false true = end-case latest
     kinds false false = first-events test cancelled_one xs
 
-request-events : (line : Option ℤ) (xs : List Sender) (es : List Standing) (a : Result ServedRequest Refusal) → events_in xs ≡ es → events_in (with_request line xs a) ≡ with_asked line es a
-request-events line xs es (Err e) same = same
-request-events line xs es (Ok a) same =
-    let test : Standing → Bool = is_of line a.request.splice_event_id in
-    accepted-events line test xs a (verdict_of line (events_in (filter (stands_now line) xs)) a.request)
-    ∙ ap (λ fs. changed line test (events_in xs) a.request (verdict_of line fs a.request)) (filter-events (stands line) xs)
-    ∙ ap (λ fs. changed line test fs a.request (verdict_of line (filter (stands line) fs) a.request)) same
+request-events : (latest : Option ℤ) (xs : List Sender) (es : List Standing) (a : Result ServedRequest Refusal) → events_in xs ≡ es → events_in (with_request latest xs a) ≡ with_asked latest es a
+request-events latest xs es (Err e) same = same
+request-events latest xs es (Ok a) same =
+    let test : Standing → Bool = is_of latest a.request.splice_event_id in
+    accepted-events latest test xs a (verdict_of latest (events_in (filter (stands_now latest) xs)) a.request)
+    ∙ ap (λ fs. changed latest test (events_in xs) a.request (verdict_of latest fs a.request)) (filter-events (stands latest) xs)
+    ∙ ap (λ fs. changed latest test fs a.request (verdict_of latest (filter (stands latest) fs) a.request)) same
 
-tell-event : (line later : Option ℤ) (x : Sender) → (tell line later x).event ≡ x.event
-tell-event line later x = by (is_none (chosen x line later))
+tell-event : (latest later : Option ℤ) (x : Sender) → (tell latest later x).event ≡ x.event
+tell-event latest later x = by (is_none (chosen x latest later))
   where
     by : (b : Bool) → (cond b x (told_now later x)).event ≡ x.event
     by true = refl
     by false = refl
 
-tell-events : (line later : Option ℤ) (xs : List Sender) → events_in (map (tell line later) xs) ≡ events_in xs
-tell-events line later [] = refl
-tell-events line later (x ∷ xs) = ap (λ e. e ∷ events_in (map (tell line later) xs)) (tell-event line later x) ∙ ap (λ es. x.event ∷ es) (tell-events line later xs)
+tell-events : (latest later : Option ℤ) (xs : List Sender) → events_in (map (tell latest later) xs) ≡ events_in xs
+tell-events latest later [] = refl
+tell-events latest later (x ∷ xs) = ap (λ e. e ∷ events_in (map (tell latest later) xs)) (tell-event latest later x) ∙ ap (λ es. x.event ∷ es) (tell-events latest later xs)
 
 -- THE EVENTS of the senders are the events
 pub senders-events : (index : ℕ) (past : List Turn) → events_in (senders index past) ≡ events index past
@@ -98,17 +98,17 @@ standing-events index past = filter-events (stands (high past)) (senders index p
 
 -- ---- a packet
 
-filter-told : (l line later : Option ℤ) (xs : List Sender) → filter (stands_now l) (map (tell line later) xs) ≡ map (tell line later) (filter (stands_now l) xs)
-filter-told l line later [] = refl
-filter-told l line later (x ∷ xs) = ap (λ b. cond b (tell line later x ∷ filter (stands_now l) (map (tell line later) xs)) (filter (stands_now l) (map (tell line later) xs))) (ap (stands l) (tell-event line later x)) ∙ step (stands l x.event) (filter-told l line later xs)
+filter-told : (l latest later : Option ℤ) (xs : List Sender) → filter (stands_now l) (map (tell latest later) xs) ≡ map (tell latest later) (filter (stands_now l) xs)
+filter-told l latest later [] = refl
+filter-told l latest later (x ∷ xs) = ap (λ b. cond b (tell latest later x ∷ filter (stands_now l) (map (tell latest later) xs)) (filter (stands_now l) (map (tell latest later) xs))) (ap (stands l) (tell-event latest later x)) ∙ step (stands l x.event) (filter-told l latest later xs)
   where
-    step : (b : Bool) → filter (stands_now l) (map (tell line later) xs) ≡ map (tell line later) (filter (stands_now l) xs)
-        → cond b (tell line later x ∷ filter (stands_now l) (map (tell line later) xs)) (filter (stands_now l) (map (tell line later) xs))
-        ≡ map (tell line later) (cond b (x ∷ filter (stands_now l) xs) (filter (stands_now l) xs))
-    step true same = ap (λ ys. tell line later x ∷ ys) same
+    step : (b : Bool) → filter (stands_now l) (map (tell latest later) xs) ≡ map (tell latest later) (filter (stands_now l) xs)
+        → cond b (tell latest later x ∷ filter (stands_now l) (map (tell latest later) xs)) (filter (stands_now l) (map (tell latest later) xs))
+        ≡ map (tell latest later) (cond b (x ∷ filter (stands_now l) xs) (filter (stands_now l) xs))
+    step true same = ap (λ ys. tell latest later x ∷ ys) same
     step false same = same
 
-stands-later : (line later : Option ℤ) → Rises line later → (x : Sender) → stands_now later x ≡ true → stands_now line x ≡ true
+stands-later : (latest later : Option ℤ) → Rises latest later → (x : Sender) → stands_now later x ≡ true → stands_now latest x ≡ true
 stands-later None later rises x is = refl
 stands-later (Some h) None rises x is = absurd rises
 stands-later (Some h) (Some l) rises x is = grind (arith, ints)
@@ -131,12 +131,12 @@ told-events index past later = tell-events (high past) later (standing_senders i
 
 -- ---- a message
 
-filter-judged : (line : Option ℤ) (xs : List Sender) (a : ServedRequest) (v : Result (Unit {0}) Refusal)
+filter-judged : (latest : Option ℤ) (xs : List Sender) (a : ServedRequest) (v : Result (Unit {0}) Refusal)
     → ((h : ℤ) (n m : ℕ) → stands (Some h) (start_event h a.request) ≡ true)
     → ((h : ℤ) (s : Standing) → stands (Some h) s ≡ true → stands (Some h) (ending_at (time_at h a.request) s) ≡ true)
-    → filter (stands_now line) (with_judged line (stands_by line a.request.splice_event_id) xs a v) ≡ with_judged line (λ x. has_id a.request.splice_event_id x.event) (filter (stands_now line) xs) a v
-filter-judged line xs a (Err e) new ends = refl
-filter-judged line xs a (Ok u) new ends = kinds (is_start a.request) (a.request.splice_insert_type == 3)
+    → filter (stands_now latest) (with_judged latest (stands_by latest a.request.splice_event_id) xs a v) ≡ with_judged latest (λ x. has_id a.request.splice_event_id x.event) (filter (stands_now latest) xs) a v
+filter-judged latest xs a (Err e) new ends = refl
+filter-judged latest xs a (Ok u) new ends = kinds (is_start a.request) (a.request.splice_insert_type == 3)
   where
     start-case : (l : Option ℤ) → filter (stands_now l) (begun l xs a) ≡ begun l (filter (stands_now l) xs) a
     start-case None = refl
@@ -155,15 +155,15 @@ filter-judged line xs a (Ok u) new ends = kinds (is_start a.request) (a.request.
     cancel-case l = with_first-filter (stands_now l) (λ x. has_id a.request.splice_event_id x.event) (with_event cancelled_one) (cancel-stays l) xs
 
     kinds : (b c : Bool)
-        → filter (stands_now line) (cond b (begun line xs a) (cond c (cut_short line (stands_by line a.request.splice_event_id) xs a) (with_first (stands_by line a.request.splice_event_id) (with_event cancelled_one) xs)))
-        ≡ cond b (begun line (filter (stands_now line) xs) a) (cond c (cut_short line (λ x. has_id a.request.splice_event_id x.event) (filter (stands_now line) xs) a) (with_first (λ x. has_id a.request.splice_event_id x.event) (with_event cancelled_one) (filter (stands_now line) xs)))
-    kinds true c = start-case line
-    kinds false true = end-case line
-    kinds false false = cancel-case line
+        → filter (stands_now latest) (cond b (begun latest xs a) (cond c (cut_short latest (stands_by latest a.request.splice_event_id) xs a) (with_first (stands_by latest a.request.splice_event_id) (with_event cancelled_one) xs)))
+        ≡ cond b (begun latest (filter (stands_now latest) xs) a) (cond c (cut_short latest (λ x. has_id a.request.splice_event_id x.event) (filter (stands_now latest) xs) a) (with_first (λ x. has_id a.request.splice_event_id x.event) (with_event cancelled_one) (filter (stands_now latest) xs)))
+    kinds true c = start-case latest
+    kinds false true = end-case latest
+    kinds false false = cancel-case latest
 
-pub filter-request : (line : Option ℤ) (xs : List Sender) (a : Result ServedRequest Refusal) → filter (stands_now line) (with_request line xs a) ≡ noted_after line (filter (stands_now line) xs) a
-filter-request line xs (Err e) = refl
-filter-request line xs (Ok a) = filter-judged line xs a (verdict_of line (events_in (filter (stands_now line) xs)) a.request) (λ h n m. new-stands h (90 * a.request.pre_roll_time) (9000 * a.request.break_duration)) (λ h s is. ended-stands h (90 * a.request.pre_roll_time) s.start)
+pub filter-request : (latest : Option ℤ) (xs : List Sender) (a : Result ServedRequest Refusal) → filter (stands_now latest) (with_request latest xs a) ≡ noted_after latest (filter (stands_now latest) xs) a
+filter-request latest xs (Err e) = refl
+filter-request latest xs (Ok a) = filter-judged latest xs a (verdict_of latest (events_in (filter (stands_now latest) xs)) a.request) (λ h n m. new-stands h (90 * a.request.pre_roll_time) (9000 * a.request.break_duration)) (λ h s is. ended-stands h (90 * a.request.pre_roll_time) s.start)
 
 -- ---- notes
 
@@ -176,39 +176,39 @@ first-notes test f (x ∷ xs) = step (test x) (first-notes test f xs)
     step true later = refl
     step false later = ap (λ ns. notes_of x ∷ ns) later
 
-first-kept : (line : Option ℤ) (test : Sender → Bool) (f : Standing → Standing) → ((s : Standing) → (f s).start ≡ s.start) → (xs : List Sender) → All (IsKept line) xs → All (IsKept line) (with_first test (with_event f) xs)
-first-kept line test f same [] all = all
-first-kept line test f same (x ∷ xs) all = step (test x) (first-kept line test f same xs (All-tail (IsKept line) x xs all))
+first-kept : (latest : Option ℤ) (test : Sender → Bool) (f : Standing → Standing) → ((s : Standing) → (f s).start ≡ s.start) → (xs : List Sender) → All (IsKept latest) xs → All (IsKept latest) (with_first test (with_event f) xs)
+first-kept latest test f same [] all = all
+first-kept latest test f same (x ∷ xs) all = step (test x) (first-kept latest test f same xs (All-tail (IsKept latest) x xs all))
   where
-    here : IsKept line x → IsKept line (with_event f x)
-    here k = record { avails = k.avails; last = subst (λ s. LastIn line s x.last) (sym (same x.event)) k.last }
+    here : IsKept latest x → IsKept latest (with_event f x)
+    here k = record { avails = k.avails; last = subst (λ s. LastIn latest s x.last) (sym (same x.event)) k.last }
 
-    step : (b : Bool) → All (IsKept line) (with_first test (with_event f) xs) → All (IsKept line) (cond b (with_event f x ∷ xs) (x ∷ with_first test (with_event f) xs))
-    step true later = All-cons (IsKept line) (with_event f x) xs (here (All-head (IsKept line) x xs all)) (All-tail (IsKept line) x xs all)
-    step false later = All-cons (IsKept line) x (with_first test (with_event f) xs) (All-head (IsKept line) x xs all) later
+    step : (b : Bool) → All (IsKept latest) (with_first test (with_event f) xs) → All (IsKept latest) (cond b (with_event f x ∷ xs) (x ∷ with_first test (with_event f) xs))
+    step true later = All-cons (IsKept latest) (with_event f x) xs (here (All-head (IsKept latest) x xs all)) (All-tail (IsKept latest) x xs all)
+    step false later = All-cons (IsKept latest) x (with_first test (with_event f) xs) (All-head (IsKept latest) x xs all) later
 
-noted-first : (old new : Requests) (line : Option ℤ) (test : Sender → Bool) (f : Standing → Standing) (xs : List Sender) → ((s : Standing) → (f s).start ≡ s.start)
-    → values_of new.table ≡ values_of old.table → AreNoted old line xs → AreNoted new line (with_first test (with_event f) xs)
-noted-first old new line test f xs same values n =
-    record { notes = values ∙ n.notes ∙ sym (first-notes test f xs); kept = first-kept line test f same xs n.kept }
+noted-first : (old new : Requests) (latest : Option ℤ) (test : Sender → Bool) (f : Standing → Standing) (xs : List Sender) → ((s : Standing) → (f s).start ≡ s.start)
+    → values_of new.table ≡ values_of old.table → AreNoted old latest xs → AreNoted new latest (with_first test (with_event f) xs)
+noted-first old new latest test f xs same values n =
+    record { notes = values ∙ n.notes ∙ sym (first-notes test f xs); kept = first-kept latest test f same xs n.kept }
 
 -- an end or a cancel, taken or refused
-pub noted-other : (old new : Requests) (line : Option ℤ) (test : Sender → Bool) (xs : List Sender) (a : ServedRequest) (v : Result (Unit {0}) Refusal) → is_start a.request ≡ false
-    → values_of new.table ≡ values_of old.table → AreNoted old line xs → AreNoted new line (with_judged line test xs a v)
-noted-other old new line test xs a (Err e) other values n = record { notes = values ∙ n.notes; kept = n.kept }
-noted-other old new line test xs a (Ok u) other values n = rw other (kinds (a.request.splice_insert_type == 3))
+pub noted-other : (old new : Requests) (latest : Option ℤ) (test : Sender → Bool) (xs : List Sender) (a : ServedRequest) (v : Result (Unit {0}) Refusal) → is_start a.request ≡ false
+    → values_of new.table ≡ values_of old.table → AreNoted old latest xs → AreNoted new latest (with_judged latest test xs a v)
+noted-other old new latest test xs a (Err e) other values n = record { notes = values ∙ n.notes; kept = n.kept }
+noted-other old new latest test xs a (Ok u) other values n = rw other (kinds (a.request.splice_insert_type == 3))
   where
     end-case : (l : Option ℤ) → AreNoted old l xs → AreNoted new l (cut_short l test xs a)
     end-case None n = record { notes = values ∙ n.notes; kept = n.kept }
     end-case (Some h) n = noted-first old new (Some h) test (ending_at (time_at h a.request)) xs (λ s. refl) values n
 
-    kinds : (c : Bool) → AreNoted new line (cond c (cut_short line test xs a) (with_first test (with_event cancelled_one) xs))
-    kinds true = end-case line n
-    kinds false = noted-first old new line test cancelled_one xs (λ s. refl) values n
+    kinds : (c : Bool) → AreNoted new latest (cond c (cut_short latest test xs a) (with_first test (with_event cancelled_one) xs))
+    kinds true = end-case latest n
+    kinds false = noted-first old new latest test cancelled_one xs (λ s. refl) values n
 
 -- ---- the ring
 
-pub is-time : (line : Option ℤ) (l : ℤ) → Rises line (Some l) → IsTimeAt line (ring_of l) l
+pub is-time : (latest : Option ℤ) (l : ℤ) → Rises latest (Some l) → IsTimeAt latest (ring_of l) l
 is-time None l rises = refl
 is-time (Some h) l rises =
     let above = rises.0 in
@@ -216,7 +216,7 @@ is-time (Some h) l rises =
     let way : signed (ring_of l) (ring_of h) ≡ l -ℤ h = signed-range l h (omega (arith, ints)) (omega (arith, ints)) in
     omega (arith, ints)
 
-pub may-advance : (line : Option ℤ) (l : ℤ) → Rises line (Some l) → CanAdvance (option_map ring_of line) (ring_of l)
+pub may-advance : (latest : Option ℤ) (l : ℤ) → Rises latest (Some l) → CanAdvance (option_map ring_of latest) (ring_of l)
 may-advance None l rises = tt
 may-advance (Some h) l rises =
     let above = rises.0 in
@@ -255,11 +255,11 @@ noted-risen old new later xs n risen =
       kept = All-filter (stands_now (Some later)) (IsKept (Some later)) xs n.kept;
     }
 
-pub restate-notes : (r : Requests) (line : Option ℤ) (xs ys : List Sender) → xs ≡ ys → AreNoted r line xs → AreNoted r line ys
-restate-notes r line xs ys same n = subst (AreNoted r line) same n
+pub restate-notes : (r : Requests) (latest : Option ℤ) (xs ys : List Sender) → xs ≡ ys → AreNoted r latest xs → AreNoted r latest ys
+restate-notes r latest xs ys same n = subst (AreNoted r latest) same n
 
 -- a time that the table may take is no fall
-pub rises-by : {T : Type 0} (t : Table T) (line : Option ℤ) (time : ℕ) (later : ℤ) → high_time_of t ≡ option_map ring_of line → CanAdvance (high_time_of t) time → IsTimeAt line time later → Rises line (Some later)
+pub rises-by : {T : Type 0} (t : Table T) (latest : Option ℤ) (time : ℕ) (later : ℤ) → high_time_of t ≡ option_map ring_of latest → CanAdvance (high_time_of t) time → IsTimeAt latest time later → Rises latest (Some later)
 rises-by t None time later same can is = tt
 rises-by t (Some h) time later same can is =
     let next : CanAdvance (Some (ring_of h)) time = subst (λ x. CanAdvance x time) same can in
@@ -268,7 +268,7 @@ rises-by t (Some h) time later same can is =
     (omega (arith, ints), omega (arith, ints))
 
 -- a rise that stays at one place of the ring is none
-pub same-time : (line later : Option ℤ) → Rises line later → option_map ring_of later ≡ option_map ring_of line → line ≡ later
+pub same-time : (latest later : Option ℤ) → Rises latest later → option_map ring_of later ≡ option_map ring_of latest → latest ≡ later
 same-time None None rises same = refl
 same-time None (Some l) rises same = absurd (let no : Some (ring_of l) ≡ None = same in cc)
 same-time (Some h) None rises same = absurd rises
@@ -278,6 +278,6 @@ same-time (Some h) (Some l) rises same =
     let ring : ring_of h ≡ ring_of l = cc in
     ap Some (ring-only h l (omega (arith, ints)) (omega (arith, ints)) ring)
 
-pub some-line : (line : Option ℤ) (p : ℕ) → option_map ring_of line ≡ Some p → (l : ℤ) × (line ≡ Some l) × (ring_of l ≡ p)
+pub some-line : (latest : Option ℤ) (p : ℕ) → option_map ring_of latest ≡ Some p → (l : ℤ) × (latest ≡ Some l) × (ring_of l ≡ p)
 some-line None p is = absurd (let no : None ≡ Some p = is in cc)
 some-line (Some l) p is = (l, refl, cc)

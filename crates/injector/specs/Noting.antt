@@ -166,26 +166,26 @@ pub record Rests (rest : Option ℕ) (high : Option ℤ) (xs : List Sender) : Ty
   pub waits : All (λ x. AtOrAfter bound (next_of high x)) xs
 
 -- the same by a history: also behind a packet before which no cue is due
-pub record StaysAtRest (rest : Option ℕ) (index : ℕ) (line : Option ℤ) (past : List Turn) : Type 0 where
-  pub idle : IsIdle index line past
-  pub rests : Rests rest line (standing_senders index (Passed line ∷ past))
+pub record StaysAtRest (rest : Option ℕ) (index : ℕ) (latest : Option ℤ) (past : List Turn) : Type 0 where
+  pub idle : IsIdle index latest past
+  pub rests : Rests rest latest (standing_senders index (Passed latest ∷ past))
 
--- Before a packet behind which the greatest time is `line`, at this place of the ring. No event is looked at where it is known that no cue
+-- Before a packet behind which the greatest time is `latest`, at this place of the ring. No event is looked at where it is known that no cue
 -- is due.
 pub record IsBefore
     (is_due : Bool) (requests : Requests) (later : Option ℕ) (index : ℕ) (past : List Turn)
-    (line : Option ℤ) : Type 0 where
+    (latest : Option ℤ) : Type 0 where
   pub stands : RequestsStandFor requests index past
   pub notes : NotesStandFor requests index past
-  pub rises : Rises (high past) line
-  pub time : later ≡ option_map ring_of line
-  pub idle : is_due ≡ false → IsIdle index line past
+  pub rises : Rises (high past) latest
+  pub time : later ≡ option_map ring_of latest
+  pub idle : is_due ≡ false → IsIdle index latest past
 
 -- The cues of this event are next.
 pub record IsCuedNext
-    (requests : Requests) (place : ℕ) (later : Option ℕ) (line after : Option ℤ) (done : List Sender) (x : Sender)
+    (requests : Requests) (place : ℕ) (later : Option ℕ) (latest after : Option ℤ) (done : List Sender) (x : Sender)
     (left : List Sender) : Type 0 where
-  pub sending : Sending requests line after done (x ∷ left)
+  pub sending : Sending requests latest after done (x ∷ left)
   pub place_is : place ≡ length done
-  pub rises : Rises line after
+  pub rises : Rises latest after
   pub time : later ≡ option_map ring_of after

@@ -141,25 +141,25 @@ fn put_one<S: PacketSink>(
 ) -> Result<(), PutFault>
     requires { place < length requests.old.table.entries.items }
     ensures leads { S.leads sink.old sink.new }
-    ensures ok { (start : Option (List ℕ)) (ps puts : List (List ℕ)) (line after : Option ℤ) (done : List Sender)
+    ensures ok { (start : Option (List ℕ)) (ps puts : List (List ℕ)) (latest after : Option ℤ) (done : List Sender)
         (x : Sender) (left : List Sender) → S.holds sink.old start ps → HasPut out.old puts →
-        IsCuedNext requests.old place later.now line after done x left →
-        OnOk result (S.holds sink.new start (ps ++ packed pid puts (cues_of line after x))) }
-    ensures numbers { (puts : List (List ℕ)) (line after : Option ℤ) (done : List Sender) (x : Sender)
-        (left : List Sender) → HasPut out.old puts → IsCuedNext requests.old place later.now line after done x left →
-        OnOk result (HasPut out.new (onto puts (packed pid puts (cues_of line after x)))) }
-    ensures err { (start : Option (List ℕ)) (ps puts : List (List ℕ)) (line after : Option ℤ) (done : List Sender)
+        IsCuedNext requests.old place later.now latest after done x left →
+        OnOk result (S.holds sink.new start (ps ++ packed pid puts (cues_of latest after x))) }
+    ensures numbers { (puts : List (List ℕ)) (latest after : Option ℤ) (done : List Sender) (x : Sender)
+        (left : List Sender) → HasPut out.old puts → IsCuedNext requests.old place later.now latest after done x left →
+        OnOk result (HasPut out.new (onto puts (packed pid puts (cues_of latest after x)))) }
+    ensures err { (start : Option (List ℕ)) (ps puts : List (List ℕ)) (latest after : Option ℤ) (done : List Sender)
         (x : Sender) (left : List Sender) → S.holds sink.old start ps → HasPut out.old puts →
-        IsCuedNext requests.old place later.now line after done x left →
-        IfErr result (λ f. FrontFails (packed pid puts (cues_of line after x))
+        IsCuedNext requests.old place later.now latest after done x left →
+        IfErr result (λ f. FrontFails (packed pid puts (cues_of latest after x))
         (λ put p. S.fails sink.new start (ps ++ put) p f)) }
     ensures well { OnOk result (WentWell (S.counts sink.old) (S.counts sink.new)) }
     ensures blamed { IfErr result (λ f. Blamed f (S.counts sink.old) (S.counts sink.new) (S.is_full sink.new)) }
-    ensures sending { (line after : Option ℤ) (done : List Sender) (x : Sender) (left : List Sender) →
-        IsCuedNext requests.old place later.now line after done x left →
-        OnOk result (Sending requests.new line after (done ++ x ∷ []) left) }
-    ensures stands { (line : Option ℤ) (standing : List Standing) → StandsFor requests.old.table line standing →
-        StandsFor requests.new.table line standing }
+    ensures sending { (latest after : Option ℤ) (done : List Sender) (x : Sender) (left : List Sender) →
+        IsCuedNext requests.old place later.now latest after done x left →
+        OnOk result (Sending requests.new latest after (done ++ x ∷ []) left) }
+    ensures stands { (latest : Option ℤ) (standing : List Standing) → StandsFor requests.old.table latest standing →
+        StandsFor requests.new.table latest standing }
     ensures index { requests.new.index ≡ requests.old.index }
     ensures high { high_time_of requests.new.table ≡ high_time_of requests.old.table }
     ensures count { length requests.new.table.entries.items ≡ length requests.old.table.entries.items }
@@ -195,22 +195,22 @@ pub(crate) fn put_due<S: PacketSink>(
     sink: &mut S,
 ) -> Result<(), PutFault>
     ensures leads { S.leads sink.old sink.new }
-    ensures ok { (start : Option (List ℕ)) (ps puts : List (List ℕ)) (index : ℕ) (past : List Turn) (line : Option ℤ) →
-        S.holds sink.old start ps → HasPut out.old puts → IsBefore is_due requests.old later.now index past line →
-        OnOk result (S.holds sink.new start (ps ++ packed pid puts (cues_before index line past))) }
-    ensures numbers { (puts : List (List ℕ)) (index : ℕ) (past : List Turn) (line : Option ℤ) → HasPut out.old puts →
-        IsBefore is_due requests.old later.now index past line →
-        OnOk result (HasPut out.new (onto puts (packed pid puts (cues_before index line past)))) }
-    ensures err { (start : Option (List ℕ)) (ps puts : List (List ℕ)) (index : ℕ) (past : List Turn) (line : Option ℤ) →
-        S.holds sink.old start ps → HasPut out.old puts → IsBefore is_due requests.old later.now index past line →
-        IfErr result (λ f. FrontFails (packed pid puts (cues_before index line past))
+    ensures ok { (start : Option (List ℕ)) (ps puts : List (List ℕ)) (index : ℕ) (past : List Turn) (latest : Option ℤ) →
+        S.holds sink.old start ps → HasPut out.old puts → IsBefore is_due requests.old later.now index past latest →
+        OnOk result (S.holds sink.new start (ps ++ packed pid puts (cues_before index latest past))) }
+    ensures numbers { (puts : List (List ℕ)) (index : ℕ) (past : List Turn) (latest : Option ℤ) → HasPut out.old puts →
+        IsBefore is_due requests.old later.now index past latest →
+        OnOk result (HasPut out.new (onto puts (packed pid puts (cues_before index latest past)))) }
+    ensures err { (start : Option (List ℕ)) (ps puts : List (List ℕ)) (index : ℕ) (past : List Turn) (latest : Option ℤ) →
+        S.holds sink.old start ps → HasPut out.old puts → IsBefore is_due requests.old later.now index past latest →
+        IfErr result (λ f. FrontFails (packed pid puts (cues_before index latest past))
         (λ put p. S.fails sink.new start (ps ++ put) p f)) }
     ensures well { OnOk result (WentWell (S.counts sink.old) (S.counts sink.new)) }
     ensures blamed { IfErr result (λ f. Blamed f (S.counts sink.old) (S.counts sink.new) (S.is_full sink.new)) }
     ensures stands { (index : ℕ) (past : List Turn) → RequestsStandFor requests.old index past →
         RequestsStandFor requests.new index past }
-    ensures told { (puts : List (List ℕ)) (index : ℕ) (past : List Turn) (line : Option ℤ) → HasPut out.old puts →
-        IsBefore is_due requests.old later.now index past line → OnOk result (NotesTold requests.new index past line) }
+    ensures told { (puts : List (List ℕ)) (index : ℕ) (past : List Turn) (latest : Option ℤ) → HasPut out.old puts →
+        IsBefore is_due requests.old later.now index past latest → OnOk result (NotesTold requests.new index past latest) }
     ensures high { high_time_of requests.new.table ≡ high_time_of requests.old.table }
 {
     let _number = pid.get();

@@ -83,13 +83,13 @@ impl Requests {
     /// Takes this as the greatest time behind a packet, if it is another one.
     #[inline(always)]
     pub(crate) fn rise(&mut self, later: Option<Time33>)
-        ensures stands { (index : ℕ) (past : List Turn) (line : Option ℤ) → RequestsStandFor self.old index past →
-            Rises (high past) line →
-            later ≡ option_map ring_of line → RequestsStandFor self.new index (Passed line ∷ past) }
-        ensures notes { (index : ℕ) (past : List Turn) (line : Option ℤ) → RequestsStandFor self.old index past →
-            NotesTold self.old index past line →
-            Rises (high past) line → later ≡ option_map ring_of line →
-            NotesStandFor self.new index (Passed line ∷ past) }
+        ensures stands { (index : ℕ) (past : List Turn) (latest : Option ℤ) → RequestsStandFor self.old index past →
+            Rises (high past) latest →
+            later ≡ option_map ring_of latest → RequestsStandFor self.new index (Passed latest ∷ past) }
+        ensures notes { (index : ℕ) (past : List Turn) (latest : Option ℤ) → RequestsStandFor self.old index past →
+            NotesTold self.old index past latest →
+            Rises (high past) latest → later ≡ option_map ring_of latest →
+            NotesStandFor self.new index (Passed latest ∷ past) }
     {
         if later == self.high() {
             return;
@@ -160,9 +160,9 @@ impl Requests {
     /// The time at which the cue of the event at this place is repeated next.
     fn next_at(&self, place: usize) -> Option<Time33>
         requires { place < length self.now.table.entries.items }
-        ensures { (line : Option ℤ) (done : List Sender) (x : Sender) (left : List Sender) →
-            Sending self.now line line done (x ∷ left) → place ≡ length done →
-            result ≡ ring_next (on_ring x.event) (option_map ring_of x.last) (option_map ring_of line) }
+        ensures { (latest : Option ℤ) (done : List Sender) (x : Sender) (left : List Sender) →
+            Sending self.now latest latest done (x ∷ left) → place ≡ length done →
+            result ≡ ring_next (on_ring x.event) (option_map ring_of x.last) (option_map ring_of latest) }
     {
         let entry = self.entry(place);
         let high = self.high();
@@ -189,8 +189,8 @@ impl Requests {
     pub(crate) fn note(&mut self, place: usize, notes: Notes)
         requires { place < length self.old.table.entries.items }
         ensures notes { values_of self.new.table ≡ slice_set (values_of self.old.table) place notes }
-        ensures stands { (line : Option ℤ) (standing : List Standing) → StandsFor self.old.table line standing →
-            StandsFor self.new.table line standing }
+        ensures stands { (latest : Option ℤ) (standing : List Standing) → StandsFor self.old.table latest standing →
+            StandsFor self.new.table latest standing }
         ensures index { self.new.index ≡ self.old.index }
         ensures high { high_time_of self.new.table ≡ high_time_of self.old.table }
         ensures count { length self.new.table.entries.items ≡ length self.old.table.entries.items }
@@ -200,14 +200,14 @@ impl Requests {
 
     /// Judges what a message asks for.
     fn judge(&mut self, message: &Multi<'_>) -> Result<(), Refusal>
-        ensures answer { (line : Option ℤ) (standing : List Standing) → StandsFor self.old.table line standing →
-            result ≡ verdict_by line standing (asked_of_multiple self.old.index (fields_of message.now)) }
-        ensures after { (line : Option ℤ) (standing : List Standing) → StandsFor self.old.table line standing →
-            StandsFor self.new.table line
-            (after_by line standing (asked_of_multiple self.old.index (fields_of message.now))) }
-        ensures notes { (line : Option ℤ) (xs : List Sender) → StandsFor self.old.table line (events_in xs) →
-            AreNoted self.old line xs →
-            AreNoted self.new line (noted_after line xs (asked_of_multiple self.old.index (fields_of message.now))) }
+        ensures answer { (latest : Option ℤ) (standing : List Standing) → StandsFor self.old.table latest standing →
+            result ≡ verdict_by latest standing (asked_of_multiple self.old.index (fields_of message.now)) }
+        ensures after { (latest : Option ℤ) (standing : List Standing) → StandsFor self.old.table latest standing →
+            StandsFor self.new.table latest
+            (after_by latest standing (asked_of_multiple self.old.index (fields_of message.now))) }
+        ensures notes { (latest : Option ℤ) (xs : List Sender) → StandsFor self.old.table latest (events_in xs) →
+            AreNoted self.old latest xs →
+            AreNoted self.new latest (noted_after latest xs (asked_of_multiple self.old.index (fields_of message.now))) }
         ensures index { self.new.index ≡ self.old.index }
         ensures high { high_time_of self.new.table ≡ high_time_of self.old.table }
     {
@@ -220,14 +220,14 @@ impl Requests {
     /// Judges a request by the events that stand.
     fn take(&mut self, asked: &ServedRequest) -> Result<(), Refusal>
         requires { IsStartable asked.now }
-        ensures answer { (line : Option ℤ) (standing : List Standing) → StandsFor self.old.table line standing →
-            result ≡ verdict_of line standing asked.now.request }
-        ensures after { (line : Option ℤ) (standing : List Standing) → StandsFor self.old.table line standing →
-            StandsFor self.new.table line
-            (after line standing asked.now.request (verdict_of line standing asked.now.request)) }
-        ensures notes { (line : Option ℤ) (xs : List Sender) → StandsFor self.old.table line (events_in xs) →
-            AreNoted self.old line xs →
-            AreNoted self.new line (noted_after line xs (Ok asked.now)) }
+        ensures answer { (latest : Option ℤ) (standing : List Standing) → StandsFor self.old.table latest standing →
+            result ≡ verdict_of latest standing asked.now.request }
+        ensures after { (latest : Option ℤ) (standing : List Standing) → StandsFor self.old.table latest standing →
+            StandsFor self.new.table latest
+            (after latest standing asked.now.request (verdict_of latest standing asked.now.request)) }
+        ensures notes { (latest : Option ℤ) (xs : List Sender) → StandsFor self.old.table latest (events_in xs) →
+            AreNoted self.old latest xs →
+            AreNoted self.new latest (noted_after latest xs (Ok asked.now)) }
         ensures index { self.new.index ≡ self.old.index }
         ensures high { high_time_of self.new.table ≡ high_time_of self.old.table }
     {
@@ -243,11 +243,11 @@ impl Requests {
     fn start(&mut self, request: SpliceRequest, notes: Notes) -> Result<(), Refusal>
         requires duration { 0 < request.break_duration }
         requires pre_roll { 0 < request.pre_roll_time }
-        ensures answer { (line : Option ℤ) (standing : List Standing) → StandsFor self.old.table line standing →
-            result ≡ start_verdict line standing request }
-        ensures started { result ≡ Ok tt → (line : Option ℤ) (standing : List Standing) →
-            StandsFor self.old.table line standing →
-            StandsFor self.new.table line (started line standing request) }
+        ensures answer { (latest : Option ℤ) (standing : List Standing) → StandsFor self.old.table latest standing →
+            result ≡ start_verdict latest standing request }
+        ensures started { result ≡ Ok tt → (latest : Option ℤ) (standing : List Standing) →
+            StandsFor self.old.table latest standing →
+            StandsFor self.new.table latest (started latest standing request) }
         ensures notes { result ≡ Ok tt → values_of self.new.table ≡ values_of self.old.table ++ notes ∷ [] }
         ensures refused { OnErr result (self.new ≡ self.old) }
         ensures index { self.new.index ≡ self.old.index }
@@ -267,11 +267,11 @@ impl Requests {
 
     /// Takes an end.
     fn end(&mut self, request: SpliceRequest) -> Result<(), Refusal>
-        ensures answer { (line : Option ℤ) (standing : List Standing) → StandsFor self.old.table line standing →
-            result ≡ end_verdict line standing request }
-        ensures ended { result ≡ Ok tt → (line : Option ℤ) (standing : List Standing) →
-            StandsFor self.old.table line standing →
-            StandsFor self.new.table line (ended line (has_id request.splice_event_id) standing request) }
+        ensures answer { (latest : Option ℤ) (standing : List Standing) → StandsFor self.old.table latest standing →
+            result ≡ end_verdict latest standing request }
+        ensures ended { result ≡ Ok tt → (latest : Option ℤ) (standing : List Standing) →
+            StandsFor self.old.table latest standing →
+            StandsFor self.new.table latest (ended latest (has_id request.splice_event_id) standing request) }
         ensures notes { values_of self.new.table ≡ values_of self.old.table }
         ensures refused { OnErr result (self.new ≡ self.old) }
         ensures index { self.new.index ≡ self.old.index }
@@ -291,11 +291,11 @@ impl Requests {
 
     /// Takes a cancel.
     fn cancel(&mut self, request: SpliceRequest) -> Result<(), Refusal>
-        ensures answer { (line : Option ℤ) (standing : List Standing) → StandsFor self.old.table line standing →
-            result ≡ cancel_verdict line standing request }
-        ensures cancelled { result ≡ Ok tt → (line : Option ℤ) (standing : List Standing) →
-            StandsFor self.old.table line standing →
-            StandsFor self.new.table line (with_cancelled request.splice_event_id standing) }
+        ensures answer { (latest : Option ℤ) (standing : List Standing) → StandsFor self.old.table latest standing →
+            result ≡ cancel_verdict latest standing request }
+        ensures cancelled { result ≡ Ok tt → (latest : Option ℤ) (standing : List Standing) →
+            StandsFor self.old.table latest standing →
+            StandsFor self.new.table latest (with_cancelled request.splice_event_id standing) }
         ensures notes { values_of self.new.table ≡ values_of self.old.table }
         ensures refused { OnErr result (self.new ≡ self.old) }
         ensures index { self.new.index ≡ self.old.index }

@@ -8,7 +8,7 @@ use Rattle.pes_time.specs.Line.{place}
 use Rattle.unit_stream.specs.Times.{begins, begins_one, high, unit_time, stamp, splits, timed}
 use Rattle.unit_stream.specs.Faults.{unit_fault, scrambled_one, start_fault, jumps, is_far}
 use Rattle.unit_stream.specs.declared.fault.UnitFault.{UnitFault}
-use Rattle.unit_stream.specs.declared.fault.UnitFault.TheVariants.{Scrambled, HeaderSplit, TimeJump}
+use Rattle.unit_stream.specs.declared.fault.UnitFault.TheVariants.{Scrambled}
 use Rattle.splice_laws.specs.Splicing.{PlayedEvent, TimedStream, at_or_past, below, holds, stands, begun, closed}
 use Rattle.splice_laws.specs.Laws.{Risen, IsStream}
 use Rattle.splice_laws.specs.Settled.{IsAhead, IsSettled, IsSettledSince, NeverPassesHigh}
@@ -19,6 +19,7 @@ use Rattle.splice_laws.proofs.TableLemmas.{ahead-before}
 use Rattle.splice_plans.specs.declared.plan.Stage.{Stage}
 use Rattle.splice_plans.specs.declared.plan.Stage.TheVariants.{Waiting, Running, Over}
 use Rattle.splice_plans.specs.Known.{stage_known, below_known, crosses_known, crossed_known}
+use Rattle.unit_stream.proofs.ClockLemmas.{jump_sound}
 use Rattle.known_laws.proofs.QuietLemmas.{stage_of, same-stage}
 
 -- ---- units and edges
@@ -175,14 +176,6 @@ module _ (r : TimedStream) (k : IsStream r) (w : NeverPassesHigh r) (x : PlayedE
 near-above : (h t : ℤ) → is_far (t -ℤ h) ≡ false → h ≤ℤ (t +ℤ pos 900000)
 near-above h t near = grind (arith, ints)
 
-no-jump : (high : Option ℤ) (split : Bool) (s : Option ℕ) → start_fault high split s ≡ None → jumps high s ≡ false
-no-jump high true s h = absurd (let no : Some HeaderSplit ≡ None = h in cc)
-no-jump high false s h = by (jumps high s) h
-  where
-    by : (b : Bool) → (if b then Some TimeJump else None) ≡ None → b ≡ false
-    by true h = absurd (let no : Some TimeJump ≡ None = h in cc)
-    by false h = refl
-
 begun-fault : (scrambled starts : Bool) (f : Option UnitFault) → starts ≡ true → (if scrambled then Some Scrambled else (if starts then f else None)) ≡ None → f ≡ None
 begun-fault true starts f y h = absurd (let no : Some Scrambled ≡ None = h in cc)
 begun-fault false true f y h = h
@@ -203,4 +196,4 @@ unit-near sw pid c x p past y sound gone =
     let one = begins-among sw pid c p past y in
     let fault = begun-fault (scrambled_one sw p) (begins_one sw p past) (start_fault (high sw past) (splits p) (stamp p)) one sound in
     let t : unit_time sw pid (p ∷ past) ≡ timed (high sw past) (stamp p) (unit_time sw pid past) = ap (λ b. if b then timed (high sw past) (stamp p) (unit_time sw pid past) else unit_time sw pid past) y in
-    rw t (far-by x (high sw past) (stamp p) (unit_time sw pid past) gone (no-jump (high sw past) (splits p) (stamp p) fault))
+    rw t (far-by x (high sw past) (stamp p) (unit_time sw pid past) gone (jump_sound (high sw past) (splits p) (stamp p) fault))

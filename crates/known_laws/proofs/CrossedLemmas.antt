@@ -1,7 +1,6 @@
 -- Which events a stream has crossed, as it was known then and as the last ends say.
-use Rattle.std.proofs.Common.{◌≡◌, ℕ, List, [], ◌∷◌, Bool, true, false, not, ◌&&◌, ◌||◌, ◌⊎◌, inl, inr, refl, sym, ap, ◌∙◌, Option, None, Some, arith}
+use Rattle.std.proofs.Common.{◌≡◌, ℕ, List, [], ◌∷◌, Bool, true, false, not, ◌&&◌, ◌||◌, ◌⊎◌, inl, inr, refl, sym, ap, ◌∙◌, Option, None, Some}
 use Rattle.std.specs.Prelude.{ℤ, ◌≤ℤ◌, is_some}
-use Rattle.std.proofs.lemmas.Int.{ints}
 use Rattle.std.proofs.lemmas.Bool.{true≢false, or_left, or_right}
 use Rattle.ts_packet.proofs.Cases.{by_test}
 use Rattle.splice_laws.specs.Splicing.{PlayedEvent, TimedStream, at_or_past, below, holds, stands, comes, passed, begun, closed}
@@ -15,6 +14,7 @@ use Rattle.splice_plans.specs.declared.plan.Stage.{Stage}
 use Rattle.splice_plans.specs.declared.plan.Stage.TheVariants.{Waiting, Running, Over}
 use Rattle.splice_plans.specs.Playing.{is_crossed}
 use Rattle.splice_plans.specs.Known.{stage_known, below_known, crosses_known, crossed_known}
+use Rattle.armed_laws.proofs.MeetLemmas.{same-low}
 use Rattle.known_laws.proofs.QuietLemmas.{stage_of, crossed-still}
 use Rattle.known_laws.proofs.CrossLemmas.{SettledAll, stage-settled, begun-behind, below-more, below-less, out-below, past-below, new-closed, new-begun}
 
@@ -63,9 +63,6 @@ came-past false c h = absurd (true≢false (sym h))
 both-true : (a g b c : Bool) → g ≡ true → b ≡ true → c ≡ true → (a || (g && (b && c))) ≡ true
 both-true true g b c h k l = refl
 both-true false g b c h k l = rw (h, k, l) refl
-
-same-low : (a : ℤ) → a ≤ℤ a
-same-low a = omega (arith, ints)
 
 -- ---- sums of tests
 

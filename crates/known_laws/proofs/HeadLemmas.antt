@@ -2,14 +2,10 @@
 use Rattle.std.proofs.Common.{◌≡◌, ℕ, List, [], ◌∷◌, ◌++◌, Bool, true, false, ◌&&◌, refl, sym, ap, ◌∙◌, Option, None, Some, if◌then◌else◌, length, drop}
 use Rattle.std.specs.Option.{option_or}
 use Rattle.std.specs.Prelude.{is_some, option_map, Result}
-use Rattle.std.proofs.lemmas.Bool.{or_from, or_parts}
-use Rattle.ts_packet.specs.Fields.{on, on_one}
-use Rattle.ts_packet.proofs.FieldLemmas.{off_payload}
 use Rattle.psi_tables.specs.ProgramMap.{ProgramMap}
 use Rattle.psi_section.specs.Sections.{given}
 use Rattle.scte35_codec.specs.Reading.{cue_of}
-use Rattle.unit_stream.specs.Times.{high, begins_one}
-use Rattle.unit_stream.proofs.ClockLemmas.{begins_off}
+use Rattle.unit_stream.specs.Times.{high}
 use Rattle.program_follower.specs.Program.{tables, first_map, known_map, behind_head, program_in, pids_of}
 use Rattle.program_follower.specs.Following.{streams_of_program}
 use Rattle.program_laws.proofs.StepLemmas.{tables_grow}
@@ -23,13 +19,6 @@ use Rattle.armed_events.specs.Asking.{asked_of}
 use Rattle.armed_events.specs.Arming.{is_fresh, Ignore, by_arm_answer, change, standing_at, changed, Heard, with_section, with_sections, heard}
 use Rattle.splice_plans.specs.Switching.{Setting, switched_at, streams_at, high_at, events_at, head_at, history_at, is_behind_head}
 use Rattle.splice_plans.specs.Known.{behind_at, adverts_at}
-
--- a packet of no switched stream begins no unit
-pub off-one : (pids : List ℕ) (p : List ℕ) (past : List (List ℕ)) → on_one pids p ≡ false → begins_one pids p past ≡ false
-off-one [] p past h = refl
-off-one (pid ∷ pids) p past h =
-    let r = or_parts (on pid p) (on_one pids p) h in
-    or_from _ (begins_one pids p past) (begins_off pid p past (off_payload pid p r.0)) (off-one pids p past r.1)
 
 -- ---- before there is a greatest time nothing is armed
 
@@ -75,7 +64,7 @@ module _ (k : Setting) where
 
     armed-first : (p : List ℕ) → events_at k past ≡ [] → events_at k (p ∷ past) ≡ []
     armed-first p before =
-        ap (λ line. (with_sections line (given k.cue_pid p past) (heard k.cue_pid (high_at k) past)).events) none-high
+        ap (λ latest. (with_sections latest (given k.cue_pid p past) (heard k.cue_pid (high_at k) past)).events) none-high
         ∙ none-heard (given k.cue_pid p past) (heard k.cue_pid (high_at k) past) before
 
   known-first : (p : List ℕ) (past : List (List ℕ)) → known_map wanted (p ∷ past) ≡ None → known_map wanted past ≡ None

@@ -2,14 +2,13 @@
 use Rattle.std.proofs.Common.{◌≡◌, ℕ, zero, suc, ◌≤◌, List, [], ◌∷◌, ◌++◌, Bool, false, ◌&&◌, refl, sym, ap, ◌∙◌, subst, Option, None, Some, length, reverse, if◌then◌else◌}
 use Rattle.std.specs.Prelude.{ℤ, Contains, slice_index_or, slice_get, filter, find}
 use Rattle.std.specs.Ordering.{int_eq}
-use Rattle.std.proofs.lemmas.Option.{slice_get_within, get_or_from_slice_get}
 use Rattle.std.proofs.lemmas.Bool.{or_from, or_parts}
 use Rattle.ts_packet.specs.Fields.{on, on_one}
 use Rattle.ts_packet.specs.Numbering.{Kept, Counts}
 use Rattle.ts_packet.proofs.FieldLemmas.{off_payload}
 use Rattle.unit_stream.specs.Times.{begins_one, high, unit_time, raised, timed, stamp}
 use Rattle.unit_stream.specs.Fates.{is_left_out}
-use Rattle.unit_stream.proofs.ClockLemmas.{begins_off}
+use Rattle.unit_stream.proofs.ClockLemmas.{begins_off, begins_off_all}
 use Rattle.psi_tables.specs.ProgramMap.{ProgramMap}
 use Rattle.program_follower.specs.Program.{known_map}
 use Rattle.event_table.specs.Standing.{Standing, stands}
@@ -27,8 +26,9 @@ use Rattle.splice_plans.specs.Switching.{Setting, puts_before, moves, switched_a
 use Rattle.splice_plans.specs.Histories.{AreSteady}
 use Rattle.splice_plans.specs.Known.{plan_found, plan_at, GoesAs, AllGo, adverts_at, behind_at, plans_at, inside_at, moves_at, counts_known, is_forgotten}
 use Rattle.splice_plans.proofs.PutLemmas.{puts_at_unit_starts}
-use Rattle.known_laws.specs.Laws.{ChangesNothing, OthersChangeNothing}
-use Rattle.known_laws.proofs.HeadLemmas.{off-one, none-switched, none-high, first-behind, first-high, none-armed, first-armed, same-switched, same-adverts, more-behind, same-history, high-next}
+use Rattle.splice_plans.proofs.KnownLemmas.{contained}
+use Rattle.known_laws.specs.Laws.{ChangesNothing, UnswitchedChangeNothing}
+use Rattle.known_laws.proofs.HeadLemmas.{none-switched, none-high, first-behind, first-high, none-armed, first-armed, same-switched, same-adverts, more-behind, same-history, high-next}
 use Rattle.known_laws.proofs.QuietLemmas.{plan-still, any-crossed-still}
 use Rattle.known_laws.proofs.SameLemmas.{found-same, found-ahead}
 use Rattle.known_laws.proofs.HeldLemmas.{inside-same}
@@ -46,9 +46,6 @@ pub values-same : (v w : ℤ → Plan) → ((start : ℤ) → v start ≡ w star
 values-same v w h [] = refl
 values-same v w h (e ∷ es) = ap (λ x. x ∷ values_by v es) (h e.start) ∙ ap (λ xs. w e.start ∷ xs) (values-same v w h es)
 
-pub contained : (pids : List ℕ) (i pid : ℕ) → slice_get pids i ≡ Some pid → Contains pids pid
-contained pids i pid h = (i, slice_get_within pids i pid h, get_or_from_slice_get pids i pid pid h)
-
 -- ---- behind the head
 
 pub off-at : (pids : List ℕ) (p : List ℕ) (i pid : ℕ) → on_one pids p ≡ false → slice_get pids i ≡ Some pid → on pid p ≡ false
@@ -64,7 +61,7 @@ none-left-out goes switched p past (pid ∷ pids) n =
 
 module _ (switched : List ℕ) (ads : Adverts) (steady : AreSteady ads) (events : History) (p : List ℕ) (past : List (List ℕ)) (off : on_one switched p ≡ false) where
   quiet : begins_one switched p past ≡ false
-  quiet = off-one switched p past off
+  quiet = begins_off_all switched p past off
 
   pub high-still : high switched (p ∷ past) ≡ high switched past
   high-still = ap (λ b. if b then raised (high switched past) (stamp p) else high switched past) quiet
@@ -157,7 +154,7 @@ module _ (k : Setting) (p : List ℕ) (past : List (List ℕ)) (off : on_one (sw
           (same-switched k p past m is) (same-adverts k p past m is) (same-history k p past m is) (more-behind k p past m is) events-are
           (all-go-on sw ads steady hist p (behind_at k past) off (events_at k past) (events_at k (p ∷ past)) grown k.packed streams all);
       forgotten =
-          ap (λ line. counts_known k (p ∷ past) (is_forgotten line)) same-high
+          ap (λ latest. counts_known k (p ∷ past) (is_forgotten latest)) same-high
           ∙ five (λ s a h b es. counts_of s a h b es (is_forgotten (high_at k past)))
           ∙ all-counts sw ads steady hist p (behind_at k past) off (events_at k past) (events_at k (p ∷ past)) grown;
     }
@@ -196,5 +193,5 @@ module _ (k : Setting) (p : List ℕ) (past : List (List ℕ)) (off : on_one (sw
   by-known None none = in-head none
   by-known (Some m) is = in-program m is
 
-pub others_change_nothing : OthersChangeNothing
-others_change_nothing k p past off steady few = by-known k p past off steady few (known_map (Some k.program) past) refl
+pub unswitched_change_nothing : UnswitchedChangeNothing
+unswitched_change_nothing k p past off steady few = by-known k p past off steady few (known_map (Some k.program) past) refl

@@ -1,5 +1,5 @@
 -- Behind a packet that is none of the cues.
-use Rattle.std.proofs.Common.{◌≡◌, ℕ, ◌+◌, ◌<◌, List, [], ◌∷◌, ◌++◌, Bool, true, false, not, ◌&&◌, ◌||◌, inl, inr, refl, sym, ap, ◌∙◌, subst, Option, None, Some, arith, append_assoc}
+use Rattle.std.proofs.Common.{◌≡◌, ℕ, ◌+◌, ◌<◌, List, [], ◌∷◌, ◌++◌, Bool, true, false, not, ◌&&◌, ◌||◌, refl, sym, ap, ◌∙◌, subst, Option, None, Some, arith, append_assoc}
 use Rattle.std.specs.Prelude.{ℤ, pos, ◌+ℤ◌, ◌≤ℤ◌, int_lt, All, Contains, filter, find, count_by, is_some, option_map}
 use Rattle.std.specs.List.{list_any, AllByRecursion}
 use Rattle.std.specs.Ordering.{int_eq}
@@ -18,8 +18,8 @@ use Rattle.event_table.proofs.AdvanceLemmas.{may-advance}
 use Rattle.armed_events.specs.Arming.{standing, Heard}
 use Rattle.armed_events.specs.Valuing.{values_by}
 use Rattle.armed_events.proofs.PastLemmas.{heard-off}
-use Rattle.armed_laws.specs.Laws.{AreApart, IsApartOf, NoneMeet}
-use Rattle.armed_laws.proofs.MeetLemmas.{none-meet}
+use Rattle.armed_laws.specs.Laws.{IsApartOf, NoneMeet}
+use Rattle.armed_laws.proofs.MeetLemmas.{none-meet, starts-differ}
 use Rattle.splice_laws.specs.Splicing.{stream}
 use Rattle.splice_laws.specs.Laws.{Risen}
 use Rattle.splice_laws.specs.Settled.{IsSettled}
@@ -43,21 +43,7 @@ use Rattle.known_laws.proofs.CountLemmas.{count-cons, same-count, counts_of, sam
 use Rattle.known_laws.proofs.CrossLemmas.{SettledAll, gone-crossed, unit-near}
 use Rattle.known_laws.proofs.OtherLemmas.{same-five}
 
-pub to-each : {X : Type 0} (P : X → Type 0) (xs : List X) → All P xs → AllByRecursion P xs
-to-each P [] h = tt
-to-each P (x ∷ xs) h = (All-head P x xs h, to-each P xs (All-tail P x xs h))
-
 -- ---- the start says which event is meant
-
-starts-differ : (a b : Standing) → 0 < a.length → 0 < b.length → AreApart a b → int_eq a.start b.start ≡ false
-starts-differ a b h k (inl e) = by a.start a.length b.start h e
-  where
-    by : (s : ℤ) (n : ℕ) (t : ℤ) → 0 < n → (s +ℤ pos n) ≤ℤ t → int_eq s t ≡ false
-    by s n t h e = grind (arith, ints, h, e)
-starts-differ a b h k (inr e) = by b.start b.length a.start k e
-  where
-    by : (s : ℤ) (n : ℕ) (t : ℤ) → 0 < n → (s +ℤ pos n) ≤ℤ t → int_eq t s ≡ false
-    by s n t h e = grind (arith, ints, h, e)
 
 all-differ : (e : Standing) (es : List Standing) → 0 < e.length → IsApartOf e es → NoneMeet es → AllByRecursion (λ (x : Standing). int_eq e.start x.start ≡ false) es
 all-differ e [] h a n = tt
@@ -119,7 +105,7 @@ module _ (switched : List ℕ) (ads : Adverts) (steady : AreSteady ads) (events 
   abbrev IsCrossedOn : Standing → ℕ → Type 0
   IsCrossedOn e pid = crossed_known (stream switched pid) (as_played e) (end_known ads events e.start) (p ∷ past) ≡ crossed_known (stream switched pid) (as_played e) (end_known ads events e.start) past
 
-  gone-stands : (line : Option ℤ) (e : Standing) → is_forgotten line e ≡ true → Rattle.splice_laws.specs.Splicing.stands (as_played e) line ≡ false
+  gone-stands : (latest : Option ℤ) (e : Standing) → is_forgotten latest e ≡ true → Rattle.splice_laws.specs.Splicing.stands (as_played e) latest ≡ false
   gone-stands None e gone = absurd (true≢false (sym gone))
   gone-stands (Some high) e gone = at high (end_of e) gone
     where
@@ -175,30 +161,30 @@ sum-standing x n l p q r s h i j k = omega (arith, h, i, j, k)
 sum-gone : (x n l q r s : ℕ) → x ≡ n + l → r ≡ n + s → l ≡ q + s → x ≡ q + r
 sum-gone x n l q r s h i j = omega (arith, h, i, j)
 
-stands-later : (line : Option ℤ) (later : ℤ) (e : Standing) → Risen line (Some later) → stands line e ≡ false → is_out_at later e ≡ true
+stands-later : (latest : Option ℤ) (later : ℤ) (e : Standing) → Risen latest (Some later) → stands latest e ≡ false → is_out_at later e ≡ true
 stands-later None later e r gone = absurd (true≢false gone)
 stands-later (Some h) later e r gone = at h later (forgotten_at e) r gone
   where
     at : (h later t : ℤ) → h ≤ℤ later → int_lt h t ≡ false → not (int_lt later t) ≡ true
     at h later t r gone = grind (arith, ints)
 
-module _ (line : Option ℤ) (later : ℤ) (rises : Risen line (Some later)) (v : ℤ → Plan) (a b : Standing → Bool) (c : Standing × Plan → Bool) where
+module _ (latest : Option ℤ) (later : ℤ) (rises : Risen latest (Some later)) (v : ℤ → Plan) (a b : Standing → Bool) (c : Standing × Plan → Bool) where
   abbrev pub IsCounted : Standing → Type 0
-  IsCounted e = (stands line e ≡ true → a e ≡ c (e, v e.start)) × (stands line e ≡ false → a e ≡ b e)
+  IsCounted e = (stands latest e ≡ true → a e ≡ c (e, v e.start)) × (stands latest e ≡ false → a e ≡ b e)
 
   abbrev now : Standing → Bool
   now e = is_out_at later e && a e
 
   abbrev gone : Standing → Bool
-  gone e = is_forgotten line e && b e
+  gone e = is_forgotten latest e && b e
 
   abbrev out : Standing × Plan → Bool
   out x = is_out_at later x.0 && c x
 
   abbrev those : List Standing → List (Standing × Plan)
-  those es = beside (filter (stands line) es) (values_by v (filter (stands line) es))
+  those es = beside (filter (stands latest) es) (values_by v (filter (stands latest) es))
 
-  count-one : (e : Standing) (es : List Standing) (f : Bool) → stands line e ≡ f → IsCounted e → count_by now es ≡ count_by out (those es) + count_by gone es
+  count-one : (e : Standing) (es : List Standing) (f : Bool) → stands latest e ≡ f → IsCounted e → count_by now es ≡ count_by out (those es) + count_by gone es
       → count_by now (e ∷ es) ≡ count_by out (those (e ∷ es)) + count_by gone (e ∷ es)
   count-one e es true h fact before =
       let same : one_if (out (e, v e.start)) ≡ one_if (now e) = ap (λ d. one_if (is_out_at later e && d)) (sym (fact.0 h)) in
@@ -213,7 +199,7 @@ module _ (line : Option ℤ) (later : ℤ) (rises : Risen line (Some later)) (v 
       none-of true n k = absurd (true≢false k)
       none-of false n k = omega arith
   count-one e es false h fact before =
-      let out_now = stands-later line later e rises h in
+      let out_now = stands-later latest later e rises h in
       let here : those (e ∷ es) ≡ those es = simp h refl in
       let same : one_if (gone e) ≡ one_if (now e) = ap (λ d. one_if (not d && b e)) h ∙ ap one_if (sym (fact.1 h)) ∙ ap (λ d. one_if (d && a e)) (sym out_now) in
       let rest : count_by gone (e ∷ es) ≡ one_if (now e) + count_by gone es = count-cons gone e es ∙ ap (λ (n : ℕ). n + count_by gone es) same in
@@ -222,7 +208,7 @@ module _ (line : Option ℤ) (later : ℤ) (rises : Risen line (Some later)) (v 
 
   pub counted-split : (es : List Standing) → AllByRecursion IsCounted es → count_by now es ≡ count_by out (those es) + count_by gone es
   counted-split [] facts = refl
-  counted-split (e ∷ es) facts = count-one e es (stands line e) refl facts.0 (counted-split es facts.1)
+  counted-split (e ∷ es) facts = count-one e es (stands latest e) refl facts.0 (counted-split es facts.1)
 
 pub each-fact : {X : Type 0} (P : X → Type 0) → ((x : X) → P x) → (xs : List X) → AllByRecursion P xs
 each-fact P f [] = tt
@@ -275,27 +261,27 @@ module _ (k : Setting) (p : List ℕ) (past : List (List ℕ)) (m : ProgramMap) 
   no-rise (Some a) (Some b) r h = cc
 
   -- counts by the packet more, at this greatest time
-  recounted : (line : Option ℤ) → high_at k (p ∷ past) ≡ line → counts_known k (p ∷ past) (is_forgotten (high_at k (p ∷ past))) ≡ counts_of sw ads hist next es (is_forgotten line)
-  recounted line h = ap (λ l. counts_known k (p ∷ past) (is_forgotten l)) h ∙ five (λ s a h b es. counts_of s a h b es (is_forgotten line))
+  recounted : (latest : Option ℤ) → high_at k (p ∷ past) ≡ latest → counts_known k (p ∷ past) (is_forgotten (high_at k (p ∷ past))) ≡ counts_of sw ads hist next es (is_forgotten latest)
+  recounted latest h = ap (λ l. counts_known k (p ∷ past) (is_forgotten l)) h ∙ five (λ s a h b es. counts_of s a h b es (is_forgotten latest))
 
-  abbrev line : Option ℤ
-  line = high_at k past
+  abbrev latest : Option ℤ
+  latest = high_at k past
 
-  same-gone : (e : Standing) → IsOverNow e → (is_forgotten line e && (is_played ads e && is_crossed_known sw ads hist next e)) ≡ (is_forgotten line e && (is_played ads e && is_crossed_known sw ads hist (behind_at k past) e))
-  same-gone e o = by (is_forgotten line e) (is_played ads e) (is_crossed_known sw ads hist next e) (is_crossed_known sw ads hist (behind_at k past) e) (λ g q. o q g)
+  same-gone : (e : Standing) → IsOverNow e → (is_forgotten latest e && (is_played ads e && is_crossed_known sw ads hist next e)) ≡ (is_forgotten latest e && (is_played ads e && is_crossed_known sw ads hist (behind_at k past) e))
+  same-gone e o = by (is_forgotten latest e) (is_played ads e) (is_crossed_known sw ads hist next e) (is_crossed_known sw ads hist (behind_at k past) e) (λ g q. o q g)
     where
       by : (f q a b : Bool) → (f ≡ true → q ≡ true → a ≡ b) → (f && (q && a)) ≡ (f && (q && b))
       by true true a b h = h refl refl
       by true false a b h = refl
       by false q a b h = refl
 
-  still-counts : counts_of sw ads hist next es (is_forgotten line) ≡ counts_of sw ads hist (behind_at k past) es (is_forgotten line)
+  still-counts : counts_of sw ads hist next es (is_forgotten latest) ≡ counts_of sw ads hist (behind_at k past) es (is_forgotten latest)
   still-counts =
-      let f : Standing → Bool = λ e. is_forgotten line e && (is_played ads e && is_crossed_known sw ads hist next e) in
-      let g : Standing → Bool = λ e. is_forgotten line e && (is_played ads e && is_crossed_known sw ads hist (behind_at k past) e) in
+      let f : Standing → Bool = λ e. is_forgotten latest e && (is_played ads e && is_crossed_known sw ads hist next e) in
+      let g : Standing → Bool = λ e. is_forgotten latest e && (is_played ads e && is_crossed_known sw ads hist (behind_at k past) e) in
       same-counts refl refl (same-count f g es (Each-map IsOverNow (λ e. f e ≡ g e) same-gone es over))
 
-  module _ (later : ℤ) (rises : Risen line (Some later)) where
+  module _ (later : ℤ) (rises : Risen latest (Some later)) where
     abbrev v : ℤ → Plan
     v = plans_at k past next
 
@@ -308,7 +294,7 @@ module _ (k : Setting) (p : List ℕ) (past : List (List ℕ)) (m : ProgramMap) 
     abbrev told : Standing × Plan → Bool
     told x = is_played ads x.0 && x.1.is_crossed
 
-    fact : (e : Standing) → IsOverNow e × IsFound es e → IsCounted line later rises v crossed crossed_before told e
+    fact : (e : Standing) → IsOverNow e × IsFound es e → IsCounted latest later rises v crossed crossed_before told e
     fact e h = (
       (λ _. ap (λ o. is_played ads e && (plan_found sw ads hist next o).is_crossed) (sym h.1)),
       (λ gone. by (is_played ads e) (is_crossed_known sw ads hist next e) (is_crossed_known sw ads hist (behind_at k past) e) (λ q. h.0 q (ap not gone))),
@@ -319,18 +305,18 @@ module _ (k : Setting) (p : List ℕ) (past : List (List ℕ)) (m : ProgramMap) 
         by false a b h = refl
 
     all-split : counts_of sw ads hist next es (is_forgotten (Some later))
-        ≡ with_counted (is_out_at later) ads (beside (standing k.cue_pid (high_at k) past) (values_by v (standing k.cue_pid (high_at k) past))) (counts_of sw ads hist (behind_at k past) es (is_forgotten line))
+        ≡ with_counted (is_out_at later) ads (beside (standing k.cue_pid (high_at k) past) (values_by v (standing k.cue_pid (high_at k) past))) (counts_of sw ads hist (behind_at k past) es (is_forgotten latest))
     all-split =
         let plays : Standing × Plan → Bool = λ x. is_played ads x.0 in
         let unfit : Standing × Plan → Bool = λ x. is_not_fitted ads x.0 in
         same-counts
-        (counted-split line later rises v (is_played ads) (is_played ads) plays es (each-fact (IsCounted line later rises v (is_played ads) (is_played ads) plays) (λ e. ((λ _. refl), (λ _. refl))) es))
-        (counted-split line later rises v (is_not_fitted ads) (is_not_fitted ads) unfit es (each-fact (IsCounted line later rises v (is_not_fitted ads) (is_not_fitted ads) unfit) (λ e. ((λ _. refl), (λ _. refl))) es))
-        (counted-split line later rises v crossed crossed_before told es
-        (Each-map (λ e. IsOverNow e × IsFound es e) (IsCounted line later rises v crossed crossed_before told) fact es (Each-both IsOverNow (IsFound es) es over found)))
+        (counted-split latest later rises v (is_played ads) (is_played ads) plays es (each-fact (IsCounted latest later rises v (is_played ads) (is_played ads) plays) (λ e. ((λ _. refl), (λ _. refl))) es))
+        (counted-split latest later rises v (is_not_fitted ads) (is_not_fitted ads) unfit es (each-fact (IsCounted latest later rises v (is_not_fitted ads) (is_not_fitted ads) unfit) (λ e. ((λ _. refl), (λ _. refl))) es))
+        (counted-split latest later rises v crossed crossed_before told es
+        (Each-map (λ e. IsOverNow e × IsFound es e) (IsCounted latest later rises v crossed crossed_before told) fact es (Each-both IsOverNow (IsFound es) es over found)))
 
-  risen-to : (later : ℤ) → high_at k (p ∷ past) ≡ Some later → Risen line (Some later)
-  risen-to later h = subst (λ l. Risen line l) h (never-falls k p past)
+  risen-to : (later : ℤ) → high_at k (p ∷ past) ≡ Some later → Risen latest (Some later)
+  risen-to later h = subst (λ l. Risen latest l) h (never-falls k p past)
 
   pub passes : PassesOn k p past
   passes = record {
@@ -341,7 +327,7 @@ module _ (k : Setting) (p : List ℕ) (past : List (List ℕ)) (m : ProgramMap) 
     events = same-events;
     unheard = no-rise (high_at k past) (high_at k (p ∷ past)) (never-falls k p past);
     higher = λ later h. may-advance sw p (behind_at k past) later sound (sym (high-next k p past m is) ∙ h);
-    same = λ h. recounted line h ∙ still-counts;
+    same = λ h. recounted latest h ∙ still-counts;
     counted = λ later h. recounted (Some later) h ∙ all-split later (risen-to later h);
   }
 

@@ -78,9 +78,9 @@ module _ (t : Standing → Bool → Bool) (g : Standing → Bool) where
 
 -- ---- those that stand, and those that do not
 
-module _ (line : Option ℤ) (a : Standing → Bool) where
+module _ (latest : Option ℤ) (a : Standing → Bool) where
   abbrev gone : Standing → Bool
-  gone e = is_forgotten line e && a e
+  gone e = is_forgotten latest e && a e
 
   sum-standing : (n l x r s y : ℕ) → x ≡ n + l → r ≡ s → y ≡ n + (l + s) → x + r ≡ y
   sum-standing n l x r s y h i j = omega (arith, h, i, j)
@@ -92,23 +92,23 @@ module _ (line : Option ℤ) (a : Standing → Bool) where
   none-of true n k = absurd (true≢false k)
   none-of false n k = omega arith
 
-  both-one : (e : Standing) (es : List Standing) (f : Bool) → stands line e ≡ f → count_by a (filter (stands line) es) + count_by gone es ≡ count_by a es
-      → count_by a (filter (stands line) (e ∷ es)) + count_by gone (e ∷ es) ≡ count_by a (e ∷ es)
+  both-one : (e : Standing) (es : List Standing) (f : Bool) → stands latest e ≡ f → count_by a (filter (stands latest) es) + count_by gone es ≡ count_by a es
+      → count_by a (filter (stands latest) (e ∷ es)) + count_by gone (e ∷ es) ≡ count_by a (e ∷ es)
   both-one e es true h before =
-      let here : filter (stands line) (e ∷ es) ≡ e ∷ filter (stands line) es = simp h refl in
-      let first : count_by a (filter (stands line) (e ∷ es)) ≡ one_if (a e) + count_by a (filter (stands line) es) = ap (count_by a) here ∙ count-cons a e (filter (stands line) es) in
+      let here : filter (stands latest) (e ∷ es) ≡ e ∷ filter (stands latest) es = simp h refl in
+      let first : count_by a (filter (stands latest) (e ∷ es)) ≡ one_if (a e) + count_by a (filter (stands latest) es) = ap (count_by a) here ∙ count-cons a e (filter (stands latest) es) in
       let rest : count_by gone (e ∷ es) ≡ count_by gone es = count-cons gone e es ∙ none-of (gone e) (count_by gone es) (ap (λ d. not d && a e) h) in
-      sum-standing (one_if (a e)) (count_by a (filter (stands line) es)) (count_by a (filter (stands line) (e ∷ es))) (count_by gone (e ∷ es)) (count_by gone es) (count_by a (e ∷ es))
+      sum-standing (one_if (a e)) (count_by a (filter (stands latest) es)) (count_by a (filter (stands latest) (e ∷ es))) (count_by gone (e ∷ es)) (count_by gone es) (count_by a (e ∷ es))
       first rest (count-cons a e es ∙ ap (λ (n : ℕ). one_if (a e) + n) (sym before))
   both-one e es false h before =
-      let here : filter (stands line) (e ∷ es) ≡ filter (stands line) es = simp h refl in
+      let here : filter (stands latest) (e ∷ es) ≡ filter (stands latest) es = simp h refl in
       let rest : count_by gone (e ∷ es) ≡ one_if (a e) + count_by gone es = count-cons gone e es ∙ ap (λ d. one_if (not d && a e) + count_by gone es) h in
       ap (λ l. count_by a l + count_by gone (e ∷ es)) here
-      ∙ sum-gone (one_if (a e)) (count_by a (filter (stands line) es)) (count_by gone (e ∷ es)) (count_by gone es) (count_by a (e ∷ es)) rest (count-cons a e es ∙ ap (λ (n : ℕ). one_if (a e) + n) (sym before))
+      ∙ sum-gone (one_if (a e)) (count_by a (filter (stands latest) es)) (count_by gone (e ∷ es)) (count_by gone es) (count_by a (e ∷ es)) rest (count-cons a e es ∙ ap (λ (n : ℕ). one_if (a e) + n) (sym before))
 
-  pub both-counted : (es : List Standing) → count_by a (filter (stands line) es) + count_by gone es ≡ count_by a es
+  pub both-counted : (es : List Standing) → count_by a (filter (stands latest) es) + count_by gone es ≡ count_by a es
   both-counted [] = refl
-  both-counted (e ∷ es) = both-one e es (stands line e) refl (both-counted es)
+  both-counted (e ∷ es) = both-one e es (stands latest e) refl (both-counted es)
 
 -- ---- the crossings of the end
 

@@ -96,11 +96,11 @@ module _ (switched : List ℕ) (ads : Adverts) (events : History) (past : List (
         sent = length (sent_known (begins_one switched) (stream switched pid) (record { start = start; stop = stop; name = name }) (end_known ads events start) (units pid) past);
       }
 
-  module _ (steady : AreSteady ads) (line : Option ℤ) (e x : Standing) (b : Becomes line e x) where
+  module _ (steady : AreSteady ads) (latest : Option ℤ) (e x : Standing) (b : Becomes latest e x) where
     part-same : (pid : ℕ) → part_known switched ads events x past pid ≡ part_known switched ads events e past pid
     part-same pid =
         ap (λ start. part_by start (end_of x) x.program (ads.units x) pid) b.start
-        ∙ ap (λ us. part_by e.start (end_of x) x.program (λ q. us) pid) (steady.units line e x b pid)
+        ∙ ap (λ us. part_by e.start (end_of x) x.program (λ q. us) pid) (steady.units latest e x b pid)
         ∙ same-part (stage-alike (stream switched pid) e.start (end_of x) (end_of e) x.program e.program (end_known ads events e.start) past)
         (ap length (sent-alike (stream switched pid) e.start (end_of x) (end_of e) x.program e.program (end_known ads events e.start) (begins_one switched) (ads.units e pid) past))
 
@@ -131,29 +131,29 @@ module _ (switched : List ℕ) (ads : Adverts) (events : History) (past : List (
 
   -- of the event that starts then
   module _ (few : length switched ≤ 8) (steady : AreSteady ads) where
-    abbrev line : Option ℤ
-    line = high switched past
+    abbrev latest : Option ℤ
+    latest = high switched past
 
     abbrev found : ℤ → List Standing → Plan
     found start es = plan_found switched ads events past (find (λ (e : Standing). int_eq e.start start) es)
 
-    none-found : (start : ℤ) (later : List Standing) → All (λ (x : Standing). IsAhead line x.start) later → found start later ≡ nothing_known
+    none-found : (start : ℤ) (later : List Standing) → All (λ (x : Standing). IsAhead latest x.start) later → found start later ≡ nothing_known
     none-found start [] g = refl
     none-found start (x ∷ later) g =
-        let ahead = λ (y : Standing). IsAhead line y.start in
+        let ahead = λ (y : Standing). IsAhead latest y.start in
         by_test (int_eq x.start start)
         (λ is. simp is (plan-ahead switched few ads events x past (All-head ahead x later g)))
         (λ is. simp is (none-found start later (All-tail ahead x later g)))
 
-    pub found-same : (start : ℤ) (es later : List Standing) → Grows line es later → found start later ≡ found start es
+    pub found-same : (start : ℤ) (es later : List Standing) → Grows latest es later → found start later ≡ found start es
     found-same start [] later g = none-found start later g
     found-same start (e ∷ es) [] g = absurd g
     found-same start (e ∷ es) (x ∷ later) g = by_test (int_eq e.start start)
-        (λ is. let also : int_eq x.start start ≡ true = ap (λ s. int_eq s start) g.0.start ∙ is in simp (is, also) (plan-same steady line e x g.0))
+        (λ is. let also : int_eq x.start start ≡ true = ap (λ s. int_eq s start) g.0.start ∙ is in simp (is, also) (plan-same steady latest e x g.0))
         (λ is. let also : int_eq x.start start ≡ false = ap (λ s. int_eq s start) g.0.start ∙ is in simp (is, also) (found-same start es later g.1))
 
     -- one that is still to come
-    pub found-ahead : (start : ℤ) → IsAhead line start → (es : List Standing) → found start es ≡ nothing_known
+    pub found-ahead : (start : ℤ) → IsAhead latest start → (es : List Standing) → found start es ≡ nothing_known
     found-ahead start a [] = refl
     found-ahead start a (e ∷ es) = by_test (int_eq e.start start)
         (λ is. let s = same-time e.start start is in simp is (plan-ahead switched few ads events e past (rw s a)))

@@ -42,8 +42,8 @@ pub record ChangesNothing (k : Setting) (p : List ℕ) (past : List (List ℕ)) 
   pub forgotten : forgotten_counts k (p ∷ past) ≡ forgotten_counts k past
 
 -- THE LAW OF OTHER PACKETS: where the advertisements are steady, and no more than eight streams are switched
-abbrev pub OthersChangeNothing : Type 0
-OthersChangeNothing = (k : Setting) (p : List ℕ) (past : List (List ℕ)) → on_one (switched_at k past) p ≡ false →
+abbrev pub UnswitchedChangeNothing : Type 0
+UnswitchedChangeNothing = (k : Setting) (p : List ℕ) (past : List (List ℕ)) → on_one (switched_at k past) p ≡ false →
     AreSteady (adverts_at k past) → length (switched_at k past) ≤ 8 → ChangesNothing k p past
 
 -- ---- a packet behind the head that is none of the cues

@@ -1,11 +1,11 @@
 //! The laws of what is known, each on a function of its own.
 
-ghost use Rattle.known_laws.specs.Laws.{OthersChangeNothing, PacketsPass, ReportsAreWhole, PlansTellCrossings};
+ghost use Rattle.known_laws.specs.Laws.{UnswitchedChangeNothing, PacketsPass, ReportsAreWhole, PlansTellCrossings};
 
 /// A packet that is of no switched stream, as one with cues, changes nothing of the plans beside the events that stand; an event that it
 /// arms has none of its units out.
-pub fn others_change_nothing()
-    ensures { OthersChangeNothing }
+pub fn unswitched_change_nothing()
+    ensures { UnswitchedChangeNothing }
 {}
 
 /// Behind a packet that is none of the cues, what is known is what was known with it, and the events that are forgotten now count.

@@ -11,13 +11,14 @@ use Rattle.ts_packet.specs.Numbering.{one_past}
 use Rattle.std.proofs.lemmas.List.Elements.{All-head, All-tail}
 use Rattle.ts_packet.specs.Runs.{onto}
 use Rattle.ts_packet.proofs.RunLemmas.{onto-append}
-use Rattle.ts_packet.proofs.FieldLemmas.{payload_on-on}
+use Rattle.ts_packet.proofs.FieldLemmas.{payload_on-on, error-off}
 use Rattle.psi_section.specs.Packetising.{first_packet, next_packet, later_packets, section_packets, packets_in_turn}
 use Rattle.psi_section.proofs.ReadBackLemmas.{first_number, next_packet_number, next_on, section_carry}
 use Rattle.program_follower.specs.Program.{Table}
 use Rattle.program_laws.specs.Writing.{number_on, packets_out, section_out, Off}
 use Rattle.program_laws.proofs.PacketLemmas.{one_past-below}
 use Rattle.program_laws.proofs.WritingLemmas.{carry_off}
+use Rattle.ts_packet.proofs.Cases.{test-same}
 use Rattle.outgoing_packets.specs.Numbers.{upcoming_on, HasPut, FrontFails}
 use Rattle.outgoing_packets.specs.Entries.{change_of, GoesOut, AllGoOut}
 use Rattle.outgoing_packets.specs.declared.entry.CueEntry.{CueEntry}
@@ -63,16 +64,9 @@ section-others pid other n s out pb nb ne = upcoming-others other (section_packe
 apart : (a b : ℕ) → (a == b) ≡ false → a ≢ b
 apart a b e = grind (arith, nat_tests)
 
-eqb-same : (a : ℕ) → (a == a) ≡ true
-eqb-same a = grind (arith, nat_tests)
-
 on-good : (pid : ℕ) (p : List ℕ) (b : Bool) → in_error p ≡ false → (pid_of p == pid) ≡ b → on pid p ≡ b
 unfolding on
 on-good pid p b good is = rw (good, is) refl
-
-marked-off : (pid : ℕ) (p : List ℕ) → in_error p ≡ true → on pid p ≡ false
-unfolding on
-marked-off pid p bad = rw bad refl
 
 -- a section was put
 pub put-numbers : (old new : Outgoing) (pid n : ℕ) (s : List ℕ) (out : List (List ℕ)) → pid < 8192 → HasPut old out → n ≡ upcoming_on pid out → n < 16
@@ -95,11 +89,11 @@ passed-numbers old new p out h good here others = record { next = λ q qb. by q 
   where
     by : (q : ℕ) → q < 8192 → (b : Bool) → (pid_of p == q) ≡ b → slice_index_or new.upcoming q 0 ≡ upcoming_on q (p ∷ out)
     by q qb true e = let same : pid_of p ≡ q = eqb-true (pid_of p) q e in
-        subst (λ k. slice_index_or new.upcoming k 0 ≡ upcoming_on k (p ∷ out)) same (here ∙ sym (upcoming-own (pid_of p) p out (on-good (pid_of p) p true good (eqb-same (pid_of p)))))
+        subst (λ k. slice_index_or new.upcoming k 0 ≡ upcoming_on k (p ∷ out)) same (here ∙ sym (upcoming-own (pid_of p) p out (on-good (pid_of p) p true good (test-same (pid_of p)))))
     by q qb false e = others q (λ k. apart (pid_of p) q e (sym k)) ∙ h.next q qb ∙ sym (upcoming-off q p out (on-good q p false good e))
 
 pub marked-numbers : (o : Outgoing) (p : List ℕ) (out : List (List ℕ)) → HasPut o out → in_error p ≡ true → HasPut o (p ∷ out)
-marked-numbers o p out h bad = record { next = λ q qb. h.next q qb ∙ sym (upcoming-off q p out (marked-off q p bad)) }
+marked-numbers o p out h bad = record { next = λ q qb. h.next q qb ∙ sym (upcoming-off q p out (error-off q p bad)) }
 
 -- sections in turn: the first one, and then the others behind it
 pub packets-more : (pid : ℕ) (out : List (List ℕ)) (s : List ℕ) (ss : List (List ℕ)) → pid < 8192
@@ -210,3 +204,7 @@ module _ (bytes : Table → List ℕ) (P : Table → Type 0) (pid : ℕ) (out : 
 pub front-moved : (packets : List (List ℕ)) (F G : List (List ℕ) → List ℕ → Type 0) → ((put : List (List ℕ)) (p : List ℕ) → F put p → G put p)
     → FrontFails packets F → FrontFails packets G
 front-moved packets F G moved f = record { put = f.put; packet = f.packet; left = f.left; all = f.all; fault = moved f.put f.packet f.fault }
+
+pub number-others : (pid : ℕ) (qs out : List (List ℕ)) → AllByRecursion (Off pid) qs → number_on pid (onto out qs) ≡ number_on pid out
+number-others pid [] out off = refl
+number-others pid (q ∷ qs) out off = number-others pid qs (q ∷ out) off.1 ∙ (let f : number_on pid (q ∷ out) ≡ number_on pid out = simp off.0 in f)

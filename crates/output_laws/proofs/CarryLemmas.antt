@@ -7,8 +7,8 @@ use Rattle.ts_packet.specs.Fields.{on, pid_of, pcr, payload_on, unit_start, byte
 use Rattle.ts_packet.specs.Duplicates.{repeats}
 use Rattle.ts_packet.specs.Numbering.{moved, number_out, last_number, one_past}
 use Rattle.ts_packet.specs.Runs.{seen_after}
-use Rattle.ts_packet.proofs.Cases.{by_test}
-use Rattle.ts_packet.proofs.FieldLemmas.{payload_on-on, payload_on-renumbered, start-renumbered, bytes-renumbered}
+use Rattle.ts_packet.proofs.Cases.{by_test, test-same}
+use Rattle.ts_packet.proofs.FieldLemmas.{payload_on-on, payload_on-renumbered, start-renumbered, bytes-renumbered, below_16}
 use Rattle.ts_packet.proofs.Renumbered.{renumbered-zero}
 use Rattle.unit_stream.specs.Units.{has_payload, rest_of_row}
 use Rattle.unit_stream.specs.Carrying.{CarriesUnits}
@@ -18,8 +18,8 @@ use Rattle.unit_cut.proofs.CutCarries.{row_joins, first_kept}
 use Rattle.splice_laws.specs.Splicing.{SliceUnit}
 use Rattle.output_laws.specs.Output.{Move, Keep, Leave, Put, network, Packing, counter_steps, clock_alone, out_after, Sound, Place, Keeping, Leaving, Between, behind_put, place, KeepsUnitsWhole, AlongMoves, units_out}
 use Rattle.output_laws.specs.Laws.{OutputCarriesUnits}
-use Rattle.output_laws.proofs.StepLemmas.{onto_moves, along_past, test-same, kept_on, payload_on-kept, payload_on-clock}
-use Rattle.output_laws.proofs.GaplessLemmas.{below_16, one_below, other_pid, es}
+use Rattle.output_laws.proofs.StepLemmas.{onto_moves, along_past, kept_on, payload_on-kept, payload_on-clock}
+use Rattle.output_laws.proofs.GaplessLemmas.{one_below, other_pid, es}
 use Rattle.output_laws.proofs.UnitLemmas.{between, between_left, rest_of}
 
 -- the packets of the row that runs, where it is kept

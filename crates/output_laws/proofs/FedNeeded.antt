@@ -4,11 +4,11 @@ use Rattle.std.proofs.lemmas.List.Elements.{All-head, All-tail, All-cons, All-ni
 use Rattle.ts_packet.specs.Fields.{payload_on, number, alike, renumbered}
 use Rattle.ts_packet.specs.Duplicates.{InStep}
 use Rattle.ts_packet.specs.Runs.{Seen, IsGaplessAfter}
-use Rattle.ts_packet.proofs.Cases.{by_test}
+use Rattle.ts_packet.proofs.Cases.{by_test, test-same}
 use Rattle.ts_packet.proofs.FieldLemmas.{alike-number, number-renumbered, payload_on-on, payload_on-renumbered}
 use Rattle.output_laws.specs.Output.{Keep, Put, kept_packet, output}
 use Rattle.output_laws.specs.Laws.{FedIsNeeded}
-use Rattle.output_laws.proofs.StepLemmas.{test-same, kept_on}
+use Rattle.output_laws.proofs.StepLemmas.{kept_on}
 
 alone : (pid : ℕ) (p : List ℕ) → IsGaplessAfter None pid (p ∷ [])
 alone pid p = All-cons (λ (s : Seen). InStep None pid s.packet s.past) (record { packet = p; past = [] }) [] (record { next = λ _. tt; same = λ _ _. tt }) (All-nil (λ (s : Seen). InStep None pid s.packet s.past))

@@ -8,22 +8,21 @@ use Rattle.ts_packet.specs.Fields.{on, pid_of, number, pcr, payload_on, renumber
 use Rattle.ts_packet.specs.Clock.{clock_packet}
 use Rattle.ts_packet.specs.Duplicates.{repeats, repeats_last, last_of, nearest, IsNext, IsSame, InStep, Gapless}
 use Rattle.ts_packet.specs.Numbering.{Step, moved, number_out, last_number, one_past}
-use Rattle.ts_packet.proofs.Cases.{by_test}
-use Rattle.ts_packet.proofs.FieldLemmas.{alike-number, number-renumbered, payload_on-on, payload_on-renumbered}
+use Rattle.ts_packet.proofs.Cases.{by_test, test-same}
+use Rattle.ts_packet.proofs.FieldLemmas.{alike-number, number-renumbered, payload_on-on, payload_on-renumbered, below_16, payload-some, pid_is}
 use Rattle.ts_packet.proofs.HistoryLemmas.{walk_is_last}
 use Rattle.ts_packet.proofs.RunLemmas.{onto, packet_or, nearest_is_last, gapless_glue, gapless_back}
 use Rattle.unit_stream.specs.Times.{begins}
 use Rattle.unit_stream.specs.UnitPackets.{AllOn, BeginsAlone, CountsFrom}
 use Rattle.splice_laws.specs.Splicing.{SliceUnit}
+use Rattle.unit_cut.proofs.CutLemmas.{and_left}
+use Rattle.ts_packet.proofs.ClockLemmas.{number-clock}
 use Rattle.output_laws.specs.Output.{Move, Keep, Leave, Put, network, Packing, counter_steps, kept_packet, clock_alone, output, Sound, Place, Keeping, Leaving, Between, behind_put, place, KeepsUnitsWhole, has_come, HasComeBefore, AlongMoves}
 use Rattle.output_laws.specs.Laws.{OutputStaysGapless}
-use Rattle.output_laws.proofs.StepLemmas.{network_onto, out_back, out_onto, test-same, pid_is, payload-some, payload-none, kept_on, on-kept, payload_on-kept, payload_on-clock, on-clock, number-clock, pcr-error, on-same, moved-put}
-use Rattle.output_laws.proofs.MatchLemmas.{and_left, Matched, repeats_kept, next_kept, next_moved, same_moved, left_moved, next_left, repeat_left, repeats_same}
+use Rattle.output_laws.proofs.StepLemmas.{network_onto, out_back, out_onto, payload-none, kept_on, on-kept, payload_on-kept, payload_on-clock, on-clock, pcr-error, on-same, moved-put}
+use Rattle.output_laws.proofs.MatchLemmas.{Matched, repeats_kept, next_kept, next_moved, same_moved, left_moved, next_left, repeat_left, repeats_same}
 use Rattle.unit_stream.proofs.PackedLemmas.{Numbered, AllOriginal, Ends, put_gapless, put_originals, put_ends}
 use Rattle.output_laws.proofs.PutLemmas.{LastIs, put_last}
-
-pub below_16 : (m : ℕ) → m % 16 < 16
-below_16 m = omega arith
 
 pub other_on : (q pid : ℕ) (p : List ℕ) → (q == pid) ≡ false → payload_on q p ≡ true → on pid p ≡ false
 other_on q pid p e y = by_test (on pid p)

@@ -6,11 +6,8 @@ use Rattle.ts_packet.specs.Duplicates.{repeats_last, IsNext, IsSame}
 use Rattle.ts_packet.proofs.Cases.{by_test}
 use Rattle.ts_packet.proofs.FieldLemmas.{number-below, number-renumbered, alike-number, alike-renumbered}
 use Rattle.ts_packet.proofs.RunLemmas.{packet_or}
+use Rattle.unit_cut.proofs.CutLemmas.{and_left}
 use Rattle.output_laws.specs.Output.{Place, Keeping, Leaving}
-
-pub and_left : (a b : Bool) → a && b ≡ true → a ≡ true
-and_left true b h = refl
-and_left false b h = h
 
 -- a counter is the other's, moved up by n, where both are there
 abbrev pub IsMoved : ℕ → Option (List ℕ) → Option (List ℕ) → Type 0

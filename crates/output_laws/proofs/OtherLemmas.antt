@@ -7,12 +7,13 @@ use Rattle.ts_packet.specs.Fields.{in_error, pid_of, on, number, pcr, payload_on
 use Rattle.ts_packet.specs.Clock.{clock_packet}
 use Rattle.ts_packet.specs.Numbering.{moved, number_out, last_number, one_past}
 use Rattle.ts_packet.proofs.Cases.{by_test}
-use Rattle.ts_packet.proofs.FieldLemmas.{error-with, pid-with, payload_on-on}
+use Rattle.ts_packet.proofs.FieldLemmas.{error-with, pid-with, payload_on-on, pid_is}
 use Rattle.ts_packet.proofs.Renumbered.{renumbered-zero}
 use Rattle.unit_stream.specs.UnitPackets.{AllOn}
+use Rattle.ts_packet.proofs.ClockLemmas.{error-clock, pid-clock}
 use Rattle.output_laws.specs.Output.{Move, Keep, Leave, Put, network, Packing, counter_steps, kept_packet, clock_alone, out_after, Sound, AlongMoves}
 use Rattle.output_laws.specs.Others.{is_off, ChangesOnly, OthersPass}
-use Rattle.output_laws.proofs.StepLemmas.{onto_moves, along_past, pid_is, error_is, error-clock, pid-clock}
+use Rattle.output_laws.proofs.StepLemmas.{onto_moves, along_past, error_is}
 use Rattle.output_laws.proofs.GaplessLemmas.{one_below}
 
 off-renumbered : (pids : List ℕ) (n : ℕ) (p : List ℕ) → is_off pids (renumbered n p) ≡ is_off pids p

@@ -3,14 +3,14 @@ use Rattle.std.specs.Prelude.{All, ◌==◌, filter, flat_map, if◌then◌else�
 use Rattle.std.proofs.Common.{◌≡◌, ℕ, List, [], ◌∷◌, Bool, true, false, refl, sym, ap, ◌∙◌, length, subst}
 use Rattle.std.proofs.lemmas.Bool.{or_left, or_right}
 use Rattle.ts_packet.specs.Fields.{payload_on, is_among}
-use Rattle.ts_packet.proofs.Cases.{by_test}
+use Rattle.ts_packet.proofs.Cases.{by_test, test-same}
 use Rattle.ts_packet.proofs.FieldLemmas.{payload_on-on}
 use Rattle.splice_laws.specs.Splicing.{PlayedEvent, SliceUnit, stream, out_of, inserted, rest}
 use Rattle.splice_laws.specs.Streams.{all_closing, all_running, is_dropped}
 use Rattle.output_laws.specs.Output.{Move, Keep, Leave, Put, Packing, AlongMoves}
 use Rattle.output_laws.specs.Others.{is_off, ChangesOnly}
 use Rattle.output_laws.specs.Spliced.{puts_on, puts_each, puts_at, fate, moves_after, splice_moves, SplicedOthersPass}
-use Rattle.output_laws.proofs.StepLemmas.{onto_moves, test-same}
+use Rattle.output_laws.proofs.StepLemmas.{onto_moves}
 use Rattle.output_laws.proofs.OtherLemmas.{off_on, others_pass}
 use Rattle.output_laws.proofs.SplicedLemmas.{onto_moves-append, moves_are_spliced}
 

@@ -2,15 +2,15 @@
 use Rattle.std.specs.Prelude.{if◌then◌else◌, ◌==◌, count_by, is_some, cond}
 use Rattle.std.proofs.Common.{◌≡◌, ℕ, ◌+◌, ◌<◌, List, [], ◌∷◌, ◌++◌, Bool, true, false, ◌&&◌, refl, sym, ap, ◌∙◌, Option, None, Some, arith, length}
 use Rattle.std.proofs.lemmas.List.Sums.{sum_by-cons}
-use Rattle.ts_packet.specs.Fields.{in_error, pid_of, payload, payload_on, on, number, pcr, renumbered}
+use Rattle.ts_packet.specs.Fields.{in_error, pid_of, payload, payload_on, on, pcr, renumbered}
 use Rattle.ts_packet.specs.Numbering.{Step, Inserted, is_inserted, is_dropped, moved}
 use Rattle.ts_packet.specs.Clock.{clock_packet}
 use Rattle.std.proofs.lemmas.Bool.Decides.{nat_tests}
 use Rattle.std.proofs.lemmas.Bool.{and_right}
 use Rattle.ts_packet.proofs.Cases.{by_test}
-use Rattle.ts_packet.proofs.FieldLemmas.{on-renumbered, payload_on-renumbered}
-use Rattle.ts_packet.proofs.RunLemmas.{onto}
-use Rattle.ts_packet.proofs.ClockLemmas.{control-clock, first_five}
+use Rattle.ts_packet.proofs.FieldLemmas.{on-renumbered, payload_on-renumbered, pid_is}
+use Rattle.ts_packet.proofs.RunLemmas.{onto, onto-append}
+use Rattle.ts_packet.proofs.ClockLemmas.{control-clock, error-clock, pid-clock}
 use Rattle.unit_stream.specs.UnitPackets.{put_in}
 use Rattle.output_laws.specs.Output.{Move, Keep, Leave, Put, network, Packing, counter_steps, kept_packet, out_at, out_after, AlongMoves}
 
@@ -19,10 +19,6 @@ use Rattle.output_laws.specs.Output.{Move, Keep, Leave, Put, network, Packing, c
 abbrev pub onto_moves : List Move → List Move → List Move
 onto_moves past [] = past
 onto_moves past (s ∷ ss) = onto_moves (s ∷ past) ss
-
-pub onto-append : (past ps qs : List (List ℕ)) → onto past (ps ++ qs) ≡ onto (onto past ps) qs
-onto-append past [] qs = refl
-onto-append past (p ∷ ps) qs = onto-append (p ∷ past) ps qs
 
 pub network_onto : (past ss : List Move) → network (onto_moves past ss) ≡ onto (network past) (network ss)
 network_onto past [] = refl
@@ -46,23 +42,9 @@ along_past f past (s ∷ ss) h = (along_past f (s ∷ past) ss h).1
 
 -- ---- tests
 
-pub test-same : (q : ℕ) → (q == q) ≡ true
-test-same q = grind (arith, nat_tests)
-
-pub pid_is : (pid : ℕ) (p : List ℕ) → on pid p ≡ true → pid_of p ≡ pid
-unfolding on
-pid_is pid p h = grind (arith, nat_tests)
-
 pub error_is : (pid : ℕ) (p : List ℕ) → on pid p ≡ true → in_error p ≡ false
 unfolding on
 error_is pid p h = grind (arith, nat_tests)
-
-pub payload-some : (pid : ℕ) (p : List ℕ) → payload_on pid p ≡ true → is_some (payload p) ≡ true
-unfolding payload_on
-payload-some pid p h = right (on pid p) _ h where
-  right : (a b : Bool) → a && b ≡ true → b ≡ true
-  right true b h = h
-  right false b h = cc
 
 pub payload-none : (pid : ℕ) (p : List ℕ) → on pid p ≡ true → payload_on pid p ≡ false → is_some (payload p) ≡ false
 unfolding payload_on
@@ -97,21 +79,9 @@ pub payload_on-clock : (pid k n : ℕ) (c : List ℕ) → n < 16 → payload_on 
 unfolding payload_on
 payload_on-clock pid k n c h = and_right (on pid (clock_packet k n c)) _ (ap is_some (payload-clock k n c h))
 
-pub error-clock : (k n : ℕ) (c : List ℕ) → k < 8192 → in_error (clock_packet k n c) ≡ false
-unfolding in_error
-error-clock k n c h = rw (first_five k h) refl
-
-pub pid-clock : (k n : ℕ) (c : List ℕ) → k < 8192 → pid_of (clock_packet k n c) ≡ k
-unfolding pid_of
-pid-clock k n c h = omega arith
-
 pub on-clock : (pid k n : ℕ) (c : List ℕ) → k < 8192 → on pid (clock_packet k n c) ≡ (k == pid)
 unfolding on
 on-clock pid k n c h = rw (error-clock k n c h, pid-clock k n c h) refl
-
-pub number-clock : (k n : ℕ) (c : List ℕ) → n < 16 → number (clock_packet k n c) ≡ n
-unfolding number
-number-clock k n c h = omega arith
 
 pub pcr-error : (p c : List ℕ) → pcr p ≡ Some c → in_error p ≡ false
 unfolding pcr

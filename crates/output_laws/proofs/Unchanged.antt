@@ -7,7 +7,7 @@ use Rattle.ts_packet.specs.Numbering.{moved}
 use Rattle.ts_packet.proofs.Cases.{by_test}
 use Rattle.ts_packet.proofs.Renumbered.{renumbered-zero}
 use Rattle.output_laws.specs.Output.{Move, Keep, Packing, counter_steps, kept_packet, out_after}
-use Rattle.output_laws.specs.Laws.{NothingChanges}
+use Rattle.output_laws.specs.Laws.{AllKeptIsUnchanged}
 
 module _ (packed : Packing) where
   abbrev kept : List (List ℕ) → List Move
@@ -26,5 +26,5 @@ module _ (packed : Packing) where
       let f = λ (q : List ℕ). length q ≡ 188 in
       ap (λ q. q ∷ out_after packed (kept (p ∷ past)) (kept ps)) (same_packet p past (All-head f p ps h)) ∙ ap (λ l. p ∷ l) (all_same (p ∷ past) ps (All-tail f p ps h))
 
-pub nothing_changes : NothingChanges
-nothing_changes packed ps h = all_same packed [] ps h
+pub all_kept_is_unchanged : AllKeptIsUnchanged
+all_kept_is_unchanged packed ps h = all_same packed [] ps h

@@ -7,8 +7,8 @@ use Rattle.ts_packet.specs.Fields.{pid_of, pcr, payload_on, unit_start, bytes}
 use Rattle.ts_packet.specs.Duplicates.{repeats, Gapless}
 use Rattle.ts_packet.specs.Numbering.{number_out, last_number, one_past}
 use Rattle.ts_packet.specs.Runs.{seen_after}
-use Rattle.ts_packet.proofs.Cases.{by_test}
-use Rattle.ts_packet.proofs.FieldLemmas.{payload_on-on, payload_on-renumbered, start-renumbered, bytes-renumbered}
+use Rattle.ts_packet.proofs.Cases.{by_test, test-same}
+use Rattle.ts_packet.proofs.FieldLemmas.{payload_on-on, payload_on-renumbered, start-renumbered, bytes-renumbered, below_16}
 use Rattle.ts_packet.proofs.RunLemmas.{onto, gapless_glue, gapless_back}
 use Rattle.unit_stream.specs.Units.{is_original, rest_of_unit, units_of, payloads}
 use Rattle.unit_stream.specs.UnitPackets.{AllOn, GoOn, BeginsAlone}
@@ -16,8 +16,8 @@ use Rattle.splice_laws.specs.Splicing.{SliceUnit}
 use Rattle.output_laws.specs.Output.{Move, Keep, Leave, Put, network, Packing, counter_steps, clock_alone, out_after, Sound, Place, Keeping, Leaving, Between, behind_put, place, KeepsUnitsWhole, has_come, HasComeBefore, AlongMoves, units_out}
 use Rattle.output_laws.specs.Laws.{OutputHasUnits}
 use Rattle.unit_stream.proofs.PackedLemmas.{AllOriginal}
-use Rattle.output_laws.proofs.StepLemmas.{onto_moves, network_onto, out_back, along_past, test-same, kept_on, payload_on-kept, payload_on-clock}
-use Rattle.output_laws.proofs.GaplessLemmas.{below_16, one_below, other_pid, Here, here, kept_repeats, kept_new, put_originals_here}
+use Rattle.output_laws.proofs.StepLemmas.{onto_moves, network_onto, out_back, along_past, kept_on, payload_on-kept, payload_on-clock}
+use Rattle.output_laws.proofs.GaplessLemmas.{one_below, other_pid, Here, here, kept_repeats, kept_new, put_originals_here}
 
 -- what is left of the unit that runs, where it is kept
 abbrev pub rest_at : Place → List ℕ → List ℕ

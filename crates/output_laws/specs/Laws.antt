@@ -30,8 +30,8 @@ OutputCarriesUnits = (packed : Packing) (pid : ℕ) (moves : List Move) → AreS
     × CarriesUnits carried (units_out pid [] moves)
 
 -- with nothing put in and nothing left out every packet goes out as it came
-abbrev pub NothingChanges : Type 0
-NothingChanges = (packed : Packing) (ps : List (List ℕ)) → All (λ (p : List ℕ). length p ≡ 188) ps → output packed (map (λ (p : List ℕ). Keep p) ps) ≡ ps
+abbrev pub AllKeptIsUnchanged : Type 0
+AllKeptIsUnchanged = (packed : Packing) (ps : List (List ℕ)) → All (λ (p : List ℕ). length p ≡ 188) ps → output packed (map (λ (p : List ℕ). Keep p) ps) ≡ ps
 
 -- The first law needs its premise: where one packet is put in before the first payload packet of the PID, its counter is 0, and nothing
 -- says what comes next.

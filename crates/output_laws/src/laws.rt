@@ -1,6 +1,6 @@
 //! What holds of every output of a splice, over the definitions alone.
 
-ghost use Rattle.output_laws.specs.Laws.{OutputStaysGapless, OutputHasUnits, OutputCarriesUnits, NothingChanges, FedIsNeeded};
+ghost use Rattle.output_laws.specs.Laws.{OutputStaysGapless, OutputHasUnits, OutputCarriesUnits, AllKeptIsUnchanged, FedIsNeeded};
 ghost use Rattle.output_laws.specs.Spliced.{SplicedCarries, SplicedHasUnits, MovesAreSpliced, SplicedOthersPass};
 ghost use Rattle.output_laws.specs.Others.{OthersPass};
 
@@ -16,8 +16,8 @@ pub fn output_has_units()
 {}
 
 /// With nothing put in and nothing left out every packet goes out as it came.
-pub fn nothing_changes()
-    ensures { NothingChanges }
+pub fn all_kept_is_unchanged()
+    ensures { AllKeptIsUnchanged }
 {}
 
 /// On any network, the PID's payload packets in the output are those before its first unit start,

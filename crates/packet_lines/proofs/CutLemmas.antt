@@ -9,8 +9,9 @@ use Rattle.ts_packet.specs.declared.reader.ReadFault.TheVariants as read_faults
 use Rattle.unit_cut.proofs.StopLemmas.{cuts_so, stops_so}
 use Rattle.ts_packet.specs.declared.tally.Tally.{Tally}
 use Rattle.ts_packet.specs.declared.sink.PutFault.TheVariants.{Failed}
-use Rattle.ts_packet.specs.Sources.{HasRead, ReadSo, Stalled, Exhausted}
-use Rattle.ts_packet.specs.Transfers.{FallsShort, WentWell, LastMovedNone}
+use Rattle.ts_packet.specs.Sources.{HasRead, Stalled, Exhausted}
+use Rattle.ts_packet.specs.Transfers.{FallsShort}
+use Rattle.ts_packet.proofs.CountLemmas.{by_end}
 use Rattle.packet_lines.specs.Texts.{bytes_told, WrittenLines, FailsToWriteLine}
 use Rattle.packet_lines.specs.CutLines.{LineFails, LineStalls, LinesRunOut, LineBlamed}
 
@@ -30,10 +31,6 @@ module _ (pid from len : ℕ) (input start out : Option (List ℕ)) (broken : Bo
   stops_lines fault h =
       stops_so (λ ps. (broken ≡ false) × WrittenLines out start ps) (WrittenLines out start) (λ ps p f. (broken ≡ true) × (f ≢ Failed) × FailsToWriteLine out start ps p) (LineFails out start)
       (λ ps k. k.1) (λ ps p f k. (k.1, k.2)) fault pid from len input h
-
-by_end : (ended : Bool) (old new : Tally) → ReadSo ended old new → WentWell old new ⊎ LastMovedNone old new
-by_end true old new h = inr h
-by_end false old new h = inl h
 
 -- what a reader of lines did, its device did
 module _ {R D : Type 0} (device : R → D) (remaining : D → Option (List ℕ)) (counts : D → Tally) (leads : R → R → Type 0) (left : R → Option (List ℕ)) (given : R → ℕ) (first now : R) where

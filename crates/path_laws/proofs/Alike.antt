@@ -4,8 +4,8 @@ use Rattle.std.specs.Prelude.{map, filter, find, None, Some}
 use Rattle.std.specs.List.{list_any}
 use Rattle.std.proofs.lemmas.List.{map-append}
 use Rattle.ts_packet.proofs.Cases.{by_test}
-use Rattle.cue_laws.specs.Events.{In}
 use Rattle.event_table.specs.Standing.{with_first}
+use Rattle.ts_packet.specs.Membership.{In}
 
 -- ---- one list
 
@@ -18,10 +18,6 @@ or-turn true true = refl
 or-turn true false = refl
 or-turn false true = refl
 or-turn false false = refl
-
-or-none : (a : Bool) → (a || false) ≡ a
-or-none true = refl
-or-none false = refl
 
 module _ {X : Type 0} where
   pub In-last : (x : X) (xs : List X) → In x (xs ++ x ∷ [])

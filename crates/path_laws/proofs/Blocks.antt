@@ -16,13 +16,14 @@ use Rattle.injector.specs.Asking.{is_start, asked_of}
 use Rattle.injector.specs.Verdicts.{verdict_of}
 use Rattle.injector.specs.Turns.{Turn, Judged, Passed, high, standing}
 use Rattle.injector.specs.Senders.{Sender, cues_of, stands_now, senders}
-use Rattle.cue_laws.specs.Events.{Turn as LineTurn, LineEvent, before, In}
+use Rattle.cue_laws.specs.Events.{Turn as LineTurn, LineEvent, before}
 use Rattle.unit_stream.specs.Clocks.{Rises}
 use Rattle.cue_laws.specs.Events.{Passed as LinePassed}
 use Rattle.cue_laws.specs.Cueing.{Sender as LineSender, Told, Untold, Known, Never, is_news, is_due, is_second, told_on, block_on, cued}
 use Rattle.cue_laws.specs.Cueing.{senders as line_senders, limit as line_limit}
-use Rattle.cue_laws.proofs.Settling.{lt-test}
 use Rattle.cue_laws.proofs.Fair.{IsFair, IsKnown, Fair, stand}
+use Rattle.pes_time.proofs.IntLemmas.{lt-test}
+use Rattle.ts_packet.specs.Membership.{In}
 use Rattle.path_laws.specs.Path.{Item, Sent, sent_onto, path, with_asked, with_verdict, asked_line, IsSteadyHistory}
 use Rattle.path_laws.proofs.Alike.{Alike, In-last, In-front}
 use Rattle.path_laws.proofs.Switch.{view}

@@ -1,10 +1,5 @@
 -- The sections that copies of one packet give.
 use Rattle.std.proofs.Common.{◌≡◌, ℕ, zero, suc, ◌<◌, ◌==◌, Bool, true, false, not, ◌&&◌, refl, sym, ap, ◌∙◌, List, [], ◌∷◌, ◌++◌, cond, arith}
-use Rattle.std.proofs.lemmas.Grind.{common_steps}
-use Rattle.std.specs.Prelude.{nat_eq, Option, Some, None}
-use Rattle.std.specs.Bool.{beq}
-use Rattle.std.specs.Option.{option_eq}
-use lib.Pointwise.{pointwise}
 use Rattle.std.specs.List.{AllByRecursion}
 use Rattle.std.proofs.lemmas.List.{append-nil}
 use Rattle.ts_packet.specs.Fields.{number, payload, unit_start, payload_on, alike, carries_as}
@@ -18,32 +13,16 @@ use Rattle.scte35_codec.specs.Spelling.{cue_bytes, Fits}
 use Rattle.scte35_codec.proofs.GivenLemmas.{cue_given, cue_fits}
 use Rattle.program_laws.specs.Cued.{On}
 use Rattle.cue_laws.specs.Thinning.{times}
+use Rattle.ts_packet.proofs.Cases.{test-same}
+use Rattle.ts_packet.proofs.EqualLemmas.{same-payload, same-flag}
 use Rattle.path_laws.specs.Thinning.{sections_given, sections_of}
 use Rattle.path_laws.proofs.Streams.{times-turn}
 
 -- ---- a packet is like itself
 
-same-byte : (n : ℕ) → nat_eq n n ≡ true
-same-byte n = grind (arith, common_steps)
-
-same-bytes : (bs : List ℕ) → pointwise nat_eq bs bs ≡ true
-same-bytes [] = refl
-same-bytes (b ∷ bs) = rw (same-byte b, same-bytes bs) refl
-
-same-payload : (o : Option (List ℕ)) → option_eq (pointwise nat_eq) o o ≡ true
-same-payload None = refl
-same-payload (Some bs) = same-bytes bs
-
-same-flag : (b : Bool) → beq b b ≡ true
-same-flag true = refl
-same-flag false = refl
-
-same-number : (n : ℕ) → (n == n) ≡ true
-same-number n = grind (arith, common_steps)
-
 alike-self : (q : List ℕ) → alike q q ≡ true
 unfolding alike carries_as
-alike-self q = rw (same-number (number q), same-flag (unit_start q), same-payload (payload q)) refl
+alike-self q = rw (test-same (number q), same-flag (unit_start q), same-payload (payload q)) refl
 
 -- ---- how many sections copies on the spot give
 

@@ -1,5 +1,5 @@
 -- The cues in packets.
-use Rattle.std.proofs.Common.{◌≡◌, ℕ, ◌==◌, true, false, ◌||◌, refl, sym, ap, ◌∙◌, subst, List, [], ◌∷◌, ◌++◌, append_assoc}
+use Rattle.std.proofs.Common.{◌≡◌, ℕ, ◌==◌, true, false, ◌||◌, refl, sym, ap, ◌∙◌, subst, List, [], ◌∷◌, ◌++◌}
 use Rattle.std.specs.Prelude.{map, reverse, All, Option, Some, None}
 use Rattle.std.specs.List.{AllByRecursion}
 use Rattle.std.proofs.lemmas.Bool.{eq-eqb}
@@ -9,7 +9,7 @@ use Rattle.ts_packet.specs.Fields.{on}
 use Rattle.ts_packet.specs.Duplicates.{last_of}
 use Rattle.ts_packet.specs.Numbering.{one_past}
 use Rattle.ts_packet.specs.Runs.{onto}
-use Rattle.ts_packet.proofs.RunLemmas.{onto-append, reverse-cons}
+use Rattle.ts_packet.proofs.RunLemmas.{onto-append, reverse-cons, reverse-onto}
 use Rattle.ts_packet.proofs.Cases.{by_test}
 use Rattle.psi_section.specs.Sections.{sections, sections_after}
 use Rattle.psi_section.specs.Laws.{CanBeGiven}
@@ -119,10 +119,6 @@ cues-back c p past r =
     let out = cued c past in
     read_back_in_turn c.cue_pid (one_past (number_on c.cue_pid out)) (sections_before c p past) out r.cue_pid (one_past-below (number_on c.cue_pid out))
     (given-all (cues_at c p past) (cues-fit c p past r)) (fresh c.cue_pid out out r.cue_pid (cues-meet c past (run-packet c p past r)))
-
-reverse-onto : (out qs : List (List ℕ)) → reverse (onto out qs) ≡ reverse out ++ qs
-reverse-onto out [] = sym (append-nil (reverse out))
-reverse-onto out (q ∷ qs) = reverse-onto (q ∷ out) qs ∙ ap (λ l. l ++ qs) (reverse-cons q out) ∙ append_assoc (reverse out) (q ∷ []) qs
 
 onto-reverse : (out : List (List ℕ)) → onto [] (reverse out) ≡ out
 onto-reverse [] = refl

@@ -1,9 +1,8 @@
 -- Each event that is armed has the program of the event that was accepted for its start.
-use Rattle.std.proofs.Common.{◌≡◌, ℕ, zero, suc, ◌==◌, Bool, true, false, ◌&&◌, ◌⊎◌, inl, inr, refl, sym, ap, ◌∙◌, subst, List, [], ◌∷◌, ◌++◌, arith, if◌then◌else◌}
+use Rattle.std.proofs.Common.{◌≡◌, ℕ, zero, suc, ◌==◌, Bool, true, false, ◌&&◌, ◌⊎◌, inl, inr, refl, sym, ap, ◌∙◌, subst, List, [], ◌∷◌, ◌++◌, if◌then◌else◌}
 use Rattle.std.specs.Prelude.{ℤ, map, filter, Option, None, Some, Result, Ok, Err}
 use Rattle.std.specs.List.{list_any}
 use Rattle.std.specs.Ordering.{int_eq}
-use Rattle.std.proofs.lemmas.Int.{ints}
 use Rattle.ts_packet.proofs.Cases.{by_test}
 use Rattle.pes_time.specs.Line.{place}
 use Rattle.scte35_codec.specs.declared.cue_out.CueOut.{CueOut}
@@ -23,8 +22,11 @@ use Rattle.injector.specs.Verdicts.{time_at, verdict_of}
 use Rattle.injector.specs.Asking.{asked_of as request_of}
 use Rattle.injector.specs.Turns.{Turn, Judged, Passed, high}
 use Rattle.injector.specs.Senders.{Sender, is_none, chosen, tell, with_event, fresh, stands_by, stands_now, events_in, with_judged, with_request, senders}
-use Rattle.cue_laws.specs.Events.{LineEvent, In}
-use Rattle.cue_laws.proofs.Lists.{Distinct, In-map}
+use Rattle.cue_laws.specs.Events.{LineEvent}
+use Rattle.cue_laws.proofs.Lists.{Distinct}
+use Rattle.pes_time.proofs.IntLemmas.{int-same, int-is}
+use Rattle.ts_packet.specs.Membership.{In}
+use Rattle.ts_packet.proofs.MembershipLemmas.{In-map}
 use Rattle.path_laws.specs.Path.{Item, Sent, Packet, high_on, left, armed_on}
 use Rattle.cue_laws.specs.Events.{Turn as LineTurn}
 use Rattle.cue_laws.specs.Thinning.{times}
@@ -42,12 +44,6 @@ program_at (e ∷ es) start = if int_eq e.start start then e.program else progra
 
 abbrev pub Named : (ℤ → ℕ) → List Standing → Type 0
 Named program es = (s : Standing) → In s es → s.program ≡ program s.start
-
-int-same : (a : ℤ) → int_eq a a ≡ true
-int-same a = grind (arith, ints)
-
-int-is : (a b : ℤ) → int_eq a b ≡ true → a ≡ b
-int-is a b is = grind (arith, ints)
 
 -- it is that of one of them
 program-found : (es : List Standing) (s : Standing) → In s es → (t : Standing) × In t es × (t.start ≡ s.start) × (program_at es s.start ≡ t.program)
@@ -171,22 +167,22 @@ push-named program e es new named s i = which (In-pushed s e es i)
     which (inl j) = named s j
     which (inr is) = ap (λ (z : Standing). z.program) is ∙ new ∙ ap (λ (z : Standing). program z.start) (sym is)
 
-start-named : (program : ℤ → ℕ) (line : Option ℤ) (es : List Standing) (e : Standing) → e.program ≡ program e.start → (b c : Bool) (a : Result Armed ArmRefusal) → Named program es
-    → Named program (changed line (if b then Keep else (if c then by_arm_answer e a else Ignore)) es)
-start-named program line es e new true c a named = named
-start-named program line es e new false false a named = named
-start-named program line es e new false true (Ok New) named = push-named program e es new named
-start-named program line es e new false true (Ok Same) named = named
-start-named program line es e new false true (Err f) named = named
+start-named : (program : ℤ → ℕ) (latest : Option ℤ) (es : List Standing) (e : Standing) → e.program ≡ program e.start → (b c : Bool) (a : Result Armed ArmRefusal) → Named program es
+    → Named program (changed latest (if b then Keep else (if c then by_arm_answer e a else Ignore)) es)
+start-named program latest es e new true c a named = named
+start-named program latest es e new false false a named = named
+start-named program latest es e new false true (Ok New) named = push-named program e es new named
+start-named program latest es e new false true (Ok Same) named = named
+start-named program latest es e new false true (Err f) named = named
 
-end-named : (program : ℤ → ℕ) (line : Option ℤ) (es : List Standing) (id : ℕ) (time : ℤ) (a : Result Armed ShortenRefusal) → Named program es → Named program (changed line (by_shorten_answer id time a) es)
-end-named program line es id time (Ok New) named = first-named program (is_of line id) (ending_at time) (λ s. (refl, refl)) es named
-end-named program line es id time (Ok Same) named = named
-end-named program line es id time (Err f) named = named
+end-named : (program : ℤ → ℕ) (latest : Option ℤ) (es : List Standing) (id : ℕ) (time : ℤ) (a : Result Armed ShortenRefusal) → Named program es → Named program (changed latest (by_shorten_answer id time a) es)
+end-named program latest es id time (Ok New) named = first-named program (is_of latest id) (ending_at time) (λ s. (refl, refl)) es named
+end-named program latest es id time (Ok Same) named = named
+end-named program latest es id time (Err f) named = named
 
-cancel-named : (program : ℤ → ℕ) (line : Option ℤ) (es : List Standing) (id : ℕ) (a : Result (Unit {0}) CancelRefusal) → Named program es → Named program (changed line (by_cancel_answer id a) es)
-cancel-named program line es id (Ok u) named = first-named program (is_of line id) cancelled_one (λ s. (refl, refl)) es named
-cancel-named program line es id (Err f) named = named
+cancel-named : (program : ℤ → ℕ) (latest : Option ℤ) (es : List Standing) (id : ℕ) (a : Result (Unit {0}) CancelRefusal) → Named program es → Named program (changed latest (by_cancel_answer id a) es)
+cancel-named program latest es id (Ok u) named = first-named program (is_of latest id) cancelled_one (λ s. (refl, refl)) es named
+cancel-named program latest es id (Err f) named = named
 
 cue-named : (program : ℤ → ℕ) (items : List Item) (cue : CueOut) → AreNear (Sent cue ∷ items) → IsNamed program (high_on items) cue → Named program (armed_on items) → Named program (armed_on (Sent cue ∷ items))
 cue-named program items (Start event time duration told avail expected avails) near new named =

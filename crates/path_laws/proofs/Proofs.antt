@@ -10,7 +10,7 @@ use Rattle.injector.specs.Verdicts.{verdict_of}
 use Rattle.injector.specs.Turns.{Turn, Judged, Passed, high, standing, events}
 use Rattle.injector.specs.Senders.{Sender, senders, events_in}
 use Rattle.injector.proofs.SenderLemmas.{senders-events}
-use Rattle.cue_laws.specs.Events.{Turn as LineTurn, LineEvent, Passed as LinePassed, In, upon}
+use Rattle.cue_laws.specs.Events.{Turn as LineTurn, LineEvent, Passed as LinePassed, upon}
 use Rattle.cue_laws.specs.Events.{events as line_events}
 use Rattle.cue_laws.specs.Thinning.{thinned}
 use Rattle.cue_laws.specs.Cueing.{IsRun, cued}
@@ -18,6 +18,7 @@ use Rattle.cue_laws.specs.Cueing.{senders as line_senders}
 use Rattle.cue_laws.specs.Laws.{KeepsEnoughOf}
 use Rattle.cue_laws.proofs.Path.{cue_path, cue_path_at_the_end}
 use Rattle.cue_laws.proofs.Fair.{stand}
+use Rattle.ts_packet.specs.Membership.{In}
 use Rattle.path_laws.specs.Path.{Item, path, line, left, armed_on, line_asked, with_verdict, with_asked, asked_line, IsSteadyHistory}
 use Rattle.path_laws.specs.Laws.{RequestsAreARun, CuesTellTheLine, CuePathOfEvents, CuePathOfEventsAtTheEnd}
 use Rattle.path_laws.proofs.Alike.{Alike, alike-in, alike-back}

@@ -35,7 +35,7 @@ end_tells h x fits close standing =
     ∙ ap (end_change (Some h) standing x.event.id) (placed h (end_of x.event) close)
 
 pub cancel_tells : CancelTells
-cancel_tells line x fits standing = ap (λ r. change line standing (asked_of r)) (cue_back (cancel_cue x) fits).1
+cancel_tells latest x fits standing = ap (λ r. change latest standing (asked_of r)) (cue_back (cancel_cue x) fits).1
 
 -- ---- paths in reach
 

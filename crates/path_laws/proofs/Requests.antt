@@ -13,14 +13,15 @@ use Rattle.injector.specs.Verdicts.{time_at, start_event, start_verdict_at, end_
 use Rattle.injector.specs.Turns.{Turn, Judged, Passed, high, standing}
 use Rattle.injector.specs.Senders.{Sender, with_event, stands_now, stands_by, events_in, with_request, with_judged, senders}
 use Rattle.injector.proofs.SenderLemmas.{standing-events, filter-events}
-use Rattle.cue_laws.specs.Events.{Turn as LineTurn, Started, Cancelled, Ended, LineEvent, before, events, can_start, can_cancel, can_end, cancel_by, end_by, In}
+use Rattle.cue_laws.specs.Events.{Turn as LineTurn, Started, Cancelled, Ended, LineEvent, before, events, can_start, can_cancel, can_end, cancel_by, end_by}
 use Rattle.unit_stream.specs.Clocks.{Rises}
 use Rattle.cue_laws.specs.Events.{high as line_high, is_of as line_is_of}
 use Rattle.cue_laws.specs.Cueing.{Sender as LineSender, IsRun, change}
 use Rattle.cue_laws.specs.Cueing.{senders as line_senders, tell as line_tell}
 use Rattle.cue_laws.proofs.Fair.{IsFair, Fair, stand, event_of}
-use Rattle.cue_laws.proofs.Lists.{In-map}
 use Rattle.cue_laws.proofs.Orders.{Orderly}
+use Rattle.ts_packet.specs.Membership.{In}
+use Rattle.ts_packet.proofs.MembershipLemmas.{In-map}
 use Rattle.path_laws.specs.Path.{FieldsFit, FitsIn, IsSteadyHistory, with_verdict, with_asked, asked_line}
 use Rattle.path_laws.proofs.Alike.{Alike, AtMostOnce, alike-in, find-some}
 use Rattle.path_laws.proofs.Switch.{view, IsView, find-filter, is_of-view, at-most-once, the-one, used-is, meets-is, full-is, some-is}

@@ -10,17 +10,20 @@ use Rattle.ts_packet.proofs.Cases.{by_test}
 use Rattle.event_table.specs.Standing.{Standing, end_of, cancelled_one, ending_at, with_first}
 use Rattle.injector.specs.Senders.{Sender, is_none, is_ended, news, limit, is_repeated, chosen, tell, told_now, with_event, stands_by, events_in}
 use Rattle.injector.proofs.RestLemmas.{some-current}
-use Rattle.cue_laws.specs.Events.{LineEvent, before, can_cancel, can_end, cancel_by, end_by, In}
+use Rattle.cue_laws.specs.Events.{LineEvent, before, can_cancel, can_end, cancel_by, end_by}
 use Rattle.unit_stream.specs.Clocks.{Rises}
 use Rattle.cue_laws.specs.Events.{is_of as line_is_of}
 use Rattle.cue_laws.specs.Cueing.{Sender as LineSender, Told, Untold, Known, Never, is_cancel_new, or_else, is_news, is_due, is_sent, change}
 use Rattle.cue_laws.specs.Cueing.{limit as line_limit, tell as line_tell, told_now as line_told_now}
-use Rattle.cue_laws.proofs.Settling.{ge-test, can_end-parts}
+use Rattle.cue_laws.proofs.Settling.{can_end-parts}
 use Rattle.cue_laws.proofs.Lost.{equal_events}
 use Rattle.cue_laws.proofs.Fair.{IsKnown, IsFair, Fair, event_of}
 use Rattle.cue_laws.proofs.Orders.{or-right}
 use Rattle.cue_laws.proofs.Block.{end-off}
 use Rattle.cue_laws.proofs.Tell.{or_else-false, same_flag}
+use Rattle.std.proofs.Math.Bool.{and-false}
+use Rattle.pes_time.proofs.IntLemmas.{ge-test}
+use Rattle.ts_packet.specs.Membership.{In}
 use Rattle.path_laws.proofs.Alike.{Alike, AtMostOnce, alike-map, alike-first}
 use Rattle.path_laws.proofs.Switch.{view, IsView, cancel-off}
 use Rattle.event_table.proofs.EventLemmas.{ending-end}
@@ -106,10 +109,6 @@ limit-by false d start end = refl
 
 pub limit-is : (e : Standing) → limit e ≡ line_limit (view e)
 limit-is e = limit-by e.cancelled (is_ended e) e.start (end_of e) ∙ ap (λ b. cond e.cancelled e.start (cond b (end_of e) e.start)) (sym (ended-is e))
-
-and-false : (b : Bool) → (b && false) ≡ false
-and-false true = refl
-and-false false = refl
 
 pub repeated-is : (h : ℤ) (later : Option ℤ) (e : Standing) (last : Option ℤ) → is_repeated e last (Some h) later ≡ is_due (Some h) later (view e) last
 repeated-is h later e None = sym (and-false (int_lt h (line_limit (view e))))

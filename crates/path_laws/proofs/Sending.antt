@@ -13,8 +13,8 @@ use Rattle.injector.specs.Senders.{Sender, is_none, is_ended, news, current, is_
 use Rattle.cue_laws.specs.Events.{Turn as LineTurn, Started, Cancelled, Ended, LineEvent, before}
 use Rattle.cue_laws.specs.Cueing.{Sender as LineSender, Told, Untold, Known, Never, is_news, is_due, end_on, cancel_on, repeat_on, told_on}
 use Rattle.cue_laws.specs.Cueing.{limit as line_limit, current as line_current}
-use Rattle.cue_laws.proofs.Settling.{lt-test}
 use Rattle.cue_laws.proofs.Fair.{IsFair, IsKnown}
+use Rattle.pes_time.proofs.IntLemmas.{lt-test}
 use Rattle.path_laws.specs.Telling.{IsClose}
 use Rattle.path_laws.specs.Path.{Item, Sent, Packet, high_on, sent_onto, line_of, line}
 use Rattle.path_laws.proofs.Switch.{view}

@@ -29,7 +29,7 @@ use Rattle.program_laws.proofs.WritingLemmas.{off_other}
 use Rattle.program_laws.proofs.HeadLemmas.{nothing_behind}
 use Rattle.program_laws.proofs.UnitLemmas.{others_are_no_units}
 use Rattle.program_laws.proofs.FaultLemmas.{MapSound, all_sound}
-use Rattle.program_laws.proofs.CuedLemmas.{cued_stream_reads, takes_within}
+use Rattle.program_laws.proofs.CuedLemmas.{cued_stream_reads, takes_within, Apart, apart_on}
 use Rattle.armed_events.specs.Arming.{Heard, with_section, with_sections, heard}
 use Rattle.injector.specs.Steps.{Step, Message, Packet, packets_in, turns_in}
 use Rattle.injector.proofs.FeedLemmas.{turns-high}
@@ -65,9 +65,9 @@ heard-sent items (cue ∷ cues) = heard-sent (Sent cue ∷ items) cues
 
 -- ---- the reader of a PID
 
-sections-more : (line : Option ℤ) (ss ts : List (List ℕ)) (h : Heard) → with_sections line (ss ++ ts) h ≡ with_sections line ts (with_sections line ss h)
-sections-more line [] ts h = refl
-sections-more line (s ∷ ss) ts h = sections-more line ss ts (with_section line s h)
+sections-more : (latest : Option ℤ) (ss ts : List (List ℕ)) (h : Heard) → with_sections latest (ss ++ ts) h ≡ with_sections latest ts (with_sections latest ss h)
+sections-more latest [] ts h = refl
+sections-more latest (s ∷ ss) ts h = sections-more latest ss ts (with_section latest s h)
 
 -- the greatest time is this one at each of some packets
 abbrev Steady : (List (List ℕ) → Option ℤ) → Option ℤ → List (List ℕ) → List (List ℕ) → Type 0
@@ -88,10 +88,6 @@ heard-others pid greatest out (q ∷ qs) off =
     heard-others pid greatest (q ∷ out) qs off.1 ∙ ap (λ ss. with_sections (greatest out) ss (heard pid greatest out)) (given_off pid q out off.0)
 
 -- ---- packets of the cue PID change no time
-
--- the cue PID is none of these
-abbrev Apart : ℕ → List ℕ → Type 0
-Apart a pids = AllByRecursion (λ pid. a ≡ pid → ⊥) pids
 
 apart-by : (cue : ℕ) (ss : List Stream) → list_any (is_pid (Some cue)) (pids_in ss) ≡ false → Apart cue (pids_in (switched_of ss))
 apart-by cue [] k = tt
@@ -119,10 +115,6 @@ first-sound c pid (t ∷ ts) h = which t.program_map (first_map ts) h.0 (first-s
 apart-cue : (c : Config) (past : List (List ℕ)) (o : Option Listed) → first_fault (writing_cues c) past ≡ None → listed (Some c.program) past ≡ o → Apart c.cue_pid (pids_of (program_of (Some c.program) past))
 apart-cue c past None ok h = let n = no_tables (Some c.program) past h in rw n tt
 apart-cue c past (Some l) ok h = apart-map c l.pid (known_map (Some c.program) past) (first-sound c l.pid (all_tables (Some c.program) past) (all_sound (writing_cues c) past l ok h))
-
-apart-on : (cue : ℕ) (pids : List ℕ) → Apart cue pids → (q : List ℕ) → on cue q ≡ true → on_one pids q ≡ false
-apart-on cue [] h q y = refl
-apart-on cue (pid ∷ pids) h q y = let n = off_other cue pid q h.0 y in ap (λ b. b || on_one pids q) n ∙ apart-on cue pids h.1 q y
 
 none-high : (past : List (List ℕ)) → unit_high [] past ≡ None
 none-high [] = refl
@@ -173,7 +165,7 @@ module _ (c : Config) (q : List ℕ) (out : List (List ℕ)) (not_pat : c.cue_pi
           ap (λ b. filter (on_one (pids_of (program_of (Some c.program) out))) (cond (is_some b) (q ∷ behind_head (Some c.program) out) [])) is
           ∙ ap (filter (on_one (pids_of (program_of (Some c.program) out)))) (sym (nothing_behind (Some c.program) out is))
       by (Some m) is =
-          let off = apart-on c.cue_pid (pids_of (program_of (Some c.program) out)) calm.apart q y in
+          let off = apart_on c.cue_pid (pids_of (program_of (Some c.program) out)) calm.apart q y in
           ap (λ b. filter (on_one (pids_of (program_of (Some c.program) out))) (cond (is_some b) (q ∷ behind_head (Some c.program) out) [])) is
           ∙ ap (λ b. cond b (q ∷ filter (on_one (pids_of (program_of (Some c.program) out))) (behind_head (Some c.program) out)) (filter (on_one (pids_of (program_of (Some c.program) out))) (behind_head (Some c.program) out))) off
 

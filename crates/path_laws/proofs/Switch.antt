@@ -13,12 +13,15 @@ use Rattle.event_table.specs.declared.table.ArmRefusal.TheVariants.{InUse, Full,
 use Rattle.event_table.specs.declared.table.ShortenRefusal.TheVariants.{BadEnd}
 use Rattle.armed_events.specs.Arming.{is_fresh, Keep, Ignore, by_arm_answer, by_shorten_answer, by_cancel_answer, start_change, end_change, cancel_change, standing_at, changed}
 use Rattle.event_table.proofs.EventLemmas.{ending-end}
-use Rattle.cue_laws.specs.Events.{Turn, Started, Cancelled, Ended, Passed, LineEvent, high, before, events, taken, NeverFalls, can_start, can_cancel, can_end, cancel_by, end_by, In, count, bars}
+use Rattle.cue_laws.specs.Events.{Turn, Started, Cancelled, Ended, Passed, LineEvent, high, before, events, taken, NeverFalls, can_start, can_cancel, can_end, cancel_by, end_by, count, bars}
 use Rattle.cue_laws.specs.Events.{stands as line_stands, is_of as line_is_of}
-use Rattle.cue_laws.proofs.Settling.{lt-test, can_start-parts, can_end-parts}
-use Rattle.cue_laws.proofs.Lists.{Distinct, any-none}
+use Rattle.cue_laws.proofs.Settling.{can_start-parts, can_end-parts}
+use Rattle.cue_laws.proofs.Lists.{Distinct}
 use Rattle.cue_laws.proofs.Orders.{Orderly, orderly-none, orderly-map, orderly-fresh, orderly-passed, cancel-shrinks, end-shrinks, is_of-parts, or-neither, or-right}
 use Rattle.cue_laws.proofs.Block.{end-off}
+use Rattle.pes_time.proofs.IntLemmas.{lt-test}
+use Rattle.ts_packet.specs.Membership.{In}
+use Rattle.ts_packet.proofs.MembershipLemmas.{any-none}
 use Rattle.path_laws.proofs.Alike.{Alike, AtMostOnce, alike-in, alike-any, alike-count, alike-first, find-none, find-some, map-off, map-same}
 
 -- the event as the definitions on the line have it

@@ -191,7 +191,7 @@ map-times : (k : ℕ) (cue : CueOut) (cues : List CueOut) → map cue_bytes (tim
 map-times zero cue cues = refl
 map-times (suc k) cue cues = ap (λ l. cue_bytes cue ∷ l) (map-times k cue cues)
 
-next-below : (n : ℕ) → (n + 1) % 16 < 16
+pub next-below : (n : ℕ) → (n + 1) % 16 < 16
 next-below n = omega arith
 
 onto-times : (k : ℕ) (q : List ℕ) (out rest : List (List ℕ)) → onto out (times k q rest) ≡ onto (times k q out) rest

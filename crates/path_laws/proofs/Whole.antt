@@ -23,9 +23,9 @@ use Rattle.program_laws.proofs.PacketLemmas.{one_past-below}
 use Rattle.program_laws.proofs.WritingLemmas.{carry_off}
 use Rattle.injector.specs.Turns.{Turn, Judged, Passed, events}
 use Rattle.injector.specs.Steps.{Step, Message, Packet, packets_in, turns_in, sections_before, cue_packets, cued}
-use Rattle.cue_laws.specs.Events.{In}
 use Rattle.cue_laws.specs.Laws.{KeepsEnoughOf}
 use Rattle.cue_laws.proofs.Enough.{nothing_lost_is_enough}
+use Rattle.ts_packet.specs.Membership.{In}
 use Rattle.path_laws.specs.Path.{Item, Sent, left, armed_on, asked_line, IsSteadyHistory}
 use Rattle.injector.specs.Laws.{own_fronts}
 use Rattle.injector.proofs.CuedLemmas.{carried-on}

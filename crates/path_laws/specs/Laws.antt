@@ -1,10 +1,11 @@
 -- The laws of the cue path.
 use Rattle.std.specs.Prelude.{◌≡◌, ◌↔◌, ℕ, List, ◌∷◌, ◌++◌, ℤ, Option, false}
 use Rattle.event_table.specs.Standing.{Standing}
-use Rattle.cue_laws.specs.Events.{Turn as LineTurn, before, In}
+use Rattle.cue_laws.specs.Events.{Turn as LineTurn, before}
 use Rattle.cue_laws.specs.Cueing.{IsRun, cued}
 use Rattle.cue_laws.specs.Laws.{KeepsEnoughOf}
 use Rattle.injector.specs.Turns.{Turn, Passed, events}
+use Rattle.ts_packet.specs.Membership.{In}
 use Rattle.path_laws.specs.Path.{path, line, left, armed_on, asked_line, IsSteadyHistory}
 
 -- THE REQUESTS ARE A RUN: each that an injector accepts may be accepted by the definitions on the line

@@ -16,9 +16,10 @@ use Rattle.injector.specs.Turns.{events}
 use Rattle.injector.specs.Laws.{own_fronts}
 use Rattle.injector.specs.Senders.{cues_before}
 use Rattle.injector.specs.Steps.{Step, Message, Packet, packets_in, turns_in, sections_before, cued}
-use Rattle.cue_laws.specs.Events.{Turn as LineTurn, before, In}
+use Rattle.cue_laws.specs.Events.{Turn as LineTurn, before}
 use Rattle.cue_laws.specs.Thinning.{times}
 use Rattle.cue_laws.specs.Laws.{KeepsEnoughOf}
+use Rattle.ts_packet.specs.Membership.{In}
 use Rattle.path_laws.specs.Path.{Item, Sent, line, left, path, heard_on, asked_line, RequestFits}
 use Rattle.program_follower.specs.Purposes.{writing_cues}
 use Rattle.program_follower.specs.Following.{high_of}

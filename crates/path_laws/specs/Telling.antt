@@ -28,5 +28,5 @@ EndTells = (h : ℤ) (x : Sender) → Fits (end_cue x) → IsClose h (end_of x.e
 
 -- A CANCEL is taken as the cancel of its event
 abbrev pub CancelTells : Type 0
-CancelTells = (line : Option ℤ) (x : Sender) → Fits (cancel_cue x) → (standing : List Standing) →
-    change line standing (asked_of (cue_of (cue_bytes (cancel_cue x)))) ≡ cancel_change line standing x.event.id
+CancelTells = (latest : Option ℤ) (x : Sender) → Fits (cancel_cue x) → (standing : List Standing) →
+    change latest standing (asked_of (cue_of (cue_bytes (cancel_cue x)))) ≡ cancel_change latest standing x.event.id

@@ -12,9 +12,10 @@ use Rattle.event_table.specs.Standing.{Standing}
 use Rattle.armed_events.specs.Arming.{armed}
 use Rattle.injector.specs.Turns.{events}
 use Rattle.injector.specs.Steps.{Step, Message, Packet, packets_in, turns_in, cue_packets, cued}
-use Rattle.cue_laws.specs.Events.{Turn as LineTurn, before, In}
+use Rattle.cue_laws.specs.Events.{Turn as LineTurn, before}
 use Rattle.cue_laws.specs.Laws.{KeepsEnoughOf}
 use Rattle.cue_laws.specs.Thinning.{times, TellsAgain, LeavesOutRepeats}
+use Rattle.ts_packet.specs.Membership.{In}
 use Rattle.path_laws.specs.Path.{Item, Sent, Packet as Passing, line, asked_line}
 use Rattle.path_laws.specs.Packets.{IsRunOf, cues_at, sent_in, stream, BringsCues}
 

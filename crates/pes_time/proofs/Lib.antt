@@ -3,3 +3,4 @@ pub mod ReadLemmas
 pub mod StampLemmas
 pub mod UndecidedLemmas
 pub mod WriteLemmas
+pub mod IntLemmas

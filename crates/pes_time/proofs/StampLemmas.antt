@@ -4,28 +4,17 @@ use Rattle.std.specs.Prelude.{IfSome}
 use Rattle.std.proofs.lemmas.Grind.{common_steps}
 use Rattle.std.proofs.lemmas.Bool.Decides.{nat_tests}
 use Rattle.std.proofs.Math.ListN.{get_or-append}
+use Rattle.std.proofs.lemmas.Bool.{or_parts}
+use Rattle.std.proofs.Math.Bool.{or-true}
 use Rattle.pes_time.specs.Stamps.{shows, is_headless, other_start_code, stamp_count, stamp_at, is_untimed, is_split, head_of, stamp_of}
 use Rattle.pes_time.specs.declared.head.PesHead.TheVariants.{Timed, Untimed}
-
-pub or-true : (a : Bool) → (a || true) ≡ true
-or-true true = refl
-or-true false = refl
-
-pub or-false-left : (a b : Bool) → (a || b) ≡ false → a ≡ false
-or-false-left true b h = h
-or-false-left false b h = refl
-
-pub or-false-right : (a b : Bool) → (a || b) ≡ false → b ≡ false
-or-false-right true true h = h
-or-false-right true false h = refl
-or-false-right false b h = h
 
 -- the flags of a payload that is not untimed announce a stamp
 pub announces : (payload : List ℕ) → is_untimed payload ≡ false → 8 ≤ length payload → 2 ≤ get_or payload 7 0 / 64
 unfolding is_untimed
 announces payload h long =
     let flags : shows payload 7 (λ b. nat_lt (b / 64) 2) ≡ false =
-    or-false-right (other_start_code payload || shows payload 3 is_headless || shows payload 6 (λ b. not (b / 64 == 2))) _ (or-false-left _ (shows payload 8 (λ b. nat_lt b (5 * stamp_count payload))) h) in
+    (or_parts (other_start_code payload || shows payload 3 is_headless || shows payload 6 (λ b. not (b / 64 == 2))) _ ((or_parts _ (shows payload 8 (λ b. nat_lt b (5 * stamp_count payload))) h).0)).1 in
     grind (arith, common_steps, nat_tests)
 
 -- before byte 14 no stamp is whole

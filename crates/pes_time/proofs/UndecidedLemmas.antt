@@ -1,13 +1,12 @@
 -- A split payload goes on in two ways that are read differently: with the rest of a header whose stamps end in 0, or in 1.
 use Rattle.std.proofs.Common.{◌≡◌, ◌≢◌, ℕ, ◌+◌, ◌-◌, ◌*◌, ◌/◌, ◌<◌, ◌≤◌, ◌==◌, inl, inr, Bool, true, false, not, ◌||◌, nat_lt, List, [], ◌∷◌, length, get_or, drop, ◌++◌, refl, sym, ◌∙◌, ap, arith, length-append, length-drop}
-use Rattle.std.proofs.lemmas.Bool.{cases_order, or_from}
+use Rattle.std.proofs.lemmas.Bool.{cases_order, or_from, or_parts}
 use Rattle.std.proofs.lemmas.Bool.Decides.{nat_tests}
 use Rattle.std.proofs.lemmas.List.{get_or-drop}
 use Rattle.std.proofs.Math.Bool.{and-false}
 use Rattle.std.proofs.Math.ListN.{get_or-append}
 use Rattle.std.proofs.Math.Seq.{get_or-append_right}
 use Rattle.pes_time.specs.Stamps.{shows, is_headless, is_untimed, is_split, stamp_count, stamp_at, head_of, Undecided}
-use Rattle.pes_time.proofs.StampLemmas.{or-false-left, or-false-right}
 use Rattle.pes_time.proofs.ReadLemmas.{read-single, read-double}
 
 -- a whole header with room for both stamps
@@ -57,19 +56,19 @@ silent a h =
     let t6 = shows a 6 (λ b. not (b / 64 == 2)) in
     let t7 = shows a 7 (λ b. nat_lt (b / 64) 2) in
     let t8 = shows a 8 (λ b. nat_lt b (5 * stamp_count a)) in
-    let h7 = or-false-left (t0 || t1 || t2 || t3 || t6 || t7) t8 h in
-    let h6 = or-false-left (t0 || t1 || t2 || t3 || t6) t7 h7 in
-    let h3 = or-false-left (t0 || t1 || t2 || t3) t6 h6 in
-    let h2 = or-false-left (t0 || t1 || t2) t3 h3 in
-    let h1 = or-false-left (t0 || t1) t2 h2 in
+    let h7 = (or_parts (t0 || t1 || t2 || t3 || t6 || t7) t8 h).0 in
+    let h6 = (or_parts (t0 || t1 || t2 || t3 || t6) t7 h7).0 in
+    let h3 = (or_parts (t0 || t1 || t2 || t3) t6 h6).0 in
+    let h2 = (or_parts (t0 || t1 || t2) t3 h3).0 in
+    let h1 = (or_parts (t0 || t1) t2 h2).0 in
     record {
-      s0 = or-false-left t0 t1 h1;
-      s1 = or-false-right t0 t1 h1;
-      s2 = or-false-right (t0 || t1) t2 h2;
-      s3 = or-false-right (t0 || t1 || t2) t3 h3;
-      s6 = or-false-right (t0 || t1 || t2 || t3) t6 h6;
-      s7 = or-false-right (t0 || t1 || t2 || t3 || t6) t7 h7;
-      s8 = or-false-right (t0 || t1 || t2 || t3 || t6 || t7) t8 h;
+      s0 = (or_parts t0 t1 h1).0;
+      s1 = (or_parts t0 t1 h1).1;
+      s2 = (or_parts (t0 || t1) t2 h2).1;
+      s3 = (or_parts (t0 || t1 || t2) t3 h3).1;
+      s6 = (or_parts (t0 || t1 || t2 || t3) t6 h6).1;
+      s7 = (or_parts (t0 || t1 || t2 || t3 || t6) t7 h7).1;
+      s8 = (or_parts (t0 || t1 || t2 || t3 || t6 || t7) t8 h).1;
     }
 
 silent-untimed : (a : List ℕ) → Silent a → is_untimed a ≡ false

@@ -25,12 +25,13 @@ use Rattle.splice_plans.specs.Slicing.{slice_packets}
 use Rattle.splice_plans.specs.Turning.{plan_turned}
 use Rattle.splice_plans.specs.Parts.{beside, all_turned, closes_in, put_pair, pairs_by_start, closing_pairs, delta_in, packets_in, pair_packets, rest_packets}
 use Rattle.splice_plans.proofs.SliceLemmas.{put_in-append}
+use Rattle.splice_plans.proofs.KnownLemmas.{contained}
 use Rattle.plan_laws.proofs.StageLemmas.{none-closed, closed-stays}
 use Rattle.plan_laws.proofs.UnstampedLemmas.{unstamped-closed}
 use Rattle.plan_laws.proofs.DueLemmas.{closing-none, forgotten-closing}
 use Rattle.plan_laws.proofs.PlayedLemmas.{pushed, put_on, pushed-append, out-append, as_played_units, rest_filed, rest-packets, rest-steps}
 use Rattle.plan_laws.proofs.EventLemmas.{closing-is}
-use Rattle.plan_laws.proofs.PlanLemmas.{switched, ads, known, sent_at, flag_closed, IsOf, contained, falls, slice-is, now-end, shut-flags, none-begins, turned-there, closes-is}
+use Rattle.plan_laws.proofs.PlanLemmas.{switched, ads, known, sent_at, flag_closed, IsOf, falls, slice-is, now-end, shut-flags, none-begins, turned-there, closes-is}
 use Rattle.plan_laws.proofs.RunningLemmas.{TellsOf, first}
 use Rattle.plan_laws.proofs.OrderLemmas.{IsIdle, left-by-start, all-sorted, all-taken, none-map}
 

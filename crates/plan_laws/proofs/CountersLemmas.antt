@@ -19,11 +19,13 @@ use Rattle.splice_plans.specs.Adverts.{packed_units}
 use Rattle.splice_plans.specs.Parts.{beside, ran_plans, running_packets}
 use Rattle.splice_plans.specs.Fronts.{running_of}
 use Rattle.splice_plans.specs.Known.{AreSeparate}
+use Rattle.program_follower.specs.Faults.{pids_in}
+use Rattle.ts_packet.proofs.FieldLemmas.{among-get}
 use Rattle.plan_laws.proofs.PartLemmas.{small-number}
 use Rattle.plan_laws.proofs.PlayedLemmas.{pushed, put_on, pushed-append, steps-other}
 use Rattle.plan_laws.proofs.RunningLemmas.{AllOf, all-run}
 use Rattle.plan_laws.proofs.PacketLemmas.{all-found}
-use Rattle.plan_laws.proofs.StandingLemmas.{pids_in, once-place, among-get}
+use Rattle.plan_laws.proofs.StandingLemmas.{once-place}
 use Rattle.plan_laws.proofs.RunLemmas.{told, apart}
 use Rattle.plan_laws.proofs.StreamsLemmas.{ads, es, turned, plan, put, puts-same, Counted}
 

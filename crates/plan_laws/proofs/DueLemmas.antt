@@ -2,7 +2,7 @@
 use Rattle.std.proofs.Common.{◌≡◌, ℕ, List, [], ◌∷◌, Bool, true, false, not, ◌&&◌, ◌||◌, ◌⊎◌, inl, inr, refl, sym, ap, ◌∙◌, Option, None, Some, arith, if◌then◌else◌, length, drop}
 use Rattle.std.specs.Prelude.{ℤ, pos, ◌+ℤ◌, int_lt, is_some}
 use Rattle.std.proofs.lemmas.Int.{ints}
-use Rattle.std.proofs.lemmas.Bool.{true≢false, or_left}
+use Rattle.std.proofs.lemmas.Bool.{true≢false, or_left, or_parts}
 use Rattle.std.proofs.Math.Seq.{drop-length}
 use lib.Signed.{le_z, lt_z}
 use Rattle.ts_packet.proofs.Cases.{by_test}
@@ -17,10 +17,6 @@ use Rattle.splice_plans.specs.Playing.{Adverts, Turns, is_played, as_played, up_
 use Rattle.splice_plans.specs.Laws.{EndFalls, EndsFall}
 use Rattle.plan_laws.proofs.StageLemmas.{begun-some, none-begun, begun-stays, closed-stays, lt-same}
 use Rattle.plan_laws.proofs.ToldLemmas.{end_if}
-
-or-first : (a b : Bool) → (a || b) ≡ false → a ≡ false
-or-first true b h = absurd (true≢false h)
-or-first false b h = refl
 
 pick : (b : Bool) (us vs : List SliceUnit) → us ≡ vs → (if b then vs else us) ≡ vs
 pick true us vs h = refl
@@ -89,7 +85,7 @@ module _ (turns : Turns) (r : TimedStream) (k : IsStream r) (x : PlayedEvent) (k
   pub all-out : (past : List (List ℕ)) (stop : ℤ) → begun_now r x known past ≡ true → closed_now r x known past ≡ false → known past ≡ Some stop → at_or_past stop (r.high past) ≡ true → sent past ≡ up_to_end stop units
   all-out [] stop b c e h = absurd (true≢false (sym b))
   all-out (p ∷ past) stop b c e h = by_test (turns p past)
-      (λ t. goes-on (of-begun p past) (sent past) (turns p past) (closed_now r x known past) (begun_now r x known (p ∷ past)) t (or-first (closed_now r x known past) _ c) b ∙ of-reached p past stop e h)
+      (λ t. goes-on (of-begun p past) (sent past) (turns p past) (closed_now r x known past) (begun_now r x known (p ∷ past)) t ((or_parts (closed_now r x known past) _ c).0) b ∙ of-reached p past stop e h)
       (λ t.
       let g = unturned p past t in
       let was : begun_now r x known past ≡ true = sym (begun-stays r x known p past g) ∙ b in

@@ -2,7 +2,7 @@
 use Rattle.std.proofs.Common.{◌≡◌, ℕ, ◌+◌, List, [], ◌∷◌, Bool, true, false, ◌||◌, refl, sym, ap, ◌∙◌, Option, None, Some, arith, if◌then◌else◌, length, drop, length-append}
 use Rattle.std.specs.Prelude.{ℤ, pos, ◌+ℤ◌, ◌-ℤ◌, int_lt, unsigned_abs}
 use Rattle.std.proofs.lemmas.Int.{ints}
-use Rattle.std.proofs.lemmas.Bool.{true≢false}
+use Rattle.std.proofs.lemmas.Bool.{true≢false, or_parts}
 use Rattle.ts_packet.proofs.Cases.{by_test}
 use Rattle.event_table.specs.Standing.{Standing, end_of}
 use Rattle.ad_library.specs.Advertisements.{Advertisement}
@@ -10,22 +10,19 @@ use Rattle.splice_laws.specs.Splicing.{PlayedEvent, SliceUnit, TimedStream}
 use Rattle.splice_laws.specs.Laws.{IsStream}
 use Rattle.splice_laws.specs.Settled.{IsAhead, NeverPassesHigh, begun_now, closed_now}
 use Rattle.splice_laws.specs.Ends.{up_to_end, longest_front}
-use Rattle.splice_laws.proofs.EndLemmas.{run_of, longest-run, IsFront, drop-front}
+use Rattle.splice_laws.proofs.EndLemmas.{run_of, longest-run, IsFront}
 use Rattle.splice_plans.specs.Playing.{Turns, as_played, up_to_known, sent_of_begun, sent_known, due_at, closing_at, running_at}
 use Rattle.splice_plans.specs.Laws.{EndsFall}
 use Rattle.splice_plans.specs.Parts.{reached_by}
 use Rattle.splice_plans.proofs.SentLemmas.{sent-before, sent-grows, due-rest}
 use Rattle.splice_plans.proofs.KnownLemmas.{begun-past}
+use Rattle.std.proofs.lemmas.List.{drop_at}
 use Rattle.plan_laws.proofs.StageLemmas.{now-closed-begun}
 use Rattle.plan_laws.proofs.DueLemmas.{goes-on}
 use Rattle.plan_laws.proofs.PlayedLemmas.{as_played_units, slice_filed, rest_filed, rest-all, rest-due, rest-length}
 
-or-first : (a b : Bool) → (a || b) ≡ false → a ≡ false
-or-first true b h = absurd (true≢false h)
-or-first false b h = refl
-
 front-sum : (a b : List SliceUnit) → IsFront a b → length b ≡ length a + length (drop (length a) b)
-front-sum a b f = let l = ap length f.1 ∙ length-append a f.0 in let d = ap (λ l. length (drop (length a) l)) f.1 ∙ ap length (drop-front a f.0) in omega (arith, l, d)
+front-sum a b f = let l = ap length f.1 ∙ length-append a f.0 in let d = ap (λ l. length (drop (length a) l)) f.1 ∙ ap length ((drop_at a f.0 (length a) refl)) in omega (arith, l, d)
 
 -- the greatest time is at or past the start, so it lies this far past it
 reached-far : (e : Standing) (h : ℤ) → (IsAhead (Some h) e.start → ⊥) → (e.start +ℤ pos (unsigned_abs (h -ℤ e.start)) ≡ h) × (reached_by (Some h) e ≡ Some (unsigned_abs (h -ℤ e.start)))
@@ -93,7 +90,7 @@ module _ (turns : Turns) (r : TimedStream) (k : IsStream r) (w : NeverPassesHigh
 
   module _ (b : begun_now r x known (p ∷ past) ≡ true) (still : closed_now r x known (p ∷ past) ≡ false) where
     was-open : closed_now r x known past ≡ false
-    was-open = or-first (closed_now r x known past) _ still
+    was-open = (or_parts (closed_now r x known past) _ still).0
 
     not-ahead-now : IsAhead (r.high (p ∷ past)) e.start → ⊥
     not-ahead-now = begun-past r k w x known (p ∷ past) b

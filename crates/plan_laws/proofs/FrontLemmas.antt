@@ -4,9 +4,9 @@ use Rattle.std.specs.Prelude.{ℤ, slice_get, slice_index_or, flat_map}
 use Rattle.std.proofs.lemmas.Bool.{true≢false, eqb-true}
 use Rattle.std.proofs.lemmas.Bool.Decides.{nat_tests}
 use Rattle.std.proofs.lemmas.List.{append-nil, length-map}
-use Rattle.std.proofs.lemmas.Option.{slice_get_cases}
+use Rattle.std.proofs.lemmas.Option.{slice_get_cases, slice_get_within}
 use Rattle.std.proofs.Math.ListN.{get_or}
-use Rattle.ts_packet.proofs.Cases.{by_test}
+use Rattle.ts_packet.proofs.Cases.{by_test, test-same}
 use Rattle.ts_packet.specs.Numbering.{Step}
 use Rattle.pes_time.specs.Line.{place}
 use Rattle.unit_stream.specs.Times.{begins, begins_one, stamp, high}
@@ -25,19 +25,17 @@ use Rattle.splice_plans.specs.Adverts.{packed_units}
 use Rattle.splice_plans.specs.Parts.{beside, ran_plans}
 use Rattle.splice_plans.specs.Fronts.{closing_packets, closed_plans, all_running, running_of}
 use Rattle.splice_plans.specs.Known.{AreSeparate, plan_at}
+use Rattle.program_follower.specs.Faults.{pids_in}
+use Rattle.ts_packet.proofs.FieldLemmas.{among-get}
 use Rattle.plan_laws.specs.Laws.{steps_of, steps_with}
-use Rattle.plan_laws.proofs.PartLemmas.{get-within}
 use Rattle.plan_laws.proofs.PlayedLemmas.{pushed, put_on, pushed-is, pushed-append, out-append, steps-other}
 use Rattle.plan_laws.proofs.PlanLemmas.{IsOf, pick-second}
 use Rattle.plan_laws.proofs.RunningLemmas.{first}
-use Rattle.plan_laws.proofs.StandingLemmas.{pids_in, plans-are, all-pass, others-begin-not, get-stream, once-place, among-get}
+use Rattle.plan_laws.proofs.StandingLemmas.{plans-are, all-pass, others-begin-not, get-stream, once-place}
 use Rattle.plan_laws.proofs.RunLemmas.{small, all-are-told, told, is-of, all-of, time-same, between-are}
 use Rattle.plan_laws.proofs.StreamsLemmas.{ads, es, turned, put, Counted, all-put}
 use Rattle.plan_laws.proofs.CountersLemmas.{all-counted}
 use Rattle.plan_laws.proofs.ClosingLemmas.{close, other-none, unstamped-none, closing-put}
-
-test-same : (a : ℕ) → (a == a) ≡ true
-test-same a = grind (arith, nat_tests)
 
 -- ---- in one stream alone
 
@@ -218,7 +216,7 @@ module _ (filed : ℕ → Option Advertisement) (streams : List Stream) (events 
     counted-there i q is =
         ap (λ plans. put_in (running_of filed streams (high pids (p ∷ past)) standing steps_next plans 0 streams i) (steps_next i)) (between-are filed streams events p past h stay s n pid there b of of_is)
         ∙ all-counted filed streams events p past h stay s n pid there b streams 0 (all-of filed streams events p past h stay s n pid there b [] streams 0 refl refl) (pushed now closing) steps_next next-counted i q is (omega arith)
-        (let l = get-within pids i q is in let m = length-map streams (λ (x : Stream). x.pid) in omega (arith, l, m))
+        (let l = slice_get_within pids i q is in let m = length-map streams (λ (x : Stream). x.pid) in omega (arith, l, m))
         ∙ ap (counter_steps packed_units q) (sym (pushed-append now closing running) ∙ ap (pushed now) (sym puts-are) ∙ pushed-is now (puts_before pids (ads filed streams events p past h stay s n pid there b) events p past))
 
     none-there : (i : ℕ) → length pids ≤ i → slice_get pids i ≡ None → put_in (running_in i) (steps_next i) ≡ []

@@ -19,8 +19,8 @@ use Rattle.splice_plans.specs.Adverts.{adverts_of, packed_units}
 use Rattle.splice_plans.specs.Fronts.{closing_packets, closed_plans, all_running, running_of, all_ran}
 use Rattle.splice_plans.specs.Known.{AreSeparate, plan_at, behind_at}
 use Rattle.splice_plans.proofs.HistoryLemmas.{armed_is_history}
+use Rattle.program_follower.specs.Faults.{pids_in}
 use Rattle.plan_laws.specs.Laws.{Starts, FrontGoesOut, PlansGoOn, CountersGoOn, steps_of, steps_with}
-use Rattle.plan_laws.proofs.StandingLemmas.{pids_in}
 use Rattle.plan_laws.proofs.RunLemmas.{events-are, events-stay, pids-are, has-head, high-is, behind-are}
 use Rattle.plan_laws.proofs.FrontLemmas.{front-is, counters-are}
 

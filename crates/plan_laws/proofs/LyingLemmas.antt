@@ -25,13 +25,14 @@ use Rattle.splice_plans.specs.Turning.{IsNearHigh, part_of}
 use Rattle.splice_plans.specs.Parts.{beside, is_waiting}
 use Rattle.splice_plans.specs.Fronts.{IsNearTime, closed_plans, is_left}
 use Rattle.splice_plans.specs.Known.{AreSeparate, plan_at, is_crossed_known}
+use Rattle.program_follower.specs.Faults.{pids_in}
+use Rattle.std.proofs.lemmas.Option.{slice_get_within}
 use Rattle.plan_laws.specs.Laws.{Starts, UnitsLieAsLeft}
 use Rattle.plan_laws.proofs.StageLemmas.{stage_by}
 use Rattle.plan_laws.proofs.ToldLemmas.{Told}
 use Rattle.plan_laws.proofs.UnitLemmas.{holds-is, covers-is, played-begun, never-staged}
-use Rattle.plan_laws.proofs.PartLemmas.{get-within, get-map}
+use Rattle.plan_laws.proofs.PartLemmas.{get-map}
 use Rattle.plan_laws.proofs.PlanLemmas.{known, flag_begun, flag_closed, stage_at, mid_part, mixed_parts, mixed_plan, part-there, falls}
-use Rattle.plan_laws.proofs.StandingLemmas.{pids_in}
 use Rattle.plan_laws.proofs.RunLemmas.{events-are, pids-are, small, all-are-told, between-are, time-same}
 use Rattle.plan_laws.proofs.JoinedLemmas.{streams, behind, hist, adverts-are, there, separate, history, stay}
 use Rattle.plan_laws.proofs.TimeLemmas.{starts_are_near}
@@ -43,7 +44,7 @@ begun-not-waiting false true h = refl
 begun-not-waiting false false h = absurd (true≢false (sym h))
 
 -- an event that stands no longer does not hold a unit that may begin
-forgotten-holds-not : (line : Option ℤ) (e : Standing) (t : ℤ) → IsNearHigh line t → stands line e ≡ false → holds (as_played e) (Some t) ≡ false
+forgotten-holds-not : (latest : Option ℤ) (e : Standing) (t : ℤ) → IsNearHigh latest t → stands latest e ≡ false → holds (as_played e) (Some t) ≡ false
 forgotten-holds-not None e t near out = absurd (true≢false out)
 forgotten-holds-not (Some h) e t near out = and_right (le_z e.start t) (lt_z t (end_of e)) (past (end_of e) t h near.0 out)
   where
@@ -72,7 +73,7 @@ module _ (filed : ℕ → Option Advertisement) (streams : List Stream) (events 
 
   part-is : (e : Standing) → part_of (plan e) n ≡ mid_part filed streams events p past e pid
   part-is e = part-there filed streams n of number (mixed_parts filed streams events p past 0 e) (is_crossed_known pids ads events (p ∷ past) e)
-      (let l = get-within pids n pid there in let m = length-map pids (mid_part filed streams events p past e) in omega (arith, l, m))
+      (let l = slice_get_within pids n pid there in let m = length-map pids (mid_part filed streams events p past e) in omega (arith, l, m))
       ∙ get-map (mid_part filed streams events p past e) pids n pid waiting there
 
   module _ (t : ℤ) (time_is : unit_time pids pid (p ∷ past) ≡ Some t) (near : IsNearHigh (high pids past) t) where

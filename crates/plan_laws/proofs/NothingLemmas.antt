@@ -28,33 +28,33 @@ module _ (filed : ℕ → Option Advertisement) (streams : List Stream) (top : O
   none-ran [] i = refl
   none-ran (of ∷ rest) i = none-ran rest (i + 1)
 
-none-closed : (filed : ℕ → Option Advertisement) (streams : List Stream) (n : ℕ) (of : Stream) (line : Option ℤ) (st : Option ℕ) → closed_plans filed streams n of line st [] [] ≡ []
-none-closed filed streams n of line None = refl
-none-closed filed streams n of line (Some t) = refl
+none-closed : (filed : ℕ → Option Advertisement) (streams : List Stream) (n : ℕ) (of : Stream) (latest : Option ℤ) (st : Option ℕ) → closed_plans filed streams n of latest st [] [] ≡ []
+none-closed filed streams n of latest None = refl
+none-closed filed streams n of latest (Some t) = refl
 
 pub none-within : (es : List Standing) → All (IsWithin None) es → es ≡ []
 none-within [] a = refl
 none-within (e ∷ es) a = absurd (All-head (IsWithin None) e es a)
 
-none-raised : (line : Option ℤ) (st : Option ℕ) → raised line st ≡ None → line ≡ None
+none-raised : (latest : Option ℤ) (st : Option ℕ) → raised latest st ≡ None → latest ≡ None
 none-raised None st h = refl
 none-raised (Some l) None h = h
 none-raised (Some l) (Some t) h = absurd (cc)
 
 pub nothing_stands : NothingStands
 nothing_stands k filed n pid of p past r none =
-    let line = high_at k past in
+    let latest = high_at k past in
     let top = high_at k (p ∷ past) in
     let ss = streams_at k past in
     let v = plans_at k past (behind_at k past) in
     let before = steps_before k filed n of p past in
-    let gone : line ≡ None = none-raised line (stamp p) (sym (high-raised k filed n pid p past r.starts) ∙ none) in
+    let gone : latest ≡ None = none-raised latest (stamp p) (sym (high-raised k filed n pid p past r.starts) ∙ none) in
     let empty : standing_before k filed n of p past ≡ [] = none-within (standing_before k filed n of p past) (subst (λ l. All (IsWithin l) (standing_before k filed n of p past)) gone r.within) in
-    let closed = none-closed filed ss n of line (stamp p) in
-    let steps : List Standing → ℕ → List Step = λ es. steps_with n (closing_packets filed ss n of line (stamp p) (before n) es (values_by v es)) before in
-    subst (λ es. (all_running filed ss top es (steps es) (closed_plans filed ss n of line (stamp p) es (values_by v es)) 0 ss ≡ [])
-    × ((i : ℕ) → running_of filed ss top es (steps es) (closed_plans filed ss n of line (stamp p) es (values_by v es)) 0 ss i ≡ [])
-    × (all_ran filed ss top es (closed_plans filed ss n of line (stamp p) es (values_by v es)) 0 ss ≡ closed_plans filed ss n of line (stamp p) es (values_by v es))) (sym empty) (
+    let closed = none-closed filed ss n of latest (stamp p) in
+    let steps : List Standing → ℕ → List Step = λ es. steps_with n (closing_packets filed ss n of latest (stamp p) (before n) es (values_by v es)) before in
+    subst (λ es. (all_running filed ss top es (steps es) (closed_plans filed ss n of latest (stamp p) es (values_by v es)) 0 ss ≡ [])
+    × ((i : ℕ) → running_of filed ss top es (steps es) (closed_plans filed ss n of latest (stamp p) es (values_by v es)) 0 ss i ≡ [])
+    × (all_ran filed ss top es (closed_plans filed ss n of latest (stamp p) es (values_by v es)) 0 ss ≡ closed_plans filed ss n of latest (stamp p) es (values_by v es))) (sym empty) (
       ap (λ plans. all_running filed ss top [] (steps []) plans 0 ss) closed ∙ none-running filed ss top (steps []) ss 0,
       λ i. ap (λ plans. running_of filed ss top [] (steps []) plans 0 ss i) closed ∙ none-in filed ss top (steps []) ss 0 i,
       ap (λ plans. all_ran filed ss top [] plans 0 ss) closed ∙ none-ran filed ss top (steps []) ss 0 ∙ sym closed,

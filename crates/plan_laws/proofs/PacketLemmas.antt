@@ -24,10 +24,11 @@ use Rattle.splice_plans.specs.Histories.{IsHistory}
 use Rattle.splice_plans.specs.Adverts.{packed_units}
 use Rattle.splice_plans.specs.Slicing.{slice_packets}
 use Rattle.splice_plans.specs.Parts.{beside, delta_in, packets_in, pair_packets, found_packets, running_packets, runs_in, reached_by}
+use Rattle.splice_plans.proofs.KnownLemmas.{contained}
 use Rattle.plan_laws.proofs.DueLemmas.{running-none}
 use Rattle.plan_laws.proofs.PlayedLemmas.{pushed, put_on, as_played_units, rest_filed, rest-packets, rest-steps}
 use Rattle.plan_laws.proofs.EventLemmas.{running-is}
-use Rattle.plan_laws.proofs.PlanLemmas.{switched, ads, known, sent_at, flag_closed, IsOf, contained, falls, slice-is, now-end, mid-there, runs-is, pick-second, shut-flags, none-begins}
+use Rattle.plan_laws.proofs.PlanLemmas.{switched, ads, known, sent_at, flag_closed, IsOf, falls, slice-is, now-end, mid-there, runs-is, pick-second, shut-flags, none-begins}
 use Rattle.plan_laws.proofs.RunningLemmas.{TellsOf, runs_on, mixed, NoneRun, others-idle}
 
 module _ (filed : ℕ → Option Advertisement) (streams : List Stream) (events : History) (p : List ℕ) (past : List (List ℕ))

@@ -6,11 +6,6 @@ use Rattle.splice_plans.specs.declared.plan.Part.{Part}
 use Rattle.splice_plans.specs.Turning.{waiting}
 use Rattle.splice_plans.specs.Known.{padded}
 
-pub get-within : {A : Type 0} (xs : List A) (n : ℕ) (x : A) → slice_get xs n ≡ Some x → n < length xs
-get-within [] n x h = absurd (cc)
-get-within (y ∷ xs) zero x h = omega arith
-get-within (y ∷ xs) (suc n) x h = let l = get-within xs n x h in omega (arith, l)
-
 pub get-map : {A B : Type 0} (f : A → B) (xs : List A) (n : ℕ) (x : A) (d : B) → slice_get xs n ≡ Some x → slice_index_or (map f xs) n d ≡ f x
 get-map f [] n x d h = absurd (cc)
 get-map f (y ∷ xs) zero x d h = let is : y ≡ x = cc in ap f is
@@ -53,19 +48,16 @@ small-number n l = grind (arith, l)
 else-tail : {A : Type 0} (y : ℕ) (xs : List ℕ) (n : ℕ) (f g : ℕ → A) → ((j q : ℕ) → slice_get (y ∷ xs) j ≡ Some q → (j ≡ suc n → ⊥) → f q ≡ g q) → (j q : ℕ) → slice_get xs j ≡ Some q → (j ≡ n → ⊥) → f q ≡ g q
 else-tail y xs n f g h j q is differ = h (suc j) q is (λ e. differ (omega (arith, e)))
 
-all-else : {A : Type 0} (xs : List ℕ) (f g : ℕ → A) → ((j q : ℕ) → slice_get xs j ≡ Some q → f q ≡ g q) → map f xs ≡ map g xs
-all-else [] f g h = refl
-all-else (y ∷ xs) f g h = ap (λ v. v ∷ map f xs) (h 0 y refl) ∙ ap (λ l. g y ∷ l) (all-else xs f g (λ j q is. h (suc j) q is))
-
 pub map-same : {A : Type 0} (xs : List ℕ) (f g : ℕ → A) → ((j q : ℕ) → slice_get xs j ≡ Some q → f q ≡ g q) → map f xs ≡ map g xs
-map-same xs f g h = all-else xs f g h
+map-same [] f g h = refl
+map-same (y ∷ xs) f g h = ap (λ v. v ∷ map f xs) (h 0 y refl) ∙ ap (λ l. g y ∷ l) (map-same xs f g (λ j q is. h (suc j) q is))
 
 pub map-set : (xs : List ℕ) (n pid : ℕ) (f g : ℕ → Part) (v : Part) → slice_get xs n ≡ Some pid → v ≡ g pid
     → ((j q : ℕ) → slice_get xs j ≡ Some q → (j ≡ n → ⊥) → f q ≡ g q) → slice_set (map f xs) n v ≡ map g xs
 map-set [] n pid f g v is e h = absurd (cc)
 map-set (y ∷ xs) zero pid f g v is e h =
     let same : y ≡ pid = cc in
-    ap (λ u. u ∷ map f xs) (e ∙ ap g (sym same)) ∙ ap (λ l. g y ∷ l) (all-else xs f g (λ j q k. h (suc j) q k (λ z. absurd (omega (arith, z)))))
+    ap (λ u. u ∷ map f xs) (e ∙ ap g (sym same)) ∙ ap (λ l. g y ∷ l) (map-same xs f g (λ j q k. h (suc j) q k (λ z. absurd (omega (arith, z)))))
 map-set (y ∷ xs) (suc n) pid f g v is e h =
     ap (λ u. u ∷ slice_set (map f xs) n v) (h 0 y refl (λ z. absurd (omega (arith, z)))) ∙ ap (λ l. g y ∷ l) (map-set xs n pid f g v is e (else-tail y xs n f g h))
 

@@ -1,6 +1,6 @@
 -- The plan of an event that stands: before the packet, once the packet has closed what it closes, and as each stream runs on.
 use Rattle.std.proofs.Common.{◌≡◌, ℕ, zero, suc, ◌+◌, ◌%◌, ◌<◌, List, [], ◌∷◌, ◌++◌, Bool, true, false, not, ◌&&◌, ◌||◌, ⊎_elim, refl, sym, ap, ◌∙◌, subst, Option, None, Some, arith, if◌then◌else◌, length, take, drop, map}
-use Rattle.std.specs.Prelude.{ℤ, slice_get, slice_index_or, slice_set, Contains}
+use Rattle.std.specs.Prelude.{ℤ, slice_get, slice_index_or, slice_set}
 use Rattle.std.proofs.lemmas.Bool.{true≢false, cases_order, or_parts}
 use Rattle.std.proofs.lemmas.List.{length-map}
 use Rattle.ts_packet.proofs.Cases.{by_test}
@@ -25,8 +25,9 @@ use Rattle.splice_plans.specs.Turning.{turned, crosses, waiting, at_stage, part_
 use Rattle.splice_plans.specs.Parts.{is_closing, is_running, closes_in, units_in, closed_plan, runs_in, ran_plan, reached_by}
 use Rattle.splice_plans.specs.Known.{stage_known, crossed_known, padded, part_known, is_crossed_known, plan_known}
 use Rattle.splice_plans.proofs.AdvertLemmas.{libraries_are_steady}
-use Rattle.splice_plans.proofs.KnownLemmas.{ends_never_rise}
+use Rattle.splice_plans.proofs.KnownLemmas.{ends_never_rise, contained}
 use Rattle.splice_plans.proofs.AllTurnedLemmas.{set-mixed, get-mixed, all-mixed}
+use Rattle.std.proofs.lemmas.Option.{slice_get_within}
 use Rattle.plan_laws.proofs.StageLemmas.{shut, stage_by, stage-stays, closed-stays, crossed-stays, none-begun}
 use Rattle.plan_laws.proofs.ToldLemmas.{Told}
 use Rattle.plan_laws.proofs.UnitLemmas.{stamped-stage, stamped-closing, stamped-crossed}
@@ -34,15 +35,12 @@ use Rattle.plan_laws.proofs.UnstampedLemmas.{unstamped-closed, unstamped-stage, 
 use Rattle.plan_laws.proofs.DueLemmas.{sent-closed, sent-unbegun}
 use Rattle.plan_laws.proofs.PlayedLemmas.{as_played_units, slice_filed, whole-slice}
 use Rattle.plan_laws.proofs.EventLemmas.{closing-length, running-length}
-use Rattle.plan_laws.proofs.PartLemmas.{get-within, get-map, padded-set, padded-get, get-set, set-twice, length-set, map-set, map-same, any-set, any-same}
+use Rattle.plan_laws.proofs.PartLemmas.{get-map, padded-set, padded-get, get-set, set-twice, length-set, map-set, map-same, any-set, any-same}
 
 get-or : (xs : List ℕ) (n x : ℕ) → slice_get xs n ≡ Some x → slice_index_or xs n x ≡ x
 get-or [] n x h = absurd (cc)
 get-or (y ∷ xs) zero x h = let is : y ≡ x = cc in is
 get-or (y ∷ xs) (suc n) x h = get-or xs n x h
-
-pub contained : (xs : List ℕ) (n x : ℕ) → slice_get xs n ≡ Some x → Contains xs x
-contained xs n x h = (n, get-within xs n x h, get-or xs n x h)
 
 abbrev make : Stage → ℕ → Part
 make stage sent = record { stage = stage; sent = sent }
@@ -117,9 +115,6 @@ pub shut-flags : (a b : Bool) → (a && not b) ≡ true → (a ≡ true) × (b �
 shut-flags true true h = absurd (true≢false (sym h))
 shut-flags true false h = (refl, refl)
 shut-flags false b h = absurd (true≢false (sym h))
-
-run-flags : (a b : Bool) → (a && not b) ≡ true → (a ≡ true) × (b ≡ false)
-run-flags a b h = shut-flags a b h
 
 shut-same : (s : Stage) → is_closing s ≡ false → shut s ≡ s
 shut-same Waiting h = refl
@@ -295,7 +290,7 @@ module _ (filed : ℕ → Option Advertisement) (streams : List Stream) (events 
       part-is = by_test (is_closing turn_stage) out-closed out-open
 
       within : n < length (map (before_part e) switched)
-      within = let l = get-within switched n pid there in let m = length-map switched (before_part e) in omega (arith, l, m)
+      within = let l = slice_get_within switched n pid there in let m = length-map switched (before_part e) in omega (arith, l, m)
 
       abbrev crossed_then : Bool
       crossed_then = is_crossed_known switched ads events past e || crosses e t (stage_at e pid past)
@@ -340,7 +335,7 @@ module _ (filed : ℕ → Option Advertisement) (streams : List Stream) (events 
       as-many = length-map switched (now_part e) ∙ sym (length-map switched (mid_part e))
 
       in-now : i < length (map (now_part e) switched)
-      in-now = let l = get-within switched i q o.there in let m = length-map switched (now_part e) in omega (arith, l, m)
+      in-now = let l = slice_get_within switched i q o.there in let m = length-map switched (now_part e) in omega (arith, l, m)
 
       in-mixed : i < length (mixed_parts i e)
       in-mixed = let l = length-mixed (map (now_part e) switched) (map (mid_part e) switched) i as-many in let w = in-now in omega (arith, l, w)
@@ -357,7 +352,7 @@ module _ (filed : ℕ → Option Advertisement) (streams : List Stream) (events 
 
       pub plan-runs : (flag_begun e q (p ∷ past) && not (flag_closed e q (p ∷ past))) ≡ true → ran_plan filed streams i of (high switched (p ∷ past)) (e, mixed_plan i e) ≡ mixed_plan (i + 1) e
       plan-runs y =
-          let flags = run-flags (flag_begun e q (p ∷ past)) (flag_closed e q (p ∷ past)) y in
+          let flags = shut-flags (flag_begun e q (p ∷ past)) (flag_closed e q (p ∷ past)) y in
           let long = running-length (begins_one switched) (stream switched q) (pids_are_streams switched q) (switched_pids_are_within switched q (contained switched i q o.there)) e (known e) (ads.units e q) (falls h e i q o.there)
           p past turn (now-end q i o.there) (filed e.program) of.kind (count_of_kind of.kind (take i streams)) (slice-is e i q of o) flags.0 flags.1 in
           let far = reached_by (high switched (p ∷ past)) e in

@@ -3,10 +3,9 @@ use Rattle.std.proofs.Common.{◌≡◌, ℕ, zero, suc, ◌==◌, ◌<◌, List
 use Rattle.std.specs.Prelude.{ℤ, pos, negsuc, ◌+ℤ◌, ◌-ℤ◌, slice_index_or, option_map}
 use Rattle.std.proofs.lemmas.Int.{ints}
 use Rattle.std.proofs.lemmas.Bool.{true≢false}
-use Rattle.std.proofs.lemmas.Bool.Decides.{nat_tests}
 use Rattle.std.proofs.lemmas.List.{append-nil, reverse-append, length-map}
 use lib.Signed.{le_z, lt_z}
-use Rattle.ts_packet.proofs.Cases.{by_test}
+use Rattle.ts_packet.proofs.Cases.{by_test, test-same}
 use Rattle.pes_time.specs.Line.{ring_of}
 use Rattle.pes_time.specs.Stamps.{restamped}
 use Rattle.psi_tables.specs.declared.stream.Stream.{Stream}
@@ -52,9 +51,6 @@ out-append packed past (m ∷ a) b = ap (λ l. out_at packed m past ++ l) (out-a
 
 abbrev pub put_on : ℕ → List SliceUnit → List Move
 put_on pid us = map (λ (u : SliceUnit). Put pid u) us
-
-test-same : (q : ℕ) → (q == q) ≡ true
-test-same q = grind (arith, nat_tests)
 
 -- on another PID they count nothing
 pub steps-other : (packed : Packing) (pid q : ℕ) (past : List Move) (us : List SliceUnit) → (pid == q) ≡ false → counter_steps packed q (pushed past (put_on pid us)) ≡ counter_steps packed q past

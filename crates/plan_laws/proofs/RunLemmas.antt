@@ -27,12 +27,15 @@ use Rattle.splice_plans.specs.Adverts.{adverts_of}
 use Rattle.splice_plans.specs.Fronts.{closed_plans, all_ran}
 use Rattle.splice_plans.specs.Known.{AreSeparate, plan_at, behind_at}
 use Rattle.splice_plans.proofs.AdvertLemmas.{libraries_are_steady}
+use Rattle.program_follower.specs.Faults.{pids_in}
+use Rattle.std.proofs.lemmas.Option.{slice_get_within}
+use Rattle.ts_packet.proofs.FieldLemmas.{among-get}
 use Rattle.plan_laws.proofs.ToldLemmas.{Told, all-told}
-use Rattle.plan_laws.proofs.PartLemmas.{get-within, small-number}
+use Rattle.plan_laws.proofs.PartLemmas.{small-number}
 use Rattle.plan_laws.proofs.PlayedLemmas.{placed-at}
 use Rattle.plan_laws.proofs.PlanLemmas.{IsOf}
 use Rattle.plan_laws.proofs.RunningLemmas.{AllOf, mixed, first, none-filter, all-unstamped, all-stamped, all-streams, all-last}
-use Rattle.plan_laws.proofs.StandingLemmas.{all-filter, all-pass, plans-are, others-begin-not, begins-some, among-get, pids_in, get-done, or-done, in-done, get-stream}
+use Rattle.plan_laws.proofs.StandingLemmas.{all-filter, all-pass, plans-are, others-begin-not, begins-some, get-done, or-done, in-done, get-stream}
 
 -- ---- a past behind a head
 
@@ -94,7 +97,7 @@ module _ (filed : ℕ → Option Advertisement) (streams : List Stream) (events 
     few = let f = s.few in let m = length-map streams (λ (x : Stream). x.pid) in omega (arith, f, m)
 
     pub small : n % 8 ≡ n
-    small = let l = get-within pids n pid there in let f = s.few in small-number n (omega (arith, l, f))
+    small = let l = slice_get_within pids n pid there in let f = s.few in small-number n (omega (arith, l, f))
 
     pub all-are-told : AllByRecursion (Told pids ads events p past) (events past)
     all-are-told = all-told pids ads events p past (libraries_are_steady filed streams) h stay

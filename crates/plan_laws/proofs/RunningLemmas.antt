@@ -18,10 +18,11 @@ use Rattle.splice_plans.specs.Histories.{IsHistory}
 use Rattle.splice_plans.specs.Parts.{beside, all_turned, closed_plan, ran_plans, runs_in}
 use Rattle.splice_plans.specs.Fronts.{all_ran}
 use Rattle.splice_plans.specs.Known.{plan_known}
+use Rattle.splice_plans.proofs.KnownLemmas.{contained}
 use Rattle.plan_laws.proofs.StageLemmas.{none-begun}
 use Rattle.plan_laws.proofs.ToldLemmas.{Told}
 use Rattle.plan_laws.proofs.PartLemmas.{small-number}
-use Rattle.plan_laws.proofs.PlanLemmas.{switched, ads, known, flag_begun, flag_closed, mixed_plan, IsOf, contained, plan-unstamped, plan-stamped, runs-is, plan-runs, plan-idle, plan-end, falls, shut-flags}
+use Rattle.plan_laws.proofs.PlanLemmas.{switched, ads, known, flag_begun, flag_closed, mixed_plan, IsOf, plan-unstamped, plan-stamped, runs-is, plan-runs, plan-idle, plan-end, falls, shut-flags}
 
 seconds : (f : Standing → Plan) (es : List Standing) → map (λ (y : Standing × Plan). y.1) (beside es (map f es)) ≡ map f es
 seconds f [] = refl

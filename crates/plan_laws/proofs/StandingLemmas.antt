@@ -4,9 +4,8 @@ use Rattle.std.specs.Prelude.{slice_get, slice_index_or, find, filter}
 use Rattle.std.specs.List.{AllByRecursion}
 use Rattle.std.specs.Ordering.{int_eq}
 use Rattle.std.proofs.lemmas.Bool.{true≢false, and_parts}
-use Rattle.std.proofs.lemmas.Bool.Decides.{nat_tests}
-use Rattle.ts_packet.proofs.Cases.{by_test}
-use Rattle.ts_packet.specs.Fields.{payload_on, unit_start, is_among}
+use Rattle.ts_packet.proofs.Cases.{by_test, test-same}
+use Rattle.ts_packet.specs.Fields.{payload_on, unit_start}
 use Rattle.ts_packet.specs.Duplicates.{repeats}
 use Rattle.unit_stream.specs.Times.{begins, begins_one}
 use Rattle.psi_tables.specs.declared.stream.Stream.{Stream}
@@ -17,6 +16,8 @@ use Rattle.splice_laws.specs.Streams.{IsOnce}
 use Rattle.splice_laws.proofs.StreamLemmas.{same-pid}
 use Rattle.splice_plans.specs.Playing.{Adverts, History}
 use Rattle.splice_plans.specs.Known.{AreSeparate, plan_at, plan_found, plan_known}
+use Rattle.program_follower.specs.Faults.{pids_in}
+use Rattle.ts_packet.proofs.FieldLemmas.{among-get}
 use Rattle.plan_laws.proofs.ToldLemmas.{IsFoundIn, all-found}
 
 -- ---- of some events, those that pass
@@ -51,18 +52,6 @@ module _ (switched : List ℕ) (ads : Adverts) (events : History) (behind : List
   plans-are n test = plans-by (filter test all) (all-filter test (IsFoundIn always all) all (all-found always all n))
 
 -- ---- a unit begins in one stream alone
-
-test-same : (q : ℕ) → (q == q) ≡ true
-test-same q = grind (arith, nat_tests)
-
-pub among-get : (xs : List ℕ) (n x : ℕ) → slice_get xs n ≡ Some x → is_among x xs ≡ true
-among-get [] n x h = absurd (cc)
-among-get (y ∷ xs) zero x h = let is : y ≡ x = cc in let t = ap (λ z. z == x) is ∙ test-same x in simp t
-among-get (y ∷ xs) (suc n) x h = or-two (y == x) (is_among x xs) (among-get xs n x h)
-  where
-    or-two : (a b : Bool) → b ≡ true → (a || b) ≡ true
-    or-two true b h = refl
-    or-two false b h = h
 
 pub once-place : (xs : List ℕ) (x j n : ℕ) → IsOnce x xs → slice_get xs j ≡ Some x → slice_get xs n ≡ Some x → j ≡ n
 once-place [] x j n o h k = absurd o
@@ -100,9 +89,6 @@ begins-some (y ∷ xs) (suc n) pid h p past b = or-two (begins y p past) (begins
     or-two false b h = h
 
 -- ---- the streams in order
-
-abbrev pub pids_in : List Stream → List ℕ
-pids_in ss = map (λ (s : Stream). s.pid) ss
 
 pub get-done : (done : List Stream) (of : Stream) (rest : List Stream) → slice_get (pids_in (done ++ of ∷ rest)) (length done) ≡ Some of.pid
 get-done [] of rest = refl

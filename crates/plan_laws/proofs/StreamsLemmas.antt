@@ -23,6 +23,8 @@ use Rattle.splice_plans.specs.Adverts.{adverts_of, packed_units}
 use Rattle.splice_plans.specs.Parts.{beside, ran_plans, running_packets}
 use Rattle.splice_plans.specs.Fronts.{all_running}
 use Rattle.splice_plans.specs.Known.{AreSeparate}
+use Rattle.program_follower.specs.Faults.{pids_in}
+use Rattle.ts_packet.proofs.FieldLemmas.{among-get}
 use Rattle.plan_laws.proofs.ToldLemmas.{Told}
 use Rattle.plan_laws.proofs.PartLemmas.{small-number}
 use Rattle.plan_laws.proofs.DueLemmas.{forgotten-running}
@@ -31,7 +33,7 @@ use Rattle.plan_laws.proofs.PlanLemmas.{known, falls, none-begins, IsOf}
 use Rattle.plan_laws.proofs.RunningLemmas.{runs_on, mixed, AllOf, others-idle, played-run, all-run}
 use Rattle.plan_laws.proofs.PacketLemmas.{rule, all-found, none-rules, rule-none}
 use Rattle.plan_laws.proofs.OrderLemmas.{AreAlone, sorted-same}
-use Rattle.plan_laws.proofs.StandingLemmas.{pids_in, once-place, among-get}
+use Rattle.plan_laws.proofs.StandingLemmas.{once-place}
 use Rattle.plan_laws.proofs.RunLemmas.{turn, told, apart, all-are-told}
 
 module _ (filed : ℕ → Option Advertisement) (streams : List Stream) (events : History) (p : List ℕ) (past : List (List ℕ))

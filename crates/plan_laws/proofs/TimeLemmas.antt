@@ -16,6 +16,7 @@ use Rattle.splice_plans.specs.Switching.{Setting, switched_at, high_at, events_a
 use Rattle.splice_plans.specs.Parts.{IsReached}
 use Rattle.splice_plans.specs.Fronts.{IsNearTime}
 use Rattle.splice_plans.specs.Known.{behind_at, adverts_at}
+use Rattle.armed_laws.proofs.MeetLemmas.{same-low}
 use Rattle.plan_laws.specs.Laws.{Starts, StartsAreNear, HighIsReached, OthersLieAsBefore}
 use Rattle.plan_laws.proofs.StandingLemmas.{others-begin-not, begins-some}
 use Rattle.plan_laws.proofs.RunLemmas.{has-head, high-is}
@@ -37,16 +38,13 @@ not-far t h f = let o = or_parts (lt_z (pos 900000) (t -ℤ h)) (lt_z (t -ℤ h)
     top : (t h : ℤ) → lt_z (pos 900000) (t -ℤ h) ≡ false → t ≤ℤ (h +ℤ pos 900000)
     top t h f = grind (arith, ints, f)
 
-near-by : (line : Option ℤ) (st : Option ℕ) → jumps line st ≡ false → IsNearTime line st
-near-by line None j = tt
+near-by : (latest : Option ℤ) (st : Option ℕ) → jumps latest st ≡ false → IsNearTime latest st
+near-by latest None j = tt
 near-by None (Some t) j = tt
 near-by (Some h) (Some t) j = not-far (place (Some h) t) h j
 
 pub near-time : (sw : List ℕ) (p : List ℕ) (past : List (List ℕ)) → unit_fault sw p past ≡ None → begins_one sw p past ≡ true → IsNearTime (high sw past) (stamp p)
 near-time sw p past f b = near-by (high sw past) (stamp p) (no-fault (scrambled_one sw p) (begins_one sw p past) (splits p) (jumps (high sw past) (stamp p)) f b)
-
-same-low : (a : ℤ) → a ≤ℤ a
-same-low a = omega (arith, ints)
 
 low-more : (a : ℤ) → a ≤ℤ (a +ℤ pos 900000)
 low-more a = omega (arith, ints)
@@ -57,7 +55,7 @@ max-low h t = grind (arith, ints)
 max-top : (h t : ℤ) → t ≤ℤ (h +ℤ pos 900000) → int_max h t ≤ℤ (h +ℤ pos 900000)
 max-top h t k = grind (arith, ints, k)
 
-reached-by : (line : Option ℤ) (st : Option ℕ) → IsNearTime line st → IsReached line (option_map ring_of (raised line st)) (raised line st)
+reached-by : (latest : Option ℤ) (st : Option ℕ) → IsNearTime latest st → IsReached latest (option_map ring_of (raised latest st)) (raised latest st)
 reached-by None None n = tt
 reached-by (Some h) None n = (refl, same-low h, low-more h)
 reached-by None (Some t) n = refl

@@ -1,9 +1,8 @@
 -- What is known of the events of a past, with a packet behind which they are the same.
-use Rattle.std.proofs.Common.{◌≡◌, ℕ, ◌<◌, List, [], ◌∷◌, Bool, true, false, ◌&&◌, inl, inr, refl, ap, ◌∙◌, subst, Option, None, Some, arith, if◌then◌else◌}
-use Rattle.std.specs.Prelude.{ℤ, pos, ◌+ℤ◌, ◌≤ℤ◌, find, option_map, All, Contains}
+use Rattle.std.proofs.Common.{◌≡◌, ℕ, ◌<◌, List, [], ◌∷◌, Bool, false, ◌&&◌, inl, inr, refl, ap, ◌∙◌, subst, Option, None, Some, if◌then◌else◌}
+use Rattle.std.specs.Prelude.{ℤ, ◌+ℤ◌, ◌≤ℤ◌, find, option_map, All, Contains}
 use Rattle.std.specs.List.{AllByRecursion}
 use Rattle.std.specs.Ordering.{int_eq}
-use Rattle.std.proofs.lemmas.Int.{ints}
 use Rattle.std.proofs.lemmas.List.Elements.{All-head, All-tail}
 use Rattle.ts_packet.proofs.Cases.{by_test}
 use Rattle.unit_stream.specs.Times.{high}
@@ -12,21 +11,10 @@ use Rattle.armed_laws.specs.Laws.{AreApart, IsApartOf, NoneMeet}
 use Rattle.splice_plans.specs.Playing.{Adverts, History, is_played, end_known}
 use Rattle.splice_plans.specs.Histories.{IsHistory, AreSteady, IsSettledAt}
 use Rattle.splice_plans.proofs.KnownLemmas.{played_settle}
+use Rattle.pes_time.proofs.IntLemmas.{int-same}
+use Rattle.armed_laws.proofs.MeetLemmas.{starts-differ}
 
 -- ---- of all events, the one with this start
-
-equal : (a : ℤ) → int_eq a a ≡ true
-equal a = grind (arith, ints)
-
-pub differ : (y x : Standing) → 0 < y.length → 0 < x.length → AreApart y x → int_eq y.start x.start ≡ false
-differ y x h k (inl a) = by y.start y.length x.start h a
-  where
-    by : (s : ℤ) (n : ℕ) (t : ℤ) → 0 < n → (s +ℤ pos n) ≤ℤ t → int_eq s t ≡ false
-    by s n t h a = grind (arith, ints, h, a)
-differ y x h k (inr a) = by x.start x.length y.start k a
-  where
-    by : (s : ℤ) (n : ℕ) (t : ℤ) → 0 < n → (s +ℤ pos n) ≤ℤ t → int_eq t s ≡ false
-    by s n t h a = grind (arith, ints, h, a)
 
 apart-other : (a b : Standing) → AreApart a b → AreApart b a
 apart-other a b (inl h) = inr h
@@ -44,17 +32,17 @@ module _ (test : Standing → Bool) where
 
   none-there : (x : Standing) → 0 < x.length → (es : List Standing) → IsApartOf x es → NoneMeet es → find (λ y. int_eq y.start x.start && test y) es ≡ None
   none-there x l [] a n = refl
-  none-there x l (y ∷ es) a n = let d = differ y x n.0 l (apart-other x y a.0) in simp d (none-there x l es a.1 n.2)
+  none-there x l (y ∷ es) a n = let d = starts-differ y x n.0 l (apart-other x y a.0) in simp d (none-there x l es a.1 n.2)
 
   found-first : (e : Standing) (es : List Standing) → NoneMeet (e ∷ es) → IsFoundIn (e ∷ es) e
-  found-first e es n = let k = equal e.start in by_test (test e) (λ y. simp (k, y)) (λ y. simp (k, y) (none-there e n.0 es n.1 n.2))
+  found-first e es n = let k = int-same e.start in by_test (test e) (λ y. simp (k, y)) (λ y. simp (k, y) (none-there e n.0 es n.1 n.2))
 
   found-later : (e x : Standing) (es : List Standing) → int_eq e.start x.start ≡ false → IsFoundIn es x → IsFoundIn (e ∷ es) x
   found-later e x es d m = simp d m
 
   all-later : (e : Standing) (es later : List Standing) → 0 < e.length → IsApartOf e later → NoneMeet later → AllByRecursion (IsFoundIn es) later → AllByRecursion (IsFoundIn (e ∷ es)) later
   all-later e es [] l a n m = tt
-  all-later e es (x ∷ later) l a n m = (found-later e x es (differ e x l n.0 a.0) m.0, all-later e es later l a.1 n.2 m.1)
+  all-later e es (x ∷ later) l a n m = (found-later e x es (starts-differ e x l n.0 a.0) m.0, all-later e es later l a.1 n.2 m.1)
 
   pub all-found : (es : List Standing) → NoneMeet es → AllByRecursion (IsFoundIn es) es
   all-found [] n = tt

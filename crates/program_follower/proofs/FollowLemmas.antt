@@ -9,6 +9,8 @@ use Rattle.psi_section.specs.Sections.{given}
 use Rattle.unit_stream.specs.Times.{high}
 use Rattle.unit_stream.specs.Faults.{unit_fault}
 use Rattle.pes_time.specs.Line.{ring_of}
+use Rattle.unit_stream.specs.declared.fault.UnitFault.{UnitFault}
+use Rattle.unit_stream.specs.declared.fault.UnitFault.TheVariants.{Scrambled, HeaderSplit, TimeJump}
 use Rattle.program_follower.specs.declared.purpose.Purpose.{Purpose}
 use Rattle.program_follower.specs.declared.purpose.Listed.{Listed}
 use Rattle.program_follower.specs.Standing.{sections_on, newest}
@@ -105,3 +107,9 @@ tables_by wanted p past l (Some k) e h =
 pub tables_shown : (wanted : Option ℕ) (p : List ℕ) (past : List (List ℕ)) (l : Listed) (ss : List (List ℕ)) → listed wanted (p ∷ past) ≡ Some l → ss ≡ newest wanted (p ∷ past)
     → map (table_of l.program) ss ≡ tables wanted p past
 tables_shown wanted p past l ss h e = ap (map (table_of l.program)) e ∙ tables_by wanted p past l (listed wanted past) refl h
+
+pub no_unit_fault : (o : Option UnitFault) → as_network o ≡ None → o ≡ None
+no_unit_fault None h = refl
+no_unit_fault (Some Scrambled) h = absurd (cc)
+no_unit_fault (Some HeaderSplit) h = absurd (cc)
+no_unit_fault (Some TimeJump) h = absurd (cc)

@@ -1,14 +1,13 @@
 -- The stream that a packet is of.
 use Rattle.std.proofs.Common.{◌≡◌, ℕ, suc, ◌+◌, ◌<◌, ◌≤◌, List, [], ◌∷◌, Bool, true, false, not, ◌&&◌, ◌||◌, ◌==◌, refl, sym, ap, subst, ◌∙◌, arith, length, if◌then◌else◌, Option, Some, None}
 use Rattle.std.specs.Prelude.{is_some, option_map, ◌≢◌, slice_index_or}
-use Rattle.std.proofs.lemmas.Bool.{eqb-true, eq-eqb, and_parts, or_from}
-use Rattle.std.proofs.Math.Bool.{and-false}
+use Rattle.std.proofs.lemmas.Bool.{eqb-true, eq-eqb, and_parts, or_from, or_parts}
 use Rattle.std.proofs.Math.ListN.{set}
 use Rattle.std.proofs.lemmas.List.{get_or-set_same, get_or-set_other}
-use Rattle.ts_packet.specs.Fields.{in_error, pid_of, on, payload, payload_on, scrambled, unit_start}
+use Rattle.ts_packet.specs.Fields.{in_error, pid_of, on, payload, payload_on, scrambled, unit_start, is_among}
 use Rattle.ts_packet.specs.Duplicates.{repeats}
 use Rattle.ts_packet.proofs.Cases.{by_test}
-use Rattle.ts_packet.proofs.FieldLemmas.{off_payload}
+use Rattle.ts_packet.proofs.FieldLemmas.{off_payload, without-payload}
 use Rattle.psi_tables.specs.declared.stream.Stream.{Stream}
 use Rattle.unit_stream.specs.declared.reader.UnitReader.{UnitReader}
 use Rattle.unit_stream.specs.declared.fault.UnitFault.{UnitFault}
@@ -20,6 +19,7 @@ use Rattle.unit_stream.specs.Starts.{ReadsStarts}
 use Rattle.unit_stream.specs.declared.starts.StartReader.{StartReader}
 use Rattle.unit_stream.proofs.ClockLemmas.{begins_off}
 use Rattle.unit_stream.proofs.StartLemmas.{starts_passed}
+use Rattle.psi_tables.specs.Streams.{is_switched, switched_of}
 use Rattle.program_follower.specs.Faults.{pids_in}
 use Rattle.program_follower.specs.Streaming.{next_place, first_on, AllFirst, AllRead, AllStartsRead, IsOne, begin_fault}
 use Rattle.program_follower.proofs.JudgingLemmas.{or_later}
@@ -196,13 +196,9 @@ pub starts_all_on : (rs new : List StartReader) (pids : List ℕ) (p : List ℕ)
     → ((d : StartReader) → ReadsStarts (slice_index_or rs x.0 d) x.1 past → ReadsStarts (slice_index_or new x.0 d) x.1 (p ∷ past)) → AllStartsRead new pids (p ∷ past)
 starts_all_on rs new pids p past x f h others reads = every_on (λ r pid. ReadsStarts r pid past) (λ r pid. ReadsStarts r pid (p ∷ past)) pids p (λ r pid o k. starts_off r pid p past o k) rs new x f h others reads
 
-payload_off : (pid : ℕ) (p : List ℕ) → is_some (payload p) ≡ false → payload_on pid p ≡ false
-unfolding payload_on
-payload_off pid p n = ap (λ b. on pid p && b) n ∙ and-false (on pid p)
-
 -- without payload, whatever PID it is of
 pub starts_all_passed : (rs : List StartReader) (pids : List ℕ) (p : List ℕ) (past : List (List ℕ)) → is_some (payload p) ≡ false → AllStartsRead rs pids past → AllStartsRead rs pids (p ∷ past)
-starts_all_passed rs pids p past n h = λ q x d k. starts_passed (slice_index_or rs x.0 d) x.1 p past (payload_off x.1 p n) (h q x d k)
+starts_all_passed rs pids p past n h = λ q x d k. starts_passed (slice_index_or rs x.0 d) x.1 p past (without-payload x.1 p n) (h q x d k)
 
 -- ---- the stream of a PID
 
@@ -301,3 +297,12 @@ some_reader = record { units = record { pid = 0; follower = record { pid = 0; la
 
 pub some_starts : StartReader
 some_starts = record { pid = 0; follower = record { pid = 0; last = None }; last = [] }
+
+pub in_switched : (x : ℕ) (ss : List Stream) → is_among x (pids_in ss) ≡ false → is_among x (pids_in (switched_of ss)) ≡ false
+in_switched x [] h = refl
+in_switched x (s ∷ ss) h =
+    let r = or_parts (s.pid == x) (is_among x (pids_in ss)) h in
+    let more = in_switched x ss r.1 in
+    by_test (is_switched s.kind)
+    (λ y. simp y (or_from (s.pid == x) (is_among x (pids_in (switched_of ss))) r.0 more))
+    (λ n. simp n more)

@@ -107,7 +107,7 @@ impl Starts {
 }
 
 /// What a packet of a stream is, by the payload with which it begins a unit, if it begins one. The clock passes the begin.
-#[tactic(auto, using(crate::proofs::PieceLemmas::high_start, crate::proofs::PieceLemmas::high_other, crate::proofs::PieceLemmas::stamp_in, crate::proofs::PieceLemmas::splits_in))]
+#[tactic(auto, using(crate::proofs::PieceLemmas::high_start, crate::proofs::PieceLemmas::high_other, unit_stream::proofs::ClockLemmas::stamp_is, unit_stream::proofs::ClockLemmas::splits_is))]
 #[inline(always)]
 fn pass(clock: &mut Clock, begun: Option<&[u8]>) -> Result<StartPacket, UnitFault>
     ensures clock { (pids : List ℕ) (pid : ℕ) (p : List ℕ) (past : List (List ℕ)) → IsOne pids pid p past

@@ -94,7 +94,7 @@ impl Streams {
 }
 
 /// What a packet of a stream is, by what it brings to the stream's units. The clock passes the begin of a unit.
-#[tactic(auto, using(crate::proofs::PieceLemmas::high_start, crate::proofs::PieceLemmas::high_other, unit_stream::proofs::ClockLemmas::begins_not, unit_stream::proofs::ClockLemmas::begins_repeat, unit_stream::proofs::ClockLemmas::begins_off, crate::proofs::PieceLemmas::stamp_in, crate::proofs::PieceLemmas::splits_in))]
+#[tactic(auto, using(crate::proofs::PieceLemmas::high_start, crate::proofs::PieceLemmas::high_other, unit_stream::proofs::ClockLemmas::begins_not, unit_stream::proofs::ClockLemmas::begins_repeat, unit_stream::proofs::ClockLemmas::begins_off, unit_stream::proofs::ClockLemmas::stamp_is, unit_stream::proofs::ClockLemmas::splits_is))]
 #[inline(always)]
 fn stream_packet(clock: &mut Clock, piece: Piece<'_>) -> Result<StreamPacket, UnitFault>
     ensures clock { (pids : List ℕ) (pid : ℕ) (p : List ℕ) (past : List (List ℕ)) → IsOne pids pid p past

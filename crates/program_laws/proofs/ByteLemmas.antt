@@ -6,7 +6,7 @@ use Rattle.std.proofs.lemmas.List.Elements.{All-from_recursion, recursion_from_A
 use Rattle.psi_section.specs.Sections.{given}
 use Rattle.wire_fields.specs.Numbers.{AreBytes}
 use Rattle.psi_section.proofs.ByteLemmas.{given_bytes}
-use Rattle.psi_section.proofs.GivenLemmas.{All-both}
+use Rattle.psi_section.proofs.GivenLemmas.{each-append}
 use Rattle.program_follower.specs.declared.purpose.Listed.{Listed}
 use Rattle.program_follower.specs.Program.{listed, since_pat, Table, table_of, tables, all_tables}
 use Rattle.program_laws.specs.Writing.{Along}
@@ -40,4 +40,4 @@ tables_bytes wanted p past (Some l) e h k = simp e (tables_each l.program (given
 pub all_bytes : (wanted : Option ℕ) (past : List (List ℕ)) → AllBytes past → AllByRecursion (λ (t : Table). AreBytes t.section) (all_tables wanted past)
 all_bytes wanted [] h = tt
 all_bytes wanted (p ∷ past) h =
-    All-both (λ (t : Table). AreBytes t.section) (all_tables wanted past) (tables wanted p past) (all_bytes wanted past h.1) (tables_bytes wanted p past (listed wanted past) refl h.0 h.1)
+    each-append (λ (t : Table). AreBytes t.section) (all_tables wanted past) (tables wanted p past) (all_bytes wanted past h.1) (tables_bytes wanted p past (listed wanted past) refl h.0 h.1)

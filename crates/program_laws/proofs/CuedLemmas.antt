@@ -23,7 +23,7 @@ use Rattle.program_laws.specs.Writing.{Along, Writing, written, table_out, Off, 
 use Rattle.program_laws.specs.Behind.{Passes, TakesAll, SameUnits}
 use Rattle.program_laws.specs.CueEntry.{EntryGoes}
 use Rattle.program_laws.specs.Cued.{On, cueing, stripping, CuedReads, CuedStreamReads}
-use Rattle.psi_section.proofs.GivenLemmas.{All-both, given_can_each}
+use Rattle.psi_section.proofs.GivenLemmas.{each-append, given_can_each}
 use Rattle.ts_packet.proofs.FieldLemmas.{off_payload}
 use Rattle.program_laws.proofs.ReadingLemmas.{none_at_pat, no_tables}
 use Rattle.program_follower.proofs.StepLemmas.{listed_stays, tables_at}
@@ -102,7 +102,7 @@ all_read wanted (p ∷ past) l e = by_known (listed wanted past) refl (λ f. all
   by_known (Some k) g ih =
       let same : k ≡ l = same_listed k l (sym (listed_stays wanted p past k g) ∙ e) in
       let here : listed wanted past ≡ Some l = g ∙ ap (λ x. let y : Option Listed = Some x in y) same in
-      All-both (IsRead l.program) (all_tables wanted past) (tables wanted p past) (ih here) (read_at wanted p past l here)
+      each-append (IsRead l.program) (all_tables wanted past) (tables wanted p past) (ih here) (read_at wanted p past l here)
 
 -- ---- what no fault says of PIDs
 
@@ -111,7 +111,7 @@ any_entries cue [] = refl
 any_entries cue (e ∷ es) = ap (λ b. lists_pid cue e || b) (any_entries cue es)
 
 -- one PID is none of some
-abbrev Apart : ℕ → List ℕ → Type 0
+abbrev pub Apart : ℕ → List ℕ → Type 0
 Apart a pids = AllByRecursion (λ pid. a ≡ pid → ⊥) pids
 
 apart_by : (a : ℕ) (f : ℕ → Bool) → f a ≡ true → (ss : List Stream) → list_any f (pids_in ss) ≡ false → Apart a (pids_in (switched_of ss))
@@ -123,7 +123,7 @@ apart_by a f h (s ∷ ss) k =
     (λ y. simp y ((λ e. let g : f a ≡ f s.pid = ap f e in let c : f a ≡ false = g ∙ r.0 in absurd (let t = sym h ∙ c in cc)), more))
     (λ n. simp n more)
 
-apart_on : (a : ℕ) (pids : List ℕ) → Apart a pids → (q : List ℕ) → on a q ≡ true → on_one pids q ≡ false
+pub apart_on : (a : ℕ) (pids : List ℕ) → Apart a pids → (q : List ℕ) → on a q ≡ true → on_one pids q ≡ false
 apart_on a [] h q y = refl
 apart_on a (pid ∷ pids) h q y = let n = off_other a pid q h.0 y in ap (λ b. b || on_one pids q) n ∙ apart_on a pids h.1 q y
 

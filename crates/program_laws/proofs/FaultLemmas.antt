@@ -20,12 +20,12 @@ use Rattle.program_follower.specs.Program.{pairs_of, listed_by, lists, first_lis
 use Rattle.program_follower.specs.Faults.{on_cue, if_bad, pmt_pid_fault, differs, pairs_fault, pat_fault, pats_fault, bad_pids, cue_used, same_streams, changed, too_long, map_fault, table_fault, tables_fault, maps_fault, cue_fault, as_network, network_fault, first_fault}
 use Rattle.unit_stream.specs.Faults.{unit_fault}
 use Rattle.program_laws.specs.Writing.{Along}
-use Rattle.program_laws.specs.Cued.{PairsAgree, PatsAgree, MapAgrees, NothingChanges, NoCuePackets}
+use Rattle.program_laws.specs.Cued.{PairsAgree, PatsAgree, MapAgrees, LaterTablesAgree, NoCuePackets}
 use Rattle.program_follower.proofs.JudgingLemmas.{same_is}
 use Rattle.program_follower.proofs.OptionLemmas.{none_both}
 use Rattle.program_laws.proofs.StepLemmas.{tables_grow, kept}
 use Rattle.program_follower.proofs.OptionLemmas.{option_or-assoc}
-use Rattle.psi_section.proofs.GivenLemmas.{All-both}
+use Rattle.psi_section.proofs.GivenLemmas.{each-append}
 use Rattle.program_laws.proofs.ReadingLemmas.{none_at_pat}
 use Rattle.program_follower.proofs.StepLemmas.{listed_stays}
 
@@ -201,14 +201,14 @@ all_agree c (p ∷ past) h =
     let known = known_map c.program past in
     let ts = tables c.program p past in
     let rest = first_map ts in
-    let both = All-both (λ (t : Table). MapAgrees (option_or known rest) t.program_map) (all_tables c.program past) ts
+    let both = each-append (λ (t : Table). MapAgrees (option_or known rest) t.program_map) (all_tables c.program past) ts
     (Each-map (λ (t : Table). MapAgrees known t.program_map) (λ (t : Table). MapAgrees (option_or known rest) t.program_map) (λ t g. still known rest t.program_map g) (all_tables c.program past) (all_agree c past r.0))
     (new_agree c (listed c.program past) known p past refl r.1.maps) in
     let e = tables_grow c.program p past in
     rw e both
 
-pub nothing_changes : NothingChanges
-nothing_changes c past h = record { pats = pats_along c past h; maps = all_agree c past h }
+pub later_tables_agree : LaterTablesAgree
+later_tables_agree c past h = record { pats = pats_along c past h; maps = all_agree c past h }
 
 -- all maps are sound
 pub same_listed : (k l : Listed) → Some k ≡ Some l → k ≡ l
@@ -232,7 +232,7 @@ all_sound c (p ∷ past) l h e =
       by_known (Some k) g m ih =
           let same : k ≡ l = same_listed k l (sym (listed_stays c.program p past k g) ∙ e) in
           let here : listed c.program past ≡ Some l = g ∙ ap (λ x. let y : Option Listed = Some x in y) same in
-          All-both (λ (t : Table). MapSound c l.pid t.program_map) (all_tables c.program past) (tables c.program p past) (ih here) (new_sound c l p past here m)
+          each-append (λ (t : Table). MapSound c l.pid t.program_map) (all_tables c.program past) (tables c.program p past) (ih here) (new_sound c l p past here m)
 
 -- ---- the cue PID
 
@@ -244,3 +244,10 @@ no_cue_packets c cue (p ∷ past) is_cue writes h =
     let b = not_if_bad (c.writes_cues && on_cue c.cue_pid p) CuePidUsed a.0 in
     let e : on cue p ≡ false = ap (λ o. on_cue o p) (sym is_cue) ∙ ap (λ x. x && on_cue c.cue_pid p) (sym writes) ∙ b in
     (e, no_cue_packets c cue past is_cue writes r.0)
+
+pub first_sound : (c : Purpose) (pid : ℕ) (ts : List Table) → AllByRecursion (λ (t : Table). MapSound c pid t.program_map) ts → MapSound c pid (first_map ts)
+first_sound c pid [] h = tt
+first_sound c pid (t ∷ ts) h = by_map t.program_map (first_map ts) h.0 (first_sound c pid ts h.1) where
+  by_map : (o x : Option ProgramMap) → MapSound c pid o → MapSound c pid x → MapSound c pid (option_or o x)
+  by_map None x g k = k
+  by_map (Some m) x g k = g

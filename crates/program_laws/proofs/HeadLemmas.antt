@@ -13,9 +13,9 @@ use Rattle.program_follower.specs.declared.purpose.Listed.{Listed}
 use Rattle.program_follower.specs.Program.{listed, since_pat, table_of, tables, first_map, known_map, behind_head}
 use Rattle.program_laws.specs.Writing.{number_on, Writing, section_out, packets_out, body, written}
 use Rattle.ts_packet.specs.Runs.{onto}
-use Rattle.program_laws.specs.Behind.{Passes, HeadPasses, OthersPass}
+use Rattle.program_laws.specs.Behind.{Passes, HeadPasses, OthersAreWritten}
 use Rattle.program_laws.proofs.StepLemmas.{tables_grow}
-use Rattle.psi_section.proofs.GivenLemmas.{All-both}
+use Rattle.psi_section.proofs.GivenLemmas.{each-append}
 use Rattle.program_laws.proofs.PacketLemmas.{one_past-below}
 use Rattle.psi_section.proofs.ReadBackLemmas.{IsPayloadOn, turn_carry}
 use Rattle.program_laws.proofs.ReadingLemmas.{none_at_pat}
@@ -116,7 +116,7 @@ module _ (takes : List ℕ → Bool) where
     head_step (Some l) h none k again =
         by_test (on l.pid p)
         (λ y. let e : whole (Some l) ≡ w.front p past ++ packets_out l.pid out (map (section_out w.change) (tables wanted p past)) = simp y refl in
-        let all = All-both Left (w.front p past) (packets_out l.pid out (map (section_out w.change) (tables wanted p past))) s.front (packets_left l h) in
+        let all = each-append Left (w.front p past) (packets_out l.pid out (map (section_out w.change) (tables wanted p past))) s.front (packets_left l h) in
         ap (λ qs. filter takes (behind_head wanted (onto out qs))) e
         ∙ left_behind wanted (w.front p past ++ packets_out l.pid out (map (section_out w.change) (tables wanted p past))) out all
         ∙ ap (filter takes) (nothing_behind wanted out k))
@@ -140,11 +140,11 @@ head_passes takes w wanted (p ∷ past) h s =
     let t = written_reads_again w wanted (p ∷ past) h in
     passed takes w wanted p past out s.0 (known_map wanted past) refl r.head t.head (head_passes takes w wanted past h.1 s.1)
 
-pub others_pass : OthersPass
-others_pass takes w wanted [] s = refl
-others_pass takes w wanted (p ∷ past) s =
+pub others_are_written : OthersAreWritten
+others_are_written takes w wanted [] s = refl
+others_are_written takes w wanted (p ∷ past) s =
     let out = written w wanted past in
     filter_onto takes (whole takes w wanted p past out s.0 (listed wanted past)) out
     ∙ ap (onto (filter takes out)) (block_taken takes w wanted p past out s.0)
-    ∙ ap (λ xs. onto xs (filter takes (p ∷ []))) (others_pass takes w wanted past s.1)
+    ∙ ap (λ xs. onto xs (filter takes (p ∷ []))) (others_are_written takes w wanted past s.1)
     ∙ sym (filter_onto takes (p ∷ []) past)

@@ -1,12 +1,12 @@
 -- Maps with an entry for cues have no fault.
 use Rattle.std.specs.Option.{option_or}
-use Rattle.std.proofs.Common.{◌≡◌, ℕ, ◌+◌, ◌<◌, List, [], ◌∷◌, ◌++◌, Bool, true, false, ◌||◌, ◌==◌, refl, sym, ap, ◌∙◌, arith, length, Option, Some, None, if◌then◌else◌}
+use Rattle.std.proofs.Common.{◌≡◌, ℕ, ◌+◌, ◌<◌, List, [], ◌∷◌, ◌++◌, Bool, true, false, ◌||◌, ◌==◌, refl, ap, ◌∙◌, arith, length, Option, Some, None, if◌then◌else◌}
 use Rattle.std.specs.Prelude.{nat_lt, option_map}
 use Rattle.std.specs.List.{list_any}
-use Rattle.std.proofs.lemmas.Bool.{ne_eqb, eqb-true, eq-eqb, or_from, or_parts}
+use Rattle.std.proofs.lemmas.Bool.{ne_eqb, or_from, or_parts}
 use Rattle.std.proofs.lemmas.List.{map-append}
 use Rattle.std.proofs.lemmas.List.Folds.{list_any-append}
-use Rattle.ts_packet.proofs.Cases.{by_test}
+use Rattle.ts_packet.proofs.Cases.{by_test, test-turned}
 use Rattle.psi_tables.specs.declared.stream.Stream.{Stream}
 use Rattle.psi_tables.specs.Streams.{pid_in, switched_of, is_switched, stream_of}
 use Rattle.psi_tables.specs.ProgramMap.{ProgramMap, streams_of}
@@ -37,15 +37,12 @@ twice_more : (x y : ℕ) (ys : List ℕ) → (y == x) ≡ false → is_twice x (
 twice_more x y [] h = simp h refl
 twice_more x y (z ∷ ys) h = ap (λ b. if z == x then b else is_twice x (ys ++ y ∷ [])) (in_more x y ys h) ∙ ap (λ b. if z == x then is_among x ys else b) (twice_more x y ys h)
 
-pub back_test : (x y : ℕ) → (x == y) ≡ false → (y == x) ≡ false
-back_test x y h = by_test (y == x) (λ t. absurd (let f : (x == y) ≡ true = eq-eqb x y (sym (eqb-true y x t)) in let g = sym f ∙ h in cc)) (λ n. n)
-
 switched_more : (cue : ℕ) (pids sw : List ℕ) → list_any (is_pid (Some cue)) sw ≡ false → list_any (bad_switched pids) sw ≡ false → list_any (bad_switched (pids ++ cue ∷ [])) sw ≡ false
 switched_more cue pids [] h k = refl
 switched_more cue pids (x ∷ sw) h k =
     let r = or_parts (x == cue) (list_any (is_pid (Some cue)) sw) h in
     let q = or_parts (bad_switched pids x) (list_any (bad_switched pids) sw) k in
-    let t = twice_more x cue pids (back_test x cue r.0) in
+    let t = twice_more x cue pids (test-turned x cue r.0) in
     or_from (bad_switched (pids ++ cue ∷ []) x) (list_any (bad_switched (pids ++ cue ∷ [])) sw) (ap (λ b. (x == 8191) || b) t ∙ q.0) (switched_more cue pids sw r.1 q.1)
 
 -- the entries

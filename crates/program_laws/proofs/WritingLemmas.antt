@@ -21,7 +21,7 @@ use Rattle.program_follower.specs.declared.purpose.Listed.{Listed}
 use Rattle.program_follower.specs.Program.{listed_as, listed_in, pairs_of, listed_by, lists, first_listed, listed, since_pat, Table, map_read, table_of, tables, all_tables, first_map}
 use Rattle.program_laws.specs.Writing.{Along, number_on, Writing, section_by, section_out, table_out, packets_out, body, written, Off, MapGoesOut, ChangedGoesOut, IsClearBehind, IsClear, WrittenReadsAgain}
 use Rattle.ts_packet.specs.Runs.{onto}
-use Rattle.psi_section.proofs.GivenLemmas.{All-both, given_can_each}
+use Rattle.psi_section.proofs.GivenLemmas.{each-append, given_can_each}
 use Rattle.program_laws.proofs.PacketLemmas.{Meets, one_past-below, fresh, meets_others, meets_own}
 use Rattle.psi_section.proofs.ReadBackLemmas.{IsPayloadOn, turn_carry}
 use Rattle.program_laws.proofs.ReadingLemmas.{listed_onto, since_onto, tables_onto, no_tables, none_at_pat, no_since}
@@ -196,7 +196,7 @@ module _ (w : Writing) (wanted : Option ℕ) (p : List ℕ) (past out : List (Li
         let nb = one_past-below (number_on pid out) in
         let carry = turn_carry pid n ss pb nb in
         let none = carry_off pid 0 qs b.pid carry in
-        let both = All-both (Off 0) front qs clear.front none in
+        let both = each-append (Off 0) front qs clear.front none in
         let z = others_alike 0 (front ++ qs) out past both r.zero in
         let off = off_other pid 0 p b.pid is in
         let g = given pid p (since_pat wanted past) in
@@ -219,20 +219,20 @@ module _ (w : Writing) (wanted : Option ℕ) (p : List ℕ) (past out : List (Li
       by_test (on 0 p)
       (λ y. let e : onto out (w.front p past ++ w.place p past) ≡ p ∷ onto out (w.front p past) = ap (λ qs. onto out (w.front p past ++ qs)) (clear.keeps y) ∙ onto-append out (w.front p past) (p ∷ []) in
       rw e (at_zero (w.front p past) clear.front none))
-      (λ n. before (w.front p past ++ w.place p past) (All-both (Off 0) (w.front p past) (w.place p past) clear.front (clear.place n)) n none)
+      (λ n. before (w.front p past ++ w.place p past) (each-append (Off 0) (w.front p past) (w.place p past) clear.front (clear.place n)) n none)
 
   step_off : IsClear w wanted p past → (l : Listed) → listed wanted past ≡ Some l → on l.pid p ≡ false → Reads w wanted (p ∷ past) (onto out (w.front p past ++ w.place p past))
   step_off clear l known off =
       let b = clear.behind l known in
       let front = w.front p past in
       let qs = front ++ w.place p past in
-      let offs = All-both (Off l.pid) front (w.place p past) b.front (b.place off) in
+      let offs = each-append (Off l.pid) front (w.place p past) b.front (b.place off) in
       passing l known qs offs off
       (by_test (on 0 p)
       (λ y. let e : onto out qs ≡ p ∷ onto out front = ap (λ xs. onto out (front ++ xs)) (clear.keeps y) ∙ onto-append out front (p ∷ []) in
       rw e (alike_on 0 p (onto out front) past (others_alike 0 front out past clear.front r.zero)))
       (λ n. alike_back 0 (p ∷ past) (onto out qs) (alike_off 0 p past (onto out qs) n (alike_back 0 (onto out qs) past
-      (others_alike 0 qs out past (All-both (Off 0) front (w.place p past) clear.front (clear.place n)) r.zero)))))
+      (others_alike 0 qs out past (each-append (Off 0) front (w.place p past) clear.front (clear.place n)) r.zero)))))
 
   step : IsClear w wanted p past → (o : Option Listed) → listed wanted past ≡ o → Reads w wanted (p ∷ past) (onto out (w.front p past ++ body w o p past (tables wanted p past) out))
   step clear None h = step_none clear h

@@ -20,8 +20,8 @@ HeadPasses = (takes : List ℕ → Bool) (w : Writing) (wanted : Option ℕ) (pa
     → filter takes (behind_head wanted (written w wanted past)) ≡ filter takes (behind_head wanted past)
 
 -- THE LAW OF THE OTHER PIDS: these packets stand in the whole stream as they did
-abbrev pub OthersPass : Type 0
-OthersPass = (takes : List ℕ → Bool) (w : Writing) (wanted : Option ℕ) (past : List (List ℕ)) → Along (Passes takes w wanted) past
+abbrev pub OthersAreWritten : Type 0
+OthersAreWritten = (takes : List ℕ → Bool) (w : Writing) (wanted : Option ℕ) (past : List (List ℕ)) → Along (Passes takes w wanted) past
     → filter takes (written w wanted past) ≡ filter takes past
 
 -- the test takes each payload packet of the PID

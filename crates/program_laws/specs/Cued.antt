@@ -35,8 +35,8 @@ pub record Agrees (c : Purpose) (past : List (List ℕ)) : Type 0 where
   pub pats : Along (PatsAgree c.program) past
   pub maps : AllByRecursion (λ (t : Table). MapAgrees (known_map c.program past) t.program_map) (all_tables c.program past)
 
-abbrev pub NothingChanges : Type 0
-NothingChanges = (c : Purpose) (past : List (List ℕ)) → first_fault c past ≡ None → Agrees c past
+abbrev pub LaterTablesAgree : Type 0
+LaterTablesAgree = (c : Purpose) (past : List (List ℕ)) → first_fault c past ≡ None → Agrees c past
 
 -- without fault no packet of a network to which cues are written is on their PID
 abbrev pub NoCuePackets : Type 0

@@ -2,11 +2,11 @@
 
 ghost use Rattle.program_laws.specs.Laws.{TablesGrow, Stays};
 ghost use Rattle.program_laws.specs.Writing.{WrittenReadsAgain};
-ghost use Rattle.program_laws.specs.Behind.{HeadPasses, OthersPass, OthersAreNoUnits};
+ghost use Rattle.program_laws.specs.Behind.{HeadPasses, OthersAreWritten, OthersAreNoUnits};
 ghost use Rattle.program_laws.specs.CueEntry.{EntryGoesOut};
 ghost use Rattle.program_laws.specs.Spliced.{EntryIsNoFault};
 ghost use Rattle.program_laws.specs.FirstFault.{OneMorePacket, FewMoreBytes, FaultlessBytes};
-ghost use Rattle.program_laws.specs.Cued.{NothingChanges, NoCuePackets, CuedStreamReads};
+ghost use Rattle.program_laws.specs.Cued.{LaterTablesAgree, NoCuePackets, CuedStreamReads};
 
 /// One packet more adds the tables that it finishes.
 pub fn tables_grow()
@@ -43,8 +43,8 @@ pub fn entry_goes_out()
 
 /// Without fault every later PAT gives the program the same PID, and every later map of it has
 /// the same switched streams and PCR PID.
-pub fn nothing_changes()
-    ensures { NothingChanges }
+pub fn later_tables_agree()
+    ensures { LaterTablesAgree }
 {}
 
 /// A network without fault, whatever packets of the cue PID are put in front of its packets, has its
@@ -54,8 +54,8 @@ pub fn cued_stream_reads()
 {}
 
 /// Packets of other PIDs stand in a written stream as they did.
-pub fn others_pass()
-    ensures { OthersPass }
+pub fn others_are_written()
+    ensures { OthersAreWritten }
 {}
 
 /// Without fault no packet of a network to which cues are written is on their PID.

@@ -12,7 +12,7 @@ use Rattle.psi_section.specs.declared.front.Front.TheVariants.{Nothing, Whole, P
 use Rattle.psi_section.specs.Sections.{front_of, is_good, Assembled, taken_past, taken, continued, started, payload_taken, unbroken, packet_taken, held, finished, given}
 use Rattle.wire_fields.specs.Numbers.{AreBytes}
 use Rattle.psi_section.proofs.FrontLemmas.{by_front, by_front_joined}
-use Rattle.psi_section.proofs.GivenLemmas.{All-both}
+use Rattle.psi_section.proofs.GivenLemmas.{each-append}
 
 abbrev IsByte : ℕ → Type 0
 IsByte b = b < 256
@@ -79,7 +79,7 @@ joined_bytes bs (Whole size) h = record { finished = (take_bytes size bs h, tt);
 
 continued_bytes : (part bs : List ℕ) → Bytes part → Bytes bs → BothBytes (continued part bs)
 continued_bytes [] bs h k = record { finished = tt; part = tt }
-continued_bytes (x ∷ xs) bs h k = joined_bytes ((x ∷ xs) ++ bs) (front_of ((x ∷ xs) ++ bs)) (All-both IsByte (x ∷ xs) bs h k)
+continued_bytes (x ∷ xs) bs h k = joined_bytes ((x ∷ xs) ++ bs) (front_of ((x ∷ xs) ++ bs)) (each-append IsByte (x ∷ xs) bs h k)
 
 started_bytes : (part bs : List ℕ) → Bytes part → Bytes bs → BothBytes (started part bs)
 started_bytes part [] h k = record { finished = tt; part = tt }
@@ -87,7 +87,7 @@ started_bytes part (pointer ∷ bs) h k =
     let a = continued_bytes part (take pointer bs) h (take_bytes pointer bs k.1) in
     let b = taken_bytes (drop pointer bs) (drop_bytes pointer bs k.1) 0 in
     by_test (nat_le pointer (length bs))
-    (λ y. simp y (record { finished = All-both Bytes (continued part (take pointer bs)).finished (taken (drop pointer bs)).finished a.finished b.finished; part = b.part }))
+    (λ y. simp y (record { finished = each-append Bytes (continued part (take pointer bs)).finished (taken (drop pointer bs)).finished a.finished b.finished; part = b.part }))
     (λ n. simp n (record { finished = tt; part = tt }))
 
 payload_both : (b : Bool) (part bs : List ℕ) → Bytes part → Bytes bs → BothBytes (payload_taken b part bs)

@@ -42,15 +42,15 @@ continued_whole : (part bs : List ℕ) → AllByRecursion IsWhole (continued par
 continued_whole [] bs = tt
 continued_whole (x ∷ xs) bs = joined_whole ((x ∷ xs) ++ bs) (front_of ((x ∷ xs) ++ bs)) refl
 
-pub All-both : {A : Type 0} (P : A → Type 0) (xs ys : List A) → AllByRecursion P xs → AllByRecursion P ys → AllByRecursion P (xs ++ ys)
-All-both P [] ys h k = k
-All-both P (x ∷ xs) ys h k = (h.0, All-both P xs ys h.1 k)
+pub each-append : {A : Type 0} (P : A → Type 0) (xs ys : List A) → AllByRecursion P xs → AllByRecursion P ys → AllByRecursion P (xs ++ ys)
+each-append P [] ys h k = k
+each-append P (x ∷ xs) ys h k = (h.0, each-append P xs ys h.1 k)
 
 started_whole : (part bs : List ℕ) → AllByRecursion IsWhole (started part bs).finished
 started_whole part [] = tt
 started_whole part (pointer ∷ bs) =
     by_test (nat_le pointer (length bs))
-    (λ y. simp y (All-both IsWhole (continued part (take pointer bs)).finished (taken (drop pointer bs)).finished (continued_whole part (take pointer bs)) (taken_whole (drop pointer bs) 0)))
+    (λ y. simp y (each-append IsWhole (continued part (take pointer bs)).finished (taken (drop pointer bs)).finished (continued_whole part (take pointer bs)) (taken_whole (drop pointer bs) 0)))
     (λ n. simp n tt)
 
 payload_whole : (b : Bool) (part bs : List ℕ) → AllByRecursion IsWhole (payload_taken b part bs).finished

@@ -1,12 +1,11 @@
 -- The packets of a section.
-use Rattle.std.proofs.Common.{◌≡◌, ℕ, suc, ◌+◌, ◌-◌, ◌/◌, ◌%◌, ◌<◌, ◌≤◌, List, [], ◌∷◌, ◌++◌, true, ◌==◌, None, refl, sym, ap, ◌∙◌, arith, length, take, drop, min, slice_index, replicate, ⊎_elim, length-append, append_assoc, Result, Ok, Err}
-use Rattle.std.specs.Prelude.{OnOk, IfErr}
+use Rattle.std.proofs.Common.{◌≡◌, ℕ, suc, ◌+◌, ◌-◌, ◌/◌, ◌%◌, ◌<◌, ◌≤◌, List, [], ◌∷◌, ◌++◌, true, ◌==◌, None, refl, sym, ap, ◌∙◌, arith, length, take, drop, min, slice_index, replicate, length-append, append_assoc}
+use Rattle.ts_packet.proofs.FillingLemmas.{drop-min, take-min, count-more}
 use Rattle.psi_section.specs.declared.packetiser.Packetiser.{Packetiser}
-use Rattle.std.proofs.lemmas.Bool.{eq-eqb, cases_lt}
-use Rattle.std.proofs.lemmas.List.{drop-replicate, take_min, length-drop, drop-drop}
+use Rattle.std.proofs.lemmas.Bool.{eq-eqb}
+use Rattle.std.proofs.lemmas.List.{drop-replicate, length-drop, drop-drop}
 use Rattle.std.proofs.lemmas.Slice.{between_to_end}
-use Rattle.std.proofs.Math.Nat.{min_comm, le_refl}
-use Rattle.std.proofs.Math.ListN.{drop_of_length-le}
+use Rattle.std.proofs.Math.Nat.{le_refl}
 use Rattle.std.specs.Prelude.{slice_set}
 use borrow.Rule.Slice.PartMut.{put_mid}
 use Rattle.ts_packet.specs.Filling.{packets_for}
@@ -21,24 +20,12 @@ no_fault p s a =
     let t : (slice_index p 0 == 71) ≡ true = eq-eqb (slice_index p 0) 71 s in
     by_test (in_error p) (λ e. simp (t, e)) (λ e. simp (t, e, a))
 
-cut : (room k : ℕ) (s : List ℕ) → k ≡ min (length s) room → take k s ≡ take room s
-cut room k s h = ap (λ n. take n s) (h ∙ min_comm (length s) room) ∙ take_min room s
-
 left_over : (room k : ℕ) (s : List ℕ) → k ≡ min (length s) room → room - k ≡ room - length s
 left_over room k s h = omega arith
 
 pub filled : (room k : ℕ) (ys s : List ℕ) → ys ≡ take k s → k ≡ min (length s) room → ys ++ drop k (replicate room 0xFF) ≡ padded room s
 filled room k ys s e h =
-    ap (λ l. l ++ drop k (replicate room 0xFF)) (e ∙ cut room k s h) ∙ ap (λ l. take room s ++ l) (drop-replicate k room 0xFF ∙ ap (λ n. replicate n 0xFF) (left_over room k s h))
-
-min_right : (n m : ℕ) → n < m → min m n ≡ n
-min_right n m h = omega arith
-
-min_left : (n m : ℕ) → m ≤ n → min m n ≡ m
-min_left n m h = omega arith
-
-drop-min : (n : ℕ) (bs : List ℕ) → drop (min (length bs) n) bs ≡ drop n bs
-drop-min n bs = ⊎_elim (λ h. ap (λ x. drop x bs) (min_right n (length bs) h)) (λ h. ap (λ x. drop x bs) (min_left n (length bs) h) ∙ drop_of_length-le bs (le_refl (length bs)) ∙ sym (drop_of_length-le bs h)) (cases_lt n (length bs))
+    ap (λ l. l ++ drop k (replicate room 0xFF)) (e ∙ take-min room k s h) ∙ ap (λ l. take room s ++ l) (drop-replicate k room 0xFF ∙ ap (λ n. replicate n 0xFF) (left_over room k s h))
 
 pub next_made : (h ys s : List ℕ) (pid n k : ℕ) → h ≡ 0x47 ∷ (pid / 256) ∷ pid % 256 ∷ (16 + n) ∷ replicate 184 0xFF → ys ≡ take k s → k ≡ min (length s) 184
     → put_mid 4 (4 + k - 4) h ys ≡ next_packet pid n s
@@ -57,9 +44,6 @@ first_made h ys s pid n k e t m =
     ∙ ap (λ l. 0x47 ∷ (pid / 256 + 64) ∷ pid % 256 ∷ (16 + n) ∷ 0 ∷ l) (filled 183 k ys s t m)
 
 -- ---- the packets behind the first
-
-pub count-more : (size : ℕ) → 0 < size → packets_for size ≡ suc (packets_for (size - 184))
-count-more size h = omega arith
 
 pub rest-none : (pid n : ℕ) (bs : List ℕ) → length bs ≡ 0 → rest_packets pid n bs ≡ []
 rest-none pid n bs h = ap (λ k. later_packets (packets_for k) pid n bs) h
@@ -115,14 +99,6 @@ module _ (p0 n0 q n m : ℕ) (s : List ℕ) (first : List ℕ) (made : first ≡
 
   pub whole_behind : (ps : List (List ℕ)) → (ps ++ first ∷ []) ++ rest_packets q n (take (length s - m) (drop m s)) ≡ ps ++ section_packets p0 n0 s
   whole_behind ps = append_assoc ps (first ∷ []) (rest_packets q n (take (length s - m) (drop m s))) ∙ ap (λ x. ps ++ x) (sym whole_put)
-
-pub on_ok_more : {T E : Type 0} {P Q : Type 0} (r : Result T E) → (P → Q) → OnOk r P → OnOk r Q
-on_ok_more (Ok x) f h = f h
-on_ok_more (Err e) f h = h
-
-pub if_err_more : {T E : Type 0} {P Q : E → Type 0} (r : Result T E) → ((e : E) → P e → Q e) → IfErr r P → IfErr r Q
-if_err_more (Ok x) f h = h
-if_err_more (Err e) f h = f e h
 
 pub puts_more : (old mid new : Packetiser) (first : List ℕ) (rest all : List (List ℕ)) → Puts mid old.pid ((old.counter + 1) % 16) → all ≡ first ∷ rest
     → PutsAfter new mid (length rest) → PutsAfter new old (length all)

@@ -24,7 +24,7 @@ use Rattle.std.proofs.lemmas.List.Elements.{All-head, All-tail}
 use Rattle.psi_section.specs.Packetising.{packets_in_turn}
 use Rattle.psi_section.proofs.RunLemmas.{original_gives, original_holds, original_fails, sections_after-append}
 use Rattle.std.specs.List.{AllByRecursion}
-use Rattle.psi_section.proofs.GivenLemmas.{All-both}
+use Rattle.psi_section.proofs.GivenLemmas.{each-append}
 use Rattle.psi_section.proofs.PacketiserLemmas.{rest-none}
 
 -- ---- the packets' fields
@@ -371,7 +371,7 @@ section_carry pid n s pb nb = (first_on pid n s pb nb, later_carry _ pid ((n + 1
 pub turn_carry : (pid n : ℕ) (ss : List (List ℕ)) → pid < 8192 → n < 16 → AllByRecursion (IsPayloadOn pid) (packets_in_turn pid n ss)
 turn_carry pid n [] pb nb = tt
 turn_carry pid n (s ∷ ss) pb nb =
-    All-both (IsPayloadOn pid) (section_packets pid n s) (packets_in_turn pid ((n + length (section_packets pid n s)) % 16) ss) (section_carry pid n s pb nb)
+    each-append (IsPayloadOn pid) (section_packets pid n s) (packets_in_turn pid ((n + length (section_packets pid n s)) % 16) ss) (section_carry pid n s pb nb)
     (turn_carry pid ((n + length (section_packets pid n s)) % 16) ss pb (omega arith))
 
 -- ---- one section after another

@@ -1,5 +1,5 @@
 -- What a frame that is whole says of the bytes.
-use Rattle.std.proofs.Common.{◌≡◌, ◌≢◌, ℕ, ◌-◌, ◌≤◌, List, length, Bool, true, false, Option, Some, None, refl, sym, ap, ◌∙◌, arith}
+use Rattle.std.proofs.Common.{◌≡◌, ◌≢◌, ℕ, ◌-◌, ◌≤◌, List, length, Bool, true, false, Option, Some, None, refl, sym, ap, ◌∙◌, arith, [], ◌∷◌, ◌++◌}
 use Rattle.std.specs.Prelude.{nat_lt, if◌then◌else◌}
 use Rattle.std.proofs.lemmas.Bool.{ltb-false, le-ltb}
 use Rattle.scte104_codec.specs.declared.framing.Frame.TheVariants.{NeedMore, Whole}
@@ -87,3 +87,20 @@ least_at_most bytes = grind arith
 
 pub least_several : (bytes : List ℕ) → number16_at bytes 0 ≡ 65535 → least_size bytes ≡ 12
 least_several bytes e = rw e refl
+
+-- ---- what stands at the front
+
+pub least_twelve : (bytes : List ℕ) → 12 ≤ least_size bytes
+least_twelve bytes = grind arith
+
+pub size_goes_on : (xs more : List ℕ) → 4 ≤ length xs → size_in (xs ++ more) ≡ size_in xs
+unfolding size_in number16_at
+size_goes_on [] more le = absurd (omega arith)
+size_goes_on (a ∷ []) more le = absurd (omega arith)
+size_goes_on (a ∷ b ∷ []) more le = absurd (omega arith)
+size_goes_on (a ∷ b ∷ c ∷ []) more le = absurd (omega arith)
+size_goes_on (a ∷ b ∷ c ∷ d ∷ xs) more le = refl
+
+pub frame_whole : (bytes : List ℕ) (size : ℕ) → 4 ≤ length bytes → size_in bytes ≡ Some size → size ≤ length bytes → frame_of bytes ≡ Whole size
+unfolding frame_of
+frame_whole bytes size four sized fits = rw (le-ltb (length bytes) 4 four, sized, le-ltb (length bytes) size fits) refl

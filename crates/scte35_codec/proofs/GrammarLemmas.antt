@@ -3,6 +3,7 @@ use Rattle.std.proofs.Common.{◌≡◌, ◌≢◌, ℕ, ◌+◌, Bool, true, fa
 use Rattle.std.specs.Prelude.{not, ◌||◌, nat_lt, ◌==◌, if◌then◌else◌}
 use Rattle.std.proofs.lemmas.Bool.{cases_lt, cases_eq, ltb-false, le-ltb, eqb-true, ne_eqb}
 use Rattle.std.proofs.lemmas.List.{length-append}
+use Rattle.std.proofs.Math.Bool.{or-true}
 use Rattle.scte35_codec.specs.declared.insert.SpliceInsert.{SpliceInsert}
 use Rattle.scte35_codec.specs.declared.insert.Command.{Command}
 use Rattle.scte35_codec.specs.declared.insert.Command.TheVariants.{Cancelled, Components, Inserted}
@@ -33,15 +34,11 @@ behind_sound : (stated size : ℕ) (rest : List ℕ) (ds : List SpliceDescriptor
 unfolding behind_command
 behind_sound stated size rest ds h = behind_by (stated == 4095) (stated + length rest == size) stated size rest ds refl refl h
 
-or_right : (b : Bool) → (b || true) ≡ true
-or_right true = refl
-or_right false = refl
-
 behind_back : (stated size : ℕ) (rest : List ℕ) (ds : List SpliceDescriptor) → (stated ≡ 4095) ⊎ (stated + length rest ≡ size) → HasLoop ds rest → behind_command stated size rest ≡ Some ds
 unfolding behind_command
 behind_back stated size rest ds (inl e) loop = rw e (loop_back rest ds loop)
 behind_back stated size rest ds (inr e) loop =
-    rw (eq-eqb (stated + length rest) size e, or_right (stated == 4095)) (loop_back rest ds loop)
+    rw (eq-eqb (stated + length rest) size e, or-true (stated == 4095)) (loop_back rest ds loop)
 
 has_command : (stated : ℕ) (Is : List ℕ → Type 0) (ds : List SpliceDescriptor) (part rest : List ℕ) → HasFront Is part rest → Behind stated (length part) rest ds → HasCommand stated Is ds part
 has_command stated Is ds part rest taken behind = record {

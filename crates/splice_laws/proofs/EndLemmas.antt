@@ -2,18 +2,18 @@
 use Rattle.std.specs.Prelude.{ℤ, ◌≤ℤ◌, All, length, take, drop, flat_map, reverse, if◌then◌else◌, suc}
 use Rattle.std.proofs.Common.{◌≡◌, ℕ, ◌≤◌, List, [], ◌∷◌, ◌++◌, Bool, true, false, ◌⊎◌, inl, inr, refl, sym, ap, ◌∙◌, Option, None, Some, arith, append_assoc, length-append}
 use Rattle.std.proofs.lemmas.Int.{ints}
-use Rattle.std.proofs.lemmas.List.{append-nil}
+use Rattle.std.proofs.lemmas.List.{append-nil, drop_at}
 use Rattle.std.proofs.lemmas.List.Elements.{All-head, All-tail, All-cons, All-nil}
 use lib.Signed.{lt_z}
 use Rattle.ts_packet.specs.Runs.{Seen, seen_after}
-use Rattle.ts_packet.proofs.Cases.{by_test}
+use Rattle.ts_packet.proofs.Cases.{by_test, true_or_false}
 use Rattle.ts_packet.proofs.RunLemmas.{onto}
 use Rattle.splice_laws.specs.Splicing.{PlayedEvent, SliceUnit, Out, TimedStream, at_or_past, begun, closed, as_inserted, kept, inserted, rest, all_inserted, all_rest}
 use Rattle.splice_laws.specs.Laws.{Risen, IsStream, CountsAt, CountsOver}
 use Rattle.splice_laws.specs.Settled.{IsAhead, IsSettled}
 use Rattle.splice_laws.specs.Ends.{up_to_end, longest_front, sent, sent_at, unsent, sent_whole, EndsAt, EndSoon, SentIsPlaced}
 use Rattle.splice_laws.proofs.TimeLemmas.{due-later}
-use Rattle.splice_laws.proofs.StepLemmas.{true_or_false, or_left}
+use Rattle.splice_laws.proofs.StepLemmas.{or_left}
 use Rattle.splice_laws.proofs.HistoryLemmas.{closed-begun}
 use Rattle.splice_laws.proofs.PlacedLemmas.{counted_is_placed}
 
@@ -76,12 +76,6 @@ front-earlier (u ∷ us) a b h h' g l s =
 
 -- ---- one event
 
-same-risen : (h : Option ℤ) → Risen h h
-same-risen None = tt
-same-risen (Some a) = at a where
-  at : (a : ℤ) → a ≤ℤ a
-  at a = grind (arith, ints)
-
 -- a time that is past the end, and not past the greatest
 pub not-ahead : (edge : ℤ) (t h : Option ℤ) → Risen t h → at_or_past edge t ≡ true → IsAhead h edge → ⊥
 not-ahead edge None h w a k = true_or_false false a refl
@@ -115,10 +109,6 @@ pick_running c b d old all run none e f g = rw (e, f, g) refl
 
 pick_closed : {A : Type 0} (c b d : Bool) (old all run none : A) → c ≡ false → b ≡ true → d ≡ true → (if c then old else (if b then (if d then all else run) else none)) ≡ all
 pick_closed c b d old all run none e f g = rw (e, f, g) refl
-
-pub drop-front : {A : Type 0} (a b : List A) → drop (length a) (a ++ b) ≡ b
-drop-front [] b = refl
-drop-front (u ∷ a) b = drop-front a b
 
 module _ (r : TimedStream) (k : IsStream r) (x : PlayedEvent) (units : List SliceUnit) (stop : List (List ℕ) → ℤ) where
   abbrev pub Since : List (List ℕ) → Type 0
@@ -207,7 +197,7 @@ module _ (r : TimedStream) (k : IsStream r) (x : PlayedEvent) (units : List Slic
 
   pub same-rest : (past : List (List ℕ)) → unsent r x units stop past ≡ rest r x (whole past) number_out past
   same-rest past = by_test (begun r x past)
-      (λ b. sym (drop-front (out past) (unsent r x units stop past)) ∙ taken (begun r x past) b)
+      (λ b. sym ((drop_at (out past) (unsent r x units stop past) (length (out past)) refl)) ∙ taken (begun r x past) b)
       (λ b. simp b) where
         taken : (b : Bool) → b ≡ true → drop (length (out past)) (whole past) ≡ (if b then drop (number_out past) (whole past) else [])
         taken true e = refl

@@ -1,11 +1,11 @@
 -- What holds of events at every past.
 use Rattle.std.specs.Prelude.{ℤ, ◌≤ℤ◌}
 use Rattle.std.proofs.Common.{◌≡◌, ℕ, ◌≤◌, List, [], ◌∷◌, length, true, false, not, ◌&&◌, ap, Option, arith}
-use Rattle.ts_packet.proofs.Cases.{by_test}
+use Rattle.ts_packet.proofs.Cases.{by_test, true_or_false}
 use Rattle.splice_laws.specs.Splicing.{PlayedEvent, SliceUnit, TimedStream, at_or_past, holds, stands, comes, passed, opens, begun, closed, front, out_of}
 use Rattle.splice_laws.specs.Laws.{Risen, IsStream, OutGrows}
 use Rattle.splice_laws.proofs.TimeLemmas.{stands-later, past_lower, holds-past, holds-below, due-later}
-use Rattle.splice_laws.proofs.StepLemmas.{true_or_false, step_passed, step_lower, step_dead, step_begun, step_inside, count-grows}
+use Rattle.splice_laws.proofs.StepLemmas.{step_passed, step_lower, step_dead, step_begun, step_inside, count-grows}
 
 front-later : (us : List SliceUnit) (h h' : Option ℤ) → Risen h h' → front us h ≤ front us h'
 front-later [] h h' k = omega arith

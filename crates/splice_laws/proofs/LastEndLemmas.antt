@@ -1,20 +1,19 @@
 -- In a conditioned stream a slice is closed by a unit at or past its last end.
 use Rattle.std.specs.Prelude.{ℤ, All, length, drop, flat_map, reverse, if◌then◌else◌}
 use Rattle.std.proofs.Common.{◌≡◌, ℕ, List, [], ◌∷◌, ◌++◌, Bool, true, false, not, ◌&&◌, ◌||◌, ◌⊎◌, inl, inr, refl, sym, ap, ◌∙◌}
-use Rattle.std.proofs.lemmas.List.{append-nil}
+use Rattle.std.proofs.lemmas.List.{append-nil, drop_at}
 use Rattle.std.proofs.lemmas.List.Elements.{All-head, All-tail}
 use Rattle.ts_packet.specs.Runs.{Seen, seen_after}
-use Rattle.ts_packet.proofs.Cases.{by_test}
+use Rattle.ts_packet.proofs.Cases.{by_test, true_or_false}
 use Rattle.ts_packet.proofs.RunLemmas.{onto}
 use Rattle.splice_laws.specs.Splicing.{PlayedEvent, SliceUnit, Out, TimedStream, at_or_past, holds, passed, opens, begun, closed, as_inserted, kept, slice_at, all_slices_at}
 use Rattle.splice_laws.specs.Laws.{IsStream, IsCrossedOnce, IsConditioned}
 use Rattle.splice_laws.specs.Settled.{IsAhead, NeverPassesHigh}
 use Rattle.splice_laws.specs.Ends.{up_to_end, sent, unsent, sent_whole, EndsAt, EndSoon, EndsMayComeEarlier}
 use Rattle.splice_laws.proofs.TimeLemmas.{holds-past, holds-or_past, not-below, timed_past}
-use Rattle.splice_laws.proofs.StepLemmas.{true_or_false}
 use Rattle.splice_laws.proofs.HistoryLemmas.{begun-passed, running-inside}
 use Rattle.splice_laws.proofs.SpliceLemmas.{Crossed, begun-stays}
-use Rattle.splice_laws.proofs.EndLemmas.{not-ahead, settled-or, run_of, run-front, drop-front, Since, sent-running, sent-closing, sent_is_placed}
+use Rattle.splice_laws.proofs.EndLemmas.{not-ahead, settled-or, run_of, run-front, Since, sent-running, sent-closing, sent_is_placed}
 
 module _ (r : TimedStream) (k : IsStream r) (w : NeverPassesHigh r) (x : PlayedEvent) (units : List SliceUnit) (stop : List (List ℕ) → ℤ) where
   abbrev CrossedSince : List (List ℕ) → Type 0
@@ -80,7 +79,7 @@ module _ (r : TimedStream) (k : IsStream r) (w : NeverPassesHigh r) (x : PlayedE
           picked a d e f = rw (e, f) refl
 
         joins : (a b more : List SliceUnit) → b ≡ a ++ more → a ++ drop (length a) b ≡ b
-        joins a b more h = ap (λ l. a ++ drop (length a) l) h ∙ ap (λ l. a ++ l) (drop-front a more) ∙ sym h
+        joins a b more h = ap (λ l. a ++ drop (length a) l) h ∙ ap (λ l. a ++ l) ((drop_at a more (length a) refl)) ∙ sym h
 
   since : (past ps : List (List ℕ)) → Since r k x units stop past → CrossedSince past → All (EndsAt r x stop) (seen_after past ps) → All (Crossed r k x.start) (seen_after past ps) →
       Since r k x units stop (onto past ps) × CrossedSince (onto past ps)

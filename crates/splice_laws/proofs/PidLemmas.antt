@@ -10,7 +10,7 @@ use Rattle.splice_laws.specs.Laws.{Risen, PidsAreStreams}
 max-above : (a b : ℤ) → a ≤ℤ int_max a b
 max-above a b = grind (arith, ints)
 
-same-risen : (h : Option ℤ) → Risen h h
+pub same-risen : (h : Option ℤ) → Risen h h
 same-risen None = tt
 same-risen (Some a) = at a where
   at : (a : ℤ) → a ≤ℤ a

@@ -4,12 +4,13 @@ use Rattle.std.proofs.Common.{◌≡◌, ℕ, List, [], ◌∷◌, ◌++◌, Boo
 use Rattle.std.proofs.lemmas.List.{append-nil, map-append}
 use Rattle.std.proofs.lemmas.List.Elements.{All-head, All-tail, All-cons, All-nil}
 use Rattle.ts_packet.specs.Runs.{Seen, seen_after}
-use Rattle.ts_packet.proofs.Cases.{by_test}
+use Rattle.ts_packet.proofs.Cases.{by_test, true_or_false}
 use Rattle.ts_packet.proofs.RunLemmas.{onto}
+use Rattle.std.proofs.Math.Seq.{drop-length}
 use Rattle.splice_laws.specs.Splicing.{PlayedEvent, SliceUnit, Out, TimedStream, Network, Inserted, holds, outside, comes, passed, opens, begun, closed, out_of, inserted, rest, as_inserted, kept, all_inserted, all_rest, slice_at, all_slices_at, placed}
 use Rattle.splice_laws.specs.Laws.{IsStream, EndsBeforeAll, AreOrdered, CountsAt, CountsOver, CountedIsPlaced, CarriedIsPlaced}
 use Rattle.splice_laws.proofs.TimeLemmas.{starts_ordered, holds-below}
-use Rattle.splice_laws.proofs.StepLemmas.{true_or_false, or_left, both, drop-all, drop-take, joined_one}
+use Rattle.splice_laws.proofs.StepLemmas.{or_left, both, drop-take, joined_one}
 use Rattle.splice_laws.proofs.HistoryLemmas.{passed-lower, begun-passed, passed-dead, closed-begun, running-inside, out-grows, alone}
 
 module _ (r : TimedStream) (k : IsStream r) where
@@ -101,7 +102,7 @@ module _ (r : TimedStream) (k : IsStream r) (slice : PlayedEvent → List SliceU
   -- an event that does not run has no rest
   no_rest : (x : PlayedEvent) (past : List (List ℕ)) → CountsAt r x (slice x) (out x) past → (begun r x past && not (closed r x past)) ≡ false → rest r x (slice x) (out x) past ≡ []
   no_rest x past a n = by_test (begun r x past)
-      (λ b. by_test (closed r x past) (λ c. let e = a.ends c in simp (b, e) (drop-all (slice x))) (λ c. let f = simp (b, c) at n in cc))
+      (λ b. by_test (closed r x past) (λ c. let e = a.ends c in simp (b, e) (drop-length (slice x))) (λ c. let f = simp (b, c) at n in cc))
       (λ b. simp b)
 
   -- either nothing is left of it, or none behind it puts anything

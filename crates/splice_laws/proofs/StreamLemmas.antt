@@ -1,28 +1,24 @@
 -- From all streams to one.
 use Rattle.std.specs.Prelude.{◌≤ℤ◌, flat_map, if◌then◌else◌, ◌==◌, All, ℤ, reverse}
-use Rattle.std.proofs.Common.{◌≡◌, ℕ, List, [], ◌∷◌, ◌++◌, Bool, true, false, not, ◌&&◌, ◌||◌, ◌⊎◌, inl, inr, refl, sym, ap, ◌∙◌, append_assoc, arith}
+use Rattle.std.proofs.Common.{◌≡◌, ℕ, List, [], ◌∷◌, ◌++◌, Bool, true, false, not, ◌&&◌, ◌||◌, ◌⊎◌, inl, inr, refl, sym, ap, ◌∙◌, append_assoc}
 use Rattle.std.proofs.lemmas.List.{append-nil}
 use Rattle.std.proofs.lemmas.List.Elements.{All-head, All-tail, All-cons, All-nil}
-use Rattle.std.proofs.lemmas.Bool.Decides.{nat_tests}
 use Rattle.std.proofs.lemmas.Bool.{eqb-true}
 use Rattle.ts_packet.specs.Fields.{payload_on, on, pid_of, is_among}
 use Rattle.ts_packet.specs.Runs.{Seen, seen_after}
-use Rattle.ts_packet.proofs.Cases.{by_test}
+use Rattle.ts_packet.proofs.Cases.{by_test, test-same, true_or_false}
 use Rattle.ts_packet.proofs.FieldLemmas.{payload_on-on}
 use Rattle.ts_packet.proofs.RunLemmas.{onto}
 use Rattle.unit_stream.specs.Times.{unit_time}
 use Rattle.splice_laws.specs.Splicing.{PlayedEvent, SliceUnit, Out, Network, Inserted, TimedStream, stream, begun, closed, out_of, inserted, rest, as_inserted, kept, outside}
 use Rattle.splice_laws.specs.Laws.{IsStream, EndsBeforeAll, AreOrdered, CountsOver}
 use Rattle.splice_laws.specs.Streams.{Act, Through, Insert, closing, running, insert_on, all_closing, all_running, on_each, is_dropped, spliced_at, of_stream, IsOnce, StreamsCarryByCount, StreamsCarry, StreamsAreSpliced, StreamsCarryNow}
-use Rattle.splice_laws.proofs.StepLemmas.{true_or_false, or_left}
+use Rattle.splice_laws.proofs.StepLemmas.{or_left}
 use Rattle.splice_laws.proofs.PidLemmas.{pids_are_streams}
 use Rattle.splice_laws.specs.Ends.{sent_at, unsent}
 use Rattle.splice_laws.proofs.EndLemmas.{slice, count, AllSince, AllEnds, since_more, all_ends, ends_counted, same-at}
 use Rattle.splice_laws.proofs.PidLaws.{carries_splice_units}
 use Rattle.splice_laws.proofs.PlacedLemmas.{silent, out_counts_all, as_inserted-append, nothing_new, swap, AllAt, AllCounted, counted_head, counted_tail, all_counted}
-
-test-same : (q : ℕ) → (q == q) ≡ true
-test-same q = grind (arith, nat_tests)
 
 pub same-pid : (q pid : ℕ) (p : List ℕ) → payload_on q p ≡ true → payload_on pid p ≡ true → q ≡ pid
 unfolding on

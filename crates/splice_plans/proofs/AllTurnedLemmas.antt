@@ -62,41 +62,41 @@ value-at xs i = Rattle.std.proofs.Math.ListN.get_or-map (λ (x : Entry Plan). x.
 -- one more plan is turned
 module _ (ads : Adverts) (stream time at : ℕ) (old now : ArmedEvents Plan) (keeps : KeepsEvents old now) (entry : Entry Plan) (plan : Plan)
     (below : at < length now.obeyed.table.entries.items) (there : entry ≡ slice_index_or now.obeyed.table.entries.items at entry)
-    (plan_is : (line : Option ℤ) (e : Standing) → entry.event ≡ on_ring e → IsWithin line e → IsNearHigh line (place line time) → plan ≡ plan_turned e (place line time) (is_played ads e) stream entry.value)
-    (line : Option ℤ) (es : List Standing) (s : StandsFor old.obeyed.table line es) (near : IsNearHigh line (place line time)) where
+    (plan_is : (latest : Option ℤ) (e : Standing) → entry.event ≡ on_ring e → IsWithin latest e → IsNearHigh latest (place latest time) → plan ≡ plan_turned e (place latest time) (is_played ads e) stream entry.value)
+    (latest : Option ℤ) (es : List Standing) (s : StandsFor old.obeyed.table latest es) (near : IsNearHigh latest (place latest time)) where
   abbrev before : List Plan
   before = values_of old.obeyed.table
 
   abbrev turned : List Plan
-  turned = all_turned ads stream (place line time) es before
+  turned = all_turned ads stream (place latest time) es before
 
-  stands : StandsFor now.obeyed.table line es
-  stands = same-stands old.obeyed.table now.obeyed.table line es keeps.high keeps.events s
+  stands : StandsFor now.obeyed.table latest es
+  stands = same-stands old.obeyed.table now.obeyed.table latest es keeps.high keeps.events s
 
   sizes : length es ≡ length before
-  sizes = sym (length-map old.obeyed.table.entries.items (λ (x : Entry Plan). x.value) ∙ length-entries old.obeyed.table line es s)
+  sizes = sym (length-map old.obeyed.table.entries.items (λ (x : Entry Plan). x.value) ∙ length-entries old.obeyed.table latest es s)
 
   within : at < length es
-  within = let n = length-entries now.obeyed.table line es stands in omega (arith, n, below)
+  within = let n = length-entries now.obeyed.table latest es stands in omega (arith, n, below)
 
   entry-is : entry ≡ slice_index_or now.obeyed.table.entries.items at no_entry
   entry-is = there ∙ get_or_default now.obeyed.table.entries.items at entry no_entry below
 
   event-is : entry.event ≡ on_ring (slice_index_or es at no_standing)
-  event-is = ap (λ (x : Entry Plan). x.event) entry-is ∙ event-there now.obeyed.table line es stands at below
+  event-is = ap (λ (x : Entry Plan). x.event) entry-is ∙ event-there now.obeyed.table latest es stands at below
 
   pub one-turned : (so_far : values_of now.obeyed.table ≡ take at turned ++ drop at before) → slice_set (values_of now.obeyed.table) at plan ≡ take (at + 1) turned ++ drop (at + 1) before
   one-turned so_far =
-      let n = length-turned ads stream (place line time) es before sizes in
+      let n = length-turned ads stream (place latest time) es before sizes in
       let in_turned : at < length turned = let w = within in let z = sizes in omega (arith, n, w, z) in
       let value : entry.value ≡ slice_index_or before at no_entry.value
       = ap (λ (x : Entry Plan). x.value) entry-is ∙ sym (value-at now.obeyed.table.entries.items at) ∙ ap (λ vs. slice_index_or vs at no_entry.value) so_far
       ∙ get-mixed turned before at no_entry.value in_turned n in
       let e = slice_index_or es at no_standing in
       let is : plan ≡ slice_index_or turned at plan
-      = plan_is line e event-is (within-there now.obeyed.table line es stands at below) near
-      ∙ ap (plan_turned e (place line time) (is_played ads e) stream) value
-      ∙ sym (turned-at ads stream (place line time) es before at plan within sizes) in
+      = plan_is latest e event-is (within-there now.obeyed.table latest es stands at below) near
+      ∙ ap (plan_turned e (place latest time) (is_played ads e) stream) value
+      ∙ sym (turned-at ads stream (place latest time) es before at plan within sizes) in
       ap (λ vs. slice_set vs at plan) so_far ∙ set-mixed turned before at plan in_turned n is
 
   -- one that stays is turned as it is
@@ -116,12 +116,12 @@ keeps-more old now new h k = record {
   assembler = k.assembler ∙ h.assembler;
 }
 
-pub all-turned : (ads : Adverts) (stream at : ℕ) (t : ℤ) (old now : ArmedEvents Plan) (line : Option ℤ) (es : List Standing) → StandsFor old.obeyed.table line es → length old.obeyed.table.entries.items ≤ at
+pub all-turned : (ads : Adverts) (stream at : ℕ) (t : ℤ) (old now : ArmedEvents Plan) (latest : Option ℤ) (es : List Standing) → StandsFor old.obeyed.table latest es → length old.obeyed.table.entries.items ≤ at
     → values_of now.obeyed.table ≡ take at (all_turned ads stream t es (values_of old.obeyed.table)) ++ drop at (values_of old.obeyed.table)
     → values_of now.obeyed.table ≡ all_turned ads stream t es (values_of old.obeyed.table)
-all-turned ads stream at t old now line es s all so_far =
+all-turned ads stream at t old now latest es s all so_far =
     let values = length-map old.obeyed.table.entries.items (λ (x : Entry Plan). x.value) in
-    let sizes : length es ≡ length (values_of old.obeyed.table) = sym (values ∙ length-entries old.obeyed.table line es s) in
+    let sizes : length es ≡ length (values_of old.obeyed.table) = sym (values ∙ length-entries old.obeyed.table latest es s) in
     let n = length-turned ads stream t es (values_of old.obeyed.table) sizes in
     so_far ∙ all-mixed (all_turned ads stream t es (values_of old.obeyed.table)) (values_of old.obeyed.table) at (omega (arith, n, values, all)) n
 

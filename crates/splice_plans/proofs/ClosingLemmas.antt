@@ -116,7 +116,7 @@ module _ (filed : ℕ → Option Advertisement) (streams : List Stream) (stream 
       let other = rb.some in
       grind (arith, ints, some, other, apart, h)
 
-  strictly : (line : Option ℤ) (a b : Standing) → IsWithin line a → IsWithin line b → meets a b ≡ false → a.start ≤ℤ b.start → a.start <ℤ b.start
+  strictly : (latest : Option ℤ) (a b : Standing) → IsWithin latest a → IsWithin latest b → meets a b ≡ false → a.start ≤ℤ b.start → a.start <ℤ b.start
   strictly None a b wa wb apart h = absurd wa
   strictly (Some high) a b wa wb apart h = starts-differ high a b wa wb apart h
 
@@ -128,9 +128,9 @@ module _ (filed : ℕ → Option Advertisement) (streams : List Stream) (stream 
       by true false k = refl
       by false y k = refl
 
-  apart-there : (line : Option ℤ) (t : Table Plan) (es : List Standing) → StandsFor t line es → (at other : ℕ) → at < length es → other < length es → (other ≡ at → ⊥)
+  apart-there : (latest : Option ℤ) (t : Table Plan) (es : List Standing) → StandsFor t latest es → (at other : ℕ) → at < length es → other < length es → (other ≡ at → ⊥)
       → meets (slice_index_or es at no_standing) (slice_index_or es other no_standing) ≡ false
-  apart-there line t es s at other here there differ =
+  apart-there latest t es s at other here there differ =
       ⊎_elim (λ before. meets-other (slice_index_or es at no_standing) (slice_index_or es other no_standing) ((s.apart other at no_standing before here).times))
       (λ le. (s.apart at other no_standing (behind le) there).times)
       (cases_lt other at)
@@ -138,9 +138,9 @@ module _ (filed : ℕ → Option Advertisement) (streams : List Stream) (stream 
       behind : at ≤ other → at < other
       behind le = ⊎_elim (λ lt. lt) (λ ge. absurd (differ (omega (arith, le, ge)))) (cases_lt at other)
 
-  is-least : (t : Table Plan) (line : Option ℤ) (es : List Standing) → StandsFor t line es → (at : ℕ) → IsFirstClosing stream es (values_of t) at → IsLeastAt stream es (values_of t) at
-  is-least t line es s at i =
-      let n = length-entries t line es s in
+  is-least : (t : Table Plan) (latest : Option ℤ) (es : List Standing) → StandsFor t latest es → (at : ℕ) → IsFirstClosing stream es (values_of t) at → IsLeastAt stream es (values_of t) at
+  is-least t latest es s at i =
+      let n = length-entries t latest es s in
       let values = length-map t.entries.items (λ (x : Entry Plan). x.value) in
       let b = i.below in
       record {
@@ -148,8 +148,8 @@ module _ (filed : ℕ → Option Advertisement) (streams : List Stream) (stream 
         same = omega (arith, n, values);
         closes_there = i.closes;
         others = λ other l differ c.
-            strictly line _ _ (within-there t line es s at (omega (arith, b, values))) (within-there t line es s other (omega (arith, l, values)))
-            (apart-there line t es s at other (omega (arith, b, n, values)) (omega (arith, l, n, values)) differ) (i.first other l c);
+            strictly latest _ _ (within-there t latest es s at (omega (arith, b, values))) (within-there t latest es s other (omega (arith, l, values)))
+            (apart-there latest t es s at other (omega (arith, b, n, values)) (omega (arith, l, n, values)) differ) (i.first other l c);
       }
 
   -- ---- one more is closed
@@ -176,10 +176,10 @@ module _ (filed : ℕ → Option Advertisement) (streams : List Stream) (stream 
   few-beside (e ∷ es) [] = omega arith
   few-beside (e ∷ es) (p ∷ plans) = let l = few-beside es plans in omega (arith, l)
 
-  pub nothing-closed : (t : Table Plan) (C : List Step → Type 0) (H : Option (List ℕ) → List (List ℕ) → Type 0) (end : ℕ) (line : Option ℤ) (es : List Standing) → StandsFor t line es → end ≡ length t.entries.items
+  pub nothing-closed : (t : Table Plan) (C : List Step → Type 0) (H : Option (List ℕ) → List (List ℕ) → Type 0) (end : ℕ) (latest : Option ℤ) (es : List Standing) → StandsFor t latest es → end ≡ length t.entries.items
       → ClosedSoFar t t C C H H 0 end es
-  nothing-closed t C H end line es s is =
-      let n = length-entries t line es s in
+  nothing-closed t C H end latest es s is =
+      let n = length-entries t latest es s in
       let a = few-filtered (beside es (values_of t)) in
       let b = few-beside es (values_of t) in
       record {
@@ -212,11 +212,11 @@ module _ (filed : ℕ → Option Advertisement) (streams : List Stream) (stream 
       → filter (closes stream) (beside es (values_of now)) ≡ []
   all-over old now C D H K turn end es i at_end = few-none (filter (closes stream) (beside es (values_of now))) turn end at_end i.few
 
-  pub as-many-values : (t : Table Plan) (line : Option ℤ) (es : List Standing) → StandsFor t line es → length es ≡ length (values_of t)
-  as-many-values t line es s = sym (length-map t.entries.items (λ (x : Entry Plan). x.value) ∙ length-entries t line es s)
+  pub as-many-values : (t : Table Plan) (latest : Option ℤ) (es : List Standing) → StandsFor t latest es → length es ≡ length (values_of t)
+  as-many-values t latest es s = sym (length-map t.entries.items (λ (x : Entry Plan). x.value) ∙ length-entries t latest es s)
 
   -- the next one
-  module _ (old now : Table Plan) (C D : List Step → Type 0) (H K : Option (List ℕ) → List (List ℕ) → Type 0) (turn end : ℕ) (line : Option ℤ) (es : List Standing) (s : StandsFor now line es)
+  module _ (old now : Table Plan) (C D : List Step → Type 0) (H K : Option (List ℕ) → List (List ℕ) → Type 0) (turn end : ℕ) (latest : Option ℤ) (es : List Standing) (s : StandsFor now latest es)
       (i : ClosedSoFar old now C D H K turn end es) (at : ℕ) (first : IsFirstClosing stream es (values_of now) at) where
     abbrev x : Standing × Plan
     x = pair-there es (values_of now) at
@@ -228,13 +228,13 @@ module _ (filed : ℕ → Option Advertisement) (streams : List Stream) (stream 
     plans-now = slice_set (values_of now) at (over-plan x)
 
     least : IsLeastAt stream es (values_of now) at
-    least = is-least now line es s at first
+    least = is-least now latest es s at first
 
     in-table : at < length now.entries.items
     in-table = let b = first.below in let values = length-map now.entries.items (λ (x : Entry Plan). x.value) in omega (arith, b, values)
 
     event-is : entry-there.event ≡ on_ring x.0
-    event-is = event-there now line es s at in-table
+    event-is = event-there now latest es s at in-table
 
     value-is : entry-there.value ≡ x.1
     value-is = sym (Rattle.std.proofs.Math.ListN.get_or-map (λ (y : Entry Plan). y.value) now.entries.items at no_entry)

@@ -1,9 +1,9 @@
 -- The ends that are known of events, by what becomes of these.
 use Rattle.std.proofs.Common.{◌≡◌, ℕ, ◌<◌, List, [], ◌∷◌, ◌++◌, Bool, true, false, not, ◌&&◌, ◌||◌, ◌⊎◌, inl, inr, refl, sym, ap, ◌∙◌, Option, Some, arith, append_assoc}
-use Rattle.std.specs.Prelude.{ℤ, pos, ◌+ℤ◌, ◌≤ℤ◌, option_map, find, All, Contains}
+use Rattle.std.specs.Prelude.{ℤ, pos, ◌+ℤ◌, ◌≤ℤ◌, option_map, find, All, Contains, slice_get}
 use Rattle.std.specs.Ordering.{int_eq}
 use Rattle.std.proofs.lemmas.Int.{ints}
-use Rattle.std.proofs.lemmas.Bool.{true≢false, and_left}
+use Rattle.std.proofs.lemmas.Bool.{true≢false, and_left, not-true, and_parts}
 use Rattle.std.proofs.lemmas.List.Elements.{All-cons, All-nil, All-head, All-tail}
 use Rattle.ts_packet.proofs.Cases.{by_test}
 use Rattle.unit_stream.specs.Times.{high}
@@ -16,20 +16,17 @@ use Rattle.splice_laws.proofs.EndLemmas.{not-ahead}
 use Rattle.splice_laws.proofs.PidLemmas.{pids_are_streams}
 use Rattle.splice_laws.proofs.SettledLemmas.{flags_settle, switched_pids_are_within}
 use Rattle.splice_laws.proofs.TableLemmas.{ahead-before}
+use Rattle.armed_laws.proofs.MeetLemmas.{same-low}
+use Rattle.pes_time.proofs.IntLemmas.{int-is}
+use Rattle.std.proofs.lemmas.Option.{slice_get_within, get_or_from_slice_get}
 use Rattle.splice_plans.specs.Playing.{Adverts, History, is_played, as_played, end_known}
 use Rattle.splice_plans.specs.Laws.{EndFalls}
 use Rattle.splice_plans.specs.Histories.{IsHistory, AreSteady, EndsNeverRise, IsSettledAt, PlayedSettle}
 
-low : (a : ℤ) → a ≤ℤ a
-low a = omega (arith, ints)
-
 and-right : (a b c : Bool) → a ≡ true → b ≡ c → (a && b) ≡ (a && c)
 and-right a b c h k = ap (λ d. a && d) k
 
-same-start : (a b : ℤ) → int_eq a b ≡ true → a ≡ b
-same-start a b h = grind (arith, ints, h)
-
-module _ (ads : Adverts) (steady : AreSteady ads) (line : Option ℤ) where
+module _ (ads : Adverts) (steady : AreSteady ads) (latest : Option ℤ) where
   abbrev is_meant : ℤ → Standing → Bool
   is_meant start e = int_eq e.start start && is_played ads e
 
@@ -38,32 +35,32 @@ module _ (ads : Adverts) (steady : AreSteady ads) (line : Option ℤ) where
 
   -- ---- played then, played now
 
-  uncancelled : (e x : Standing) → Becomes line e x → (IsAhead line e.start → ⊥) → x.cancelled ≡ e.cancelled
+  uncancelled : (e x : Standing) → Becomes latest e x → (IsAhead latest e.start → ⊥) → x.cancelled ≡ e.cancelled
   uncancelled e x b past = by b.cancelled
     where
-      by : (x.cancelled ≡ e.cancelled) ⊎ (IsAhead line e.start × (x.cancelled ≡ true)) → x.cancelled ≡ e.cancelled
+      by : (x.cancelled ≡ e.cancelled) ⊎ (IsAhead latest e.start × (x.cancelled ≡ true)) → x.cancelled ≡ e.cancelled
       by (inl is) = is
       by (inr ahead) = absurd (past ahead.0)
 
-  same-played : (e x : Standing) → Becomes line e x → x.cancelled ≡ e.cancelled → is_played ads x ≡ is_played ads e
-  same-played e x b is = ap (λ c. not c && ads.fits x) is ∙ ap (λ f. not e.cancelled && f) (steady.fits line e x b)
+  same-played : (e x : Standing) → Becomes latest e x → x.cancelled ≡ e.cancelled → is_played ads x ≡ is_played ads e
+  same-played e x b is = ap (λ c. not c && ads.fits x) is ∙ ap (λ f. not e.cancelled && f) (steady.fits latest e x b)
 
-  same-meant : (start : ℤ) → (IsAhead line start → ⊥) → (e x : Standing) → Becomes line e x → is_meant start x ≡ is_meant start e
+  same-meant : (start : ℤ) → (IsAhead latest start → ⊥) → (e x : Standing) → Becomes latest e x → is_meant start x ≡ is_meant start e
   same-meant start past e x b = by_test (int_eq e.start start)
       (λ is. ap (λ s. int_eq s start && is_played ads x) b.start
-      ∙ ap (λ p. int_eq e.start start && p) (same-played e x b (uncancelled e x b (λ ahead. past (rw (sym (same-start e.start start is)) ahead)))))
+      ∙ ap (λ p. int_eq e.start start && p) (same-played e x b (uncancelled e x b (λ ahead. past (rw (sym (int-is e.start start is)) ahead)))))
       (λ is. and_left (int_eq x.start start) (is_played ads x) (ap (λ s. int_eq s start) b.start ∙ is) ∙ sym (and_left (int_eq e.start start) (is_played ads e) is))
 
-  falls-one : (e x : Standing) → (end_of x ≡ end_of e) ⊎ (IsAhead line (end_of x) × (end_of x ≤ℤ end_of e)) → EndFalls line (Some (end_of e)) (Some (end_of x))
-  falls-one e x (inl is) = (rw is (low (end_of e)), inl (sym is))
+  falls-one : (e x : Standing) → (end_of x ≡ end_of e) ⊎ (IsAhead latest (end_of x) × (end_of x ≤ℤ end_of e)) → EndFalls latest (Some (end_of e)) (Some (end_of x))
+  falls-one e x (inl is) = (rw is (same-low (end_of e)), inl (sym is))
   falls-one e x (inr ahead) = (ahead.1, inr ahead.0)
 
-  falls-first : (start : ℤ) (b : Bool) (e x : Standing) (es later : List Standing) → is_meant start e ≡ b → is_meant start x ≡ b → Becomes line e x → EndFalls line (known_in start es) (known_in start later)
-      → EndFalls line (known_in start (e ∷ es)) (known_in start (x ∷ later))
+  falls-first : (start : ℤ) (b : Bool) (e x : Standing) (es later : List Standing) → is_meant start e ≡ b → is_meant start x ≡ b → Becomes latest e x → EndFalls latest (known_in start es) (known_in start later)
+      → EndFalls latest (known_in start (e ∷ es)) (known_in start (x ∷ later))
   falls-first start true e x es later h k b rest = simp (h, k) (falls-one e x b.end)
   falls-first start false e x es later h k b rest = simp (h, k) rest
 
-  pub known-falls : (start : ℤ) → (IsAhead line start → ⊥) → (es later : List Standing) → Grows line es later → EndFalls line (known_in start es) (known_in start later)
+  pub known-falls : (start : ℤ) → (IsAhead latest start → ⊥) → (es later : List Standing) → Grows latest es later → EndFalls latest (known_in start es) (known_in start later)
   known-falls start past [] later g = tt
   known-falls start past (e ∷ es) [] g = absurd g
   known-falls start past (e ∷ es) (x ∷ later) g =
@@ -72,30 +69,30 @@ module _ (ads : Adverts) (steady : AreSteady ads) (line : Option ℤ) where
   -- ---- settled
 
   abbrev Settled : List Standing → Standing → Type 0
-  Settled es x = is_played ads x ≡ true → IsSettled (as_played x) (known_in x.start es) line
+  Settled es x = is_played ads x ≡ true → IsSettled (as_played x) (known_in x.start es) latest
 
-  played-before : (e x : Standing) → Becomes line e x → is_played ads x ≡ true → is_played ads e ≡ true
+  played-before : (e x : Standing) → Becomes latest e x → is_played ads x ≡ true → is_played ads e ≡ true
   played-before e x b is = by b.cancelled
     where
       clash : (c f : Bool) → c ≡ true → (not c && f) ≡ true → ⊥
       clash true f h k = true≢false (sym k)
       clash false f h k = true≢false (sym h)
 
-      by : (x.cancelled ≡ e.cancelled) ⊎ (IsAhead line e.start × (x.cancelled ≡ true)) → is_played ads e ≡ true
+      by : (x.cancelled ≡ e.cancelled) ⊎ (IsAhead latest e.start × (x.cancelled ≡ true)) → is_played ads e ≡ true
       by (inl same) = sym (same-played e x b same) ∙ is
       by (inr ahead) = absurd (clash x.cancelled (ads.fits x) ahead.1 is)
 
   equal : (a : ℤ) → int_eq a a ≡ true
   equal a = grind (arith, ints)
 
-  meant-itself : (e x : Standing) → Becomes line e x → is_played ads x ≡ true → is_meant x.start e ≡ true
+  meant-itself : (e x : Standing) → Becomes latest e x → is_played ads x ≡ true → is_meant x.start e ≡ true
   meant-itself e x b is = ap (λ s. int_eq s x.start && is_played ads e) (sym b.start) ∙ ap (λ c. c && is_played ads e) (equal x.start) ∙ played-before e x b is
 
-  settled-end : (e x : Standing) → (end_of x ≡ end_of e) ⊎ (IsAhead line (end_of x) × (end_of x ≤ℤ end_of e)) → IsSettled (as_played x) (Some (end_of e)) line
+  settled-end : (e x : Standing) → (end_of x ≡ end_of e) ⊎ (IsAhead latest (end_of x) × (end_of x ≤ℤ end_of e)) → IsSettled (as_played x) (Some (end_of e)) latest
   settled-end e x (inl is) = inl (sym is)
   settled-end e x (inr ahead) = inr ahead
 
-  settled-first : (e x : Standing) (es : List Standing) → Becomes line e x → Settled (e ∷ es) x
+  settled-first : (e x : Standing) (es : List Standing) → Becomes latest e x → Settled (e ∷ es) x
   settled-first e x es b is =
       let meant = meant-itself e x b is in
       simp meant (settled-end e x b.end)
@@ -110,27 +107,27 @@ module _ (ads : Adverts) (steady : AreSteady ads) (line : Option ℤ) where
       by : (s : ℤ) (n : ℕ) (t : ℤ) → 0 < n → (s +ℤ pos n) ≤ℤ t → int_eq t s ≡ false
       by s n t h a = grind (arith, ints, h, a)
 
-  not-meant : (e y x : Standing) → Becomes line e y → 0 < y.length → 0 < x.length → AreApart y x → is_meant x.start e ≡ false
+  not-meant : (e y x : Standing) → Becomes latest e y → 0 < y.length → 0 < x.length → AreApart y x → is_meant x.start e ≡ false
   not-meant e y x b h k a = and_left (int_eq e.start x.start) (is_played ads e) (ap (λ s. int_eq s x.start) (sym b.start) ∙ starts-differ y x h k a)
 
-  settled-one : (e y x : Standing) (es : List Standing) → Becomes line e y → 0 < y.length → 0 < x.length → AreApart y x → Settled es x → Settled (e ∷ es) x
+  settled-one : (e y x : Standing) (es : List Standing) → Becomes latest e y → 0 < y.length → 0 < x.length → AreApart y x → Settled es x → Settled (e ∷ es) x
   settled-one e y x es b h k a s is =
       let no = not-meant e y x b h k a in
       simp no (s is)
 
-  settled-more : (e y : Standing) (es : List Standing) → Becomes line e y → 0 < y.length → (later : List Standing) → IsApartOf y later → NoneMeet later → All (Settled es) later → All (Settled (e ∷ es)) later
+  settled-more : (e y : Standing) (es : List Standing) → Becomes latest e y → 0 < y.length → (later : List Standing) → IsApartOf y later → NoneMeet later → All (Settled es) later → All (Settled (e ∷ es)) later
   settled-more e y es b h [] apart none all = All-nil (Settled (e ∷ es))
   settled-more e y es b h (x ∷ later) apart none all =
       All-cons (Settled (e ∷ es)) x later (settled-one e y x es b h none.0 apart.0 (All-head (Settled es) x later all))
       (settled-more e y es b h later apart.1 none.2 (All-tail (Settled es) x later all))
 
-  settled-new : (later : List Standing) → All (λ (x : Standing). IsAhead line x.start) later → All (Settled []) later
+  settled-new : (later : List Standing) → All (λ (x : Standing). IsAhead latest x.start) later → All (Settled []) later
   settled-new [] all = All-nil (Settled [])
   settled-new (x ∷ later) all =
-      let ahead = λ (y : Standing). IsAhead line y.start in
+      let ahead = λ (y : Standing). IsAhead latest y.start in
       All-cons (Settled []) x later (λ is. All-head ahead x later all) (settled-new later (All-tail ahead x later all))
 
-  pub all-settled : (es later : List Standing) → Grows line es later → NoneMeet later → All (Settled es) later
+  pub all-settled : (es later : List Standing) → Grows latest es later → NoneMeet later → All (Settled es) later
   all-settled [] later g none = settled-new later g
   all-settled (e ∷ es) [] g none = absurd g
   all-settled (e ∷ es) (y ∷ later) g none =
@@ -201,3 +198,9 @@ settle-all switched pid c ads steady events h past (e ∷ later) all =
 pub played_settle : PlayedSettle
 played_settle switched pid c ads steady events h more past =
     settle-all switched pid c ads steady events h past (events (more ++ past)) (settled-since ads steady (stream switched pid) events h more past)
+
+pub contained : (pids : List ℕ) (i pid : ℕ) → slice_get pids i ≡ Some pid → Contains pids pid
+contained pids i pid h = (i, slice_get_within pids i pid h, get_or_from_slice_get pids i pid pid h)
+
+pub played-stays : (ads : Adverts) (e : Standing) → is_played ads e ≡ true → e.cancelled ≡ false
+played-stays ads e h = not-true e.cancelled (and_parts (not e.cancelled) (ads.fits e) h).0

@@ -15,3 +15,5 @@ pub mod RunLemmas
 pub mod ClosingLemmas
 pub mod SelectLemmas
 pub mod OrderLemmas
+pub mod StartLemmas
+pub mod NetworkLemmas

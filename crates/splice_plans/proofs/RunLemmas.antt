@@ -34,7 +34,7 @@ near-start h t e reach low top =
     record { above = omega (arith, ints); below = omega (arith, ints) }
 
 -- the way on the ring is that on the line
-pub way-past : (line : Option ℤ) (e : Standing) (p : ℕ) (t : ℤ) → IsWithin line e → IsReached line (Some p) (Some t) → signed p (ring_of e.start) ≡ t -ℤ e.start
+pub way-past : (latest : Option ℤ) (e : Standing) (p : ℕ) (t : ℤ) → IsWithin latest e → IsReached latest (Some p) (Some t) → signed p (ring_of e.start) ≡ t -ℤ e.start
 way-past None e p t within is = absurd within
 way-past (Some h) e p t within is = ap (λ q. signed q (ring_of e.start)) is.0 ∙ signed-near t e.start (near-start h t e within is.1 is.2)
 
@@ -51,16 +51,16 @@ pub reached-some : (t : ℤ) (e : Standing) (way : ℤ) (n : ℕ) → way ≡ t 
 reached-some t e way n is h k = rw (at-one t e.start way is h) (ap (λ w. Some (unsigned_abs w)) (sym k ∙ is))
 
 -- the event at a place of a table
-module _ (t : Table Plan) (line : Option ℤ) (es : List Standing) (s : StandsFor t line es) (at : ℕ) (below : at < length t.entries.items) (entry : Entry Plan) (there : entry ≡ slice_index_or t.entries.items at entry)
+module _ (t : Table Plan) (latest : Option ℤ) (es : List Standing) (s : StandsFor t latest es) (at : ℕ) (below : at < length t.entries.items) (entry : Entry Plan) (there : entry ≡ slice_index_or t.entries.items at entry)
     (e : Standing) (e_there : e ≡ slice_index_or es at e) where
   pub e-is : e ≡ slice_index_or es at no_standing
-  e-is = let n = length-entries t line es s in e_there ∙ get_or_default es at e no_standing (omega (arith, n, below))
+  e-is = let n = length-entries t latest es s in e_there ∙ get_or_default es at e no_standing (omega (arith, n, below))
 
   pub entry-on : entry.event ≡ on_ring e
-  entry-on = ap (λ (x : Entry Plan). x.event) (there ∙ get_or_default t.entries.items at entry no_entry below) ∙ event-there t line es s at below ∙ ap on_ring (sym e-is)
+  entry-on = ap (λ (x : Entry Plan). x.event) (there ∙ get_or_default t.entries.items at entry no_entry below) ∙ event-there t latest es s at below ∙ ap on_ring (sym e-is)
 
-  pub e-within : IsWithin line e
-  e-within = subst (IsWithin line) (sym e-is) (within-there t line es s at below)
+  pub e-within : IsWithin latest e
+  e-within = subst (IsWithin latest) (sym e-is) (within-there t latest es s at below)
 
 below-test : (t start way : ℤ) → way ≡ t -ℤ start → int_lt way (pos 0) ≡ true → int_lt t start ≡ true
 below-test t start way is h = grind (arith, ints, is, h)
@@ -68,14 +68,14 @@ below-test t start way is h = grind (arith, ints, is, h)
 past-test : (t start way : ℤ) → way ≡ t -ℤ start → int_lt way (pos 0) ≡ false → int_lt t start ≡ false
 past-test t start way is h = grind (arith, ints, is, h)
 
-pub reached-below : (line high_line : Option ℤ) (p : ℕ) (e : Standing) → IsWithin line e → IsReached line (Some p) high_line → is_before_on_ring p (ring_of e.start) ≡ true → Some 0 ≡ reached_by high_line e
-reached-below line None p e within is h = absurd is
-reached-below line (Some t) p e within is h = rw (below-test t e.start (signed p (ring_of e.start)) (way-past line e p t within is) h) refl
+pub reached-below : (latest latest_behind : Option ℤ) (p : ℕ) (e : Standing) → IsWithin latest e → IsReached latest (Some p) latest_behind → is_before_on_ring p (ring_of e.start) ≡ true → Some 0 ≡ reached_by latest_behind e
+reached-below latest None p e within is h = absurd is
+reached-below latest (Some t) p e within is h = rw (below-test t e.start (signed p (ring_of e.start)) (way-past latest e p t within is) h) refl
 
-pub reached-past : (line high_line : Option ℤ) (p : ℕ) (e : Standing) (n : ℕ) → IsWithin line e → IsReached line (Some p) high_line → is_before_on_ring p (ring_of e.start) ≡ false → signed p (ring_of e.start) ≡ pos n → Some n ≡ reached_by high_line e
-reached-past line None p e n within is h k = absurd is
-reached-past line (Some t) p e n within is h k =
-    rw (past-test t e.start (signed p (ring_of e.start)) (way-past line e p t within is) h) (ap (λ w. Some (unsigned_abs w)) (sym k ∙ way-past line e p t within is))
+pub reached-past : (latest latest_behind : Option ℤ) (p : ℕ) (e : Standing) (n : ℕ) → IsWithin latest e → IsReached latest (Some p) latest_behind → is_before_on_ring p (ring_of e.start) ≡ false → signed p (ring_of e.start) ≡ pos n → Some n ≡ reached_by latest_behind e
+reached-past latest None p e n within is h k = absurd is
+reached-past latest (Some t) p e n within is h k =
+    rw (past-test t e.start (signed p (ring_of e.start)) (way-past latest e p t within is) h) (ap (λ w. Some (unsigned_abs w)) (sym k ∙ way-past latest e p t within is))
 
 pub abs-past : (way : ℤ) → int_lt way (pos 0) ≡ false → way ≡ pos (unsigned_abs way)
 abs-past (pos n) h = refl
@@ -210,12 +210,12 @@ module _ (filed : ℕ → Option Advertisement) (streams : List Stream) (stream 
           ran-later high e es x xs h ∙ ap (λ l. x.value ∷ l) (inner (omega (arith, s)) (omega (arith, f, is)) (omega (arith, below)))
 
   -- of a table
-  module _ (t : Table Plan) (line high : Option ℤ) (es : List Standing) (s : StandsFor t line es) where
+  module _ (t : Table Plan) (latest high : Option ℤ) (es : List Standing) (s : StandsFor t latest es) where
     abbrev pairs-of : List (Standing × Plan)
     pairs-of = beside es (values_of t)
 
     as-many : length es ≡ length t.entries.items
-    as-many = sym (length-entries t line es s)
+    as-many = sym (length-entries t latest es s)
 
     pub nothing-runs : (steps : List Step) → None ≡ position runs-there t.entries.items → running_packets filed streams stream of high steps pairs-of ≡ []
     nothing-runs steps h = ap (found_packets filed streams stream of high steps) (find-none es t.entries.items as-many (position-none runs-there t.entries.items h))
@@ -238,7 +238,7 @@ module _ (filed : ℕ → Option Advertisement) (streams : List Stream) (stream 
       in-events = let n = as-many in get_or_default es at no_standing found-pair.0 (omega (arith, n, below))
 
       event-is : entry-at.event ≡ on_ring found-pair.0
-      event-is = event-there t line es s at below
+      event-is = event-there t latest es s at below
 
       value-is : entry-at.value ≡ found-pair.1
       value-is = sym (Rattle.std.proofs.Math.ListN.get_or-map (λ (x : Entry Plan). x.value) t.entries.items at no_entry)

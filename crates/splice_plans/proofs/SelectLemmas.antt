@@ -3,6 +3,7 @@ use Rattle.std.proofs.Common.{◌≡◌, ℕ, zero, suc, ◌<◌, refl, sym, ap,
 use Rattle.std.specs.Prelude.{ℤ, ◌<ℤ◌, int_lt, filter, slice_index_or, slice_set}
 use Rattle.std.proofs.lemmas.Int.{ints}
 use Rattle.event_table.specs.Standing.{Standing}
+use Rattle.pes_time.proofs.IntLemmas.{lt-is}
 use Rattle.splice_plans.specs.declared.plan.Plan.{Plan}
 use Rattle.splice_plans.specs.Parts.{closes_in, beside, put_pair, pairs_by_start, closing_pairs, no_entry, no_standing}
 
@@ -11,15 +12,12 @@ abbrev Behind : ℤ → List (Standing × Plan) → Type 0
 Behind start [] = Unit {0}
 Behind start (x ∷ xs) = (start <ℤ x.0.start) × Behind start xs
 
-lt-true : (a b : ℤ) → a <ℤ b → int_lt a b ≡ true
-lt-true a b h = grind (arith, ints, h)
-
 lt-false : (a b : ℤ) → b <ℤ a → int_lt a b ≡ false
 lt-false a b h = grind (arith, ints, h)
 
 put-least : (x : Standing × Plan) (ys : List (Standing × Plan)) → Behind x.0.start ys → put_pair x ys ≡ x ∷ ys
 put-least x [] h = refl
-put-least x (y ∷ ys) h = rw (lt-true x.0.start y.0.start h.0) refl
+put-least x (y ∷ ys) h = rw (lt-is x.0.start y.0.start h.0) refl
 
 put-later : (a x : Standing × Plan) (ys : List (Standing × Plan)) → x.0.start <ℤ a.0.start → put_pair a (x ∷ ys) ≡ x ∷ put_pair a ys
 put-later a x ys h = rw (lt-false a.0.start x.0.start h) refl

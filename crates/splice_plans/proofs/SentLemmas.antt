@@ -1,7 +1,7 @@
 -- What is out of an event is a front of what will be, also where its end comes earlier meanwhile.
 use Rattle.std.proofs.Common.{◌≡◌, ℕ, List, [], ◌∷◌, ◌++◌, Bool, true, false, not, ◌&&◌, ◌||◌, refl, sym, ap, ◌∙◌, Option, None, Some, if◌then◌else◌, length, drop, suc}
 use Rattle.std.specs.Prelude.{ℤ}
-use Rattle.std.proofs.lemmas.Bool.{true≢false}
+use Rattle.std.proofs.lemmas.Bool.{true≢false, or_parts}
 use Rattle.ts_packet.proofs.Cases.{by_test}
 use Rattle.splice_laws.specs.Splicing.{PlayedEvent, SliceUnit, TimedStream, at_or_past}
 use Rattle.splice_laws.specs.Laws.{IsStream, Risen}
@@ -41,10 +41,6 @@ module _ {A : Type 0} (new old : A) where
   goes-on true true b h k l = absurd (true≢false k)
   goes-on true false false h k l = absurd (true≢false (sym l))
 
-or-first : (a b : Bool) → (a || b) ≡ false → a ≡ false
-or-first true b h = absurd (true≢false h)
-or-first false b h = refl
-
 module _ (turns : Turns) (r : TimedStream) (k : IsStream r) (x : PlayedEvent) (known : List (List ℕ) → Option ℤ) (units : List SliceUnit) (falls : EndsFall r x known) where
   abbrev sent : List (List ℕ) → List SliceUnit
   sent = sent_known turns r x known units
@@ -60,10 +56,10 @@ module _ (turns : Turns) (r : TimedStream) (k : IsStream r) (x : PlayedEvent) (k
   due_now past = run_of (up_to_known (known past) units) (r.high past)
 
   earlier-begun : (p : List ℕ) (past : List (List ℕ)) → is_begun (p ∷ past) ≡ false → is_begun past ≡ false
-  earlier-begun p past h = or-first (is_begun past) _ h
+  earlier-begun p past h = (or_parts (is_begun past) _ h).0
 
   earlier-open : (p : List ℕ) (past : List (List ℕ)) → is_closed (p ∷ past) ≡ false → is_closed past ≡ false
-  earlier-open p past h = or-first (is_closed past) _ h
+  earlier-open p past h = (or_parts (is_closed past) _ h).0
 
   unbegun-one : (p : List ℕ) (past : List (List ℕ)) → is_begun (p ∷ past) ≡ false → sent (p ∷ past) ≡ sent past
   unbegun-one p past h = not-begun (sent_of_begun turns r x known units p past) (sent past) (turns p past) (is_closed past) (is_begun (p ∷ past)) h

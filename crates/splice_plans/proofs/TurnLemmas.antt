@@ -17,6 +17,8 @@ use Rattle.event_table.specs.Tables.{StandsFor, values_of}
 use Rattle.event_table.proofs.TimeLemmas.{before-near, before-window}
 use Rattle.event_table.proofs.EventLemmas.{ring_end-on_ring, start-window}
 use Rattle.event_table.proofs.TableLemmas.{length-entries}
+use Rattle.armed_laws.proofs.MeetLemmas.{same-low}
+use Rattle.pes_time.proofs.IntLemmas.{ge-test}
 use Rattle.splice_plans.specs.declared.plan.Stage.{Stage}
 use Rattle.splice_plans.specs.declared.plan.Stage.TheVariants.{Closing, Over}
 use Rattle.splice_plans.specs.declared.plan.Plan.{Plan}
@@ -33,8 +35,8 @@ near-end h t e reach low top =
     record { above = omega (arith, ints); below = omega (arith, ints) }
 
 -- a unit below the end of an event
-pub before-end : (line : Option ℤ) (e : Standing) (event : Event) (p : ℕ) → p < 2 ^ 33 → event ≡ on_ring e → IsWithin line e → IsNearHigh line (place line p)
-    → is_before_on_ring p (ring_end event) ≡ int_lt (place line p) (end_of e)
+pub before-end : (latest : Option ℤ) (e : Standing) (event : Event) (p : ℕ) → p < 2 ^ 33 → event ≡ on_ring e → IsWithin latest e → IsNearHigh latest (place latest p)
+    → is_before_on_ring p (ring_end event) ≡ int_lt (place latest p) (end_of e)
 before-end None e event p fits is within near = absurd within
 before-end (Some h) e event p fits is within near =
     ap (λ (x : Event). is_before_on_ring p (ring_end x)) is ∙ ap (is_before_on_ring p) (ring_end-on_ring e) ∙ ap (λ q. is_before_on_ring q (ring_of (end_of e))) (sym (ring-lift h p fits))
@@ -46,26 +48,26 @@ closed-crosses e t stage (inr is) = ap (crosses e t) (sym is)
 
 -- ---- the one that starts first
 
-pub event-there : (t : Table Plan) (line : Option ℤ) (es : List Standing) → StandsFor t line es → (at : ℕ) → at < length t.entries.items
+pub event-there : (t : Table Plan) (latest : Option ℤ) (es : List Standing) → StandsFor t latest es → (at : ℕ) → at < length t.entries.items
     → (slice_index_or t.entries.items at no_entry).event ≡ on_ring (slice_index_or es at no_standing)
-event-there t line es s at below =
-    let size = length-entries t line es s in
+event-there t latest es s at below =
+    let size = length-entries t latest es s in
     sym (get_or-map (λ (x : Entry Plan). x.event) t.entries.items at no_entry no_entry.event below) ∙ ap (λ xs. slice_index_or xs at no_entry.event) s.events
     ∙ get_or-map on_ring es at no_standing no_entry.event (omega (arith, size, below))
 
-pub within-there : (t : Table Plan) (line : Option ℤ) (es : List Standing) → StandsFor t line es → (at : ℕ) → at < length t.entries.items → IsWithin line (slice_index_or es at no_standing)
-within-there t line es s at below = let size = length-entries t line es s in s.within at no_standing (omega (arith, size, below))
+pub within-there : (t : Table Plan) (latest : Option ℤ) (es : List Standing) → StandsFor t latest es → (at : ℕ) → at < length t.entries.items → IsWithin latest (slice_index_or es at no_standing)
+within-there t latest es s at below = let size = length-entries t latest es s in s.within at no_standing (omega (arith, size, below))
 
-starts-line : (line : Option ℤ) (a b : Standing) → IsWithin line a → IsWithin line b → is_before_on_ring (ring_of a.start) (ring_of b.start) ≡ int_lt a.start b.start
+starts-line : (latest : Option ℤ) (a b : Standing) → IsWithin latest a → IsWithin latest b → is_before_on_ring (ring_of a.start) (ring_of b.start) ≡ int_lt a.start b.start
 starts-line None a b wa wb = absurd wa
 starts-line (Some h) a b wa wb = before-window h a.start b.start (start-window h a wa) (start-window h b wb)
 
-starts-there : (t : Table Plan) (line : Option ℤ) (es : List Standing) → StandsFor t line es → (at other : ℕ) → at < length t.entries.items → other < length t.entries.items
+starts-there : (t : Table Plan) (latest : Option ℤ) (es : List Standing) → StandsFor t latest es → (at other : ℕ) → at < length t.entries.items → other < length t.entries.items
     → starts_first t.entries.items at (Some other) ≡ int_lt (slice_index_or es at no_standing).start (slice_index_or es other no_standing).start
-starts-there t line es s at other below below' =
-    ap (λ (x : Event). is_before_on_ring x.start (slice_index_or t.entries.items other no_entry).event.start) (event-there t line es s at below)
-    ∙ ap (λ (x : Event). is_before_on_ring (ring_of (slice_index_or es at no_standing).start) x.start) (event-there t line es s other below')
-    ∙ starts-line line (slice_index_or es at no_standing) (slice_index_or es other no_standing) (within-there t line es s at below) (within-there t line es s other below')
+starts-there t latest es s at other below below' =
+    ap (λ (x : Event). is_before_on_ring x.start (slice_index_or t.entries.items other no_entry).event.start) (event-there t latest es s at below)
+    ∙ ap (λ (x : Event). is_before_on_ring (ring_of (slice_index_or es at no_standing).start) x.start) (event-there t latest es s other below')
+    ∙ starts-line latest (slice_index_or es at no_standing) (slice_index_or es other no_standing) (within-there t latest es s at below) (within-there t latest es s other below')
 
 abbrev IsLeast : Table Plan → ℕ → ℕ → List Standing → ℕ → Type 0
 IsLeast t stream to es at = (other : ℕ) → other < to → closes_at stream t.entries.items other ≡ true → (slice_index_or es at no_standing).start ≤ℤ (slice_index_or es other no_standing).start
@@ -74,10 +76,10 @@ pub record FirstUpTo (t : Table Plan) (stream to : ℕ) (first : Option ℕ) : T
   pub below : IfSome first (λ at. at < length t.entries.items)
   pub none : first ≡ None → (other : ℕ) → other < to → closes_at stream t.entries.items other ≡ false
   pub closes : IfSome first (λ at. closes_at stream t.entries.items at ≡ true)
-  pub least : (line : Option ℤ) (es : List Standing) → StandsFor t line es → IfSome first (λ at. IsLeast t stream to es at)
+  pub least : (latest : Option ℤ) (es : List Standing) → StandsFor t latest es → IfSome first (λ at. IsLeast t stream to es at)
 
 pub nothing-yet : (t : Table Plan) (stream : ℕ) → FirstUpTo t stream 0 None
-nothing-yet t stream = record { below = tt; none = λ h other l. absurd (omega (arith, l)); closes = tt; least = λ line es s. tt }
+nothing-yet t stream = record { below = tt; none = λ h other l. absurd (omega (arith, l)); closes = tt; least = λ latest es s. tt }
 
 sooner-case : (c s : Bool) (at : ℕ) (first : Option ℕ) (Q : Option ℕ → Type 0) → (c ≡ true → s ≡ true → Q (Some at)) → ((c && s) ≡ false → Q first) → Q (if c && s then Some at else first)
 sooner-case true true at first Q y n = y refl refl
@@ -98,12 +100,6 @@ second-not false s h k = absurd (true≢false (sym h))
 lower : (a b c : ℤ) → int_lt a b ≡ true → b ≤ℤ c → a ≤ℤ c
 lower a b c h k = grind (arith, ints, h, k)
 
-not-lower : (a b : ℤ) → int_lt a b ≡ false → b ≤ℤ a
-not-lower a b h = grind (arith, ints, h)
-
-same-low : (a : ℤ) → a ≤ℤ a
-same-low a = omega (arith, ints)
-
 module _ (t : Table Plan) (stream at : ℕ) where
   abbrev entries : List (Entry Plan)
   entries = t.entries.items
@@ -113,22 +109,22 @@ module _ (t : Table Plan) (stream at : ℕ) where
   now-none None f n is other l = up-to other at l (f.none refl other) (λ same. rw same (not-both (closes_at stream entries at) n))
   now-none (Some x) f n is other l = absurd (cc)
 
-  now-least : (first : Option ℕ) → FirstUpTo t stream at first → at < length entries → starts_first entries at first ≡ true → (line : Option ℤ) (es : List Standing) → StandsFor t line es → IsLeast t stream (at + 1) es at
-  now-least None f below starts line es s other l closes =
+  now-least : (first : Option ℕ) → FirstUpTo t stream at first → at < length entries → starts_first entries at first ≡ true → (latest : Option ℤ) (es : List Standing) → StandsFor t latest es → IsLeast t stream (at + 1) es at
+  now-least None f below starts latest es s other l closes =
       up-to other at l (λ lt. absurd (true≢false (sym closes ∙ f.none refl other lt))) (λ same. rw same (same-low (slice_index_or es at no_standing).start))
-  now-least (Some x) f below starts line es s other l closes =
+  now-least (Some x) f below starts latest es s other l closes =
       up-to other at l
-      (λ lt. lower _ _ _ (sym (starts-there t line es s at x below f.below) ∙ starts) (f.least line es s other lt closes))
+      (λ lt. lower _ _ _ (sym (starts-there t latest es s at x below f.below) ∙ starts) (f.least latest es s other lt closes))
       (λ same. rw same (same-low (slice_index_or es at no_standing).start))
 
   still-least : (first : Option ℕ) → FirstUpTo t stream at first → at < length entries → (closes_at stream entries at && starts_first entries at first) ≡ false
-      → (line : Option ℤ) (es : List Standing) → StandsFor t line es → IfSome first (λ x. IsLeast t stream (at + 1) es x)
-  still-least None f below n line es s = tt
-  still-least (Some x) f below n line es s = λ other l closes. up-to other at l
-      (λ lt. f.least line es s other lt closes)
+      → (latest : Option ℤ) (es : List Standing) → StandsFor t latest es → IfSome first (λ x. IsLeast t stream (at + 1) es x)
+  still-least None f below n latest es s = tt
+  still-least (Some x) f below n latest es s = λ other l closes. up-to other at l
+      (λ lt. f.least latest es s other lt closes)
       (λ same.
       let here : closes_at stream entries at ≡ true = subst (λ o. closes_at stream entries o ≡ true) same closes in
-      rw same (not-lower _ _ (sym (starts-there t line es s at x below f.below) ∙ second-not (closes_at stream entries at) (starts_first entries at (Some x)) here n)))
+      rw same (ge-test _ _ (sym (starts-there t latest es s at x below f.below) ∙ second-not (closes_at stream entries at) (starts_first entries at (Some x)) here n)))
 
   pub one-more-first : (first : Option ℕ) → FirstUpTo t stream at first → at < length entries → FirstUpTo t stream (at + 1) (sooner entries stream at first)
   one-more-first first f below =
@@ -160,8 +156,8 @@ module _ (t : Table Plan) (stream to : ℕ) (first : Option ℕ) (f : FirstUpTo 
       let size = values-size t in
       any-none (closes_in stream) (values_of t) no_entry.value (λ i l. values-there t stream i ∙ f.none h i (omega (arith, l, size, all)))
 
-  pub first-of-all : (line : Option ℤ) (es : List Standing) → StandsFor t line es → IfSome first (λ at. IsFirstClosing stream es (values_of t) at)
-  first-of-all line es s = by first f.below f.closes (f.least line es s)
+  pub first-of-all : (latest : Option ℤ) (es : List Standing) → StandsFor t latest es → IfSome first (λ at. IsFirstClosing stream es (values_of t) at)
+  first-of-all latest es s = by first f.below f.closes (f.least latest es s)
     where
       by : (o : Option ℕ) → IfSome o (λ at. at < length t.entries.items) → IfSome o (λ at. closes_at stream t.entries.items at ≡ true) → IfSome o (λ at. IsLeast t stream to es at)
           → IfSome o (λ at. IsFirstClosing stream es (values_of t) at)

@@ -55,16 +55,16 @@ near-start h t e reach low top =
     record { above = omega (arith, ints); below = omega (arith, ints) }
 
 -- a unit before the start of an event
-before-start : (line : Option ℤ) (e : Standing) (event : Event) (p : ℕ) → p < 2 ^ 33 → event ≡ on_ring e → IsWithin line e → IsNearHigh line (place line p)
-    → is_before_on_ring p event.start ≡ int_lt (place line p) e.start
+before-start : (latest : Option ℤ) (e : Standing) (event : Event) (p : ℕ) → p < 2 ^ 33 → event ≡ on_ring e → IsWithin latest e → IsNearHigh latest (place latest p)
+    → is_before_on_ring p event.start ≡ int_lt (place latest p) e.start
 before-start None e event p fits is within near = absurd within
 before-start (Some h) e event p fits is within near =
     ap (λ (x : Event). is_before_on_ring p x.start) is ∙ ap (λ q. is_before_on_ring q (ring_of e.start)) (sym (ring-lift h p fits))
     ∙ before-near (lift h p) e.start (near-start h (lift h p) e within near.0 near.1)
 
 pub entry-stays : (stream time : ℕ) (plays : Bool) (entry : Entry Plan) → time < 2 ^ 33 → waits_before stream time entry ≡ true
-    → (line : Option ℤ) (e : Standing) → entry.event ≡ on_ring e → IsWithin line e → IsNearHigh line (place line time)
-    → entry.value ≡ plan_turned e (place line time) plays stream entry.value
-entry-stays stream time plays entry fits waits line e is within near =
+    → (latest : Option ℤ) (e : Standing) → entry.event ≡ on_ring e → IsWithin latest e → IsNearHigh latest (place latest time)
+    → entry.value ≡ plan_turned e (place latest time) plays stream entry.value
+entry-stays stream time plays entry fits waits latest e is within near =
     let parts = and_parts (is_waiting (part_of entry.value stream).stage) (is_before_on_ring time entry.event.start) waits in
-    sym (plan-stays e (place line time) plays stream entry.value parts.0 (sym (before-start line e entry.event time fits is within near) ∙ parts.1))
+    sym (plan-stays e (place latest time) plays stream entry.value parts.0 (sym (before-start latest e entry.event time fits is within near) ∙ parts.1))

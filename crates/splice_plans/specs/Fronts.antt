@@ -14,8 +14,8 @@ use Rattle.splice_plans.specs.Parts.{all_turned, is_waiting, beside, closing_pai
 
 -- the unit has no stamp, or may begin at this time
 abbrev pub IsNearTime : Option ℤ → Option ℕ → Type 0
-IsNearTime line None = Unit {0}
-IsNearTime line (Some t) = IsNearHigh line (place line t)
+IsNearTime latest None = Unit {0}
+IsNearTime latest (Some t) = IsNearHigh latest (place latest t)
 
 abbrev pub IsOther : ℕ → ℕ → Type 0
 IsOther i number = i ≡ number → ⊥
@@ -23,13 +23,13 @@ IsOther i number = i ≡ number → ⊥
 module _ (filed : ℕ → Option Advertisement) (streams : List Stream) (stream : ℕ) (of : Stream) where
   -- what goes out of the events that a unit of this time in the stream closes, behind these steps of its counter
   abbrev pub closing_packets : Option ℤ → Option ℕ → List Step → List Standing → List Plan → List (List ℕ)
-  closing_packets line None steps es plans = []
-  closing_packets line (Some t) steps es plans = rest_packets filed streams stream of steps (closing_pairs stream (beside es (all_turned (adverts_of filed streams) stream (place line t) es plans)))
+  closing_packets latest None steps es plans = []
+  closing_packets latest (Some t) steps es plans = rest_packets filed streams stream of steps (closing_pairs stream (beside es (all_turned (adverts_of filed streams) stream (place latest t) es plans)))
 
   -- each event comes as far as it does with the unit, and those that it closes are over
   abbrev pub closed_plans : Option ℤ → Option ℕ → List Standing → List Plan → List Plan
-  closed_plans line None es plans = plans
-  closed_plans line (Some t) es plans = map (closed_plan filed streams stream of) (beside es (all_turned (adverts_of filed streams) stream (place line t) es plans))
+  closed_plans latest None es plans = plans
+  closed_plans latest (Some t) es plans = map (closed_plan filed streams stream of) (beside es (all_turned (adverts_of filed streams) stream (place latest t) es plans))
 
 module _ (filed : ℕ → Option Advertisement) (streams : List Stream) (high : Option ℤ) (es : List Standing) where
   -- what goes out of the events that run in these streams, from this number on, each behind the steps of its counter
@@ -55,5 +55,5 @@ AllCount streams steps = (i : ℕ) (s : SwitchedStream) → i < 8 → Counts (sl
 
 -- a played event holds the unit, of which a stamp says so; a unit without one lies where that before it does
 abbrev pub is_left : ℕ → Option ℤ → Option ℕ → Bool → List Standing → List Plan → Bool
-is_left stream line None was es plans = was
-is_left stream line (Some t) was es plans = list_any (λ x. covers (place line t) x.0 && not (is_waiting (part_of x.1 stream).stage)) (beside es plans)
+is_left stream latest None was es plans = was
+is_left stream latest (Some t) was es plans = list_any (λ x. covers (place latest t) x.0 && not (is_waiting (part_of x.1 stream).stage)) (beside es plans)

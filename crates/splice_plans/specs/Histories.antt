@@ -17,8 +17,8 @@ pub record IsHistory (greatest : List (List ℕ) → Option ℤ) (events : Histo
 -- what the advertisements say of an event does not change with what becomes of it: it goes by its program, its start and the length first
 -- asked for
 pub record AreSteady (ads : Adverts) : Type 0 where
-  pub fits : (line : Option ℤ) (e x : Standing) → Becomes line e x → ads.fits x ≡ ads.fits e
-  pub units : (line : Option ℤ) (e x : Standing) → Becomes line e x → (pid : ℕ) → ads.units x pid ≡ ads.units e pid
+  pub fits : (latest : Option ℤ) (e x : Standing) → Becomes latest e x → ads.fits x ≡ ads.fits e
+  pub units : (latest : Option ℤ) (e x : Standing) → Becomes latest e x → (pid : ℕ) → ads.units x pid ≡ ads.units e pid
 
 -- THE LAW OF ENDS: of an event that has begun in a stream the end in force never rises, and stays where the greatest time has come to it
 abbrev pub EndsNeverRise : Type 0

@@ -52,7 +52,7 @@ IsStreamOf streams stream of = of ≡ slice_index_or streams stream of
 
 -- these events stand, where this is the greatest time
 abbrev pub HasStanding : ArmedEvents Plan → Option ℤ → List Standing → Type 0
-HasStanding events line es = StandsFor events.obeyed.table line es
+HasStanding events latest es = StandsFor events.obeyed.table latest es
 
 -- it stands at this place, with its plan
 abbrev pub IsEntryAt : ArmedEvents Plan → ℕ → Entry Plan → Type 0
@@ -153,9 +153,9 @@ closing_pairs stream xs = pairs_by_start (filter (λ x. closes_in stream x.1) xs
 
 -- the time on the ring, if one is given, is this one of the line, at most 900,000 ticks past the greatest so far
 abbrev pub IsReached : Option ℤ → Option ℕ → Option ℤ → Type 0
-IsReached line None None = Unit {0}
-IsReached line None (Some t) = ⊥
-IsReached line (Some p) None = ⊥
+IsReached latest None None = Unit {0}
+IsReached latest None (Some t) = ⊥
+IsReached latest (Some p) None = ⊥
 IsReached None (Some p) (Some t) = p ≡ ring_of t
 IsReached (Some h) (Some p) (Some t) = (p ≡ ring_of t) × (h ≤ℤ t) × (t ≤ℤ (h +ℤ pos 900000))
 

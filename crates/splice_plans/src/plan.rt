@@ -24,8 +24,8 @@ pub enum Stage {
 impl Stage {
     /// How far the event comes with a unit of this time, where it is played or not.
     fn turned(self, event: &Event, time: Time33, plays: bool) -> Stage
-        ensures { (line : Option ℤ) (e : Standing) → event.now ≡ on_ring e → IsWithin line e → IsNearHigh line (place line time) →
-            result ≡ turned e (place line time) plays self }
+        ensures { (latest : Option ℤ) (e : Standing) → event.now ≡ on_ring e → IsWithin latest e → IsNearHigh latest (place latest time) →
+            result ≡ turned e (place latest time) plays self }
     {
         match self {
             Stage::Waiting => {
@@ -42,8 +42,8 @@ impl Stage {
 
     /// A unit of this time lies below the start or the end of the event, after one of the stream at or past it.
     fn is_crossed_by(self, event: &Event, time: Time33) -> bool
-        ensures { (line : Option ℤ) (e : Standing) → event.now ≡ on_ring e → IsWithin line e → IsNearHigh line (place line time) →
-            result ≡ crosses e (place line time) self }
+        ensures { (latest : Option ℤ) (e : Standing) → event.now ≡ on_ring e → IsWithin latest e → IsNearHigh latest (place latest time) →
+            result ≡ crosses e (place latest time) self }
     {
         match self {
             Stage::Waiting => false,
@@ -55,8 +55,8 @@ impl Stage {
 
 /// How far an event comes with a unit at or past its start, or one behind such a unit.
 fn entered(event: &Event, time: Time33) -> Stage
-    ensures { (line : Option ℤ) (e : Standing) → event.now ≡ on_ring e → IsWithin line e →
-        result ≡ entered e (place line time) }
+    ensures { (latest : Option ℤ) (e : Standing) → event.now ≡ on_ring e → IsWithin latest e →
+        result ≡ entered e (place latest time) }
 {
     if event.covers(time) {
         Stage::Running
@@ -125,8 +125,8 @@ impl Plan {
 
     /// The plan of an event with a unit of this time in this stream, where the event is played or not.
     pub fn turned(self, stream: usize, event: &Event, time: Time33, plays: bool) -> Plan
-        ensures { (line : Option ℤ) (e : Standing) → event.now ≡ on_ring e → IsWithin line e → IsNearHigh line (place line time) →
-            result ≡ plan_turned e (place line time) plays stream self }
+        ensures { (latest : Option ℤ) (e : Standing) → event.now ≡ on_ring e → IsWithin latest e → IsNearHigh latest (place latest time) →
+            result ≡ plan_turned e (place latest time) plays stream self }
     {
         let part = self.part(stream);
         let mut plan = self.with_part(

@@ -38,20 +38,20 @@ pub fn close_all<S: PacketSink>(
 ) -> Result<(), PutFault>
     requires { stream < length streams.now }
     ensures leads { S.leads sink.old sink.new }
-    ensures ok { (of : Stream) (line : Option ℤ) (es : List Standing) (begin : Option (List ℕ)) (ps : List (List ℕ))
-        (steps : List Step) → IsStreamOf streams.now stream of → HasStanding events.old line es →
+    ensures ok { (of : Stream) (latest : Option ℤ) (es : List Standing) (begin : Option (List ℕ)) (ps : List (List ℕ))
+        (steps : List Step) → IsStreamOf streams.now stream of → HasStanding events.old latest es →
         S.holds sink.old begin ps → Counts counter.old steps →
         OnOk result (S.holds sink.new begin (ps ++ closing_out_of events.old (held library.now) streams.now stream of steps es)) }
-    ensures counted { (of : Stream) (line : Option ℤ) (es : List Standing) (steps : List Step) →
-        IsStreamOf streams.now stream of → HasStanding events.old line es → Counts counter.old steps →
+    ensures counted { (of : Stream) (latest : Option ℤ) (es : List Standing) (steps : List Step) →
+        IsStreamOf streams.now stream of → HasStanding events.old latest es → Counts counter.old steps →
         OnOk result (Counts counter.new
         (put_in (closing_out_of events.old (held library.now) streams.now stream of steps es) steps)) }
-    ensures values { (of : Stream) (line : Option ℤ) (es : List Standing) →
-        IsStreamOf streams.now stream of → HasStanding events.old line es →
+    ensures values { (of : Stream) (latest : Option ℤ) (es : List Standing) →
+        IsStreamOf streams.now stream of → HasStanding events.old latest es →
         OnOk result (values_of events.new.obeyed.table ≡ closed_of events.old (held library.now) streams.now stream of es) }
     ensures keeps { KeepsEvents events.old events.new }
-    ensures err { (of : Stream) (line : Option ℤ) (es : List Standing) (begin : Option (List ℕ)) (ps : List (List ℕ))
-        (steps : List Step) → IsStreamOf streams.now stream of → HasStanding events.old line es →
+    ensures err { (of : Stream) (latest : Option ℤ) (es : List Standing) (begin : Option (List ℕ)) (ps : List (List ℕ))
+        (steps : List Step) → IsStreamOf streams.now stream of → HasStanding events.old latest es →
         S.holds sink.old begin ps → Counts counter.old steps →
         IfErr result (λ f. FrontFails (closing_out_of events.old (held library.now) streams.now stream of steps es)
         (λ put p. S.fails sink.new begin (ps ++ put) p f)) }
@@ -96,27 +96,27 @@ pub fn put_running<S: PacketSink>(
 ) -> Result<(), PutFault>
     requires { stream < length streams.now }
     ensures leads { S.leads sink.old sink.new }
-    ensures ok { (of : Stream) (line high_line : Option ℤ) (es : List Standing) (begin : Option (List ℕ)) (ps : List (List ℕ))
-        (steps : List Step) → IsStreamOf streams.now stream of → HasStanding events.old line es →
-        IsReached line high.now high_line →
+    ensures ok { (of : Stream) (latest latest_behind : Option ℤ) (es : List Standing) (begin : Option (List ℕ)) (ps : List (List ℕ))
+        (steps : List Step) → IsStreamOf streams.now stream of → HasStanding events.old latest es →
+        IsReached latest high.now latest_behind →
         S.holds sink.old begin ps → Counts counter.old steps →
         OnOk result (S.holds sink.new begin
-        (ps ++ running_out_of events.old (held library.now) streams.now stream of high_line steps es)) }
-    ensures counted { (of : Stream) (line high_line : Option ℤ) (es : List Standing) (steps : List Step) →
-        IsStreamOf streams.now stream of → HasStanding events.old line es → IsReached line high.now high_line →
+        (ps ++ running_out_of events.old (held library.now) streams.now stream of latest_behind steps es)) }
+    ensures counted { (of : Stream) (latest latest_behind : Option ℤ) (es : List Standing) (steps : List Step) →
+        IsStreamOf streams.now stream of → HasStanding events.old latest es → IsReached latest high.now latest_behind →
         Counts counter.old steps →
         OnOk result (Counts counter.new
-        (put_in (running_out_of events.old (held library.now) streams.now stream of high_line steps es) steps)) }
-    ensures values { (of : Stream) (line high_line : Option ℤ) (es : List Standing) →
-        IsStreamOf streams.now stream of → HasStanding events.old line es → IsReached line high.now high_line →
+        (put_in (running_out_of events.old (held library.now) streams.now stream of latest_behind steps es) steps)) }
+    ensures values { (of : Stream) (latest latest_behind : Option ℤ) (es : List Standing) →
+        IsStreamOf streams.now stream of → HasStanding events.old latest es → IsReached latest high.now latest_behind →
         OnOk result (values_of events.new.obeyed.table
-        ≡ ran_of events.old (held library.now) streams.now stream of high_line es) }
+        ≡ ran_of events.old (held library.now) streams.now stream of latest_behind es) }
     ensures keeps { KeepsEvents events.old events.new }
-    ensures err { (of : Stream) (line high_line : Option ℤ) (es : List Standing) (begin : Option (List ℕ)) (ps : List (List ℕ))
-        (steps : List Step) → IsStreamOf streams.now stream of → HasStanding events.old line es →
-        IsReached line high.now high_line →
+    ensures err { (of : Stream) (latest latest_behind : Option ℤ) (es : List Standing) (begin : Option (List ℕ)) (ps : List (List ℕ))
+        (steps : List Step) → IsStreamOf streams.now stream of → HasStanding events.old latest es →
+        IsReached latest high.now latest_behind →
         S.holds sink.old begin ps → Counts counter.old steps →
-        IfErr result (λ f. FrontFails (running_out_of events.old (held library.now) streams.now stream of high_line steps es)
+        IfErr result (λ f. FrontFails (running_out_of events.old (held library.now) streams.now stream of latest_behind steps es)
         (λ put p. S.fails sink.new begin (ps ++ put) p f)) }
     ensures well { OnOk result (WentWell (S.counts sink.old) (S.counts sink.new)) }
     ensures blamed { IfErr result (λ f. Blamed f (S.counts sink.old) (S.counts sink.new) (S.is_full sink.new)) }
@@ -142,8 +142,8 @@ pub fn put_running<S: PacketSink>(
 /// each event that runs.
 fn reached_in(table: &Table<Plan>, place: usize, high: &Option<Time33>) -> Option<u64>
     requires { place < length table.now.entries.items }
-    ensures { (line high_line : Option ℤ) (es : List Standing) (e : Standing) → StandsFor table.now line es →
-        IsReached line high.now high_line → e ≡ slice_index_or es place e → result ≡ reached_by high_line e }
+    ensures { (latest latest_behind : Option ℤ) (es : List Standing) (e : Standing) → StandsFor table.now latest es →
+        IsReached latest high.now latest_behind → e ≡ slice_index_or es place e → result ≡ reached_by latest_behind e }
 {
     match high {
         None => None,

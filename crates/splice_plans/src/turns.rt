@@ -35,10 +35,10 @@ pub fn turn_all(
     streams: &[Stream],
     library: &AdLibrary,
 )
-    ensures values { (line : Option ℤ) (es : List Standing) → HasStanding events.old line es →
-        IsNearHigh line (place line time) →
+    ensures values { (latest : Option ℤ) (es : List Standing) → HasStanding events.old latest es →
+        IsNearHigh latest (place latest time) →
         values_of events.new.obeyed.table
-        ≡ all_turned (adverts_of (held library.now) streams.now) stream (place line time) es (values_of events.old.obeyed.table) }
+        ≡ all_turned (adverts_of (held library.now) streams.now) stream (place latest time) es (values_of events.old.obeyed.table) }
     ensures keeps { KeepsEvents events.old events.new }
 {
     for at in 0..events.table().standing().len() {
@@ -86,7 +86,7 @@ pub(crate) fn running(table: &Table<Plan>, stream: usize) -> Option<usize>
 pub(crate) fn first_closing(table: &Table<Plan>, stream: usize) -> Option<usize>
     ensures none { result ≡ None → list_any (closes_in stream) (values_of table.now) ≡ false }
     ensures below { IfSome result (λ at. at < length table.now.entries.items) }
-    ensures some { (line : Option ℤ) (es : List Standing) → StandsFor table.now line es →
+    ensures some { (latest : Option ℤ) (es : List Standing) → StandsFor table.now latest es →
         IfSome result (λ at. IsFirstClosing stream es (values_of table.now) at) }
 {
     let mut first: Option<usize> = None;

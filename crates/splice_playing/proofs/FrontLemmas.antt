@@ -16,7 +16,7 @@ use Rattle.splice_plans.specs.declared.plan.Plan.{Plan}
 use Rattle.splice_plans.specs.Turning.{part_of}
 use Rattle.splice_plans.specs.Parts.{is_waiting, beside}
 
-covers-line : (line : Option ℤ) (p : ℕ) → p < 2 ^ 33 → (e : Standing) → IsWithin line e → covers_on_ring (on_ring e) p ≡ covers (place line p) e
+covers-line : (latest : Option ℤ) (p : ℕ) → p < 2 ^ 33 → (e : Standing) → IsWithin latest e → covers_on_ring (on_ring e) p ≡ covers (place latest p) e
 covers-line None p fits e within = absurd within
 covers-line (Some high) p fits e within = covers-near high p fits e within
 
@@ -33,25 +33,25 @@ later-same {X} x y xs ys h = ap tail h
     tail [] = []
     tail (z ∷ zs) = zs
 
-module _ (stream : ℕ) (line : Option ℤ) (p : ℕ) (fits : p < 2 ^ 33) where
+module _ (stream : ℕ) (latest : Option ℤ) (p : ℕ) (fits : p < 2 ^ 33) where
   abbrev holds-there : Entry Plan → Bool
   holds-there entry = covers_on_ring entry.event p && not (is_waiting (part_of entry.value stream).stage)
 
   abbrev holds-pair : Standing × Plan → Bool
-  holds-pair x = covers (place line p) x.0 && not (is_waiting (part_of x.1 stream).stage)
+  holds-pair x = covers (place latest p) x.0 && not (is_waiting (part_of x.1 stream).stage)
 
-  any-pairs : (es : List Standing) (xs : List (Entry Plan)) → map (λ (x : Entry Plan). x.event) xs ≡ map on_ring es → All (IsWithin line) es
+  any-pairs : (es : List Standing) (xs : List (Entry Plan)) → map (λ (x : Entry Plan). x.event) xs ≡ map on_ring es → All (IsWithin latest) es
       → list_any holds-there xs ≡ list_any holds-pair (beside es (map (λ (x : Entry Plan). x.value) xs))
   any-pairs [] [] same within = refl
   any-pairs [] (x ∷ xs) same within = absurd (let n = ap length same in omega (arith, n))
   any-pairs (e ∷ es) [] same within = absurd (let n = ap length same in omega (arith, n))
   any-pairs (e ∷ es) (x ∷ xs) same within =
       let here = first-same x.event (on_ring e) _ _ same in
-      let covered = ap (λ (ev : Event). covers_on_ring ev p) here ∙ covers-line line p fits e (within 0 e (omega arith)) in
+      let covered = ap (λ (ev : Event). covers_on_ring ev p) here ∙ covers-line latest p fits e (within 0 e (omega arith)) in
       ap (λ b. (b && not (is_waiting (part_of x.value stream).stage)) || list_any holds-there xs) covered
-      ∙ ap (λ b. holds-pair (e, x.value) || b) (any-pairs es xs (later-same x.event (on_ring e) _ _ same) (all-later (IsWithin line) e es within))
+      ∙ ap (λ b. holds-pair (e, x.value) || b) (any-pairs es xs (later-same x.event (on_ring e) _ _ same) (all-later (IsWithin latest) e es within))
 
-  pub inside-pairs : (t : Table Plan) (es : List Standing) → StandsFor t line es → list_any holds-there t.entries.items ≡ list_any holds-pair (beside es (values_of t))
+  pub inside-pairs : (t : Table Plan) (es : List Standing) → StandsFor t latest es → list_any holds-there t.entries.items ≡ list_any holds-pair (beside es (values_of t))
   inside-pairs t es s = any-pairs es t.entries.items s.events s.within
 
 -- each of eight streams is that one

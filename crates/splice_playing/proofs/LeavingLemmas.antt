@@ -8,10 +8,10 @@ use Rattle.ts_packet.specs.Fields.{on, on_one, payload, payload_on, pid_of}
 use Rattle.ts_packet.specs.Duplicates.{repeats, last_of}
 use Rattle.ts_packet.specs.Following.{Marks, Follows}
 use Rattle.ts_packet.proofs.Cases.{by_test}
-use Rattle.ts_packet.proofs.FieldLemmas.{off_payload, payload_on-on}
+use Rattle.ts_packet.proofs.FieldLemmas.{off_payload, payload_on-on, pid_is}
 use Rattle.unit_stream.specs.Times.{begins, in_unit}
 use Rattle.unit_stream.proofs.ClockLemmas.{begins_off, begins_repeat}
-use Rattle.output_laws.proofs.StepLemmas.{pid_is, payload-some, payload-none}
+use Rattle.output_laws.proofs.StepLemmas.{payload-none}
 use Rattle.psi_tables.specs.ProgramMap.{ProgramMap}
 use Rattle.program_follower.specs.Program.{known_map, program_in}
 use Rattle.splice_laws.specs.Streams.{IsOnce}
@@ -43,9 +43,6 @@ begun-takes f pid q p past is h takes =
     let k : Follows f p pid (p ∷ []) = subst (λ n. Follows f p n (p ∷ [])) same (takes (ap (λ n. payload_on n p) same ∙ y)) in
     let last : last_of pid (p ∷ []) ≡ last_of pid (p ∷ past) = simp (y, new) refl in
     record { same = k.same; last = subst (λ o. Marks f.last p o) last k.last }
-
-pub without-payload : (pid : ℕ) (p : List ℕ) → is_some (payload p) ≡ false → payload_on pid p ≡ false
-without-payload pid p h = by_test (payload_on pid p) (λ y. absurd (clash (is_some (payload p)) (payload-some pid p y) h)) (λ n. n)
 
 pub with-payload : (pid : ℕ) (p : List ℕ) → on pid p ≡ true → is_some (payload p) ≡ true → payload_on pid p ≡ true
 with-payload pid p o h = by_test (payload_on pid p) (λ y. y) (λ n. absurd (clash (is_some (payload p)) h (payload-none pid p o n)))

@@ -2,7 +2,6 @@
 use Rattle.std.proofs.Common.{◌≡◌, ℕ, ◌+◌, ◌<◌, ◌≤◌, ◌==◌, List, [], ◌∷◌, ◌++◌, Bool, true, false, inl, inr, refl, sym, ap, ◌∙◌, subst, append_assoc, Option, None, Some, arith, length, map, length-append}
 use Rattle.std.specs.Prelude.{slice_get, slice_index_or, is_some}
 use Rattle.std.proofs.lemmas.Bool.{true≢false, or_left, or_parts, or_right}
-use Rattle.std.proofs.lemmas.Bool.Decides.{nat_tests}
 use Rattle.std.proofs.lemmas.List.{length-map}
 use Rattle.ts_packet.specs.Numbering.{Step}
 use Rattle.unit_stream.specs.Times.{high}
@@ -29,19 +28,16 @@ use Rattle.plan_laws.specs.Laws.{steps_of, steps_known}
 use Rattle.plan_laws.proofs.PartLemmas.{small-number}
 use Rattle.plan_laws.proofs.PlayedLemmas.{placed-at}
 use Rattle.plan_laws.proofs.PlanLemmas.{IsOf}
-use Rattle.plan_laws.proofs.StandingLemmas.{plans-are, pids_in, among-get, get-done, or-done, in-done}
+use Rattle.plan_laws.proofs.StandingLemmas.{plans-are, get-done, or-done, in-done}
 use Rattle.plan_laws.proofs.RunLemmas.{events-are, pids-are}
+use Rattle.program_follower.specs.Faults.{pids_in}
+use Rattle.ts_packet.proofs.Cases.{test-same, test-turned}
+use Rattle.ts_packet.proofs.FieldLemmas.{among-get}
 use Rattle.splice_playing.proofs.FrameLemmas.{all-each}
 use Rattle.splice_playing.proofs.RestOutLemmas.{AllDiffer, AllDistinct, AllPut, AllBehind, each-puts}
 use Rattle.splice_playing.proofs.LeftLemmas.{left, plan, stream-out}
 
 -- ---- each stream has its own PID
-
-test-same : (q : ℕ) → (q == q) ≡ true
-test-same q = grind (arith, nat_tests)
-
-test-turned : (a b : ℕ) → (a == b) ≡ false → (b == a) ≡ false
-test-turned a b h = grind (arith, nat_tests, h)
 
 all-differ : (pid : ℕ) (ss : List Stream) → is_among pid (pids_in ss) ≡ false → AllDiffer pid ss
 all-differ pid [] h = tt

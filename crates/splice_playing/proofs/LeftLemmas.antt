@@ -1,12 +1,12 @@
 -- What is left at the end of the events of a past: in each stream at most one event runs, and the rest of its slice goes out.
 use Rattle.std.proofs.Common.{◌≡◌, ℕ, ◌%◌, ◌<◌, List, [], ◌∷◌, ◌++◌, Bool, true, false, not, ◌&&◌, inl, inr, refl, sym, ap, ◌∙◌, Option, None, Some, arith, length, drop, take, map}
-use Rattle.std.specs.Prelude.{ℤ, pos, ◌+ℤ◌, int_lt, slice_get, find, flat_map, option_map, All, Contains}
+use Rattle.std.specs.Prelude.{ℤ, pos, ◌+ℤ◌, int_lt, slice_get, find, flat_map, option_map, Contains}
 use Rattle.std.specs.List.{AllByRecursion}
 use Rattle.std.specs.Ordering.{int_eq}
 use Rattle.std.proofs.lemmas.Int.{ints}
 use Rattle.std.proofs.lemmas.Bool.{true≢false}
 use Rattle.std.proofs.lemmas.List.{append-nil, length-map}
-use Rattle.std.proofs.lemmas.List.Elements.{All-head, All-tail}
+use Rattle.std.proofs.lemmas.List.Elements.{recursion_from_All}
 use Rattle.std.proofs.Math.Seq.{drop-length}
 use lib.Signed.{le_z}
 use Rattle.ts_packet.proofs.Cases.{by_test}
@@ -35,16 +35,18 @@ use Rattle.splice_plans.specs.Turning.{waiting, part_of}
 use Rattle.splice_plans.specs.Parts.{is_running, beside, delta_in, packets_in, pair_packets, found_packets, running_packets, runs_in}
 use Rattle.splice_plans.specs.Known.{part_known, is_crossed_known, plan_known}
 use Rattle.splice_plans.proofs.AdvertLemmas.{libraries_are_steady}
-use Rattle.splice_plans.proofs.KnownLemmas.{played_settle}
+use Rattle.splice_plans.proofs.KnownLemmas.{played_settle, contained}
 use Rattle.plan_laws.proofs.StageLemmas.{none-begun}
 use Rattle.plan_laws.proofs.ToldLemmas.{IsFoundIn, all-found, end_if}
-use Rattle.plan_laws.proofs.PartLemmas.{get-within, get-map}
+use Rattle.plan_laws.proofs.PartLemmas.{get-map}
 use Rattle.plan_laws.proofs.PlayedLemmas.{put_on, as_played_units, rest_filed, rest-all, rest-packets}
 use Rattle.plan_laws.proofs.DueLemmas.{all-out}
-use Rattle.plan_laws.proofs.PlanLemmas.{IsOf, contained, none-begins, part-there, falls, slice-is, shut-flags, pick-first, pick-second, running-flags}
+use Rattle.plan_laws.proofs.PlanLemmas.{IsOf, none-begins, part-there, falls, slice-is, shut-flags, pick-first, pick-second, running-flags}
 use Rattle.plan_laws.proofs.RunningLemmas.{none-filter}
-use Rattle.plan_laws.proofs.StandingLemmas.{all-filter, pids_in}
+use Rattle.plan_laws.proofs.StandingLemmas.{all-filter}
 use Rattle.plan_laws.proofs.OrderLemmas.{AreAlone, sorted-same}
+use Rattle.program_follower.specs.Faults.{pids_in}
+use Rattle.std.proofs.lemmas.Option.{slice_get_within}
 
 -- one that stands no longer has come to its end
 end-reached : (e : Standing) (h : Option ℤ) → stands h e ≡ false → at_or_past (end_of e) h ≡ true
@@ -53,10 +55,6 @@ end-reached e (Some h) s = at (end_of e) h s
   where
     at : (stop h : ℤ) → int_lt h (stop +ℤ pos 900000) ≡ false → le_z stop h ≡ true
     at stop h s = grind (arith, ints)
-
-all-each : {A : Type 0} (P : A → Type 0) (xs : List A) → All P xs → AllByRecursion P xs
-all-each P [] a = tt
-all-each P (x ∷ xs) a = (All-head P x xs a, all-each P xs (All-tail P x xs a))
 
 module _ (filed : ℕ → Option Advertisement) (streams : List Stream) (events : History) (past : List (List ℕ)) (h : IsHistory (high (pids_in streams)) events) where
   abbrev pub pids : List ℕ
@@ -106,7 +104,7 @@ module _ (filed : ℕ → Option Advertisement) (streams : List Stream) (events 
 
   all-known : AllByRecursion Knows (events past)
   all-known = know-each (events past) (all-found (is_played ads) (events past) (h.apart past))
-      (λ pid c. all-each (IsSettledAt pids pid ads events past) (events past) (played_settle pids pid c ads (libraries_are_steady filed streams) events h [] past))
+      (λ pid c. recursion_from_All (IsSettledAt pids pid ads events past) (events past) (played_settle pids pid c ads (libraries_are_steady filed streams) events h [] past))
 
   -- ---- in one stream
 
@@ -196,7 +194,7 @@ module _ (filed : ℕ → Option Advertisement) (streams : List Stream) (events 
         ∙ get-map (part_known pids ads events e past) pids i q waiting o.there
       where
         within : i < length (map (part_known pids ads events e past) pids)
-        within = let l = get-within pids i q o.there in let m = length-map pids (part_known pids ads events e past) in omega (arith, l, m)
+        within = let l = slice_get_within pids i q o.there in let m = length-map pids (part_known pids ads events e past) in omega (arith, l, m)
 
     runs-is : (e : Standing) → runs_in filed streams i of (e, plan e) ≡ runs q e
     runs-is e = ap (λ (x : Part). is_running x.stage) (part-is e) ∙ running-flags (is_closed q e) (is_begun q e)

@@ -3,10 +3,7 @@ use Rattle.std.proofs.Common.{◌≡◌, ℕ, ◌∷◌, ◌++◌, List, true, f
 use Rattle.std.specs.Prelude.{ℤ, option_map, is_some, slice_get}
 use Rattle.std.proofs.lemmas.Option.{none-some, same_Some}
 use Rattle.pes_time.specs.Line.{ring_of}
-use Rattle.ts_packet.specs.Fields.{on}
-use Rattle.psi_section.specs.Assembling.{IsOf}
 use Rattle.psi_section.proofs.AssemblerLemmas.{waits_off}
-use Rattle.output_laws.proofs.StepLemmas.{pid_is}
 use Rattle.program_follower.specs.Program.{Program, program_of, pids_of}
 use Rattle.event_table.specs.Standing.{Standing}
 use Rattle.event_table.specs.Tables.{values_of}
@@ -38,9 +35,6 @@ use Rattle.known_laws.proofs.PassLemmas.{packets_pass}
 -- an event that nothing is known of
 pub new-is : (plan : Plan) → plan.parts ≡ replicate 8 waiting → plan.is_crossed ≡ false → plan ≡ nothing_known
 new-is plan h k = ap (λ ps. record { parts = ps; is_crossed = plan.is_crossed }) h ∙ ap (λ b. record { parts = replicate 8 waiting; is_crossed = b }) k
-
-pub of-pid : (pid : ℕ) (p : List ℕ) → on pid p ≡ true → IsOf pid p
-of-pid pid p o = λ e. pid_is pid p o
 
 -- behind the head, where a stream is switched
 pub behind-by : (k : Setting) (past : List (List ℕ)) (n pid : ℕ) → slice_get (switched_at k past) n ≡ Some pid → is_behind_head k past ≡ true

@@ -1,14 +1,14 @@
 -- A packet of a switched stream on its way out: what stands in its place, what its counter counts, and that the other streams stay.
 use Rattle.std.proofs.Common.{◌≡◌, ℕ, zero, suc, ◌%◌, ◌<◌, List, [], ◌∷◌, ◌++◌, reverse, length, drop, Bool, true, false, not, ◌&&◌, ◌||◌, ◌==◌, inl, inr, refl, sym, ap, ◌∙◌, subst, arith, if◌then◌else◌, Option, None, Some}
-use Rattle.std.specs.Prelude.{ℤ, is_some, map, flat_map, slice_get, slice_index_or, slice_set}
-use Rattle.std.proofs.lemmas.Bool.{true≢false, or_right, eq-eqb}
+use Rattle.std.specs.Prelude.{ℤ, is_some, slice_get, slice_index_or, slice_set}
+use Rattle.std.proofs.lemmas.Bool.{true≢false, or_right, eq-eqb, or_parts}
 use Rattle.std.proofs.lemmas.List.{reverse-append}
 use Rattle.std.proofs.lemmas.Option.{none-some, same_Some, slice_get_within}
 use Rattle.ts_packet.specs.Fields.{on, payload, payload_on, pid_of, pcr, renumbered, on_one, is_among}
 use Rattle.ts_packet.specs.Duplicates.{original}
 use Rattle.ts_packet.specs.Numbering.{Step, Kept, Dropped, moved, number_out, Counts}
 use Rattle.ts_packet.proofs.Cases.{by_test}
-use Rattle.ts_packet.proofs.FieldLemmas.{payload_on-on, off_payload}
+use Rattle.ts_packet.proofs.FieldLemmas.{payload_on-on, off_payload, payload-some, pid_is}
 use Rattle.unit_stream.specs.Times.{begins, in_unit, unit_time}
 use Rattle.unit_stream.specs.Fates.{is_left_out, steps_after}
 use Rattle.event_table.specs.Standing.{Standing}
@@ -16,27 +16,19 @@ use Rattle.psi_tables.specs.ProgramMap.{ProgramMap}
 use Rattle.program_follower.specs.Program.{known_map, behind_head}
 use Rattle.armed_events.specs.Arming.{Heard}
 use Rattle.armed_events.proofs.PastLemmas.{heard-off}
-use Rattle.splice_laws.specs.Splicing.{SliceUnit}
 use Rattle.splice_laws.specs.Streams.{IsOnce}
 use Rattle.output_laws.specs.Output.{Move, Keep, Leave, Put, network, Packing, counter_steps, out_at, clock_alone}
-use Rattle.output_laws.proofs.StepLemmas.{pid_is, payload-some, payload-none, kept_on}
+use Rattle.output_laws.proofs.StepLemmas.{payload-none, kept_on}
 use Rattle.outgoing_packets.specs.Numbers.{FrontFails}
 use Rattle.splice_plans.specs.declared.stream.SwitchedStream.{SwitchedStream}
 use Rattle.splice_plans.specs.Playing.{Adverts, History, played, is_inside, is_played}
 use Rattle.splice_plans.specs.Counting.{left_steps, steps_behind, left_place}
 use Rattle.splice_plans.specs.Switching.{Setting, puts_by, puts_before, fate, moves, place_at, switched_at, head_at, history_at, events_at}
 use Rattle.splice_plans.specs.Known.{Goes, GoesAs, AllGo, AreSeparate, adverts_at, behind_at, inside_at, moves_at, puts_at}
+use Rattle.splice_plans.proofs.NetworkLemmas.{network-append, none-append, none-put}
 use Rattle.splice_playing.proofs.StreamLemmas.{slot-new, slot-old, slot-other}
 
 -- ---- PIDs by their numbers
-
-or-left : (a b : Bool) → (a || b) ≡ false → a ≡ false
-or-left true b h = h
-or-left false b h = refl
-
-or-right : (a b : Bool) → (a || b) ≡ false → b ≡ false
-or-right true b h = absurd (true≢false h)
-or-right false b h = h
 
 pub clash : (b : Bool) → b ≡ true → b ≡ false → ⊥
 clash b h k = true≢false (sym h ∙ k)
@@ -48,8 +40,8 @@ among-by pid (q ∷ pids) (suc n) h = or_right (q == pid) (is_among pid pids) (a
 
 not-among : (pid q : ℕ) (pids : List ℕ) (i : ℕ) → is_among pid pids ≡ false → slice_get pids i ≡ Some q → (q == pid) ≡ false
 not-among pid q [] i none h = absurd (none-some q h)
-not-among pid q (r ∷ pids) zero none h = ap (λ n. n == pid) (sym (same_Some r q h)) ∙ or-left (r == pid) (is_among pid pids) none
-not-among pid q (r ∷ pids) (suc i) none h = not-among pid q pids i (or-right (r == pid) (is_among pid pids) none) h
+not-among pid q (r ∷ pids) zero none h = ap (λ n. n == pid) (sym (same_Some r q h)) ∙ (or_parts (r == pid) (is_among pid pids) none).0
+not-among pid q (r ∷ pids) (suc i) none h = not-among pid q pids i ((or_parts (r == pid) (is_among pid pids) none).1) h
 
 -- another stream has another PID
 pub other-pid : (pid q : ℕ) (pids : List ℕ) (n i : ℕ) → IsOnce pid pids → slice_get pids n ≡ Some pid → slice_get pids i ≡ Some q → (n ≡ i → ⊥) → (q == pid) ≡ false
@@ -72,23 +64,6 @@ on-switched pid (q ∷ pids) zero p h o = ap (λ b. b || on_one pids p) (ap (λ 
 on-switched pid (q ∷ pids) (suc n) p h o = or_right (on q p) (on_one pids p) (on-switched pid pids n p h o)
 
 -- ---- what the network has brought
-
-pub network-append : (a b : List Move) → network (a ++ b) ≡ network a ++ network b
-network-append [] b = refl
-network-append (Keep p ∷ a) b = ap (λ l. p ∷ l) (network-append a b)
-network-append (Leave p ∷ a) b = ap (λ l. p ∷ l) (network-append a b)
-network-append (Put q u ∷ a) b = network-append a b
-
-none-append : (a b : List Move) → network a ≡ [] → network b ≡ [] → network (a ++ b) ≡ []
-none-append a b h k = network-append a b ∙ ap (λ l. l ++ network b) h ∙ k
-
-none-on : (pid : ℕ) (us : List SliceUnit) → network (map (λ (u : SliceUnit). Put pid u) us) ≡ []
-none-on pid [] = refl
-none-on pid (u ∷ us) = none-on pid us
-
-none-put : (pids : List ℕ) (es : List Standing) (rule : ℕ → Standing → List SliceUnit) → network (puts_by pids es rule) ≡ []
-none-put [] es rule = refl
-none-put (pid ∷ pids) es rule = none-append (map (λ (u : SliceUnit). Put pid u) (flat_map (rule pid) es)) (puts_by pids es rule) (none-on pid (flat_map (rule pid) es)) (none-put pids es rule)
 
 abbrev is-none : List (List ℕ) → Bool
 is-none [] = true
@@ -182,8 +157,8 @@ module _ (goes : ℕ → Option ℤ → Bool) (sw : List ℕ) (p : List ℕ) (pa
   none-out : (pid : ℕ) (pids : List ℕ) → on pid p ≡ true → is_among pid pids ≡ false → is_left_out goes sw p past pids ≡ false
   none-out pid [] o none = refl
   none-out pid (q ∷ pids) o none =
-      other-out (payload_on q p && goes q (unit_time sw q (p ∷ past))) (is_left_out goes sw p past pids) (not-payload q (off_payload q p (off-other pid q p o (or-left (q == pid) (is_among pid pids) none))))
-      ∙ none-out pid pids o (or-right (q == pid) (is_among pid pids) none)
+      other-out (payload_on q p && goes q (unit_time sw q (p ∷ past))) (is_left_out goes sw p past pids) (not-payload q (off_payload q p (off-other pid q p o ((or_parts (q == pid) (is_among pid pids) none).0))))
+      ∙ none-out pid pids o ((or_parts (q == pid) (is_among pid pids) none).1)
 
   pub out-is : (pid : ℕ) (pids : List ℕ) → payload_on pid p ≡ true → IsOnce pid pids → is_left_out goes sw p past pids ≡ goes pid (unit_time sw pid (p ∷ past))
   out-is pid [] y once = absurd once
@@ -206,8 +181,8 @@ module _ (goes : ℕ → Option ℤ → Bool) (sw : List ℕ) (p : List ℕ) (pa
 no-time : (sw : List ℕ) (pid : ℕ) (past : List (List ℕ)) → in_unit pid past ≡ false → unit_time sw pid past ≡ None
 no-time sw pid [] h = refl
 no-time sw pid (p ∷ past) h =
-    let n = or-left (begins pid p past) (in_unit pid past) h in
-    simp n (no-time sw pid past (or-right (begins pid p past) (in_unit pid past) h))
+    let n = (or_parts (begins pid p past) (in_unit pid past) h).0 in
+    simp n (no-time sw pid past ((or_parts (begins pid p past) (in_unit pid past) h).1))
 
 pub nothing-holds : (ads : Adverts) (es : List Standing) → is_inside ads es None ≡ false
 nothing-holds ads [] = refl

@@ -76,15 +76,15 @@ module _ (takes : Standing → Bool) (ads : Adverts) (xs : List (Standing × Pla
   }
 
 -- the event at a place of a table, and its plan
-module _ (t : Table Plan) (line : Option ℤ) (es : List Standing) (s : StandsFor t line es) where
+module _ (t : Table Plan) (latest : Option ℤ) (es : List Standing) (s : StandsFor t latest es) where
   abbrev pub pairs : List (Standing × Plan)
   pairs = beside es (values_of t)
 
   same-size : length es ≡ length (values_of t)
-  same-size = sym (length-map t.entries.items (λ (x : Entry Plan). x.value) ∙ length-entries t line es s)
+  same-size = sym (length-map t.entries.items (λ (x : Entry Plan). x.value) ∙ length-entries t latest es s)
 
   pub pairs-size : length pairs ≡ length t.entries.items
-  pairs-size = pair-count es (values_of t) same-size ∙ sym (length-entries t line es s)
+  pairs-size = pair-count es (values_of t) same-size ∙ sym (length-entries t latest es s)
 
   pub all-pairs : (at : ℕ) → length t.entries.items ≤ at → take at pairs ≡ pairs
   all-pairs at h = let n = pairs-size in take_all at pairs (omega (arith, n, h))
@@ -97,13 +97,13 @@ module _ (t : Table Plan) (line : Option ℤ) (es : List Standing) (s : StandsFo
     pair = slice_index_or pairs at no_pair
 
     pair-is : pair ≡ (slice_index_or es at no_standing, slice_index_or (values_of t) at no_entry.value)
-    pair-is = let n = length-entries t line es s in pair-at es (values_of t) at (omega (arith, n, below)) same-size
+    pair-is = let n = length-entries t latest es s in pair-at es (values_of t) at (omega (arith, n, below)) same-size
 
     entry-is : entry ≡ slice_index_or t.entries.items at no_entry
     entry-is = there ∙ get_or_default t.entries.items at entry no_entry below
 
     pub event-is : entry.event ≡ on_ring pair.0
-    event-is = ap (λ (x : Entry Plan). x.event) entry-is ∙ event-there t line es s at below ∙ ap (λ (x : Standing × Plan). on_ring x.0) (sym pair-is)
+    event-is = ap (λ (x : Entry Plan). x.event) entry-is ∙ event-there t latest es s at below ∙ ap (λ (x : Standing × Plan). on_ring x.0) (sym pair-is)
 
     pub value-is : entry.value ≡ pair.1
     value-is =
@@ -115,12 +115,12 @@ one-same a a' b b' d d' c h k m = ap (λ x. with_one x b d c) h ∙ ap (λ x. wi
 
 -- ---- those that are forgotten
 
-module _ (t : Table Plan) (line : Option ℤ) (es : List Standing) (s : StandsFor t line es) (p : ℕ) (later : ℤ) (fits : p < 2 ^ 33) (can : CanAdvance (high_time_of t) p) (is : IsTimeAt line p later)
+module _ (t : Table Plan) (latest : Option ℤ) (es : List Standing) (s : StandsFor t latest es) (p : ℕ) (later : ℤ) (fits : p < 2 ^ 33) (can : CanAdvance (high_time_of t) p) (is : IsTimeAt latest p later)
     (at : ℕ) (below : at < length t.entries.items) (entry : Entry Plan) (there : entry ≡ slice_index_or t.entries.items at entry) where
-  pair-within : IsWithin line (pair t line es s at below entry there).0
-  pair-within = subst (λ (x : Standing × Plan). IsWithin line x.0) (sym (pair-is t line es s at below entry there)) (within-there t line es s at below)
+  pair-within : IsWithin latest (pair t latest es s at below entry there).0
+  pair-within = subst (λ (x : Standing × Plan). IsWithin latest x.0) (sym (pair-is t latest es s at below entry there)) (within-there t latest es s at below)
 
-  pub out-is : not (is_before_on_ring p ((ring_end entry.event + 900000) % 2 ^ 33)) ≡ is_out_at later (pair t line es s at below entry there).0
+  pub out-is : not (is_before_on_ring p ((ring_end entry.event + 900000) % 2 ^ 33)) ≡ is_out_at later (pair t latest es s at below entry there).0
   out-is =
-      ap (λ (e : Event). not (is_before_on_ring p ((ring_end e + 900000) % 2 ^ 33))) (event-is t line es s at below entry there)
-      ∙ ap not (kept-within line p later fits (subst (λ h. CanAdvance h p) s.high can) is (pair t line es s at below entry there).0 pair-within)
+      ap (λ (e : Event). not (is_before_on_ring p ((ring_end e + 900000) % 2 ^ 33))) (event-is t latest es s at below entry there)
+      ∙ ap not (kept-within latest p later fits (subst (λ h. CanAdvance h p) s.high can) is (pair t latest es s at below entry there).0 pair-within)

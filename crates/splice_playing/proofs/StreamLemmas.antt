@@ -13,6 +13,8 @@ use Rattle.splice_plans.specs.declared.plan.Plan.{Plan}
 use Rattle.splice_plans.specs.declared.stream.SwitchedStream.{SwitchedStream}
 use Rattle.splice_plans.specs.Parts.{beside, running_packets, ran_plans}
 use Rattle.splice_plans.specs.Fronts.{AllCount, all_running, running_of, all_ran}
+use Rattle.ts_packet.proofs.Cases.{test-same}
+use Rattle.plan_laws.proofs.PartLemmas.{small-number}
 
 -- the front of a list falls away one by one
 drop-suc : {X : Type 0} (xs : List X) (n : ℕ) (d : X) → n < length xs → drop n xs ≡ slice_index_or xs n d ∷ drop (suc n) xs
@@ -29,11 +31,8 @@ drop-past [] (suc n) h = refl
 drop-past (x ∷ xs) zero h = absurd (omega (arith, h))
 drop-past (x ∷ xs) (suc n) h = drop-past xs n (omega (arith, h))
 
-same-number : (a : ℕ) → (a == a) ≡ true
-same-number a = grind (arith)
-
 apart : (a b : ℕ) → a ≡ b → (a == b) ≡ false → ⊥
-apart a b is k = true≢false (sym (same-number a) ∙ ap (λ m. a == m) is ∙ k)
+apart a b is k = true≢false (sym (test-same a) ∙ ap (λ m. a == m) is ∙ k)
 
 other-number : (a b : ℕ) → (a ≡ b → ⊥) → (a == b) ≡ false
 other-number a b h = by (a == b) refl
@@ -108,7 +107,7 @@ module _ (filed : ℕ → Option Advertisement) (streams : List Stream) (high : 
 
     front-here : (n : ℕ) → at ≡ n → fronts-now n ≡ more
     unfolding fronts-now
-    front-here n is = rw (sym is) (rw (same-number at) refl)
+    front-here n is = rw (sym is) (rw (test-same at) refl)
 
     front-there : (n : ℕ) → (at ≡ n → ⊥) → fronts-now n ≡ i.fronts n
     unfolding fronts-now
@@ -191,18 +190,15 @@ some-there [] n h = absurd (omega (arith, h))
 some-there (x ∷ xs) zero h = (x, refl)
 some-there (x ∷ xs) (suc n) h = some-there xs n (omega (arith, h))
 
-same-slot : (at : ℕ) → at < 8 → at % 8 ≡ at
-same-slot at h = omega (arith, h)
-
 module _ (xs : List SwitchedStream) (at : ℕ) (y : SwitchedStream) (below : at % 8 < length xs) where
   pub slot-new : (s : SwitchedStream) → at < 8 → slice_index_or (slice_set xs (at % 8) y) at s ≡ y
-  slot-new s l = subst (λ n. slice_index_or (slice_set xs (at % 8) y) n s ≡ y) (same-slot at l) (get_or-set_same xs (at % 8) y s below)
+  slot-new s l = subst (λ n. slice_index_or (slice_set xs (at % 8) y) n s ≡ y) (small-number at l) (get_or-set_same xs (at % 8) y s below)
 
   pub slot-old : (r s : SwitchedStream) → at < 8 → slice_index_or xs at s ≡ slice_index_or xs (at % 8) r
-  slot-old r s l = ap (λ n. slice_index_or xs n s) (sym (same-slot at l)) ∙ get_or_default xs (at % 8) s r below
+  slot-old r s l = ap (λ n. slice_index_or xs n s) (sym (small-number at l)) ∙ get_or_default xs (at % 8) s r below
 
   pub slot-other : (n : ℕ) (s : SwitchedStream) → at < 8 → (at ≡ n → ⊥) → slice_index_or (slice_set xs (at % 8) y) n s ≡ slice_index_or xs n s
-  slot-other n s l differ = get_or-set_other xs (at % 8) n y s (λ is. differ (sym (is ∙ same-slot at l)))
+  slot-other n s l differ = get_or-set_other xs (at % 8) n y s (λ is. differ (sym (is ∙ small-number at l)))
 
   pub slot-leaving : (r : SwitchedStream) → y.is_leaving ≡ (slice_index_or xs (at % 8) r).is_leaving → (n : ℕ) (s : SwitchedStream) → (slice_index_or (slice_set xs (at % 8) y) n s).is_leaving ≡ (slice_index_or xs n s).is_leaving
   slot-leaving r same n s = by ((at % 8) == n) refl

@@ -104,8 +104,8 @@ past-all h time rest time_fits rest_fits near before (e ∷ es) (x ∷ xs) same 
     (subst (λ t. is_before_on_ring t rest ≡ true) (sym (ring-lift h time time_fits)) before) in
     rw one (past-all h time rest time_fits rest_fits near before es xs (later-same x.event (on_ring e) _ _ same) (all-later (IsInReach h) e es within) parts.1)
 
-pub past-by : (table : Table Plan) (line : Option ℤ) (es : List Standing) (rest time : ℕ) → rest < 2 ^ 33 → time < 2 ^ 33 → StandsFor table line es → IsNearHigh line (place line time)
-    → is_rest (Some rest) table ≡ true → is_before_on_ring time rest ≡ true → all_start_past (place line time) es ≡ true
+pub past-by : (table : Table Plan) (latest : Option ℤ) (es : List Standing) (rest time : ℕ) → rest < 2 ^ 33 → time < 2 ^ 33 → StandsFor table latest es → IsNearHigh latest (place latest time)
+    → is_rest (Some rest) table ≡ true → is_before_on_ring time rest ≡ true → all_start_past (place latest time) es ≡ true
 past-by table None es rest time rest_fits time_fits s near h before = ap (all_start_past (place None time)) (none-within es s.within)
 past-by table (Some high) es rest time rest_fits time_fits s near h before =
     past-all high time rest time_fits rest_fits near before es table.entries.items s.events s.within
@@ -113,14 +113,14 @@ past-by table (Some high) es rest time rest_fits time_fits s near h before =
 
 -- ---- the greatest time rises below it
 
-pub near-advance : (line : Option ℤ) (p : ℕ) → CanAdvance (option_map ring_of line) p → IsNearHigh line (place line p)
+pub near-advance : (latest : Option ℤ) (p : ℕ) → CanAdvance (option_map ring_of latest) p → IsNearHigh latest (place latest p)
 near-advance None p can = tt
 near-advance (Some h) p can = near h (signed p (ring_of h)) can.above can.below
   where
     near : (h way : ℤ) → pos 0 ≤ℤ way → way ≤ℤ pos 900000 → (h ≤ℤ ((h +ℤ way) +ℤ pos 900000)) × ((h +ℤ way) ≤ℤ (h +ℤ pos 900000))
     near h way above below = (omega (arith, ints), omega (arith, ints))
 
-pub past-later : (line : Option ℤ) (p : ℕ) (later : ℤ) (es : List Standing) → All (IsWithin line) es → IsTimeAt line p later → all_start_past (place line p) es ≡ true → all_start_past later es ≡ true
+pub past-later : (latest : Option ℤ) (p : ℕ) (later : ℤ) (es : List Standing) → All (IsWithin latest) es → IsTimeAt latest p later → all_start_past (place latest p) es ≡ true → all_start_past later es ≡ true
 past-later None p later es within at past = ap (all_start_past later) (none-within es within)
 past-later (Some h) p later es within at past = subst (λ t. all_start_past t es ≡ true) (sym at) past
 

@@ -29,8 +29,8 @@ use Rattle.splice_plans.proofs.WaitLemmas.{stage-waits, plan-stays}
 use Rattle.splice_playing.specs.Resting.{all_wait, all_start_past, all_start_behind, is_left_at_rest}
 
 -- as many events as plans
-pub as-many-plans : (table : Table Plan) (line : Option ℤ) (es : List Standing) → StandsFor table line es → length es ≡ length (values_of table)
-as-many-plans table line es s = sym (length-map table.entries.items (λ (x : Entry Plan). x.value) ∙ length-entries table line es s)
+pub as-many-plans : (table : Table Plan) (latest : Option ℤ) (es : List Standing) → StandsFor table latest es → length es ≡ length (values_of table)
+as-many-plans table latest es s = sym (length-map table.entries.items (λ (x : Entry Plan). x.value) ∙ length-entries table latest es s)
 
 -- ---- one plan
 
@@ -132,18 +132,18 @@ module _ (filed : ℕ → Option Advertisement) (streams : List Stream) (stream 
       let no : closes_in stream plan ≡ false = closes-not plan stream parts.0 in
       simp no (ap (λ l. plan ∷ l) (none-closed es plans (omega (arith, same)) parts.1))
 
-  pub closing-quiet : (line : Option ℤ) (time : Option ℕ) (steps : List Step) (es : List Standing) (plans : List Plan) → length es ≡ length plans → all_wait plans ≡ true → all_start_behind line time es ≡ true
-      → closing_packets filed streams stream of line time steps es plans ≡ []
-  closing-quiet line None steps es plans same h past = refl
-  closing-quiet line (Some t) steps es plans same h past =
-      ap (λ vs. Rattle.splice_plans.specs.Parts.rest_packets filed streams stream of steps (closing_pairs stream (beside es vs))) (all-stay (adverts_of filed streams) stream (place line t) es plans same h past)
+  pub closing-quiet : (latest : Option ℤ) (time : Option ℕ) (steps : List Step) (es : List Standing) (plans : List Plan) → length es ≡ length plans → all_wait plans ≡ true → all_start_behind latest time es ≡ true
+      → closing_packets filed streams stream of latest time steps es plans ≡ []
+  closing-quiet latest None steps es plans same h past = refl
+  closing-quiet latest (Some t) steps es plans same h past =
+      ap (λ vs. Rattle.splice_plans.specs.Parts.rest_packets filed streams stream of steps (closing_pairs stream (beside es vs))) (all-stay (adverts_of filed streams) stream (place latest t) es plans same h past)
       ∙ ap (λ xs. Rattle.splice_plans.specs.Parts.rest_packets filed streams stream of steps (Rattle.splice_plans.specs.Parts.pairs_by_start xs)) (none-closes stream es plans h)
 
-  pub closed-quiet : (line : Option ℤ) (time : Option ℕ) (es : List Standing) (plans : List Plan) → length es ≡ length plans → all_wait plans ≡ true → all_start_behind line time es ≡ true
-      → closed_plans filed streams stream of line time es plans ≡ plans
-  closed-quiet line None es plans same h past = refl
-  closed-quiet line (Some t) es plans same h past =
-      ap (λ vs. map (closed_plan filed streams stream of) (beside es vs)) (all-stay (adverts_of filed streams) stream (place line t) es plans same h past)
+  pub closed-quiet : (latest : Option ℤ) (time : Option ℕ) (es : List Standing) (plans : List Plan) → length es ≡ length plans → all_wait plans ≡ true → all_start_behind latest time es ≡ true
+      → closed_plans filed streams stream of latest time es plans ≡ plans
+  closed-quiet latest None es plans same h past = refl
+  closed-quiet latest (Some t) es plans same h past =
+      ap (λ vs. map (closed_plan filed streams stream of) (beside es vs)) (all-stay (adverts_of filed streams) stream (place latest t) es plans same h past)
       ∙ none-closed es plans same h
 
 -- ---- whether the unit is left out
@@ -165,10 +165,10 @@ none-holds stream t (e ∷ es) (plan ∷ plans) h =
     by true = refl
     by false = refl
 
-pub left-quiet : (stream : ℕ) (line : Option ℤ) (time : Option ℕ) (was : Bool) (es : List Standing) (plans : List Plan) → all_wait plans ≡ true
-    → is_left_at_rest time was ≡ is_left stream line time was es plans
-left-quiet stream line None was es plans h = refl
-left-quiet stream line (Some t) was es plans h = sym (none-holds stream (place line t) es plans h)
+pub left-quiet : (stream : ℕ) (latest : Option ℤ) (time : Option ℕ) (was : Bool) (es : List Standing) (plans : List Plan) → all_wait plans ≡ true
+    → is_left_at_rest time was ≡ is_left stream latest time was es plans
+left-quiet stream latest None was es plans h = refl
+left-quiet stream latest (Some t) was es plans h = sym (none-holds stream (place latest t) es plans h)
 
 -- ---- what is forgotten
 

@@ -18,7 +18,7 @@ plans_in playing = values_of playing.events.obeyed.table
 
 -- these events stand, where this is the greatest time
 abbrev pub HasEvents : Playing → Option ℤ → List Standing → Type 0
-HasEvents playing line es = StandsFor playing.events.obeyed.table line es
+HasEvents playing latest es = StandsFor playing.events.obeyed.table latest es
 
 -- it is the stream of this number
 abbrev pub IsStreamAt : Playing → ℕ → SwitchedStream → Type 0
@@ -43,10 +43,10 @@ steps_with put steps number = put_in (put number) (steps number)
 module _ (playing : Playing) (filed : ℕ → Option Advertisement) (streams : List Stream) where
   -- what goes out of the events that a unit of this time in the stream closes, and the plans then
   abbrev pub closing_in : ℕ → Stream → Option ℤ → Option ℕ → List Step → List Standing → List (List ℕ)
-  closing_in number of line time steps es = closing_packets filed streams number of line time steps es (plans_in playing)
+  closing_in number of latest time steps es = closing_packets filed streams number of latest time steps es (plans_in playing)
 
   abbrev pub closed_in : ℕ → Stream → Option ℤ → Option ℕ → List Standing → List Plan
-  closed_in number of line time es = closed_plans filed streams number of line time es (plans_in playing)
+  closed_in number of latest time es = closed_plans filed streams number of latest time es (plans_in playing)
 
   -- what goes out of the events that run, in all streams and in one, and the plans then
   abbrev pub running_in_all : Option ℤ → List Standing → (ℕ → List Step) → List (List ℕ)

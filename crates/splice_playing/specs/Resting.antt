@@ -72,8 +72,8 @@ all_start_past time es = list_all (λ e. int_lt time e.start) es
 
 -- or past that of a unit, where it has one
 abbrev pub all_start_behind : Option ℤ → Option ℕ → List Standing → Bool
-all_start_behind line None es = true
-all_start_behind line (Some time) es = all_start_past (place line time) es
+all_start_behind latest None es = true
+all_start_behind latest (Some time) es = all_start_past (place latest time) es
 
 -- a unit before all events is not left out; one without a time lies where that before it does
 abbrev pub is_left_at_rest : Option ℕ → Bool → Bool

@@ -129,33 +129,33 @@ impl Playing {
     ) -> Result<(), PutFault>
         requires { stream < length streams.now }
         ensures leads { S.leads sink.old sink.new }
-        ensures ok { (of : Stream) (line : Option ℤ) (es : List Standing) (s : SwitchedStream)
+        ensures ok { (of : Stream) (latest : Option ℤ) (es : List Standing) (s : SwitchedStream)
             (begin : Option (List ℕ)) (ps : List (List ℕ)) (steps : List Step) →
-            of ≡ slice_index_or streams.now stream of → HasEvents self.old line es → IsNearTime line time.now →
+            of ≡ slice_index_or streams.now stream of → HasEvents self.old latest es → IsNearTime latest time.now →
             IsStreamAt self.old stream s → S.holds sink.old begin ps → Counts s.counter steps →
             OnOk result (S.holds sink.new begin
-            (ps ++ closing_in self.old (held library.now) streams.now stream of line time.now steps es)) }
-        ensures counted { (of : Stream) (line : Option ℤ) (es : List Standing) (s t : SwitchedStream) (steps : List Step) →
-            of ≡ slice_index_or streams.now stream of → HasEvents self.old line es → IsNearTime line time.now →
+            (ps ++ closing_in self.old (held library.now) streams.now stream of latest time.now steps es)) }
+        ensures counted { (of : Stream) (latest : Option ℤ) (es : List Standing) (s t : SwitchedStream) (steps : List Step) →
+            of ≡ slice_index_or streams.now stream of → HasEvents self.old latest es → IsNearTime latest time.now →
             IsStreamAt self.old stream s → IsStreamAt self.new stream t → Counts s.counter steps →
             OnOk result (Counts t.counter
-            (put_in (closing_in self.old (held library.now) streams.now stream of line time.now steps es) steps)) }
-        ensures leaving { (line : Option ℤ) (es : List Standing) (s t : SwitchedStream) → HasEvents self.old line es →
+            (put_in (closing_in self.old (held library.now) streams.now stream of latest time.now steps es) steps)) }
+        ensures leaving { (latest : Option ℤ) (es : List Standing) (s t : SwitchedStream) → HasEvents self.old latest es →
             IsStreamAt self.old stream s → IsStreamAt self.new stream t →
-            OnOk result (t.is_leaving ≡ is_left stream line time.now s.is_leaving es (plans_in self.new)) }
+            OnOk result (t.is_leaving ≡ is_left stream latest time.now s.is_leaving es (plans_in self.new)) }
         ensures others { (i : ℕ) (s : SwitchedStream) → IsOther i (stream % 8) →
             stream_at self.new i s ≡ stream_at self.old i s }
-        ensures plans { (of : Stream) (line : Option ℤ) (es : List Standing) →
-            of ≡ slice_index_or streams.now stream of → HasEvents self.old line es → IsNearTime line time.now →
-            OnOk result (plans_in self.new ≡ closed_in self.old (held library.now) streams.now stream of line time.now es) }
+        ensures plans { (of : Stream) (latest : Option ℤ) (es : List Standing) →
+            of ≡ slice_index_or streams.now stream of → HasEvents self.old latest es → IsNearTime latest time.now →
+            OnOk result (plans_in self.new ≡ closed_in self.old (held library.now) streams.now stream of latest time.now es) }
         ensures keeps { KeepsEvents self.old.events self.new.events }
         ensures units { self.new.leaving ≡ self.old.leaving }
         ensures forgotten { self.new.forgotten ≡ self.old.forgotten }
-        ensures err { (of : Stream) (line : Option ℤ) (es : List Standing) (s : SwitchedStream)
+        ensures err { (of : Stream) (latest : Option ℤ) (es : List Standing) (s : SwitchedStream)
             (begin : Option (List ℕ)) (ps : List (List ℕ)) (steps : List Step) →
-            of ≡ slice_index_or streams.now stream of → HasEvents self.old line es → IsNearTime line time.now →
+            of ≡ slice_index_or streams.now stream of → HasEvents self.old latest es → IsNearTime latest time.now →
             IsStreamAt self.old stream s → S.holds sink.old begin ps → Counts s.counter steps →
-            IfErr result (λ f. FrontFails (closing_in self.old (held library.now) streams.now stream of line time.now steps es)
+            IfErr result (λ f. FrontFails (closing_in self.old (held library.now) streams.now stream of latest time.now steps es)
             (λ put p. S.fails sink.new begin (ps ++ put) p f)) }
         ensures well { OnOk result (WentWell (S.counts sink.old) (S.counts sink.new)) }
         ensures blamed { IfErr result (λ f. Blamed f (S.counts sink.old) (S.counts sink.new) (S.is_full sink.new)) }
@@ -173,8 +173,8 @@ impl Playing {
     fn is_at_rest(&self, time: &Option<Time33>) -> bool
         ensures value { result ≡ comes_before self.now.rest time.now }
         ensures waits { result ≡ true → all_wait (plans_in self.now) ≡ true }
-        ensures ahead { (line : Option ℤ) (es : List Standing) → HasEvents self.now line es → IsNearTime line time.now →
-            result ≡ true → all_start_behind line time.now es ≡ true }
+        ensures ahead { (latest : Option ℤ) (es : List Standing) → HasEvents self.now latest es → IsNearTime latest time.now →
+            result ≡ true → all_start_behind latest time.now es ≡ true }
         ensures fits { IfSome self.now.rest (λ rest. rest < 2 ^ 33) }
     {
         let Some(rest) = self.rest else {
@@ -218,33 +218,33 @@ impl Playing {
         requires at { stream < length streams.now }
         requires wakes { self.old.rest ≡ None }
         ensures leads { S.leads sink.old sink.new }
-        ensures ok { (of : Stream) (line : Option ℤ) (es : List Standing) (s : SwitchedStream)
+        ensures ok { (of : Stream) (latest : Option ℤ) (es : List Standing) (s : SwitchedStream)
             (begin : Option (List ℕ)) (ps : List (List ℕ)) (steps : List Step) →
-            of ≡ slice_index_or streams.now stream of → HasEvents self.old line es → IsNearTime line time.now →
+            of ≡ slice_index_or streams.now stream of → HasEvents self.old latest es → IsNearTime latest time.now →
             IsStreamAt self.old stream s → S.holds sink.old begin ps → Counts s.counter steps →
             OnOk result (S.holds sink.new begin
-            (ps ++ closing_in self.old (held library.now) streams.now stream of line time.now steps es)) }
-        ensures counted { (of : Stream) (line : Option ℤ) (es : List Standing) (s t : SwitchedStream) (steps : List Step) →
-            of ≡ slice_index_or streams.now stream of → HasEvents self.old line es → IsNearTime line time.now →
+            (ps ++ closing_in self.old (held library.now) streams.now stream of latest time.now steps es)) }
+        ensures counted { (of : Stream) (latest : Option ℤ) (es : List Standing) (s t : SwitchedStream) (steps : List Step) →
+            of ≡ slice_index_or streams.now stream of → HasEvents self.old latest es → IsNearTime latest time.now →
             IsStreamAt self.old stream s → IsStreamAt self.new stream t → Counts s.counter steps →
             OnOk result (Counts t.counter
-            (put_in (closing_in self.old (held library.now) streams.now stream of line time.now steps es) steps)) }
-        ensures leaving { (line : Option ℤ) (es : List Standing) (s t : SwitchedStream) → HasEvents self.old line es →
+            (put_in (closing_in self.old (held library.now) streams.now stream of latest time.now steps es) steps)) }
+        ensures leaving { (latest : Option ℤ) (es : List Standing) (s t : SwitchedStream) → HasEvents self.old latest es →
             IsStreamAt self.old stream s → IsStreamAt self.new stream t →
-            OnOk result (t.is_leaving ≡ is_left stream line time.now s.is_leaving es (plans_in self.new)) }
+            OnOk result (t.is_leaving ≡ is_left stream latest time.now s.is_leaving es (plans_in self.new)) }
         ensures others { (i : ℕ) (s : SwitchedStream) → IsOther i (stream % 8) →
             stream_at self.new i s ≡ stream_at self.old i s }
-        ensures plans { (of : Stream) (line : Option ℤ) (es : List Standing) →
-            of ≡ slice_index_or streams.now stream of → HasEvents self.old line es → IsNearTime line time.now →
-            OnOk result (plans_in self.new ≡ closed_in self.old (held library.now) streams.now stream of line time.now es) }
+        ensures plans { (of : Stream) (latest : Option ℤ) (es : List Standing) →
+            of ≡ slice_index_or streams.now stream of → HasEvents self.old latest es → IsNearTime latest time.now →
+            OnOk result (plans_in self.new ≡ closed_in self.old (held library.now) streams.now stream of latest time.now es) }
         ensures keeps { KeepsEvents self.old.events self.new.events }
         ensures units { self.new.leaving ≡ self.old.leaving }
         ensures forgotten { self.new.forgotten ≡ self.old.forgotten }
-        ensures err { (of : Stream) (line : Option ℤ) (es : List Standing) (s : SwitchedStream)
+        ensures err { (of : Stream) (latest : Option ℤ) (es : List Standing) (s : SwitchedStream)
             (begin : Option (List ℕ)) (ps : List (List ℕ)) (steps : List Step) →
-            of ≡ slice_index_or streams.now stream of → HasEvents self.old line es → IsNearTime line time.now →
+            of ≡ slice_index_or streams.now stream of → HasEvents self.old latest es → IsNearTime latest time.now →
             IsStreamAt self.old stream s → S.holds sink.old begin ps → Counts s.counter steps →
-            IfErr result (λ f. FrontFails (closing_in self.old (held library.now) streams.now stream of line time.now steps es)
+            IfErr result (λ f. FrontFails (closing_in self.old (held library.now) streams.now stream of latest time.now steps es)
             (λ put p. S.fails sink.new begin (ps ++ put) p f)) }
         ensures well { OnOk result (WentWell (S.counts sink.old) (S.counts sink.new)) }
         ensures blamed { IfErr result (λ f. Blamed f (S.counts sink.old) (S.counts sink.new) (S.is_full sink.new)) }
@@ -283,29 +283,29 @@ impl Playing {
         sink: &mut S,
     ) -> Result<(), PutFault>
         ensures leads { S.leads sink.old sink.new }
-        ensures ok { (line high_line : Option ℤ) (es : List Standing)
+        ensures ok { (latest latest_behind : Option ℤ) (es : List Standing)
             (begin : Option (List ℕ)) (ps : List (List ℕ)) (steps : ℕ → List Step) → length streams.now ≤ 8 →
-            HasEvents self.old line es → IsReached line high.now high_line → S.holds sink.old begin ps →
+            HasEvents self.old latest es → IsReached latest high.now latest_behind → S.holds sink.old begin ps →
             HasCounted self.old steps →
             OnOk result (S.holds sink.new begin
-            (ps ++ running_in_all self.old (held library.now) streams.now high_line es steps)) }
-        ensures counted { (line high_line : Option ℤ) (es : List Standing) (steps : ℕ → List Step) → length streams.now ≤ 8 →
-            HasEvents self.old line es → IsReached line high.now high_line → HasCounted self.old steps →
+            (ps ++ running_in_all self.old (held library.now) streams.now latest_behind es steps)) }
+        ensures counted { (latest latest_behind : Option ℤ) (es : List Standing) (steps : ℕ → List Step) → length streams.now ≤ 8 →
+            HasEvents self.old latest es → IsReached latest high.now latest_behind → HasCounted self.old steps →
             OnOk result (HasCounted self.new
-            (steps_with (running_in_one self.old (held library.now) streams.now high_line es steps) steps)) }
+            (steps_with (running_in_one self.old (held library.now) streams.now latest_behind es steps) steps)) }
         ensures leaving { (i : ℕ) (s : SwitchedStream) →
             (stream_at self.new i s).is_leaving ≡ (stream_at self.old i s).is_leaving }
-        ensures plans { (line high_line : Option ℤ) (es : List Standing) → HasEvents self.old line es →
-            IsReached line high.now high_line →
-            OnOk result (plans_in self.new ≡ ran_in_all self.old (held library.now) streams.now high_line es) }
+        ensures plans { (latest latest_behind : Option ℤ) (es : List Standing) → HasEvents self.old latest es →
+            IsReached latest high.now latest_behind →
+            OnOk result (plans_in self.new ≡ ran_in_all self.old (held library.now) streams.now latest_behind es) }
         ensures keeps { KeepsEvents self.old.events self.new.events }
         ensures units { self.new.leaving ≡ self.old.leaving }
         ensures forgotten { self.new.forgotten ≡ self.old.forgotten }
-        ensures err { (line high_line : Option ℤ) (es : List Standing)
+        ensures err { (latest latest_behind : Option ℤ) (es : List Standing)
             (begin : Option (List ℕ)) (ps : List (List ℕ)) (steps : ℕ → List Step) → length streams.now ≤ 8 →
-            HasEvents self.old line es → IsReached line high.now high_line → S.holds sink.old begin ps →
+            HasEvents self.old latest es → IsReached latest high.now latest_behind → S.holds sink.old begin ps →
             HasCounted self.old steps →
-            IfErr result (λ f. FrontFails (running_in_all self.old (held library.now) streams.now high_line es steps)
+            IfErr result (λ f. FrontFails (running_in_all self.old (held library.now) streams.now latest_behind es steps)
             (λ put p. S.fails sink.new begin (ps ++ put) p f)) }
         ensures well { OnOk result (WentWell (S.counts sink.old) (S.counts sink.new)) }
         ensures blamed { IfErr result (λ f. Blamed f (S.counts sink.old) (S.counts sink.new) (S.is_full sink.new)) }
@@ -326,29 +326,29 @@ impl Playing {
     ) -> Result<(), PutFault>
         requires { self.old.rest ≡ None }
         ensures leads { S.leads sink.old sink.new }
-        ensures ok { (line high_line : Option ℤ) (es : List Standing)
+        ensures ok { (latest latest_behind : Option ℤ) (es : List Standing)
             (begin : Option (List ℕ)) (ps : List (List ℕ)) (steps : ℕ → List Step) → length streams.now ≤ 8 →
-            HasEvents self.old line es → IsReached line high.now high_line → S.holds sink.old begin ps →
+            HasEvents self.old latest es → IsReached latest high.now latest_behind → S.holds sink.old begin ps →
             HasCounted self.old steps →
             OnOk result (S.holds sink.new begin
-            (ps ++ running_in_all self.old (held library.now) streams.now high_line es steps)) }
-        ensures counted { (line high_line : Option ℤ) (es : List Standing) (steps : ℕ → List Step) → length streams.now ≤ 8 →
-            HasEvents self.old line es → IsReached line high.now high_line → HasCounted self.old steps →
+            (ps ++ running_in_all self.old (held library.now) streams.now latest_behind es steps)) }
+        ensures counted { (latest latest_behind : Option ℤ) (es : List Standing) (steps : ℕ → List Step) → length streams.now ≤ 8 →
+            HasEvents self.old latest es → IsReached latest high.now latest_behind → HasCounted self.old steps →
             OnOk result (HasCounted self.new
-            (steps_with (running_in_one self.old (held library.now) streams.now high_line es steps) steps)) }
+            (steps_with (running_in_one self.old (held library.now) streams.now latest_behind es steps) steps)) }
         ensures leaving { (i : ℕ) (s : SwitchedStream) →
             (stream_at self.new i s).is_leaving ≡ (stream_at self.old i s).is_leaving }
-        ensures plans { (line high_line : Option ℤ) (es : List Standing) → HasEvents self.old line es →
-            IsReached line high.now high_line →
-            OnOk result (plans_in self.new ≡ ran_in_all self.old (held library.now) streams.now high_line es) }
+        ensures plans { (latest latest_behind : Option ℤ) (es : List Standing) → HasEvents self.old latest es →
+            IsReached latest high.now latest_behind →
+            OnOk result (plans_in self.new ≡ ran_in_all self.old (held library.now) streams.now latest_behind es) }
         ensures keeps { KeepsEvents self.old.events self.new.events }
         ensures units { self.new.leaving ≡ self.old.leaving }
         ensures forgotten { self.new.forgotten ≡ self.old.forgotten }
-        ensures err { (line high_line : Option ℤ) (es : List Standing)
+        ensures err { (latest latest_behind : Option ℤ) (es : List Standing)
             (begin : Option (List ℕ)) (ps : List (List ℕ)) (steps : ℕ → List Step) → length streams.now ≤ 8 →
-            HasEvents self.old line es → IsReached line high.now high_line → S.holds sink.old begin ps →
+            HasEvents self.old latest es → IsReached latest high.now latest_behind → S.holds sink.old begin ps →
             HasCounted self.old steps →
-            IfErr result (λ f. FrontFails (running_in_all self.old (held library.now) streams.now high_line es steps)
+            IfErr result (λ f. FrontFails (running_in_all self.old (held library.now) streams.now latest_behind es steps)
             (λ put p. S.fails sink.new begin (ps ++ put) p f)) }
         ensures well { OnOk result (WentWell (S.counts sink.old) (S.counts sink.new)) }
         ensures blamed { IfErr result (λ f. Blamed f (S.counts sink.old) (S.counts sink.new) (S.is_full sink.new)) }
@@ -535,8 +535,8 @@ fn with_forgotten(
     streams: &[Stream],
     library: &AdLibrary,
 ) -> SwitchReport
-    ensures { (line : Option ℤ) (later : ℤ) (es : List Standing) (counts : Reported) →
-        StandsFor table.now line es → CanAdvance (high_time_of table.now) high → IsTimeAt line high later → ReportIs report counts →
+    ensures { (latest : Option ℤ) (later : ℤ) (es : List Standing) (counts : Reported) →
+        StandsFor table.now latest es → CanAdvance (high_time_of table.now) high → IsTimeAt latest high later → ReportIs report counts →
         ReportIs result (with_out (held library.now) streams.now table.now es later counts) }
 {
     let mut counted = report;
@@ -556,8 +556,8 @@ fn with_one_forgotten(
     library: &AdLibrary,
 ) -> SwitchReport
     requires { at < length table.now.entries.items }
-    ensures { (line : Option ℤ) (later : ℤ) (es : List Standing) (counts : Reported) →
-        StandsFor table.now line es → CanAdvance (high_time_of table.now) high → IsTimeAt line high later →
+    ensures { (latest : Option ℤ) (later : ℤ) (es : List Standing) (counts : Reported) →
+        StandsFor table.now latest es → CanAdvance (high_time_of table.now) high → IsTimeAt latest high later →
         ReportIs report (with_first_out (held library.now) streams.now table.now es at later counts) →
         ReportIs result (with_first_out (held library.now) streams.now table.now es (at + 1) later counts) }
 {
@@ -576,7 +576,7 @@ fn with_all(
     streams: &[Stream],
     library: &AdLibrary,
 ) -> SwitchReport
-    ensures { (line : Option ℤ) (es : List Standing) (counts : Reported) → StandsFor table.now line es →
+    ensures { (latest : Option ℤ) (es : List Standing) (counts : Reported) → StandsFor table.now latest es →
         ReportIs report counts →
         ReportIs result (with_standing (held library.now) streams.now table.now es counts) }
 {

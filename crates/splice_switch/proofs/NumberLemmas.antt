@@ -9,6 +9,7 @@ use Rattle.program_follower.specs.declared.purpose.Listed.{Listed}
 use Rattle.program_follower.specs.Program.{listed}
 use Rattle.program_follower.proofs.StepLemmas.{listed_stays}
 use Rattle.program_laws.specs.Writing.{number_on, Off}
+use Rattle.outgoing_packets.proofs.NumberLemmas.{number-others}
 use Rattle.splice_switch.specs.Standing.{GoOnAs}
 
 -- the same packets more
@@ -21,10 +22,6 @@ one-more pid q a b h = by_test (on pid q) (λ y. simp y refl) (λ n. simp n h)
 all-more : (pid : ℕ) (qs a b : List (List ℕ)) → Same pid a b → Same pid (onto a qs) (onto b qs)
 all-more pid [] a b h = h
 all-more pid (q ∷ qs) a b h = all-more pid qs (q ∷ a) (q ∷ b) (one-more pid q a b h)
-
-others-more : (pid : ℕ) (qs out : List (List ℕ)) → AllByRecursion (Off pid) qs → number_on pid (onto out qs) ≡ number_on pid out
-others-more pid [] out h = refl
-others-more pid (q ∷ qs) out h = others-more pid qs (q ∷ out) h.1 ∙ (let n = h.0 in let f : number_on pid (q ∷ out) ≡ number_on pid out = simp n refl in f)
 
 weaker : (o : Option Listed) (a b : List (List ℕ)) → ((pid : ℕ) → Same pid a b) → GoOnAs o a b
 weaker None a b h = h
@@ -45,4 +42,4 @@ go-on-same (Some l) qs a b h = all-more l.pid qs a b h
 
 -- packets of other PIDs than the map's went out by themselves
 pub go-on-others : (o : Option Listed) (l : Listed) (qs a b : List (List ℕ)) → o ≡ Some l → AllByRecursion (Off l.pid) qs → GoOnAs o a b → GoOnAs o a (onto b qs)
-go-on-others o l qs a b e off h = subst (λ o. GoOnAs o a (onto b qs)) (sym e) (subst (λ o. GoOnAs o a b) e h ∙ sym (others-more l.pid qs b off))
+go-on-others o l qs a b e off h = subst (λ o. GoOnAs o a (onto b qs)) (sym e) (subst (λ o. GoOnAs o a b) e h ∙ sym (number-others l.pid qs b off))

@@ -32,7 +32,7 @@ use Rattle.outgoing_packets.specs.declared.entry.CueEntry.TheVariants.{Stripped}
 use Rattle.outgoing_packets.specs.Entries.{tables_out, HasRoom, GoesOut, AllGoOut}
 use Rattle.splice_laws.specs.Splicing.{SliceUnit}
 use Rattle.output_laws.specs.Output.{Move, Keep, Leave, Put, counter_steps, clock_alone, out_at, out_after}
-use Rattle.output_laws.proofs.StepLemmas.{pid_is, on-kept, on-clock}
+use Rattle.output_laws.proofs.StepLemmas.{on-kept, on-clock}
 use Rattle.ad_library.specs.Advertisements.{Advertisement}
 use Rattle.splice_plans.specs.Playing.{Adverts, History, played, is_inside}
 use Rattle.splice_plans.specs.Switching.{Setting, puts_by, puts_before, moves, front_of, place_of, is_behind_head, front_at, place_at, switched_at, history_at, switched_past, switched_at_packet}
@@ -42,7 +42,8 @@ use Rattle.splice_plans.proofs.PutLemmas.{puts_at_unit_starts}
 use Rattle.switch_laws.proofs.BringLemmas.{closing_rule, running_rule}
 use Rattle.switch_laws.proofs.FaultlessLemmas.{faultless_is_sound, unlisted}
 use Rattle.switch_laws.proofs.StandingLemmas.{is-place, packets_stand_as}
-use Rattle.splice_switch.proofs.PlayLemmas.{off-begins}
+use Rattle.ts_packet.proofs.FieldLemmas.{pid_is}
+use Rattle.unit_stream.proofs.ClockLemmas.{begins_off_all}
 use Rattle.splice_switch.specs.Standing.{GoOnAs}
 use Rattle.splice_switch.proofs.PremiseLemmas.{no-table, map-switched, OnMap}
 use Rattle.splice_switch.proofs.NumberLemmas.{go-on-later, go-on-others, go-on-same}
@@ -65,17 +66,17 @@ module _ (k : Setting) (p : List ℕ) (past : List (List ℕ)) where
 
   pub other-out : on_map (listed (Some k.program) past) p ≡ false → on k.cue_pid p ≡ false → on_one (switched_at k past) p ≡ false → switched_at_packet k p past ≡ p ∷ []
   other-out map cue other =
-      alone (p ∷ []) (off-begins (switched_at k past) p (behind_at k past) other) ((packets_stand_as k p past).other (no-table (listed (Some k.program) past) p map) cue other)
+      alone (p ∷ []) (begins_off_all (switched_at k past) p (behind_at k past) other) ((packets_stand_as k p past).other (no-table (listed (Some k.program) past) p map) cue other)
 
   pub cue-out : on_map (listed (Some k.program) past) p ≡ false → on k.cue_pid p ≡ true → on_one (switched_at k past) p ≡ false → switched_at_packet k p past ≡ []
   cue-out map cue other =
-      alone [] (off-begins (switched_at k past) p (behind_at k past) other) ((packets_stand_as k p past).cue (no-table (listed (Some k.program) past) p map) cue)
+      alone [] (begins_off_all (switched_at k past) p (behind_at k past) other) ((packets_stand_as k p past).cue (no-table (listed (Some k.program) past) p map) cue)
 
   pub map-out : (l : Listed) → listed (Some k.program) past ≡ Some l → on l.pid p ≡ true → on_one (switched_at k past) p ≡ false
       → switched_at_packet k p past ≡ packets_out l.pid (switched_past k past) (map (section_out (without_cue_entry k.cue_pid)) (tables (Some k.program) p past))
   map-out l e here other =
       alone (packets_out l.pid (switched_past k past) (map (section_out (without_cue_entry k.cue_pid)) (tables (Some k.program) p past)))
-      (off-begins (switched_at k past) p (behind_at k past) other) ((packets_stand_as k p past).sections l e here)
+      (begins_off_all (switched_at k past) p (behind_at k past) other) ((packets_stand_as k p past).sections l e here)
 
   pub stream-out : on_map (listed (Some k.program) past) p ≡ false → switched_at_packet k p past ≡ front_at k p past ++ place_at k p past
   stream-out map = ap (λ l. front_at k p past ++ l) (is-place k p past (no-table (listed (Some k.program) past) p map))

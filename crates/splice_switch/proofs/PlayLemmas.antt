@@ -7,7 +7,7 @@ use Rattle.ts_packet.specs.Fields.{on, on_one}
 use Rattle.ts_packet.specs.Numbering.{Counts}
 use Rattle.ts_packet.proofs.FieldLemmas.{off_payload}
 use Rattle.unit_stream.specs.Times.{begins, begins_one, high, unit_time}
-use Rattle.unit_stream.proofs.ClockLemmas.{high_same, begins_off}
+use Rattle.unit_stream.proofs.ClockLemmas.{high_same, begins_off_all}
 use Rattle.unit_stream.specs.Fates.{is_left_out}
 use Rattle.psi_section.proofs.AssemblerLemmas.{waits_off}
 use Rattle.psi_tables.specs.ProgramMap.{ProgramMap}
@@ -56,12 +56,6 @@ switched-off (pid ∷ pids) p h = let r = or_parts (on pid p) (on_one pids p) h 
 or-both : (a b : Bool) → a ≡ false → b ≡ false → (Rattle.std.proofs.Common.◌||◌ a b) ≡ false
 or-both true b h k = h
 or-both false b h k = k
-
-pub off-begins : (pids : List ℕ) (p : List ℕ) (past : List (List ℕ)) → on_one pids p ≡ false → begins_one pids p past ≡ false
-off-begins [] p past h = refl
-off-begins (pid ∷ pids) p past h =
-    let r = or_parts (on pid p) (on_one pids p) h in
-    or-both (begins pid p past) (begins_one pids p past) (begins_off pid p past (off_payload pid p r.0)) (off-begins pids p past r.1)
 
 -- ---- before the packet
 
@@ -245,10 +239,6 @@ module _ (sw : List ℕ) (ads : Adverts) (events : History) where
   at-nothing : length sw ≤ 8 → (es : List Standing) (start : ℤ) → plan_at sw ads events [] es start ≡ nothing_known
   at-nothing few es start = found-nothing few (Rattle.std.specs.Prelude.find (λ e. Rattle.std.specs.Ordering.int_eq e.start start) es)
 
-none-and : (b : Bool) → (b && false) ≡ false
-none-and true = refl
-none-and false = refl
-
 nothing-counted : (k : Setting) (past : List (List ℕ)) → high_at k past ≡ None → counts_known k past (is_forgotten (high_at k past)) ≡ no_counts
 unfolding made-counts
 nothing-counted k past none =
@@ -327,7 +317,7 @@ plays-quiet playing k p past off other few h = by (known_map (Some k.program) pa
     by : (o : Option ProgramMap) → known_map (Some k.program) past ≡ o → PlaysFor playing k (p ∷ past)
     by None known = plays-head k p past known off few playing h
     by (Some m) known =
-        let none = off-begins (switched_at k past) p (behind_at k past) other in
+        let none = begins_off_all (switched_at k past) p (behind_at k past) other in
         plays-behind k p past m known off none playing (plays-passed playing k p past other (plays-before playing k p past none h))
 
 -- and behind a packet of one of the streams

@@ -1,14 +1,12 @@
 -- What a packet of a network without fault is to the switch.
-use Rattle.std.proofs.Common.{◌≡◌, ℕ, zero, suc, ◌≤◌, ◌<◌, ◌==◌, List, [], ◌∷◌, length, Bool, true, false, ◌||◌, if◌then◌else◌, refl, sym, ap, subst, ◌∙◌, arith, add-one}
+use Rattle.std.proofs.Common.{◌≡◌, ℕ, suc, ◌≤◌, ◌<◌, ◌==◌, List, [], ◌∷◌, length, true, false, ◌||◌, if◌then◌else◌, refl, sym, ap, subst, ◌∙◌, arith, add-one}
 use Rattle.std.specs.Prelude.{Option, None, Some, option_map, is_some, slice_get, nat_lt}
 use Rattle.std.specs.Option.{option_or}
 use Rattle.std.proofs.lemmas.Bool.{true≢false, or_from, or_parts}
 use Rattle.std.proofs.lemmas.Bool.Decides.{nat_tests}
 use Rattle.std.proofs.lemmas.List.{length-map}
 use Rattle.ts_packet.specs.Fields.{on, on_one, is_among}
-use Rattle.ts_packet.proofs.Cases.{by_test}
-use Rattle.unit_stream.specs.declared.fault.UnitFault.{UnitFault}
-use Rattle.unit_stream.specs.declared.fault.UnitFault.TheVariants.{Scrambled, HeaderSplit, TimeJump}
+use Rattle.ts_packet.proofs.Cases.{by_test, test-same, test-turned}
 use Rattle.unit_stream.specs.declared.clock.Begun.{Begun}
 use Rattle.unit_stream.specs.Times.{begins, begins_one, high, stamp}
 use Rattle.unit_stream.specs.Clocks.{Tells}
@@ -24,17 +22,15 @@ use Rattle.program_follower.specs.declared.starts.StartPacket.TheVariants.{Start
 use Rattle.program_follower.specs.declared.start_follower.StartPlace.TheVariants as places
 use Rattle.program_follower.specs.Purposes.{reading_cues, cues_read_on}
 use Rattle.program_follower.specs.Program.{listed, all_tables, known_map, behind_head, Program, program_in, program_of, pids_of}
-use Rattle.program_follower.specs.Faults.{network_fault, first_fault, cue_fault, pats_fault_at, maps_fault_at, unit_fault_at, as_network, is_pid, pmt_pid_fault, if_bad}
+use Rattle.program_follower.specs.Faults.{network_fault, first_fault, cue_fault, pats_fault_at, maps_fault_at, unit_fault_at, is_pid, pmt_pid_fault, if_bad}
 use Rattle.psi_tables.specs.declared.network.NetworkFault.TheVariants.{CuePidUsed, BadPids}
 use Rattle.program_follower.specs.Following.{IsStartPlace, on_map, streams_of_program}
 use Rattle.program_follower.specs.Streaming.{first_on, next_place}
 use Rattle.program_follower.proofs.OptionLemmas.{none_both}
-use Rattle.program_follower.proofs.StreamLemmas.{first_is_on, first_within, first_of, none_of, one_of, begins_is, begins_needs}
+use Rattle.program_follower.proofs.StreamLemmas.{first_is_on, first_within, first_of, none_of, one_of, begins_is, begins_needs, some_is}
 use Rattle.pes_time.specs.Line.{ring_of}
 use Rattle.program_laws.proofs.HeadLemmas.{known_stays}
 use Rattle.program_laws.proofs.FaultLemmas.{all_sound, pid_good, not_if_bad}
-use Rattle.program_laws.proofs.SplicedLemmas.{back_test}
-use Rattle.output_laws.proofs.StepLemmas.{pid_is, test-same}
 use Rattle.ad_library.specs.Advertisements.{Advertisement}
 use Rattle.splice_plans.specs.Switching.{Setting, switched_at, streams_at, high_at}
 use Rattle.splice_plans.specs.Adverts.{setting_of}
@@ -43,6 +39,8 @@ use Rattle.splice_plans.specs.Known.{AreSeparate, behind_at}
 use Rattle.switch_laws.proofs.FaultlessLemmas.{faultless_is_sound, first-sound, unlisted}
 use Rattle.known_laws.specs.Laws.{AreFaultless}
 use Rattle.splice_playing.specs.Relations.{IsCueOf, BeginsIn, IsPacketOf, EndsWith}
+use Rattle.ts_packet.proofs.FieldLemmas.{pid_is}
+use Rattle.program_follower.proofs.FollowLemmas.{no_unit_fault}
 
 -- ---- the streams of a network without fault
 
@@ -68,19 +66,13 @@ module _ (k : Setting) (past : List (List ℕ)) (h : first_fault (cues_read_on (
 pub clean-more : (c : Purpose) (p : List ℕ) (past : List (List ℕ)) → first_fault c past ≡ None → network_fault c p past ≡ None → first_fault c (p ∷ past) ≡ None
 clean-more c p past h k = ap (λ o. option_or o (network_fault c p past)) h ∙ k
 
-no-unit : (o : Option UnitFault) → as_network o ≡ None → o ≡ None
-no-unit None h = refl
-no-unit (Some Scrambled) h = absurd (let none : as_network (Some Scrambled) ≡ None = h in cc)
-no-unit (Some HeaderSplit) h = absurd (let none : as_network (Some HeaderSplit) ≡ None = h in cc)
-no-unit (Some TimeJump) h = absurd (let none : as_network (Some TimeJump) ≡ None = h in cc)
-
 pub sound-unit : (c : Config) (filed : ℕ → Option Advertisement) (p : List ℕ) (past : List (List ℕ)) → network_fault (reading_cues c) p past ≡ None
     → unit_fault (switched_at (setting_of c filed) past) p (behind_at (setting_of c filed) past) ≡ None
 sound-unit c filed p past h =
     let a = none_both (cue_fault (reading_cues c) p) _ h in
     let b = none_both (pats_fault_at (reading_cues c) p past) _ a.1 in
     let d = none_both (maps_fault_at (reading_cues c) p past) (unit_fault_at (reading_cues c) p past) b.1 in
-    no-unit (unit_fault (pids_of (program_of (Some c.program) past)) p (behind_at (setting_of c filed) past)) d.1
+    no_unit_fault (unit_fault (pids_of (program_of (Some c.program) past)) p (behind_at (setting_of c filed) past)) d.1
 
 -- no packet behind the head has a fault
 faultless : (c : Config) (filed : ℕ → Option Advertisement) (past : List (List ℕ)) → first_fault (reading_cues c) past ≡ None
@@ -120,7 +112,7 @@ pub not-among : (x : ℕ) (p : List ℕ) (pids : List ℕ) → on x p ≡ true �
 not-among x p [] h a = refl
 not-among x p (pid ∷ pids) h a =
     let r = or_parts (pid == x) (is_among x pids) a in
-    or_from (on pid p) (on_one pids p) (apart-pid x pid p (back_test pid x r.0) h) (not-among x p pids h r.1)
+    or_from (on pid p) (on_one pids p) (apart-pid x pid p (test-turned pid x r.0) h) (not-among x p pids h r.1)
 
 switched-one : (pids : List ℕ) (p : List ℕ) → on_one pids p ≡ one_of (λ pid. on pid p) pids
 switched-one [] p = refl
@@ -132,15 +124,11 @@ none-first pids p h = switched-one pids p ∙ none_of (λ pid. on pid p) p (λ p
 pub one-first : (pids : List ℕ) (p : List ℕ) (i pid : ℕ) → first_on pids p ≡ Some (i, pid) → on_one pids p ≡ true
 one-first pids p i pid h = switched-one pids p ∙ first_of (λ pid. on pid p) p (λ pid o. o) pids (i, pid) h ∙ first_is_on pids p (i, pid) h
 
--- the first of the PIDs has its place
-same-pair : (z w : ℕ × ℕ) → Some z ≡ Some w → z ≡ w
-same-pair z w h = cc
-
 moved-there : (q : ℕ) (qs : List ℕ) (p : List ℕ) (x : ℕ × ℕ) (o : Option (ℕ × ℕ)) → first_on qs p ≡ o → option_map next_place o ≡ Some x
     → ((y : ℕ × ℕ) → first_on qs p ≡ Some y → slice_get qs y.0 ≡ Some y.1) → slice_get (q ∷ qs) x.0 ≡ Some x.1
 moved-there q qs p x None e k later = absurd (let none : None ≡ Some x = k in cc)
 moved-there q qs p x (Some y) e k later =
-    let r = same-pair (next_place y) x k in
+    let r = some_is (next_place y) x k in
     let next : suc y.0 ≡ x.0 = sym (add-one y.0) ∙ ap (λ (z : ℕ × ℕ). z.0) r in
     subst (λ n. slice_get (q ∷ qs) n ≡ Some x.1) next (later y e ∙ ap (λ (z : ℕ × ℕ). let o : Option ℕ = Some z.1 in o) r)
 
@@ -149,18 +137,9 @@ first-there [] p x h = absurd (let none : None ≡ Some x = h in cc)
 first-there (q ∷ qs) p x h = by_test (on q p)
     (λ y. let z : ℕ × ℕ = (0, q) in
     let e : Some z ≡ Some x = simp y at h in
-    let r = same-pair z x e in
+    let r = some_is z x e in
     subst (λ n. slice_get (q ∷ qs) n ≡ Some x.1) (ap (λ (z : ℕ × ℕ). z.0) r) (ap (λ (z : ℕ × ℕ). let o : Option ℕ = Some z.1 in o) r))
     (λ n. moved-there q qs p x (first_on qs p) refl (simp n at h) (λ y e. first-there qs p y e))
-
-pub there-among : (pids : List ℕ) (i pid : ℕ) → slice_get pids i ≡ Some pid → is_among pid pids ≡ true
-there-among [] i pid h = absurd (let none : None ≡ Some pid = h in cc)
-there-among (q ∷ qs) zero pid h = let is : q ≡ pid = (let e : Some q ≡ Some pid = h in cc) in subst (λ x. (q == x) || is_among x qs ≡ true) is (ap (λ b. b || is_among q qs) (test-same q))
-there-among (q ∷ qs) (suc i) pid h = or-second (q == pid) (is_among pid qs) (there-among qs i pid h)
-  where
-    or-second : (a b : Bool) → b ≡ true → (a || b) ≡ true
-    or-second true b h = refl
-    or-second false b h = h
 
 -- ---- places
 
@@ -173,7 +152,7 @@ cue-not-map cue c None p is good h = refl
 cue-not-map cue c (Some l) p is good h =
     let r = none_both (if_bad ((l.pid == 0) || (l.pid == 8191)) BadPids) (if_bad (is_pid c.cue_pid l.pid) CuePidUsed) good in
     let n : (l.pid == cue) ≡ false = ap (λ o. is_pid o l.pid) (sym is) ∙ not_if_bad (is_pid c.cue_pid l.pid) CuePidUsed r.1 in
-    apart-pid cue l.pid p (back_test l.pid cue n) h
+    apart-pid cue l.pid p (test-turned l.pid cue n) h
 
 cue-off-map : (c : Config) (p : List ℕ) (past : List (List ℕ)) → first_fault (reading_cues c) past ≡ None → on c.cue_pid p ≡ true → on_map (listed (Some c.program) past) p ≡ false
 cue-off-map c p past good h = cue-not-map c.cue_pid (reading_cues c) (listed (Some c.program) past) p refl (pid_good (reading_cues c) past good) h

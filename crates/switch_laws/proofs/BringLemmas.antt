@@ -1,34 +1,15 @@
 -- The moves of a run bring its packets.
 use Rattle.std.proofs.Common.{◌≡◌, ℕ, List, [], ◌∷◌, ◌++◌, Bool, true, false, refl, ap, ◌∙◌, if◌then◌else◌}
-use Rattle.std.specs.Prelude.{flat_map, map}
 use Rattle.event_table.specs.Standing.{Standing}
 use Rattle.unit_stream.specs.Times.{begins_one}
 use Rattle.unit_stream.specs.Fates.{is_left_out}
 use Rattle.splice_laws.specs.Splicing.{SliceUnit, stream}
-use Rattle.output_laws.specs.Output.{Move, Keep, Leave, Put, network}
+use Rattle.output_laws.specs.Output.{Move, Keep, Leave, network}
 use Rattle.splice_plans.specs.Playing.{Adverts, History, played, as_played, end_known, is_inside, closing_at, running_at, left_at_end}
 use Rattle.splice_plans.specs.Switching.{puts_by, puts_before, fate}
+use Rattle.splice_plans.proofs.NetworkLemmas.{network-append, none-append, none-put}
 use Rattle.switch_laws.specs.Moving.{moves_from}
 use Rattle.switch_laws.specs.Laws.{MovesBringTheNetwork}
-
-pub network-append : (a b : List Move) → network (a ++ b) ≡ network a ++ network b
-network-append [] b = refl
-network-append (Keep p ∷ a) b = ap (λ l. p ∷ l) (network-append a b)
-network-append (Leave p ∷ a) b = ap (λ l. p ∷ l) (network-append a b)
-network-append (Put q u ∷ a) b = network-append a b
-
-none-on : (pid : ℕ) (us : List SliceUnit) → network (map (λ (u : SliceUnit). Put pid u) us) ≡ []
-none-on pid [] = refl
-none-on pid (u ∷ us) = none-on pid us
-
-pub none-put : (pids : List ℕ) (es : List Standing) (rule : ℕ → Standing → List SliceUnit) → network (puts_by pids es rule) ≡ []
-none-put [] es rule = refl
-none-put (pid ∷ pids) es rule =
-    network-append (map (λ (u : SliceUnit). Put pid u) (flat_map (rule pid) es)) (puts_by pids es rule)
-    ∙ ap (λ l. l ++ network (puts_by pids es rule)) (none-on pid (flat_map (rule pid) es)) ∙ none-put pids es rule
-
-both-none : (a b : List Move) → network a ≡ [] → network b ≡ [] → network (a ++ b) ≡ []
-both-none a b h k = network-append a b ∙ ap (λ l. l ++ network b) h ∙ k
 
 fate-brings : (d : Bool) (p : List ℕ) (ms : List Move) → network ((if d then Leave p else Keep p) ∷ ms) ≡ p ∷ network ms
 fate-brings true p ms = refl
@@ -48,7 +29,7 @@ module _ (switched : List ℕ) (ads : Adverts) (events : History) where
   pub before-none : (p : List ℕ) (past : List (List ℕ)) → network (puts_before switched ads events p past) ≡ []
   before-none p past =
       let es = played ads (events (p ∷ past)) in
-      both-none (puts_by switched es (closing_rule p past)) (puts_by switched es (running_rule p past)) (none-put switched es (closing_rule p past)) (none-put switched es (running_rule p past))
+      none-append (puts_by switched es (closing_rule p past)) (puts_by switched es (running_rule p past)) (none-put switched es (closing_rule p past)) (none-put switched es (running_rule p past))
 
   pub moves-bring : (past ps : List (List ℕ)) → network (moves_from switched ads events past ps) ≡ ps
   moves-bring past [] = none-put switched (played ads (events past)) (end_rule past)

@@ -11,7 +11,7 @@ use Rattle.ts_packet.specs.Clock.{clock_packet}
 use Rattle.ts_packet.specs.Numbering.{one_past, last_number, number_out}
 use Rattle.ts_packet.proofs.Cases.{by_test}
 use Rattle.ts_packet.proofs.ClockLemmas.{keeps_clock}
-use Rattle.ts_packet.proofs.FieldLemmas.{error-with, pid-with}
+use Rattle.ts_packet.proofs.FieldLemmas.{error-with, pid-with, below_16, control_with, length_with}
 use Rattle.psi_tables.specs.ProgramMap.{ProgramMap}
 use Rattle.psi_section.proofs.ReadBackLemmas.{turn_carry}
 use Rattle.event_table.specs.Standing.{Standing}
@@ -25,10 +25,11 @@ use Rattle.splice_laws.specs.Splicing.{SliceUnit, stream}
 use Rattle.unit_stream.specs.Times.{begins_one}
 use Rattle.output_laws.specs.Output.{Move, Keep, Leave, Put, Packing, counter_steps, clock_alone, out_after}
 use Rattle.output_laws.proofs.StepLemmas.{on-clock, on-same, pcr-error}
-use Rattle.output_laws.proofs.GaplessLemmas.{below_16, one_below}
+use Rattle.output_laws.proofs.GaplessLemmas.{one_below}
 use Rattle.splice_plans.specs.Playing.{Adverts, History, played, as_played, end_known}
 use Rattle.splice_plans.specs.Switching.{Setting, switched_at, history_at, front_at, rest_at, switching, switched_past, moves, puts_by, puts_before, puts_at_end, front_of, end_of_run}
 use Rattle.splice_plans.specs.Known.{adverts_at}
+use Rattle.ts_packet.proofs.RunLemmas.{reverse-onto}
 use Rattle.switch_laws.specs.Whole.{stands_for, HavePids, TablesAreApart}
 use Rattle.switch_laws.specs.Laws.{ArePackets}
 use Rattle.switch_laws.specs.Standing.{IsNoTable, is_left, steps_before, steps_left}
@@ -37,17 +38,9 @@ use Rattle.switch_laws.proofs.BringLemmas.{closing_rule, running_rule, end_rule}
 use Rattle.switch_laws.proofs.SoundLemmas.{each-closing, each-running, each-left, each-flat}
 use Rattle.switch_laws.proofs.StandingLemmas.{packets_stand_as}
 use Rattle.switch_laws.proofs.StreamLemmas.{all-reversed}
-use Rattle.switch_laws.proofs.WholeLemmas.{reverse-onto, packets-each, listed-later, known-later, adverts-same, not-behind, is-behind}
+use Rattle.switch_laws.proofs.WholeLemmas.{packets-each, listed-later, known-later, adverts-same, not-behind, is-behind}
 
 -- ---- a packet with another counter
-
-control-with : (n : ℕ) (p : List ℕ) → n < 16 → slice_index (with_number n p) 3 / 16 ≡ slice_index p 3 / 16
-unfolding with_number
-control-with n p h = let e : (slice_index p 3 / 16 * 16 + n) / 16 ≡ slice_index p 3 / 16 = omega arith in e
-
-length-with : (n : ℕ) (p : List ℕ) → slice_index (with_number n p) 4 ≡ slice_index p 4
-unfolding with_number
-length-with n p = get_or-drop 4 p 0 0
 
 flags-with : (n : ℕ) (p : List ℕ) → slice_index (with_number n p) 5 ≡ slice_index p 5
 unfolding with_number
@@ -59,7 +52,7 @@ behind-with n p = sym (drop-drop 2 4 (with_number n p)) ∙ drop-drop 2 4 p
 
 pcr-with : (n : ℕ) (p : List ℕ) → n < 16 → pcr (with_number n p) ≡ pcr p
 unfolding pcr
-pcr-with n p h = rw (error-with n p, control-with n p h, length-with n p, flags-with n p, behind-with n p) refl
+pcr-with n p h = rw (error-with n p, control_with n p h, length_with n p, flags-with n p, behind-with n p) refl
 
 on-with : (pid n : ℕ) (p : List ℕ) → on pid (with_number n p) ≡ on pid p
 unfolding on

@@ -20,15 +20,10 @@ use Rattle.program_laws.proofs.SplicedLemmas.{any_switched}
 use Rattle.ts_packet.specs.Fields.{is_among}
 use Rattle.splice_laws.specs.Streams.{IsOnce}
 use Rattle.splice_plans.specs.Switching.{Setting, switched_at}
+use Rattle.program_follower.proofs.StreamLemmas.{in_switched}
 use Rattle.switch_laws.specs.Standing.{IsSwitchable, FaultlessIsSound}
 use Rattle.switch_laws.proofs.WholeLemmas.{none-switched}
 use Rattle.program_follower.specs.Purposes.{cues_read_on}
-
-not-in : (x : ℕ) (ss : List Stream) → is_among x (pids_in ss) ≡ false → is_among x (pids_in (switched_of ss)) ≡ false
-not-in x [] h = refl
-not-in x (s ∷ ss) h =
-    let r = or_parts (s.pid == x) (is_among x (pids_in ss)) h in
-    by_test (is_switched s.kind) (λ y. simp y (or_from (s.pid == x) (is_among x (pids_in (switched_of ss))) r.0 (not-in x ss r.1))) (λ n. simp n (not-in x ss r.1))
 
 -- one that stands not twice, and is there, stands once
 once : (x : ℕ) (ss : List Stream) → is_twice x (pids_in ss) ≡ false → is_among x (pids_in (switched_of ss)) ≡ true → IsOnce x (pids_in (switched_of ss))
@@ -36,8 +31,8 @@ once x [] t a = absurd (true≢false (sym a))
 once x (s ∷ ss) t a = by_test (s.pid == x)
     (λ e. let n : is_among x (pids_in ss) ≡ false = simp e at t in
     by_test (is_switched s.kind)
-    (λ y. simp y (inl (eqb-true s.pid x e, not-in x ss n)))
-    (λ y. let b : is_among x (pids_in (switched_of ss)) ≡ true = simp y at a in absurd (true≢false (sym b ∙ not-in x ss n))))
+    (λ y. simp y (inl (eqb-true s.pid x e, in_switched x ss n)))
+    (λ y. let b : is_among x (pids_in (switched_of ss)) ≡ true = simp y at a in absurd (true≢false (sym b ∙ in_switched x ss n))))
     (λ e. let n : is_twice x (pids_in ss) ≡ false = simp e at t in
     by_test (is_switched s.kind)
     (λ y. let b : is_among x (pids_in (switched_of ss)) ≡ true = simp (y, e) at a in simp y (inr (e, once x ss n b)))

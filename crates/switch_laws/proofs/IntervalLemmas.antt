@@ -10,22 +10,11 @@ use Rattle.armed_laws.specs.Laws.{AreApart, IsApartOf, NoneMeet}
 use Rattle.splice_laws.specs.Splicing.{holds, outside}
 use Rattle.splice_laws.specs.Laws.{EndsBeforeAll, AreOrdered}
 use Rattle.splice_plans.specs.Playing.{Adverts, is_played, put_by_start, by_start, as_played}
+use Rattle.pes_time.proofs.IntLemmas.{int-same}
+use Rattle.armed_laws.proofs.MeetLemmas.{starts-differ}
 use Rattle.switch_laws.specs.Moving.{intervals, meant_by}
 
 -- ---- which is meant
-
-differ : (y x : Standing) → 0 < y.length → 0 < x.length → AreApart y x → int_eq y.start x.start ≡ false
-differ y x h k (inl a) = by y.start y.length x.start h a
-  where
-    by : (s : ℤ) (n : ℕ) (t : ℤ) → 0 < n → (s +ℤ pos n) ≤ℤ t → int_eq s t ≡ false
-    by s n t h a = grind (arith, ints, h, a)
-differ y x h k (inr a) = by x.start x.length y.start k a
-  where
-    by : (s : ℤ) (n : ℕ) (t : ℤ) → 0 < n → (s +ℤ pos n) ≤ℤ t → int_eq t s ≡ false
-    by s n t h a = grind (arith, ints, h, a)
-
-equal : (a : ℤ) → int_eq a a ≡ true
-equal a = grind (arith, ints)
 
 module _ (ads : Adverts) where
   -- of these events it is the one that is meant by its start
@@ -33,14 +22,14 @@ module _ (ads : Adverts) where
   IsMeant es x = is_played ads x ≡ true → meant_by ads es (as_played x) ≡ Some x
 
   meant-first : (e : Standing) (es : List Standing) → IsMeant (e ∷ es) e
-  meant-first e es h = let k = equal e.start in simp (k, h)
+  meant-first e es h = let k = int-same e.start in simp (k, h)
 
   meant-later : (e x : Standing) (es : List Standing) → int_eq e.start x.start ≡ false → IsMeant es x → IsMeant (e ∷ es) x
   meant-later e x es d m h = simp d (m h)
 
   all-later : (e : Standing) (es later : List Standing) → 0 < e.length → IsApartOf e later → NoneMeet later → AllByRecursion (IsMeant es) later → AllByRecursion (IsMeant (e ∷ es)) later
   all-later e es [] l a n m = tt
-  all-later e es (x ∷ later) l a n m = (meant-later e x es (differ e x l n.0 a.0) m.0, all-later e es later l a.1 n.2 m.1)
+  all-later e es (x ∷ later) l a n m = (meant-later e x es (starts-differ e x l n.0 a.0) m.0, all-later e es later l a.1 n.2 m.1)
 
   pub all-meant : (es : List Standing) → NoneMeet es → AllByRecursion (IsMeant es) es
   all-meant [] n = tt

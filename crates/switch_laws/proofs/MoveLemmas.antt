@@ -2,7 +2,7 @@
 use Rattle.std.proofs.Common.{◌≡◌, ℕ, List, [], ◌∷◌, ◌++◌, Bool, true, false, not, ◌&&◌, ◌||◌, refl, sym, ap, ◌∙◌, append_assoc, if◌then◌else◌, subst, map, length}
 use Rattle.std.specs.Prelude.{Contains, All, flat_map, int_lt}
 use Rattle.std.specs.List.{AllByRecursion}
-use Rattle.std.proofs.lemmas.List.Elements.{All-head, All-tail, All-cons, All-nil, All-contains_itself}
+use Rattle.std.proofs.lemmas.List.Elements.{All-head, All-tail, All-cons, All-nil, All-contains_itself, recursion_from_All}
 use Rattle.ts_packet.specs.Fields.{payload_on}
 use Rattle.ts_packet.specs.Runs.{Seen, seen_after, onto}
 use Rattle.ts_packet.proofs.Cases.{by_test}
@@ -30,10 +30,6 @@ use Rattle.switch_laws.proofs.OutLemmas.{counts}
 use Rattle.switch_laws.proofs.PieceLemmas.{Ready, Ended, same-pieces, same-end}
 
 -- ---- lists
-
-pub all-each : {A : Type 0} (P : A → Type 0) (xs : List A) → All P xs → AllByRecursion P xs
-all-each P [] a = tt
-all-each P (x ∷ xs) a = (All-head P x xs a, all-each P xs (All-tail P x xs a))
 
 -- what is put on each of these PIDs
 each-pid : (pids : List ℕ) (es : List Standing) (rule : ℕ → Standing → List SliceUnit) (f : ℕ → List SliceUnit) → AllByRecursion (λ pid. flat_map (rule pid) es ≡ f pid) pids → puts_by pids es rule ≡ puts_each pids f
@@ -71,7 +67,7 @@ module _ (switched : List ℕ) (ads : Adverts) (steady : AreSteady ads) (events 
   settled : (pid : ℕ) → Contains switched pid → (more past : List (List ℕ)) → whole ≡ more ++ past → AllByRecursion (IsSettledAt switched pid ads events past) (events whole)
   settled pid c more past is =
       subst (λ l. AllByRecursion (IsSettledAt switched pid ads events past) (events l)) (sym is)
-      (all-each (IsSettledAt switched pid ads events past) (events (more ++ past)) (played_settle switched pid c ads steady events h more past))
+      (recursion_from_All (IsSettledAt switched pid ads events past) (events (more ++ past)) (played_settle switched pid c ads steady events h more past))
 
   grown : (more past : List (List ℕ)) → whole ≡ more ++ past → Grows (high switched past) (events past) (events whole)
   grown more past is = subst (λ l. Grows (high switched past) (events past) (events l)) (sym is) (h.grows more past)
@@ -102,7 +98,7 @@ module _ (switched : List ℕ) (ads : Adverts) (steady : AreSteady ads) (events 
         (same-pieces switched ads steady events h pid c.0 whole false p past more is (grown more (p ∷ past) is) (ready pid c.0 false p past more is (events whole) meant (settled pid c.0 more (p ∷ past) is)), running-pids pids c.1)
 
     all-pids : AllByRecursion (Contains switched) switched
-    all-pids = all-each (Contains switched) switched (All-contains_itself switched)
+    all-pids = recursion_from_All (Contains switched) switched (All-contains_itself switched)
 
     pub same-puts : puts_before switched ads events p past ≡ puts_at switched xs slice out p past
     same-puts =
@@ -138,7 +134,7 @@ module _ (switched : List ℕ) (ads : Adverts) (steady : AreSteady ads) (events 
   moves-at-end past is =
       subst (λ l. moves_from switched ads events l [] ≡ moves_after switched xs slice out l []) is
       (each-pid switched (played ads (events whole)) (end_rule switched ads events whole) (λ pid. flat_map (λ (x : PlayedEvent). rest (stream switched pid) x (slice pid x) (out pid x) whole) xs)
-      (end-pids switched (all-each (Contains switched) switched (All-contains_itself switched))))
+      (end-pids switched (recursion_from_All (Contains switched) switched (All-contains_itself switched))))
 
   pub same-moves : (past ps : List (List ℕ)) → whole ≡ onto past ps → moves_from switched ads events past ps ≡ moves_after switched xs slice out past ps
   same-moves past [] is = moves-at-end past is

@@ -5,7 +5,7 @@ use Rattle.std.proofs.lemmas.List.{append-nil, reverse-reverse}
 use Rattle.std.proofs.lemmas.List.Elements.{All-head, All-tail, All-cons, All-nil}
 use Rattle.ts_packet.specs.Fields.{on, on_one, is_among}
 use Rattle.ts_packet.specs.Runs.{onto}
-use Rattle.ts_packet.proofs.Cases.{by_test}
+use Rattle.ts_packet.proofs.Cases.{by_test, test-same}
 use Rattle.ts_packet.proofs.RunLemmas.{filter-reverse}
 use Rattle.unit_stream.specs.Times.{high}
 use Rattle.psi_tables.specs.ProgramMap.{ProgramMap}
@@ -16,7 +16,7 @@ use Rattle.program_follower.specs.Program.{listed, tables, known_map, first_map,
 use Rattle.program_laws.specs.Writing.{Along, Writing, written, block, body}
 use Rattle.program_laws.specs.Behind.{Passes}
 use Rattle.program_laws.specs.Cued.{stripping}
-use Rattle.program_laws.proofs.HeadLemmas.{others_pass as others-pass}
+use Rattle.program_laws.proofs.HeadLemmas.{others_are_written}
 use Rattle.splice_laws.specs.Splicing.{SliceUnit}
 use Rattle.splice_laws.specs.Streams.{is_dropped}
 use Rattle.output_laws.specs.Output.{Move, Keep, Leave, out_after, out_at}
@@ -24,7 +24,6 @@ use Rattle.output_laws.specs.Others.{is_off}
 use Rattle.output_laws.specs.Spliced.{puts_at}
 use Rattle.output_laws.proofs.Unchanged.{same_packet}
 use Rattle.output_laws.proofs.OtherLemmas.{off_on}
-use Rattle.output_laws.proofs.StepLemmas.{test-same}
 use Rattle.program_laws.proofs.ReadingLemmas.{no_tables, or_first}
 use Rattle.splice_plans.specs.Playing.{Adverts, History, played, as_played}
 use Rattle.splice_plans.specs.Switching.{Setting, switched_at, events_at, head_at, history_at, front_at, place_at, rest_at, switching, switched_past, moves, puts_before, puts_at_end, puts_by, fate, place_of, front_of, end_of_run}
@@ -248,7 +247,7 @@ no_packet_changes k network steady long none =
     let takes : List ℕ → Bool = λ q. is_off (table_pids k (reverse network)) q in
     ap (filter takes) (nothing_is_played k network steady long none)
     ∙ filter-reverse takes (written (stripping k.cue_pid) (Some k.program) back)
-    ∙ ap reverse (others-pass takes (stripping k.cue_pid) (Some k.program) back (strip-passes k back back [] refl))
+    ∙ ap reverse (others_are_written takes (stripping k.cue_pid) (Some k.program) back (strip-passes k back back [] refl))
     ∙ sym (filter-reverse takes back)
     ∙ ap (filter takes) (reverse-reverse network)
 

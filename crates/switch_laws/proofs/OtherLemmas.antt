@@ -7,22 +7,21 @@ use Rattle.std.proofs.lemmas.List.{append-nil, reverse-reverse}
 use Rattle.std.proofs.lemmas.List.Elements.{All-head, filter-append}
 use Rattle.ts_packet.specs.Fields.{on, pid_of, pcr, on_one, is_among}
 use Rattle.ts_packet.specs.Numbering.{one_past, last_number, number_out}
-use Rattle.ts_packet.proofs.Cases.{by_test}
+use Rattle.ts_packet.proofs.Cases.{by_test, test-same}
 use Rattle.ts_packet.proofs.RunLemmas.{filter-reverse}
 use Rattle.unit_stream.specs.Fates.{is_left_out}
 use Rattle.unit_stream.specs.UnitPackets.{AllOn}
-use Rattle.ts_packet.proofs.FieldLemmas.{payload_on-on}
+use Rattle.ts_packet.proofs.FieldLemmas.{payload_on-on, pid_is}
 use Rattle.psi_tables.specs.ProgramMap.{ProgramMap}
 use Rattle.event_table.specs.Standing.{Standing}
 use Rattle.program_follower.specs.declared.purpose.Listed.{Listed}
 use Rattle.program_follower.specs.Program.{listed, known_map, behind_head}
 use Rattle.program_laws.specs.Writing.{Along}
 use Rattle.program_laws.specs.Behind.{Passes}
-use Rattle.program_laws.proofs.HeadLemmas.{others_pass as others-pass}
+use Rattle.program_laws.proofs.HeadLemmas.{others_are_written}
 use Rattle.splice_laws.specs.Splicing.{SliceUnit}
 use Rattle.output_laws.specs.Output.{Move, Keep, Leave, Put, Packing, counter_steps, clock_alone, out_at, out_after}
 use Rattle.output_laws.specs.Others.{is_off}
-use Rattle.output_laws.proofs.StepLemmas.{test-same, pid_is}
 use Rattle.output_laws.proofs.GaplessLemmas.{one_below}
 use Rattle.output_laws.proofs.OtherLemmas.{off_on, off-kept, skip_clock}
 use Rattle.splice_plans.specs.Playing.{Adverts, History, played, is_inside}
@@ -229,6 +228,6 @@ others_stay k network good pids =
     ∙ ap (λ qs. filter takes (reverse (switched_past k back)) ++ qs) (rest-left k back good l)
     ∙ append-nil (filter takes (reverse (switched_past k back)))
     ∙ filter-reverse takes (switched_past k back)
-    ∙ ap reverse (others-pass takes (switching k) (Some k.program) back (passes k back good l))
+    ∙ ap reverse (others_are_written takes (switching k) (Some k.program) back (passes k back good l))
     ∙ sym (filter-reverse takes back)
     ∙ ap (filter takes) (reverse-reverse network)

@@ -1,12 +1,12 @@
 -- What is out of an event, packet by packet: it never shrinks, and once the event is closed all is out.
 use Rattle.std.proofs.Common.{◌≡◌, ℕ, List, [], ◌∷◌, ◌++◌, Bool, true, false, not, ◌&&◌, ◌||◌, refl, sym, ap, ◌∙◌, Option, append_assoc, if◌then◌else◌, length, drop, take, subst}
-use Rattle.std.proofs.lemmas.List.{append-nil}
+use Rattle.std.proofs.lemmas.List.{append-nil, drop_at}
 use Rattle.std.proofs.lemmas.Bool.{true≢false}
 use Rattle.ts_packet.proofs.Cases.{by_test}
 use Rattle.splice_laws.specs.Splicing.{PlayedEvent, SliceUnit, TimedStream, begun, closed, rest}
 use Rattle.splice_laws.specs.Laws.{IsStream, CountsOver, CountsAt}
 use Rattle.splice_laws.specs.Settled.{begun_now, closed_now}
-use Rattle.splice_laws.proofs.EndLemmas.{IsFront, front-trans, front-take, front-length, drop-front}
+use Rattle.splice_laws.proofs.EndLemmas.{IsFront, front-trans, front-take, front-length}
 use Rattle.splice_plans.specs.Playing.{Turns, sent_known, sent_of_begun, due_at, left_at_end, up_to_known}
 use Rattle.splice_plans.specs.Laws.{EndsFall}
 use Rattle.splice_plans.proofs.SentLemmas.{none-unbegun, sent-grows}
@@ -88,7 +88,7 @@ module _ (turns : Turns) (r : TimedStream) (k : IsStream r) (x : PlayedEvent) (k
   -- what is left at the end
   pub rest-is : (whole : List (List ℕ)) → IsTold whole → rest r x (all whole) (λ past. length (sent past)) whole ≡ left whole
   rest-is whole t = by_test (begun r x whole)
-      (λ b. simp b (drop-front (sent whole) (left whole)))
+      (λ b. simp b ((drop_at (sent whole) (left whole) (length (sent whole)) refl)))
       (λ b. simp b (sym (none (begun_now r x known whole) (closed_now r x known whole) (drop (length (sent whole)) (up_to_known (known whole) units)) (t.0 ∙ b))))
     where
       none : (b c : Bool) (l : List SliceUnit) → b ≡ false → (if b && not c then l else []) ≡ []

@@ -111,11 +111,11 @@ module _ (switched : List ℕ) (ads : Adverts) (steady : AreSteady ads) (events 
         ∙ ap (λ l. picked w (closed_now r y e (p ∷ past)) (drop (length l) (sent_known turns r x e us (p ∷ past)))) (sent-alike r start stop other name called e turns us past)
         ∙ ap (λ l. picked w (closed_now r y e (p ∷ past)) (drop (length (sent_known turns r y e us past)) l)) (sent-alike r start stop other name called e turns us (p ∷ past))
 
-    became : (line : Option ℤ) (e x : Standing) → Becomes line e x → earlier e ≡ earlier x
-    became line e x b =
+    became : (latest : Option ℤ) (e x : Standing) → Becomes latest e x → earlier e ≡ earlier x
+    became latest e x b =
         other-end e.start (end_of e) (end_of x) e.program x.program (ads.units e pid)
         ∙ ap (λ start. thus start (end_of x) x.program (ads.units e pid)) (sym b.start)
-        ∙ ap (λ us. thus x.start (end_of x) x.program us) (sym (steady.units line e x b pid))
+        ∙ ap (λ us. thus x.start (end_of x) x.program us) (sym (steady.units latest e x b pid))
 
     -- of one that is still to come nothing goes out
     none-early : (e : Standing) → IsAhead (high switched (p ∷ past)) e.start → earlier e ≡ []

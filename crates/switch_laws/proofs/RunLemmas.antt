@@ -16,12 +16,12 @@ use Rattle.splice_laws.proofs.StreamLemmas.{streams_carry_by_count}
 use Rattle.output_laws.specs.Output.{Keep, Leave, acts, output, HasComeBefore, AlongMoves}
 use Rattle.output_laws.specs.Others.{is_off}
 use Rattle.output_laws.specs.Spliced.{puts_each, moves_after, placed_payloads}
-use Rattle.output_laws.proofs.OtherLemmas.{others_pass as others-pass}
+use Rattle.output_laws.proofs.OtherLemmas.{others_pass}
 use Rattle.output_laws.proofs.SplicedLemmas.{network_moves, acts_after, counted_carries, counted_has_units}
 use Rattle.output_laws.proofs.SplicedOthers.{within}
 use Rattle.splice_plans.specs.Playing.{Adverts, History, as_played}
 use Rattle.switch_laws.specs.Moving.{intervals, sent_in_all, sent_count, run_moves}
-use Rattle.switch_laws.specs.Laws.{IsPlayable, PutsArePacked, RunsAreSettled, RowsArePlaced, RowsAreSpliced, RunsCarry, RunsHaveUnits, OthersPass, NothingPlayed}
+use Rattle.switch_laws.specs.Laws.{IsPlayable, PutsArePacked, RunsAreSettled, RowsArePlaced, RowsAreSpliced, RunsCarry, RunsHaveUnits, RunsKeepOthers, NothingPlayed}
 use Rattle.switch_laws.proofs.MoveLemmas.{ordered, same-moves, all-counted}
 
 pub runs_are_settled : RunsAreSettled
@@ -107,8 +107,8 @@ runs_have_units switched ads events k packed ps s pid o f before g read =
     subst (λ ms. IsGaplessAfter before pid (output packed ms) × (payloads (units read pid (output packed ms)) ≡ placed_payloads switched pid xs (slice pid) [] ps)) (sym e)
     (counted_has_units packed switched xs d slice out ps pid o (count switched ads events k ps pid o) (subst (PutsArePacked packed) e s) (subst (λ ms. AlongMoves (HasComeBefore pid) (reverse ms)) e f) before g read)
 
-pub others_pass : OthersPass
-others_pass switched ads events k packed ps l s =
+pub runs_keep_others : RunsKeepOthers
+runs_keep_others switched ads events k packed ps l s =
     let xs = intervals ads (events (reverse ps)) in
     let slice : ℕ → PlayedEvent → List SliceUnit = λ pid x. sent_in_all switched ads events (reverse ps) pid x in
     let out : ℕ → PlayedEvent → List (List ℕ) → ℕ = λ pid x. sent_count switched ads events (reverse ps) pid x in
@@ -116,7 +116,7 @@ others_pass switched ads events k packed ps l s =
     let e = same switched ads events k ps in
     let n = network_moves switched xs slice out [] ps in
     subst (λ ms. filter (is_off switched) (output packed ms) ≡ filter (is_off switched) ps) (sym e)
-    (others-pass packed switched moves (subst (PutsArePacked packed) e s) (within packed switched xs slice out [] ps [] tt) (subst (λ q. All (λ (p : List ℕ). length p ≡ 188) q) (sym n) l) ∙ ap (filter (is_off switched)) n)
+    (others_pass packed switched moves (subst (PutsArePacked packed) e s) (within packed switched xs slice out [] ps [] tt) (subst (λ q. All (λ (p : List ℕ). length p ≡ 188) q) (sym n) l) ∙ ap (filter (is_off switched)) n)
 
 -- ---- where nothing is played
 

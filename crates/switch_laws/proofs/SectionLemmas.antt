@@ -23,9 +23,11 @@ use Rattle.program_laws.proofs.ReadingLemmas.{listed_onto, tables_onto, no_table
 use Rattle.program_laws.proofs.WritingLemmas.{off_other, written_reads_again}
 use Rattle.output_laws.specs.Output.{Move, Keep, Leave, counter_steps, clock_alone, out_at}
 use Rattle.output_laws.specs.Others.{is_off}
-use Rattle.output_laws.proofs.StepLemmas.{pid_is, on-kept, on-clock, on-same, pcr-error}
+use Rattle.output_laws.proofs.StepLemmas.{on-kept, on-clock, on-same, pcr-error}
 use Rattle.splice_plans.specs.Switching.{Setting, switched_at, history_at, front_at, place_at, rest_at, switching, switched_past, spliced_network, front_of, end_of_run}
 use Rattle.splice_plans.specs.Known.{adverts_at}
+use Rattle.ts_packet.proofs.FieldLemmas.{pid_is}
+use Rattle.ts_packet.proofs.RunLemmas.{reverse-onto}
 use Rattle.switch_laws.specs.Whole.{ArePacked, HavePids}
 use Rattle.switch_laws.specs.Standing.{is_left, done_before}
 use Rattle.switch_laws.specs.Sections.{MapsGoOut, SectionsStay}
@@ -33,7 +35,7 @@ use Rattle.switch_laws.proofs.FaultlessLemmas.{faultless_is_sound, map-not-zero,
 use Rattle.switch_laws.proofs.OtherLemmas.{within-self, front-off, end-off}
 use Rattle.switch_laws.proofs.StandingLemmas.{other-place, own-place, by-fate}
 use Rattle.switch_laws.proofs.StreamLemmas.{all-reversed}
-use Rattle.switch_laws.proofs.WholeLemmas.{packets-each, listed-later, known-later, adverts-same, switched-same, none-switched, not-behind, is-behind, reverse-onto}
+use Rattle.switch_laws.proofs.WholeLemmas.{packets-each, listed-later, known-later, adverts-same, switched-same, none-switched, not-behind, is-behind}
 use Rattle.program_follower.specs.Purposes.{cues_read_on}
 
 -- ---- packets of other PIDs

@@ -4,8 +4,8 @@ use Rattle.std.specs.Prelude.{ℤ, ◌≤ℤ◌, All, Contains, is_some, option_
 use Rattle.std.specs.List.{AllByRecursion}
 use Rattle.std.proofs.lemmas.Int.{ints}
 use Rattle.std.proofs.lemmas.Bool.{true≢false}
-use Rattle.std.proofs.lemmas.List.{append-nil}
-use Rattle.std.proofs.lemmas.List.Elements.{All-head, All-tail}
+use Rattle.std.proofs.lemmas.List.{append-nil, drop_at}
+use Rattle.std.proofs.lemmas.List.Elements.{All-head, All-tail, recursion_from_All}
 use Rattle.ts_packet.specs.Runs.{Seen, seen_after, onto}
 use Rattle.ts_packet.proofs.Cases.{by_test}
 use Rattle.unit_stream.specs.Times.{begins, begins_one, high}
@@ -17,7 +17,7 @@ use Rattle.splice_laws.specs.Ends.{up_to_end, longest_front}
 use Rattle.splice_laws.proofs.TimeLemmas.{not-below, timed_past}
 use Rattle.splice_laws.proofs.PidLemmas.{pids_are_streams}
 use Rattle.splice_laws.proofs.SettledLemmas.{switched_pids_are_within, begins-among}
-use Rattle.splice_laws.proofs.EndLemmas.{run_of, IsFront, front-trans, run-front, drop-front}
+use Rattle.splice_laws.proofs.EndLemmas.{run_of, IsFront, front-trans, run-front}
 use Rattle.splice_plans.specs.Playing.{Adverts, History, Turns, is_played, as_played, end_known, up_to_known, sent_of_begun, sent_known, left_at_end}
 use Rattle.splice_plans.specs.Laws.{EndsFall}
 use Rattle.splice_plans.proofs.SentLemmas.{none-unbegun, sent-due}
@@ -26,7 +26,6 @@ use Rattle.splice_plans.proofs.KnownLemmas.{begun-past, ends_never_rise, played_
 use Rattle.switch_laws.specs.Moving.{meant_by, units_for, sent_in_all}
 use Rattle.switch_laws.specs.Slices.{SlicesAreWhole, ClosesWith, IsOverBehind, IsSliceToAnEnd, SlicesGoToAnEnd}
 use Rattle.switch_laws.proofs.IntervalLemmas.{IsMeant, all-meant}
-use Rattle.switch_laws.proofs.MoveLemmas.{all-each}
 use Rattle.switch_laws.proofs.OutLemmas.{stays}
 
 -- ---- what holds of each packet seen, holds along the past
@@ -142,7 +141,7 @@ module _ (turns : Turns) (r : TimedStream) (k : IsStream r) (w : NeverPassesHigh
       (λ n. closing p past c.0 s.0 n h)
 
   whole-front : (a b : List SliceUnit) → IsFront a b → a ++ drop (length a) b ≡ b
-  whole-front a b f = ap (λ l. a ++ drop (length a) l) f.1 ∙ ap (λ l. a ++ l) (drop-front a f.0) ∙ sym f.1
+  whole-front a b f = ap (λ l. a ++ drop (length a) l) f.1 ∙ ap (λ l. a ++ l) ((drop_at a f.0 (length a) refl)) ∙ sym f.1
 
   -- all that goes out
   pub all-whole : (past : List (List ℕ)) → AlongSeen Crossed past → AlongSeen IsKnown past → known past ≡ Some x.stop →
@@ -223,7 +222,7 @@ module _ (switched : List ℕ) (ads : Adverts) (steady : AreSteady ads) (events 
   settled-with : (p : List ℕ) (past more : List (List ℕ)) → whole ≡ more ++ (p ∷ past) → AllByRecursion (IsSettledWith p past) (events whole)
   settled-with p past more is =
       subst (λ l. AllByRecursion (IsSettledWith p past) (events l)) (sym is)
-      (all-each (IsSettledWith p past) (events (more ++ (p ∷ past)))
+      (recursion_from_All (IsSettledWith p past) (events (more ++ (p ∷ past)))
       (all-settled ads steady (high switched (p ∷ past)) (events (p ∷ past)) (events (more ++ (p ∷ past))) (h.grows more (p ∷ past)) (h.apart (more ++ (p ∷ past)))))
 
   abbrev Throughout : Standing → Type 0
@@ -293,11 +292,11 @@ pub slices_are_whole : SlicesAreWhole
 slices_are_whole switched ads events k ps pid c =
     let whole = reverse ps in
     each-whole switched ads k.steady events k.history pid c whole ps refl (events (reverse ps)) (all-meant ads (events (reverse ps)) (k.history.apart (reverse ps)))
-    (all-each (IsSettledAt switched pid ads events (reverse ps)) (events (reverse ps)) (played_settle switched pid c ads k.steady events k.history [] (reverse ps)))
+    (recursion_from_All (IsSettledAt switched pid ads events (reverse ps)) (events (reverse ps)) (played_settle switched pid c ads k.steady events k.history [] (reverse ps)))
     (throughout switched ads k.steady events k.history pid c whole (events (reverse ps)) (settled-with switched ads k.steady events k.history pid c whole))
 
 pub slices_go_to_an_end : SlicesGoToAnEnd
 slices_go_to_an_end switched ads events k whole pid c =
     each-to switched ads k.steady events k.history pid c whole (events whole) (all-meant ads (events whole) (k.history.apart whole))
-    (all-each (IsSettledAt switched pid ads events whole) (events whole) (played_settle switched pid c ads k.steady events k.history [] whole))
+    (recursion_from_All (IsSettledAt switched pid ads events whole) (events whole) (played_settle switched pid c ads k.steady events k.history [] whole))
     (throughout switched ads k.steady events k.history pid c whole (events whole) (settled-with switched ads k.steady events k.history pid c whole))

@@ -10,7 +10,7 @@ use Rattle.ts_packet.specs.Numbering.{one_past, number_out}
 use Rattle.ts_packet.specs.Runs.{onto}
 use Rattle.ts_packet.proofs.Cases.{by_test}
 use Rattle.ts_packet.proofs.FieldLemmas.{payload_on-on, off_payload}
-use Rattle.ts_packet.proofs.RunLemmas.{filter-reverse}
+use Rattle.ts_packet.proofs.RunLemmas.{filter-reverse, onto-append, reverse-onto}
 use Rattle.unit_stream.specs.Fates.{is_left_out}
 use Rattle.psi_tables.specs.ProgramMap.{ProgramMap}
 use Rattle.psi_section.proofs.ReadBackLemmas.{IsPayloadOn, turn_carry}
@@ -21,14 +21,14 @@ use Rattle.program_laws.specs.Writing.{number_on, section_out, packets_out, body
 use Rattle.program_laws.proofs.PacketLemmas.{one_past-below}
 use Rattle.program_laws.proofs.WritingLemmas.{listed_below}
 use Rattle.output_laws.specs.Output.{Move, Keep, Leave, Packing, counter_steps, clock_alone, out_at, out_after, output}
-use Rattle.output_laws.proofs.StepLemmas.{onto_moves, onto-append, out_back, out_onto, payload_on-kept, payload_on-clock}
+use Rattle.output_laws.proofs.StepLemmas.{onto_moves, out_back, out_onto, payload_on-kept, payload_on-clock}
 use Rattle.output_laws.proofs.SplicedLemmas.{onto_moves-append}
 use Rattle.splice_plans.specs.Playing.{Adverts, History, is_inside}
 use Rattle.splice_plans.specs.Switching.{Setting, switched_at, head_at, history_at, place_at, rest_at, switching, switched_past, spliced_network, events_at, moves, puts_before, puts_at_end, fate, place_of, front_of, end_of_run}
 use Rattle.switch_laws.specs.Moving.{moves_from, run_moves}
 use Rattle.splice_plans.specs.Known.{adverts_at}
 use Rattle.switch_laws.specs.Whole.{TablesAreApart, run_out, StreamsGoByThemselves}
-use Rattle.switch_laws.proofs.WholeLemmas.{reverse-onto, listed-later, known-later, behind-one, head-later, adverts-same, switched-same, none-switched, not-behind, is-behind}
+use Rattle.switch_laws.proofs.WholeLemmas.{listed-later, known-later, behind-one, head-later, adverts-same, switched-same, none-switched, not-behind, is-behind}
 
 -- ---- lists
 

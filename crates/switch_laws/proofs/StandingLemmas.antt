@@ -10,12 +10,9 @@ use Rattle.program_laws.specs.Writing.{body}
 use Rattle.output_laws.specs.Output.{Keep, Leave, out_at}
 use Rattle.splice_plans.specs.Switching.{Setting, switched_at, history_at, switching, switched_past, place_at, place_of}
 use Rattle.splice_plans.specs.Known.{adverts_at}
+use Rattle.ts_packet.proofs.FieldLemmas.{error-off}
 use Rattle.switch_laws.specs.Whole.{stands_for}
 use Rattle.switch_laws.specs.Standing.{IsNoTable, is_left, done_before, steps_before, PacketsStandAs}
-
-pub error-off : (pid : ℕ) (p : List ℕ) → in_error p ≡ true → on pid p ≡ false
-unfolding on
-error-off pid p e = simp e refl
 
 pub error-none : (pids : List ℕ) (p : List ℕ) → in_error p ≡ true → on_one pids p ≡ false
 error-none [] p e = refl

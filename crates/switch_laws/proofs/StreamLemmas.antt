@@ -12,14 +12,14 @@ use Rattle.unit_stream.specs.Carrying.{CarriesUnits}
 use Rattle.psi_tables.specs.ProgramMap.{ProgramMap}
 use Rattle.program_follower.specs.Program.{known_map, behind_head}
 use Rattle.splice_laws.specs.Streams.{IsOnce}
-use Rattle.output_laws.proofs.StepLemmas.{test-same}
 use Rattle.output_laws.specs.Spliced.{placed_payloads}
 use Rattle.splice_plans.specs.Switching.{Setting, switched_at, head_at, history_at, events_at, spliced_network}
 use Rattle.splice_plans.proofs.HistoryLemmas.{armed_is_history}
+use Rattle.ts_packet.proofs.Cases.{test-same}
 use Rattle.switch_laws.specs.Moving.{intervals, sent_in_all}
 use Rattle.switch_laws.specs.Laws.{IsPlayable}
 use Rattle.splice_plans.specs.Known.{adverts_at}
-use Rattle.switch_laws.specs.Whole.{breaks, placed_in, StreamsCarry, StaysGapless, StreamsStayGapless}
+use Rattle.switch_laws.specs.Whole.{breaks, placed_in, PlacedIsCarried, StaysGapless, StreamsStayGapless}
 use Rattle.switch_laws.proofs.RunLemmas.{runs_carry, runs_have_units}
 use Rattle.switch_laws.proofs.SoundLemmas.{runs_are_sound}
 use Rattle.switch_laws.proofs.SplitLemmas.{streams_go_by_themselves}
@@ -60,8 +60,8 @@ module _ (k : Setting) (past : List (List ℕ)) where
       ap (λ es. placed_payloads (switched_at k past) pid (intervals (adverts_at k past) es) (sent_in_all (switched_at k past) (adverts_at k past) (history_at k past) (reverse (reverse b)) pid) [] (reverse b)) behind-joined
       ∙ ap (λ l. placed_payloads (switched_at k past) pid (breaks k past) (sent_in_all (switched_at k past) (adverts_at k past) (history_at k past) l pid) [] (reverse b)) (reverse-reverse b)
 
-pub streams_carry : StreamsCarry
-streams_carry k network apart steady good long pids pid once = by (known_map (Some k.program) (reverse network)) refl
+pub placed_is_carried : PlacedIsCarried
+placed_is_carried k network apart steady good long pids pid once = by (known_map (Some k.program) (reverse network)) refl
   where
     by : (o : Option ProgramMap) → known_map (Some k.program) (reverse network) ≡ o →
         (carried : List (List ℕ)) × (filter (payload_on pid) (spliced_network k network)

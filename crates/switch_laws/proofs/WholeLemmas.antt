@@ -4,7 +4,7 @@ use Rattle.std.specs.Prelude.{All, flat_map, is_some, option_map}
 use Rattle.std.proofs.lemmas.List.{append-nil}
 use Rattle.std.proofs.lemmas.List.Elements.{All-tail}
 use Rattle.ts_packet.specs.Runs.{Seen, seen_after, onto}
-use Rattle.ts_packet.proofs.RunLemmas.{reverse-more}
+use Rattle.ts_packet.proofs.RunLemmas.{reverse-onto}
 use Rattle.psi_tables.specs.ProgramMap.{ProgramMap}
 use Rattle.program_follower.specs.declared.purpose.Listed.{Listed}
 use Rattle.program_follower.specs.Following.{streams_of_program}
@@ -18,10 +18,6 @@ use Rattle.splice_plans.specs.Known.{adverts_at}
 use Rattle.switch_laws.specs.Whole.{stands_for, OutputIsInOrder}
 
 -- ---- in order
-
-pub reverse-onto : (past qs : List (List ℕ)) → reverse (onto past qs) ≡ reverse past ++ qs
-reverse-onto past [] = sym (append-nil (reverse past))
-reverse-onto past (q ∷ qs) = reverse-onto (q ∷ past) qs ∙ reverse-more q past qs
 
 module _ (k : Setting) where
   abbrev wanted : Option ℕ

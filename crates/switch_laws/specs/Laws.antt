@@ -78,8 +78,8 @@ RunsHaveUnits = (switched : List ℕ) (ads : Adverts) (events : History) → IsP
     ≡ placed_payloads switched pid (intervals ads (events (reverse ps))) (sent_in_all switched ads events (reverse ps) pid) [] ps)
 
 -- THE PACKETS OF ALL OTHER PIDS, and those marked in error, are the same list, byte for byte
-abbrev pub OthersPass : Type 0
-OthersPass = (switched : List ℕ) (ads : Adverts) (events : History) → IsPlayable switched ads events → (packed : Packing) (ps : List (List ℕ)) → ArePackets ps →
+abbrev pub RunsKeepOthers : Type 0
+RunsKeepOthers = (switched : List ℕ) (ads : Adverts) (events : History) → IsPlayable switched ads events → (packed : Packing) (ps : List (List ℕ)) → ArePackets ps →
     PutsArePacked packed (run_moves switched ads events ps) → filter (is_off switched) (output packed (run_moves switched ads events ps)) ≡ filter (is_off switched) ps
 
 -- NO PLAYED EVENT: where none of the events is played in the end, every packet is kept, and nothing is put in

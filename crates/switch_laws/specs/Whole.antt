@@ -114,8 +114,8 @@ placed_in k past pid = placed_payloads (switched_at k past) pid (breaks k past) 
 
 -- THE OUTPUT OF A NETWORK CARRIES WHAT IS PLACED, on any network: the switched stream's payload packets are those of the head, those behind
 -- it before the first unit, unchanged, and then packets that carry what is placed
-abbrev pub StreamsCarry : Type 0
-StreamsCarry = (k : Setting) (network : List (List ℕ)) → TablesAreApart k (reverse network) → AreSteady (adverts_at k (reverse network)) →
+abbrev pub PlacedIsCarried : Type 0
+PlacedIsCarried = (k : Setting) (network : List (List ℕ)) → TablesAreApart k (reverse network) → AreSteady (adverts_at k (reverse network)) →
     ArePacked k.packed (adverts_at k (reverse network)) → ArePackets network → HavePids network → (pid : ℕ) → IsSwitchedOnce k (reverse network) pid →
     (carried : List (List ℕ)) × (filter (payload_on pid) (spliced_network k network)
     ≡ filter (payload_on pid) (reverse (head_at k (reverse network))) ++ (lead_in pid (reverse (behind_head (Some k.program) (reverse network))) ++ carried))

@@ -1,9 +1,9 @@
 //! What holds of every spliced stream, over the definitions alone.
 
 ghost use Rattle.switch_laws.specs.Laws.{MovesBringTheNetwork, RunsAreSettled, RowsArePlaced, RowsAreSpliced};
-ghost use Rattle.switch_laws.specs.Laws.{RunsCarry, RunsHaveUnits, OthersPass, NothingPlayed};
+ghost use Rattle.switch_laws.specs.Laws.{RunsCarry, RunsHaveUnits, RunsKeepOthers, NothingPlayed};
 ghost use Rattle.switch_laws.specs.Whole.{OutputIsInOrder, NothingIsPlayed, NoPacketChanges, NoProgram};
-ghost use Rattle.switch_laws.specs.Whole.{RunsAreSound, StreamsGoByThemselves, StreamsCarry, StreamsStayGapless};
+ghost use Rattle.switch_laws.specs.Whole.{RunsAreSound, StreamsGoByThemselves, PlacedIsCarried, StreamsStayGapless};
 ghost use Rattle.switch_laws.specs.Standing.{PacketsStandAs, OthersStay, FaultlessIsSound};
 ghost use Rattle.switch_laws.specs.Slices.{SlicesAreWhole, SlicesGoToAnEnd};
 ghost use Rattle.switch_laws.specs.Clocks.{ClocksStay};
@@ -41,8 +41,8 @@ pub fn runs_have_units()
 {}
 
 /// The packets of all but the switched PIDs, and those marked in error, are the same list, byte for byte.
-pub fn others_pass()
-    ensures { OthersPass }
+pub fn runs_keep_others()
+    ensures { RunsKeepOthers }
 {}
 
 /// Where no event is played, every packet is kept, and nothing is put in.
@@ -81,8 +81,8 @@ pub fn streams_go_by_themselves()
 {}
 
 /// On any network a switched stream of the output has the packets of the head, those before its first unit, and then carries what is placed.
-pub fn streams_carry()
-    ensures { StreamsCarry }
+pub fn placed_is_carried()
+    ensures { PlacedIsCarried }
 {}
 
 /// Where a switched stream is gapless, with its head, so it is in the output, and its units behind the head are what is placed, if nothing

@@ -8,7 +8,7 @@ use Rattle.ts_packet.specs.Duplicates.{original}
 use Rattle.ts_packet.proofs.Cases.{by_test}
 use Rattle.ts_packet.proofs.FieldLemmas.{off_payload}
 use Rattle.unit_stream.specs.Times.{begins, begins_one, high, unit_time, raised, timed, stamp}
-use Rattle.unit_stream.proofs.ClockLemmas.{begins_off}
+use Rattle.unit_stream.proofs.ClockLemmas.{begins_off, begins_off_all}
 use Rattle.psi_section.proofs.RunLemmas.{Alike, alike_on, alike_off, alike_none, alike_back}
 use Rattle.cue_laws.specs.Events.{before}
 use Rattle.splice_laws.specs.Splicing.{PlayedEvent, SliceUnit, TimedStream, stream, comes, at_or_past}
@@ -17,7 +17,6 @@ use Rattle.splice_laws.specs.Settled.{stands_now, begun_now, closed_now}
 use Rattle.splice_laws.proofs.SettledLemmas.{switched_pids_are_within}
 use Rattle.splice_laws.proofs.PidLemmas.{pids_are_streams}
 use Rattle.splice_plans.specs.Playing.{sent_of_begun, sent_known, due_at, left_at_end}
-use Rattle.known_laws.proofs.HeadLemmas.{off-one}
 use Rattle.thinned_laws.specs.Beside.{Beside, Shared, Here, There, one_run, other_run}
 
 -- ---- packets of one run alone
@@ -84,9 +83,9 @@ high-same switched (Shared p ∷ rows) o =
     let h = high-same switched rows o in
     same-if (begins-one-same switched rows o p) (ap (λ x. raised x (stamp p)) h) h
 high-same switched (Here q ∷ rows) o =
-    not-if (begins_one switched q (one_run rows)) (raised (high switched (one_run rows)) (stamp q)) (high switched (one_run rows)) (off-one switched q (one_run rows) o.0) ∙ high-same switched rows o.1
+    not-if (begins_one switched q (one_run rows)) (raised (high switched (one_run rows)) (stamp q)) (high switched (one_run rows)) (begins_off_all switched q (one_run rows) o.0) ∙ high-same switched rows o.1
 high-same switched (There q ∷ rows) o =
-    high-same switched rows o.1 ∙ sym (not-if (begins_one switched q (other_run rows)) (raised (high switched (other_run rows)) (stamp q)) (high switched (other_run rows)) (off-one switched q (other_run rows) o.0))
+    high-same switched rows o.1 ∙ sym (not-if (begins_one switched q (other_run rows)) (raised (high switched (other_run rows)) (stamp q)) (high switched (other_run rows)) (begins_off_all switched q (other_run rows) o.0))
 
 pub time-same : (switched : List ℕ) (pid : ℕ) (rows : List Beside) → OffAll switched rows → OffAlone pid rows → unit_time switched pid (one_run rows) ≡ unit_time switched pid (other_run rows)
 time-same switched pid [] o a = refl

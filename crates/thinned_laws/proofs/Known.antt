@@ -3,14 +3,12 @@ use Rattle.std.proofs.Common.{◌≡◌, ℕ, zero, suc, ◌<◌, List, [], ◌�
 use Rattle.std.specs.Prelude.{ℤ, Contains, slice_index_or, find, option_map}
 use Rattle.std.specs.List.{AllByRecursion}
 use Rattle.std.specs.Ordering.{int_eq}
-use Rattle.std.proofs.lemmas.Int.{ints}
-use Rattle.std.proofs.lemmas.Bool.{true≢false, and_parts, not-true}
+use Rattle.std.proofs.lemmas.Bool.{true≢false, and_parts}
 use Rattle.ts_packet.specs.Fields.{on, pid_of, on_one}
 use Rattle.ts_packet.proofs.Cases.{by_test}
-use Rattle.ts_packet.proofs.FieldLemmas.{off_payload}
+use Rattle.ts_packet.proofs.FieldLemmas.{off_payload, pid_is}
 use Rattle.unit_stream.specs.Times.{begins, begins_one, high, unit_time}
-use Rattle.unit_stream.proofs.ClockLemmas.{begins_off}
-use Rattle.output_laws.proofs.StepLemmas.{pid_is}
+use Rattle.unit_stream.proofs.ClockLemmas.{begins_off, begins_off_all}
 use Rattle.event_table.specs.Standing.{Standing, end_of}
 use Rattle.armed_laws.specs.Laws.{NoneMeet}
 use Rattle.cue_laws.specs.Events.{before}
@@ -20,8 +18,9 @@ use Rattle.splice_laws.specs.Settled.{stands_now, holds_now, begun_now, closed_n
 use Rattle.splice_laws.specs.Ends.{longest_front}
 use Rattle.splice_laws.proofs.SettledLemmas.{switched_pids_are_within}
 use Rattle.splice_plans.specs.Playing.{Adverts, History, is_played, is_inside, as_played, end_known, up_to_known, sent_known, due_at, closing_at, running_at, left_at_end}
-use Rattle.known_laws.proofs.HeadLemmas.{off-one}
 use Rattle.known_laws.proofs.QuietLemmas.{sent-still, or-alone, or-beside}
+use Rattle.pes_time.proofs.IntLemmas.{int-is}
+use Rattle.splice_plans.proofs.KnownLemmas.{played-stays}
 use Rattle.thinned_laws.specs.Beside.{Beside, Shared, Here, There, one_run, other_run, AgreeReached}
 use Rattle.thinned_laws.proofs.Lists.{distinct-starts, same-found, same-any}
 use Rattle.thinned_laws.proofs.Flags.{OffAlone, OffAll, begins-same, begins-one-same, high-same, time-same, reached-by, reached}
@@ -61,7 +60,7 @@ begins-switched pids pid c p past b = by_test (on pid p)
     (λ n. absurd (true≢false (sym b ∙ begins_off pid p past (off_payload pid p n))))
 
 pub one-switched : (pids : List ℕ) (p : List ℕ) (past : List (List ℕ)) → begins_one pids p past ≡ true → on_one pids p ≡ true
-one-switched pids p past b = by_test (on_one pids p) (λ y. y) (λ n. absurd (true≢false (sym b ∙ off-one pids p past n)))
+one-switched pids p past b = by_test (on_one pids p) (λ y. y) (λ n. absurd (true≢false (sym b ∙ begins_off_all pids p past n)))
 
 -- ---- tests
 
@@ -77,12 +76,6 @@ pub if-same : {A : Type 0} {t u : Bool} {x y z w : A} → t ≡ u → (t ≡ tru
 if-same {A} {t} {u} {x} {y} {z} {w} h k l = by_test t
     (λ a. let b = sym h ∙ a in let e = k a in simp (a, b) e)
     (λ a. let b = sym h ∙ a in simp (a, b) l)
-
-int-same : (a b : ℤ) → int_eq a b ≡ true → a ≡ b
-int-same a b h = grind (arith, ints, h)
-
-pub played-stays : (ads : Adverts) (e : Standing) → is_played ads e ≡ true → e.cancelled ≡ false
-played-stays ads e h = not-true e.cancelled (and_parts (not e.cancelled) (ads.fits e) h).0
 
 -- ---- a packet that begins no unit of the stream
 
@@ -112,9 +105,9 @@ module _ (ads : Adverts) where
   pub known-same : (h : Option ℤ) (es fs : List Standing) → NoneMeet fs → AgreeReached h es fs → (start : ℤ) → before h start ≡ false
       → option_map end_of (find (λ e. int_eq e.start start && is_played ads e) es) ≡ option_map end_of (find (λ e. int_eq e.start start && is_played ads e) fs)
   known-same h es fs n a start past = ap (option_map end_of) (same-found (λ e. int_eq e.start start && is_played ads e) es fs (distinct-starts fs n)
-      (λ x y s t. int-same x.start start (and_parts (int_eq x.start start) (is_played ads x) s).0 ∙ sym (int-same y.start start (and_parts (int_eq y.start start) (is_played ads y) t).0))
+      (λ x y s t. int-is x.start start (and_parts (int_eq x.start start) (is_played ads x) s).0 ∙ sym (int-is y.start start (and_parts (int_eq y.start start) (is_played ads y) t).0))
       (λ e t. let p = and_parts (int_eq e.start start) (is_played ads e) t in
-      a e (played-stays ads e p.1) (ap (before h) (int-same e.start start p.0) ∙ past)))
+      a e (played-stays ads e p.1) (ap (before h) (int-is e.start start p.0) ∙ past)))
 
   pub inside-same : (h t : Option ℤ) → Risen t h → (es fs : List Standing) → AgreeReached h es fs → is_inside ads es t ≡ is_inside ads fs t
   inside-same h t w es fs a = same-any (λ e. is_played ads e && holds (as_played e) t) es fs
@@ -187,8 +180,8 @@ module _ (switched : List ℕ) (pid : ℕ) (among : Contains switched pid) (ads 
         front-same : {c d : Bool} {k l : Option ℤ} {h m : Option ℤ} → c ≡ d → k ≡ l → h ≡ m
             → (if c then up_to_known k units else longest_front (up_to_known k units) h) ≡ (if d then up_to_known l units else longest_front (up_to_known l units) m)
         front-same i j n = rw (i, j, n) refl
-    sent-same (Here q ∷ rows) o a g = sent-still (begins_one switched) r x here units q (one_run rows) (off-one switched q (one_run rows) o.0) ∙ sent-same rows o.1 a.1 g
-    sent-same (There q ∷ rows) o a g = sent-same rows o.1 a.1 g ∙ sym (sent-still (begins_one switched) r x there units q (other_run rows) (off-one switched q (other_run rows) o.0))
+    sent-same (Here q ∷ rows) o a g = sent-still (begins_one switched) r x here units q (one_run rows) (begins_off_all switched q (one_run rows) o.0) ∙ sent-same rows o.1 a.1 g
+    sent-same (There q ∷ rows) o a g = sent-same rows o.1 a.1 g ∙ sym (sent-still (begins_one switched) r x there units q (other_run rows) (begins_off_all switched q (other_run rows) o.0))
 
     pub due-same : (p : List ℕ) (rows : List Beside) → OffAll switched rows → OffAlone pid rows → Agrees switched one other (Shared p ∷ rows)
         → due_at (begins_one switched) r x here units p (one_run rows) ≡ due_at (begins_one switched) r x there units p (other_run rows)

@@ -20,12 +20,13 @@ use Rattle.output_laws.specs.Output.{Move, Keep, Leave, Put, Packing, counter_st
 use Rattle.splice_plans.specs.Playing.{Adverts, History, is_played, is_inside, played, as_played, end_known, closing_at, running_at, left_at_end}
 use Rattle.splice_plans.specs.Switching.{puts_by, puts_before, puts_at_end, fate, moves, front_of, place_of, end_of_run}
 use Rattle.splice_plans.proofs.PutLemmas.{puts_at_unit_starts}
-use Rattle.known_laws.proofs.HeadLemmas.{off-one}
 use Rattle.known_laws.proofs.AheadLemmas.{all-in}
+use Rattle.unit_stream.proofs.ClockLemmas.{begins_off_all}
+use Rattle.splice_plans.proofs.KnownLemmas.{played-stays}
 use Rattle.thinned_laws.specs.Beside.{Beside, Shared, Here, There, one_run, other_run, AgreeReached}
 use Rattle.thinned_laws.proofs.Lists.{distinct-starts, same-chosen}
 use Rattle.thinned_laws.proofs.Flags.{OffAlone, OffAll, off-head, off-tail, original-same, high-same, time-same, due-none, left-none}
-use Rattle.thinned_laws.proofs.Known.{switched-in, switched-pid, and-same, played-stays, Agrees, NeverMeet, inside-same, closing-same, running-same, left-same}
+use Rattle.thinned_laws.proofs.Known.{switched-in, switched-pid, and-same, Agrees, NeverMeet, inside-same, closing-same, running-same, left-same}
 
 -- ---- each switched PID
 
@@ -211,8 +212,8 @@ module _ (switched : List ℕ) (ads : Adverts) (one other : History) (meet : Nev
       → puts_before switched ads one p (one_run rows) ≡ puts_before switched ads other p (other_run rows)
   before-same p rows o g = by_test (on_one switched p)
       (λ y. before-switched p rows o g y)
-      (λ n. puts_at_unit_starts switched ads one p (one_run rows) (off-one switched p (one_run rows) n)
-      ∙ sym (puts_at_unit_starts switched ads other p (other_run rows) (off-one switched p (other_run rows) n)))
+      (λ n. puts_at_unit_starts switched ads one p (one_run rows) (begins_off_all switched p (one_run rows) n)
+      ∙ sym (puts_at_unit_starts switched ads other p (other_run rows) (begins_off_all switched p (other_run rows) n)))
 
   pub end-same : (rows : List Beside) → OffAll switched rows → Agrees switched one other rows → AgreeReached (high switched (one_run rows)) (one (one_run rows)) (other (other_run rows))
       → puts_at_end switched ads one (one_run rows) ≡ puts_at_end switched ads other (other_run rows)
@@ -255,7 +256,7 @@ module _ (switched : List ℕ) (ads : Adverts) (one other : History) (meet : Nev
   quiet-moves : (events : History) (q : List ℕ) (past : List (List ℕ)) → on_one switched q ≡ false → moves switched ads events (q ∷ past) ≡ Keep q ∷ moves switched ads events past
   quiet-moves events q past n =
       ap (λ b. (if b then Leave q else Keep q) ∷ (reverse (puts_before switched ads events q past) ++ moves switched ads events past)) (none-out (λ pid time. is_inside ads (events (q ∷ past)) time) q past switched n)
-      ∙ ap (λ (ms : List Move). Keep q ∷ (reverse ms ++ moves switched ads events past)) (puts_at_unit_starts switched ads events q past (off-one switched q past n))
+      ∙ ap (λ (ms : List Move). Keep q ∷ (reverse ms ++ moves switched ads events past)) (puts_at_unit_starts switched ads events q past (begins_off_all switched q past n))
 
   pub moves-same : (packed : Packing) (pid : ℕ) (rows : List Beside) → OffAll switched rows → OffAlone pid rows → Agrees switched one other rows
       → SameSteps packed pid (moves switched ads one (one_run rows)) (moves switched ads other (other_run rows))

@@ -16,11 +16,13 @@ use Rattle.splice_plans.specs.Playing.{Adverts, is_played, is_crossed}
 use Rattle.splice_plans.specs.Switching.{Setting, switched_at, high_at, events_at, rest_at, switched_past, spliced_network}
 use Rattle.splice_plans.specs.Known.{adverts_at, behind_at}
 use Rattle.splice_plans.specs.Reporting.{is_not_fitted, is_unconditioned}
+use Rattle.splice_plans.proofs.KnownLemmas.{played-stays}
+use Rattle.splice_plans.proofs.StartLemmas.{Distinct}
 use Rattle.thinned_laws.specs.Beside.{Beside, Shared, Here, There, one_run, other_run, DifferOn, CuesAreApart, AgreeAlong, AgreeAtTheEnd}
 use Rattle.thinned_laws.specs.Laws.{CountedAlike, SameEventsSameNetwork}
-use Rattle.thinned_laws.proofs.Lists.{Distinct, distinct-starts, same-counted, count-tests}
+use Rattle.thinned_laws.proofs.Lists.{distinct-starts, same-counted, count-tests}
 use Rattle.thinned_laws.proofs.Flags.{OffAlone, OffAll, begins-same, time-same}
-use Rattle.thinned_laws.proofs.Known.{and-same, if-same, played-stays, or-same}
+use Rattle.thinned_laws.proofs.Known.{and-same, if-same, or-same}
 use Rattle.thinned_laws.proofs.Moves.{all-ready}
 use Rattle.thinned_laws.proofs.Tables.{switched-same, adverts-same, is-behind-same, behind_rows, behind-one, behind-other}
 use Rattle.thinned_laws.proofs.Runs.{same_events_same_output, agree-behind, off-behind, rest-by}

@@ -17,7 +17,8 @@ use Rattle.splice_plans.specs.Playing.{Adverts, History}
 use Rattle.splice_plans.specs.Switching.{Setting, switched_at, high_at, events_at, head_at, history_at, is_behind_head, front_of, place_of, end_of_run, front_at, place_at, moves, switching, switched_past}
 use Rattle.splice_plans.specs.Known.{adverts_at, behind_at}
 use Rattle.splice_plans.proofs.PutLemmas.{puts_at_unit_starts}
-use Rattle.known_laws.proofs.HeadLemmas.{off-one, none-switched, same-switched, same-history, high-next, history-now, history-next}
+use Rattle.known_laws.proofs.HeadLemmas.{none-switched, same-switched, same-history, high-next, history-now, history-next}
+use Rattle.unit_stream.proofs.ClockLemmas.{begins_off_all}
 use Rattle.thinned_laws.specs.Beside.{Beside, Shared, Here, There, one_run, other_run, DifferOn, CuesAreApart, AgreeReached, AgreeAlong, AgreeAtTheEnd}
 use Rattle.thinned_laws.specs.Laws.{SameEventsSameOutput}
 use Rattle.thinned_laws.proofs.Flags.{OffAll}
@@ -185,7 +186,7 @@ module _ (k : Setting) where
       ap (λ ps. ps ++ body (switching k) (listed (Some k.program) past) q past (tables (Some k.program) q past) out)
       (either (is_behind_head k past) (front_of (switched_at k past) (adverts_at k past) (history_at k past) k.packed q (behind_at k past))
       (ap (out_after k.packed (moves (switched_at k past) (adverts_at k past) (history_at k past) (behind_at k past)))
-      (puts_at_unit_starts (switched_at k past) (adverts_at k past) (history_at k past) q (behind_at k past) (off-one (switched_at k past) q (behind_at k past) n))))
+      (puts_at_unit_starts (switched_at k past) (adverts_at k past) (history_at k past) q (behind_at k past) (begins_off_all (switched_at k past) q (behind_at k past) n))))
       ∙ by (listed (Some k.program) past) refl
     where
       none-here : place_at k q past ≡ []

@@ -14,10 +14,10 @@ use Rattle.program_follower.proofs.OptionLemmas.{option_or-none}
 use Rattle.program_follower.proofs.StepLemmas.{listed_stays}
 use Rattle.program_laws.proofs.WritingLemmas.{off_other}
 use Rattle.program_laws.proofs.ReadingLemmas.{no_since_yet}
-use Rattle.output_laws.proofs.StepLemmas.{test-same}
 use Rattle.splice_plans.specs.Switching.{Setting, switched_at, is_behind_head}
 use Rattle.splice_plans.specs.Known.{adverts_at, behind_at}
 use Rattle.known_laws.proofs.HeadLemmas.{none-switched, none-behind, same-switched}
+use Rattle.ts_packet.proofs.Cases.{test-same}
 use Rattle.thinned_laws.specs.Beside.{Beside, Shared, Here, There, one_run, other_run, DifferOn, CuesAreApart}
 use Rattle.thinned_laws.proofs.Flags.{OffAlone, OffAll, alike-runs}
 

@@ -27,7 +27,7 @@ use Rattle.event_table.specs.Standing.{Standing}
 use Rattle.armed_events.specs.Arming.{armed}
 use Rattle.injector.specs.Turns.{events}
 use Rattle.injector.specs.Steps.{Step, Message, Packet, packets_in, turns_in}
-use Rattle.cue_laws.specs.Events.{Turn as LineTurn, before, In}
+use Rattle.cue_laws.specs.Events.{Turn as LineTurn, before}
 use Rattle.cue_laws.specs.Laws.{KeepsEnoughOf}
 use Rattle.cue_laws.proofs.Enough.{nothing_lost_is_enough}
 use Rattle.cued_laws.proofs.CuedLemmas.{cued_is_faultless}
@@ -43,6 +43,7 @@ use Rattle.splice_plans.specs.Adverts.{setting_of}
 use Rattle.switch_laws.specs.Standing.{IsSwitchable}
 use Rattle.switch_laws.proofs.FaultlessLemmas.{faultless_is_sound}
 use Rattle.known_laws.proofs.HeadLemmas.{none-switched, same-switched}
+use Rattle.ts_packet.specs.Membership.{In}
 use Rattle.thinned_laws.specs.Beside.{Beside, Shared, Here, There, one_run, other_run, DifferOn, CuesAreApart, AgreeReached, AgreeAlong}
 use Rattle.thinned_laws.specs.Laws.{SplicedAlike, LeftIsFaultless, LostCuesLeaveNoTrace, ThinnedCuesLeaveNoTrace}
 use Rattle.thinned_laws.proofs.Flags.{OffAlone}

@@ -4,8 +4,9 @@ use Rattle.ts_packet.specs.Fields.{on, on_one, is_among}
 use Rattle.program_follower.specs.declared.purpose.Listed.{Listed}
 use Rattle.program_follower.specs.Program.{listed}
 use Rattle.event_table.specs.Standing.{Standing}
-use Rattle.cue_laws.specs.Events.{before, In}
+use Rattle.cue_laws.specs.Events.{before}
 use Rattle.splice_plans.specs.Switching.{Setting, switched_at, high_at, events_at}
+use Rattle.ts_packet.specs.Membership.{In}
 
 -- a packet of both runs, of the one alone, or of the other alone
 pub data Beside : Type 0 where

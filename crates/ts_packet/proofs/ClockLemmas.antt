@@ -28,7 +28,7 @@ clock_packet-is pid number n c h e = ap (λ k. 71 ∷ (k / 256) ∷ (k % 256) �
 pub first_five : (pid : ℕ) → pid < 8192 → pid / 256 / 128 % 2 ≡ 0
 first_five pid h = omega arith
 
-error-clock : (pid n : ℕ) (c : List ℕ) → pid < 8192 → in_error (clock_packet pid n c) ≡ false
+pub error-clock : (pid n : ℕ) (c : List ℕ) → pid < 8192 → in_error (clock_packet pid n c) ≡ false
 unfolding in_error
 error-clock pid n c h = rw (first_five pid h) refl
 
@@ -50,11 +50,11 @@ sound-clock : (pid n : ℕ) (c : List ℕ) → pid < 8192 → n < 16 → packet_
 unfolding packet_fault
 sound-clock pid n c h k = rw (error-clock pid n c h, control-clock n k) refl
 
-pid-clock : (pid n : ℕ) (c : List ℕ) → pid < 8192 → pid_of (clock_packet pid n c) ≡ pid
+pub pid-clock : (pid n : ℕ) (c : List ℕ) → pid < 8192 → pid_of (clock_packet pid n c) ≡ pid
 unfolding pid_of
 pid-clock pid n c h = omega arith
 
-number-clock : (pid n : ℕ) (c : List ℕ) → n < 16 → number (clock_packet pid n c) ≡ n
+pub number-clock : (pid n : ℕ) (c : List ℕ) → n < 16 → number (clock_packet pid n c) ≡ n
 unfolding number
 number-clock pid n c h = omega arith
 

@@ -1,5 +1,5 @@
 -- What counts come to over several calls, and over several packets.
-use Rattle.std.proofs.Common.{◌≡◌, ℕ, zero, suc, ◌-◌, ◌^◌, ◌≤◌, inl, inr, Bool, true, false, arith, Result, Ok, Err, IfOk, IfErr, ◌∙◌, le_refl, refl}
+use Rattle.std.proofs.Common.{◌≡◌, ℕ, zero, suc, ◌-◌, ◌^◌, ◌≤◌, inl, inr, Bool, true, false, arith, Result, Ok, Err, IfOk, IfErr, ◌∙◌, le_refl, refl, ◌⊎◌}
 use Rattle.std.proofs.Math.Nat.{le_trans}
 use Rattle.ts_packet.specs.declared.device.DeviceFault.{DeviceFault}
 use Rattle.ts_packet.specs.declared.sink.PutFault.{PutFault}
@@ -11,7 +11,7 @@ use Rattle.ts_packet.specs.Transfers.{IsCounted, Rose, CountsZero, WentWell, Las
 use Rattle.ts_packet.specs.Sinks.{Later, Blamed}
 use Rattle.ts_packet.specs.declared.reader.ReadFault.{ReadFault}
 use Rattle.ts_packet.specs.declared.reader.ReadFault.TheVariants as read_faults
-use Rattle.ts_packet.specs.Sources.{ReadCounts, ReadBlamed, SourceCounts, SourceBlamed}
+use Rattle.ts_packet.specs.Sources.{ReadCounts, ReadBlamed, SourceCounts, SourceBlamed, ReadSo}
 
 pub counted-later : (old new : ℕ) → IsCounted old new → old ≤ new
 counted-later old new h = grind (arith, h.0, h.1)
@@ -83,3 +83,7 @@ by_fault read_faults.Failed given old new h = h
 pub source_blamed : (r : Result Bool ReadFault) (given : ℕ) (old new : Tally) → IfErr r (λ f. ReadBlamed f given old new) → IfErr r (λ f. (false ≡ false) × SourceBlamed f given old new)
 source_blamed (Ok more) given old new h = tt
 source_blamed (Err f) given old new h = (refl, by_fault f given old new h)
+
+pub by_end : (ended : Bool) (old new : Tally) → ReadSo ended old new → WentWell old new ⊎ LastMovedNone old new
+by_end true old new h = inr h
+by_end false old new h = inl h

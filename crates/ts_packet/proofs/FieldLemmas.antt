@@ -1,10 +1,12 @@
 -- What another counter leaves as it was.
-use Rattle.std.proofs.Common.{◌≡◌, ℕ, ◌+◌, ◌*◌, ◌/◌, ◌%◌, ◌<◌, List, [], ◌∷◌, true, false, refl, sym, ap, ◌∙◌, arith, length, slice_index, slice_set, drop}
-use Rattle.std.specs.Prelude.{nat_eq}
+use Rattle.std.proofs.Common.{◌≡◌, ℕ, ◌+◌, ◌*◌, ◌/◌, ◌%◌, ◌<◌, List, [], ◌∷◌, true, false, refl, sym, ap, ◌∙◌, arith, length, slice_index, slice_set, drop, not, ◌&&◌, ◌||◌, ◌==◌, zero, suc, Some}
+use Rattle.std.specs.Prelude.{nat_eq, is_some, slice_get}
 use Rattle.std.proofs.lemmas.Grind.{common_steps}
 use Rattle.std.proofs.lemmas.List.{drop-drop, get_or-drop}
-use Rattle.ts_packet.proofs.Cases.{by_test}
-use Rattle.ts_packet.specs.Fields.{in_error, unit_start, pid_of, scrambled, number, payload, with_number, on, payload_on, bytes, or_none, carries_as, alike, renumbered, without_number}
+use Rattle.std.proofs.lemmas.Bool.{and_parts, eqb-true, or_right}
+use Rattle.std.proofs.Math.Bool.{and-false}
+use Rattle.ts_packet.proofs.Cases.{by_test, test-same}
+use Rattle.ts_packet.specs.Fields.{in_error, unit_start, pid_of, scrambled, number, payload, with_number, on, payload_on, bytes, or_none, carries_as, alike, renumbered, without_number, is_among}
 
 -- the code's write is the definition
 pub set_is_with_number : (p : List ℕ) (n : ℕ) → length p ≡ 188 → slice_set p 3 (slice_index p 3 / 16 * 16 + n) ≡ with_number n p
@@ -45,11 +47,11 @@ rest_with n k p =
     let five : 5 + k ≡ 4 + (1 + k) = omega arith in
     rw five (sym (drop-drop (1 + k) 4 (with_number n p)) ∙ drop-drop (1 + k) 4 p)
 
-length_with : (n : ℕ) (p : List ℕ) → slice_index (with_number n p) 4 ≡ slice_index p 4
+pub length_with : (n : ℕ) (p : List ℕ) → slice_index (with_number n p) 4 ≡ slice_index p 4
 unfolding with_number
 length_with n p = get_or-drop 4 p 0 0
 
-control_with : (n : ℕ) (p : List ℕ) → n < 16 → slice_index (with_number n p) 3 / 16 ≡ slice_index p 3 / 16
+pub control_with : (n : ℕ) (p : List ℕ) → n < 16 → slice_index (with_number n p) 3 / 16 ≡ slice_index p 3 / 16
 unfolding with_number
 control_with n p h = high_with (slice_index p 3) n h
 
@@ -71,7 +73,7 @@ scrambled-with n p h = let e : (slice_index p 3 / 16 * 16 + n) / 64 ≡ slice_in
 
 -- ---- the packet with its counter moved up
 
-below_16 : (m : ℕ) → m % 16 < 16
+pub below_16 : (m : ℕ) → m % 16 < 16
 below_16 m = omega arith
 
 pub number-renumbered : (n : ℕ) (p : List ℕ) → number (renumbered n p) ≡ (number p + n) % 16
@@ -144,3 +146,24 @@ renumbered-same m n p h = let e : (number p + m) % 16 ≡ (number p + n) % 16 = 
 pub carries-with : (n : ℕ) (q p : List ℕ) → n < 16 → carries_as (with_number n q) p ≡ carries_as q p
 unfolding carries_as
 carries-with n q p h = rw (start-with n q, payload-with n q h) refl
+
+pub payload-some : (pid : ℕ) (p : List ℕ) → payload_on pid p ≡ true → is_some (payload p) ≡ true
+unfolding payload_on
+payload-some pid p h = (and_parts (on pid p) (is_some (payload p)) h).1
+
+pub without-payload : (pid : ℕ) (p : List ℕ) → is_some (payload p) ≡ false → payload_on pid p ≡ false
+unfolding payload_on
+without-payload pid p n = ap (λ b. on pid p && b) n ∙ and-false (on pid p)
+
+pub pid_is : (pid : ℕ) (p : List ℕ) → on pid p ≡ true → pid_of p ≡ pid
+unfolding on
+pid_is pid p h = eqb-true (pid_of p) pid (and_parts (not (in_error p)) (pid_of p == pid) h).1
+
+pub error-off : (pid : ℕ) (p : List ℕ) → in_error p ≡ true → on pid p ≡ false
+unfolding on
+error-off pid p e = simp e refl
+
+pub among-get : (xs : List ℕ) (n x : ℕ) → slice_get xs n ≡ Some x → is_among x xs ≡ true
+among-get [] n x h = absurd (cc)
+among-get (y ∷ xs) zero x h = let is : y ≡ x = cc in let t = ap (λ z. z == x) is ∙ test-same x in simp t
+among-get (y ∷ xs) (suc n) x h = or_right (y == x) (is_among x xs) (among-get xs n x h)

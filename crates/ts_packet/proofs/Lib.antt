@@ -12,3 +12,6 @@ pub mod RunLemmas
 pub mod RunBlameLemmas
 pub mod Renumbered
 pub mod FirstFaultLemmas
+pub mod FillingLemmas
+pub mod EqualLemmas
+pub mod MembershipLemmas

@@ -99,3 +99,7 @@ gapless_alone before pid ps h = (gapless_back None pid [] ps (gapless_past befor
 pub onto-append : (past ps qs : List (List ℕ)) → onto past (ps ++ qs) ≡ onto (onto past ps) qs
 onto-append past [] qs = refl
 onto-append past (p ∷ ps) qs = onto-append (p ∷ past) ps qs
+
+pub reverse-onto : (past ps : List (List ℕ)) → reverse (onto past ps) ≡ reverse past ++ ps
+reverse-onto past [] = sym (append-nil (reverse past))
+reverse-onto past (p ∷ ps) = reverse-onto (p ∷ past) ps ∙ ap (λ l. l ++ ps) (reverse-append (p ∷ []) past) ∙ append_assoc (reverse past) (p ∷ []) ps

@@ -1,8 +1,10 @@
 -- What a read into the rest of a buffer leaves in it.
-use Rattle.std.proofs.Common.{◌≡◌, ℕ, ◌+◌, ◌-◌, ◌≤◌, List, Option, ◌++◌, arith, length, take, drop, ap, ◌∙◌, le_refl, drop_at, length-take-le, length-append, length-drop}
+use Rattle.std.proofs.Common.{◌≡◌, ℕ, ◌+◌, ◌-◌, ◌≤◌, List, Option, ◌++◌, arith, length, take, drop, ap, ◌∙◌, le_refl, drop_at, length-take-le, length-append, length-drop, [], Some, None}
 use Rattle.std.proofs.lemmas.Slice.{take-put_mid_below}
-use Rattle.std.specs.Io.KnownBytes.{Consumes}
+use Rattle.std.specs.Io.KnownBytes.{Consumes, IsAtEnd}
 use Rattle.std.proofs.KnownBytes.{Consumes-trans}
+use Rattle.std.proofs.lemmas.List.{append-nil}
+use Rattle.std.specs.Prelude.{IfSome}
 use Rattle.ts_packet.specs.Transfers.{FallsShort}
 use borrow.Rule.Slice.PartMut.{put_mid, post_of}
 use lib.Seq.{take-add, take-append-le}
@@ -33,3 +35,10 @@ short-behind n room front a b c within part read short =
     let size = length-take-le n front within in
     let whole = length-append (take n front) bs in
     (take n front ++ bs, Consumes-trans a b c (take n front) bs read more, omega (arith, fewer))
+
+-- where a read finds the end, what was read is all
+pub at_end : (a b c : Option (List ℕ)) (bs none : List ℕ) → Consumes a b bs → Consumes b c none → none ≡ [] → IsAtEnd c → IfSome a (λ all. all ≡ bs)
+at_end None b c bs none p q e end = tt
+at_end (Some x) None c bs none p q e end = absurd p
+at_end (Some x) (Some y) None bs none p q e end = absurd q
+at_end (Some x) (Some y) (Some z) bs none p q e end = p ∙ ap (λ l. bs ++ l) (q ∙ ap (λ l. l ++ z) e ∙ end) ∙ append-nil bs

@@ -10,3 +10,4 @@ pub mod Numbering
 pub mod Clock
 pub mod FirstFault
 pub mod Filling
+pub mod Membership

@@ -9,46 +9,39 @@ use Rattle.unit_stream.specs.Times.{begins, begins_one, high, raised, timed, uni
 use Rattle.unit_stream.specs.Faults.{unit_fault, start_fault, scrambled_one}
 use Rattle.unit_stream.proofs.ClockLemmas.{fault_none, fault_begun}
 use Rattle.unit_stream.specs.Fates.{is_cut, steps, numbered}
+use Rattle.std.proofs.Math.Bool.{or-false}
 use Rattle.unit_cut.specs.Standing.{Cut, goes_by, TimingFor, Begins, BeginsWith, CutAnswers}
 use Rattle.unit_cut.specs.declared.timing.Timing.{Timing}
 
 -- ---- fields
 
-pub has_payload : (pid : ℕ) (p : List ℕ) → payload_on pid p ≡ true → is_some (payload p) ≡ true
-unfolding payload_on
-has_payload pid p h = by_test (on pid p) (λ o. simp o at h) (λ o. let e = simp o at h in cc)
-
 -- ---- faults
-
-or_false : (b : Bool) → b || false ≡ b
-or_false true = refl
-or_false false = refl
 
 pub scrambled_is : (pid : ℕ) (p : List ℕ) (b : Bool) → on pid p ≡ true → (is_some (payload p) && scrambled p) ≡ b → scrambled_one (pid ∷ []) p ≡ b
 unfolding payload_on
-scrambled_is pid p b o h = or_false _ ∙ simp o h
+scrambled_is pid p b o h = or-false _ ∙ simp o h
 
 pub scrambled_off : (pid : ℕ) (p : List ℕ) → payload_on pid p ≡ false → scrambled_one (pid ∷ []) p ≡ false
 scrambled_off pid p y = simp y
 
 pub fault_still : (pid : ℕ) (p : List ℕ) (past : List (List ℕ)) → scrambled_one (pid ∷ []) p ≡ false → begins pid p past ≡ false → unit_fault (pid ∷ []) p past ≡ None
-fault_still pid p past h b = fault_none (pid ∷ []) p past h (or_false (begins pid p past) ∙ b)
+fault_still pid p past h b = fault_none (pid ∷ []) p past h (or-false (begins pid p past) ∙ b)
 
 pub fault_start : (pid : ℕ) (p : List ℕ) (past : List (List ℕ)) → scrambled_one (pid ∷ []) p ≡ false → begins pid p past ≡ true
     → unit_fault (pid ∷ []) p past ≡ start_fault (high (pid ∷ []) past) (splits p) (stamp p)
-fault_start pid p past h b = fault_begun (pid ∷ []) p past h (or_false (begins pid p past) ∙ b)
+fault_start pid p past h b = fault_begun (pid ∷ []) p past h (or-false (begins pid p past) ∙ b)
 
 -- ---- the clock and the running unit
 
 pub timing_same : (t : Timing) (k : Cut) (p : List ℕ) (past : List (List ℕ)) → begins k.pid p past ≡ false
     → TimingFor t k (high (k.pid ∷ []) past) (unit_time (k.pid ∷ []) k.pid past)
     → TimingFor t k (high (k.pid ∷ []) (p ∷ past)) (unit_time (k.pid ∷ []) k.pid (p ∷ past))
-timing_same t k p past b h = simp (or_false, b) h
+timing_same t k p past b h = simp (or-false, b) h
 
 pub timing_start : (t : Timing) (k : Cut) (p : List ℕ) (past : List (List ℕ)) → begins k.pid p past ≡ true
     → TimingFor t k (raised (high (k.pid ∷ []) past) (stamp p)) (timed (high (k.pid ∷ []) past) (stamp p) (unit_time (k.pid ∷ []) k.pid past))
     → TimingFor t k (high (k.pid ∷ []) (p ∷ past)) (unit_time (k.pid ∷ []) k.pid (p ∷ past))
-timing_start t k p past b h = simp (or_false, b) h
+timing_start t k p past b h = simp (or-false, b) h
 
 pub cut_is : (k : Cut) (p : List ℕ) (past : List (List ℕ)) (g : Bool) → payload_on k.pid p ≡ true → g ≡ goes_by k (unit_time (k.pid ∷ []) k.pid (p ∷ past))
     → is_cut (goes_by k) (k.pid ∷ []) k.pid p past ≡ g
@@ -87,7 +80,7 @@ placed_with k (Some h) f s i b = tt
 
 pub begins_with : (k : Cut) (p : List ℕ) (past : List (List ℕ)) → begins k.pid p past ≡ true → Begins k (p ∷ past) → BeginsWith k (high (k.pid ∷ []) past) (stamp p)
 begins_with k p past b h =
-    let e : Placed k (first_after (first_time (k.pid ∷ []) past) (stamp p)) = simp (or_false, b) at h in
+    let e : Placed k (first_after (first_time (k.pid ∷ []) past) (stamp p)) = simp (or-false, b) at h in
     placed_with k (high (k.pid ∷ []) past) (first_time (k.pid ∷ []) past) (stamp p) (none_first (k.pid ∷ []) past) e
 
 placed_before : (k : Cut) (f : Option ℤ) (s : Option ℕ) → Placed k (first_after f s) → Placed k f

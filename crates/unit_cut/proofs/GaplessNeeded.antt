@@ -1,11 +1,7 @@
 -- Without gapless counters the units in what the cut leaves need not be the units that stay: three packets.
-use Rattle.std.specs.Prelude.{ℤ, nat_eq}
-use Rattle.std.proofs.Common.{◌≡◌, ℕ, ◌+◌, ◌%◌, List, [], ◌∷◌, ◌++◌, Bool, true, false, ◌&&◌, refl, ap, ◌∙◌, if◌then◌else◌, Option, None, Some, arith}
-use Rattle.std.specs.Bool.{beq}
-use Rattle.std.specs.Option.{option_eq}
-use Rattle.std.proofs.lemmas.Grind.{common_steps}
+use Rattle.std.specs.Prelude.{ℤ}
+use Rattle.std.proofs.Common.{◌≡◌, ℕ, ◌+◌, ◌%◌, List, [], ◌∷◌, ◌++◌, Bool, true, false, ◌&&◌, refl, ap, ◌∙◌, if◌then◌else◌, Option, arith}
 use Rattle.std.proofs.lemmas.List.{append-nil}
-use lib.Pointwise.{pointwise}
 use Rattle.ts_packet.specs.Fields.{payload_on, unit_start, number, payload, bytes, carries_as, alike, renumbered}
 use Rattle.ts_packet.specs.Duplicates.{original}
 use Rattle.ts_packet.proofs.Cases.{by_test}
@@ -13,25 +9,11 @@ use Rattle.ts_packet.proofs.FieldLemmas.{number-below, number-renumbered, start-
 use Rattle.unit_stream.specs.Times.{unit_time}
 use Rattle.unit_stream.specs.Units.{units, payloads}
 use Rattle.unit_stream.specs.Fates.{is_cut}
+use Rattle.ts_packet.proofs.EqualLemmas.{same-byte, same-payload, same-flag}
 use Rattle.unit_cut.specs.Cutting.{staying}
 use Rattle.unit_cut.proofs.Counted.{gone, kept_as, counted_cut, cut_is}
 use Rattle.unit_cut.specs.Laws.{GaplessIsNeeded}
 use Rattle.unit_cut.proofs.InOrder.{cut_after, cut_after-cons}
-
-same_number : (n : ℕ) → nat_eq n n ≡ true
-same_number n = grind (arith, common_steps)
-
-same_bytes : (bs : List ℕ) → pointwise nat_eq bs bs ≡ true
-same_bytes [] = refl
-same_bytes (x ∷ xs) = rw (same_number x, same_bytes xs) refl
-
-same_payload : (o : Option (List ℕ)) → option_eq (pointwise nat_eq) o o ≡ true
-same_payload None = refl
-same_payload (Some bs) = same_bytes bs
-
-same_bit : (b : Bool) → beq b b ≡ true
-same_bit true = refl
-same_bit false = refl
 
 -- moved up by 1 and then by 15 it is like the packet itself
 around : (p : List ℕ) → alike (renumbered 0 p) (renumbered 15 (renumbered 1 p)) ≡ true
@@ -49,9 +31,9 @@ around p =
       payload-renumbered 15 (renumbered 1 p),
       payload-renumbered 1 p,
       e,
-      same_number ((number p + 0) % 16),
-      same_bit (unit_start p),
-      same_payload (payload p),
+      same-byte ((number p + 0) % 16),
+      same-flag (unit_start p),
+      same-payload (payload p),
     ) refl
 
 -- of two packets that are alike one unit is read

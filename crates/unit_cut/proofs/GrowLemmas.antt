@@ -1,17 +1,14 @@
 -- The begin of an interval is placed once: what is cut out of a front of a run is cut out of the run.
 use Rattle.std.specs.Prelude.{ℤ, All}
-use Rattle.std.proofs.Common.{◌≡◌, ℕ, List, [], ◌∷◌, ◌++◌, Bool, true, false, refl, sym, ap, ◌∙◌, Option, None, Some, reverse, ◌||◌}
+use Rattle.std.proofs.Common.{◌≡◌, ℕ, List, [], ◌∷◌, ◌++◌, false, refl, sym, ap, ◌∙◌, Option, None, Some, reverse, ◌||◌}
 use Rattle.std.proofs.lemmas.List.Elements.{All-head, All-tail, All-cons, All-nil}
 use Rattle.ts_packet.specs.Runs.{Seen, seen_after}
 use Rattle.ts_packet.proofs.Cases.{by_test}
-use Rattle.ts_packet.proofs.RunLemmas.{onto}
+use Rattle.ts_packet.proofs.RunLemmas.{onto, onto-append}
 use Rattle.unit_stream.specs.Times.{begins, begins_one, first_time, first_after, unit_time, stamp}
+use Rattle.std.proofs.Math.Bool.{or-false}
 use Rattle.unit_cut.specs.Cutting.{cut, cut_between, inside, begin_of}
 use Rattle.unit_cut.proofs.InOrder.{cut_grows, cut-same}
-
-or_false : (b : Bool) → b || false ≡ b
-or_false true = refl
-or_false false = refl
 
 -- ---- no unit was timed
 
@@ -35,10 +32,10 @@ untimed_more : (pid : ℕ) (p : List ℕ) (past : List (List ℕ)) → (first_ti
 untimed_more pid p past i e =
     by_test (begins pid p past)
     (λ b.
-    let f : first_after (first_time (pid ∷ []) past) (stamp p) ≡ None = simp (or_false, b) at e in
+    let f : first_after (first_time (pid ∷ []) past) (stamp p) ≡ None = simp (or-false, b) at e in
     let (none, plain) = none_after (first_time (pid ∷ []) past) (stamp p) f in
     simp (b, plain) (i none))
-    (λ b. let f : first_time (pid ∷ []) past ≡ None = simp (or_false, b) at e in simp b (i f))
+    (λ b. let f : first_time (pid ∷ []) past ≡ None = simp (or-false, b) at e in simp b (i f))
 
 untimed : (pid : ℕ) (past : List (List ℕ)) → first_time (pid ∷ []) past ≡ None → unit_time (pid ∷ []) pid past ≡ None
 untimed pid [] e = refl
@@ -71,10 +68,6 @@ stays_one sw f p past e =
 stays_first : (sw : List ℕ) (f : ℤ) (past ps : List (List ℕ)) → first_time sw past ≡ Some f → first_time sw (onto past ps) ≡ Some f
 stays_first sw f past [] e = e
 stays_first sw f past (p ∷ ps) e = stays_first sw f (p ∷ past) ps (stays_one sw f p past e)
-
-pub onto-append : (past ps qs : List (List ℕ)) → onto past (ps ++ qs) ≡ onto (onto past ps) qs
-onto-append past [] qs = refl
-onto-append past (p ∷ ps) qs = onto-append (p ∷ past) ps qs
 
 -- the same cut of a front, by the begin that the front places, or by that of the whole
 pub same_front : (from len pid : ℕ) (ps qs : List (List ℕ)) (first : Option ℤ) → first_time (pid ∷ []) (reverse ps) ≡ first

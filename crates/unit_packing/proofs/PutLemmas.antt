@@ -1,15 +1,12 @@
 -- Packets of a unit put one by one.
-use Rattle.std.proofs.Common.{◌≡◌, ℕ, suc, ◌+◌, ◌-◌, ◌%◌, ◌<◌, ◌≤◌, List, [], ◌∷◌, ◌++◌, None, Result, Ok, Err, refl, sym, ap, ◌∙◌, arith, length, take, drop, min, append_assoc, true, false, Bool, ⊎_elim, slice_index}
-use Rattle.std.proofs.lemmas.List.{length-drop, length-take, drop-drop, take_min, append-nil}
-use Rattle.std.specs.Prelude.{OnOk, IfErr}
-use Rattle.std.proofs.Math.ListN.{drop_of_length-le}
-use Rattle.std.proofs.Math.Nat.{le_refl, min_comm}
-use Rattle.std.proofs.lemmas.Bool.{cases_lt}
+use Rattle.std.proofs.Common.{◌≡◌, ℕ, ◌+◌, ◌-◌, ◌%◌, ◌<◌, ◌≤◌, List, [], ◌∷◌, ◌++◌, None, Ok, refl, sym, ap, ◌∙◌, arith, length, take, drop, min, append_assoc, true, false, Bool, slice_index}
+use Rattle.std.proofs.lemmas.List.{length-drop, length-take, drop-drop, append-nil}
 use Rattle.ts_packet.specs.Filling.{packets_for}
 use Rattle.ts_packet.specs.Numbering.{Step, Inserted, Counts}
 use Rattle.ts_packet.specs.declared.counter.Counter.{Counter}
 use Rattle.ts_packet.specs.Packets.{packet_fault}
 use Rattle.unit_stream.specs.UnitPackets.{put_in}
+use Rattle.ts_packet.proofs.FillingLemmas.{drop-min, take-min, count-more}
 use Rattle.unit_packing.specs.Packing.{room, unit_packet, later_unit_packets, rest_unit_packets, unit_packets}
 use Rattle.unit_packing.specs.Putting.{next_number, UnitPutFails}
 use borrow.Rule.Slice.PartMut.{put_mid}
@@ -26,9 +23,6 @@ pub put_in-more : (qs : List (List ℕ)) (q : List ℕ) (steps : List Step) → 
 put_in-more [] q steps = refl
 put_in-more (p ∷ qs) q steps = put_in-more qs q (Inserted ∷ steps)
 
-count-more : (size : ℕ) → 0 < size → packets_for size ≡ suc (packets_for (size - 184))
-count-more size h = omega arith
-
 pub rest-none : (pid n : ℕ) (bs : List ℕ) → length bs ≡ 0 → rest_unit_packets pid n bs ≡ []
 rest-none pid n bs h = ap (λ k. later_unit_packets (packets_for k) pid n bs) h
 
@@ -41,23 +35,11 @@ rest-more pid n bs h =
 pub no_fault : (pid n : ℕ) (start access : Bool) (part p : List ℕ) → p ≡ unit_packet pid n start access part → pid < 8192 → n < 16 → length part ≤ 184 → 0 < length part → packet_fault p ≡ None
 no_fault pid n start access part p e h k m z = ap packet_fault e ∙ (said pid n start access part h k m z).sound
 
-cut : (room k : ℕ) (s : List ℕ) → k ≡ min (length s) room → take k s ≡ take room s
-cut room k s h = ap (λ n. take n s) (h ∙ min_comm (length s) room) ∙ take_min room s
-
-min_right : (n m : ℕ) → n < m → min m n ≡ n
-min_right n m h = omega arith
-
-min_left : (n m : ℕ) → m ≤ n → min m n ≡ m
-min_left n m h = omega arith
-
-pub drop-min : (n : ℕ) (bs : List ℕ) → drop (min (length bs) n) bs ≡ drop n bs
-drop-min n bs = ⊎_elim (λ h. ap (λ x. drop x bs) (min_right n (length bs) h)) (λ h. ap (λ x. drop x bs) (min_left n (length bs) h) ∙ drop_of_length-le bs (le_refl (length bs)) ∙ sym (drop_of_length-le bs h)) (cases_lt n (length bs))
-
 module _ (pid n0 n at next : ℕ) (bs packet : List ℕ) (put : List (List ℕ)) (steps : List Step) (within : at < length bs)
     (least : next ≡ min (length bs) (at + 184)) (made : packet ≡ unit_packet pid n false false (take (next - at) (drop at bs)))
     (so_far : rest_unit_packets pid n0 bs ≡ put ++ rest_unit_packets pid (next_number (put_in put steps)) (drop at bs)) (numbered : n ≡ next_number (put_in put steps)) where
   part_is : take (next - at) (drop at bs) ≡ take 184 (drop at bs)
-  part_is = cut 184 (next - at) (drop at bs) (rw (length-drop at bs) (omega (arith, least)))
+  part_is = take-min 184 (next - at) (drop at bs) (rw (length-drop at bs) (omega (arith, least)))
 
   pub one_put : rest_unit_packets pid n0 bs ≡ put ++ packet ∷ rest_unit_packets pid ((n + 1) % 16) (drop 184 (drop at bs))
   one_put =
@@ -92,14 +74,6 @@ fails_because counter steps packets put packet left F e f h = record { put = put
 
 -- ---- a unit whole: its first packet, and the rest
 
-pub on_ok_more : {T E : Type 0} {P Q : Type 0} (r : Result T E) → (P → Q) → OnOk r P → OnOk r Q
-on_ok_more (Ok x) f h = f h
-on_ok_more (Err e) f h = h
-
-pub if_err_more : {T E : Type 0} {P Q : E → Type 0} (r : Result T E) → ((e : E) → P e → Q e) → IfErr r P → IfErr r Q
-if_err_more (Ok x) f h = h
-if_err_more (Err e) f h = f e h
-
 pub fails_more : (counter : Counter) (steps : List Step) (first : List ℕ) (rest all : List (List ℕ)) (F G : List (List ℕ) → List ℕ → Type 0) → all ≡ first ∷ rest
     → ((put : List (List ℕ)) (p : List ℕ) → F put p → G (first ∷ put) p) → UnitPutFails counter (Inserted ∷ steps) rest F → UnitPutFails counter steps all G
 fails_more counter steps first rest all F G e f k = record {
@@ -129,7 +103,7 @@ module _ (pid n r size : ℕ) (access : Bool) (bs first : List ℕ) (steps : Lis
   behind_is = take_all (length bs - size) (drop size bs) (rw (length-drop size bs) (omega arith)) ∙ ap (λ x. drop x bs) least_room ∙ drop-min (room access) bs
 
   part_of : take size bs ≡ take (room access) bs
-  part_of = cut (room access) size bs least_room
+  part_of = take-min (room access) size bs least_room
 
   pub whole_put : first ≡ unit_packet pid n true access (take size bs) → unit_packets pid access (next_number steps) bs ≡ first ∷ rest_unit_packets pid (next_number (Inserted ∷ steps)) behind
   whole_put made =
@@ -155,7 +129,7 @@ module _ (pid n size r : ℕ) (access : Bool) (bs raw : List ℕ) (rooms : r ≡
   pub part_head : (head : PesHead) → slice_index bs 7 < 256 → head_of bs ≡ Ok head → head_of (take (188 - (188 - size)) (drop (188 - size) raw)) ≡ Ok head
   part_head head byte h =
       ap head_of (part_behind pid n true access size raw (take size bs) made fit.0 fit.2)
-      ∙ ap head_of (cut (room access) size bs (least ∙ ap (min (length bs)) rooms)) ∙ same_head access bs byte (read_whole bs head h) ∙ h
+      ∙ ap head_of (take-min (room access) size bs (least ∙ ap (min (length bs)) rooms)) ∙ same_head access bs byte (read_whole bs head h) ∙ h
 
   pub moved_part : (delta : ℕ) (ys : List ℕ) → ys ≡ restamped (take (188 - (188 - size)) (drop (188 - size) raw)) delta
       → put_mid (188 - size) (188 - (188 - size)) raw ys ≡ unit_packet pid n true access (restamped (take size bs) delta)

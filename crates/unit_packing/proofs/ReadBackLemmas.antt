@@ -5,7 +5,7 @@ use Rattle.std.proofs.lemmas.List.{append-nil, map-append}
 use Rattle.ts_packet.specs.Fields.{number, unit_start, random_access, bytes}
 use Rattle.ts_packet.specs.Duplicates.{original, nearest, IsNext}
 use Rattle.ts_packet.proofs.FieldLemmas.{number-below}
-use Rattle.ts_packet.proofs.RunLemmas.{onto, nearest_is_last, reverse-cons, gapless_glue, gapless_back}
+use Rattle.ts_packet.proofs.RunLemmas.{onto, nearest_is_last, reverse-cons, gapless_glue, gapless_back, onto-append}
 use Rattle.unit_stream.specs.Times.{unit_time}
 use Rattle.unit_stream.specs.Units.{TimedUnit, units, units_back, payloads}
 use Rattle.unit_stream.specs.UnitPackets.{GoOn, IsPacked}
@@ -16,10 +16,6 @@ use Rattle.unit_packing.specs.Laws.{PackedReadBack}
 
 pub carry_one : (pid n : ℕ) (bs : List ℕ) (qs : List (List ℕ)) → IsPacked pid bs n qs → CarriesUnits qs (bs ∷ [])
 carry_one pid n bs qs p = (qs, [], sym (append-nil qs), carries_one qs bs p.starts p.joined, refl)
-
-onto-append : (past ps qs : List (List ℕ)) → onto past (ps ++ qs) ≡ onto (onto past ps) qs
-onto-append past [] qs = refl
-onto-append past (p ∷ ps) qs = onto-append (p ∷ past) ps qs
 
 -- originals that begin no unit make the last one longer
 grown : (sw : List ℕ) (pid : ℕ) (qs past : List (List ℕ)) (u : TimedUnit) (us : List TimedUnit) → AllOriginal pid past qs → GoOn qs → units_back sw pid past ≡ u ∷ us

@@ -7,6 +7,7 @@ use Rattle.std.proofs.lemmas.List.{drop-drop, drop-append-le}
 use Rattle.ts_packet.proofs.Cases.{by_test}
 use Rattle.ts_packet.specs.Fields.{in_error, unit_start, pid_of, scrambled, number, payload, random_access, pcr}
 use Rattle.ts_packet.specs.Packets.{packet_fault}
+use Rattle.std.proofs.Math.Bool.{and-false}
 use Rattle.unit_packing.specs.Packing.{field, front, unit_packet}
 use Rattle.unit_packing.proofs.PacketLemmas.{length-front, length-field}
 
@@ -69,15 +70,11 @@ module _ (pid n b : ℕ) (start : Bool) (part : List ℕ) (k : n < 16) (s : Seco
   unfolding random_access
   unmarked_filled = rw (error_1, control_1) refl
 
-and_false : (b : Bool) → (b && false) ≡ false
-and_false true = refl
-and_false false = refl
-
 -- the flags: none in a field of length 0
 pub flags_clock : (access : Bool) (l : ℕ) (part : List ℕ) → (nat_le 7 l && (slice_index (field access l ++ part) 0 / 16 % 2 == 1)) ≡ false
 flags_clock access zero part = refl
-flags_clock true (suc j) part = and_false (nat_le 7 (suc j))
-flags_clock false (suc j) part = and_false (nat_le 7 (suc j))
+flags_clock true (suc j) part = and-false (nat_le 7 (suc j))
+flags_clock false (suc j) part = and-false (nat_le 7 (suc j))
 
 flags_marked : (access : Bool) (l : ℕ) (part : List ℕ) → (nat_le 1 l && (slice_index (field access l ++ part) 0 / 64 % 2 == 1)) ≡ (nat_le 1 l && access)
 flags_marked access zero part = refl

@@ -1,12 +1,15 @@
 -- What one packet more does to the greatest time, and what is wrong with it, for any list of switched PIDs.
-use Rattle.std.proofs.Common.{◌≡◌, ℕ, List, ◌∷◌, true, false, ap, ◌∙◌, Some, None, if◌then◌else◌}
+use Rattle.std.proofs.Common.{◌≡◌, ℕ, List, ◌∷◌, true, false, ap, ◌∙◌, Some, None, if◌then◌else◌, Bool, Option, [], refl, ◌||◌}
 use Rattle.pes_time.specs.Stamps.{stamp_of, is_split}
-use Rattle.ts_packet.specs.Fields.{payload_on, unit_start, bytes}
+use Rattle.ts_packet.specs.Fields.{payload_on, unit_start, bytes, on, on_one}
 use Rattle.ts_packet.specs.Duplicates.{original, repeats}
 use Rattle.ts_packet.proofs.Cases.{by_test}
+use Rattle.std.specs.Prelude.{ℤ}
+use Rattle.std.proofs.lemmas.Bool.{or_parts, or_from}
+use Rattle.ts_packet.proofs.FieldLemmas.{off_payload}
 use Rattle.unit_stream.specs.Times.{begins, begins_one, high, raised, stamp, splits}
-use Rattle.unit_stream.specs.Faults.{unit_fault, start_fault, scrambled_one}
-use Rattle.unit_stream.specs.declared.fault.UnitFault.TheVariants.{Scrambled}
+use Rattle.unit_stream.specs.Faults.{unit_fault, start_fault, scrambled_one, jumps}
+use Rattle.unit_stream.specs.declared.fault.UnitFault.TheVariants.{Scrambled, TimeJump}
 
 pub stamp_is : (p bs : List ℕ) → bs ≡ bytes p → stamp_of bs ≡ stamp p
 unfolding stamp
@@ -50,3 +53,21 @@ pub fault_begun : (sw : List ℕ) (p : List ℕ) (past : List (List ℕ)) → sc
 fault_begun sw p past h b =
     ap (λ v. if v then Some Scrambled else (if begins_one sw p past then start_fault (high sw past) (splits p) (stamp p) else None)) h
     ∙ ap (λ v. if v then start_fault (high sw past) (splits p) (stamp p) else None) b
+
+-- ---- of several streams
+
+pub begins_off_all : (pids : List ℕ) (p : List ℕ) (past : List (List ℕ)) → on_one pids p ≡ false → begins_one pids p past ≡ false
+begins_off_all [] p past h = refl
+begins_off_all (pid ∷ pids) p past h =
+    let r = or_parts (on pid p) (on_one pids p) h in
+    or_from (begins pid p past) (begins_one pids p past) (begins_off pid p past (off_payload pid p r.0)) (begins_off_all pids p past r.1)
+
+-- ---- a start without a fault
+
+jump_by : (b : Bool) → (if b then Some TimeJump else None) ≡ None → b ≡ false
+jump_by true h = absurd (cc)
+jump_by false h = refl
+
+pub jump_sound : (high : Option ℤ) (split : Bool) (s : Option ℕ) → start_fault high split s ≡ None → jumps high s ≡ false
+jump_sound high true s h = absurd (cc)
+jump_sound high false s h = jump_by (jumps high s) h

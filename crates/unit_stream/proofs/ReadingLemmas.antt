@@ -17,10 +17,6 @@ pub error_off : (pid : ℕ) (p : List ℕ) → in_error p ≡ true → payload_o
 unfolding payload_on on
 error_off pid p h = rw h refl
 
-pub off : (pid : ℕ) (p : List ℕ) → on pid p ≡ false → payload_on pid p ≡ false
-unfolding payload_on
-off pid p h = rw h refl
-
 pub without_payload : (pid : ℕ) (p : List ℕ) → payload p ≡ None → payload_on pid p ≡ false
 unfolding payload_on
 without_payload pid p h = by_test (on pid p) (λ o. simp (o, h)) (λ o. simp o)

@@ -1,11 +1,12 @@
 -- A packet with the start bit repeats none but the payload packet before it, which has the start bit too.
-use Rattle.std.proofs.Common.{◌≡◌, ℕ, List, [], ◌∷◌, Bool, true, false, not, ◌&&◌, ◌==◌, refl, sym, ap, ◌∙◌, Option, Some, None}
+use Rattle.std.proofs.Common.{◌≡◌, ℕ, List, [], ◌∷◌, true, false, not, ◌&&◌, ◌==◌, refl, sym, ap, ◌∙◌, Option, Some, None}
 use Rattle.std.specs.Prelude.{is_some, option_map}
 use Rattle.std.specs.Borrow.{Bor}
 use Rattle.std.proofs.lemmas.Bool.{and_right}
-use Rattle.ts_packet.specs.Fields.{on, payload_on, payload, unit_start, alike, carries_as, number}
+use Rattle.ts_packet.specs.Fields.{payload_on, payload, unit_start, alike, carries_as, number}
 use Rattle.ts_packet.specs.Duplicates.{original, repeats}
 use Rattle.ts_packet.proofs.Cases.{by_test}
+use Rattle.ts_packet.proofs.FieldLemmas.{payload-some}
 use Rattle.unit_stream.specs.Times.{begins}
 use Rattle.unit_stream.specs.Starts.{since_more, ReadsStarts, IsBegin}
 use Rattle.unit_stream.proofs.ReadingLemmas.{bytes_are}
@@ -42,14 +43,6 @@ starts_passed r pid p past y h = record { same = h.same; follows = simp y (recor
 
 -- ---- what is answered
 
-payload_is : (pid : ℕ) (p : List ℕ) → payload_on pid p ≡ true → is_some (payload p) ≡ true
-unfolding payload_on
-payload_is pid p h = second (on pid p) (is_some (payload p)) h
-  where
-    second : (a b : Bool) → a && b ≡ true → b ≡ true
-    second true b h = h
-    second false b h = absurd (cc)
-
 pub begin_is : (o : Option (Bor (List ℕ))) (pid : ℕ) (p : List ℕ) (past : List (List ℕ)) → payload_on pid p ≡ true → begins pid p past ≡ true → option_map (λ (b : Bor (List ℕ)). b.now) o ≡ payload p → IsBegin o pid p past
-begin_is None pid p past y h is = absurd (let e : false ≡ true = ap is_some is ∙ payload_is pid p y in cc)
+begin_is None pid p past y h is = absurd (let e : false ≡ true = ap is_some is ∙ payload-some pid p y in cc)
 begin_is (Some b) pid p past y h is = (h, bytes_are p b.now (sym is))

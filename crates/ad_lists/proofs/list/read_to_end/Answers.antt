@@ -1,6 +1,8 @@
 use Rattle.std.proofs.Common.{◌≡◌, ◌<◌, ◌++◌, [], length, take, ap, rules, arith}
 use Rattle.std.proofs.KnownBytes.{Consumes-trans, Consumes-kept}
-use Rattle.ad_lists.proofs.ListLemmas.{at_end, ok_on, err_on, stops_all}
+use Rattle.ts_packet.proofs.Cases.{on_ok_more, if_err_more}
+use Rattle.ts_packet.proofs.TransferLemmas.{at_end}
+use Rattle.ad_lists.proofs.ListLemmas.{stops_all}
 use Rattle.ad_lists.proofs.list.read_to_end.Goals as goal
 use Rattle.ad_lists.proofs.list.read_to_end.Goals.{in-Ok+in-Ok-take_in, in-Err-Interrupted}
 
@@ -11,7 +13,7 @@ returns-in-Ok-eq0-clause-lists g c =
     let zero : c.in-Ok-eq0.field-0 ≡ 0 = search rules in
     let none : take c.in-Ok-eq0.field-0 c.read.new.buf ≡ [] = ap (λ n. take n c.read.new.buf) zero in
     let room : 0 < length c.read.new.buf = search rules in
-    ok_on c.finish.result (λ l. (text, at_end _ _ _ text _ used b.0 none (b.1 zero room), l)) (c.finish.ensures.ok text h)
+    on_ok_more c.finish.result (λ l. (text, at_end _ _ _ text _ used b.0 none (b.1 zero room), l)) (c.finish.ensures.ok text h)
 
 pub returns-in-Ok-eq0-clause-stops : goal.returns-in-Ok-eq0-clause-stops
 returns-in-Ok-eq0-clause-stops g c =
@@ -20,7 +22,7 @@ returns-in-Ok-eq0-clause-stops g c =
     let zero : c.in-Ok-eq0.field-0 ≡ 0 = search rules in
     let none : take c.in-Ok-eq0.field-0 c.read.new.buf ≡ [] = ap (λ n. take n c.read.new.buf) zero in
     let room : 0 < length c.read.new.buf = search rules in
-    err_on c.finish.result (λ f s. stops_all f _ text (at_end _ _ _ text _ used b.0 none (b.1 zero room)) s) (c.finish.ensures.stops text h)
+    if_err_more c.finish.result (λ f s. stops_all f _ text (at_end _ _ _ text _ used b.0 none (b.1 zero room)) s) (c.finish.ensures.stops text h)
 
 pub loop-turn-preserved : goal.loop-turn-preserved
 loop-turn-preserved g c =

@@ -1,5 +1,6 @@
 use Rattle.std.proofs.Common.{◌≡◌, ◌<◌, [], length, take, ap, rules}
-use Rattle.automations.proofs.StopLemmas.{at_end, all_no_script, when_ok}
+use Rattle.ts_packet.proofs.TransferLemmas.{at_end}
+use Rattle.automations.proofs.StopLemmas.{all_no_script, when_ok}
 use Rattle.automations.proofs.script.load_into.Goals as goal
 
 pub returns-in-Ok-eq0-clause-stops : goal.returns-in-Ok-eq0-clause-stops

@@ -12,13 +12,13 @@ use Rattle.splice_plans.specs.Reporting.{ReportIs, report_of}
 use Rattle.chain_engine.specs.Chains.{ChainStandsFor}
 use Rattle.chain_engine.specs.Runs.{Exchanged}
 use Rattle.chain_engine.specs.Splices.{switch_sends}
-use Rattle.chain_engine.specs.Nested.{WasFed}
+use Rattle.chain_engine.specs.Nested.{WasFed, Blamed-behind}
 use Rattle.chain_engine.specs.ChainRuns.{RunsAll, ChainLeaves, ChainStops}
 use Rattle.chain_engine.specs.declared.chain.RunFault.TheVariants.{Read, Feed}
 use Rattle.chain_engine.proofs.SpliceLemmas.{finish_fails_so}
 use Rattle.chain_engine.proofs.RunLemmas.{begun, heard, passed}
 use Rattle.chain_engine.proofs.ChainLemmas.{ends, finish_stops, read_stops, pass_stops, sound_more}
-use Rattle.chain_engine.proofs.ProgressLemmas.{ran_out_so, end_progresses, stop_progresses, chain_fails, chain_sound, fed_blamed, out_blamed}
+use Rattle.chain_engine.proofs.ProgressLemmas.{ran_out_so, end_progresses, stop_progresses, chain_fails, chain_sound, fed_blamed}
 use Rattle.chain_engine.proofs.running.run.Goals as goal
 use Rattle.program_follower.specs.Purposes.{writing_cues}
 
@@ -164,7 +164,7 @@ returns-in-Err-pass_on-clause-progress g c = λ d start before h held_first.
     (λ f. ChainLeaves d (held c.args.library.now) f is_out fails exchanged) (λ f bs passed rest. chain_fails d is_out fails f bs passed (held c.args.library.now) exchanged rest)
     (Feed c.in-Err-pass_on.fault) (returns-in-Err-pass_on-clause-err g c d start before h held_first)
     (inl (on-told _ _ _ _ _ _ c.loop-fault.invariant.well (rw c.in-Ok-true.field-0-test at c.in-Ok-true.ensures.counts)))
-    (out_blamed c.in-Err-pass_on.fault _ _ _ _ c.loop-fault.invariant.wrote c.in-Err-pass_on.ensures.blamed)
+    (Blamed-behind c.in-Err-pass_on.fault _ _ _ _ c.loop-fault.invariant.wrote c.in-Err-pass_on.ensures.blamed)
     (λ e. absurd (cc))
 
 pub returns-clause-progress : goal.returns-clause-progress

@@ -1,10 +1,10 @@
 use Rattle.std.proofs.Common.{◌≡◌, ◌<◌, List, [], ◌++◌, OnOk, refl, sym, ap, subst, ◌∙◌, append_assoc}
 use Rattle.std.proofs.lemmas.List.{append-nil}
 use Rattle.ts_packet.specs.Runs.{onto}
-use Rattle.psi_section.proofs.PacketiserLemmas.{if_err_more}
 use Rattle.scte35_codec.specs.declared.cue_out.CueOut.{CueOut}
 use Rattle.outgoing_packets.specs.Numbers.{HasPut}
 use Rattle.outgoing_packets.proofs.NumberLemmas.{fails-behind}
+use Rattle.ts_packet.proofs.Cases.{if_err_more}
 use Rattle.injector.specs.Senders.{when, cues_by, end_cue, cancel_cue, packed}
 use Rattle.injector.proofs.CueLemmas.{three-packed, three-onto, three-cues, one-of_three}
 use Rattle.injector.proofs.cues.put_cues.Goals as goal

@@ -19,11 +19,11 @@ invariant-loop-place g l = record {
   stands : (index : ℕ) (past : List Turn) → RequestsStandFor l.initial.requests index past → RequestsStandFor l.requests index past;
   same_high : high_time_of l.requests.table ≡ high_time_of l.initial.requests.table;
   count : length l.requests.table.entries.items ≡ length l.initial.requests.table.entries.items;
-  sent : (puts : List (List ℕ)) (index : ℕ) (past : List Turn) (line : Option ℤ) → HasPut l.initial.out puts →
-      IsBefore l.is_due l.initial.requests l.later index past line →
-      (done : List Sender) × (left : List Sender) × (standing_senders index past ≡ done ++ left) × (l.place ≡ length done) × Sending l.requests (high past) line done left
-      × HasPut l.out (onto puts (packed l.pid puts (flat_map (cues_of (high past) line) done)))
-      × ((start : Option (List ℕ)) (ps : List (List ℕ)) → g.S.PacketSink.holds l.initial.sink start ps → g.S.PacketSink.holds l.sink start (ps ++ packed l.pid puts (flat_map (cues_of (high past) line) done)));
+  sent : (puts : List (List ℕ)) (index : ℕ) (past : List Turn) (latest : Option ℤ) → HasPut l.initial.out puts →
+      IsBefore l.is_due l.initial.requests l.later index past latest →
+      (done : List Sender) × (left : List Sender) × (standing_senders index past ≡ done ++ left) × (l.place ≡ length done) × Sending l.requests (high past) latest done left
+      × HasPut l.out (onto puts (packed l.pid puts (flat_map (cues_of (high past) latest) done)))
+      × ((start : Option (List ℕ)) (ps : List (List ℕ)) → g.S.PacketSink.holds l.initial.sink start ps → g.S.PacketSink.holds l.sink start (ps ++ packed l.pid puts (flat_map (cues_of (high past) latest) done)));
 }
 
 abbrev pub decreases-loop-place : goal.decreases-loop-place

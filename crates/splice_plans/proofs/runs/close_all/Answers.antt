@@ -19,7 +19,7 @@ loop-turn-init g c = record {
   well = well-refl _;
   keeps = keeps-same c.args.events.now;
   size = ap length (c.standing-turn-end.ensures.entries ∙ ap (λ (t : Table Plan). t.entries.items) c.table.ensures.same);
-  closed = λ of line es of_is s. nothing-closed (held c.args.library.now) c.args.streams.now c.args.stream of c.args.events.now.obeyed.table _ _ _ line es s (ap length (c.standing-turn-end.ensures.entries ∙ ap (λ (t : Table Plan). t.entries.items) c.table.ensures.same));
+  closed = λ of latest es of_is s. nothing-closed (held c.args.library.now) c.args.streams.now c.args.stream of c.args.events.now.obeyed.table _ _ _ latest es s (ap length (c.standing-turn-end.ensures.entries ∙ ap (λ (t : Table Plan). t.entries.items) c.table.ensures.same));
 }
 
 pub returns-in_default-clause-leads : goal.returns-in_default-clause-leads
@@ -32,25 +32,25 @@ pub returns-in_default-clause-keeps : goal.returns-in_default-clause-keeps
 returns-in_default-clause-keeps g c = c.loop-turn.invariant.keeps
 
 pub returns-in_default-clause-ok : goal.returns-in_default-clause-ok
-returns-in_default-clause-ok g c = λ of line es begin ps steps of_is s h k.
+returns-in_default-clause-ok g c = λ of latest es begin ps steps of_is s h k.
     let none = subst (λ (t : Table Plan). list_any (closes_in c.args.stream) (values_of t) ≡ false) c.table-in-loop-turn.ensures.same (c.in_default.ensures.none refl) in
-    let i = c.loop-turn.invariant.closed of line es of_is s in
+    let i = c.loop-turn.invariant.closed of latest es of_is s in
     closed-holds (held c.args.library.now) c.args.streams.now c.args.stream of _ _ _ _ _ _ _ _ es i (none-over (held c.args.library.now) c.args.streams.now c.args.stream of c.loop-turn.events.obeyed.table es none) steps begin ps h k
 
 pub returns-in_default-clause-counted : goal.returns-in_default-clause-counted
-returns-in_default-clause-counted g c = λ of line es steps of_is s k.
+returns-in_default-clause-counted g c = λ of latest es steps of_is s k.
     let none = subst (λ (t : Table Plan). list_any (closes_in c.args.stream) (values_of t) ≡ false) c.table-in-loop-turn.ensures.same (c.in_default.ensures.none refl) in
-    let i = c.loop-turn.invariant.closed of line es of_is s in
+    let i = c.loop-turn.invariant.closed of latest es of_is s in
     closed-counts (held c.args.library.now) c.args.streams.now c.args.stream of _ _ _ _ _ _ _ _ es i (none-over (held c.args.library.now) c.args.streams.now c.args.stream of c.loop-turn.events.obeyed.table es none) steps k
 
 pub returns-in_default-clause-values : goal.returns-in_default-clause-values
-returns-in_default-clause-values g c = λ of line es of_is s.
+returns-in_default-clause-values g c = λ of latest es of_is s.
     let none = subst (λ (t : Table Plan). list_any (closes_in c.args.stream) (values_of t) ≡ false) c.table-in-loop-turn.ensures.same (c.in_default.ensures.none refl) in
-    let i = c.loop-turn.invariant.closed of line es of_is s in
+    let i = c.loop-turn.invariant.closed of latest es of_is s in
     let k = c.loop-turn.invariant.keeps in
-    let stands = same-stands c.args.events.now.obeyed.table c.loop-turn.events.obeyed.table line es k.high k.events s in
+    let stands = same-stands c.args.events.now.obeyed.table c.loop-turn.events.obeyed.table latest es k.high k.events s in
     closed-plans (held c.args.library.now) c.args.streams.now c.args.stream of _ _ _ _ _ _ _ _ es i (none-over (held c.args.library.now) c.args.streams.now c.args.stream of c.loop-turn.events.obeyed.table es none)
-    (as-many-values (held c.args.library.now) c.args.streams.now c.args.stream of c.loop-turn.events.obeyed.table line es stands)
+    (as-many-values (held c.args.library.now) c.args.streams.now c.args.stream of c.loop-turn.events.obeyed.table latest es stands)
 
 pub returns-clause-leads : goal.returns-clause-leads
 returns-clause-leads g c = c.loop-turn.invariant.leads
@@ -62,25 +62,25 @@ pub returns-clause-keeps : goal.returns-clause-keeps
 returns-clause-keeps g c = c.loop-turn.invariant.keeps
 
 pub returns-clause-ok : goal.returns-clause-ok
-returns-clause-ok g c = λ of line es begin ps steps of_is s h k.
-    let i = c.loop-turn.invariant.closed of line es of_is s in
+returns-clause-ok g c = λ of latest es begin ps steps of_is s h k.
+    let i = c.loop-turn.invariant.closed of latest es of_is s in
     closed-holds (held c.args.library.now) c.args.streams.now c.args.stream of _ _ _ _ _ _ _ _ es i
     (all-over (held c.args.library.now) c.args.streams.now c.args.stream of _ _ _ _ _ _ _ _ es i c.loop-turn-test.false) steps begin ps h k
 
 pub returns-clause-counted : goal.returns-clause-counted
-returns-clause-counted g c = λ of line es steps of_is s k.
-    let i = c.loop-turn.invariant.closed of line es of_is s in
+returns-clause-counted g c = λ of latest es steps of_is s k.
+    let i = c.loop-turn.invariant.closed of latest es of_is s in
     closed-counts (held c.args.library.now) c.args.streams.now c.args.stream of _ _ _ _ _ _ _ _ es i
     (all-over (held c.args.library.now) c.args.streams.now c.args.stream of _ _ _ _ _ _ _ _ es i c.loop-turn-test.false) steps k
 
 pub returns-clause-values : goal.returns-clause-values
-returns-clause-values g c = λ of line es of_is s.
-    let i = c.loop-turn.invariant.closed of line es of_is s in
+returns-clause-values g c = λ of latest es of_is s.
+    let i = c.loop-turn.invariant.closed of latest es of_is s in
     let k = c.loop-turn.invariant.keeps in
-    let stands = same-stands c.args.events.now.obeyed.table c.loop-turn.events.obeyed.table line es k.high k.events s in
+    let stands = same-stands c.args.events.now.obeyed.table c.loop-turn.events.obeyed.table latest es k.high k.events s in
     closed-plans (held c.args.library.now) c.args.streams.now c.args.stream of _ _ _ _ _ _ _ _ es i
     (all-over (held c.args.library.now) c.args.streams.now c.args.stream of _ _ _ _ _ _ _ _ es i c.loop-turn-test.false)
-    (as-many-values (held c.args.library.now) c.args.streams.now c.args.stream of c.loop-turn.events.obeyed.table line es stands)
+    (as-many-values (held c.args.library.now) c.args.streams.now c.args.stream of c.loop-turn.events.obeyed.table latest es stands)
 
 pub returns-in-Err-clause-leads : goal.returns-in-Err-clause-leads
 returns-in-Err-clause-leads g c = g.met.S.PacketSink.leads_trans c.args.sink.now c.loop-turn.sink c.put_part.new.sink c.loop-turn.invariant.leads c.in-Err.ensures.leads
@@ -92,14 +92,14 @@ pub returns-in-Err-clause-keeps : goal.returns-in-Err-clause-keeps
 returns-in-Err-clause-keeps g c = keeps-more c.args.events.now c.loop-turn.events c.put_part.new.events c.loop-turn.invariant.keeps c.in-Err.ensures.keeps
 
 pub returns-in-Err-clause-err : goal.returns-in-Err-clause-err
-returns-in-Err-clause-err g c = λ of line es begin ps steps of_is s h k.
+returns-in-Err-clause-err g c = λ of latest es begin ps steps of_is s h k.
     let now = c.loop-turn.events.obeyed.table in
-    let i = c.loop-turn.invariant.closed of line es of_is s in
+    let i = c.loop-turn.invariant.closed of latest es of_is s in
     let kept = c.loop-turn.invariant.keeps in
-    let stands = same-stands c.args.events.now.obeyed.table now line es kept.high kept.events s in
+    let stands = same-stands c.args.events.now.obeyed.table now latest es kept.high kept.events s in
     let below = subst (λ (t : Table Plan). c.in-Some.place < length t.entries.items) c.table-in-loop-turn.ensures.same c.in-Some.ensures.below in
-    let first = subst (λ (t : Table Plan). IsFirstClosing c.args.stream es (values_of t) c.in-Some.place) c.table-in-loop-turn.ensures.same (c.in-Some.ensures.some line es (rw c.table-in-loop-turn.ensures.same stands)) in
-    one-fails (held c.args.library.now) c.args.streams.now c.args.stream of c.args.events.now.obeyed.table now _ _ _ _ _ _ line es stands i c.in-Some.place first
+    let first = subst (λ (t : Table Plan). IsFirstClosing c.args.stream es (values_of t) c.in-Some.place) c.table-in-loop-turn.ensures.same (c.in-Some.ensures.some latest es (rw c.table-in-loop-turn.ensures.same stands)) in
+    one-fails (held c.args.library.now) c.args.streams.now c.args.stream of c.args.events.now.obeyed.table now _ _ _ _ _ _ latest es stands i c.in-Some.place first
     (λ qs put p. g.S.PacketSink.fails c.put_part.new.sink begin (qs ++ put) p c.in-Err.fault) steps begin ps h k
     (λ qs st held_now counts_now. c.in-Err.ensures.err (slice_index_or now.entries.items c.in-Some.place no_entry) of begin qs st (get_or_default now.entries.items c.in-Some.place no_entry _ below) of_is held_now counts_now)
     (λ put p f. subst (λ l. g.S.PacketSink.fails c.put_part.new.sink begin l p c.in-Err.fault) (append_assoc ps _ put) f)
@@ -115,12 +115,12 @@ loop-turn-preserved g c =
       well = well-trans _ _ _ c.loop-turn.invariant.well e.well;
       keeps = keeps-more c.args.events.now c.loop-turn.events c.put_part.new.events kept e.keeps;
       size = c.loop-turn.invariant.size;
-      closed = λ of line es of_is s.
-          let stands = same-stands c.args.events.now.obeyed.table now line es kept.high kept.events s in
+      closed = λ of latest es of_is s.
+          let stands = same-stands c.args.events.now.obeyed.table now latest es kept.high kept.events s in
           let entry = slice_index_or now.entries.items c.in-Some.place no_entry in
           let there = get_or_default now.entries.items c.in-Some.place no_entry entry below in
-          let first = subst (λ (t : Table Plan). IsFirstClosing c.args.stream es (values_of t) c.in-Some.place) c.table-in-loop-turn.ensures.same (c.in-Some.ensures.some line es (rw c.table-in-loop-turn.ensures.same stands)) in
-          one-closed (held c.args.library.now) c.args.streams.now c.args.stream of c.args.events.now.obeyed.table now _ _ _ _ _ _ line es stands
-          (c.loop-turn.invariant.closed of line es of_is s) c.in-Some.place first c.put_part.new.events.obeyed.table _ _
+          let first = subst (λ (t : Table Plan). IsFirstClosing c.args.stream es (values_of t) c.in-Some.place) c.table-in-loop-turn.ensures.same (c.in-Some.ensures.some latest es (rw c.table-in-loop-turn.ensures.same stands)) in
+          one-closed (held c.args.library.now) c.args.streams.now c.args.stream of c.args.events.now.obeyed.table now _ _ _ _ _ _ latest es stands
+          (c.loop-turn.invariant.closed of latest es of_is s) c.in-Some.place first c.put_part.new.events.obeyed.table _ _
           (e.values entry of there of_is) (λ steps k. e.counted entry of steps there of_is k) (λ begin ps steps h k. e.ok entry of begin ps steps there of_is h k);
     }

@@ -17,7 +17,7 @@ invariant-loop-turn g l = record {
   well : WentWell (g.S.PacketSink.counts l.initial.sink) (g.S.PacketSink.counts l.sink);
   keeps : KeepsEvents l.initial.events l.events;
   size : l._turn-end ≡ length l.initial.events.obeyed.table.entries.items;
-  closed : (of : Stream) (line : Option ℤ) (es : List Standing) → of ≡ slice_index_or l.streams l.stream of → StandsFor l.initial.events.obeyed.table line es
+  closed : (of : Stream) (latest : Option ℤ) (es : List Standing) → of ≡ slice_index_or l.streams l.stream of → StandsFor l.initial.events.obeyed.table latest es
       → ClosedSoFar (held l.library) l.streams l.stream of l.initial.events.obeyed.table l.events.obeyed.table (Counts l.initial.counter) (Counts l.counter)
       (g.S.PacketSink.holds l.initial.sink) (g.S.PacketSink.holds l.sink) l._turn l._turn-end es;
 }

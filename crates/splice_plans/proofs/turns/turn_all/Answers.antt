@@ -26,10 +26,10 @@ loop-at-preserved-then-waits_before c =
     record {
       keeps = i.keeps;
       size = i.size;
-      values = λ line es s near.
+      values = λ latest es s near.
           one-stays ads c.args.stream c.args.time c.loop-at.at c.args.events.now c.loop-at.events i.keeps entry entry.value below (get_or_default items c.loop-at.at no_entry entry below)
-          (λ line e is within near. entry-stays c.args.stream c.args.time (is_played ads e) entry c.waits_before.ensures.below waits line e is within near)
-          line es s near refl (i.values line es s near);
+          (λ latest e is within near. entry-stays c.args.stream c.args.time (is_played ads e) entry c.waits_before.ensures.below waits latest e is within near)
+          latest es s near refl (i.values latest es s near);
     }
 
 pub loop-at-preserved : goal.loop-at-preserved
@@ -42,15 +42,15 @@ loop-at-preserved c =
     record {
       keeps = keeps-more c.args.events.now c.loop-at.events c.set_value.new.self i.keeps (record { obeys = e.obeys; events = e.events; high = e.high; assembler = e.assembler });
       size = i.size;
-      values = λ line es s near. e.values
+      values = λ latest es s near. e.values
           ∙ one-turned ads c.args.stream c.args.time c.loop-at.at c.args.events.now c.loop-at.events i.keeps entry c.turned.result
           (subst (λ n. c.loop-at.at < n) (i.size ∙ keeps-size c.args.events.now c.loop-at.events i.keeps) c.loop-at-test.true) (c.index-standing-at.is ∙ ap (λ xs. slice_index_or xs c.loop-at.at entry) items)
-          (λ line e is within near. c.turned.ensures line e is within near ∙ ap (λ b. plan_turned e (place line c.args.time) b c.args.stream entry.value) (c.is_played-plays.ensures e is))
-          line es s near (i.values line es s near);
+          (λ latest e is within near. c.turned.ensures latest e is within near ∙ ap (λ b. plan_turned e (place latest c.args.time) b c.args.stream entry.value) (c.is_played-plays.ensures e is))
+          latest es s near (i.values latest es s near);
     }
 
 pub returns-clause-values : goal.returns-clause-values
-returns-clause-values c = λ line es s near.
+returns-clause-values c = λ latest es s near.
     let i = c.loop-at.invariant in
-    all-turned (adverts_of (held c.args.library.now) c.args.streams.now) c.args.stream c.loop-at.at (place line c.args.time) c.args.events.now c.loop-at.events line es s
-    (subst (λ n. n ≤ c.loop-at.at) i.size c.loop-at-test.false) (i.values line es s near)
+    all-turned (adverts_of (held c.args.library.now) c.args.streams.now) c.args.stream c.loop-at.at (place latest c.args.time) c.args.events.now c.loop-at.events latest es s
+    (subst (λ n. n ≤ c.loop-at.at) i.size c.loop-at-test.false) (i.values latest es s near)

@@ -14,6 +14,6 @@ abbrev pub invariant-loop-at : goal.invariant-loop-at
 invariant-loop-at l = record {
   keeps : KeepsEvents l.initial.events l.events;
   size : l.at-end ≡ length l.initial.events.obeyed.table.entries.items;
-  values : (line : Option ℤ) (es : List Standing) → StandsFor l.initial.events.obeyed.table line es → IsNearHigh line (place line l.time)
-      → values_of l.events.obeyed.table ≡ take l.at (all_turned (adverts_of (held l.library) l.streams) l.stream (place line l.time) es (values_of l.initial.events.obeyed.table)) ++ drop l.at (values_of l.initial.events.obeyed.table);
+  values : (latest : Option ℤ) (es : List Standing) → StandsFor l.initial.events.obeyed.table latest es → IsNearHigh latest (place latest l.time)
+      → values_of l.events.obeyed.table ≡ take l.at (all_turned (adverts_of (held l.library) l.streams) l.stream (place latest l.time) es (values_of l.initial.events.obeyed.table)) ++ drop l.at (values_of l.initial.events.obeyed.table);
 }

@@ -2,9 +2,10 @@ use Rattle.std.proofs.Common.{◌<◌, ◌∷◌, length, rules, sym, subst, ◌
 use Rattle.std.specs.Prelude.{slice_index_or}
 use Rattle.std.proofs.lemmas.List.{get_or-set_same, get_or_default}
 use Rattle.ts_packet.specs.Fields.{payload_on}
+use Rattle.ts_packet.proofs.FieldLemmas.{without-payload}
 use Rattle.splice_playing.specs.Leaving.{HasTaken}
 use Rattle.splice_playing.proofs.PlaceLemmas.{clash}
-use Rattle.splice_playing.proofs.LeavingLemmas.{takes-none, without-payload, with-payload}
+use Rattle.splice_playing.proofs.LeavingLemmas.{takes-none, with-payload}
 use Rattle.splice_playing.proofs.leaving.is_repeat_in.Goals as goal
 
 pub returns-then-not-has_payload-clause-takes : goal.returns-then-not-has_payload-clause-takes

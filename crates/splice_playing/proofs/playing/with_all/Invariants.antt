@@ -10,5 +10,5 @@ use Rattle.splice_playing.proofs.playing.with_all.Given as goal
 
 -- the events up to here are counted
 abbrev pub invariant-loop-at : goal.invariant-loop-at
-invariant-loop-at l = (line : Option ℤ) (es : List Standing) (counts : EventCounts) → StandsFor l.table line es → ReportIs l.initial.counted counts
+invariant-loop-at l = (latest : Option ℤ) (es : List Standing) (counts : EventCounts) → StandsFor l.table latest es → ReportIs l.initial.counted counts
     → ReportIs l.counted (with_counted is_any (adverts_of (held l.library) l.streams) (take l.at (beside es (values_of l.table))) counts)

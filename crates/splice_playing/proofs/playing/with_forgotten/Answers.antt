@@ -6,12 +6,12 @@ use Rattle.splice_playing.proofs.ReportLemmas.{all-pairs}
 use Rattle.splice_playing.proofs.playing.with_forgotten.Goals as goal
 
 pub loop-at-preserved : goal.loop-at-preserved
-loop-at-preserved c = λ line later es counts s can is before.
-    c.with_one_forgotten-counted.ensures line later es counts s can is (c.loop-at.invariant line later es counts s can is before)
+loop-at-preserved c = λ latest later es counts s can is before.
+    c.with_one_forgotten-counted.ensures latest later es counts s can is (c.loop-at.invariant latest later es counts s can is before)
 
 pub returns : goal.returns
-returns c = λ line later es counts s can is before.
+returns c = λ latest later es counts s can is before.
     let t = c.args.table.now in
     subst (λ xs. ReportIs c.loop-at.counted (with_counted (is_out_at later) (adverts_of (held c.args.library.now) c.args.streams.now) xs counts))
-    (all-pairs t line es s c.loop-at.at (subst (λ xs. length xs ≤ c.loop-at.at) c.standing-at-end.ensures.entries c.loop-at-test.false))
-    (c.loop-at.invariant line later es counts s can is before)
+    (all-pairs t latest es s c.loop-at.at (subst (λ xs. length xs ≤ c.loop-at.at) c.standing-at-end.ensures.entries c.loop-at-test.false))
+    (c.loop-at.invariant latest later es counts s can is before)

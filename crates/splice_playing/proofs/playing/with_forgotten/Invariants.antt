@@ -11,6 +11,6 @@ use Rattle.splice_playing.proofs.playing.with_forgotten.Given as goal
 
 -- those of the events up to here that are forgotten are counted
 abbrev pub invariant-loop-at : goal.invariant-loop-at
-invariant-loop-at l = (line : Option ℤ) (later : ℤ) (es : List Standing) (counts : EventCounts) → StandsFor l.table line es → CanAdvance (high_time_of l.table) l.high → IsTimeAt line l.high later
+invariant-loop-at l = (latest : Option ℤ) (later : ℤ) (es : List Standing) (counts : EventCounts) → StandsFor l.table latest es → CanAdvance (high_time_of l.table) l.high → IsTimeAt latest l.high later
     → ReportIs l.initial.counted counts
     → ReportIs l.counted (with_counted (is_out_at later) (adverts_of (held l.library) l.streams) (take l.at (beside es (values_of l.table))) counts)

@@ -11,29 +11,29 @@ use Rattle.splice_playing.proofs.ReportLemmas.{one-more, none-more, one-same, in
 use Rattle.splice_playing.proofs.playing.with_one_forgotten.Goals as goal
 
 pub returns-then-not-is_forgotten_at : goal.returns-then-not-is_forgotten_at
-returns-then-not-is_forgotten_at c = λ line later es counts s can is before.
+returns-then-not-is_forgotten_at c = λ latest later es counts s can is before.
     let t = c.args.table.now in
     let ads = adverts_of (held c.args.library.now) c.args.streams.now in
     let entry = c.index-standing-at.result in
     let below = c.requires in
     let there = c.index-standing-at.is ∙ ap (λ xs. slice_index_or xs c.args.at entry) c.standing.ensures.entries in
     let fits : c.args.high < 2 ^ 33 = search rules in
-    let out = sym (out-is t line es s c.args.high later fits can is c.args.at below entry there) ∙ sym c.is_forgotten_at.ensures ∙ c.if-not-is_forgotten_at.true in
-    none-more (is_out_at later) ads (beside es (values_of t)) counts c.args.at (in-pairs t line es s c.args.at below entry there) _ out
+    let out = sym (out-is t latest es s c.args.high later fits can is c.args.at below entry there) ∙ sym c.is_forgotten_at.ensures ∙ c.if-not-is_forgotten_at.true in
+    none-more (is_out_at later) ads (beside es (values_of t)) counts c.args.at (in-pairs t latest es s c.args.at below entry there) _ out
     before
 
 pub returns : goal.returns
-returns c = λ line later es counts s can is before.
+returns c = λ latest later es counts s can is before.
     let t = c.args.table.now in
     let ads = adverts_of (held c.args.library.now) c.args.streams.now in
     let entry = c.index-standing-at.result in
     let below = c.requires in
     let there = c.index-standing-at.is ∙ ap (λ xs. slice_index_or xs c.args.at entry) c.standing.ensures.entries in
-    let on = event-is t line es s c.args.at below entry there in
+    let on = event-is t latest es s c.args.at below entry there in
     let fits : c.args.high < 2 ^ 33 = search rules in
-    let out = sym (out-is t line es s c.args.high later fits can is c.args.at below entry there) ∙ sym c.is_forgotten_at.ensures ∙ c.if-not-is_forgotten_at.false in
-    one-more (is_out_at later) ads (beside es (values_of t)) counts c.args.at (in-pairs t line es s c.args.at below entry there) _ out
+    let out = sym (out-is t latest es s c.args.high later fits can is c.args.at below entry there) ∙ sym c.is_forgotten_at.ensures ∙ c.if-not-is_forgotten_at.false in
+    one-more (is_out_at later) ads (beside es (values_of t)) counts c.args.at (in-pairs t latest es s c.args.at below entry there) _ out
     (subst (λ n. ReportIs c.with_event.result n)
     (one-same _ _ _ _ _ _ _ (ap (λ (e : Event). e.cancelled) on) (c.fits-fits.ensures ∙ ap (λ (e : Event). fits_held (held c.args.library.now e.program) c.args.streams.now e.asked) on)
-    (ap (λ (plan : Plan). plan.is_crossed) (value-is t line es s c.args.at below entry there)))
+    (ap (λ (plan : Plan). plan.is_crossed) (value-is t latest es s c.args.at below entry there)))
     (c.with_event.ensures _ before))

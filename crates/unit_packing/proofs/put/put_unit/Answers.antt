@@ -1,11 +1,12 @@
 use Rattle.std.proofs.Common.{ℕ, List, ◌-◌, [], ◌∷◌, ◌++◌, ◌∙◌, arith, drop, take, append_assoc, subst, ap, sym, length}
 use Rattle.std.proofs.lemmas.List.{append-nil}
+use Rattle.ts_packet.proofs.Cases.{on_ok_more, if_err_more}
 use Rattle.unit_packing.specs.Packing.{rest_unit_packets}
 use Rattle.unit_packing.specs.Putting.{next_number}
 use Rattle.unit_stream.specs.UnitPackets.{put_in}
 use Rattle.ts_packet.specs.Numbering.{Inserted, Counts}
 use Rattle.ts_packet.proofs.CountLemmas.{well-trans, blamed-after}
-use Rattle.unit_packing.proofs.PutLemmas.{no_fault, same_counts, on_ok_more, if_err_more, fails_more, first_fits, whole_put}
+use Rattle.unit_packing.proofs.PutLemmas.{no_fault, same_counts, fails_more, first_fits, whole_put}
 use Rattle.unit_packing.proofs.put.put_unit.Goals as goal
 
 pub packet_of-first-requires : goal.packet_of-first-requires

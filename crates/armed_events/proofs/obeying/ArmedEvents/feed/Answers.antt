@@ -14,7 +14,7 @@ returns-clause-obeys g c = λ pid high past of same o.
     let taken = c.take_all.ensures.obeyed (high past) (heard pid high past) o.obeyed in
     record {
       waits = c.pass_over.ensures.waits pid (p ∷ past) (given pid p past) g;
-      obeyed = subst (λ line. ObeyedFor c.take_all.new.self line (heard pid high (p ∷ past))) (sym same)
+      obeyed = subst (λ latest. ObeyedFor c.take_all.new.self latest (heard pid high (p ∷ past))) (sym same)
           (subst (λ ss. ObeyedFor c.take_all.new.self (high past) (with_sections (high past) ss (heard pid high past))) all taken);
     }
 
@@ -24,5 +24,5 @@ returns-clause-values g c = λ pid high past value of same o fresh keeps.
     let h = c.feed.ensures pid past of o.waits in
     let all : sections_left c.sections.result ≡ given pid p past = c.sections.ensures ∙ h.todo_left in
     let taken = c.take_all.ensures.values (high past) (heard pid high past) value o.obeyed fresh keeps in
-    subst (λ line. AreBeside c.take_all.new.self value line (heard pid high (p ∷ past))) (sym same)
+    subst (λ latest. AreBeside c.take_all.new.self value latest (heard pid high (p ∷ past))) (sym same)
     (subst (λ ss. AreBeside c.take_all.new.self value (high past) (with_sections (high past) ss (heard pid high past))) all taken)

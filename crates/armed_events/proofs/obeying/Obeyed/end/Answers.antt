@@ -8,7 +8,7 @@ use Rattle.armed_events.proofs.ValueLemmas.{end-values}
 use Rattle.armed_events.proofs.obeying.Obeyed.end.Goals as goal
 
 pub returns-clause-values : goal.returns-clause-values
-returns-clause-values g c = λ line standing value s is.
-    let at = place line c.args.time in
-    subst (λ a. values_of c.shorten.new.self ≡ values_by value (after_change (by_shorten_answer c.args.id at a) standing)) (c.shorten.ensures.answer line standing s)
+returns-clause-values g c = λ latest standing value s is.
+    let at = place latest c.args.time in
+    subst (λ a. values_of c.shorten.new.self ≡ values_by value (after_change (by_shorten_answer c.args.id at a) standing)) (c.shorten.ensures.answer latest standing s)
     (end-values value (values_of c.shorten.new.self) standing c.args.id at c.shorten.result (c.shorten.ensures.values ∙ is))

@@ -9,5 +9,5 @@ pub returns-clause-events : goal.returns-clause-events
 returns-clause-events g c = put-same_events _ _ c.args.place c.entry_at-entry.result _ c.put.ensures.items c.entry_at-entry.ensures refl
 
 pub returns-clause-stands : goal.returns-clause-stands
-returns-clause-stands g c = λ line standing stands.
-    same-stands c.args.self.now _ line standing c.put.ensures.high (put-same_events _ _ c.args.place c.entry_at-entry.result _ c.put.ensures.items c.entry_at-entry.ensures refl) stands
+returns-clause-stands g c = λ latest standing stands.
+    same-stands c.args.self.now _ latest standing c.put.ensures.high (put-same_events _ _ c.args.place c.entry_at-entry.result _ c.put.ensures.items c.entry_at-entry.ensures refl) stands

@@ -14,8 +14,8 @@ use Rattle.injector.proofs.injector.Injector.is_due.Goals as goal
 pub returns-else-self-clause-stays : goal.returns-else-self-clause-stays
 returns-else-self-clause-stays c = λ is_map cfg p past fed time none.
     let turns = turns_in cfg.program past in
-    let line = high_of (Some cfg.program) (p ∷ packets_in past) in
+    let latest = high_of (Some cfg.program) (p ∷ packets_in past) in
     let quiet = c.if-self.false in
-    let rises : Rises (high turns) line = subst (λ h. Rises h line) (sym (turns-high cfg.program past)) (rises-at cfg p (packets_in past) fed.body.sound) in
-    let below : ring_reached c.args.self.now.rest (option_map ring_of line) ≡ false = ap (ring_reached c.args.self.now.rest) (sym time) ∙ sym c.is_reached.ensures ∙ none in
-    stays-at-rest c.args.self.now.rest cfg.index turns line rises fed.notes.kept (idle-between cfg past (high turns) (sym fed.news ∙ quiet) refl) (fed.rest quiet) below
+    let rises : Rises (high turns) latest = subst (λ h. Rises h latest) (sym (turns-high cfg.program past)) (rises-at cfg p (packets_in past) fed.body.sound) in
+    let below : ring_reached c.args.self.now.rest (option_map ring_of latest) ≡ false = ap (ring_reached c.args.self.now.rest) (sym time) ∙ sym c.is_reached.ensures ∙ none in
+    stays-at-rest c.args.self.now.rest cfg.index turns latest rises fed.notes.kept (idle-between cfg past (high turns) (sym fed.news ∙ quiet) refl) (fed.rest quiet) below

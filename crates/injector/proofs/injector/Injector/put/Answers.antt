@@ -23,10 +23,10 @@ pub returns-in-Err-clause-err : goal.returns-in-Err-clause-err
 returns-in-Err-clause-err g c = λ start ps cfg past held b.
     let p = c.args.packet.now in
     let turns = turns_in cfg.program past in
-    let line = high_of (Some cfg.program) (p ∷ packets_in past) in
-    let is : c.high-later.result ≡ option_map ring_of line = c.high-later.ensures (writing_cues cfg) (p ∷ packets_in past) b.body.follower in
-    let rises : Rises (high turns) line = subst (λ h. Rises h line) (sym (turns-high cfg.program past)) (rises-at cfg p (packets_in past) b.body.sound) in
-    let before : IsBefore c.is_due-is_due.result c.args.self.now.requests c.high-later.result cfg.index turns line
+    let latest = high_of (Some cfg.program) (p ∷ packets_in past) in
+    let is : c.high-later.result ≡ option_map ring_of latest = c.high-later.ensures (writing_cues cfg) (p ∷ packets_in past) b.body.follower in
+    let rises : Rises (high turns) latest = subst (λ h. Rises h latest) (sym (turns-high cfg.program past)) (rises-at cfg p (packets_in past) b.body.sound) in
+    let before : IsBefore c.is_due-is_due.result c.args.self.now.requests c.high-later.result cfg.index turns latest
     = record { stands = b.judges.requests; notes = b.notes; rises = rises; time = is; idle = λ none. (c.is_due-is_due.ensures.stays c.args.is_map cfg p past b is none).idle } in
     let out = cued cfg past in
     let cues = packets_out c.args.self.now.cue_pid out (Rattle.injector.specs.Steps.sections_before cfg p past) in
@@ -36,16 +36,16 @@ returns-in-Err-clause-err g c = λ start ps cfg past held b.
     fails-behind (sent_at cfg p past) [] cues more
     (λ put q. g.S.PacketSink.fails c.put_due.new.sink start (ps ++ put) q c.in-Err.fault) (λ put q. g.S.PacketSink.fails c.put_due.new.sink start (ps ++ put) q c.in-Err.fault)
     sent (λ put q f. f)
-    (c.in-Err.ensures.err start ps out cfg.index turns line held b.out before)
+    (c.in-Err.ensures.err start ps out cfg.index turns latest held b.out before)
 
 pub returns-in-Err-put_body-clause-err : goal.returns-in-Err-put_body-clause-err
 returns-in-Err-put_body-clause-err g c = λ start ps cfg past held b.
     let p = c.args.packet.now in
     let turns = turns_in cfg.program past in
-    let line = high_of (Some cfg.program) (p ∷ packets_in past) in
-    let is : c.high-later.result ≡ option_map ring_of line = c.high-later.ensures (writing_cues cfg) (p ∷ packets_in past) b.body.follower in
-    let rises : Rises (high turns) line = subst (λ h. Rises h line) (sym (turns-high cfg.program past)) (rises-at cfg p (packets_in past) b.body.sound) in
-    let before : IsBefore c.is_due-is_due.result c.args.self.now.requests c.high-later.result cfg.index turns line
+    let latest = high_of (Some cfg.program) (p ∷ packets_in past) in
+    let is : c.high-later.result ≡ option_map ring_of latest = c.high-later.ensures (writing_cues cfg) (p ∷ packets_in past) b.body.follower in
+    let rises : Rises (high turns) latest = subst (λ h. Rises h latest) (sym (turns-high cfg.program past)) (rises-at cfg p (packets_in past) b.body.sound) in
+    let before : IsBefore c.is_due-is_due.result c.args.self.now.requests c.high-later.result cfg.index turns latest
     = record { stands = b.judges.requests; notes = b.notes; rises = rises; time = is; idle = λ none. (c.is_due-is_due.ensures.stays c.args.is_map cfg p past b is none).idle } in
     let out = cued cfg past in
     let cues = packets_out c.args.self.now.cue_pid out (Rattle.injector.specs.Steps.sections_before cfg p past) in
@@ -56,17 +56,17 @@ returns-in-Err-put_body-clause-err g c = λ start ps cfg past held b.
     (λ put q. g.S.PacketSink.fails c.put_body.new.sink start ((ps ++ cues) ++ put) q c.in-Err-put_body.fault) (λ put q. g.S.PacketSink.fails c.put_body.new.sink start (ps ++ put) q c.in-Err-put_body.fault)
     (sent ∙ ap (λ l. cues ++ l) (sym (append-nil more))) (λ put q f. subst (λ l. g.S.PacketSink.fails c.put_body.new.sink start l q c.in-Err-put_body.fault) (append_assoc ps cues put) f)
     (c.in-Err-put_body.ensures.err start (ps ++ cues) (onto out cues) cfg (packets_in past)
-    (c.in-Ok.ensures.ok start ps out cfg.index turns line held b.out before)
-    (c.in-Ok.ensures.numbers out cfg.index turns line b.out before) (record { cue_pid = b.body.cue_pid; follower = b.body.follower; sound = b.body.sound; map = b.body.map }))
+    (c.in-Ok.ensures.ok start ps out cfg.index turns latest held b.out before)
+    (c.in-Ok.ensures.numbers out cfg.index turns latest b.out before) (record { cue_pid = b.body.cue_pid; follower = b.body.follower; sound = b.body.sound; map = b.body.map }))
 
 pub returns-clause-ok : goal.returns-clause-ok
 returns-clause-ok g c = λ start ps cfg past held b.
     let p = c.args.packet.now in
     let turns = turns_in cfg.program past in
-    let line = high_of (Some cfg.program) (p ∷ packets_in past) in
-    let is : c.high-later.result ≡ option_map ring_of line = c.high-later.ensures (writing_cues cfg) (p ∷ packets_in past) b.body.follower in
-    let rises : Rises (high turns) line = subst (λ h. Rises h line) (sym (turns-high cfg.program past)) (rises-at cfg p (packets_in past) b.body.sound) in
-    let before : IsBefore c.is_due-is_due.result c.args.self.now.requests c.high-later.result cfg.index turns line
+    let latest = high_of (Some cfg.program) (p ∷ packets_in past) in
+    let is : c.high-later.result ≡ option_map ring_of latest = c.high-later.ensures (writing_cues cfg) (p ∷ packets_in past) b.body.follower in
+    let rises : Rises (high turns) latest = subst (λ h. Rises h latest) (sym (turns-high cfg.program past)) (rises-at cfg p (packets_in past) b.body.sound) in
+    let before : IsBefore c.is_due-is_due.result c.args.self.now.requests c.high-later.result cfg.index turns latest
     = record { stands = b.judges.requests; notes = b.notes; rises = rises; time = is; idle = λ none. (c.is_due-is_due.ensures.stays c.args.is_map cfg p past b is none).idle } in
     let out = cued cfg past in
     let cues = packets_out c.args.self.now.cue_pid out (Rattle.injector.specs.Steps.sections_before cfg p past) in
@@ -75,17 +75,17 @@ returns-clause-ok g c = λ start ps cfg past held b.
     let sent : sent_at cfg p past ≡ cues ++ more = ap (λ l. l ++ body_at cfg p (packets_in past) (onto out l)) (sym same) in
     subst (g.S.PacketSink.holds c.put_body.new.sink start) (append_assoc ps cues more ∙ ap (λ l. ps ++ l) (sym sent))
     (c.in-Ok-put_body.ensures.ok start (ps ++ cues) (onto out cues) cfg (packets_in past)
-    (c.in-Ok.ensures.ok start ps out cfg.index turns line held b.out before)
-    (c.in-Ok.ensures.numbers out cfg.index turns line b.out before) (record { cue_pid = b.body.cue_pid; follower = b.body.follower; sound = b.body.sound; map = b.body.map }))
+    (c.in-Ok.ensures.ok start ps out cfg.index turns latest held b.out before)
+    (c.in-Ok.ensures.numbers out cfg.index turns latest b.out before) (record { cue_pid = b.body.cue_pid; follower = b.body.follower; sound = b.body.sound; map = b.body.map }))
 
 pub returns-clause-stands : goal.returns-clause-stands
 returns-clause-stands g c = λ cfg past b.
     let p = c.args.packet.now in
     let turns = turns_in cfg.program past in
-    let line = high_of (Some cfg.program) (p ∷ packets_in past) in
-    let is : c.high-later.result ≡ option_map ring_of line = c.high-later.ensures (writing_cues cfg) (p ∷ packets_in past) b.body.follower in
-    let rises : Rises (high turns) line = subst (λ h. Rises h line) (sym (turns-high cfg.program past)) (rises-at cfg p (packets_in past) b.body.sound) in
-    let before : IsBefore c.is_due-is_due.result c.args.self.now.requests c.high-later.result cfg.index turns line
+    let latest = high_of (Some cfg.program) (p ∷ packets_in past) in
+    let is : c.high-later.result ≡ option_map ring_of latest = c.high-later.ensures (writing_cues cfg) (p ∷ packets_in past) b.body.follower in
+    let rises : Rises (high turns) latest = subst (λ h. Rises h latest) (sym (turns-high cfg.program past)) (rises-at cfg p (packets_in past) b.body.sound) in
+    let before : IsBefore c.is_due-is_due.result c.args.self.now.requests c.high-later.result cfg.index turns latest
     = record { stands = b.judges.requests; notes = b.notes; rises = rises; time = is; idle = λ none. (c.is_due-is_due.ensures.stays c.args.is_map cfg p past b is none).idle } in
     let out = cued cfg past in
     let cues = packets_out c.args.self.now.cue_pid out (Rattle.injector.specs.Steps.sections_before cfg p past) in
@@ -94,29 +94,29 @@ returns-clause-stands g c = λ cfg past b.
     let sent : sent_at cfg p past ≡ cues ++ more = ap (λ l. l ++ body_at cfg p (packets_in past) (onto out l)) (sym same) in
     let k = c.put_body.ensures.rest in
     let due = c.put_due.ensures.stands cfg.index turns b.judges.requests in
-    let told = c.in-Ok.ensures.told out cfg.index turns line b.out before in
+    let told = c.in-Ok.ensures.told out cfg.index turns latest b.out before in
     let requests : RequestsStandFor c.put_body.new.self.requests cfg.index turns = subst (λ r. RequestsStandFor r cfg.index turns) (sym k.requests) due in
     let n = subst (λ n. Rattle.injector.specs.Injecting.CountsAre n cfg.index turns) (sym k.counts) b.judges.counted in
-    let noted = subst (λ r. Rattle.injector.specs.Noting.NotesTold r cfg.index turns line) (sym k.requests) told in
+    let noted = subst (λ r. Rattle.injector.specs.Noting.NotesTold r cfg.index turns latest) (sym k.requests) told in
     let m = c.note_rest.ensures.kept in
-    let risen = c.rise.ensures.stands cfg.index turns line requests rises is in
-    let notes = c.rise.ensures.notes cfg.index turns line requests noted rises is in
+    let risen = c.rise.ensures.stands cfg.index turns latest requests rises is in
+    let notes = c.rise.ensures.notes cfg.index turns latest requests noted rises is in
     record {
       judges = record {
-        requests = subst (λ r. RequestsStandFor r cfg.index (Passed line ∷ turns)) (sym m.requests) risen;
-        counted = subst (λ x. Rattle.injector.specs.Injecting.CountsAre x cfg.index (Passed line ∷ turns)) (sym m.counts)
+        requests = subst (λ r. RequestsStandFor r cfg.index (Passed latest ∷ turns)) (sym m.requests) risen;
+        counted = subst (λ x. Rattle.injector.specs.Injecting.CountsAre x cfg.index (Passed latest ∷ turns)) (sym m.counts)
             (record { messages = n.messages; accepted = n.accepted; refused = n.refused });
       };
       cue_pid = m.cue_pid ∙ k.cue_pid ∙ b.body.cue_pid;
-      notes = subst (λ r. NotesStandFor r cfg.index (Passed line ∷ turns)) (sym m.requests) notes;
+      notes = subst (λ r. NotesStandFor r cfg.index (Passed latest ∷ turns)) (sym m.requests) notes;
       news = c.note_rest.ensures.news (λ none. k.has_news ∙ c.is_due-is_due.ensures.news none);
-      rest = λ quiet. c.note_rest.ensures.rest cfg.index (Passed line ∷ turns) risen notes
-          (idle-between cfg (PacketStep p ∷ past) line refl refl)
-          (λ none. subst (λ r. Rests r line (standing_senders cfg.index (Passed line ∷ turns))) (sym k.rest) (c.is_due-is_due.ensures.stays c.args.is_map cfg p past b is none).rests);
+      rest = λ quiet. c.note_rest.ensures.rest cfg.index (Passed latest ∷ turns) risen notes
+          (idle-between cfg (PacketStep p ∷ past) latest refl refl)
+          (λ none. subst (λ r. Rests r latest (standing_senders cfg.index (Passed latest ∷ turns))) (sym k.rest) (c.is_due-is_due.ensures.stays c.args.is_map cfg p past b is none).rests);
       follower = subst (λ f. Rattle.program_follower.specs.Following.StartsStandFor f (writing_cues cfg) (p ∷ packets_in past)) (sym k.follower ∙ sym m.follower) b.body.follower;
       out = subst (λ o. HasPut o (cued cfg (PacketStep p ∷ past))) (sym m.out)
           (subst (HasPut c.put_body.new.self.out) (sym (onto-append out cues more) ∙ ap (onto out) (sym sent))
-          (c.in-Ok-put_body.ensures.numbers (onto out cues) cfg (packets_in past) (c.in-Ok.ensures.numbers out cfg.index turns line b.out before)
+          (c.in-Ok-put_body.ensures.numbers (onto out cues) cfg (packets_in past) (c.in-Ok.ensures.numbers out cfg.index turns latest b.out before)
           (record { cue_pid = b.body.cue_pid; follower = b.body.follower; sound = b.body.sound; map = b.body.map })));
       whole = m.is_spent ∙ k.is_spent ∙ b.whole;
     }

@@ -2,13 +2,13 @@ use Rattle.std.proofs.Common.{◌≡◌, [], ◌++◌, OnOk, IfErr, sym, subst, 
 use Rattle.std.specs.Prelude.{map, Some}
 use Rattle.std.proofs.lemmas.List.{append-nil}
 use Rattle.ts_packet.specs.Runs.{onto}
-use Rattle.psi_section.proofs.PacketiserLemmas.{if_err_more}
 use Rattle.program_laws.specs.Writing.{packets_out, section_out}
 use Rattle.program_follower.specs.Program.{tables}
 use Rattle.program_follower.specs.Standing.{tables_left}
 use Rattle.outgoing_packets.specs.declared.entry.CueEntry.TheVariants.{Added}
 use Rattle.outgoing_packets.specs.Entries.{change_of, AllGoOut}
 use Rattle.outgoing_packets.specs.Numbers.{HasPut, FrontFails}
+use Rattle.ts_packet.proofs.Cases.{if_err_more}
 use Rattle.injector.specs.Steps.{body_at}
 use Rattle.injector.proofs.FeedLemmas.{tables-go, body-off, body-map}
 use Rattle.injector.proofs.injector.Injector.put_body.Goals as goal

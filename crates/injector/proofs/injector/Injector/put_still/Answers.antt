@@ -5,11 +5,11 @@ use Rattle.ts_packet.specs.Runs.{onto}
 use Rattle.event_table.specs.Standing.{stands}
 use Rattle.event_table.specs.Tables.{StandsFor}
 use Rattle.unit_stream.specs.Clocks.{Rises}
-use Rattle.psi_section.proofs.PacketiserLemmas.{on_ok_more}
 use Rattle.program_laws.specs.Writing.{packets_out}
 use Rattle.outgoing_packets.specs.Numbers.{HasPut, FrontFails}
 use Rattle.program_follower.specs.Purposes.{writing_cues}
 use Rattle.program_follower.specs.Following.{StartsStandFor, high_of}
+use Rattle.ts_packet.proofs.Cases.{on_ok_more}
 use Rattle.injector.specs.declared.injector.Injector.{Injector}
 use Rattle.psi_tables.specs.declared.config.Config.{Config}
 use Rattle.injector.specs.Turns.{Passed, high, events}
@@ -46,30 +46,30 @@ returns-clause-stands g c = λ cfg past s.
     let p = c.args.packet.now in
     let f = s.followed in
     let turns = turns_in cfg.program past in
-    let line = high_of (Some cfg.program) (p ∷ packets_in past) in
-    let same : high turns ≡ line = turns-high cfg.program past ∙ sym s.high in
-    let rises : Rises (high turns) line = subst (λ h. Rises h line) (sym (turns-high cfg.program past)) (rises-at cfg p (packets_in past) f.body.sound) in
+    let latest = high_of (Some cfg.program) (p ∷ packets_in past) in
+    let same : high turns ≡ latest = turns-high cfg.program past ∙ sym s.high in
+    let rises : Rises (high turns) latest = subst (λ h. Rises h latest) (sym (turns-high cfg.program past)) (rises-at cfg p (packets_in past) f.body.sound) in
     let news = sym f.news ∙ s.quiet in
-    let before : IsBefore false old.requests (option_map ring_of line) cfg.index turns line
-    = record { stands = f.judges.requests; notes = f.notes; rises = rises; time = refl; idle = λ none. idle-between cfg past line news same } in
+    let before : IsBefore false old.requests (option_map ring_of latest) cfg.index turns latest
+    = record { stands = f.judges.requests; notes = f.notes; rises = rises; time = refl; idle = λ none. idle-between cfg past latest news same } in
     let k = c.put_body.ensures.rest in
     let n = f.judges.counted in
-    let requests : RequestsStandFor old.requests cfg.index (Passed line ∷ turns)
+    let requests : RequestsStandFor old.requests cfg.index (Passed latest ∷ turns)
     = record { index_is = f.judges.requests.index_is; table = subst (λ l. StandsFor old.requests.table l (filter (stands l) (events cfg.index turns))) same f.judges.requests.table } in
-    let notes : NotesStandFor old.requests cfg.index (Passed line ∷ turns)
-    = restate-notes old.requests line _ _ (sym (standing-stays cfg.index turns line same)) (idle-told old.requests (option_map ring_of line) cfg.index turns line before) in
-    let stay = stays-still old.rest cfg.index turns line rises f.notes.kept (idle-between cfg past (high turns) news refl) (f.rest s.quiet) same in
+    let notes : NotesStandFor old.requests cfg.index (Passed latest ∷ turns)
+    = restate-notes old.requests latest _ _ (sym (standing-stays cfg.index turns latest same)) (idle-told old.requests (option_map ring_of latest) cfg.index turns latest before) in
+    let stay = stays-still old.rest cfg.index turns latest rises f.notes.kept (idle-between cfg past (high turns) news refl) (f.rest s.quiet) same in
     on_ok_more c.put_body.result
     (λ put. record {
       judges = record {
-        requests = subst (λ r. RequestsStandFor r cfg.index (Passed line ∷ turns)) (sym k.requests) requests;
-        counted = subst (λ x. CountsAre x cfg.index (Passed line ∷ turns)) (sym k.counts)
+        requests = subst (λ r. RequestsStandFor r cfg.index (Passed latest ∷ turns)) (sym k.requests) requests;
+        counted = subst (λ x. CountsAre x cfg.index (Passed latest ∷ turns)) (sym k.counts)
             (record { messages = n.messages; accepted = n.accepted; refused = n.refused });
       };
       cue_pid = k.cue_pid ∙ f.body.cue_pid;
-      notes = subst (λ r. NotesStandFor r cfg.index (Passed line ∷ turns)) (sym k.requests) notes;
+      notes = subst (λ r. NotesStandFor r cfg.index (Passed latest ∷ turns)) (sym k.requests) notes;
       news = k.has_news ∙ s.quiet;
-      rest = λ quiet. subst (λ r. Rests r line (standing_senders cfg.index (Passed line ∷ turns))) (sym k.rest) stay.rests;
+      rest = λ quiet. subst (λ r. Rests r latest (standing_senders cfg.index (Passed latest ∷ turns))) (sym k.rest) stay.rests;
       follower = subst (λ x. StartsStandFor x (writing_cues cfg) (p ∷ packets_in past)) (sym k.follower) f.body.follower;
       out = subst (HasPut c.put_body.new.self.out) (ap (onto (cued cfg past)) (sym (alone old cfg p past s))) put;
       whole = k.is_spent ∙ f.whole;

@@ -7,10 +7,10 @@ use Rattle.injector.proofs.SendingLemmas.{sending-shown}
 use Rattle.injector.proofs.requests.Requests.next_at.Goals as goal
 
 pub returns : goal.returns
-returns c = λ line done x left sending at.
+returns c = λ latest done x left sending at.
     let e = c.entry-entry.result.event in
     let n = c.entry-entry.result.value in
-    let shown = sending-shown c.args.self.now line line done x left sending c.args.place e n at c.entry-entry.ensures.event c.entry-entry.ensures.value in
+    let shown = sending-shown c.args.self.now latest latest done x left sending c.args.place e n at c.entry-entry.ensures.event c.entry-entry.ensures.value in
     c.next_time.ensures
     ∙ ap (λ k. ring_next k n.last c.high-high.result) shown.event_is
     ∙ ap (λ k. ring_next (on_ring x.event) k.last c.high-high.result) shown.notes_are

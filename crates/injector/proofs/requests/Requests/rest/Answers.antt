@@ -22,24 +22,24 @@ loop-place-smaller c =
 pub loop-place-preserved : goal.loop-place-preserved
 loop-place-preserved c = λ index past stands noted idle.
     let s = c.loop-place.invariant index past stands noted idle in
-    let line = high past in
+    let latest = high past in
     let done = s.0 in
     let below : c.loop-place.place < length c.args.self.now.table.entries.items = subst (λ n. c.loop-place.place < n) c.count.ensures c.loop-place-test.true in
-    let m = next-left c.args.self.now line line done s.1 c.loop-place.place s.4 s.3 below in
+    let m = next-left c.args.self.now latest latest done s.1 c.loop-place.place s.4 s.3 below in
     let x = m.0 in
     let left = m.1 in
     let same : standing_senders index past ≡ done ++ x ∷ left = s.2 ∙ ap (λ l. done ++ l) m.2 in
-    let sending : Sending c.args.self.now line line done (x ∷ left) = subst (Sending c.args.self.now line line done) m.2 s.4 in
-    let quiet : is_none (chosen x line line) ≡ true
-    = seam-all (λ (y : Sender). is_none (chosen y line line) ≡ true) done x left (subst (All (λ (y : Sender). is_none (chosen y line line) ≡ true)) same idle) in
-    let next : c.next_at-next.result ≡ ring_next (on_ring x.event) (option_map ring_of x.last) (option_map ring_of line) = c.next_at-next.ensures line done x left sending s.3 in
-    let rests = rests-push c.loop-place.rest line done x (at_within c.args.self.now line line done x left sending) (at_kept c.args.self.now line line done x left sending) quiet s.5 in (
+    let sending : Sending c.args.self.now latest latest done (x ∷ left) = subst (Sending c.args.self.now latest latest done) m.2 s.4 in
+    let quiet : is_none (chosen x latest latest) ≡ true
+    = seam-all (λ (y : Sender). is_none (chosen y latest latest) ≡ true) done x left (subst (All (λ (y : Sender). is_none (chosen y latest latest) ≡ true)) same idle) in
+    let next : c.next_at-next.result ≡ ring_next (on_ring x.event) (option_map ring_of x.last) (option_map ring_of latest) = c.next_at-next.ensures latest done x left sending s.3 in
+    let rests = rests-push c.loop-place.rest latest done x (at_within c.args.self.now latest latest done x left sending) (at_kept c.args.self.now latest latest done x left sending) quiet s.5 in (
       done ++ x ∷ [],
       left,
       same ∙ sym (append_assoc done (x ∷ []) left),
       (let n : length (done ++ x ∷ []) ≡ length done + 1 = length-append done (x ∷ []) in ap (λ k. k + 1) s.3 ∙ sym n),
-      sending-skip c.args.self.now line line done x left sending quiet,
-      subst (λ q. Rests q line (done ++ x ∷ [])) (sym (c.earlier-rest.ensures ∙ ap (ring_earlier c.loop-place.rest) next)) rests,
+      sending-skip c.args.self.now latest latest done x left sending quiet,
+      subst (λ q. Rests q latest (done ++ x ∷ [])) (sym (c.earlier-rest.ensures ∙ ap (ring_earlier c.loop-place.rest) next)) rests,
     )
 
 pub returns : goal.returns

@@ -7,14 +7,14 @@ use Rattle.injector.proofs.RequestLemmas.{after-cancel}
 use Rattle.injector.proofs.requests.Requests.take.Goals as goal
 
 pub returns-in_default-clause-after : goal.returns-in_default-clause-after
-returns-in_default-clause-after c = λ line standing stands.
-    after-cancel c.args.self.now.table _ line standing c.args.asked.now.request c.cancel.result (search rules) (search rules) (c.cancel.ensures.answer line standing stands)
-    (λ ok. c.cancel.ensures.cancelled ok line standing stands) (search rules) stands
+returns-in_default-clause-after c = λ latest standing stands.
+    after-cancel c.args.self.now.table _ latest standing c.args.asked.now.request c.cancel.result (search rules) (search rules) (c.cancel.ensures.answer latest standing stands)
+    (λ ok. c.cancel.ensures.cancelled ok latest standing stands) (search rules) stands
 
 pub returns-in-3-clause-notes : goal.returns-in-3-clause-notes
-returns-in-3-clause-notes c = λ line xs stands noted.
-    noted-other c.args.self.now c.end.new.self line (λ x. has_id c.args.asked.now.request.splice_event_id x.event) xs c.args.asked.now (verdict_of line (events_in xs) c.args.asked.now.request) (search rules) c.end.ensures.notes noted
+returns-in-3-clause-notes c = λ latest xs stands noted.
+    noted-other c.args.self.now c.end.new.self latest (λ x. has_id c.args.asked.now.request.splice_event_id x.event) xs c.args.asked.now (verdict_of latest (events_in xs) c.args.asked.now.request) (search rules) c.end.ensures.notes noted
 
 pub returns-in_default-clause-notes : goal.returns-in_default-clause-notes
-returns-in_default-clause-notes c = λ line xs stands noted.
-    noted-other c.args.self.now c.cancel.new.self line (λ x. has_id c.args.asked.now.request.splice_event_id x.event) xs c.args.asked.now (verdict_of line (events_in xs) c.args.asked.now.request) (search rules) c.cancel.ensures.notes noted
+returns-in_default-clause-notes c = λ latest xs stands noted.
+    noted-other c.args.self.now c.cancel.new.self latest (λ x. has_id c.args.asked.now.request.splice_event_id x.event) xs c.args.asked.now (verdict_of latest (events_in xs) c.args.asked.now.request) (search rules) c.cancel.ensures.notes noted

@@ -1,6 +1,7 @@
 use Rattle.std.proofs.Common.{subst, ℕ, ◌+◌, ◌%◌, List, [], ◌∷◌, ◌++◌, sym, ap, ◌∙◌, arith, drop, append_assoc}
 use Rattle.std.proofs.lemmas.List.{append-nil}
-use Rattle.psi_section.proofs.PacketiserLemmas.{whole_put, whole_behind, puts_more, fails_more, on_ok_more, if_err_more}
+use Rattle.ts_packet.proofs.Cases.{on_ok_more, if_err_more}
+use Rattle.psi_section.proofs.PacketiserLemmas.{whole_put, whole_behind, puts_more, fails_more}
 use Rattle.ts_packet.proofs.CountLemmas.{well-trans, blamed-after}
 use Rattle.psi_section.specs.Packetising.{rest_packets}
 use Rattle.psi_section.proofs.packetiser.Packetiser.put.Goals as goal

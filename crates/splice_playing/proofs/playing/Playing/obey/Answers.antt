@@ -2,9 +2,10 @@ use Rattle.std.proofs.Common.{◌∷◌, sym, subst, ◌∙◌}
 use Rattle.splice_plans.specs.Reporting.{ReportIs}
 use Rattle.splice_plans.specs.Switching.{high_at}
 use Rattle.splice_plans.specs.Known.{plans_at, behind_at}
-use Rattle.known_laws.proofs.OtherLemmas.{others_change_nothing}
+use Rattle.known_laws.proofs.OtherLemmas.{unswitched_change_nothing}
+use Rattle.psi_section.proofs.AssemblerLemmas.{on-of}
 use Rattle.splice_playing.proofs.LeavingLemmas.{taken-other}
-use Rattle.splice_playing.proofs.PacketLemmas.{new-is, of-pid}
+use Rattle.splice_playing.proofs.PacketLemmas.{new-is}
 use Rattle.splice_playing.proofs.UntilLemmas.{rest-there}
 use Rattle.splice_playing.proofs.playing.Playing.obey.Goals as goal
 
@@ -14,11 +15,11 @@ invariant_of-self-clause-rested c = rest-there c.feed.new.self.obeyed.table c.ta
 pub returns : goal.returns
 returns c = λ k past i f.
     let p = c.args.packet.now in
-    let n = others_change_nothing k p past i.other i.steady i.separate.few in
+    let n = unswitched_change_nothing k p past i.other i.steady i.separate.few in
     let new = new-is c.new.result c.new.ensures.parts c.new.ensures.crossed in
     record {
-      events = c.feed.ensures.obeys k.cue_pid (high_at k) past (of-pid k.cue_pid p i.cue) n.high f.events;
-      plans = c.feed.ensures.values k.cue_pid (high_at k) past (plans_at k (p ∷ past) (behind_at k (p ∷ past))) (of-pid k.cue_pid p i.cue) n.high f.events
+      events = c.feed.ensures.obeys k.cue_pid (high_at k) past (on-of k.cue_pid p i.cue) n.high f.events;
+      plans = c.feed.ensures.values k.cue_pid (high_at k) past (plans_at k (p ∷ past) (behind_at k (p ∷ past))) (on-of k.cue_pid p i.cue) n.high f.events
           (λ start ahead. n.fresh start ahead ∙ sym new) (f.plans ∙ n.plans);
       streams = n.streams c.args.self.now.streams f.streams;
       leaving = taken-other k c.args.self.now.leaving c.args.self.now.streams p past i.other f.leaving;

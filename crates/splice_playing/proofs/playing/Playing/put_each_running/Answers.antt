@@ -23,39 +23,39 @@ loop-stream-init g c = record {
   units = refl;
   forgotten = refl;
   leaving = λ i s. refl;
-  plans = λ line high_line es st is. refl;
-  run = λ line high_line es steps small st is counts. none-run (held c.args.library.now) c.args.streams.now high_line es steps (values_of c.args.self.now.events.obeyed.table) _ c.args.self.now.streams counts;
+  plans = λ latest latest_behind es st is. refl;
+  run = λ latest latest_behind es steps small st is counts. none-run (held c.args.library.now) c.args.streams.now latest_behind es steps (values_of c.args.self.now.events.obeyed.table) _ c.args.self.now.streams counts;
 }
 
 pub returns-clause-ok : goal.returns-clause-ok
-returns-clause-ok g c = λ line high_line es begin ps steps small st is h counts.
-    run-holds (held c.args.library.now) c.args.streams.now high_line es steps _ _ _ _ _ _ (c.loop-stream.invariant.run line high_line es steps small st is counts) c.loop-stream-test.false begin ps h
+returns-clause-ok g c = λ latest latest_behind es begin ps steps small st is h counts.
+    run-holds (held c.args.library.now) c.args.streams.now latest_behind es steps _ _ _ _ _ _ (c.loop-stream.invariant.run latest latest_behind es steps small st is counts) c.loop-stream-test.false begin ps h
 
 pub returns-clause-counted : goal.returns-clause-counted
-returns-clause-counted g c = λ line high_line es steps small st is counts.
-    run-counts (held c.args.library.now) c.args.streams.now high_line es steps _ _ _ _ _ _ (c.loop-stream.invariant.run line high_line es steps small st is counts) c.loop-stream-test.false
+returns-clause-counted g c = λ latest latest_behind es steps small st is counts.
+    run-counts (held c.args.library.now) c.args.streams.now latest_behind es steps _ _ _ _ _ _ (c.loop-stream.invariant.run latest latest_behind es steps small st is counts) c.loop-stream-test.false
 
 pub returns-clause-plans : goal.returns-clause-plans
-returns-clause-plans g c = λ line high_line es st is.
-    sym (ap (λ rest. all_ran (held c.args.library.now) c.args.streams.now high_line es (values_of c.loop-stream.self.events.obeyed.table) c.loop-stream.stream rest) (drop-past c.args.streams.now c.loop-stream.stream c.loop-stream-test.false))
-    ∙ c.loop-stream.invariant.plans line high_line es st is
+returns-clause-plans g c = λ latest latest_behind es st is.
+    sym (ap (λ rest. all_ran (held c.args.library.now) c.args.streams.now latest_behind es (values_of c.loop-stream.self.events.obeyed.table) c.loop-stream.stream rest) (drop-past c.args.streams.now c.loop-stream.stream c.loop-stream-test.false))
+    ∙ c.loop-stream.invariant.plans latest latest_behind es st is
 
 pub returns-in-Err-clause-err : goal.returns-in-Err-clause-err
-returns-in-Err-clause-err g c = λ line high_line es begin ps steps small st is h counts.
+returns-in-Err-clause-err g c = λ latest latest_behind es begin ps steps small st is h counts.
     let at = c.loop-stream.stream in
     let test = c.loop-stream-test.true in
     let low : at < 8 = omega (arith, test, small) in
     let kept = c.loop-stream.invariant.keeps in
-    let stands = same-stands c.args.self.now.events.obeyed.table c.loop-stream.self.events.obeyed.table line es kept.high kept.events st in
-    let i = c.loop-stream.invariant.run line high_line es steps small st is counts in
+    let stands = same-stands c.args.self.now.events.obeyed.table c.loop-stream.self.events.obeyed.table latest es kept.high kept.events st in
+    let i = c.loop-stream.invariant.run latest latest_behind es steps small st is counts in
     let of = some-there c.args.streams.now at test in
     let below : at % 8 < length c.loop-stream.self.streams = search rules in
     let r = c.index-self-stream.result in
     let k = subst (λ (t : SwitchedStream). Counts t.counter (put_in (i.fronts at) (steps at))) (slot-old c.loop-stream.self.streams at r below r r low) (i.counted at r low) in
     let k0 = subst (λ qs. Counts (slice_index_or c.loop-stream.self.streams (at % 8) r).counter (put_in qs (steps at))) (i.later at (omega arith)) k in
-    one-stops (held c.args.library.now) c.args.streams.now high_line es steps _ _ _ at _ _ (g.S.PacketSink.holds c.put_running.new.sink) _ c.loop-stream.self.streams i test of.0 of.1 refl
+    one-stops (held c.args.library.now) c.args.streams.now latest_behind es steps _ _ _ at _ _ (g.S.PacketSink.holds c.put_running.new.sink) _ c.loop-stream.self.streams i test of.0 of.1 refl
     (λ qs put p. g.S.PacketSink.fails c.put_running.new.sink begin (qs ++ put) p c.in-Err.fault) begin ps h
-    (λ qs holds. c.in-Err.ensures.err of.0 line high_line es begin qs (steps at) of.1 stands is holds k0)
+    (λ qs holds. c.in-Err.ensures.err of.0 latest latest_behind es begin qs (steps at) of.1 stands is holds k0)
     (λ put p f. subst (λ l. g.S.PacketSink.fails c.put_running.new.sink begin l p c.in-Err.fault) (append_assoc ps i.done put) f)
 
 pub loop-stream-preserved : goal.loop-stream-preserved
@@ -76,19 +76,19 @@ loop-stream-preserved g c =
       units = c.loop-stream.invariant.units;
       forgotten = c.loop-stream.invariant.forgotten;
       leaving = λ n s. slot-leaving c.loop-stream.self.streams at y below r refl n s ∙ c.loop-stream.invariant.leaving n s;
-      plans = λ line high_line es st is.
-          let stands = same-stands c.args.self.now.events.obeyed.table c.loop-stream.self.events.obeyed.table line es kept.high kept.events st in
-          one-ran (held c.args.library.now) c.args.streams.now high_line es (values_of c.loop-stream.self.events.obeyed.table) (values_of c.put_running.new.events.obeyed.table) at of.0 test of.1
-          (e.values of.0 line high_line es of.1 stands is) ∙ c.loop-stream.invariant.plans line high_line es st is;
-      run = λ line high_line es steps small st is counts.
+      plans = λ latest latest_behind es st is.
+          let stands = same-stands c.args.self.now.events.obeyed.table c.loop-stream.self.events.obeyed.table latest es kept.high kept.events st in
+          one-ran (held c.args.library.now) c.args.streams.now latest_behind es (values_of c.loop-stream.self.events.obeyed.table) (values_of c.put_running.new.events.obeyed.table) at of.0 test of.1
+          (e.values of.0 latest latest_behind es of.1 stands is) ∙ c.loop-stream.invariant.plans latest latest_behind es st is;
+      run = λ latest latest_behind es steps small st is counts.
           let low : at < 8 = omega (arith, test, small) in
-          let stands = same-stands c.args.self.now.events.obeyed.table c.loop-stream.self.events.obeyed.table line es kept.high kept.events st in
-          let i = c.loop-stream.invariant.run line high_line es steps small st is counts in
+          let stands = same-stands c.args.self.now.events.obeyed.table c.loop-stream.self.events.obeyed.table latest es kept.high kept.events st in
+          let i = c.loop-stream.invariant.run latest latest_behind es steps small st is counts in
           let k = subst (λ (t : SwitchedStream). Counts t.counter (put_in (i.fronts at) (steps at))) (slot-old c.loop-stream.self.streams at y below r r low) (i.counted at r low) in
           let k0 = subst (λ qs. Counts (slice_index_or c.loop-stream.self.streams (at % 8) r).counter (put_in qs (steps at))) (i.later at (omega arith)) k in
-          one-run (held c.args.library.now) c.args.streams.now high_line es steps _ _ (values_of c.put_running.new.events.obeyed.table) at _ _ (g.S.PacketSink.holds c.put_running.new.sink) c.loop-stream.self.streams _ i test of.0 of.1
-          (e.values of.0 line high_line es of.1 stands is)
-          (λ begin ps h. e.ok of.0 line high_line es begin ps (steps at) of.1 stands is h k0)
-          (λ s l before. subst (λ (t : SwitchedStream). Counts t.counter (put_in (running_packets (held c.args.library.now) c.args.streams.now at of.0 high_line (steps at) (beside es (values_of c.loop-stream.self.events.obeyed.table))) (steps at))) (sym (slot-new c.loop-stream.self.streams at y below s low)) (e.counted of.0 line high_line es (steps at) of.1 stands is k0))
+          one-run (held c.args.library.now) c.args.streams.now latest_behind es steps _ _ (values_of c.put_running.new.events.obeyed.table) at _ _ (g.S.PacketSink.holds c.put_running.new.sink) c.loop-stream.self.streams _ i test of.0 of.1
+          (e.values of.0 latest latest_behind es of.1 stands is)
+          (λ begin ps h. e.ok of.0 latest latest_behind es begin ps (steps at) of.1 stands is h k0)
+          (λ s l before. subst (λ (t : SwitchedStream). Counts t.counter (put_in (running_packets (held c.args.library.now) c.args.streams.now at of.0 latest_behind (steps at) (beside es (values_of c.loop-stream.self.events.obeyed.table))) (steps at))) (sym (slot-new c.loop-stream.self.streams at y below s low)) (e.counted of.0 latest latest_behind es (steps at) of.1 stands is k0))
           (λ n s differ. slot-other c.loop-stream.self.streams at y below n s low differ);
     }

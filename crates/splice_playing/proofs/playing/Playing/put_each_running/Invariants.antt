@@ -21,9 +21,9 @@ invariant-loop-stream g l = record {
   units : l.self.leaving ≡ l.initial.self.leaving;
   forgotten : l.self.forgotten ≡ l.initial.self.forgotten;
   leaving : (i : ℕ) (s : SwitchedStream) → (slice_index_or l.self.streams i s).is_leaving ≡ (slice_index_or l.initial.self.streams i s).is_leaving;
-  plans : (line high_line : Option ℤ) (es : List Standing) → StandsFor l.initial.self.events.obeyed.table line es → IsReached line l.high high_line
-      → all_ran (held l.library) l.streams high_line es (values_of l.self.events.obeyed.table) l.stream (drop l.stream l.streams) ≡ all_ran (held l.library) l.streams high_line es (values_of l.initial.self.events.obeyed.table) 0 l.streams;
-  run : (line high_line : Option ℤ) (es : List Standing) (steps : ℕ → List Step) → length l.streams ≤ 8 → StandsFor l.initial.self.events.obeyed.table line es → IsReached line l.high high_line
+  plans : (latest latest_behind : Option ℤ) (es : List Standing) → StandsFor l.initial.self.events.obeyed.table latest es → IsReached latest l.high latest_behind
+      → all_ran (held l.library) l.streams latest_behind es (values_of l.self.events.obeyed.table) l.stream (drop l.stream l.streams) ≡ all_ran (held l.library) l.streams latest_behind es (values_of l.initial.self.events.obeyed.table) 0 l.streams;
+  run : (latest latest_behind : Option ℤ) (es : List Standing) (steps : ℕ → List Step) → length l.streams ≤ 8 → StandsFor l.initial.self.events.obeyed.table latest es → IsReached latest l.high latest_behind
       → AllCount l.initial.self.streams steps
-      → RunSoFar (held l.library) l.streams high_line es steps (values_of l.initial.self.events.obeyed.table) (values_of l.self.events.obeyed.table) l.stream (g.S.PacketSink.holds l.initial.sink) (g.S.PacketSink.holds l.sink) l.self.streams;
+      → RunSoFar (held l.library) l.streams latest_behind es steps (values_of l.initial.self.events.obeyed.table) (values_of l.self.events.obeyed.table) l.stream (g.S.PacketSink.holds l.initial.sink) (g.S.PacketSink.holds l.sink) l.self.streams;
 }

@@ -1,8 +1,6 @@
 use Rattle.std.proofs.Common.{◌≡◌, ◌∷◌, ◌++◌, [], OnOk, IfErr, sym, ap, subst, ◌∙◌, Some}
 use Rattle.std.proofs.lemmas.List.{append-nil}
 use Rattle.ts_packet.specs.Runs.{onto}
-use Rattle.psi_section.proofs.PacketiserLemmas.{if_err_more}
-use Rattle.unit_packing.proofs.PutLemmas.{on_ok_more}
 use Rattle.ad_library.specs.Library.{held}
 use Rattle.program_follower.specs.declared.start_follower.StartPlace.TheVariants as places
 use Rattle.program_follower.specs.Purposes.{reading_cues}
@@ -13,6 +11,7 @@ use Rattle.outgoing_packets.specs.Entries.{AllGoOut, tables_out}
 use Rattle.outgoing_packets.specs.Numbers.{FrontFails}
 use Rattle.splice_plans.specs.Adverts.{setting_of}
 use Rattle.splice_plans.specs.Switching.{switched_at_packet}
+use Rattle.ts_packet.proofs.Cases.{on_ok_more, if_err_more}
 use Rattle.splice_switch.specs.Standing.{IsFollowedAs}
 use Rattle.splice_switch.proofs.PlayLemmas.{plays-quiet}
 use Rattle.splice_switch.proofs.PremiseLemmas.{passes, on-map, separate, clean-more, map-off-cue, cue-switched, cue-of, map-switched}

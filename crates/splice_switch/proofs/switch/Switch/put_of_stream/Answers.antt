@@ -1,6 +1,5 @@
 use Rattle.std.proofs.Common.{◌≡◌, ◌++◌, OnOk, IfErr, sym, ap, subst, ◌∙◌}
 use Rattle.std.specs.Prelude.{option_map}
-use Rattle.unit_packing.proofs.PutLemmas.{on_ok_more}
 use Rattle.unit_stream.specs.declared.clock.Begun.{Begun}
 use Rattle.ad_library.specs.Library.{held}
 use Rattle.program_follower.specs.declared.start_follower.StartPlace.TheVariants as places
@@ -9,6 +8,7 @@ use Rattle.program_follower.specs.Purposes.{reading_cues}
 use Rattle.outgoing_packets.specs.Numbers.{FrontFails}
 use Rattle.splice_plans.specs.Adverts.{setting_of}
 use Rattle.splice_plans.specs.Switching.{place_at, switched_at_packet}
+use Rattle.ts_packet.proofs.Cases.{on_ok_more}
 use Rattle.splice_switch.specs.Standing.{IsFollowedAs, IsStart}
 use Rattle.splice_switch.proofs.PlayLemmas.{plays-before, plays-after}
 use Rattle.splice_switch.proofs.PremiseLemmas.{quiet-one, packet-quiet, own-stream, clean-more}

@@ -5,9 +5,10 @@ use Rattle.pes_time.specs.Stamps.{stamp_of}
 use Rattle.unit_stream.specs.Times.{high, unit_time, stamp, splits, raised, timed}
 use Rattle.unit_stream.specs.Faults.{scrambled_one, start_fault}
 use Rattle.unit_stream.specs.Fates.{steps}
+use Rattle.ts_packet.proofs.FieldLemmas.{off_payload}
 use Rattle.unit_cut.specs.Standing.{BeginsWith, TimingFor, goes_by}
 use Rattle.unit_cut.proofs.Counted.{numbered_is}
-use Rattle.unit_stream.proofs.ReadingLemmas.{off, error_off, passes, kept_became}
+use Rattle.unit_stream.proofs.ReadingLemmas.{error_off, passes, kept_became}
 use Rattle.unit_stream.proofs.ClockLemmas.{stamp_is, splits_is, begins_off, begins_not, begins_repeat, fault_scrambled}
 use Rattle.unit_stream.proofs.PieceLemmas.{repeated}
 use Rattle.unit_cut.proofs.CutterLemmas.{scrambled_is, scrambled_off, fault_still, fault_start, timing_same, timing_start, cut_is, cut_off, begins_with, events_settled, events_repeated, settled}
@@ -19,14 +20,14 @@ pub returns-then-not-is_on-clause-answers : goal.returns-then-not-is_on-clause-a
 returns-then-not-is_on-clause-answers c = λ k past b h.
     let p = c.args.packet.now in
     let o : on k.pid p ≡ false = ap (λ n. on n p) (sym h.same) ∙ sym c.is_on.ensures ∙ c.if-not-is_on.true in
-    let y = off k.pid p o in
+    let y = off_payload k.pid p o in
     (fault_still k.pid p past (scrambled_off k.pid p y) (begins_off k.pid p past y), cut_off k p past y, simp o refl)
 
 pub returns-then-not-is_on-clause-stands : goal.returns-then-not-is_on-clause-stands
 returns-then-not-is_on-clause-stands c = λ k past b h.
     let p = c.args.packet.now in
     let o : on k.pid p ≡ false = ap (λ n. on n p) (sym h.same) ∙ sym c.is_on.ensures ∙ c.if-not-is_on.true in
-    let y = off k.pid p o in
+    let y = off_payload k.pid p o in
     record { same = h.same; units = passes _ k.pid p _ past y h.units; timing = timing_same _ k p past (begins_off k.pid p past y) h.timing; counter = simp (y, o) h.counter }
 
 -- ---- scrambled

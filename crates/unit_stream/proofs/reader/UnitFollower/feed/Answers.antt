@@ -1,7 +1,8 @@
 use Rattle.std.proofs.Common.{◌≡◌, sym, ap, ◌∙◌, ◌&&◌, refl, true, false}
 use Rattle.ts_packet.specs.Fields.{in_error, on, unit_start}
 use Rattle.ts_packet.specs.Duplicates.{original}
-use Rattle.unit_stream.proofs.ReadingLemmas.{error_off, off, without_payload, with_payload, bytes_are, passes, goes_on, has_begun, is_repeat}
+use Rattle.ts_packet.proofs.FieldLemmas.{off_payload}
+use Rattle.unit_stream.proofs.ReadingLemmas.{error_off, without_payload, with_payload, bytes_are, passes, goes_on, has_begun, is_repeat}
 use Rattle.unit_stream.proofs.reader.UnitFollower.feed.Goals as goal
 
 pub returns-then-error-clause-reads : goal.returns-then-error-clause-reads
@@ -14,13 +15,13 @@ pub returns-then-not-is_on-clause-reads : goal.returns-then-not-is_on-clause-rea
 returns-then-not-is_on-clause-reads c = λ pid past h.
     let p = c.args.packet.now in
     let o : on pid p ≡ false = ap (λ n. on n p) (sym h.same) ∙ sym c.is_on.ensures ∙ c.if-not-is_on.true in
-    passes _ pid p _ past (off pid p o) h
+    passes _ pid p _ past (off_payload pid p o) h
 
 pub returns-then-not-is_on-clause-brings : goal.returns-then-not-is_on-clause-brings
 returns-then-not-is_on-clause-brings c = λ pid past h.
     let p = c.args.packet.now in
     let o : on pid p ≡ false = ap (λ n. on n p) (sym h.same) ∙ sym c.is_on.ensures ∙ c.if-not-is_on.true in
-    (sym c.error.ensures ∙ c.if-error.false, off pid p o)
+    (sym c.error.ensures ∙ c.if-error.false, off_payload pid p o)
 
 pub returns-in_default-clause-reads : goal.returns-in_default-clause-reads
 returns-in_default-clause-reads c = λ pid past h.
