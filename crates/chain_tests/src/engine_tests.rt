@@ -64,8 +64,8 @@ fn expect_run<R: AllocGlobal + Abort>(
     let Ok(report) = outcome else {
         return Err(Fail::from("a run"));
     };
-    assert_eq!(rt; count, packets);
-    assert_eq!(rt;
+    expect_eq!(*rt; count, packets);
+    expect_eq!(*rt;
         (report.messages, report.accepted, report.refused),
         (messages, 0, refused)
     );
@@ -89,7 +89,7 @@ fn pieces_of_any_size_are_messages(rt: HostRuntime) -> Result<(), Fail> {
         let mut automation = FailAutomation::of(rt.alloc(), bytes.as_slice(), &sizes);
         expect_run(&rt, 65, &mut automation, 5, 0)?;
         let replies = automation.replies.as_slice();
-        assert_eq!(rt; replies.len(), 65);
+        expect_eq!(rt; replies.len(), 65);
         assert!(rt;
             replies
                 .chunks(13)
@@ -106,7 +106,7 @@ fn messages_behind_the_last_packet_are_not_judged(rt: HostRuntime) -> Result<(),
         let mut automation = FailAutomation::of(rt.alloc(), bytes.as_slice(), &ONE_BY_ONE);
         let judged = packets.min(5);
         expect_run(&rt, packets, &mut automation, judged as u64, 0)?;
-        assert_eq!(rt; automation.replies.len(), 13 * judged);
+        expect_eq!(rt; automation.replies.len(), 13 * judged);
     }
     Ok(())
 }
@@ -118,7 +118,7 @@ fn takes_that_fail_end_the_session(rt: HostRuntime) -> Result<(), Fail> {
         let mut automation = FailAutomation::of(rt.alloc(), bytes.as_slice(), &ONE_BY_ONE);
         automation.good_takes = good;
         expect_run(&rt, 8, &mut automation, good as u64, 0)?;
-        assert_eq!(rt;
+        expect_eq!(rt;
             (automation.replies.len(), automation.failures),
             (13 * good, 1)
         );
@@ -135,7 +135,7 @@ fn replies_that_are_lost_end_the_session(rt: HostRuntime) -> Result<(), Fail> {
             let mut automation = FailAutomation::of(rt.alloc(), bytes.as_slice(), &sizes);
             automation.good_answers = good;
             expect_run(&rt, 8, &mut automation, good as u64 + 1, 0)?;
-            assert_eq!(rt;
+            expect_eq!(rt;
                 (automation.replies.len(), automation.failures),
                 (13 * good, 1)
             );
@@ -177,8 +177,8 @@ fn an_output_that_fails_ends_the_run(rt: HostRuntime) -> Result<(), Fail> {
     for room in 0..5 {
         let mut automation = FailAutomation::of(rt.alloc(), messages.as_slice(), &ONE_BY_ONE);
         let (outcome, count) = run(rt.alloc(), bytes.as_slice(), &mut automation, room)?;
-        assert!(rt; outcome == Err(RunFault::Feed(FeedFault::Sink(PutFault::Stuck))));
-        assert_eq!(rt; (count, automation.replies.len()), (room, 13 * (room + 1)));
+        expect_eq!(rt; outcome, Err(RunFault::Feed(FeedFault::Sink(PutFault::Stuck))));
+        expect_eq!(rt; (count, automation.replies.len()), (room, 13 * (room + 1)));
     }
     Ok(())
 }
@@ -191,8 +191,8 @@ fn a_network_that_ends_in_a_packet_ends_the_run(rt: HostRuntime) -> Result<(), F
         bytes.truncate(size);
         let mut automation = FailAutomation::of(rt.alloc(), messages.as_slice(), &ONE_BY_ONE);
         let (outcome, count) = run(rt.alloc(), bytes.as_slice(), &mut automation, 5)?;
-        assert!(rt; outcome == Err(RunFault::Read(ReadFault::Truncated)));
-        assert_eq!(rt;
+        expect_eq!(rt; outcome, Err(RunFault::Read(ReadFault::Truncated)));
+        expect_eq!(rt;
             (count, automation.replies.len()),
             (size / 188, 13 * (size / 188))
         );
@@ -209,8 +209,8 @@ fn is_made<A: Allocator + Copy>(alloc: A) -> Result<bool, Fail> {
 fn memory_is_taken_at_once(rt: HostRuntime) -> Result<(), Fail> {
     for (size, want) in [(16, false), (65_600, false), (140_000, true)] {
         let heap = LocalHeap::new(rt.alloc(), size)?;
-        assert_eq!(rt; is_made(&heap)?, want, "with {size} bytes");
-        assert_eq!(rt; heap.used(), 0);
+        expect_eq!(rt; (size, is_made(&heap)?), (size, want));
+        expect_eq!(rt; heap.used(), 0);
     }
     Ok(())
 }
@@ -232,10 +232,10 @@ fn a_step_behind_a_fault_hears_nothing(rt: HostRuntime) -> Result<(), Fail> {
         Err(FeedFault::Failed),
     ] {
         let stepped = chain.step(&Packet::null(), &mut automation, &library, &mut out);
-        assert_eq!(rt; stepped, answer);
+        expect_eq!(rt; stepped, answer);
     }
-    assert_eq!(rt; automation.rest.len(), 3 * 13);
-    assert_eq!(rt; automation.replies.len(), 2 * 13);
-    assert_eq!(rt; out.packets().len(), 1);
+    expect_eq!(rt; automation.rest.len(), 3 * 13);
+    expect_eq!(rt; automation.replies.len(), 2 * 13);
+    expect_eq!(rt; out.packets().len(), 1);
     Ok(())
 }

@@ -2,12 +2,22 @@
 //! It stands on `chain_engine`, for the runs, and on the codecs, for cues; no program stands on it.
 #![tactic(auto)]
 
+/// `assert_eq!` without a note, as one call: `expect_eq!(rt; left, right)`.
+#[cfg(test)]
+macro_rules! expect_eq {
+    ($rt:expr; $left:expr, $right:expr $(,)?) => {
+        crate::equality::expect_equal(&$rt, &$left, &$right)
+    };
+}
+
 #[cfg(test)]
 mod break_tests;
 #[cfg(test)]
 mod cue_tests;
 #[cfg(test)]
 mod engine_tests;
+#[cfg(test)]
+mod equality;
 #[cfg(test)]
 mod fail_automation;
 #[cfg(test)]

@@ -88,18 +88,18 @@ pub(crate) fn expect_splice<R: AllocGlobal + Abort>(
     report: [u64; 4],
 ) -> Result<(), Fail> {
     let (outcome, got) = spliced(rt.alloc(), network, library)?;
-    assert_eq!(rt;
-        difference(got.as_slice(), want),
-        None,
-        "{name}: the first packet that differs"
-    );
+    // The first packet that differs is told.
+    expect_eq!(*rt; (name, difference(got.as_slice(), want)), (name, None));
     let Ok(told) = outcome else {
         return Err(Fail::from("a run"));
     };
-    assert_eq!(rt; told.played, report[0], "{name}: played");
-    assert_eq!(rt; told.not_fitted, report[1], "{name}: not fitted");
-    assert_eq!(rt; told.unconditioned, report[2], "{name}: unconditioned");
-    assert_eq!(rt; told.ignored, report[3], "{name}: ignored");
+    let counts = [
+        told.played,
+        told.not_fitted,
+        told.unconditioned,
+        told.ignored,
+    ];
+    expect_eq!(*rt; (name, counts), (name, report));
     Ok(())
 }
 

@@ -92,7 +92,22 @@ fn cut_words<'a>(from: &'a str, length: &'a str) -> [&'a str; 7] {
     ["cut", "--pid", "256", "--from", from, "--length", length]
 }
 
-/// The run on these lines ends with this status, this output and this text of its fault.
+/// The run on these lines ends with this status and this output, and this is told.
+fn expect_outcome<R: Files + Net + AllocGlobal + Abort>(
+    rt: &R,
+    words: &[&str],
+    input: &[u8],
+    status: u8,
+    expected: &[u8],
+    told: &str,
+) {
+    let run = run(rt, words, input);
+    expect_eq!(*rt; run.faults.as_slice(), told.as_bytes());
+    expect_eq!(*rt; run.output.as_slice(), expected);
+    expect_eq!(*rt; run.status, status);
+}
+
+/// The run on these lines ends with this output and this text of its fault, or well where there is none.
 fn expect_run<R: Files + Net + AllocGlobal + Abort>(
     rt: &R,
     words: &[&str],
@@ -100,16 +115,18 @@ fn expect_run<R: Files + Net + AllocGlobal + Abort>(
     expected: &[u8],
     fault: &str,
 ) {
-    let run = run(rt, words, input);
-    assert_eq!(rt; run.status, if fault.is_empty() { 0 } else { 1 }, "{fault}");
-    assert!(rt;
-        run.output.as_slice() == expected,
-        "the output before {fault}"
-    );
-    assert!(rt;
-        run.faults.as_slice() == fault.as_bytes(),
-        "the text of {fault}"
-    );
+    let status = if fault.is_empty() { 0 } else { 1 };
+    expect_outcome(rt, words, input, status, expected, fault);
+}
+
+/// The file holds these bytes.
+fn expect_content<R: Files + AllocGlobal + Abort>(
+    rt: &R,
+    path: &str,
+    bytes: &[u8],
+) -> Result<(), Fail> {
+    expect_eq!(*rt; fs::read(rt, path)?.as_slice(), bytes);
+    Ok(())
 }
 
 #[test]
@@ -343,10 +360,7 @@ fn files_hold_bytes(rt: HostRuntime) -> Result<(), Fail> {
         &[],
         fault,
     );
-    assert!(rt;
-        fs::read(&rt, output)?.as_slice() == &bytes[..376.min(bytes.len())],
-        "file to file"
-    );
+    expect_content(&rt, output, &bytes[..376.min(bytes.len())])?;
     expect_run(
         &rt,
         &[
@@ -365,16 +379,26 @@ fn files_hold_bytes(rt: HostRuntime) -> Result<(), Fail> {
         &[],
         "",
     );
-    assert!(rt;
-        fs::read(&rt, output)?.as_slice() == packet(0, [0x21, 0x00, 0x05, 0xD6, 0x91]).as_slice(),
-        "lines to file"
-    );
+    expect_content(&rt, output, &packet(0, [0x21, 0x00, 0x05, 0xD6, 0x91]))?;
     fs::remove_file(&rt, input)?;
     fs::remove_file(&rt, output)?;
+    Ok(())
+}
+
+#[test]
+fn files_that_cannot_be_opened(rt: HostRuntime) {
     expect_run(
         &rt,
         &[
-            "cut", "--pid", "256", "--from", "0", "--length", "0", "--in", input,
+            "cut",
+            "--pid",
+            "256",
+            "--from",
+            "0",
+            "--length",
+            "0",
+            "--in",
+            "no/such/file",
         ],
         &[],
         &[],
@@ -397,7 +421,6 @@ fn files_hold_bytes(rt: HostRuntime) -> Result<(), Fail> {
         &[],
         "fault: File\n",
     );
-    Ok(())
 }
 
 /// The output is refused since it is the input, and the line behind the fault says so.
@@ -451,7 +474,7 @@ fn the_input_is_never_destroyed(rt: HostRuntime) -> Result<(), Fail> {
     expect_same_file(&rt, input, link)?;
     expect_no_file(&rt, folder.to_str().ok_or("a name")?, link);
     expect_no_file(&rt, "no/such/file", link);
-    assert!(rt; fs::read(&rt, input)?.as_slice() == bytes.as_slice());
+    expect_content(&rt, input, &bytes)?;
     fs::remove_file(&rt, input)?;
     fs::remove_file(&rt, link)?;
     Ok(())
@@ -475,25 +498,26 @@ const STANDARD_WORDS: [&str; 12] = [
 
 #[test]
 fn more_is_told_where_it_is_asked_for(rt: HostRuntime) -> Result<(), Fail> {
-    let mut stream = Vec::new(rt.alloc());
-    stream.extend_from_slice(&packet(0, [0x21, 0x00, 0x05, 0xBF, 0x21]))?;
+    let first = packet(0, [0x21, 0x00, 0x05, 0xBF, 0x21]);
+    let mut stream = Vec::from_slice(rt.alloc(), &first)?;
     stream.extend_from_slice(&packet(1, [0x21, 0x00, 0x05, 0xD6, 0x91]))?;
-    let good = run(&rt, &STANDARD_WORDS, stream.as_slice());
-    assert_eq!(rt; good.status, 0);
-    assert!(rt; good.output.as_slice() == packet(0, [0x21, 0x00, 0x05, 0xBF, 0x21]).as_slice());
-    let says = std::str::from_utf8(good.faults.as_slice())?;
-    assert_eq!(rt;
-        says,
-        "cut: 1 of 2 units of PID 256 (0x0100), 1 of 2 packets left out; its time stamps go from 90000 to 93000\n"
+    expect_outcome(
+        &rt,
+        &STANDARD_WORDS,
+        stream.as_slice(),
+        0,
+        &first,
+        "cut: 1 of 2 units of PID 256 (0x0100), 1 of 2 packets left out; its time stamps go from 90000 to 93000\n",
     );
     stream.extend_from_slice(&packet(2, [0x21, 0x00, 0x7B, 0x09, 0x01]))?;
-    let jump = run(&rt, &STANDARD_WORDS, stream.as_slice());
-    assert_eq!(rt; jump.status, 1);
-    let says = std::str::from_utf8(jump.faults.as_slice())?;
-    assert_eq!(rt;
-        says,
-        "fault: TimeJump\nreading standard input: packet 2, byte 376, PID 256 (0x0100)\n"
+    expect_run(
+        &rt,
+        &STANDARD_WORDS,
+        stream.as_slice(),
+        &first,
+        "fault: TimeJump\nreading standard input: packet 2, byte 376, PID 256 (0x0100)\n",
     );
+    let good = lines(rt.alloc(), &[FIRST])?;
     let mut text = lines(rt.alloc(), &[FIRST])?;
     text.push(b'\n')?;
     let words = [
@@ -506,9 +530,13 @@ fn more_is_told_where_it_is_asked_for(rt: HostRuntime) -> Result<(), Fail> {
         "1",
         "--verbose",
     ];
-    let bad = run(&rt, &words, text.as_slice());
-    let says = std::str::from_utf8(bad.faults.as_slice())?;
-    assert_eq!(rt; says, "fault: BadLine\nreading standard input: line 2\n");
+    expect_run(
+        &rt,
+        &words,
+        text.as_slice(),
+        good.as_slice(),
+        "fault: BadLine\nreading standard input: line 2\n",
+    );
     Ok(())
 }
 
@@ -546,18 +574,12 @@ fn slow_devices_change_nothing(rt: HostRuntime) -> Result<(), Fail> {
         let mut input = FailSource::new(text.as_slice(), reads);
         let mut output = FailTarget::new(rt.alloc(), writes);
         let outcome = copy_lines(&mut input, &mut output).ok_or("numbers")?;
-        assert!(rt;
-            outcome
-                == match fault {
-                    None => Ok(()),
-                    Some(fault) => Err(LinesFault::Cut(fault))
-                },
-            "room {room}"
-        );
-        assert!(rt;
-            output.taken().as_slice() == &text[..room.min(text.len())],
-            "room {room}"
-        );
+        let expected = match fault {
+            None => Ok(()),
+            Some(fault) => Err(LinesFault::Cut(fault)),
+        };
+        expect_eq!(rt; outcome, expected);
+        expect_eq!(rt; output.taken().as_slice(), &text[..room.min(text.len())]);
     }
     Ok(())
 }
@@ -572,6 +594,6 @@ fn endless_interruptions_end(rt: HostRuntime) -> Result<(), Fail> {
     let mut input = FailSource::new(b"", calls);
     let mut output = Vec::new(rt.alloc());
     let outcome = copy_lines(&mut input, &mut output).ok_or("numbers")?;
-    assert!(rt; outcome == Err(LinesFault::Cut(CutFault::Read(ReadFault::Turns))));
+    expect_eq!(rt; outcome, Err(LinesFault::Cut(CutFault::Read(ReadFault::Turns))));
     Ok(())
 }

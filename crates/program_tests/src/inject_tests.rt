@@ -182,7 +182,7 @@ fn run_with_client<R: Net + AllocGlobal + Abort>(
 #[test]
 fn a_client_is_answered(rt: HostRuntime) -> Result<(), Fail> {
     let (report, mut client) = run_with_client(&rt, &START, false)?;
-    assert_eq!(rt;
+    expect_eq!(rt;
         (report.messages, report.accepted, report.refused),
         (1, 0, 1)
     );
@@ -195,18 +195,18 @@ fn a_client_is_answered(rt: HostRuntime) -> Result<(), Fail> {
 #[test]
 fn clients_that_go_do_not_stop_the_network(rt: HostRuntime) -> Result<(), Fail> {
     let (report, _client) = run_with_client(&rt, &START[..10], true)?;
-    assert_eq!(rt; report.messages, 0);
+    expect_eq!(rt; report.messages, 0);
     let (report, _client) = run_with_client(&rt, &[], true)?;
-    assert_eq!(rt; report.messages, 0);
+    expect_eq!(rt; report.messages, 0);
     let (report, _client) = run_with_client(&rt, &[], false)?;
-    assert_eq!(rt; report.messages, 0);
+    expect_eq!(rt; report.messages, 0);
     let (report, _client) = run_with_client(&rt, &[0; 100], false)?;
-    assert_eq!(rt; report.messages, 0);
+    expect_eq!(rt; report.messages, 0);
     let mut many = Vec::new(rt.alloc());
     for _ in 0..50 {
         many.extend_from_slice(&START)?;
     }
     let (report, _client) = run_with_client(&rt, many.as_slice(), false)?;
-    assert_eq!(rt; (report.messages, report.refused), (50, 50));
+    expect_eq!(rt; (report.messages, report.refused), (50, 50));
     Ok(())
 }

@@ -2,10 +2,20 @@
 //! It stands on `dpi_program` and the crates below it; no program stands on it.
 #![tactic(auto)]
 
+/// `assert_eq!` without a note, as one call: `expect_eq!(rt; left, right)`.
+#[cfg(test)]
+macro_rules! expect_eq {
+    ($rt:expr; $left:expr, $right:expr $(,)?) => {
+        crate::equality::expect_equal(&$rt, &$left, &$right)
+    };
+}
+
 #[cfg(test)]
 mod cut_tests;
 #[cfg(test)]
 mod device_tests;
+#[cfg(test)]
+mod equality;
 #[cfg(test)]
 mod expecting;
 #[cfg(test)]

@@ -23,7 +23,7 @@ fn fault_of(rt: &HostRuntime, text: &[u8]) -> Option<ListFault> {
 #[test]
 fn lines_are_judged(rt: HostRuntime) -> Result<(), Fail> {
     for text in [b"".as_slice(), b"\n", b"\n\n", b" \t\r\n", b"\n  "] {
-        assert_eq!(rt; fault_of(&rt, text), None);
+        expect_eq!(rt; fault_of(&rt, text), None);
     }
     for text in [
         b"7\n".as_slice(),
@@ -42,7 +42,7 @@ fn lines_are_judged(rt: HostRuntime) -> Result<(), Fail> {
         b"\nx",
         b"x\n7 no/such.ts\n",
     ] {
-        assert_eq!(rt; fault_of(&rt, text), Some(ListFault::BadList));
+        expect_eq!(rt; fault_of(&rt, text), Some(ListFault::BadList));
     }
     for text in [
         b"7 no/such.ts\nx".as_slice(),
@@ -53,7 +53,7 @@ fn lines_are_judged(rt: HostRuntime) -> Result<(), Fail> {
         b"7 no/such .ts\n",
         b"7 .\n",
     ] {
-        assert_eq!(rt; fault_of(&rt, text), Some(ListFault::File));
+        expect_eq!(rt; fault_of(&rt, text), Some(ListFault::File));
     }
     Ok(())
 }
@@ -150,20 +150,20 @@ fn lists_of_files(rt: HostRuntime) -> Result<(), Fail> {
     };
     assert!(rt; is_whole(&library));
     let text = format!(in rt.alloc(); "7 {path}\n8 {path}\n07 {path}\nx")?;
-    assert_eq!(rt;
+    expect_eq!(rt;
         fault_of(&rt, text.as_bytes()),
         Some(ListFault::Ad(AdFault::Exists))
     );
     let text = format!(in rt.alloc(); "7 {path}\nx\n7 {path}\n")?;
-    assert_eq!(rt; fault_of(&rt, text.as_bytes()), Some(ListFault::BadList));
+    expect_eq!(rt; fault_of(&rt, text.as_bytes()), Some(ListFault::BadList));
     fs::write(&rt, path, b"".as_slice())?;
     let text = format!(in rt.alloc(); "7 {path}\nx")?;
-    assert_eq!(rt;
+    expect_eq!(rt;
         fault_of(&rt, text.as_bytes()),
         Some(ListFault::Ad(AdFault::NoProgram))
     );
     fs::remove_file(&rt, path)?;
-    assert_eq!(rt; fault_of(&rt, text.as_bytes()), Some(ListFault::File));
+    expect_eq!(rt; fault_of(&rt, text.as_bytes()), Some(ListFault::File));
     Ok(())
 }
 
@@ -202,7 +202,7 @@ fn is_refused<R: Files + Abort>(
         is_loaded(rt, heap, text) == Ok(true),
         "behind {free} bytes"
     );
-    assert_eq!(rt; heap.used(), 0);
+    expect_eq!(rt; heap.used(), 0);
     Ok(answer.is_err())
 }
 

@@ -175,7 +175,7 @@ fn memory_is_refused_to_a_script(rt: HostRuntime) -> Result<(), Fail> {
         let heap = LocalHeap::new(rt.alloc(), size)?;
         let fault = fault_in(&heap, Vec::new(rt.alloc()));
         assert!(rt; fault == want, "with {size} bytes");
-        assert_eq!(rt; heap.used(), 0);
+        expect_eq!(rt; heap.used(), 0);
     }
     Ok(())
 }
