@@ -209,35 +209,6 @@ fn three_packets<S: Source>(device: &mut S) -> [Result<Option<Packet>, ReadFault
 }
 
 #[test]
-fn reads_byte_by_byte(rt: HostRuntime) -> Result<(), Fail> {
-    let mut all = two(rt.alloc())?;
-    all.extend_from_slice(&[0x47, 0x01])?;
-    let expected = [
-        Ok(Some(packet(1, 7, 1)?)),
-        Ok(Some(packet(1, 8, 2)?)),
-        Err(ReadFault::Truncated),
-    ];
-    let mut device = Device::new(Odd::new(rt.alloc(), &all, 1, 10_000, Oddity::Fails));
-    expect_eq!(rt; three_packets(&mut device), expected);
-    let mut device = Device::new(Odd::new(rt.alloc(), &all, 1, 10_000, Oddity::Fails));
-    expect_eq!(rt; four_answers(&mut device), failing_behind(2, ReadFault::Truncated));
-    Ok(())
-}
-
-#[test]
-fn refuses_bad_packets(rt: HostRuntime) {
-    for (control, first, fault) in [
-        (1, 0x48, ReadFault::SyncLost),
-        (2, 0x47, ReadFault::BadAdaptation),
-    ] {
-        let mut bad = packet_bytes(control, 0, 200);
-        bad[0] = first;
-        let mut device = Device::new(bad.as_slice());
-        expect_eq!(rt; four_answers(&mut device), failing_behind(0, fault));
-    }
-}
-
-#[test]
 fn reads_through_a_buffer(rt: HostRuntime) -> Result<(), Fail> {
     let all = two(rt.alloc())?;
     let expected = [

@@ -5,7 +5,7 @@ use failing_devices::{Calls, Ending, FailSource, FailTarget};
 use packet_lines::{LinesFault, cut_lines};
 use pes_time::Time33;
 use std::alloc::{AllocError, Global};
-use std::io::{self, Cursor, ErrorKind, Read, Write};
+use std::io::{Cursor, Read, Write};
 use std::net::Net;
 use std::process::Abort;
 use std::rt::Files;
@@ -581,19 +581,5 @@ fn slow_devices_change_nothing(rt: HostRuntime) -> Result<(), Fail> {
         expect_eq!(rt; outcome, expected);
         expect_eq!(rt; output.taken().as_slice(), &text[..room.min(text.len())]);
     }
-    Ok(())
-}
-
-#[test]
-fn endless_interruptions_end(rt: HostRuntime) -> Result<(), Fail> {
-    let calls = Calls {
-        step: 1,
-        good: 0,
-        ending: Ending::Waits,
-    };
-    let mut input = FailSource::new(b"", calls);
-    let mut output = Vec::new(rt.alloc());
-    let outcome = copy_lines(&mut input, &mut output).ok_or("numbers")?;
-    expect_eq!(rt; outcome, Err(LinesFault::Cut(CutFault::Read(ReadFault::Turns))));
     Ok(())
 }

@@ -4,7 +4,7 @@ use automations::{Script, ScriptFault};
 use chain_engine::{Automation, Taken};
 use linked_list_allocator::LocalHeap;
 use std::alloc::{Allocator, Global};
-use std::io::{self, ErrorKind, Read, Write};
+use std::io::{self, Write};
 use std::process::Abort;
 use std::test::Fail;
 use ts_packet::Device;
@@ -114,16 +114,6 @@ impl Write for Full {
     }
 }
 
-/// Fails at its first read.
-#[derive(Drop)]
-struct Gone;
-
-impl Read for Gone {
-    fn read(&mut self, _buf: &mut [u8]) -> io::Result<usize> {
-        Err(io::Error::from(ErrorKind::Other))
-    }
-}
-
 #[test]
 fn replies_are_printed_or_lost(rt: HostRuntime) -> Result<(), Fail> {
     let mut printed = Vec::new(rt.alloc());
@@ -142,16 +132,6 @@ fn replies_are_printed_or_lost(rt: HostRuntime) -> Result<(), Fail> {
     assert!(rt; !script.answer(&[0x00]));
     assert!(rt; script.has_lost_a_reply());
     Ok(())
-}
-
-#[test]
-fn a_reader_that_fails_is_io(rt: HostRuntime) {
-    let mut reader = Device::new(Gone);
-    let is_io = match Script::load(rt.alloc(), &mut reader, Full) {
-        Ok(_) => false,
-        Err(fault) => fault == ScriptFault::Io,
-    };
-    assert!(rt; is_io);
 }
 
 /// What becomes of a script's text in this memory.
