@@ -29,7 +29,7 @@ fn units_of_one_packet(rt: HostRuntime) -> Result<(), Fail> {
     put_unit(&unit[..182], false, pid()?, &mut Counter::new(), &mut list)
         .ok()
         .ok_or("182 bytes")?;
-    expect_eq!(rt; list.packets().len(), 3);
+    assert_eq!(rt; list.packets().len(), 3);
     assert!(rt; is_packet(&list.packets()[0], &[0x47, 0x41, 0x00, 0x10], &unit));
     assert!(rt;
         is_packet(
@@ -57,7 +57,7 @@ fn random_access_and_stuffing(rt: HostRuntime) -> Result<(), Fail> {
         .ok()
         .ok_or("183 bytes")?;
     let packets = list.packets();
-    expect_eq!(rt; packets.len(), 2);
+    assert_eq!(rt; packets.len(), 2);
     assert!(rt;
         is_packet(
             &packets[0],
@@ -77,7 +77,7 @@ fn random_access_and_stuffing(rt: HostRuntime) -> Result<(), Fail> {
         put_unit(&unit, true, pid()?, &mut counter, &mut list),
         Err(PutFault::Stuck)
     );
-    expect_eq!(rt; list.packets().len(), 3);
+    assert_eq!(rt; list.packets().len(), 3);
     expect_eq!(rt; counter.fresh(), 3);
     Ok(())
 }
@@ -102,7 +102,7 @@ fn moved_stamps(rt: HostRuntime) -> Result<(), Fail> {
     )
     .ok()
     .ok_or("200 bytes")?;
-    expect_eq!(rt; list.packets().len(), 2);
+    assert_eq!(rt; list.packets().len(), 2);
     let first = list.packets()[0].to_bytes();
     expect_eq!(rt;
         &first[13..19],

@@ -79,7 +79,7 @@ fn two_sections_end_in_one_packet(rt: HostRuntime) -> Result<(), Fail> {
     }
     let packets = [packet(true, 5, &first), packet(true, 6, &second)];
     let (sections, bad) = sections_in(rt.alloc(), &packets)?;
-    expect_eq!(rt; sections.len(), 2);
+    assert_eq!(rt; sections.len(), 2);
     expect_eq!(rt; sections[0].as_slice(), long.as_slice());
     expect_eq!(rt; sections[1].as_slice(), [0x41, 0x30, 2, 7, 8].as_slice());
     expect_eq!(rt; bad, 0);
@@ -95,7 +95,7 @@ fn section_with_a_gap_is_not_given(rt: HostRuntime) -> Result<(), Fail> {
         packet(true, 8, &[0, 0x41, 0x30, 1, 9]),
     ];
     let (sections, _) = sections_in(rt.alloc(), &packets)?;
-    expect_eq!(rt; sections.len(), 1);
+    assert_eq!(rt; sections.len(), 1);
     expect_eq!(rt; sections[0].as_slice(), [0x41, 0x30, 1, 9].as_slice());
     Ok(())
 }
@@ -108,7 +108,7 @@ fn pointer_past_the_payload_discards_the_part(rt: HostRuntime) -> Result<(), Fai
     expect_eq!(rt; sections.len(), 0);
     let last = [packet(true, 5, &first), packet(true, 6, &[183])];
     let (sections, _) = sections_in(rt.alloc(), &last)?;
-    expect_eq!(rt; sections.len(), 1);
+    assert_eq!(rt; sections.len(), 1);
     expect_eq!(rt; sections[0].len(), 200);
     Ok(())
 }
@@ -121,7 +121,7 @@ fn section_over_4096_bytes_is_dropped_up_to_a_start(rt: HostRuntime) -> Result<(
         packet(true, 2, &[0, 0x42, 0x30, 1, 9]),
     ];
     let (sections, _) = sections_in(rt.alloc(), &packets)?;
-    expect_eq!(rt; sections.len(), 1);
+    assert_eq!(rt; sections.len(), 1);
     expect_eq!(rt; sections[0].as_slice(), [0x42, 0x30, 1, 9].as_slice());
     Ok(())
 }
@@ -133,7 +133,7 @@ fn header_cut_between_packets(rt: HostRuntime) -> Result<(), Fail> {
     first.push(0x30)?;
     let packets = [packet(true, 15, &first), packet(false, 0, &[1, 9])];
     let (sections, _) = sections_in(rt.alloc(), &packets)?;
-    expect_eq!(rt; sections.len(), 2);
+    assert_eq!(rt; sections.len(), 2);
     expect_eq!(rt; sections[0].len(), 181);
     expect_eq!(rt; sections[1].as_slice(), [0x41, 0x30, 1, 9].as_slice());
     Ok(())
@@ -143,7 +143,7 @@ fn header_cut_between_packets(rt: HostRuntime) -> Result<(), Fail> {
 fn duplicate_gives_its_section_once(rt: HostRuntime) -> Result<(), Fail> {
     let one = packet(true, 3, &[0, 0x41, 0x30, 1, 9]);
     let (sections, _) = sections_in(rt.alloc(), &[one, one, one])?;
-    expect_eq!(rt; sections.len(), 2);
+    assert_eq!(rt; sections.len(), 2);
     Ok(())
 }
 
@@ -156,7 +156,7 @@ fn section_behind_an_adaptation_field(rt: HostRuntime) -> Result<(), Fail> {
     bytes[183..].copy_from_slice(&[0, 0x41, 0x30, 1, 9]);
     let one = Packet::from_bytes(&bytes).unwrap_or(Packet::null());
     let (sections, _) = sections_in(rt.alloc(), &[one])?;
-    expect_eq!(rt; sections.len(), 1);
+    assert_eq!(rt; sections.len(), 1);
     expect_eq!(rt; sections[0].as_slice(), [0x41, 0x30, 1, 9].as_slice());
     Ok(())
 }
