@@ -1,13 +1,11 @@
 -- What counts come to over several calls, and over several packets.
-use Rattle.std.proofs.Common.{◌≡◌, ℕ, zero, suc, ◌-◌, ◌^◌, ◌≤◌, inl, inr, Bool, true, false, arith, Result, Ok, Err, IfOk, IfErr, ◌∙◌, le_refl, refl, ◌⊎◌}
+use Rattle.std.proofs.Common.{◌≡◌, ℕ, zero, suc, ◌≤◌, inl, inr, Bool, true, false, arith, Result, Ok, Err, IfOk, IfErr, ◌∙◌, le_refl, refl, ◌⊎◌}
 use Rattle.std.proofs.Math.Nat.{le_trans}
 use Rattle.ts_packet.specs.declared.device.DeviceFault.{DeviceFault}
 use Rattle.ts_packet.specs.declared.sink.PutFault.{PutFault}
 use Rattle.ts_packet.specs.declared.sink.PutFault.TheVariants as put_faults
-use Rattle.ts_packet.specs.declared.transfer.FillFault.{FillFault}
-use Rattle.ts_packet.specs.declared.transfer.FillFault.TheVariants as fill_faults
 use Rattle.ts_packet.specs.declared.tally.Tally.{Tally}
-use Rattle.ts_packet.specs.Transfers.{IsCounted, Rose, CountsZero, WentWell, LastMovedNone, LastFailed, TookTurns, FillCounts}
+use Rattle.ts_packet.specs.Transfers.{IsCounted, Rose, CountsZero, WentWell, LastMovedNone, LastFailed, TookTurns}
 use Rattle.ts_packet.specs.Sinks.{Later, Blamed}
 use Rattle.ts_packet.specs.declared.reader.ReadFault.{ReadFault}
 use Rattle.ts_packet.specs.declared.reader.ReadFault.TheVariants as read_faults
@@ -44,15 +42,6 @@ failed-after a b c h k = record { calls = le_trans h.calls k.calls; failed = cou
 
 pub turns-after : (n : ℕ) (a b c : Tally) → WentWell a b → TookTurns n b c → TookTurns n a c
 turns-after n a b c h k = record { well = well-trans a b c h k.well; turns = rose-after n _ _ _ h.calls k.turns }
-
--- one call that was interrupted, and then the others of a read
-turns-counted : (a b c : ℕ) → IsCounted a b → b ≤ c → Rose (2 ^ 20 - 1) b c → Rose (2 ^ 20) a c
-turns-counted a b c h k t = grind (arith, h.0, h.1)
-
-pub filled-after : (r : Result ℕ FillFault) (room : ℕ) (a b c : Tally) → IsCounted a.calls b.calls → WentWell a b → FillCounts (2 ^ 20 - 1) room r b c → FillCounts (2 ^ 20) room r a c
-filled-after (Ok n) room a b c counted h k = (λ less. none-after a b c h (k.0 less), λ all. well-trans a b c h (k.1 all))
-filled-after (Err fill_faults.Io) room a b c counted h k = failed-after a b c h k
-filled-after (Err fill_faults.Turns) room a b c counted h k = record { well = well-trans a b c h k.well; turns = turns-counted _ _ _ counted k.well.calls k.turns }
 
 -- packets were put well, and then a put failed
 pub blamed-after : (f : PutFault) (a b c : Tally) (full : Bool) → WentWell a b → Blamed f b c full → Blamed f a c full

@@ -1,5 +1,5 @@
 -- What another counter leaves as it was.
-use Rattle.std.proofs.Common.{◌≡◌, ℕ, ◌+◌, ◌*◌, ◌/◌, ◌%◌, ◌<◌, List, [], ◌∷◌, true, false, refl, sym, ap, ◌∙◌, arith, length, slice_index, slice_set, drop, not, ◌&&◌, ◌||◌, ◌==◌, zero, suc, Some}
+use Rattle.std.proofs.Common.{◌≡◌, ℕ, ◌+◌, ◌*◌, ◌/◌, ◌%◌, ◌<◌, List, [], ◌∷◌, true, false, refl, sym, ap, ◌∙◌, arith, length, slice_index, slice_set, drop, not, ◌&&◌, ◌==◌, zero, suc, Some}
 use Rattle.std.specs.Prelude.{nat_eq, is_some, slice_get}
 use Rattle.std.proofs.lemmas.Grind.{common_steps}
 use Rattle.std.proofs.lemmas.List.{drop-drop, get_or-drop}

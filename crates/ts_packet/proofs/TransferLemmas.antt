@@ -2,10 +2,8 @@
 use Rattle.std.proofs.Common.{◌≡◌, ℕ, ◌+◌, ◌-◌, ◌≤◌, List, Option, ◌++◌, arith, length, take, drop, ap, ◌∙◌, le_refl, drop_at, length-take-le, length-append, length-drop, [], Some, None}
 use Rattle.std.proofs.lemmas.Slice.{take-put_mid_below}
 use Rattle.std.specs.Io.KnownBytes.{Consumes, IsAtEnd}
-use Rattle.std.proofs.KnownBytes.{Consumes-trans}
 use Rattle.std.proofs.lemmas.List.{append-nil}
 use Rattle.std.specs.Prelude.{IfSome}
-use Rattle.ts_packet.specs.Transfers.{FallsShort}
 use borrow.Rule.Slice.PartMut.{put_mid, post_of}
 use lib.Seq.{take-add, take-append-le}
 
@@ -26,15 +24,6 @@ take-filled a k n xs ys within fits =
     ∙ ap (λ l. l ++ take n (drop a (put_mid a k xs ys))) (take-put_mid_below a k xs ys a (le_refl a) within)
     ∙ ap (λ l. take a xs ++ take n l) (drop_at (take a xs) (ys ++ after) a (length-take-le a xs within))
     ∙ ap (λ l. take a xs ++ l) (take-append-le n ys after fits)
-
--- a part was read, and what was read behind it falls short of the rest
-pub short-behind : (n room : ℕ) (front : List ℕ) (a b c : Option (List ℕ)) → n ≤ length front → room ≡ length front - n → Consumes a b (take n front)
-    → FallsShort room b c → FallsShort (length front) a c
-short-behind n room front a b c within part read short =
-    let (bs, more, fewer) = short in
-    let size = length-take-le n front within in
-    let whole = length-append (take n front) bs in
-    (take n front ++ bs, Consumes-trans a b c (take n front) bs read more, omega (arith, fewer))
 
 -- where a read finds the end, what was read is all
 pub at_end : (a b c : Option (List ℕ)) (bs none : List ℕ) → Consumes a b bs → Consumes b c none → none ≡ [] → IsAtEnd c → IfSome a (λ all. all ≡ bs)

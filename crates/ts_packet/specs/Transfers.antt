@@ -38,6 +38,13 @@ halts (Ok n) = nat_eq n 0
 halts (Err Interrupted) = false
 halts (Err Failed) = true
 
+-- a call moved some bytes
+pub record MovedSome (old new : Tally) : Type 0 where
+  pub calls : IsCounted old.calls new.calls
+  pub failed : new.failed ≡ old.failed
+  pub zeros : new.zeros ≡ old.zeros
+  pub halted : new.halted ≡ false
+
 -- ---- several calls
 
 -- none failed, and each moved a byte or was interrupted
@@ -71,10 +78,10 @@ pub record TookTurns (n : ℕ) (old new : Tally) : Type 0 where
 
 -- What the calls of a read into this room came to: fewer bytes than there is room for are given only where the last call, and no
 -- other, found the end.
-abbrev pub FillCounts : ℕ → ℕ → Result ℕ FillFault → Tally → Tally → Type 0
-FillCounts turns room (Ok n) old new = (n < room → LastMovedNone old new) × (n ≡ room → WentWell old new)
-FillCounts turns room (Err Io) old new = LastFailed old new
-FillCounts turns room (Err Turns) old new = TookTurns turns old new
+abbrev pub FillCounts : ℕ → Result ℕ FillFault → Tally → Tally → Type 0
+FillCounts room (Ok n) old new = (n < room → LastMovedNone old new) × (n ≡ room → WentWell old new)
+FillCounts room (Err Io) old new = LastFailed old new
+FillCounts room (Err Turns) old new = TookTurns (2 ^ 20) old new
 
 -- what a read in several calls gave: these bytes, and fewer than there is room for only at the end
 pub record Filled (old new : Option (List ℕ)) (buf : List ℕ) (n : ℕ) : Type 0 where

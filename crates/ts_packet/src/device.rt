@@ -23,17 +23,25 @@ pub enum DeviceFault {
 
 /// What bytes are read from. It is never asked for no bytes, so that a read of none tells the end.
 pub trait Source {
-    ghost use Rattle.std.specs.Prelude.{◌≡◌, ℕ, ◌<◌, List, Option, length};
-    ghost use Rattle.std.specs.Io.KnownBytes.{ReadConsumes};
+    ghost use Rattle.std.specs.Prelude.{◌≡◌, ℕ, ◌<◌, List, Option, length, true, false};
+    ghost use Rattle.std.specs.Io.KnownBytes.{Consumes, ReadConsumes};
     ghost use Rattle.std.specs.Io.{ReadsAtMost};
     ghost use Rattle.ts_packet.specs.declared.tally.Tally.{Tally};
-    ghost use Rattle.ts_packet.specs.Transfers.{IsCounted, CountsFailure, CountsZero, halts};
+    ghost use Rattle.ts_packet.specs.Transfers.{IsCounted, MovedSome, CountsFailure, CountsZero, halts};
 
     /// The bytes that reads will give from here on, where they are known.
     ghost remaining: { Self → Option (List ℕ) };
 
     /// What it counts of its reads. A read that moved no byte was at the end.
     ghost counts: { Self → Tally };
+
+    /// Reads as many bytes as the buffer takes, which is not empty, where they lie ready, and answers whether they did. Where they did
+    /// not, nothing has happened.
+    fn read_ready(&mut self, buf: &mut [u8]) -> bool
+        requires some { 0 < length buf.old }
+        ensures bytes { result ≡ true → Consumes (remaining self.old) (remaining self.new) buf.new }
+        ensures counts { result ≡ true → MovedSome (counts self.old) (counts self.new) }
+        ensures apart { result ≡ false → self.new ≡ self.old };
 
     /// Reads into the front of the buffer, which is not empty, and answers how many bytes; 0 only at the end.
     fn read(&mut self, buf: &mut [u8]) -> Result<usize, DeviceFault>
@@ -134,6 +142,12 @@ impl<R: Read> Source for Device<R> {
 
     ghost counts = { λ d. d.tally };
 
+    /// Nothing lies ready.
+    #[inline(always)]
+    fn read_ready(&mut self, _buf: &mut [u8]) -> bool {
+        false
+    }
+
     #[inline(always)]
     fn read(&mut self, buf: &mut [u8]) -> Result<usize, DeviceFault> {
         let answer = answer_of(&self.inner.read(buf));
@@ -178,32 +192,22 @@ impl<R: Read> Source for Buffered<R> {
 
     ghost counts = { λ b. b.device.tally };
 
+    /// Copies them out of the buffer, where it holds so many.
     #[inline(always)]
-    fn read(&mut self, buf: &mut [u8]) -> Result<usize, DeviceFault> {
+    fn read_ready(&mut self, buf: &mut [u8]) -> bool {
         let count = buf.len();
         if self.device.inner.buffer().len() < count {
-            return read_apart(&mut self.device, buf);
+            return false;
         }
         buf.copy_from_slice(&self.device.inner.buffer()[..count]);
         self.device.inner.consume(count);
         self.device.tally.count(&Ok(count));
-        Ok(count)
+        true
     }
-}
 
-/// Reads. It stands by itself, so that a read that a buffer serves does not pay for the room that this one takes.
-#[cold]
-#[inline(never)]
-fn read_apart<S: Source>(source: &mut S, buf: &mut [u8]) -> Result<usize, DeviceFault>
-    requires some { 0 < length buf.old }
-    ensures bound { ReadsAtMost result buf.new }
-    ensures bytes { ReadConsumes (S.remaining source.old) (S.remaining source.new) result buf.new }
-    ensures calls { IsCounted (S.counts source.old).calls (S.counts source.new).calls }
-    ensures failures { CountsFailure result (S.counts source.old).failed (S.counts source.new).failed }
-    ensures zeros { CountsZero result (S.counts source.old).zeros (S.counts source.new).zeros }
-    ensures halted { (S.counts source.new).halted ≡ halts result }
-{
-    source.read(buf)
+    fn read(&mut self, buf: &mut [u8]) -> Result<usize, DeviceFault> {
+        self.device.read(buf)
+    }
 }
 
 impl<W: io::Write> Target for Device<W> {

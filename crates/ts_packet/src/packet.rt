@@ -108,7 +108,7 @@ impl Packet {
         ensures size { length self.new ≡ 188 }
         ensures ok { IfOk result (λ n. Filled (S.remaining source.old) (S.remaining source.new) self.new n) }
         ensures err { OnErr result (FallsShort 188 (S.remaining source.old) (S.remaining source.new)) }
-        ensures counts { FillCounts (2 ^ 20) 188 result (S.counts source.old) (S.counts source.new) }
+        ensures counts { FillCounts 188 result (S.counts source.old) (S.counts source.new) }
         ensures few { (S.counts source.new).calls ≤ (S.counts source.old).calls + 2 ^ 20 }
         ensures later { Later (S.counts source.old) (S.counts source.new) }
     {
@@ -294,7 +294,7 @@ impl Packet {
     pub fn has_scrambled_payload(&self) -> bool
         ensures { result ≡ (is_some (payload self.now) && scrambled self.now) }
     {
-        self.has_payload() && self.scrambled()
+        self.scrambled() && self.has_payload()
     }
 
     /// A packet of the PID that is not marked in error.

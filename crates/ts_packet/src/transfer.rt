@@ -29,7 +29,7 @@ pub enum FillFault {
 /// Reads until the buffer is full or the source ends, and answers how many bytes there are. An interrupted read is tried again.
 /// Behind a failure or the end nothing more is read.
 ///
-/// The first read stands apart: mostly it gives all, and the size of what it copies is known where this is compiled in.
+/// Bytes that lie ready are taken here: the size of what is copied is known where this is compiled in.
 ///
 /// # Errors
 ///
@@ -40,38 +40,29 @@ pub fn fill<S: Source>(source: &mut S, buf: &mut [u8]) -> Result<usize, FillFaul
     requires { 0 < length buf.old }
     ensures ok { IfOk result (λ n. Filled (S.remaining source.old) (S.remaining source.new) buf.new n) }
     ensures err { OnErr result (FallsShort (length buf.new) (S.remaining source.old) (S.remaining source.new)) }
-    ensures counts { FillCounts (2 ^ 20) (length buf.new) result (S.counts source.old) (S.counts source.new) }
+    ensures counts { FillCounts (length buf.new) result (S.counts source.old) (S.counts source.new) }
     ensures few { (S.counts source.new).calls ≤ (S.counts source.old).calls + 2 ^ 20 }
     ensures later { Later (S.counts source.old) (S.counts source.new) }
 {
-    match source.read(buf) {
-        Ok(n) => {
-            if n == 0 || n == buf.len() {
-                return Ok(n);
-            }
-            match fill_rest(source, &mut buf[n..]) {
-                Ok(more) => Ok(n + more),
-                Err(fault) => Err(fault),
-            }
-        }
-        Err(DeviceFault::Interrupted) => fill_rest(source, buf),
-        Err(DeviceFault::Failed) => Err(FillFault::Io),
+    if source.read_ready(buf) {
+        return Ok(buf.len());
     }
+    fill_in_turns(source, buf)
 }
 
-/// The further reads of `fill`.
+/// Fills the buffer as `fill` does, in as many reads as it takes.
 #[cold]
 #[inline(never)]
-fn fill_rest<S: Source>(source: &mut S, buf: &mut [u8]) -> Result<usize, FillFault>
+fn fill_in_turns<S: Source>(source: &mut S, buf: &mut [u8]) -> Result<usize, FillFault>
     requires { 0 < length buf.old }
     ensures ok { IfOk result (λ n. Filled (S.remaining source.old) (S.remaining source.new) buf.new n) }
     ensures err { OnErr result (FallsShort (length buf.new) (S.remaining source.old) (S.remaining source.new)) }
-    ensures counts { FillCounts (2 ^ 20 - 1) (length buf.new) result (S.counts source.old) (S.counts source.new) }
-    ensures few { (S.counts source.new).calls ≤ (S.counts source.old).calls + (2 ^ 20 - 1) }
+    ensures counts { FillCounts (length buf.new) result (S.counts source.old) (S.counts source.new) }
+    ensures few { (S.counts source.new).calls ≤ (S.counts source.old).calls + 2 ^ 20 }
     ensures later { Later (S.counts source.old) (S.counts source.new) }
 {
     let mut at = 0;
-    for _turn in 0..MORE_TURNS {
+    for _turn in 0..MAX_TURNS {
         match source.read(&mut buf[at..]) {
             Ok(0) => return Ok(at),
             Ok(n) => {
@@ -89,7 +80,7 @@ fn fill_rest<S: Source>(source: &mut S, buf: &mut [u8]) -> Result<usize, FillFau
 
 /// Writes all the bytes. An interrupted write is tried again.
 ///
-/// The first write stands apart, as the first read of `fill` does.
+/// The first write stands apart: mostly it takes all, and the size of what it copies is known where this is compiled in.
 ///
 /// # Errors
 ///

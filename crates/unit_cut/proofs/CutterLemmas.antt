@@ -1,6 +1,6 @@
 -- One packet through the cutter, case by case.
 use Rattle.std.specs.Prelude.{ℤ, IfSome}
-use Rattle.std.proofs.Common.{◌≡◌, ℕ, List, [], ◌∷◌, Bool, true, false, not, refl, sym, ap, ◌∙◌, Option, None, Some, ◌||◌, ◌&&◌, if◌then◌else◌, Ok, is_some}
+use Rattle.std.proofs.Common.{◌≡◌, ℕ, List, [], ◌∷◌, Bool, true, false, not, refl, sym, ap, ◌∙◌, Option, None, Some, ◌&&◌, if◌then◌else◌, Ok, is_some}
 use Rattle.pes_time.specs.Line.{lift}
 use Rattle.ts_packet.specs.Fields.{on, payload_on, payload, scrambled}
 use Rattle.ts_packet.specs.Numbering.{Step, Kept, Dropped}

@@ -14,4 +14,3 @@ pub mod GrowLemmas
 pub mod RunLemmas
 pub mod StopLemmas
 pub mod BlameLemmas
-pub mod SlotLemmas

@@ -12,7 +12,6 @@ use Rattle.unit_cut.specs.Cutting.{inside}
 use Rattle.unit_cut.specs.declared.distance.Distance.{Distance}
 use Rattle.unit_cut.specs.declared.timing.Timing.{Timing}
 use Rattle.unit_cut.specs.declared.cutter.Cutter.{Cutter}
-use Rattle.unit_cut.specs.declared.slots.Slots.{Slots}
 
 -- the greatest time is so far past the begin; 2^40 stands for all that is farther
 abbrev pub IsDistance : ℤ → ℤ → ℤ → Type 0
@@ -75,13 +74,3 @@ CutAnswers k p past (Ok true) q = (unit_fault (k.pid ∷ []) p past ≡ None) ×
     × (q ≡ numbered k.pid p (steps (goes_by k) (k.pid ∷ []) k.pid past))
 CutAnswers k p past (Ok false) q = (unit_fault (k.pid ∷ []) p past ≡ None) × (is_cut (goes_by k) (k.pid ∷ []) k.pid p past ≡ true)
 CutAnswers k p past (Err f) q = unit_fault (k.pid ∷ []) p past ≡ Some f
-
--- ---- the two packets of a run
-
--- the one that is read and passed on
-abbrev pub read_of : Slots → List ℕ
-read_of s = if s.is_odd then s.odd else s.even
-
--- the one that is kept
-abbrev pub kept_of : Slots → List ℕ
-kept_of s = if s.is_odd then s.even else s.odd

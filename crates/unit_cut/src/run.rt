@@ -112,7 +112,8 @@ pub fn cut<P: PacketSource, K: PacketSink>(
     ensures leads { K.leads out.old out.new }
 {
     let mut cutter = Cutter::new(pid, from, length);
-    let mut slots = Slots::new();
+    let (mut next, mut kept) = (Packet::null(), Packet::null());
+    let mut slots = Slots::new(&mut next, &mut kept);
     loop {
         match slots.read(network) {
             Ok(true) => {

@@ -1,7 +1,7 @@
 use Rattle.std.proofs.Common.{[], ◌∷◌, ◌++◌, sym, subst, reverse}
 use Rattle.std.proofs.lemmas.List.{append-nil}
 use Rattle.ts_packet.proofs.CountLemmas.{well-refl, well-trans}
-use Rattle.unit_cut.specs.Standing.{CutterStandsFor, read_of}
+use Rattle.unit_cut.specs.Standing.{CutterStandsFor}
 use Rattle.unit_cut.proofs.RunLemmas.{passed_none, passed_more, ends, the_cut, is_the_cut, cut_of_fewer}
 use Rattle.unit_cut.proofs.StopLemmas.{read_stops, pass_stops}
 use Rattle.ts_packet.proofs.RunBlameLemmas.{given_none, given_more, on-refl, on-more}
@@ -20,7 +20,7 @@ loop-slots-init g c = record {
 pub loop-slots-preserved : goal.loop-slots-preserved
 loop-slots-preserved g c =
     let (ps, n, h) = c.loop-slots.invariant.passed in
-    let p = read_of c.read.new.self in
+    let p = c.read.new.self.next.now in
     let r = rw c.in-Ok-true.field-0-test at c.in-Ok-true.ensures.ok in
     record {
       whole = c.in-Ok-true.ensures.broken;
@@ -45,7 +45,7 @@ returns-in-Ok-false-clause-ok g c = λ start before w.
 pub returns-in-Err-pass-clause-err : goal.returns-in-Err-pass-clause-err
 returns-in-Err-pass-clause-err g c = λ start before w.
     let (ps, n, h) = c.loop-slots.invariant.passed in
-    let p = read_of c.read.new.self in
+    let p = c.read.new.self.next.now in
     let r = rw c.in-Ok-true.field-0-test at c.in-Ok-true.ensures.ok in
     let k = the_cut c.args.pid c.args.from c.args.length (ps ++ p ∷ []) in
     let (b, i) = cut_of_fewer k c.args.pid c.args.from c.args.length ps p (is_the_cut c.args.pid c.args.from c.args.length (ps ++ p ∷ [])) in

@@ -1,6 +1,5 @@
 use Rattle.std.proofs.Common.{◌≡◌, ◌-◌, ◌^◌, ◌++◌, List, ℕ, Option, false}
 use Rattle.ts_packet.specs.Transfers.{WentWell}
-use Rattle.unit_cut.specs.Standing.{kept_of}
 use Rattle.ts_packet.specs.Sources.{HasGiven, ReadOn}
 use Rattle.unit_cut.specs.Runs.{HasPassed}
 use Rattle.unit_cut.proofs.run.cut.Given as goal
@@ -14,7 +13,7 @@ invariant-loop-slots g l = record {
   wrote : WentWell (g.K.PacketSink.counts l.initial.out) (g.K.PacketSink.counts l.out);
   passed : (ps : List (List ℕ)) × HasGiven (g.P.PacketSource.left l.initial.network) (g.P.PacketSource.left l.network) (g.P.PacketSource.given l.initial.network) (g.P.PacketSource.given l.network) ps
       × ((start : Option (List ℕ)) (before : List (List ℕ)) → g.K.PacketSink.holds l.initial.out start before
-      → HasPassed (λ out. g.K.PacketSink.holds l.out start (before ++ out)) l.cutter (kept_of l.slots) l.fn.pid l.fn.from l.fn.length ps);
+      → HasPassed (λ out. g.K.PacketSink.holds l.out start (before ++ out)) l.cutter l.slots.kept.now l.fn.pid l.fn.from l.fn.length ps);
 }
 
 abbrev pub decreases-loop-slots : goal.decreases-loop-slots

@@ -1,27 +1,21 @@
-use Rattle.std.proofs.Common.{◌≡◌, ◌∷◌, ap, subst, ◌∙◌, reverse}
+use Rattle.std.proofs.Common.{◌≡◌, ◌∷◌, ap, refl, subst, sym, ◌∙◌, reverse, true, false}
 use Rattle.ts_packet.specs.Fields.{payload_on}
+use Rattle.ts_packet.specs.Following.{kept_after}
 use Rattle.unit_cut.specs.Standing.{CutterStandsFor}
-use Rattle.unit_cut.proofs.SlotLemmas.{turned_even, turned_odd}
 use Rattle.unit_cut.proofs.slots.Slots.pass.Goals as goal
 
-pub returns-in-Ok-clause-ok : goal.returns-in-Ok-clause-ok
-returns-in-Ok-clause-ok g c = λ k start before ps b s h.
-    let p = c.args.self.now.odd in
-    let last : c.in-Ok.is_last ≡ payload_on k.pid p = c.in-Ok.ensures.last ∙ ap (λ n. payload_on n p) s.same in
-    let done = c.in-Ok.ensures.ok k start before ps (rw c.if-self.true at b) (rw c.if-self.true at s) h in
-    rw c.if-self.true (done.0, subst (λ kept. CutterStandsFor c.pass.new.cutter kept k (p ∷ reverse ps)) (turned_odd _ _ _ _ last) done.1, done.2)
+pub returns-then-is_last-clause-ok : goal.returns-then-is_last-clause-ok
+returns-then-is_last-clause-ok g c = λ k start before ps b s h.
+    let p = c.args.self.now.next.now in
+    let last : payload_on k.pid p ≡ true = sym (c.in-Ok.ensures.last ∙ ap (λ n. payload_on n p) s.same) ∙ c.if-is_last.true in
+    let turned : kept_after k.pid p c.pass.new.packet c.args.self.now.kept.now ≡ c.swap.new.y.now = rw last (sym (ap (λ r. r.now) c.swap.ensures.y_after)) in
+    let done = c.in-Ok.ensures.ok k start before ps b s h in
+    (done.0, subst (λ kept. CutterStandsFor c.pass.new.cutter kept k (p ∷ reverse ps)) turned done.1, done.2)
 
-pub returns-in-Err-clause-err : goal.returns-in-Err-clause-err
-returns-in-Err-clause-err g c = λ k start before ps b s h.
-    rw c.if-self.true (c.in-Err.ensures.err k start before ps (rw c.if-self.true at b) (rw c.if-self.true at s) h)
-
-pub returns-in-Ok-pass-clause-ok : goal.returns-in-Ok-pass-clause-ok
-returns-in-Ok-pass-clause-ok g c = λ k start before ps b s h.
-    let p = c.args.self.now.even in
-    let last : c.in-Ok-pass.is_last ≡ payload_on k.pid p = c.in-Ok-pass.ensures.last ∙ ap (λ n. payload_on n p) s.same in
-    let done = c.in-Ok-pass.ensures.ok k start before ps (rw c.if-self.false at b) (rw c.if-self.false at s) h in
-    rw c.if-self.false (done.0, subst (λ kept. CutterStandsFor c.pass-else-self.new.cutter kept k (p ∷ reverse ps)) (turned_even _ _ _ _ last) done.1, done.2)
-
-pub returns-in-Err-pass-clause-err : goal.returns-in-Err-pass-clause-err
-returns-in-Err-pass-clause-err g c = λ k start before ps b s h.
-    rw c.if-self.false (c.in-Err-pass.ensures.err k start before ps (rw c.if-self.false at b) (rw c.if-self.false at s) h)
+pub returns-else-is_last-clause-ok : goal.returns-else-is_last-clause-ok
+returns-else-is_last-clause-ok g c = λ k start before ps b s h.
+    let p = c.args.self.now.next.now in
+    let last : payload_on k.pid p ≡ false = sym (c.in-Ok.ensures.last ∙ ap (λ n. payload_on n p) s.same) ∙ c.if-is_last.false in
+    let turned : kept_after k.pid p c.pass.new.packet c.args.self.now.kept.now ≡ c.args.self.now.kept.now = rw last refl in
+    let done = c.in-Ok.ensures.ok k start before ps b s h in
+    (done.0, subst (λ kept. CutterStandsFor c.pass.new.cutter kept k (p ∷ reverse ps)) turned done.1, done.2)

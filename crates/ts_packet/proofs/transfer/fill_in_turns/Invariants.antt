@@ -1,7 +1,7 @@
 use Rattle.std.proofs.Common.{◌≡◌, ◌+◌, ◌≤◌, ◌<◌, length, take}
 use Rattle.std.specs.Io.KnownBytes.{Consumes}
 use Rattle.ts_packet.specs.Transfers.{Rose, WentWell}
-use Rattle.ts_packet.proofs.transfer.fill_rest.Given as goal
+use Rattle.ts_packet.proofs.transfer.fill_in_turns.Given as goal
 
 abbrev pub invariant-loop-turn : goal.invariant-loop-turn
 invariant-loop-turn g l = record {

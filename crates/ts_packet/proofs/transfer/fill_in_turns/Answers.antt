@@ -4,8 +4,8 @@ use Rattle.std.specs.Io.KnownBytes.{Consumes}
 use Rattle.std.proofs.KnownBytes.{Consumes-trans, Consumes-kept}
 use borrow.Rule.Slice.PartMut.{put_mid}
 use Rattle.ts_packet.proofs.TransferLemmas.{length-filled, take-filled}
-use Rattle.ts_packet.proofs.transfer.fill_rest.Goals as goal
-use Rattle.ts_packet.proofs.transfer.fill_rest.Goals.{in-Ok+else-at-buf, in-Err-Interrupted}
+use Rattle.ts_packet.proofs.transfer.fill_in_turns.Goals as goal
+use Rattle.ts_packet.proofs.transfer.fill_in_turns.Goals.{in-Ok+else-at-buf, in-Err-Interrupted}
 
 pub loop-turn-preserved : goal.loop-turn-preserved
 loop-turn-preserved g c =
