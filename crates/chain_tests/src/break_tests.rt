@@ -1,8 +1,8 @@
 //! Breaks and the units about them: where each unit of network and advertisement goes out.
 
-use crate::Item::*;
-use crate::Stream;
+use crate::item::Item::*;
 use crate::runs::{Filed, Row, SEVEN, expect_rows, expect_splice, library};
+use crate::stream::Stream;
 use std::alloc::{AllocError, Global};
 use std::test::*;
 

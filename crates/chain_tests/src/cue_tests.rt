@@ -1,8 +1,8 @@
 //! Cues of all kinds before a break and in it, each with what becomes of the network and of the report.
 
-use crate::Item::{self, *};
-use crate::Stream;
+use crate::item::Item::{self, *};
 use crate::runs::{SEVEN, expect_splice, library};
+use crate::stream::Stream;
 use std::alloc::{AllocError, Global};
 use std::process::Abort;
 use std::test::*;

@@ -1,10 +1,10 @@
 //! Runs over devices that fail at each of their calls in turn, networks and messages that break off anywhere, and an automation that fails.
 //! `run_splice` is handed no allocator; `run` has that of its chain, and is shown to need nothing of it.
 
-use crate::Item::{self, *};
-use crate::Stream;
 use crate::fail_automation::FailAutomation;
+use crate::item::Item::{self, *};
 use crate::runs::{SEVEN, config, library};
+use crate::stream::Stream;
 use ad_library::AdLibrary;
 use chain_engine::{Chain, Report, RunFault, run, run_splice};
 use failing_devices::{Calls, Ending, FailSource, FailTarget};

@@ -22,13 +22,12 @@ mod equality;
 mod fail_automation;
 #[cfg(test)]
 mod fail_tests;
-pub mod item;
+#[cfg(test)]
+mod item;
 #[cfg(test)]
 mod lost_tests;
 pub mod packets;
 #[cfg(test)]
 mod runs;
-pub mod stream;
-
-pub use item::Item;
-pub use stream::Stream;
+#[cfg(test)]
+mod stream;

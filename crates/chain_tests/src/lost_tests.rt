@@ -1,9 +1,9 @@
 //! Networks of whose cues some are lost, or come twice, and long ones, in which the clock goes round.
 
-use crate::Item::{self, *};
-use crate::Stream;
 use crate::fail_automation::FailAutomation;
+use crate::item::Item::{self, *};
 use crate::runs::{Filed, SEVEN, config, difference, expect_splice, library};
+use crate::stream::Stream;
 use chain_engine::{Chain, run_inject};
 use std::alloc::{AllocError, Global};
 use std::test::*;

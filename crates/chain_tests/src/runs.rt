@@ -1,7 +1,8 @@
 //! Runs over streams made by hand, and what is expected of them.
 
-use crate::Item::*;
-use crate::{Item, Stream};
+use crate::item::Item;
+use crate::item::Item::*;
+use crate::stream::Stream;
 use ad_library::AdLibrary;
 use chain_engine::{RunFault, run_splice};
 use psi_tables::Config;

@@ -38,13 +38,6 @@ halts (Ok n) = nat_eq n 0
 halts (Err Interrupted) = false
 halts (Err Failed) = true
 
--- a call moved some bytes
-pub record MovedSome (old new : Tally) : Type 0 where
-  pub calls : IsCounted old.calls new.calls
-  pub failed : new.failed ≡ old.failed
-  pub zeros : new.zeros ≡ old.zeros
-  pub halted : new.halted ≡ false
-
 -- ---- several calls
 
 -- none failed, and each moved a byte or was interrupted

@@ -27,7 +27,7 @@ pub trait Source {
     ghost use Rattle.std.specs.Io.KnownBytes.{Consumes, ReadConsumes};
     ghost use Rattle.std.specs.Io.{ReadsAtMost};
     ghost use Rattle.ts_packet.specs.declared.tally.Tally.{Tally};
-    ghost use Rattle.ts_packet.specs.Transfers.{IsCounted, MovedSome, CountsFailure, CountsZero, halts};
+    ghost use Rattle.ts_packet.specs.Transfers.{IsCounted, CountsFailure, CountsZero, halts};
 
     /// The bytes that reads will give from here on, where they are known.
     ghost remaining: { Self → Option (List ℕ) };
@@ -35,12 +35,12 @@ pub trait Source {
     /// What it counts of its reads. A read that moved no byte was at the end.
     ghost counts: { Self → Tally };
 
-    /// Reads as many bytes as the buffer takes, which is not empty, where they lie ready, and answers whether they did. Where they did
-    /// not, nothing has happened.
+    /// Fills `buf`, which is not empty, with bytes that lie ready, and answers whether it did. Where fewer lie ready, nothing has
+    /// happened. It is no read, and is not counted.
     fn read_ready(&mut self, buf: &mut [u8]) -> bool
         requires some { 0 < length buf.old }
         ensures bytes { result ≡ true → Consumes (remaining self.old) (remaining self.new) buf.new }
-        ensures counts { result ≡ true → MovedSome (counts self.old) (counts self.new) }
+        ensures counts { counts self.new ≡ counts self.old }
         ensures apart { result ≡ false → self.new ≡ self.old };
 
     /// Reads into the front of the buffer, which is not empty, and answers how many bytes; 0 only at the end.
@@ -156,7 +156,7 @@ impl<R: Read> Source for Device<R> {
     }
 }
 
-/// A buffered reader of std, with its counts. A read that the buffer can serve whole copies its bytes, and calls nothing.
+/// A buffered reader of std, with its counts. The bytes that its buffer holds lie ready.
 #[derive(Drop)]
 pub struct Buffered<R: Read> {
     device: Device<BufReader<R>>,
@@ -192,7 +192,7 @@ impl<R: Read> Source for Buffered<R> {
 
     ghost counts = { λ b. b.device.tally };
 
-    /// Copies them out of the buffer, where it holds so many.
+    /// Copies them out of the buffer of the reader, where that holds so many.
     #[inline(always)]
     fn read_ready(&mut self, buf: &mut [u8]) -> bool {
         let count = buf.len();
@@ -201,7 +201,6 @@ impl<R: Read> Source for Buffered<R> {
         }
         buf.copy_from_slice(&self.device.inner.buffer()[..count]);
         self.device.inner.consume(count);
-        self.device.tally.count(&Ok(count));
         true
     }
 
