@@ -1,6 +1,6 @@
 -- What a script gives, take by take: from one state of it to a later one.
 use Rattle.std.specs.Prelude.{◌≡◌, ℕ, zero, suc, ◌+◌, ◌^◌, ◌<◌, List, [], ◌∷◌, ◌++◌, length}
-use Rattle.std.proofs.Common.{refl, sym, ap, subst, ◌∙◌, arith}
+use Rattle.std.proofs.Common.{refl, sym, ap, ◌∙◌, arith}
 use Rattle.std.proofs.lemmas.List.{length-append}
 use Rattle.chain_engine.specs.Automation.{Take, piece}
 use Rattle.automations.specs.declared.script.Script.{Script}

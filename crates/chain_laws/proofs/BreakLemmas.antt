@@ -1,5 +1,5 @@
 -- The events that a switch is armed with are the accepted ones.
-use Rattle.std.specs.Prelude.{◌<ℤ◌, ◌≤ℤ◌, ◌+ℤ◌, ℤ, pos, filter, count_by, Some}
+use Rattle.std.specs.Prelude.{◌≤ℤ◌, ◌+ℤ◌, ℤ, pos, filter, count_by, Some}
 use Rattle.std.proofs.Common.{◌≡◌, ◌⊎◌, inl, inr, refl, sym, ap, ◌∙◌, subst, ℕ, ◌<◌, List, [], ◌∷◌, ◌++◌, length, Bool, true, arith}
 use Rattle.std.proofs.lemmas.Int.{ints}
 use Rattle.std.proofs.lemmas.List.Sums.{length-filter}
@@ -9,7 +9,6 @@ use Rattle.event_table.specs.Standing.{Standing}
 use Rattle.armed_laws.specs.Laws.{IsApartOf, NoneMeet}
 use Rattle.armed_laws.proofs.MeetLemmas.{none-meet}
 use Rattle.splice_plans.specs.Playing.{by_start}
-use Rattle.injector.specs.Turns.{events}
 use Rattle.injector.specs.Steps.{Step, Message, Packet, turns_in, cued}
 use Rattle.cue_laws.specs.Events.{LineEvent}
 use Rattle.cue_laws.specs.Events.{events as line_events}

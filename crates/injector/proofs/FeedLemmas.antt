@@ -1,5 +1,5 @@
 -- A packet that goes out: the greatest time rises, and its tables have room for the entry of the cues.
-use Rattle.std.proofs.Common.{◌≡◌, ℕ, ◌==◌, Bool, true, false, ◌&&◌, cond, List, [], ◌∷◌, length, refl, ap, sym, ◌∙◌, subst, arith}
+use Rattle.std.proofs.Common.{◌≡◌, ℕ, Bool, true, false, cond, List, [], ◌∷◌, length, refl, ap, sym, ◌∙◌, subst, arith}
 use Rattle.std.specs.Prelude.{ℤ, map, All, nat_lt, Option, None, Some, option_map}
 use Rattle.std.specs.Int.{int_max}
 use Rattle.std.specs.Option.{option_or}

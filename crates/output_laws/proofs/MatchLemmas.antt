@@ -1,5 +1,5 @@
 -- The last payload packets of a PID on the network and in the output: how one more packet moves them. Over plain variables.
-use Rattle.std.proofs.Common.{◌≡◌, ℕ, ◌+◌, ◌%◌, List, Bool, true, false, ◌&&◌, refl, sym, Option, None, Some, arith}
+use Rattle.std.proofs.Common.{◌≡◌, ℕ, ◌+◌, ◌%◌, List, Bool, true, false, refl, sym, Option, None, Some, arith}
 use Rattle.ts_packet.specs.declared.follower.Last.{Last}
 use Rattle.ts_packet.specs.Fields.{number, alike, renumbered}
 use Rattle.ts_packet.specs.Duplicates.{repeats_last, IsNext, IsSame}

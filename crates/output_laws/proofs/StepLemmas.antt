@@ -1,6 +1,6 @@
 -- One move more: what the network has brought, what goes out, and the counters.
 use Rattle.std.specs.Prelude.{if◌then◌else◌, ◌==◌, count_by, is_some, cond}
-use Rattle.std.proofs.Common.{◌≡◌, ℕ, ◌+◌, ◌<◌, List, [], ◌∷◌, ◌++◌, Bool, true, false, ◌&&◌, refl, sym, ap, ◌∙◌, Option, None, Some, arith, length}
+use Rattle.std.proofs.Common.{◌≡◌, ℕ, ◌+◌, ◌<◌, List, [], ◌∷◌, Bool, true, false, ◌&&◌, refl, sym, ap, ◌∙◌, Option, None, Some, arith, length}
 use Rattle.std.proofs.lemmas.List.Sums.{sum_by-cons}
 use Rattle.ts_packet.specs.Fields.{in_error, pid_of, payload, payload_on, on, pcr, renumbered}
 use Rattle.ts_packet.specs.Numbering.{Step, Inserted, is_inserted, is_dropped, moved}

@@ -1,6 +1,6 @@
 -- What is known of the events of a past, with a packet behind which they are the same.
 use Rattle.std.proofs.Common.{◌≡◌, ℕ, ◌<◌, List, [], ◌∷◌, Bool, false, ◌&&◌, inl, inr, refl, ap, ◌∙◌, subst, Option, None, Some, if◌then◌else◌}
-use Rattle.std.specs.Prelude.{ℤ, ◌+ℤ◌, ◌≤ℤ◌, find, option_map, All, Contains}
+use Rattle.std.specs.Prelude.{ℤ, find, option_map, All, Contains}
 use Rattle.std.specs.List.{AllByRecursion}
 use Rattle.std.specs.Ordering.{int_eq}
 use Rattle.std.proofs.lemmas.List.Elements.{All-head, All-tail}

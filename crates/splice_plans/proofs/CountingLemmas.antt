@@ -1,5 +1,5 @@
 -- The packets of a stream with the counters that they go out with.
-use Rattle.std.proofs.Common.{◌≡◌, ℕ, ◌+◌, ◌%◌, ◌<◌, List, [], ◌∷◌, Bool, false, refl, sym, ap, ◌∙◌, length}
+use Rattle.std.proofs.Common.{◌≡◌, ℕ, ◌+◌, ◌%◌, List, [], ◌∷◌, Bool, false, refl, sym, ap, ◌∙◌, length}
 use Rattle.std.specs.Prelude.{is_some}
 use Rattle.ts_packet.specs.Fields.{number, renumbered, with_number, payload}
 use Rattle.ts_packet.specs.Numbering.{Step, moved, number_out}

@@ -1,5 +1,5 @@
 -- What a cutter stands for after the packets that it has seen.
-use Rattle.std.specs.Prelude.{◌≡◌, ℕ, ◌^◌, ◌⊎◌, List, [], ◌∷◌, Bool, true, false, if◌then◌else◌, Option, Some, None, Result, Ok, Err, ℤ, pos, ◌+ℤ◌, ◌-ℤ◌, ◌≤ℤ◌, IfSome}
+use Rattle.std.specs.Prelude.{◌≡◌, ℕ, ◌^◌, ◌⊎◌, List, [], ◌∷◌, Bool, true, false, Option, Some, None, Result, Ok, Err, ℤ, pos, ◌+ℤ◌, ◌-ℤ◌, ◌≤ℤ◌, IfSome}
 use Rattle.pes_time.specs.Line.{lift}
 use Rattle.ts_packet.specs.Numbering.{Counts}
 use Rattle.unit_stream.specs.Times.{high, unit_time, first_time}

@@ -1,5 +1,5 @@
 -- What one packet more does to the greatest time, and what is wrong with it, for any list of switched PIDs.
-use Rattle.std.proofs.Common.{◌≡◌, ℕ, List, ◌∷◌, true, false, ap, ◌∙◌, Some, None, if◌then◌else◌, Bool, Option, [], refl, ◌||◌}
+use Rattle.std.proofs.Common.{◌≡◌, ℕ, List, ◌∷◌, true, false, ap, ◌∙◌, Some, None, if◌then◌else◌, Bool, Option, [], refl}
 use Rattle.pes_time.specs.Stamps.{stamp_of, is_split}
 use Rattle.ts_packet.specs.Fields.{payload_on, unit_start, bytes, on, on_one}
 use Rattle.ts_packet.specs.Duplicates.{original, repeats}
