@@ -186,7 +186,9 @@ impl<R: Read> Buffered<R> {
 }
 
 impl<R: Read> Source for Buffered<R> {
-    ghost use Rattle.std.specs.Io.Buffered.{reader_remaining};
+    ghost use Rattle.std.specs.Prelude.{◌≡◌, length, nat_le, true, false};
+    ghost use Rattle.std.specs.Io.Buffered.{reader_buffer, reader_remaining};
+    ghost use Rattle.std.specs.Io.KnownBytes.{Consumes};
 
     ghost remaining = { λ b. reader_remaining R.remaining b.device.inner };
 
@@ -194,7 +196,13 @@ impl<R: Read> Source for Buffered<R> {
 
     /// Copies them out of the buffer of the reader, where that holds so many.
     #[inline(always)]
-    fn read_ready(&mut self, buf: &mut [u8]) -> bool {
+    fn read_ready(&mut self, buf: &mut [u8]) -> bool
+        ensures ready { result ≡ nat_le (length buf.old) (length (reader_buffer self.old.device.inner)) }
+        ensures bytes { result ≡ true → Consumes (reader_remaining R.remaining self.old.device.inner)
+            (reader_remaining R.remaining self.new.device.inner) buf.new }
+        ensures counts { self.new.device.tally ≡ self.old.device.tally }
+        ensures apart { result ≡ false → self.new ≡ self.old }
+    {
         let count = buf.len();
         if self.device.inner.buffer().len() < count {
             return false;
