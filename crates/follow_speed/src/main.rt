@@ -1,5 +1,5 @@
 //! Follows the first program of the network on standard input to the network's end, and writes it nowhere: the program by which
-//! `bench/run` times the follower. It prints the first thing that is wrong with the network, or that nothing is.
+//! `bench/follow` times the follower. It prints the first thing that is wrong with the network, or that nothing is.
 #![tactic(auto)]
 
 ghost use Rattle.std.specs.Prelude.{OnOk, IfErr};
