@@ -69,6 +69,15 @@ part_written pid n start access h ys part e f s =
     nothing_behind (188 - (188 - length part)) (drop (188 - length part) h) (rw (length-drop (188 - length part) h) (omega arith)) in
     rw (t, f, d) (ap (λ l. F ++ l) (append-nil part))
 
+-- a packet that the part fills, as it is written
+pub full_written : (pid number n : ℕ) (ys part : List ℕ) → number ≡ pid → number < 8192 → n < 16 → ys ≡ part → length part ≡ 184
+    → 71 ∷ (number / 256 % 32) ∷ number % 256 ∷ (16 + n % 16) ∷ (ys ++ []) ≡ unit_packet pid n false false part
+unfolding unit_packet
+full_written pid number n ys part e h k g l =
+    let a : pid / 256 % 32 ≡ pid / 256 + 0 = omega arith in
+    let b : n % 16 ≡ n = omega arith in
+    rw (l, e, g, append-nil, a, b) refl
+
 -- the part at the end of a packet, and another in its place
 module _ (pid n : ℕ) (start access : Bool) (size : ℕ) (raw part : List ℕ) (made : raw ≡ unit_packet pid n start access part) (is_size : size ≡ length part) (few : size ≤ 184) where
   abbrev head : List ℕ

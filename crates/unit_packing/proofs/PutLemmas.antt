@@ -1,5 +1,6 @@
 -- Packets of a unit put one by one.
-use Rattle.std.proofs.Common.{◌≡◌, ℕ, ◌+◌, ◌-◌, ◌%◌, ◌<◌, ◌≤◌, List, [], ◌∷◌, ◌++◌, None, Ok, refl, sym, ap, ◌∙◌, arith, length, take, drop, min, append_assoc, true, false, Bool, slice_index}
+use Rattle.std.proofs.Common.{◌≡◌, ℕ, ◌+◌, ◌-◌, ◌%◌, ◌<◌, ◌≤◌, List, [], ◌∷◌, ◌++◌, None, Result, Ok, Err, refl, sym, ap, ◌∙◌, arith, length, take, drop, min, append_assoc, true, false, Bool, slice_index}
+use Rattle.std.specs.Result.{IfErr}
 use Rattle.std.proofs.lemmas.List.{length-drop, length-take, drop-drop, append-nil}
 use Rattle.ts_packet.specs.Filling.{packets_for}
 use Rattle.ts_packet.specs.Numbering.{Step, Inserted, Counts}
@@ -65,8 +66,19 @@ counted_more counter put packet steps h = rw (put_in-more put packet steps) h
 pub rest_done : (pid n m at : ℕ) (bs : List ℕ) (put : List (List ℕ)) → length bs ≤ at → rest_unit_packets pid n bs ≡ put ++ rest_unit_packets pid m (drop at bs) → rest_unit_packets pid n bs ≡ put
 rest_done pid n m at bs put h e = e ∙ ap (λ x. put ++ x) (rest-none pid m (drop at bs) (length-drop at bs ∙ omega arith)) ∙ append-nil put
 
+-- the last packet, of fewer bytes
+pub last_put : (pid n0 n at : ℕ) (bs packet : List ℕ) (put : List (List ℕ)) (steps : List Step) → at < length bs → length bs - at < 184 → packet ≡ unit_packet pid n false false (take (length bs - at) (drop at bs))
+    → rest_unit_packets pid n0 bs ≡ put ++ rest_unit_packets pid (next_number (put_in put steps)) (drop at bs) → n ≡ next_number (put_in put steps) → rest_unit_packets pid n0 bs ≡ put ++ packet ∷ []
+last_put pid n0 n at bs packet put steps within few made so_far numbered =
+    rest_done pid n0 (next_number (put_in (put ++ packet ∷ []) steps)) (length bs) bs (put ++ packet ∷ []) (omega arith)
+    (one_more_put pid n0 n at (length bs) bs packet put steps within (omega arith) made so_far numbered)
+
 pub same_counts : (a b : Counter) (steps : List Step) → a ≡ b → Counts b steps → Counts a steps
 same_counts a b steps e h = rw e h
+
+pub if_err_both : {T E : Type 0} {P Q R : E → Type 0} (r : Result T E) → ((e : E) → P e → Q e → R e) → IfErr r P → IfErr r Q → IfErr r R
+if_err_both (Ok x) f h k = h
+if_err_both (Err e) f h k = f e h k
 
 pub fails_because : (counter : Counter) (steps : List Step) (packets put : List (List ℕ)) (packet : List ℕ) (left : List (List ℕ)) (F : List (List ℕ) → List ℕ → Type 0)
     → packets ≡ put ++ packet ∷ left → F put packet → Counts counter (put_in put steps) → UnitPutFails counter steps packets F

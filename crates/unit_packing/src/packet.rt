@@ -1,6 +1,6 @@
 //! One packet of a unit.
 
-ghost use Rattle.std.specs.Prelude.{◌≡◌, ℕ, ◌<◌, ◌≤◌, ◌++◌, ◌/◌, ◌%◌, length, slice_index, replicate, None, if◌then◌else◌};
+ghost use Rattle.std.specs.Prelude.{◌≡◌, ℕ, ◌<◌, ◌≤◌, ◌++◌, ◌/◌, ◌%◌, length, slice_index, replicate, None, false, if◌then◌else◌};
 ghost use Rattle.ts_packet.specs.Packets.{packet_fault};
 ghost use Rattle.unit_packing.specs.Packing.{room, front, unit_packet};
 
@@ -56,28 +56,47 @@ fn write_front(
     bytes[5] = indicator(random_access);
 }
 
-/// The bytes of a packet of a unit: its counter, whether the unit begins in it and whether random access is marked, and these bytes
-/// of the unit, at its end.
-pub(crate) fn unit_bytes(
+/// Writes a packet of a unit over a packet of 0xFF alone: its counter, whether the unit begins in it and whether random access is marked,
+/// and these bytes of the unit, at its end.
+pub(crate) fn write_packet(
+    bytes: &mut [u8; 188],
     pid: Pid,
     counter: u8,
     start: bool,
     random_access: bool,
     part: &[u8],
-) -> [u8; 188]
+)
+    requires blank { bytes.old ≡ replicate 188 0xFF }
     requires number { counter < 16 }
     requires some { 0 < length part.now }
     requires fits { length part.now ≤ 184 }
-    ensures value { result ≡ unit_packet pid counter start random_access part.now }
+    ensures value { bytes.new ≡ unit_packet pid counter start random_access part.now }
     ensures below { pid < 8192 }
 {
-    let mut bytes = [0xFF; 188];
-    write_front(&mut bytes, pid, counter, start, random_access, part.len());
+    write_front(bytes, pid, counter, start, random_access, part.len());
     bytes[PACKET_SIZE - part.len()..].copy_from_slice(part);
-    bytes
+}
+
+/// The packet in which a unit goes on with these bytes, which fill it. Each byte is written once, none is filled with 0xFF first, and the
+/// two remainders show a compiler that the packet has no fault, so that neither the test nor a further copy is left.
+#[inline(always)]
+pub(crate) fn full_packet(pid: Pid, counter: u8, part: &[u8]) -> Packet
+    requires number { counter < 16 }
+    requires full { length part.now ≡ 184 }
+    ensures { result ≡ unit_packet pid counter false false part.now }
+{
+    let number = pid.get();
+    let mut bytes = [0xFF; 188];
+    bytes[0] = SYNC_BYTE;
+    bytes[1] = (number / 256 % 32) as u8;
+    bytes[2] = (number % 256) as u8;
+    bytes[3] = 0x10 + counter % 16;
+    bytes[4..].copy_from_slice(part);
+    packet_of(&bytes)
 }
 
 /// The packet of these bytes.
+#[inline(always)]
 pub(crate) fn packet_of(bytes: &[u8; 188]) -> Packet
     requires { packet_fault bytes.now ≡ None }
     ensures { result ≡ bytes.now }

@@ -9,7 +9,7 @@ ghost use Rattle.unit_stream.specs.UnitPackets.{put_in};
 ghost use Rattle.unit_packing.specs.Packing.{rest_unit_packets, unit_packets};
 ghost use Rattle.unit_packing.specs.Putting.{next_number, UnitPutFails};
 
-use crate::packet::{packet_of, room, unit_bytes};
+use crate::packet::{full_packet, packet_of, room, write_packet};
 use pes_time::{PesHead, Time33, restamp};
 use ts_packet::packet::PACKET_SIZE;
 use ts_packet::{Counter, Packet, PacketSink, Pid, PutFault};
@@ -42,9 +42,11 @@ pub fn put_unit<S: PacketSink>(
     ensures blamed { IfErr result (λ f. Blamed f (S.counts sink.old) (S.counts sink.new) (S.is_full sink.new)) }
 {
     let size = bytes.len().min(room(random_access));
+    let part = &bytes[..size];
     let mut counted = *counter;
-    let raw = unit_bytes(pid, counted.fresh(), true, random_access, &bytes[..size]);
-    let first = packet_of(&raw);
+    let mut made = [0xFF; PACKET_SIZE];
+    write_packet(&mut made, pid, counted.fresh(), true, random_access, part);
+    let first = packet_of(&made);
     match put_packet(&first, counted, counter, sink) {
         Ok(()) => {}
         Err(fault) => return Err(fault),
@@ -85,8 +87,10 @@ pub fn put_moved<S: PacketSink>(
     ensures blamed { IfErr result (λ f. Blamed f (S.counts sink.old) (S.counts sink.new) (S.is_full sink.new)) }
 {
     let size = bytes.len().min(room(random_access));
+    let part = &bytes[..size];
     let mut counted = *counter;
-    let mut raw = unit_bytes(pid, counted.fresh(), true, random_access, &bytes[..size]);
+    let mut raw = [0xFF; PACKET_SIZE];
+    write_packet(&mut raw, pid, counted.fresh(), true, random_access, part);
     restamp(&mut raw[PACKET_SIZE - size..], head, delta);
     let first = packet_of(&raw);
     match put_packet(&first, counted, counter, sink) {
@@ -117,18 +121,23 @@ fn put_rest<S: PacketSink>(
     ensures blamed { IfErr result (λ f. Blamed f (S.counts sink.old) (S.counts sink.new) (S.is_full sink.new)) }
 {
     let mut at = 0;
-    while at < bytes.len() {
-        let next = bytes.len().min(at + 184);
+    while bytes.len() - at >= 184 {
         let mut counted = *counter;
-        let raw = unit_bytes(pid, counted.fresh(), false, false, &bytes[at..next]);
-        let packet = packet_of(&raw);
+        let packet = full_packet(pid, counted.fresh(), &bytes[at..at + 184]);
         match put_packet(&packet, counted, counter, sink) {
             Ok(()) => {}
             Err(fault) => return Err(fault),
         }
-        at = next;
+        at += 184;
     }
-    Ok(())
+    if at == bytes.len() {
+        return Ok(());
+    }
+    let mut counted = *counter;
+    let mut made = [0xFF; PACKET_SIZE];
+    write_packet(&mut made, pid, counted.fresh(), false, false, &bytes[at..]);
+    let packet = packet_of(&made);
+    put_packet(&packet, counted, counter, sink)
 }
 
 /// Puts a packet that this counter has counted, which is the counter from then on where the packet is taken.

@@ -1,5 +1,5 @@
 use Rattle.unit_packing.proofs.PacketLemmas.{part_written}
-use Rattle.unit_packing.proofs.packet.unit_bytes.Goals as goal
+use Rattle.unit_packing.proofs.packet.write_packet.Goals as goal
 
 pub returns-clause-value : goal.returns-clause-value
 returns-clause-value c =
