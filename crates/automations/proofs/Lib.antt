@@ -4,3 +4,4 @@ mod TextLemmas
 mod PlaceLemmas
 mod RefusalLemmas
 mod StopLemmas
+mod ReplyLemmas

@@ -11,7 +11,7 @@ ghost use Rattle.automations.specs.ScriptReading.{IsLoaded, IsReadFrom, IsReadWh
 
 use crate::script_text::{Line, Reading};
 use chain_engine::{Automation, Taken};
-use hex_digits::Digits;
+use hex_digits::spell;
 use std::alloc::{Allocator, Global};
 use std::io::Write;
 use thiserror::Error;
@@ -22,6 +22,12 @@ const READS: u64 = 1 << 32;
 
 /// How many bytes of a script are read at a time.
 const ROOM: usize = 4_096;
+
+/// How many bytes of a reply's line are put together at a time. The chain's own replies have at most 21 bytes, and their lines 49.
+const PIECE: usize = 64;
+
+/// How many bytes of a reply fill a piece with their digits.
+const PAIRS: usize = PIECE / 2;
 
 /// Why a script was not loaded.
 #[derive(Clone, Copy, Debug, PartialEq, Eq, Drop, Error)]
@@ -174,11 +180,29 @@ pub fn load_into<M: Allocator, S: Source>(
 }
 
 /// Prints the line of a reply, the word and its digits, and answers whether all of it is out.
+/// The writer is given the line at once, since each write to it may be a call of the system. Only a line of more than 64 bytes goes out
+/// in pieces of so many.
 fn print_reply<W: Write>(replies: &mut W, reply: &[u8]) -> bool
     ensures { OnTrue result (Appends (W.contents replies.old) (W.contents replies.new) (reply_line reply.now)) }
 {
-    let digits = Digits(reply);
-    writeln!(replies, "reply {digits}").is_ok() && replies.flush().is_ok()
+    let mut line = [0; PIECE];
+    line[..6].copy_from_slice(b"reply ");
+    // In bytes of a reply: the word has the room of three.
+    let mut filled = 3;
+    let mut rest = reply;
+    while rest.len() >= PAIRS - filled {
+        let (first, behind) = rest.split_at(PAIRS - filled);
+        spell(&mut line, filled, first);
+        if replies.write_all(&line).is_err() {
+            return false;
+        }
+        filled = 0;
+        rest = behind;
+    }
+    spell(&mut line, filled, rest);
+    let end = 2 * (filled + rest.len());
+    line[end] = b'\n';
+    replies.write_all(&line[..=end]).is_ok() && replies.flush().is_ok()
 }
 
 impl<W: Write, M: Allocator> Automation for Script<W, M> {
