@@ -1,5 +1,5 @@
 -- One byte more of a script's text.
-use Rattle.std.proofs.Common.{◌≡◌, ℕ, ◌+◌, ◌-◌, ◌*◌, ◌%◌, ◌<◌, List, [], ◌∷◌, ◌++◌, true, length, drop, sym, ap, arith, ◌∙◌, append_assoc, subst}
+use Rattle.std.proofs.Common.{◌≡◌, ℕ, ◌+◌, ◌-◌, ◌*◌, ◌%◌, ◌<◌, ◌≤◌, List, [], ◌∷◌, ◌++◌, true, length, get_or, drop, refl, sym, ap, arith, ◌∙◌, append_assoc, subst}
 use Rattle.std.specs.Prelude.{slice_range, Some}
 use Rattle.std.specs.Char.{is_ascii_digit}
 use Rattle.std.proofs.lemmas.List.{drop-append-le, take_all, length-drop, length-append, append-nil}
@@ -8,6 +8,7 @@ use Rattle.automations.specs.declared.script_text.Line.{Line}
 use Rattle.automations.specs.ScriptLines.{ScriptLine, lines_from}
 use Rattle.automations.specs.ScriptReading.{last_end, IsInLine, TextSoFar, NumberSoFar, BytesSoFar}
 use Rattle.automations.specs.ScriptText.{IsLine, SpellsLines}
+use Rattle.automations.proofs.ReadingLemmas.{byte_more}
 use Rattle.automations.proofs.TextLemmas.{spelled_more, value_more, digits_more, lines_kept, lines_more, next_is, spells_more}
 
 pub text_on : (bytes : List ℕ) (lines : List Line) (line text : List ℕ) (c : ℕ) → TextSoFar bytes lines line text → TextSoFar bytes lines (line ++ c ∷ []) (text ++ c ∷ [])
@@ -49,6 +50,44 @@ byte_on bytes lines packet count digit byte high low b text i k lt m e h =
         text_is = on.text_is ∙ ap (λ l. on.whole ++ l) line;
         spells = subst (SpellsLines 0 on.whole) (sym (lines_kept bytes (b ∷ []) 0 0 lines i.behind.sound)) on.spells;
       };
+    }
+
+-- the first digit of a byte
+half_on : (bytes : List ℕ) (lines : List Line) (packet digit : ℕ) (text : List ℕ) → BytesSoFar bytes lines packet [] text
+    → BytesSoFar bytes lines packet (digit ∷ []) (text ++ digit ∷ [])
+half_on bytes lines packet digit text h =
+    let line : (h.digits ++ 32 ∷ (h.hex ++ [])) ++ digit ∷ [] ≡ h.digits ++ 32 ∷ (h.hex ++ digit ∷ []) =
+    append_assoc h.digits (32 ∷ (h.hex ++ [])) (digit ∷ []) ∙ ap (λ x. h.digits ++ 32 ∷ (x ++ digit ∷ [])) (append-nil h.hex) in
+    let on = text_on bytes lines (h.digits ++ 32 ∷ (h.hex ++ [])) text digit h.text_is in
+    record {
+      digits = h.digits;
+      hex = h.hex;
+      number = h.number;
+      spelled_so = h.spelled_so;
+      text_is = record { whole = on.whole; text_is = on.text_is ∙ ap (λ l. on.whole ++ l) line; spells = on.spells };
+    }
+
+-- the line goes on here, after so many of its bytes
+pub record IsAtByte (bytes : List ℕ) (lines : List Line) (packet count : ℕ) (text : List ℕ) : Type 0 where
+  pub reading : IsInLine bytes lines packet count
+  pub text_is : BytesSoFar bytes lines packet [] text
+
+pub two_first : (text : List ℕ) → 2 ≤ length text → text ≡ get_or text 0 0 ∷ get_or text 1 0 ∷ drop 2 text
+two_first [] two = absurd (omega arith)
+two_first (a ∷ []) two = absurd (omega arith)
+two_first (a ∷ b ∷ text) two = refl
+
+-- both digits of a byte
+pub pair_on : (bytes : List ℕ) (lines : List Line) (packet count digit byte high low b : ℕ) (text : List ℕ) → count < 4096
+    → digit_value digit ≡ Some high → high < 16 → digit_value byte ≡ Some low → b ≡ 16 * high + low
+    → IsAtByte bytes lines packet count text → IsAtByte (bytes ++ b ∷ []) lines packet (count + 1) (text ++ digit ∷ byte ∷ [])
+pair_on bytes lines packet count digit byte high low b text few k lt m e h =
+    let more : List ℕ = bytes ++ b ∷ [] in
+    let value : b ≡ high % 16 * 16 + low = omega (arith, e, lt) in
+    record {
+      reading = byte_more bytes more lines packet count (count + 1) h.reading (length-append bytes (b ∷ [])) (omega arith) (omega (arith, few));
+      text_is = subst (BytesSoFar more lines packet []) (append_assoc text (digit ∷ []) (byte ∷ []))
+          (byte_on bytes lines packet count digit byte high low b (text ++ digit ∷ []) h.reading k lt m value (half_on bytes lines packet digit text h.text_is));
     }
 
 pub line_on : (bytes : List ℕ) (lines : List Line) (l : Line) (count : ℕ) (text : List ℕ) → IsInLine bytes lines l.packet count → 0 < count → l.end ≡ length bytes

@@ -78,6 +78,11 @@ pub record IsScriptRead {M : Type 0} (r : Reading M) (text : List ℕ) : Type 0 
   pub reading : IsReading r
   pub text_is : IsTextAt r.bytes.items r.lines.items r.place text
 
+-- THE READING went on from one state to another: what lies before the rest of the text was read
+abbrev pub IsReadOn : {M : Type 0} → Reading M → Reading M → List ℕ → List ℕ → Type 0
+IsReadOn old new part rest =
+    (done : List ℕ) × (part ≡ done ++ rest) × ((text : List ℕ) → IsScriptRead old text → IsScriptRead new (text ++ done))
+
 -- the lines of a reading
 abbrev pub read_lines : {M : Type 0} → Reading M → List ScriptLine
 read_lines r = lines_from r.bytes.items 0 r.lines.items

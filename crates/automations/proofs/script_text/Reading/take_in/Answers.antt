@@ -1,5 +1,5 @@
 use Rattle.std.proofs.Common.{◌≡◌, ◌++◌, ◌∷◌, [], subst, sym, ◌∙◌, ap, append_assoc, rules}
-use Rattle.automations.specs.ScriptReading.{IsTextAt}
+use Rattle.automations.specs.ScriptReading.{IsScriptRead, IsTextAt}
 use Rattle.std.specs.Prelude.{Err}
 use Rattle.automations.specs.declared.script.ScriptFault.TheVariants.{BadScript}
 use Rattle.automations.specs.ScriptText.{BeginsNoScript}
@@ -9,16 +9,20 @@ use Rattle.automations.proofs.script_text.Reading.take_in.Goals as goal
 pub loop-byte-preserved : goal.loop-byte-preserved
 loop-byte-preserved g c =
     let (done, e, r) = c.loop-byte.invariant.read in
+    let (more, f, on) = c.in-Ok-take_bytes.ensures.read in
     let first : c.loop-byte.rest.now ≡ c.in-Some.byte.now ∷ c.in-Some.behind.now = search rules in
     let byte = c.in-Some.byte.now in
+    let behind = c.in-Some.behind.now in
+    let left = c.in-Ok-take_bytes.left.now in
+    let one = done ++ byte ∷ [] in
     record {
       read = (
-        done ++ byte ∷ [],
-        e ∙ ap (λ l. done ++ l) first ∙ sym (append_assoc done (byte ∷ []) c.in-Some.behind.now),
-        λ text h. record {
+        one ++ more,
+        e ∙ ap (λ l. done ++ l) first ∙ sym (append_assoc done (byte ∷ []) behind) ∙ ap (λ l. one ++ l) f ∙ sym (append_assoc one more left),
+        λ text h. subst (λ t. IsScriptRead c.take_bytes.new.self t) (append_assoc text one more) (on (text ++ one) (record {
           reading = c.in-Ok.ensures.at (r text h).reading;
           text_is = subst (IsTextAt c.behind.new.self.bytes.items c.behind.new.self.lines.items c.in-Ok.place) (append_assoc text done (byte ∷ [])) (c.in-Ok.ensures.text (text ++ done) (r text h));
-        },
+        })),
       );
     }
 
