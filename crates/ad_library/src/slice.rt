@@ -1,6 +1,6 @@
 //! Units lent from an advertisement.
 
-ghost use Rattle.std.specs.Prelude.{◌≡◌, ◌<◌, ◌≤◌, slice_get, drop, length, option_map, IfSome, true};
+ghost use Rattle.std.specs.Prelude.{◌≡◌, ◌<◌, ◌≤◌, slice_get, drop, length, option_map, IfSome, true, pos};
 ghost use Rattle.pes_time.specs.Line.{ring_of};
 ghost use Rattle.ad_library.specs.Storing.{on_line};
 ghost use Rattle.ad_library.specs.Lending.{unit_seen, HasHead};
@@ -58,6 +58,17 @@ impl<'a> Slice<'a> {
             if self.next().is_none() {
                 return;
             }
+        }
+    }
+
+    /// How many ticks of 90 kHz the time of the next unit lies past the least time of the advertisement, or `None` behind the last. Nothing
+    /// of the unit's bytes is read.
+    pub fn next_offset(&self) -> Option<u64>
+        ensures { option_map pos result ≡ option_map (λ u. u.offset) (slice_get (left self.now) 0) }
+    {
+        match next_below(self.places, self.zero, self.length).split_first() {
+            None => None,
+            Some((place, _)) => Some(place.time.saturating_sub(self.zero)),
         }
     }
 

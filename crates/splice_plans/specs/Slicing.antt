@@ -1,5 +1,5 @@
 -- Units of an advertisement on their way out on a PID.
-use Rattle.std.specs.Prelude.{ℕ, ◌+◌, ◌-◌, ◌%◌, ◌^◌, nat_le, ℤ, pos, List, [], ◌∷◌, ◌++◌, Bool, true, if◌then◌else◌, Option, None, Some}
+use Rattle.std.specs.Prelude.{ℕ, ◌+◌, ◌-◌, ◌%◌, ◌^◌, nat_le, ℤ, pos, List, [], ◌∷◌, ◌++◌, Bool, true, false, if◌then◌else◌, Option, None, Some}
 use lib.Signed.{le_z}
 use Rattle.pes_time.specs.Line.{ring_of}
 use Rattle.pes_time.specs.Stamps.{restamped}
@@ -33,6 +33,11 @@ delta_of start held = delta_at start (on_line held)
 abbrev pub due_units : Option ℕ → List AdvertUnit → List AdvertUnit
 due_units reached [] = []
 due_units reached (u ∷ us) = if is_due reached u then u ∷ due_units reached us else []
+
+-- the first of these is due
+abbrev pub is_any_due : Option ℕ → List AdvertUnit → Bool
+is_any_due reached [] = false
+is_any_due reached (u ∷ us) = is_due reached u
 
 -- the packets of a unit with its stamps moved, behind these steps of the PID's counter
 abbrev pub moved_packets : ℕ → ℕ → List Step → AdvertUnit → List (List ℕ)

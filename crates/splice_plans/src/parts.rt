@@ -10,6 +10,7 @@ ghost use Rattle.event_table.specs.Tables.{values_of};
 ghost use Rattle.event_table.specs.declared.table.Entry.{Entry};
 ghost use Rattle.psi_tables.specs.declared.stream.Stream.{Stream};
 ghost use Rattle.ad_library.specs.Library.{held};
+ghost use Rattle.splice_plans.specs.Turning.{with_part};
 ghost use Rattle.splice_plans.specs.Parts.{KeepsEvents, IsStreamOf, IsEntryAt, units_in, packets_in, entry_packets, part_put};
 
 use crate::plan::{Part, Plan, Stage};
@@ -102,22 +103,32 @@ pub(crate) fn put_part<S: PacketSink>(
     ensures well { OnOk result (WentWell (S.counts sink.old) (S.counts sink.new)) }
     ensures blamed { IfErr result (λ f. Blamed f (S.counts sink.old) (S.counts sink.new) (S.is_full sink.new)) }
 {
-    let entry = events.table().standing()[place];
-    let part = entry.value.part(stream);
+    let event = events.table().standing()[place].event;
+    let part = events.table().standing()[place].value.part(stream);
     match put_slice(
-        &entry.event,
-        streams,
-        stream,
-        part.sent,
-        reached,
-        library,
-        counter,
-        sink,
+        &event, streams, stream, part.sent, reached, library, counter, sink,
     ) {
         Ok(sent) => {
-            events.set_value(place, entry.value.with_part(stream, Part { stage, sent }));
+            set_part(events, place, stream, Part { stage, sent });
             Ok(())
         }
         Err(fault) => Err(fault),
     }
+}
+
+/// The event at this place has come so far in the stream of this number. Where it had before, nothing is copied.
+fn set_part(events: &mut ArmedEvents<Plan>, place: usize, stream: usize, part: Part)
+    requires { place < length events.old.obeyed.table.entries.items }
+    ensures values { (entry : Entry Plan) → IsEntryAt events.old place entry →
+        values_of events.new.obeyed.table ≡ slice_set (values_of events.old.obeyed.table) place (with_part entry.value stream part) }
+    ensures keeps { KeepsEvents events.old events.new }
+{
+    let old = events.table().standing()[place].value.part(stream);
+    if old.stage == part.stage {
+        if old.sent == part.sent {
+            return;
+        }
+    }
+    let plan = events.table().standing()[place].value;
+    events.set_value(place, plan.with_part(stream, part));
 }

@@ -7,7 +7,7 @@ ghost use Rattle.ts_packet.specs.Transfers.{WentWell};
 ghost use Rattle.unit_stream.specs.UnitPackets.{put_in};
 ghost use Rattle.outgoing_packets.specs.Numbers.{FrontFails};
 ghost use Rattle.ad_library.specs.Slices.{left};
-ghost use Rattle.splice_plans.specs.Slicing.{is_offset_due, due_units, due_packets};
+ghost use Rattle.splice_plans.specs.Slicing.{is_offset_due, is_any_due, due_units, due_packets};
 
 use ad_library::Slice;
 use pes_time::Time33;
@@ -37,6 +37,9 @@ pub(crate) fn put_units<S: PacketSink>(
     ensures well { OnOk result (WentWell (S.counts sink.old) (S.counts sink.new)) }
     ensures blamed { IfErr result (λ f. Blamed f (S.counts sink.old) (S.counts sink.new) (S.is_full sink.new)) }
 {
+    if !is_next_due(&slice, reached) {
+        return Ok(0);
+    }
     let delta = start.minus(slice.zero().ticks());
     let most = slice.most();
     let mut rest = slice;
@@ -61,6 +64,16 @@ pub(crate) fn put_units<S: PacketSink>(
         }
     }
     Ok(most)
+}
+
+/// A unit is left that is due. It is told by its place alone, without a look at its bytes.
+fn is_next_due(slice: &Slice<'_>, reached: Option<u64>) -> bool
+    ensures { result ≡ is_any_due reached (left slice.now) }
+{
+    match slice.next_offset() {
+        None => false,
+        Some(offset) => is_due(offset, reached),
+    }
 }
 
 /// A unit of this offset goes out.
