@@ -1,10 +1,11 @@
 //! One switched stream on its way out.
 
 ghost use Rattle.std.specs.Prelude.{◌≡◌, ◌<◌, ◌++◌, ◌∷◌, [], ℕ, List, Option, is_some, true, false, OnOk, IfErr};
-ghost use Rattle.ts_packet.specs.Fields.{payload, renumbered, with_number};
+ghost use Rattle.ts_packet.specs.Fields.{payload, pcr, pid_of, renumbered, with_number};
 ghost use Rattle.ts_packet.specs.Numbering.{Step, Kept, Counts, moved, number_out};
 ghost use Rattle.ts_packet.specs.Sinks.{Blamed};
 ghost use Rattle.ts_packet.specs.Transfers.{WentWell};
+ghost use Rattle.output_laws.specs.Output.{clock_alone};
 ghost use Rattle.splice_plans.specs.Counting.{left_steps, steps_behind, left_place};
 
 use ts_packet::pcr_only::pcr_only;
@@ -87,10 +88,10 @@ impl SwitchedStream {
             return self.keep(packet, sink);
         }
         let number = self.number_left(packet, is_repeat);
-        match pcr_only(packet, number) {
-            None => Ok(()),
-            Some(clock) => sink.put(&clock),
+        if packet.pcr().is_none() {
+            return Ok(());
         }
+        put_clock(packet, number, sink)
     }
 
     /// Counts a payload packet that is left out: the counter of what goes out in its place.
@@ -125,4 +126,24 @@ fn put_renumbered<S: PacketSink>(packet: &Packet, number: u8, sink: &mut S) -> R
     ensures blamed { IfErr result (λ f. Blamed f (S.counts sink.old) (S.counts sink.new) (S.is_full sink.new)) }
 {
     sink.put(&packet.with_counter(number))
+}
+
+/// Puts the packet's clock reference alone, where it has one, with this continuity_counter. It stands by itself, so that a packet without
+/// one does not pay for the room of that packet.
+#[inline(never)]
+fn put_clock<S: PacketSink>(packet: &Packet, number: u8, sink: &mut S) -> Result<(), PutFault>
+    requires { number < 16 }
+    ensures leads { S.leads sink.old sink.new }
+    ensures ok { (start : Option (List ℕ)) (ps : List (List ℕ)) → S.holds sink.old start ps →
+        OnOk result (S.holds sink.new start (ps ++ clock_alone (pid_of packet.now) number (pcr packet.now))) }
+    ensures err { (start : Option (List ℕ)) (ps : List (List ℕ)) → S.holds sink.old start ps →
+        IfErr result (λ f. (q : List ℕ) × (clock_alone (pid_of packet.now) number (pcr packet.now) ≡ q ∷ [])
+        × S.fails sink.new start ps q f) }
+    ensures well { OnOk result (WentWell (S.counts sink.old) (S.counts sink.new)) }
+    ensures blamed { IfErr result (λ f. Blamed f (S.counts sink.old) (S.counts sink.new) (S.is_full sink.new)) }
+{
+    match pcr_only(packet, number) {
+        None => Ok(()),
+        Some(clock) => sink.put(&clock),
+    }
 }
