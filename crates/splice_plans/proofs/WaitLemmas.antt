@@ -29,7 +29,7 @@ stage-waits Over h = absurd (true≢false (sym h))
 not-past : (a b : ℤ) → int_lt a b ≡ true → int_le b a ≡ false
 not-past a b h = grind (arith, ints)
 
-begins-not : (e : Standing) (t : ℤ) (plays : Bool) → int_lt t e.start ≡ true → turned e t plays Waiting ≡ Waiting
+pub begins-not : (e : Standing) (t : ℤ) (plays : Bool) → int_lt t e.start ≡ true → turned e t plays Waiting ≡ Waiting
 begins-not e t true before = ap (λ b. if b then entered e t else Waiting) (not-past t e.start before)
 begins-not e t false before = refl
 
@@ -55,7 +55,7 @@ near-start h t e reach low top =
     record { above = omega (arith, ints); below = omega (arith, ints) }
 
 -- a unit before the start of an event
-before-start : (latest : Option ℤ) (e : Standing) (event : Event) (p : ℕ) → p < 2 ^ 33 → event ≡ on_ring e → IsWithin latest e → IsNearHigh latest (place latest p)
+pub before-start : (latest : Option ℤ) (e : Standing) (event : Event) (p : ℕ) → p < 2 ^ 33 → event ≡ on_ring e → IsWithin latest e → IsNearHigh latest (place latest p)
     → is_before_on_ring p event.start ≡ int_lt (place latest p) e.start
 before-start None e event p fits is within near = absurd within
 before-start (Some h) e event p fits is within near =

@@ -16,4 +16,4 @@ pub use plan::Plan;
 pub use report::SwitchReport;
 pub use runs::{close_all, put_running};
 pub use stream::SwitchedStream;
-pub use turns::{is_inside, turn_all};
+pub use turns::{all_stay, is_inside, runs_any, turn_all};

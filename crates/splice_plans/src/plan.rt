@@ -22,6 +22,8 @@ pub enum Stage {
 }
 
 impl Stage {
+    ghost use Rattle.splice_plans.specs.Waiting.{stays};
+
     /// How far the event comes with a unit of this time, where it is played or not.
     fn turned(self, event: &Event, time: Time33, plays: bool) -> Stage
         ensures { (latest : Option ℤ) (e : Standing) → event.now ≡ on_ring e → IsWithin latest e → IsNearHigh latest (place latest time) →
@@ -37,6 +39,18 @@ impl Stage {
             }
             Stage::Running => entered(event, time),
             Stage::Closing | Stage::Over => Stage::Over,
+        }
+    }
+
+    /// A unit of this time leaves the event as it is, whether it is played or not: it comes no further and is not crossed.
+    fn stays(self, event: &Event, time: Time33) -> bool
+        ensures { result ≡ stays event.now time self }
+    {
+        match self {
+            Stage::Waiting => event.cancelled || is_before(time, event.start),
+            Stage::Running => event.covers(time),
+            Stage::Closing => false,
+            Stage::Over => !is_before(time, event.end()),
         }
     }
 
@@ -84,7 +98,7 @@ pub struct Plan {
 impl Plan {
     ghost use Rattle.std.specs.Prelude.{replicate, false};
     ghost use Rattle.splice_plans.specs.Turning.{waiting};
-    ghost use Rattle.splice_plans.specs.Waiting.{waits_in_all};
+    ghost use Rattle.splice_plans.specs.Waiting.{waits_in_all, runs_in_any, stays};
 
     /// The event waits in all streams.
     pub fn new() -> Plan
@@ -112,6 +126,20 @@ impl Plan {
         ensures { result ≡ waits_in_all self.now }
     {
         self.parts.iter().all(|part| part.stage == Stage::Waiting)
+    }
+
+    /// The event runs in a stream.
+    pub fn runs(&self) -> bool
+        ensures { result ≡ runs_in_any self.now }
+    {
+        self.parts.iter().any(|part| part.stage == Stage::Running)
+    }
+
+    /// A unit of this time in this stream leaves the plan of the event as it is, whether the event is played or not.
+    pub fn stays(&self, stream: usize, event: &Event, time: Time33) -> bool
+        ensures { result ≡ stays event.now time (part_of self.now stream).stage }
+    {
+        self.part(stream).stage.stays(event, time)
     }
 
     /// The plan with this part in this stream.

@@ -1,7 +1,7 @@
 //! How far the events that stand come with a unit.
 
 ghost use Rattle.std.specs.Prelude.{◌≡◌, ◌<◌, ◌^◌, length, slice_index_or, ℤ, List, Option, None, IfSome, position, false};
-ghost use Rattle.std.specs.List.{list_any};
+ghost use Rattle.std.specs.List.{list_any, list_all};
 ghost use Rattle.pes_time.specs.Line.{place};
 ghost use Rattle.event_table.specs.Standing.{Standing, on_ring};
 ghost use Rattle.event_table.specs.Tables.{StandsFor, values_of};
@@ -11,7 +11,7 @@ ghost use Rattle.splice_plans.specs.Adverts.{adverts_of};
 ghost use Rattle.splice_plans.specs.Turning.{IsNearHigh, part_of};
 ghost use Rattle.splice_plans.specs.Parts.{KeepsEvents, HasStanding, IsFirstClosing, all_turned, holds_begun, is_running};
 ghost use Rattle.splice_plans.specs.Parts.{starts_first, sooner, closes_in, no_entry};
-ghost use Rattle.splice_plans.specs.Waiting.{waits_before};
+ghost use Rattle.splice_plans.specs.Waiting.{waits_before, stays_in, runs_in_any};
 
 use crate::plan::{Plan, Stage};
 use ad_library::AdLibrary;
@@ -61,6 +61,23 @@ fn waits_before(table: &Table<Plan>, at: usize, stream: usize, time: Time33) -> 
     let standing = table.standing();
     standing[at].value.part(stream).stage == Stage::Waiting
         && is_before(time, standing[at].event.start)
+}
+
+/// A unit of this time in the stream of this number leaves all events that stand as they are.
+pub fn all_stay(table: &Table<Plan>, stream: usize, time: Time33) -> bool
+    ensures value { result ≡ list_all (stays_in stream time) table.now.entries.items }
+{
+    table
+        .standing()
+        .iter()
+        .all(|entry| entry.value.stays(stream, &entry.event, time))
+}
+
+/// An event that stands runs in some stream.
+pub fn runs_any(table: &Table<Plan>) -> bool
+    ensures { result ≡ list_any (λ entry. runs_in_any entry.value) table.now.entries.items }
+{
+    table.standing().iter().any(|entry| entry.value.runs())
 }
 
 /// A played event that stands holds the time, which is that of the unit that has begun last in the stream of this number.

@@ -16,7 +16,7 @@ use Rattle.splice_plans.specs.declared.plan.Plan.{Plan}
 use Rattle.splice_plans.specs.Turning.{part_of}
 use Rattle.splice_plans.specs.Parts.{is_waiting, beside}
 
-covers-line : (latest : Option ℤ) (p : ℕ) → p < 2 ^ 33 → (e : Standing) → IsWithin latest e → covers_on_ring (on_ring e) p ≡ covers (place latest p) e
+pub covers-line : (latest : Option ℤ) (p : ℕ) → p < 2 ^ 33 → (e : Standing) → IsWithin latest e → covers_on_ring (on_ring e) p ≡ covers (place latest p) e
 covers-line None p fits e within = absurd within
 covers-line (Some high) p fits e within = covers-near high p fits e within
 

@@ -1,4 +1,5 @@
 pub mod WaitingLemmas
+pub mod StayLemmas
 pub mod UntilLemmas
 pub mod FrontLemmas
 pub mod ReportLemmas

@@ -1,38 +1,45 @@
 -- Where all events that stand wait in all streams, nothing closes and nothing runs; and a unit before their starts begins none.
-use Rattle.std.proofs.Common.{◌≡◌, ℕ, zero, suc, ◌+◌, ◌%◌, ◌==◌, List, [], ◌∷◌, ◌++◌, length, map, Bool, true, false, not, ◌&&◌, ◌||◌, if◌then◌else◌, refl, sym, ap, ◌∙◌, arith, Option, None, Some}
-use Rattle.std.specs.Prelude.{ℤ, int_lt, slice_index_or, filter, find, count_by}
+use Rattle.std.proofs.Common.{◌≡◌, ℕ, zero, suc, ◌+◌, ◌%◌, ◌==◌, List, [], ◌∷◌, ◌++◌, length, map, Bool, true, false, not, ◌&&◌, ◌||◌, if◌then◌else◌, refl, sym, ap, subst, ◌∙◌, ◌<◌, ◌^◌, arith, Option, None, Some}
+use Rattle.std.specs.Prelude.{ℤ, int_lt, slice_index_or, filter, find, count_by, All, option_map}
 use Rattle.std.specs.List.{list_all, list_any}
 use Rattle.std.proofs.lemmas.Int.{ints}
-use Rattle.std.proofs.lemmas.Bool.{and_parts}
+use Rattle.std.proofs.lemmas.Bool.{and_parts, or_parts, true≢false}
 use Rattle.std.proofs.lemmas.List.{length-map}
 use Rattle.ts_packet.specs.Numbering.{Step}
-use Rattle.pes_time.specs.Line.{place}
+use Rattle.pes_time.specs.Line.{place, ring_of}
 use Rattle.psi_tables.specs.declared.stream.Stream.{Stream}
 use Rattle.event_table.specs.declared.table.Entry.{Entry}
 use Rattle.event_table.specs.declared.table.Table.{Table}
-use Rattle.event_table.specs.Standing.{Standing, forgotten_at, still_standing, covers}
-use Rattle.event_table.specs.Tables.{StandsFor, values_of}
-use Rattle.event_table.proofs.TableLemmas.{length-entries}
+use Rattle.event_table.specs.declared.event.Event.{Event}
+use Rattle.event_table.specs.Events.{ring_end}
+use Rattle.event_table.specs.Rings.{CanAdvance, is_before_on_ring}
+use Rattle.event_table.specs.Standing.{Standing, on_ring, IsTimeAt, IsWithin, forgotten_at, still_standing, covers}
+use Rattle.event_table.specs.Tables.{StandsFor, high_time_of, values_of}
+use Rattle.event_table.proofs.TableLemmas.{length-entries, kept-within}
 use Rattle.ad_library.specs.Advertisements.{Advertisement}
 use Rattle.splice_plans.specs.declared.plan.Part.{Part}
 use Rattle.splice_plans.specs.declared.plan.Plan.{Plan}
 use Rattle.splice_plans.specs.Playing.{Adverts, is_played}
 use Rattle.splice_plans.specs.Turning.{waiting, part_of}
 use Rattle.splice_plans.specs.Parts.{is_waiting, is_running, is_closing, all_turned, beside, closes_in, closing_pairs, closed_plan, runs_in, running_packets, ran_plans}
-use Rattle.splice_plans.specs.Waiting.{waits_in_all}
+use Rattle.splice_plans.specs.Waiting.{waits_in_all, runs_in_any}
 use Rattle.splice_plans.specs.Adverts.{adverts_of}
 use Rattle.splice_plans.specs.Fronts.{closing_packets, closed_plans, all_running, running_of, all_ran, is_left}
 use Rattle.event_table.specs.Counting.{one_if}
 use Rattle.splice_plans.specs.Reporting.{EventCounts, with_counted, is_out_at, is_not_fitted}
 use Rattle.known_laws.proofs.CountLemmas.{count-cons}
 use Rattle.splice_plans.proofs.WaitLemmas.{stage-waits, plan-stays}
-use Rattle.splice_playing.specs.Resting.{all_wait, all_start_past, all_start_behind, is_left_at_rest}
+use Rattle.splice_playing.specs.Resting.{all_wait, all_start_past, all_start_behind, is_left_at_rest, is_idle, none_run, is_kept_at, keeps_all, all_kept}
+use Rattle.splice_playing.proofs.FrontLemmas.{all-later, first-same, later-same}
 
 -- as many events as plans
 pub as-many-plans : (table : Table Plan) (latest : Option ℤ) (es : List Standing) → StandsFor table latest es → length es ≡ length (values_of table)
 as-many-plans table latest es s = sym (length-map table.entries.items (λ (x : Entry Plan). x.value) ∙ length-entries table latest es s)
 
 -- ---- one plan
+
+wait-parts : (plan : Plan) (plans : List Plan) → all_wait (plan ∷ plans) ≡ true → (waits_in_all plan ≡ true) × (all_wait plans ≡ true)
+wait-parts plan plans h = and_parts (waits_in_all plan) (all_wait plans) h
 
 part-waits : (parts : List Part) (i : ℕ) → list_all (λ (part : Part). is_waiting part.stage) parts ≡ true → is_waiting (slice_index_or parts i waiting).stage ≡ true
 part-waits [] i h = refl
@@ -42,14 +49,59 @@ part-waits (x ∷ xs) (suc i) h = part-waits xs i (and_parts (is_waiting x.stage
 pub waits-there : (plan : Plan) (stream : ℕ) → waits_in_all plan ≡ true → is_waiting (part_of plan stream).stage ≡ true
 waits-there plan stream h = part-waits plan.parts (stream % 8) h
 
-runs-not : (plan : Plan) (stream : ℕ) → waits_in_all plan ≡ true → is_running (part_of plan stream).stage ≡ false
-runs-not plan stream h = ap is_running (stage-waits (part_of plan stream).stage (waits-there plan stream h))
+not-so : (b : Bool) → not b ≡ true → b ≡ false
+not-so true h = absurd (true≢false (sym h))
+not-so false h = refl
+
+part-runs-not : (parts : List Part) (i : ℕ) → list_any (λ (part : Part). is_running part.stage) parts ≡ false → is_running (slice_index_or parts i waiting).stage ≡ false
+part-runs-not [] i h = refl
+part-runs-not (x ∷ xs) zero h = (or_parts (is_running x.stage) (list_any (λ (part : Part). is_running part.stage) xs) h).0
+part-runs-not (x ∷ xs) (suc i) h = part-runs-not xs i (or_parts (is_running x.stage) (list_any (λ (part : Part). is_running part.stage) xs) h).1
+
+runs-not : (plan : Plan) (stream : ℕ) → not (runs_in_any plan) ≡ true → is_running (part_of plan stream).stage ≡ false
+runs-not plan stream h = part-runs-not plan.parts (stream % 8) (not-so (runs_in_any plan) h)
+
+-- one that waits in all streams runs in none
+parts-wait : (parts : List Part) → list_all (λ (part : Part). is_waiting part.stage) parts ≡ true → list_any (λ (part : Part). is_running part.stage) parts ≡ false
+parts-wait [] h = refl
+parts-wait (x ∷ xs) h =
+    let parts = and_parts (is_waiting x.stage) (list_all (λ (part : Part). is_waiting part.stage) xs) h in
+    ap (λ b. b || list_any (λ (part : Part). is_running part.stage) xs) (ap is_running (stage-waits x.stage parts.0)) ∙ parts-wait xs parts.1
+
+pub none-run-waiting : (plans : List Plan) → all_wait plans ≡ true → none_run plans ≡ true
+none-run-waiting [] h = refl
+none-run-waiting (plan ∷ plans) h =
+    let parts = wait-parts plan plans h in
+    ap (λ b. not b && none_run plans) (parts-wait plan.parts parts.0) ∙ none-run-waiting plans parts.1
+
+none-run-there : (xs : List (Entry Plan)) → list_any (λ (x : Entry Plan). runs_in_any x.value) xs ≡ false → none_run (map (λ (x : Entry Plan). x.value) xs) ≡ true
+none-run-there [] h = refl
+none-run-there (x ∷ xs) h =
+    let parts = or_parts (runs_in_any x.value) (list_any (λ (y : Entry Plan). runs_in_any y.value) xs) h in
+    ap (λ b. not b && none_run (map (λ (y : Entry Plan). y.value) xs)) parts.0 ∙ none-run-there xs parts.1
+
+-- where it is said that none runs
+pub none-run-idle : (runs : Bool) (table : Table Plan) → runs ≡ false → is_idle runs table ≡ true → none_run (values_of table) ≡ true
+none-run-idle runs table is idle =
+    none-run-there table.entries.items (not-so (list_any (λ (x : Entry Plan). runs_in_any x.value) table.entries.items) (subst (λ b. is_idle b table ≡ true) is idle))
+
+pub idle-there : (table seen : Table Plan) (runs : Bool) → runs ≡ list_any (λ (x : Entry Plan). runs_in_any x.value) seen.entries.items → seen ≡ table → is_idle runs table ≡ true
+idle-there table seen runs is same =
+    ap (λ b. is_idle b table) (is ∙ ap (λ (t : Table Plan). list_any (λ (x : Entry Plan). runs_in_any x.value) t.entries.items) same)
+    ∙ by (list_any (λ (x : Entry Plan). runs_in_any x.value) table.entries.items)
+  where
+    by : (b : Bool) → (b || not b) ≡ true
+    by true = refl
+    by false = refl
+
+pub idle-stays : (old new : Table Plan) (runs : Bool) → new.entries ≡ old.entries → is_idle runs old ≡ true → is_idle runs new ≡ true
+idle-stays old new runs same idle = ap (λ es. runs || not (list_any (λ (x : Entry Plan). runs_in_any x.value) es.items)) same ∙ idle
 
 closes-not : (plan : Plan) (stream : ℕ) → waits_in_all plan ≡ true → closes_in stream plan ≡ false
 closes-not plan stream h = ap is_closing (stage-waits (part_of plan stream).stage (waits-there plan stream h))
 
-wait-parts : (plan : Plan) (plans : List Plan) → all_wait (plan ∷ plans) ≡ true → (waits_in_all plan ≡ true) × (all_wait plans ≡ true)
-wait-parts plan plans h = and_parts (waits_in_all plan) (all_wait plans) h
+run-parts : (plan : Plan) (plans : List Plan) → none_run (plan ∷ plans) ≡ true → (not (runs_in_any plan) ≡ true) × (none_run plans ≡ true)
+run-parts plan plans h = and_parts (not (runs_in_any plan)) (none_run plans) h
 
 past-parts : (t : ℤ) (e : Standing) (es : List Standing) → all_start_past t (e ∷ es) ≡ true → (int_lt t e.start ≡ true) × (all_start_past t es ≡ true)
 past-parts t e es h = and_parts (int_lt t e.start) (all_start_past t es) h
@@ -57,30 +109,30 @@ past-parts t e es h = and_parts (int_lt t e.start) (all_start_past t es) h
 -- ---- what runs
 
 module _ (filed : ℕ → Option Advertisement) (streams : List Stream) where
-  none-found : (number : ℕ) (of : Stream) (es : List Standing) (plans : List Plan) → all_wait plans ≡ true → find (runs_in filed streams number of) (beside es plans) ≡ None
+  none-found : (number : ℕ) (of : Stream) (es : List Standing) (plans : List Plan) → none_run plans ≡ true → find (runs_in filed streams number of) (beside es plans) ≡ None
   none-found number of [] plans h = refl
   none-found number of (e ∷ es) [] h = refl
   none-found number of (e ∷ es) (plan ∷ plans) h =
-      let parts = wait-parts plan plans h in
+      let parts = run-parts plan plans h in
       let no : runs_in filed streams number of (e, plan) ≡ false = runs-not plan number parts.0 in
       simp no (none-found number of es plans parts.1)
 
-  pub none-runs : (number : ℕ) (of : Stream) (high : Option ℤ) (steps : List Step) (es : List Standing) (plans : List Plan) → all_wait plans ≡ true
+  pub none-runs : (number : ℕ) (of : Stream) (high : Option ℤ) (steps : List Step) (es : List Standing) (plans : List Plan) → none_run plans ≡ true
       → running_packets filed streams number of high steps (beside es plans) ≡ []
   none-runs number of high steps es plans h =
       ap (Rattle.splice_plans.specs.Parts.found_packets filed streams number of high steps) (none-found number of es plans h)
 
-  none-ran : (number : ℕ) (of : Stream) (high : Option ℤ) (es : List Standing) (plans : List Plan) → length es ≡ length plans → all_wait plans ≡ true
+  none-ran : (number : ℕ) (of : Stream) (high : Option ℤ) (es : List Standing) (plans : List Plan) → length es ≡ length plans → none_run plans ≡ true
       → ran_plans filed streams number of high (beside es plans) ≡ plans
   none-ran number of high [] [] same h = refl
   none-ran number of high [] (plan ∷ plans) same h = absurd (omega (arith, same))
   none-ran number of high (e ∷ es) [] same h = absurd (omega (arith, same))
   none-ran number of high (e ∷ es) (plan ∷ plans) same h =
-      let parts = wait-parts plan plans h in
+      let parts = run-parts plan plans h in
       let no : runs_in filed streams number of (e, plan) ≡ false = runs-not plan number parts.0 in
       simp no (ap (λ l. plan ∷ l) (none-ran number of high es plans (omega (arith, same)) parts.1))
 
-  module _ (high : Option ℤ) (es : List Standing) (plans : List Plan) (same : length es ≡ length plans) (h : all_wait plans ≡ true) where
+  module _ (high : Option ℤ) (es : List Standing) (plans : List Plan) (same : length es ≡ length plans) (h : none_run plans ≡ true) where
     pub all-quiet : (steps : ℕ → List Step) (number : ℕ) (rest : List Stream) → all_running filed streams high es steps plans number rest ≡ []
     all-quiet steps number [] = refl
     all-quiet steps number (of ∷ rest) =
@@ -175,26 +227,51 @@ left-quiet stream latest (Some t) was es plans h = sym (none-holds stream (place
 stands-on : (t : ℤ) (e : Standing) → int_lt t e.start ≡ true → int_lt t (forgotten_at e) ≡ true
 stands-on t e before = grind (arith, ints)
 
-pub all-still : (t : ℤ) (es : List Standing) → all_start_past t es ≡ true → still_standing t es ≡ es
-all-still t [] past = refl
-all-still t (e ∷ es) past =
+-- those that start past it are not
+pub kept-past : (t : ℤ) (es : List Standing) → all_start_past t es ≡ true → all_kept t es ≡ true
+kept-past t [] past = refl
+kept-past t (e ∷ es) past =
     let starts = past-parts t e es past in
-    let stands = stands-on t e starts.0 in
-    simp stands (ap (λ l. e ∷ l) (all-still t es starts.1))
+    ap (λ b. b && all_kept t es) (stands-on t e starts.0) ∙ kept-past t es starts.1
 
-none-out : (t : ℤ) (test : Standing × Plan → Bool) (es : List Standing) (plans : List Plan) → all_start_past t es ≡ true → count_by (λ (x : Standing × Plan). is_out_at t x.0 && test x) (beside es plans) ≡ 0
+-- nor are those of which the ring says so
+kept-all : (latest : Option ℤ) (p : ℕ) (later : ℤ) → p < 2 ^ 33 → CanAdvance (option_map ring_of latest) p → IsTimeAt latest p later → (es : List Standing) (xs : List (Entry Plan)) → map (λ (x : Entry Plan). x.event) xs ≡ map on_ring es
+    → All (IsWithin latest) es → list_all (is_kept_at p) xs ≡ true → all_kept later es ≡ true
+kept-all latest p later fits can is [] xs same within h = refl
+kept-all latest p later fits can is (e ∷ es) [] same within h = absurd (let n = ap length same in omega (arith, n))
+kept-all latest p later fits can is (e ∷ es) (x ∷ xs) same within h =
+    let parts = and_parts (is_kept_at p x) (list_all (is_kept_at p) xs) h in
+    let here = first-same x.event (on_ring e) _ _ same in
+    let stands : int_lt later (forgotten_at e) ≡ true
+    = sym (ap (λ (ev : Event). is_before_on_ring p ((ring_end ev + 900000) % 2 ^ 33)) here ∙ kept-within latest p later fits can is e (within 0 e (omega arith))) ∙ parts.0 in
+    ap (λ b. b && all_kept later es) stands
+    ∙ kept-all latest p later fits can is es xs (later-same x.event (on_ring e) _ _ same) (all-later (IsWithin latest) e es within) parts.1
+
+pub kept-there : (table : Table Plan) (latest : Option ℤ) (p : ℕ) (later : ℤ) (es : List Standing) → p < 2 ^ 33 → StandsFor table latest es → CanAdvance (high_time_of table) p → IsTimeAt latest p later → keeps_all table p ≡ true → all_kept later es ≡ true
+kept-there table latest p later es fits s can is keeps =
+    kept-all latest p later fits (subst (λ h. CanAdvance h p) s.high can) is es table.entries.items s.events s.within
+    (and_parts (not (length table.entries.items == 0)) (list_all (is_kept_at p) table.entries.items) keeps).1
+
+pub all-still : (t : ℤ) (es : List Standing) → all_kept t es ≡ true → still_standing t es ≡ es
+all-still t [] kept = refl
+all-still t (e ∷ es) kept =
+    let parts = and_parts (int_lt t (forgotten_at e)) (all_kept t es) kept in
+    let stands = parts.0 in
+    simp stands (ap (λ l. e ∷ l) (all-still t es parts.1))
+
+none-out : (t : ℤ) (test : Standing × Plan → Bool) (es : List Standing) (plans : List Plan) → all_kept t es ≡ true → count_by (λ (x : Standing × Plan). is_out_at t x.0 && test x) (beside es plans) ≡ 0
 none-out t test [] plans past = refl
 none-out t test (e ∷ es) [] past = refl
 none-out t test (e ∷ es) (plan ∷ plans) past =
-    let starts = past-parts t e es past in
+    let starts = and_parts (int_lt t (forgotten_at e)) (all_kept t es) past in
     let f : Standing × Plan → Bool = λ x. is_out_at t x.0 && test x in
-    let no : f (e, plan) ≡ false = ap (λ b. not b && test (e, plan)) (stands-on t e starts.0) in
+    let no : f (e, plan) ≡ false = ap (λ b. not b && test (e, plan)) starts.0 in
     count-cons f (e, plan) (beside es plans) ∙ ap (λ b. one_if b + count_by f (beside es plans)) no ∙ ap (λ n. 0 + n) (none-out t test es plans starts.1)
 
 none-more : (n : ℕ) → 0 + n ≡ n
 none-more n = omega arith
 
-pub counts-quiet : (t : ℤ) (ads : Adverts) (es : List Standing) (plans : List Plan) (counts : EventCounts) → all_start_past t es ≡ true → with_counted (is_out_at t) ads (beside es plans) counts ≡ counts
+pub counts-quiet : (t : ℤ) (ads : Adverts) (es : List Standing) (plans : List Plan) (counts : EventCounts) → all_kept t es ≡ true → with_counted (is_out_at t) ads (beside es plans) counts ≡ counts
 counts-quiet t ads es plans counts past =
     let build : ℕ → ℕ → ℕ → EventCounts = λ p n u. record { played = p + counts.played; not_fitted = n + counts.not_fitted; unconditioned = u + counts.unconditioned; ignored = counts.ignored } in
     let plain : ℕ → ℕ → ℕ → EventCounts = λ p n u. record { played = p; not_fitted = n; unconditioned = u; ignored = counts.ignored } in

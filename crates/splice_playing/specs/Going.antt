@@ -1,5 +1,5 @@
 -- What goes out of the events that stand, and what is kept of them, by the state of the code.
-use Rattle.std.specs.Prelude.{◌≡◌, ℕ, ◌%◌, List, slice_index_or, ℤ, Option}
+use Rattle.std.specs.Prelude.{◌≡◌, ℕ, ◌%◌, List, slice_index_or, ℤ, Option, Some}
 use Rattle.ts_packet.specs.Numbering.{Step}
 use Rattle.unit_stream.specs.UnitPackets.{put_in}
 use Rattle.psi_tables.specs.declared.stream.Stream.{Stream}
@@ -8,7 +8,7 @@ use Rattle.event_table.specs.Tables.{StandsFor, values_of}
 use Rattle.ad_library.specs.Advertisements.{Advertisement}
 use Rattle.splice_plans.specs.declared.plan.Plan.{Plan}
 use Rattle.splice_plans.specs.declared.stream.SwitchedStream.{SwitchedStream}
-use Rattle.splice_plans.specs.Fronts.{closing_packets, closed_plans, AllCount, all_running, running_of, all_ran}
+use Rattle.splice_plans.specs.Fronts.{closing_packets, closed_plans, AllCount, all_running, running_of, all_ran, is_left}
 use Rattle.splice_playing.specs.declared.playing.Playing.{Playing}
 use Rattle.splice_playing.specs.Resting.{is_left_at_rest}
 
@@ -31,6 +31,11 @@ stream_at playing number s = slice_index_or playing.streams number s
 pub record KeepsUnit (time : Option ℕ) (s t : SwitchedStream) : Type 0 where
   pub counter : t.counter ≡ s.counter
   pub leaving : t.is_leaving ≡ is_left_at_rest time s.is_leaving
+
+-- and of a unit of this time that leaves all events as they are
+pub record HoldsUnit (number : ℕ) (latest : Option ℤ) (time : ℕ) (es : List Standing) (plans : List Plan) (s t : SwitchedStream) : Type 0 where
+  pub counter : t.counter ≡ s.counter
+  pub leaving : t.is_leaving ≡ is_left number latest (Some time) s.is_leaving es plans
 
 -- the streams' counters have counted these steps
 abbrev pub HasCounted : Playing → (ℕ → List Step) → Type 0

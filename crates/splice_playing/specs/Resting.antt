@@ -1,14 +1,15 @@
 -- Until when the events that stand wait: up to the earliest of their starts, where none has begun in a stream.
-use Rattle.std.specs.Prelude.{ℕ, ◌+◌, ◌%◌, ◌^◌, List, [], ◌∷◌, Bool, true, false, ◌&&◌, if◌then◌else◌, ℤ, pos, int_le, int_lt, Option, None, Some}
-use Rattle.std.specs.List.{list_all}
+use Rattle.std.specs.Prelude.{ℕ, ◌+◌, ◌%◌, ◌^◌, List, [], ◌∷◌, length, ◌==◌, Bool, true, false, not, ◌&&◌, ◌||◌, if◌then◌else◌, ℤ, pos, int_le, int_lt, Option, None, Some}
+use Rattle.std.specs.List.{list_all, list_any}
 use Rattle.pes_time.specs.Line.{signed, place}
 use Rattle.event_table.specs.Rings.{is_before_on_ring}
-use Rattle.event_table.specs.Standing.{Standing}
+use Rattle.event_table.specs.Events.{ring_end}
+use Rattle.event_table.specs.Standing.{Standing, forgotten_at}
 use Rattle.event_table.specs.declared.table.Entry.{Entry}
 use Rattle.event_table.specs.declared.table.Table.{Table}
 use Rattle.event_table.specs.Tables.{high_time_of}
 use Rattle.splice_plans.specs.declared.plan.Plan.{Plan}
-use Rattle.splice_plans.specs.Waiting.{waits_in_all}
+use Rattle.splice_plans.specs.Waiting.{waits_in_all, runs_in_any}
 
 -- ---- on the ring
 
@@ -61,10 +62,30 @@ comes_before None time = false
 comes_before (Some rest) None = true
 comes_before (Some rest) (Some time) = is_before_on_ring time rest
 
+-- where it is said that no event runs, none that stands does in any stream
+abbrev pub is_idle : Bool → Table Plan → Bool
+is_idle runs table = runs || not (list_any (λ entry. runs_in_any entry.value) table.entries.items)
+
+-- the event is not forgotten where this is the greatest time
+abbrev pub is_kept_at : ℕ → Entry Plan → Bool
+is_kept_at high entry = is_before_on_ring high ((ring_end entry.event + 900000) % 2 ^ 33)
+
+-- events stand, and none of them is
+abbrev pub keeps_all : Table Plan → ℕ → Bool
+keeps_all table high = not (length table.entries.items == 0) && list_all (is_kept_at high) table.entries.items
+
 -- ---- on the line
 
 abbrev pub all_wait : List Plan → Bool
 all_wait plans = list_all waits_in_all plans
+
+-- none of them runs in a stream
+abbrev pub none_run : List Plan → Bool
+none_run plans = list_all (λ plan. not (runs_in_any plan)) plans
+
+-- none of the events is forgotten where this is the greatest time
+abbrev pub all_kept : ℤ → List Standing → Bool
+all_kept time es = list_all (λ e. int_lt time (forgotten_at e)) es
 
 -- they start past this time
 abbrev pub all_start_past : ℤ → List Standing → Bool

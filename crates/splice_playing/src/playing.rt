@@ -2,6 +2,7 @@
 
 ghost use Rattle.std.specs.Prelude.{◌≡◌, ◌<◌, ◌≤◌, ◌+◌, ◌%◌, ◌++◌, ◌∷◌, ◌^◌, [], ℕ, ℤ, List, length, slice_index_or};
 ghost use Rattle.std.specs.Prelude.{Option, None, Some, IfSome, OnOk, IfErr, true};
+ghost use Rattle.std.specs.List.{list_all};
 ghost use Rattle.ts_packet.specs.Numbering.{Step, Counts};
 ghost use Rattle.unit_stream.specs.UnitPackets.{put_in};
 ghost use Rattle.event_table.specs.Standing.{Standing, IsTimeAt};
@@ -18,15 +19,17 @@ ghost use Rattle.splice_plans.specs.Reporting.{EventCounts as Reported, ReportIs
 ghost use Rattle.splice_playing.specs.Forgetting.{with_out, with_first_out, with_standing};
 ghost use Rattle.splice_playing.specs.Ready.{is_ready};
 ghost use Rattle.splice_playing.specs.Resting.{is_rest, first_rest, waits_ahead, first_start, comes_before, all_wait, all_start_behind};
+ghost use Rattle.splice_playing.specs.Resting.{is_idle, is_kept_at, keeps_all};
 
 use crate::leaving::{LeavingUnit, is_repeat_in};
 use ad_library::AdLibrary;
 use armed_events::ArmedEvents;
-use event_table::{Table, is_before};
+use event_table::{Entry, Table, is_before};
 use pes_time::Time33;
 use psi_tables::Stream;
 use splice_plans::{
-    Plan, SwitchReport, SwitchedStream, close_all, is_inside, put_running, turn_all,
+    Plan, SwitchReport, SwitchedStream, all_stay, close_all, is_inside, put_running, runs_any,
+    turn_all,
 };
 use ts_packet::{Packet, PacketSink, PutFault};
 
@@ -43,14 +46,17 @@ pub struct Playing {
     forgotten: SwitchReport,
     /// The time until which all events that stand wait in all streams, or `None` where that is not known.
     rest: Option<Time33>,
+    /// Whether an event may run in some stream: where not, none does.
+    may_run: bool,
     ghost ready: { is_ready events.assembler ≡ true },
     ghost rested: { is_rest rest events.obeyed.table ≡ true },
+    ghost idle: { is_idle may_run events.obeyed.table ≡ true },
 }
 
 impl Playing {
     ghost use Rattle.splice_playing.specs.Going.{plans_in, HasEvents, IsStreamAt, stream_at, HasCounted, steps_with};
     ghost use Rattle.splice_playing.specs.Going.{closing_in, closed_in, running_in_all, running_in_one, ran_in_all};
-    ghost use Rattle.splice_playing.specs.Going.{KeepsUnit};
+    ghost use Rattle.splice_playing.specs.Going.{KeepsUnit, HoldsUnit};
     ghost use Rattle.splice_playing.specs.Relations.{PlaysFor, PlaysBefore, PlaysBehind, BeginsIn};
     ghost use Rattle.splice_playing.specs.Relations.{IsCueOf, IsPacketOf, EndsWith, Reports};
 
@@ -64,6 +70,7 @@ impl Playing {
             leaving: [LeavingUnit::new(); 8],
             forgotten: SwitchReport::new(),
             rest: None,
+            may_run: true,
         }
     }
 
@@ -74,6 +81,7 @@ impl Playing {
     {
         self.events.feed(packet, Plan::new());
         self.rest = first_rest(self.events.table());
+        self.may_run = runs_any(self.events.table());
     }
 
     /// A unit begins in the stream of this number, of this time where it has one, behind which `high` is the greatest time: puts what goes
@@ -165,6 +173,12 @@ impl Playing {
             return Ok(());
         }
         self.rest = None;
+        if let Some(time) = *time {
+            if all_stay(self.events.table(), stream, time) {
+                self.hold(stream, time);
+                return Ok(());
+            }
+        }
         self.turn_each(stream, time, streams, library, sink)
     }
 
@@ -204,6 +218,25 @@ impl Playing {
             of.is_leaving = false;
             self.streams[stream % 8] = of;
         }
+    }
+
+    /// A unit of this time begins in the stream, which leaves all events as they are.
+    fn hold(&mut self, stream: usize, time: Time33)
+        ensures holds { (latest : Option ℤ) (es : List Standing) (s t : SwitchedStream) → HasEvents self.old latest es →
+            IsStreamAt self.old stream s → IsStreamAt self.new stream t →
+            HoldsUnit stream latest time es (plans_in self.old) s t }
+        ensures below { time < 2 ^ 33 }
+        ensures others { (i : ℕ) (s : SwitchedStream) → IsOther i (stream % 8) →
+            stream_at self.new i s ≡ stream_at self.old i s }
+        ensures events { self.new.events ≡ self.old.events }
+        ensures units { self.new.leaving ≡ self.old.leaving }
+        ensures forgotten { self.new.forgotten ≡ self.old.forgotten }
+    {
+        let _ticks = time.ticks();
+        let is_left = is_inside(self.events.table(), stream, time);
+        let mut of = self.streams[stream % 8];
+        of.is_leaving = is_left;
+        self.streams[stream % 8] = of;
     }
 
     /// Lets each event come as far as it does with a unit of this time, and puts the rest of those that it closes, in order of start.
@@ -253,6 +286,7 @@ impl Playing {
             return Ok(());
         };
         let _ticks = time.ticks();
+        self.may_run = true;
         turn_all(&mut self.events, stream, time, streams, library);
         let mut of = self.streams[stream % 8];
         let mut counter = of.counter;
@@ -270,6 +304,7 @@ impl Playing {
         of.counter = counter;
         of.is_leaving = is_inside(self.events.table(), stream, time);
         self.streams[stream % 8] = of;
+        self.may_run = runs_any(self.events.table());
         Ok(())
     }
 
@@ -311,9 +346,13 @@ impl Playing {
         ensures blamed { IfErr result (λ f. Blamed f (S.counts sink.old) (S.counts sink.new) (S.is_full sink.new)) }
     {
         match self.rest {
-            Some(_) => Ok(()),
-            None => self.put_each_running(high, streams, library, sink),
+            Some(_) => return Ok(()),
+            None => {}
         }
+        if !self.may_run {
+            return Ok(());
+        }
+        self.put_each_running(high, streams, library, sink)
     }
 
     /// Puts of the events that run what is due where this is the greatest time, or all that is left, by stream.
@@ -324,7 +363,8 @@ impl Playing {
         library: &AdLibrary,
         sink: &mut S,
     ) -> Result<(), PutFault>
-        requires { self.old.rest ≡ None }
+        requires wakes { self.old.rest ≡ None }
+        requires runs { self.old.may_run ≡ true }
         ensures leads { S.leads sink.old sink.new }
         ensures ok { (latest latest_behind : Option ℤ) (es : List Standing)
             (begin : Option (List ℕ)) (ps : List (List ℕ)) (steps : ℕ → List Step) → length streams.now ≤ 8 →
@@ -459,6 +499,12 @@ impl Playing {
             self.events.advance_keeping_all(high);
             return;
         }
+        if keeps_all(self.events.table(), high) {
+            let _ticks = high.ticks();
+            self.events.advance_keeping_all(high);
+            self.rest = None;
+            return;
+        }
         self.forgotten = with_forgotten(
             self.forgotten,
             self.events.table(),
@@ -468,6 +514,7 @@ impl Playing {
         );
         self.events.advance(high);
         self.rest = first_rest(self.events.table());
+        self.may_run = runs_any(self.events.table());
     }
 
     /// What became of all events.
@@ -500,6 +547,27 @@ fn first_rest(table: &Table<Plan>) -> Option<Time33>
         first = Some(first_start(high, first, table.standing()[at].event.start));
     }
     first
+}
+
+/// Events stand, and none of them is forgotten at this greatest time.
+fn keeps_all(table: &Table<Plan>, high: Time33) -> bool
+    ensures { result ≡ keeps_all table.now high }
+{
+    !table.standing().is_empty() && are_kept(table, high)
+}
+
+/// No event that stands is forgotten at this greatest time.
+fn are_kept(table: &Table<Plan>, high: Time33) -> bool
+    ensures { result ≡ list_all (is_kept_at high) table.now.entries.items }
+{
+    table.standing().iter().all(|entry| is_kept_at(entry, high))
+}
+
+/// The event is not forgotten at this greatest time.
+fn is_kept_at(entry: &Entry<Plan>, high: Time33) -> bool
+    ensures { result ≡ is_kept_at high entry.now }
+{
+    !entry.event.is_forgotten_at(high)
 }
 
 /// The event at this place waits in all streams, and starts past this greatest time.

@@ -6,11 +6,15 @@ use Rattle.known_laws.proofs.OtherLemmas.{unswitched_change_nothing}
 use Rattle.psi_section.proofs.AssemblerLemmas.{on-of}
 use Rattle.splice_playing.proofs.LeavingLemmas.{taken-other}
 use Rattle.splice_playing.proofs.PacketLemmas.{new-is}
+use Rattle.splice_playing.proofs.WaitingLemmas.{idle-there}
 use Rattle.splice_playing.proofs.UntilLemmas.{rest-there}
 use Rattle.splice_playing.proofs.playing.Playing.obey.Goals as goal
 
 pub invariant_of-self-clause-rested : goal.invariant_of-self-clause-rested
 invariant_of-self-clause-rested c = rest-there c.feed.new.self.obeyed.table c.table.result.now c.first_rest-self.result c.first_rest-self.ensures c.table.ensures.same
+
+pub invariant_of-self-clause-idle : goal.invariant_of-self-clause-idle
+invariant_of-self-clause-idle c = idle-there c.feed.new.self.obeyed.table c.table-2.result.now c.runs_any-self.result c.runs_any-self.ensures c.table-2.ensures.same
 
 pub returns : goal.returns
 returns c = λ k past i f.

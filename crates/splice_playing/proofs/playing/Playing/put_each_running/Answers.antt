@@ -16,7 +16,8 @@ use Rattle.splice_playing.proofs.playing.Playing.put_each_running.Goals as goal
 
 pub loop-stream-init : goal.loop-stream-init
 loop-stream-init g c = record {
-  wakes = c.requires;
+  wakes = c.requires.wakes;
+  runs = c.requires.runs;
   leads = g.met.S.PacketSink.leads_refl c.args.sink.now;
   well = well-refl _;
   keeps = keeps-same c.args.self.now.events;
@@ -70,6 +71,7 @@ loop-stream-preserved g c =
     let of = some-there c.args.streams.now at test in
     record {
       wakes = c.loop-stream.invariant.wakes;
+      runs = c.loop-stream.invariant.runs;
       leads = g.met.S.PacketSink.leads_trans c.args.sink.now c.loop-stream.sink c.put_running.new.sink c.loop-stream.invariant.leads e.leads;
       well = well-trans _ _ _ c.loop-stream.invariant.well e.well;
       keeps = keeps-more c.args.self.now.events c.loop-stream.self.events c.put_running.new.events kept e.keeps;

@@ -1,4 +1,4 @@
-use Rattle.std.proofs.Common.{◌≡◌, ◌≤◌, ℕ, List, length, drop, Option, None}
+use Rattle.std.proofs.Common.{◌≡◌, ◌≤◌, ℕ, List, length, drop, Option, None, true}
 use Rattle.std.specs.Prelude.{ℤ, slice_index_or}
 use Rattle.ts_packet.specs.Numbering.{Step}
 use Rattle.ts_packet.specs.Transfers.{WentWell}
@@ -15,6 +15,7 @@ use Rattle.splice_playing.proofs.playing.Playing.put_each_running.Given as goal
 abbrev pub invariant-loop-stream : goal.invariant-loop-stream
 invariant-loop-stream g l = record {
   wakes : l.self.rest ≡ None;
+  runs : l.self.may_run ≡ true;
   leads : g.S.PacketSink.leads l.initial.sink l.sink;
   well : WentWell (g.S.PacketSink.counts l.initial.sink) (g.S.PacketSink.counts l.sink);
   keeps : KeepsEvents l.initial.self.events l.self.events;
