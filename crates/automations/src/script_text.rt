@@ -1,4 +1,4 @@
-//! The text of a script, read byte by byte.
+//! The text of a script, read byte by byte, and by pairs of digits where two come next.
 
 ghost use Rattle.std.specs.Prelude.{◌≡◌, ◌≤◌, ◌<◌, ◌+◌, ◌-◌, ◌*◌, ◌^◌, ℕ, List, [], ◌∷◌, ◌++◌, length, true, Some, None, Err, nat_le};
 ghost use Rattle.std.specs.Prelude.{IfErr, IfOk, OnOk};

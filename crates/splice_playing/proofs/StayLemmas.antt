@@ -29,13 +29,10 @@ use Rattle.splice_plans.specs.Waiting.{stays, stays_in}
 use Rattle.splice_plans.specs.Fronts.{closing_packets, closed_plans}
 use Rattle.splice_plans.proofs.WaitLemmas.{before-start, begins-not}
 use Rattle.splice_plans.proofs.TurnLemmas.{before-end}
+use Rattle.splice_playing.proofs.WaitingLemmas.{not-so}
 use Rattle.splice_playing.proofs.FrontLemmas.{covers-line, all-later, first-same, later-same}
 
 -- ---- one event in one stream
-
-not-so : (b : Bool) → not b ≡ true → b ≡ false
-not-so true h = absurd (true≢false (sym h))
-not-so false h = refl
 
 not-under : (a b : ℤ) → int_le a b ≡ true → int_lt b a ≡ false
 not-under a b h = grind (arith, ints)

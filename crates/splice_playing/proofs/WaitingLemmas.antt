@@ -1,6 +1,6 @@
 -- Where all events that stand wait in all streams, nothing closes and nothing runs; and a unit before their starts begins none.
 use Rattle.std.proofs.Common.{◌≡◌, ℕ, zero, suc, ◌+◌, ◌%◌, ◌==◌, List, [], ◌∷◌, ◌++◌, length, map, Bool, true, false, not, ◌&&◌, ◌||◌, if◌then◌else◌, refl, sym, ap, subst, ◌∙◌, ◌<◌, ◌^◌, arith, Option, None, Some}
-use Rattle.std.specs.Prelude.{ℤ, int_lt, slice_index_or, filter, find, count_by, All, option_map}
+use Rattle.std.specs.Prelude.{ℤ, int_lt, slice_index_or, filter, find, count_by, All, option_map, replicate}
 use Rattle.std.specs.List.{list_all, list_any}
 use Rattle.std.proofs.lemmas.Int.{ints}
 use Rattle.std.proofs.lemmas.Bool.{and_parts, or_parts, true≢false}
@@ -16,6 +16,7 @@ use Rattle.event_table.specs.Rings.{CanAdvance, is_before_on_ring}
 use Rattle.event_table.specs.Standing.{Standing, on_ring, IsTimeAt, IsWithin, forgotten_at, still_standing, covers}
 use Rattle.event_table.specs.Tables.{StandsFor, high_time_of, values_of}
 use Rattle.event_table.proofs.TableLemmas.{length-entries, kept-within}
+use Rattle.armed_events.specs.Valuing.{AddsOnly}
 use Rattle.ad_library.specs.Advertisements.{Advertisement}
 use Rattle.splice_plans.specs.declared.plan.Part.{Part}
 use Rattle.splice_plans.specs.declared.plan.Plan.{Plan}
@@ -49,7 +50,7 @@ part-waits (x ∷ xs) (suc i) h = part-waits xs i (and_parts (is_waiting x.stage
 pub waits-there : (plan : Plan) (stream : ℕ) → waits_in_all plan ≡ true → is_waiting (part_of plan stream).stage ≡ true
 waits-there plan stream h = part-waits plan.parts (stream % 8) h
 
-not-so : (b : Bool) → not b ≡ true → b ≡ false
+pub not-so : (b : Bool) → not b ≡ true → b ≡ false
 not-so true h = absurd (true≢false (sym h))
 not-so false h = refl
 
@@ -93,6 +94,27 @@ idle-there table seen runs is same =
     by : (b : Bool) → (b || not b) ≡ true
     by true = refl
     by false = refl
+
+any-value : (xs : List (Entry Plan)) → list_any (λ (x : Entry Plan). runs_in_any x.value) xs ≡ list_any runs_in_any (map (λ (x : Entry Plan). x.value) xs)
+any-value [] = refl
+any-value (x ∷ xs) = ap (λ b. runs_in_any x.value || b) (any-value xs)
+
+none-more-runs : (fresh : Plan) (n : ℕ) → runs_in_any fresh ≡ false → list_any runs_in_any (replicate n fresh) ≡ false
+none-more-runs fresh zero h = refl
+none-more-runs fresh (suc n) h = ap (λ b. b || list_any runs_in_any (replicate n fresh)) h ∙ none-more-runs fresh n h
+
+none-behind : (before more : List Plan) → list_any runs_in_any before ≡ false → list_any runs_in_any more ≡ false → list_any runs_in_any (before ++ more) ≡ false
+none-behind [] more h k = k
+none-behind (plan ∷ before) more h k =
+    let parts = or_parts (runs_in_any plan) (list_any runs_in_any before) h in
+    ap (λ b. b || list_any runs_in_any (before ++ more)) parts.0 ∙ none-behind before more parts.1 k
+
+-- with events more that run in no stream
+pub idle-fed : (old new : Table Plan) (runs : Bool) (fresh : Plan) → AddsOnly fresh (values_of old) (values_of new) → runs_in_any fresh ≡ false → is_idle runs old ≡ true → is_idle runs new ≡ true
+idle-fed old new true fresh adds none idle = refl
+idle-fed old new false fresh adds none idle =
+    let before = sym (any-value old.entries.items) ∙ not-so (list_any (λ (x : Entry Plan). runs_in_any x.value) old.entries.items) idle in
+    ap not (any-value new.entries.items ∙ ap (list_any runs_in_any) adds.1 ∙ none-behind (values_of old) (replicate adds.0 fresh) before (none-more-runs fresh adds.0 none))
 
 pub idle-stays : (old new : Table Plan) (runs : Bool) → new.entries ≡ old.entries → is_idle runs old ≡ true → is_idle runs new ≡ true
 idle-stays old new runs same idle = ap (λ es. runs || not (list_any (λ (x : Entry Plan). runs_in_any x.value) es.items)) same ∙ idle

@@ -81,7 +81,6 @@ impl Playing {
     {
         self.events.feed(packet, Plan::new());
         self.rest = first_rest(self.events.table());
-        self.may_run = runs_any(self.events.table());
     }
 
     /// A unit begins in the stream of this number, of this time where it has one, behind which `high` is the greatest time: puts what goes
@@ -126,7 +125,7 @@ impl Playing {
     }
 
     /// Lets each event come as far as it does with a unit of this time, and puts the rest of those that it closes, in order of start. No
-    /// event is looked at before the time until which all wait.
+    /// event is looked at before the time until which all wait, and none is turned where the unit leaves all as they are.
     fn turn<S: PacketSink>(
         &mut self,
         stream: usize,
@@ -309,7 +308,7 @@ impl Playing {
     }
 
     /// Puts of the events that run what is due where this is the greatest time, or all that is left, by stream. No
-    /// event is looked at where all wait.
+    /// event is looked at where all wait, or where none may run.
     fn put_running<S: PacketSink>(
         &mut self,
         high: &Option<Time33>,
@@ -499,6 +498,7 @@ impl Playing {
             self.events.advance_keeping_all(high);
             return;
         }
+        // An event that stands has begun, or one that is not played should have: the rest comes back once it is forgotten.
         if keeps_all(self.events.table(), high) {
             let _ticks = high.ticks();
             self.events.advance_keeping_all(high);

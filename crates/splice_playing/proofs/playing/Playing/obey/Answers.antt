@@ -1,4 +1,5 @@
-use Rattle.std.proofs.Common.{◌∷◌, sym, subst, ◌∙◌}
+use Rattle.std.proofs.Common.{List, ◌∷◌, ap, sym, subst, ◌∙◌}
+use Rattle.std.specs.List.{list_any}
 use Rattle.splice_plans.specs.Reporting.{ReportIs}
 use Rattle.splice_plans.specs.Switching.{high_at}
 use Rattle.splice_plans.specs.Known.{plans_at, behind_at}
@@ -6,7 +7,9 @@ use Rattle.known_laws.proofs.OtherLemmas.{unswitched_change_nothing}
 use Rattle.psi_section.proofs.AssemblerLemmas.{on-of}
 use Rattle.splice_playing.proofs.LeavingLemmas.{taken-other}
 use Rattle.splice_playing.proofs.PacketLemmas.{new-is}
-use Rattle.splice_playing.proofs.WaitingLemmas.{idle-there}
+use Rattle.splice_plans.specs.declared.plan.Part.{Part}
+use Rattle.splice_plans.specs.Parts.{is_running}
+use Rattle.splice_playing.proofs.WaitingLemmas.{idle-fed}
 use Rattle.splice_playing.proofs.UntilLemmas.{rest-there}
 use Rattle.splice_playing.proofs.playing.Playing.obey.Goals as goal
 
@@ -14,7 +17,9 @@ pub invariant_of-self-clause-rested : goal.invariant_of-self-clause-rested
 invariant_of-self-clause-rested c = rest-there c.feed.new.self.obeyed.table c.table.result.now c.first_rest-self.result c.first_rest-self.ensures c.table.ensures.same
 
 pub invariant_of-self-clause-idle : goal.invariant_of-self-clause-idle
-invariant_of-self-clause-idle c = idle-there c.feed.new.self.obeyed.table c.table-2.result.now c.runs_any-self.result c.runs_any-self.ensures c.table-2.ensures.same
+invariant_of-self-clause-idle c =
+    idle-fed c.args.self.now.events.obeyed.table c.feed.new.self.obeyed.table c.args.self.now.may_run c.new.result c.feed.ensures.added
+    (ap (λ (parts : List Part). list_any (λ (part : Part). is_running part.stage) parts) c.new.ensures.parts) c.args.self.now.idle
 
 pub returns : goal.returns
 returns c = λ k past i f.
