@@ -1,6 +1,6 @@
 -- Digits of bytes, byte by byte: as they are written, and as they are read.
-use Rattle.std.proofs.Common.{◌≡◌, ℕ, ◌+◌, ◌-◌, ◌*◌, ◌/◌, ◌%◌, ◌<◌, ◌≤◌, List, [], ◌∷◌, ◌++◌, length, get_or, take, drop, Option, Some, None, refl, ap, sym, ◌∙◌, arith, slice_index, slice_set, suc, append_assoc, length-append, drop-cons}
-use Rattle.std.specs.Prelude.{option_map}
+use Rattle.std.proofs.Common.{◌≡◌, ℕ, ◌+◌, ◌-◌, ◌*◌, ◌/◌, ◌%◌, ◌<◌, ◌≤◌, Bool, true, false, ◌&&◌, List, [], ◌∷◌, ◌++◌, length, get_or, take, drop, Option, Some, None, refl, ap, sym, ◌∙◌, arith, slice_index, slice_set, suc, append_assoc, length-append, drop-cons}
+use Rattle.std.specs.Prelude.{IfSome, is_some, option_map}
 use Rattle.std.proofs.lemmas.List.{take_more, length-take-le, set-append_right}
 use Rattle.std.proofs.Math.Seq.{set-append_seam}
 use Rattle.hex_digits.specs.Digits.{digit_value, digit_of, digits_of, byte_before, spelled}
@@ -102,3 +102,35 @@ pub spelled_half : (rest : List ℕ) → length rest ≡ 1 → spelled rest ≡ 
 spelled_half [] e = absurd (omega arith)
 spelled_half (x ∷ []) e = refl
 spelled_half (x ∷ y ∷ rest) e = absurd (omega arith)
+
+-- ---- read to the end, whatever the digits are
+
+digit_is : (o : Option ℕ) (v : ℕ) → true ≡ is_some o → IfSome o (λ w. w ≡ v) → Some v ≡ o
+digit_is None v e h = absurd cc
+digit_is (Some w) v e h = ap Some (sym h)
+
+no_digit : (o : Option ℕ) → false ≡ is_some o → None ≡ o
+no_digit None e = refl
+no_digit (Some w) e = absurd cc
+
+-- two digits more
+pub spelled_on : (done rest : List ℕ) (text : Option (List ℕ)) (sofar first second : Bool) (h l : ℕ) → 2 ≤ length rest
+    → first ≡ is_some (digit_value (slice_index rest 0)) → second ≡ is_some (digit_value (slice_index rest 1))
+    → IfSome (digit_value (slice_index rest 0)) (λ v. v ≡ h) → IfSome (digit_value (slice_index rest 1)) (λ v. v ≡ l)
+    → (sofar ≡ true → behind done (spelled rest) ≡ text) → ((sofar && first) && second) ≡ true
+    → behind (done ++ (16 * h + l) ∷ []) (spelled (drop 2 rest)) ≡ text
+spelled_on done rest text true true true h l two f s high low so e =
+    spelled_more done rest h l two (digit_is (digit_value (slice_index rest 0)) h f high) (digit_is (digit_value (slice_index rest 1)) l s low) ∙ so refl
+spelled_on done rest text true true false h l two f s high low so e = absurd cc
+spelled_on done rest text true false second h l two f s high low so e = absurd cc
+spelled_on done rest text false first second h l two f s high low so e = absurd cc
+
+-- one of them is none
+pub spelled_off : (done rest : List ℕ) (text : Option (List ℕ)) (sofar first second : Bool) → 2 ≤ length rest
+    → first ≡ is_some (digit_value (slice_index rest 0)) → second ≡ is_some (digit_value (slice_index rest 1))
+    → (sofar ≡ true → behind done (spelled rest) ≡ text) → (sofar ≡ false → text ≡ None) → ((sofar && first) && second) ≡ false
+    → text ≡ None
+spelled_off done rest text false first second two f s so none e = none refl
+spelled_off done rest text true false second two f s so none e = sym (so refl) ∙ ap (behind done) (spelled_not_high rest two (no_digit (digit_value (slice_index rest 0)) f))
+spelled_off done rest text true true false two f s so none e = sym (so refl) ∙ ap (behind done) (spelled_not_low rest two (no_digit (digit_value (slice_index rest 1)) s))
+spelled_off done rest text true true true two f s so none e = absurd cc

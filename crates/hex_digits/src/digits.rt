@@ -1,6 +1,6 @@
 //! Bytes as upper case hexadecimal digits.
 
-ghost use Rattle.std.specs.Prelude.{◌≡◌, ◌+◌, ◌*◌, ◌<◌, ◌≤◌, ◌++◌, length, take, drop, IfOk, IfSome, Some, None, option_map};
+ghost use Rattle.std.specs.Prelude.{◌≡◌, ◌+◌, ◌*◌, ◌<◌, ◌≤◌, ◌++◌, length, take, drop, IfOk, IfSome, Some, None, is_some, option_map};
 ghost use Rattle.std.specs.Bool.{OnTrue, OnFalse};
 ghost use Rattle.hex_digits.specs.Digits.{digit_value, digit_of, digits_of, spelled};
 
@@ -88,6 +88,47 @@ pub fn bytes_into(text: &[u8], bytes: &mut [u8]) -> bool
         rest = after;
     }
     true
+}
+
+/// Whether a byte is an upper case hexadecimal digit.
+fn is_digit(byte: u8) -> bool
+    ensures { result ≡ is_some (digit_value byte) }
+{
+    matches!(byte, b'0'..=b'9' | b'A'..=b'F')
+}
+
+/// The value of an upper case hexadecimal digit; of any other byte some value below 16.
+fn half_of(digit: u8) -> u8
+    ensures value { IfSome (digit_value digit) (λ v. v ≡ result) }
+    ensures below { result < 16 }
+{
+    if digit < b'A' {
+        digit % 16
+    } else {
+        (digit % 16 + 9) % 16
+    }
+}
+
+/// Reads the bytes that the text spells as [`bytes_into`] does, for texts of a known small size, as a packet's line.
+///
+/// No digit decides what is done next: a text that spells none is read to its end too. So many digits are read at once.
+pub fn bytes_at_once(text: &[u8], bytes: &mut [u8]) -> bool
+    requires { length text.now ≡ 2 * length bytes.old }
+    ensures read { OnTrue result (spelled text.now ≡ Some bytes.new) }
+    ensures none { OnFalse result (spelled text.now ≡ None) }
+    ensures size { length bytes.new ≡ length bytes.old }
+{
+    let mut is_spelled = true;
+    let mut rest = text;
+    for index in 0..bytes.len() {
+        let high = rest[0];
+        let low = rest[1];
+        is_spelled = is_spelled & is_digit(high) & is_digit(low);
+        bytes[index] = 16 * half_of(high) + half_of(low);
+        let (_, after) = rest.split_at(2);
+        rest = after;
+    }
+    is_spelled
 }
 
 /// Bytes that print as their digits; no bytes print as nothing.

@@ -7,4 +7,4 @@
 pub mod digits;
 pub mod laws;
 
-pub use digits::{Digits, bytes_into, bytes_of, digit_of, spell, value_of};
+pub use digits::{Digits, bytes_at_once, bytes_into, bytes_of, digit_of, spell, value_of};

@@ -3,7 +3,7 @@
 ghost use Rattle.std.specs.Prelude.{◌≡◌, ◌^◌, ◌<◌, ◌≤◌, length, option_map, true, false};
 ghost use Rattle.packet_lines.specs.Texts.{packet_in, judged, is_sized};
 
-use hex_digits::bytes_into;
+use hex_digits::bytes_at_once;
 use ts_packet::transfer::{FillFault, fill};
 use ts_packet::{Packet, PacketFault, PacketSource, ReadFault, Source};
 
@@ -26,7 +26,7 @@ fn packet_of(line: &[u8]) -> Option<Result<Packet, PacketFault>>
         return None;
     }
     let mut bytes = [0; 188];
-    if bytes_into(&line[..LINE_DIGITS], &mut bytes) {
+    if bytes_at_once(&line[..LINE_DIGITS], &mut bytes) {
         Some(Packet::from_bytes(&bytes))
     } else {
         None
