@@ -22,6 +22,8 @@ mod tables;
 mod words;
 mod workload;
 
+ghost use Rattle.std.specs.Prelude.{◌≡◌, is_some, cond};
+
 use crate::printing::{print_outcome, write_all_of};
 use crate::runs::{Fault, run};
 use crate::scripts::script;
@@ -75,6 +77,16 @@ fn perform<O: Write>(alloc: Global, task: Task, output: &mut O) -> io::Result<Op
     }
 }
 
+/// The exit status of a run that stopped with this fault, or that went through.
+fn status_of(stopped: &Option<Fault>) -> u8
+    ensures { result ≡ cond (is_some stopped.now) 1 0 }
+{
+    match stopped {
+        Some(_) => 1,
+        None => 0,
+    }
+}
+
 /// Runs the program, and answers its exit status.
 fn status(rt: &HostRuntime) -> io::Result<u8> {
     let owned: Vec<String> = env::args(rt)?.skip(1).collect(rt.alloc())?;
@@ -89,13 +101,11 @@ fn status(rt: &HostRuntime) -> io::Result<u8> {
         )?;
         return Ok(2);
     };
-    match perform(rt.alloc(), task, &mut rt.stdout())? {
-        None => Ok(0),
-        Some(fault) => {
-            writeln!(&mut rt.stderr(), "fault: {}", fault.name())?;
-            Ok(1)
-        }
+    let stopped = perform(rt.alloc(), task, &mut rt.stdout())?;
+    if let Some(fault) = stopped {
+        writeln!(&mut rt.stderr(), "fault: {}", fault.name())?;
     }
+    Ok(status_of(&stopped))
 }
 
 fn main(rt: HostRuntime) -> ExitCode {

@@ -1,5 +1,7 @@
 //! A network that is made as it is read: a group of packets, repeated.
 
+ghost use Rattle.std.specs.Prelude.{◌≡◌, nat_lt};
+
 use crate::fields::CLOCK;
 use crate::group::Group;
 use std::io::{self, Read};
@@ -35,7 +37,9 @@ impl Network {
     }
 
     /// Begins the next repetition, and answers whether there is one.
-    fn begin_next(&mut self) -> bool {
+    fn begin_next(&mut self) -> bool
+        ensures { result ≡ nat_lt self.old.number self.old.size }
+    {
         if self.number >= self.size {
             return false;
         }

@@ -1,5 +1,7 @@
 //! Numbers that look random and follow from a seed.
 
+ghost use Rattle.std.specs.Prelude.{◌≡◌, ◌<◌};
+
 /// An odd number whose bits are evenly mixed.
 const SPREAD: u64 = 0x9E37_79B9_7F4A_7C15;
 
@@ -27,7 +29,10 @@ impl Random {
     }
 
     /// The next number below this one, or 0 where there is none.
-    pub fn below(&mut self, limit: u64) -> u64 {
+    pub fn below(&mut self, limit: u64) -> u64
+        ensures below { 0 < limit → result < limit }
+        ensures none { limit ≡ 0 → result ≡ 0 }
+    {
         (self.next() >> 16).checked_rem(limit).unwrap_or(0)
     }
 }
