@@ -79,7 +79,8 @@ still a b le t h = grind (arith, ints)
 later-than : (h way : ℤ) → pos 0 ≤ℤ way → h ≤ℤ (h +ℤ way)
 later-than h way le = omega (arith, ints)
 
-risen : {T : Type 0} → (t : Table T) (latest : Option ℤ) (later : ℤ) (r : ℕ) (some : List Standing) → StandsFor t latest some → CanAdvance t.last r → IsTimeAt latest r later → (events : List Standing)
+-- the events that still stand then are those that stand by the later time
+pub risen : {T : Type 0} → (t : Table T) (latest : Option ℤ) (later : ℤ) (r : ℕ) (some : List Standing) → StandsFor t latest some → CanAdvance t.last r → IsTimeAt latest r later → (events : List Standing)
     → still_standing later (standing_at latest events) ≡ standing_at (Some later) events
 risen t None later r some s can at events = narrowed (stands None) (stands (Some later)) (λ e _. refl) events
 risen t (Some h) later r some s can at events =

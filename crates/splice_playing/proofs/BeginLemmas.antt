@@ -1,5 +1,5 @@
 -- A unit start: what goes out before it, the plans behind it, and the streams.
-use Rattle.std.proofs.Common.{◌≡◌, ℕ, zero, suc, ◌%◌, ◌<◌, ◌≤◌, List, [], ◌∷◌, ◌++◌, length, reverse, Bool, true, false, if◌then◌else◌, ◌==◌, refl, sym, ap, ◌∙◌, subst, arith, append_assoc, Option, None, Some}
+use Rattle.std.proofs.Common.{◌≡◌, ℕ, zero, suc, ◌+◌, ◌%◌, ◌<◌, ◌≤◌, List, [], ◌∷◌, ◌++◌, length, reverse, Bool, true, false, if◌then◌else◌, ◌==◌, refl, sym, ap, ◌∙◌, subst, arith, append_assoc, Option, None, Some}
 use Rattle.std.specs.Prelude.{ℤ, All, slice_get, slice_index_or, Result, Ok, Err, OnOk}
 use Rattle.std.proofs.lemmas.List.{append-nil, length-map}
 use Rattle.std.proofs.lemmas.Option.{none-some, same_Some, slice_get_within}
@@ -23,7 +23,9 @@ use Rattle.splice_plans.specs.Fronts.{IsNearTime, IsOther, closing_packets, clos
 use Rattle.splice_plans.specs.Switching.{Setting, front_at, switched_at, streams_at, high_at}
 use Rattle.splice_plans.specs.Known.{GoesAs, AllGo, behind_at, plans_at, inside_at, moves_at, puts_at}
 use Rattle.plan_laws.specs.Laws.{steps_of, steps_known, Starts, IsReady, closing_before, plans_between, steps_between, running_before, running_in}
+use Rattle.splice_playing.specs.Dues.{NoneDue, NoneDueAt, NoneDueWith}
 use Rattle.splice_playing.specs.Relations.{BeginsIn}
+use Rattle.splice_playing.proofs.DuesLemmas.{all-settle}
 use Rattle.splice_playing.proofs.StreamLemmas.{slot-old}
 use Rattle.splice_playing.proofs.PlaceLemmas.{clash}
 use Rattle.plan_laws.proofs.TimeLemmas.{starts_are_near, high_is_reached, others_lie_as_before}
@@ -120,7 +122,21 @@ module _ (k : Setting) (filed : ℕ → Option Advertisement) (listed : List Str
     pub front-is : front_at k p past ≡ closing_before k filed number of p past ++ running_before k filed number of p past
     front-is = front_goes_out k filed number i.pid of p past ready
 
+    -- nothing is due behind it, whatever library says the same of the events
+    pub none-due : NoneDueWith k p past
+    none-due = λ library is.
+        let ready' : IsReady k library number of p past i.pid = record { starts = record { of = i.of; begins_it = i.begins_it; sound = i.sound; cue = i.cue; separate = i.separate; adverts_are = is; packed_is = i.packed_is }; within = within; of_is = ready.of_is } in
+        let few : 0 + length (streams_at k past) ≤ 8 = let few = few-listed in let same = ap length i.listed_is in omega (arith, few, same) in
+        subst (NoneDue library (streams_at k past) (high_at k (p ∷ past)) es) (plans_go_on k library number i.pid of p past ready')
+        (all-settle library (streams_at k past) (high_at k (p ∷ past)) es (plans_between k library number of p past) few)
+
     module _ (vals : List Plan) (is : vals ≡ values_by (plans_at k past (behind_at k past)) es) where
+      -- and before it, where nothing was
+      pub none-before : NoneDueAt k past → NoneDue filed listed (high_at k past) es vals
+      none-before h =
+          subst (λ ss. NoneDue filed ss (high_at k past) es vals) (sym i.listed_is)
+          (subst (NoneDue filed (streams_at k past) (high_at k past) es) (sym is) (h filed i.adverts_are))
+
       pub closing-is : closing_packets filed listed number of (high_at k past) time (steps number) es vals ≡ closing_before k filed number of p past
       closing-is =
           ap (λ ss. closing_packets filed ss number of (high_at k past) time (steps number) es vals) i.listed_is

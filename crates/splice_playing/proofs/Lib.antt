@@ -1,5 +1,6 @@
 pub mod WaitingLemmas
 pub mod StayLemmas
+pub mod DuesLemmas
 pub mod UntilLemmas
 pub mod FrontLemmas
 pub mod ReportLemmas

@@ -1,17 +1,21 @@
 -- What the relation comes to with one packet more.
 use Rattle.std.proofs.Common.{◌≡◌, ℕ, ◌∷◌, ◌++◌, List, true, false, reverse, refl, sym, ap, ◌∙◌, subst, Option, None, Some, replicate}
 use Rattle.std.specs.Prelude.{ℤ, option_map, is_some, slice_get}
+use Rattle.std.proofs.lemmas.Bool.{true≢false}
 use Rattle.std.proofs.lemmas.Option.{none-some, same_Some}
 use Rattle.pes_time.specs.Line.{ring_of}
 use Rattle.psi_section.proofs.AssemblerLemmas.{waits_off}
-use Rattle.program_follower.specs.Program.{Program, program_of, pids_of}
-use Rattle.event_table.specs.Standing.{Standing}
-use Rattle.event_table.specs.Tables.{values_of}
+use Rattle.psi_tables.specs.ProgramMap.{ProgramMap}
+use Rattle.program_follower.specs.Program.{Program, program_of, program_in, known_map, pids_of}
+use Rattle.event_table.specs.Rings.{CanAdvance}
+use Rattle.event_table.specs.declared.table.Table.{Table}
+use Rattle.event_table.specs.Standing.{Standing, IsTimeAt, still_standing}
+use Rattle.event_table.specs.Tables.{StandsFor, values_of}
 use Rattle.armed_events.specs.Arming.{Heard, heard, standing, standing_at, armed}
 use Rattle.armed_events.specs.declared.obeying.ArmedEvents.{ArmedEvents}
 use Rattle.armed_events.specs.Obeying.{Obeys, ObeyedFor}
 use Rattle.armed_events.specs.Valuing.{values_by}
-use Rattle.armed_events.proofs.PastLemmas.{heard-off}
+use Rattle.armed_events.proofs.PastLemmas.{heard-off, risen}
 use Rattle.ad_library.specs.Advertisements.{Advertisement}
 use Rattle.psi_tables.specs.declared.stream.Stream.{Stream as ListedStream}
 use Rattle.splice_plans.specs.declared.plan.Plan.{Plan}
@@ -29,7 +33,9 @@ use Rattle.splice_playing.specs.declared.playing.Playing.{Playing}
 use Rattle.splice_playing.specs.declared.leaving.LeavingUnit.{LeavingUnit}
 use Rattle.splice_playing.specs.Leaving.{AllTaken}
 use Rattle.splice_playing.proofs.LeavingLemmas.{taken-behind}
+use Rattle.splice_playing.specs.Dues.{NoneDue, NoneDueAt, NoneDueWith}
 use Rattle.splice_playing.specs.Relations.{PlaysFor, PlaysBehind, BeginsIn}
+use Rattle.known_laws.proofs.HeadLemmas.{same-streams}
 use Rattle.known_laws.proofs.PassLemmas.{packets_pass}
 
 -- an event that nothing is known of
@@ -46,6 +52,14 @@ behind-by k past n pid of = by (program_of (Some k.program) past) of
 
 pub steady-by : (k : Setting) (filed : ℕ → Option Advertisement) (past : List (List ℕ)) → k.adverts ≡ adverts_of filed → AreSteady (adverts_at k past)
 steady-by k filed past is = subst (λ (f : List ListedStream → Adverts). AreSteady (f (streams_at k past))) (sym is) (libraries_are_steady filed (streams_at k past))
+
+-- behind the head the streams stay
+pub streams-stay : (k : Setting) (p : List ℕ) (past : List (List ℕ)) → is_behind_head k past ≡ true → streams_at k (p ∷ past) ≡ streams_at k past
+streams-stay k p past b = by (known_map (Some k.program) past) refl b
+  where
+    by : (o : Option ProgramMap) → known_map (Some k.program) past ≡ o → is_some (option_map program_in o) ≡ true → streams_at k (p ∷ past) ≡ streams_at k past
+    by None is b = absurd (true≢false (sym b))
+    by (Some m) is b = same-streams k p past m is
 
 module _ (k : Setting) (filed : ℕ → Option Advertisement) (listed : List ListedStream) (number : ℕ) (time high : Option ℕ) (p : List ℕ) (past : List (List ℕ)) (i : BeginsIn k filed listed number time high p past) where
   pub passes : PassesOn k p past
@@ -71,6 +85,26 @@ module _ (k : Setting) (filed : ℕ → Option Advertisement) (listed : List Lis
 
   heard-same : heard k.cue_pid (high_at k) (p ∷ past) ≡ heard k.cue_pid (high_at k) past
   heard-same = heard-off k.cue_pid (high_at k) p past i.cue
+
+  -- where none of the events that stand is forgotten by it, the same stand
+  pub standing-still : (table : Table Plan) (latest : ℕ) (later : ℤ) → StandsFor table (high_at k past) (standing k.cue_pid (high_at k) past) → CanAdvance table.last latest → IsTimeAt (high_at k past) latest later
+      → high_at k (p ∷ past) ≡ Some later → still_standing later (standing k.cue_pid (high_at k) past) ≡ standing k.cue_pid (high_at k) past
+      → standing k.cue_pid (high_at k) (p ∷ past) ≡ standing k.cue_pid (high_at k) past
+  standing-still table latest later stands can at is all =
+      ap (λ (x : Heard). standing_at (high_at k (p ∷ past)) x.events) heard-same ∙ ap (λ h. standing_at h (armed k.cue_pid (high_at k) past)) is
+      ∙ sym (risen table (high_at k past) later latest (standing k.cue_pid (high_at k) past) stands can at (armed k.cue_pid (high_at k) past)) ∙ all
+
+  -- and nothing is due of them still
+  pub none-due-pass : standing k.cue_pid (high_at k) (p ∷ past) ≡ standing k.cue_pid (high_at k) past → NoneDueWith k p past → NoneDueAt k (p ∷ past)
+  none-due-pass same h = λ library is.
+      let es = standing k.cue_pid (high_at k) past in
+      let later = high_at k (p ∷ past) in
+      let plans = plans_at k past (p ∷ behind_at k past) in
+      let plans' = plans_at k (p ∷ past) (behind_at k (p ∷ past)) in
+      let streams = streams_at k (p ∷ past) in
+      subst (λ l. NoneDue library streams later l (values_by plans' l)) (sym same)
+      (subst (λ f. NoneDue library streams later es (values_by f es)) (sym passes.plans)
+      (subst (λ ss. NoneDue library ss later es (values_by plans es)) (sym (streams-stay k p past (behind-by k past number i.pid i.of))) (h library is)))
 
   module _ (same : high_at k (p ∷ past) ≡ high_at k past) where
     pub standing-same : standing k.cue_pid (high_at k) (p ∷ past) ≡ standing k.cue_pid (high_at k) past
@@ -105,4 +139,5 @@ module _ (k : Setting) (filed : ℕ → Option Advertisement) (listed : List Lis
     streams = streams-pass playing.streams b.streams;
     leaving = taken-pass playing.leaving playing.streams b.leaving;
     forgotten = subst (ReportIs playing.forgotten) (sym (passes.same same)) b.forgotten;
+    all_out = λ out. none-due-pass (standing-same same) (b.all_out out);
   }

@@ -131,7 +131,7 @@ past-parts t e es h = and_parts (int_lt t e.start) (all_start_past t es) h
 -- ---- what runs
 
 module _ (filed : ℕ → Option Advertisement) (streams : List Stream) where
-  none-found : (number : ℕ) (of : Stream) (es : List Standing) (plans : List Plan) → none_run plans ≡ true → find (runs_in filed streams number of) (beside es plans) ≡ None
+  pub none-found : (number : ℕ) (of : Stream) (es : List Standing) (plans : List Plan) → none_run plans ≡ true → find (runs_in filed streams number of) (beside es plans) ≡ None
   none-found number of [] plans h = refl
   none-found number of (e ∷ es) [] h = refl
   none-found number of (e ∷ es) (plan ∷ plans) h =

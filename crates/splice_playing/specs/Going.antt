@@ -11,6 +11,7 @@ use Rattle.splice_plans.specs.declared.stream.SwitchedStream.{SwitchedStream}
 use Rattle.splice_plans.specs.Fronts.{closing_packets, closed_plans, AllCount, all_running, running_of, all_ran, is_left}
 use Rattle.splice_playing.specs.declared.playing.Playing.{Playing}
 use Rattle.splice_playing.specs.Resting.{is_left_at_rest}
+use Rattle.splice_playing.specs.Dues.{NoneDue, IsAllOut}
 
 -- the plans beside the events that stand
 abbrev pub plans_in : Playing → List Plan
@@ -62,3 +63,7 @@ module _ (playing : Playing) (filed : ℕ → Option Advertisement) (streams : L
 
   abbrev pub ran_in_all : Option ℤ → List Standing → List Plan
   ran_in_all high es = all_ran filed streams high es (plans_in playing) 0 streams
+
+  -- where what was due at this greatest time is out, nothing is
+  abbrev pub LeavesNoneDue : Option ℤ → List Standing → Type 0
+  LeavesNoneDue high es = IsAllOut playing.all_out high → NoneDue filed streams high es (plans_in playing)

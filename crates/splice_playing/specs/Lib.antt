@@ -4,3 +4,4 @@ pub mod Relations
 pub mod Going
 pub mod Forgetting
 pub mod Leaving
+pub mod Dues

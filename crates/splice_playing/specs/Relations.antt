@@ -20,6 +20,7 @@ use Rattle.splice_plans.specs.Reporting.{ReportIs}
 use Rattle.splice_plans.specs.Adverts.{adverts_of, packed_units}
 use Rattle.splice_plans.specs.Known.{is_crossed_known, AllGo, AreSeparate, adverts_at, behind_at, plans_at, inside_at, moves_at, puts_at, counts_known, is_forgotten}
 use Rattle.known_laws.specs.Laws.{AreFaultless}
+use Rattle.splice_playing.specs.Dues.{NoneDueAt, NoneDueWith, IsAllOut}
 
 -- WHAT IT STANDS FOR, behind a past
 pub record PlaysFor (playing : Playing) (k : Setting) (past : List (List ℕ)) : Type 0 where
@@ -28,6 +29,7 @@ pub record PlaysFor (playing : Playing) (k : Setting) (past : List (List ℕ)) :
   pub streams : AllGo playing.streams k.packed (inside_at k past (behind_at k past)) (moves_at k past) (switched_at k past)
   pub leaving : AllTaken playing.leaving playing.streams (switched_at k past) (behind_at k past)
   pub forgotten : ReportIs playing.forgotten (counts_known k past (is_forgotten (high_at k past)))
+  pub all_out : IsAllOut playing.all_out (high_at k past) → NoneDueAt k past
 
 -- the packet is of the PID of cues, and of no switched stream
 pub record IsCueOf (k : Setting) (p : List ℕ) (past : List (List ℕ)) : Type 0 where
@@ -65,6 +67,7 @@ pub record PlaysBefore (playing : Playing) (k : Setting) (p : List ℕ) (past : 
   pub streams : AllGo playing.streams k.packed (inside_at k past (p ∷ behind_at k past)) (moves_before k p past) (switched_at k past)
   pub leaving : OthersTaken playing.leaving playing.streams (switched_at k past) p (behind_at k past)
   pub forgotten : ReportIs playing.forgotten (counts_known k past (is_forgotten (high_at k past)))
+  pub all_out : IsAllOut playing.all_out (high_at k (p ∷ past)) → NoneDueWith k p past
 
 -- and once the packet is out, or what stands in its place, before the greatest time rises
 pub record PlaysBehind (playing : Playing) (k : Setting) (p : List ℕ) (past : List (List ℕ)) : Type 0 where
@@ -73,6 +76,7 @@ pub record PlaysBehind (playing : Playing) (k : Setting) (p : List ℕ) (past : 
   pub streams : AllGo playing.streams k.packed (inside_at k past (p ∷ behind_at k past)) (fate_at k p past ∷ moves_before k p past) (switched_at k past)
   pub leaving : AllTaken playing.leaving playing.streams (switched_at k past) (p ∷ behind_at k past)
   pub forgotten : ReportIs playing.forgotten (counts_known k past (is_forgotten (high_at k past)))
+  pub all_out : IsAllOut playing.all_out (high_at k (p ∷ past)) → NoneDueWith k p past
 
 -- the packet is of the stream of this number, and begins a unit or does not
 pub record IsPacketOf (k : Setting) (number : ℕ) (is_start : Bool) (p : List ℕ) (past : List (List ℕ)) : Type 0 where

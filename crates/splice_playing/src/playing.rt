@@ -20,6 +20,7 @@ ghost use Rattle.splice_playing.specs.Forgetting.{with_out, with_first_out, with
 ghost use Rattle.splice_playing.specs.Ready.{is_ready};
 ghost use Rattle.splice_playing.specs.Resting.{is_rest, first_rest, waits_ahead, first_start, comes_before, all_wait, all_start_behind};
 ghost use Rattle.splice_playing.specs.Resting.{is_idle, is_kept_at, keeps_all};
+ghost use Rattle.splice_playing.specs.Dues.{IsAllOut};
 
 use crate::leaving::{LeavingUnit, is_repeat_in};
 use ad_library::AdLibrary;
@@ -48,6 +49,9 @@ pub struct Playing {
     rest: Option<Time33>,
     /// Whether an event may run in some stream: where not, none does.
     may_run: bool,
+    /// The greatest time at which all that was due of the events that run went out, where no event has changed since; `None` where that is
+    /// not known.
+    all_out: Option<Time33>,
     ghost ready: { is_ready events.assembler ≡ true },
     ghost rested: { is_rest rest events.obeyed.table ≡ true },
     ghost idle: { is_idle may_run events.obeyed.table ≡ true },
@@ -55,7 +59,7 @@ pub struct Playing {
 
 impl Playing {
     ghost use Rattle.splice_playing.specs.Going.{plans_in, HasEvents, IsStreamAt, stream_at, HasCounted, steps_with};
-    ghost use Rattle.splice_playing.specs.Going.{closing_in, closed_in, running_in_all, running_in_one, ran_in_all};
+    ghost use Rattle.splice_playing.specs.Going.{closing_in, closed_in, running_in_all, running_in_one, ran_in_all, LeavesNoneDue};
     ghost use Rattle.splice_playing.specs.Going.{KeepsUnit, HoldsUnit};
     ghost use Rattle.splice_playing.specs.Relations.{PlaysFor, PlaysBefore, PlaysBehind, BeginsIn};
     ghost use Rattle.splice_playing.specs.Relations.{IsCueOf, IsPacketOf, EndsWith, Reports};
@@ -71,6 +75,7 @@ impl Playing {
             forgotten: SwitchReport::new(),
             rest: None,
             may_run: true,
+            all_out: None,
         }
     }
 
@@ -81,10 +86,11 @@ impl Playing {
     {
         self.events.feed(packet, Plan::new());
         self.rest = first_rest(self.events.table());
+        self.all_out = None; // An earlier end may leave out a unit that was not due, behind which one is.
     }
 
     /// A unit begins in the stream of this number, of this time where it has one, behind which `high` is the greatest time: puts what goes
-    /// out before it.
+    /// out before it. The streams and the library are to be the same at each call.
     ///
     /// # Errors
     ///
@@ -120,7 +126,7 @@ impl Playing {
         }
         match high {
             None => Ok(()),
-            Some(_) => self.put_running(high, streams, library, sink),
+            Some(_) => self.put_running_due(high, streams, library, sink),
         }
     }
 
@@ -155,6 +161,7 @@ impl Playing {
         ensures plans { (of : Stream) (latest : Option ℤ) (es : List Standing) →
             of ≡ slice_index_or streams.now stream of → HasEvents self.old latest es → IsNearTime latest time.now →
             OnOk result (plans_in self.new ≡ closed_in self.old (held library.now) streams.now stream of latest time.now es) }
+        ensures out { IfSome self.new.all_out (λ _. (self.new.all_out ≡ self.old.all_out) × (self.new.events ≡ self.old.events)) }
         ensures keeps { KeepsEvents self.old.events self.new.events }
         ensures units { self.new.leaving ≡ self.old.leaving }
         ensures forgotten { self.new.forgotten ≡ self.old.forgotten }
@@ -208,6 +215,7 @@ impl Playing {
             KeepsUnit time.now s t }
         ensures others { (i : ℕ) (s : SwitchedStream) → IsOther i (stream % 8) →
             stream_at self.new i s ≡ stream_at self.old i s }
+        ensures out { self.new.all_out ≡ self.old.all_out }
         ensures events { self.new.events ≡ self.old.events }
         ensures units { self.new.leaving ≡ self.old.leaving }
         ensures forgotten { self.new.forgotten ≡ self.old.forgotten }
@@ -227,6 +235,7 @@ impl Playing {
         ensures below { time < 2 ^ 33 }
         ensures others { (i : ℕ) (s : SwitchedStream) → IsOther i (stream % 8) →
             stream_at self.new i s ≡ stream_at self.old i s }
+        ensures out { self.new.all_out ≡ self.old.all_out }
         ensures events { self.new.events ≡ self.old.events }
         ensures units { self.new.leaving ≡ self.old.leaving }
         ensures forgotten { self.new.forgotten ≡ self.old.forgotten }
@@ -269,6 +278,7 @@ impl Playing {
         ensures plans { (of : Stream) (latest : Option ℤ) (es : List Standing) →
             of ≡ slice_index_or streams.now stream of → HasEvents self.old latest es → IsNearTime latest time.now →
             OnOk result (plans_in self.new ≡ closed_in self.old (held library.now) streams.now stream of latest time.now es) }
+        ensures out { IfSome self.new.all_out (λ _. (self.new.all_out ≡ self.old.all_out) × (self.new.events ≡ self.old.events)) }
         ensures keeps { KeepsEvents self.old.events self.new.events }
         ensures units { self.new.leaving ≡ self.old.leaving }
         ensures forgotten { self.new.forgotten ≡ self.old.forgotten }
@@ -286,6 +296,7 @@ impl Playing {
         };
         let _ticks = time.ticks();
         self.may_run = true;
+        self.all_out = None; // An event may begin in the stream.
         turn_all(&mut self.events, stream, time, streams, library);
         let mut of = self.streams[stream % 8];
         let mut counter = of.counter;
@@ -305,6 +316,77 @@ impl Playing {
         self.streams[stream % 8] = of;
         self.may_run = runs_any(self.events.table());
         Ok(())
+    }
+
+    /// Whether it is known that nothing is due of the events that run where this is the greatest time: what was due at it is out, and it is
+    /// the greatest time already.
+    #[inline(always)]
+    fn is_all_out(&self, high: &Option<Time33>) -> bool
+        ensures { (latest latest_behind : Option ℤ) (es : List Standing) → HasEvents self.now latest es →
+            IsReached latest high.now latest_behind → result ≡ true →
+            (latest_behind ≡ latest) × IsAllOut self.now.all_out latest }
+    {
+        let Some(high) = *high else {
+            return false;
+        };
+        let Some(last) = self.events.table().high() else {
+            return false;
+        };
+        let Some(all_out) = self.all_out else {
+            return false;
+        };
+        all_out.ticks() == high.ticks() && last.ticks() == high.ticks()
+    }
+
+    /// Puts of the events that run what is due where this is the greatest time, by stream. No event is looked at where it is known that
+    /// nothing is.
+    fn put_running_due<S: PacketSink>(
+        &mut self,
+        high: &Option<Time33>,
+        streams: &[Stream],
+        library: &AdLibrary,
+        sink: &mut S,
+    ) -> Result<(), PutFault>
+        ensures leads { S.leads sink.old sink.new }
+        ensures ok { (latest latest_behind : Option ℤ) (es : List Standing)
+            (begin : Option (List ℕ)) (ps : List (List ℕ)) (steps : ℕ → List Step) → length streams.now ≤ 8 →
+            HasEvents self.old latest es → IsReached latest high.now latest_behind →
+            LeavesNoneDue self.old (held library.now) streams.now latest es → S.holds sink.old begin ps →
+            HasCounted self.old steps →
+            OnOk result (S.holds sink.new begin
+            (ps ++ running_in_all self.old (held library.now) streams.now latest_behind es steps)) }
+        ensures counted { (latest latest_behind : Option ℤ) (es : List Standing) (steps : ℕ → List Step) → length streams.now ≤ 8 →
+            HasEvents self.old latest es → IsReached latest high.now latest_behind →
+            LeavesNoneDue self.old (held library.now) streams.now latest es → HasCounted self.old steps →
+            OnOk result (HasCounted self.new
+            (steps_with (running_in_one self.old (held library.now) streams.now latest_behind es steps) steps)) }
+        ensures leaving { (i : ℕ) (s : SwitchedStream) →
+            (stream_at self.new i s).is_leaving ≡ (stream_at self.old i s).is_leaving }
+        ensures plans { (latest latest_behind : Option ℤ) (es : List Standing) → HasEvents self.old latest es →
+            IsReached latest high.now latest_behind → LeavesNoneDue self.old (held library.now) streams.now latest es →
+            OnOk result (plans_in self.new ≡ ran_in_all self.old (held library.now) streams.now latest_behind es) }
+        ensures keeps { KeepsEvents self.old.events self.new.events }
+        ensures units { self.new.leaving ≡ self.old.leaving }
+        ensures forgotten { self.new.forgotten ≡ self.old.forgotten }
+        ensures err { (latest latest_behind : Option ℤ) (es : List Standing)
+            (begin : Option (List ℕ)) (ps : List (List ℕ)) (steps : ℕ → List Step) → length streams.now ≤ 8 →
+            HasEvents self.old latest es → IsReached latest high.now latest_behind → S.holds sink.old begin ps →
+            HasCounted self.old steps →
+            IfErr result (λ f. FrontFails (running_in_all self.old (held library.now) streams.now latest_behind es steps)
+            (λ put p. S.fails sink.new begin (ps ++ put) p f)) }
+        ensures well { OnOk result (WentWell (S.counts sink.old) (S.counts sink.new)) }
+        ensures blamed { IfErr result (λ f. Blamed f (S.counts sink.old) (S.counts sink.new) (S.is_full sink.new)) }
+    {
+        if self.is_all_out(high) {
+            return Ok(());
+        }
+        match self.put_running(high, streams, library, sink) {
+            Ok(()) => {
+                self.all_out = *high;
+                Ok(())
+            }
+            Err(fault) => Err(fault),
+        }
     }
 
     /// Puts of the events that run what is due where this is the greatest time, or all that is left, by stream. No
@@ -515,6 +597,7 @@ impl Playing {
         self.events.advance(high);
         self.rest = first_rest(self.events.table());
         self.may_run = runs_any(self.events.table());
+        self.all_out = None;
     }
 
     /// What became of all events.

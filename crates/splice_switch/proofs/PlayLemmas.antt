@@ -1,5 +1,5 @@
 -- What a packet that begins no unit does to what the events and streams stand for.
-use Rattle.std.proofs.Common.{◌≡◌, ℕ, zero, suc, ◌+◌, ◌-◌, ◌≤◌, List, [], ◌∷◌, ◌++◌, length, Bool, true, false, ◌&&◌, if◌then◌else◌, refl, sym, ap, subst, ◌∙◌, arith}
+use Rattle.std.proofs.Common.{◌≡◌, ℕ, zero, suc, ◌+◌, ◌-◌, ◌≤◌, List, [], ◌∷◌, ◌++◌, length, Bool, true, false, not, ◌&&◌, if◌then◌else◌, refl, sym, ap, subst, ◌∙◌, arith}
 use Rattle.std.specs.Prelude.{ℤ, Option, None, Some, option_map, is_some, map, replicate, reverse, drop, count_by, slice_get, slice_index_or}
 use Rattle.std.specs.List.{AllByRecursion}
 use Rattle.std.proofs.lemmas.Bool.{true≢false, or_parts}
@@ -24,6 +24,7 @@ use Rattle.output_laws.specs.Output.{Move, Keep, Leave, Packing, counter_steps}
 use Rattle.splice_plans.specs.declared.plan.Part.{Part}
 use Rattle.splice_plans.specs.declared.plan.Plan.{Plan}
 use Rattle.splice_plans.specs.declared.stream.SwitchedStream.{SwitchedStream}
+use Rattle.splice_plans.specs.Waiting.{runs_in_any}
 use Rattle.splice_plans.specs.Turning.{waiting}
 use Rattle.splice_plans.specs.Playing.{Adverts, History, is_played, is_inside}
 use Rattle.splice_plans.specs.Switching.{Setting, moves, fate, switched_at, streams_at, high_at, events_at, history_at}
@@ -31,6 +32,9 @@ use Rattle.splice_plans.specs.Reporting.{EventCounts as Reported, ReportIs, is_n
 use Rattle.splice_plans.specs.Known.{nothing_known, padded, part_known, plan_known, plan_found, plan_at, is_crossed_known, GoesAs, adverts_at, behind_at, plans_at, inside_at, moves_at, puts_at, counts_known, is_forgotten}
 use Rattle.splice_plans.proofs.PutLemmas.{puts_at_unit_starts}
 use Rattle.splice_playing.specs.declared.playing.Playing.{Playing}
+use Rattle.splice_playing.specs.Dues.{NoneDueOf, NoneDue, IsAllOut}
+use Rattle.splice_playing.specs.Resting.{none_run}
+use Rattle.splice_playing.proofs.WaitingLemmas.{none-found}
 use Rattle.splice_playing.specs.Relations.{PlaysFor, PlaysBefore, PlaysBehind}
 use Rattle.splice_playing.proofs.LeavingLemmas.{none-taken, others-taken, first-taken, taken-behind}
 use Rattle.splice_playing.proofs.PlaceLemmas.{nothing-holds}
@@ -59,8 +63,9 @@ or-both false b h k = k
 
 -- ---- before the packet
 
-pub plays-before : (playing : Playing) (k : Setting) (p : List ℕ) (past : List (List ℕ)) → begins_one (switched_at k past) p (behind_at k past) ≡ false → PlaysFor playing k past → PlaysBefore playing k p past
-plays-before playing k p past none h =
+pub plays-before : (playing : Playing) (k : Setting) (p : List ℕ) (past : List (List ℕ)) → begins_one (switched_at k past) p (behind_at k past) ≡ false → high_at k (p ∷ past) ≡ high_at k past
+    → PlaysFor playing k past → PlaysBefore playing k p past
+plays-before playing k p past none same h =
     let sw = switched_at k past in
     let ads = adverts_at k past in
     let behind = behind_at k past in
@@ -75,6 +80,12 @@ plays-before playing k p past none h =
           (h.streams i s below);
       leaving = others-taken playing.leaving playing.streams sw p behind h.leaving;
       forgotten = h.forgotten;
+      all_out = λ out filed is.
+          let es = standing k.cue_pid (high_at k) past in
+          subst (λ l. NoneDue filed (streams_at k past) l es (values_by (plans_at k past (p ∷ behind)) es)) (sym same)
+          (subst (NoneDue filed (streams_at k past) (high_at k past) es)
+          (values-same (plans_at k past behind) (plans_at k past (p ∷ behind)) es (λ start. sym (plan-at-same sw ads (history_at k past) p behind none (events_at k past) start)))
+          (h.all_out (subst (IsAllOut playing.all_out) same out) filed is));
     }
 
 -- a packet of none of the streams passes
@@ -93,6 +104,7 @@ plays-passed playing k p past off h =
           (h.streams i s below);
       leaving = none-taken playing.leaving playing.streams sw p behind off h.leaving;
       forgotten = h.forgotten;
+      all_out = h.all_out;
     }
 
 -- ---- behind the packet
@@ -206,9 +218,22 @@ module _ (k : Setting) (p : List ℕ) (past : List (List ℕ)) (m : ProgramMap) 
               (λ pid is. inside-more pid) (λ pid is. ap (counter_steps k.packed pid) moves-more) (h.streams i s below));
           leaving = taken-behind k playing.leaving playing.streams p past (ap (λ o. is_some (option_map program_in o)) known) h.leaving;
           forgotten = subst (λ c. ReportIs playing.forgotten c) (sym counts-more) h.forgotten;
+          all_out = λ out filed is.
+              let es = standing k.cue_pid (high_at k) past in
+              let later = high_at k (p ∷ past) in
+              let plans = plans_at k (p ∷ past) (behind_at k (p ∷ past)) in
+              let streams = streams_at k (p ∷ past) in
+              subst (λ l. NoneDue filed streams later l (values_by plans l)) (sym standing-more)
+              (subst (NoneDue filed streams later es) (values-same (plans_at k past (p ∷ behind)) plans es (λ start. sym (plans-more start)))
+              (subst (λ ss. NoneDue filed ss later es (values_by (plans_at k past (p ∷ behind)) es)) (sym streams-more) (h.all_out out filed is)));
         }
 
 -- ---- in the head
+
+-- events of which nothing is known run in no stream
+nothing-begun : (plans : ℤ → Plan) → ((start : ℤ) → plans start ≡ nothing_known) → (es : List Standing) → none_run (values_by plans es) ≡ true
+nothing-begun plans none [] = refl
+nothing-begun plans none (e ∷ es) = ap (λ plan. not (runs_in_any plan) && none_run (values_by plans es)) (none e.start) ∙ nothing-begun plans none es
 
 replicate-join : (n m : ℕ) (x : Part) → replicate n x ++ replicate m x ≡ replicate (n + m) x
 replicate-join zero m x = ap (λ l. replicate l x) (let e : m ≡ 0 + m = omega arith in e)
@@ -306,6 +331,11 @@ module _ (k : Setting) (p : List ℕ) (past : List (List ℕ)) (known : known_ma
         (subst (λ sw. GoesAs (slice_index_or playing.streams i s) k.packed (inside_at k past (behind_at k past)) (moves_at k past) (slice_get sw i)) switched-none (h.streams i s below));
     leaving = first-taken k playing.leaving playing.streams p past known;
     forgotten = subst (λ c. ReportIs playing.forgotten c) (nothing-counted k past high-none ∙ sym (nothing-counted k (p ∷ past) high-still)) h.forgotten;
+    all_out = λ out filed is number of listed.
+        let es = standing k.cue_pid (high_at k) (p ∷ past) in
+        let plans = plans_at k (p ∷ past) (behind_at k (p ∷ past)) in
+        subst (NoneDueOf filed (streams_at k (p ∷ past)) (high_at k (p ∷ past)) number of)
+        (sym (none-found filed (streams_at k (p ∷ past)) number of es (values_by plans es) (nothing-begun plans (plans-still few) es))) tt;
   }
 
 -- ---- a packet of none of the streams, and of another PID than that of the cues
@@ -318,9 +348,18 @@ plays-quiet playing k p past off other few h = by (known_map (Some k.program) pa
     by None known = plays-head k p past known off few playing h
     by (Some m) known =
         let none = begins_off_all (switched_at k past) p (behind_at k past) other in
-        plays-behind k p past m known off none playing (plays-passed playing k p past other (plays-before playing k p past none h))
+        plays-behind k p past m known off none playing (plays-passed playing k p past other (plays-before playing k p past none (high-more k p past m known off none) h))
 
--- and behind a packet of one of the streams
+-- before a packet of one of the streams that begins no unit
+pub plays-on : (playing : Playing) (k : Setting) (p : List ℕ) (past : List (List ℕ)) → on k.cue_pid p ≡ false → on_one (switched_at k past) p ≡ true
+    → begins_one (switched_at k past) p (behind_at k past) ≡ false → PlaysFor playing k past → PlaysBefore playing k p past
+plays-on playing k p past off own none h = by (known_map (Some k.program) past) refl
+  where
+    by : (o : Option ProgramMap) → known_map (Some k.program) past ≡ o → PlaysBefore playing k p past
+    by None known = absurd (true≢false (sym own ∙ ap (λ o. on_one (pids_of (option_map program_in o)) p) known))
+    by (Some m) known = plays-before playing k p past none (high-more k p past m known off none) h
+
+-- and behind it
 pub plays-after : (playing : Playing) (k : Setting) (p : List ℕ) (past : List (List ℕ)) → on k.cue_pid p ≡ false → on_one (switched_at k past) p ≡ true
     → begins_one (switched_at k past) p (behind_at k past) ≡ false → PlaysBehind playing k p past → PlaysFor playing k (p ∷ past)
 plays-after playing k p past off own none h = by (known_map (Some k.program) past) refl

@@ -39,6 +39,7 @@ use Rattle.splice_plans.specs.Known.{AreSeparate, behind_at}
 use Rattle.switch_laws.proofs.FaultlessLemmas.{faultless_is_sound, first-sound, unlisted}
 use Rattle.known_laws.specs.Laws.{AreFaultless}
 use Rattle.splice_playing.specs.Relations.{IsCueOf, BeginsIn, IsPacketOf, EndsWith}
+use Rattle.splice_playing.proofs.PacketLemmas.{behind-by, streams-stay}
 use Rattle.ts_packet.proofs.FieldLemmas.{pid_is}
 use Rattle.program_follower.proofs.FollowLemmas.{no_unit_fault}
 
@@ -216,14 +217,6 @@ pub stamp-told : (begun : Option Begun) (high : Option Rattle.std.specs.Prelude.
 stamp-told None high s h = h
 stamp-told (Some b) high s h = h.0
 
--- its streams stay
-streams-stay : (k : Setting) (p : List ℕ) (past : List (List ℕ)) (i pid : ℕ) → slice_get (switched_at k past) i ≡ Some pid → streams_at k (p ∷ past) ≡ streams_at k past
-streams-stay k p past i pid h = by (known_map (Some k.program) past) refl
-  where
-    by : (o : Option ProgramMap) → known_map (Some k.program) past ≡ o → streams_at k (p ∷ past) ≡ streams_at k past
-    by None known = absurd (let none : None ≡ Some pid = sym (ap (λ o. slice_get (pids_of (option_map program_in o)) i) known) ∙ h in cc)
-    by (Some m) known = ap (λ o. streams_of_program (option_map program_in o)) (known_stays (Some k.program) p past m known ∙ sym known)
-
 as-many : (o : Option Program) → length (pids_of o) ≡ length (streams_of_program o)
 as-many None = refl
 as-many (Some r) = length-map r.streams (λ (s : ListedStream). s.pid)
@@ -233,7 +226,7 @@ module _ (c : Config) (filed : ℕ → Option Advertisement) (p : List ℕ) (pas
   own-stream = one-first (switched_at (setting_of c filed) past) p i h.2.0 h.2.1.0
 
   listed-now : streams_at (setting_of c filed) (p ∷ past) ≡ streams_at (setting_of c filed) past
-  listed-now = streams-stay (setting_of c filed) p past i h.2.0 (first-there (switched_at (setting_of c filed) past) p (i, h.2.0) h.2.1.0)
+  listed-now = streams-stay (setting_of c filed) p past (behind-by (setting_of c filed) past i h.2.0 (first-there (switched_at (setting_of c filed) past) p (i, h.2.0) h.2.1.0))
 
   pub within-streams : (streams : List ListedStream) → streams ≡ streams_at (setting_of c filed) (p ∷ past) → i < length streams
   within-streams streams is =

@@ -1,6 +1,7 @@
 use Rattle.std.proofs.Common.{◌∷◌, ◌<◌, ◌^◌, sym, ap, subst, ◌∙◌, arith}
 use Rattle.std.specs.Prelude.{option_map}
 use Rattle.std.proofs.lemmas.Bool.{true≢false}
+use Rattle.std.proofs.lemmas.Option.{none-some}
 use Rattle.pes_time.specs.Line.{ring_of}
 use Rattle.event_table.specs.declared.table.Table.{Table}
 use Rattle.event_table.specs.Rings.{CanAdvance}
@@ -13,7 +14,7 @@ use Rattle.splice_plans.specs.Parts.{beside}
 use Rattle.splice_plans.specs.Reporting.{ReportIs, with_counted, is_out_at}
 use Rattle.splice_plans.specs.Switching.{high_at}
 use Rattle.splice_plans.specs.Known.{adverts_at, plans_at, behind_at, counts_known, is_forgotten}
-use Rattle.splice_playing.proofs.PacketLemmas.{passes, none-high, some-high, adverts-are, values-pass, streams-pass, taken-pass, stays-for}
+use Rattle.splice_playing.proofs.PacketLemmas.{passes, none-high, some-high, adverts-are, values-pass, streams-pass, taken-pass, stays-for, standing-still, none-due-pass}
 use Rattle.splice_playing.proofs.WaitingLemmas.{all-still, counts-quiet, kept-past, kept-there, idle-stays}
 use Rattle.splice_playing.specs.Resting.{keeps_all}
 use Rattle.splice_playing.proofs.UntilLemmas.{near-advance, past-later, rest-goes-on, rest-there}
@@ -66,6 +67,7 @@ returns-then-is_at_rest c = λ k number time p past b i.
     let behind = past-later (high_at k past) c.in-Some.high later.0 es stands.within at ahead in
     let kept = kept-past later.0 es behind in
     let all = all-still later.0 es kept in
+    let can' = subst (λ (t : Table Plan). CanAdvance (high_time_of t) c.in-Some.high) c.table.ensures.same (c.can_advance.ensures.0 c.if-not-can_advance.false) in
     record {
       events = c.advance_keeping_all.ensures.obeys k.cue_pid (high_at k) p past later.0 i.cue at later.1 all b.events;
       plans = values-pass k filed listed number time c.args.high.now p past i (values_of c.advance_keeping_all.new.self.obeyed.table) (standing k.cue_pid (high_at k) (p ∷ past))
@@ -74,6 +76,8 @@ returns-then-is_at_rest c = λ k number time p past b i.
       leaving = taken-pass k filed listed number time c.args.high.now p past i c.args.self.now.leaving c.args.self.now.streams b.leaving;
       forgotten = subst (ReportIs c.args.self.now.forgotten)
           (sym (pass.counted later.0 later.1 ∙ counts-quiet later.0 (adverts_at k past) es _ (counts_known k past (is_forgotten (high_at k past))) kept)) b.forgotten;
+      all_out = λ out. none-due-pass k filed listed number time c.args.high.now p past i
+          (standing-still k filed listed number time c.args.high.now p past i c.args.self.now.events.obeyed.table c.in-Some.high later.0 stands can' at later.1 all) (b.all_out out);
     }
 
 pub returns-then-keeps_all : goal.returns-then-keeps_all
@@ -90,6 +94,7 @@ returns-then-keeps_all c = λ k number time p past b i.
     let stands = b.events.obeyed.table in
     let kept = kept-there c.args.self.now.events.obeyed.table (high_at k past) c.in-Some.high later.0 es fits stands (subst (λ (t : Table Plan). CanAdvance (high_time_of t) c.in-Some.high) c.table.ensures.same (c.can_advance.ensures.0 c.if-not-can_advance.false)) at (sym (c.keeps_all.ensures ∙ ap (λ (t : Table Plan). keeps_all t c.in-Some.high) c.table-2.ensures.same) ∙ c.if-keeps_all.true) in
     let all = all-still later.0 es kept in
+    let can' = subst (λ (t : Table Plan). CanAdvance (high_time_of t) c.in-Some.high) c.table.ensures.same (c.can_advance.ensures.0 c.if-not-can_advance.false) in
     record {
       events = c.advance_keeping_all-then-keeps_all.ensures.obeys k.cue_pid (high_at k) p past later.0 i.cue at later.1 all b.events;
       plans = values-pass k filed listed number time c.args.high.now p past i (values_of c.advance_keeping_all-then-keeps_all.new.self.obeyed.table) (standing k.cue_pid (high_at k) (p ∷ past))
@@ -98,6 +103,8 @@ returns-then-keeps_all c = λ k number time p past b i.
       leaving = taken-pass k filed listed number time c.args.high.now p past i c.args.self.now.leaving c.args.self.now.streams b.leaving;
       forgotten = subst (ReportIs c.args.self.now.forgotten)
           (sym (pass.counted later.0 later.1 ∙ counts-quiet later.0 (adverts_at k past) es _ (counts_known k past (is_forgotten (high_at k past))) kept)) b.forgotten;
+      all_out = λ out. none-due-pass k filed listed number time c.args.high.now p past i
+          (standing-still k filed listed number time c.args.high.now p past i c.args.self.now.events.obeyed.table c.in-Some.high later.0 stands can' at later.1 all) (b.all_out out);
     }
 
 pub returns : goal.returns
@@ -124,4 +131,5 @@ returns c = λ k number time p past b i.
       streams = streams-pass k filed listed number time c.args.high.now p past i c.args.self.now.streams b.streams;
       leaving = taken-pass k filed listed number time c.args.high.now p past i c.args.self.now.leaving c.args.self.now.streams b.leaving;
       forgotten = subst (ReportIs c.with_forgotten-self.result) (sym (pass.counted later.0 later.1)) counted;
+      all_out = λ out. absurd (none-some out.0 out.1);
     }

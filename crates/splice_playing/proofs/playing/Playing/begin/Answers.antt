@@ -1,14 +1,17 @@
 use Rattle.std.proofs.Common.{◌≡◌, ◌<◌, ◌%◌, ◌++◌, ◌∷◌, List, ℕ, length, refl, rules, sym, ap, subst, append_assoc, ◌∙◌}
-use Rattle.std.specs.Prelude.{OnOk, slice_index_or}
+use Rattle.std.specs.Prelude.{OnOk, IfSome, slice_index_or}
 use Rattle.std.proofs.lemmas.Result.{on_ok_weaker, IfErr-weaker}
 use Rattle.ts_packet.specs.Numbering.{Counts}
 use Rattle.unit_stream.specs.UnitPackets.{put_in}
 use Rattle.event_table.specs.Tables.{values_of}
 use Rattle.event_table.proofs.TableLemmas.{same-stands}
+use Rattle.armed_events.specs.declared.obeying.ArmedEvents.{ArmedEvents}
 use Rattle.armed_events.specs.Arming.{standing}
 use Rattle.ad_library.specs.Library.{held}
 use Rattle.outgoing_packets.specs.Numbers.{FrontFails}
+use Rattle.splice_plans.specs.declared.plan.Plan.{Plan}
 use Rattle.splice_plans.specs.declared.stream.SwitchedStream.{SwitchedStream}
+use Rattle.splice_playing.specs.Going.{LeavesNoneDue}
 use Rattle.splice_plans.specs.Reporting.{ReportIs}
 use Rattle.splice_plans.specs.Switching.{front_at, high_at, switched_at}
 use Rattle.splice_plans.specs.Known.{moves_at, behind_at, inside_at, counts_known, is_forgotten}
@@ -17,7 +20,7 @@ use Rattle.splice_playing.proofs.StreamLemmas.{some-there}
 use Rattle.splice_playing.specs.Leaving.{OthersTaken}
 use Rattle.splice_playing.proofs.LeavingLemmas.{begun-taken}
 use Rattle.splice_playing.proofs.PacketLemmas.{none-high}
-use Rattle.splice_playing.proofs.BeginLemmas.{on-both, fails-more, fails-behind, all-count, low, near, reached, few-listed, front-is, closing-is, closed-are, running-is, running-in-is, ran-are, front-none, plans-none, counts-none, counts-between, all-go, count-of, left-is}
+use Rattle.splice_playing.proofs.BeginLemmas.{on-both, fails-more, fails-behind, all-count, low, near, reached, few-listed, front-is, closing-is, closed-are, running-is, running-in-is, ran-are, front-none, plans-none, counts-none, counts-between, all-go, count-of, left-is, none-due, none-before}
 use Rattle.splice_playing.proofs.playing.Playing.begin.Goals as goal
 
 pub returns-in-Err-clause-err : goal.returns-in-Err-clause-err
@@ -87,6 +90,7 @@ returns-in-None-clause-plays g c = λ k p past f i.
       leaving = subst (λ us. OthersTaken us c.turn.new.self.streams (switched_at k past) p (behind_at k past)) (sym turn.units)
           (begun-taken (switched_at k past) n i.pid p (behind_at k past) (low k filed listed n c.args.time.now c.args.high.now p past i) i.of c.args.self.now.leaving c.args.self.now.streams c.turn.new.self.streams c.turn.new.self.streams i.begins_it turn.others (λ j t. refl) f.leaving);
       forgotten = subst (λ r. ReportIs r (counts_known k past (is_forgotten (high_at k past)))) (sym turn.forgotten) f.forgotten;
+      all_out = λ out. none-due k filed listed n c.args.time.now c.args.high.now p past i stands.within of.0 of.1;
     }
 
 pub returns-in-Some-clause-ok : goal.returns-in-Some-clause-ok
@@ -113,11 +117,15 @@ returns-in-Some-clause-ok g c = λ start ps k p past h f i.
     let reach = reached k filed listed n c.args.time.now c.args.high.now p past i in
     let vals = values_of c.turn.new.self.events.obeyed.table in
     let now = steps_between k filed n of.0 p past in
+    let leaves : LeavesNoneDue c.turn.new.self filed listed (high_at k past) es = λ out.
+    let same = subst (λ o. IfSome o (λ _. (o ≡ c.args.self.now.all_out) × (c.turn.new.self.events ≡ c.args.self.now.events))) out.1 turn.out in
+    none-before k filed listed n c.args.time.now c.args.high.now p past i stands.within of.0 of.1 vals (ap (λ (e : ArmedEvents Plan). values_of e.obeyed.table) same.1 ∙ f.plans)
+    (f.all_out (out.0, sym same.0, out.2)) in
     let out = subst (λ l. g.S.PacketSink.holds c.turn.new.sink start (ps ++ l)) closing (turn.ok of.0 (high_at k past) es s.0 start ps steps of.1 stands around s.1 h counts) in
-    subst (λ l. OnOk c.put_running.result (g.S.PacketSink.holds c.put_running.new.sink start l))
+    subst (λ l. OnOk c.put_running_due.result (g.S.PacketSink.holds c.put_running_due.new.sink start l))
     (append_assoc ps (closing_before k filed n of.0 p past) _
     ∙ ap (λ l. ps ++ l) (ap (λ l. closing_before k filed n of.0 p past ++ l) (running-is k filed listed n c.args.time.now c.args.high.now p past i stands.within of.0 of.1 vals planned) ∙ sym (front-is k filed listed n c.args.time.now c.args.high.now p past i stands.within of.0 of.1)))
-    (c.put_running.ensures.ok (high_at k past) (high_at k (p ∷ past)) es start (ps ++ closing_before k filed n of.0 p past) now few later reach out between)
+    (c.put_running_due.ensures.ok (high_at k past) (high_at k (p ∷ past)) es start (ps ++ closing_before k filed n of.0 p past) now few later reach leaves out between)
 
 pub returns-in-Some-clause-plays : goal.returns-in-Some-clause-plays
 returns-in-Some-clause-plays g c = λ k p past f i.
@@ -144,16 +152,21 @@ returns-in-Some-clause-plays g c = λ k p past f i.
     let reach = reached k filed listed n c.args.time.now c.args.high.now p past i in
     let vals = values_of c.turn.new.self.events.obeyed.table in
     let now = steps_between k filed n of.0 p past in
-    let put = c.put_running.ensures in
-    on_ok_weaker c.put_running.result (λ x. record {
+    let leaves : LeavesNoneDue c.turn.new.self filed listed (high_at k past) es = λ out.
+    let same = subst (λ o. IfSome o (λ _. (o ≡ c.args.self.now.all_out) × (c.turn.new.self.events ≡ c.args.self.now.events))) out.1 turn.out in
+    none-before k filed listed n c.args.time.now c.args.high.now p past i stands.within of.0 of.1 vals (ap (λ (e : ArmedEvents Plan). values_of e.obeyed.table) same.1 ∙ f.plans)
+    (f.all_out (out.0, sym same.0, out.2)) in
+    let put = c.put_running_due.ensures in
+    on_ok_weaker c.put_running_due.result (λ x. record {
       events = put.keeps.obeys k.cue_pid (high_at k) past (turn.keeps.obeys k.cue_pid (high_at k) past f.events);
       plans = x.0 ∙ ran-are k filed listed n c.args.time.now c.args.high.now p past i stands.within of.0 of.1 vals planned;
-      streams = all-go k filed listed n c.args.time.now c.args.high.now p past i stands.within of.0 of.1 c.args.self.now.streams c.turn.new.self.streams turn.others c.put_running.new.self.streams f.streams left put.leaving
-          (λ j t l. subst (λ qs. Counts (slice_index_or c.put_running.new.self.streams j t).counter (put_in qs (now j))) (running-in-is k filed listed n c.args.time.now c.args.high.now p past i stands.within of.0 of.1 vals planned j) (x.1 j t l));
-      leaving = subst (λ us. OthersTaken us c.put_running.new.self.streams (switched_at k past) p (behind_at k past)) (sym (put.units ∙ turn.units))
-          (begun-taken (switched_at k past) n i.pid p (behind_at k past) (low k filed listed n c.args.time.now c.args.high.now p past i) i.of c.args.self.now.leaving c.args.self.now.streams c.turn.new.self.streams c.put_running.new.self.streams i.begins_it turn.others put.leaving f.leaving);
+      streams = all-go k filed listed n c.args.time.now c.args.high.now p past i stands.within of.0 of.1 c.args.self.now.streams c.turn.new.self.streams turn.others c.put_running_due.new.self.streams f.streams left put.leaving
+          (λ j t l. subst (λ qs. Counts (slice_index_or c.put_running_due.new.self.streams j t).counter (put_in qs (now j))) (running-in-is k filed listed n c.args.time.now c.args.high.now p past i stands.within of.0 of.1 vals planned j) (x.1 j t l));
+      leaving = subst (λ us. OthersTaken us c.put_running_due.new.self.streams (switched_at k past) p (behind_at k past)) (sym (put.units ∙ turn.units))
+          (begun-taken (switched_at k past) n i.pid p (behind_at k past) (low k filed listed n c.args.time.now c.args.high.now p past i) i.of c.args.self.now.leaving c.args.self.now.streams c.turn.new.self.streams c.put_running_due.new.self.streams i.begins_it turn.others put.leaving f.leaving);
       forgotten = subst (λ r. ReportIs r (counts_known k past (is_forgotten (high_at k past)))) (sym (put.forgotten ∙ turn.forgotten)) f.forgotten;
-    }) (on-both _ _ c.put_running.result (put.plans (high_at k past) (high_at k (p ∷ past)) es later reach) (put.counted (high_at k past) (high_at k (p ∷ past)) es now few later reach between))
+      all_out = λ out. none-due k filed listed n c.args.time.now c.args.high.now p past i stands.within of.0 of.1;
+    }) (on-both _ _ c.put_running_due.result (put.plans (high_at k past) (high_at k (p ∷ past)) es later reach leaves) (put.counted (high_at k past) (high_at k (p ∷ past)) es now few later reach leaves between))
 
 pub returns-in-Some-clause-err : goal.returns-in-Some-clause-err
 returns-in-Some-clause-err g c = λ start ps k p past h f i.
@@ -181,9 +194,9 @@ returns-in-Some-clause-err g c = λ start ps k p past h f i.
     let now = steps_between k filed n of.0 p past in
     let out = subst (λ l. g.S.PacketSink.holds c.turn.new.sink start (ps ++ l)) closing (turn.ok of.0 (high_at k past) es s.0 start ps steps of.1 stands around s.1 h counts) in
     let closed = closing_before k filed n of.0 p past in
-    IfErr-weaker c.put_running.result _ _
-    (λ fault x. fails-behind (λ put q. g.S.PacketSink.fails c.put_running.new.sink start ((ps ++ closed) ++ put) q fault) (λ put q. g.S.PacketSink.fails c.put_running.new.sink start (ps ++ put) q fault)
+    IfErr-weaker c.put_running_due.result _ _
+    (λ fault x. fails-behind (λ put q. g.S.PacketSink.fails c.put_running_due.new.sink start ((ps ++ closed) ++ put) q fault) (λ put q. g.S.PacketSink.fails c.put_running_due.new.sink start (ps ++ put) q fault)
     closed (running_before k filed n of.0 p past) (front_at k p past) (front-is k filed listed n c.args.time.now c.args.high.now p past i stands.within of.0 of.1)
-    (λ put q y. subst (λ l. g.S.PacketSink.fails c.put_running.new.sink start l q fault) (append_assoc ps closed put) y)
-    (subst (λ l. FrontFails l (λ put q. g.S.PacketSink.fails c.put_running.new.sink start ((ps ++ closed) ++ put) q fault)) (running-is k filed listed n c.args.time.now c.args.high.now p past i stands.within of.0 of.1 vals planned) x))
-    (c.put_running.ensures.err (high_at k past) (high_at k (p ∷ past)) es start (ps ++ closed) now few later reach out between)
+    (λ put q y. subst (λ l. g.S.PacketSink.fails c.put_running_due.new.sink start l q fault) (append_assoc ps closed put) y)
+    (subst (λ l. FrontFails l (λ put q. g.S.PacketSink.fails c.put_running_due.new.sink start ((ps ++ closed) ++ put) q fault)) (running-is k filed listed n c.args.time.now c.args.high.now p past i stands.within of.0 of.1 vals planned) x))
+    (c.put_running_due.ensures.err (high_at k past) (high_at k (p ∷ past)) es start (ps ++ closed) now few later reach out between)

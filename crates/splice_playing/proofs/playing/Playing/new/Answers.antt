@@ -1,5 +1,6 @@
 use Rattle.std.proofs.Common.{refl, false, ◌≡◌, sym, subst, []}
 use Rattle.std.proofs.lemmas.Bool.{true≢false}
+use Rattle.std.proofs.lemmas.Option.{none-some}
 use Rattle.ts_packet.specs.Numbering.{Counts}
 use Rattle.splice_plans.specs.declared.stream.SwitchedStream.{SwitchedStream}
 use Rattle.splice_plans.specs.Switching.{high_at}
@@ -14,4 +15,5 @@ returns c = λ k. record {
   streams = λ i s l. subst (λ (t : SwitchedStream). Counts t.counter [] × (t.is_leaving ≡ false)) (sym (each-new c.new-2.result i s l)) (c.new-2.ensures.counter, c.new-2.ensures.leaving);
   leaving = λ i pid u s l of leaves inside. absurd (true≢false (sym inside));
   forgotten = c.new-4.ensures;
+  all_out = λ out. absurd (none-some out.0 out.1);
 }

@@ -1,5 +1,6 @@
 use Rattle.std.proofs.Common.{List, ◌∷◌, ap, sym, subst, ◌∙◌}
 use Rattle.std.specs.List.{list_any}
+use Rattle.std.proofs.lemmas.Option.{none-some}
 use Rattle.splice_plans.specs.Reporting.{ReportIs}
 use Rattle.splice_plans.specs.Switching.{high_at}
 use Rattle.splice_plans.specs.Known.{plans_at, behind_at}
@@ -33,4 +34,5 @@ returns c = λ k past i f.
       streams = n.streams c.args.self.now.streams f.streams;
       leaving = taken-other k c.args.self.now.leaving c.args.self.now.streams p past i.other f.leaving;
       forgotten = subst (ReportIs c.args.self.now.forgotten) (sym n.forgotten) f.forgotten;
+      all_out = λ out. absurd (none-some out.0 out.1);
     }

@@ -54,6 +54,7 @@ returns-then-of-clause-plays g c = λ k past b i.
           (own-taken (switched_at k past) n i.pid p behind low i.of units streams c.index-self-stream.result u below b.leaving c.if-of.true c.args.is_start i.start begun))
           b.leaving;
       forgotten = b.forgotten;
+      all_out = b.all_out;
     }) c.leave-put.ensures.well
 
 pub returns-then-of-clause-err : goal.returns-then-of-clause-err
@@ -110,6 +111,7 @@ returns-clause-plays g c = λ k past b i.
       leaving = put-taken (switched_at k past) n i.pid p behind low i.of units units streams c.keep-put.new.self below once i.on_pid (λ i u other. refl)
           (λ leaves begun u. absurd (true≢false (sym leaves ∙ c.keep-put.ensures.leaving ∙ c.if-of.false))) b.leaving;
       forgotten = b.forgotten;
+      all_out = b.all_out;
     }) c.keep-put.ensures.well
 
 pub returns-clause-err : goal.returns-clause-err

@@ -10,7 +10,7 @@ use Rattle.splice_plans.specs.Adverts.{setting_of}
 use Rattle.splice_plans.specs.Switching.{place_at, switched_at_packet}
 use Rattle.ts_packet.proofs.Cases.{on_ok_more}
 use Rattle.splice_switch.specs.Standing.{IsFollowedAs, IsStart}
-use Rattle.splice_switch.proofs.PlayLemmas.{plays-before, plays-after}
+use Rattle.splice_switch.proofs.PlayLemmas.{plays-on, plays-after}
 use Rattle.splice_switch.proofs.PremiseLemmas.{quiet-one, packet-quiet, own-stream, clean-more}
 use Rattle.splice_switch.proofs.OutLemmas.{quiet-out, stream-goes-on}
 use Rattle.splice_switch.proofs.switch.Switch.put_of_stream.Goals.{in-None, in-Some}
@@ -51,7 +51,8 @@ returns-in-NoStart-clause-ok g c = λ start ps cfg past h b.
     let k = setting_of cfg filed in
     let b' : IsFollowedAs c.args.self.now (places.Stream c.args.stream NoStart) cfg filed p past = subst (λ x. IsFollowedAs c.args.self.now (places.Stream c.args.stream x) cfg filed p past) c.in-NoStart.is b in
     let none = quiet-one cfg filed p past b'.clean c.args.stream b'.place_is in
-    let before = plays-before c.args.self.now.playing k p past none b'.playing in
+    let own = own-stream cfg filed p past c.args.stream NoStart b'.place_is in
+    let before = plays-on c.args.self.now.playing k p past b'.place_is.0 own none b'.playing in
     let packet = packet-quiet cfg filed p past b'.clean c.args.stream b'.place_is in
     let out : switched_at_packet k p past ≡ place_at k p past = quiet-out k p past b'.place_is.1 none in
     subst (λ l. OnOk c.put_packet.result (g.S.PacketSink.holds c.put_packet.new.sink start (ps ++ l))) (sym out) (c.put_packet.ensures.ok start ps k past h before packet)
@@ -63,10 +64,10 @@ returns-in-NoStart-clause-stands g c = λ cfg past b.
     let k = setting_of cfg filed in
     let b' : IsFollowedAs c.args.self.now (places.Stream c.args.stream NoStart) cfg filed p past = subst (λ x. IsFollowedAs c.args.self.now (places.Stream c.args.stream x) cfg filed p past) c.in-NoStart.is b in
     let none = quiet-one cfg filed p past b'.clean c.args.stream b'.place_is in
-    let before = plays-before c.args.self.now.playing k p past none b'.playing in
+    let own = own-stream cfg filed p past c.args.stream NoStart b'.place_is in
+    let before = plays-on c.args.self.now.playing k p past b'.place_is.0 own none b'.playing in
     let packet = packet-quiet cfg filed p past b'.clean c.args.stream b'.place_is in
     let out : switched_at_packet k p past ≡ place_at k p past = quiet-out k p past b'.place_is.1 none in
-    let own = own-stream cfg filed p past c.args.stream NoStart b'.place_is in
     on_ok_more c.put_packet.result
     (λ behind. record {
       cue_pid = b'.cue_pid;
@@ -89,7 +90,8 @@ returns-in-NoStart-clause-err g c = λ start ps cfg past h b.
     let k = setting_of cfg filed in
     let b' : IsFollowedAs c.args.self.now (places.Stream c.args.stream NoStart) cfg filed p past = subst (λ x. IsFollowedAs c.args.self.now (places.Stream c.args.stream x) cfg filed p past) c.in-NoStart.is b in
     let none = quiet-one cfg filed p past b'.clean c.args.stream b'.place_is in
-    let before = plays-before c.args.self.now.playing k p past none b'.playing in
+    let own = own-stream cfg filed p past c.args.stream NoStart b'.place_is in
+    let before = plays-on c.args.self.now.playing k p past b'.place_is.0 own none b'.playing in
     let packet = packet-quiet cfg filed p past b'.clean c.args.stream b'.place_is in
     let out : switched_at_packet k p past ≡ place_at k p past = quiet-out k p past b'.place_is.1 none in
     subst (λ l. IfErr c.put_packet.result (λ f. FrontFails l (λ put q. g.S.PacketSink.fails c.put_packet.new.sink start (ps ++ put) q f))) (sym out) (c.put_packet.ensures.err start ps k past h before packet)
