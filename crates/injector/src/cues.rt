@@ -168,12 +168,12 @@ fn put_one<S: PacketSink>(
     let _number = pid.get();
     let high = requests.high();
     let entry = requests.entry(place);
-    let event = entry.event;
-    let notes = entry.value;
-    let choice = chosen(&event, &notes, high, *later);
+    let choice = chosen(&entry.event, &entry.value, high, *later);
     if choice.is_none() {
         return Ok(());
     }
+    let event = entry.event;
+    let notes = entry.value;
     match put_cues(choice, &event, &notes, pid, out, sink) {
         Ok(()) => {}
         Err(fault) => return Err(fault),

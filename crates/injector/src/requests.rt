@@ -176,13 +176,13 @@ impl Requests {
         self.table.standing().len()
     }
 
-    /// The event that stands at this place, with its notes.
-    pub(crate) fn entry(&self, place: usize) -> Entry<Notes>
+    /// The event that stands at this place, with its notes, lent.
+    pub(crate) fn entry(&self, place: usize) -> &Entry<Notes>
         requires { place < length self.now.table.entries.items }
-        ensures event { result.event ≡ slice_index_or (events_of self.now.table) place result.event }
-        ensures value { result.value ≡ slice_index_or (values_of self.now.table) place result.value }
+        ensures event { result.now.event ≡ slice_index_or (events_of self.now.table) place result.now.event }
+        ensures value { result.now.value ≡ slice_index_or (values_of self.now.table) place result.now.value }
     {
-        self.table.standing()[place]
+        &self.table.standing()[place]
     }
 
     /// Puts these notes beside the event that stands at this place.

@@ -8,8 +8,8 @@ use Rattle.injector.proofs.requests.Requests.next_at.Goals as goal
 
 pub returns : goal.returns
 returns c = λ latest done x left sending at.
-    let e = c.entry-entry.result.event in
-    let n = c.entry-entry.result.value in
+    let e = c.entry-entry.result.now.event in
+    let n = c.entry-entry.result.now.value in
     let shown = sending-shown c.args.self.now latest latest done x left sending c.args.place e n at c.entry-entry.ensures.event c.entry-entry.ensures.value in
     c.next_time.ensures
     ∙ ap (λ k. ring_next k n.last c.high-high.result) shown.event_is
