@@ -1,6 +1,7 @@
 -- Digits of bytes, byte by byte: as they are written, and as they are read.
-use Rattle.std.proofs.Common.{◌≡◌, ℕ, ◌+◌, ◌-◌, ◌*◌, ◌/◌, ◌%◌, ◌<◌, ◌≤◌, Bool, true, false, ◌&&◌, List, [], ◌∷◌, ◌++◌, length, get_or, take, drop, Option, Some, None, refl, ap, sym, ◌∙◌, arith, slice_index, slice_set, suc, append_assoc, length-append, drop-cons}
+use Rattle.std.proofs.Common.{◌≡◌, ◌≢◌, ℕ, ◌+◌, ◌-◌, ◌*◌, ◌/◌, ◌%◌, ◌<◌, ◌≤◌, Bool, true, false, ◌&&◌, List, [], ◌∷◌, ◌++◌, length, get_or, take, drop, Option, Some, None, refl, ap, sym, ◌∙◌, arith, slice_index, slice_set, suc, append_assoc, length-append, drop-cons}
 use Rattle.std.specs.Prelude.{IfSome, is_some, option_map}
+use Rattle.std.specs.List.{list_all}
 use Rattle.std.proofs.lemmas.List.{take_more, length-take-le, set-append_right}
 use Rattle.std.proofs.Math.Seq.{set-append_seam}
 use Rattle.hex_digits.specs.Digits.{digit_value, digit_of, digits_of, byte_before, spelled}
@@ -98,20 +99,46 @@ spelled_not_low [] two e = absurd (omega arith)
 spelled_not_low (x ∷ []) two e = absurd (omega arith)
 spelled_not_low (x ∷ y ∷ rest) two e = ap (λ o. byte_before (digit_value x) o (spelled rest)) (sym e) ∙ none_low (digit_value x) (spelled rest)
 
-pub spelled_half : (rest : List ℕ) → length rest ≡ 1 → spelled rest ≡ None
-spelled_half [] e = absurd (omega arith)
-spelled_half (x ∷ []) e = refl
-spelled_half (x ∷ y ∷ rest) e = absurd (omega arith)
+-- ---- judged before it is read
+
+-- where none is there
+pub none_there : {X : Type 0} (o : Option X) → false ≡ is_some o → None ≡ o
+none_there None e = refl
+none_there (Some w) e = absurd cc
+
+-- a byte is there where its halves and the bytes behind it are
+before_is_some : (high low : Option ℕ) (bytes : Option (List ℕ)) → is_some (byte_before high low bytes) ≡ (is_some high && (is_some low && is_some bytes))
+before_is_some None low bytes = refl
+before_is_some (Some h) None bytes = refl
+before_is_some (Some h) (Some l) None = refl
+before_is_some (Some h) (Some l) (Some bytes) = refl
+
+-- half a byte is left
+pub spelled_odd : (text : List ℕ) → length text % 2 ≢ 0 → is_some (spelled text) ≡ false
+spelled_odd [] odd = absurd (odd refl)
+spelled_odd (x ∷ []) odd = refl
+spelled_odd (x ∷ y ∷ rest) odd =
+    let behind = spelled_odd rest (λ e. odd (omega arith)) in
+    let both = before_is_some (digit_value x) (digit_value y) (spelled rest) in
+    grind (arith, behind, both)
+
+-- no half is left: all of it has to be digits
+pub spelled_even : (text : List ℕ) → length text % 2 ≡ 0 → list_all (λ byte. is_some (digit_value byte)) text ≡ is_some (spelled text)
+spelled_even [] even = refl
+spelled_even (x ∷ []) even = absurd (omega arith)
+spelled_even (x ∷ y ∷ rest) even =
+    ap (λ more. is_some (digit_value x) && (is_some (digit_value y) && more)) (spelled_even rest (omega arith))
+    ∙ sym (before_is_some (digit_value x) (digit_value y) (spelled rest))
+
+-- the bytes take half as many places as their digits
+pub spelled_size : (text : List ℕ) → true ≡ is_some (spelled text) → length text ≡ 2 * (length text / 2)
+spelled_size text e = let odd = spelled_odd text in grind (arith, odd, e)
 
 -- ---- read to the end, whatever the digits are
 
 digit_is : (o : Option ℕ) (v : ℕ) → true ≡ is_some o → IfSome o (λ w. w ≡ v) → Some v ≡ o
 digit_is None v e h = absurd cc
 digit_is (Some w) v e h = ap Some (sym h)
-
-no_digit : (o : Option ℕ) → false ≡ is_some o → None ≡ o
-no_digit None e = refl
-no_digit (Some w) e = absurd cc
 
 -- two digits more
 pub spelled_on : (done rest : List ℕ) (text : Option (List ℕ)) (sofar first second : Bool) (h l : ℕ) → 2 ≤ length rest
@@ -131,6 +158,6 @@ pub spelled_off : (done rest : List ℕ) (text : Option (List ℕ)) (sofar first
     → (sofar ≡ true → behind done (spelled rest) ≡ text) → (sofar ≡ false → text ≡ None) → ((sofar && first) && second) ≡ false
     → text ≡ None
 spelled_off done rest text false first second two f s so none e = none refl
-spelled_off done rest text true false second two f s so none e = sym (so refl) ∙ ap (behind done) (spelled_not_high rest two (no_digit (digit_value (slice_index rest 0)) f))
-spelled_off done rest text true true false two f s so none e = sym (so refl) ∙ ap (behind done) (spelled_not_low rest two (no_digit (digit_value (slice_index rest 1)) s))
+spelled_off done rest text true false second two f s so none e = sym (so refl) ∙ ap (behind done) (spelled_not_high rest two (none_there (digit_value (slice_index rest 0)) f))
+spelled_off done rest text true true false two f s so none e = sym (so refl) ∙ ap (behind done) (spelled_not_low rest two (none_there (digit_value (slice_index rest 1)) s))
 spelled_off done rest text true true true two f s so none e = absurd cc

@@ -2,6 +2,7 @@
 
 ghost use Rattle.std.specs.Prelude.{◌≡◌, ◌+◌, ◌*◌, ◌<◌, ◌≤◌, ◌++◌, length, take, drop, IfOk, IfSome, Some, None, is_some, option_map};
 ghost use Rattle.std.specs.Bool.{OnTrue, OnFalse};
+ghost use Rattle.std.specs.List.{list_all};
 ghost use Rattle.hex_digits.specs.Digits.{digit_value, digit_of, digits_of, spelled};
 
 use std::alloc::{AllocError, Global};
@@ -46,28 +47,22 @@ pub fn spell(line: &mut [u8], start: usize, bytes: &[u8])
 
 /// The bytes that this text spells by two digits for each; `None` where it spells none.
 ///
+/// Memory is asked for once, for all the bytes, and not at all where there are none.
+///
 /// # Errors
 ///
 /// Where the allocator refused memory.
-#[tactic(auto, using(crate::proofs::DigitLemmas::spelled_more, crate::proofs::DigitLemmas::spelled_not_high, crate::proofs::DigitLemmas::spelled_not_low, crate::proofs::DigitLemmas::spelled_half))]
+#[tactic(auto, using(crate::proofs::DigitLemmas::none_there, crate::proofs::DigitLemmas::spelled_size))]
 pub fn bytes_of(alloc: Global, text: &[u8]) -> Result<Option<Vec<u8>>, AllocError>
     ensures { IfOk result (λ bytes. option_map (λ b. b.items) bytes ≡ spelled text.now) }
 {
-    let mut bytes = Vec::new(alloc);
-    let mut rest = text;
-    while rest.len() >= 2 {
-        let (Some(high), Some(low)) = (value_of(rest[0]), value_of(rest[1])) else {
-            return Ok(None);
-        };
-        bytes.push(16 * high + low)?;
-        let (_, after) = rest.split_at(2);
-        rest = after;
+    if !spells_bytes(text) {
+        return Ok(None);
     }
-    if rest.is_empty() {
-        Ok(Some(bytes))
-    } else {
-        Ok(None)
-    }
+    let mut bytes = vec![in alloc; 0_u8; text.len() / 2]?;
+    let is_read = bytes_at_once(text, bytes.as_mut_slice());
+    prove!(is_read);
+    Ok(Some(bytes))
 }
 
 /// Reads the bytes that the text spells, two digits for each, into the slice that they fill; false where it spells none.
@@ -97,6 +92,45 @@ fn is_digit(byte: u8) -> bool
     matches!(byte, b'0'..=b'9' | b'A'..=b'F')
 }
 
+/// How many bytes [`are_digits`] judges at once.
+const PIECE: usize = 64;
+
+/// Whether each byte of the text is an upper case hexadecimal digit; no more is read than the piece with the first that is none.
+fn are_digits(text: &[u8]) -> bool
+    ensures { result ≡ list_all (λ byte. is_some (digit_value byte)) text.now }
+{
+    let mut rest = text;
+    while rest.len() > PIECE {
+        let (piece, after) = rest.split_at(PIECE);
+        if !are_digits_at_once(piece) {
+            return false;
+        }
+        rest = after;
+    }
+    are_digits_at_once(rest)
+}
+
+/// Judges a text as [`are_digits`] does, for one of a piece at most.
+///
+/// No digit decides what is done next, so that many are judged at once: a text with a byte that is none is read to its end too.
+fn are_digits_at_once(text: &[u8]) -> bool
+    ensures { result ≡ list_all (λ byte. is_some (digit_value byte)) text.now }
+{
+    let mut all = true;
+    for byte in text {
+        all &= is_digit(*byte);
+    }
+    all
+}
+
+/// Whether the text spells bytes, by two digits for each.
+#[tactic(auto, using(crate::proofs::DigitLemmas::spelled_odd, crate::proofs::DigitLemmas::spelled_even))]
+fn spells_bytes(text: &[u8]) -> bool
+    ensures { result ≡ is_some (spelled text.now) }
+{
+    text.len() % 2 == 0 && are_digits(text)
+}
+
 /// The value of an upper case hexadecimal digit; of any other byte some value below 16.
 fn half_of(digit: u8) -> u8
     ensures value { IfSome (digit_value digit) (λ v. v ≡ result) }
@@ -109,7 +143,7 @@ fn half_of(digit: u8) -> u8
     }
 }
 
-/// Reads the bytes that the text spells as [`bytes_into`] does, for texts of a known small size, as a packet's line.
+/// Reads the bytes that the text spells as [`bytes_into`] does, for texts of a known small size, as a packet's line, or texts that were judged.
 ///
 /// No digit decides what is done next: a text that spells none is read to its end too. So many digits are read at once.
 pub fn bytes_at_once(text: &[u8], bytes: &mut [u8]) -> bool
