@@ -1,6 +1,6 @@
 //! A network that is made as it is read: a group of packets, repeated.
 
-ghost use Rattle.std.specs.Prelude.{◌≡◌, nat_lt};
+ghost use Rattle.std.specs.Prelude.{◌≡◌, ◌+◌, nat_lt, cond, true};
 
 use crate::fields::CLOCK;
 use crate::group::Group;
@@ -38,7 +38,9 @@ impl Network {
 
     /// Begins the next repetition, and answers whether there is one.
     fn begin_next(&mut self) -> bool
-        ensures { result ≡ nat_lt self.old.number self.old.size }
+        ensures more { result ≡ nat_lt self.old.number self.old.size }
+        ensures counted { self.new.number ≡ self.old.number + cond (nat_lt self.old.number self.old.size) 1 0 }
+        ensures begun { result ≡ true → self.new.at ≡ 0 }
     {
         if self.number >= self.size {
             return false;
