@@ -123,6 +123,28 @@ fn several_in_one_packet(rt: HostRuntime) -> Result<(), Fail> {
     Ok(())
 }
 
+/// A map and behind it one at fault, in one packet, and two units.
+const MAP_BEFORE_A_FAULT: &[Came] = &[
+    LISTED,
+    Together(&[Streams(BOTH), Clock(0x101)]),
+    BEGINS,
+    Unit(0x100, 1, 10),
+];
+
+/// A map that comes before a fault, in one packet, is the program's. The follower of begins, which answers a fault once, follows its streams
+/// from the next packet on, whatever PID that has.
+#[test]
+fn streams_of_a_map_before_a_fault(rt: HostRuntime) -> Result<(), Fail> {
+    let (network, told) = follow(rt.alloc(), &reader(), &MAP_BEFORE_A_FAULT[..2])?;
+    expect_eq!(rt; told, Wrong(ProgramChanged));
+    expect_eq!(rt; network.starts.high(), None);
+    let (network, _) = follow(rt.alloc(), &reader(), &MAP_BEFORE_A_FAULT[..3])?;
+    expect_eq!(rt; network.starts.high(), None);
+    let (network, _) = follow(rt.alloc(), &reader(), MAP_BEFORE_A_FAULT)?;
+    expect_eq!(rt; network.starts.high(), Time33::new(10));
+    Ok(())
+}
+
 /// A PAT that applies now stands in one section, also before the one that lists the program and behind it.
 const PAT_OF_SEVERAL_SECTIONS: &[Case] = &[
     (&[One(Version(NOW, 1, &[(2, 0x22)]))], Wrong(Sections)),

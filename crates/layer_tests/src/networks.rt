@@ -86,7 +86,7 @@ use Told::*;
 #[derive(Drop)]
 pub(crate) struct Network {
     pub(crate) follower: ProgramFollower,
-    starts: StartFollower,
+    pub(crate) starts: StartFollower,
     counter: u8,
 }
 

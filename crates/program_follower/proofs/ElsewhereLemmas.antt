@@ -10,12 +10,12 @@ use Rattle.program_follower.specs.declared.purpose.Purpose.{Purpose}
 use Rattle.program_follower.specs.declared.purpose.Listed.{Listed}
 use Rattle.program_follower.specs.declared.map_reader.MapReader.{MapReader}
 use Rattle.program_follower.specs.declared.table_reader.TableReader.{TableReader}
-use Rattle.program_follower.specs.Program.{first_listed, listed, since_pat, tables_on, tables, first_map, known_map, program_in}
+use Rattle.program_follower.specs.Program.{first_listed, listed, since_pat, tables_on, tables, first_map, known_map, program_in, program_of}
 use Rattle.program_follower.specs.Faults.{on_cue, maps_fault, maps_fault_at, unit_fault_at, network_fault}
 use Rattle.program_follower.specs.Standing.{GivesSince, MapsRead, TablesRead, or_zero}
 use Rattle.program_follower.specs.Following.{on_map, IsElsewhere}
 use Rattle.program_follower.proofs.OptionLemmas.{option_or-none}
-use Rattle.program_follower.proofs.StepLemmas.{known_grows}
+use Rattle.program_follower.proofs.StepLemmas.{known_grows, tables_off}
 use Rattle.program_follower.proofs.PatLemmas.{pats_clean_off}
 use Rattle.program_follower.proofs.MapsLemmas.{maps_off, maps_clean_off}
 use Rattle.program_follower.proofs.FollowLemmas.{fault_of_units}
@@ -23,15 +23,15 @@ use Rattle.program_follower.proofs.FollowLemmas.{fault_of_units}
 -- ---- which PIDs those are
 
 -- a packet is on no PID but its own
-off_other : (pid : ℕ) (p : List ℕ) → pid_of p ≢ pid → on pid p ≡ false
+pub off_other : (pid : ℕ) (p : List ℕ) → pid_of p ≢ pid → on pid p ≡ false
 unfolding on
 off_other pid p n = ap (λ b. not (in_error p) && b) (ne_eqb (pid_of p) pid n) ∙ and-false (not (in_error p))
 
-off_cue : (o : Option ℕ) (p : List ℕ) → pid_of p ≢ or_zero o → on_cue o p ≡ false
+pub off_cue : (o : Option ℕ) (p : List ℕ) → pid_of p ≢ or_zero o → on_cue o p ≡ false
 off_cue None p n = refl
 off_cue (Some pid) p n = off_other pid p n
 
-off_map : (o : Option Listed) (p : List ℕ) → pid_of p ≢ or_zero (option_map (λ (l : Listed). l.pid) o) → on_map o p ≡ false
+pub off_map : (o : Option Listed) (p : List ℕ) → pid_of p ≢ or_zero (option_map (λ (l : Listed). l.pid) o) → on_map o p ≡ false
 off_map None p n = refl
 off_map (Some l) p n = off_other l.pid p n
 
@@ -49,6 +49,14 @@ module _ (c : Purpose) (p : List ℕ) (past : List (List ℕ)) (e : IsElsewhere 
   pub listed_same : listed c.program (p ∷ past) ≡ listed c.program past
   listed_same = ap (λ ss. option_or (listed c.program past) (first_listed c.program ss)) (given_off 0 p past e.pat) ∙ option_or-none (listed c.program past)
 
+  no_tables_by : (o : Option Listed) → o ≡ listed c.program past → on_map o p ≡ false → tables c.program p past ≡ []
+  no_tables_by None at off = ap (λ x. tables_on x p (since_pat c.program past)) (sym at)
+  no_tables_by (Some l) at off = tables_off c.program p past l (sym at) off
+
+  pub program_same : program_of c.program (p ∷ past) ≡ program_of c.program past
+  program_same = ap (option_map program_in)
+      (known_grows c.program p past ∙ ap (λ ts. option_or (known_map c.program past) (first_map ts)) (no_tables_by (listed c.program past) refl e.map) ∙ option_or-none (known_map c.program past))
+
   maps_by : (r : MapReader) (o : Option Listed) → o ≡ listed c.program past → on_map o p ≡ false → MapsRead r c.program past
       → MapsRead (record { assembler = r.assembler; known = r.known; is_on_map = false }) c.program (p ∷ past)
   maps_by r (Some l) at off h = maps_off c r l p past at h off
@@ -57,12 +65,10 @@ module _ (c : Purpose) (p : List ℕ) (past : List (List ℕ)) (e : IsElsewhere 
       let before : Option Listed → Type 0 = λ x. GivesSince r.assembler x (since_pat c.program past) h.todo in
       let here : List (List ℕ) → Type 0 = λ ps. GivesSince r.assembler (listed c.program (p ∷ past)) ps h.todo in
       let since : since_pat c.program (p ∷ past) ≡ [] = (let n : listed c.program past ≡ None = sym at in simp n) in
-      let none : tables c.program p past ≡ [] = ap (λ x. tables_on x p (since_pat c.program past)) (sym at) in
       record {
         todo = h.todo;
         assembler = subst here (sym since) (subst Gives (at ∙ sym listed_same) (subst before (sym at) h.assembler));
-        program = h.program ∙ sym (ap (option_map program_in)
-            (known_grows c.program p past ∙ ap (λ ts. option_or (known_map c.program past) (first_map ts)) none ∙ option_or-none (known_map c.program past)));
+        program = h.program ∙ sym program_same;
         newest_is = (let n : listed c.program past ≡ None = sym at in simp n);
       }
 

@@ -7,6 +7,7 @@ pub mod StreamLemmas
 pub mod PlaceLemmas
 pub mod FollowLemmas
 pub mod ElsewhereLemmas
+mod UseLemmas
 pub mod PieceLemmas
 pub mod RunLemmas
 mod StillLemmas

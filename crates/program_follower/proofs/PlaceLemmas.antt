@@ -9,7 +9,8 @@ use Rattle.ts_packet.specs.Fields.{in_error, pid_of, on}
 use Rattle.ts_packet.proofs.Cases.{by_test}
 use Rattle.psi_tables.specs.declared.stream.Stream.{Stream}
 use Rattle.program_follower.specs.Faults.{pids_in}
-use Rattle.program_follower.specs.Streaming.{next_place, first_on, place_in, numbered, HasPlaces}
+use Rattle.program_follower.specs.Streaming.{next_place, first_on, place_in, numbered}
+use Rattle.program_follower.specs.PidUses.{IsTablePid, HasPlacesElsewhere}
 use Rattle.program_follower.proofs.StreamLemmas.{on_parts}
 
 -- ---- the numbers
@@ -30,21 +31,14 @@ set_are numbers i v lt le are pid h =
     (λ y. let e = ap (λ (k : ℕ). slice_index_or (set numbers i v) k 0) (eqb-true pid i y) ∙ get_or-set_same numbers i v 0 lt in omega arith)
     (λ n. let apart : pid ≢ i = (λ e. let k = eq-eqb pid i e in absurd (cc)) in let e = get_or-set_other numbers i pid v 0 apart in let a = are pid h in omega arith)
 
+pub zeros_elsewhere : HasPlacesElsewhere (replicate 8192 0) []
+zeros_elsewhere p good lt le = get_or-replicate 8192 (pid_of p) 0 0 lt
+
 -- ---- the places, from the last stream to the first
 
 -- of some streams, behind this many
 abbrev pub farther : ℕ → Option ℕ → Option ℕ
 farther n o = option_map (λ (place : ℕ). n + place) o
-
--- the table has the places of the streams from this one on
-abbrev pub HasPlacesFrom : List ℕ → List Stream → ℕ → Type 0
-HasPlacesFrom numbers ss n = (p : List ℕ) → in_error p ≡ false → pid_of p < 8192
-    → slice_index_or numbers (pid_of p) 0 ≡ numbered (farther n (place_in (pids_in (drop n ss)) p))
-
-pub no_places : (ss : List Stream) (n : ℕ) → n ≡ length ss → HasPlacesFrom (replicate 8192 0) ss n
-no_places ss n e p good h =
-    let none : drop n ss ≡ [] = ap (λ (k : ℕ). drop k ss) e ∙ drop-length ss in
-    get_or-replicate 8192 (pid_of p) 0 0 h ∙ sym (ap (λ (xs : List Stream). numbered (farther n (place_in (pids_in xs) p))) none)
 
 next_numbered : (n : ℕ) (o : Option (ℕ × ℕ)) → numbered (farther (n + 1) (option_map (λ (x : ℕ × ℕ). x.0) o)) ≡ numbered (farther n (option_map (λ (x : ℕ × ℕ). x.0) (option_map next_place o)))
 next_numbered n None = refl
@@ -67,26 +61,50 @@ module _ (p : List ℕ) (good : in_error p ≡ false) where
       let a : first_on (pids_in (s ∷ rest)) p ≡ option_map next_place (first_on (pids_in rest) p) = simp y refl in
       next_numbered n (first_on (pids_in rest) p) ∙ sym (ap (λ (o : Option (ℕ × ℕ)). numbered (farther n (option_map (λ (x : ℕ × ℕ). x.0) o))) a)
 
--- one stream more
-pub one_place : (ss : List Stream) (numbers : List ℕ) (n m pid : ℕ) (s : Stream) → n < length ss → pid < length numbers → pid ≡ (slice_index_or ss n s).pid → m ≡ n + 1
-    → HasPlacesFrom numbers ss m → HasPlacesFrom (set numbers pid (n + 1)) ss n
-one_place ss numbers n m pid s lt within is next has p good h =
-    let t : Stream = slice_index_or ss n s in
-    let parts = at_drop_more (λ (xs : List Stream). numbered (farther n (place_in (pids_in xs) p))) ss n s lt in
-    by_test (on t.pid p)
-    (λ y. ap (λ (k : ℕ). slice_index_or (set numbers pid (n + 1)) k 0) ((on_parts t.pid p y).1 ∙ sym is) ∙ get_or-set_same numbers pid (n + 1) 0 within
-    ∙ number_here p good t (drop (n + 1) ss) n y ∙ sym parts)
-    (λ z. let apart : pid_of p ≢ pid = (λ e. let k = on_good p good t.pid (e ∙ is) in absurd (cc)) in
-    get_or-set_other numbers pid (pid_of p) (n + 1) 0 apart ∙ has p good h ∙ ap (λ (k : ℕ). numbered (farther k (place_in (pids_in (drop k ss)) p))) next
-    ∙ number_later p good t (drop (n + 1) ss) n z ∙ sym parts)
-
 same_farther : (o : Option ℕ) → numbered (farther 0 o) ≡ numbered o
 same_farther None = refl
 same_farther (Some k) = let e : 0 + k + 1 ≡ k + 1 = omega arith in e
 
-pub all_places : (ss : List Stream) (numbers : List ℕ) (n : ℕ) → n ≡ 0 → HasPlacesFrom numbers ss n → HasPlaces numbers (pids_in ss)
-all_places ss numbers n e has p good h =
-    has p good h
+-- the table has the places of the streams from this one on, but under the PIDs of tables
+abbrev pub HasPlacesFromElsewhere : List ℕ → List Stream → ℕ → Type 0
+HasPlacesFromElsewhere numbers ss n = (p : List ℕ) → in_error p ≡ false → pid_of p < 8192 → slice_index_or numbers (pid_of p) 0 ≤ 8
+    → slice_index_or numbers (pid_of p) 0 ≡ numbered (farther n (place_in (pids_in (drop n ss)) p))
+
+pub none_elsewhere : (numbers : List ℕ) (ss : List Stream) (n : ℕ) → n ≡ length ss → HasPlacesElsewhere numbers [] → HasPlacesFromElsewhere numbers ss n
+none_elsewhere numbers ss n e has p good within le =
+    let none : drop n ss ≡ [] = ap (λ (k : ℕ). drop k ss) e ∙ drop-length ss in
+    has p good within le ∙ sym (ap (λ (xs : List Stream). numbered (farther n (place_in (pids_in xs) p))) none)
+
+module _ (ss : List Stream) (numbers : List ℕ) (n m pid : ℕ) (s : Stream) (lt : n < length ss) (is : pid ≡ (slice_index_or ss n s).pid) (next : m ≡ n + 1) where
+  later_elsewhere : (p : List ℕ) → in_error p ≡ false → on (slice_index_or ss n s).pid p ≡ false
+      → numbered (farther m (place_in (pids_in (drop m ss)) p)) ≡ numbered (farther n (place_in (pids_in (drop n ss)) p))
+  later_elsewhere p good z =
+      ap (λ (k : ℕ). numbered (farther k (place_in (pids_in (drop k ss)) p))) next
+      ∙ number_later p good (slice_index_or ss n s) (drop (n + 1) ss) n z
+      ∙ sym (at_drop_more (λ (xs : List Stream). numbered (farther n (place_in (pids_in xs) p))) ss n s lt)
+
+  pub one_elsewhere : pid < length numbers → HasPlacesFromElsewhere numbers ss m → HasPlacesFromElsewhere (set numbers pid (n + 1)) ss n
+  one_elsewhere within has p good below le =
+      let t : Stream = slice_index_or ss n s in
+      by_test (on t.pid p)
+      (λ y. ap (λ (k : ℕ). slice_index_or (set numbers pid (n + 1)) k 0) ((on_parts t.pid p y).1 ∙ sym is) ∙ get_or-set_same numbers pid (n + 1) 0 within
+      ∙ number_here p good t (drop (n + 1) ss) n y
+      ∙ sym (at_drop_more (λ (xs : List Stream). numbered (farther n (place_in (pids_in xs) p))) ss n s lt))
+      (λ z. let apart : pid_of p ≢ pid = (λ e. let k = on_good p good t.pid (e ∙ is) in absurd (cc)) in
+      let e = get_or-set_other numbers pid (pid_of p) (n + 1) 0 apart in
+      e ∙ has p good below (omega arith) ∙ later_elsewhere p good z)
+
+  -- a PID of tables stays that
+  pub no_place_elsewhere : IsTablePid (slice_index_or numbers pid 0) → HasPlacesFromElsewhere numbers ss m → HasPlacesFromElsewhere numbers ss n
+  no_place_elsewhere above has p good below le =
+      let t : Stream = slice_index_or ss n s in
+      by_test (on t.pid p)
+      (λ y. let e = ap (λ (k : ℕ). slice_index_or numbers k 0) ((on_parts t.pid p y).1 ∙ sym is) in absurd (omega arith))
+      (λ z. has p good below le ∙ later_elsewhere p good z)
+
+pub all_elsewhere : (ss : List Stream) (numbers : List ℕ) (n : ℕ) → n ≡ 0 → HasPlacesFromElsewhere numbers ss n → HasPlacesElsewhere numbers (pids_in ss)
+all_elsewhere ss numbers n e has p good within le =
+    has p good within le
     ∙ ap (λ (k : ℕ). numbered (farther k (place_in (pids_in (drop k ss)) p))) e
     ∙ same_farther (place_in (pids_in ss) p)
 

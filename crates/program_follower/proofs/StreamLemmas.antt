@@ -21,7 +21,9 @@ use Rattle.unit_stream.proofs.ClockLemmas.{begins_off}
 use Rattle.unit_stream.proofs.StartLemmas.{starts_passed}
 use Rattle.psi_tables.specs.Streams.{is_switched, switched_of}
 use Rattle.program_follower.specs.Faults.{pids_in}
-use Rattle.program_follower.specs.Streaming.{next_place, first_on, AllFirst, AllRead, AllStartsRead, IsOne, begin_fault}
+use Rattle.program_follower.specs.declared.starts.Starts.{Starts}
+use Rattle.program_follower.specs.Streaming.{next_place, first_on, AllFirst, AllRead, AllStartsRead, StartsRead, IsOne, begin_fault}
+use Rattle.pes_time.specs.Line.{ring_of}
 use Rattle.program_follower.proofs.JudgingLemmas.{or_later}
 
 -- ---- of one PID
@@ -259,6 +261,14 @@ module _ (pids : List ℕ) (p : List ℕ) (past : List (List ℕ)) where
 
     pub no_payload_high : payload_on x.1 p ≡ false → high pids (p ∷ past) ≡ high pids past
     no_payload_high y = let b = of_begins ∙ begins_off x.1 p past y in simp b refl
+
+-- a packet of none of the PIDs tells nothing of their begins
+pub starts_read_off : (s : Starts) (pids : List ℕ) (p : List ℕ) (past : List (List ℕ)) → first_on pids p ≡ None → StartsRead s pids past → StartsRead s pids (p ∷ past)
+starts_read_off s pids p past off h = record {
+  places = h.places;
+  clock = h.clock ∙ ap (option_map ring_of) (sym (none_high pids p past off));
+  readers = starts_all_off s.readers pids p past off h.readers;
+}
 
 -- a packet of the PID has a payload where it has one
 pub payload_of : (pid : ℕ) (p : List ℕ) → on pid p ≡ true → payload_on pid p ≡ is_some (payload p)

@@ -23,7 +23,8 @@ use Rattle.program_follower.specs.declared.start_follower.StartPlace.TheVariants
 use Rattle.program_follower.specs.Program.{listed, Program, program_of, behind_head, pids_of}
 use Rattle.program_follower.specs.Faults.{on_cue}
 use Rattle.program_follower.specs.Standing.{TablesRead}
-use Rattle.program_follower.specs.Streaming.{first_on, StreamsRead, StartsRead, IsOfStream, IsOfStarts}
+use Rattle.program_follower.specs.PidUses.{HasUses}
+use Rattle.program_follower.specs.Streaming.{first_on, place_in, StreamsRead, StartsRead, IsOfStream, IsOfStarts}
 
 -- the streams are followed from the end of the head on
 abbrev pub Since : {S : Type 0} → (S → List ℕ → List (List ℕ) → Type 0) → Option S → Option Program → List (List ℕ) → Type 0
@@ -57,6 +58,7 @@ pub record FollowerStandsFor (f : ProgramFollower) (c : Purpose) (past : List (L
 pub record StartsStandFor (f : StartFollower) (c : Purpose) (past : List (List ℕ)) : Type 0 where
   pub tables : TablesRead f.tables c past
   pub streams : StartsSince f.streams (program_of c.program past) (behind_head c.program past)
+  pub uses : HasUses f.uses c past
 
 -- what holds of the packets that it was fed, for its purpose
 abbrev pub OfPast : ProgramFollower → (Purpose → List (List ℕ) → Type 0) → Type 0
@@ -92,6 +94,11 @@ pub record IsElsewhere (c : Purpose) (p : List ℕ) (past : List (List ℕ)) : T
   pub pat : on 0 p ≡ false
   pub cue : on_cue c.cue_pid p ≡ false
   pub map : on_map (listed c.program past) p ≡ false
+
+-- what holds where the next packet is on no PID of tables or cues, and of this switched stream if it is not marked in error
+abbrev pub OfStreamPast : StartFollower → ℕ → List ℕ → (Purpose → List (List ℕ) → Type 0) → Type 0
+OfStreamPast f place p holds = (c : Purpose) (past : List (List ℕ)) → StartsStandFor f c past → IsElsewhere c p past
+    → (in_error p ≡ false → Some place ≡ place_in (pids_of (program_of c.program past)) p) → holds c past
 
 -- of which switched stream a packet is, behind this past
 abbrev pub IsSwitched : Option (ℕ × StreamPacket) → Purpose → List ℕ → List (List ℕ) → Type 0

@@ -3,6 +3,7 @@ pub mod Faults
 pub mod Standing
 pub mod Judging
 pub mod Streaming
+pub mod PidUses
 pub mod Following
 pub mod Purposes
 pub mod FirstFault

@@ -7,6 +7,7 @@ mod judging;
 mod known;
 mod map_reader;
 mod pat_reader;
+mod pid_uses;
 mod places;
 mod purpose;
 mod start_follower;

@@ -1,20 +1,22 @@
 //! One program of a network, followed by where its units begin.
 
-ghost use Rattle.std.specs.Prelude.{◌≡◌, ◌≤◌, ◌∷◌, [], ℕ, List, length, Option, Some, None, option_map, OnOk, IfOk, IfErr};
+ghost use Rattle.std.specs.Prelude.{◌≡◌, ◌<◌, ◌≤◌, ◌∷◌, [], ℕ, List, length, slice_index_or, Option, Some, None, option_map, OnOk, IfOk, IfErr};
 ghost use Rattle.pes_time.specs.Line.{ring_of};
 ghost use Rattle.unit_stream.specs.Faults.{unit_fault};
 ghost use Rattle.program_follower.specs.Program.{tables, Program, program_of, pids_of};
-ghost use Rattle.program_follower.specs.Faults.{network_fault};
+ghost use Rattle.program_follower.specs.Faults.{network_fault, pids_in};
+ghost use Rattle.program_follower.specs.PidUses.{IsTablePid, HasPlacesElsewhere};
 ghost use Rattle.program_follower.specs.Standing.{tables_left, lent_program};
 ghost use Rattle.program_follower.specs.Streaming.{IsOfStarts};
-ghost use Rattle.program_follower.specs.Following.{StartsStandFor, OfStartPast, OfBegins, StartsSince, grown, high_of};
+ghost use Rattle.program_follower.specs.Following.{StartsStandFor, OfStartPast, OfStreamPast, OfBegins, StartsSince, grown, high_of};
 ghost use Rattle.program_follower.specs.Following.{IsStartPlace, IsOfStartsAt, IsOnTables, streams_of_program};
 
 use crate::follower::of_unit;
 use crate::known::KnownProgram;
+use crate::pid_uses::{PidUse, PidUses};
 use crate::purpose::Purpose;
 use crate::starts::{StartPacket, Starts};
-use crate::table_reader::{OnTables, TableReader};
+use crate::table_reader::{OnTables, TableReader, or_zero};
 use crate::tables::Tables;
 use pes_time::Time33;
 use psi_tables::{NetworkFault, Stream};
@@ -78,6 +80,8 @@ pub struct StartFollower {
     tables: TableReader,
     /// The switched streams, behind the head.
     streams: Option<Starts>,
+    /// What the packets of each PID are to these two.
+    uses: PidUses,
 }
 
 impl StartFollower {
@@ -85,9 +89,11 @@ impl StartFollower {
     pub fn new(purpose: Purpose) -> StartFollower
         ensures { StartsStandFor result purpose [] }
     {
+        let uses = PidUses::new(or_zero(purpose.cue_pid));
         StartFollower {
             tables: TableReader::new(purpose),
             streams: None,
+            uses,
         }
     }
 
@@ -103,11 +109,61 @@ impl StartFollower {
         ensures place { OfStartPast self.old (λ c past. IfOk result (λ x. IsStartPlace x c packet.now past)) }
         ensures err { OfStartPast self.old (λ c past. IfErr result (λ f. network_fault c packet.now past ≡ Some f)) }
     {
+        match self.uses.use_of(packet) {
+            PidUse::Other => {
+                self.tables.pass();
+                Ok(StartPlace::Other)
+            }
+            PidUse::Stream(index) => self.feed_stream(index, packet),
+            PidUse::Table => self.feed_tables(packet),
+        }
+    }
+
+    /// Takes a packet of a PID under which the switched stream of this number stands, and no table.
+    #[inline(always)]
+    fn feed_stream(&mut self, index: usize, packet: &Packet) -> Result<StartPlace, NetworkFault>
+        requires { index < 8 }
+        ensures stands { OfStreamPast self.old index packet.now (λ c past.
+            OnOk result (StartsStandFor self.new c (packet.now ∷ past))) }
+        ensures sound { OfStreamPast self.old index packet.now (λ c past.
+            OnOk result (network_fault c packet.now past ≡ None)) }
+        ensures place { OfStreamPast self.old index packet.now (λ c past.
+            IfOk result (λ x. IsStartPlace x c packet.now past)) }
+        ensures err { OfStreamPast self.old index packet.now (λ c past.
+            IfErr result (λ f. network_fault c packet.now past ≡ Some f)) }
+    {
+        self.tables.pass();
+        if packet.error() {
+            return Ok(StartPlace::Other);
+        }
+        let Some(streams) = &mut self.streams else {
+            return Ok(StartPlace::Other);
+        };
+        match streams.feed_stream(index, packet) {
+            Ok(part) => Ok(StartPlace::Stream(index, part)),
+            Err(fault) => Err(of_unit(fault)),
+        }
+    }
+
+    /// Takes a packet of a PID of tables or cues. It stands by itself so that no other packet pays for the room that it takes.
+    #[cold]
+    #[inline(never)]
+    fn feed_tables(&mut self, packet: &Packet) -> Result<StartPlace, NetworkFault>
+        ensures stands { OfStartPast self.old (λ c past. OnOk result (StartsStandFor self.new c (packet.now ∷ past))) }
+        ensures sound { OfStartPast self.old (λ c past. OnOk result (network_fault c packet.now past ≡ None)) }
+        ensures place { OfStartPast self.old (λ c past. IfOk result (λ x. IsStartPlace x c packet.now past)) }
+        ensures err { OfStartPast self.old (λ c past. IfErr result (λ f. network_fault c packet.now past ≡ Some f)) }
+    {
         let on_tables = match self.tables.feed(packet) {
             Ok(on_tables) => on_tables,
-            Err(fault) => return Err(fault),
+            Err(fault) => {
+                self.uses.watch_all(); // The streams of a map before the fault are followed from the next packet on.
+                return Err(fault);
+            }
         };
-        match follow_begins(&mut self.streams, self.tables.known(), packet) {
+        self.uses.add_table(self.tables.map_pid());
+        let known = self.tables.known();
+        match follow_begins(&mut self.streams, &mut self.uses, known, packet) {
             Ok(of_stream) => Ok(start_place_of(on_tables, of_stream)),
             Err(fault) => Err(of_unit(fault)),
         }
@@ -147,6 +203,7 @@ impl StartFollower {
 #[inline(always)]
 fn follow_begins(
     streams: &mut Option<Starts>,
+    uses: &mut PidUses,
     known: Option<&KnownProgram>,
     packet: &Packet,
 ) -> Result<Option<(usize, StartPacket)>, UnitFault>
@@ -158,6 +215,9 @@ fn follow_begins(
         IfOk result (λ x. IsOfStarts x (pids_of r) packet.now past)) }
     ensures err { OfBegins streams.old (lent_program known.entry) (λ r past.
         IfErr result (λ f. unit_fault (pids_of r) packet.now past ≡ Some f)) }
+    ensures kept { (pid : ℕ) → IsTablePid (slice_index_or uses.old pid 0) → IsTablePid (slice_index_or uses.new pid 0) }
+    ensures places { OfBegins streams.old (lent_program known.entry) (λ r past. HasPlacesElsewhere uses.old (pids_of r)
+        → HasPlacesElsewhere uses.new (pids_of (lent_program known.entry))) }
 {
     let Some(known) = known else {
         return Ok(None);
@@ -168,7 +228,7 @@ fn follow_begins(
             Err(fault) => Err(fault),
         },
         None => {
-            begin(streams, known.streams.as_slice());
+            begin(streams, uses, known.streams.as_slice());
             Ok(None)
         }
     }
@@ -178,11 +238,14 @@ fn follow_begins(
 /// for the room that it takes.
 #[cold]
 #[inline(never)]
-fn begin(streams: &mut Option<Starts>, switched: &[Stream])
+fn begin(streams: &mut Option<Starts>, uses: &mut PidUses, switched: &[Stream])
     requires { length switched.now ≤ 8 }
-    ensures { (r : Program) → r.streams ≡ switched.now → StartsSince streams.new (Some r) [] }
+    ensures reads { (r : Program) → r.streams ≡ switched.now → StartsSince streams.new (Some r) [] }
+    ensures kept { (pid : ℕ) → IsTablePid (slice_index_or uses.old pid 0) → IsTablePid (slice_index_or uses.new pid 0) }
+    ensures places { HasPlacesElsewhere uses.old [] → HasPlacesElsewhere uses.new (pids_in switched.now) }
 {
     *streams = Some(Starts::new(switched));
+    uses.add_streams(switched);
 }
 
 /// What a packet is, by the PIDs of the tables that it is on and by the stream that it is of.

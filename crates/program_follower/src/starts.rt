@@ -9,7 +9,7 @@ ghost use Rattle.unit_stream.specs.Times.{high};
 ghost use Rattle.unit_stream.specs.Starts.{ReadsStarts, IsBegin};
 ghost use Rattle.unit_stream.specs.Clocks.{ClockAt};
 ghost use Rattle.program_follower.specs.Faults.{pids_in};
-ghost use Rattle.program_follower.specs.Streaming.{AllStartsRead, StartsRead, IsOne, begin_fault, IsStartPacket, IsOfStarts};
+ghost use Rattle.program_follower.specs.Streaming.{AllStartsRead, StartsRead, IsOne, begin_fault, place_in, IsStartPacket, IsOfStarts};
 
 use crate::places::StreamPlaces;
 use pes_time::Time33;
@@ -92,15 +92,42 @@ impl Starts {
         let Some(index) = self.places.place_of(packet) else {
             return Ok(None);
         };
+        match self.feed_stream(index, packet) {
+            Ok(part) => Ok(Some((index, part))),
+            Err(fault) => Err(fault),
+        }
+    }
+
+    /// Takes the next packet behind the head, which is of the stream of this number, and answers what it is there.
+    ///
+    /// # Errors
+    ///
+    /// As for [`Starts::feed`].
+    #[inline(always)]
+    pub(crate) fn feed_stream(
+        &mut self,
+        index: usize,
+        packet: &Packet,
+    ) -> Result<StartPacket, UnitFault>
+        requires { index < 8 }
+        ensures reads { (pids : List ℕ) (past : List (List ℕ)) → Some index ≡ place_in pids packet.now
+            → StartsRead self.old pids past → OnOk result (StartsRead self.new pids (packet.now ∷ past)) }
+        ensures ok { (pids : List ℕ) (past : List (List ℕ)) → Some index ≡ place_in pids packet.now
+            → StartsRead self.old pids past → OnOk result (unit_fault pids packet.now past ≡ None) }
+        ensures is { (pids : List ℕ) (past : List (List ℕ)) → Some index ≡ place_in pids packet.now
+            → StartsRead self.old pids past → IfOk result (λ part. IsOfStarts (Some (index, part)) pids packet.now past) }
+        ensures err { (pids : List ℕ) (past : List (List ℕ)) → Some index ≡ place_in pids packet.now
+            → StartsRead self.old pids past → IfErr result (λ f. unit_fault pids packet.now past ≡ Some f) }
+    {
         if !packet.has_payload() {
-            return Ok(Some((index, StartPacket::NoStart)));
+            return Ok(StartPacket::NoStart);
         }
         if packet.scrambled() {
             return Err(UnitFault::Scrambled);
         }
         let begun = feed_at(&mut self.readers, index, packet);
         match pass(&mut self.clock, begun) {
-            Ok(part) => Ok(Some((index, part))),
+            Ok(part) => Ok(part),
             Err(fault) => Err(fault),
         }
     }

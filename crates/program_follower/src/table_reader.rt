@@ -1,7 +1,7 @@
 //! The tables of a network: which program it has, and what is wrong with them.
 
 ghost use Rattle.std.specs.Prelude.{◌≡◌, ◌∷◌, [], ℕ, List, Option, Some, option_map, false, OnOk, IfOk, IfErr};
-ghost use Rattle.program_follower.specs.Program.{listed, tables, program_of};
+ghost use Rattle.program_follower.specs.Program.{listed, pmt_pid_of, tables, program_of};
 ghost use Rattle.program_follower.specs.Faults.{network_fault, unit_fault_at, on_cue};
 ghost use Rattle.program_follower.specs.Standing.{TablesRead, OfTables, tables_left, lent_program, or_zero};
 ghost use Rattle.program_follower.specs.Following.{IsOnTables, IsElsewhere, on_map};
@@ -67,8 +67,24 @@ impl TableReader {
         if self.is_watched(packet) {
             return self.take(packet);
         }
-        self.maps.pass();
+        self.pass();
         Ok(OnTables::Neither)
+    }
+
+    /// Passes a packet that is on no PID of the tables, nor on that of the cues.
+    #[inline(always)]
+    pub(crate) fn pass(&mut self)
+        ensures { (c : Purpose) (p : List ℕ) (past : List (List ℕ)) → IsElsewhere c p past
+            → TablesRead self.old c past → TablesRead self.new c (p ∷ past) }
+    {
+        self.maps.pass();
+    }
+
+    /// The PID of the map behind the PAT, and 0 before it.
+    pub(crate) fn map_pid(&self) -> Pid
+        ensures { OfTables self.now (λ c past. result ≡ or_zero (pmt_pid_of c.program past)) }
+    {
+        self.map_pid
     }
 
     /// The packet may be on a PID of the tables or of the cues: a packet of another PID tells nothing of them.
@@ -148,7 +164,7 @@ fn on_tables(is_map: bool, is_cue: bool) -> OnTables
 }
 
 /// The PID, and 0 where there is none.
-fn or_zero(pid: Option<Pid>) -> Pid
+pub(crate) fn or_zero(pid: Option<Pid>) -> Pid
     ensures { result ≡ or_zero pid }
 {
     match pid {

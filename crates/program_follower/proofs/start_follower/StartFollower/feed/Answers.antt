@@ -1,41 +1,57 @@
-use Rattle.std.proofs.Common.{◌∷◌, ap, ◌∙◌}
-use Rattle.program_follower.specs.Program.{program_of, behind_head}
-use Rattle.program_follower.specs.Faults.{as_network}
-use Rattle.program_follower.specs.Standing.{lent_program}
-use Rattle.program_follower.specs.Streaming.{StartsRead}
-use Rattle.program_follower.proofs.FollowLemmas.{streams_next, goes_to}
+use Rattle.std.proofs.Common.{arith}
+use Rattle.program_follower.proofs.UseLemmas.{uses_passed, streams_off, sound_off, use_elsewhere, use_other, use_stream}
 use Rattle.program_follower.proofs.start_follower.StartFollower.feed.Goals as goal
 
-pub returns-in-Ok-follow_begins-clause-stands : goal.returns-in-Ok-follow_begins-clause-stands
-returns-in-Ok-follow_begins-clause-stands c = λ k past h.
-    let w = k.program in
+pub returns-in-Other-clause-stands : goal.returns-in-Other-clause-stands
+returns-in-Other-clause-stands c = λ k past h.
     let p = c.args.packet.now in
-    let tables = c.in-Ok.ensures.reads k past h.tables in
-    let known = c.known.ensures k (p ∷ past) tables in
-    let goes = goes_to w p past (lent_program c.known.result) known in
+    let numbers = c.args.self.now.uses in
+    let e = use_elsewhere numbers k p past h.uses (let z = c.in-Other.ensures.is in omega arith) in
+    let off = use_other numbers k p past h.uses c.use_of.ensures.pid c.in-Other.ensures.is in
     record {
-      tables = tables;
-      streams = streams_next StartsRead w p past c.follow_begins.new.streams (lent_program c.known.result) known (c.in-Ok-follow_begins.ensures.reads (program_of w past) (behind_head w past) goes h.streams);
+      tables = c.pass.ensures k p past e h.tables;
+      streams = streams_off k p past e c.args.self.now.streams off h.streams;
+      uses = uses_passed numbers k p past h.uses e;
     }
 
-pub returns-in-Ok-follow_begins-clause-sound : goal.returns-in-Ok-follow_begins-clause-sound
-returns-in-Ok-follow_begins-clause-sound c = λ k past h.
-    let w = k.program in
+pub returns-in-Other-clause-sound : goal.returns-in-Other-clause-sound
+returns-in-Other-clause-sound c = λ k past h.
     let p = c.args.packet.now in
-    let goes = goes_to w p past (lent_program c.known.result) (c.known.ensures k (p ∷ past) (c.in-Ok.ensures.reads k past h.tables)) in
-    c.in-Ok.ensures.ok k past h.tables ∙ ap as_network (c.in-Ok-follow_begins.ensures.sound (program_of w past) (behind_head w past) goes h.streams)
+    let numbers = c.args.self.now.uses in
+    let e = use_elsewhere numbers k p past h.uses (let z = c.in-Other.ensures.is in omega arith) in
+    sound_off k p past e c.args.self.now.tables.maps h.tables.maps (use_other numbers k p past h.uses c.use_of.ensures.pid c.in-Other.ensures.is)
 
-pub returns-in-Ok-follow_begins-clause-place : goal.returns-in-Ok-follow_begins-clause-place
-returns-in-Ok-follow_begins-clause-place c = λ k past h.
-    let w = k.program in
+pub returns-in-Other-clause-place : goal.returns-in-Other-clause-place
+returns-in-Other-clause-place c = λ k past h.
     let p = c.args.packet.now in
-    let tables = c.in-Ok.ensures.reads k past h.tables in
-    let goes = goes_to w p past (lent_program c.known.result) (c.known.ensures k (p ∷ past) tables) in
-    c.start_place_of.ensures k p past (c.in-Ok.ensures.on k past h.tables) (c.in-Ok-follow_begins.ensures.is (program_of w past) (behind_head w past) goes h.streams)
+    let numbers = c.args.self.now.uses in
+    let e = use_elsewhere numbers k p past h.uses (let z = c.in-Other.ensures.is in omega arith) in
+    (e.cue, e.map, use_other numbers k p past h.uses c.use_of.ensures.pid c.in-Other.ensures.is)
 
-pub returns-in-Err-follow_begins-clause-err : goal.returns-in-Err-follow_begins-clause-err
-returns-in-Err-follow_begins-clause-err c = λ k past h.
-    let w = k.program in
+pub returns-in-Stream-clause-stands : goal.returns-in-Stream-clause-stands
+returns-in-Stream-clause-stands c = λ k past h.
     let p = c.args.packet.now in
-    let goes = goes_to w p past (lent_program c.known.result) (c.known.ensures k (p ∷ past) (c.in-Ok.ensures.reads k past h.tables)) in
-    c.in-Ok.ensures.ok k past h.tables ∙ ap as_network (c.in-Err-follow_begins.ensures.err (program_of w past) (behind_head w past) goes h.streams) ∙ c.of_unit.ensures
+    let numbers = c.args.self.now.uses in
+    let is = c.in-Stream.ensures.is in
+    c.feed_stream.ensures.stands k past h (use_elsewhere numbers k p past h.uses is.1) (use_stream numbers k p past h.uses c.in-Stream.index c.use_of.ensures.pid is.0 is.1)
+
+pub returns-in-Stream-clause-sound : goal.returns-in-Stream-clause-sound
+returns-in-Stream-clause-sound c = λ k past h.
+    let p = c.args.packet.now in
+    let numbers = c.args.self.now.uses in
+    let is = c.in-Stream.ensures.is in
+    c.feed_stream.ensures.sound k past h (use_elsewhere numbers k p past h.uses is.1) (use_stream numbers k p past h.uses c.in-Stream.index c.use_of.ensures.pid is.0 is.1)
+
+pub returns-in-Stream-clause-place : goal.returns-in-Stream-clause-place
+returns-in-Stream-clause-place c = λ k past h.
+    let p = c.args.packet.now in
+    let numbers = c.args.self.now.uses in
+    let is = c.in-Stream.ensures.is in
+    c.feed_stream.ensures.place k past h (use_elsewhere numbers k p past h.uses is.1) (use_stream numbers k p past h.uses c.in-Stream.index c.use_of.ensures.pid is.0 is.1)
+
+pub returns-in-Stream-clause-err : goal.returns-in-Stream-clause-err
+returns-in-Stream-clause-err c = λ k past h.
+    let p = c.args.packet.now in
+    let numbers = c.args.self.now.uses in
+    let is = c.in-Stream.ensures.is in
+    c.feed_stream.ensures.err k past h (use_elsewhere numbers k p past h.uses is.1) (use_stream numbers k p past h.uses c.in-Stream.index c.use_of.ensures.pid is.0 is.1)

@@ -1,4 +1,16 @@
+use Rattle.std.proofs.Common.{subst}
+use Rattle.std.specs.Prelude.{slice_index_or}
+use Rattle.program_follower.specs.PidUses.{IsTablePid}
 use Rattle.program_follower.proofs.start_follower.StartFollower.new.Goals as goal
 
 pub returns : goal.returns
-returns c = record { tables = c.new.ensures; streams = tt }
+returns c = record {
+  tables = c.new.ensures;
+  streams = tt;
+  uses = record {
+    pat = c.new-uses.ensures.pat;
+    cue = subst (λ n. IsTablePid (slice_index_or c.new-uses.result n 0)) c.or_zero.ensures c.new-uses.ensures.cue;
+    map = c.new-uses.ensures.pat;
+    places = c.new-uses.ensures.places;
+  };
+}

@@ -103,6 +103,10 @@ returns-in-Map-clause-err g c = λ start ps cfg past h b.
     = map-same cfg filed p past m b'.clean cue c.pid.result (tables_left c.tables-tables.result) passed b'.cue_pid c.pid.ensures left b'.numbers.go_on in
     subst (λ l. IfErr c.put_tables.result (λ f. FrontFails l (λ put q. g.S.PacketSink.fails c.put_tables.new.sink start (ps ++ put) q f))) same (c.put_tables.ensures.err start ps passed h b'.numbers.put good)
 
+pub returns-in-Stream-clause-ok : goal.returns-in-Stream-clause-ok
+returns-in-Stream-clause-ok g c = λ start ps cfg past h b.
+    c.put_of_stream.ensures.ok start ps cfg past h (subst (λ x. IsFollowedAs c.args.self.now x cfg (held c.args.library.now) c.args.packet.now past) c.in-Stream.is b)
+
 pub returns-in-Stream-clause-err : goal.returns-in-Stream-clause-err
 returns-in-Stream-clause-err g c = λ start ps cfg past h b.
     c.put_of_stream.ensures.err start ps cfg past h (subst (λ x. IsFollowedAs c.args.self.now x cfg (held c.args.library.now) c.args.packet.now past) c.in-Stream.is b)
