@@ -58,7 +58,7 @@ module _ (c : Purpose) (p : List ℕ) (past : List (List ℕ)) (e : IsElsewhere 
       (known_grows c.program p past ∙ ap (λ ts. option_or (known_map c.program past) (first_map ts)) (no_tables_by (listed c.program past) refl e.map) ∙ option_or-none (known_map c.program past))
 
   maps_by : (r : MapReader) (o : Option Listed) → o ≡ listed c.program past → on_map o p ≡ false → MapsRead r c.program past
-      → MapsRead (record { assembler = r.assembler; known = r.known; is_on_map = false }) c.program (p ∷ past)
+      → MapsRead (record { assembler = r.assembler; known = r.known; sound = r.sound; is_on_map = false }) c.program (p ∷ past)
   maps_by r (Some l) at off h = maps_off c r l p past at h off
   maps_by r None at off h =
       let Gives : Option Listed → Type 0 = λ x. GivesSince r.assembler x [] h.todo in
@@ -70,9 +70,10 @@ module _ (c : Purpose) (p : List ℕ) (past : List (List ℕ)) (e : IsElsewhere 
         assembler = subst here (sym since) (subst Gives (at ∙ sym listed_same) (subst before (sym at) h.assembler));
         program = h.program ∙ sym program_same;
         newest_is = (let n : listed c.program past ≡ None = sym at in simp n);
+        sound = h.sound;
       }
 
-  pub maps_elsewhere : (r : MapReader) → MapsRead r c.program past → MapsRead (record { assembler = r.assembler; known = r.known; is_on_map = false }) c.program (p ∷ past)
+  pub maps_elsewhere : (r : MapReader) → MapsRead r c.program past → MapsRead (record { assembler = r.assembler; known = r.known; sound = r.sound; is_on_map = false }) c.program (p ∷ past)
   maps_elsewhere r h = maps_by r (listed c.program past) refl e.map h
 
   clean_by : (o : Option Listed) → o ≡ listed c.program past → on_map o p ≡ false → (r : MapReader) → MapsRead r c.program past → maps_fault_at c p past ≡ None

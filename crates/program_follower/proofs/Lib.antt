@@ -11,3 +11,4 @@ mod UseLemmas
 pub mod PieceLemmas
 pub mod RunLemmas
 mod StillLemmas
+mod SoundLemmas

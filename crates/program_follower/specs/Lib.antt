@@ -1,7 +1,7 @@
 pub mod Program
 pub mod Faults
-pub mod Standing
 pub mod Judging
+pub mod Standing
 pub mod Streaming
 pub mod PidUses
 pub mod Following

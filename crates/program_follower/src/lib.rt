@@ -10,6 +10,7 @@ mod pat_reader;
 mod pid_uses;
 mod places;
 mod purpose;
+mod sound_map;
 mod start_follower;
 mod starts;
 mod streams;

@@ -1,6 +1,6 @@
-use Rattle.std.proofs.Common.{refl, []}
+use Rattle.std.proofs.Common.{refl, [], None}
 use Rattle.psi_section.proofs.AssemblerLemmas.{waits_gives}
 use Rattle.program_follower.proofs.map_reader.MapReader.new.Goals as goal
 
 pub returns : goal.returns
-returns c = λ wanted. record { todo = []; assembler = λ pid. waits_gives c.new.result pid [] (c.new.ensures.waits pid); program = refl; newest_is = refl }
+returns c = λ wanted. record { todo = []; assembler = λ pid. waits_gives c.new.result pid [] (c.new.ensures.waits pid); program = refl; newest_is = refl; sound = c.new-2.ensures None }
