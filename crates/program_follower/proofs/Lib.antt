@@ -11,4 +11,4 @@ mod UseLemmas
 pub mod PieceLemmas
 pub mod RunLemmas
 mod StillLemmas
-mod SoundLemmas
+mod FaultlessMapLemmas

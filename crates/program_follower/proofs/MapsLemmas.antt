@@ -14,10 +14,11 @@ use Rattle.program_follower.specs.declared.purpose.Purpose.{Purpose}
 use Rattle.program_follower.specs.declared.purpose.Listed.{Listed}
 use Rattle.program_follower.specs.declared.known.KnownProgram.{KnownProgram}
 use Rattle.program_follower.specs.declared.map_reader.MapReader.{MapReader}
-use Rattle.program_follower.specs.declared.sound_map.SoundMap.{SoundMap}
+use Rattle.program_follower.specs.declared.faultless_map.FaultlessMap.{FaultlessMap}
 use Rattle.program_follower.specs.Program.{listed, since_pat, tables_in, tables, known_map, map_read, first_map, Program, program_in}
 use Rattle.program_follower.specs.Faults.{table_fault, tables_fault, maps_fault}
-use Rattle.program_follower.specs.Standing.{known_seen, GivesSince, sections_on, newest, IsSound, MapsRead}
+use Rattle.program_follower.specs.Known.{known_seen, IsFaultless}
+use Rattle.program_follower.specs.Standing.{GivesSince, sections_on, newest, MapsRead}
 use Rattle.program_follower.specs.Judging.{section_fault}
 use Rattle.program_follower.proofs.OptionLemmas.{option_or-assoc, option_or-none}
 use Rattle.program_follower.proofs.StepLemmas.{known_grows, listed_stays, since_stays, tables_at, tables_off, known_off}
@@ -85,13 +86,13 @@ module _ (c : Purpose) (r : MapReader) (l : Listed) (p : List ℕ) (past : List 
   newest_at : newest c.program (p ∷ past) ≡ given l.pid p since
   newest_at = ap (λ x. sections_on x p since) (sym at)
 
-  pub maps_off : on l.pid p ≡ false → MapsRead (record { assembler = r.assembler; known = r.known; sound = r.sound; is_on_map = false }) c.program (p ∷ past)
-  maps_off o = record {
+  pub maps_off : (f : IsFaultless r.faultless (known_seen r.known)) → on l.pid p ≡ false
+      → MapsRead (record { assembler = r.assembler; known = r.known; faultless = r.faultless; is_on_map = false; judged = f }) c.program (p ∷ past)
+  maps_off f o = record {
     todo = h.todo;
     assembler = gives_next r.assembler h.todo (gives_off r.assembler l.pid p since h.todo o gives_at);
     program = h.program ∙ ap (option_map program_in) (sym (known_off c.program p past l (sym at) o));
     newest_is = sym (newest_at ∙ given_off l.pid p since o);
-    sound = h.sound;
   }
 
   pub maps_clean_off : on l.pid p ≡ false → maps_fault c (listed c.program past) (known_map c.program past) (tables c.program p past) ≡ None
@@ -103,14 +104,13 @@ module _ (c : Purpose) (r : MapReader) (l : Listed) (p : List ℕ) (past : List 
     tables_are : tables_in l ss ≡ tables c.program p past
     tables_are = ap (tables_in l) (ss_is ∙ g.todo_left) ∙ sym (tables_at c.program p past l (sym at))
 
-    pub maps_on : (k : Option KnownProgram) (m : SoundMap) → IsSound m (known_seen k) → known_seen k ≡ option_map program_in (option_or (known_map c.program past) (first_map (tables_in l ss)))
-        → MapsRead (record { assembler = a; known = k; sound = m; is_on_map = true }) c.program (p ∷ past)
-    maps_on k m sound e = record {
+    pub maps_on : (k : Option KnownProgram) (m : FaultlessMap) (f : IsFaultless m (known_seen k)) → known_seen k ≡ option_map program_in (option_or (known_map c.program past) (first_map (tables_in l ss)))
+        → MapsRead (record { assembler = a; known = k; faultless = m; is_on_map = true; judged = f }) c.program (p ∷ past)
+    maps_on k m f e = record {
       todo = given l.pid p since;
       assembler = gives_next a (given l.pid p since) g;
       program = e ∙ ap (λ ts. option_map program_in (option_or (known_map c.program past) (first_map ts))) tables_are ∙ ap (option_map program_in) (sym (known_grows c.program p past));
       newest_is = g.todo_left ∙ sym newest_at;
-      sound = sound;
     }
 
     pub maps_fault_on : (o : Option NetworkFault) → tables_fault c l.pid (known_map c.program past) (tables_in l ss) ≡ o

@@ -1,6 +1,7 @@
 pub mod Program
 pub mod Faults
 pub mod Judging
+pub mod Known
 pub mod Standing
 pub mod Streaming
 pub mod PidUses

@@ -1,5 +1,5 @@
 -- What the parts of a follower stand for after the packets that they have seen, newest first.
-use Rattle.std.specs.Prelude.{◌≡◌, ℕ, List, [], ◌∷◌, true, if◌then◌else◌, map, Option, Some, None, is_some, option_map}
+use Rattle.std.specs.Prelude.{◌≡◌, ℕ, List, [], ◌∷◌, if◌then◌else◌, map, Option, Some, None, option_map}
 use Rattle.std.specs.Borrow.{Bor}
 use Rattle.psi_section.specs.declared.assembler.Assembler.{Assembler}
 use Rattle.psi_section.specs.Sections.{given}
@@ -10,13 +10,12 @@ use Rattle.program_follower.specs.declared.purpose.Purpose.{Purpose}
 use Rattle.program_follower.specs.declared.purpose.Listed.{Listed}
 use Rattle.program_follower.specs.declared.pat_reader.PatReader.{PatReader}
 use Rattle.program_follower.specs.declared.map_reader.MapReader.{MapReader}
-use Rattle.program_follower.specs.declared.sound_map.SoundMap.{SoundMap}
 use Rattle.program_follower.specs.declared.table_reader.TableReader.{TableReader}
 use Rattle.program_follower.specs.declared.known.KnownProgram.{KnownProgram}
 use Rattle.program_follower.specs.declared.tables.LentTable.{LentTable}
 use Rattle.program_follower.specs.declared.tables.Tables.{Tables}
 use Rattle.program_follower.specs.Program.{listed, pmt_pid_of, since_pat, Table, table_of, Program, program_of}
-use Rattle.program_follower.specs.Judging.{fault_of_section}
+use Rattle.program_follower.specs.Known.{program_seen, known_seen}
 
 -- The reader of PATs has been fed this past; its assembler may still give what was judged.
 pub record PatsRead (r : PatReader) (wanted : Option ℕ) (past : List (List ℕ)) : Type 0 where
@@ -25,13 +24,6 @@ pub record PatsRead (r : PatReader) (wanted : Option ℕ) (past : List (List ℕ
   pub listed_is : r.listed ≡ listed wanted past
 
 -- ---- maps
-
--- what the code knows of the program
-abbrev pub program_seen : KnownProgram → Program
-program_seen k = record { streams = k.streams.items; pcr_pid = k.pcr_pid }
-
-abbrev pub known_seen : Option KnownProgram → Option Program
-known_seen known = option_map program_seen known
 
 -- what is known, lent
 abbrev pub lent_program : Option (Bor KnownProgram) → Option Program
@@ -63,17 +55,12 @@ newest wanted (p ∷ past) = sections_on (listed wanted past) p (since_pat wante
 abbrev pub shown : MapReader → List (List ℕ)
 shown r = if r.is_on_map then left r.assembler else []
 
--- A map that is kept was sound by what is known, for the purpose and the entry of the PAT that are kept with it.
-abbrev pub IsSound : SoundMap → Option Program → Type 0
-IsSound m known = (c : Purpose) (l : Listed) → m.by ≡ Some (c, l) → (fault_of_section c l known m.section.items ≡ None) × (is_some known ≡ true)
-
 -- The reader of maps has been fed this past, and shows what the newest packet finishes.
 pub record MapsRead (r : MapReader) (wanted : Option ℕ) (past : List (List ℕ)) : Type 0 where
   pub todo : List (List ℕ)
   pub assembler : GivesSince r.assembler (listed wanted past) (since_pat wanted past) todo
   pub program : known_seen r.known ≡ program_of wanted past
   pub newest_is : shown r ≡ newest wanted past
-  pub sound : IsSound r.sound (known_seen r.known)
 
 -- ---- both
 

@@ -11,7 +11,7 @@ ghost use Rattle.ts_packet.specs.Fields.{is_among};
 ghost use Rattle.program_follower.specs.Faults.{is_pid, pids_in, is_twice, bad_pid, switches_bad_pid, has_bad_pids};
 ghost use Rattle.program_follower.specs.Faults.{uses_cue_pid, changed_by, same_streams, too_long};
 ghost use Rattle.program_follower.specs.Judging.{fault_of_map};
-ghost use Rattle.program_follower.specs.Standing.{known_seen};
+ghost use Rattle.program_follower.specs.Known.{known_seen};
 
 use crate::known::KnownProgram;
 use crate::purpose::Purpose;
@@ -33,6 +33,7 @@ pub(crate) fn judge_map(
         × (known_seen known.new ≡ option_or (known_seen known.old) (Some (program_in (map_of pmt.now.bytes.now))))) }
     ensures err { IfErr result (λ f. fault_of_map purpose.now pmt_pid (known_seen known.old) pmt.now.bytes.now
         ≡ Some f) }
+    ensures stays { IfErr result (λ _. known_seen known.new ≡ known_seen known.old) }
 {
     let Ok(streams) = pmt.switched() else {
         return Err(NetworkFault::TooManyStreams);

@@ -2,6 +2,7 @@
 //! first PMT, the units of its switched streams behind that, their times, and the first thing that is wrong. It takes no memory.
 #![tactic(auto)]
 
+mod faultless_map;
 mod follower;
 mod judging;
 mod known;
@@ -10,7 +11,6 @@ mod pat_reader;
 mod pid_uses;
 mod places;
 mod purpose;
-mod sound_map;
 mod start_follower;
 mod starts;
 mod streams;

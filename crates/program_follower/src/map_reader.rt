@@ -7,13 +7,12 @@ ghost use Rattle.psi_tables.specs.ProgramMap.{ProgramMap};
 ghost use Rattle.program_follower.specs.Program.{listed, table_of, program_in, program_of};
 ghost use Rattle.program_follower.specs.Faults.{maps_fault_at};
 ghost use Rattle.program_follower.specs.Judging.{fault_of_section, known_behind, fault_of_sections, known_behind_all};
-ghost use Rattle.program_follower.specs.Standing.{known_seen, IsSound};
-ghost use Rattle.program_follower.specs.Following.{on_map, IsElsewhere};
+ghost use Rattle.program_follower.specs.Known.{known_seen, IsFaultless};
 
+use crate::faultless_map::FaultlessMap;
 use crate::judging::judge_map;
 use crate::known::KnownProgram;
 use crate::purpose::{Listed, Purpose};
-use crate::sound_map::SoundMap;
 use crate::tables::{Tables, map_of_program};
 use psi_section::{Assembler, Sections};
 use psi_tables::NetworkFault;
@@ -24,13 +23,16 @@ use ts_packet::Packet;
 pub struct MapReader {
     assembler: Assembler,
     known: Option<KnownProgram>,
-    sound: SoundMap,
+    /// The map that is not judged anew where it comes again.
+    faultless: FaultlessMap,
     /// The last packet was on that PID.
     is_on_map: bool,
+    ghost judged: { IsFaultless faultless (known_seen known) },
 }
 
 impl MapReader {
     ghost use Rattle.program_follower.specs.Standing.{MapsRead, shown, tables_left, lent_program};
+    ghost use Rattle.program_follower.specs.Following.{on_map, IsElsewhere};
 
     /// A reader that was fed no packet.
     pub fn new() -> MapReader
@@ -39,7 +41,7 @@ impl MapReader {
         MapReader {
             assembler: Assembler::new(),
             known: None,
-            sound: SoundMap::new(),
+            faultless: FaultlessMap::new(),
             is_on_map: false,
         }
     }
@@ -130,7 +132,7 @@ impl MapReader {
         self.assembler.pass_over();
         self.assembler.feed(packet);
         let sections = self.assembler.sections();
-        match judge_sections(&mut self.known, &mut self.sound, purpose, &at, sections) {
+        match judge_sections(&mut self.known, &mut self.faultless, purpose, &at, sections) {
             Ok(()) => Ok(()),
             Err(fault) => Err(fault),
         }
@@ -140,22 +142,21 @@ impl MapReader {
 /// Judges sections on the PID of the map, and takes the program of the first map where none is known.
 fn judge_sections(
     known: &mut Option<KnownProgram>,
-    sound: &mut SoundMap,
+    faultless: &mut FaultlessMap,
     purpose: &Purpose,
     listed: &Listed,
     sections: Sections<'_>,
 ) -> Result<(), NetworkFault>
+    requires { IsFaultless faultless.old (known_seen known.old) }
     ensures ok { (first : Option ProgramMap) → known_seen known.old ≡ option_map program_in first
-        → IsSound sound.old (known_seen known.old)
         → OnOk result ((fault_of_sections purpose.now listed.now first (sections_left sections.entry) ≡ None)
         × (known_seen known.new ≡ known_behind_all listed.now first (sections_left sections.entry))) }
     ensures err { (first : Option ProgramMap) → known_seen known.old ≡ option_map program_in first
-        → IsSound sound.old (known_seen known.old)
         → IfErr result (λ f. fault_of_sections purpose.now listed.now first (sections_left sections.entry) ≡ Some f) }
-    ensures sound { IsSound sound.old (known_seen known.old) → OnOk result (IsSound sound.new (known_seen known.new)) }
+    ensures faultless { IsFaultless faultless.new (known_seen known.new) }
 {
     for section in sections {
-        match judge_section(known, sound, purpose, listed, section) {
+        match judge_section(known, faultless, purpose, listed, section) {
             Ok(()) => {}
             Err(fault) => return Err(fault),
         }
@@ -163,22 +164,22 @@ fn judge_sections(
     Ok(())
 }
 
-/// Judges a section on the PID of the map. The map that was found sound last is not judged anew.
+/// Judges a section on the PID of the map. The map that was found without a fault last is not judged anew.
 fn judge_section(
     known: &mut Option<KnownProgram>,
-    sound: &mut SoundMap,
+    faultless: &mut FaultlessMap,
     purpose: &Purpose,
     listed: &Listed,
     section: &[u8],
 ) -> Result<(), NetworkFault>
-    ensures ok { IsSound sound.old (known_seen known.old)
-        → OnOk result ((fault_of_section purpose.now listed.now (known_seen known.old) section.now ≡ None)
+    requires { IsFaultless faultless.old (known_seen known.old) }
+    ensures ok { OnOk result ((fault_of_section purpose.now listed.now (known_seen known.old) section.now ≡ None)
         × (known_seen known.new ≡ known_behind listed.now (known_seen known.old) section.now)) }
     ensures err { IfErr result (λ f. fault_of_section purpose.now listed.now (known_seen known.old) section.now
         ≡ Some f) }
-    ensures sound { IsSound sound.old (known_seen known.old) → OnOk result (IsSound sound.new (known_seen known.new)) }
+    ensures faultless { IsFaultless faultless.new (known_seen known.new) }
 {
-    if sound.is(purpose, listed, section) {
+    if faultless.comes_again(purpose, listed, section) {
         return Ok(());
     }
     let Some(pmt) = map_of_program(listed.program, section) else {
@@ -190,7 +191,7 @@ fn judge_section(
         Err(fault) => return Err(fault),
     }
     if was_known {
-        sound.keep(purpose, listed, section);
+        faultless.keep(purpose, listed, section);
     }
     Ok(())
 }

@@ -3,4 +3,7 @@ use Rattle.psi_section.proofs.AssemblerLemmas.{waits_gives}
 use Rattle.program_follower.proofs.map_reader.MapReader.new.Goals as goal
 
 pub returns : goal.returns
-returns c = λ wanted. record { todo = []; assembler = λ pid. waits_gives c.new.result pid [] (c.new.ensures.waits pid); program = refl; newest_is = refl; sound = c.new-2.ensures None }
+returns c = λ wanted. record { todo = []; assembler = λ pid. waits_gives c.new.result pid [] (c.new.ensures.waits pid); program = refl; newest_is = refl }
+
+pub invariant_of-result : goal.invariant_of-result
+invariant_of-result c = record { judged = c.new-2.ensures None }

@@ -13,8 +13,8 @@ returns-in-Ok-clause-reads c = λ past at h.
     let p = c.args.packet.now in
     let since = since_pat k.program past in
     let g = c.feed.ensures l.pid since (on-of l.pid p c.requires) (c.pass_over.ensures.waits l.pid since h.todo (gives_at k r l p past at h)) in
-    let j = c.in-Ok.ensures.ok (known_map k.program past) h.program h.sound in
-    maps_on k r l p past at h c.feed.new.self g (sections_left c.sections-sections.result) c.sections-sections.ensures c.judge_sections.new.known c.judge_sections.new.sound (c.in-Ok.ensures.sound h.sound) j.1
+    let j = c.in-Ok.ensures.ok (known_map k.program past) h.program in
+    maps_on k r l p past at h c.feed.new.self g (sections_left c.sections-sections.result) c.sections-sections.ensures c.judge_sections.new.known c.judge_sections.new.faultless _ j.1
 
 pub returns-in-Ok-clause-ok : goal.returns-in-Ok-clause-ok
 returns-in-Ok-clause-ok c = λ past at h.
@@ -24,7 +24,7 @@ returns-in-Ok-clause-ok c = λ past at h.
     let p = c.args.packet.now in
     let since = since_pat k.program past in
     let g = c.feed.ensures l.pid since (on-of l.pid p c.requires) (c.pass_over.ensures.waits l.pid since h.todo (gives_at k r l p past at h)) in
-    let j = c.in-Ok.ensures.ok (known_map k.program past) h.program h.sound in
+    let j = c.in-Ok.ensures.ok (known_map k.program past) h.program in
     maps_fault_on k r l p past at h c.feed.new.self g (sections_left c.sections-sections.result) c.sections-sections.ensures None j.0
 
 pub returns-in-Err-clause-err : goal.returns-in-Err-clause-err
@@ -35,4 +35,4 @@ returns-in-Err-clause-err c = λ past at h.
     let p = c.args.packet.now in
     let since = since_pat k.program past in
     let g = c.feed.ensures l.pid since (on-of l.pid p c.requires) (c.pass_over.ensures.waits l.pid since h.todo (gives_at k r l p past at h)) in
-    maps_fault_on k r l p past at h c.feed.new.self g (sections_left c.sections-sections.result) c.sections-sections.ensures (Some c.in-Err.fault) (c.in-Err.ensures.err (known_map k.program past) h.program h.sound)
+    maps_fault_on k r l p past at h c.feed.new.self g (sections_left c.sections-sections.result) c.sections-sections.ensures (Some c.in-Err.fault) (c.in-Err.ensures.err (known_map k.program past) h.program)

@@ -1,4 +1,4 @@
--- The map that was found sound last: when a section is that one, and what is known then.
+-- The map that was found without a fault last: when a section is that one, and what is known then.
 use Rattle.std.specs.Option.{option_or, option_eq}
 use Rattle.std.proofs.Common.{◌≡◌, ℕ, Bool, true, false, ◌&&◌, eqb, refl, ap, ◌∙◌, Option, Some, None}
 use Rattle.std.specs.Prelude.{is_some}
@@ -8,7 +8,7 @@ use Rattle.program_follower.specs.declared.purpose.Purpose.{Purpose}
 use Rattle.program_follower.specs.declared.purpose.Listed.{Listed}
 use Rattle.program_follower.specs.declared.known.KnownProgram.{KnownProgram}
 use Rattle.program_follower.specs.Program.{Program}
-use Rattle.program_follower.specs.Standing.{known_seen}
+use Rattle.program_follower.specs.Known.{known_seen}
 
 -- ---- what a map was judged by
 
