@@ -145,6 +145,41 @@ fn streams_of_a_map_before_a_fault(rt: HostRuntime) -> Result<(), Fail> {
     Ok(())
 }
 
+/// A map comes again and again, and another of the same length, which is at fault, behind it.
+const MAPS_THAT_COME_AGAIN: &[Case] = &[
+    (&[LISTED, MAPPED, MAPPED, MAPPED, BEGINS], Start(0)),
+    (
+        &[LISTED, MAPPED, MAPPED, MAPPED, One(Clock(0x101))],
+        Wrong(ProgramChanged),
+    ),
+];
+
+const FAULT_THAT_COMES_AGAIN: &[Came] = &[
+    LISTED,
+    MAPPED,
+    MAPPED,
+    One(Clock(0x101)),
+    One(Clock(0x101)),
+    MAPPED,
+];
+
+/// The map of the program stays it each time that it comes. One at fault is at fault each time, also to the follower of begins that is fed on
+/// behind it, to which the map before it is the program's still.
+#[test]
+fn maps_that_come_again(rt: HostRuntime) -> Result<(), Fail> {
+    expect_eq!(rt;
+        went(rt.alloc(), &reader(), MAPS_THAT_COME_AGAIN)?,
+        MAPS_THAT_COME_AGAIN.len()
+    );
+    let (network, _) = follow(rt.alloc(), &reader(), &FAULT_THAT_COMES_AGAIN[..4])?;
+    expect_eq!(rt; network.fault, Some(ProgramChanged));
+    let (network, _) = follow(rt.alloc(), &reader(), &FAULT_THAT_COMES_AGAIN[..5])?;
+    expect_eq!(rt; network.fault, Some(ProgramChanged));
+    let (network, _) = follow(rt.alloc(), &reader(), FAULT_THAT_COMES_AGAIN)?;
+    expect_eq!(rt; network.fault, None);
+    Ok(())
+}
+
 /// A PAT that applies now stands in one section, also before the one that lists the program and behind it.
 const PAT_OF_SEVERAL_SECTIONS: &[Case] = &[
     (&[One(Version(NOW, 1, &[(2, 0x22)]))], Wrong(Sections)),

@@ -87,6 +87,8 @@ use Told::*;
 pub(crate) struct Network {
     pub(crate) follower: ProgramFollower,
     pub(crate) starts: StartFollower,
+    /// The fault that the follower of begins answered last. It is fed on behind one, where no clause speaks of it.
+    pub(crate) fault: Option<NetworkFault>,
     counter: u8,
 }
 
@@ -95,6 +97,7 @@ impl Network {
     pub(crate) fn feed(&mut self, packet: &Packet) -> Told {
         let told = self.told(packet);
         let answer = self.starts.feed(packet);
+        self.fault = fault_of(&answer);
         if told == Failed || is_same(told, answer) && self.starts.high() == self.follower.high() {
             told
         } else {
@@ -323,6 +326,13 @@ fn feed(alloc: Global, network: &mut Network, came: &Came) -> Result<Told, Alloc
     }
 }
 
+fn fault_of(answer: &Result<StartPlace, NetworkFault>) -> Option<NetworkFault> {
+    match answer {
+        Ok(_) => None,
+        Err(fault) => Some(*fault),
+    }
+}
+
 /// What one follower tells is what the other answers, which tells of the packets of a stream only which begin units.
 fn is_same(told: Told, answer: Result<StartPlace, NetworkFault>) -> bool {
     match (told, answer) {
@@ -368,6 +378,7 @@ pub(crate) fn follow(
     let mut network = Network {
         follower: ProgramFollower::new(*purpose),
         starts: StartFollower::new(*purpose),
+        fault: None,
         counter: 0,
     };
     let mut told = Other;
