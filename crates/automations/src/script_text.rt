@@ -168,7 +168,7 @@ impl<M: Allocator> Reading<M> {
     }
 
     /// Reads whole bytes of a line, for as long as two digits come next, and answers what is left of the text. Nearly all of a script is
-    /// such digits, and in twos they take half the time.
+    /// such digits, and so they are read in a loop of their own.
     ///
     /// # Errors
     ///

@@ -77,8 +77,8 @@ pub(crate) fn write_packet(
     bytes[PACKET_SIZE - part.len()..].copy_from_slice(part);
 }
 
-/// The packet in which a unit goes on with these bytes, which fill it. All of it is written over, so no byte has to be filled before, and the
-/// two remainders show a compiler that the packet has no fault, so that it leaves out the test and a further copy.
+/// The packet in which a unit goes on with these bytes, which fill it. All of it is written over, so that a compiler leaves out the filling, and
+/// the two remainders show it that the packet has no fault, so that it leaves out the test and a further copy too.
 #[inline(always)]
 pub(crate) fn full_packet(pid: Pid, counter: u8, part: &[u8]) -> Packet
     requires number { counter < 16 }
