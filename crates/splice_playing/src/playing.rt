@@ -90,12 +90,47 @@ impl Playing {
     }
 
     /// A unit begins in the stream of this number, of this time where it has one, behind which `high` is the greatest time: puts what goes
-    /// out before it. The streams and the library are to be the same at each call.
+    /// out before it.
     ///
     /// # Errors
     ///
     /// The sink's. Packets before the one that failed are out; how far the events and the streams have come is open then.
     pub fn begin<S: PacketSink>(
+        &mut self,
+        stream: usize,
+        time: &Option<Time33>,
+        high: &Option<Time33>,
+        streams: &[Stream],
+        library: &AdLibrary,
+        sink: &mut S,
+    ) -> Result<(), PutFault>
+        requires { stream < length streams.now }
+        ensures leads { S.leads sink.old sink.new }
+        ensures ok { (start : Option (List ℕ)) (ps : List (List ℕ)) (k : Setting) (p : List ℕ) (past : List (List ℕ)) →
+            S.holds sink.old start ps → PlaysFor self.old k past →
+            BeginsIn k (held library.now) streams.now stream time.now high.now p past →
+            OnOk result (S.holds sink.new start (ps ++ front_at k p past)) }
+        ensures plays { (k : Setting) (p : List ℕ) (past : List (List ℕ)) →
+            PlaysFor self.old k past → BeginsIn k (held library.now) streams.now stream time.now high.now p past →
+            OnOk result (PlaysBefore self.new k p past) }
+        ensures err { (start : Option (List ℕ)) (ps : List (List ℕ)) (k : Setting) (p : List ℕ) (past : List (List ℕ)) →
+            S.holds sink.old start ps → PlaysFor self.old k past →
+            BeginsIn k (held library.now) streams.now stream time.now high.now p past →
+            IfErr result (λ f. FrontFails (front_at k p past) (λ put q. S.fails sink.new start (ps ++ put) q f)) }
+        ensures well { OnOk result (WentWell (S.counts sink.old) (S.counts sink.new)) }
+        ensures blamed { IfErr result (λ f. Blamed f (S.counts sink.old) (S.counts sink.new) (S.is_full sink.new)) }
+    {
+        self.all_out = None; // It was out by the streams and the library of that call.
+        self.begin_with_same(stream, time, high, streams, library, sink)
+    }
+
+    /// As [`Playing::begin`], where the streams and the library are those of the calls before: what is due of the events that run is asked for
+    /// once for each greatest time.
+    ///
+    /// # Errors
+    ///
+    /// The sink's. Packets before the one that failed are out; how far the events and the streams have come is open then.
+    pub fn begin_with_same<S: PacketSink>(
         &mut self,
         stream: usize,
         time: &Option<Time33>,

@@ -277,7 +277,7 @@ impl Switch {
         }
         match self
             .playing
-            .begin(stream, time, &high, streams, library, sink)
+            .begin_with_same(stream, time, &high, streams, library, sink)
         {
             Ok(()) => {}
             Err(fault) => return Err(fault),

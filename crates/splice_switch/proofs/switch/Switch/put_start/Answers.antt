@@ -46,7 +46,7 @@ returns-in-Err-clause-err g c = λ start ps cfg past h b.
     let place = place_at k p past in
     let out : switched_at_packet k p past ≡ front ++ place = stream-out k p past f.place_is.1 in
     fails-behind (switched_at_packet k p past) [] front place
-    (λ put q. g.S.PacketSink.fails c.begin.new.sink start (ps ++ put) q c.in-Err.fault) (λ put q. g.S.PacketSink.fails c.begin.new.sink start (ps ++ put) q c.in-Err.fault)
+    (λ put q. g.S.PacketSink.fails c.begin_with_same.new.sink start (ps ++ put) q c.in-Err.fault) (λ put q. g.S.PacketSink.fails c.begin_with_same.new.sink start (ps ++ put) q c.in-Err.fault)
     out (λ put q x. x) (c.in-Err.ensures.err start ps k p past h f.playing begins)
 
 pub returns-in-Err-put_packet-clause-err : goal.returns-in-Err-put_packet-clause-err
