@@ -8,7 +8,7 @@ pub mod StreamLemmas
 pub mod PlaceLemmas
 pub mod PacketLemmas
 pub mod BeginLemmas
-mod UnaskedLemmas
+pub mod UnaskedLemmas
 pub mod RestLemmas
 pub mod FrameLemmas
 pub mod RestOutLemmas

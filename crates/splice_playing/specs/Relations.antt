@@ -31,6 +31,10 @@ pub record PlaysFor (playing : Playing) (k : Setting) (past : List (List ℕ)) :
   pub forgotten : ReportIs playing.forgotten (counts_known k past (is_forgotten (high_at k past)))
   pub all_out : IsAllOut playing.all_out (high_at k past) → NoneDueAt k past
 
+-- the same playing, of which it is open whether what was due of the events that run is out
+abbrev pub unasked : Playing → Playing
+unasked playing = record playing { all_out = None }
+
 -- the packet is of the PID of cues, and of no switched stream
 pub record IsCueOf (k : Setting) (p : List ℕ) (past : List (List ℕ)) : Type 0 where
   pub cue : on k.cue_pid p ≡ true

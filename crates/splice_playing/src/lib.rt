@@ -2,7 +2,9 @@
 //! packets come.
 #![tactic(auto)]
 
+mod forgetting;
 mod leaving;
 mod playing;
+mod resting;
 
 pub use playing::Playing;

@@ -2,30 +2,27 @@
 
 ghost use Rattle.std.specs.Prelude.{◌≡◌, ◌<◌, ◌≤◌, ◌+◌, ◌%◌, ◌++◌, ◌∷◌, ◌^◌, [], ℕ, ℤ, List, length, slice_index_or};
 ghost use Rattle.std.specs.Prelude.{Option, None, Some, IfSome, OnOk, IfErr, true};
-ghost use Rattle.std.specs.List.{list_all};
 ghost use Rattle.ts_packet.specs.Numbering.{Step, Counts};
 ghost use Rattle.unit_stream.specs.UnitPackets.{put_in};
-ghost use Rattle.event_table.specs.Standing.{Standing, IsTimeAt};
-ghost use Rattle.event_table.specs.Rings.{CanAdvance};
-ghost use Rattle.event_table.specs.Tables.{StandsFor, high_time_of};
-ghost use Rattle.splice_plans.specs.Parts.{KeepsEvents, IsReached, no_entry};
+ghost use Rattle.event_table.specs.Standing.{Standing};
+ghost use Rattle.splice_plans.specs.Parts.{KeepsEvents, IsReached};
 ghost use Rattle.splice_plans.specs.Fronts.{IsNearTime, IsOther, is_left};
 ghost use Rattle.ts_packet.specs.Sinks.{Blamed};
 ghost use Rattle.ts_packet.specs.Transfers.{WentWell};
 ghost use Rattle.outgoing_packets.specs.Numbers.{FrontFails};
 ghost use Rattle.ad_library.specs.Library.{held};
 ghost use Rattle.splice_plans.specs.Switching.{Setting, front_at, place_at, rest_at};
-ghost use Rattle.splice_plans.specs.Reporting.{EventCounts as Reported, ReportIs, report_of};
-ghost use Rattle.splice_playing.specs.Forgetting.{with_out, with_first_out, with_standing};
+ghost use Rattle.splice_plans.specs.Reporting.{ReportIs, report_of};
 ghost use Rattle.splice_playing.specs.Ready.{is_ready};
-ghost use Rattle.splice_playing.specs.Resting.{is_rest, first_rest, waits_ahead, first_start, comes_before, all_wait, all_start_behind};
-ghost use Rattle.splice_playing.specs.Resting.{is_idle, is_kept_at, keeps_all};
+ghost use Rattle.splice_playing.specs.Resting.{is_rest, comes_before, all_wait, all_start_behind, is_idle};
 ghost use Rattle.splice_playing.specs.Dues.{IsAllOut};
 
+use crate::forgetting::{with_all, with_forgotten};
 use crate::leaving::{LeavingUnit, is_repeat_in};
+use crate::resting::{first_rest, keeps_all};
 use ad_library::AdLibrary;
 use armed_events::ArmedEvents;
-use event_table::{Entry, Table, is_before};
+use event_table::is_before;
 use pes_time::Time33;
 use psi_tables::Stream;
 use splice_plans::{
@@ -33,9 +30,6 @@ use splice_plans::{
     turn_all,
 };
 use ts_packet::{Packet, PacketSink, PutFault};
-
-/// How far past the greatest time the rest lies where no event stands, in ticks of 90 kHz: half of what lies ahead on the ring.
-const FAR_AHEAD: u64 = 1 << 31;
 
 /// The events that stand, with their plans, the streams, and what became of the events that are forgotten.
 #[derive(Drop)]
@@ -61,7 +55,7 @@ impl Playing {
     ghost use Rattle.splice_playing.specs.Going.{plans_in, HasEvents, IsStreamAt, stream_at, HasCounted, steps_with};
     ghost use Rattle.splice_playing.specs.Going.{closing_in, closed_in, running_in_all, running_in_one, ran_in_all, LeavesNoneDue};
     ghost use Rattle.splice_playing.specs.Going.{KeepsUnit, HoldsUnit};
-    ghost use Rattle.splice_playing.specs.Relations.{PlaysFor, PlaysBefore, PlaysBehind, BeginsIn};
+    ghost use Rattle.splice_playing.specs.Relations.{PlaysFor, PlaysBefore, PlaysBehind, BeginsIn, unasked};
     ghost use Rattle.splice_playing.specs.Relations.{IsCueOf, IsPacketOf, EndsWith, Reports};
 
     /// No event, and nothing is out.
@@ -89,8 +83,16 @@ impl Playing {
         self.all_out = None; // An earlier end may leave out a unit that was not due, behind which one is.
     }
 
+    /// Forgets that what was due of the events that run is out: it was due by the streams and the library of that call, and others may make
+    /// more due at the same greatest time.
+    pub fn ask_anew(&mut self)
+        ensures { self.new ≡ unasked self.old }
+    {
+        self.all_out = None;
+    }
+
     /// A unit begins in the stream of this number, of this time where it has one, behind which `high` is the greatest time: puts what goes
-    /// out before it.
+    /// out before it. What is due of the events that run is asked for anew.
     ///
     /// # Errors
     ///
@@ -107,20 +109,20 @@ impl Playing {
         requires { stream < length streams.now }
         ensures leads { S.leads sink.old sink.new }
         ensures ok { (start : Option (List ℕ)) (ps : List (List ℕ)) (k : Setting) (p : List ℕ) (past : List (List ℕ)) →
-            S.holds sink.old start ps → PlaysFor self.old k past →
+            S.holds sink.old start ps → PlaysFor (unasked self.old) k past →
             BeginsIn k (held library.now) streams.now stream time.now high.now p past →
             OnOk result (S.holds sink.new start (ps ++ front_at k p past)) }
         ensures plays { (k : Setting) (p : List ℕ) (past : List (List ℕ)) →
-            PlaysFor self.old k past → BeginsIn k (held library.now) streams.now stream time.now high.now p past →
+            PlaysFor (unasked self.old) k past → BeginsIn k (held library.now) streams.now stream time.now high.now p past →
             OnOk result (PlaysBefore self.new k p past) }
         ensures err { (start : Option (List ℕ)) (ps : List (List ℕ)) (k : Setting) (p : List ℕ) (past : List (List ℕ)) →
-            S.holds sink.old start ps → PlaysFor self.old k past →
+            S.holds sink.old start ps → PlaysFor (unasked self.old) k past →
             BeginsIn k (held library.now) streams.now stream time.now high.now p past →
             IfErr result (λ f. FrontFails (front_at k p past) (λ put q. S.fails sink.new start (ps ++ put) q f)) }
         ensures well { OnOk result (WentWell (S.counts sink.old) (S.counts sink.new)) }
         ensures blamed { IfErr result (λ f. Blamed f (S.counts sink.old) (S.counts sink.new) (S.is_full sink.new)) }
     {
-        self.all_out = None; // It was out by the streams and the library of that call.
+        self.ask_anew();
         self.begin_with_same(stream, time, high, streams, library, sink)
     }
 
@@ -644,133 +646,4 @@ impl Playing {
         report.ignored = self.events.ignored();
         report
     }
-}
-
-/// The first start of the events that stand, where each waits in all streams and starts past the greatest time, or a time far ahead
-/// where none stands.
-fn first_rest(table: &Table<Plan>) -> Option<Time33>
-    ensures { result ≡ first_rest table.now }
-{
-    let Some(high) = table.high() else {
-        return None;
-    };
-    if table.standing().is_empty() {
-        return Some(high.plus(FAR_AHEAD));
-    }
-    let mut first: Option<Time33> = None;
-    for at in 0..table.standing().len() {
-        if !waits_ahead(table, at, high) {
-            return None;
-        }
-        first = Some(first_start(high, first, table.standing()[at].event.start));
-    }
-    first
-}
-
-/// Events stand, and none of them is forgotten at this greatest time.
-fn keeps_all(table: &Table<Plan>, high: Time33) -> bool
-    ensures { result ≡ keeps_all table.now high }
-{
-    !table.standing().is_empty() && are_kept(table, high)
-}
-
-/// No event that stands is forgotten at this greatest time.
-fn are_kept(table: &Table<Plan>, high: Time33) -> bool
-    ensures { result ≡ list_all (is_kept_at high) table.now.entries.items }
-{
-    table.standing().iter().all(|entry| is_kept_at(entry, high))
-}
-
-/// The event is not forgotten at this greatest time.
-fn is_kept_at(entry: &Entry<Plan>, high: Time33) -> bool
-    ensures { result ≡ is_kept_at high entry.now }
-{
-    !entry.event.is_forgotten_at(high)
-}
-
-/// The event at this place waits in all streams, and starts past this greatest time.
-fn waits_ahead(table: &Table<Plan>, at: usize, high: Time33) -> bool
-    requires { at < length table.now.entries.items }
-    ensures { result ≡ waits_ahead high (slice_index_or table.now.entries.items at no_entry) }
-{
-    let standing = table.standing();
-    0 < standing[at].event.start.signed_from(high) && standing[at].value.waits()
-}
-
-/// Of a start and the first of those before it, if there were any, the earlier one.
-fn first_start(high: Time33, first: Option<Time33>, start: Time33) -> Time33
-    ensures { result ≡ first_start high first start }
-{
-    match first {
-        None => start,
-        Some(first) => {
-            if start.signed_from(high) < first.signed_from(high) {
-                start
-            } else {
-                first
-            }
-        }
-    }
-}
-
-/// The report with each event more that is forgotten at this greatest time.
-fn with_forgotten(
-    report: SwitchReport,
-    table: &Table<Plan>,
-    high: Time33,
-    streams: &[Stream],
-    library: &AdLibrary,
-) -> SwitchReport
-    ensures { (latest : Option ℤ) (later : ℤ) (es : List Standing) (counts : Reported) →
-        StandsFor table.now latest es → CanAdvance (high_time_of table.now) high → IsTimeAt latest high later → ReportIs report counts →
-        ReportIs result (with_out (held library.now) streams.now table.now es later counts) }
-{
-    let mut counted = report;
-    for at in 0..table.standing().len() {
-        counted = with_one_forgotten(counted, table, at, high, streams, library);
-    }
-    counted
-}
-
-/// The report of the events before this place, with that at this place where it is forgotten at this greatest time.
-fn with_one_forgotten(
-    report: SwitchReport,
-    table: &Table<Plan>,
-    at: usize,
-    high: Time33,
-    streams: &[Stream],
-    library: &AdLibrary,
-) -> SwitchReport
-    requires { at < length table.now.entries.items }
-    ensures { (latest : Option ℤ) (later : ℤ) (es : List Standing) (counts : Reported) →
-        StandsFor table.now latest es → CanAdvance (high_time_of table.now) high → IsTimeAt latest high later →
-        ReportIs report (with_first_out (held library.now) streams.now table.now es at later counts) →
-        ReportIs result (with_first_out (held library.now) streams.now table.now es (at + 1) later counts) }
-{
-    let entry = table.standing()[at];
-    if !entry.event.is_forgotten_at(high) {
-        return report;
-    }
-    let fits = library.fits(entry.event.program, streams, entry.event.asked);
-    report.with_event(entry.event.cancelled, fits, entry.value.is_crossed)
-}
-
-/// The report with each event more that stands.
-fn with_all(
-    report: SwitchReport,
-    table: &Table<Plan>,
-    streams: &[Stream],
-    library: &AdLibrary,
-) -> SwitchReport
-    ensures { (latest : Option ℤ) (es : List Standing) (counts : Reported) → StandsFor table.now latest es →
-        ReportIs report counts →
-        ReportIs result (with_standing (held library.now) streams.now table.now es counts) }
-{
-    let mut counted = report;
-    for at in 0..table.standing().len() {
-        let entry = table.standing()[at];
-        let fits = library.fits(entry.event.program, streams, entry.event.asked);
-        counted = counted.with_event(entry.event.cancelled, fits, entry.value.is_crossed);
-    }
-    counted
 }

@@ -3,3 +3,4 @@ pub mod PlayLemmas
 pub mod PremiseLemmas
 pub mod NumberLemmas
 pub mod OutLemmas
+pub mod UnaskedLemmas

@@ -19,7 +19,7 @@ use Rattle.ad_library.specs.Advertisements.{Advertisement}
 use Rattle.splice_switch.specs.declared.switch.Switch.{Switch}
 use Rattle.splice_plans.specs.Switching.{switched_past, switched_at_packet, rest_at}
 use Rattle.splice_plans.specs.Adverts.{setting_of}
-use Rattle.splice_playing.specs.Relations.{PlaysFor}
+use Rattle.splice_playing.specs.Relations.{PlaysFor, unasked}
 
 -- The same counters go on: of each PID before the PAT, and of the map's PID behind it.
 abbrev pub GoOnAs : Option Listed → List (List ℕ) → List (List ℕ) → Type 0
@@ -40,6 +40,10 @@ pub record SwitchStandsFor (s : Switch) (c : Config) (filed : ℕ → Option Adv
   pub playing : PlaysFor s.playing (setting_of c filed) past
   pub numbers : Numbers s (listed (Some c.program) past) (switched_past (setting_of c filed) past)
   pub whole : s.is_spent ≡ false
+
+-- the same switch, of which it is open whether what was due of the advertisements that run is out
+abbrev pub switch_unasked : Switch → Switch
+switch_unasked s = record s { playing = unasked s.playing }
 
 -- Why a packet was not taken: what is wrong with it behind those before it, before anything was put; or the sink failed behind a front of
 -- what the packet puts.

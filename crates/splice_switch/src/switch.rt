@@ -11,7 +11,7 @@ ghost use Rattle.ad_library.specs.Library.{held};
 ghost use Rattle.splice_plans.specs.Adverts.{setting_of};
 ghost use Rattle.splice_plans.specs.Switching.{switched_at_packet, rest_at};
 ghost use Rattle.splice_plans.specs.Reporting.{ReportIs, report_of};
-ghost use Rattle.splice_switch.specs.Standing.{SwitchStandsFor, FeedFails, FinishFails};
+ghost use Rattle.splice_switch.specs.Standing.{SwitchStandsFor, switch_unasked, FeedFails, FinishFails};
 ghost use Rattle.outgoing_packets.specs.Faults.{FeedBlamed, KeepsSink, is_err_or};
 ghost use Rattle.splice_switch.specs.Standing.{IsFollowedAs, IsStart};
 
@@ -50,8 +50,16 @@ impl Switch {
         }
     }
 
+    /// Forgets that what was due of the advertisements that run is out: it was due by the library of that call, and another may make more due
+    /// at the same greatest time.
+    pub fn ask_anew(&mut self)
+        ensures { self.new ≡ switch_unasked self.old }
+    {
+        self.playing.ask_anew();
+    }
+
     /// Takes the next packet of the network, and puts the units of advertisements that go out before it, and then the packet, or what goes
-    /// out in its place. The library is to be the same at each call.
+    /// out in its place. What is due of the advertisements that run is asked for anew.
     ///
     /// # Errors
     ///
@@ -59,6 +67,47 @@ impl Switch {
     /// front of what the packet puts. `Failed` once a fault was answered, or after [`Switch::finish`].
     #[inline(always)]
     pub fn feed<S: PacketSink>(
+        &mut self,
+        packet: &Packet,
+        library: &AdLibrary,
+        sink: &mut S,
+    ) -> Result<(), FeedFault>
+        ensures leads { S.leads sink.old sink.new }
+        ensures ok { (start : Option (List ℕ)) (ps : List (List ℕ)) (c : Config) (past : List (List ℕ)) →
+            S.holds sink.old start ps → SwitchStandsFor (switch_unasked self.old) c (held library.now) past →
+            OnOk result (S.holds sink.new start (ps ++ switched_at_packet (setting_of c (held library.now)) packet.now past)) }
+        ensures stands { (c : Config) (past : List (List ℕ)) →
+            SwitchStandsFor (switch_unasked self.old) c (held library.now) past →
+            OnOk result (SwitchStandsFor self.new c (held library.now) (packet.now ∷ past)) }
+        ensures sound { (c : Config) (past : List (List ℕ)) →
+            SwitchStandsFor (switch_unasked self.old) c (held library.now) past →
+            OnOk result (network_fault (reading_cues c) packet.now past ≡ None) }
+        ensures err { (start : Option (List ℕ)) (ps : List (List ℕ)) (c : Config) (past : List (List ℕ)) →
+            S.holds sink.old start ps → SwitchStandsFor (switch_unasked self.old) c (held library.now) past →
+            IfErr result (λ f. FeedFails f c (held library.now) packet.now past
+            (λ put q x. S.fails sink.new start (ps ++ put) q x)) }
+        ensures well { OnOk result (WentWell (S.counts sink.old) (S.counts sink.new)) }
+        ensures blamed { IfErr result (λ f. FeedBlamed f (S.counts sink.old) (S.counts sink.new) (S.is_full sink.new)) }
+        ensures kept { IfErr result (λ f. KeepsSink f sink.old sink.new) }
+        ensures failed { self.old.is_spent ≡ true → result ≡ Err FeedFault.Failed }
+        ensures spent { self.new.is_spent ≡ is_err_or result self.old.is_spent }
+        ensures unchanged { self.old.is_spent ≡ true → self.new ≡ self.old }
+    {
+        if self.is_spent {
+            return Err(FeedFault::Failed);
+        }
+        self.ask_anew();
+        self.feed_with_same(packet, library, sink)
+    }
+
+    /// As [`Switch::feed`], where the library is that of the calls before: what is due of the advertisements that run is asked for once for
+    /// each greatest time.
+    ///
+    /// # Errors
+    ///
+    /// As for [`Switch::feed`].
+    #[inline(always)]
+    pub fn feed_with_same<S: PacketSink>(
         &mut self,
         packet: &Packet,
         library: &AdLibrary,

@@ -8,7 +8,7 @@ use Rattle.splice_plans.specs.Adverts.{adverts_of}
 use Rattle.splice_plans.specs.Parts.{beside}
 use Rattle.splice_plans.specs.Reporting.{ReportIs, with_counted, is_any}
 use Rattle.splice_playing.proofs.ReportLemmas.{one-more, one-same, all-pairs, in-pairs, pair, event-is, value-is}
-use Rattle.splice_playing.proofs.playing.with_all.Goals as goal
+use Rattle.splice_playing.proofs.forgetting.with_all.Goals as goal
 
 pub loop-at-preserved : goal.loop-at-preserved
 loop-at-preserved c = λ latest es counts s before.

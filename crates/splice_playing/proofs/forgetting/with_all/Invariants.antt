@@ -6,7 +6,7 @@ use Rattle.ad_library.specs.Library.{held}
 use Rattle.splice_plans.specs.Adverts.{adverts_of}
 use Rattle.splice_plans.specs.Parts.{beside}
 use Rattle.splice_plans.specs.Reporting.{EventCounts, ReportIs, with_counted, is_any}
-use Rattle.splice_playing.proofs.playing.with_all.Given as goal
+use Rattle.splice_playing.proofs.forgetting.with_all.Given as goal
 
 -- the events up to here are counted
 abbrev pub invariant-loop-at : goal.invariant-loop-at

@@ -3,7 +3,7 @@ use Rattle.ad_library.specs.Library.{held}
 use Rattle.splice_plans.specs.Adverts.{adverts_of}
 use Rattle.splice_plans.specs.Reporting.{ReportIs, with_counted, is_out_at}
 use Rattle.splice_playing.proofs.ReportLemmas.{all-pairs}
-use Rattle.splice_playing.proofs.playing.with_forgotten.Goals as goal
+use Rattle.splice_playing.proofs.forgetting.with_forgotten.Goals as goal
 
 pub loop-at-preserved : goal.loop-at-preserved
 loop-at-preserved c = λ latest later es counts s can is before.

@@ -8,7 +8,7 @@ use Rattle.splice_plans.specs.Adverts.{adverts_of}
 use Rattle.splice_plans.specs.Parts.{beside}
 use Rattle.splice_plans.specs.Reporting.{ReportIs, is_out_at}
 use Rattle.splice_playing.proofs.ReportLemmas.{one-more, none-more, one-same, in-pairs, event-is, value-is, out-is}
-use Rattle.splice_playing.proofs.playing.with_one_forgotten.Goals as goal
+use Rattle.splice_playing.proofs.forgetting.with_one_forgotten.Goals as goal
 
 pub returns-then-not-is_forgotten_at : goal.returns-then-not-is_forgotten_at
 returns-then-not-is_forgotten_at c = λ latest later es counts s can is before.

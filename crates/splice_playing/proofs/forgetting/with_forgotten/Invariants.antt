@@ -7,7 +7,7 @@ use Rattle.ad_library.specs.Library.{held}
 use Rattle.splice_plans.specs.Adverts.{adverts_of}
 use Rattle.splice_plans.specs.Parts.{beside}
 use Rattle.splice_plans.specs.Reporting.{EventCounts, ReportIs, with_counted, is_out_at}
-use Rattle.splice_playing.proofs.playing.with_forgotten.Given as goal
+use Rattle.splice_playing.proofs.forgetting.with_forgotten.Given as goal
 
 -- those of the events up to here that are forgotten are counted
 abbrev pub invariant-loop-at : goal.invariant-loop-at
