@@ -18,7 +18,7 @@ use Rattle.psi_tables.specs.declared.network.NetworkFault.{NetworkFault}
 use Rattle.psi_tables.specs.declared.network.NetworkFault.TheVariants as network_faults
 use Rattle.program_follower.specs.Faults.{network_fault}
 use Rattle.program_follower.specs.Program.{Program, program_of}
-use Rattle.program_follower.proofs.RunLemmas.{ends_sound, reader_stops, packet_stops}
+use Rattle.ts_packet.proofs.StoppedLemmas.{ends_sound, reader_stops, packet_stops}
 use Rattle.ts_packet.specs.Sources.{ReadOn, HasGiven, RunBlamed}
 use Rattle.ts_packet.proofs.RunBlameLemmas.{on-told, read_blamed}
 use Rattle.ad_library.specs.declared.fault.AdFault.{AdFault}

@@ -16,7 +16,7 @@ use Rattle.program_follower.specs.Purposes.{reading_advertisement}
 use Rattle.program_follower.specs.Faults.{network_fault}
 use Rattle.program_follower.specs.FirstFault.{network_test}
 use Rattle.program_follower.specs.Following.{FollowerStandsFor, IsNetwork}
-use Rattle.program_follower.proofs.RunLemmas.{ends_sound, reader_stops, packet_stops}
+use Rattle.ts_packet.proofs.StoppedLemmas.{ends_sound, reader_stops, packet_stops}
 use Rattle.follow_speed.specs.declared.RunFault.TheVariants.{Read, Follow}
 use Rattle.follow_speed.specs.Runs.{of_network, HasNoFault, Stops, HasFollowed}
 

@@ -9,6 +9,5 @@ pub mod FollowLemmas
 pub mod ElsewhereLemmas
 mod UseLemmas
 pub mod PieceLemmas
-pub mod RunLemmas
 mod StillLemmas
 mod FaultlessMapLemmas

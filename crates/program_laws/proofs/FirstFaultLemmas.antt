@@ -16,7 +16,7 @@ use Rattle.program_follower.specs.declared.purpose.Purpose.{Purpose}
 use Rattle.program_follower.specs.Faults.{network_fault, first_fault}
 use Rattle.program_follower.specs.FirstFault.{network_test}
 use Rattle.program_follower.proofs.OptionLemmas.{none_both}
-use Rattle.program_follower.proofs.RunLemmas.{by_parts}
+use Rattle.ts_packet.proofs.StoppedLemmas.{by_parts}
 use Rattle.program_laws.specs.FirstFault.{BytesFault, OfReader, OfNetwork, fault_of_bytes, fault_of_part, ArePacketsLong, OneMorePacket, FewMoreBytes, FaultlessBytes}
 
 or_then-assoc : {A : Type 0} (x y z : Option A) → or_then (or_then x y) z ≡ or_then x (or_then y z)

@@ -12,6 +12,7 @@ pub mod RunLemmas
 pub mod RunBlameLemmas
 pub mod Renumbered
 pub mod FirstFaultLemmas
+pub mod StoppedLemmas
 pub mod FillingLemmas
 pub mod EqualLemmas
 pub mod MembershipLemmas

@@ -11,3 +11,4 @@ pub mod Clock
 pub mod FirstFault
 pub mod Filling
 pub mod Membership
+pub mod Gathering

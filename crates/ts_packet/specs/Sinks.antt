@@ -47,3 +47,7 @@ HasWritten broken known start ps = (broken ≡ false) × Written known start ps
 -- one whose put of this packet failed so, behind these
 abbrev pub HasFailed : Bool → PutFault → Option (List ℕ) → Option (List ℕ) → List (List ℕ) → List ℕ → Type 0
 HasFailed broken fault known start ps p = (broken ≡ true) × (fault ≢ Failed) × FailsToWrite known start ps p
+
+-- one that could not send what it kept back of these: its device holds them all, and a front of them is out
+abbrev pub HasFailedToSend : Bool → PutFault → Option (List ℕ) → Option (List ℕ) → List (List ℕ) → Type 0
+HasFailedToSend broken fault known start ps = (broken ≡ true) × (fault ≢ Failed) × Written known start ps

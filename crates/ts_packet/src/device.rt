@@ -6,8 +6,10 @@ ghost use Rattle.std.specs.Io.KnownBytes.{ReadConsumes, WriteAppends};
 ghost use Rattle.std.specs.IoError.{error_kind};
 ghost use Rattle.ts_packet.specs.Transfers.{IsCounted, CountsFailure, CountsZero, halts};
 
+use crate::gathering::GatheringTarget;
+use crate::pausing::PausingSource;
 use crate::tally::Tally;
-use std::io::{self, BufRead, BufReader, BufWriter, ErrorKind, Read};
+use std::io::{self, BufRead, BufReader, BufWriter, ErrorKind, Read, Write};
 use thiserror::Error;
 
 /// Why a call of a device gave nothing.
@@ -156,23 +158,49 @@ impl<R: Read> Source for Device<R> {
     }
 }
 
+impl<R: Read> PausingSource for Device<R> {
+    ghost use Rattle.std.specs.Prelude.{true};
+
+    ghost may_wait = { λ d count. true };
+
+    fn may_wait(&self, _count: usize) -> bool {
+        true
+    }
+}
+
 /// A buffered reader of std, with its counts. The bytes that its buffer holds lie ready.
 #[derive(Drop)]
 pub struct Buffered<R: Read> {
     device: Device<BufReader<R>>,
+    /// The reader never waits for more, as a file does not.
+    is_steady: bool,
 }
 
 impl<R: Read> Buffered<R> {
-    ghost use Rattle.std.specs.Prelude.{◌≡◌};
+    ghost use Rattle.std.specs.Prelude.{◌≡◌, true, false};
     ghost use Rattle.ts_packet.specs.Transfers.{no_tally};
 
-    /// The device over this reader, with no call made.
+    /// The device over this reader, which may pause, with no call made.
     pub fn new(reader: BufReader<R>) -> Buffered<R>
         ensures inner { result.device.inner ≡ reader }
         ensures tally { result.device.tally ≡ no_tally }
+        ensures pauses { result.is_steady ≡ false }
     {
         Buffered {
             device: Device::new(reader),
+            is_steady: false,
+        }
+    }
+
+    /// The device over this reader, which never waits for more, as a file does not, with no call made.
+    pub fn steady(reader: BufReader<R>) -> Buffered<R>
+        ensures inner { result.device.inner ≡ reader }
+        ensures tally { result.device.tally ≡ no_tally }
+        ensures steady { result.is_steady ≡ true }
+    {
+        Buffered {
+            device: Device::new(reader),
+            is_steady: true,
         }
     }
 
@@ -180,7 +208,10 @@ impl<R: Read> Buffered<R> {
     pub fn into_inner(self) -> BufReader<R>
         ensures { result ≡ self.device.inner }
     {
-        let Buffered { device } = self;
+        let Buffered {
+            device,
+            is_steady: _,
+        } = self;
         device.into_inner()
     }
 }
@@ -217,6 +248,18 @@ impl<R: Read> Source for Buffered<R> {
     }
 }
 
+impl<R: Read> PausingSource for Buffered<R> {
+    ghost use Rattle.std.specs.Prelude.{length, nat_lt, not, ◌&&◌};
+    ghost use Rattle.std.specs.Io.Buffered.{reader_buffer};
+
+    ghost may_wait = { λ b count. not b.is_steady && nat_lt (length (reader_buffer b.device.inner)) count };
+
+    #[inline(always)]
+    fn may_wait(&self, count: usize) -> bool {
+        !self.is_steady && self.device.inner.buffer().len() < count
+    }
+}
+
 impl<W: io::Write> Target for Device<W> {
     ghost contents = { λ d. W.contents d.inner };
 
@@ -227,6 +270,22 @@ impl<W: io::Write> Target for Device<W> {
         let answer = answer_of(&self.inner.write(buf));
         self.tally.count(&answer);
         answer
+    }
+}
+
+impl<W: io::Write> GatheringTarget for Device<W> {
+    ghost use Rattle.std.specs.Prelude.{[]};
+    ghost use Rattle.ts_packet.specs.Gathering.{appends-none};
+
+    ghost sent = { λ d. W.contents d.inner };
+
+    ghost gathered = { λ d. [] };
+
+    ghost parts = { λ d. appends-none (W.contents d.inner) };
+
+    /// Keeps nothing back.
+    fn send(&mut self) -> bool {
+        true
     }
 }
 
@@ -273,6 +332,30 @@ impl<W: io::Write + Drop> Target for Blocks<W> {
             return self.device.write(buf);
         }
         write_apart(&mut self.device, buf)
+    }
+}
+
+impl<W: io::Write + Drop> GatheringTarget for Blocks<W> {
+    ghost use Rattle.std.specs.Io.Buffered.{writer_buffer};
+    ghost use Rattle.std.proofs.Common.{refl};
+
+    ghost sent = { λ b. W.contents b.device.inner.inner };
+
+    ghost gathered = { λ b. writer_buffer b.device.inner };
+
+    ghost parts = { λ b. refl };
+
+    /// Empties the buffer and flushes the writer below it, where the buffer holds something. A failure counts as a call that failed, and
+    /// nothing else counts.
+    fn send(&mut self) -> bool {
+        if self.device.inner.buffer().is_empty() {
+            return true;
+        }
+        if self.device.inner.flush().is_ok() {
+            return true;
+        }
+        self.device.tally.count(&Err(DeviceFault::Failed));
+        false
     }
 }
 

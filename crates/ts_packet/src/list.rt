@@ -2,6 +2,7 @@
 
 ghost use Rattle.std.specs.Prelude.{◌≤◌, vec_len, vec_capacity};
 
+use crate::gathering::GatheringSink;
 use crate::packet::Packet;
 use crate::sink::{PacketSink, PutFault};
 use std::alloc::{AllocError, Allocator, Global};
@@ -113,5 +114,22 @@ impl<A: Allocator> PacketSink for PacketList<A> {
         }
         self.is_broken = true;
         Err(PutFault::Stuck)
+    }
+}
+
+impl<A: Allocator> GatheringSink for PacketList<A> {
+    ghost use Rattle.std.specs.Prelude.{⊤};
+    ghost use Rattle.ts_packet.specs.declared.sink.PutFault.TheVariants.{Failed};
+
+    ghost has_sent = { λ l. ⊤ };
+
+    ghost fails_to_send = { λ l start ps f. ⊥ };
+
+    /// Keeps nothing back.
+    fn send(&mut self) -> Result<(), PutFault> {
+        if self.is_broken {
+            return Err(PutFault::Failed);
+        }
+        Ok(())
     }
 }

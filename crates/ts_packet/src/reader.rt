@@ -6,6 +6,7 @@ ghost use Rattle.ts_packet.specs.Sinks.{Later};
 
 use crate::device::Source;
 use crate::packet::{Packet, PacketFault};
+use crate::pausing::{PausingPackets, PausingSource};
 use crate::source::PacketSource;
 use crate::transfer::FillFault;
 use thiserror::Error;
@@ -186,5 +187,14 @@ impl<S: Source> PacketSource for PacketReader<'_, S> {
     #[tactic(auto, using(crate::proofs::CountLemmas::source_counts, crate::proofs::CountLemmas::source_blamed))]
     fn read_packet(&mut self, packet: &mut Packet) -> Result<bool, ReadFault> {
         self.read_into(packet)
+    }
+}
+
+impl<S: PausingSource> PausingPackets for PacketReader<'_, S> {
+    ghost next_may_wait = { λ r. S.may_wait r.source.now 188 };
+
+    #[inline(always)]
+    fn next_may_wait(&self) -> bool {
+        self.source.may_wait(188)
     }
 }

@@ -1,6 +1,7 @@
 //! Packets to a device.
 
 use crate::device::Target;
+use crate::gathering::{GatheringSink, GatheringTarget};
 use crate::packet::Packet;
 use crate::sink::{PacketSink, PutFault};
 use crate::transfer::write_whole;
@@ -84,6 +85,25 @@ impl<W: Target> PacketSink for PacketWriter<'_, W> {
                 self.is_broken = true;
                 Err(fault)
             }
+        }
+    }
+}
+
+impl<W: GatheringTarget> GatheringSink for PacketWriter<'_, W> {
+    ghost use Rattle.std.specs.Prelude.{[], ◌≡◌};
+    ghost use Rattle.ts_packet.specs.Sinks.{HasFailedToSend};
+
+    ghost has_sent = { λ w. W.gathered w.target.now ≡ [] };
+
+    ghost fails_to_send = { λ w start ps f. HasFailedToSend w.is_broken f (W.contents w.target.now) start ps };
+
+    fn send(&mut self) -> Result<(), PutFault> {
+        let has_failed = self.is_broken;
+        self.is_broken = has_failed || !self.target.send();
+        match self.is_broken {
+            false => Ok(()),
+            true if has_failed => Err(PutFault::Failed),
+            true => Err(PutFault::Io),
         }
     }
 }
