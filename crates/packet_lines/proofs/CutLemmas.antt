@@ -13,7 +13,7 @@ use Rattle.ts_packet.specs.Sources.{HasRead, Stalled, Exhausted}
 use Rattle.ts_packet.specs.Transfers.{FallsShort}
 use Rattle.ts_packet.proofs.CountLemmas.{by_end}
 use Rattle.packet_lines.specs.Texts.{bytes_told, WrittenLines, FailsToWriteLine}
-use Rattle.packet_lines.specs.CutLines.{LineFails, LineStalls, LinesRunOut, LineBlamed}
+use Rattle.packet_lines.specs.CutLines.{LineFails, LinesUnsent, LineStalls, LinesRunOut, LineBlamed}
 
 -- nothing was written at first
 pub lines_none : (start : Option (List ℕ)) → WrittenLines start start []
@@ -27,10 +27,11 @@ module _ (pid from len : ℕ) (input start out : Option (List ℕ)) (broken : Bo
 
   pub stops_lines : (fault : CutFault)
       → Stops fault pid from len input (λ ps. (broken ≡ false) × WrittenLines out start ps) (λ ps p f. (broken ≡ true) × (f ≢ Failed) × FailsToWriteLine out start ps p)
-      → Stops fault pid from len input (WrittenLines out start) (LineFails out start)
+      (λ ps f. (broken ≡ true) × (f ≢ Failed) × WrittenLines out start ps)
+      → Stops fault pid from len input (WrittenLines out start) (LineFails out start) (LinesUnsent out start)
   stops_lines fault h =
       stops_so (λ ps. (broken ≡ false) × WrittenLines out start ps) (WrittenLines out start) (λ ps p f. (broken ≡ true) × (f ≢ Failed) × FailsToWriteLine out start ps p) (LineFails out start)
-      (λ ps k. k.1) (λ ps p f k. (k.1, k.2)) fault pid from len input h
+      (λ ps f. (broken ≡ true) × (f ≢ Failed) × WrittenLines out start ps) (LinesUnsent out start) (λ ps k. k.1) (λ ps p f k. (k.1, k.2)) (λ ps f k. (k.1, k.2)) fault pid from len input h
 
 -- what a reader of lines did, its device did
 module _ {R D : Type 0} (device : R → D) (remaining : D → Option (List ℕ)) (counts : D → Tally) (leads : R → R → Type 0) (left : R → Option (List ℕ)) (given : R → ℕ) (first now : R) where
@@ -40,7 +41,7 @@ module _ {R D : Type 0} (device : R → D) (remaining : D → Option (List ℕ))
   line_turns e n (inl (at, l, w, t, s)) = inl (device at, w, t, s)
   line_turns e n (inr (rest, ps, h, k)) = inr (rest, ps, subst (λ l. HasRead l rest ps) e h, omega (arith, n, k))
 
-  pub line_blamed : (fault : CutFault) (ended : Bool) → NetworkBlamed fault ended (counts (device first)) (counts (device now))
+  pub line_blamed : (fault : CutFault) (ended : Bool) → NetworkBlamed fault false ended (counts (device first)) (counts (device now))
       → left first ≡ option_map bytes_told (remaining (device first)) → given first ≡ 0
       → (fault ≡ Read read_faults.Turns
       → Stalled leads (λ r. counts (device r)) (λ r s. FallsShort 377 (remaining (device r)) (remaining (device s))) first now ⊎ Exhausted left given first)

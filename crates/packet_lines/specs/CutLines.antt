@@ -28,11 +28,16 @@ cut_fault_of (Cut fault) = fault
 abbrev pub LineFails : Option (List ℕ) → Option (List ℕ) → List (List ℕ) → List ℕ → PutFault → Type 0
 LineFails out start ps p fault = (fault ≢ Failed) × FailsToWriteLine out start ps p
 
+-- the output holds whole lines, and sending those of them that it kept back failed
+abbrev pub LinesUnsent : Option (List ℕ) → Option (List ℕ) → List (List ℕ) → PutFault → Type 0
+LinesUnsent out start ps fault = (fault ≢ Failed) × WrittenLines out start ps
+
 -- THE THEOREM FOR FAULTS: a bad line, or the fault of a packet, is the first fault of the text, and the lines of the cut of all before
--- it are out; after a device's fault a front of the lines of the cut is out, and a part of a line only where a write failed in it
+-- it are out; after a device's fault a front of the lines of the cut is out, and a part of a line only where a write failed in it, or
+-- where lines that the output kept back were not sent. What it keeps back is among what it holds.
 abbrev pub StopsLines : LinesFault → ℕ → ℕ → ℕ → Option (List ℕ) → Option (List ℕ) → Option (List ℕ) → Type 0
 StopsLines fault pid from length input start out = (fault ≢ Cut (Read read_faults.Truncated))
-    × Stops (cut_fault_of fault) pid from length (option_map bytes_told input) (WrittenLines out start) (LineFails out start)
+    × Stops (cut_fault_of fault) pid from length (option_map bytes_told input) (WrittenLines out start) (LineFails out start) (LinesUnsent out start)
 
 -- ---- what the devices did
 

@@ -56,3 +56,7 @@ HasWrittenLines broken known start ps = (broken ≡ false) × WrittenLines known
 -- one whose put of this packet failed so, behind these
 abbrev pub HasFailedInLine : Bool → PutFault → Option (List ℕ) → Option (List ℕ) → List (List ℕ) → List ℕ → Type 0
 HasFailedInLine broken fault known start ps p = (broken ≡ true) × (fault ≢ Failed) × FailsToWriteLine known start ps p
+
+-- one that could not send what it kept back of these: its device holds all their lines, and a front of them is out
+abbrev pub HasFailedToSendLines : Bool → PutFault → Option (List ℕ) → Option (List ℕ) → List (List ℕ) → Type 0
+HasFailedToSendLines broken fault known start ps = (broken ≡ true) × (fault ≢ Failed) × WrittenLines known start ps

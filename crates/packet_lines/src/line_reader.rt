@@ -5,7 +5,9 @@ ghost use Rattle.packet_lines.specs.Texts.{packet_in, judged, is_sized};
 
 use hex_digits::bytes_at_once;
 use ts_packet::transfer::{FillFault, fill};
-use ts_packet::{Packet, PacketFault, PacketSource, ReadFault, Source};
+use ts_packet::{
+    Packet, PacketFault, PacketSource, PausingPackets, PausingSource, ReadFault, Source,
+};
 
 /// The digits of one line.
 pub(crate) const LINE_DIGITS: usize = 376;
@@ -130,5 +132,15 @@ impl<S: Source> PacketSource for LineReader<'_, S> {
             Err(FillFault::Io) => Err(ReadFault::Io),
             Err(FillFault::Turns) => Err(ReadFault::Turns),
         }
+    }
+}
+
+impl<S: PausingSource> PausingPackets for LineReader<'_, S> {
+    ghost use Rattle.std.specs.Prelude.{not, ◌&&◌};
+
+    ghost next_may_wait = { λ r. not r.has_ended && S.may_wait r.source.now 377 };
+
+    fn next_may_wait(&self) -> bool {
+        !self.has_ended && self.source.may_wait(LINE_SIZE)
     }
 }

@@ -6,7 +6,7 @@ ghost use Rattle.packet_lines.specs.Lines.{line_of};
 use crate::line_reader::{LINE_DIGITS, LINE_END};
 use hex_digits::spell;
 use ts_packet::transfer::write_whole;
-use ts_packet::{Packet, PacketSink, PutFault, Target};
+use ts_packet::{GatheringSink, GatheringTarget, Packet, PacketSink, PutFault, Target};
 
 /// Spells a packet's line: its digits and the line's end.
 fn spell_line(line: &mut [u8; 377], packet: &[u8; 188])
@@ -102,6 +102,25 @@ impl<W: Target> PacketSink for LineWriter<'_, W> {
                 Ok(())
             }
             Err(fault) => Err(fault),
+        }
+    }
+}
+
+impl<W: GatheringTarget> GatheringSink for LineWriter<'_, W> {
+    ghost use Rattle.std.specs.Prelude.{[], ◌≡◌};
+    ghost use Rattle.packet_lines.specs.Texts.{HasFailedToSendLines};
+
+    ghost has_sent = { λ w. W.gathered w.target.now ≡ [] };
+
+    ghost fails_to_send = { λ w start ps f. HasFailedToSendLines w.is_broken f (W.contents w.target.now) start ps };
+
+    fn send(&mut self) -> Result<(), PutFault> {
+        let has_failed = self.is_broken;
+        self.is_broken = has_failed || !self.target.send();
+        match self.is_broken {
+            false => Ok(()),
+            true if has_failed => Err(PutFault::Failed),
+            true => Err(PutFault::Io),
         }
     }
 }

@@ -9,7 +9,7 @@ use crate::line_reader::LineReader;
 use crate::line_writer::LineWriter;
 use pes_time::Time33;
 use thiserror::Error;
-use ts_packet::{Pid, ReadFault, Source, Target};
+use ts_packet::{GatheringTarget, PausingSource, Pid, ReadFault};
 use unit_cut::{CutFault, cut};
 
 /// Why a cut over lines stopped. Lines that went out before it stand.
@@ -41,13 +41,13 @@ impl LinesFault {
 }
 
 /// `cut` over lines: reads packets as lines of 376 upper case hexadecimal digits from `input`, and writes what stays as such lines
-/// to `output`. Neither is buffered here, and the output is not flushed.
+/// to `output`. What the output keeps back is sent before each read that may wait, and at the end it is the caller's to send.
 ///
 /// # Errors
 ///
 /// The first line that is no packet's, or the first fault of the packets, once the lines of the cut of all before it are out; or a
-/// device's fault. A part of a line is out only where a write failed in the middle of it.
-pub fn cut_lines<S: Source, W: Target>(
+/// device's fault. A part of a line is out only where a write failed in the middle of it, or where what the output kept back was not sent.
+pub fn cut_lines<S: PausingSource, W: GatheringTarget>(
     input: &mut S,
     output: &mut W,
     pid: Pid,

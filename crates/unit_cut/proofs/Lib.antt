@@ -13,4 +13,3 @@ pub mod PassLemmas
 pub mod GrowLemmas
 pub mod RunLemmas
 pub mod StopLemmas
-pub mod BlameLemmas

@@ -1,26 +1,23 @@
--- A whole run of a cut, from its first packet to its end or its fault.
-use Rattle.std.specs.Prelude.{ℤ, IfSome, All}
+-- A cut on its way, packet by packet, and what is out of it behind a front of the packets.
+use Rattle.std.specs.Prelude.{ℤ, IfSome, Result, Ok, Err, OnOk, Bool, true, false, if◌then◌else◌}
 use Rattle.std.proofs.Common.{◌≡◌, ℕ, List, [], ◌∷◌, ◌++◌, refl, sym, ap, ◌∙◌, subst, Option, None, Some, reverse, append_assoc}
 use Rattle.std.proofs.lemmas.List.{reverse-append}
-use Rattle.std.proofs.lemmas.List.Elements.{All-nil}
-use Rattle.ts_packet.specs.Runs.{seen_after}
-use Rattle.std.specs.Io.KnownBytes.{IsAtEnd}
 use Rattle.pes_time.specs.Line.{lift}
-use Rattle.ts_packet.specs.Packets.{packets_of, last_part, packet_fault}
-use Rattle.ts_packet.specs.Sources.{HasRead}
-use Rattle.ts_packet.proofs.PacketsLemmas.{read_to_end}
+use Rattle.ts_packet.specs.Fields.{payload_on}
+use Rattle.ts_packet.specs.Following.{kept_after}
+use Rattle.ts_packet.specs.Packets.{packets_of}
+use Rattle.packet_runs.specs.Stages.{kept_by}
+use Rattle.unit_stream.specs.Fates.{steps, numbered}
 use Rattle.unit_stream.specs.Times.{first_time}
 use Rattle.unit_stream.specs.Faults.{unit_fault}
+use Rattle.unit_stream.specs.declared.fault.UnitFault.{UnitFault}
 use Rattle.unit_cut.specs.Cutting.{cut_between, begin_of}
-use Rattle.unit_cut.specs.Standing.{Cut, CutterStandsFor, Begins}
-use Rattle.ts_packet.specs.FirstFault.{or_then, first_of, fault_behind}
-use Rattle.ts_packet.proofs.FirstFaultLemmas.{sound_all, sound_more}
-use Rattle.unit_cut.specs.FirstFault.{first_fault, fault_at, cut_test, as_unit_fault}
-use Rattle.unit_cut.specs.declared.run.CutFault.TheVariants.{Read}
-use Rattle.unit_cut.specs.Runs.{CutsAll, FrontIsOut, NextFails, AreAllSound, IsCutOf, cut_by, HasPassed}
+use Rattle.unit_cut.specs.Standing.{Cut, CutterStandsFor, CutAnswers, Begins, goes_by}
+use Rattle.unit_cut.specs.Runs.{FrontIsOut, NextFails, IsCutOf, cut_by, HasCut, AddsOne, cut_of}
 use Rattle.unit_cut.specs.declared.cutter.Cutter.{Cutter}
 use Rattle.unit_cut.proofs.GrowLemmas.{between_grows}
 use Rattle.unit_cut.proofs.CutterLemmas.{begins_before}
+use Rattle.unit_cut.proofs.PassLemmas.{cut_kept, cut_dropped}
 
 -- ---- the cut of these packets
 
@@ -44,50 +41,81 @@ cut_of_fewer k pid from len ps p h =
     let b : Begins k (p ∷ reverse ps) = subst (Begins k) (reverse-snoc ps p) h.begins in
     (b, record { pid_is = h.pid_is; from_is = h.from_is; length_is = h.length_is; begins = begins_before k p (reverse ps) b })
 
--- ---- the loop
+-- ---- packet by packet
 
-pub passed_none : (is_out : List (List ℕ) → Type 0) (cutter : Cutter) (kept : List ℕ) (pid from len : ℕ) → is_out []
-    → ((k : Cut) → k.pid ≡ pid → k.from ≡ from → k.length ≡ len → CutterStandsFor cutter kept k [])
-    → HasPassed is_out cutter kept pid from len []
-passed_none is_out cutter kept pid from len w h = record {
-  sound = All-nil _;
-  passed = λ k i. (h k i.pid_is i.from_is i.length_is, w);
-}
+-- the begin
+pub cut_none : (cutter : Cutter) (pid from len : ℕ) → ((kept : List ℕ) (k : Cut) → k.pid ≡ pid → k.from ≡ from → k.length ≡ len → CutterStandsFor cutter kept k [])
+    → (cutter.pid ≡ pid) × (cutter.timing.from ≡ from) × (cutter.timing.length ≡ len) × ((kept : List ℕ) → HasCut cutter [] [] kept cutter)
+cut_none cutter pid from len h =
+    let at = h [] (the_cut pid from len []) refl refl refl in
+    (at.same, at.timing.from, at.timing.length, λ kept k i. (h kept k (i.pid_is ∙ at.same) (i.from_is ∙ at.timing.from) (i.length_is ∙ at.timing.length), refl))
 
-pub passed_more : (is_out is_out' : List (List ℕ) → Type 0) (cutter cutter' : Cutter) (kept kept' : List ℕ) (pid from len : ℕ) (ps : List (List ℕ)) (p : List ℕ)
-    → HasPassed is_out cutter kept pid from len ps
-    → ((k : Cut) → Begins k (p ∷ reverse ps) → CutterStandsFor cutter kept k (reverse ps) → is_out (cut_by k ps)
-    → (unit_fault (k.pid ∷ []) p (reverse ps) ≡ None) × CutterStandsFor cutter' kept' k (p ∷ reverse ps) × is_out' (cut_by k (ps ++ p ∷ [])))
-    → HasPassed is_out' cutter' kept' pid from len (ps ++ p ∷ [])
-passed_more is_out is_out' cutter cutter' kept kept' pid from len ps p h pass =
-    let k0 = the_cut pid from len (ps ++ p ∷ []) in
-    let (b0, i0) = cut_of_fewer k0 pid from len ps p (is_the_cut pid from len (ps ++ p ∷ [])) in
-    let at0 = h.passed k0 i0 in
-    let one = pass k0 b0 at0.0 at0.1 in
-    record {
-      sound = sound_more (cut_test pid) ps p h.sound (ap as_unit_fault one.0);
-      passed = λ k i.
-          let (b, j) = cut_of_fewer k pid from len ps p i in
-          let at = h.passed k j in
-          let more = pass k b at.0 at.1 in
-          (subst (CutterStandsFor cutter' kept' k) (sym (reverse-snoc ps p)) more.1, more.2);
-    }
+module _ (first old now : Cutter) (ps stay : List (List ℕ)) (p q kept : List ℕ) (h : HasCut first ps stay kept old) where
+  -- what a cutter answers to one packet more, and stands for then
+  abbrev pub Fed : Result Bool UnitFault → Type 0
+  Fed answer = (k : Cut) → Begins k (p ∷ reverse ps) → CutterStandsFor old kept k (reverse ps)
+      → CutAnswers k p (reverse ps) answer q × OnOk answer (CutterStandsFor now (kept_after k.pid p q kept) k (p ∷ reverse ps))
 
--- ---- the end
+  abbrev now_cut : Cut
+  now_cut = the_cut first.pid first.timing.from first.timing.length (ps ++ p ∷ [])
 
-cuts_all : (bs : List ℕ) (is_out : List (List ℕ) → Type 0) (pid from len : ℕ) (ps : List (List ℕ)) → packets_of bs ≡ ps → last_part bs ≡ [] → All (λ p. packet_fault p ≡ None) ps → AreAllSound pid ps
-    → is_out (cut_between from len pid ps) → (first_fault pid bs ≡ None) × is_out (cut_between from len pid (packets_of bs))
-cuts_all bs is_out pid from len ps e l a b w =
-    let all = sound_all Read (cut_test pid) ps a b in
-    let f : first_fault pid bs ≡ or_then (first_of (fault_at pid) (seen_after [] ps)) (fault_behind Read []) = ap (λ q. or_then (first_of (fault_at pid) (seen_after [] q)) (fault_behind Read (last_part bs))) e ∙ ap (λ q. or_then (first_of (fault_at pid) (seen_after [] ps)) (fault_behind Read q)) l in
-    (f ∙ ap (λ q. or_then q (fault_behind Read [])) all.0, subst (λ q. is_out (cut_between from len pid q)) (sym e) w)
+  at_cut : (answer : Result Bool UnitFault) → Fed answer → (k : Cut) → IsCutOf k first.pid first.timing.from first.timing.length (ps ++ p ∷ [])
+      → CutAnswers k p (reverse ps) answer q × OnOk answer (CutterStandsFor now (kept_after k.pid p q kept) k (p ∷ reverse ps)) × (stay ≡ cut_by k ps) × (old.pid ≡ k.pid)
+  at_cut answer f k i =
+      let (b, j) = cut_of_fewer k first.pid first.timing.from first.timing.length ps p i in
+      let at = h k j in
+      let one = f k b at.0 in
+      (one.0, one.1, at.1, at.0.same)
 
-pub ends : (input left : Option (List ℕ)) (is_out : List (List ℕ) → Type 0) (cutter : Cutter) (kept : List ℕ) (pid from len : ℕ) (ps : List (List ℕ))
-    → HasRead input left ps → HasPassed is_out cutter kept pid from len ps → IsAtEnd left → CutsAll pid from len input is_out
-ends None left is_out cutter kept pid from len ps r h e = tt
-ends (Some bs) left is_out cutter kept pid from len ps r h e =
-    let (all, none) = read_to_end (Some bs) left ps r e in
-    cuts_all bs is_out pid from len ps all none r.sound h.sound (h.passed (the_cut pid from len ps) (is_the_cut pid from len ps)).1
+  at_now : (answer : Result Bool UnitFault) → Fed answer → CutAnswers now_cut p (reverse ps) answer q × (stay ≡ cut_by now_cut ps)
+  at_now answer f = let at = at_cut answer f now_cut (is_the_cut first.pid first.timing.from first.timing.length (ps ++ p ∷ [])) in (at.0, at.2)
+
+  -- it stays, and stands behind those before it that stay
+  pub adds : Fed (Ok true) → AddsOne first ps (Some p) stay q
+  adds f =
+      let (a, same) = at_now (Ok true) f in
+      cut_kept (goes_by now_cut) (first.pid ∷ []) first.pid ps p a.1 ∙ ap (λ l. l ++ numbered first.pid p (steps (goes_by now_cut) (first.pid ∷ []) first.pid (reverse ps)) ∷ []) (sym same)
+      ∙ ap (λ r. stay ++ r ∷ []) (sym a.2)
+
+  -- it is refused
+  pub refused : (why : UnitFault) → Fed (Err why) → unit_fault (first.pid ∷ []) p (reverse ps) ≡ Some why
+  refused why f = (at_now (Err why) f).0
+
+  -- the packet that is kept then
+  kept_so : (b : Bool) → (if b then q else kept) ≡ kept_by b q kept
+  kept_so true = refl
+  kept_so false = refl
+
+  stands : (is_last : Bool) → is_last ≡ payload_on old.pid p → (k : Cut) → old.pid ≡ k.pid → CutterStandsFor now (kept_after k.pid p q kept) k (p ∷ reverse ps)
+      → CutterStandsFor now (kept_by is_last q kept) k (reverse (ps ++ p ∷ []))
+  stands is_last l k same s =
+      let turned : kept_after k.pid p q kept ≡ kept_by is_last q kept = ap (λ n. kept_after n p q kept) (sym same) ∙ ap (λ b. if b then q else kept) (sym l) ∙ kept_so is_last in
+      subst (λ r. CutterStandsFor now r k (reverse (ps ++ p ∷ []))) turned (subst (CutterStandsFor now (kept_after k.pid p q kept) k) (sym (reverse-snoc ps p)) s)
+
+  module _ (is_last : Bool) (last : is_last ≡ payload_on old.pid p) where
+    -- what was cut so far, where it stays, and where it goes
+    pub stays : Fed (Ok true) → (unit_fault (first.pid ∷ []) p (reverse ps) ≡ None) × HasCut first (ps ++ p ∷ []) (stay ++ q ∷ []) (kept_by is_last q kept) now
+    stays f = (
+      (at_now (Ok true) f).0.0,
+      λ k i.
+          let (a, s, same, on) = at_cut (Ok true) f k i in (
+            stands is_last last k on s,
+            sym (cut_kept (goes_by k) (k.pid ∷ []) k.pid ps p a.1 ∙ ap (λ l. l ++ numbered k.pid p (steps (goes_by k) (k.pid ∷ []) k.pid (reverse ps)) ∷ []) (sym same)
+                ∙ ap (λ r. stay ++ r ∷ []) (sym a.2)),
+          ),
+    )
+
+    pub goes : Fed (Ok false) → (unit_fault (first.pid ∷ []) p (reverse ps) ≡ None) × HasCut first (ps ++ p ∷ []) stay (kept_by is_last q kept) now
+    goes f = (
+      (at_now (Ok false) f).0.0,
+      λ k i.
+          let (a, s, same, on) = at_cut (Ok false) f k i in
+          (stands is_last last k on s, same ∙ sym (cut_dropped (goes_by k) (k.pid ∷ []) k.pid ps p a.1)),
+    )
+
+-- what stays of these packets so far is their cut
+pub is_cut_of : (first now : Cutter) (ps stay : List (List ℕ)) (kept : List ℕ) → HasCut first ps stay kept now → stay ≡ cut_of first ps
+is_cut_of first now ps stay kept h = (h (the_cut first.pid first.timing.from first.timing.length ps) (is_the_cut first.pid first.timing.from first.timing.length ps)).1
 
 -- ---- a fault: what is out
 

@@ -1,132 +1,170 @@
--- A run that stops: what its fault says of the network, and what is out.
-use Rattle.std.specs.Prelude.{All}
-use Rattle.std.proofs.Common.{◌≡◌, ℕ, ◌<◌, ◌≤◌, List, [], ◌∷◌, ◌++◌, Bool, true, false, refl, sym, ap, ◌∙◌, subst, Option, None, Some, reverse, length, take, drop, append_assoc}
-use Rattle.ts_packet.specs.Packets.{packets_of, last_part, packet_fault}
-use Rattle.ts_packet.specs.Sources.{WasGiven, HasRead, Refuses}
-use Rattle.ts_packet.specs.Runs.{seen_after}
-use Rattle.ts_packet.specs.declared.reader.ReadFault.{ReadFault}
+-- A run of a cut: what it comes to, and what its fault says of the network, of what is out, and of the devices.
+use Rattle.std.specs.Prelude.{option_map, ⊤}
+use Rattle.std.proofs.Common.{◌≡◌, ℕ, List, [], ◌∷◌, ◌++◌, ◌⊎◌, inl, inr, Bool, false, refl, sym, ◌∙◌, subst, Option, None, Some, append_assoc}
+use Rattle.ts_packet.specs.Packets.{packets_of}
+use Rattle.ts_packet.specs.Runs.{Seen}
+use Rattle.ts_packet.specs.FirstFault.{SaysBy}
+use Rattle.ts_packet.specs.declared.tally.Tally.{Tally}
 use Rattle.ts_packet.specs.declared.reader.ReadFault.TheVariants as read_faults
 use Rattle.ts_packet.specs.declared.sink.PutFault.{PutFault}
-use Rattle.ts_packet.proofs.PacketsLemmas.{read_more, read_all, read_before, packets_of-append}
+use Rattle.ts_packet.proofs.FirstFaultLemmas.{says_so}
+use Rattle.packet_runs.specs.Stops.{Stopped, StopsBy, refusal_test, stop_cause}
+use Rattle.packet_runs.specs.Runs.{GoesThrough, HasSent, BreaksNext, SourceBlamedAt, SinkBlamedAt}
+use Rattle.packet_runs.specs.Runs as runs
+use Rattle.packet_runs.specs.declared.run.Stop.{Stop}
+use Rattle.packet_runs.specs.declared.run.Stop.TheVariants as stops
+use Rattle.packet_runs.proofs.StopLemmas.{stopped_as, none_as}
 use Rattle.unit_stream.specs.Faults.{unit_fault}
+use Rattle.unit_stream.specs.declared.fault.UnitFault.{UnitFault}
+use Rattle.unit_stream.specs.declared.fault.UnitFault.TheVariants as unit_faults
 use Rattle.unit_cut.specs.Cutting.{cut_between}
-use Rattle.ts_packet.specs.FirstFault.{or_then, named, first_of, fault_behind, sound_front}
-use Rattle.ts_packet.proofs.FirstFaultLemmas.{sound_all, fault_behind_sound, behind_some, says_so}
-use Rattle.unit_cut.specs.FirstFault.{as_unit_fault, fault_at, cut_test, cut_cause}
-use Rattle.unit_cut.specs.Runs.{CutsAll, IsFirst, FrontIsOut, Leaves, Says, Stops, AreAllSound, cut_by, HasPassed, PassFails}
-use Rattle.unit_cut.specs.declared.cutter.Cutter.{Cutter}
+use Rattle.unit_cut.specs.FirstFault.{first_fault, before_fault, as_cut_fault, fault_of_stop, as_unit_fault, cut_test, cut_cause}
+use Rattle.unit_cut.specs.Runs.{CutsAll, FrontIsOut, Leaves, Says, Stops, NetworkBlamed, OutputBlamed, HasCut, AddsOne, cut_of}
+use Rattle.unit_cut.specs.declared.cutting.Cutting.{Cutting}
 use Rattle.unit_cut.specs.declared.run.CutFault.{CutFault}
 use Rattle.unit_cut.specs.declared.run.CutFault.TheVariants.{Read, Scrambled, HeaderSplit, TimeJump, Sink}
-use Rattle.unit_cut.proofs.GrowLemmas.{same_front}
-use Rattle.unit_cut.proofs.RunLemmas.{the_cut, is_the_cut, front_of, front_fails}
-use Rattle.unit_stream.specs.Times.{first_time}
+use Rattle.unit_cut.proofs.RunLemmas.{is_cut_of, front_of, front_fails}
 
--- ---- the fault of a packet is the first
+-- ---- the faults of a run, by their names in a cut
 
-first_is : (pid from len : ℕ) (bs : List ℕ) (ps : List (List ℕ)) (p : List ℕ) (qs : List (List ℕ)) (is_out : List (List ℕ) → Type 0) (f : CutFault) → packets_of bs ≡ ps ++ p ∷ qs
-    → All (λ q. packet_fault q ≡ None) ps → AreAllSound pid ps → fault_at pid (record { packet = p; past = reverse ps }) ≡ Some f
-    → is_out (cut_between from len pid ps) → IsFirst f pid from len bs is_out
-first_is pid from len bs ps p qs is_out f e a b at w =
-    let (first, front) = fault_behind_sound Read (cut_test pid) ps p qs f a b at in record {
-      first = ap (λ l. or_then (first_of (fault_at pid) (seen_after [] l)) (fault_behind Read (last_part bs))) e ∙ ap (λ g. or_then g (fault_behind Read (last_part bs))) first;
-      before = subst (λ l. is_out (cut_between from len pid l)) (sym (ap (λ l. sound_front (fault_at pid) (seen_after [] l)) e ∙ front)) w;
-    }
+-- what a cut refuses, sends and puts: a stage's words
+abbrev pub refusal : Cutting → Seen → Option UnitFault
+refusal first s = unit_fault (first.cutter.pid ∷ []) s.packet s.past
 
-last_is : (pid from len : ℕ) (bs rest : List ℕ) (ps : List (List ℕ)) (is_out : List (List ℕ) → Type 0) → packets_of bs ≡ ps → last_part bs ≡ rest → 0 < length rest
-    → All (λ q. packet_fault q ≡ None) ps → AreAllSound pid ps → is_out (cut_between from len pid ps) → IsFirst (Read read_faults.Truncated) pid from len bs is_out
-last_is pid from len bs rest ps is_out e l some a b w =
-    let (none, front) = sound_all Read (cut_test pid) ps a b in record {
-      first = ap (λ q. or_then (first_of (fault_at pid) (seen_after [] q)) (fault_behind Read (last_part bs))) e ∙ ap (λ g. or_then g (fault_behind Read (last_part bs))) none ∙ ap (fault_behind Read) l ∙ behind_some Read (cut_test pid) rest some;
-      before = subst (λ q. is_out (cut_between from len pid q)) (sym (ap (λ q. sound_front (fault_at pid) (seen_after [] q)) e ∙ front)) w;
-    }
+abbrev pub sends : Cutting → List (List ℕ) → List (List ℕ) → List ℕ → Cutting → Type 0
+sends first ps stay kept now = HasCut first.cutter ps stay kept now.cutter
 
--- ---- the source stops
+abbrev pub refuses : Cutting → List (List ℕ) → List (List ℕ) → List ℕ → Cutting → Type 0
+refuses first ps stay p now = stay ≡ cut_of first.cutter ps
 
-module _ (is_out : List (List ℕ) → Type 0) (cutter : Cutter) (kept : List ℕ) (pid from len : ℕ) (ps : List (List ℕ)) (bs rest : List ℕ)
-    (read : HasRead (Some bs) (Some rest) ps) (h : HasPassed is_out cutter kept pid from len ps) where
-  out_is : is_out (cut_between from len pid ps)
-  out_is = (h.passed (the_cut pid from len ps) (is_the_cut pid from len ps)).1
+abbrev pub breaks : Cutting → List (List ℕ) → Option (List ℕ) → List (List ℕ) → List ℕ → Cutting → Type 0
+breaks first ps next stay q now = AddsOne first.cutter ps next stay q
 
-  in_front : FrontIsOut (cut_between from len pid (packets_of bs)) is_out
-  in_front = front_of pid from len bs ps (packets_of rest) is_out (ap packets_of read.bytes ∙ packets_of-append ps rest read.sizes) out_is
+abbrev pub ends : Cutting → List (List ℕ) → List (List ℕ) → ⊤ → Cutting → Type 0
+ends first ps stay report now = stay ≡ cut_of first.cutter ps
 
-  refused_packet : (f : CutFault) → 188 ≤ length rest → fault_at pid (record { packet = take 188 rest; past = reverse ps }) ≡ Some f → IsFirst f pid from len bs is_out
-  refused_packet f long at =
-      first_is pid from len bs ps (take 188 rest) (packets_of (drop 188 rest)) is_out f (read_before (Some bs) (Some rest) ps read long) read.sound h.sound at out_is
+test_as : (o : Option UnitFault) → as_unit_fault o ≡ option_map fault_of_stop (option_map stops.Packet o)
+test_as None = refl
+test_as (Some why) = refl
 
-  by_packet : (g : Option CutFault) (f : CutFault) → g ≡ Some f → or_then g (as_unit_fault (unit_fault (pid ∷ []) (take 188 rest) (reverse ps))) ≡ Some f
-  by_packet g f e = ap (λ o. or_then o (as_unit_fault (unit_fault (pid ∷ []) (take 188 rest) (reverse ps)))) e
+cause_as : (f : Stop UnitFault) → cut_cause (fault_of_stop f) ≡ stop_cause f
+cause_as (stops.Read fault) = refl
+cause_as (stops.Packet unit_faults.Scrambled) = refl
+cause_as (stops.Packet unit_faults.HeaderSplit) = refl
+cause_as (stops.Packet unit_faults.TimeJump) = refl
+cause_as (stops.Sink fault) = refl
 
-  says : (stopped : Bool) → stopped ≡ false → (fault : ReadFault) → Refuses stopped (Some rest) fault → Says (Read fault) pid from len bs is_out
-  says stopped n read_faults.Truncated k =
-      let all = read_all (Some bs) (Some rest) ps read k.1 in
-      last_is pid from len bs rest ps is_out all.0 all.1 k.0 read.sound h.sound out_is
-  says stopped n read_faults.SyncLost k = refused_packet (Read read_faults.SyncLost) k.0 (by_packet _ _ (ap (named Read) k.1))
-  says stopped n read_faults.BadAdaptation k = refused_packet (Read read_faults.BadAdaptation) k.0 (by_packet _ _ (ap (named Read) k.1))
-  says stopped n read_faults.Io k = tt
-  says stopped n read_faults.Turns k = tt
-  says stopped n read_faults.Failed k = let e : true ≡ false = sym k ∙ n in absurd (cc)
+pub turns_as : (f : Stop UnitFault) → fault_of_stop f ≡ Read read_faults.Turns → f ≡ stops.Read read_faults.Turns
+turns_as (stops.Read fault) e = cc
+turns_as (stops.Packet unit_faults.Scrambled) e = absurd (cc)
+turns_as (stops.Packet unit_faults.HeaderSplit) e = absurd (cc)
+turns_as (stops.Packet unit_faults.TimeJump) e = absurd (cc)
+turns_as (stops.Sink fault) e = absurd (cc)
 
-pub read_stops : (input left : Option (List ℕ)) (is_out : List (List ℕ) → Type 0) (fails : List (List ℕ) → List ℕ → PutFault → Type 0) (cutter : Cutter) (kept : List ℕ) (pid from len : ℕ) (ps : List (List ℕ))
-    → HasRead input left ps → HasPassed is_out cutter kept pid from len ps → (stopped : Bool) → stopped ≡ false → (fault : ReadFault) → Refuses stopped left fault
-    → Stops (Read fault) pid from len input is_out fails
-read_stops None left is_out fails cutter kept pid from len ps r h stopped n fault k = tt
-read_stops (Some bs) None is_out fails cutter kept pid from len ps r h stopped n fault k = absurd r.bytes
-read_stops (Some bs) (Some rest) is_out fails cutter kept pid from len ps r h stopped n fault k =
-    (says is_out cutter kept pid from len ps bs rest r h stopped n fault k, in_front is_out cutter kept pid from len ps bs rest r h)
+-- ---- the run went through, or stopped
 
--- ---- a packet is not passed on
+-- what is said of a cutter's own PID, begin and length is so of those that it was made with
+by_values : (P : ℕ → ℕ → ℕ → Type 0) (a b c a' b' c' : ℕ) → a ≡ a' → b ≡ b' → c ≡ c' → P a b c → P a' b' c'
+by_values P a b c a' b' c' e f g h = subst (λ x. P x b' c') e (subst (λ y. P a y c') f (subst (λ z. P a b z) g h))
 
--- the packets of bytes of which these were read, and then this one
-one_past : (bs rest : List ℕ) (ps : List (List ℕ)) (p : List ℕ) → HasRead (Some bs) (Some rest) (ps ++ p ∷ []) → packets_of bs ≡ (ps ++ p ∷ []) ++ packets_of rest
-one_past bs rest ps p h = ap packets_of h.bytes ∙ packets_of-append (ps ++ p ∷ []) rest h.sizes
+module _ (first now : Cutting) (pid from len : ℕ) (pid_is : first.cutter.pid ≡ pid) (from_is : first.cutter.timing.from ≡ from) (length_is : first.cutter.timing.length ≡ len)
+    (is_out : List (List ℕ) → Type 0) where
+  abbrev whole : List ℕ → List (List ℕ)
+  whole bs = cut_of first.cutter (packets_of bs)
 
-module _ (is_out : List (List ℕ) → Type 0) (fails : List (List ℕ) → List ℕ → PutFault → Type 0) (pid from len : ℕ) (ps : List (List ℕ)) (p bs rest : List ℕ)
-    (all : packets_of bs ≡ (ps ++ p ∷ []) ++ packets_of rest) (sounds : All (λ q. packet_fault q ≡ None) ps) (sound : AreAllSound pid ps) (whole : packet_fault p ≡ None) where
-  out_by : is_out (cut_by (the_cut pid from len (ps ++ p ∷ [])) ps) → is_out (cut_between from len pid ps)
-  out_by w = subst is_out (same_front from len pid ps (p ∷ []) (first_time (pid ∷ []) (reverse ps)) refl) w
-
-  unit_stops : (f : CutFault) → as_unit_fault (unit_fault (pid ∷ []) p (reverse ps)) ≡ Some f → is_out (cut_by (the_cut pid from len (ps ++ p ∷ [])) ps)
-      → IsFirst f pid from len bs is_out × FrontIsOut (cut_between from len pid (packets_of bs)) is_out
-  unit_stops f e w =
-      let here : packets_of bs ≡ ps ++ p ∷ packets_of rest = all ∙ append_assoc ps (p ∷ []) (packets_of rest) in
-      let at : fault_at pid (record { packet = p; past = reverse ps }) ≡ Some f = ap (λ g. or_then (named Read g) (as_unit_fault (unit_fault (pid ∷ []) p (reverse ps)))) whole ∙ e in (
-        first_is pid from len bs ps p (packets_of rest) is_out f here sounds sound at (out_by w),
-        front_of pid from len bs ps (p ∷ packets_of rest) is_out here (out_by w),
+  pub cuts_all : (input : Option (List ℕ)) → GoesThrough (refusal first) (ends first) input tt now is_out → CutsAll pid from len input is_out
+  cuts_all None h = tt
+  cuts_all (Some bs) h =
+      by_values (λ p f l. CutsAll p f l (Some bs) is_out) _ _ _ _ _ _ pid_is from_is length_is (
+        none_as fault_of_stop stops.Read Read (refusal_test (refusal first)) (cut_test first.cutter.pid) (λ f. refl) (λ s. test_as (refusal first s)) bs h.sound,
+        subst is_out h.ends_so h.out,
       )
 
-  fails_so : (f : CutFault) → PassFails (the_cut pid from len (ps ++ p ∷ [])) p ps f is_out fails
-      → Says f pid from len bs is_out × Leaves f (cut_between from len pid (packets_of bs)) is_out fails
-  fails_so (Read f) k = absurd k
-  fails_so Scrambled k = unit_stops Scrambled k.0 k.1
-  fails_so HeaderSplit k = unit_stops HeaderSplit k.0 k.1
-  fails_so TimeJump k = unit_stops TimeJump k.0 k.1
-  fails_so (Sink f) (u, (q, c, w)) =
-      (tt, front_fails pid from len bs (ps ++ p ∷ []) (packets_of rest) (cut_by (the_cut pid from len (ps ++ p ∷ [])) ps) q (λ l r. fails l r f) all c w)
+  module _ (fails : List (List ℕ) → List ℕ → PutFault → Type 0) (unsent : List (List ℕ) → PutFault → Type 0) where
+    abbrev StopsSo : CutFault → List ℕ → Type 0
+    StopsSo fault bs = Says fault first.cutter.pid first.cutter.timing.from first.cutter.timing.length bs is_out × Leaves fault (whole bs) is_out fails unsent
 
-pub pass_stops : (input left left' : Option (List ℕ)) (is_out is_out' : List (List ℕ) → Type 0) (fails : List (List ℕ) → List ℕ → PutFault → Type 0) (cutter : Cutter) (kept : List ℕ)
-    (pid from len : ℕ) (ps : List (List ℕ)) (p : List ℕ) → HasRead input left ps → HasPassed is_out cutter kept pid from len ps → WasGiven left left' p → (f : CutFault)
-    → PassFails (the_cut pid from len (ps ++ p ∷ [])) p ps f is_out' fails → Stops f pid from len input is_out' fails
-pass_stops None left left' is_out is_out' fails cutter kept pid from len ps p read h r f k = tt
-pass_stops (Some bs) left None is_out is_out' fails cutter kept pid from len ps p read h r f k = absurd (read_more (Some bs) left None ps p read r).bytes
-pass_stops (Some bs) left (Some rest) is_out is_out' fails cutter kept pid from len ps p read h r f k =
-    fails_so is_out' fails pid from len ps p bs rest (one_past bs rest ps p (read_more (Some bs) left (Some rest) ps p read r)) read.sound h.sound r.sound f k
+    -- the cut of these packets is out, and the fault stands behind them
+    module _ (bs : List ℕ) (passed rest : List (List ℕ)) (parts : packets_of bs ≡ passed ++ rest) where
+      abbrev IsBehind : CutFault → Type 0
+      IsBehind fault = SaysBy (cut_cause fault) ((first_fault first.cutter.pid bs ≡ Some fault) × (before_fault first.cutter.pid bs ≡ passed))
+
+      said : (fault : CutFault) → IsBehind fault → is_out (cut_of first.cutter passed) → Says fault first.cutter.pid first.cutter.timing.from first.cutter.timing.length bs is_out
+      said fault h o = says_so (cut_cause fault) (λ w. record { first = w.0; before = subst (λ l. is_out (cut_of first.cutter l)) (sym w.1) o }) h
+
+      front : is_out (cut_of first.cutter passed) → FrontIsOut (whole bs) is_out
+      front o = front_of first.cutter.pid first.cutter.timing.from first.cutter.timing.length bs passed rest is_out parts o
+
+      by_unit : (why : UnitFault) → IsBehind (as_cut_fault why) → is_out (cut_of first.cutter passed) → StopsSo (as_cut_fault why) bs
+      by_unit unit_faults.Scrambled h o = (said Scrambled h o, front o)
+      by_unit unit_faults.HeaderSplit h o = (said HeaderSplit h o, front o)
+      by_unit unit_faults.TimeJump h o = (said TimeJump h o, front o)
+
+    -- what the sink has of it
+    by_sink : (fault : PutFault) (none : Type 0) (bs : List ℕ) (passed rest : List (List ℕ)) → packets_of bs ≡ passed ++ rest
+        → BreaksNext breaks fault none first passed rest now fails ⊎ HasSent sends first passed now (λ l. unsent l fault) → Leaves (Sink fault) (whole bs) is_out fails unsent
+    by_sink fault none bs passed [] e (inl k) = absurd k.1.breaks_so
+    by_sink fault none bs passed (p ∷ more) e (inl k) =
+        inl (front_fails first.cutter.pid first.cutter.timing.from first.cutter.timing.length bs (passed ++ p ∷ []) more k.sent k.packet (λ l r. fails l r fault)
+        (e ∙ sym (append_assoc passed (p ∷ []) more)) k.breaks_so k.failed)
+    by_sink fault none bs passed rest e (inr k) =
+        inr (front_of first.cutter.pid first.cutter.timing.from first.cutter.timing.length bs passed rest (λ l. unsent l fault) e
+        (subst (λ l. unsent l fault) (is_cut_of first.cutter now.cutter passed k.sent k.kept k.sends_it) k.out))
+
+    abbrev left_by : Stop UnitFault → List ℕ → List (List ℕ) → List (List ℕ) → Type 0
+    left_by f = runs.Leaves sends refuses breaks refusal f first now is_out fails unsent
+
+    by_name : (f : Stop UnitFault) (bs : List ℕ) → Stopped Read (cut_test first.cutter.pid) cut_cause (fault_of_stop f) bs (left_by f) → StopsSo (fault_of_stop f) bs
+    by_name (stops.Read fault) bs h =
+        let o = subst is_out (is_cut_of first.cutter now.cutter h.passed h.left.sent h.left.kept h.left.sends_it) h.left.out in
+        (said bs h.passed h.rest h.parts (Read fault) h.says o, front bs h.passed h.rest h.parts o)
+    by_name (stops.Packet why) bs h =
+        let (p, more, e, r) = h.left in
+        by_unit bs h.passed h.rest h.parts why h.says (subst is_out r.refuses_it r.out)
+    by_name (stops.Sink fault) bs h = (tt, by_sink fault _ bs h.passed h.rest h.parts h.left)
+
+    pub stops_at : (f : Stop UnitFault) (input : Option (List ℕ)) → StopsBy stops.Read (refusal_test (refusal first)) stop_cause f input (left_by f)
+        → Stops (fault_of_stop f) pid from len input is_out fails unsent
+    stops_at f None h = tt
+    stops_at f (Some bs) h =
+        by_values (λ p r l. Stops (fault_of_stop f) p r l (Some bs) is_out fails unsent) _ _ _ _ _ _ pid_is from_is length_is
+        (by_name f bs (stopped_as fault_of_stop stops.Read Read (refusal_test (refusal first)) (cut_test first.cutter.pid) (λ g. refl) (λ s. test_as (refusal first s))
+        stop_cause cut_cause f (cause_as f) bs (left_by f) (left_by f) (λ passed rest l. l) h))
+
+-- ---- what the devices did
+
+pub network_blamed : (f : Stop UnitFault) (before ended : Bool) (old new : Tally) → SourceBlamedAt false f before ended old new → NetworkBlamed (fault_of_stop f) before ended old new
+network_blamed (stops.Read fault) before ended old new h = h
+network_blamed (stops.Packet unit_faults.Scrambled) before ended old new h = h
+network_blamed (stops.Packet unit_faults.HeaderSplit) before ended old new h = h
+network_blamed (stops.Packet unit_faults.TimeJump) before ended old new h = h
+network_blamed (stops.Sink fault) before ended old new (inl h) = h
+network_blamed (stops.Sink fault) before ended old new (inr h) = absurd (let e = h.0 in cc)
+
+pub output_blamed : (f : Stop UnitFault) (old new : Tally) (full : Bool) → SinkBlamedAt f old new full → OutputBlamed (fault_of_stop f) old new full
+output_blamed (stops.Read fault) old new full h = h
+output_blamed (stops.Packet unit_faults.Scrambled) old new full h = h
+output_blamed (stops.Packet unit_faults.HeaderSplit) old new full h = h
+output_blamed (stops.Packet unit_faults.TimeJump) old new full h = h
+output_blamed (stops.Sink fault) old new full h = h
 
 -- ---- what follows from what is out
 
-module _ (is_out is_out' : List (List ℕ) → Type 0) (fails fails' : List (List ℕ) → List ℕ → PutFault → Type 0) (out_so : (ps : List (List ℕ)) → is_out ps → is_out' ps)
-    (fails_on : (ps : List (List ℕ)) (p : List ℕ) (f : PutFault) → fails ps p f → fails' ps p f) where
+module _ (is_out is_out' : List (List ℕ) → Type 0) (fails fails' : List (List ℕ) → List ℕ → PutFault → Type 0) (unsent unsent' : List (List ℕ) → PutFault → Type 0)
+    (out_so : (ps : List (List ℕ)) → is_out ps → is_out' ps) (fails_on : (ps : List (List ℕ)) (p : List ℕ) (f : PutFault) → fails ps p f → fails' ps p f)
+    (unsent_so : (ps : List (List ℕ)) (f : PutFault) → unsent ps f → unsent' ps f) where
   front_so : (whole : List (List ℕ)) → FrontIsOut whole is_out → FrontIsOut whole is_out'
   front_so whole (front, more, e, h) = (front, more, e, out_so front h)
 
-  leaves_so : (fault : CutFault) (whole : List (List ℕ)) → Leaves fault whole is_out fails → Leaves fault whole is_out' fails'
+  leaves_so : (fault : CutFault) (whole : List (List ℕ)) → Leaves fault whole is_out fails unsent → Leaves fault whole is_out' fails' unsent'
   leaves_so (Read f) whole h = front_so whole h
   leaves_so Scrambled whole h = front_so whole h
   leaves_so HeaderSplit whole h = front_so whole h
   leaves_so TimeJump whole h = front_so whole h
-  leaves_so (Sink f) whole (front, p, more, e, h) = (front, p, more, e, fails_on front p f h)
+  leaves_so (Sink f) whole (inl (front, p, more, e, h)) = inl (front, p, more, e, fails_on front p f h)
+  leaves_so (Sink f) whole (inr (front, more, e, h)) = inr (front, more, e, unsent_so front f h)
 
-  pub stops_so : (fault : CutFault) (pid from len : ℕ) (input : Option (List ℕ)) → Stops fault pid from len input is_out fails → Stops fault pid from len input is_out' fails'
+  pub stops_so : (fault : CutFault) (pid from len : ℕ) (input : Option (List ℕ)) → Stops fault pid from len input is_out fails unsent → Stops fault pid from len input is_out' fails' unsent'
   stops_so fault pid from len None h = tt
   stops_so fault pid from len (Some bs) h =
       (says_so (cut_cause fault) (λ i. record { first = i.first; before = out_so _ i.before }) h.0, leaves_so fault (cut_between from len pid (packets_of bs)) h.1)

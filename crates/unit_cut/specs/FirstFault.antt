@@ -6,6 +6,8 @@ use Rattle.ts_packet.specs.FirstFault.{fault_of, Cause, OfInput, OfDevice, read_
 use Rattle.unit_stream.specs.Faults.{unit_fault}
 use Rattle.unit_stream.specs.declared.fault.UnitFault.{UnitFault}
 use Rattle.unit_stream.specs.declared.fault.UnitFault.TheVariants as unit_faults
+use Rattle.packet_runs.specs.declared.run.Stop.{Stop}
+use Rattle.packet_runs.specs.declared.run.Stop.TheVariants as stops
 use Rattle.unit_cut.specs.declared.run.CutFault.{CutFault}
 use Rattle.unit_cut.specs.declared.run.CutFault.TheVariants.{Read, Scrambled, HeaderSplit, TimeJump, Sink}
 
@@ -13,6 +15,12 @@ abbrev pub as_cut_fault : UnitFault → CutFault
 as_cut_fault unit_faults.Scrambled = Scrambled
 as_cut_fault unit_faults.HeaderSplit = HeaderSplit
 as_cut_fault unit_faults.TimeJump = TimeJump
+
+-- the fault of a cut whose run stopped so
+abbrev pub fault_of_stop : Stop UnitFault → CutFault
+fault_of_stop (stops.Read fault) = Read fault
+fault_of_stop (stops.Packet why) = as_cut_fault why
+fault_of_stop (stops.Sink fault) = Sink fault
 
 abbrev pub as_unit_fault : Option UnitFault → Option CutFault
 as_unit_fault None = None

@@ -29,7 +29,7 @@ pub returns-in-Err-clause-reading : goal.returns-in-Err-clause-reading
 returns-in-Err-clause-reading g c =
     let done : LineBlamed (cut_fault_of c.of_cut.result) g.S.Source.remaining g.S.Source.counts c.args.input.now c.cut.new.network.source.now =
     rw (c.of_cut.ensures.fault, ← c.new-reader.ensures.source) (line_blamed (λ r. r.source.now) g.S.Source.remaining g.S.Source.counts (λ r s. s.source.ghost_name ≡ r.source.ghost_name) (λ r. left_in r.has_ended (g.S.Source.remaining r.source.now)) (λ r. r.given)
-    c.new-reader.result c.cut.new.network c.in-Err.fault _ c.in-Err.ensures.reading
+    c.new-reader.result c.cut.new.network c.in-Err.fault _ (rw c.new-reader.ensures.begins at c.in-Err.ensures.reading)
     (ap (λ b. left_in b (g.S.Source.remaining c.new-reader.result.source.now)) c.new-reader.ensures.begins) c.new-reader.ensures.given (λ e. c.in-Err.ensures.turns (ap Err e))) in
     let named = c.in-Err.ensures.reads ∙ c.new-reader.ensures.same in
     search (rules, done, named)
