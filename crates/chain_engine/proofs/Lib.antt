@@ -1,10 +1,11 @@
 pub mod HearingLemmas
 pub mod TalkLemmas
 pub mod StepsLemmas
-pub mod StopLemmas
 pub mod RunLemmas
 pub mod SpliceLemmas
 pub mod NestedLemmas
 pub mod ChainLemmas
 pub mod ProgressLemmas
 pub mod ForgetLemmas
+pub mod UnaskedLemmas
+pub mod StageLemmas

@@ -1,21 +1,17 @@
 -- What a run answers comes from its network's bytes, unless a device stopped it.
 use Rattle.std.specs.Prelude.{IfSome, Err}
 use Rattle.std.proofs.Common.{◌≡◌, ℕ, List, [], ◌∷◌, Bool, true, false, ◌⊎◌, inl, inr, Option, None, Some, refl, sym, subst}
-use Rattle.ts_packet.specs.Sources.{ReadSo, SourceCounts, SourceBlamed, ReadOn, HasGiven, Stalled, Exhausted}
+use Rattle.ts_packet.specs.Sources.{SourceCounts}
 use Rattle.ts_packet.specs.Transfers.{WentWell, LastMovedNone}
 use Rattle.ts_packet.specs.FirstFault.{OfInput, SaysBy}
 use Rattle.ts_packet.specs.declared.tally.Tally.{Tally}
-use Rattle.ts_packet.specs.declared.reader.ReadFault.{ReadFault}
 use Rattle.ts_packet.specs.declared.reader.ReadFault.TheVariants as read_faults
 use Rattle.ts_packet.specs.declared.sink.PutFault.{PutFault}
-use Rattle.ts_packet.proofs.CountLemmas.{well-refl, blamed-after, by_end}
-use Rattle.ts_packet.proofs.RunBlameLemmas.{read_turns}
+use Rattle.ts_packet.proofs.CountLemmas.{well-refl, by_end}
 use Rattle.psi_tables.specs.declared.config.Config.{Config}
-use Rattle.psi_tables.specs.declared.network.FeedFault.{FeedFault}
 use Rattle.psi_tables.specs.declared.network.FeedFault.TheVariants.{Network, Sink, Failed}
 use Rattle.program_follower.specs.declared.purpose.Purpose.{Purpose}
 use Rattle.program_follower.specs.Purposes.{reading_cues, writing_cues}
-use Rattle.outgoing_packets.specs.Faults.{FeedBlamed}
 use Rattle.splice_plans.specs.declared.report.SwitchReport.{SwitchReport}
 use Rattle.scte104_codec.specs.declared.reply.Reply.{Reply}
 use Rattle.ad_library.specs.Advertisements.{Advertisement}
@@ -27,29 +23,14 @@ use Rattle.chain_engine.specs.Splices.{SplicesAll, SpliceLeaves, NetworkBlamedTo
 use Rattle.chain_engine.specs.ChainRuns.{RunsAll, ChainLeaves}
 use Rattle.chain_engine.specs.declared.hearing.SessionEnd.{SessionEnd}
 use Rattle.chain_engine.specs.declared.report.Report.{Report}
-use Rattle.chain_engine.specs.declared.chain.RunFault.{RunFault}
-use Rattle.chain_engine.specs.declared.chain.RunFault.TheVariants.{Read, Feed}
+use Rattle.chain_engine.specs.declared.faults.RunFault.{RunFault}
+use Rattle.chain_engine.specs.declared.faults.RunFault.TheVariants.{Read, Feed}
 
 -- ---- what was read
 
 to_end : (before ended : Bool) (a b : Tally) → SourceCounts false before ended a b → WentWell a b ⊎ LastMovedNone a b
 to_end false ended a b h = inr h
 to_end true ended a b h = inl (subst (λ w. WentWell a w) (sym h) (well-refl a))
-
-fed : (before ended : Bool) (a b : Tally) → ReadSo ended a b ⊎ SourceCounts false before ended a b → WentWell a b ⊎ LastMovedNone a b
-fed before ended a b (inl h) = by_end ended a b h
-fed before ended a b (inr h) = to_end before ended a b h
-
--- the reads for a packet took all their turns, or the source has given all packets that it may
-pub ran_out_so : {X : Type 0} (leads : X → X → Type 0) (counts : X → Tally) (short : X → X → Type 0) (left : X → Option (List ℕ)) (given : X → ℕ) (x y z : X) (first now : Bool) (ps : List (List ℕ))
-    → leads x y → ReadOn first now (counts x) (counts y) → now ≡ false → HasGiven (left x) (left y) (given x) (given y) ps → (fault : ReadFault) → SourceBlamed fault (given y) (counts y) (counts z)
-    → (fault ≡ read_faults.Turns → short y z) → Read fault ≡ Read read_faults.Turns → Stalled leads counts short x z ⊎ Exhausted left given x
-ran_out_so leads counts short left given x y z first now ps l h e r read_faults.Turns b s t = read_turns leads counts short left given x y z first now ps l h e r b (s refl)
-ran_out_so leads counts short left given x y z first now ps l h e r read_faults.Truncated b s t = absurd (cc)
-ran_out_so leads counts short left given x y z first now ps l h e r read_faults.SyncLost b s t = absurd (cc)
-ran_out_so leads counts short left given x y z first now ps l h e r read_faults.BadAdaptation b s t = absurd (cc)
-ran_out_so leads counts short left given x y z first now ps l h e r read_faults.Io b s t = absurd (cc)
-ran_out_so leads counts short left given x y z first now ps l h e r read_faults.Failed b s t = absurd (cc)
 
 -- ---- the fault
 
@@ -70,13 +51,14 @@ pub end_progresses : (k : Purpose) (input : Option (List ℕ)) (before ended : B
     → DevicesWentWell read read' written written' × IsFirstIn (first_run_fault k) input None
 end_progresses k input before ended read read' written written' none r w = ((to_end before ended read read' r, w), none_in (first_run_fault k) input none)
 
-module _ (k : Purpose) (input : Option (List ℕ)) (ran_out : Type 0) (before ended : Bool) (read read' written written' : Tally) (full : Bool) (fails : List (List ℕ) → List ℕ → PutFault → Type 0) where
+module _ (k : Purpose) (input : Option (List ℕ)) (ran_out : Type 0) (before ended : Bool) (read read' written written' : Tally) (full : Bool) (fails : List (List ℕ) → List ℕ → PutFault → Type 0) (unsent : List (List ℕ) → PutFault → Type 0) where
   -- whatever the run would have answered where it had gone through
   abbrev pub Says : RunFault → Type 0
-  Says fault = Progresses {R = Unit {0}} (first_run_fault k) input ran_out read read' written written' full fails (Err fault)
+  Says fault = Progresses {R = Unit {0}} (first_run_fault k) input ran_out read read' written written' full fails unsent (Err fault)
 
   pub stop_progresses : (leaves : RunFault → List ℕ → List (List ℕ) → List (List ℕ) → Type 0)
-      → ((fault : PutFault) (bs : List ℕ) (passed rest : List (List ℕ)) → leaves (Feed (Sink fault)) bs passed rest → (ps : List (List ℕ)) × (p : List ℕ) × fails ps p fault)
+      → ((fault : PutFault) (bs : List ℕ) (passed rest : List (List ℕ)) → leaves (Feed (Sink fault)) bs passed rest
+      → ((ps : List (List ℕ)) × (p : List ℕ) × fails ps p fault) ⊎ ((ps : List (List ℕ)) × unsent ps fault))
       → (fault : RunFault) → StopsBy k fault input (leaves fault) → NetworkBlamedToEnd fault before ended read read' → OutputBlamed fault written written' full → (fault ≡ Read read_faults.Turns → ran_out) → Says fault
   stop_progresses leaves failed (Read read_faults.Truncated) s r w t = inl ((r, w), first_in k (Read read_faults.Truncated) input (leaves (Read read_faults.Truncated)) refl s)
   stop_progresses leaves failed (Read read_faults.SyncLost) s r w t = inl ((r, w), first_in k (Read read_faults.SyncLost) input (leaves (Read read_faults.SyncLost)) refl s)
@@ -84,7 +66,7 @@ module _ (k : Purpose) (input : Option (List ℕ)) (ran_out : Type 0) (before en
   stop_progresses leaves failed (Read read_faults.Io) s r w t = inr r
   stop_progresses leaves failed (Read read_faults.Turns) s r w t = inr (t refl)
   stop_progresses leaves failed (Read read_faults.Failed) s r w t = absurd r
-  stop_progresses leaves failed (Feed (Network f)) s r w t = inl ((fed before ended read read' r, w), first_in k (Feed (Network f)) input (leaves (Feed (Network f))) refl s)
+  stop_progresses leaves failed (Feed (Network f)) s r w t = inl ((by_end ended read read' r, w), first_in k (Feed (Network f)) input (leaves (Feed (Network f))) refl s)
   stop_progresses leaves failed (Feed (Sink f)) s r w t =
       let (bs, h) = some_bytes k (Feed (Sink f)) input (leaves (Feed (Sink f))) s in
       inr (w, failed f bs h.passed h.rest h.left)
@@ -94,20 +76,24 @@ module _ (k : Purpose) (input : Option (List ℕ)) (ran_out : Type 0) (before en
 
 -- ---- how the sink failed
 
-module _ (c : Config) (is_out : List (List ℕ) → Type 0) (fails : List (List ℕ) → List ℕ → PutFault → Type 0) (fault : PutFault) (bs : List ℕ) (passed : List (List ℕ)) where
+module _ (c : Config) (is_out : List (List ℕ) → Type 0) (fails : List (List ℕ) → List ℕ → PutFault → Type 0) (unsent : List (List ℕ) → PutFault → Type 0) (fault : PutFault) (bs : List ℕ)
+    (passed : List (List ℕ)) where
   abbrev pub SinkFails : Type 0
-  SinkFails = (ps : List (List ℕ)) × (p : List ℕ) × fails ps p fault
+  SinkFails = ((ps : List (List ℕ)) × (p : List ℕ) × fails ps p fault) ⊎ ((ps : List (List ℕ)) × unsent ps fault)
 
-  pub inject_fails : (exchanged : Option SessionEnd → List Take → List Reply → Type 0) (rest : List (List ℕ)) → InjectLeaves c (Feed (Sink fault)) is_out fails exchanged bs passed rest → SinkFails
-  inject_fails exchanged rest h = let (p, more, e, front) = h.out in (_, _, front.fault)
+  pub inject_fails : (exchanged : Option SessionEnd → List Take → List Reply → Type 0) (rest : List (List ℕ)) → InjectLeaves c (Feed (Sink fault)) is_out fails unsent exchanged bs passed rest → SinkFails
+  inject_fails exchanged rest (inl h) = let (p, more, e, front) = h.out in inl (_, _, front.fault)
+  inject_fails exchanged rest (inr h) = inr (_, h.out)
 
-  pub splice_fails : (filed : ℕ → Option Advertisement) (rest : List (List ℕ)) → SpliceLeaves c filed (Feed (Sink fault)) is_out fails bs passed rest → SinkFails
-  splice_fails filed [] h = (_, _, h.1.fault)
-  splice_fails filed (p ∷ more) h = (_, _, h.fault)
+  pub splice_fails : (filed : ℕ → Option Advertisement) (rest : List (List ℕ)) → SpliceLeaves c filed (Feed (Sink fault)) is_out fails unsent bs passed rest → SinkFails
+  splice_fails filed rest (inr h) = inr (_, h)
+  splice_fails filed [] (inl h) = inl (_, _, h.1.fault)
+  splice_fails filed (p ∷ more) (inl h) = inl (_, _, h.fault)
 
-  pub chain_fails : (filed : ℕ → Option Advertisement) (exchanged : Option SessionEnd → List Take → List Reply → Type 0) (rest : List (List ℕ)) → ChainLeaves c filed (Feed (Sink fault)) is_out fails exchanged bs passed rest → SinkFails
-  chain_fails filed exchanged [] h = (_, _, h.out.1.fault)
-  chain_fails filed exchanged (p ∷ more) h = (_, _, h.out.fault.fault)
+  pub chain_fails : (filed : ℕ → Option Advertisement) (exchanged : Option SessionEnd → List Take → List Reply → Type 0) (rest : List (List ℕ)) → ChainLeaves c filed (Feed (Sink fault)) is_out fails unsent exchanged bs passed rest → SinkFails
+  chain_fails filed exchanged rest (inr h) = inr (_, h.out)
+  chain_fails filed exchanged [] (inl h) = inl (_, _, h.out.1.fault)
+  chain_fails filed exchanged (p ∷ more) (inl h) = inl (_, _, h.out.fault.fault)
 
 -- ---- the network had no fault
 
@@ -125,13 +111,3 @@ pub chain_sound : (c : Config) (filed : ℕ → Option Advertisement) (input : O
     → RunsAll c filed input is_out exchanged report → IfSome input (λ bs. first_run_fault (writing_cues c) bs ≡ None)
 chain_sound c filed None is_out exchanged report h = tt
 chain_sound c filed (Some bs) is_out exchanged report h = h.sound
-
--- ---- what was written up to the fault
-
-unchanged : (a b c : Tally) → WentWell a b → c ≡ b → WentWell a c
-unchanged a b c w e = subst (λ t. WentWell a t) (sym e) w
-
-pub fed_blamed : (fault : FeedFault) (a b c : Tally) (full : Bool) → WentWell a b → FeedBlamed fault b c full → OutputBlamed (Feed fault) a c full
-fed_blamed (Network f) a b c full w h = unchanged a b c w h
-fed_blamed (Sink f) a b c full w h = blamed-after f a b c full w h
-fed_blamed Failed a b c full w h = unchanged a b c w h

@@ -1,65 +1,33 @@
 -- A whole run with an automation, from its first packet to its end or its fault.
-use Rattle.std.specs.Prelude.{All, option_map}
-use Rattle.std.specs.Io.KnownBytes.{IsAtEnd}
 use Rattle.std.proofs.Common.{◌≡◌, ℕ, suc, ◌+◌, ◌≤◌, ◌<◌, Bool, true, false, List, [], ◌∷◌, ◌++◌, length, reverse, Option, None, Some, refl, sym, ap, subst, ◌∙◌, arith, length-append}
 use Rattle.std.specs.Option.{is_some}
 use Rattle.std.proofs.lemmas.List.{reverse-append, length-reverse}
-use Rattle.std.proofs.lemmas.List.Elements.{All-nil}
-use Rattle.ts_packet.specs.Packets.{packets_of}
-use Rattle.ts_packet.specs.Sources.{WasGiven, HasRead, Refuses}
-use Rattle.ts_packet.specs.Runs.{Seen, seen_after}
-use Rattle.ts_packet.specs.declared.reader.ReadFault.{ReadFault}
-use Rattle.ts_packet.specs.declared.sink.PutFault.{PutFault}
-use Rattle.ts_packet.proofs.FirstFaultLemmas.{sound_more}
-use Rattle.ts_packet.proofs.PacketsLemmas.{read_to_end}
 use Rattle.psi_tables.specs.declared.config.Config.{Config}
-use Rattle.psi_tables.specs.declared.network.FeedFault.{FeedFault}
-use Rattle.psi_tables.specs.declared.network.FeedFault.TheVariants.{Network, Sink, Failed}
-use Rattle.program_follower.specs.Faults.{network_fault}
-use Rattle.program_follower.specs.FirstFault.{network_test}
-use Rattle.program_follower.proofs.RunLemmas.{ends_sound}
 use Rattle.scte104_codec.specs.declared.reply.Reply.{Reply}
 use Rattle.as_session.specs.Session.{state_of}
 use Rattle.injector.specs.declared.injector.Injector.{Injector}
-use Rattle.injector.specs.Steps.{Step, Packet, packets_in, cued, sent_at}
-use Rattle.injector.specs.Injecting.{InjectorStandsFor, JudgesBy, FeedFails}
-use Rattle.outgoing_packets.specs.Faults.{KeepsSink}
+use Rattle.injector.specs.Steps.{Step, Packet, cued, sent_at}
+use Rattle.injector.specs.Injecting.{InjectorStandsFor}
 use Rattle.ts_packet.proofs.RunLemmas.{reverse-onto}
 use Rattle.chain_engine.specs.Automation.{Take, piece, ended, failed, Answer}
 use Rattle.chain_engine.specs.Hearing.{answers_to, lost_by, Replied}
 use Rattle.chain_engine.specs.Judging.{JudgesAll, InjectorJudges}
 use Rattle.chain_engine.specs.Talks.{judged_before, HasTalked, TalkStandsFor, loses, CountsEnd}
-use Rattle.chain_engine.specs.Stops.{as_run_fault}
-use Rattle.chain_engine.specs.Runs.{asked, steps_of, steps_before, replies_in, report_of, sent_by, Exchanged, Serves, InjectsAll, InjectLeaves, InjectStops}
+use Rattle.chain_engine.specs.Runs.{asked, steps_of, steps_before, replies_in, sent_by, Exchanged, ServedBefore}
+use Rattle.chain_engine.specs.Stages.{HasRun}
 use Rattle.chain_engine.specs.Chains.{ChainStandsFor}
 use Rattle.chain_engine.specs.declared.hearing.SessionEnd.{SessionEnd}
 use Rattle.chain_engine.specs.declared.hearing.SessionEnd.TheVariants.{Ended, TakeFailed, BadSize, AnswerFailed}
-use Rattle.chain_engine.specs.declared.report.Report.{Report}
 use Rattle.chain_engine.specs.declared.talk.Talk.{Talk}
 use Rattle.chain_engine.specs.declared.chain.Chain.{Chain}
-use Rattle.chain_engine.specs.declared.chain.RunFault.TheVariants.{Read, Feed}
-use Rattle.chain_engine.proofs.StopLemmas.{reads_stop, packets_stop}
 use Rattle.chain_engine.proofs.HearingLemmas.{answers_more}
 use Rattle.chain_engine.proofs.TalkLemmas.{goes_closed, open_end}
-use Rattle.chain_engine.proofs.StepsLemmas.{steps_stay, none_asked, asked_cued, before_packets, asked_judged}
-use Rattle.program_follower.specs.Purposes.{writing_cues}
+use Rattle.chain_engine.proofs.StepsLemmas.{steps_stay, none_asked, asked_cued, asked_judged}
 
 -- ---- what is known between two packets, and behind the messages before a packet
 
-pub record HasRun {M : Type 0} (c : Config) (injector : Injector) (talk : Talk M) (is_out : List (List ℕ) → Type 0) (exchanged : Option SessionEnd → List Take → List Reply → Type 0)
-    (ps : List (List ℕ)) : Type 0 where
-  pub sound : All (λ (s : Seen). network_test as_run_fault (writing_cues c) s ≡ None) (seen_after [] ps)
-  pub ts : List Take
-  pub rs : List Reply
-  pub stands : InjectorStandsFor injector c (steps_of (length rs) ts (reverse ps))
-  pub talks : TalkStandsFor talk ts (length rs) (length ps)
-  pub exchanges : exchanged talk.end ts rs
-  pub replies : rs ≡ replies_in c (steps_of (length rs) ts (reverse ps))
-  pub out : is_out (sent_by c (steps_of (length rs) ts (reverse ps)))
-
 pub record HasHeard {M : Type 0} (c : Config) (injector : Injector) (talk : Talk M) (is_out : List (List ℕ) → Type 0) (exchanged : Option SessionEnd → List Take → List Reply → Type 0)
     (ps : List (List ℕ)) : Type 0 where
-  pub sound : All (λ (s : Seen). network_test as_run_fault (writing_cues c) s ≡ None) (seen_after [] ps)
   pub ts : List Take
   pub rs : List Reply
   pub stands : InjectorStandsFor injector c (steps_before (length rs) ts (reverse ps))
@@ -99,7 +67,6 @@ module _ {X : Type 0} (takes : X → List Take → X → Type 0) (takes_refl : (
 
   pub begun : {M : Type 0} (chain : Chain M) (is_out : List (List ℕ) → Type 0) (x : X) → ChainStandsFor chain c → is_out [] → HasRun c chain.injector chain.talk is_out (Exchanged takes answers failures x x) []
   begun chain is_out x h o = record {
-    sound = All-nil _;
     ts = [];
     rs = [];
     stands = h.injector;
@@ -130,7 +97,6 @@ module _ {X : Type 0} (takes : X → List Take → X → Type 0) (takes_refl : (
         let back = length-reverse ps in
         let le = few_takes talk.end h.ts (length h.rs) (length ps) h.talks.talked in
         let same = none_asked (length h.rs) h.ts (reverse ps) (omega (arith, le, back)) in record {
-          sound = h.sound;
           ts = h.ts;
           rs = h.rs;
           stands = subst (InjectorStandsFor injector c) (sym same) h.stands;
@@ -161,7 +127,6 @@ module _ {X : Type 0} (takes : X → List Take → X → Type 0) (takes_refl : (
           let steps : steps_before (length (h.rs ++ rs)) (h.ts ++ more) (reverse ps) ≡ asked ms (steps_of n h.ts (reverse ps)) =
           ap (λ q. steps_before q (h.ts ++ more) (reverse ps)) sum ∙ ap (asked ms) stay in
           let same : cued c (steps_before (length (h.rs ++ rs)) (h.ts ++ more) (reverse ps)) ≡ cued c (steps_of n h.ts (reverse ps)) = ap (cued c) steps ∙ asked_cued c ms (steps_of n h.ts (reverse ps)) in record {
-            sound = h.sound;
             ts = h.ts ++ more;
             rs = h.rs ++ rs;
             stands = subst (InjectorStandsFor injector' c) (sym steps) done.0;
@@ -188,15 +153,13 @@ module _ {X : Type 0} (takes : X → List Take → X → Type 0) (takes_refl : (
 module _ (c : Config) (exchanged : Option SessionEnd → List Take → List Reply → Type 0) (ps : List (List ℕ)) where
   pub passed : {M : Type 0} (injector injector' : Injector) (talk : Talk M) (is_out is_out' : List (List ℕ) → Type 0) (p : List ℕ) → HasHeard c injector talk is_out exchanged ps
       → ((steps : List Step) → InjectorStandsFor injector c steps → is_out (sent_by c steps)
-      → (network_fault (writing_cues c) p (packets_in steps) ≡ None) × InjectorStandsFor injector' c (Packet p ∷ steps) × is_out' (sent_by c steps ++ sent_at c p steps))
+      → InjectorStandsFor injector' c (Packet p ∷ steps) × is_out' (sent_by c steps ++ sent_at c p steps))
       → HasRun c injector' talk is_out' exchanged (ps ++ p ∷ [])
   passed injector injector' talk is_out is_out' p h feeds =
       let steps = steps_before (length h.rs) h.ts (reverse ps) in
-      let (none, stands, out) = feeds steps h.stands h.out in
-      let sound = subst (λ q. network_fault (writing_cues c) p q ≡ None) (before_packets (length h.rs) h.ts (reverse ps)) none in
+      let (stands, out) = feeds steps h.stands h.out in
       let now : steps_of (length h.rs) h.ts (reverse (ps ++ p ∷ [])) ≡ Packet p ∷ steps = ap (steps_of (length h.rs) h.ts) (reverse-append ps (p ∷ [])) in
       let long = length-append ps (p ∷ []) in record {
-        sound = sound_more (network_test as_run_fault (writing_cues c)) ps p h.sound (ap (option_map as_run_fault) sound);
         ts = h.ts;
         rs = h.rs;
         stands = subst (InjectorStandsFor injector' c) (sym now) stands;
@@ -206,64 +169,37 @@ module _ (c : Config) (exchanged : Option SessionEnd → List Take → List Repl
         out = subst is_out' (sym (reverse-onto (cued c steps) (sent_at c p steps)) ∙ ap (sent_by c) (sym now)) out;
       }
 
-  -- ---- the end
+-- ---- what is known of a run at a place
 
-  pub ends : {M : Type 0} (injector : Injector) (talk : Talk M) (is_out : List (List ℕ) → Type 0) (input left : Option (List ℕ)) (report : Report) → HasRead input left ps → IsAtEnd left
-      → HasRun c injector talk is_out exchanged ps → ((steps : List Step) → JudgesBy injector c steps → report ≡ report_of c steps) → InjectsAll c input is_out exchanged report
-  ends injector talk is_out None left report r at h counts = tt
-  ends injector talk is_out (Some bs) left report r at h counts =
-      let all : packets_of bs ≡ ps = (read_to_end (Some bs) left ps r at).0 in record {
-        sound = ends_sound Read (network_test as_run_fault (writing_cues c)) (Some bs) left ps r h.sound at;
-        ts = h.ts;
-        rs = h.rs;
-        serves = subst (λ q. Serves c exchanged h.ts h.rs (length q) (steps_of (length h.rs) h.ts (reverse q))) (sym all)
-            (record { ending = talk.end; talked = h.talks.talked; exchanges = h.exchanges; replies = h.replies });
-        written = subst (λ q. is_out (sent_by c (steps_of (length h.rs) h.ts (reverse q)))) (sym all) h.out;
-        counted = subst (λ q. report ≡ report_of c (steps_of (length h.rs) h.ts (reverse q))) (sym all) (counts (steps_of (length h.rs) h.ts (reverse ps)) h.stands.judges);
-      }
+module _ (c : Config) (exchanged : Option SessionEnd → List Take → List Reply → Type 0) (ps : List (List ℕ)) where
+  -- what is out may be said in other words
+  pub run_map : {M : Type 0} (injector : Injector) (talk : Talk M) (is_out is_out' : List (List ℕ) → Type 0) → ((l : List (List ℕ)) → is_out l → is_out' l) → HasRun c injector talk is_out exchanged ps
+      → HasRun c injector talk is_out' exchanged ps
+  run_map injector talk is_out is_out' so h = record { ts = h.ts; rs = h.rs; stands = h.stands; talks = h.talks; exchanges = h.exchanges; replies = h.replies; out = so _ h.out }
 
-  -- ---- the network stops the run
+  pub heard_map : {M : Type 0} (injector : Injector) (talk : Talk M) (is_out is_out' : List (List ℕ) → Type 0) → ((l : List (List ℕ)) → is_out l → is_out' l) → HasHeard c injector talk is_out exchanged ps
+      → HasHeard c injector talk is_out' exchanged ps
+  heard_map injector talk is_out is_out' so h = record { ts = h.ts; rs = h.rs; stands = h.stands; talks = h.talks; exchanges = h.exchanges; replies = h.replies; out = so _ h.out }
 
-  pub read_stops : {M : Type 0} (injector : Injector) (talk : Talk M) (is_out : List (List ℕ) → Type 0) (fails : List (List ℕ) → List ℕ → PutFault → Type 0) (input left : Option (List ℕ)) → HasRead input left ps
-      → HasRun c injector talk is_out exchanged ps → (fault : ReadFault) → Refuses false left fault → InjectStops c (Read fault) input is_out fails exchanged
-  read_stops injector talk is_out fails input left r h fault k =
+  -- before a packet that is not passed on
+  pub heard_served : {M : Type 0} (injector : Injector) (talk : Talk M) (is_out : List (List ℕ) → Type 0) (leaves : List Step → Type 0) → (h : HasHeard c injector talk is_out exchanged ps)
+      → leaves (steps_before (length h.rs) h.ts (reverse ps)) → ServedBefore c exchanged (suc (length ps)) leaves ps
+  heard_served injector talk is_out leaves h o = record {
+    ts = h.ts;
+    rs = h.rs;
+    serves = record { ending = talk.end; talked = h.talks.talked; exchanges = h.exchanges; replies = h.replies };
+    out = o;
+  }
+
+  -- and where none was read
+  pub run_served : {M : Type 0} (injector : Injector) (talk : Talk M) (is_out : List (List ℕ) → Type 0) (leaves : List Step → Type 0) → (h : HasRun c injector talk is_out exchanged ps)
+      → leaves (steps_of (length h.rs) h.ts (reverse ps)) → ServedBefore c exchanged (length ps) leaves ps
+  run_served injector talk is_out leaves h o =
       let back = length-reverse ps in
       let le = few_takes talk.end h.ts (length h.rs) (length ps) h.talks.talked in
-      let same = none_asked (length h.rs) h.ts (reverse ps) (omega (arith, le, back)) in
-      reads_stop (writing_cues c) ps h.sound (InjectLeaves c (Read fault) is_out fails exchanged) input left r fault k (λ bs rest. record {
+      let same = none_asked (length h.rs) h.ts (reverse ps) (omega (arith, le, back)) in record {
         ts = h.ts;
         rs = h.rs;
         serves = record { ending = talk.end; talked = h.talks.talked; exchanges = h.exchanges; replies = h.replies ∙ ap (replies_in c) (sym same) };
-        out = subst (λ s. is_out (sent_by c s)) (sym same) h.out;
-      })
-
-  -- ---- a packet is not passed on
-
-  pub feed_stops : {M S : Type 0} (injector : Injector) (talk : Talk M) (is_out : S → List (List ℕ) → Type 0) (fails : List (List ℕ) → List ℕ → PutFault → Type 0) (s t : S)
-      (input left left' : Option (List ℕ)) (p : List ℕ) → HasRead input left ps → WasGiven left left' p → HasHeard c injector talk (is_out s) exchanged ps → (fault : FeedFault) → KeepsSink fault s t
-      → ((steps : List Step) → InjectorStandsFor injector c steps → is_out s (sent_by c steps) → FeedFails fault c p steps (λ put q f. fails (sent_by c steps ++ put) q f))
-      → InjectStops c (Feed fault) input (is_out t) fails exchanged
-  feed_stops injector talk is_out fails s t input left left' p r g h fault kept feeds = by fault kept (feeds steps h.stands h.out)
-    where
-      steps : List Step
-      steps = steps_before (length h.rs) h.ts (reverse ps)
-
-      serves : Serves c exchanged h.ts h.rs (suc (length ps)) steps
-      serves = record { ending = talk.end; talked = h.talks.talked; exchanges = h.exchanges; replies = h.replies }
-
-      by : (fault : FeedFault) → KeepsSink fault s t → FeedFails fault c p steps (λ put q f. fails (sent_by c steps ++ put) q f) → InjectStops c (Feed fault) input (is_out t) fails exchanged
-      by (Network f) kept k =
-          packets_stop (writing_cues c) ps h.sound (InjectLeaves c (Feed (Network f)) (is_out t) fails exchanged) input left left' p r g (Network f)
-          (subst (λ q. network_fault (writing_cues c) p q ≡ Some f) (before_packets (length h.rs) h.ts (reverse ps)) k)
-          (λ bs rest. record { ts = h.ts; rs = h.rs; serves = serves; out = subst (λ w. is_out w (sent_by c steps)) (sym kept) h.out })
-      by (Sink f) kept k =
-          packets_stop (writing_cues c) ps h.sound (InjectLeaves c (Feed (Sink f)) (is_out t) fails exchanged) input left left' p r g (Sink f) tt
-          (λ bs rest. record { ts = h.ts; rs = h.rs; serves = serves; out = (p, rest, refl, k) })
-      by Failed kept k = absurd k
-
--- what follows from how a sink failed
-pub fails_so : (fault : FeedFault) (c : Config) (p : List ℕ) (steps : List Step) (fails fails' : List (List ℕ) → List ℕ → PutFault → Type 0) → ((put : List (List ℕ)) (q : List ℕ) (f : PutFault) → fails put q f → fails' put q f)
-    → FeedFails fault c p steps fails → FeedFails fault c p steps fails'
-fails_so (Network f) c p steps fails fails' so h = h
-fails_so (Sink f) c p steps fails fails' so h = record { put = h.put; packet = h.packet; left = h.left; all = h.all; fault = so h.put h.packet f h.fault }
-fails_so Failed c p steps fails fails' so h = absurd h
+        out = subst leaves (sym same) o;
+      }

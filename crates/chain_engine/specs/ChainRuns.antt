@@ -1,6 +1,6 @@
 -- Whole runs of the chain: what is put and answered, by the network's bytes, the library and what the automation gave; what a fault says, and
 -- what the devices did there.
-use Rattle.std.specs.Prelude.{◌≡◌, ℕ, suc, ◌+◌, Bool, false, List, [], ◌∷◌, ◌++◌, Option, None, IfSome, length, reverse}
+use Rattle.std.specs.Prelude.{◌≡◌, ◌⊎◌, ℕ, suc, ◌+◌, Bool, false, List, [], ◌∷◌, ◌++◌, Option, None, IfSome, length, reverse}
 use Rattle.ts_packet.specs.Packets.{packets_of}
 use Rattle.ts_packet.specs.declared.sink.PutFault.{PutFault}
 use Rattle.psi_section.specs.Assembling.{capped}
@@ -16,18 +16,18 @@ use Rattle.ad_library.specs.Advertisements.{Advertisement}
 use Rattle.splice_plans.specs.Adverts.{setting_of}
 use Rattle.splice_plans.specs.Switching.{spliced_network}
 use Rattle.splice_plans.specs.Reporting as events
-use Rattle.splice_switch.specs.Standing.{FinishFails}
+use Rattle.splice_switch.specs.Standing.{FinishFails, switch_unasked}
 use Rattle.chain_engine.specs.Automation.{Take, Answer}
 use Rattle.chain_engine.specs.Hearing.{answers_to}
 use Rattle.chain_engine.specs.Talks.{TalkStandsFor, judged_before, loses}
-use Rattle.chain_engine.specs.Stops.{first_run_fault, IsLeftBy, StopsBy}
-use Rattle.chain_engine.specs.Runs.{asked, steps_of, replies_in, sent_by, Serves, WasServed}
+use Rattle.chain_engine.specs.Stops.{first_run_fault, IsLeftBy, IfSink, StopsBy}
+use Rattle.chain_engine.specs.Runs.{asked, steps_of, replies_in, sent_by, Serves, ServedBefore, WasServed}
 use Rattle.chain_engine.specs.Splices.{switch_sends}
 use Rattle.chain_engine.specs.Nested.{WasFed, SwitchFails, IsSoundNetwork, PassFails}
 use Rattle.chain_engine.specs.declared.hearing.SessionEnd.{SessionEnd}
 use Rattle.chain_engine.specs.declared.report.Report.{Report}
 use Rattle.chain_engine.specs.declared.chain.Chain.{Chain}
-use Rattle.chain_engine.specs.declared.chain.RunFault.{RunFault}
+use Rattle.chain_engine.specs.declared.faults.RunFault.{RunFault}
 use Rattle.program_follower.specs.Purposes.{writing_cues}
 
 -- THE OUTPUT of these steps, in order: what the switch sends by what the injector sends
@@ -78,14 +78,18 @@ SwitchStops fault c filed bs steps (p ∷ more) is_out fails =
 
 -- what is answered and out, by the packets that were passed on and those left
 abbrev pub ChainLeaves : Config → (ℕ → Option Advertisement) → RunFault → (List (List ℕ) → Type 0) → (List (List ℕ) → List ℕ → PutFault → Type 0)
-    → (Option SessionEnd → List Take → List Reply → Type 0) → List ℕ → List (List ℕ) → List (List ℕ) → Type 0
-ChainLeaves c filed fault is_out fails exchanged bs passed rest = WasServed c exchanged fault
+    → (List (List ℕ) → PutFault → Type 0) → (Option SessionEnd → List Take → List Reply → Type 0) → List ℕ → List (List ℕ) → List (List ℕ) → Type 0
+ChainLeaves c filed fault is_out fails unsent exchanged bs passed rest =
+    WasServed c exchanged fault
     (λ steps. IsLeftBy fault (is_out (chain_sends c filed steps)) (λ x. SwitchStops x c filed bs steps rest is_out fails)) passed rest
+    ⊎ IfSink fault (λ x. ServedBefore c exchanged (length passed) (λ steps. unsent (chain_sends c filed steps) x) passed)
 
 -- THE THEOREM FOR FAULTS of a run of the chain
 abbrev pub ChainStops : Config → (ℕ → Option Advertisement) → RunFault → Option (List ℕ) → (List (List ℕ) → Type 0)
-    → (List (List ℕ) → List ℕ → PutFault → Type 0) → (Option SessionEnd → List Take → List Reply → Type 0) → Type 0
-ChainStops c filed fault input is_out fails exchanged = StopsBy (writing_cues c) fault input (ChainLeaves c filed fault is_out fails exchanged)
+    → (List (List ℕ) → List ℕ → PutFault → Type 0) → (List (List ℕ) → PutFault → Type 0)
+    → (Option SessionEnd → List Take → List Reply → Type 0) → Type 0
+ChainStops c filed fault input is_out fails unsent exchanged =
+    StopsBy (writing_cues c) fault input (ChainLeaves c filed fault is_out fails unsent exchanged)
 
 -- ---- one packet
 
@@ -98,6 +102,10 @@ pub record HasStepped {M : Type 0} (chain : Chain M) (filed : ℕ → Option Adv
   pub network : IsSoundNetwork chain.config (packets_in steps)
   pub switch : WasFed chain.switch chain.config filed is_out (sent_by chain.config steps)
   pub whole : chain.is_spent ≡ false
+
+-- the same chain, of which it is open whether what was due of the advertisements that run is out
+abbrev pub chain_unasked : {M : Type 0} → Chain M → Chain M
+chain_unasked chain = record chain { switch = switch_unasked chain.switch }
 
 -- the steps before the next packet, where these takes and so many replies came
 abbrev pub heard_steps : List Take → ℕ → ℕ → List Step → List Step

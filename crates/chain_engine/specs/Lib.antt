@@ -9,3 +9,4 @@ pub mod Runs
 pub mod Splices
 pub mod Nested
 pub mod ChainRuns
+pub mod Stages

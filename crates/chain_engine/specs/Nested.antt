@@ -21,7 +21,7 @@ use Rattle.splice_switch.specs.declared.switch.Switch.{Switch}
 use Rattle.splice_switch.specs.Standing.{SwitchStandsFor}
 use Rattle.chain_engine.specs.Runs.{OutputBlamed}
 use Rattle.chain_engine.specs.Splices.{switch_sends}
-use Rattle.chain_engine.specs.declared.chain.RunFault.TheVariants.{Feed}
+use Rattle.chain_engine.specs.declared.faults.RunFault.TheVariants.{Feed}
 
 -- ---- what a switch was fed, and what is out
 

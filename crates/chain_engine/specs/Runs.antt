@@ -1,8 +1,8 @@
 -- Whole runs: what is put and answered, by the network's bytes and what the automation gave; what a fault says, and
 -- what the devices did there.
-use Rattle.std.specs.Prelude.{◌≡◌, ℕ, suc, List, [], ◌∷◌, ◌++◌, Bool, Option, None, IfSome, length, reverse}
+use Rattle.std.specs.Prelude.{◌≡◌, ◌⊎◌, ℕ, suc, List, [], ◌∷◌, ◌++◌, Bool, Option, None, IfSome, length, reverse}
 use Rattle.ts_packet.specs.Packets.{packets_of}
-use Rattle.ts_packet.specs.Sources.{ReadSo, RunBlamed}
+use Rattle.ts_packet.specs.Sources.{ReadSo, ReadOn, RunBlamed}
 use Rattle.ts_packet.specs.Sinks.{Blamed}
 use Rattle.ts_packet.specs.Transfers.{WentWell}
 use Rattle.ts_packet.specs.declared.tally.Tally.{Tally}
@@ -20,11 +20,11 @@ use Rattle.injector.specs.Steps.{refused_in}
 use Rattle.chain_engine.specs.Automation.{Take, Answer}
 use Rattle.chain_engine.specs.Hearing.{answers_to, lost_by}
 use Rattle.chain_engine.specs.Talks.{judged_before, HasTalked, CountsEnd}
-use Rattle.chain_engine.specs.Stops.{first_run_fault, IsLeftBy, StopsBy}
+use Rattle.chain_engine.specs.Stops.{first_run_fault, IsLeftBy, IfSink, StopsBy}
 use Rattle.chain_engine.specs.declared.hearing.SessionEnd.{SessionEnd}
 use Rattle.chain_engine.specs.declared.report.Report.{Report}
-use Rattle.chain_engine.specs.declared.chain.RunFault.{RunFault}
-use Rattle.chain_engine.specs.declared.chain.RunFault.TheVariants.{Read, Feed}
+use Rattle.chain_engine.specs.declared.faults.RunFault.{RunFault}
+use Rattle.chain_engine.specs.declared.faults.RunFault.TheVariants.{Read, Feed}
 use Rattle.program_follower.specs.Purposes.{writing_cues}
 
 -- ---- the history of a run
@@ -111,15 +111,19 @@ heard_at (Read fault) rest k = k
 heard_at (Feed fault) [] k = k
 heard_at (Feed fault) (p ∷ more) k = suc k
 
--- What is answered and out where a run stops so, with these packets passed on and those left: that of the packets that
--- were passed on, and of the messages before the next. `leaves` says of the steps up to there what is out.
-pub record WasServed (c : Config) (exchanged : Option SessionEnd → List Take → List Reply → Type 0) (fault : RunFault)
-    (leaves : List Step → Type 0) (passed rest : List (List ℕ)) : Type 0 where
+-- What is answered and out where a run stops behind these packets, the automation having been heard before so many: that of these packets, and
+-- of the messages before the next one. `leaves` says of the steps up to there what is out.
+pub record ServedBefore (c : Config) (exchanged : Option SessionEnd → List Take → List Reply → Type 0) (k : ℕ)
+    (leaves : List Step → Type 0) (passed : List (List ℕ)) : Type 0 where
   pub ts : List Take
   pub rs : List Reply
-  pub serves : Serves c exchanged ts rs (heard_at fault rest (length passed))
-      (steps_before (length rs) ts (reverse passed))
+  pub serves : Serves c exchanged ts rs k (steps_before (length rs) ts (reverse passed))
   pub out : leaves (steps_before (length rs) ts (reverse passed))
+
+-- where it stops so, with these packets passed on and those left
+abbrev pub WasServed : Config → (Option SessionEnd → List Take → List Reply → Type 0) → RunFault → (List Step → Type 0)
+    → List (List ℕ) → List (List ℕ) → Type 0
+WasServed c exchanged fault leaves passed rest = ServedBefore c exchanged (heard_at fault rest (length passed)) leaves passed
 
 -- a front of what the next packet sends behind these steps went out, and then the sink failed
 abbrev pub SendFails : Config → List Step → List (List ℕ) → (List (List ℕ) → List ℕ → Type 0) → Type 0
@@ -127,24 +131,30 @@ SendFails c steps rest fails =
     (p : List ℕ) × (more : List (List ℕ)) × (rest ≡ p ∷ more)
     × FrontFails (sent_at c p steps) (λ put q. fails (sent_by c steps ++ put) q)
 
--- what is answered and out, by the packets that were passed on and those left
+-- What is answered and out, by the packets that were passed on and those left. `unsent` says of packets that the output stands behind them, and
+-- that sending what it kept back of them failed so: then the automation was not heard before the next packet.
 abbrev pub InjectLeaves : Config → RunFault → (List (List ℕ) → Type 0) → (List (List ℕ) → List ℕ → PutFault → Type 0)
-    → (Option SessionEnd → List Take → List Reply → Type 0) → List ℕ → List (List ℕ) → List (List ℕ) → Type 0
-InjectLeaves c fault is_out fails exchanged bs passed rest = WasServed c exchanged fault (λ steps.
-    IsLeftBy fault (is_out (sent_by c steps)) (λ x. SendFails c steps rest (λ qs q. fails qs q x))) passed rest
+    → (List (List ℕ) → PutFault → Type 0) → (Option SessionEnd → List Take → List Reply → Type 0)
+    → List ℕ → List (List ℕ) → List (List ℕ) → Type 0
+InjectLeaves c fault is_out fails unsent exchanged bs passed rest =
+    WasServed c exchanged fault (λ steps. IsLeftBy fault (is_out (sent_by c steps)) (λ x. SendFails c steps rest (λ qs q. fails qs q x))) passed rest
+    ⊎ IfSink fault (λ x. ServedBefore c exchanged (length passed) (λ steps. unsent (sent_by c steps) x) passed)
 
 -- THE THEOREM FOR FAULTS of a run with an injector
 abbrev pub InjectStops : Config → RunFault → Option (List ℕ) → (List (List ℕ) → Type 0)
-    → (List (List ℕ) → List ℕ → PutFault → Type 0) → (Option SessionEnd → List Take → List Reply → Type 0) → Type 0
-InjectStops c fault input is_out fails exchanged =
-    StopsBy (writing_cues c) fault input (InjectLeaves c fault is_out fails exchanged)
+    → (List (List ℕ) → List ℕ → PutFault → Type 0) → (List (List ℕ) → PutFault → Type 0)
+    → (Option SessionEnd → List Take → List Reply → Type 0) → Type 0
+InjectStops c fault input is_out fails unsent exchanged =
+    StopsBy (writing_cues c) fault input (InjectLeaves c fault is_out fails unsent exchanged)
 
 -- ---- what the devices did
 
--- what the network's device counted where a run stops so; `ended` is whether it has told the end
-abbrev pub NetworkBlamed : RunFault → Bool → Tally → Tally → Type 0
-NetworkBlamed (Read fault) ended old new = RunBlamed fault old new
-NetworkBlamed (Feed fault) ended old new = ReadSo ended old new
+-- what the network's device counted where a run stops so, by whether it had told the end before, and has now
+abbrev pub NetworkBlamed : RunFault → Bool → Bool → Tally → Tally → Type 0
+NetworkBlamed (Read fault) before ended old new = RunBlamed fault old new
+NetworkBlamed (Feed (Network fault)) before ended old new = ReadSo ended old new
+NetworkBlamed (Feed (Sink fault)) before ended old new = ReadOn before ended old new
+NetworkBlamed (Feed Failed) before ended old new = ⊥
 
 -- what the output's device counted there; `full` is whether the output takes no more
 abbrev pub OutputBlamed : RunFault → Tally → Tally → Bool → Type 0

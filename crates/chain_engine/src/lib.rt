@@ -9,7 +9,9 @@
 
 pub mod automation;
 mod chain;
+mod faults;
 mod hearing;
+mod inject;
 pub mod judge;
 mod report;
 mod running;
@@ -17,8 +19,10 @@ mod splice;
 mod talk;
 
 pub use automation::{Automation, Taken};
-pub use chain::{Chain, OutOfMemory, RunFault, run_inject};
+pub use chain::{Chain, OutOfMemory};
+pub use faults::RunFault;
 pub use hearing::SessionEnd;
+pub use inject::run_inject;
 pub use judge::Judge;
 pub use report::Report;
 pub use running::run;

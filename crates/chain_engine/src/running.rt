@@ -16,18 +16,20 @@ ghost use Rattle.chain_engine.specs.Progress.{Progresses};
 ghost use Rattle.chain_engine.specs.Runs.{sent_by, Exchanged, OutputBlamed};
 ghost use Rattle.chain_engine.specs.Splices.{NetworkBlamedToEnd};
 ghost use Rattle.chain_engine.specs.Nested.{WasFed, IsSoundNetwork, PassFails};
-ghost use Rattle.chain_engine.specs.ChainRuns.{RunsAll, ChainStops, HasStepped, Stepped, StepStops};
+ghost use Rattle.chain_engine.specs.ChainRuns.{RunsAll, ChainStops, HasStepped, Stepped, StepStops, chain_unasked};
 ghost use Rattle.program_follower.specs.Purposes.{writing_cues};
 
 use crate::automation::Automation;
-use crate::chain::{Chain, RunFault};
+use crate::chain::Chain;
+use crate::faults::{RunFault, put_fault, stage_fault};
 use crate::report::Report;
 use ad_library::AdLibrary;
 use injector::Injector;
-use psi_tables::{Config, FeedFault};
+use packet_runs::{Stage, StageFault, run_stage};
+use psi_tables::{Config, FeedFault, NetworkFault};
 use splice_switch::Switch;
 use std::alloc::Allocator;
-use ts_packet::{Packet, PacketSink, PacketSource, PutFault, ReadFault};
+use ts_packet::{GatheringSink, Packet, PacketSink, PausingPackets, PutFault, ReadFault};
 
 /// A sink that feeds a switch. It keeps the fault of the switch, and answers `Failed` from then on.
 struct Feeding<'a, K: PacketSink> {
@@ -85,7 +87,7 @@ impl<K: PacketSink> PacketSink for Feeding<'_, K> {
 
     #[inline(always)]
     fn put(&mut self, packet: &Packet) -> Result<(), PutFault> {
-        match self.switch.feed(packet, self.library, self.out) {
+        match self.switch.feed_with_same(packet, self.library, self.out) {
             Ok(()) => Ok(()),
             Err(FeedFault::Failed) => Err(PutFault::Failed),
             Err(FeedFault::Network(fault)) => {
@@ -167,13 +169,53 @@ fn pass_on<K: PacketSink>(
 }
 
 impl<M: Allocator> Chain<M> {
-    /// Takes the next packet of the network: hears the automation first, and puts what goes out.
+    /// Takes the next packet of the network: hears the automation first, and puts what goes out. What is due of the
+    /// advertisements that run is asked for anew.
     ///
     /// # Errors
     ///
     /// What is wrong with the packet behind those before it: nothing of it was put then; or the fault of the sink: what was put is a front of
     /// what the packet puts. `Failed` once a fault was answered: then nothing is taken, answered or put.
     pub fn step<U: Automation, K: PacketSink>(
+        &mut self,
+        packet: &Packet,
+        automation: &mut U,
+        library: &AdLibrary,
+        out: &mut K,
+    ) -> Result<(), FeedFault>
+        ensures leads { K.leads out.old out.new }
+        ensures ok { (ts : List Take) (n k : ℕ) (steps : List Step) (start : Option (List ℕ)) (before : List (List ℕ))
+            → HasStepped (chain_unasked self.old) (held library.now) (λ qs. K.holds out.old start (before ++ qs))
+            ts n k steps
+            → OnOk result (Stepped U.takes U.answers automation.old automation.new self.old self.new (held library.now)
+            (λ qs. K.holds out.new start (before ++ qs)) ts n k packet.now steps) }
+        ensures err { (ts : List Take) (n k : ℕ) (steps : List Step) (start : Option (List ℕ)) (before : List (List ℕ))
+            → HasStepped (chain_unasked self.old) (held library.now) (λ qs. K.holds out.old start (before ++ qs))
+            ts n k steps
+            → IfErr result (λ f. StepStops U.takes U.answers automation.old automation.new self.old self.new f
+            (held library.now) (λ qs. K.holds out.new start (before ++ qs))
+            (λ qs q x. K.fails out.new start (before ++ qs) q x) ts n k packet.now steps) }
+        ensures well { OnOk result (WentWell (K.counts out.old) (K.counts out.new)) }
+        ensures blamed { IfErr result (λ f. OutputBlamed (RunFault.Feed f)
+            (K.counts out.old) (K.counts out.new) (K.is_full out.new)) }
+        ensures failed { self.old.is_spent ≡ true → (result ≡ Err FeedFault.Failed) × (self.new ≡ self.old)
+            × (automation.new ≡ automation.old) × (out.new ≡ out.old) }
+        ensures spent { self.new.is_spent ≡ is_err_or result self.old.is_spent }
+    {
+        if self.is_spent {
+            return Err(FeedFault::Failed);
+        }
+        self.switch.ask_anew();
+        self.step_with_same(packet, automation, library, out)
+    }
+
+    /// As [`Chain::step`], where the library is that of the calls before: what is due of the advertisements that run is asked for once for each
+    /// greatest time.
+    ///
+    /// # Errors
+    ///
+    /// As for [`Chain::step`].
+    pub fn step_with_same<U: Automation, K: PacketSink>(
         &mut self,
         packet: &Packet,
         automation: &mut U,
@@ -219,6 +261,140 @@ impl<M: Allocator> Chain<M> {
     }
 }
 
+impl<M: Allocator> Chain<M> {
+    /// Passes the next packet of the network on, by [`pass_on`], and answers as a stage does.
+    ///
+    /// # Errors
+    ///
+    /// As for [`pass_on`].
+    #[inline(always)]
+    fn pass<K: PacketSink>(
+        &mut self,
+        packet: &Packet,
+        library: &AdLibrary,
+        out: &mut K,
+    ) -> Result<(), FeedFault>
+        ensures leads { K.leads out.old out.new }
+        ensures ok { (steps : List Step) (start : Option (List ℕ)) (before fed : List (List ℕ))
+            → InjectorStandsFor self.old.injector self.old.config steps
+            → WasFed self.old.switch self.old.config (held library.now) (λ qs. K.holds out.old start (before ++ qs)) fed
+            → OnOk result (WasFed self.new.switch self.old.config (held library.now) (λ qs. K.holds out.new start (before ++ qs))
+            (fed ++ sent_at self.old.config packet.now steps)) }
+        ensures stands { (steps : List Step) → InjectorStandsFor self.old.injector self.old.config steps
+            → OnOk result (InjectorStandsFor self.new.injector self.old.config (PacketStep packet.now ∷ steps)) }
+        ensures sound { (steps : List Step) → InjectorStandsFor self.old.injector self.old.config steps
+            → OnOk result (network_fault (writing_cues self.old.config) packet.now (packets_in steps) ≡ None) }
+        ensures bytes { AreBytes packet.now }
+        ensures err { (steps : List Step) (start : Option (List ℕ)) (before fed : List (List ℕ))
+            → InjectorStandsFor self.old.injector self.old.config steps
+            → IsSoundNetwork self.old.config (packets_in steps) → fed ≡ sent_by self.old.config steps
+            → WasFed self.old.switch self.old.config (held library.now) (λ qs. K.holds out.old start (before ++ qs)) fed
+            → IfErr result (λ f. PassFails f self.old.config (held library.now) packet.now steps fed
+            (λ qs. K.holds out.new start (before ++ qs)) (λ qs q x. K.fails out.new start (before ++ qs) q x)) }
+        ensures well { OnOk result (WentWell (K.counts out.old) (K.counts out.new)) }
+        ensures blamed { IfErr result (λ f. OutputBlamed (RunFault.Feed f)
+            (K.counts out.old) (K.counts out.new) (K.is_full out.new)) }
+        ensures config { self.new.config ≡ self.old.config }
+        ensures talk { self.new.talk ≡ self.old.talk }
+    {
+        let config = &self.config;
+        pass_on(
+            &mut self.injector,
+            &mut self.switch,
+            config,
+            packet,
+            library,
+            out,
+        )
+    }
+}
+
+/// A chain, the automation that it hears before each packet, and the library that it plays.
+#[derive(Drop)]
+struct Playing<'a, M: Allocator, U> {
+    chain: &'a mut Chain<M>,
+    automation: &'a mut U,
+    library: &'a AdLibrary,
+}
+
+impl<'a, M: Allocator, U> Playing<'a, M, U> {
+    /// This chain, automation and library.
+    fn new(
+        chain: &'a mut Chain<M>,
+        automation: &'a mut U,
+        library: &'a AdLibrary,
+    ) -> Playing<'a, M, U>
+        ensures chain { result.chain.now ≡ chain.old }
+        ensures automation { result.automation.now ≡ automation.old }
+        ensures library { result.library.now ≡ library.now }
+        ensures same { result.automation.ghost_name ≡ automation.entry.ghost_name }
+    {
+        Playing {
+            chain,
+            automation,
+            library,
+        }
+    }
+}
+
+impl<M: Allocator, U: Automation> Stage for Playing<'_, M, U> {
+    ghost use Rattle.std.specs.Prelude.{◌≡◌, true};
+    ghost use Rattle.std.proofs.Common.{refl, ◌∙◌};
+    ghost use Rattle.program_follower.specs.Faults.{network_fault};
+    ghost use Rattle.program_follower.specs.Purposes.{writing_cues};
+    ghost use Rattle.ad_library.specs.Library.{held};
+    ghost use Rattle.chain_engine.specs.Runs.{Exchanged};
+    ghost use Rattle.chain_engine.specs.Stages.{ChainSends, ChainRefuses, ChainBreaks, ChainEnds};
+
+    type Refusal = NetworkFault;
+
+    type Report = Report;
+
+    ghost refusal = { λ s seen. network_fault (writing_cues s.chain.now.config) seen.packet seen.past };
+
+    ghost sends = { λ first ps qs kept now. (now.library.now ≡ first.library.now)
+        × ChainSends first.chain.now now.chain.now (held first.library.now)
+        (Exchanged U.takes U.answers U.failures first.automation.now now.automation.now) ps qs };
+
+    ghost refuses = { λ first ps qs p now. ChainRefuses first.chain.now.config (held first.library.now)
+        (Exchanged U.takes U.answers U.failures first.automation.now now.automation.now) ps qs p };
+
+    ghost breaks = { λ first ps next put q now. ChainBreaks first.chain.now.config (held first.library.now)
+        (Exchanged U.takes U.answers U.failures first.automation.now now.automation.now) ps next put q };
+
+    ghost ends = { λ first ps sent report now. ChainEnds first.chain.now.config (held first.library.now)
+        (Exchanged U.takes U.answers U.failures first.automation.now now.automation.now) ps sent report };
+
+    ghost leads = { λ s t. t.automation.ghost_name ≡ s.automation.ghost_name };
+
+    ghost puts_rest = { true };
+
+    ghost leads_refl = { λ s. refl };
+
+    ghost leads_trans = { λ s t u h k. k ∙ h };
+
+    #[inline(always)]
+    fn step<K: PacketSink>(
+        &mut self,
+        packet: &mut Packet,
+        _kept: &Packet,
+        out: &mut K,
+    ) -> Result<bool, StageFault<NetworkFault>> {
+        self.chain.hear(self.automation);
+        match self.chain.pass(packet, self.library, out) {
+            Ok(()) => Ok(false),
+            Err(fault) => Err(stage_fault(fault)),
+        }
+    }
+
+    fn finish<K: PacketSink>(&mut self, out: &mut K) -> Result<Report, PutFault> {
+        match self.chain.switch.finish(self.library, out) {
+            Ok(events) => Ok(Report::of_chain(self.chain.injector.counts(), events)),
+            Err(fault) => Err(put_fault(fault)),
+        }
+    }
+}
+
 /// Passes a network on, with advertisements in the breaks that the automation asks for. Before each packet the automation is asked for one
 /// piece, for as long as its session is open, and each message that becomes whole in it is judged and answered.
 ///
@@ -226,7 +402,7 @@ impl<M: Allocator> Chain<M> {
 ///
 /// The first fault of the network, once what the packets before it send is out; or the device's fault, at the packet where it came. After
 /// a fault nothing more of the advertisements is put.
-pub fn run<M: Allocator, P: PacketSource, U: Automation, K: PacketSink>(
+pub fn run<M: Allocator, P: PausingPackets, U: Automation, K: GatheringSink>(
     chain: Chain<M>,
     network: &mut P,
     automation: &mut U,
@@ -240,13 +416,14 @@ pub fn run<M: Allocator, P: PacketSource, U: Automation, K: PacketSink>(
     ensures err { (c : Config) (start : Option (List ℕ)) (before : List (List ℕ)) → ChainStandsFor chain c
         → K.holds out.old start before → IfErr result (λ f. ChainStops c (held library.now) f (P.left network.old)
         (λ ps. K.holds out.new start (before ++ ps)) (λ ps. K.fails out.new start (before ++ ps))
+        (λ ps. K.fails_to_send out.new start (before ++ ps))
         (Exchanged U.takes U.answers U.failures automation.old automation.new)) }
     ensures progress { (c : Config) (start : Option (List ℕ)) (before : List (List ℕ)) → ChainStandsFor chain c
         → K.holds out.old start before
         → Progresses (first_run_fault (writing_cues c)) (P.left network.old)
         (Stalled P.leads P.counts P.falls_short network.old network.new ⊎ Exhausted P.left P.given network.old)
         (P.counts network.old) (P.counts network.new) (K.counts out.old) (K.counts out.new) (K.is_full out.new)
-        (λ ps. K.fails out.new start (before ++ ps)) result }
+        (λ ps. K.fails out.new start (before ++ ps)) (λ ps. K.fails_to_send out.new start (before ++ ps)) result }
     ensures read { OnOk result (SourceCounts false (P.has_ended network.old) (P.has_ended network.new)
         (P.counts network.old) (P.counts network.new)) }
     ensures wrote { OnOk result (WentWell (K.counts out.old) (K.counts out.new)) }
@@ -258,28 +435,10 @@ pub fn run<M: Allocator, P: PacketSource, U: Automation, K: PacketSink>(
     ensures reads { P.leads network.old network.new }
     ensures leads { K.leads out.old out.new }
 {
-    let Chain {
-        mut talk,
-        mut injector,
-        mut switch,
-        config,
-        is_spent: _,
-    } = chain;
-    let mut packet = Packet::null();
-    loop {
-        match network.read_packet(&mut packet) {
-            Ok(true) => {}
-            Ok(false) => break,
-            Err(fault) => return Err(RunFault::Read(fault)),
-        }
-        talk.listen(&mut injector, automation);
-        match pass_on(&mut injector, &mut switch, &config, &packet, library, out) {
-            Ok(()) => {}
-            Err(fault) => return Err(RunFault::Feed(fault)),
-        }
-    }
-    match switch.finish(library, out) {
-        Ok(events) => Ok(Report::of_chain(injector.counts(), events)),
-        Err(fault) => Err(RunFault::Feed(fault)),
+    let mut chain = chain;
+    let mut stage = Playing::new(&mut chain, automation, library);
+    match run_stage(&mut stage, network, out) {
+        Ok(report) => Ok(report),
+        Err(stop) => Err(RunFault::of(stop)),
     }
 }

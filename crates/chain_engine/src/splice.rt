@@ -10,11 +10,72 @@ ghost use Rattle.chain_engine.specs.Progress.{Progresses};
 ghost use Rattle.chain_engine.specs.Runs.{OutputBlamed};
 ghost use Rattle.chain_engine.specs.Splices.{SplicesAll, SpliceStops, NetworkBlamedToEnd};
 
-use crate::chain::RunFault;
+use crate::faults::{RunFault, put_fault, stage_fault};
 use ad_library::AdLibrary;
-use psi_tables::Config;
+use packet_runs::{Stage, StageFault, run_stage};
+use psi_tables::{Config, NetworkFault};
 use splice_switch::{Switch, SwitchReport};
-use ts_packet::{Packet, PacketSink, PacketSource, ReadFault};
+use ts_packet::{GatheringSink, Packet, PacketSink, PausingPackets, PutFault, ReadFault};
+
+/// A switch, the configuration that it was made for, and the library that it plays.
+#[derive(Drop)]
+struct Splicing<'a> {
+    switch: Switch,
+    config: Config,
+    library: &'a AdLibrary,
+}
+
+impl Stage for Splicing<'_> {
+    ghost use Rattle.std.specs.Prelude.{◌≡◌, true};
+    ghost use Rattle.program_follower.specs.Faults.{network_fault};
+    ghost use Rattle.program_follower.specs.Purposes.{reading_cues};
+    ghost use Rattle.ad_library.specs.Library.{held};
+    ghost use Rattle.chain_engine.specs.Splices.{switch_sends};
+    ghost use Rattle.chain_engine.specs.Stages.{SpliceSends, SpliceBreaks, SpliceEnds};
+
+    type Refusal = NetworkFault;
+
+    type Report = SwitchReport;
+
+    ghost refusal = { λ s seen. network_fault (reading_cues s.config) seen.packet seen.past };
+
+    ghost sends = { λ first ps qs kept now. (now.library.now ≡ first.library.now)
+        × SpliceSends now.switch first.config (held first.library.now) ps qs };
+
+    ghost refuses = { λ first ps qs p now. switch_sends first.config (held first.library.now) ps ≡ qs };
+
+    ghost breaks = { λ first ps next put q now. SpliceBreaks first.config (held first.library.now) ps next put q };
+
+    ghost ends = { λ first ps sent report now. SpliceEnds first.config (held first.library.now) ps sent report };
+
+    ghost leads = { λ s t. Unit {0} };
+
+    ghost puts_rest = { true };
+
+    ghost leads_refl = { λ s. tt };
+
+    ghost leads_trans = { λ s t u h k. tt };
+
+    #[inline(always)]
+    fn step<K: PacketSink>(
+        &mut self,
+        packet: &mut Packet,
+        _kept: &Packet,
+        out: &mut K,
+    ) -> Result<bool, StageFault<NetworkFault>> {
+        match self.switch.feed_with_same(packet, self.library, out) {
+            Ok(()) => Ok(false),
+            Err(fault) => Err(stage_fault(fault)),
+        }
+    }
+
+    fn finish<K: PacketSink>(&mut self, out: &mut K) -> Result<SwitchReport, PutFault> {
+        match self.switch.finish(self.library, out) {
+            Ok(report) => Ok(report),
+            Err(fault) => Err(put_fault(fault)),
+        }
+    }
+}
 
 /// Passes a network with cues on, with advertisements in the events that the cues arm: the units of each switched stream that lie in a
 /// played event are left out, and those of the advertisement go out in their place, at the network's times. The cues themselves go no
@@ -24,7 +85,7 @@ use ts_packet::{Packet, PacketSink, PacketSource, ReadFault};
 ///
 /// The first fault of the network, once what the packets before it send is out; or the device's fault, at the packet where it came. After
 /// a fault nothing more of the advertisements is put.
-pub fn run_splice<P: PacketSource, K: PacketSink>(
+pub fn run_splice<P: PausingPackets, K: GatheringSink>(
     config: Config,
     network: &mut P,
     library: &AdLibrary,
@@ -35,12 +96,13 @@ pub fn run_splice<P: PacketSource, K: PacketSink>(
         → IfOk result (SplicesAll config (held library.now) (P.left network.old) (λ ps. K.holds out.new start (before ++ ps))) }
     ensures err { (start : Option (List ℕ)) (before : List (List ℕ)) → K.holds out.old start before
         → IfErr result (λ f. SpliceStops config (held library.now) f (P.left network.old)
-        (λ ps. K.holds out.new start (before ++ ps)) (λ ps. K.fails out.new start (before ++ ps))) }
+        (λ ps. K.holds out.new start (before ++ ps)) (λ ps. K.fails out.new start (before ++ ps))
+        (λ ps. K.fails_to_send out.new start (before ++ ps))) }
     ensures progress { (start : Option (List ℕ)) (before : List (List ℕ)) → K.holds out.old start before
         → Progresses (first_run_fault (reading_cues config)) (P.left network.old)
         (Stalled P.leads P.counts P.falls_short network.old network.new ⊎ Exhausted P.left P.given network.old)
         (P.counts network.old) (P.counts network.new) (K.counts out.old) (K.counts out.new) (K.is_full out.new)
-        (λ ps. K.fails out.new start (before ++ ps)) result }
+        (λ ps. K.fails out.new start (before ++ ps)) (λ ps. K.fails_to_send out.new start (before ++ ps)) result }
     ensures read { OnOk result (SourceCounts false (P.has_ended network.old) (P.has_ended network.new)
         (P.counts network.old) (P.counts network.new)) }
     ensures wrote { OnOk result (WentWell (K.counts out.old) (K.counts out.new)) }
@@ -52,21 +114,14 @@ pub fn run_splice<P: PacketSource, K: PacketSink>(
     ensures reads { P.leads network.old network.new }
     ensures leads { K.leads out.old out.new }
 {
-    let mut switch = Switch::new(config);
-    let mut packet = Packet::null();
-    loop {
-        match network.read_packet(&mut packet) {
-            Ok(true) => {}
-            Ok(false) => break,
-            Err(fault) => return Err(RunFault::Read(fault)),
-        }
-        match switch.feed(&packet, library, out) {
-            Ok(()) => {}
-            Err(fault) => return Err(RunFault::Feed(fault)),
-        }
-    }
-    match switch.finish(library, out) {
+    let given = &config;
+    let mut stage = Splicing {
+        switch: Switch::new(*given),
+        config: *given,
+        library,
+    };
+    match run_stage(&mut stage, network, out) {
         Ok(report) => Ok(report),
-        Err(fault) => Err(RunFault::Feed(fault)),
+        Err(stop) => Err(RunFault::of(stop)),
     }
 }

@@ -27,8 +27,8 @@ use Rattle.switch_laws.proofs.StreamLemmas.{all-reversed}
 use Rattle.chain_engine.specs.Automation.{Take}
 use Rattle.chain_engine.specs.Stops.{as_run_fault, first_run_fault}
 use Rattle.chain_engine.specs.Runs.{steps_of}
-use Rattle.chain_engine.specs.declared.chain.RunFault.{RunFault}
-use Rattle.chain_engine.specs.declared.chain.RunFault.TheVariants.{Read}
+use Rattle.chain_engine.specs.declared.faults.RunFault.{RunFault}
+use Rattle.chain_engine.specs.declared.faults.RunFault.TheVariants.{Read}
 use Rattle.chain_engine.proofs.StepsLemmas.{steps_packets}
 use Rattle.chain_laws.specs.Breaks.{EndsWithPacket}
 use Rattle.chain_laws.specs.Runs.{IsWholeRun}

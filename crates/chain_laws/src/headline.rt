@@ -10,7 +10,7 @@ ghost use Rattle.chain_laws.specs.Headline.{Headline};
 use ad_library::AdLibrary;
 use chain_engine::{Automation, Chain, Report, RunFault, run};
 use std::alloc::Allocator;
-use ts_packet::{PacketSink, PacketSource};
+use ts_packet::{GatheringSink, PausingPackets};
 
 /// Passes a network on as [`run`] does, and says of a run that went through what it is by its requests: each message is answered by its
 /// verdict, and each switched stream of what is out is the network's with the advertisements in the played breaks.
@@ -18,7 +18,7 @@ use ts_packet::{PacketSink, PacketSource};
 /// # Errors
 ///
 /// Those of [`run`].
-pub fn run_as_requested<M: Allocator, P: PacketSource, U: Automation, K: PacketSink>(
+pub fn run_as_requested<M: Allocator, P: PausingPackets, U: Automation, K: GatheringSink>(
     chain: Chain<M>,
     network: &mut P,
     automation: &mut U,

@@ -25,6 +25,8 @@ mod fail_tests;
 #[cfg(test)]
 mod item;
 #[cfg(test)]
+mod library_tests;
+#[cfg(test)]
 mod lost_tests;
 pub mod packets;
 #[cfg(test)]

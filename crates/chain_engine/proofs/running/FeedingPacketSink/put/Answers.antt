@@ -6,25 +6,25 @@ use Rattle.chain_engine.proofs.running.FeedingPacketSink.put.Goals as goal
 pub returns-in-Ok-clause-ok : goal.returns-in-Ok-clause-ok
 returns-in-Ok-clause-ok g c = λ start ps h.
     let d = c.args.self.now.config.now in
-    feeding_takes g.K.PacketSink.holds d (held c.args.self.now.library.now) start c.args.self.now.switch.now c.feed.new.self c.args.self.now.out.now c.feed.new.sink ps c.args.packet.now h
+    feeding_takes g.K.PacketSink.holds d (held c.args.self.now.library.now) start c.args.self.now.switch.now c.feed_with_same.new.self c.args.self.now.out.now c.feed_with_same.new.sink ps c.args.packet.now h
     (λ past s. c.in-Ok.ensures.stands d past s) (λ qs past o s. c.in-Ok.ensures.ok start qs d past o s)
 
 pub returns-in-Err-Failed-clause-err : goal.returns-in-Err-Failed-clause-err
 returns-in-Err-Failed-clause-err g c = λ start ps h.
     let d = c.args.self.now.config.now in
-    absurd (never_failed g.K.PacketSink.holds d (held c.args.self.now.library.now) start g.K.PacketSink.fails c.args.self.now.switch.now c.args.self.now.out.now c.feed.new.sink ps c.args.packet.now h
+    absurd (never_failed g.K.PacketSink.holds d (held c.args.self.now.library.now) start g.K.PacketSink.fails c.args.self.now.switch.now c.args.self.now.out.now c.feed_with_same.new.sink ps c.args.packet.now h
     (λ qs past o s. rw c.in-Err-Failed.field-0-is at (c.in-Err-Failed.ensures.err start qs d past o s)))
 
 pub returns-in-Err-Network-clause-err : goal.returns-in-Err-Network-clause-err
 returns-in-Err-Network-clause-err g c = λ start ps h.
     let d = c.args.self.now.config.now in
-    feeding_refuses g.K.PacketSink.holds d (held c.args.self.now.library.now) start g.K.PacketSink.fails c.args.self.now.switch.now c.args.self.now.out.now c.feed.new.sink ps c.args.packet.now h (Network c.in-Err-Network.fault)
+    feeding_refuses g.K.PacketSink.holds d (held c.args.self.now.library.now) start g.K.PacketSink.fails c.args.self.now.switch.now c.args.self.now.out.now c.feed_with_same.new.sink ps c.args.packet.now h (Network c.in-Err-Network.fault)
     (rw c.in-Err-Network.field-0-is at c.in-Err-Network.ensures.kept)
     (λ qs past o s. rw c.in-Err-Network.field-0-is at (c.in-Err-Network.ensures.err start qs d past o s))
 
 pub returns-in-Err-Sink-clause-err : goal.returns-in-Err-Sink-clause-err
 returns-in-Err-Sink-clause-err g c = λ start ps h.
     let d = c.args.self.now.config.now in
-    feeding_refuses g.K.PacketSink.holds d (held c.args.self.now.library.now) start g.K.PacketSink.fails c.args.self.now.switch.now c.args.self.now.out.now c.feed.new.sink ps c.args.packet.now h (Sink c.in-Err-Sink.fault)
+    feeding_refuses g.K.PacketSink.holds d (held c.args.self.now.library.now) start g.K.PacketSink.fails c.args.self.now.switch.now c.args.self.now.out.now c.feed_with_same.new.sink ps c.args.packet.now h (Sink c.in-Err-Sink.fault)
     (rw c.in-Err-Sink.field-0-is at c.in-Err-Sink.ensures.kept)
     (λ qs past o s. rw c.in-Err-Sink.field-0-is at (c.in-Err-Sink.ensures.err start qs d past o s))

@@ -1,0 +1,140 @@
+//! Whole runs with an injector: a network in, the cued stream out.
+
+ghost use Rattle.std.specs.Prelude.{◌≡◌, ℕ, ◌⊎◌, List, ◌++◌, Option, Err, false, OnOk, IfOk, IfErr};
+ghost use Rattle.ts_packet.specs.Sources.{SourceCounts, Stalled, Exhausted};
+ghost use Rattle.ts_packet.specs.Transfers.{WentWell};
+ghost use Rattle.psi_tables.specs.declared.config.Config.{Config};
+ghost use Rattle.chain_engine.specs.Chains.{ChainStandsFor};
+ghost use Rattle.chain_engine.specs.Stops.{first_run_fault};
+ghost use Rattle.chain_engine.specs.Progress.{Progresses};
+ghost use Rattle.chain_engine.specs.Runs.{Exchanged, InjectsAll, InjectStops, NetworkBlamed, OutputBlamed};
+ghost use Rattle.program_follower.specs.Purposes.{writing_cues};
+
+use crate::automation::Automation;
+use crate::chain::Chain;
+use crate::faults::{RunFault, stage_fault};
+use crate::report::Report;
+use packet_runs::{Stage, StageFault, run_stage};
+use psi_tables::NetworkFault;
+use std::alloc::Allocator;
+use ts_packet::{GatheringSink, Packet, PacketSink, PausingPackets, PutFault, ReadFault};
+
+/// A chain that passes packets on through its injector alone, and the automation that it hears before each.
+#[derive(Drop)]
+struct Injecting<'a, M: Allocator, U> {
+    chain: &'a mut Chain<M>,
+    automation: &'a mut U,
+}
+
+impl<'a, M: Allocator, U> Injecting<'a, M, U> {
+    /// This chain and this automation.
+    fn new(chain: &'a mut Chain<M>, automation: &'a mut U) -> Injecting<'a, M, U>
+        ensures chain { result.chain.now ≡ chain.old }
+        ensures automation { result.automation.now ≡ automation.old }
+        ensures same { result.automation.ghost_name ≡ automation.entry.ghost_name }
+    {
+        Injecting { chain, automation }
+    }
+}
+
+impl<M: Allocator, U: Automation> Stage for Injecting<'_, M, U> {
+    ghost use Rattle.std.specs.Prelude.{◌≡◌, false};
+    ghost use Rattle.std.proofs.Common.{refl, ◌∙◌};
+    ghost use Rattle.program_follower.specs.Faults.{network_fault};
+    ghost use Rattle.program_follower.specs.Purposes.{writing_cues};
+    ghost use Rattle.chain_engine.specs.Runs.{Exchanged};
+    ghost use Rattle.chain_engine.specs.Stages.{InjectSends, InjectRefuses, InjectBreaks, InjectEnds};
+
+    type Refusal = NetworkFault;
+
+    type Report = Report;
+
+    ghost refusal = { λ s seen. network_fault (writing_cues s.chain.now.config) seen.packet seen.past };
+
+    ghost sends = { λ first ps qs kept now. InjectSends first.chain.now now.chain.now
+        (Exchanged U.takes U.answers U.failures first.automation.now now.automation.now) ps qs };
+
+    ghost refuses = { λ first ps qs p now. InjectRefuses first.chain.now.config
+        (Exchanged U.takes U.answers U.failures first.automation.now now.automation.now) ps qs p };
+
+    ghost breaks = { λ first ps next put q now. InjectBreaks first.chain.now.config
+        (Exchanged U.takes U.answers U.failures first.automation.now now.automation.now) ps next put q };
+
+    ghost ends = { λ first ps sent report now. InjectEnds first.chain.now.config
+        (Exchanged U.takes U.answers U.failures first.automation.now now.automation.now) ps sent report };
+
+    ghost leads = { λ s t. t.automation.ghost_name ≡ s.automation.ghost_name };
+
+    ghost puts_rest = { false };
+
+    ghost leads_refl = { λ s. refl };
+
+    ghost leads_trans = { λ s t u h k. k ∙ h };
+
+    #[inline(always)]
+    fn step<K: PacketSink>(
+        &mut self,
+        packet: &mut Packet,
+        _kept: &Packet,
+        out: &mut K,
+    ) -> Result<bool, StageFault<NetworkFault>> {
+        self.chain.hear(self.automation);
+        match self.chain.injector.feed(packet, out) {
+            Ok(()) => Ok(false),
+            Err(fault) => Err(stage_fault(fault)),
+        }
+    }
+
+    /// Nothing is left.
+    fn finish<K: PacketSink>(&mut self, _out: &mut K) -> Result<Report, PutFault> {
+        Ok(Report::of(self.chain.injector.counts()))
+    }
+}
+
+/// Passes a network on, with the cues of the breaks that the automation asks for. Before each packet the automation is asked for one
+/// piece, for as long as its session is open, and each message that becomes whole in it is judged and answered. Where the session ends,
+/// by the automation, a failure, a bad size or a reply that it did not get, the network goes on, and the requests that were accepted
+/// stand.
+///
+/// # Errors
+///
+/// The first fault of the network, once what the packets before it send is out; or the device's fault, at the packet where it came.
+pub fn run_inject<M: Allocator, P: PausingPackets, U: Automation, K: GatheringSink>(
+    chain: Chain<M>,
+    network: &mut P,
+    automation: &mut U,
+    out: &mut K,
+) -> Result<Report, RunFault>
+    requires { P.is_broken network.old ≡ false }
+    ensures ok { (c : Config) (start : Option (List ℕ)) (before : List (List ℕ)) → ChainStandsFor chain c
+        → K.holds out.old start before → IfOk result (InjectsAll c (P.left network.old)
+        (λ ps. K.holds out.new start (before ++ ps)) (Exchanged U.takes U.answers U.failures automation.old automation.new)) }
+    ensures err { (c : Config) (start : Option (List ℕ)) (before : List (List ℕ)) → ChainStandsFor chain c
+        → K.holds out.old start before → IfErr result (λ f. InjectStops c f (P.left network.old)
+        (λ ps. K.holds out.new start (before ++ ps)) (λ ps. K.fails out.new start (before ++ ps))
+        (λ ps. K.fails_to_send out.new start (before ++ ps))
+        (Exchanged U.takes U.answers U.failures automation.old automation.new)) }
+    ensures progress { (c : Config) (start : Option (List ℕ)) (before : List (List ℕ)) → ChainStandsFor chain c
+        → K.holds out.old start before
+        → Progresses (first_run_fault (writing_cues c)) (P.left network.old)
+        (Stalled P.leads P.counts P.falls_short network.old network.new ⊎ Exhausted P.left P.given network.old)
+        (P.counts network.old) (P.counts network.new) (K.counts out.old) (K.counts out.new) (K.is_full out.new)
+        (λ ps. K.fails out.new start (before ++ ps)) (λ ps. K.fails_to_send out.new start (before ++ ps)) result }
+    ensures read { OnOk result (SourceCounts false (P.has_ended network.old) (P.has_ended network.new)
+        (P.counts network.old) (P.counts network.new)) }
+    ensures wrote { OnOk result (WentWell (K.counts out.old) (K.counts out.new)) }
+    ensures reading { IfErr result (λ f. NetworkBlamed f (P.has_ended network.old) (P.has_ended network.new)
+        (P.counts network.old) (P.counts network.new)) }
+    ensures writing { IfErr result (λ f. OutputBlamed f (K.counts out.old) (K.counts out.new) (K.is_full out.new)) }
+    ensures turns { result ≡ Err (RunFault.Read ReadFault.Turns)
+        → Stalled P.leads P.counts P.falls_short network.old network.new ⊎ Exhausted P.left P.given network.old }
+    ensures reads { P.leads network.old network.new }
+    ensures leads { K.leads out.old out.new }
+{
+    let mut chain = chain;
+    let mut stage = Injecting::new(&mut chain, automation);
+    match run_stage(&mut stage, network, out) {
+        Ok(report) => Ok(report),
+        Err(stop) => Err(RunFault::of(stop)),
+    }
+}
