@@ -7,19 +7,20 @@ use packet_lines::{LineReader, LinesFault};
 use passages::fault::ProgramFault;
 use passages::kinds::Cutting;
 use passages::line_runs::run_to_lines;
-use passages::running::{BUFFER_SIZE, Ended, Ran, let_go, out_of_memory, run_to, unopened};
+use passages::running::{
+    BUFFER_SIZE, Ended, Ran, let_go, network_of, out_of_memory, run_to, unopened,
+};
 use passages::tell::{Account, Stopped};
 use run_ends::{Attended, End, OpenedEnds, open_ends};
 use std::alloc::{AllocError, Global};
 use std::io::{BufReader, Read, Write};
 use std::rt::Files;
-use ts_packet::{Buffered, PacketReader, PacketSource};
+use ts_packet::{PacketReader, PausingPackets};
 
 /// Cuts to the output that the options name. `file` is there where that is a file.
-fn cut_to<P: PacketSource, F: Write + Drop, O: Write>(
+fn cut_to<P: PausingPackets, F: Write + Drop, O: Write>(
     alloc: Global,
     options: &CutOptions<'_>,
-    is_live: bool,
     network: &mut P,
     file: Option<F>,
     output: &mut O,
@@ -29,15 +30,15 @@ fn cut_to<P: PacketSource, F: Write + Drop, O: Write>(
     let passage = Cutting { options };
     let watched = options.is_verbose.then_some(options.pid);
     if let Some(file) = file {
-        return run_to(alloc, passage, watched, is_live, network, file);
+        return run_to(alloc, passage, watched, network, file);
     }
     if options.output == End::Lines {
         return Ok(let_go(run_to_lines(alloc, passage, watched, network, output)?));
     }
-    run_to(alloc, passage, watched, is_live, network, output)
+    run_to(alloc, passage, watched, network, output)
 }
 
-/// Cuts from bytes.
+/// Cuts from bytes. Where the input is live it may pause, and what came in goes out before that.
 fn cut_from_bytes<R: Read + Drop, F: Write + Drop, O: Write>(
     alloc: Global,
     options: &CutOptions<'_>,
@@ -49,9 +50,9 @@ fn cut_from_bytes<R: Read + Drop, F: Write + Drop, O: Write>(
     let Ok(reader) = BufReader::with_capacity(alloc, BUFFER_SIZE, Attended::new(input)) else {
         return Err(out_of_memory());
     };
-    let mut network = Buffered::new(reader);
+    let mut network = network_of(reader, is_live);
     let mut packets = PacketReader::new(&mut network);
-    let Ok(ended) = cut_to(alloc, options, is_live, &mut packets, file, standard) else {
+    let Ok(ended) = cut_to(alloc, options, &mut packets, file, standard) else {
         return Err(out_of_memory());
     };
     let reading = network.into_inner().into_inner().into_reason();
@@ -68,7 +69,7 @@ fn of_lines(fault: ProgramFault) -> ProgramFault {
     }
 }
 
-/// Cuts from lines of digits.
+/// Cuts from the lines of digits on standard input. It may pause, and what the lines that came in give goes out before that.
 fn cut_from_lines<R: Read + Drop, F: Write + Drop, O: Write>(
     alloc: Global,
     options: &CutOptions<'_>,
@@ -79,9 +80,9 @@ fn cut_from_lines<R: Read + Drop, F: Write + Drop, O: Write>(
     let Ok(reader) = BufReader::with_capacity(alloc, BUFFER_SIZE, Attended::new(input)) else {
         return Err(out_of_memory());
     };
-    let mut network = Buffered::new(reader);
+    let mut network = network_of(reader, true);
     let mut packets = LineReader::new(&mut network);
-    let Ok(ended) = cut_to(alloc, options, false, &mut packets, file, standard) else {
+    let Ok(ended) = cut_to(alloc, options, &mut packets, file, standard) else {
         return Err(out_of_memory());
     };
     let reading = network.into_inner().into_inner().into_reason();

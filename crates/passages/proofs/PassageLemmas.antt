@@ -93,9 +93,10 @@ module _ (told told' : Option SessionEnd → List Take → List Reply → Type 0
       (ps, record { sound = h.sound; ts = h.ts; rs = h.rs; serves = serves_so _ _ _ _ h.serves; written = h.written; counted = h.counted }, out)
 
   pub cues_stop_so : (fault : ListenFault) (input : Option (List ℕ)) (is_out : List (List ℕ) → Type 0) (fails : List (List ℕ) → List ℕ → PutFault → Type 0)
-      → CuesStop c told fault input is_out fails → CuesStop c told' fault input is_out fails
-  cues_stop_so listen.Accept input is_out fails h = h
-  cues_stop_so (listen.Run fault) input is_out fails h = stops_so c told told' so fault input is_out fails h
+      (unsent : List (List ℕ) → PutFault → Type 0)
+      → CuesStop c told fault input is_out fails unsent → CuesStop c told' fault input is_out fails unsent
+  cues_stop_so listen.Accept input is_out fails unsent h = h
+  cues_stop_so (listen.Run fault) input is_out fails unsent h = stops_so c told told' so fault input is_out fails unsent h
 
   module _ (filed : ℕ → Option Advertisement) where
     pub plays : (input : Option (List ℕ)) (is_out : List (List ℕ) → Type 0) (report : Report) → chain.RunsAll c filed input is_out told report
@@ -111,9 +112,10 @@ module _ (told told' : Option SessionEnd → List Take → List Reply → Type 0
         (ps, record { sound = h.sound; ts = h.ts; rs = h.rs; serves = serves_so _ _ _ _ h.serves; written = h.written; counted = h.counted }, out)
 
     pub plays_stop_so : (fault : ListenFault) (input : Option (List ℕ)) (is_out : List (List ℕ) → Type 0) (fails : List (List ℕ) → List ℕ → PutFault → Type 0)
-        → PlaysStop c filed told fault input is_out fails → PlaysStop c filed told' fault input is_out fails
-    plays_stop_so listen.Accept input is_out fails h = h
-    plays_stop_so (listen.Run fault) input is_out fails h = chain_stops_so c told told' so filed fault input is_out fails h
+        (unsent : List (List ℕ) → PutFault → Type 0)
+        → PlaysStop c filed told fault input is_out fails unsent → PlaysStop c filed told' fault input is_out fails unsent
+    plays_stop_so listen.Accept input is_out fails unsent h = h
+    plays_stop_so (listen.Run fault) input is_out fails unsent h = chain_stops_so c told told' so filed fault input is_out fails unsent h
 
 pub splices : (c : Config) (filed : ℕ → Option Advertisement) (input : Option (List ℕ)) (is_out : List (List ℕ) → Type 0) (report : SwitchReport) → SplicesAll c filed input is_out report
     → PassesAll (Splices c filed) input is_out report

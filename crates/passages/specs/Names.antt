@@ -10,8 +10,8 @@ use Rattle.packet_lines.specs.declared.lines.LinesFault.TheVariants.{BadLine, Cu
 use Rattle.passages.specs.declared.fault.ProgramFault.{ProgramFault}
 use Rattle.passages.specs.declared.fault.ProgramFault.TheVariants.{Lines, Run, Script, List as OfList, Accept, Print, File}
 use Rattle.passages.specs.declared.fault.ProgramFault.TheVariants.{Unflushed, OutOfMemory}
-use Rattle.chain_engine.specs.declared.chain.RunFault.{RunFault}
-use Rattle.chain_engine.specs.declared.chain.RunFault.TheVariants as run
+use Rattle.chain_engine.specs.declared.faults.RunFault.{RunFault}
+use Rattle.chain_engine.specs.declared.faults.RunFault.TheVariants as run
 use Rattle.psi_tables.specs.declared.network.FeedFault.TheVariants as feed
 use Rattle.psi_tables.specs.declared.network.NetworkFault.{NetworkFault}
 use Rattle.psi_tables.specs.declared.network.NetworkFault.TheVariants as network

@@ -15,7 +15,7 @@ use Rattle.chain_engine.specs.Runs.{Injected, InjectStops}
 use Rattle.chain_engine.specs.Splices.{Spliced}
 use Rattle.chain_engine.specs.ChainRuns as chain
 use Rattle.chain_engine.specs.declared.report.Report.{Report}
-use Rattle.chain_engine.specs.declared.chain.RunFault.{RunFault}
+use Rattle.chain_engine.specs.declared.faults.RunFault.{RunFault}
 use Rattle.automations.specs.ScriptLines.{ScriptLine, GivesLines}
 use Rattle.automations.specs.ScriptTakes.{takes_from}
 use Rattle.passages.specs.declared.listening.ListenFault.{ListenFault}
@@ -66,15 +66,15 @@ Plays c filed told bs ps report = chain.Ran c filed bs (λ qs. qs ≡ ps) told r
 -- THE THEOREM of a run with cues that stopped: without a client nothing is out; else the fault says what it says of the network and the
 -- devices, and what is out is by the pieces of messages
 abbrev pub CuesStop : Config → (Option SessionEnd → List Take → List Reply → Type 0) → ListenFault → Option (List ℕ)
-    → (List (List ℕ) → Type 0) → (List (List ℕ) → List ℕ → PutFault → Type 0) → Type 0
-CuesStop c told listen.Accept input is_out fails = is_out []
-CuesStop c told (listen.Run fault) input is_out fails = InjectStops c fault input is_out fails told
+    → (List (List ℕ) → Type 0) → (List (List ℕ) → List ℕ → PutFault → Type 0) → (List (List ℕ) → PutFault → Type 0) → Type 0
+CuesStop c told listen.Accept input is_out fails unsent = is_out []
+CuesStop c told (listen.Run fault) input is_out fails unsent = InjectStops c fault input is_out fails unsent told
 
 -- and of one with cues and advertisements
 abbrev pub PlaysStop : Config → (ℕ → Option Advertisement) → (Option SessionEnd → List Take → List Reply → Type 0) → ListenFault
-    → Option (List ℕ) → (List (List ℕ) → Type 0) → (List (List ℕ) → List ℕ → PutFault → Type 0) → Type 0
-PlaysStop c filed told listen.Accept input is_out fails = is_out []
-PlaysStop c filed told (listen.Run fault) input is_out fails = chain.ChainStops c filed fault input is_out fails told
+    → Option (List ℕ) → (List (List ℕ) → Type 0) → (List (List ℕ) → List ℕ → PutFault → Type 0) → (List (List ℕ) → PutFault → Type 0) → Type 0
+PlaysStop c filed told listen.Accept input is_out fails unsent = is_out []
+PlaysStop c filed told (listen.Run fault) input is_out fails unsent = chain.ChainStops c filed fault input is_out fails unsent told
 
 -- this is said of the run's answer, where a client came or none was waited for
 abbrev pub IfRan : {R : Type 0} → Result R ListenFault → (Result R RunFault → Type 0) → Type 0

@@ -5,7 +5,7 @@ use Rattle.passages.specs.declared.fault.ProgramFault.{ProgramFault}
 use Rattle.passages.specs.declared.fault.ProgramFault.TheVariants as program
 use Rattle.packet_lines.specs.declared.lines.LinesFault.TheVariants as lines
 use Rattle.unit_cut.specs.declared.run.CutFault.TheVariants as cut
-use Rattle.chain_engine.specs.declared.chain.RunFault.TheVariants as run
+use Rattle.chain_engine.specs.declared.faults.RunFault.TheVariants as run
 use Rattle.psi_tables.specs.declared.network.FeedFault.TheVariants as feed
 use Rattle.run_ends.specs.declared.ends.Unopened.{Unopened}
 use Rattle.run_ends.specs.declared.ends.Unopened.TheVariants as unopened

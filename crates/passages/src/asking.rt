@@ -17,7 +17,7 @@ use automations::Script;
 use chain_engine::{Chain, Report, RunFault, run, run_inject};
 use std::io::{Read, Write};
 use std::net::{OpenListener, OpenStream};
-use ts_packet::{PacketSink, PacketSource, ReadFault};
+use ts_packet::{GatheringSink, PausingPackets, ReadFault};
 
 /// Where the messages of a run come from: a script, or the next client of a listener.
 #[derive(Drop)]
@@ -51,8 +51,8 @@ pub fn cue<P, K, W, L>(
     out: &mut K,
 ) -> Result<Report, ListenFault>
 where
-    P: PacketSource,
-    K: PacketSink,
+    P: PausingPackets,
+    K: GatheringSink,
     W: Write,
     L: OpenListener,
     L::Stream: OpenStream + Read + Write + Drop,
@@ -61,12 +61,12 @@ where
         → IfOk result (PassesAll (Cues c (λ _ ts _. AsksBy asker.old ts)) (P.left network.old) (K.holds out.new start)) }
     ensures stop { (c : Config) (start : Option (List ℕ)) → ChainStandsFor chain c → K.holds out.old start []
         → IfErr result (λ f. CuesStop c (λ _ ts _. AsksBy asker.old ts) f (P.left network.old)
-        (K.holds out.new start) (K.fails out.new start)) }
+        (K.holds out.new start) (K.fails out.new start) (K.fails_to_send out.new start)) }
     ensures read { OnOk result (SourceCounts false (P.has_ended network.old) (P.has_ended network.new)
         (P.counts network.old) (P.counts network.new)) }
     ensures wrote { OnOk result (WentWell (K.counts out.old) (K.counts out.new)) }
-    ensures reading { IfRan result (λ r. IfErr r (λ f. NetworkBlamed f (P.has_ended network.new)
-        (P.counts network.old) (P.counts network.new))) }
+    ensures reading { IfRan result (λ r. IfErr r (λ f. NetworkBlamed f
+        (P.has_ended network.old) (P.has_ended network.new) (P.counts network.old) (P.counts network.new))) }
     ensures writing { IfRan result (λ r. IfErr r (λ f. OutputBlamed f
         (K.counts out.old) (K.counts out.new) (K.is_full out.new))) }
     ensures turns { result ≡ Err (ListenFault.Run (RunFault.Read ReadFault.Turns))
@@ -98,8 +98,8 @@ pub fn play<P, K, W, L>(
     out: &mut K,
 ) -> Result<Report, ListenFault>
 where
-    P: PacketSource,
-    K: PacketSink,
+    P: PausingPackets,
+    K: GatheringSink,
     W: Write,
     L: OpenListener,
     L::Stream: OpenStream + Read + Write + Drop,
@@ -109,7 +109,7 @@ where
         (P.left network.old) (K.holds out.new start)) }
     ensures stop { (c : Config) (start : Option (List ℕ)) → ChainStandsFor chain c → K.holds out.old start []
         → IfErr result (λ f. PlaysStop c (held library.now) (λ _ ts _. AsksBy asker.old ts) f (P.left network.old)
-        (K.holds out.new start) (K.fails out.new start)) }
+        (K.holds out.new start) (K.fails out.new start) (K.fails_to_send out.new start)) }
     ensures read { OnOk result (SourceCounts false (P.has_ended network.old) (P.has_ended network.new)
         (P.counts network.old) (P.counts network.new)) }
     ensures wrote { OnOk result (WentWell (K.counts out.old) (K.counts out.new)) }

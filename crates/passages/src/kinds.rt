@@ -13,7 +13,7 @@ use splice_plans::SwitchReport;
 use std::alloc::Global;
 use std::io::{Read, Write};
 use std::net::{OpenListener, OpenStream};
-use ts_packet::{PacketSink, PacketSource};
+use ts_packet::{GatheringSink, PausingPackets};
 use unit_cut::cut;
 
 /// A cut, as the options say.
@@ -29,7 +29,7 @@ impl Passage for Cutting<'_> {
 
     ghost passes = { λ p. Cuts p.options.now.pid p.options.now.from p.options.now.length };
 
-    fn pass<P: PacketSource, K: PacketSink>(
+    fn pass<P: PausingPackets, K: GatheringSink>(
         self,
         network: &mut P,
         out: &mut K,
@@ -58,7 +58,7 @@ impl Passage for Splicing<'_> {
 
     ghost passes = { λ p. Splices p.options.now.config (held p.library.now) };
 
-    fn pass<P: PacketSource, K: PacketSink>(
+    fn pass<P: PausingPackets, K: GatheringSink>(
         self,
         network: &mut P,
         out: &mut K,
@@ -90,7 +90,7 @@ where
 
     ghost passes = { λ p. Cues p.options.now.config (λ ending ts rs. AsksBy p.asker.now ts) };
 
-    fn pass<P: PacketSource, K: PacketSink>(
+    fn pass<P: PausingPackets, K: GatheringSink>(
         self,
         network: &mut P,
         out: &mut K,
@@ -132,7 +132,7 @@ where
 
     ghost passes = { λ p. Plays p.options.now.config (held p.library.now) (λ ending ts rs. AsksBy p.asker.now ts) };
 
-    fn pass<P: PacketSource, K: PacketSink>(
+    fn pass<P: PausingPackets, K: GatheringSink>(
         self,
         network: &mut P,
         out: &mut K,

@@ -10,14 +10,15 @@ use packet_lines::LineWriter;
 use run_ends::{Attended, finish_buffer};
 use std::alloc::{AllocError, Global};
 use std::io::{BufWriter, Write};
-use ts_packet::{Device, PacketSource, Pid};
+use ts_packet::{Blocks, PausingPackets, Pid};
 
-/// Runs to lines of digits.
+/// Runs to lines of digits, many a write. Where the network may pause, the lines of what one read of it brought go out by one write before
+/// the next read is made.
 ///
 /// # Errors
 ///
 /// Where the allocator refused memory. The fault of a run that stopped stands in the outcome.
-pub fn run_to_lines<S: Passage, P: PacketSource, W: Write + Drop>(
+pub fn run_to_lines<S: Passage, P: PausingPackets, W: Write + Drop>(
     alloc: Global,
     passage: S,
     watched: Option<Pid>,
@@ -31,7 +32,7 @@ pub fn run_to_lines<S: Passage, P: PacketSource, W: Write + Drop>(
     let Ok(buffer) = BufWriter::with_capacity(alloc, BUFFER_SIZE, Attended::new(output)) else {
         return Err(AllocError);
     };
-    let mut target = Device::new(buffer);
+    let mut target = Blocks::new(buffer);
     let mut writer = LineWriter::new(&mut target);
     let Passed { outcome, seen } = pass_watched(passage, watched, network, &mut writer);
     let (outcome, output) = finish_buffer(outcome, target.into_inner(), ProgramFault::Unflushed);

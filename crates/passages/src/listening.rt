@@ -16,7 +16,7 @@ use chain_engine::{Chain, Report, RunFault, run, run_inject};
 use std::alloc::Allocator;
 use std::io::{Read, Write};
 use std::net::{OpenListener, OpenStream};
-use ts_packet::{PacketSink, PacketSource, ReadFault};
+use ts_packet::{GatheringSink, PausingPackets, ReadFault};
 
 /// Why a run with a connection stopped.
 #[derive(Clone, Copy, Debug, PartialEq, Eq, Drop)]
@@ -42,10 +42,10 @@ pub fn inject_listening<M, P, L, K>(
 ) -> Result<Report, ListenFault>
 where
     M: Allocator,
-    P: PacketSource,
+    P: PausingPackets,
     L: OpenListener,
     L::Stream: OpenStream + Read + Write + Drop,
-    K: PacketSink,
+    K: GatheringSink,
     requires { P.is_broken network.old ≡ false }
     ensures ok { (c : Config) (start : Option (List ℕ)) (before : List (List ℕ)) → ChainStandsFor chain c
         → K.holds out.old start before
@@ -53,12 +53,12 @@ where
     ensures err { (c : Config) (start : Option (List ℕ)) (before : List (List ℕ)) → ChainStandsFor chain c
         → K.holds out.old start before
         → IfErr result (λ f. CuesStop c Untold f (P.left network.old) (λ ps. K.holds out.new start (before ++ ps))
-        (λ ps. K.fails out.new start (before ++ ps))) }
+        (λ ps. K.fails out.new start (before ++ ps)) (λ ps. K.fails_to_send out.new start (before ++ ps))) }
     ensures read { OnOk result (SourceCounts false (P.has_ended network.old) (P.has_ended network.new)
         (P.counts network.old) (P.counts network.new)) }
     ensures wrote { OnOk result (WentWell (K.counts out.old) (K.counts out.new)) }
-    ensures reading { IfRan result (λ r. IfErr r (λ f. NetworkBlamed f (P.has_ended network.new)
-        (P.counts network.old) (P.counts network.new))) }
+    ensures reading { IfRan result (λ r. IfErr r (λ f. NetworkBlamed f
+        (P.has_ended network.old) (P.has_ended network.new) (P.counts network.old) (P.counts network.new))) }
     ensures writing { IfRan result (λ r. IfErr r (λ f. OutputBlamed f
         (K.counts out.old) (K.counts out.new) (K.is_full out.new))) }
     ensures turns { result ≡ Err (ListenFault.Run (RunFault.Read ReadFault.Turns))
@@ -90,17 +90,18 @@ pub fn run_listening<M, P, L, K>(
 ) -> Result<Report, ListenFault>
 where
     M: Allocator,
-    P: PacketSource,
+    P: PausingPackets,
     L: OpenListener,
     L::Stream: OpenStream + Read + Write + Drop,
-    K: PacketSink,
+    K: GatheringSink,
     requires { P.is_broken network.old ≡ false }
     ensures ok { (c : Config) (start : Option (List ℕ)) (before : List (List ℕ)) → ChainStandsFor chain c
         → K.holds out.old start before → IfOk result (PassesAll (Plays c (held library.now) Untold) (P.left network.old)
         (λ ps. K.holds out.new start (before ++ ps))) }
     ensures err { (c : Config) (start : Option (List ℕ)) (before : List (List ℕ)) → ChainStandsFor chain c
         → K.holds out.old start before → IfErr result (λ f. PlaysStop c (held library.now) Untold f (P.left network.old)
-        (λ ps. K.holds out.new start (before ++ ps)) (λ ps. K.fails out.new start (before ++ ps))) }
+        (λ ps. K.holds out.new start (before ++ ps)) (λ ps. K.fails out.new start (before ++ ps))
+        (λ ps. K.fails_to_send out.new start (before ++ ps))) }
     ensures read { OnOk result (SourceCounts false (P.has_ended network.old) (P.has_ended network.new)
         (P.counts network.old) (P.counts network.new)) }
     ensures wrote { OnOk result (WentWell (K.counts out.old) (K.counts out.new)) }

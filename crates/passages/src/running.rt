@@ -1,8 +1,9 @@
 //! Runs between a reader and a writer, whatever is done on the way: the output is flushed at the end, and what is known of a run that
 //! stopped is kept.
 
-ghost use Rattle.std.specs.Prelude.{◌≡◌, ℕ, List, [], Option, None, true, false, IfOk, IfErr, OnOk, Err, IsErrAnd};
+ghost use Rattle.std.specs.Prelude.{◌≡◌, ℕ, List, [], Option, None, true, false, not, IfOk, IfErr, OnOk, Err, IsErrAnd};
 ghost use Rattle.ts_packet.specs.Sinks.{Written};
+ghost use Rattle.ts_packet.specs.Transfers.{no_tally};
 ghost use Rattle.passages.specs.Runs.{PassesAll};
 ghost use Rattle.passages.specs.Stopping.{side_of, IsStoppedWith, IsStoppedUnopened};
 
@@ -12,12 +13,10 @@ use crate::watch::{Watch, Watched};
 use chain_engine::RunFault;
 use packet_lines::LinesFault;
 use psi_tables::FeedFault;
-use run_ends::{Attended, Unopened, finish, finish_buffer};
+use run_ends::{Attended, Unopened, finish_buffer};
 use std::alloc::{AllocError, Global};
 use std::io::{self, BufReader, BufWriter, Read, Write};
-use ts_packet::{
-    Blocks, Buffered, Device, PacketReader, PacketSink, PacketSource, PacketWriter, Pid,
-};
+use ts_packet::{Blocks, Buffered, GatheringSink, PacketReader, PacketWriter, PausingPackets, Pid};
 use unit_cut::CutFault;
 
 /// How many bytes a file or a stream is read or written at a time.
@@ -35,7 +34,7 @@ pub trait Passage: Drop {
     ghost passes: { Self → List ℕ → List (List ℕ) → Self.Report → Type 0 };
 
     /// Passes the network on.
-    fn pass<P: PacketSource, K: PacketSink>(
+    fn pass<P: PausingPackets, K: GatheringSink>(
         self,
         network: &mut P,
         out: &mut K,
@@ -55,7 +54,7 @@ pub struct Passed<T> {
 }
 
 /// Passes the network on, and where a PID is to be watched sees what goes by.
-pub fn pass_watched<S: Passage, P: PacketSource, K: PacketSink>(
+pub fn pass_watched<S: Passage, P: PausingPackets, K: GatheringSink>(
     passage: S,
     watched: Option<Pid>,
     network: &mut P,
@@ -89,31 +88,9 @@ pub struct Finished<T, O> {
     pub seen: Option<(Watch, Watch)>,
 }
 
-/// Runs to a writer, each packet as it comes: what came in before a pause goes out before it.
-fn run_to_packets<S: Passage, P: PacketSource, O: Write + Drop>(
-    passage: S,
-    watched: Option<Pid>,
-    network: &mut P,
-    output: O,
-) -> Finished<S::Report, O>
-    requires { P.is_broken network.old ≡ false }
-    ensures done { IfOk result.outcome (PassesAll (S.passes passage) (P.left network.old)
-        (Written (O.contents result.output.inner) (O.contents output))) }
-{
-    let mut target = Device::new(Attended::new(output));
-    let mut writer = PacketWriter::new(&mut target);
-    let Passed { outcome, seen } = pass_watched(passage, watched, network, &mut writer);
-    let mut output = target.into_inner();
-    let outcome = finish(outcome, &mut output, ProgramFault::Unflushed);
-    Finished {
-        outcome,
-        output,
-        seen,
-    }
-}
-
-/// Runs to a writer, many packets a write.
-fn run_to_blocks<S: Passage, P: PacketSource, O: Write + Drop>(
+/// Runs to a writer, many packets a write: a block is written where it is full, at the end, and before each read of the network that may
+/// wait.
+fn run_to_blocks<S: Passage, P: PausingPackets, O: Write + Drop>(
     alloc: Global,
     passage: S,
     watched: Option<Pid>,
@@ -165,24 +142,21 @@ pub fn let_go<T: Drop, O: Drop>(finished: Finished<T, O>) -> Ended<T>
     }
 }
 
-/// Runs to a writer: many packets a write, or where the network may pause each packet as it comes.
+/// Runs to a writer, many packets a write. Where the network may pause, what one read of it brought goes out by one write before the next
+/// read is made.
 ///
 /// # Errors
 ///
 /// Where the allocator refused memory. The fault of a run that stopped stands in the outcome.
-pub fn run_to<S: Passage, P: PacketSource, O: Write + Drop>(
+pub fn run_to<S: Passage, P: PausingPackets, O: Write + Drop>(
     alloc: Global,
     passage: S,
     watched: Option<Pid>,
-    is_live: bool,
     network: &mut P,
     output: O,
 ) -> Result<Ended<S::Report>, AllocError>
     requires { P.is_broken network.old ≡ false }
 {
-    if is_live {
-        return Ok(let_go(run_to_packets(passage, watched, network, output)));
-    }
     match run_to_blocks(alloc, passage, watched, network, output) {
         Ok(finished) => Ok(let_go(finished)),
         Err(error) => Err(error),
@@ -248,7 +222,21 @@ impl<T: Drop> Ended<T> {
     }
 }
 
-/// Runs from a reader.
+/// The network that this reader gives: where it is live its reads may wait, as those of a pipe do; else they never do, as those of a file.
+pub fn network_of<R: Read>(reader: BufReader<R>, is_live: bool) -> Buffered<R>
+    ensures inner { result.device.inner ≡ reader }
+    ensures tally { result.device.tally ≡ no_tally }
+    ensures steady { result.is_steady ≡ not is_live }
+{
+    if is_live {
+        Buffered::new(reader)
+    } else {
+        Buffered::steady(reader)
+    }
+}
+
+/// Runs from a reader to a writer, many packets a write. Where the reader is live the network may pause: then what one read brought goes
+/// out by one write before the next read is made.
 ///
 /// # Errors
 ///
@@ -265,9 +253,9 @@ pub fn run_from<S: Passage, R: Read + Drop, O: Write + Drop>(
     let Ok(reader) = BufReader::with_capacity(alloc, BUFFER_SIZE, Attended::new(input)) else {
         return Err(out_of_memory());
     };
-    let mut network = Buffered::new(reader);
+    let mut network = network_of(reader, is_live);
     let mut packets = PacketReader::new(&mut network);
-    let Ok(ended) = run_to(alloc, passage, watched, is_live, &mut packets, output) else {
+    let Ok(ended) = run_to(alloc, passage, watched, &mut packets, output) else {
         return Err(out_of_memory());
     };
     let reading = network.into_inner().into_inner().into_reason();

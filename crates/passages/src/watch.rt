@@ -2,7 +2,9 @@
 
 use pes_time::{PesHead, Time33};
 use std::fmt;
-use ts_packet::{Packet, PacketSink, PacketSource, Pid, PutFault, ReadFault};
+use ts_packet::{
+    GatheringSink, Packet, PacketSink, PacketSource, PausingPackets, Pid, PutFault, ReadFault,
+};
 use unit_stream::{Piece, UnitReader};
 
 /// The least and the greatest time stamp of some units, on the line through any number of wraps of the clock.
@@ -194,6 +196,14 @@ impl<P: PacketSource> PacketSource for Watched<'_, P> {
     }
 }
 
+impl<P: PausingPackets> PausingPackets for Watched<'_, P> {
+    ghost next_may_wait = { λ w. P.next_may_wait w.inner.now };
+
+    fn next_may_wait(&self) -> bool {
+        self.inner.next_may_wait()
+    }
+}
+
 impl<K: PacketSink> PacketSink for Watched<'_, K> {
     ghost use Rattle.std.specs.Prelude.{◌≡◌, true};
     ghost use Rattle.std.proofs.Common.{refl, ap, ◌∙◌};
@@ -233,5 +243,15 @@ impl<K: PacketSink> PacketSink for Watched<'_, K> {
             }
             Err(fault) => Err(fault),
         }
+    }
+}
+
+impl<K: GatheringSink> GatheringSink for Watched<'_, K> {
+    ghost has_sent = { λ w. K.has_sent w.inner.now };
+
+    ghost fails_to_send = { λ w start ps f. K.fails_to_send w.inner.now start ps f };
+
+    fn send(&mut self) -> Result<(), PutFault> {
+        self.inner.send()
     }
 }

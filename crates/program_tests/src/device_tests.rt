@@ -156,13 +156,13 @@ fn a_device_that_fails_is_named(rt: HostRuntime) -> Result<(), Fail> {
     expect_run(&rt, script, ends, 1, 564, "fault: Io\n")?;
     let mut ends = good_ends();
     ends.puts = bytewise(700, Ending::Stops);
-    expect_run(&rt, script, ends, 1, 700, "fault: Stuck\n")?;
+    expect_run(&rt, script, ends, 1, 700, "fault: Io\n")?;
     let mut ends = good_ends();
     ends.puts = bytewise(700, Ending::Fails);
     expect_run(&rt, script, ends, 1, 700, "fault: Io\n")?;
     let mut ends = good_ends();
     ends.fails_to_flush = true;
-    expect_run(&rt, script, ends, 1, 940, "fault: Io\n")?;
+    expect_run(&rt, script, ends, 1, 188, "fault: Io\n")?;
     fs::remove_file(&rt, script)?;
     Ok(())
 }

@@ -13,7 +13,8 @@ returns-in-Ok-clause-done g c = λ d start h held. plays _ (λ ending ts rs. Ask
 pub returns-in-Err-clause-stop : goal.returns-in-Err-clause-stop
 returns-in-Err-clause-stop g c = λ d start h out. chain_stops_so d _ (λ ending ts rs. AsksBy c.args.asker.now ts)
     (λ ending ts rs x. subst (λ a. AsksBy a ts) (sym c.in-Script.is) (λ script gives fits. (x.took script gives fits).0))
-    (held c.args.library.now) _ _ (g.K.PacketSink.holds c.run.new.out start) (g.K.PacketSink.fails c.run.new.out start) (c.in-Err.ensures.err d start [] h out)
+    (held c.args.library.now) _ _ (g.K.PacketSink.holds c.run.new.out start) (g.K.PacketSink.fails c.run.new.out start)
+    (g.K.GatheringSink.fails_to_send c.run.new.out start) (c.in-Err.ensures.err d start [] h out)
 
 pub returns-in-Port-clause-done : goal.returns-in-Port-clause-done
 returns-in-Port-clause-done g c = λ d start h out. if_ok_so c.run_listening.result _ _
@@ -22,4 +23,5 @@ returns-in-Port-clause-done g c = λ d start h out. if_ok_so c.run_listening.res
 pub returns-in-Port-clause-stop : goal.returns-in-Port-clause-stop
 returns-in-Port-clause-stop g c = λ d start h out. if_err_so c.run_listening.result _ _
     (λ fault. plays_stop_so Untold (λ ending ts rs. AsksBy c.args.asker.now ts) (λ ending ts rs x. subst (λ a. AsksBy a ts) (sym c.in-Port.is) tt) d (held c.args.library.now) fault _ (g.K.PacketSink.holds c.run_listening.new.out start)
-    (g.K.PacketSink.fails c.run_listening.new.out start)) (c.run_listening.ensures.err d start [] h out)
+    (g.K.PacketSink.fails c.run_listening.new.out start)
+    (g.K.GatheringSink.fails_to_send c.run_listening.new.out start)) (c.run_listening.ensures.err d start [] h out)
