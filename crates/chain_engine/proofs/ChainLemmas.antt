@@ -9,7 +9,7 @@ use Rattle.injector.specs.declared.injector.Injector.{Injector}
 use Rattle.injector.specs.Steps.{Step, Packet, packets_in, cued, sent_at}
 use Rattle.injector.specs.Injecting.{InjectorStandsFor}
 use Rattle.ts_packet.proofs.RunLemmas.{reverse-onto}
-use Rattle.chain_engine.specs.Automation.{Take, Answer}
+use Rattle.chain_engine.specs.Automation.{Take, Exchange, takes_and_answers}
 use Rattle.chain_engine.specs.Hearing.{Replied}
 use Rattle.chain_engine.specs.Judging.{InjectorJudges}
 use Rattle.chain_engine.specs.Talks.{judged_before}
@@ -39,9 +39,9 @@ sent_step c ms steps p = ap (λ l. reverse l ++ sent_at c p (asked ms steps)) (s
 pub same_packets : (c : Config) (ms : List (List ℕ)) (steps : List Step) (p : List ℕ) → network_fault (writing_cues c) p (packets_in (asked ms steps)) ≡ None → network_fault (writing_cues c) p (packets_in steps) ≡ None
 same_packets c ms steps p = subst (λ q. network_fault (writing_cues c) p q ≡ None) (asked_packets ms steps)
 
-module _ {X : Type 0} (takes : X → List Take → X → Type 0) (answers : X → List Answer → X → Type 0) (old new : X) (lost : Bool) (c : Config) (ts : List Take) (n k : ℕ) (steps : List Step) (more : List Take) (rs : List Reply) where
-  pub hears_so : (i j : Injector) → takes old more new → Replied InjectorJudges i j (judged_before (n + length rs) (ts ++ more) k) rs lost (λ xs. answers old xs new) → InjectorStandsFor i c steps
-      → Hears takes answers old new lost c ts n k steps more rs × InjectorStandsFor j c (heard_steps (ts ++ more) (n + length rs) k steps)
-  hears_so i j told replied s =
+module _ {X : Type 0} (exchanges : X → List Exchange → X → Type 0) (old new : X) (lost : Bool) (c : Config) (ts : List Take) (n k : ℕ) (steps : List Step) (more : List Take) (rs : List Reply) where
+  pub hears_so : (i j : Injector) → Replied InjectorJudges i j (judged_before (n + length rs) (ts ++ more) k) rs lost (λ xs. exchanges old (takes_and_answers more xs) new) → InjectorStandsFor i c steps
+      → Hears exchanges old new lost c ts n k steps more rs × InjectorStandsFor j c (heard_steps (ts ++ more) (n + length rs) k steps)
+  hears_so i j replied s =
       let done = asked_judged c (judged_before (n + length rs) (ts ++ more) k) rs i j steps replied.judged s in
-      (record { took = told; answered = replied.told; replies = done.1 }, done.0)
+      (record { exchanges = replied.told; replies = done.1 }, done.0)

@@ -1,5 +1,5 @@
 -- What follows from what is known of a run: of its output, and of what its automation tells.
-use Rattle.std.proofs.Common.{ℕ, List, Option, None, Some, ◌⊎◌, inl, inr, length}
+use Rattle.std.proofs.Common.{ℕ, ◌≤◌, List, Option, None, Some, ◌⊎◌, inl, inr, length}
 use Rattle.ts_packet.specs.declared.sink.PutFault.{PutFault}
 use Rattle.psi_tables.specs.declared.config.Config.{Config}
 use Rattle.scte104_codec.specs.declared.reply.Reply.{Reply}
@@ -9,6 +9,8 @@ use Rattle.ad_library.specs.Advertisements.{Advertisement}
 use Rattle.chain_engine.specs.Automation.{Take}
 use Rattle.psi_tables.specs.declared.network.FeedFault.TheVariants.{Network, Sink, Failed}
 use Rattle.chain_engine.specs.declared.faults.RunFault.TheVariants.{Read, Feed}
+use Rattle.chain_engine.specs.Talks.{messages_taken}
+use Rattle.chain_engine.proofs.RunLemmas.{few_replies}
 use Rattle.chain_engine.specs.Stops.{StoppedBy, StopsBy, IfSink}
 use Rattle.chain_engine.specs.Runs.{Serves, InjectsAll, ServedBefore, WasServed, InjectLeaves, InjectStops}
 use Rattle.chain_engine.specs.ChainRuns.{ChainLeaves, ChainStops}
@@ -27,9 +29,15 @@ module _ (k : Purpose) (fault : RunFault) where
   leaves_so None leaves leaves' so (bs, h) = (bs, stopped_so bs leaves leaves' so h)
   leaves_so (Some bs) leaves leaves' so h = stopped_so bs leaves leaves' so h
 
-module _ (c : Config) (told told' : Option SessionEnd → List Take → List Reply → Type 0) (tells : (e : Option SessionEnd) (ts : List Take) (rs : List Reply) → told e ts rs → told' e ts rs) where
-  serves_so : (ts : List Take) (rs : List Reply) (k : ℕ) (steps : List Step) → Serves c told ts rs k steps → Serves c told' ts rs k steps
-  serves_so ts rs k steps h = record { ending = h.ending; talked = h.talked; exchanges = tells h.ending ts rs h.exchanges; replies = h.replies }
+module _ (c : Config) (told told' : Option SessionEnd → List Take → List Reply → Type 0) (tells : (e : Option SessionEnd) (ts : List Take) (rs : List Reply) → length rs ≤ length (messages_taken ts) → told e ts rs → told' e ts rs) where
+  pub serves_so : (ts : List Take) (rs : List Reply) (k : ℕ) (steps : List Step) → Serves c told ts rs k steps → Serves c told' ts rs k steps
+  serves_so ts rs k steps h = record {
+    ending = h.ending;
+    talked = h.talked;
+    bytes = h.bytes;
+    exchanges = tells h.ending ts rs (few_replies h.ending ts (length rs) k h.talked) h.exchanges;
+    replies = h.replies;
+  }
 
   pub injects_so : (input : Option (List ℕ)) (is_out is_out' : List (List ℕ) → Type 0) (report : Report) → ((ps : List (List ℕ)) → is_out ps → is_out' ps) → InjectsAll c input is_out told report
       → InjectsAll c input is_out' told' report

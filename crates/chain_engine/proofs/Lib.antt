@@ -1,6 +1,7 @@
 pub mod HearingLemmas
 pub mod TalkLemmas
 pub mod StepsLemmas
+pub mod ExchangeLemmas
 pub mod RunLemmas
 pub mod SpliceLemmas
 pub mod NestedLemmas

@@ -9,10 +9,10 @@ use Rattle.injector.specs.declared.injector.Injector.{Injector}
 use Rattle.injector.specs.Steps.{Step, Packet, cued, sent_at}
 use Rattle.injector.specs.Injecting.{InjectorStandsFor}
 use Rattle.ts_packet.proofs.RunLemmas.{reverse-onto}
-use Rattle.chain_engine.specs.Automation.{Take, piece, ended, failed, Answer}
+use Rattle.chain_engine.specs.Automation.{Take, piece, ended, failed, Exchange, takes_and_answers}
 use Rattle.chain_engine.specs.Hearing.{answers_to, lost_by, Replied}
 use Rattle.chain_engine.specs.Judging.{JudgesAll, InjectorJudges}
-use Rattle.chain_engine.specs.Talks.{judged_before, HasTalked, TalkStandsFor, loses, CountsEnd}
+use Rattle.chain_engine.specs.Talks.{messages_taken, judged_before, exchanges_of, HasTalked, TalkStandsFor, loses, CountsEnd}
 use Rattle.chain_engine.specs.Runs.{asked, steps_of, steps_before, replies_in, sent_by, Exchanged, ServedBefore}
 use Rattle.chain_engine.specs.Stages.{HasRun}
 use Rattle.chain_engine.specs.Chains.{ChainStandsFor}
@@ -22,6 +22,7 @@ use Rattle.chain_engine.specs.declared.talk.Talk.{Talk}
 use Rattle.chain_engine.specs.declared.chain.Chain.{Chain}
 use Rattle.chain_engine.proofs.HearingLemmas.{answers_more}
 use Rattle.chain_engine.proofs.TalkLemmas.{goes_closed, open_end}
+use Rattle.chain_engine.proofs.ExchangeLemmas.{answers_long, taken_front, exchanges_more}
 use Rattle.chain_engine.proofs.StepsLemmas.{steps_stay, none_asked, asked_cued, asked_judged}
 
 -- ---- what is known between two packets, and behind the messages before a packet
@@ -41,6 +42,14 @@ pub few_takes : (end : Option SessionEnd) (ts : List Take) (n k : ℕ) → HasTa
 few_takes None ts n k t = omega (arith, t.0)
 few_takes (Some end) ts n k t = t.0
 
+-- and at most one reply for each message
+pub few_replies : (end : Option SessionEnd) (ts : List Take) (n k : ℕ) → HasTalked end ts n k → n ≤ length (messages_taken ts)
+few_replies None ts n k t = omega (arith, t.2)
+few_replies (Some Ended) ts n k (le, (us, e, o, m)) = let front = taken_front us (ended ∷ []) in subst (λ l. n ≤ length (messages_taken l)) (sym e) (omega (arith, m, front))
+few_replies (Some TakeFailed) ts n k (le, (us, e, o, m)) = let front = taken_front us (failed ∷ []) in subst (λ l. n ≤ length (messages_taken l)) (sym e) (omega (arith, m, front))
+few_replies (Some BadSize) ts n k (le, (us, bs, e, o, m, f)) = omega (arith, m)
+few_replies (Some AnswerFailed) ts n k (le, (us, bs, e, o, l, m)) = m
+
 -- ---- the begin
 
 not_empty : {X : Type 0} (xs : List X) (x : X) → [] ≡ xs ++ x ∷ [] → ⊥
@@ -56,16 +65,14 @@ begins_open (Some TakeFailed) n k (le, (ts, e, o, m)) = absurd (not_empty ts fai
 begins_open (Some BadSize) n k (le, (ts, bs, e, o, m, f)) = absurd (not_empty ts (piece bs) e)
 begins_open (Some AnswerFailed) n k (le, (ts, bs, e, o, l, m)) = absurd (not_empty ts (piece bs) e)
 
-module _ {X : Type 0} (takes : X → List Take → X → Type 0) (takes_refl : (s : X) → takes s [] s)
-    (takes_trans : (s t u : X) (xs ys : List Take) → takes s xs t → takes t ys u → takes s (xs ++ ys) u)
-    (answers : X → List Answer → X → Type 0) (answers_refl : (s : X) → answers s [] s)
-    (answers_trans : (s t u : X) (xs ys : List Answer) → answers s xs t → answers t ys u → answers s (xs ++ ys) u)
+module _ {X : Type 0} (exchanges : X → List Exchange → X → Type 0) (exchanges_refl : (s : X) → exchanges s [] s)
+    (exchanges_trans : (s t u : X) (xs ys : List Exchange) → exchanges s xs t → exchanges t ys u → exchanges s (xs ++ ys) u)
     (failures : X → ℕ) (c : Config) where
-  none_exchanged : (x : X) (end : Option SessionEnd) → end ≡ None → Exchanged takes answers failures x x end [] []
-  none_exchanged x None e = record { took = takes_refl x; answered = answers_refl x; counted = refl }
+  none_exchanged : (x : X) (end : Option SessionEnd) → end ≡ None → Exchanged exchanges failures x x end [] []
+  none_exchanged x None e = record { exchanges = exchanges_refl x; counted = refl }
   none_exchanged x (Some end) e = absurd (cc)
 
-  pub begun : {M : Type 0} (chain : Chain M) (is_out : List (List ℕ) → Type 0) (x : X) → ChainStandsFor chain c → is_out [] → HasRun c chain.injector chain.talk is_out (Exchanged takes answers failures x x) []
+  pub begun : {M : Type 0} (chain : Chain M) (is_out : List (List ℕ) → Type 0) (x : X) → ChainStandsFor chain c → is_out [] → HasRun c chain.injector chain.talk is_out (Exchanged exchanges failures x x) []
   begun chain is_out x h o = record {
     ts = [];
     rs = [];
@@ -78,20 +85,23 @@ module _ {X : Type 0} (takes : X → List Take → X → Type 0) (takes_refl : (
 
   -- ---- the messages before a packet
 
-  exchanged_more : (x y z : X) (end end' : Option SessionEnd) (ts more : List Take) (rs rs' : List Reply) → end ≡ None → Exchanged takes answers failures x y end ts rs
-      → takes y more z → answers y (answers_to (loses end end') rs') z → (loses end end' ≡ true → 0 < length rs')
-      → CountsEnd end end' (failures y) (failures z) → Exchanged takes answers failures x z end' (ts ++ more) (rs ++ rs')
-  exchanged_more x y z (Some end) end' ts more rs rs' e h told given some counts = absurd (cc)
-  exchanged_more x y z None end' ts more rs rs' e h told given some counts = record {
-    took = takes_trans x y z ts more h.took told;
-    answered = subst (λ xs. answers x xs z) (sym (answers_more (lost_by end') rs rs' some))
-        (answers_trans x y z (answers_to false rs) (answers_to (lost_by end') rs') h.answered given);
-    counted = subst (λ n. CountsEnd None end' n (failures z)) h.counted counts;
-  }
+  exchanged_more : (x y z : X) (end end' : Option SessionEnd) (ts more : List Take) (rs rs' : List Reply) → end ≡ None → Exchanged exchanges failures x y end ts rs
+      → length rs ≡ length (messages_taken ts) → length more ≤ 1 → length rs + length rs' ≤ length (messages_taken (ts ++ more))
+      → exchanges y (takes_and_answers more (answers_to (loses end end') rs')) z → (loses end end' ≡ true → 0 < length rs')
+      → CountsEnd end end' (failures y) (failures z) → Exchanged exchanges failures x z end' (ts ++ more) (rs ++ rs')
+  exchanged_more x y z (Some end) end' ts more rs rs' e h all few most told some counts = absurd (cc)
+  exchanged_more x y z None end' ts more rs rs' e h all few most told some counts =
+      let long = answers_long false rs in
+      let long' = answers_long (lost_by end') rs' in
+      let behind = exchanges_more ts more (answers_to false rs) (answers_to (lost_by end') rs') (long ∙ all) few (omega (arith, long, long', most)) in record {
+        exchanges = subst (λ l. exchanges x (exchanges_of l (reverse (ts ++ more))) z) (sym (answers_more (lost_by end') rs rs' some))
+            (subst (λ l. exchanges x l z) (sym behind) (exchanges_trans x y z (exchanges_of (answers_to false rs) (reverse ts)) _ h.exchanges told));
+        counted = subst (λ n. CountsEnd None end' n (failures z)) h.counted counts;
+      }
 
   module _ (is_out : List (List ℕ) → Type 0) (ps : List (List ℕ)) (x : X) where
-    heard_closed : {M : Type 0} (y : X) (injector : Injector) (talk : Talk M) → is_some talk.end ≡ true → HasRun c injector talk is_out (Exchanged takes answers failures x y) ps
-        → HasHeard c injector talk is_out (Exchanged takes answers failures x y) ps
+    heard_closed : {M : Type 0} (y : X) (injector : Injector) (talk : Talk M) → is_some talk.end ≡ true → HasRun c injector talk is_out (Exchanged exchanges failures x y) ps
+        → HasHeard c injector talk is_out (Exchanged exchanges failures x y) ps
     heard_closed y injector talk is h =
         let goes = goes_closed talk.end (state_of talk.session) h.ts (length h.rs) (length ps) is h.talks.talked in
         let back = length-reverse ps in
@@ -100,25 +110,29 @@ module _ {X : Type 0} (takes : X → List Take → X → Type 0) (takes_refl : (
           ts = h.ts;
           rs = h.rs;
           stands = subst (InjectorStandsFor injector c) (sym same) h.stands;
-          talks = record { talked = goes.talked; pending = h.talks.pending };
+          talks = record { talked = goes.talked; pending = h.talks.pending; bytes = h.talks.bytes };
           exchanges = h.exchanges;
           replies = h.replies ∙ ap (replies_in c) (sym same);
           out = subst (λ s. is_out (sent_by c s)) (sym same) h.out;
         }
 
-    module _ {M : Type 0} (y z : X) (injector injector' : Injector) (talk talk' : Talk M) (h : HasRun c injector talk is_out (Exchanged takes answers failures x y) ps) where
+    module _ {M : Type 0} (y z : X) (injector injector' : Injector) (talk talk' : Talk M) (h : HasRun c injector talk is_out (Exchanged exchanges failures x y) ps) where
       abbrev Listens : Type 0
       Listens = (ts : List Take) (n k : ℕ) → TalkStandsFor talk ts n k →
-          (more : List Take) × (rs : List Reply) × takes y more z × TalkStandsFor talk' (ts ++ more) (n + length rs) (suc k)
-          × Replied InjectorJudges injector injector' (judged_before (n + length rs) (ts ++ more) k) rs (loses talk.end talk'.end) (λ xs. answers y xs z)
+          (more : List Take) × (rs : List Reply) × TalkStandsFor talk' (ts ++ more) (n + length rs) (suc k)
+          × Replied InjectorJudges injector injector' (judged_before (n + length rs) (ts ++ more) k) rs (loses talk.end talk'.end)
+          (λ xs. exchanges y (takes_and_answers more xs) z)
 
-      heard_open : talk.end ≡ None → Listens → CountsEnd talk.end talk'.end (failures y) (failures z) → HasHeard c injector' talk' is_out (Exchanged takes answers failures x z) ps
+      heard_open : talk.end ≡ None → Listens → CountsEnd talk.end talk'.end (failures y) (failures z) → HasHeard c injector' talk' is_out (Exchanged exchanges failures x z) ps
       heard_open e listens counts =
-          let (more, rs, told, stands, replied) = listens h.ts (length h.rs) (length ps) h.talks in
+          let (more, rs, stands, replied) = listens h.ts (length h.rs) (length ps) h.talks in
           let n = length h.rs in
           let m = length rs in
           let is_open = subst (λ (end : Option SessionEnd). HasTalked end h.ts n (length ps)) e h.talks.talked in
           let sum : length (h.rs ++ rs) ≡ n + m = length-append h.rs rs in
+          let parts = length-append h.ts more in
+          let few = few_takes talk'.end (h.ts ++ more) (n + m) (suc (length ps)) stands.talked in
+          let most = few_replies talk'.end (h.ts ++ more) (n + m) (suc (length ps)) stands.talked in
           let back : length (reverse ps) ≡ length ps = length-reverse ps in
           let stay = steps_stay h.ts more n m is_open.2 (reverse ps) (omega (arith, back, is_open.0)) in
           let ms = judged_before (n + m) (h.ts ++ more) (length (reverse ps)) in
@@ -131,22 +145,22 @@ module _ {X : Type 0} (takes : X → List Take → X → Type 0) (takes_refl : (
             rs = h.rs ++ rs;
             stands = subst (InjectorStandsFor injector' c) (sym steps) done.0;
             talks = subst (λ q. TalkStandsFor talk' (h.ts ++ more) q (suc (length ps))) (sym sum) stands;
-            exchanges = exchanged_more x y z talk.end talk'.end h.ts more h.rs rs e h.exchanges told replied.told replied.some counts;
+            exchanges = exchanged_more x y z talk.end talk'.end h.ts more h.rs rs e h.exchanges is_open.2 (omega (arith, parts, few, is_open.0)) most replied.told replied.some counts;
             replies = ap (λ l. l ++ rs) h.replies ∙ sym done.1 ∙ ap (replies_in c) (sym steps);
             out = subst (λ l. is_out (reverse l)) (sym same) h.out;
           }
 
       pub heard : Listens → (is_some talk.end ≡ true → (talk' ≡ talk) × (injector' ≡ injector) × (z ≡ y)) → CountsEnd talk.end talk'.end (failures y) (failures z)
-          → HasHeard c injector' talk' is_out (Exchanged takes answers failures x z) ps
+          → HasHeard c injector' talk' is_out (Exchanged exchanges failures x z) ps
       heard listens closed counts = by (is_some talk.end) refl
         where
-          by : (b : Bool) → is_some talk.end ≡ b → HasHeard c injector' talk' is_out (Exchanged takes answers failures x z) ps
+          by : (b : Bool) → is_some talk.end ≡ b → HasHeard c injector' talk' is_out (Exchanged exchanges failures x z) ps
           by false e = heard_open (open_end talk.end e) listens counts
           by true e =
               let (t, i, a) = closed e in
-              subst (λ w. HasHeard c injector' talk' is_out (Exchanged takes answers failures x w) ps) (sym a)
-              (subst (λ w. HasHeard c injector' w is_out (Exchanged takes answers failures x y) ps) (sym t)
-              (subst (λ w. HasHeard c w talk is_out (Exchanged takes answers failures x y) ps) (sym i) (heard_closed y injector talk e h)))
+              subst (λ w. HasHeard c injector' talk' is_out (Exchanged exchanges failures x w) ps) (sym a)
+              (subst (λ w. HasHeard c injector' w is_out (Exchanged exchanges failures x y) ps) (sym t)
+              (subst (λ w. HasHeard c w talk is_out (Exchanged exchanges failures x y) ps) (sym i) (heard_closed y injector talk e h)))
 
 -- ---- a packet is passed on
 
@@ -187,7 +201,7 @@ module _ (c : Config) (exchanged : Option SessionEnd → List Take → List Repl
   heard_served injector talk is_out leaves h o = record {
     ts = h.ts;
     rs = h.rs;
-    serves = record { ending = talk.end; talked = h.talks.talked; exchanges = h.exchanges; replies = h.replies };
+    serves = record { ending = talk.end; talked = h.talks.talked; bytes = h.talks.bytes; exchanges = h.exchanges; replies = h.replies };
     out = o;
   }
 
@@ -200,6 +214,6 @@ module _ (c : Config) (exchanged : Option SessionEnd → List Take → List Repl
       let same = none_asked (length h.rs) h.ts (reverse ps) (omega (arith, le, back)) in record {
         ts = h.ts;
         rs = h.rs;
-        serves = record { ending = talk.end; talked = h.talks.talked; exchanges = h.exchanges; replies = h.replies ∙ ap (replies_in c) (sym same) };
+        serves = record { ending = talk.end; talked = h.talks.talked; bytes = h.talks.bytes; exchanges = h.exchanges; replies = h.replies ∙ ap (replies_in c) (sym same) };
         out = subst leaves (sym same) o;
       }

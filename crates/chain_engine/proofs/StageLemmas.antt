@@ -34,6 +34,7 @@ use Rattle.splice_switch.specs.Standing as standing
 use Rattle.injector.specs.Steps.{Step, sent_at}
 use Rattle.ad_library.specs.Advertisements.{Advertisement}
 use Rattle.splice_switch.specs.declared.switch.Switch.{Switch}
+use Rattle.cued_laws.specs.Laws.{ArePacketsOfBytes}
 use Rattle.chain_engine.specs.Automation.{Take}
 use Rattle.chain_engine.specs.Stops.{as_run_fault, first_run_fault, run_cause, run_fault_of, stage_fault_of, put_fault_of, StopsBy}
 use Rattle.chain_engine.specs.Runs.{sent_by, steps_of, steps_before, report_of, Serves, ServedBefore, WasServed, InjectsAll, InjectLeaves, NetworkBlamed, OutputBlamed}
@@ -178,22 +179,23 @@ module _ (c : Config) (exchanged : Option SessionEnd → List Take → List Repl
     ts = h.ts;
     rs = h.rs;
     serves = subst (λ q. Serves c exchanged h.ts h.rs (length q) (steps_of (length h.rs) h.ts (reverse q))) (sym all)
-        (record { ending = talk.end; talked = h.talks.talked; exchanges = h.exchanges; replies = h.replies });
+        (record { ending = talk.end; talked = h.talks.talked; bytes = h.talks.bytes; exchanges = h.exchanges; replies = h.replies });
     written = subst (λ q. sent_by c (steps_of (length h.rs) h.ts (reverse q)) ≡ sent) (sym all) h.out;
     counted = subst (λ q. report ≡ report_of c (steps_of (length h.rs) h.ts (reverse q))) (sym all) told;
   }
 
   pub ran : {M : Type 0} (filed : ℕ → Option Advertisement) (sent : List (List ℕ)) (injector : Injector) (talk : Talk M) (is_out : List (List ℕ) → Type 0) (report : Report)
-      → (h : HasRun c injector talk is_out exchanged ps) → MessagesAre report c (steps_of (length h.rs) h.ts (reverse ps))
+      → (h : HasRun c injector talk is_out exchanged ps) → ArePacketsOfBytes (reverse ps) → MessagesAre report c (steps_of (length h.rs) h.ts (reverse ps))
       → spliced_network (setting_of c filed) (sent_by c (steps_of (length h.rs) h.ts (reverse ps))) ≡ sent
       → events.ReportIs report.switch (events.report_of (setting_of c filed) (reverse (sent_by c (steps_of (length h.rs) h.ts (reverse ps)))))
       → ChainEnds c filed exchanged ps sent report
-  ran filed sent injector talk is_out report h told out counts bs all sound = record {
+  ran filed sent injector talk is_out report h bytes told out counts bs all sound = record {
     sound = sound;
+    bytes = subst (λ q. ArePacketsOfBytes (reverse q)) (sym all) bytes;
     ts = h.ts;
     rs = h.rs;
     serves = subst (λ q. Serves c exchanged h.ts h.rs (length q) (steps_of (length h.rs) h.ts (reverse q))) (sym all)
-        (record { ending = talk.end; talked = h.talks.talked; exchanges = h.exchanges; replies = h.replies });
+        (record { ending = talk.end; talked = h.talks.talked; bytes = h.talks.bytes; exchanges = h.exchanges; replies = h.replies });
     written = subst (λ q. spliced_network (setting_of c filed) (sent_by c (steps_of (length h.rs) h.ts (reverse q))) ≡ sent) (sym all) out;
     counted = record {
       messages = subst (λ q. MessagesAre report c (steps_of (length h.rs) h.ts (reverse q))) (sym all) told;
@@ -411,7 +413,7 @@ module _ {S : Type 0} (now : S) (is_out : List (List ℕ) → Type 0) where
   runs_all c filed exchanged ends so None report h = tt
   runs_all c filed exchanged ends so (Some bs) report h =
       let r = so _ h.sent report h.ends_so bs refl (none_by (writing_cues c) bs h.sound) in
-      record { sound = r.sound; ts = r.ts; rs = r.rs; serves = r.serves; written = subst is_out (sym r.written) h.out; counted = r.counted }
+      record { sound = r.sound; bytes = r.bytes; ts = r.ts; rs = r.rs; serves = r.serves; written = subst is_out (sym r.written) h.out; counted = r.counted }
 
 -- ---- what the devices did
 

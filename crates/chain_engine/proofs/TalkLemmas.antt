@@ -5,6 +5,8 @@ use Rattle.std.specs.List.{list_all}
 use Rattle.std.proofs.lemmas.List.{append-nil, drop_at}
 use Rattle.std.proofs.lemmas.Grind.{flat_map-append}
 use lib.Seq.{take_all, take-append-le}
+use Rattle.wire_fields.specs.Numbers.{AreBytes}
+use Rattle.scte104_codec.proofs.WidthLemmas.{both_bytes}
 use Rattle.scte104_codec.specs.declared.reply.Reply.{Reply}
 use Rattle.scte104_codec.specs.Framing.{frame_of}
 use Rattle.as_session.specs.Pending.{is_partial}
@@ -203,23 +205,33 @@ counts_heard (Some AnswerFailed) old new can h = h
 counts_heard (Some Ended) old new can h = absurd can
 counts_heard (Some TakeFailed) old new can h = absurd can
 
-module _ {J M : Type 0} (judges : J → MessageReading → Reply → J → Type 0) (j i : J) (takes : List Take → Type 0) (answers : List Answer → Type 0) (talk : Talk M) (ts : List Take) (n k : ℕ) where
-  pub listened : (more : List Take) (ms : List (List ℕ)) (rs : List Reply) (lost : Bool) → takes more → Goes talk.end (state_of talk.session) (ts ++ more) (n + length ms) k ms
-      → Replied judges j i ms rs lost answers
-      → (x : List Take) × (y : List Reply) × takes x × TalkStandsFor talk (ts ++ x) (n + length y) (suc k) × Replied judges j i (judged_before (n + length y) (ts ++ x) k) y lost answers
-  listened more ms rs lost told goes replied =
+-- what takes gave are bytes, with one take more
+pub bytes_told : (ts : List Take) (t : Take) → AreBytes (bytes_of ts) → AreBytes (bytes_in t) → AreBytes (bytes_of (ts ++ t ∷ []))
+bytes_told ts t h k = subst AreBytes (sym (bytes_more ts t)) (both_bytes (bytes_of ts) (bytes_in t) h k)
+
+pub none_bytes : AreBytes []
+none_bytes place = omega arith
+
+pub none_told : (ts : List Take) (t : Take) → bytes_in t ≡ [] → AreBytes (bytes_of ts) → AreBytes (bytes_of (ts ++ t ∷ []))
+none_told ts t e h = bytes_told ts t h (subst AreBytes (sym e) none_bytes)
+
+-- `answers` says of takes, and of the answers behind them, that they came
+module _ {J M : Type 0} (judges : J → MessageReading → Reply → J → Type 0) (j i : J) (answers : List Take → List Answer → Type 0) (talk : Talk M) (ts : List Take) (n k : ℕ) where
+  pub listened : (more : List Take) (ms : List (List ℕ)) (rs : List Reply) (lost : Bool) → AreBytes (bytes_of (ts ++ more)) → Goes talk.end (state_of talk.session) (ts ++ more) (n + length ms) k ms
+      → Replied judges j i ms rs lost (answers more)
+      → (x : List Take) × (y : List Reply) × TalkStandsFor talk (ts ++ x) (n + length y) (suc k) × Replied judges j i (judged_before (n + length y) (ts ++ x) k) y lost (answers x)
+  listened more ms rs lost bytes goes replied =
       let number = judged_count judges j i ms rs replied.judged in (
         more,
         rs,
-        told,
-        record { talked = subst (λ m. HasTalked talk.end (ts ++ more) (n + m) (suc k)) number goes.talked; pending = goes.pending },
-        subst (λ l. Replied judges j i l rs lost answers) (sym (ap (λ m. judged_before (n + m) (ts ++ more) k) (sym number) ∙ goes.judged)) replied,
+        record { talked = subst (λ m. HasTalked talk.end (ts ++ more) (n + m) (suc k)) number goes.talked; pending = goes.pending; bytes = bytes },
+        subst (λ l. Replied judges j i l rs lost (answers more)) (sym (ap (λ m. judged_before (n + m) (ts ++ more) k) (sym number) ∙ goes.judged)) replied,
       )
 
   -- no message is judged
-  pub listened_none : (more : List Take) (lost : Bool) → lost ≡ false → (e : i ≡ j) (f : answers []) → takes more → Goes talk.end (state_of talk.session) (ts ++ more) n k []
-      → (x : List Take) × (y : List Reply) × takes x × TalkStandsFor talk (ts ++ x) (n + length y) (suc k) × Replied judges j i (judged_before (n + length y) (ts ++ x) k) y lost answers
-  listened_none more lost l e f told goes =
-      let none = replied_none judges j [] answers f refl in
-      let there = subst (λ a. Replied judges j a [] none.0 lost answers) (sym e) (subst (λ b. Replied judges j j [] none.0 b answers) (sym l) none.1) in
-      listened more [] none.0 lost told (subst (λ m. Goes talk.end (state_of talk.session) (ts ++ more) m k []) (omega arith) goes) there
+  pub listened_none : (more : List Take) (lost : Bool) → lost ≡ false → (e : i ≡ j) (f : answers more []) → AreBytes (bytes_of (ts ++ more)) → Goes talk.end (state_of talk.session) (ts ++ more) n k []
+      → (x : List Take) × (y : List Reply) × TalkStandsFor talk (ts ++ x) (n + length y) (suc k) × Replied judges j i (judged_before (n + length y) (ts ++ x) k) y lost (answers x)
+  listened_none more lost l e f bytes goes =
+      let none = replied_none judges j [] (answers more) f refl in
+      let there = subst (λ a. Replied judges j a [] none.0 lost (answers more)) (sym e) (subst (λ b. Replied judges j j [] none.0 b (answers more)) (sym l) none.1) in
+      listened more [] none.0 lost bytes (subst (λ m. Goes talk.end (state_of talk.session) (ts ++ more) m k []) (omega arith) goes) there

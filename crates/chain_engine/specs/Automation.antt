@@ -1,5 +1,5 @@
--- What an automation tells of itself: what its takes gave, the answers that it was given, and how many of them failed.
-use Rattle.std.specs.Prelude.{◌≡◌, ℕ, ◌≤◌, Bool, true, false, List, [], take}
+-- What an automation tells of itself: what its takes gave and the answers that it was given, in their order, and how many of them failed.
+use Rattle.std.specs.Prelude.{◌≡◌, ℕ, ◌≤◌, Bool, true, false, List, [], ◌∷◌, ◌++◌, take, map}
 use Rattle.std.specs.List.{flat_map}
 use Rattle.ts_packet.specs.Transfers.{IsCounted}
 use Rattle.chain_engine.specs.declared.automation.Taken.{Taken}
@@ -15,6 +15,26 @@ pub data Take : Type 0 where
 pub record Answer : Type 0 where
   pub reply : List ℕ
   pub is_given : Bool
+
+-- one exchange with an automation: what a take gave, or an answer
+pub data Exchange : Type 0 where
+  taken : Take → Exchange
+  answered : Answer → Exchange
+
+-- so many takes, and then these answers
+abbrev pub takes_and_answers : List Take → List Answer → List Exchange
+takes_and_answers takes answers = map taken takes ++ map answered answers
+
+-- the takes of exchanges, in order, and the answers
+abbrev pub takes_in : List Exchange → List Take
+takes_in [] = []
+takes_in (taken take ∷ more) = take ∷ takes_in more
+takes_in (answered answer ∷ more) = takes_in more
+
+abbrev pub answers_in : List Exchange → List Answer
+answers_in [] = []
+answers_in (taken take ∷ more) = answers_in more
+answers_in (answered answer ∷ more) = answer ∷ answers_in more
 
 abbrev pub take_of : Taken → List ℕ → Take
 take_of (Bytes n) room = piece (take n room)

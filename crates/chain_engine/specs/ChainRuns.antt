@@ -11,13 +11,14 @@ use Rattle.program_follower.specs.Faults.{network_fault}
 use Rattle.scte104_codec.specs.declared.reply.Reply.{Reply}
 use Rattle.outgoing_packets.specs.Numbers.{FrontFails}
 use Rattle.injector.specs.Injecting.{InjectorStandsFor}
+use Rattle.cued_laws.specs.Laws.{ArePacketsOfBytes}
 use Rattle.injector.specs.Steps.{Step, Packet, packets_in, turns_in, sent_at, judged_in, accepted_in, refused_in}
 use Rattle.ad_library.specs.Advertisements.{Advertisement}
 use Rattle.splice_plans.specs.Adverts.{setting_of}
 use Rattle.splice_plans.specs.Switching.{spliced_network}
 use Rattle.splice_plans.specs.Reporting as events
 use Rattle.splice_switch.specs.Standing.{FinishFails, switch_unasked}
-use Rattle.chain_engine.specs.Automation.{Take, Answer}
+use Rattle.chain_engine.specs.Automation.{Take, Exchange, takes_and_answers}
 use Rattle.chain_engine.specs.Hearing.{answers_to}
 use Rattle.chain_engine.specs.Talks.{TalkStandsFor, judged_before, loses}
 use Rattle.chain_engine.specs.Stops.{first_run_fault, IsLeftBy, IfSink, StopsBy}
@@ -49,12 +50,13 @@ pub record Counted (report : Report) (c : Config) (filed : ℕ → Option Advert
 
 -- ---- the theorems
 
--- THE THEOREM: the network's bytes have no fault; out is the spliced network of the cued stream, which is that of the network and of the
--- requests that were accepted; the replies are those to the messages of all pieces joined; and the report counts messages and events.
+-- THE THEOREM: the network's packets are of bytes, and have no fault; out is the spliced network of the cued stream, which is that of the
+-- network and of the requests that were accepted; the replies are those to the messages of all pieces joined; and the report counts messages and events.
 -- `is_out` says of packets that they stand behind what was there.
 pub record Ran (c : Config) (filed : ℕ → Option Advertisement) (bs : List ℕ) (is_out : List (List ℕ) → Type 0)
     (exchanged : Option SessionEnd → List Take → List Reply → Type 0) (report : Report) : Type 0 where
   pub sound : first_run_fault (writing_cues c) bs ≡ None
+  pub bytes : ArePacketsOfBytes (reverse (packets_of bs))
   pub ts : List Take
   pub rs : List Reply
   pub serves : Serves c exchanged ts rs (length (packets_of bs)) (steps_of (length rs) ts (reverse (packets_of bs)))
@@ -111,30 +113,29 @@ chain_unasked chain = record chain { switch = switch_unasked chain.switch }
 abbrev pub heard_steps : List Take → ℕ → ℕ → List Step → List Step
 heard_steps ts n k steps = asked (judged_before n ts k) steps
 
--- Before a packet these takes and replies came, each reply by the history; the last reply was lost, or none. The functions are an
+-- Before a packet these takes came, and then these replies, each by the history; the last reply was lost, or none. The function is an
 -- automation's.
-pub record Hears {X : Type 0} (takes : X → List Take → X → Type 0) (answers : X → List Answer → X → Type 0) (old new : X) (lost : Bool)
+pub record Hears {X : Type 0} (between : X → List Exchange → X → Type 0) (old new : X) (lost : Bool)
     (c : Config) (ts : List Take) (n k : ℕ) (steps : List Step) (more : List Take) (rs : List Reply) : Type 0 where
-  pub took : takes old more new
-  pub answered : answers old (answers_to lost rs) new
+  pub exchanges : between old (takes_and_answers more (answers_to lost rs)) new
   pub replies : replies_in c (heard_steps (ts ++ more) (n + length rs) k steps) ≡ replies_in c steps ++ rs
 
 -- THE STEP: the automation was heard, and then the packet, which is without fault, was passed on
-pub record Stepped {M X : Type 0} (takes : X → List Take → X → Type 0) (answers : X → List Answer → X → Type 0) (before now : X) (old new : Chain M)
+pub record Stepped {M X : Type 0} (between : X → List Exchange → X → Type 0) (before now : X) (old new : Chain M)
     (filed : ℕ → Option Advertisement) (is_out : List (List ℕ) → Type 0) (ts : List Take) (n k : ℕ) (p : List ℕ) (steps : List Step) : Type 0 where
   pub config : new.config ≡ old.config
   pub more : List Take
   pub rs : List Reply
-  pub hears : Hears takes answers before now (loses old.talk.end new.talk.end) old.config ts n k steps more rs
+  pub hears : Hears between before now (loses old.talk.end new.talk.end) old.config ts n k steps more rs
   pub sound : network_fault (writing_cues old.config) p (packets_in steps) ≡ None
   pub stands : HasStepped new filed is_out (ts ++ more) (n + length rs) (suc k) (Packet p ∷ heard_steps (ts ++ more) (n + length rs) k steps)
 
 -- the automation was heard, and then the packet was not passed on; the talk is as it was left
-pub record StepStops {M X : Type 0} (takes : X → List Take → X → Type 0) (answers : X → List Answer → X → Type 0) (before now : X) (old new : Chain M) (fault : FeedFault)
+pub record StepStops {M X : Type 0} (between : X → List Exchange → X → Type 0) (before now : X) (old new : Chain M) (fault : FeedFault)
     (filed : ℕ → Option Advertisement) (is_out : List (List ℕ) → Type 0) (fails : List (List ℕ) → List ℕ → PutFault → Type 0)
     (ts : List Take) (n k : ℕ) (p : List ℕ) (steps : List Step) : Type 0 where
   pub more : List Take
   pub rs : List Reply
-  pub hears : Hears takes answers before now (loses old.talk.end new.talk.end) old.config ts n k steps more rs
+  pub hears : Hears between before now (loses old.talk.end new.talk.end) old.config ts n k steps more rs
   pub talk : TalkStandsFor new.talk (ts ++ more) (n + length rs) (suc k)
   pub why : PassFails fault old.config filed p (heard_steps (ts ++ more) (n + length rs) k steps) (sent_by old.config steps) is_out fails

@@ -17,9 +17,10 @@ use Rattle.splice_plans.specs.declared.report.SwitchReport.{SwitchReport}
 use Rattle.injector.specs.Replies.{reply_to}
 use Rattle.injector.specs.Steps.{Step, Message, Packet, turns_in, cued, sent_at, judged_in, accepted_in}
 use Rattle.injector.specs.Steps.{refused_in}
-use Rattle.chain_engine.specs.Automation.{Take, Answer}
+use Rattle.wire_fields.specs.Numbers.{AreBytes}
+use Rattle.chain_engine.specs.Automation.{Take, Exchange, bytes_of}
 use Rattle.chain_engine.specs.Hearing.{answers_to, lost_by}
-use Rattle.chain_engine.specs.Talks.{judged_before, HasTalked, CountsEnd}
+use Rattle.chain_engine.specs.Talks.{judged_before, exchanges_of, HasTalked, CountsEnd}
 use Rattle.chain_engine.specs.Stops.{first_run_fault, IsLeftBy, IfSink, StopsBy}
 use Rattle.chain_engine.specs.declared.hearing.SessionEnd.{SessionEnd}
 use Rattle.chain_engine.specs.declared.report.Report.{Report}
@@ -68,20 +69,21 @@ sent_by c steps = reverse (cued c steps)
 
 -- ---- the talk of a run
 
--- What the automation gave up to its session's end, where it has ended, and what it was given: all replies, the last
--- one lost or not. The failure that ended the session is counted. The functions are an automation's.
-pub record Exchanged {X : Type 0} (takes : X → List Take → X → Type 0) (answers : X → List Answer → X → Type 0)
-    (failures : X → ℕ) (old new : X) (ending : Option SessionEnd) (ts : List Take) (rs : List Reply) : Type 0 where
-  pub took : takes old ts new
-  pub answered : answers old (answers_to (lost_by ending) rs) new
+-- What the automation gave up to its session's end, where it has ended, and the replies that it was given, all of them, the last one lost
+-- or not: each stands behind the take that has its message's last byte, and before the next take. The failure that ended the session is
+-- counted. The functions are an automation's.
+pub record Exchanged {X : Type 0} (between : X → List Exchange → X → Type 0) (failures : X → ℕ) (old new : X)
+    (ending : Option SessionEnd) (ts : List Take) (rs : List Reply) : Type 0 where
+  pub exchanges : between old (exchanges_of (answers_to (lost_by ending) rs) (reverse ts)) new
   pub counted : CountsEnd None ending (failures old) (failures new)
 
--- A run has talked before so many packets, and each reply is the one by the history. `exchanged` says so of a
+-- A run has talked before so many packets, what it took are bytes, and each reply is the one by the history. `exchanged` says so of a
 -- session's end, takes and replies.
 pub record Serves (c : Config) (exchanged : Option SessionEnd → List Take → List Reply → Type 0) (ts : List Take)
     (rs : List Reply) (k : ℕ) (steps : List Step) : Type 0 where
   pub ending : Option SessionEnd
   pub talked : HasTalked ending ts (length rs) k
+  pub bytes : AreBytes (bytes_of ts)
   pub exchanges : exchanged ending ts rs
   pub replies : rs ≡ replies_in c steps
 

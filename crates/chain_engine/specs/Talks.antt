@@ -1,16 +1,17 @@
 -- The talk with an automation: which takes were made, which messages stand in them, and before which packet each is
 -- judged.
 use Rattle.std.specs.Prelude.{◌≡◌, ℕ, suc, ◌<◌, ◌≤◌, Bool, true, false, List, [], ◌∷◌, ◌++◌, Option, None, Some, length}
-use Rattle.std.specs.Prelude.{take, drop}
+use Rattle.std.specs.Prelude.{take, drop, map, reverse}
 use Rattle.std.specs.List.{list_all}
 use Rattle.ts_packet.specs.Transfers.{IsCounted}
+use Rattle.wire_fields.specs.Numbers.{AreBytes}
 use Rattle.scte104_codec.specs.Framing.{frame_of}
 use Rattle.scte104_codec.specs.declared.framing.Frame.TheVariants as frames
 use Rattle.as_session.specs.Pending.{is_partial}
 use Rattle.as_session.specs.Feeding.{opened}
 use Rattle.as_session.specs.Session.{state_of}
 use Rattle.as_session.specs.Messages.{messages_of}
-use Rattle.chain_engine.specs.Automation.{Take, piece, ended, failed, bytes_of}
+use Rattle.chain_engine.specs.Automation.{Take, piece, ended, failed, Answer, Exchange, taken, answered, takes_and_answers, bytes_of}
 use Rattle.chain_engine.specs.Hearing.{lost_by}
 use Rattle.chain_engine.specs.declared.hearing.SessionEnd.{SessionEnd}
 use Rattle.chain_engine.specs.declared.hearing.SessionEnd.TheVariants.{Ended, TakeFailed, BadSize, AnswerFailed}
@@ -32,6 +33,17 @@ judged_in most takes = take most (messages_taken takes)
 -- those of them whose last byte stands in the take before packet k, which is judged behind the message
 abbrev pub judged_before : ℕ → List Take → ℕ → List (List ℕ)
 judged_before most takes k = drop (length (judged_in most (take k takes))) (judged_in most (take (suc k) takes))
+
+-- the answers to the messages whose last byte stands in the take behind those before it, newest first
+abbrev pub answers_behind : List Answer → Take → List Take → List Answer
+answers_behind answers t before =
+    drop (length (messages_taken (reverse before))) (take (length (messages_taken (reverse (t ∷ before)))) answers)
+
+-- THE EXCHANGES of these takes, newest first, and of all answers, in their order: behind each take, and before the next one, stand the
+-- answers to the messages whose last byte stands in it
+abbrev pub exchanges_of : List Answer → List Take → List Exchange
+exchanges_of answers [] = []
+exchanges_of answers (t ∷ before) = exchanges_of answers before ++ takes_and_answers (t ∷ []) (answers_behind answers t before)
 
 -- the session is open behind these takes: each gave a piece, and behind the messages stands no bad size
 pub record IsOpenBehind (takes : List Take) : Type 0 where
@@ -62,6 +74,7 @@ HasTalked (Some end) takes n k = (length takes ≤ k) × EndsBy end takes n
 pub record TalkStandsFor {M : Type 0} (talk : Talk M) (takes : List Take) (n k : ℕ) : Type 0 where
   pub talked : HasTalked talk.end takes n k
   pub pending : talk.end ≡ None → state_of talk.session ≡ opened (messages_of (bytes_of takes)).rest
+  pub bytes : AreBytes (bytes_of takes)
 
 -- the session was open, and a reply was lost
 abbrev pub loses : Option SessionEnd → Option SessionEnd → Bool

@@ -68,7 +68,7 @@ impl<M: Allocator> Chain<M> {
     ghost use Rattle.std.specs.Prelude.{◌≡◌, ℕ, suc, ◌+◌, List, ◌++◌, length, true};
     ghost use Rattle.std.specs.Option.{is_some};
     ghost use Rattle.scte104_codec.specs.declared.reply.Reply.{Reply};
-    ghost use Rattle.chain_engine.specs.Automation.{Take};
+    ghost use Rattle.chain_engine.specs.Automation.{Take, takes_and_answers};
     ghost use Rattle.chain_engine.specs.Hearing.{Replied};
     ghost use Rattle.chain_engine.specs.Judging.{InjectorJudges};
     ghost use Rattle.chain_engine.specs.Talks.{TalkStandsFor, judged_before, loses, CountsEnd};
@@ -77,10 +77,10 @@ impl<M: Allocator> Chain<M> {
     #[inline(always)]
     pub(crate) fn hear<U: Automation>(&mut self, automation: &mut U)
         ensures talk { (ts : List Take) (n k : ℕ) → TalkStandsFor self.old.talk ts n k →
-            (more : List Take) × (rs : List Reply) × U.takes automation.old more automation.new
+            (more : List Take) × (rs : List Reply)
             × TalkStandsFor self.new.talk (ts ++ more) (n + length rs) (suc k)
             × Replied InjectorJudges self.old.injector self.new.injector (judged_before (n + length rs) (ts ++ more) k) rs
-            (loses self.old.talk.end self.new.talk.end) (λ xs. U.answers automation.old xs automation.new) }
+            (loses self.old.talk.end self.new.talk.end) (λ xs. U.exchanges automation.old (takes_and_answers more xs) automation.new) }
         ensures closed { is_some self.old.talk.end ≡ true → (self.new.talk ≡ self.old.talk)
             × (self.new.injector ≡ self.old.injector) × (automation.new ≡ automation.old) }
         ensures failures { CountsEnd self.old.talk.end self.new.talk.end (U.failures automation.old) (U.failures automation.new) }

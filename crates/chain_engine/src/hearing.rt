@@ -6,7 +6,7 @@ ghost use Rattle.as_session.specs.Session.{state_of};
 ghost use Rattle.as_session.specs.Feeding.{feed_of, opened};
 ghost use Rattle.as_session.specs.Messages.{messages_of};
 ghost use Rattle.as_session.specs.Runs.{messages_in};
-ghost use Rattle.chain_engine.specs.Automation.{CountsAnswer};
+ghost use Rattle.chain_engine.specs.Automation.{CountsAnswer, takes_and_answers};
 ghost use Rattle.chain_engine.specs.Hearing.{HeardAs, is_unanswered, Replied, lost_by, HearsPiece, CanEnd};
 
 use crate::automation::Automation;
@@ -47,10 +47,9 @@ fn hear_one<M: Allocator, J: Judge, U: Automation>(
 ) -> Heard
     ensures after { state_of session.new ≡ (feed_of (state_of session.old) piece.now).after }
     ensures heard { HeardAs (feed_of (state_of session.old) piece.now) (length piece.now) result }
-    ensures takes { U.takes automation.old [] automation.new }
     ensures replied { (rs : List Reply) × Replied J.judges judge.old judge.new
         (messages_in (feed_of (state_of session.old) piece.now).gives) rs (is_unanswered result)
-        (λ xs. U.answers automation.old xs automation.new) }
+        (λ xs. U.exchanges automation.old (takes_and_answers [] xs) automation.new) }
     ensures failures { CountsAnswer (not (is_unanswered result))
         (U.failures automation.old) (U.failures automation.new) }
 {
@@ -73,10 +72,10 @@ pub(crate) fn hear<M: Allocator, J: Judge, U: Automation>(
     judge: &mut J,
     automation: &mut U,
 ) -> Option<SessionEnd>
-    ensures takes { U.takes automation.old [] automation.new }
     ensures heard { (stream : List ℕ) → state_of session.old ≡ opened (messages_of stream).rest →
         (ms : List (List ℕ)) × (rs : List Reply) × HearsPiece stream piece.now ms (state_of session.new) result
-        × Replied J.judges judge.old judge.new ms rs (lost_by result) (λ xs. U.answers automation.old xs automation.new) }
+        × Replied J.judges judge.old judge.new ms rs (lost_by result)
+        (λ xs. U.exchanges automation.old (takes_and_answers [] xs) automation.new) }
     ensures ends { CanEnd result }
     ensures failures { CountsAnswer (not (lost_by result)) (U.failures automation.old) (U.failures automation.new) }
 {

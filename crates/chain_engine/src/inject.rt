@@ -52,16 +52,16 @@ impl<M: Allocator, U: Automation> Stage for Injecting<'_, M, U> {
     ghost refusal = { λ s seen. network_fault (writing_cues s.chain.now.config) seen.packet seen.past };
 
     ghost sends = { λ first ps qs kept now. InjectSends first.chain.now now.chain.now
-        (Exchanged U.takes U.answers U.failures first.automation.now now.automation.now) ps qs };
+        (Exchanged U.exchanges U.failures first.automation.now now.automation.now) ps qs };
 
     ghost refuses = { λ first ps qs p now. InjectRefuses first.chain.now.config
-        (Exchanged U.takes U.answers U.failures first.automation.now now.automation.now) ps qs p };
+        (Exchanged U.exchanges U.failures first.automation.now now.automation.now) ps qs p };
 
     ghost breaks = { λ first ps next put q now. InjectBreaks first.chain.now.config
-        (Exchanged U.takes U.answers U.failures first.automation.now now.automation.now) ps next put q };
+        (Exchanged U.exchanges U.failures first.automation.now now.automation.now) ps next put q };
 
     ghost ends = { λ first ps sent report now. InjectEnds first.chain.now.config
-        (Exchanged U.takes U.answers U.failures first.automation.now now.automation.now) ps sent report };
+        (Exchanged U.exchanges U.failures first.automation.now now.automation.now) ps sent report };
 
     ghost leads = { λ s t. t.automation.ghost_name ≡ s.automation.ghost_name };
 
@@ -108,12 +108,12 @@ pub fn run_inject<M: Allocator, P: PausingPackets, U: Automation, K: GatheringSi
     requires { P.is_broken network.old ≡ false }
     ensures ok { (c : Config) (start : Option (List ℕ)) (before : List (List ℕ)) → ChainStandsFor chain c
         → K.holds out.old start before → IfOk result (InjectsAll c (P.left network.old)
-        (λ ps. K.holds out.new start (before ++ ps)) (Exchanged U.takes U.answers U.failures automation.old automation.new)) }
+        (λ ps. K.holds out.new start (before ++ ps)) (Exchanged U.exchanges U.failures automation.old automation.new)) }
     ensures err { (c : Config) (start : Option (List ℕ)) (before : List (List ℕ)) → ChainStandsFor chain c
         → K.holds out.old start before → IfErr result (λ f. InjectStops c f (P.left network.old)
         (λ ps. K.holds out.new start (before ++ ps)) (λ ps. K.fails out.new start (before ++ ps))
         (λ ps. K.fails_to_send out.new start (before ++ ps))
-        (Exchanged U.takes U.answers U.failures automation.old automation.new)) }
+        (Exchanged U.exchanges U.failures automation.old automation.new)) }
     ensures progress { (c : Config) (start : Option (List ℕ)) (before : List (List ℕ)) → ChainStandsFor chain c
         → K.holds out.old start before
         → Progresses (first_run_fault (writing_cues c)) (P.left network.old)

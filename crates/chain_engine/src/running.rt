@@ -187,12 +187,12 @@ impl<M: Allocator> Chain<M> {
         ensures ok { (ts : List Take) (n k : ℕ) (steps : List Step) (start : Option (List ℕ)) (before : List (List ℕ))
             → HasStepped (chain_unasked self.old) (held library.now) (λ qs. K.holds out.old start (before ++ qs))
             ts n k steps
-            → OnOk result (Stepped U.takes U.answers automation.old automation.new self.old self.new (held library.now)
+            → OnOk result (Stepped U.exchanges automation.old automation.new self.old self.new (held library.now)
             (λ qs. K.holds out.new start (before ++ qs)) ts n k packet.now steps) }
         ensures err { (ts : List Take) (n k : ℕ) (steps : List Step) (start : Option (List ℕ)) (before : List (List ℕ))
             → HasStepped (chain_unasked self.old) (held library.now) (λ qs. K.holds out.old start (before ++ qs))
             ts n k steps
-            → IfErr result (λ f. StepStops U.takes U.answers automation.old automation.new self.old self.new f
+            → IfErr result (λ f. StepStops U.exchanges automation.old automation.new self.old self.new f
             (held library.now) (λ qs. K.holds out.new start (before ++ qs))
             (λ qs q x. K.fails out.new start (before ++ qs) q x) ts n k packet.now steps) }
         ensures well { OnOk result (WentWell (K.counts out.old) (K.counts out.new)) }
@@ -225,11 +225,11 @@ impl<M: Allocator> Chain<M> {
         ensures leads { K.leads out.old out.new }
         ensures ok { (ts : List Take) (n k : ℕ) (steps : List Step) (start : Option (List ℕ)) (before : List (List ℕ))
             → HasStepped self.old (held library.now) (λ qs. K.holds out.old start (before ++ qs)) ts n k steps
-            → OnOk result (Stepped U.takes U.answers automation.old automation.new self.old self.new (held library.now)
+            → OnOk result (Stepped U.exchanges automation.old automation.new self.old self.new (held library.now)
             (λ qs. K.holds out.new start (before ++ qs)) ts n k packet.now steps) }
         ensures err { (ts : List Take) (n k : ℕ) (steps : List Step) (start : Option (List ℕ)) (before : List (List ℕ))
             → HasStepped self.old (held library.now) (λ qs. K.holds out.old start (before ++ qs)) ts n k steps
-            → IfErr result (λ f. StepStops U.takes U.answers automation.old automation.new self.old self.new f
+            → IfErr result (λ f. StepStops U.exchanges automation.old automation.new self.old self.new f
             (held library.now) (λ qs. K.holds out.new start (before ++ qs))
             (λ qs q x. K.fails out.new start (before ++ qs) q x) ts n k packet.now steps) }
         ensures well { OnOk result (WentWell (K.counts out.old) (K.counts out.new)) }
@@ -354,16 +354,16 @@ impl<M: Allocator, U: Automation> Stage for Playing<'_, M, U> {
 
     ghost sends = { λ first ps qs kept now. (now.library.now ≡ first.library.now)
         × ChainSends first.chain.now now.chain.now (held first.library.now)
-        (Exchanged U.takes U.answers U.failures first.automation.now now.automation.now) ps qs };
+        (Exchanged U.exchanges U.failures first.automation.now now.automation.now) ps qs };
 
     ghost refuses = { λ first ps qs p now. ChainRefuses first.chain.now.config (held first.library.now)
-        (Exchanged U.takes U.answers U.failures first.automation.now now.automation.now) ps qs p };
+        (Exchanged U.exchanges U.failures first.automation.now now.automation.now) ps qs p };
 
     ghost breaks = { λ first ps next put q now. ChainBreaks first.chain.now.config (held first.library.now)
-        (Exchanged U.takes U.answers U.failures first.automation.now now.automation.now) ps next put q };
+        (Exchanged U.exchanges U.failures first.automation.now now.automation.now) ps next put q };
 
     ghost ends = { λ first ps sent report now. ChainEnds first.chain.now.config (held first.library.now)
-        (Exchanged U.takes U.answers U.failures first.automation.now now.automation.now) ps sent report };
+        (Exchanged U.exchanges U.failures first.automation.now now.automation.now) ps sent report };
 
     ghost leads = { λ s t. t.automation.ghost_name ≡ s.automation.ghost_name };
 
@@ -412,12 +412,12 @@ pub fn run<M: Allocator, P: PausingPackets, U: Automation, K: GatheringSink>(
     requires { P.is_broken network.old ≡ false }
     ensures ok { (c : Config) (start : Option (List ℕ)) (before : List (List ℕ)) → ChainStandsFor chain c
         → K.holds out.old start before → IfOk result (RunsAll c (held library.now) (P.left network.old)
-        (λ ps. K.holds out.new start (before ++ ps)) (Exchanged U.takes U.answers U.failures automation.old automation.new)) }
+        (λ ps. K.holds out.new start (before ++ ps)) (Exchanged U.exchanges U.failures automation.old automation.new)) }
     ensures err { (c : Config) (start : Option (List ℕ)) (before : List (List ℕ)) → ChainStandsFor chain c
         → K.holds out.old start before → IfErr result (λ f. ChainStops c (held library.now) f (P.left network.old)
         (λ ps. K.holds out.new start (before ++ ps)) (λ ps. K.fails out.new start (before ++ ps))
         (λ ps. K.fails_to_send out.new start (before ++ ps))
-        (Exchanged U.takes U.answers U.failures automation.old automation.new)) }
+        (Exchanged U.exchanges U.failures automation.old automation.new)) }
     ensures progress { (c : Config) (start : Option (List ℕ)) (before : List (List ℕ)) → ChainStandsFor chain c
         → K.holds out.old start before
         → Progresses (first_run_fault (writing_cues c)) (P.left network.old)

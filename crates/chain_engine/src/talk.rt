@@ -1,5 +1,7 @@
 //! The talk with an automation: a piece before each packet, for as long as its session is open.
 
+ghost use Rattle.wire_fields.specs.Numbers.{AreBytes};
+
 use crate::automation::{Automation, Taken};
 use crate::hearing::{SessionEnd, hear};
 use crate::judge::Judge;
@@ -8,6 +10,12 @@ use std::alloc::{AllocError, Allocator, Global};
 
 /// The most bytes of one take.
 const ROOM: usize = 4_096;
+
+/// Says that a room is of bytes, and does nothing.
+#[inline(always)]
+fn of_bytes(_room: [u8; 4096])
+    ensures { AreBytes _room }
+{}
 
 /// The session of an automation, and why it is not listened to any more.
 #[derive(Drop)]
@@ -37,7 +45,7 @@ impl<M: Allocator> Talk<M> {
     ghost use Rattle.std.specs.Prelude.{◌≡◌, ℕ, suc, ◌+◌, List, ◌++◌, length, true};
     ghost use Rattle.std.specs.Option.{is_some};
     ghost use Rattle.scte104_codec.specs.declared.reply.Reply.{Reply};
-    ghost use Rattle.chain_engine.specs.Automation.{Take};
+    ghost use Rattle.chain_engine.specs.Automation.{Take, takes_and_answers};
     ghost use Rattle.chain_engine.specs.Hearing.{Replied};
     ghost use Rattle.chain_engine.specs.Talks.{TalkStandsFor, judged_before, loses, CountsEnd};
 
@@ -45,10 +53,10 @@ impl<M: Allocator> Talk<M> {
     #[inline(always)]
     pub(crate) fn listen<J: Judge, U: Automation>(&mut self, judge: &mut J, automation: &mut U)
         ensures talk { (ts : List Take) (n k : ℕ) → TalkStandsFor self.old ts n k →
-            (more : List Take) × (rs : List Reply) × U.takes automation.old more automation.new
+            (more : List Take) × (rs : List Reply)
             × TalkStandsFor self.new (ts ++ more) (n + length rs) (suc k)
             × Replied J.judges judge.old judge.new (judged_before (n + length rs) (ts ++ more) k) rs
-            (loses self.old.end self.new.end) (λ xs. U.answers automation.old xs automation.new) }
+            (loses self.old.end self.new.end) (λ xs. U.exchanges automation.old (takes_and_answers more xs) automation.new) }
         ensures closed { is_some self.old.end ≡ true → (self.new ≡ self.old) × (judge.new ≡ judge.old)
             × (automation.new ≡ automation.old) }
         ensures failures { CountsEnd self.old.end self.new.end (U.failures automation.old) (U.failures automation.new) }
@@ -57,7 +65,10 @@ impl<M: Allocator> Talk<M> {
             return;
         }
         self.end = match automation.take(&mut self.room) {
-            Taken::Bytes(count) => hear(&mut self.session, &self.room[..count], judge, automation),
+            Taken::Bytes(count) => {
+                of_bytes(self.room);
+                hear(&mut self.session, &self.room[..count], judge, automation)
+            }
             Taken::Nothing => None,
             Taken::Ended => Some(SessionEnd::Ended),
             Taken::Failed => Some(SessionEnd::TakeFailed),

@@ -13,6 +13,7 @@ use Rattle.program_follower.specs.declared.purpose.Purpose.{Purpose}
 use Rattle.program_follower.specs.Faults.{first_fault, network_fault}
 use Rattle.program_follower.specs.FirstFault.{network_test}
 use Rattle.program_laws.specs.Writing.{Along}
+use Rattle.cued_laws.specs.Laws.{ArePacketsOfBytes}
 use Rattle.program_laws.proofs.FirstFaultLemmas.{or_none, no_test}
 use Rattle.ad_library.specs.Advertisements.{Advertisement}
 use Rattle.ad_library.specs.declared.library.AdLibrary.{AdLibrary}
@@ -24,7 +25,7 @@ use Rattle.splice_plans.specs.Adverts.{setting_of}
 use Rattle.splice_plans.specs.Reporting.{ReportIs, report_of}
 use Rattle.switch_laws.specs.Laws.{ArePackets}
 use Rattle.switch_laws.proofs.StreamLemmas.{all-reversed}
-use Rattle.chain_engine.specs.Automation.{Take}
+use Rattle.chain_engine.specs.Automation.{Take, bytes_of}
 use Rattle.chain_engine.specs.Stops.{as_run_fault, first_run_fault}
 use Rattle.chain_engine.specs.Runs.{steps_of}
 use Rattle.chain_engine.specs.declared.faults.RunFault.{RunFault}
@@ -96,6 +97,10 @@ module _ (c : Purpose) where
 faultless : (c : Config) (bs : List ℕ) → first_run_fault (writing_cues c) bs ≡ None → first_fault (writing_cues c) (reverse (packets_of bs)) ≡ None
 faultless c bs h = only_by (writing_cues c) [] (packets_of bs) (or_none (first_of (fault_of Read (network_test as_run_fault (writing_cues c))) (seen_after [] (packets_of bs))) (fault_behind Read (last_part bs)) h).0 refl
 
+-- packets of bytes are of bytes
+packets-given : (bs : List ℕ) → AreBytes bs → ArePacketsOfBytes (reverse (packets_of bs))
+packets-given bs h = bytes-onto [] (packets_of bs) tt (parts-bytes (length bs / 188) bs h)
+
 -- ---- the headline
 
 module _ (c : Config) (filed : ℕ → Option Advertisement) (library : IsLibrary filed) (bs : List ℕ) (sound : first_run_fault (writing_cues c) bs ≡ None) (ts : List Take) (rs : List Reply) where
@@ -105,22 +110,22 @@ module _ (c : Config) (filed : ℕ → Option Advertisement) (library : IsLibrar
   packets-are : packets_in (history_of bs ts rs) ≡ reverse (packets_of bs)
   packets-are = steps_packets (length rs) ts (reverse (packets_of bs))
 
-  whole-run : IsGiven bs ts → IsWholeRun c filed (history_of bs ts rs)
-  whole-run g = record {
+  whole-run : ArePacketsOfBytes (reverse (packets_of bs)) → AreBytes (bytes_of ts) → IsWholeRun c filed (history_of bs ts rs)
+  whole-run network automation = record {
     run = record {
       cue_pid = (let below = c.below_null in omega (arith, below));
       not_pat = λ e. (let above = c.above_reserved in absurd (omega (arith, above, e)));
       faultless = ap (first_fault (writing_cues c)) packets-are ∙ faultless c bs sound;
-      bytes = subst (Along (λ p past. AreBytes p)) (sym packets-are) (bytes-onto [] (packets_of bs) tt (parts-bytes (length bs / 188) bs g.network));
-      requests = steps_fit c (length rs) ts (reverse (packets_of bs)) g.automation;
+      bytes = subst (Along (λ p past. AreBytes p)) (sym packets-are) network;
+      requests = steps_fit c (length rs) ts (reverse (packets_of bs)) automation;
     };
     whole = history-ends (length rs) ts (reverse (packets_of bs));
     long = subst ArePackets (sym packets-are) (all-reversed (λ (p : List ℕ). length p ≡ 188) (packets_of bs) (packets-long bs));
     library = libraries_are_packed c filed steps library;
   }
 
-  spliced-so : IsGiven bs ts → IsSpliced c filed (history_of bs ts rs)
-  spliced-so g = let w = whole-run g in record {
+  spliced-so : ArePacketsOfBytes (reverse (packets_of bs)) → AreBytes (bytes_of ts) → IsSpliced c filed (history_of bs ts rs)
+  spliced-so network automation = let w = whole-run network automation in record {
     placed = λ pid a. carries-placed c filed steps w pid a;
     spliced = λ pid a d. carries-splice c filed steps w pid a d;
     clocks = λ pid a. clocks-same c filed steps w pid a;
@@ -144,9 +149,9 @@ runs_are_so A library c bs is_out exchanged report ran =
       messages = ran.counted.messages;
       network = ap reverse (packets-are c filed full bs ran.sound ran.ts ran.rs) ∙ reverse-reverse (packets_of bs);
       written = ran.written;
-      output = λ g. spliced-so c filed full bs ran.sound ran.ts ran.rs g;
-      counted = λ g. subst (ReportIs report.switch)
-          (ap (report_of (setting_of c filed)) (reverse-reverse (cued c steps)) ∙ breaks-counted c filed steps (whole-run c filed full bs ran.sound ran.ts ran.rs g)) ran.counted.events;
+      output = spliced-so c filed full bs ran.sound ran.ts ran.rs ran.bytes ran.serves.bytes;
+      counted = subst (ReportIs report.switch)
+          (ap (report_of (setting_of c filed)) (reverse-reverse (cued c steps)) ∙ breaks-counted c filed steps (whole-run c filed full bs ran.sound ran.ts ran.rs ran.bytes ran.serves.bytes)) ran.counted.events;
     }
 
 pub histories_are_so : {A : Type 0} (library : AdLibrary A) → HistoriesAreSo (held library)
@@ -156,6 +161,7 @@ histories_are_so library c bs sound ts rs =
     record {
       network = ap reverse (packets-are c filed full bs sound ts rs) ∙ reverse-reverse (packets_of bs);
       written = refl;
-      output = λ g. spliced-so c filed full bs sound ts rs g;
-      counted = λ g. ap (report_of (setting_of c filed)) (reverse-reverse (cued c (history_of bs ts rs))) ∙ breaks-counted c filed (history_of bs ts rs) (whole-run c filed full bs sound ts rs g);
+      output = λ g. spliced-so c filed full bs sound ts rs (packets-given bs g.network) g.automation;
+      counted = λ g. ap (report_of (setting_of c filed)) (reverse-reverse (cued c (history_of bs ts rs)))
+          ∙ breaks-counted c filed (history_of bs ts rs) (whole-run c filed full bs sound ts rs (packets-given bs g.network) g.automation);
     }

@@ -37,7 +37,7 @@ use Rattle.program_follower.specs.Purposes.{writing_cues}
 abbrev pub history_of : List ℕ → List Take → List Reply → List Step
 history_of bs ts rs = steps_of (length rs) ts (reverse (packets_of bs))
 
--- What is asked of the values of a run: the network's bytes are bytes, and so are those of the automation.
+-- What is asked of values that no run gave: the network's bytes are bytes, and so are those of the automation.
 pub record IsGiven (bs : List ℕ) (ts : List Take) : Type 0 where
   pub network : AreBytes bs
   pub automation : AreBytes (bytes_of ts)
@@ -76,9 +76,9 @@ pub record Headline (c : Config) (filed : ℕ → Option Advertisement) (bs : Li
   pub network : network_of (history_of bs ts rs) ≡ packets_of bs
   -- these packets are out
   pub written : is_out (output_by c filed (history_of bs ts rs))
-  pub output : IsGiven bs ts → IsSpliced c filed (history_of bs ts rs)
+  pub output : IsSpliced c filed (history_of bs ts rs)
   -- the breaks are counted
-  pub counted : IsGiven bs ts → ReportIs report.switch (counts_by c filed (history_of bs ts rs))
+  pub counted : ReportIs report.switch (counts_by c filed (history_of bs ts rs))
 
 -- each run that answers so, with what a library holds, is as the headline says
 abbrev pub RunsAreSo : Type 1

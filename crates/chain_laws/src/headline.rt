@@ -28,7 +28,7 @@ pub fn run_as_requested<M: Allocator, P: PausingPackets, U: Automation, K: Gathe
     requires { P.is_broken network.old ≡ false }
     ensures headline { (c : Config) (start : Option (List ℕ)) (before : List (List ℕ)) → ChainStandsFor chain c
         → K.holds out.old start before → IfOk result (λ r. IfSome (P.left network.old) (λ bs. Headline c (held library.now) bs
-        (λ ps. K.holds out.new start (before ++ ps)) (Exchanged U.takes U.answers U.failures automation.old automation.new) r)) }
+        (λ ps. K.holds out.new start (before ++ ps)) (Exchanged U.exchanges U.failures automation.old automation.new) r)) }
 {
     run(chain, network, automation, library, out)
 }

@@ -34,19 +34,13 @@ impl<'a> FailAutomation<'a> {
 impl Automation for FailAutomation<'_> {
     ghost use Rattle.std.specs.Prelude.{⊤};
 
-    ghost takes = { λ s ts t. ⊤ };
-
-    ghost answers = { λ s xs t. ⊤ };
+    ghost exchanges = { λ s es t. ⊤ };
 
     ghost failures = { λ s. s.failures };
 
-    ghost takes_refl = { λ s. tt };
+    ghost exchanges_refl = { λ s. tt };
 
-    ghost takes_trans = { λ s t u xs ys h k. tt };
-
-    ghost answers_refl = { λ s. tt };
-
-    ghost answers_trans = { λ s t u xs ys h k. tt };
+    ghost exchanges_trans = { λ s t u xs ys h k. tt };
 
     fn take(&mut self, room: &mut [u8]) -> Taken {
         if self.good_takes == 0 {

@@ -19,6 +19,8 @@ mod engine_tests;
 #[cfg(test)]
 mod equality;
 #[cfg(test)]
+mod exchange_tests;
+#[cfg(test)]
 mod fail_automation;
 #[cfg(test)]
 mod fail_tests;

@@ -16,14 +16,14 @@ returns-in-Ok-clause-ok g c = λ d start before h held.
     let here = subst (λ w. ChainStandsFor w w.config) (sym c.new-stage.ensures.chain) (subst (ChainStandsFor c.args.chain) (sym h.config) h) in
     let config = ap (λ w. w.config) c.new-stage.ensures.chain ∙ h.config in
     let is_out = (λ (qs : List (List ℕ)). g.K.PacketSink.holds c.run_stage.new.out start (before ++ qs)) in
-    let exchanged = (λ (x : g.row.U.Denot). Exchanged g.U.Automation.takes g.U.Automation.answers g.U.Automation.failures x c.run_stage.new.stage.automation.now) in
-    let begins = begun g.U.Automation.takes g.met.U.Automation.takes_refl g.met.U.Automation.takes_trans g.U.Automation.answers g.met.U.Automation.answers_refl g.met.U.Automation.answers_trans g.U.Automation.failures stage.chain.now.config stage.chain.now (λ l. l ≡ []) stage.automation.now here refl in
+    let exchanged = (λ (x : g.row.U.Denot). Exchanged g.U.Automation.exchanges g.U.Automation.failures x c.run_stage.new.stage.automation.now) in
+    let begins = begun g.U.Automation.exchanges g.met.U.Automation.exchanges_refl g.met.U.Automation.exchanges_trans g.U.Automation.failures stage.chain.now.config stage.chain.now (λ l. l ≡ []) stage.automation.now here refl in
     let through = c.in-Ok.ensures.ok start before (λ kept. record { begins = here; run = begins }) held in
     let all = injects_all c.run_stage.new.stage is_out stage.chain.now.config (exchanged stage.automation.now) _ (λ ps sent report e. e) _ c.in-Ok.report through in
     let done = subst (λ x. InjectsAll d (g.P.PacketSource.left c.args.network.now) is_out (exchanged x) c.in-Ok.report) c.new-stage.ensures.automation
     (subst (λ w. InjectsAll w (g.P.PacketSource.left c.args.network.now) is_out (exchanged stage.automation.now) c.in-Ok.report) config all) in
     let named = c.in-Ok.ensures.stage ∙ c.new-stage.ensures.same in
-    subst (λ x. InjectsAll d (g.P.PacketSource.left c.args.network.now) is_out (Exchanged g.U.Automation.takes g.U.Automation.answers g.U.Automation.failures c.args.automation.now x) c.in-Ok.report) (sym (c.automation-1.given.1 (sym named))) done
+    subst (λ x. InjectsAll d (g.P.PacketSource.left c.args.network.now) is_out (Exchanged g.U.Automation.exchanges g.U.Automation.failures c.args.automation.now x) c.in-Ok.report) (sym (c.automation-1.given.1 (sym named))) done
 
 pub returns-clause-err : goal.returns-clause-err
 returns-clause-err g c = λ d start before h held.
@@ -34,8 +34,8 @@ returns-clause-err g c = λ d start before h held.
     let is_out = (λ (qs : List (List ℕ)). g.K.PacketSink.holds c.run_stage.new.out start (before ++ qs)) in
     let fails = (λ (qs : List (List ℕ)). g.K.PacketSink.fails c.run_stage.new.out start (before ++ qs)) in
     let unsent = (λ (qs : List (List ℕ)). g.K.GatheringSink.fails_to_send c.run_stage.new.out start (before ++ qs)) in
-    let exchanged = (λ (x : g.row.U.Denot). Exchanged g.U.Automation.takes g.U.Automation.answers g.U.Automation.failures x c.run_stage.new.stage.automation.now) in
-    let begins = begun g.U.Automation.takes g.met.U.Automation.takes_refl g.met.U.Automation.takes_trans g.U.Automation.answers g.met.U.Automation.answers_refl g.met.U.Automation.answers_trans g.U.Automation.failures stage.chain.now.config stage.chain.now (λ l. l ≡ []) stage.automation.now here refl in
+    let exchanged = (λ (x : g.row.U.Denot). Exchanged g.U.Automation.exchanges g.U.Automation.failures x c.run_stage.new.stage.automation.now) in
+    let begins = begun g.U.Automation.exchanges g.met.U.Automation.exchanges_refl g.met.U.Automation.exchanges_trans g.U.Automation.failures stage.chain.now.config stage.chain.now (λ l. l ≡ []) stage.automation.now here refl in
     let stops = c.in-Err.ensures.err start before (λ kept. record { begins = here; run = begins }) held in
     let all = stops_by (writing_cues stage.chain.now.config) c.in-Err.stop input _ (InjectLeaves stage.chain.now.config (run_fault_of c.in-Err.stop) is_out fails unsent (exchanged stage.automation.now))
     (inject_leaves _ _ _ _ stage c.run_stage.new.stage is_out fails unsent stage.chain.now c.run_stage.new.stage.chain.now (exchanged stage.automation.now) (λ ps qs kept s. s) (λ ps qs p r. r) (λ ps next put q b. b) c.in-Err.stop) stops in
@@ -43,7 +43,7 @@ returns-clause-err g c = λ d start before h held.
     (subst (λ f. InjectStops d f input is_out fails unsent (exchanged stage.automation.now)) (sym c.of.ensures)
     (subst (λ w. InjectStops w (run_fault_of c.in-Err.stop) input is_out fails unsent (exchanged stage.automation.now)) config all)) in
     let named = c.in-Err.ensures.stage ∙ c.new-stage.ensures.same in
-    subst (λ x. InjectStops d c.of.result input is_out fails unsent (Exchanged g.U.Automation.takes g.U.Automation.answers g.U.Automation.failures c.args.automation.now x)) (sym (c.automation-1.given.1 (sym named))) done
+    subst (λ x. InjectStops d c.of.result input is_out fails unsent (Exchanged g.U.Automation.exchanges g.U.Automation.failures c.args.automation.now x)) (sym (c.automation-1.given.1 (sym named))) done
 
 pub returns-clause-reading : goal.returns-clause-reading
 returns-clause-reading g c =
@@ -70,7 +70,7 @@ returns-clause-progress g c = λ d start before h held.
     let is_out = (λ (qs : List (List ℕ)). g.K.PacketSink.holds c.run_stage.new.out start (before ++ qs)) in
     let fails = (λ (qs : List (List ℕ)). g.K.PacketSink.fails c.run_stage.new.out start (before ++ qs)) in
     let unsent = (λ (qs : List (List ℕ)). g.K.GatheringSink.fails_to_send c.run_stage.new.out start (before ++ qs)) in
-    let exchanged = (λ (x : g.row.U.Denot). Exchanged g.U.Automation.takes g.U.Automation.answers g.U.Automation.failures c.args.automation.now x) in
+    let exchanged = (λ (x : g.row.U.Denot). Exchanged g.U.Automation.exchanges g.U.Automation.failures c.args.automation.now x) in
     stop_progresses (writing_cues d) _ _ (g.P.PacketSource.has_ended c.args.network.now) (g.P.PacketSource.has_ended c.run_stage.new.network) _ _ _ _ _ fails unsent
     (λ f. InjectLeaves d f is_out fails unsent (exchanged c.automation-1.given.0)) (λ f bs passed rest. inject_fails d is_out fails unsent f bs passed (exchanged c.automation-1.given.0) rest)
     c.of.result (returns-clause-err g c d start before h held) (to_the_end c.of.result _ _ _ _ (returns-clause-reading g c)) (returns-clause-writing g c)

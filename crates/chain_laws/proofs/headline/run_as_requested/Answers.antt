@@ -10,6 +10,6 @@ returns g c = record {
   headline = λ d start before stands holds.
       IfOk-weaker c.run.result _ _ (λ report ran. IfSome_then (g.P.PacketSource.left c.args.network.now) ran
       (λ bs one. runs_are_so _ c.args.library.now d bs (λ ps. g.K.PacketSink.holds c.run.new.out start (before ++ ps))
-      (Exchanged g.U.Automation.takes g.U.Automation.answers g.U.Automation.failures c.args.automation.now c.run.new.automation) report one))
+      (Exchanged g.U.Automation.exchanges g.U.Automation.failures c.args.automation.now c.run.new.automation) report one))
       (c.run.ensures.ok d start before stands holds);
 }

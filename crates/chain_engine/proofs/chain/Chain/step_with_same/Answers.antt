@@ -16,11 +16,11 @@ returns-in-Ok-clause-ok g c = λ ts n k steps start before h.
     let d = c.args.self.now.config in
     let filed = held c.args.library.now in
     let p = c.args.packet.now in
-    let (more, rs, told, talk, replied) = c.listen.ensures.talk ts n k h.talk in
+    let (more, rs, talk, replied) = c.listen.ensures.talk ts n k h.talk in
     let ms = judged_before (n + length rs) (ts ++ more) k in
     let now = heard_steps (ts ++ more) (n + length rs) k steps in
-    let (hears, stands) = hears_so g.U.Automation.takes g.U.Automation.answers c.args.automation.now c.listen.new.automation (loses c.args.self.now.talk.end c.listen.new.self.end) d ts n k steps more rs
-    c.args.self.now.injector c.listen.new.judge told replied h.injector in record {
+    let (hears, stands) = hears_so g.U.Automation.exchanges c.args.automation.now c.listen.new.automation (loses c.args.self.now.talk.end c.listen.new.self.end) d ts n k steps more rs
+    c.args.self.now.injector c.listen.new.judge replied h.injector in record {
       config = refl;
       more = more;
       rs = rs;
@@ -40,11 +40,11 @@ returns-in-Ok-clause-ok g c = λ ts n k steps start before h.
 pub returns-in-Err-clause-err : goal.returns-in-Err-clause-err
 returns-in-Err-clause-err g c = λ ts n k steps start before h.
     let d = c.args.self.now.config in
-    let (more, rs, told, talk, replied) = c.listen.ensures.talk ts n k h.talk in
+    let (more, rs, talk, replied) = c.listen.ensures.talk ts n k h.talk in
     let ms = judged_before (n + length rs) (ts ++ more) k in
     let now = heard_steps (ts ++ more) (n + length rs) k steps in
-    let (hears, stands) = hears_so g.U.Automation.takes g.U.Automation.answers c.args.automation.now c.listen.new.automation (loses c.args.self.now.talk.end c.listen.new.self.end) d ts n k steps more rs
-    c.args.self.now.injector c.listen.new.judge told replied h.injector in record {
+    let (hears, stands) = hears_so g.U.Automation.exchanges c.args.automation.now c.listen.new.automation (loses c.args.self.now.talk.end c.listen.new.self.end) d ts n k steps more rs
+    c.args.self.now.injector c.listen.new.judge replied h.injector in record {
       more = more;
       rs = rs;
       hears = hears;

@@ -15,9 +15,9 @@ returns-in-Ok-clause-ok g c = λ first ps qs start before s held.
     let p = c.args.packet.now in
     let is_out = (λ (l : List (List ℕ)). g.K.PacketSink.holds c.args.out.now start (before ++ l)) in
     let is_out' = (λ (l : List (List ℕ)). g.K.PacketSink.holds c.feed.new.sink start (before ++ l)) in
-    let exchanged = Exchanged g.U.Automation.takes g.U.Automation.answers g.U.Automation.failures first.automation.now c.hear.new.automation in
+    let exchanged = Exchanged g.U.Automation.exchanges g.U.Automation.failures first.automation.now c.hear.new.automation in
     let run = run_map d _ ps c.args.self.now.chain.now.injector c.args.self.now.chain.now.talk (λ l. l ≡ qs) is_out (λ l e. subst is_out (sym e) held) s.run in
-    let before_packet = heard g.U.Automation.takes g.met.U.Automation.takes_refl g.met.U.Automation.takes_trans g.U.Automation.answers g.met.U.Automation.answers_refl g.met.U.Automation.answers_trans g.U.Automation.failures d is_out ps first.automation.now
+    let before_packet = heard g.U.Automation.exchanges g.met.U.Automation.exchanges_refl g.met.U.Automation.exchanges_trans g.U.Automation.failures d is_out ps first.automation.now
     c.args.self.now.automation.now c.hear.new.automation c.args.self.now.chain.now.injector c.hear.new.self.injector c.args.self.now.chain.now.talk c.hear.new.self.talk run
     c.hear.ensures.talk c.hear.ensures.closed c.hear.ensures.failures in
     let now = passed d exchanged ps c.hear.new.self.injector c.feed.new.self c.hear.new.self.talk is_out is_out' p before_packet (λ steps st o. (
@@ -36,10 +36,10 @@ pub returns-in-Err-clause-err : goal.returns-in-Err-clause-err
 returns-in-Err-clause-err g c = λ first ps qs start before s held.
     let d = first.chain.now.config in
     let p = c.args.packet.now in
-    let before_packet = heard g.U.Automation.takes g.met.U.Automation.takes_refl g.met.U.Automation.takes_trans g.U.Automation.answers g.met.U.Automation.answers_refl g.met.U.Automation.answers_trans g.U.Automation.failures d (λ l. l ≡ qs) ps first.automation.now
+    let before_packet = heard g.U.Automation.exchanges g.met.U.Automation.exchanges_refl g.met.U.Automation.exchanges_trans g.U.Automation.failures d (λ l. l ≡ qs) ps first.automation.now
     c.args.self.now.automation.now c.hear.new.automation c.args.self.now.chain.now.injector c.hear.new.self.injector c.args.self.now.chain.now.talk c.hear.new.self.talk s.run
     c.hear.ensures.talk c.hear.ensures.closed c.hear.ensures.failures in
-    let exchanged = Exchanged g.U.Automation.takes g.U.Automation.answers g.U.Automation.failures first.automation.now c.hear.new.automation in
+    let exchanged = Exchanged g.U.Automation.exchanges g.U.Automation.failures first.automation.now c.hear.new.automation in
     let steps = steps_before (length before_packet.rs) before_packet.ts (reverse ps) in
     let is_out = (λ (sink : g.row.K.Denot) (l : List (List ℕ)). g.K.PacketSink.holds sink start (before ++ l)) in
     let fails = (λ (l : List (List ℕ)). g.K.PacketSink.fails c.feed.new.sink start (before ++ l)) in

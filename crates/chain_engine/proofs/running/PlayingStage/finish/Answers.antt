@@ -21,7 +21,7 @@ returns-in-Ok-clause-ok g c = λ first ps qs kept start before s is_held.
     let injector = c.args.self.now.chain.now.injector in
     let talk = c.args.self.now.chain.now.talk in
     let switch = c.args.self.now.chain.now.switch in
-    let exchanged = Exchanged g.U.Automation.takes g.U.Automation.answers g.U.Automation.failures first.automation.now c.args.self.now.automation.now in
+    let exchanged = Exchanged g.U.Automation.exchanges g.U.Automation.failures first.automation.now c.args.self.now.automation.now in
     let run = subst (λ (v : ℕ → Option Advertisement). HasRun d injector talk (WasFed switch d v (λ l. l ≡ qs)) exchanged ps) (sym to_filed) s.1.run in
     let steps = steps_of (length run.rs) run.ts (reverse ps) in
     let fed = sent_by d steps in
@@ -31,7 +31,7 @@ returns-in-Ok-clause-ok g c = λ first ps qs kept start before s is_held.
     record {
       sent = qs ++ rest;
       ends_so = subst (λ (v : ℕ → Option Advertisement). ChainEnds d v exchanged ps (qs ++ rest) c.of_chain.result) to_filed
-          (ran d exchanged ps f (qs ++ rest) injector talk (WasFed switch d f (λ l. l ≡ qs)) c.of_chain.result run (c.of_chain.ensures.messages d steps (c.counts.ensures d steps run.stands.judges)) (ap (λ l. l ++ rest) run.out.sent) told);
+          (ran d exchanged ps f (qs ++ rest) injector talk (WasFed switch d f (λ l. l ≡ qs)) c.of_chain.result run s.1.network.bytes (c.of_chain.ensures.messages d steps (c.counts.ensures d steps run.stands.judges)) (ap (λ l. l ++ rest) run.out.sent) told);
       out = subst (g.K.PacketSink.holds c.finish.new.sink start) (append_assoc before qs rest) out;
     }
 
@@ -44,7 +44,7 @@ returns-in-Err-clause-err g c = λ first ps qs kept start before s is_held.
     let injector = c.args.self.now.chain.now.injector in
     let talk = c.args.self.now.chain.now.talk in
     let switch = c.args.self.now.chain.now.switch in
-    let exchanged = Exchanged g.U.Automation.takes g.U.Automation.answers g.U.Automation.failures first.automation.now c.args.self.now.automation.now in
+    let exchanged = Exchanged g.U.Automation.exchanges g.U.Automation.failures first.automation.now c.args.self.now.automation.now in
     let fails = (λ (l : List (List ℕ)). g.K.PacketSink.fails c.finish.new.sink start (before ++ l)) in
     let run = subst (λ (v : ℕ → Option Advertisement). HasRun d injector talk (WasFed switch d v (λ l. l ≡ qs)) exchanged ps) (sym to_filed) s.1.run in
     let fed = sent_by d (steps_of (length run.rs) run.ts (reverse ps)) in

@@ -27,15 +27,15 @@ returns-in-Ok-clause-ok g c = λ first ps qs start before s is_held.
     let p = c.args.packet.now in
     let is_out = (λ (l : List (List ℕ)). g.K.PacketSink.holds c.args.out.now start (before ++ l)) in
     let is_out' = (λ (l : List (List ℕ)). g.K.PacketSink.holds c.pass.new.out start (before ++ l)) in
-    let exchanged = Exchanged g.U.Automation.takes g.U.Automation.answers g.U.Automation.failures first.automation.now c.hear.new.automation in
+    let exchanged = Exchanged g.U.Automation.exchanges g.U.Automation.failures first.automation.now c.hear.new.automation in
     let injector = c.args.self.now.chain.now.injector in
     let talk = c.args.self.now.chain.now.talk in
     let switch = c.args.self.now.chain.now.switch in
-    let old = Exchanged g.U.Automation.takes g.U.Automation.answers g.U.Automation.failures first.automation.now c.args.self.now.automation.now in
+    let old = Exchanged g.U.Automation.exchanges g.U.Automation.failures first.automation.now c.args.self.now.automation.now in
     let run = at_both (λ (w : Config) (v : ℕ → Option Advertisement). HasRun w injector talk (WasFed switch w v is_out) old ps) d e filed f (sym to_d) (sym to_filed)
     (run_map d _ ps injector talk (WasFed switch d filed (λ l. l ≡ qs)) (WasFed switch d filed is_out) (fed_so switch d filed (λ l. l ≡ qs) is_out (λ l k. subst is_out (sym k) is_held)) s.1.run) in
     let heard_out = subst (λ sw. HasRun e injector talk (WasFed sw e f is_out) old ps) (sym c.hear.ensures.switch) run in
-    let before_packet = heard g.U.Automation.takes g.met.U.Automation.takes_refl g.met.U.Automation.takes_trans g.U.Automation.answers g.met.U.Automation.answers_refl g.met.U.Automation.answers_trans g.U.Automation.failures e
+    let before_packet = heard g.U.Automation.exchanges g.met.U.Automation.exchanges_refl g.met.U.Automation.exchanges_trans g.U.Automation.failures e
     (WasFed c.hear.new.self.switch e f is_out) ps first.automation.now c.args.self.now.automation.now c.hear.new.automation injector c.hear.new.self.injector talk c.hear.new.self.talk heard_out
     c.hear.ensures.talk c.hear.ensures.closed c.hear.ensures.failures in
     let own = c.hear.ensures.config in
@@ -76,14 +76,14 @@ returns-in-Err-clause-err g c = λ first ps qs start before s is_held.
     let is_out = (λ (l : List (List ℕ)). g.K.PacketSink.holds c.args.out.now start (before ++ l)) in
     let holds = (λ (sink : g.row.K.Denot) (l : List (List ℕ)). g.K.PacketSink.holds sink start (before ++ l)) in
     let fails = (λ (l : List (List ℕ)). g.K.PacketSink.fails c.pass.new.out start (before ++ l)) in
-    let exchanged = Exchanged g.U.Automation.takes g.U.Automation.answers g.U.Automation.failures first.automation.now c.hear.new.automation in
+    let exchanged = Exchanged g.U.Automation.exchanges g.U.Automation.failures first.automation.now c.hear.new.automation in
     let injector = c.args.self.now.chain.now.injector in
     let talk = c.args.self.now.chain.now.talk in
     let switch = c.args.self.now.chain.now.switch in
-    let old = Exchanged g.U.Automation.takes g.U.Automation.answers g.U.Automation.failures first.automation.now c.args.self.now.automation.now in
+    let old = Exchanged g.U.Automation.exchanges g.U.Automation.failures first.automation.now c.args.self.now.automation.now in
     let run = at_both (λ (w : Config) (v : ℕ → Option Advertisement). HasRun w injector talk (WasFed switch w v (λ l. l ≡ qs)) old ps) d e filed f (sym to_d) (sym to_filed) s.1.run in
     let heard_out = subst (λ sw. HasRun e injector talk (WasFed sw e f (λ l. l ≡ qs)) old ps) (sym c.hear.ensures.switch) run in
-    let before_packet = heard g.U.Automation.takes g.met.U.Automation.takes_refl g.met.U.Automation.takes_trans g.U.Automation.answers g.met.U.Automation.answers_refl g.met.U.Automation.answers_trans g.U.Automation.failures e
+    let before_packet = heard g.U.Automation.exchanges g.met.U.Automation.exchanges_refl g.met.U.Automation.exchanges_trans g.U.Automation.failures e
     (WasFed c.hear.new.self.switch e f (λ l. l ≡ qs)) ps first.automation.now c.args.self.now.automation.now c.hear.new.automation injector c.hear.new.self.injector talk c.hear.new.self.talk heard_out
     c.hear.ensures.talk c.hear.ensures.closed c.hear.ensures.failures in
     let own = c.hear.ensures.config in
