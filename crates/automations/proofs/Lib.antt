@@ -5,3 +5,4 @@ mod PlaceLemmas
 mod RefusalLemmas
 mod StopLemmas
 mod ReplyLemmas
+pub mod AnswerLemmas

@@ -1,5 +1,6 @@
 pub mod Connections
 pub mod ScriptAnswers
+pub mod ScriptExchanges
 pub mod ScriptLines
 pub mod ScriptReading
 pub mod ScriptTakes

@@ -1,9 +1,11 @@
 -- What a script prints of the answers that it is given: from one state of it to a later one.
 use Rattle.std.specs.Prelude.{◌≡◌, ℕ, Bool, true, false, List, [], ◌∷◌, ◌++◌, Option, ◌&&◌}
-use Rattle.std.specs.List.{list_all}
+use Rattle.std.specs.List.{list_all, flat_map}
 use Rattle.std.specs.Io.KnownBytes.{Appends}
 use Rattle.std.proofs.Common.{refl, ap, subst, ◌∙◌, append_assoc}
 use Rattle.std.proofs.KnownBytes.{Appends-nil, Appends-trans}
+use Rattle.scte104_codec.specs.declared.reply.Reply.{Reply}
+use Rattle.scte104_codec.specs.Replies.{reply_bytes}
 use Rattle.chain_engine.specs.Automation.{Answer}
 use Rattle.automations.specs.Scripts.{reply_line}
 use Rattle.automations.specs.declared.script.Script.{Script}
@@ -12,6 +14,10 @@ use Rattle.automations.specs.declared.script.Script.{Script}
 abbrev pub lines_of : List Answer → List ℕ
 lines_of [] = []
 lines_of (a ∷ answers) = reply_line a.reply ++ lines_of answers
+
+-- those of replies that were all given
+abbrev pub reply_lines : List Reply → List ℕ
+reply_lines replies = flat_map (λ (r : Reply). reply_line (reply_bytes r)) replies
 
 abbrev pub are_given : List Answer → Bool
 are_given answers = list_all (λ (a : Answer). a.is_given) answers
@@ -26,7 +32,7 @@ lines_more : (xs ys : List Answer) → lines_of xs ++ lines_of ys ≡ lines_of (
 lines_more [] ys = refl
 lines_more (x ∷ xs) ys = append_assoc (reply_line x.reply) (lines_of xs) (lines_of ys) ∙ ap (λ l. reply_line x.reply ++ l) (lines_more xs ys)
 
-given_both : (xs ys : List Answer) → are_given (xs ++ ys) ≡ true → (are_given xs ≡ true) × (are_given ys ≡ true)
+pub given_both : (xs ys : List Answer) → are_given (xs ++ ys) ≡ true → (are_given xs ≡ true) × (are_given ys ≡ true)
 given_both [] ys h = (refl, h)
 given_both (x ∷ xs) ys h = by x.is_given h (given_both xs ys)
   where

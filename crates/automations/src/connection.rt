@@ -1,7 +1,9 @@
 //! An automation on a connection: a client of a port of this machine.
 
 ghost use Rattle.std.specs.Bool.{OnTrue};
-ghost use Rattle.std.specs.Io.KnownBytes.{Appends};
+ghost use Rattle.std.specs.Io.{ReadsAtMost};
+ghost use Rattle.std.specs.Io.KnownBytes.{Appends, ReadConsumes};
+ghost use Rattle.ts_packet.specs.Transfers.{IsCounted};
 
 use chain_engine::{Automation, Taken};
 use std::io::{self, ErrorKind, Read, Write};
@@ -14,10 +16,31 @@ const QUIET: u8 = 15;
 /// The most writes of one reply.
 const WRITES: u32 = 64;
 
-/// An automation at the other end of a connection that does not block.
+/// What requests are read from, and how many reads were made of it. The count stops at the greatest u64.
 #[derive(Drop)]
-pub struct Connection<S> {
-    stream: S,
+struct Requests<R> {
+    reader: R,
+    reads: u64,
+}
+
+impl<R: Read> Requests<R> {
+    /// Reads into the front of the room, as the reader does.
+    #[inline(always)]
+    fn read(&mut self, room: &mut [u8]) -> io::Result<usize>
+        ensures bound { ReadsAtMost result room.new }
+        ensures bytes { ReadConsumes (R.remaining self.old.reader) (R.remaining self.new.reader) result room.new }
+        ensures counted { IsCounted self.old.reads self.new.reads }
+    {
+        self.reads = self.reads.saturating_add(1);
+        self.reader.read(room)
+    }
+}
+
+/// An automation at the other end of a connection that does not block: its requests are read, and the replies written.
+#[derive(Drop)]
+pub struct Connection<R, W> {
+    requests: Requests<R>,
+    replies: W,
     /// How many takes may still answer without asking the system.
     quiet: u8,
     /// How many takes and answers failed.
@@ -29,37 +52,33 @@ fn is_nothing(kind: ErrorKind) -> bool {
     kind == ErrorKind::WouldBlock || kind == ErrorKind::TimedOut || kind == ErrorKind::Interrupted
 }
 
-impl<S: Read + Write> Automation for Connection<S> {
-    ghost use Rattle.std.specs.Prelude.{⊤, ◌≡◌, length};
-    ghost use Rattle.chain_engine.specs.Automation.{IsRoomFor, CountsTake, CountsAnswer};
-    ghost use Rattle.automations.specs.Connections.{IsTakenFrom};
+impl<R: Read, W: Write> Automation for Connection<R, W> {
+    ghost use Rattle.std.specs.Prelude.{◌≡◌, [], ◌∷◌, length};
+    ghost use Rattle.chain_engine.specs.Automation.{taken, answered, take_of, answer_of, IsRoomFor, CountsTake, CountsAnswer};
+    ghost use Rattle.automations.specs.Connections.{IsTakenFrom, AsksInTurn, ConnectionExchanges, ConnectionExchanges-refl, ConnectionExchanges-trans};
 
-    ghost takes = { λ s ts t. ⊤ };
-
-    ghost answers = { λ s xs t. ⊤ };
+    ghost exchanges = { λ s es t. ConnectionExchanges R.remaining W.contents s es t };
 
     ghost failures = { λ s. s.failures };
 
-    ghost takes_refl = { λ s. tt };
+    ghost exchanges_refl = { λ s. ConnectionExchanges-refl R.remaining W.contents s };
 
-    ghost takes_trans = { λ s t u xs ys h k. tt };
-
-    ghost answers_refl = { λ s. tt };
-
-    ghost answers_trans = { λ s t u xs ys h k. tt };
+    ghost exchanges_trans = { λ s t u xs ys h k. ConnectionExchanges-trans R.remaining W.contents s t u xs ys h k };
 
     #[inline(always)]
     fn take(&mut self, room: &mut [u8]) -> Taken
         requires room { length room.old ≡ 4096 }
         ensures bound { IsRoomFor (length room.new) result }
         ensures failures { CountsTake result self.old.failures self.new.failures }
-        ensures read { IsTakenFrom (S.remaining self.old.stream) (S.remaining self.new.stream) room.new result }
+        ensures read { IsTakenFrom (R.remaining self.old.requests.reader) (R.remaining self.new.requests.reader) room.new result }
+        ensures exchanges { ConnectionExchanges R.remaining W.contents self.old (taken (take_of result room.new) ∷ []) self.new }
+        ensures turn { AsksInTurn self.old.quiet self.new.quiet self.old.requests.reads self.new.requests.reads }
     {
         if self.quiet > 0 {
             self.quiet -= 1;
             return Taken::Nothing;
         }
-        match self.stream.read(room) {
+        match self.requests.read(room) {
             Ok(0) => Taken::Ended,
             Ok(count) => Taken::Bytes(count),
             Err(error) => {
@@ -75,9 +94,10 @@ impl<S: Read + Write> Automation for Connection<S> {
 
     fn answer(&mut self, reply: &[u8]) -> bool
         ensures failures { CountsAnswer result self.old.failures self.new.failures }
-        ensures sent { OnTrue result (Appends (S.contents self.old.stream) (S.contents self.new.stream) reply.now) }
+        ensures sent { OnTrue result (Appends (W.contents self.old.replies) (W.contents self.new.replies) reply.now) }
+        ensures exchanges { ConnectionExchanges R.remaining W.contents self.old (answered (answer_of reply.now result) ∷ []) self.new }
     {
-        if send(&mut self.stream, reply) {
+        if send(&mut self.replies, reply) {
             return true;
         }
         self.failures = self.failures.saturating_add(1);
@@ -116,8 +136,9 @@ pub fn listen<R: Net>(rt: &R, port: u16) -> io::Result<R::Listener> {
     TcpListener::bind(rt, SocketAddr::from(([127, 0, 0, 1], port)))
 }
 
-/// Accepts one connection, which may wait for a client. `None` where none could be accepted, or it could not be set not to block.
-pub fn accept<L: OpenListener>(listener: &L) -> Option<Connection<L::Stream>>
+/// Accepts one connection, which may wait for a client. `None` where none could be accepted, it could not be set not to block, or its
+/// handle could not be copied: requests are read from the one, and replies are written to the other.
+pub fn accept<L: OpenListener>(listener: &L) -> Option<Connection<L::Stream, L::Stream>>
 where
     L::Stream: OpenStream + Drop,
 {
@@ -127,8 +148,15 @@ where
     if stream.set_nonblocking(true).is_err() {
         return None;
     }
+    let Ok(replies) = stream.try_clone() else {
+        return None;
+    };
     Some(Connection {
-        stream,
+        requests: Requests {
+            reader: stream,
+            reads: 0,
+        },
+        replies,
         quiet: 0,
         failures: 0,
     })

@@ -208,22 +208,17 @@ fn print_reply<W: Write>(replies: &mut W, reply: &[u8]) -> bool
 impl<W: Write, M: Allocator> Automation for Script<W, M> {
     ghost use Rattle.std.specs.Prelude.{[], ◌∷◌, length};
     ghost use Rattle.chain_engine.specs.Automation.{CountsAnswer, CountsTake, IsRoomFor, take_of, answer_of};
-    ghost use Rattle.automations.specs.ScriptTakes.{ScriptTakes, ScriptTakes-refl, ScriptTakes-trans};
-    ghost use Rattle.automations.specs.ScriptAnswers.{ScriptAnswers, ScriptAnswers-refl, ScriptAnswers-trans};
+    ghost use Rattle.automations.specs.ScriptTakes.{ScriptTakes};
+    ghost use Rattle.automations.specs.ScriptAnswers.{ScriptAnswers};
+    ghost use Rattle.automations.specs.ScriptExchanges.{ScriptExchanges, ScriptExchanges-refl, ScriptExchanges-trans};
 
-    ghost takes = { λ s ts t. ScriptTakes s ts t };
-
-    ghost answers = { λ s xs t. ScriptAnswers W.contents s xs t };
+    ghost exchanges = { λ s es t. ScriptExchanges W.contents s es t };
 
     ghost failures = { λ s. s.lost };
 
-    ghost takes_refl = { λ s. ScriptTakes-refl s };
+    ghost exchanges_refl = { λ s. ScriptExchanges-refl W.contents s };
 
-    ghost takes_trans = { λ s t u xs ys h k. ScriptTakes-trans s t u xs ys h k };
-
-    ghost answers_refl = { λ s. ScriptAnswers-refl W.contents s };
-
-    ghost answers_trans = { λ s t u xs ys h k. ScriptAnswers-trans W.contents s t u xs ys h k };
+    ghost exchanges_trans = { λ s t u xs ys h k. ScriptExchanges-trans W.contents s t u xs ys h k };
 
     #[inline(always)]
     fn take(&mut self, room: &mut [u8]) -> Taken
