@@ -1,6 +1,6 @@
 -- What is flushed at the end of a run is what the run sent; and runs of the chain, where some pieces of messages are spoken of.
 use Rattle.std.specs.Prelude.{Result, Ok, Err, OnOk, IfOk, IfErr, IfSome}
-use Rattle.std.proofs.Common.{◌≡◌, ℕ, List, [], ◌++◌, Option, None, Some, Bool, false, ap, sym, ◌∙◌, refl}
+use Rattle.std.proofs.Common.{◌≡◌, ◌≤◌, ℕ, List, [], ◌++◌, length, reverse, Option, None, Some, Bool, false, ap, sym, subst, arith, ◌∙◌, refl}
 use Rattle.std.proofs.lemmas.List.{append-nil}
 use Rattle.std.specs.Io.KnownBytes.{Keeps, append_known}
 use Rattle.psi_tables.specs.declared.config.Config.{Config}
@@ -8,15 +8,24 @@ use Rattle.ts_packet.specs.declared.sink.PutFault.{PutFault}
 use Rattle.ad_library.specs.Advertisements.{Advertisement}
 use Rattle.splice_plans.specs.declared.report.SwitchReport.{SwitchReport}
 use Rattle.scte104_codec.specs.declared.reply.Reply.{Reply}
+use Rattle.std.specs.Io.KnownBytes.{Appends}
 use Rattle.chain_engine.specs.Automation.{Take}
+use Rattle.chain_engine.specs.Talks.{messages_taken, exchanges_of}
+use Rattle.chain_engine.specs.Hearing.{answers_to, lost_by}
+use Rattle.chain_engine.proofs.ExchangeLemmas.{answers_long, takes_are, answers_are}
+use Rattle.automations.specs.ScriptTakes.{ScriptTakes}
+use Rattle.automations.specs.ScriptAnswers.{ScriptAnswers}
+use Rattle.automations.specs.ScriptExchanges.{ScriptExchanges}
+use Rattle.automations.specs.declared.script.Script.{Script}
+use Rattle.automations.proofs.AnswerLemmas.{all_given, their_lines}
 use Rattle.chain_engine.specs.declared.hearing.SessionEnd.{SessionEnd}
-use Rattle.chain_engine.specs.Runs.{InjectsAll, Serves}
+use Rattle.chain_engine.specs.Runs.{InjectsAll}
 use Rattle.chain_engine.specs.Splices.{SplicesAll}
 use Rattle.chain_engine.specs.ChainRuns as chain
 use Rattle.chain_engine.specs.declared.report.Report.{Report}
-use Rattle.chain_engine.proofs.ForgetLemmas.{stops_so, chain_stops_so}
+use Rattle.chain_engine.proofs.ForgetLemmas.{serves_so, stops_so, chain_stops_so}
 use Rattle.unit_cut.specs.Runs.{CutsAll}
-use Rattle.passages.specs.Runs.{PassesAll, Cuts, Cues, Splices, Plays, CuesStop, PlaysStop}
+use Rattle.passages.specs.Runs.{AsksByLines, PrintsReplies, PassesAll, Cuts, Cues, Splices, Plays, CuesStop, PlaysStop}
 use Rattle.passages.specs.declared.listening.ListenFault.{ListenFault}
 use Rattle.passages.specs.declared.listening.ListenFault.TheVariants as listen
 
@@ -76,21 +85,18 @@ pub cuts : (pid from length : ℕ) (input : Option (List ℕ)) (is_out : List (L
 cuts pid from length None is_out report h = tt
 cuts pid from length (Some bs) is_out report h = (_, (h.0, refl), h.1)
 
-module _ (told told' : Option SessionEnd → List Take → List Reply → Type 0) (so : (ending : Option SessionEnd) (ts : List Take) (rs : List Reply) → told ending ts rs → told' ending ts rs) (c : Config) where
-  serves_so : (ts : List Take) (rs : List Reply) (k : ℕ) (steps : _) → Serves c told ts rs k steps → Serves c told' ts rs k steps
-  serves_so ts rs k steps h = record { ending = h.ending; talked = h.talked; exchanges = so h.ending ts rs h.exchanges; replies = h.replies }
-
+module _ (told told' : Option SessionEnd → List Take → List Reply → Type 0) (so : (ending : Option SessionEnd) (ts : List Take) (rs : List Reply) → length rs ≤ length (messages_taken ts) → told ending ts rs → told' ending ts rs) (c : Config) where
   pub cues : (input : Option (List ℕ)) (is_out : List (List ℕ) → Type 0) (report : Report) → InjectsAll c input is_out told report
       → PassesAll (Cues c told') input is_out report
   cues None is_out report h = tt
   cues (Some bs) is_out report h =
-      (_, record { sound = h.sound; ts = h.ts; rs = h.rs; serves = serves_so _ _ _ _ h.serves; written = refl; counted = h.counted }, h.written)
+      (_, record { sound = h.sound; ts = h.ts; rs = h.rs; serves = serves_so c told told' so _ _ _ _ h.serves; written = refl; counted = h.counted }, h.written)
 
   pub cues_so : (input : Option (List ℕ)) (is_out : List (List ℕ) → Type 0) (report : Report) → PassesAll (Cues c told) input is_out report
       → PassesAll (Cues c told') input is_out report
   cues_so None is_out report h = tt
   cues_so (Some bs) is_out report (ps, h, out) =
-      (ps, record { sound = h.sound; ts = h.ts; rs = h.rs; serves = serves_so _ _ _ _ h.serves; written = h.written; counted = h.counted }, out)
+      (ps, record { sound = h.sound; ts = h.ts; rs = h.rs; serves = serves_so c told told' so _ _ _ _ h.serves; written = h.written; counted = h.counted }, out)
 
   pub cues_stop_so : (fault : ListenFault) (input : Option (List ℕ)) (is_out : List (List ℕ) → Type 0) (fails : List (List ℕ) → List ℕ → PutFault → Type 0)
       (unsent : List (List ℕ) → PutFault → Type 0)
@@ -103,13 +109,13 @@ module _ (told told' : Option SessionEnd → List Take → List Reply → Type 0
         → PassesAll (Plays c filed told') input is_out report
     plays None is_out report h = tt
     plays (Some bs) is_out report h =
-        (_, record { sound = h.sound; ts = h.ts; rs = h.rs; serves = serves_so _ _ _ _ h.serves; written = refl; counted = h.counted }, h.written)
+        (_, record { sound = h.sound; bytes = h.bytes; ts = h.ts; rs = h.rs; serves = serves_so c told told' so _ _ _ _ h.serves; written = refl; counted = h.counted }, h.written)
 
     pub plays_so : (input : Option (List ℕ)) (is_out : List (List ℕ) → Type 0) (report : Report) → PassesAll (Plays c filed told) input is_out report
         → PassesAll (Plays c filed told') input is_out report
     plays_so None is_out report h = tt
     plays_so (Some bs) is_out report (ps, h, out) =
-        (ps, record { sound = h.sound; ts = h.ts; rs = h.rs; serves = serves_so _ _ _ _ h.serves; written = h.written; counted = h.counted }, out)
+        (ps, record { sound = h.sound; bytes = h.bytes; ts = h.ts; rs = h.rs; serves = serves_so c told told' so _ _ _ _ h.serves; written = h.written; counted = h.counted }, out)
 
     pub plays_stop_so : (fault : ListenFault) (input : Option (List ℕ)) (is_out : List (List ℕ) → Type 0) (fails : List (List ℕ) → List ℕ → PutFault → Type 0)
         (unsent : List (List ℕ) → PutFault → Type 0)
@@ -121,3 +127,23 @@ pub splices : (c : Config) (filed : ℕ → Option Advertisement) (input : Optio
     → PassesAll (Splices c filed) input is_out report
 splices c filed None is_out report h = tt
 splices c filed (Some bs) is_out report h = (_, record { sound = h.sound; written = refl; counted = h.counted }, h.written)
+
+-- ---- a script
+
+-- what it tells of a run: its takes are its lines', and its replies were printed
+module _ {W M : Type 0} (contents : W → Option (List ℕ)) (s t : Script W M) (ending : Option SessionEnd) (ts : List Take) (rs : List Reply) (few : length rs ≤ length (messages_taken ts))
+    (h : ScriptExchanges contents s (exchanges_of (answers_to (lost_by ending) rs) (reverse ts)) t) where
+  script_asks : AsksByLines s ts
+  script_asks script gives fits =
+      let takes = subst (λ l. ScriptTakes s l t) (takes_are (answers_to (lost_by ending) rs) ts) h.0 in
+      (takes script gives fits).0
+
+  script_replies : PrintsReplies contents s t ending rs
+  script_replies e =
+      let long = answers_long (lost_by ending) rs in
+      let told = subst (λ l. ScriptAnswers contents s l t) (answers_are (answers_to (lost_by ending) rs) ts (omega (arith, long, few))) h.1 in
+      let all = subst (λ b. ScriptAnswers contents s (answers_to b rs) t) e told in
+      subst (Appends (contents s.replies) (contents t.replies)) (their_lines rs) (all (all_given rs))
+
+  pub script_tells : AsksByLines s ts × PrintsReplies contents s t ending rs
+  script_tells = (script_asks, script_replies)

@@ -1,6 +1,6 @@
 -- Whole runs of the program: which packets go out for the bytes of a network, and what is told. A connection does not tell its pieces, so of
 -- runs with one some pieces are spoken of.
-use Rattle.std.specs.Prelude.{◌≡◌, ℕ, ◌+◌, ◌^◌, ◌<◌, List, [], length, Option, None, IfSome, Result, Ok, Err}
+use Rattle.std.specs.Prelude.{◌≡◌, ℕ, ◌+◌, ◌^◌, ◌<◌, false, List, [], length, Option, None, IfSome, Result, Ok, Err}
 use Rattle.ts_packet.specs.Packets.{packets_of}
 use Rattle.ts_packet.specs.declared.sink.PutFault.{PutFault}
 use Rattle.unit_cut.specs.Cutting.{cut_between}
@@ -18,6 +18,10 @@ use Rattle.chain_engine.specs.declared.report.Report.{Report}
 use Rattle.chain_engine.specs.declared.faults.RunFault.{RunFault}
 use Rattle.automations.specs.ScriptLines.{ScriptLine, GivesLines}
 use Rattle.automations.specs.ScriptTakes.{takes_from}
+use Rattle.automations.specs.declared.script.Script.{Script}
+use Rattle.automations.specs.ScriptAnswers.{reply_lines}
+use Rattle.chain_engine.specs.Hearing.{lost_by}
+use Rattle.std.specs.Io.KnownBytes.{Appends}
 use Rattle.passages.specs.declared.listening.ListenFault.{ListenFault}
 use Rattle.passages.specs.declared.listening.ListenFault.TheVariants as listen
 use Rattle.passages.specs.declared.fault.ProgramFault.{ProgramFault}
@@ -36,12 +40,28 @@ Cuts pid from length bs ps report = (first_fault pid bs ≡ None) × (ps ≡ cut
 
 -- ---- what is known of the pieces of messages
 
--- THE TAKES OF AN ASKER: those of a script are its lines', before packet after packet from the next one on, for as long as the packets' numbers
--- fit 64 bits
+-- a script's takes are its lines', before packet after packet from the next one on, for as long as the packets' numbers fit 64 bits
+abbrev pub AsksByLines : {W M : Type 0} → Script W M → List Take → Type 0
+AsksByLines s ts = (script : List ScriptLine) → GivesLines s script → s.packet + length ts < 2 ^ 64 → ts ≡ takes_from s.packet (length ts) script
+
+-- where no reply to it was lost, what it prints them to has grown by their lines, in order
+abbrev pub PrintsReplies : {W M : Type 0} → (W → Option (List ℕ)) → Script W M → Script W M → Option SessionEnd → List Reply → Type 0
+PrintsReplies contents s t ending rs = lost_by ending ≡ false → Appends (contents s.replies) (contents t.replies) (reply_lines rs)
+
+-- THE TAKES OF AN ASKER: those of a client are not known
 abbrev pub AsksBy : {W L : Type 0} → Asker W L → List Take → Type 0
-AsksBy (asker.Script s) ts = (script : List ScriptLine) → GivesLines s script → s.packet + length ts < 2 ^ 64
-    → ts ≡ takes_from s.packet (length ts) script
+AsksBy (asker.Script s) ts = AsksByLines s ts
 AsksBy (asker.Port listener) ts = Unit {0}
+
+-- THE REPLIES TO AN ASKER, from its state before a run to that behind it: what a client was sent is not told
+abbrev pub RepliesTo : {W L : Type 0} → (W → Option (List ℕ)) → Asker W L → Asker W L → Option SessionEnd → List Reply → Type 0
+RepliesTo contents (asker.Script s) (asker.Script t) ending rs = PrintsReplies contents s t ending rs
+RepliesTo contents (asker.Script s) (asker.Port listener) ending rs = ⊥
+RepliesTo contents (asker.Port listener) now ending rs = Unit {0}
+
+-- what it tells of its pieces and of the replies
+abbrev pub AskerTells : {W L : Type 0} → (W → Option (List ℕ)) → Asker W L → Asker W L → Option SessionEnd → List Take → List Reply → Type 0
+AskerTells contents before now ending ts rs = AsksBy before ts × RepliesTo contents before now ending rs
 
 -- nothing is known of the pieces
 abbrev pub Untold : Option SessionEnd → List Take → List Reply → Type 0

@@ -8,7 +8,7 @@ ghost use Rattle.ad_library.specs.Library.{held};
 ghost use Rattle.chain_engine.specs.Chains.{ChainStandsFor};
 ghost use Rattle.chain_engine.specs.Runs.{NetworkBlamed, OutputBlamed};
 ghost use Rattle.chain_engine.specs.Splices.{NetworkBlamedToEnd};
-ghost use Rattle.passages.specs.Runs.{PassesAll, AsksBy, CuesStop, Cues, PlaysStop, Plays, IfRan, IsPort, told_fault, lost_replies};
+ghost use Rattle.passages.specs.Runs.{PassesAll, AskerTells, CuesStop, Cues, PlaysStop, Plays, IfRan, IsPort, told_fault, lost_replies};
 
 use crate::fault::ProgramFault;
 use crate::listening::{ListenFault, inject_listening, run_listening};
@@ -42,8 +42,8 @@ impl<W, L> Asker<W, L> {
 ///
 /// # Errors
 ///
-/// `Accept` where the messages come from a port, and no connection was accepted or it could not be set not to block: the network and
-/// the output are as they were then. `Run` as for [`run_inject`].
+/// `Accept` where the messages come from a port, and no connection was accepted, or it could not be set not to block, or its handle not be
+/// copied: the network and the output are as they were then. `Run` as for [`run_inject`].
 pub fn cue<P, K, W, L>(
     chain: Chain,
     network: &mut P,
@@ -58,9 +58,9 @@ where
     L::Stream: OpenStream + Read + Write + Drop,
     requires { P.is_broken network.old ≡ false }
     ensures done { (c : Config) (start : Option (List ℕ)) → ChainStandsFor chain c → K.holds out.old start []
-        → IfOk result (PassesAll (Cues c (λ _ ts _. AsksBy asker.old ts)) (P.left network.old) (K.holds out.new start)) }
+        → IfOk result (PassesAll (Cues c (AskerTells W.contents asker.old asker.new)) (P.left network.old) (K.holds out.new start)) }
     ensures stop { (c : Config) (start : Option (List ℕ)) → ChainStandsFor chain c → K.holds out.old start []
-        → IfErr result (λ f. CuesStop c (λ _ ts _. AsksBy asker.old ts) f (P.left network.old)
+        → IfErr result (λ f. CuesStop c (AskerTells W.contents asker.old asker.new) f (P.left network.old)
         (K.holds out.new start) (K.fails out.new start) (K.fails_to_send out.new start)) }
     ensures read { OnOk result (SourceCounts false (P.has_ended network.old) (P.has_ended network.new)
         (P.counts network.old) (P.counts network.new)) }
@@ -105,10 +105,10 @@ where
     L::Stream: OpenStream + Read + Write + Drop,
     requires { P.is_broken network.old ≡ false }
     ensures done { (c : Config) (start : Option (List ℕ)) → ChainStandsFor chain c → K.holds out.old start []
-        → IfOk result (PassesAll (Plays c (held library.now) (λ _ ts _. AsksBy asker.old ts))
+        → IfOk result (PassesAll (Plays c (held library.now) (AskerTells W.contents asker.old asker.new))
         (P.left network.old) (K.holds out.new start)) }
     ensures stop { (c : Config) (start : Option (List ℕ)) → ChainStandsFor chain c → K.holds out.old start []
-        → IfErr result (λ f. PlaysStop c (held library.now) (λ _ ts _. AsksBy asker.old ts) f (P.left network.old)
+        → IfErr result (λ f. PlaysStop c (held library.now) (AskerTells W.contents asker.old asker.new) f (P.left network.old)
         (K.holds out.new start) (K.fails out.new start) (K.fails_to_send out.new start)) }
     ensures read { OnOk result (SourceCounts false (P.has_ended network.old) (P.has_ended network.new)
         (P.counts network.old) (P.counts network.new)) }

@@ -21,7 +21,7 @@ use ts_packet::{GatheringSink, PausingPackets, ReadFault};
 /// Why a run with a connection stopped.
 #[derive(Clone, Copy, Debug, PartialEq, Eq, Drop)]
 pub enum ListenFault {
-    /// No connection was accepted, or it could not be set not to block.
+    /// No connection was accepted, or it could not be set not to block, or its handle not be copied.
     Accept,
     /// The run stopped.
     Run(RunFault),
@@ -32,8 +32,8 @@ pub enum ListenFault {
 ///
 /// # Errors
 ///
-/// `Accept` where no connection was accepted, or it could not be set not to block: the network and the output are as they were then.
-/// `Run` as for [`run_inject`].
+/// `Accept` where no connection was accepted, or it could not be set not to block, or its handle not be copied: the network and the output
+/// are as they were then. `Run` as for [`run_inject`].
 pub fn inject_listening<M, P, L, K>(
     chain: Chain<M>,
     network: &mut P,

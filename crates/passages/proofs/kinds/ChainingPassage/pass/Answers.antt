@@ -1,8 +1,12 @@
+use Rattle.passages.specs.Runs.{AsksBy}
+use Rattle.passages.proofs.PassageLemmas.{plays_so}
+use Rattle.ad_library.specs.Library.{held}
 use Rattle.passages.proofs.kinds.ChainingPassage.pass.Goals.{in-Ok-play, in-Err}
 use Rattle.passages.proofs.kinds.ChainingPassage.pass.Goals as goal
 
 pub returns-clause-done : goal.returns-clause-done
-returns-clause-done g c = λ start held. elim c.match-play.branch [
-  | in-Ok-play w ↦ rw w.result-is (w.in-Ok-play.ensures.done c.args.self.options.now.config start c.in-Ok.ensures held)
+returns-clause-done g c = λ start is_held. elim c.match-play.branch [
+  | in-Ok-play w ↦ rw w.result-is (plays_so _ (λ ending ts rs. AsksBy c.args.self.asker.now ts) (λ ending ts rs few x. x.0) c.args.self.options.now.config (held c.args.self.library.now) _ _ _
+      (w.in-Ok-play.ensures.done c.args.self.options.now.config start c.in-Ok.ensures is_held))
   | in-Err w ↦ rw w.result-is tt
 ]
