@@ -8,6 +8,6 @@ mod source;
 mod target;
 
 pub use calls::{Calls, Ending};
-pub use record::{Failing, Moment, Record, RecordedSource, RecordedTarget};
+pub use record::{Failing, Moment, Record, RecordedReplies, RecordedSource, RecordedTarget};
 pub use source::FailSource;
 pub use target::FailTarget;

@@ -218,3 +218,44 @@ impl Write for RecordedTarget<'_> {
         Ok(())
     }
 }
+
+/// Takes replies, and keeps how far both ends of the run were at each.
+#[derive(Drop)]
+pub struct RecordedReplies<'a> {
+    taken: Vec<u8>,
+    record: &'a Record,
+    moments: Vec<Moment>,
+}
+
+impl<'a> RecordedReplies<'a> {
+    /// No reply was taken.
+    pub fn new(alloc: Global, record: &'a Record) -> RecordedReplies<'a> {
+        RecordedReplies {
+            taken: Vec::new(alloc),
+            record,
+            moments: Vec::new(alloc),
+        }
+    }
+
+    /// The bytes that it took, in order.
+    pub fn taken(&self) -> &[u8] {
+        self.taken.as_slice()
+    }
+
+    /// How far both ends were at each write, before it.
+    pub fn moments(&self) -> &[Moment] {
+        self.moments.as_slice()
+    }
+}
+
+impl Write for RecordedReplies<'_> {
+    fn write(&mut self, buf: &[u8]) -> io::Result<usize> {
+        self.moments.push(self.record.moment())?;
+        self.taken.extend_from_slice(buf)?;
+        Ok(buf.len())
+    }
+
+    fn flush(&mut self) -> io::Result<()> {
+        Ok(())
+    }
+}

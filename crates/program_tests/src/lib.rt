@@ -23,8 +23,6 @@ mod inject_tests;
 #[cfg(test)]
 mod list_tests;
 #[cfg(test)]
-mod live_tests;
-#[cfg(test)]
 mod script_tests;
 #[cfg(test)]
 mod splice_tests;

@@ -1,11 +1,12 @@
 //! Runs whose input may pause: what came in is out before the next read, by one write at most. Both ends of a run stand in one record. The
 //! packets are null packets, which each kind of run passes on as they are.
 
+use crate::network::{expect_prompt, null_packets, pauses};
 use ad_library::AdLibrary;
 use command_lines::command::CutOptions;
 use command_lines::splice_options::SpliceOptions;
 use dpi_program::program::program;
-use failing_devices::{Failing, Moment, Record, RecordedSource, RecordedTarget};
+use failing_devices::{Failing, Record, RecordedSource, RecordedTarget};
 use passages::fault::fault_name;
 use passages::kinds::{Cutting, Splicing};
 use passages::running::run_from;
@@ -27,31 +28,6 @@ enum Kind {
 }
 
 const KINDS: [Kind; 2] = [Kind::Cut, Kind::Splice];
-
-/// So many null packets, each with its number in it.
-fn null_packets(alloc: Global, count: u32) -> Result<Vec<u8>, AllocError> {
-    let mut bytes = Vec::new(alloc);
-    for number in 0..count {
-        bytes.extend_from_slice(&[0x47, 0x1F, 0xFF, 0x10])?;
-        bytes.extend_from_slice(&number.to_be_bytes())?;
-        for _ in 8..188 {
-            bytes.push(0xA5)?;
-        }
-    }
-    Ok(bytes)
-}
-
-/// The sizes of the pieces of ten packets: seven at once, one a byte a read, one and a half, and a half.
-fn pauses(alloc: Global) -> Result<Vec<usize>, AllocError> {
-    let mut sizes = Vec::new(alloc);
-    sizes.push(1_316)?;
-    for _ in 0..188 {
-        sizes.push(1)?;
-    }
-    sizes.push(282)?;
-    sizes.push(94)?;
-    Ok(sizes)
-}
 
 /// A cut of PID 0x100, on which nothing comes.
 fn cut<R: Read + Drop, O: Write + Drop>(
@@ -117,34 +93,31 @@ fn pass<R: Read + Drop, O: Write + Drop>(
     }
 }
 
-/// At each read all pieces of this size that came in whole are out, and since the read before it at most one write was made.
-fn expect_prompt<R: Abort>(rt: &R, moments: &[Moment], size: usize) {
-    let mut writes = 0;
-    for (place, moment) in moments.iter().enumerate() {
-        let part = if size == 0 { 0 } else { moment.given % size };
-        assert_eq!(rt; moment.written, moment.given - part, "read {place}");
-        assert!(rt; moment.writes - writes <= 1, "read {place}");
-        writes = moment.writes;
-    }
+/// A live run: each packet that came in is out before the next read, by one write for all that a read brought.
+fn expect_out<R: AllocGlobal + Abort>(rt: &R, kind: Kind) -> Result<(), Fail> {
+    let network = null_packets(rt.alloc(), 10)?;
+    let sizes = pauses(rt.alloc())?;
+    let record = Record::new();
+    let mut input = RecordedSource::new(rt.alloc(), &network, &sizes, &record);
+    let never = Failing::never();
+    let mut output = RecordedTarget::new(rt.alloc(), &record, never, never);
+    let ended = pass(rt.alloc(), kind, true, &mut input, &mut output)?;
+    let Ok(()) = ended else {
+        return Err(Fail::from("a run that stopped"));
+    };
+    expect_prompt(rt, input.moments(), 188);
+    assert_eq!(*rt; input.moments().len(), 192, "{kind:?}");
+    assert_eq!(*rt; record.moment().given, 1_880, "{kind:?}");
+    assert_eq!(*rt; record.moment().writes, 4, "{kind:?}");
+    assert!(*rt; output.taken() == network.as_slice(), "{kind:?}");
+    assert_eq!(*rt; output.flushed().len(), 5, "{kind:?}");
+    Ok(())
 }
 
 #[test]
 fn what_came_in_is_out_before_a_pause(rt: HostRuntime) -> Result<(), Fail> {
-    let network = null_packets(rt.alloc(), 10)?;
-    let sizes = pauses(rt.alloc())?;
     for kind in KINDS {
-        let record = Record::new();
-        let mut input = RecordedSource::new(rt.alloc(), &network, &sizes, &record);
-        let never = Failing::never();
-        let mut output = RecordedTarget::new(rt.alloc(), &record, never, never);
-        let ended = pass(rt.alloc(), kind, true, &mut input, &mut output)?;
-        assert!(rt; ended.is_ok(), "{kind:?}");
-        expect_prompt(&rt, input.moments(), 188);
-        assert_eq!(rt; input.moments().len(), 192, "{kind:?}");
-        assert_eq!(rt; record.moment().given, 1_880, "{kind:?}");
-        assert_eq!(rt; record.moment().writes, 4, "{kind:?}");
-        assert!(rt; output.taken() == network.as_slice(), "{kind:?}");
-        assert_eq!(rt; output.flushed().last(), Some(&1_880), "{kind:?}");
+        expect_out(&rt, kind)?;
     }
     Ok(())
 }
