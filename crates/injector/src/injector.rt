@@ -1,8 +1,9 @@
 //! The injector: messages in and answers out, packets in and packets with cues out.
 
 ghost use Rattle.std.specs.Prelude.{◌≡◌, ◌++◌, ◌∷◌, [], ℕ, List, Option, Some, None, option_map, Err, Bool, true};
-ghost use Rattle.std.specs.Prelude.{false, OnOk, IfErr};
+ghost use Rattle.std.specs.Prelude.{false, length, OnOk, IfErr};
 ghost use Rattle.pes_time.specs.Line.{ring_of};
+ghost use Rattle.ts_packet.specs.Fields.{on_one};
 ghost use Rattle.ts_packet.specs.Runs.{onto};
 ghost use Rattle.ts_packet.specs.Sinks.{Blamed};
 ghost use Rattle.ts_packet.specs.Transfers.{WentWell};
@@ -20,13 +21,14 @@ ghost use Rattle.injector.specs.Injecting.{InjectorStandsFor, JudgesBy, FeedFail
 ghost use Rattle.injector.specs.Injecting.{IsFollowed, IsStill, IsBodyOf, RestsAt, KeepsRest, KeepsAllButRest};
 ghost use Rattle.outgoing_packets.specs.Faults.{FeedBlamed, KeepsSink, is_err_or};
 ghost use Rattle.program_follower.specs.Purposes.{writing_cues};
-ghost use Rattle.program_follower.specs.Program.{listed};
+ghost use Rattle.program_follower.specs.Program.{listed, known_pids};
 ghost use Rattle.program_follower.specs.Following.{high_of, on_map, IsStartPlace};
 
 use crate::choice::is_reached;
 use crate::counts::{MessageCounts, counted, has_news_behind};
 use crate::cues::put_due;
 use crate::requests::Requests;
+use arrayvec::ArrayVec;
 use outgoing_packets::{CueEntry, Outgoing};
 use pes_time::Time33;
 use program_follower::{Purpose, StartFollower, StartPlace};
@@ -93,6 +95,33 @@ impl Injector {
             CountsAre result c.index (turns_in c.program past) }
     {
         self.counts
+    }
+
+    /// The PIDs that are known of its program: that of the map once the PAT gave it, and behind it those of the switched streams in the order
+    /// of the map, once that came.
+    pub fn pids(&self) -> ArrayVec<Pid, 9>
+        ensures { (c : Config) (past : List Step) → InjectorStandsFor self.now c past →
+            result.items ≡ known_pids (Some c.program) (packets_in past) }
+    {
+        self.follower.pids()
+    }
+
+    /// How many PIDs are known of its program.
+    #[inline(always)]
+    pub fn pid_count(&self) -> usize
+        ensures { (c : Config) (past : List Step) → InjectorStandsFor self.now c past →
+            result ≡ length (known_pids (Some c.program) (packets_in past)) }
+    {
+        self.follower.pid_count()
+    }
+
+    /// The packet is on one of the PIDs that are known of its program, and not marked in error.
+    #[inline(always)]
+    pub fn owns(&self, packet: &Packet) -> bool
+        ensures { (c : Config) (past : List Step) → InjectorStandsFor self.now c past →
+            result ≡ on_one (known_pids (Some c.program) (packets_in past)) packet.now }
+    {
+        self.follower.owns(packet)
     }
 
     /// Takes the next packet of the network, and puts the cues that are due before it, and then the packet, or in the place of a packet

@@ -21,6 +21,13 @@ const MAP: [u8; 26] = [
     0x00, 0x1B, 0xE1, 0x00, 0xF0, 0x00, 0x15, 0xBD, 0x4D, 0x56,
 ];
 
+/// One with a map of three streams: audio on PID 0x101, private data on PID 0x102, which is not switched, and video on PID 0x100.
+const THREE: [u8; 36] = [
+    0x47, 0x40, 0x20, 0x10, 0x00, 0x02, 0xB0, 0x1C, 0x00, 0x01, 0xC1, 0x00, 0x00, 0xE1, 0x00, 0xF0,
+    0x00, 0x0F, 0xE1, 0x01, 0xF0, 0x00, 0x06, 0xE1, 0x02, 0xF0, 0x00, 0x1B, 0xE1, 0x00, 0xF0, 0x00,
+    0x3F, 0xEF, 0x68, 0x72,
+];
+
 /// The map as it goes out, with its entry for cues on PID 0x1F0.
 const MAP_OUT: [u8; 37] = [
     0x47, 0x40, 0x20, 0x10, 0x00, 0x02, 0xB0, 0x1D, 0x00, 0x01, 0xC1, 0x00, 0x00, 0xE1, 0x00, 0xF0,
@@ -255,5 +262,49 @@ fn map_without_room(rt: HostRuntime) -> Result<(), Fail> {
     expect_eq!(rt; fed_map(rt.alloc(), 496)?, (Ok(()), 7));
     let long = Err(FeedFault::Network(NetworkFault::PmtTooLong));
     expect_eq!(rt; fed_map(rt.alloc(), 497)?, (long, 1));
+    Ok(())
+}
+
+/// The PIDs that are known are these, and as many as it says.
+fn knows(injector: &Injector, pids: &[Pid]) -> bool {
+    injector.pids().as_slice() == pids && injector.pid_count() == pids.len()
+}
+
+/// It owns a packet with these two bytes behind the first.
+fn owns(injector: &Injector, high: u8, low: u8) -> bool {
+    injector.owns(&packet(&[0x47, high, low, 0x10]))
+}
+
+/// Whether it owns packets on the PIDs of the PAT, the map, the audio, the data and the video.
+fn owned(injector: &Injector) -> [bool; 5] {
+    [
+        owns(injector, 0x00, 0x00),
+        owns(injector, 0x00, 0x20),
+        owns(injector, 0x01, 0x01),
+        owns(injector, 0x01, 0x02),
+        owns(injector, 0x01, 0x00),
+    ]
+}
+
+/// Before the PAT none is known, behind it that of the map, and behind the map those of the switched streams too, in its order. A packet that
+/// is marked in error is on none.
+#[test]
+fn pids_become_known(rt: HostRuntime) -> Result<(), Fail> {
+    let mut injector = injector()?;
+    let mut list = PacketList::new(rt.alloc(), 2)?;
+    let pids = [
+        Pid::of_bits(0x00, 0x20),
+        Pid::of_bits(0x01, 0x01),
+        Pid::of_bits(0x01, 0x00),
+    ];
+    expect_eq!(rt; knows(&injector, &[]), true);
+    expect_eq!(rt; owned(&injector), [false, false, false, false, false]);
+    expect_eq!(rt; injector.feed(&packet(&PAT), &mut list), Ok(()));
+    expect_eq!(rt; knows(&injector, &pids[..1]), true);
+    expect_eq!(rt; owned(&injector), [false, true, false, false, false]);
+    expect_eq!(rt; injector.feed(&packet(&THREE), &mut list), Ok(()));
+    expect_eq!(rt; knows(&injector, &pids), true);
+    expect_eq!(rt; owned(&injector), [false, true, true, false, true]);
+    expect_eq!(rt; owns(&injector, 0x80 | 0x01, 0x00), false);
     Ok(())
 }

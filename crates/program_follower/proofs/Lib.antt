@@ -9,5 +9,6 @@ pub mod FollowLemmas
 pub mod ElsewhereLemmas
 mod UseLemmas
 pub mod PieceLemmas
+pub mod PidLemmas
 mod StillLemmas
 mod FaultlessMapLemmas

@@ -1,9 +1,12 @@
 //! One program of a network, followed by where its units begin.
 
-ghost use Rattle.std.specs.Prelude.{◌≡◌, ◌<◌, ◌≤◌, ◌∷◌, [], ℕ, List, length, slice_index_or, Option, Some, None, option_map, OnOk, IfOk, IfErr};
+ghost use Rattle.std.specs.Prelude.{◌≡◌, ◌<◌, ◌≤◌, ◌+◌, ◌∷◌, ◌++◌, [], ℕ, List, length, slice_index_or, Option, Some, None, option_map};
+ghost use Rattle.std.specs.Prelude.{OnOk, IfOk, IfErr};
+ghost use Rattle.arrayvec.specs.ArrayVec.{array_vec_len};
+ghost use Rattle.ts_packet.specs.Fields.{on_one};
 ghost use Rattle.pes_time.specs.Line.{ring_of};
 ghost use Rattle.unit_stream.specs.Faults.{unit_fault};
-ghost use Rattle.program_follower.specs.Program.{tables, Program, program_of, pids_of};
+ghost use Rattle.program_follower.specs.Program.{tables, Program, program_of, pids_of, known_pids};
 ghost use Rattle.program_follower.specs.Faults.{network_fault, pids_in};
 ghost use Rattle.program_follower.specs.PidUses.{IsTablePid, HasPlacesElsewhere};
 ghost use Rattle.program_follower.specs.Standing.{tables_left, lent_program};
@@ -18,9 +21,10 @@ use crate::purpose::Purpose;
 use crate::starts::{StartPacket, Starts};
 use crate::table_reader::{OnTables, TableReader, or_zero};
 use crate::tables::Tables;
+use arrayvec::ArrayVec;
 use pes_time::Time33;
 use psi_tables::{NetworkFault, Stream};
-use ts_packet::Packet;
+use ts_packet::{Packet, Pid};
 use unit_stream::UnitFault;
 
 /// What a packet is to the program that is followed, told by the begins of units alone.
@@ -197,6 +201,79 @@ impl StartFollower {
             Some(known) => known.streams.as_slice(),
         }
     }
+
+    /// The PIDs that are known of the program: that of its map once the PAT gave it, and behind it those of the up to eight switched streams
+    /// in the order of the map, once that came.
+    pub fn pids(&self) -> ArrayVec<Pid, 9>
+        ensures { OfStartPast self.now (λ c past. result.items ≡ known_pids c.program past) }
+    {
+        let mut pids = ArrayVec::new();
+        if let Some(listed) = self.tables.listed() {
+            pids.push(listed.pid);
+        }
+        if let Some(known) = self.tables.known() {
+            add_pids(&mut pids, known.streams.as_slice());
+        }
+        pids
+    }
+
+    /// How many PIDs are known of the program.
+    #[inline(always)]
+    pub fn pid_count(&self) -> usize
+        ensures { OfStartPast self.now (λ c past. result ≡ length (known_pids c.program past)) }
+    {
+        let streams = self.streams().len();
+        match self.tables.listed() {
+            None => streams,
+            Some(_) => streams + 1,
+        }
+    }
+
+    /// The packet is on one of the PIDs that are known of the program, and not marked in error. Most packets are told by one look-up.
+    #[inline(always)]
+    pub fn owns(&self, packet: &Packet) -> bool
+        ensures { OfStartPast self.now (λ c past. result ≡ on_one (known_pids c.program past) packet.now) }
+    {
+        match self.uses.use_of(packet) {
+            PidUse::Other => false,
+            PidUse::Stream(_) => !packet.error(),
+            PidUse::Table => self.has_pid_of(packet),
+        }
+    }
+
+    /// The same by a look at each of the PIDs, for a packet of a PID of tables or cues.
+    #[cold]
+    #[inline(never)]
+    fn has_pid_of(&self, packet: &Packet) -> bool
+        ensures { OfStartPast self.now (λ c past. result ≡ on_one (known_pids c.program past) packet.now) }
+    {
+        match self.tables.listed() {
+            Some(listed) if packet.is_on(listed.pid) => true,
+            Some(_) | None => is_on_stream(self.streams(), packet),
+        }
+    }
+}
+
+/// Puts the PIDs of streams behind those that are there.
+fn add_pids(pids: &mut ArrayVec<Pid, 9>, streams: &[Stream])
+    requires { array_vec_len pids.old + length streams.now ≤ 9 }
+    ensures { pids.new.items ≡ pids.old.items ++ pids_in streams.now }
+{
+    for stream in streams {
+        pids.push(stream.pid);
+    }
+}
+
+/// The packet is on the PID of one of the streams, and not marked in error.
+fn is_on_stream(streams: &[Stream], packet: &Packet) -> bool
+    ensures { result ≡ on_one (pids_in streams.now) packet.now }
+{
+    for stream in streams {
+        if packet.is_on(stream.pid) {
+            return true;
+        }
+    }
+    false
 }
 
 /// Takes a packet behind the head, and begins to follow the streams at the end of the head. `known` is what is known behind the packet.

@@ -22,6 +22,15 @@ impl Model for Pid {
     ghost inverse = { λ n. record { number = n } };
 }
 
+impl Default for Pid {
+    /// PID 0, that of the PAT.
+    fn default() -> Pid
+        ensures { result ≡ 0 }
+    {
+        Pid { number: 0 }
+    }
+}
+
 impl Pid {
     /// The PID of this number; `None` exactly for 0x2000 and above.
     pub fn new(number: u16) -> Option<Pid>
