@@ -1,5 +1,5 @@
 -- The exchanges with an automation, with one take more and the answers behind it.
-use Rattle.std.proofs.Common.{◌≡◌, ℕ, suc, ◌+◌, ◌≤◌, Bool, true, false, not, List, [], ◌∷◌, ◌++◌, length, take, drop, reverse, map, refl, sym, ap, subst, ◌∙◌, arith, append_assoc, length-append}
+use Rattle.std.proofs.Common.{◌≡◌, ℕ, suc, ◌+◌, ◌≤◌, Bool, List, [], ◌∷◌, ◌++◌, length, take, drop, reverse, map, refl, sym, ap, subst, ◌∙◌, arith, length-append}
 use Rattle.std.proofs.lemmas.List.{append-nil, drop_at, reverse-append, reverse-reverse, map-append, take-append-drop, take-take}
 use Rattle.std.proofs.lemmas.Grind.{flat_map-append}
 use lib.Seq.{take_all, take-append-le}

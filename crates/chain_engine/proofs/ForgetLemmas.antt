@@ -8,11 +8,11 @@ use Rattle.injector.specs.Steps.{Step}
 use Rattle.ad_library.specs.Advertisements.{Advertisement}
 use Rattle.chain_engine.specs.Automation.{Take}
 use Rattle.psi_tables.specs.declared.network.FeedFault.TheVariants.{Network, Sink, Failed}
-use Rattle.chain_engine.specs.declared.faults.RunFault.TheVariants.{Read, Feed}
+use Rattle.chain_engine.specs.declared.faults.RunFault.TheVariants.{Read, Feed, SharedPid}
 use Rattle.chain_engine.specs.Talks.{messages_taken}
 use Rattle.chain_engine.proofs.RunLemmas.{few_replies}
 use Rattle.chain_engine.specs.Stops.{StoppedBy, StopsBy, IfSink}
-use Rattle.chain_engine.specs.Runs.{Serves, InjectsAll, ServedBefore, WasServed, InjectLeaves, InjectStops}
+use Rattle.chain_engine.specs.Runs.{reply_in, Serves, InjectsAll, ServedBefore, WasServed, InjectLeaves, InjectStops}
 use Rattle.chain_engine.specs.ChainRuns.{ChainLeaves, ChainStops}
 use Rattle.chain_engine.specs.declared.hearing.SessionEnd.{SessionEnd}
 use Rattle.chain_engine.specs.declared.report.Report.{Report}
@@ -44,7 +44,7 @@ module _ (c : Config) (told told' : Option SessionEnd → List Take → List Rep
   injects_so None is_out is_out' report so h = tt
   injects_so (Some bs) is_out is_out' report so h = record { sound = h.sound; ts = h.ts; rs = h.rs; serves = serves_so h.ts h.rs _ _ h.serves; written = so _ h.written; counted = h.counted }
 
-  served_by : (k : ℕ) (leaves : List Step → Type 0) (passed : List (List ℕ)) → ServedBefore c told k leaves passed → ServedBefore c told' k leaves passed
+  served_by : (k : ℕ) (leaves : List Step → Type 0) (passed : List (List ℕ)) → ServedBefore (reply_in c) told k leaves passed → ServedBefore (reply_in c) told' k leaves passed
   served_by k leaves passed h = record { ts = h.ts; rs = h.rs; serves = serves_so h.ts h.rs _ _ h.serves; out = h.out }
 
   sink_so : (fault : RunFault) (one two : PutFault → Type 0) → ((x : PutFault) → one x → two x) → IfSink fault one → IfSink fault two
@@ -52,10 +52,11 @@ module _ (c : Config) (told told' : Option SessionEnd → List Take → List Rep
   sink_so (Feed (Network f)) one two so h = h
   sink_so (Feed (Sink f)) one two so h = so f h
   sink_so (Feed Failed) one two so h = h
+  sink_so SharedPid one two so h = h
 
   serves_left : (fault : RunFault) (leaves : List Step → Type 0) (unsent : PutFault → List Step → Type 0) (passed rest : List (List ℕ))
-      → WasServed c told fault leaves passed rest ⊎ IfSink fault (λ x. ServedBefore c told (length passed) (unsent x) passed)
-      → WasServed c told' fault leaves passed rest ⊎ IfSink fault (λ x. ServedBefore c told' (length passed) (unsent x) passed)
+      → WasServed c told fault leaves passed rest ⊎ IfSink fault (λ x. ServedBefore (reply_in c) told (length passed) (unsent x) passed)
+      → WasServed c told' fault leaves passed rest ⊎ IfSink fault (λ x. ServedBefore (reply_in c) told' (length passed) (unsent x) passed)
   serves_left fault leaves unsent passed rest (inl h) = inl (served_by _ leaves passed h)
   serves_left fault leaves unsent passed rest (inr h) = inr (sink_so fault _ _ (λ x. served_by (length passed) (unsent x) passed) h)
 

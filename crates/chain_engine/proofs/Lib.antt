@@ -4,6 +4,7 @@ pub mod StepsLemmas
 pub mod ExchangeLemmas
 pub mod RunLemmas
 pub mod SpliceLemmas
+pub mod PassingLemmas
 pub mod NestedLemmas
 pub mod ChainLemmas
 pub mod ProgressLemmas

@@ -2,40 +2,35 @@
 use Rattle.std.proofs.Common.{◌≡◌, ℕ, suc, ◌+◌, ◌≤◌, ◌<◌, Bool, true, false, List, [], ◌∷◌, ◌++◌, length, reverse, Option, None, Some, refl, sym, ap, subst, ◌∙◌, arith, length-append}
 use Rattle.std.specs.Option.{is_some}
 use Rattle.std.proofs.lemmas.List.{reverse-append, length-reverse}
-use Rattle.psi_tables.specs.declared.config.Config.{Config}
+use Rattle.scte104_codec.specs.Reading.{MessageReading}
 use Rattle.scte104_codec.specs.declared.reply.Reply.{Reply}
 use Rattle.as_session.specs.Session.{state_of}
-use Rattle.injector.specs.declared.injector.Injector.{Injector}
-use Rattle.injector.specs.Steps.{Step, Packet, cued, sent_at}
-use Rattle.injector.specs.Injecting.{InjectorStandsFor}
-use Rattle.ts_packet.proofs.RunLemmas.{reverse-onto}
+use Rattle.injector.specs.Steps.{Step, Message, Packet, packets_in}
 use Rattle.chain_engine.specs.Automation.{Take, piece, ended, failed, Exchange, takes_and_answers}
 use Rattle.chain_engine.specs.Hearing.{answers_to, lost_by, Replied}
-use Rattle.chain_engine.specs.Judging.{JudgesAll, InjectorJudges}
+use Rattle.chain_engine.specs.Judging.{JudgesAll}
 use Rattle.chain_engine.specs.Talks.{messages_taken, judged_before, exchanges_of, HasTalked, TalkStandsFor, loses, CountsEnd}
-use Rattle.chain_engine.specs.Runs.{asked, steps_of, steps_before, replies_in, sent_by, Exchanged, ServedBefore}
+use Rattle.chain_engine.specs.Runs.{asked, steps_of, steps_before, replies_by, Exchanged, ServedBefore}
 use Rattle.chain_engine.specs.Stages.{HasRun}
-use Rattle.chain_engine.specs.Chains.{ChainStandsFor}
 use Rattle.chain_engine.specs.declared.hearing.SessionEnd.{SessionEnd}
 use Rattle.chain_engine.specs.declared.hearing.SessionEnd.TheVariants.{Ended, TakeFailed, BadSize, AnswerFailed}
 use Rattle.chain_engine.specs.declared.talk.Talk.{Talk}
-use Rattle.chain_engine.specs.declared.chain.Chain.{Chain}
 use Rattle.chain_engine.proofs.HearingLemmas.{answers_more}
 use Rattle.chain_engine.proofs.TalkLemmas.{goes_closed, open_end}
 use Rattle.chain_engine.proofs.ExchangeLemmas.{answers_long, taken_front, exchanges_more}
-use Rattle.chain_engine.proofs.StepsLemmas.{steps_stay, none_asked, asked_cued, asked_judged}
+use Rattle.chain_engine.proofs.StepsLemmas.{GoesOn, steps_stay, none_asked, before_packets, asked_stays, asked_judged}
 
 -- ---- what is known between two packets, and behind the messages before a packet
 
-pub record HasHeard {M : Type 0} (c : Config) (injector : Injector) (talk : Talk M) (is_out : List (List ℕ) → Type 0) (exchanged : Option SessionEnd → List Take → List Reply → Type 0)
-    (ps : List (List ℕ)) : Type 0 where
+pub record HasHeard {J M : Type 0} (stands : J → List Step → Type 0) (rule : MessageReading → List Step → Reply) (judge : J) (talk : Talk M) (is_out : List Step → Type 0)
+    (exchanged : Option SessionEnd → List Take → List Reply → Type 0) (ps : List (List ℕ)) : Type 0 where
   pub ts : List Take
   pub rs : List Reply
-  pub stands : InjectorStandsFor injector c (steps_before (length rs) ts (reverse ps))
+  pub gone : stands judge (steps_before (length rs) ts (reverse ps))
   pub talks : TalkStandsFor talk ts (length rs) (suc (length ps))
   pub exchanges : exchanged talk.end ts rs
-  pub replies : rs ≡ replies_in c (steps_before (length rs) ts (reverse ps))
-  pub out : is_out (sent_by c (steps_before (length rs) ts (reverse ps)))
+  pub replies : rs ≡ replies_by rule (steps_before (length rs) ts (reverse ps))
+  pub out : is_out (steps_before (length rs) ts (reverse ps))
 
 -- at most one take was made for each packet
 pub few_takes : (end : Option SessionEnd) (ts : List Take) (n k : ℕ) → HasTalked end ts n k → length ts ≤ k
@@ -67,18 +62,19 @@ begins_open (Some AnswerFailed) n k (le, (ts, bs, e, o, l, m)) = absurd (not_emp
 
 module _ {X : Type 0} (exchanges : X → List Exchange → X → Type 0) (exchanges_refl : (s : X) → exchanges s [] s)
     (exchanges_trans : (s t u : X) (xs ys : List Exchange) → exchanges s xs t → exchanges t ys u → exchanges s (xs ++ ys) u)
-    (failures : X → ℕ) (c : Config) where
+    (failures : X → ℕ) where
   none_exchanged : (x : X) (end : Option SessionEnd) → end ≡ None → Exchanged exchanges failures x x end [] []
   none_exchanged x None e = record { exchanges = exchanges_refl x; counted = refl }
   none_exchanged x (Some end) e = absurd (cc)
 
-  pub begun : {M : Type 0} (chain : Chain M) (is_out : List (List ℕ) → Type 0) (x : X) → ChainStandsFor chain c → is_out [] → HasRun c chain.injector chain.talk is_out (Exchanged exchanges failures x x) []
-  begun chain is_out x h o = record {
+  pub begun : {J M : Type 0} (stands : J → List Step → Type 0) (rule : MessageReading → List Step → Reply) (judge : J) (talk : Talk M) (is_out : List Step → Type 0) (x : X)
+      → TalkStandsFor talk [] 0 0 → stands judge [] → is_out [] → HasRun stands rule judge talk is_out (Exchanged exchanges failures x x) []
+  begun stands rule judge talk is_out x t s o = record {
     ts = [];
     rs = [];
-    stands = h.injector;
-    talks = h.talk;
-    exchanges = none_exchanged x chain.talk.end (begins_open chain.talk.end 0 0 h.talk.talked);
+    gone = s;
+    talks = t;
+    exchanges = none_exchanged x talk.end (begins_open talk.end 0 0 t.talked);
     replies = refl;
     out = o;
   }
@@ -99,106 +95,99 @@ module _ {X : Type 0} (exchanges : X → List Exchange → X → Type 0) (exchan
         counted = subst (λ n. CountsEnd None end' n (failures z)) h.counted counts;
       }
 
-  module _ (is_out : List (List ℕ) → Type 0) (ps : List (List ℕ)) (x : X) where
-    heard_closed : {M : Type 0} (y : X) (injector : Injector) (talk : Talk M) → is_some talk.end ≡ true → HasRun c injector talk is_out (Exchanged exchanges failures x y) ps
-        → HasHeard c injector talk is_out (Exchanged exchanges failures x y) ps
-    heard_closed y injector talk is h =
+  module _ {J : Type 0} (judges : J → MessageReading → Reply → J → Type 0) (stands : J → List Step → Type 0) (rule : MessageReading → List Step → Reply) (one : GoesOn judges stands rule)
+      (is_out : List Step → Type 0) (quiet : (m : MessageReading) (past : List Step) → is_out past → is_out (Message m ∷ past)) (ps : List (List ℕ)) (x : X) where
+    heard_closed : {M : Type 0} (y : X) (judge : J) (talk : Talk M) → is_some talk.end ≡ true → HasRun stands rule judge talk is_out (Exchanged exchanges failures x y) ps
+        → HasHeard stands rule judge talk is_out (Exchanged exchanges failures x y) ps
+    heard_closed y judge talk is h =
         let goes = goes_closed talk.end (state_of talk.session) h.ts (length h.rs) (length ps) is h.talks.talked in
         let back = length-reverse ps in
         let le = few_takes talk.end h.ts (length h.rs) (length ps) h.talks.talked in
         let same = none_asked (length h.rs) h.ts (reverse ps) (omega (arith, le, back)) in record {
           ts = h.ts;
           rs = h.rs;
-          stands = subst (InjectorStandsFor injector c) (sym same) h.stands;
+          gone = subst (stands judge) (sym same) h.gone;
           talks = record { talked = goes.talked; pending = h.talks.pending; bytes = h.talks.bytes };
           exchanges = h.exchanges;
-          replies = h.replies ∙ ap (replies_in c) (sym same);
-          out = subst (λ s. is_out (sent_by c s)) (sym same) h.out;
+          replies = h.replies ∙ ap (replies_by rule) (sym same);
+          out = subst is_out (sym same) h.out;
         }
 
-    module _ {M : Type 0} (y z : X) (injector injector' : Injector) (talk talk' : Talk M) (h : HasRun c injector talk is_out (Exchanged exchanges failures x y) ps) where
+    module _ {M : Type 0} (y z : X) (judge judge' : J) (talk talk' : Talk M) (h : HasRun stands rule judge talk is_out (Exchanged exchanges failures x y) ps) where
       abbrev Listens : Type 0
       Listens = (ts : List Take) (n k : ℕ) → TalkStandsFor talk ts n k →
           (more : List Take) × (rs : List Reply) × TalkStandsFor talk' (ts ++ more) (n + length rs) (suc k)
-          × Replied InjectorJudges injector injector' (judged_before (n + length rs) (ts ++ more) k) rs (loses talk.end talk'.end)
+          × Replied judges judge judge' (judged_before (n + length rs) (ts ++ more) k) rs (loses talk.end talk'.end)
           (λ xs. exchanges y (takes_and_answers more xs) z)
 
-      heard_open : talk.end ≡ None → Listens → CountsEnd talk.end talk'.end (failures y) (failures z) → HasHeard c injector' talk' is_out (Exchanged exchanges failures x z) ps
+      heard_open : talk.end ≡ None → Listens → CountsEnd talk.end talk'.end (failures y) (failures z) → HasHeard stands rule judge' talk' is_out (Exchanged exchanges failures x z) ps
       heard_open e listens counts =
-          let (more, rs, stands, replied) = listens h.ts (length h.rs) (length ps) h.talks in
+          let (more, rs, talks, replied) = listens h.ts (length h.rs) (length ps) h.talks in
           let n = length h.rs in
           let m = length rs in
           let is_open = subst (λ (end : Option SessionEnd). HasTalked end h.ts n (length ps)) e h.talks.talked in
           let sum : length (h.rs ++ rs) ≡ n + m = length-append h.rs rs in
           let parts = length-append h.ts more in
-          let few = few_takes talk'.end (h.ts ++ more) (n + m) (suc (length ps)) stands.talked in
-          let most = few_replies talk'.end (h.ts ++ more) (n + m) (suc (length ps)) stands.talked in
+          let few = few_takes talk'.end (h.ts ++ more) (n + m) (suc (length ps)) talks.talked in
+          let most = few_replies talk'.end (h.ts ++ more) (n + m) (suc (length ps)) talks.talked in
           let back : length (reverse ps) ≡ length ps = length-reverse ps in
           let stay = steps_stay h.ts more n m is_open.2 (reverse ps) (omega (arith, back, is_open.0)) in
           let ms = judged_before (n + m) (h.ts ++ more) (length (reverse ps)) in
-          let judged : JudgesAll InjectorJudges injector ms rs injector' = subst (λ k. JudgesAll InjectorJudges injector (judged_before (n + m) (h.ts ++ more) k) rs injector') (sym back) replied.judged in
-          let done = asked_judged c ms rs injector injector' (steps_of n h.ts (reverse ps)) judged h.stands in
+          let judged : JudgesAll judges judge ms rs judge' = subst (λ k. JudgesAll judges judge (judged_before (n + m) (h.ts ++ more) k) rs judge') (sym back) replied.judged in
+          let done = asked_judged judges stands rule one ms rs judge judge' (steps_of n h.ts (reverse ps)) judged h.gone in
           let steps : steps_before (length (h.rs ++ rs)) (h.ts ++ more) (reverse ps) ≡ asked ms (steps_of n h.ts (reverse ps)) =
-          ap (λ q. steps_before q (h.ts ++ more) (reverse ps)) sum ∙ ap (asked ms) stay in
-          let same : cued c (steps_before (length (h.rs ++ rs)) (h.ts ++ more) (reverse ps)) ≡ cued c (steps_of n h.ts (reverse ps)) = ap (cued c) steps ∙ asked_cued c ms (steps_of n h.ts (reverse ps)) in record {
+          ap (λ q. steps_before q (h.ts ++ more) (reverse ps)) sum ∙ ap (asked ms) stay in record {
             ts = h.ts ++ more;
             rs = h.rs ++ rs;
-            stands = subst (InjectorStandsFor injector' c) (sym steps) done.0;
-            talks = subst (λ q. TalkStandsFor talk' (h.ts ++ more) q (suc (length ps))) (sym sum) stands;
+            gone = subst (stands judge') (sym steps) done.0;
+            talks = subst (λ q. TalkStandsFor talk' (h.ts ++ more) q (suc (length ps))) (sym sum) talks;
             exchanges = exchanged_more x y z talk.end talk'.end h.ts more h.rs rs e h.exchanges is_open.2 (omega (arith, parts, few, is_open.0)) most replied.told replied.some counts;
-            replies = ap (λ l. l ++ rs) h.replies ∙ sym done.1 ∙ ap (replies_in c) (sym steps);
-            out = subst (λ l. is_out (reverse l)) (sym same) h.out;
+            replies = ap (λ l. l ++ rs) h.replies ∙ sym done.1 ∙ ap (replies_by rule) (sym steps);
+            out = subst is_out (sym steps) (asked_stays is_out quiet ms (steps_of n h.ts (reverse ps)) h.out);
           }
 
-      pub heard : Listens → (is_some talk.end ≡ true → (talk' ≡ talk) × (injector' ≡ injector) × (z ≡ y)) → CountsEnd talk.end talk'.end (failures y) (failures z)
-          → HasHeard c injector' talk' is_out (Exchanged exchanges failures x z) ps
+      pub heard : Listens → (is_some talk.end ≡ true → (talk' ≡ talk) × (judge' ≡ judge) × (z ≡ y)) → CountsEnd talk.end talk'.end (failures y) (failures z)
+          → HasHeard stands rule judge' talk' is_out (Exchanged exchanges failures x z) ps
       heard listens closed counts = by (is_some talk.end) refl
         where
-          by : (b : Bool) → is_some talk.end ≡ b → HasHeard c injector' talk' is_out (Exchanged exchanges failures x z) ps
+          by : (b : Bool) → is_some talk.end ≡ b → HasHeard stands rule judge' talk' is_out (Exchanged exchanges failures x z) ps
           by false e = heard_open (open_end talk.end e) listens counts
           by true e =
               let (t, i, a) = closed e in
-              subst (λ w. HasHeard c injector' talk' is_out (Exchanged exchanges failures x w) ps) (sym a)
-              (subst (λ w. HasHeard c injector' w is_out (Exchanged exchanges failures x y) ps) (sym t)
-              (subst (λ w. HasHeard c w talk is_out (Exchanged exchanges failures x y) ps) (sym i) (heard_closed y injector talk e h)))
+              subst (λ w. HasHeard stands rule judge' talk' is_out (Exchanged exchanges failures x w) ps) (sym a)
+              (subst (λ w. HasHeard stands rule judge' w is_out (Exchanged exchanges failures x y) ps) (sym t)
+              (subst (λ w. HasHeard stands rule w talk is_out (Exchanged exchanges failures x y) ps) (sym i) (heard_closed y judge talk e h)))
 
--- ---- a packet is passed on
+-- ---- what is known of a run at a place
 
-module _ (c : Config) (exchanged : Option SessionEnd → List Take → List Reply → Type 0) (ps : List (List ℕ)) where
-  pub passed : {M : Type 0} (injector injector' : Injector) (talk : Talk M) (is_out is_out' : List (List ℕ) → Type 0) (p : List ℕ) → HasHeard c injector talk is_out exchanged ps
-      → ((steps : List Step) → InjectorStandsFor injector c steps → is_out (sent_by c steps)
-      → InjectorStandsFor injector' c (Packet p ∷ steps) × is_out' (sent_by c steps ++ sent_at c p steps))
-      → HasRun c injector' talk is_out' exchanged (ps ++ p ∷ [])
-  passed injector injector' talk is_out is_out' p h feeds =
+module _ {J M : Type 0} (stands : J → List Step → Type 0) (rule : MessageReading → List Step → Reply) (exchanged : Option SessionEnd → List Take → List Reply → Type 0) (ps : List (List ℕ)) where
+  -- a packet is passed on
+  pub passed : (judge judge' : J) (talk : Talk M) (is_out is_out' : List Step → Type 0) (p : List ℕ) → HasHeard stands rule judge talk is_out exchanged ps
+      → ((steps : List Step) → packets_in steps ≡ reverse ps → stands judge steps → is_out steps → stands judge' (Packet p ∷ steps) × is_out' (Packet p ∷ steps))
+      → HasRun stands rule judge' talk is_out' exchanged (ps ++ p ∷ [])
+  passed judge judge' talk is_out is_out' p h feeds =
       let steps = steps_before (length h.rs) h.ts (reverse ps) in
-      let (stands, out) = feeds steps h.stands h.out in
+      let (goes, out) = feeds steps (before_packets (length h.rs) h.ts (reverse ps)) h.gone h.out in
       let now : steps_of (length h.rs) h.ts (reverse (ps ++ p ∷ [])) ≡ Packet p ∷ steps = ap (steps_of (length h.rs) h.ts) (reverse-append ps (p ∷ [])) in
       let long = length-append ps (p ∷ []) in record {
         ts = h.ts;
         rs = h.rs;
-        stands = subst (InjectorStandsFor injector' c) (sym now) stands;
+        gone = subst (stands judge') (sym now) goes;
         talks = subst (λ k. TalkStandsFor talk h.ts (length h.rs) k) (omega (arith, long)) h.talks;
         exchanges = h.exchanges;
-        replies = h.replies ∙ ap (replies_in c) (sym now);
-        out = subst is_out' (sym (reverse-onto (cued c steps) (sent_at c p steps)) ∙ ap (sent_by c) (sym now)) out;
+        replies = h.replies ∙ ap (replies_by rule) (sym now);
+        out = subst is_out' (sym now) out;
       }
 
--- ---- what is known of a run at a place
-
-module _ (c : Config) (exchanged : Option SessionEnd → List Take → List Reply → Type 0) (ps : List (List ℕ)) where
   -- what is out may be said in other words
-  pub run_map : {M : Type 0} (injector : Injector) (talk : Talk M) (is_out is_out' : List (List ℕ) → Type 0) → ((l : List (List ℕ)) → is_out l → is_out' l) → HasRun c injector talk is_out exchanged ps
-      → HasRun c injector talk is_out' exchanged ps
-  run_map injector talk is_out is_out' so h = record { ts = h.ts; rs = h.rs; stands = h.stands; talks = h.talks; exchanges = h.exchanges; replies = h.replies; out = so _ h.out }
-
-  pub heard_map : {M : Type 0} (injector : Injector) (talk : Talk M) (is_out is_out' : List (List ℕ) → Type 0) → ((l : List (List ℕ)) → is_out l → is_out' l) → HasHeard c injector talk is_out exchanged ps
-      → HasHeard c injector talk is_out' exchanged ps
-  heard_map injector talk is_out is_out' so h = record { ts = h.ts; rs = h.rs; stands = h.stands; talks = h.talks; exchanges = h.exchanges; replies = h.replies; out = so _ h.out }
+  pub run_map : (judge : J) (talk : Talk M) (is_out is_out' : List Step → Type 0) → ((steps : List Step) → is_out steps → is_out' steps) → HasRun stands rule judge talk is_out exchanged ps
+      → HasRun stands rule judge talk is_out' exchanged ps
+  run_map judge talk is_out is_out' so h = record { ts = h.ts; rs = h.rs; gone = h.gone; talks = h.talks; exchanges = h.exchanges; replies = h.replies; out = so _ h.out }
 
   -- before a packet that is not passed on
-  pub heard_served : {M : Type 0} (injector : Injector) (talk : Talk M) (is_out : List (List ℕ) → Type 0) (leaves : List Step → Type 0) → (h : HasHeard c injector talk is_out exchanged ps)
-      → leaves (steps_before (length h.rs) h.ts (reverse ps)) → ServedBefore c exchanged (suc (length ps)) leaves ps
-  heard_served injector talk is_out leaves h o = record {
+  pub heard_served : (judge : J) (talk : Talk M) (is_out : List Step → Type 0) (leaves : List Step → Type 0) → (h : HasHeard stands rule judge talk is_out exchanged ps)
+      → leaves (steps_before (length h.rs) h.ts (reverse ps)) → ServedBefore rule exchanged (suc (length ps)) leaves ps
+  heard_served judge talk is_out leaves h o = record {
     ts = h.ts;
     rs = h.rs;
     serves = record { ending = talk.end; talked = h.talks.talked; bytes = h.talks.bytes; exchanges = h.exchanges; replies = h.replies };
@@ -206,14 +195,14 @@ module _ (c : Config) (exchanged : Option SessionEnd → List Take → List Repl
   }
 
   -- and where none was read
-  pub run_served : {M : Type 0} (injector : Injector) (talk : Talk M) (is_out : List (List ℕ) → Type 0) (leaves : List Step → Type 0) → (h : HasRun c injector talk is_out exchanged ps)
-      → leaves (steps_of (length h.rs) h.ts (reverse ps)) → ServedBefore c exchanged (length ps) leaves ps
-  run_served injector talk is_out leaves h o =
+  pub run_served : (judge : J) (talk : Talk M) (is_out : List Step → Type 0) (leaves : List Step → Type 0) → (h : HasRun stands rule judge talk is_out exchanged ps)
+      → leaves (steps_of (length h.rs) h.ts (reverse ps)) → ServedBefore rule exchanged (length ps) leaves ps
+  run_served judge talk is_out leaves h o =
       let back = length-reverse ps in
       let le = few_takes talk.end h.ts (length h.rs) (length ps) h.talks.talked in
       let same = none_asked (length h.rs) h.ts (reverse ps) (omega (arith, le, back)) in record {
         ts = h.ts;
         rs = h.rs;
-        serves = record { ending = talk.end; talked = h.talks.talked; bytes = h.talks.bytes; exchanges = h.exchanges; replies = h.replies ∙ ap (replies_in c) (sym same) };
+        serves = record { ending = talk.end; talked = h.talks.talked; bytes = h.talks.bytes; exchanges = h.exchanges; replies = h.replies ∙ ap (replies_by rule) (sym same) };
         out = subst leaves (sym same) o;
       }

@@ -26,34 +26,35 @@ use Rattle.program_follower.specs.declared.purpose.Purpose.{Purpose}
 use Rattle.program_follower.specs.Faults.{network_fault}
 use Rattle.program_follower.specs.FirstFault.{network_test}
 use Rattle.program_follower.specs.Purposes.{reading_cues, writing_cues}
+use Rattle.scte104_codec.specs.Reading.{MessageReading}
 use Rattle.scte104_codec.specs.declared.reply.Reply.{Reply}
 use Rattle.outgoing_packets.specs.Numbers.{FrontFails}
 use Rattle.outgoing_packets.specs.Faults.{FeedBlamed, KeepsSink}
 use Rattle.injector.specs.Injecting.{FeedFails}
 use Rattle.splice_switch.specs.Standing as standing
-use Rattle.injector.specs.Steps.{Step, sent_at}
+use Rattle.injector.specs.Steps.{Step, cued, sent_at}
 use Rattle.ad_library.specs.Advertisements.{Advertisement}
 use Rattle.splice_switch.specs.declared.switch.Switch.{Switch}
 use Rattle.cued_laws.specs.Laws.{ArePacketsOfBytes}
 use Rattle.chain_engine.specs.Automation.{Take}
 use Rattle.chain_engine.specs.Stops.{as_run_fault, first_run_fault, run_cause, run_fault_of, stage_fault_of, put_fault_of, StopsBy}
-use Rattle.chain_engine.specs.Runs.{sent_by, steps_of, steps_before, report_of, Serves, ServedBefore, WasServed, InjectsAll, InjectLeaves, NetworkBlamed, OutputBlamed}
-use Rattle.chain_engine.specs.Nested.{WasFed, PassFails}
+use Rattle.chain_engine.specs.Runs.{sent_by, steps_of, steps_before, reply_in, report_of, Serves, ServedBefore, WasServed, InjectsAll, InjectLeaves, NetworkBlamed, OutputBlamed}
+use Rattle.chain_engine.specs.Passing.{PassFails}
 use Rattle.chain_engine.specs.Splices.{switch_sends, SplicesAll, SpliceLeaves, NetworkBlamedToEnd}
 use Rattle.splice_plans.specs.Adverts.{setting_of}
 use Rattle.splice_plans.specs.Switching.{spliced_network}
 use Rattle.splice_plans.specs.Reporting as events
 use Rattle.chain_engine.specs.ChainRuns.{chain_sends, MessagesAre, RunsAll, ChainLeaves}
 use Rattle.chain_engine.specs.declared.report.Report.{Report}
-use Rattle.chain_engine.specs.Stages.{HasRun, InjectSends, InjectRefuses, InjectBreaks, InjectEnds, SpliceSends, SpliceBreaks, SpliceEnds, ChainSends, ChainRefuses, ChainBreaks, ChainEnds}
+use Rattle.chain_engine.specs.Stages.{HasRun, InjectsFor, ServesFor, InjectSends, InjectRefuses, InjectBreaks, InjectEnds, SpliceSends, SpliceBreaks, SpliceEnds, ChainSends, ChainRefuses, ChainBreaks, ChainEnds}
 use Rattle.chain_engine.specs.declared.chain.Chain.{Chain}
-use Rattle.injector.specs.declared.injector.Injector.{Injector}
+use Rattle.chain_engine.specs.declared.service.Service.{Service}
 use Rattle.chain_engine.specs.declared.talk.Talk.{Talk}
 use Rattle.chain_engine.specs.declared.hearing.SessionEnd.{SessionEnd}
 use Rattle.chain_engine.specs.declared.faults.RunFault.{RunFault}
-use Rattle.chain_engine.specs.declared.faults.RunFault.TheVariants.{Read, Feed}
+use Rattle.chain_engine.specs.declared.faults.RunFault.TheVariants.{Read, Feed, SharedPid}
 use Rattle.chain_engine.proofs.RunLemmas.{HasHeard, run_served, heard_served}
-use Rattle.chain_engine.proofs.StepsLemmas.{before_packets}
+use Rattle.chain_engine.proofs.StepsLemmas.{before_packets, steps_packets}
 
 -- ---- the faults, by the names of a run
 
@@ -89,9 +90,9 @@ front_so packets fails fails' so h = record { put = h.put; packet = h.packet; le
 pub both_as : (P : List (List ℕ) → List ℕ → Type 0) (l m : List (List ℕ)) (q r : List ℕ) → (l ≡ m) × (q ≡ r) → P m r → P l q
 both_as P l m q r e h = subst (λ k. P k q) (sym e.0) (subst (P m) (sym e.1) h)
 
-served_so : (c : Config) (exchanged : Option SessionEnd → List Take → List Reply → Type 0) (k : ℕ) (leaves leaves' : List Step → Type 0) (ps : List (List ℕ))
-    → ((steps : List Step) → leaves steps → leaves' steps) → ServedBefore c exchanged k leaves ps → ServedBefore c exchanged k leaves' ps
-served_so c exchanged k leaves leaves' ps so h = record { ts = h.ts; rs = h.rs; serves = h.serves; out = so _ h.out }
+pub served_so : (rule : MessageReading → List Step → Reply) (exchanged : Option SessionEnd → List Take → List Reply → Type 0) (k : ℕ) (leaves leaves' : List Step → Type 0) (ps : List (List ℕ))
+    → ((steps : List Step) → leaves steps → leaves' steps) → ServedBefore rule exchanged k leaves ps → ServedBefore rule exchanged k leaves' ps
+served_so rule exchanged k leaves leaves' ps so h = record { ts = h.ts; rs = h.rs; serves = h.serves; out = so _ h.out }
 
 -- ---- what is left
 
@@ -104,23 +105,27 @@ module _ {S : Type 0} (refusal : S → Seen → Option NetworkFault) (sends : S 
   -- of an injector
   module _ {M : Type 0} (one two : Chain M) (exchanged : Option SessionEnd → List Take → List Reply → Type 0)
       (sends_so : (ps qs : List (List ℕ)) (kept : List ℕ) → sends first ps qs kept now → InjectSends one two exchanged ps qs)
-      (refuses_so : (ps qs : List (List ℕ)) (p : List ℕ) → refuses first ps qs p now → InjectRefuses one.config exchanged ps qs p)
-      (breaks_so : (ps : List (List ℕ)) (next : Option (List ℕ)) (put : List (List ℕ)) (q : List ℕ) → breaks first ps next put q now → InjectBreaks one.config exchanged ps next put q) where
+      (refuses_so : (ps qs : List (List ℕ)) (p : List ℕ) → refuses first ps qs p now → InjectRefuses one.service.config exchanged ps qs p)
+      (breaks_so : (ps : List (List ℕ)) (next : Option (List ℕ)) (put : List (List ℕ)) (q : List ℕ) → breaks first ps next put q now → InjectBreaks one.service.config exchanged ps next put q) where
     pub inject_leaves : (fault : Stop NetworkFault) (bs : List ℕ) (passed rest : List (List ℕ)) → LeavesSo fault bs passed rest
-        → InjectLeaves one.config (run_fault_of fault) is_out fails unsent exchanged bs passed rest
+        → InjectLeaves one.service.config (run_fault_of fault) is_out fails unsent exchanged bs passed rest
     inject_leaves (stop.Read f) bs passed rest h =
+        let c = one.service.config in
         let run = (sends_so passed h.sent h.kept h.sends_it).run in
-        inl (run_served one.config exchanged passed two.injector two.talk (λ l. l ≡ h.sent) (λ steps. is_out (sent_by one.config steps)) run (subst is_out (sym run.out) h.out))
+        inl (run_served (InjectsFor c) (reply_in c) exchanged passed two.service two.talk _ (λ steps. is_out (sent_by c steps)) run (subst is_out (sym run.out) h.out))
     inject_leaves (stop.Packet f) bs passed rest (p, more, e, h) =
-        inl (subst (λ l. WasServed one.config exchanged (Feed (Network f)) (λ steps. is_out (sent_by one.config steps)) passed l) (sym e)
-        (served_so one.config exchanged _ _ _ passed (λ steps s. subst is_out (sym s) h.out) (refuses_so passed h.sent p h.refuses_it)))
+        let c = one.service.config in
+        inl (subst (λ l. WasServed c exchanged (Feed (Network f)) (λ steps. is_out (sent_by c steps)) passed l) (sym e)
+        (served_so (reply_in c) exchanged _ _ _ passed (λ steps s. subst is_out (sym s) h.out) (refuses_so passed h.sent p h.refuses_it)))
     inject_leaves (stop.Sink f) bs passed rest (inr h) =
+        let c = one.service.config in
         let run = (sends_so passed h.sent h.kept h.sends_it).run in
-        inr (run_served one.config exchanged passed two.injector two.talk (λ l. l ≡ h.sent) (λ steps. unsent (sent_by one.config steps) f) run (subst (λ l. unsent l f) (sym run.out) h.out))
+        inr (run_served (InjectsFor c) (reply_in c) exchanged passed two.service two.talk _ (λ steps. unsent (sent_by c steps) f) run (subst (λ l. unsent l f) (sym run.out) h.out))
     inject_leaves (stop.Sink f) bs passed [] (inl (none, h)) = absurd (breaks_so passed None h.sent h.packet h.breaks_so)
     inject_leaves (stop.Sink f) bs passed (p ∷ more) (inl h) =
-        inl (served_so one.config exchanged _ _ _ passed
-        (λ steps s. (p, more, refl, front_so (sent_at one.config p steps) _ _ (λ put q e. both_as (λ l r. fails l r f) _ h.sent q h.packet e h.failed) s)) (breaks_so passed (Some p) h.sent h.packet h.breaks_so))
+        let c = one.service.config in
+        inl (served_so (reply_in c) exchanged _ _ _ passed
+        (λ steps s. (p, more, refl, front_so (sent_at c p steps) _ _ (λ put q e. both_as (λ l r. fails l r f) _ h.sent q h.packet e h.failed) s)) (breaks_so passed (Some p) h.sent h.packet h.breaks_so))
 
   -- of a switch
   module _ (switch : Switch) (c : Config) (filed : ℕ → Option Advertisement)
@@ -140,41 +145,45 @@ module _ {S : Type 0} (refusal : S → Seen → Option NetworkFault) (sends : S 
   -- of a chain
   module _ {M : Type 0} (one two : Chain M) (filed : ℕ → Option Advertisement) (exchanged : Option SessionEnd → List Take → List Reply → Type 0)
       (sends_so : (ps qs : List (List ℕ)) (kept : List ℕ) → sends first ps qs kept now → ChainSends one two filed exchanged ps qs)
-      (refuses_so : (ps qs : List (List ℕ)) (p : List ℕ) → refuses first ps qs p now → ChainRefuses one.config filed exchanged ps qs p)
-      (breaks_so : (ps : List (List ℕ)) (next : Option (List ℕ)) (put : List (List ℕ)) (q : List ℕ) → breaks first ps next put q now → ChainBreaks one.config filed exchanged ps next put q)
-      (none_so : (bs : List ℕ) → first_fault stop.Read (refusal_test (refusal first)) bs ≡ None → first_run_fault (writing_cues one.config) bs ≡ None) where
+      (refuses_so : (ps qs : List (List ℕ)) (p : List ℕ) → refuses first ps qs p now → ChainRefuses one.service.config filed exchanged ps qs p)
+      (breaks_so : (ps : List (List ℕ)) (next : Option (List ℕ)) (put : List (List ℕ)) (q : List ℕ) → breaks first ps next put q now → ChainBreaks one.service.config filed exchanged ps next put q)
+      (none_so : (bs : List ℕ) → first_fault stop.Read (refusal_test (refusal first)) bs ≡ None → first_run_fault (writing_cues one.service.config) bs ≡ None) where
     pub chain_leaves : (fault : Stop NetworkFault) (bs : List ℕ) (passed rest : List (List ℕ)) → LeavesSo fault bs passed rest
-        → ChainLeaves one.config filed (run_fault_of fault) is_out fails unsent exchanged bs passed rest
+        → ChainLeaves one.service.config filed (run_fault_of fault) is_out fails unsent exchanged bs passed rest
     chain_leaves (stop.Read f) bs passed rest h =
+        let c = one.service.config in
         let run = (sends_so passed h.sent h.kept h.sends_it).run in
-        inl (run_served one.config exchanged passed two.injector two.talk _ (λ steps. is_out (chain_sends one.config filed steps)) run (subst is_out (sym run.out.sent) h.out))
+        inl (run_served (ServesFor c filed) (reply_in c) exchanged passed two.service two.talk _ (λ steps. is_out (chain_sends c filed steps)) run (subst is_out (sym run.out) h.out))
     chain_leaves (stop.Packet f) bs passed rest (p, more, e, h) =
-        inl (subst (λ l. WasServed one.config exchanged (Feed (Network f)) (λ steps. is_out (chain_sends one.config filed steps)) passed l) (sym e)
-        (served_so one.config exchanged _ _ _ passed (λ steps s. subst is_out (sym s) h.out) (refuses_so passed h.sent p h.refuses_it)))
+        let c = one.service.config in
+        inl (subst (λ l. WasServed c exchanged (Feed (Network f)) (λ steps. is_out (chain_sends c filed steps)) passed l) (sym e)
+        (served_so (reply_in c) exchanged _ _ _ passed (λ steps s. subst is_out (sym s) h.out) (refuses_so passed h.sent p h.refuses_it)))
     chain_leaves (stop.Sink f) bs passed rest (inr h) =
+        let c = one.service.config in
         let run = (sends_so passed h.sent h.kept h.sends_it).run in
-        inr (run_served one.config exchanged passed two.injector two.talk _ (λ steps. unsent (chain_sends one.config filed steps) f) run (subst (λ l. unsent l f) (sym run.out.sent) h.out))
+        inr (run_served (ServesFor c filed) (reply_in c) exchanged passed two.service two.talk _ (λ steps. unsent (chain_sends c filed steps) f) run (subst (λ l. unsent l f) (sym run.out) h.out))
     chain_leaves (stop.Sink f) bs passed [] (inl (none, h)) =
-        inl (served_so one.config exchanged _ _ _ passed
+        inl (served_so (reply_in one.service.config) exchanged _ _ _ passed
         (λ steps s. (none_so bs none, front_so _ _ _ (λ put q e. both_as (λ l r. fails l r f) _ h.sent q h.packet e h.failed) s)) (breaks_so passed None h.sent h.packet h.breaks_so))
     chain_leaves (stop.Sink f) bs passed (p ∷ more) (inl h) =
-        inl (served_so one.config exchanged _ _ _ passed
-        (λ steps s. front_so (sent_at one.config p steps) _ _ (λ fed r k. front_so _ _ _ (λ put q e. both_as (λ l r. fails l r f) _ h.sent q h.packet e h.failed) k) s) (breaks_so passed (Some p) h.sent h.packet h.breaks_so))
+        inl (served_so (reply_in one.service.config) exchanged _ _ _ passed
+        (λ steps s. front_so _ _ _ (λ put q e. both_as (λ l r. fails l r f) _ h.sent q h.packet e h.failed) s) (breaks_so passed (Some p) h.sent h.packet h.breaks_so))
 
 -- ---- a step
 
-module _ (c : Config) (exchanged : Option SessionEnd → List Take → List Reply → Type 0) (ps : List (List ℕ)) where
-  -- what is out of a run is a list
-  pub run_of : {M : Type 0} (injector : Injector) (talk : Talk M) (is_out : List (List ℕ) → Type 0) → HasRun c injector talk is_out exchanged ps
-      → (sent : List (List ℕ)) × HasRun c injector talk (λ l. l ≡ sent) exchanged ps × is_out sent
-  run_of injector talk is_out h =
-      (_, record { ts = h.ts; rs = h.rs; stands = h.stands; talks = h.talks; exchanges = h.exchanges; replies = h.replies; out = refl }, h.out)
+-- what is out of a run is a list
+pub run_of : {J M : Type 0} (stands : J → List Step → Type 0) (rule : MessageReading → List Step → Reply) (exchanged : Option SessionEnd → List Take → List Reply → Type 0) (ps : List (List ℕ))
+    (judge : J) (talk : Talk M) (sends : List Step → List (List ℕ)) (is_out : List (List ℕ) → Type 0) → HasRun stands rule judge talk (λ steps. is_out (sends steps)) exchanged ps
+    → (sent : List (List ℕ)) × HasRun stands rule judge talk (λ steps. sends steps ≡ sent) exchanged ps × is_out sent
+run_of stands rule exchanged ps judge talk sends is_out h =
+    (_, record { ts = h.ts; rs = h.rs; gone = h.gone; talks = h.talks; exchanges = h.exchanges; replies = h.replies; out = refl }, h.out)
 
+module _ {M : Type 0} (c : Config) (exchanged : Option SessionEnd → List Take → List Reply → Type 0) (ps sent : List (List ℕ)) (service : Service) (talk : Talk M) (report : Report) where
   -- ---- a run that went through
 
-  pub injected : {M : Type 0} (sent : List (List ℕ)) (injector : Injector) (talk : Talk M) (report : Report) → (h : HasRun c injector talk (λ l. l ≡ sent) exchanged ps)
+  pub injected : (h : HasRun (InjectsFor c) (reply_in c) service talk (λ steps. sent_by c steps ≡ sent) exchanged ps)
       → report ≡ report_of c (steps_of (length h.rs) h.ts (reverse ps)) → InjectEnds c exchanged ps sent report
-  injected sent injector talk report h told bs all sound = record {
+  injected h told bs all sound = record {
     sound = sound;
     ts = h.ts;
     rs = h.rs;
@@ -184,14 +193,14 @@ module _ (c : Config) (exchanged : Option SessionEnd → List Take → List Repl
     counted = subst (λ q. report ≡ report_of c (steps_of (length h.rs) h.ts (reverse q))) (sym all) told;
   }
 
-  pub ran : {M : Type 0} (filed : ℕ → Option Advertisement) (sent : List (List ℕ)) (injector : Injector) (talk : Talk M) (is_out : List (List ℕ) → Type 0) (report : Report)
-      → (h : HasRun c injector talk is_out exchanged ps) → ArePacketsOfBytes (reverse ps) → MessagesAre report c (steps_of (length h.rs) h.ts (reverse ps))
+  pub ran : (filed : ℕ → Option Advertisement) (is_out : List Step → Type 0) (h : HasRun (ServesFor c filed) (reply_in c) service talk is_out exchanged ps)
+      → MessagesAre report c (steps_of (length h.rs) h.ts (reverse ps))
       → spliced_network (setting_of c filed) (sent_by c (steps_of (length h.rs) h.ts (reverse ps))) ≡ sent
       → events.ReportIs report.switch (events.report_of (setting_of c filed) (reverse (sent_by c (steps_of (length h.rs) h.ts (reverse ps)))))
       → ChainEnds c filed exchanged ps sent report
-  ran filed sent injector talk is_out report h bytes told out counts bs all sound = record {
+  ran filed is_out h told out counts bs all sound = record {
     sound = sound;
-    bytes = subst (λ q. ArePacketsOfBytes (reverse q)) (sym all) bytes;
+    bytes = subst (λ q. ArePacketsOfBytes (reverse q)) (sym all) (subst ArePacketsOfBytes (steps_packets (length h.rs) h.ts (reverse ps)) h.gone.network.bytes);
     ts = h.ts;
     rs = h.rs;
     serves = subst (λ q. Serves c exchanged h.ts h.rs (length q) (steps_of (length h.rs) h.ts (reverse q))) (sym all)
@@ -254,29 +263,30 @@ module _ {S X : Type 0} (refusal : S → Seen → Option NetworkFault) (refuses 
   StepFailsSo r = StepFails refusal refuses breaks r first ps p now (is_out t) fails
 
   -- by an injector
-  module _ {M : Type 0} (c : Config) (exchanged : Option SessionEnd → List Take → List Reply → Type 0) (injector : Injector) (talk : Talk M)
-      (h : HasHeard c injector talk (λ l. l ≡ qs) exchanged ps)
+  module _ {M : Type 0} (c : Config) (exchanged : Option SessionEnd → List Take → List Reply → Type 0) (service : Service) (talk : Talk M)
+      (h : HasHeard (InjectsFor c) (reply_in c) service talk (λ steps. sent_by c steps ≡ qs) exchanged ps)
       (refusal_so : (f : NetworkFault) → network_fault (writing_cues c) p (reverse ps) ≡ Some f → refusal first (seen_behind ps p) ≡ Some f)
       (refuses_so : InjectRefuses c exchanged ps qs p → refuses first ps qs p now)
       (breaks_so : (put : List (List ℕ)) (q : List ℕ) → InjectBreaks c exchanged ps (Some p) put q → breaks first ps (Some p) put q now) where
-    inject_fails_so : (fault : FeedFault) → KeepsSink fault s t → FeedFails fault c p (steps_before (length h.rs) h.ts (reverse ps)) (λ put q x. fails (sent_by c (steps_before (length h.rs) h.ts (reverse ps)) ++ put) q x)
+    inject_fails_so : (fault : FeedFault) → KeepsSink fault s t → FeedFails fault c p (steps_before (length h.rs) h.ts (reverse ps)) (λ put q x. fails (qs ++ put) q x)
         → StepFailsSo (stage_fault_of fault)
     inject_fails_so (Network f) kept k = record {
       sent = qs;
       reason = refusal_so f (subst (λ q. network_fault (writing_cues c) p q ≡ Some f) (before_packets (length h.rs) h.ts (reverse ps)) k);
-      refuses_it = refuses_so (heard_served c exchanged ps injector talk (λ l. l ≡ qs) (λ w. sent_by c w ≡ qs) h h.out);
+      refuses_it = refuses_so (heard_served (InjectsFor c) (reply_in c) exchanged ps service talk _ (λ w. sent_by c w ≡ qs) h h.out);
       out = subst (λ w. is_out w qs) (sym kept) held;
     }
     inject_fails_so (Sink f) kept k = record {
-      sent = sent_by c (steps_before (length h.rs) h.ts (reverse ps)) ++ k.put;
+      sent = qs ++ k.put;
       packet = k.packet;
-      breaks_so = breaks_so _ _ (heard_served c exchanged ps injector talk (λ l. l ≡ qs) _ h (record { put = k.put; packet = k.packet; left = k.left; all = k.all; fault = (refl, refl) }));
+      breaks_so = breaks_so _ _ (heard_served (InjectsFor c) (reply_in c) exchanged ps service talk _ _ h
+          (record { put = k.put; packet = k.packet; left = k.left; all = k.all; fault = (ap (λ l. l ++ k.put) h.out, refl) }));
       failed = k.fault;
     }
     inject_fails_so Failed kept k = absurd k
 
     pub inject_step_fails : (r : StageFault NetworkFault) (fault : FeedFault) → r ≡ stage_fault_of fault → KeepsSink fault s t
-        → FeedFails fault c p (steps_before (length h.rs) h.ts (reverse ps)) (λ put q x. fails (sent_by c (steps_before (length h.rs) h.ts (reverse ps)) ++ put) q x) → StepFailsSo r
+        → FeedFails fault c p (steps_before (length h.rs) h.ts (reverse ps)) (λ put q x. fails (qs ++ put) q x) → StepFailsSo r
     inject_step_fails r fault e kept k = subst StepFailsSo (sym e) (inject_fails_so fault kept k)
 
   -- by a switch
@@ -304,34 +314,29 @@ module _ {S X : Type 0} (refusal : S → Seen → Option NetworkFault) (refuses 
     splice_step_fails r fault e kept k = subst StepFailsSo (sym e) (splice_fails_so fault kept k)
 
   -- by a chain
-  module _ {M : Type 0} (c : Config) (filed : ℕ → Option Advertisement) (exchanged : Option SessionEnd → List Take → List Reply → Type 0) (injector : Injector) (talk : Talk M) (switch : Switch)
-      (h : HasHeard c injector talk (WasFed switch c filed (λ l. l ≡ qs)) exchanged ps)
+  module _ {M : Type 0} (c : Config) (filed : ℕ → Option Advertisement) (exchanged : Option SessionEnd → List Take → List Reply → Type 0) (service : Service) (talk : Talk M)
+      (h : HasHeard (ServesFor c filed) (reply_in c) service talk (λ steps. chain_sends c filed steps ≡ qs) exchanged ps)
       (refusal_so : (f : NetworkFault) → network_fault (writing_cues c) p (reverse ps) ≡ Some f → refusal first (seen_behind ps p) ≡ Some f)
       (refuses_so : ChainRefuses c filed exchanged ps qs p → refuses first ps qs p now)
       (breaks_so : (put : List (List ℕ)) (q : List ℕ) → ChainBreaks c filed exchanged ps (Some p) put q → breaks first ps (Some p) put q now) where
-    chain_fails_so : (fault : FeedFault) → PassFails fault c filed p (steps_before (length h.rs) h.ts (reverse ps)) (sent_by c (steps_before (length h.rs) h.ts (reverse ps))) (is_out t) fails → StepFailsSo (stage_fault_of fault)
+    chain_fails_so : (fault : FeedFault) → PassFails fault c filed p (steps_before (length h.rs) h.ts (reverse ps)) (is_out t qs) (λ put q x. fails (qs ++ put) q x) → StepFailsSo (stage_fault_of fault)
     chain_fails_so (Network f) k = record {
       sent = qs;
       reason = refusal_so f (subst (λ q. network_fault (writing_cues c) p q ≡ Some f) (before_packets (length h.rs) h.ts (reverse ps)) k.0);
-      refuses_it = refuses_so (heard_served c exchanged ps injector talk (WasFed switch c filed (λ l. l ≡ qs)) (λ w. chain_sends c filed w ≡ qs) h h.out.sent);
-      out = subst (is_out t) h.out.sent k.1;
+      refuses_it = refuses_so (heard_served (ServesFor c filed) (reply_in c) exchanged ps service talk _ (λ w. chain_sends c filed w ≡ qs) h h.out);
+      out = k.1;
     }
     chain_fails_so (Sink f) k = record {
-      sent = switch_sends c filed (sent_by c (steps_before (length h.rs) h.ts (reverse ps)) ++ k.put) ++ k.fault.put;
-      packet = k.fault.packet;
-      breaks_so = breaks_so _ _ (heard_served c exchanged ps injector talk (WasFed switch c filed (λ l. l ≡ qs)) _ h (record {
-        put = k.put;
-        packet = k.packet;
-        left = k.left;
-        all = k.all;
-        fault = record { put = k.fault.put; packet = k.fault.packet; left = k.fault.left; all = k.fault.all; fault = (refl, refl) };
-      }));
-      failed = k.fault.fault;
+      sent = qs ++ k.put;
+      packet = k.packet;
+      breaks_so = breaks_so _ _ (heard_served (ServesFor c filed) (reply_in c) exchanged ps service talk _ _ h
+          (record { put = k.put; packet = k.packet; left = k.left; all = k.all; fault = (ap (λ l. l ++ k.put) h.out, refl) }));
+      failed = k.fault;
     }
     chain_fails_so Failed k = absurd k
 
     pub chain_step_fails : (r : StageFault NetworkFault) (fault : FeedFault) → r ≡ stage_fault_of fault
-        → PassFails fault c filed p (steps_before (length h.rs) h.ts (reverse ps)) (sent_by c (steps_before (length h.rs) h.ts (reverse ps))) (is_out t) fails → StepFailsSo r
+        → PassFails fault c filed p (steps_before (length h.rs) h.ts (reverse ps)) (is_out t qs) (λ put q x. fails (qs ++ put) q x) → StepFailsSo r
     chain_step_fails r fault e k = subst StepFailsSo (sym e) (chain_fails_so fault k)
 
 -- ---- what is left at the end is not taken
@@ -353,42 +358,26 @@ module _ {S : Type 0} (breaks : S → List (List ℕ) → Option (List ℕ) → 
       → standing.FinishFails fault c filed (reverse ps) (λ put q x. fails (switch_sends c filed ps ++ put) q x) → FinishFails breaks r first ps now fails
   splice_finish_fails breaks_so r fault e k = subst (λ x. FinishFails breaks x first ps now fails) (sym e) (finish_fails_so breaks_so fault k)
 
-  module _ {M : Type 0} (exchanged : Option SessionEnd → List Take → List Reply → Type 0) (injector : Injector) (talk : Talk M) (is_out : List (List ℕ) → Type 0)
-      (h : HasRun c injector talk is_out exchanged ps) (breaks_so : (put : List (List ℕ)) (q : List ℕ) → ChainBreaks c filed exchanged ps None put q → breaks first ps None put q now) where
-    chain_end_fails : (fault : FeedFault) → standing.FinishFails fault c filed (reverse (sent_by c (steps_of (length h.rs) h.ts (reverse ps))))
-        (λ put q x. fails (chain_sends c filed (steps_of (length h.rs) h.ts (reverse ps)) ++ put) q x) → FinishFails breaks (put_fault_of fault) first ps now fails
+  module _ {M : Type 0} (qs : List (List ℕ)) (exchanged : Option SessionEnd → List Take → List Reply → Type 0) (service : Service) (talk : Talk M)
+      (h : HasRun (ServesFor c filed) (reply_in c) service talk (λ steps. chain_sends c filed steps ≡ qs) exchanged ps)
+      (breaks_so : (put : List (List ℕ)) (q : List ℕ) → ChainBreaks c filed exchanged ps None put q → breaks first ps None put q now) where
+    chain_end_fails : (fault : FeedFault) → standing.FinishFails fault c filed (cued c (steps_of (length h.rs) h.ts (reverse ps))) (λ put q x. fails (qs ++ put) q x)
+        → FinishFails breaks (put_fault_of fault) first ps now fails
     chain_end_fails (Network f) k = absurd k
     chain_end_fails (Sink f) k = record {
-      sent = chain_sends c filed (steps_of (length h.rs) h.ts (reverse ps)) ++ k.put;
+      sent = qs ++ k.put;
       packet = k.packet;
-      breaks_so = breaks_so _ _ (run_served c exchanged ps injector talk is_out _ h (record { put = k.put; packet = k.packet; left = k.left; all = k.all; fault = (refl, refl) }));
+      breaks_so = breaks_so _ _ (run_served (ServesFor c filed) (reply_in c) exchanged ps service talk _ _ h
+          (record { put = k.put; packet = k.packet; left = k.left; all = k.all; fault = (ap (λ l. l ++ k.put) h.out, refl) }));
       failed = k.fault;
     }
     chain_end_fails Failed k = absurd k
 
-    pub chain_finish_fails : (r : PutFault) (fault : FeedFault) → r ≡ put_fault_of fault → standing.FinishFails fault c filed (reverse (sent_by c (steps_of (length h.rs) h.ts (reverse ps))))
-        (λ put q x. fails (chain_sends c filed (steps_of (length h.rs) h.ts (reverse ps)) ++ put) q x) → FinishFails breaks r first ps now fails
+    pub chain_finish_fails : (r : PutFault) (fault : FeedFault) → r ≡ put_fault_of fault → standing.FinishFails fault c filed (cued c (steps_of (length h.rs) h.ts (reverse ps)))
+        (λ put q x. fails (qs ++ put) q x) → FinishFails breaks r first ps now fails
     chain_finish_fails r fault e k = subst (λ x. FinishFails breaks x first ps now fails) (sym e) (chain_end_fails fault k)
 
 -- ---- whole runs
-
--- the configuration and the library of one chain are those of another
-pub at_both : (P : Config → (ℕ → Option Advertisement) → Type 0) (c d : Config) (f g : ℕ → Option Advertisement) → c ≡ d → f ≡ g → P c f → P d g
-at_both P c d f g e k h = subst (λ w. P w g) e (subst (P c) k h)
-
--- what is out of a run of a chain is a list
-pub chain_run_of : {M : Type 0} (c : Config) (filed : ℕ → Option Advertisement) (exchanged : Option SessionEnd → List Take → List Reply → Type 0) (ps : List (List ℕ)) (injector : Injector) (talk : Talk M)
-    (switch : Switch) (is_out : List (List ℕ) → Type 0) → HasRun c injector talk (WasFed switch c filed is_out) exchanged ps
-    → (sent : List (List ℕ)) × HasRun c injector talk (WasFed switch c filed (λ l. l ≡ sent)) exchanged ps × is_out sent
-chain_run_of c filed exchanged ps injector talk switch is_out h = (
-  _,
-  record { ts = h.ts; rs = h.rs; stands = h.stands; talks = h.talks; exchanges = h.exchanges; replies = h.replies; out = record { stands = h.out.stands; sent = refl } },
-  h.out.sent,
-)
-
-pub fed_so : (switch : Switch) (c : Config) (filed : ℕ → Option Advertisement) (is_out is_out' : List (List ℕ) → Type 0) → ((l : List (List ℕ)) → is_out l → is_out' l) → (fed : List (List ℕ))
-    → WasFed switch c filed is_out fed → WasFed switch c filed is_out' fed
-fed_so switch c filed is_out is_out' so fed h = record { stands = h.stands; sent = so _ h.sent }
 
 module _ {S : Type 0} (now : S) (is_out : List (List ℕ) → Type 0) where
   pub injects_all : (c : Config) (exchanged : Option SessionEnd → List Take → List Reply → Type 0) (ends : List (List ℕ) → List (List ℕ) → Report → S → Type 0)
@@ -434,6 +423,7 @@ to_the_end (Read f) before ended a b h = h
 to_the_end (Feed (Network f)) before ended a b h = h
 to_the_end (Feed (Sink f)) before ended a b h = inl h
 to_the_end (Feed Failed) before ended a b h = h
+to_the_end SharedPid before ended a b h = h
 
 pub output_blamed : (fault : Stop NetworkFault) (a b : Tally) (full : Bool) → SinkBlamedAt fault a b full → OutputBlamed (run_fault_of fault) a b full
 output_blamed (stop.Read f) a b full h = h

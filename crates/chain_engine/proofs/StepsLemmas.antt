@@ -6,17 +6,14 @@ use Rattle.std.proofs.lemmas.Grind.{flat_map-append}
 use lib.Seq.{take_all, take-append-le}
 use Rattle.psi_tables.specs.declared.config.Config.{Config}
 use Rattle.scte104_codec.specs.declared.reply.Reply.{Reply}
-use Rattle.scte104_codec.specs.Reading.{message_of}
+use Rattle.scte104_codec.specs.Reading.{MessageReading, message_of}
 use Rattle.as_session.specs.Messages.{IsMessage, joined, Split, messages_of}
 use Rattle.as_session.proofs.SplitLemmas.{the_split, only_split}
-use Rattle.injector.specs.declared.injector.Injector.{Injector}
-use Rattle.injector.specs.Replies.{reply_to}
-use Rattle.injector.specs.Steps.{Step, Message, Packet, packets_in, turns_in, cued}
-use Rattle.injector.specs.Injecting.{InjectorStandsFor}
+use Rattle.injector.specs.Steps.{Step, Message, Packet, packets_in, cued}
 use Rattle.chain_engine.specs.Automation.{Take, bytes_in, bytes_of}
-use Rattle.chain_engine.specs.Judging.{JudgesAll, InjectorJudges}
+use Rattle.chain_engine.specs.Judging.{JudgesAll}
 use Rattle.chain_engine.specs.Talks.{messages_taken, judged_in, judged_before}
-use Rattle.chain_engine.specs.Runs.{asked, steps_of, steps_before, replies_in}
+use Rattle.chain_engine.specs.Runs.{asked, steps_of, steps_before, replies_by}
 use Rattle.chain_engine.proofs.TalkLemmas.{judged_none}
 
 -- ---- the messages of some takes at the front
@@ -96,17 +93,28 @@ steps_packets n ts (p ∷ past) = ap (λ l. p ∷ l) (asked_packets (judged_befo
 pub before_packets : (n : ℕ) (ts : List Take) (past : List (List ℕ)) → packets_in (steps_before n ts past) ≡ past
 before_packets n ts past = asked_packets (judged_before n ts (length past)) (steps_of n ts past) ∙ steps_packets n ts past
 
--- ---- messages that an injector judged
+-- what is said of steps, and of any message behind them, is said of all these
+pub asked_stays : (P : List Step → Type 0) → ((m : MessageReading) (past : List Step) → P past → P (Message m ∷ past)) → (ms : List (List ℕ)) (past : List Step) → P past → P (asked ms past)
+asked_stays P stays [] past h = h
+asked_stays P stays (m ∷ ms) past h = asked_stays P stays ms (Message (message_of m) ∷ past) (stays (message_of m) past h)
 
-pub asked_judged : (c : Config) (ms : List (List ℕ)) (rs : List Reply) (i j : Injector) (past : List Step) → JudgesAll InjectorJudges i ms rs j → InjectorStandsFor i c past
-    → InjectorStandsFor j c (asked ms past) × (replies_in c (asked ms past) ≡ replies_in c past ++ rs)
-asked_judged c [] [] i j past h s = (subst (λ x. InjectorStandsFor x c past) (sym h) s, sym (append-nil (replies_in c past)))
-asked_judged c [] (r ∷ rs) i j past h s = absurd h
-asked_judged c (m ∷ ms) [] i j past h s = absurd h
-asked_judged c (m ∷ ms) (r ∷ rs) i j past (x, one, h) s =
-    let later = asked_judged c ms rs x j (Message (message_of m) ∷ past) h (one.stands c past s) in (
+-- ---- messages that were judged
+
+-- A judge goes a message's step, and the reply is the one by the rule.
+abbrev pub GoesOn : {J : Type 0} → (J → MessageReading → Reply → J → Type 0) → (J → List Step → Type 0) → (MessageReading → List Step → Reply) → Type 0
+GoesOn {J} judges stands rule = (i : J) (m : MessageReading) (r : Reply) (j : J) (past : List Step) → judges i m r j → stands i past → (r ≡ rule m past) × stands j (Message m ∷ past)
+
+pub asked_judged : {J : Type 0} (judges : J → MessageReading → Reply → J → Type 0) (stands : J → List Step → Type 0) (rule : MessageReading → List Step → Reply) → GoesOn judges stands rule
+    → (ms : List (List ℕ)) (rs : List Reply) (i j : J) (past : List Step) → JudgesAll judges i ms rs j → stands i past
+    → stands j (asked ms past) × (replies_by rule (asked ms past) ≡ replies_by rule past ++ rs)
+asked_judged judges stands rule one [] [] i j past h s = (subst (λ x. stands x past) (sym h) s, sym (append-nil (replies_by rule past)))
+asked_judged judges stands rule one [] (r ∷ rs) i j past h s = absurd h
+asked_judged judges stands rule one (m ∷ ms) [] i j past h s = absurd h
+asked_judged judges stands rule one (m ∷ ms) (r ∷ rs) i j past (x, judged, h) s =
+    let (says, goes) = one i (message_of m) r x past judged s in
+    let later = asked_judged judges stands rule one ms rs x j (Message (message_of m) ∷ past) h goes in (
       later.0,
       later.1
-          ∙ append_assoc (replies_in c past) (reply_to c.index (message_of m) (turns_in c.program past) ∷ []) rs
-          ∙ ap (λ (q : Reply). replies_in c past ++ q ∷ rs) (sym (one.answer c past s.judges)),
+          ∙ append_assoc (replies_by rule past) (rule (message_of m) past ∷ []) rs
+          ∙ ap (λ (q : Reply). replies_by rule past ++ q ∷ rs) (sym says),
     )

@@ -6,25 +6,21 @@ use Rattle.ts_packet.specs.declared.sink.PutFault.{PutFault}
 use Rattle.psi_section.specs.Assembling.{capped}
 use Rattle.psi_tables.specs.declared.config.Config.{Config}
 use Rattle.psi_tables.specs.declared.network.FeedFault.{FeedFault}
-use Rattle.psi_tables.specs.declared.network.FeedFault.TheVariants.{Sink}
 use Rattle.program_follower.specs.Faults.{network_fault}
 use Rattle.scte104_codec.specs.declared.reply.Reply.{Reply}
 use Rattle.outgoing_packets.specs.Numbers.{FrontFails}
-use Rattle.injector.specs.Injecting.{InjectorStandsFor}
 use Rattle.cued_laws.specs.Laws.{ArePacketsOfBytes}
-use Rattle.injector.specs.Steps.{Step, Packet, packets_in, turns_in, sent_at, judged_in, accepted_in, refused_in}
+use Rattle.injector.specs.Steps.{Step, Packet, packets_in, turns_in, cued, judged_in, accepted_in, refused_in}
 use Rattle.ad_library.specs.Advertisements.{Advertisement}
 use Rattle.splice_plans.specs.Adverts.{setting_of}
-use Rattle.splice_plans.specs.Switching.{spliced_network}
+use Rattle.splice_plans.specs.Switching.{spliced_network, switched_past, rest_at}
 use Rattle.splice_plans.specs.Reporting as events
-use Rattle.splice_switch.specs.Standing.{FinishFails, switch_unasked}
 use Rattle.chain_engine.specs.Automation.{Take, Exchange, takes_and_answers}
 use Rattle.chain_engine.specs.Hearing.{answers_to}
 use Rattle.chain_engine.specs.Talks.{TalkStandsFor, judged_before, loses}
 use Rattle.chain_engine.specs.Stops.{first_run_fault, IsLeftBy, IfSink, StopsBy}
-use Rattle.chain_engine.specs.Runs.{asked, steps_of, replies_in, sent_by, Serves, ServedBefore, WasServed}
-use Rattle.chain_engine.specs.Splices.{switch_sends}
-use Rattle.chain_engine.specs.Nested.{WasFed, SwitchFails, IsSoundNetwork, PassFails}
+use Rattle.chain_engine.specs.Runs.{asked, steps_of, reply_in, replies_in, sent_by, Serves, ServedBefore, WasServed}
+use Rattle.chain_engine.specs.Passing.{ServiceStandsFor, PassFails, chain_at, service_unasked}
 use Rattle.chain_engine.specs.declared.hearing.SessionEnd.{SessionEnd}
 use Rattle.chain_engine.specs.declared.report.Report.{Report}
 use Rattle.chain_engine.specs.declared.chain.Chain.{Chain}
@@ -33,7 +29,7 @@ use Rattle.program_follower.specs.Purposes.{writing_cues}
 
 -- THE OUTPUT of these steps, in order: what the switch sends by what the injector sends
 abbrev pub chain_sends : Config → (ℕ → Option Advertisement) → List Step → List (List ℕ)
-chain_sends c filed steps = switch_sends c filed (sent_by c steps)
+chain_sends c filed steps = reverse (switched_past (setting_of c filed) (cued c steps))
 
 -- ---- the report
 
@@ -69,22 +65,20 @@ RunsAll c filed input is_out exchanged report = IfSome input (λ bs. Ran c filed
 
 -- ---- faults
 
--- The switch stopped so behind these steps, with these packets left: at one of the packets that the injector sends for the next one, or,
--- where all packets of a network without a fault are passed, at what was left at the end.
-abbrev pub SwitchStops : PutFault → Config → (ℕ → Option Advertisement) → List ℕ → List Step → List (List ℕ) → (List (List ℕ) → Type 0)
-    → (List (List ℕ) → List ℕ → PutFault → Type 0) → Type 0
-SwitchStops fault c filed bs steps [] is_out fails = (first_run_fault (writing_cues c) bs ≡ None)
-    × FinishFails (Sink fault) c filed (reverse (sent_by c steps)) (λ put q x. fails (chain_sends c filed steps ++ put) q x)
-SwitchStops fault c filed bs steps (p ∷ more) is_out fails =
-    FrontFails (sent_at c p steps) (λ put q. SwitchFails (Sink fault) c filed q (sent_by c steps ++ put) is_out fails)
+-- Behind these steps a front of what was to go out next went out, and then the sink failed so: of what the next of the packets left sends, or,
+-- where all packets of a network without a fault are passed, of what was left at the end.
+abbrev pub ChainFailsNext : PutFault → Config → (ℕ → Option Advertisement) → List ℕ → List Step → List (List ℕ) → (List (List ℕ) → List ℕ → PutFault → Type 0) → Type 0
+ChainFailsNext fault c filed bs steps [] fails = (first_run_fault (writing_cues c) bs ≡ None)
+    × FrontFails (rest_at (setting_of c filed) (cued c steps)) (λ put q. fails (chain_sends c filed steps ++ put) q fault)
+ChainFailsNext fault c filed bs steps (p ∷ more) fails = FrontFails (chain_at c filed p steps) (λ put q. fails (chain_sends c filed steps ++ put) q fault)
 
 -- what is answered and out, by the packets that were passed on and those left
 abbrev pub ChainLeaves : Config → (ℕ → Option Advertisement) → RunFault → (List (List ℕ) → Type 0) → (List (List ℕ) → List ℕ → PutFault → Type 0)
     → (List (List ℕ) → PutFault → Type 0) → (Option SessionEnd → List Take → List Reply → Type 0) → List ℕ → List (List ℕ) → List (List ℕ) → Type 0
 ChainLeaves c filed fault is_out fails unsent exchanged bs passed rest =
     WasServed c exchanged fault
-    (λ steps. IsLeftBy fault (is_out (chain_sends c filed steps)) (λ x. SwitchStops x c filed bs steps rest is_out fails)) passed rest
-    ⊎ IfSink fault (λ x. ServedBefore c exchanged (length passed) (λ steps. unsent (chain_sends c filed steps) x) passed)
+    (λ steps. IsLeftBy fault (is_out (chain_sends c filed steps)) (λ x. ChainFailsNext x c filed bs steps rest fails)) passed rest
+    ⊎ IfSink fault (λ x. ServedBefore (reply_in c) exchanged (length passed) (λ steps. unsent (chain_sends c filed steps) x) passed)
 
 -- THE THEOREM FOR FAULTS of a run of the chain
 abbrev pub ChainStops : Config → (ℕ → Option Advertisement) → RunFault → Option (List ℕ) → (List (List ℕ) → Type 0)
@@ -100,14 +94,13 @@ ChainStops c filed fault input is_out fails unsent exchanged =
 pub record HasStepped {M : Type 0} (chain : Chain M) (filed : ℕ → Option Advertisement) (is_out : List (List ℕ) → Type 0)
     (ts : List Take) (n k : ℕ) (steps : List Step) : Type 0 where
   pub talk : TalkStandsFor chain.talk ts n k
-  pub injector : InjectorStandsFor chain.injector chain.config steps
-  pub network : IsSoundNetwork chain.config (packets_in steps)
-  pub switch : WasFed chain.switch chain.config filed is_out (sent_by chain.config steps)
+  pub service : ServiceStandsFor chain.service chain.service.config filed steps
+  pub out : is_out (chain_sends chain.service.config filed steps)
   pub whole : chain.is_spent ≡ false
 
 -- the same chain, of which it is open whether what was due of the advertisements that run is out
 abbrev pub chain_unasked : {M : Type 0} → Chain M → Chain M
-chain_unasked chain = record chain { switch = switch_unasked chain.switch }
+chain_unasked chain = record chain { service = service_unasked chain.service }
 
 -- the steps before the next packet, where these takes and so many replies came
 abbrev pub heard_steps : List Take → ℕ → ℕ → List Step → List Step
@@ -123,11 +116,11 @@ pub record Hears {X : Type 0} (between : X → List Exchange → X → Type 0) (
 -- THE STEP: the automation was heard, and then the packet, which is without fault, was passed on
 pub record Stepped {M X : Type 0} (between : X → List Exchange → X → Type 0) (before now : X) (old new : Chain M)
     (filed : ℕ → Option Advertisement) (is_out : List (List ℕ) → Type 0) (ts : List Take) (n k : ℕ) (p : List ℕ) (steps : List Step) : Type 0 where
-  pub config : new.config ≡ old.config
+  pub config : new.service.config ≡ old.service.config
   pub more : List Take
   pub rs : List Reply
-  pub hears : Hears between before now (loses old.talk.end new.talk.end) old.config ts n k steps more rs
-  pub sound : network_fault (writing_cues old.config) p (packets_in steps) ≡ None
+  pub hears : Hears between before now (loses old.talk.end new.talk.end) old.service.config ts n k steps more rs
+  pub sound : network_fault (writing_cues old.service.config) p (packets_in steps) ≡ None
   pub stands : HasStepped new filed is_out (ts ++ more) (n + length rs) (suc k) (Packet p ∷ heard_steps (ts ++ more) (n + length rs) k steps)
 
 -- the automation was heard, and then the packet was not passed on; the talk is as it was left
@@ -136,6 +129,7 @@ pub record StepStops {M X : Type 0} (between : X → List Exchange → X → Typ
     (ts : List Take) (n k : ℕ) (p : List ℕ) (steps : List Step) : Type 0 where
   pub more : List Take
   pub rs : List Reply
-  pub hears : Hears between before now (loses old.talk.end new.talk.end) old.config ts n k steps more rs
+  pub hears : Hears between before now (loses old.talk.end new.talk.end) old.service.config ts n k steps more rs
   pub talk : TalkStandsFor new.talk (ts ++ more) (n + length rs) (suc k)
-  pub why : PassFails fault old.config filed p (heard_steps (ts ++ more) (n + length rs) k steps) (sent_by old.config steps) is_out fails
+  pub why : PassFails fault old.service.config filed p (heard_steps (ts ++ more) (n + length rs) k steps) (is_out (chain_sends old.service.config filed steps))
+      (λ put q x. fails (chain_sends old.service.config filed steps ++ put) q x)

@@ -7,6 +7,7 @@ use Rattle.injector.specs.declared.injector.Injector.{Injector}
 use Rattle.injector.specs.Replies.{reply_to}
 use Rattle.injector.specs.Steps.{Step, Message, turns_in}
 use Rattle.injector.specs.Injecting.{InjectorStandsFor, JudgesBy}
+use Rattle.chain_engine.specs.declared.service.Service.{Service}
 
 -- these messages were judged in order, and answered so, which led from the first judge to the second
 abbrev pub JudgesAll : {J : Type 0} → (J → MessageReading → Reply → J → Type 0) → J → List (List ℕ) → List Reply → J
@@ -24,3 +25,9 @@ pub record InjectorJudges (old : Injector) (m : MessageReading) (reply : Reply) 
   pub judges : (c : Config) (past : List Step) → JudgesBy old c past → JudgesBy new c (Message m ∷ past)
   pub stands : (c : Config) (past : List Step) → InjectorStandsFor old c past →
       InjectorStandsFor new c (Message m ∷ past)
+
+-- so a service's injector did, and nothing else of the service changed
+pub record ServiceJudges (old : Service) (m : MessageReading) (reply : Reply) (new : Service) : Type 0 where
+  pub judged : InjectorJudges old.injector m reply new.injector
+  pub switch : new.switch ≡ old.switch
+  pub config : new.config ≡ old.config

@@ -7,6 +7,7 @@ pub mod Stops
 pub mod Progress
 pub mod Runs
 pub mod Splices
+pub mod Passing
 pub mod Nested
 pub mod ChainRuns
 pub mod Stages

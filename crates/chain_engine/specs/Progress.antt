@@ -9,7 +9,7 @@ use Rattle.ts_packet.specs.declared.sink.PutFault.{PutFault}
 use Rattle.psi_tables.specs.declared.network.FeedFault.TheVariants.{Network, Sink, Failed}
 use Rattle.chain_engine.specs.Stops.{run_cause}
 use Rattle.chain_engine.specs.declared.faults.RunFault.{RunFault}
-use Rattle.chain_engine.specs.declared.faults.RunFault.TheVariants.{Read, Feed}
+use Rattle.chain_engine.specs.declared.faults.RunFault.TheVariants.{Read, Feed, SharedPid}
 
 -- No read failed, and one at most moved no byte, the last, which told the end; no write failed, and each moved a byte.
 abbrev pub DevicesWentWell : Tally → Tally → Tally → Tally → Type 0
@@ -31,6 +31,7 @@ DeviceStops (Feed (Sink fault)) ran_out read read' written written' full fails u
     × (((ps : List (List ℕ)) × (p : List ℕ) × fails ps p fault) ⊎ ((ps : List (List ℕ)) × unsent ps fault))
 DeviceStops (Feed (Network fault)) ran_out read read' written written' full fails unsent = ⊥
 DeviceStops (Feed Failed) ran_out read read' written written' full fails unsent = ⊥
+DeviceStops SharedPid ran_out read read' written written' full fails unsent = ⊥
 
 -- what was found wrong is the first fault of these bytes, by name; where they are not told, it is a fault of what was read
 abbrev pub IsFirstIn : (List ℕ → Option RunFault) → Option (List ℕ) → Option RunFault → Type 0

@@ -11,7 +11,7 @@ use Rattle.psi_section.specs.Assembling.{capped}
 use Rattle.psi_tables.specs.declared.config.Config.{Config}
 use Rattle.psi_tables.specs.declared.network.FeedFault.TheVariants.{Network, Sink, Failed}
 use Rattle.scte104_codec.specs.declared.reply.Reply.{Reply}
-use Rattle.scte104_codec.specs.Reading.{message_of}
+use Rattle.scte104_codec.specs.Reading.{MessageReading, message_of}
 use Rattle.outgoing_packets.specs.Numbers.{FrontFails}
 use Rattle.splice_plans.specs.declared.report.SwitchReport.{SwitchReport}
 use Rattle.injector.specs.Replies.{reply_to}
@@ -25,7 +25,7 @@ use Rattle.chain_engine.specs.Stops.{first_run_fault, IsLeftBy, IfSink, StopsBy}
 use Rattle.chain_engine.specs.declared.hearing.SessionEnd.{SessionEnd}
 use Rattle.chain_engine.specs.declared.report.Report.{Report}
 use Rattle.chain_engine.specs.declared.faults.RunFault.{RunFault}
-use Rattle.chain_engine.specs.declared.faults.RunFault.TheVariants.{Read, Feed}
+use Rattle.chain_engine.specs.declared.faults.RunFault.TheVariants.{Read, Feed, SharedPid}
 use Rattle.program_follower.specs.Purposes.{writing_cues}
 
 -- ---- the history of a run
@@ -45,11 +45,18 @@ steps_of most takes (p ∷ past) = Packet p ∷ asked (judged_before most takes 
 abbrev pub steps_before : ℕ → List Take → List (List ℕ) → List Step
 steps_before most takes past = asked (judged_before most takes (length past)) (steps_of most takes past)
 
--- THE REPLIES, in order: each by the verdict at the steps before its message
+-- the replies of a history, in order, each by a rule of its message and the steps before it
+abbrev pub replies_by : (MessageReading → List Step → Reply) → List Step → List Reply
+replies_by rule [] = []
+replies_by rule (Message m ∷ past) = replies_by rule past ++ rule m past ∷ []
+replies_by rule (Packet p ∷ past) = replies_by rule past
+
+-- THE REPLY of a chain: by the verdict at the steps before the message
+abbrev pub reply_in : Config → MessageReading → List Step → Reply
+reply_in c m past = reply_to c.index m (turns_in c.program past)
+
 abbrev pub replies_in : Config → List Step → List Reply
-replies_in c [] = []
-replies_in c (Message m ∷ past) = replies_in c past ++ reply_to c.index m (turns_in c.program past) ∷ []
-replies_in c (Packet p ∷ past) = replies_in c past
+replies_in c steps = replies_by (reply_in c) steps
 
 -- of the events nothing is counted, since no switch runs
 abbrev pub no_events : SwitchReport
@@ -77,15 +84,18 @@ pub record Exchanged {X : Type 0} (between : X → List Exchange → X → Type 
   pub exchanges : between old (exchanges_of (answers_to (lost_by ending) rs) (reverse ts)) new
   pub counted : CountsEnd None ending (failures old) (failures new)
 
--- A run has talked before so many packets, what it took are bytes, and each reply is the one by the history. `exchanged` says so of a
--- session's end, takes and replies.
-pub record Serves (c : Config) (exchanged : Option SessionEnd → List Take → List Reply → Type 0) (ts : List Take)
+-- A run has talked before so many packets, what it took are bytes, and each reply is the one by the history and this rule. `exchanged` says so
+-- of a session's end, takes and replies.
+pub record ServesBy (rule : MessageReading → List Step → Reply) (exchanged : Option SessionEnd → List Take → List Reply → Type 0) (ts : List Take)
     (rs : List Reply) (k : ℕ) (steps : List Step) : Type 0 where
   pub ending : Option SessionEnd
   pub talked : HasTalked ending ts (length rs) k
   pub bytes : AreBytes (bytes_of ts)
   pub exchanges : exchanged ending ts rs
-  pub replies : rs ≡ replies_in c steps
+  pub replies : rs ≡ replies_by rule steps
+
+abbrev pub Serves : Config → (Option SessionEnd → List Take → List Reply → Type 0) → List Take → List Reply → ℕ → List Step → Type 0
+Serves c exchanged ts rs k steps = ServesBy (reply_in c) exchanged ts rs k steps
 
 -- ---- the theorems
 
@@ -112,20 +122,22 @@ abbrev pub heard_at : RunFault → List (List ℕ) → ℕ → ℕ
 heard_at (Read fault) rest k = k
 heard_at (Feed fault) [] k = k
 heard_at (Feed fault) (p ∷ more) k = suc k
+heard_at SharedPid [] k = k
+heard_at SharedPid (p ∷ more) k = suc k
 
 -- What is answered and out where a run stops behind these packets, the automation having been heard before so many: that of these packets, and
 -- of the messages before the next one. `leaves` says of the steps up to there what is out.
-pub record ServedBefore (c : Config) (exchanged : Option SessionEnd → List Take → List Reply → Type 0) (k : ℕ)
+pub record ServedBefore (rule : MessageReading → List Step → Reply) (exchanged : Option SessionEnd → List Take → List Reply → Type 0) (k : ℕ)
     (leaves : List Step → Type 0) (passed : List (List ℕ)) : Type 0 where
   pub ts : List Take
   pub rs : List Reply
-  pub serves : Serves c exchanged ts rs k (steps_before (length rs) ts (reverse passed))
+  pub serves : ServesBy rule exchanged ts rs k (steps_before (length rs) ts (reverse passed))
   pub out : leaves (steps_before (length rs) ts (reverse passed))
 
 -- where it stops so, with these packets passed on and those left
 abbrev pub WasServed : Config → (Option SessionEnd → List Take → List Reply → Type 0) → RunFault → (List Step → Type 0)
     → List (List ℕ) → List (List ℕ) → Type 0
-WasServed c exchanged fault leaves passed rest = ServedBefore c exchanged (heard_at fault rest (length passed)) leaves passed
+WasServed c exchanged fault leaves passed rest = ServedBefore (reply_in c) exchanged (heard_at fault rest (length passed)) leaves passed
 
 -- a front of what the next packet sends behind these steps went out, and then the sink failed
 abbrev pub SendFails : Config → List Step → List (List ℕ) → (List (List ℕ) → List ℕ → Type 0) → Type 0
@@ -140,7 +152,7 @@ abbrev pub InjectLeaves : Config → RunFault → (List (List ℕ) → Type 0) �
     → List ℕ → List (List ℕ) → List (List ℕ) → Type 0
 InjectLeaves c fault is_out fails unsent exchanged bs passed rest =
     WasServed c exchanged fault (λ steps. IsLeftBy fault (is_out (sent_by c steps)) (λ x. SendFails c steps rest (λ qs q. fails qs q x))) passed rest
-    ⊎ IfSink fault (λ x. ServedBefore c exchanged (length passed) (λ steps. unsent (sent_by c steps) x) passed)
+    ⊎ IfSink fault (λ x. ServedBefore (reply_in c) exchanged (length passed) (λ steps. unsent (sent_by c steps) x) passed)
 
 -- THE THEOREM FOR FAULTS of a run with an injector
 abbrev pub InjectStops : Config → RunFault → Option (List ℕ) → (List (List ℕ) → Type 0)
@@ -157,6 +169,7 @@ NetworkBlamed (Read fault) before ended old new = RunBlamed fault old new
 NetworkBlamed (Feed (Network fault)) before ended old new = ReadSo ended old new
 NetworkBlamed (Feed (Sink fault)) before ended old new = ReadOn before ended old new
 NetworkBlamed (Feed Failed) before ended old new = ⊥
+NetworkBlamed SharedPid before ended old new = ReadSo ended old new
 
 -- what the output's device counted there; `full` is whether the output takes no more
 abbrev pub OutputBlamed : RunFault → Tally → Tally → Bool → Type 0
@@ -164,3 +177,4 @@ OutputBlamed (Read fault) old new full = WentWell old new
 OutputBlamed (Feed (Network fault)) old new full = WentWell old new
 OutputBlamed (Feed (Sink fault)) old new full = Blamed fault old new full
 OutputBlamed (Feed Failed) old new full = WentWell old new
+OutputBlamed SharedPid old new full = WentWell old new

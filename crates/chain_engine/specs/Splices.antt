@@ -15,7 +15,7 @@ use Rattle.splice_plans.specs.Switching.{spliced_network, switched_past, switche
 use Rattle.splice_plans.specs.Reporting.{ReportIs, report_of}
 use Rattle.chain_engine.specs.Stops.{first_run_fault, IsLeftBy, StopsBy}
 use Rattle.chain_engine.specs.declared.faults.RunFault.{RunFault}
-use Rattle.chain_engine.specs.declared.faults.RunFault.TheVariants.{Read, Feed}
+use Rattle.chain_engine.specs.declared.faults.RunFault.TheVariants.{Read, Feed, SharedPid}
 
 -- THE THEOREM: the network's bytes have no fault; the spliced network is out, with what is left at its end; and the report is by the
 -- events that its cues armed. `is_out` says of packets that they stand behind what was there.
@@ -56,3 +56,4 @@ NetworkBlamedToEnd (Read fault) before ended old new = RunBlamed fault old new
 NetworkBlamedToEnd (Feed (Network fault)) before ended old new = ReadSo ended old new
 NetworkBlamedToEnd (Feed (Sink fault)) before ended old new = ReadOn before ended old new ⊎ SourceCounts false before ended old new
 NetworkBlamedToEnd (Feed Failed) before ended old new = ⊥
+NetworkBlamedToEnd SharedPid before ended old new = ReadSo ended old new

@@ -15,7 +15,7 @@ use Rattle.psi_tables.specs.declared.network.NetworkFault.{NetworkFault}
 use Rattle.program_follower.specs.declared.purpose.Purpose.{Purpose}
 use Rattle.program_follower.specs.FirstFault.{network_test, first_network_fault, before_network_fault}
 use Rattle.chain_engine.specs.declared.faults.RunFault.{RunFault}
-use Rattle.chain_engine.specs.declared.faults.RunFault.TheVariants.{Read, Feed}
+use Rattle.chain_engine.specs.declared.faults.RunFault.TheVariants.{Read, Feed, SharedPid}
 
 -- ---- faults of the network
 
@@ -40,6 +40,7 @@ run_cause (Read fault) = read_cause fault
 run_cause (Feed (Network fault)) = OfInput
 run_cause (Feed (Sink fault)) = OfDevice
 run_cause (Feed Failed) = OfNothing
+run_cause SharedPid = OfInput
 
 -- the fault of a run whose stage stopped it so
 abbrev pub run_fault_of : Stop NetworkFault → RunFault
@@ -67,6 +68,7 @@ IsLeftBy (Read fault) all next = all
 IsLeftBy (Feed (Network fault)) all next = all
 IsLeftBy (Feed (Sink fault)) all next = next fault
 IsLeftBy (Feed Failed) all next = ⊥
+IsLeftBy SharedPid all next = all
 
 -- the sink failed so, of which this is said
 abbrev pub IfSink : RunFault → (PutFault → Type 0) → Type 0
@@ -74,6 +76,7 @@ IfSink (Read fault) said = ⊥
 IfSink (Feed (Network fault)) said = ⊥
 IfSink (Feed (Sink fault)) said = said fault
 IfSink (Feed Failed) said = ⊥
+IfSink SharedPid said = ⊥
 
 -- THE THEOREM FOR FAULTS: a fault of the network is the first one of its bytes, and the packets before it were passed on; a device's says
 -- nothing of those left; and none of the packets that were passed on is at fault. `leaves` says, of the bytes, of the packets passed on and

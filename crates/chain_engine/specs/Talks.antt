@@ -1,7 +1,7 @@
 -- The talk with an automation: which takes were made, which messages stand in them, and before which packet each is
 -- judged.
 use Rattle.std.specs.Prelude.{◌≡◌, ℕ, suc, ◌<◌, ◌≤◌, Bool, true, false, List, [], ◌∷◌, ◌++◌, Option, None, Some, length}
-use Rattle.std.specs.Prelude.{take, drop, map, reverse}
+use Rattle.std.specs.Prelude.{take, drop, reverse}
 use Rattle.std.specs.List.{list_all}
 use Rattle.ts_packet.specs.Transfers.{IsCounted}
 use Rattle.wire_fields.specs.Numbers.{AreBytes}
@@ -11,7 +11,7 @@ use Rattle.as_session.specs.Pending.{is_partial}
 use Rattle.as_session.specs.Feeding.{opened}
 use Rattle.as_session.specs.Session.{state_of}
 use Rattle.as_session.specs.Messages.{messages_of}
-use Rattle.chain_engine.specs.Automation.{Take, piece, ended, failed, Answer, Exchange, taken, answered, takes_and_answers, bytes_of}
+use Rattle.chain_engine.specs.Automation.{Take, piece, ended, failed, Answer, Exchange, takes_and_answers, bytes_of}
 use Rattle.chain_engine.specs.Hearing.{lost_by}
 use Rattle.chain_engine.specs.declared.hearing.SessionEnd.{SessionEnd}
 use Rattle.chain_engine.specs.declared.hearing.SessionEnd.TheVariants.{Ended, TakeFailed, BadSize, AnswerFailed}

@@ -4,10 +4,9 @@ ghost use Rattle.std.specs.Prelude.{IfOk};
 ghost use Rattle.chain_engine.specs.Chains.{ChainStandsFor};
 
 use crate::automation::Automation;
+use crate::service::Service;
 use crate::talk::Talk;
-use injector::Injector;
 use psi_tables::Config;
-use splice_switch::Switch;
 use std::alloc::{Allocator, Global};
 use thiserror::Error;
 
@@ -21,9 +20,7 @@ pub struct OutOfMemory;
 #[derive(Drop)]
 pub struct Chain<M: Allocator = Global> {
     pub(crate) talk: Talk<M>,
-    pub(crate) injector: Injector,
-    pub(crate) switch: Switch,
-    pub(crate) config: Config,
+    pub(crate) service: Service,
     /// It answered a fault.
     pub(crate) is_spent: bool,
 }
@@ -53,12 +50,9 @@ impl<M: Allocator + Copy> Chain<M> {
         let Ok(talk) = Talk::new_in(alloc) else {
             return Err(OutOfMemory);
         };
-        let given = &config;
         Ok(Chain {
             talk,
-            injector: Injector::new(*given),
-            switch: Switch::new(*given),
-            config: *given,
+            service: Service::new(config),
             is_spent: false,
         })
     }
@@ -70,24 +64,22 @@ impl<M: Allocator> Chain<M> {
     ghost use Rattle.scte104_codec.specs.declared.reply.Reply.{Reply};
     ghost use Rattle.chain_engine.specs.Automation.{Take, takes_and_answers};
     ghost use Rattle.chain_engine.specs.Hearing.{Replied};
-    ghost use Rattle.chain_engine.specs.Judging.{InjectorJudges};
+    ghost use Rattle.chain_engine.specs.Judging.{ServiceJudges};
     ghost use Rattle.chain_engine.specs.Talks.{TalkStandsFor, judged_before, loses, CountsEnd};
 
-    /// Hears the automation before the next packet, as [`Talk::listen`] does; the injector judges.
+    /// Hears the automation before the next packet, as [`Talk::listen`] does; the service judges.
     #[inline(always)]
     pub(crate) fn hear<U: Automation>(&mut self, automation: &mut U)
         ensures talk { (ts : List Take) (n k : ℕ) → TalkStandsFor self.old.talk ts n k →
             (more : List Take) × (rs : List Reply)
             × TalkStandsFor self.new.talk (ts ++ more) (n + length rs) (suc k)
-            × Replied InjectorJudges self.old.injector self.new.injector (judged_before (n + length rs) (ts ++ more) k) rs
+            × Replied ServiceJudges self.old.service self.new.service (judged_before (n + length rs) (ts ++ more) k) rs
             (loses self.old.talk.end self.new.talk.end) (λ xs. U.exchanges automation.old (takes_and_answers more xs) automation.new) }
         ensures closed { is_some self.old.talk.end ≡ true → (self.new.talk ≡ self.old.talk)
-            × (self.new.injector ≡ self.old.injector) × (automation.new ≡ automation.old) }
+            × (self.new.service ≡ self.old.service) × (automation.new ≡ automation.old) }
         ensures failures { CountsEnd self.old.talk.end self.new.talk.end (U.failures automation.old) (U.failures automation.new) }
-        ensures switch { self.new.switch ≡ self.old.switch }
-        ensures config { self.new.config ≡ self.old.config }
         ensures spent { self.new.is_spent ≡ self.old.is_spent }
     {
-        self.talk.listen(&mut self.injector, automation);
+        self.talk.listen(&mut self.service, automation);
     }
 }

@@ -11,6 +11,8 @@ pub enum RunFault {
     Read(ReadFault),
     /// A packet was not passed on.
     Feed(FeedFault),
+    /// Two services share a PID. No run of one chain answers this.
+    SharedPid,
 }
 
 impl RunFault {

@@ -49,18 +49,18 @@ impl<M: Allocator, U: Automation> Stage for Injecting<'_, M, U> {
 
     type Report = Report;
 
-    ghost refusal = { λ s seen. network_fault (writing_cues s.chain.now.config) seen.packet seen.past };
+    ghost refusal = { λ s seen. network_fault (writing_cues s.chain.now.service.config) seen.packet seen.past };
 
     ghost sends = { λ first ps qs kept now. InjectSends first.chain.now now.chain.now
         (Exchanged U.exchanges U.failures first.automation.now now.automation.now) ps qs };
 
-    ghost refuses = { λ first ps qs p now. InjectRefuses first.chain.now.config
+    ghost refuses = { λ first ps qs p now. InjectRefuses first.chain.now.service.config
         (Exchanged U.exchanges U.failures first.automation.now now.automation.now) ps qs p };
 
-    ghost breaks = { λ first ps next put q now. InjectBreaks first.chain.now.config
+    ghost breaks = { λ first ps next put q now. InjectBreaks first.chain.now.service.config
         (Exchanged U.exchanges U.failures first.automation.now now.automation.now) ps next put q };
 
-    ghost ends = { λ first ps sent report now. InjectEnds first.chain.now.config
+    ghost ends = { λ first ps sent report now. InjectEnds first.chain.now.service.config
         (Exchanged U.exchanges U.failures first.automation.now now.automation.now) ps sent report };
 
     ghost leads = { λ s t. t.automation.ghost_name ≡ s.automation.ghost_name };
@@ -79,7 +79,7 @@ impl<M: Allocator, U: Automation> Stage for Injecting<'_, M, U> {
         out: &mut K,
     ) -> Result<bool, StageFault<NetworkFault>> {
         self.chain.hear(self.automation);
-        match self.chain.injector.feed(packet, out) {
+        match self.chain.service.injector.feed(packet, out) {
             Ok(()) => Ok(false),
             Err(fault) => Err(stage_fault(fault)),
         }
@@ -87,7 +87,7 @@ impl<M: Allocator, U: Automation> Stage for Injecting<'_, M, U> {
 
     /// Nothing is left.
     fn finish<K: PacketSink>(&mut self, _out: &mut K) -> Result<Report, PutFault> {
-        Ok(Report::of(self.chain.injector.counts()))
+        Ok(Report::of(self.chain.service.injector.counts()))
     }
 }
 

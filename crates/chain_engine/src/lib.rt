@@ -15,6 +15,7 @@ mod inject;
 pub mod judge;
 mod report;
 mod running;
+mod service;
 mod splice;
 mod talk;
 
@@ -26,4 +27,6 @@ pub use inject::run_inject;
 pub use judge::Judge;
 pub use report::Report;
 pub use running::run;
+pub use service::Service;
 pub use splice::run_splice;
+pub use talk::Talk;

@@ -1,21 +1,18 @@
 //! Whole runs of the chain: the cues that the injector puts in are obeyed by the switch, in one pass over the network.
 
-ghost use Rattle.std.specs.Prelude.{◌≡◌, ℕ, ◌⊎◌, List, ◌∷◌, ◌++◌, Option, None, Err, true, false, OnOk, IfOk, IfErr};
+ghost use Rattle.std.specs.Prelude.{◌≡◌, ℕ, ◌⊎◌, List, ◌++◌, Option, Err, true, false, OnOk, IfOk, IfErr};
 ghost use Rattle.ts_packet.specs.Sources.{SourceCounts, Stalled, Exhausted};
 ghost use Rattle.ts_packet.specs.Transfers.{WentWell};
-ghost use Rattle.wire_fields.specs.Numbers.{AreBytes};
 ghost use Rattle.outgoing_packets.specs.Faults.{is_err_or};
-ghost use Rattle.program_follower.specs.Faults.{network_fault};
-ghost use Rattle.injector.specs.Injecting.{InjectorStandsFor};
-ghost use Rattle.injector.specs.Steps.{Step, Packet as PacketStep, packets_in, sent_at};
+ghost use Rattle.injector.specs.Steps.{Step};
+ghost use Rattle.psi_tables.specs.declared.config.Config.{Config};
 ghost use Rattle.ad_library.specs.Library.{held};
 ghost use Rattle.chain_engine.specs.Automation.{Take};
 ghost use Rattle.chain_engine.specs.Chains.{ChainStandsFor};
 ghost use Rattle.chain_engine.specs.Stops.{first_run_fault};
 ghost use Rattle.chain_engine.specs.Progress.{Progresses};
-ghost use Rattle.chain_engine.specs.Runs.{sent_by, Exchanged, OutputBlamed};
+ghost use Rattle.chain_engine.specs.Runs.{Exchanged, OutputBlamed};
 ghost use Rattle.chain_engine.specs.Splices.{NetworkBlamedToEnd};
-ghost use Rattle.chain_engine.specs.Nested.{WasFed, IsSoundNetwork, PassFails};
 ghost use Rattle.chain_engine.specs.ChainRuns.{RunsAll, ChainStops, HasStepped, Stepped, StepStops, chain_unasked};
 ghost use Rattle.program_follower.specs.Purposes.{writing_cues};
 
@@ -24,149 +21,10 @@ use crate::chain::Chain;
 use crate::faults::{RunFault, put_fault, stage_fault};
 use crate::report::Report;
 use ad_library::AdLibrary;
-use injector::Injector;
 use packet_runs::{Stage, StageFault, run_stage};
-use psi_tables::{Config, FeedFault, NetworkFault};
-use splice_switch::Switch;
+use psi_tables::{FeedFault, NetworkFault};
 use std::alloc::Allocator;
 use ts_packet::{GatheringSink, Packet, PacketSink, PausingPackets, PutFault, ReadFault};
-
-/// A sink that feeds a switch. It keeps the fault of the switch, and answers `Failed` from then on.
-struct Feeding<'a, K: PacketSink> {
-    switch: &'a mut Switch,
-    config: &'a Config,
-    library: &'a AdLibrary,
-    out: &'a mut K,
-    fault: Option<FeedFault>,
-}
-
-impl<K: PacketSink> PacketSink for Feeding<'_, K> {
-    ghost use Rattle.std.specs.Prelude.{◌≡◌, true};
-    ghost use Rattle.std.proofs.Common.{refl, ap, ◌∙◌};
-    ghost use Rattle.ad_library.specs.Library.{held};
-    ghost use Rattle.chain_engine.specs.Nested.{FeedingHolds, FeedingFails, FaultKept, FaultKept-refl, FaultKept-trans};
-
-    ghost holds = { λ g start ps. FeedingHolds K.holds g.switch.now g.config.now (held g.library.now) g.out.now start ps };
-
-    ghost fails = { λ g start ps p f. FeedingFails K.holds K.fails g.fault g.config.now (held g.library.now) g.out.now start ps p f };
-
-    ghost is_broken = { λ g. g.switch.now.is_spent };
-
-    ghost counts = { λ g. K.counts g.out.now };
-
-    ghost is_full = { λ g. K.is_full g.out.now };
-
-    ghost leads = { λ g h. (h.switch.ghost_name ≡ g.switch.ghost_name) × (h.out.ghost_name ≡ g.out.ghost_name)
-        × (h.library.now ≡ g.library.now) × (h.config.now ≡ g.config.now) × K.leads g.out.now h.out.now
-        × (g.switch.now.is_spent ≡ true → h ≡ g)
-        × FaultKept g.fault h.fault h.switch.now.is_spent (K.counts g.out.now) (K.counts h.out.now) (K.is_full h.out.now) };
-
-    ghost leads_refl = { λ s. (refl, refl, refl, refl, K.leads_refl s.out.now, λ b. refl, FaultKept-refl _ _ _ _) };
-
-    ghost leads_trans = { λ s t u h k. (
-      k.0 ∙ h.0,
-      k.1 ∙ h.1,
-      k.2 ∙ h.2,
-      k.3 ∙ h.3,
-      K.leads_trans s.out.now t.out.now u.out.now h.4 k.4,
-      λ b. k.5 (ap (λ w. w.switch.now.is_spent) (h.5 b) ∙ b) ∙ h.5 b,
-      FaultKept-trans s.fault t.fault u.fault t.switch.now.is_spent u.switch.now.is_spent (K.counts s.out.now) (K.counts t.out.now)
-          (K.counts u.out.now) (K.is_full t.out.now) (K.is_full u.out.now) h.6 k.6 (λ b. record {
-            fault = ap (λ w. w.fault) (k.5 b);
-            spent = ap (λ w. w.switch.now.is_spent) (k.5 b);
-            counts = ap (λ w. K.counts w.out.now) (k.5 b);
-            is_full = ap (λ w. K.is_full w.out.now) (k.5 b);
-          }),
-    ) };
-
-    ghost leads_later = { λ s t h. K.leads_later s.out.now t.out.now h.4 };
-
-    ghost leads_full = { λ s t h. K.leads_full s.out.now t.out.now h.4 };
-
-    ghost leads_spent = { λ s t h. h.5 };
-
-    #[inline(always)]
-    fn put(&mut self, packet: &Packet) -> Result<(), PutFault> {
-        match self.switch.feed_with_same(packet, self.library, self.out) {
-            Ok(()) => Ok(()),
-            Err(FeedFault::Failed) => Err(PutFault::Failed),
-            Err(FeedFault::Network(fault)) => {
-                self.fault = Some(FeedFault::Network(fault));
-                Err(PutFault::Failed)
-            }
-            Err(FeedFault::Sink(fault)) => {
-                self.fault = Some(FeedFault::Sink(fault));
-                Err(PutFault::Failed)
-            }
-        }
-    }
-}
-
-/// Says that a packet is of bytes, and does nothing.
-#[inline(always)]
-fn of_bytes(packet: &Packet)
-    ensures { AreBytes packet.now }
-{
-    let _bytes = packet.to_bytes();
-}
-
-/// Takes the next packet of the network: the injector sends it on to the switch, with the cues that are due, and the switch puts what goes
-/// out.
-///
-/// # Errors
-///
-/// The fault of the injector, or that of the switch's sink at one of the packets that it was sent.
-#[inline(always)]
-fn pass_on<K: PacketSink>(
-    injector: &mut Injector,
-    switch: &mut Switch,
-    config: &Config,
-    packet: &Packet,
-    library: &AdLibrary,
-    out: &mut K,
-) -> Result<(), FeedFault>
-    ensures leads { K.leads out.old out.new }
-    ensures ok { (steps : List Step) (start : Option (List ℕ)) (before fed : List (List ℕ))
-        → InjectorStandsFor injector.old config.now steps
-        → WasFed switch.old config.now (held library.now) (λ qs. K.holds out.old start (before ++ qs)) fed
-        → OnOk result (WasFed switch.new config.now (held library.now) (λ qs. K.holds out.new start (before ++ qs))
-        (fed ++ sent_at config.now packet.now steps)) }
-    ensures stands { (steps : List Step) → InjectorStandsFor injector.old config.now steps
-        → OnOk result (InjectorStandsFor injector.new config.now (PacketStep packet.now ∷ steps)) }
-    ensures sound { (steps : List Step) → InjectorStandsFor injector.old config.now steps
-        → OnOk result (network_fault (writing_cues config.now) packet.now (packets_in steps) ≡ None) }
-    ensures bytes { AreBytes packet.now }
-    ensures err { (steps : List Step) (start : Option (List ℕ)) (before fed : List (List ℕ))
-        → InjectorStandsFor injector.old config.now steps
-        → IsSoundNetwork config.now (packets_in steps) → fed ≡ sent_by config.now steps
-        → WasFed switch.old config.now (held library.now) (λ qs. K.holds out.old start (before ++ qs)) fed
-        → IfErr result (λ f. PassFails f config.now (held library.now) packet.now steps fed
-        (λ qs. K.holds out.new start (before ++ qs)) (λ qs q x. K.fails out.new start (before ++ qs) q x)) }
-    ensures well { OnOk result (WentWell (K.counts out.old) (K.counts out.new)) }
-    ensures blamed { IfErr result (λ f. OutputBlamed (RunFault.Feed f)
-        (K.counts out.old) (K.counts out.new) (K.is_full out.new)) }
-{
-    of_bytes(packet);
-    let mut feeding = Feeding {
-        switch,
-        config,
-        library,
-        out,
-        fault: None,
-    };
-    let fed = injector.feed(packet, &mut feeding);
-    let Feeding {
-        switch: _,
-        config: _,
-        library: _,
-        out: _,
-        fault: kept,
-    } = feeding;
-    match fed {
-        Ok(()) => Ok(()),
-        Err(fault) => Err(kept.unwrap_or(fault)),
-    }
-}
 
 impl<M: Allocator> Chain<M> {
     /// Takes the next packet of the network: hears the automation first, and puts what goes out. What is due of the
@@ -205,7 +63,7 @@ impl<M: Allocator> Chain<M> {
         if self.is_spent {
             return Err(FeedFault::Failed);
         }
-        self.switch.ask_anew();
+        self.service.ask_anew();
         self.step_with_same(packet, automation, library, out)
     }
 
@@ -242,70 +100,14 @@ impl<M: Allocator> Chain<M> {
         if self.is_spent {
             return Err(FeedFault::Failed);
         }
-        self.talk.listen(&mut self.injector, automation);
-        let config = &self.config;
-        match pass_on(
-            &mut self.injector,
-            &mut self.switch,
-            config,
-            packet,
-            library,
-            out,
-        ) {
+        self.hear(automation);
+        match self.service.pass(packet, library, out) {
             Ok(()) => Ok(()),
             Err(fault) => {
                 self.is_spent = true;
                 Err(fault)
             }
         }
-    }
-}
-
-impl<M: Allocator> Chain<M> {
-    /// Passes the next packet of the network on, by [`pass_on`], and answers as a stage does.
-    ///
-    /// # Errors
-    ///
-    /// As for [`pass_on`].
-    #[inline(always)]
-    fn pass<K: PacketSink>(
-        &mut self,
-        packet: &Packet,
-        library: &AdLibrary,
-        out: &mut K,
-    ) -> Result<(), FeedFault>
-        ensures leads { K.leads out.old out.new }
-        ensures ok { (steps : List Step) (start : Option (List ℕ)) (before fed : List (List ℕ))
-            → InjectorStandsFor self.old.injector self.old.config steps
-            → WasFed self.old.switch self.old.config (held library.now) (λ qs. K.holds out.old start (before ++ qs)) fed
-            → OnOk result (WasFed self.new.switch self.old.config (held library.now) (λ qs. K.holds out.new start (before ++ qs))
-            (fed ++ sent_at self.old.config packet.now steps)) }
-        ensures stands { (steps : List Step) → InjectorStandsFor self.old.injector self.old.config steps
-            → OnOk result (InjectorStandsFor self.new.injector self.old.config (PacketStep packet.now ∷ steps)) }
-        ensures sound { (steps : List Step) → InjectorStandsFor self.old.injector self.old.config steps
-            → OnOk result (network_fault (writing_cues self.old.config) packet.now (packets_in steps) ≡ None) }
-        ensures bytes { AreBytes packet.now }
-        ensures err { (steps : List Step) (start : Option (List ℕ)) (before fed : List (List ℕ))
-            → InjectorStandsFor self.old.injector self.old.config steps
-            → IsSoundNetwork self.old.config (packets_in steps) → fed ≡ sent_by self.old.config steps
-            → WasFed self.old.switch self.old.config (held library.now) (λ qs. K.holds out.old start (before ++ qs)) fed
-            → IfErr result (λ f. PassFails f self.old.config (held library.now) packet.now steps fed
-            (λ qs. K.holds out.new start (before ++ qs)) (λ qs q x. K.fails out.new start (before ++ qs) q x)) }
-        ensures well { OnOk result (WentWell (K.counts out.old) (K.counts out.new)) }
-        ensures blamed { IfErr result (λ f. OutputBlamed (RunFault.Feed f)
-            (K.counts out.old) (K.counts out.new) (K.is_full out.new)) }
-        ensures config { self.new.config ≡ self.old.config }
-        ensures talk { self.new.talk ≡ self.old.talk }
-    {
-        let config = &self.config;
-        pass_on(
-            &mut self.injector,
-            &mut self.switch,
-            config,
-            packet,
-            library,
-            out,
-        )
     }
 }
 
@@ -350,19 +152,19 @@ impl<M: Allocator, U: Automation> Stage for Playing<'_, M, U> {
 
     type Report = Report;
 
-    ghost refusal = { λ s seen. network_fault (writing_cues s.chain.now.config) seen.packet seen.past };
+    ghost refusal = { λ s seen. network_fault (writing_cues s.chain.now.service.config) seen.packet seen.past };
 
     ghost sends = { λ first ps qs kept now. (now.library.now ≡ first.library.now)
         × ChainSends first.chain.now now.chain.now (held first.library.now)
         (Exchanged U.exchanges U.failures first.automation.now now.automation.now) ps qs };
 
-    ghost refuses = { λ first ps qs p now. ChainRefuses first.chain.now.config (held first.library.now)
+    ghost refuses = { λ first ps qs p now. ChainRefuses first.chain.now.service.config (held first.library.now)
         (Exchanged U.exchanges U.failures first.automation.now now.automation.now) ps qs p };
 
-    ghost breaks = { λ first ps next put q now. ChainBreaks first.chain.now.config (held first.library.now)
+    ghost breaks = { λ first ps next put q now. ChainBreaks first.chain.now.service.config (held first.library.now)
         (Exchanged U.exchanges U.failures first.automation.now now.automation.now) ps next put q };
 
-    ghost ends = { λ first ps sent report now. ChainEnds first.chain.now.config (held first.library.now)
+    ghost ends = { λ first ps sent report now. ChainEnds first.chain.now.service.config (held first.library.now)
         (Exchanged U.exchanges U.failures first.automation.now now.automation.now) ps sent report };
 
     ghost leads = { λ s t. t.automation.ghost_name ≡ s.automation.ghost_name };
@@ -381,15 +183,15 @@ impl<M: Allocator, U: Automation> Stage for Playing<'_, M, U> {
         out: &mut K,
     ) -> Result<bool, StageFault<NetworkFault>> {
         self.chain.hear(self.automation);
-        match self.chain.pass(packet, self.library, out) {
+        match self.chain.service.pass(packet, self.library, out) {
             Ok(()) => Ok(false),
             Err(fault) => Err(stage_fault(fault)),
         }
     }
 
     fn finish<K: PacketSink>(&mut self, out: &mut K) -> Result<Report, PutFault> {
-        match self.chain.switch.finish(self.library, out) {
-            Ok(events) => Ok(Report::of_chain(self.chain.injector.counts(), events)),
+        match self.chain.service.finish(self.library, out) {
+            Ok(events) => Ok(Report::of_chain(self.chain.service.counts(), events)),
             Err(fault) => Err(put_fault(fault)),
         }
     }

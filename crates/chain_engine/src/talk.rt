@@ -19,7 +19,7 @@ fn of_bytes(_room: [u8; 4096])
 
 /// The session of an automation, and why it is not listened to any more.
 #[derive(Drop)]
-pub(crate) struct Talk<M: Allocator = Global> {
+pub struct Talk<M: Allocator = Global> {
     session: Session<M>,
     end: Option<SessionEnd>,
     room: [u8; 4096],
@@ -30,7 +30,11 @@ impl<M: Allocator + Copy> Talk<M> {
     ghost use Rattle.chain_engine.specs.Talks.{TalkStandsFor};
 
     /// A talk that has not begun, with memory of this allocator.
-    pub(crate) fn new_in(alloc: M) -> Result<Talk<M>, AllocError>
+    ///
+    /// # Errors
+    ///
+    /// Where the allocator refused memory.
+    pub fn new_in(alloc: M) -> Result<Talk<M>, AllocError>
         ensures { IfOk result (λ talk. TalkStandsFor talk [] 0 0) }
     {
         Ok(Talk {
@@ -51,7 +55,7 @@ impl<M: Allocator> Talk<M> {
 
     /// Takes a piece and hears it, while the session is open.
     #[inline(always)]
-    pub(crate) fn listen<J: Judge, U: Automation>(&mut self, judge: &mut J, automation: &mut U)
+    pub fn listen<J: Judge, U: Automation>(&mut self, judge: &mut J, automation: &mut U)
         ensures talk { (ts : List Take) (n k : ℕ) → TalkStandsFor self.old ts n k →
             (more : List Take) × (rs : List Reply)
             × TalkStandsFor self.new (ts ++ more) (n + length rs) (suc k)

@@ -59,6 +59,7 @@ run_name (run.Read fault) = read_name fault
 run_name (run.Feed (feed.Network fault)) = network_name fault
 run_name (run.Feed (feed.Sink fault)) = put_name fault
 run_name (run.Feed feed.Failed) = codes "Failed"
+run_name run.SharedPid = codes "SharedPid"
 
 abbrev pub script_name : ScriptFault → List ℕ
 script_name script.BadScript = codes "BadScript"

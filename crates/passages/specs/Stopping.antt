@@ -27,6 +27,7 @@ side_of (program.Run (run.Read fault)) = side.Reading
 side_of (program.Run (run.Feed (feed.Network fault))) = side.Reading
 side_of (program.Run (run.Feed (feed.Sink fault))) = side.Writing
 side_of (program.Run (run.Feed feed.Failed)) = side.Reading
+side_of (program.Run run.SharedPid) = side.Reading
 side_of (program.Script fault) = side.Reading
 side_of (program.List fault) = side.Reading
 side_of program.Accept = side.Listening

@@ -100,6 +100,7 @@ fn run_name(fault: RunFault) -> &'static str
         RunFault::Feed(FeedFault::Network(inner)) => network_name(inner),
         RunFault::Feed(FeedFault::Sink(inner)) => put_name(inner),
         RunFault::Feed(FeedFault::Failed) => "Failed",
+        RunFault::SharedPid => "SharedPid",
     }
 }
 

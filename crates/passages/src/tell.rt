@@ -73,7 +73,8 @@ fn is_of_the_network(fault: RunFault) -> bool {
         RunFault::Read(ReadFault::Truncated)
         | RunFault::Read(ReadFault::SyncLost)
         | RunFault::Read(ReadFault::BadAdaptation)
-        | RunFault::Feed(FeedFault::Network(_)) => true,
+        | RunFault::Feed(FeedFault::Network(_))
+        | RunFault::SharedPid => true,
         _ => false,
     }
 }

@@ -1,14 +1,15 @@
 use Rattle.ad_library.specs.Advertisements.{Advertisement}
 use Rattle.std.proofs.Common.{◌≡◌, Option, ℕ, List, [], ◌++◌, ◌∙◌, Err, refl, sym, ap, subst}
 use Rattle.ts_packet.specs.declared.reader.ReadFault.TheVariants.{Turns}
+use Rattle.program_follower.specs.FirstFault.{network_test}
 use Rattle.program_follower.specs.Purposes.{writing_cues}
 use Rattle.chain_engine.specs.Chains.{ChainStandsFor}
 use Rattle.ad_library.specs.Library.{held}
-use Rattle.chain_engine.specs.Stops.{run_fault_of}
+use Rattle.chain_engine.specs.Stops.{as_run_fault, run_fault_of}
 use Rattle.chain_engine.specs.Splices.{NetworkBlamedToEnd}
-use Rattle.chain_engine.specs.Nested.{WasFed}
-use Rattle.chain_engine.specs.ChainRuns.{RunsAll, ChainStops, ChainLeaves}
-use Rattle.chain_engine.specs.Runs.{Exchanged, OutputBlamed}
+use Rattle.chain_engine.specs.ChainRuns.{chain_sends, RunsAll, ChainStops, ChainLeaves}
+use Rattle.chain_engine.specs.Stages.{ServesFor}
+use Rattle.chain_engine.specs.Runs.{reply_in, Exchanged, OutputBlamed}
 use Rattle.chain_engine.specs.declared.faults.RunFault.TheVariants.{Read}
 use Rattle.chain_engine.proofs.RunLemmas.{begun}
 use Rattle.chain_engine.proofs.StageLemmas.{stops_by, chain_leaves, runs_all, none_by, network_blamed_to_end, output_blamed, turns_of}
@@ -20,13 +21,14 @@ returns-in-Ok-clause-ok g c = λ d start before h is_held.
     let stage = c.new-stage.result in
     let filed = held stage.library.now in
     let library = ap held c.new-stage.ensures.library in
-    let here = subst (λ w. ChainStandsFor w w.config) (sym c.new-stage.ensures.chain) (subst (ChainStandsFor c.args.chain) (sym h.config) h) in
-    let config = ap (λ w. w.config) c.new-stage.ensures.chain ∙ h.config in
+    let here = subst (λ w. ChainStandsFor w w.service.config) (sym c.new-stage.ensures.chain) (subst (ChainStandsFor c.args.chain) (sym h.config) h) in
+    let config = ap (λ w. w.service.config) c.new-stage.ensures.chain ∙ h.config in
     let is_out = (λ (qs : List (List ℕ)). g.K.PacketSink.holds c.run_stage.new.out start (before ++ qs)) in
     let exchanged = (λ (x : g.row.U.Denot). Exchanged g.U.Automation.exchanges g.U.Automation.failures x c.run_stage.new.stage.automation.now) in
-    let begins = begun g.U.Automation.exchanges g.met.U.Automation.exchanges_refl g.met.U.Automation.exchanges_trans g.U.Automation.failures stage.chain.now.config stage.chain.now (WasFed stage.chain.now.switch stage.chain.now.config filed (λ l. l ≡ [])) stage.automation.now here (record { stands = here.switch filed; sent = refl }) in
-    let through = c.in-Ok.ensures.ok start before (λ kept. (refl, record { begins = here; config = refl; run = begins; network = record { bytes = tt; sound = refl } })) is_held in
-    let all = runs_all c.run_stage.new.stage is_out stage.chain.now.config filed (exchanged stage.automation.now) _ (λ ps sent report e. e) _ c.in-Ok.report through in
+    let begins = begun g.U.Automation.exchanges g.met.U.Automation.exchanges_refl g.met.U.Automation.exchanges_trans g.U.Automation.failures (ServesFor stage.chain.now.service.config filed) (reply_in stage.chain.now.service.config) stage.chain.now.service stage.chain.now.talk
+    (λ steps. chain_sends stage.chain.now.service.config filed steps ≡ []) stage.automation.now here.talk (here.service filed) refl in
+    let through = c.in-Ok.ensures.ok start before (λ kept. (refl, record { begins = here; run = begins })) is_held in
+    let all = runs_all c.run_stage.new.stage is_out stage.chain.now.service.config filed (exchanged stage.automation.now) _ (λ ps sent report e. e) _ c.in-Ok.report through in
     let done = subst (λ x. RunsAll d (held c.args.library.now) (g.P.PacketSource.left c.args.network.now) is_out (exchanged x) c.in-Ok.report) c.new-stage.ensures.automation
     (subst (λ (v : ℕ → Option Advertisement). RunsAll d v (g.P.PacketSource.left c.args.network.now) is_out (exchanged stage.automation.now) c.in-Ok.report) library
     (subst (λ w. RunsAll w filed (g.P.PacketSource.left c.args.network.now) is_out (exchanged stage.automation.now) c.in-Ok.report) config all)) in
@@ -38,17 +40,18 @@ returns-clause-err g c = λ d start before h is_held.
     let stage = c.new-stage.result in
     let filed = held stage.library.now in
     let library = ap held c.new-stage.ensures.library in
-    let here = subst (λ w. ChainStandsFor w w.config) (sym c.new-stage.ensures.chain) (subst (ChainStandsFor c.args.chain) (sym h.config) h) in
-    let config = ap (λ w. w.config) c.new-stage.ensures.chain ∙ h.config in
+    let here = subst (λ w. ChainStandsFor w w.service.config) (sym c.new-stage.ensures.chain) (subst (ChainStandsFor c.args.chain) (sym h.config) h) in
+    let config = ap (λ w. w.service.config) c.new-stage.ensures.chain ∙ h.config in
     let input = g.P.PacketSource.left c.args.network.now in
     let is_out = (λ (qs : List (List ℕ)). g.K.PacketSink.holds c.run_stage.new.out start (before ++ qs)) in
     let fails = (λ (qs : List (List ℕ)). g.K.PacketSink.fails c.run_stage.new.out start (before ++ qs)) in
     let unsent = (λ (qs : List (List ℕ)). g.K.GatheringSink.fails_to_send c.run_stage.new.out start (before ++ qs)) in
     let exchanged = (λ (x : g.row.U.Denot). Exchanged g.U.Automation.exchanges g.U.Automation.failures x c.run_stage.new.stage.automation.now) in
-    let begins = begun g.U.Automation.exchanges g.met.U.Automation.exchanges_refl g.met.U.Automation.exchanges_trans g.U.Automation.failures stage.chain.now.config stage.chain.now (WasFed stage.chain.now.switch stage.chain.now.config filed (λ l. l ≡ [])) stage.automation.now here (record { stands = here.switch filed; sent = refl }) in
-    let stops = c.in-Err.ensures.err start before (λ kept. (refl, record { begins = here; config = refl; run = begins; network = record { bytes = tt; sound = refl } })) is_held in
-    let all = stops_by (writing_cues stage.chain.now.config) c.in-Err.stop input _ (ChainLeaves stage.chain.now.config filed (run_fault_of c.in-Err.stop) is_out fails unsent (exchanged stage.automation.now))
-    (chain_leaves _ _ _ _ stage c.run_stage.new.stage is_out fails unsent stage.chain.now c.run_stage.new.stage.chain.now filed (exchanged stage.automation.now) (λ ps qs kept s. s.1) (λ ps qs p r. r) (λ ps next put q b. b) (λ bs e. none_by (writing_cues stage.chain.now.config) bs e) c.in-Err.stop) stops in
+    let begins = begun g.U.Automation.exchanges g.met.U.Automation.exchanges_refl g.met.U.Automation.exchanges_trans g.U.Automation.failures (ServesFor stage.chain.now.service.config filed) (reply_in stage.chain.now.service.config) stage.chain.now.service stage.chain.now.talk
+    (λ steps. chain_sends stage.chain.now.service.config filed steps ≡ []) stage.automation.now here.talk (here.service filed) refl in
+    let stops = c.in-Err.ensures.err start before (λ kept. (refl, record { begins = here; run = begins })) is_held in
+    let all = stops_by (writing_cues stage.chain.now.service.config) c.in-Err.stop input _ (ChainLeaves stage.chain.now.service.config filed (run_fault_of c.in-Err.stop) is_out fails unsent (exchanged stage.automation.now))
+    (chain_leaves _ _ _ _ stage c.run_stage.new.stage is_out fails unsent stage.chain.now c.run_stage.new.stage.chain.now filed (exchanged stage.automation.now) (λ ps qs kept s. s.1) (λ ps qs p r. r) (λ ps next put q b. b) (λ bs e. none_by (writing_cues stage.chain.now.service.config) bs e) c.in-Err.stop) stops in
     let done = subst (λ x. ChainStops d (held c.args.library.now) c.of.result input is_out fails unsent (exchanged x)) c.new-stage.ensures.automation
     (subst (λ (v : ℕ → Option Advertisement). ChainStops d v c.of.result input is_out fails unsent (exchanged stage.automation.now)) library
     (subst (λ f. ChainStops d filed f input is_out fails unsent (exchanged stage.automation.now)) (sym c.of.ensures)
@@ -73,7 +76,7 @@ returns-clause-turns g c = λ e.
 
 pub returns-in-Ok-clause-progress : goal.returns-in-Ok-clause-progress
 returns-in-Ok-clause-progress g c = λ d start before h is_held.
-    end_progresses (writing_cues d) _ (g.P.PacketSource.has_ended c.args.network.now) (g.P.PacketSource.has_ended c.run_stage.new.network) _ _ _ _
+    end_progresses (network_test as_run_fault (writing_cues d)) _ (g.P.PacketSource.has_ended c.args.network.now) (g.P.PacketSource.has_ended c.run_stage.new.network) _ _ _ _
     (chain_sound d (held c.args.library.now) _ _ _ _ (returns-in-Ok-clause-ok g c d start before h is_held)) c.in-Ok.ensures.read c.in-Ok.ensures.wrote
 
 pub returns-clause-progress : goal.returns-clause-progress
@@ -82,7 +85,7 @@ returns-clause-progress g c = λ d start before h is_held.
     let fails = (λ (qs : List (List ℕ)). g.K.PacketSink.fails c.run_stage.new.out start (before ++ qs)) in
     let unsent = (λ (qs : List (List ℕ)). g.K.GatheringSink.fails_to_send c.run_stage.new.out start (before ++ qs)) in
     let exchanged = (λ (x : g.row.U.Denot). Exchanged g.U.Automation.exchanges g.U.Automation.failures c.args.automation.now x) in
-    stop_progresses (writing_cues d) _ _ (g.P.PacketSource.has_ended c.args.network.now) (g.P.PacketSource.has_ended c.run_stage.new.network) _ _ _ _ _ fails unsent
+    stop_progresses (network_test as_run_fault (writing_cues d)) _ _ (g.P.PacketSource.has_ended c.args.network.now) (g.P.PacketSource.has_ended c.run_stage.new.network) _ _ _ _ _ fails unsent
     (λ f. ChainLeaves d (held c.args.library.now) f is_out fails unsent (exchanged c.automation-1.given.0)) (λ f bs passed rest. chain_fails d is_out fails unsent f bs passed (held c.args.library.now) (exchanged c.automation-1.given.0) rest)
     c.of.result (returns-clause-err g c d start before h is_held) (returns-clause-reading g c) (returns-clause-writing g c)
     (λ e. returns-clause-turns g c (ap Err e))

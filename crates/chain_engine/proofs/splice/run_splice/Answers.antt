@@ -1,8 +1,9 @@
 use Rattle.std.proofs.Common.{◌≡◌, ℕ, List, ◌++◌, ◌∙◌, Err, refl, sym, ap, subst}
 use Rattle.ts_packet.specs.declared.reader.ReadFault.TheVariants.{Turns}
+use Rattle.program_follower.specs.FirstFault.{network_test}
 use Rattle.program_follower.specs.Purposes.{reading_cues}
 use Rattle.ad_library.specs.Library.{held}
-use Rattle.chain_engine.specs.Stops.{run_fault_of}
+use Rattle.chain_engine.specs.Stops.{as_run_fault, run_fault_of}
 use Rattle.chain_engine.specs.Splices.{SpliceStops, SpliceLeaves, NetworkBlamedToEnd}
 use Rattle.chain_engine.specs.Runs.{OutputBlamed}
 use Rattle.chain_engine.specs.declared.faults.RunFault.TheVariants.{Read}
@@ -48,7 +49,7 @@ returns-in-Err-clause-turns g c = λ e.
 
 pub returns-in-Ok-clause-progress : goal.returns-in-Ok-clause-progress
 returns-in-Ok-clause-progress g c = λ start before h.
-    end_progresses (reading_cues c.args.config) _ (g.P.PacketSource.has_ended c.args.network.now) (g.P.PacketSource.has_ended c.run_stage.new.network) _ _ _ _
+    end_progresses (network_test as_run_fault (reading_cues c.args.config)) _ (g.P.PacketSource.has_ended c.args.network.now) (g.P.PacketSource.has_ended c.run_stage.new.network) _ _ _ _
     (splice_sound c.args.config (held c.args.library.now) _ _ _ (returns-in-Ok-clause-ok g c start before h)) c.in-Ok.ensures.read c.in-Ok.ensures.wrote
 
 pub returns-in-Err-clause-progress : goal.returns-in-Err-clause-progress
@@ -56,7 +57,7 @@ returns-in-Err-clause-progress g c = λ start before h.
     let is_out = (λ (qs : List (List ℕ)). g.K.PacketSink.holds c.run_stage.new.out start (before ++ qs)) in
     let fails = (λ (qs : List (List ℕ)). g.K.PacketSink.fails c.run_stage.new.out start (before ++ qs)) in
     let unsent = (λ (qs : List (List ℕ)). g.K.GatheringSink.fails_to_send c.run_stage.new.out start (before ++ qs)) in
-    stop_progresses (reading_cues c.args.config) _ _ (g.P.PacketSource.has_ended c.args.network.now) (g.P.PacketSource.has_ended c.run_stage.new.network) _ _ _ _ _ fails unsent
+    stop_progresses (network_test as_run_fault (reading_cues c.args.config)) _ _ (g.P.PacketSource.has_ended c.args.network.now) (g.P.PacketSource.has_ended c.run_stage.new.network) _ _ _ _ _ fails unsent
     (λ f. SpliceLeaves c.args.config (held c.args.library.now) f is_out fails unsent) (λ f bs passed rest. splice_fails c.args.config is_out fails unsent f bs passed (held c.args.library.now) rest)
     c.of.result (returns-in-Err-clause-err g c start before h) (returns-in-Err-clause-reading g c) (returns-in-Err-clause-writing g c)
     (λ e. returns-in-Err-clause-turns g c (ap Err e))

@@ -1,7 +1,7 @@
 use Rattle.ad_library.specs.Library.{held}
 use Rattle.psi_tables.specs.declared.network.FeedFault.TheVariants.{Network, Sink}
 use Rattle.chain_engine.proofs.NestedLemmas.{feeding_takes, feeding_refuses, never_failed}
-use Rattle.chain_engine.proofs.running.FeedingPacketSink.put.Goals as goal
+use Rattle.chain_engine.proofs.service.FeedingPacketSink.put.Goals as goal
 
 pub returns-in-Ok-clause-ok : goal.returns-in-Ok-clause-ok
 returns-in-Ok-clause-ok g c = λ start ps h.
@@ -19,12 +19,10 @@ pub returns-in-Err-Network-clause-err : goal.returns-in-Err-Network-clause-err
 returns-in-Err-Network-clause-err g c = λ start ps h.
     let d = c.args.self.now.config.now in
     feeding_refuses g.K.PacketSink.holds d (held c.args.self.now.library.now) start g.K.PacketSink.fails c.args.self.now.switch.now c.args.self.now.out.now c.feed_with_same.new.sink ps c.args.packet.now h (Network c.in-Err-Network.fault)
-    (rw c.in-Err-Network.field-0-is at c.in-Err-Network.ensures.kept)
     (λ qs past o s. rw c.in-Err-Network.field-0-is at (c.in-Err-Network.ensures.err start qs d past o s))
 
 pub returns-in-Err-Sink-clause-err : goal.returns-in-Err-Sink-clause-err
 returns-in-Err-Sink-clause-err g c = λ start ps h.
     let d = c.args.self.now.config.now in
     feeding_refuses g.K.PacketSink.holds d (held c.args.self.now.library.now) start g.K.PacketSink.fails c.args.self.now.switch.now c.args.self.now.out.now c.feed_with_same.new.sink ps c.args.packet.now h (Sink c.in-Err-Sink.fault)
-    (rw c.in-Err-Sink.field-0-is at c.in-Err-Sink.ensures.kept)
     (λ qs past o s. rw c.in-Err-Sink.field-0-is at (c.in-Err-Sink.ensures.err start qs d past o s))
