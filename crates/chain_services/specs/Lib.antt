@@ -1,0 +1,5 @@
+pub mod Serving
+pub mod Parts
+pub mod Runs
+pub mod Refused
+pub mod Stages

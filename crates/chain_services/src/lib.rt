@@ -1,0 +1,21 @@
+//! Several services in one stream: one automation speaks for up to eight programmes, and each has a chain of its own.
+//! It stands on `chain_engine`, for what one programme's chain does and the talk with the automation, and on `packet_runs`, for the loop.
+//! What a caller uses: `run_services` says by `specs/Runs.antt` what is out and answered, by the definitions of `service_laws`, whose laws say
+//! that what is one service's is that of a run of its own.
+#![tactic(auto)]
+
+mod desk;
+mod fault;
+mod finishing;
+mod nowhere;
+mod passing;
+mod refusal;
+mod report;
+mod running;
+mod services;
+mod sharing;
+
+pub use fault::ServiceFault;
+pub use report::{ServiceEvents, ServiceReport};
+pub use running::run_services;
+pub use services::Services;

@@ -1,0 +1,244 @@
+//! One packet through all services.
+
+ghost use Rattle.std.specs.Prelude.{◌≡◌, ◌||◌, ◌++◌, ◌∷◌, ℕ, List, Option, OnOk, IfOk, IfErr, false};
+ghost use Rattle.ts_packet.specs.Transfers.{WentWell};
+ghost use Rattle.outgoing_packets.specs.Faults.{FeedBlamed};
+ghost use Rattle.injector.specs.Steps.{Step, Packet as PacketStep, packets_in};
+ghost use Rattle.ad_library.specs.Library.{held};
+ghost use Rattle.chain_engine.specs.Runs.{OutputBlamed};
+ghost use Rattle.service_laws.specs.Services.{ServiceTerms, configs_of, given_at};
+ghost use Rattle.service_laws.specs.Faults.{share_a_pid};
+ghost use Rattle.chain_services.specs.Serving.{ServesAs, AllServe, FiledAs, services_in};
+ghost use Rattle.chain_services.specs.Parts.{PassedOn, FailedOn, PassedOne, FailedOne, PassedEach, FailedEach, AllKnowSame, parts_of};
+
+use crate::desk::Desk;
+use crate::nowhere::Nowhere;
+use ad_library::AdLibrary;
+use chain_engine::{RunFault, Service};
+use psi_tables::FeedFault;
+use std::alloc::Allocator;
+use ts_packet::{Packet, PacketSink};
+
+/// What a packet is that passed.
+#[derive(Clone, Copy, Debug, PartialEq, Eq)]
+pub(crate) struct Passed {
+    /// It is on a PID of a service.
+    pub(crate) is_own: bool,
+    /// With it more PIDs may be known of a service.
+    pub(crate) learns: bool,
+}
+
+/// What a packet is that passed through one service and then through others.
+#[inline(always)]
+fn joined(one: Passed, others: Passed) -> Passed
+    ensures own { result.is_own ≡ (one.is_own || others.is_own) }
+    ensures learns { result.learns ≡ (one.learns || others.learns) }
+{
+    Passed {
+        is_own: one.is_own || others.is_own,
+        learns: one.learns || others.learns,
+    }
+}
+
+/// Passes a packet on through a service. Whether more PIDs may be known of it then.
+///
+/// # Errors
+///
+/// As for [`Service::pass`].
+#[inline(always)]
+fn pass_and_learn<K: PacketSink>(
+    service: &mut Service,
+    library: &AdLibrary,
+    packet: &Packet,
+    out: &mut K,
+) -> Result<bool, FeedFault>
+    ensures leads { K.leads out.old out.new }
+    ensures ok { (t : ServiceTerms) (steps : List Step) (start : Option (List ℕ)) (ps : List (List ℕ))
+        → held library.now ≡ t.filed → ServesAs service.old t steps → K.holds out.old start ps
+        → IfOk result (λ learns. PassedOn learns service.new t packet.now steps (λ l. K.holds out.new start (ps ++ l))) }
+    ensures err { (t : ServiceTerms) (steps : List Step) (start : Option (List ℕ)) (ps : List (List ℕ))
+        → held library.now ≡ t.filed → ServesAs service.old t steps → K.holds out.old start ps
+        → IfErr result (λ f. FailedOn f t packet.now steps (λ l. K.holds out.new start (ps ++ l))
+        (λ put q x. K.fails out.new start (ps ++ put) q x)) }
+    ensures well { OnOk result (WentWell (K.counts out.old) (K.counts out.new)) }
+    ensures blamed { IfErr result (λ f. OutputBlamed (RunFault.Feed f)
+        (K.counts out.old) (K.counts out.new) (K.is_full out.new)) }
+{
+    let known = service.pid_count();
+    match service.pass(packet, library, out) {
+        Ok(()) => Ok(service.pid_count() != known),
+        Err(fault) => Err(fault),
+    }
+}
+
+/// Passes a packet on through a service: what it sends goes out where the packet is on one of its PIDs, and is the packet else.
+///
+/// # Errors
+///
+/// As for [`Service::pass`].
+#[inline(always)]
+fn pass_one<K: PacketSink>(
+    service: &mut Service,
+    library: &AdLibrary,
+    packet: &Packet,
+    out: &mut K,
+) -> Result<Passed, FeedFault>
+    ensures leads { K.leads out.old out.new }
+    ensures ok { (t : ServiceTerms) (steps : List Step) (start : Option (List ℕ)) (ps : List (List ℕ))
+        → held library.now ≡ t.filed → ServesAs service.old t steps → K.holds out.old start ps
+        → IfOk result (λ passed. PassedOne passed.is_own passed.learns service.new t packet.now steps
+        (λ l. K.holds out.new start (ps ++ l))) }
+    ensures err { (t : ServiceTerms) (steps : List Step) (start : Option (List ℕ)) (ps : List (List ℕ))
+        → held library.now ≡ t.filed → ServesAs service.old t steps → K.holds out.old start ps
+        → IfErr result (λ f. FailedOne f t packet.now steps (λ l. K.holds out.new start (ps ++ l))
+        (λ put q x. K.fails out.new start (ps ++ put) q x)) }
+    ensures well { OnOk result (WentWell (K.counts out.old) (K.counts out.new)) }
+    ensures blamed { IfErr result (λ f. OutputBlamed (RunFault.Feed f)
+        (K.counts out.old) (K.counts out.new) (K.is_full out.new)) }
+{
+    if service.owns(packet) {
+        return match pass_and_learn(service, library, packet, out) {
+            Ok(learns) => Ok(Passed {
+                is_own: true,
+                learns,
+            }),
+            Err(fault) => Err(fault),
+        };
+    }
+    let mut nowhere = Nowhere;
+    match pass_and_learn(service, library, packet, &mut nowhere) {
+        Ok(learns) => Ok(Passed {
+            is_own: false,
+            learns,
+        }),
+        Err(fault) => Err(fault),
+    }
+}
+
+/// Passes a packet on through these services, each with its library.
+///
+/// # Errors
+///
+/// The first fault of one of them, in their order: a front of what they send is out then.
+fn pass_each<K: PacketSink>(
+    services: &mut [Service],
+    libraries: &[AdLibrary],
+    packet: &Packet,
+    out: &mut K,
+) -> Result<Passed, FeedFault>
+    ensures leads { K.leads out.old out.new }
+    ensures ok { (ts : List ServiceTerms) (steps : List Step) (start : Option (List ℕ)) (ps : List (List ℕ))
+        → FiledAs libraries.now ts → AllServe services.old ts steps → K.holds out.old start ps
+        → IfOk result (λ passed. PassedEach passed.is_own passed.learns services.new ts packet.now steps
+        (λ l. K.holds out.new start (ps ++ l))) }
+    ensures err { (ts : List ServiceTerms) (steps : List Step) (start : Option (List ℕ)) (ps : List (List ℕ))
+        → FiledAs libraries.now ts → AllServe services.old ts steps → K.holds out.old start ps
+        → IfErr result (λ f. FailedEach f ts packet.now steps (parts_of ts packet.now steps)
+        (λ l. K.holds out.new start (ps ++ l)) (λ put q x. K.fails out.new start (ps ++ put) q x)) }
+    ensures well { OnOk result (WentWell (K.counts out.old) (K.counts out.new)) }
+    ensures blamed { IfErr result (λ f. OutputBlamed (RunFault.Feed f)
+        (K.counts out.old) (K.counts out.new) (K.is_full out.new)) }
+{
+    let none = Passed {
+        is_own: false,
+        learns: false,
+    };
+    let Some((service, others)) = services.split_first_mut() else {
+        return Ok(none);
+    };
+    let Some((library, libraries)) = libraries.split_first() else {
+        return Ok(none);
+    };
+    let one = match pass_one(service, library, packet, out) {
+        Ok(one) => one,
+        Err(fault) => return Err(fault),
+    };
+    match pass_each(others, libraries, packet, out) {
+        Ok(others) => Ok(joined(one, others)),
+        Err(fault) => Err(fault),
+    }
+}
+
+impl<M: Allocator> Desk<M> {
+    /// Passes a packet on through all services, the first one and the others.
+    ///
+    /// # Errors
+    ///
+    /// As for [`pass_each`].
+    #[inline(always)]
+    fn pass_through<K: PacketSink>(
+        &mut self,
+        packet: &Packet,
+        libraries: &[AdLibrary],
+        out: &mut K,
+    ) -> Result<Passed, FeedFault>
+        ensures leads { K.leads out.old out.new }
+        ensures ok { (ts : List ServiceTerms) (steps : List Step) (start : Option (List ℕ)) (ps : List (List ℕ))
+            → FiledAs libraries.now ts → AllServe (services_in self.old) ts steps → K.holds out.old start ps
+            → IfOk result (λ passed. PassedEach passed.is_own passed.learns (services_in self.new) ts packet.now steps
+            (λ l. K.holds out.new start (ps ++ l))) }
+        ensures err { (ts : List ServiceTerms) (steps : List Step) (start : Option (List ℕ)) (ps : List (List ℕ))
+            → FiledAs libraries.now ts → AllServe (services_in self.old) ts steps → K.holds out.old start ps
+            → IfErr result (λ f. FailedEach f ts packet.now steps (parts_of ts packet.now steps)
+            (λ l. K.holds out.new start (ps ++ l)) (λ put q x. K.fails out.new start (ps ++ put) q x)) }
+        ensures well { OnOk result (WentWell (K.counts out.old) (K.counts out.new)) }
+        ensures blamed { IfErr result (λ f. OutputBlamed (RunFault.Feed f)
+            (K.counts out.old) (K.counts out.new) (K.is_full out.new)) }
+        ensures counts { self.new.counts ≡ self.old.counts }
+    {
+        let Some((library, libraries)) = libraries.split_first() else {
+            return Err(FeedFault::Failed);
+        };
+        let one = match pass_one(&mut self.first, library, packet, out) {
+            Ok(one) => one,
+            Err(fault) => return Err(fault),
+        };
+        match pass_each(self.others.as_mut_slice(), libraries, packet, out) {
+            Ok(others) => Ok(joined(one, others)),
+            Err(fault) => Err(fault),
+        }
+    }
+
+    /// Passes a packet on: what the service sends on whose PIDs it is, or the packet alone. Whether more PIDs may be known of a service.
+    ///
+    /// # Errors
+    ///
+    /// `Network` with what is wrong with the packet for the first service for which something is. `Sink` where the sink failed. A front of
+    /// what the packet sends is out.
+    #[inline(always)]
+    pub(crate) fn pass<K: PacketSink>(
+        &mut self,
+        packet: &Packet,
+        libraries: &[AdLibrary],
+        out: &mut K,
+    ) -> Result<bool, FeedFault>
+        ensures leads { K.leads out.old out.new }
+        ensures ok { (ts : List ServiceTerms) (steps : List Step) (start : Option (List ℕ)) (ps : List (List ℕ))
+            → FiledAs libraries.now ts → share_a_pid (configs_of ts) (packets_in steps) ≡ false
+            → AllServe (services_in self.old) ts steps → K.holds out.old start ps
+            → IfOk result (λ learns. AllServe (services_in self.new) ts (PacketStep packet.now ∷ steps)
+            × K.holds out.new start (ps ++ given_at ts packet.now steps)
+            × (learns ≡ false → AllKnowSame ts packet.now (packets_in steps))) }
+        ensures err { (ts : List ServiceTerms) (steps : List Step) (start : Option (List ℕ)) (ps : List (List ℕ))
+            → FiledAs libraries.now ts → share_a_pid (configs_of ts) (packets_in steps) ≡ false
+            → AllServe (services_in self.old) ts steps → K.holds out.old start ps
+            → IfErr result (λ f. FailedEach f ts packet.now steps (given_at ts packet.now steps)
+            (λ l. K.holds out.new start (ps ++ l)) (λ put q x. K.fails out.new start (ps ++ put) q x)) }
+        ensures well { OnOk result (WentWell (K.counts out.old) (K.counts out.new)) }
+        ensures blamed { IfErr result (λ f. OutputBlamed (RunFault.Feed f)
+            (K.counts out.old) (K.counts out.new) (K.is_full out.new)) }
+        ensures counts { self.new.counts ≡ self.old.counts }
+    {
+        let passed = match self.pass_through(packet, libraries, out) {
+            Ok(passed) => passed,
+            Err(fault) => return Err(fault),
+        };
+        if !passed.is_own {
+            match out.put(packet) {
+                Ok(()) => {}
+                Err(fault) => return Err(FeedFault::Sink(fault)),
+            }
+        }
+        Ok(passed.learns)
+    }
+}
