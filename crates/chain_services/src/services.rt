@@ -21,7 +21,7 @@ use ts_packet::Pid;
 const MOST: usize = 8;
 
 /// What turns a network of several programmes and an automation's requests for each of them into the spliced stream. It takes all its memory
-/// when it is made: two times 65,535 bytes for the automation's messages, and some 150,000 bytes for each service.
+/// when it is made: two times 65,535 bytes for the automation's messages, and some 90,000 bytes for each service.
 #[derive(Drop)]
 pub struct Services<M: Allocator = Global> {
     pub(crate) talk: Talk<M>,
