@@ -105,3 +105,31 @@ fn writes_replies(rt: HostRuntime) {
         expect_eq!(rt; write_reply(reply).as_slice(), *want);
     }
 }
+
+#[test]
+fn writes_requests(rt: HostRuntime) {
+    let head = Head {
+        as_index: 0,
+        number: 5,
+        index: 1,
+    };
+    let start = SpliceRequest {
+        splice_insert_type: 1,
+        splice_event_id: 1,
+        unique_program_id: 7,
+        pre_roll_time: 4000,
+        break_duration: 300,
+        avail_num: 0,
+        avails_expected: 0,
+        auto_return: true,
+    };
+    expect_eq!(rt; write_request(head, start).as_slice(), REQUEST.as_slice());
+    let init = [
+        0x00, 0x01, 0x00, 0x0D, 0xFF, 0xFF, 0xFF, 0xFF, 0x00, 0x00, 0x05, 0x00, 0x01,
+    ];
+    expect_eq!(rt; write_init_request(head).as_slice(), init.as_slice());
+    let alive = [
+        0x00, 0x03, 0x00, 0x0D, 0xFF, 0xFF, 0xFF, 0xFF, 0x00, 0x00, 0x05, 0x00, 0x01,
+    ];
+    expect_eq!(rt; write_alive_request(head).as_slice(), alive.as_slice());
+}

@@ -29,10 +29,10 @@ single_told bytes head m s =
     let head-is : head_at bytes 9 ≡ head = f.head ∙ sym s.same_head in
     single_read bytes op ∙ rw (f.op, head-is, body) refl
 
-init_read : (op : ℕ) (head : Head) (body : List ℕ) → op ≡ 1 → single_reading op head body ≡ init head
+pub init_read : (op : ℕ) (head : Head) (body : List ℕ) → op ≡ 1 → single_reading op head body ≡ init head
 init_read op head body e = rw e refl
 
-alive_read : (op : ℕ) (head : Head) (body : List ℕ) → op ≡ 3 → length body ≤ 8 → single_reading op head body ≡ alive head body
+pub alive_read : (op : ℕ) (head : Head) (body : List ℕ) → op ≡ 3 → length body ≤ 8 → single_reading op head body ≡ alive head body
 alive_read op head body e le = rw e (grind (arith, le))
 
 long_read : (op : ℕ) (head : Head) (body : List ℕ) → op ≡ 3 → 8 < length body → single_reading op head body ≡ bad false head
@@ -69,7 +69,7 @@ contents_bytes bytes m e h = subst (λ (xs : List ℕ). AreBytes xs) (ap (λ (xs
 multiple_same : (bytes : List ℕ) (read : Multiple) (os : List Operation) → head_at bytes 5 ≡ read.head → slice_index bytes 4 ≡ read.version → slice_index bytes 9 ≡ read.cue_version → slice_index bytes 10 ≡ read.time_kind → os ≡ read.operations → multiple_with bytes (Some os) ≡ multiple read
 multiple_same bytes read os a b c d e = rw (a, b, c, d, e) refl
 
-multiple_read : (bytes : List ℕ) (read : Multiple) (m : MultipleOperation) → Several bytes read.head m → HoldsFields read m → message_of bytes ≡ multiple read
+pub multiple_read : (bytes : List ℕ) (read : Multiple) (m : MultipleOperation) → Several bytes read.head m → HoldsFields read m → message_of bytes ≡ multiple read
 multiple_read bytes read m s h =
     let t = several_told bytes read.head m s in
     let version = t.0.protocol_version ∙ sym h.version in

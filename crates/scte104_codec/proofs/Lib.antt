@@ -8,3 +8,4 @@ pub mod SeveralLemmas
 pub mod OperationsBack
 pub mod GrammarLemmas
 pub mod WidthLemmas
+pub mod RequestingLemmas

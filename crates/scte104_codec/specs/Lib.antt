@@ -1,3 +1,4 @@
+pub mod OperationIds
 pub mod Framing
 pub mod Head
 pub mod Operations
@@ -13,3 +14,4 @@ pub mod Asked
 pub mod RequestsLeft
 pub mod Widths
 pub mod Laws
+pub mod Requesting

@@ -1,5 +1,10 @@
 //! The values of `opID` that this profile names.
 
+ghost use Rattle.std.specs.Prelude.{◌≡◌};
+ghost use Rattle.scte104_codec.specs.OperationIds.{general_response_id, init_request_id, init_response_id, alive_request_id, alive_response_id, inject_response_id};
+ghost use Rattle.scte104_codec.specs.OperationIds.{splice_request_id, splice_null_request_id, insert_descriptor_id, insert_avail_descriptor_id, insert_segmentation_descriptor_id, insert_tier_id};
+ghost use Rattle.scte104_codec.specs.OperationIds.{multiple_operation_mark};
+
 /// `general_response`, a single operation: the answer to a request that has no answer of its own.
 pub const GENERAL_RESPONSE: u16 = 0x0000;
 
@@ -38,3 +43,20 @@ pub const INSERT_TIER: u16 = 0x010F;
 
 /// The first two bytes of a `multiple_operation_message`, in the place of an `opID`.
 pub const MULTIPLE_OPERATION: u16 = 0xFFFF;
+
+/// The numbers above are the standard's.
+pub fn numbers_are_the_standards()
+    ensures general_response { GENERAL_RESPONSE ≡ general_response_id }
+    ensures init_request { INIT_REQUEST ≡ init_request_id }
+    ensures init_response { INIT_RESPONSE ≡ init_response_id }
+    ensures alive_request { ALIVE_REQUEST ≡ alive_request_id }
+    ensures alive_response { ALIVE_RESPONSE ≡ alive_response_id }
+    ensures inject_response { INJECT_RESPONSE ≡ inject_response_id }
+    ensures splice_request { SPLICE_REQUEST ≡ splice_request_id }
+    ensures splice_null_request { SPLICE_NULL_REQUEST ≡ splice_null_request_id }
+    ensures insert_descriptor { INSERT_DESCRIPTOR ≡ insert_descriptor_id }
+    ensures insert_avail_descriptor { INSERT_AVAIL_DESCRIPTOR ≡ insert_avail_descriptor_id }
+    ensures insert_segmentation_descriptor { INSERT_SEGMENTATION_DESCRIPTOR ≡ insert_segmentation_descriptor_id }
+    ensures insert_tier { INSERT_TIER ≡ insert_tier_id }
+    ensures multiple_operation { MULTIPLE_OPERATION ≡ multiple_operation_mark }
+{}
