@@ -1,8 +1,7 @@
 //! Cutting an interval of one PID out of a network, packet by packet.
 
-ghost use Rattle.std.specs.Prelude.{◌≡◌, ℕ, ◌⊎◌, List, [], ◌++◌, Option, OnOk, IfErr, false};
-ghost use Rattle.ts_packet.specs.Sources.{SourceCounts, Stalled, Exhausted};
-ghost use Rattle.ts_packet.specs.Transfers.{WentWell};
+ghost use Rattle.std.specs.Prelude.{◌≡◌, OnOk, IfErr, false};
+ghost use Rattle.packet_runs.specs.Devices.{OfSink, DevicesDid};
 ghost use Rattle.unit_cut.specs.Runs.{CutsAll, Stops, NetworkBlamed, OutputBlamed};
 
 use crate::cutter::Cutter;
@@ -66,22 +65,12 @@ pub fn cut<P: PausingPackets, K: GatheringSink>(
     length: u32,
 ) -> Result<(), CutFault>
     requires { P.is_broken network.old ≡ false }
-    ensures ok { (start : Option (List ℕ)) (before : List (List ℕ)) → K.holds out.old start before
-        → OnOk result (CutsAll pid from length (P.left network.old) (λ ps. K.holds out.new start (before ++ ps))) }
-    ensures err { (start : Option (List ℕ)) (before : List (List ℕ)) → K.holds out.old start before
-        → IfErr result (λ f. Stops f pid from length (P.left network.old)
-        (λ ps. K.holds out.new start (before ++ ps)) (λ ps. K.fails out.new start (before ++ ps))
-        (λ ps. K.fails_to_send out.new start (before ++ ps))) }
-    ensures read { OnOk result (SourceCounts false (P.has_ended network.old) (P.has_ended network.new)
-        (P.counts network.old) (P.counts network.new)) }
-    ensures wrote { OnOk result (WentWell (K.counts out.old) (K.counts out.new)) }
-    ensures reading { IfErr result (λ f. NetworkBlamed f (P.has_ended network.old) (P.has_ended network.new)
-        (P.counts network.old) (P.counts network.new)) }
-    ensures writing { IfErr result (λ f. OutputBlamed f (K.counts out.old) (K.counts out.new) (K.is_full out.new)) }
-    ensures turns { result ≡ Err (CutFault.Read ReadFault.Turns)
-        → Stalled P.leads P.counts P.falls_short network.old network.new ⊎ Exhausted P.left P.given network.old }
-    ensures reads { P.leads network.old network.new }
-    ensures leads { K.leads out.old out.new }
+    ensures ok { OfSink K.PacketSink K.fails_to_send out.old out.new
+        (λ is_out fails unsent. OnOk result (CutsAll pid from length (P.left network.old) is_out)) }
+    ensures err { OfSink K.PacketSink K.fails_to_send out.old out.new
+        (λ is_out fails unsent. IfErr result (λ f. Stops f pid from length (P.left network.old) is_out fails unsent)) }
+    ensures devices { DevicesDid P.PacketSource K.PacketSink (CutFault.Read ReadFault.Turns) NetworkBlamed OutputBlamed
+        network.old network.new out.old out.new result }
 {
     let mut cutting = Cutting::new(Cutter::new(pid, from, length));
     match run_stage(&mut cutting, network, out) {
