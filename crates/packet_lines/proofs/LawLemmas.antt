@@ -1,4 +1,5 @@
 -- A text is the lines of the packets that it tells, up to a line that is no packet's.
+use Rattle.std.specs.Prelude.{option_map}
 use Rattle.std.proofs.Common.{◌≡◌, ℕ, zero, suc, ◌<◌, ◌≤◌, ◌||◌, ◌&&◌, ◌⊎◌, inl, inr, Bool, true, false, List, [], ◌∷◌, ◌++◌, Option, Some, None, All, arith, length, take, drop, refl, sym, ap, ◌∙◌, append_assoc, nat_eq, slice_index, if◌then◌else◌, length-take, length-drop, take-append-drop}
 use Rattle.std.proofs.lemmas.List.{append-nil, drop_all}
 use Rattle.std.proofs.lemmas.List.Elements.{All-nil, All-cons}
@@ -15,7 +16,7 @@ use Rattle.ts_packet.proofs.PacketsLemmas.{packets_of-whole, last_part-whole}
 use Rattle.unit_stream.specs.Faults.{unit_fault}
 use Rattle.unit_stream.specs.declared.fault.UnitFault.{UnitFault}
 use Rattle.unit_stream.specs.declared.fault.UnitFault.TheVariants as unit_faults
-use Rattle.unit_cut.specs.FirstFault.{as_unit_fault, fault_at, first_fault, before_fault}
+use Rattle.unit_cut.specs.FirstFault.{as_cut_fault, fault_at, first_fault, before_fault}
 use Rattle.unit_cut.specs.declared.run.CutFault.{CutFault}
 use Rattle.unit_cut.specs.declared.run.CutFault.TheVariants.{Read}
 use Rattle.packet_lines.specs.Lines.{line_of, lines_of}
@@ -123,7 +124,7 @@ texts_are_lines text = let t = told_within (length text) text (omega arith) in (
 abbrev IsOther : Option CutFault → Type 0
 IsOther o = o ≡ Some (Read Truncated) → ⊥
 
-unit_other : (o : Option UnitFault) → IsOther (as_unit_fault o)
+unit_other : (o : Option UnitFault) → IsOther (option_map as_cut_fault o)
 unit_other None e = absurd (cc)
 unit_other (Some unit_faults.Scrambled) e = absurd (cc)
 unit_other (Some unit_faults.HeaderSplit) e = absurd (cc)
@@ -141,7 +142,7 @@ then_other (Some f) b h k e = h e
 first_other : (pid : ℕ) (ss : List Seen) → IsOther (first_of (fault_at pid) ss)
 first_other pid [] e = absurd (cc)
 first_other pid (s ∷ ss) e =
-    then_other (fault_at pid s) (first_of (fault_at pid) ss) (packet_other (packet_fault s.packet) (as_unit_fault (unit_fault (pid ∷ []) s.packet s.past)) (unit_other (unit_fault (pid ∷ []) s.packet s.past)))
+    then_other (fault_at pid s) (first_of (fault_at pid) ss) (packet_other (packet_fault s.packet) (option_map as_cut_fault (unit_fault (pid ∷ []) s.packet s.past)) (unit_other (unit_fault (pid ∷ []) s.packet s.past)))
     (first_other pid ss) e
 
 -- so it is the end of the bytes, and no packet before has a fault

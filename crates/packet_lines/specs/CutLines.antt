@@ -9,7 +9,7 @@ use Rattle.ts_packet.specs.declared.sink.PutFault.{PutFault}
 use Rattle.ts_packet.specs.declared.sink.PutFault.TheVariants.{Failed}
 use Rattle.unit_cut.specs.Runs.{CutsAll, Stops}
 use Rattle.unit_cut.specs.declared.run.CutFault.{CutFault}
-use Rattle.unit_cut.specs.declared.run.CutFault.TheVariants.{Read, Scrambled, HeaderSplit, TimeJump, Sink}
+use Rattle.unit_cut.specs.declared.run.CutFault.TheVariants.{Read}
 use Rattle.packet_lines.specs.Texts.{bytes_told, WrittenLines, FailsToWriteLine}
 use Rattle.packet_lines.specs.declared.lines.LinesFault.{LinesFault}
 use Rattle.packet_lines.specs.declared.lines.LinesFault.TheVariants.{BadLine, Cut}
@@ -56,10 +56,4 @@ abbrev pub LineBlamed : {X : Type 0} → CutFault → (X → Option (List ℕ)) 
 LineBlamed (Read read_faults.Turns) remaining counts first now = LineStalls remaining counts first now ⊎ LinesRunOut (remaining first)
 LineBlamed (Read read_faults.Io) remaining counts first now = LastFailed (counts first) (counts now)
 LineBlamed (Read read_faults.Failed) remaining counts first now = ⊥
-LineBlamed (Read read_faults.Truncated) remaining counts first now = NoneFailed (counts first) (counts now)
-LineBlamed (Read read_faults.SyncLost) remaining counts first now = NoneFailed (counts first) (counts now)
-LineBlamed (Read read_faults.BadAdaptation) remaining counts first now = NoneFailed (counts first) (counts now)
-LineBlamed Scrambled remaining counts first now = NoneFailed (counts first) (counts now)
-LineBlamed HeaderSplit remaining counts first now = NoneFailed (counts first) (counts now)
-LineBlamed TimeJump remaining counts first now = NoneFailed (counts first) (counts now)
-LineBlamed (Sink fault) remaining counts first now = NoneFailed (counts first) (counts now)
+LineBlamed fault remaining counts first now = NoneFailed (counts first) (counts now)

@@ -8,10 +8,20 @@ use Rattle.ts_packet.specs.declared.source.PacketSource as source
 use Rattle.ts_packet.specs.declared.sink.PacketSink as sink
 use Rattle.ts_packet.specs.declared.sink.PutFault.{PutFault}
 
+-- what is said of packets, of a put of a packet behind them that failed so, and of a sending of them that failed so
+abbrev pub OfPackets : Type 1
+OfPackets = List (List ℕ) → Type 0
+
+abbrev pub OfPut : Type 1
+OfPut = List (List ℕ) → List ℕ → PutFault → Type 0
+
+abbrev pub OfSending : Type 1
+OfSending = List (List ℕ) → PutFault → Type 0
+
 -- So it is said of each list of packets that the sink stood for: of what stands behind it now, of packets behind which the put of a further one
 -- failed so, and of packets behind which sending what was kept back failed so, as `unsent` says.
 abbrev pub OfSink : {K : Type 0} → sink.Ghosts K → (K → Option (List ℕ) → List (List ℕ) → PutFault → Type 0) → K → K
-    → ((List (List ℕ) → Type 0) → (List (List ℕ) → List ℕ → PutFault → Type 0) → (List (List ℕ) → PutFault → Type 0) → Type 0) → Type 0
+    → (OfPackets → OfPut → OfSending → Type 0) → Type 0
 OfSink puts unsent out out' said = (start : Option (List ℕ)) (before : List (List ℕ)) → puts.holds out start before
     → said (λ ps. puts.holds out' start (before ++ ps)) (λ ps. puts.fails out' start (before ++ ps)) (λ ps. unsent out' start (before ++ ps))
 

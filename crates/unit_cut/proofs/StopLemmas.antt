@@ -18,7 +18,7 @@ use Rattle.unit_stream.specs.Faults.{unit_fault}
 use Rattle.unit_stream.specs.declared.fault.UnitFault.{UnitFault}
 use Rattle.unit_stream.specs.declared.fault.UnitFault.TheVariants as unit_faults
 use Rattle.unit_cut.specs.Cutting.{cut_between}
-use Rattle.unit_cut.specs.FirstFault.{first_fault, before_fault, as_cut_fault, fault_of_stop, as_unit_fault, cut_test, cut_cause}
+use Rattle.unit_cut.specs.FirstFault.{first_fault, before_fault, as_cut_fault, fault_of_stop, cut_test, cut_cause}
 use Rattle.unit_cut.specs.Runs.{CutsAll, FrontIsOut, Leaves, Says, Stops, NetworkBlamed, OutputBlamed, HasCut, AddsOne, cut_of}
 use Rattle.unit_cut.specs.declared.cutting.Cutting.{Cutting}
 use Rattle.unit_cut.specs.declared.run.CutFault.{CutFault}
@@ -43,7 +43,7 @@ breaks first ps next stay q now = AddsOne first.cutter ps next stay q
 abbrev pub ends : Cutting → List (List ℕ) → List (List ℕ) → ⊤ → Cutting → Type 0
 ends first ps stay report now = stay ≡ cut_of first.cutter ps
 
-test_as : (o : Option UnitFault) → as_unit_fault o ≡ option_map fault_of_stop (option_map stops.Packet o)
+test_as : (o : Option UnitFault) → option_map as_cut_fault o ≡ option_map fault_of_stop (option_map stops.Packet o)
 test_as None = refl
 test_as (Some why) = refl
 

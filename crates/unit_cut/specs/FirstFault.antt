@@ -1,5 +1,5 @@
 -- What the first fault of a network is for a cut: what the bytes are not, and what the PID's units may not be.
-use Rattle.std.specs.Prelude.{ℕ, List, [], ◌∷◌, Option, None, Some}
+use Rattle.std.specs.Prelude.{ℕ, List, [], ◌∷◌, Option, option_map}
 use Rattle.ts_packet.specs.Runs.{Seen}
 use Rattle.ts_packet.specs.FirstFault as firsts
 use Rattle.ts_packet.specs.FirstFault.{fault_of, Cause, OfInput, OfDevice, read_cause}
@@ -22,13 +22,9 @@ fault_of_stop (stops.Read fault) = Read fault
 fault_of_stop (stops.Packet why) = as_cut_fault why
 fault_of_stop (stops.Sink fault) = Sink fault
 
-abbrev pub as_unit_fault : Option UnitFault → Option CutFault
-as_unit_fault None = None
-as_unit_fault (Some fault) = Some (as_cut_fault fault)
-
 -- what is wrong with a packet for the PID's units, behind those before it
 abbrev pub cut_test : ℕ → Seen → Option CutFault
-cut_test pid s = as_unit_fault (unit_fault (pid ∷ []) s.packet s.past)
+cut_test pid s = option_map as_cut_fault (unit_fault (pid ∷ []) s.packet s.past)
 
 -- what is wrong with 188 bytes, as a packet and then for the units
 abbrev pub fault_at : ℕ → Seen → Option CutFault
@@ -45,7 +41,5 @@ before_fault pid bs = firsts.before_fault Read (cut_test pid) bs
 -- Where a fault comes from. What a sink refuses says nothing of the network; whether it may answer `Failed`, it says itself.
 abbrev pub cut_cause : CutFault → Cause
 cut_cause (Read fault) = read_cause fault
-cut_cause Scrambled = OfInput
-cut_cause HeaderSplit = OfInput
-cut_cause TimeJump = OfInput
 cut_cause (Sink fault) = OfDevice
+cut_cause fault = OfInput

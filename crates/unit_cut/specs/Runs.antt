@@ -5,34 +5,34 @@ use Rattle.ts_packet.specs.Sources.{ReadSo, ReadOn, RunBlamed}
 use Rattle.ts_packet.specs.Sinks.{Blamed}
 use Rattle.ts_packet.specs.declared.tally.Tally.{Tally}
 use Rattle.ts_packet.specs.Transfers.{WentWell}
-use Rattle.ts_packet.specs.declared.sink.PutFault.{PutFault}
+use Rattle.packet_runs.specs.Devices.{OfPackets, OfPut, OfSending}
 use Rattle.unit_cut.specs.Cutting.{cut, cut_between}
 use Rattle.unit_cut.specs.Standing.{Cut, goes_by, Begins, CutterStandsFor}
 use Rattle.ts_packet.specs.FirstFault.{IsFirstFault, SaysBy}
 use Rattle.unit_cut.specs.FirstFault.{first_fault, before_fault, cut_cause}
 use Rattle.unit_cut.specs.declared.cutter.Cutter.{Cutter}
 use Rattle.unit_cut.specs.declared.run.CutFault.{CutFault}
-use Rattle.unit_cut.specs.declared.run.CutFault.TheVariants.{Read, Scrambled, HeaderSplit, TimeJump, Sink}
+use Rattle.unit_cut.specs.declared.run.CutFault.TheVariants.{Read, Sink}
 
 -- THE THEOREM: the network's bytes have no fault, and the packets of the cut are out. `is_out` says so of packets: of a writer, that
 -- their bytes, or their lines, stand behind what its device held.
-abbrev pub CutsAll : ℕ → ℕ → ℕ → Option (List ℕ) → (List (List ℕ) → Type 0) → Type 0
+abbrev pub CutsAll : ℕ → ℕ → ℕ → Option (List ℕ) → OfPackets → Type 0
 CutsAll pid from length input is_out =
     IfSome input (λ bs. (first_fault pid bs ≡ None) × is_out (cut_between from length pid (packets_of bs)))
 
 -- ---- what a fault says
 
 -- the fault is the first one of the bytes, and the cut of all that stood before it is out
-abbrev pub IsFirst : CutFault → ℕ → ℕ → ℕ → List ℕ → (List (List ℕ) → Type 0) → Type 0
+abbrev pub IsFirst : CutFault → ℕ → ℕ → ℕ → List ℕ → OfPackets → Type 0
 IsFirst fault pid from length bs is_out =
     IsFirstFault (first_fault pid bs) is_out (cut_between from length pid (before_fault pid bs)) fault
 
 -- a fault of the bytes is the first one; a fault of a device says nothing of them
-abbrev pub Says : CutFault → ℕ → ℕ → ℕ → List ℕ → (List (List ℕ) → Type 0) → Type 0
+abbrev pub Says : CutFault → ℕ → ℕ → ℕ → List ℕ → OfPackets → Type 0
 Says fault pid from length bs is_out = SaysBy (cut_cause fault) (IsFirst fault pid from length bs is_out)
 
 -- a front of these packets is out
-abbrev pub FrontIsOut : List (List ℕ) → (List (List ℕ) → Type 0) → Type 0
+abbrev pub FrontIsOut : List (List ℕ) → OfPackets → Type 0
 FrontIsOut whole is_out = (front more : List (List ℕ)) × (whole ≡ front ++ more) × is_out front
 
 -- a front of them is out, and the put of the next one failed
@@ -41,18 +41,13 @@ NextFails whole fails = (front : List (List ℕ)) × (p : List ℕ) × (more : L
 
 -- What is out of these packets where a run stops so: whole packets alone, unless the put of one failed, or a front of them was put and
 -- sending what the sink kept back of it failed: `unsent` says so of packets.
-abbrev pub Leaves : CutFault → List (List ℕ) → (List (List ℕ) → Type 0) → (List (List ℕ) → List ℕ → PutFault → Type 0)
-    → (List (List ℕ) → PutFault → Type 0) → Type 0
-Leaves (Read fault) whole is_out fails unsent = FrontIsOut whole is_out
-Leaves Scrambled whole is_out fails unsent = FrontIsOut whole is_out
-Leaves HeaderSplit whole is_out fails unsent = FrontIsOut whole is_out
-Leaves TimeJump whole is_out fails unsent = FrontIsOut whole is_out
+abbrev pub Leaves : CutFault → List (List ℕ) → OfPackets → OfPut → OfSending → Type 0
 Leaves (Sink fault) whole is_out fails unsent =
     NextFails whole (λ front p. fails front p fault) ⊎ FrontIsOut whole (λ front. unsent front fault)
+Leaves fault whole is_out fails unsent = FrontIsOut whole is_out
 
 -- THE THEOREM FOR FAULTS: what the fault says, and what is out
-abbrev pub Stops : CutFault → ℕ → ℕ → ℕ → Option (List ℕ) → (List (List ℕ) → Type 0) → (List (List ℕ) → List ℕ → PutFault → Type 0)
-    → (List (List ℕ) → PutFault → Type 0) → Type 0
+abbrev pub Stops : CutFault → ℕ → ℕ → ℕ → Option (List ℕ) → OfPackets → OfPut → OfSending → Type 0
 Stops fault pid from length input is_out fails unsent =
     IfSome input (λ bs. Says fault pid from length bs is_out × Leaves fault (cut_between from length pid (packets_of bs)) is_out fails unsent)
 
@@ -61,18 +56,13 @@ Stops fault pid from length input is_out fails unsent =
 -- what the network's device counted where a run stops so, by whether it had told the end before, and has now
 abbrev pub NetworkBlamed : CutFault → Bool → Bool → Tally → Tally → Type 0
 NetworkBlamed (Read fault) before ended old new = RunBlamed fault old new
-NetworkBlamed Scrambled before ended old new = ReadSo ended old new
-NetworkBlamed HeaderSplit before ended old new = ReadSo ended old new
-NetworkBlamed TimeJump before ended old new = ReadSo ended old new
 NetworkBlamed (Sink fault) before ended old new = ReadOn before ended old new
+NetworkBlamed fault before ended old new = ReadSo ended old new
 
 -- what the output's device counted there; `full` is whether the output takes no more
 abbrev pub OutputBlamed : CutFault → Tally → Tally → Bool → Type 0
-OutputBlamed (Read fault) old new full = WentWell old new
-OutputBlamed Scrambled old new full = WentWell old new
-OutputBlamed HeaderSplit old new full = WentWell old new
-OutputBlamed TimeJump old new full = WentWell old new
 OutputBlamed (Sink fault) old new full = Blamed fault old new full
+OutputBlamed fault old new full = WentWell old new
 
 -- ---- on the way
 
