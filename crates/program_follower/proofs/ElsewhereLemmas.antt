@@ -12,12 +12,11 @@ use Rattle.program_follower.specs.declared.map_reader.MapReader.{MapReader}
 use Rattle.program_follower.specs.declared.table_reader.TableReader.{TableReader}
 use Rattle.program_follower.specs.Program.{first_listed, listed, since_pat, tables_on, tables, first_map, known_map, program_in, program_of}
 use Rattle.program_follower.specs.Faults.{on_cue, maps_fault, maps_fault_at, unit_fault_at, network_fault}
-use Rattle.program_follower.specs.Known.{known_seen, IsFaultless}
 use Rattle.program_follower.specs.Standing.{GivesSince, MapsRead, TablesRead, or_zero}
 use Rattle.program_follower.specs.Following.{on_map, IsElsewhere}
 use Rattle.program_follower.proofs.OptionLemmas.{option_or-none}
 use Rattle.program_follower.proofs.StepLemmas.{known_grows, tables_off}
-use Rattle.program_follower.proofs.PatLemmas.{pats_clean_off}
+use Rattle.program_follower.proofs.PatLemmas.{pats_off, pats_clean_off}
 use Rattle.program_follower.proofs.MapsLemmas.{maps_off, maps_clean_off}
 use Rattle.program_follower.proofs.FollowLemmas.{fault_of_units}
 
@@ -58,10 +57,9 @@ module _ (c : Purpose) (p : List ℕ) (past : List (List ℕ)) (e : IsElsewhere 
   program_same = ap (option_map program_in)
       (known_grows c.program p past ∙ ap (λ ts. option_or (known_map c.program past) (first_map ts)) (no_tables_by (listed c.program past) refl e.map) ∙ option_or-none (known_map c.program past))
 
-  maps_by : (r : MapReader) (f : IsFaultless r.faultless (known_seen r.known)) (o : Option Listed) → o ≡ listed c.program past → on_map o p ≡ false
-      → MapsRead r c.program past → MapsRead (record { assembler = r.assembler; known = r.known; faultless = r.faultless; is_on_map = false; judged = f }) c.program (p ∷ past)
-  maps_by r f (Some l) at off h = maps_off c r l p past at h f off
-  maps_by r f None at off h =
+  maps_by : (r : MapReader) (o : Option Listed) → o ≡ listed c.program past → on_map o p ≡ false → MapsRead r c.program past → MapsRead r c.program (p ∷ past)
+  maps_by r (Some l) at off h = maps_off c r l p past at h off
+  maps_by r None at off h =
       let Gives : Option Listed → Type 0 = λ x. GivesSince r.assembler x [] h.todo in
       let before : Option Listed → Type 0 = λ x. GivesSince r.assembler x (since_pat c.program past) h.todo in
       let here : List (List ℕ) → Type 0 = λ ps. GivesSince r.assembler (listed c.program (p ∷ past)) ps h.todo in
@@ -70,12 +68,20 @@ module _ (c : Purpose) (p : List ℕ) (past : List (List ℕ)) (e : IsElsewhere 
         todo = h.todo;
         assembler = subst here (sym since) (subst Gives (at ∙ sym listed_same) (subst before (sym at) h.assembler));
         program = h.program ∙ sym program_same;
-        newest_is = (let n : listed c.program past ≡ None = sym at in simp n);
       }
 
-  pub maps_elsewhere : (r : MapReader) (f : IsFaultless r.faultless (known_seen r.known)) → MapsRead r c.program past
-      → MapsRead (record { assembler = r.assembler; known = r.known; faultless = r.faultless; is_on_map = false; judged = f }) c.program (p ∷ past)
-  maps_elsewhere r f h = maps_by r f (listed c.program past) refl e.map h
+  pub maps_elsewhere : (r : MapReader) → MapsRead r c.program past → MapsRead r c.program (p ∷ past)
+  maps_elsewhere r h = maps_by r (listed c.program past) refl e.map h
+
+  -- nothing changes
+  pub tables_elsewhere : (r : TableReader) → TablesRead r c past → TablesRead r c (p ∷ past)
+  tables_elsewhere r h = record {
+    purpose = h.purpose;
+    pats = pats_off r.pats c.program p past e.pat h.pats;
+    maps = maps_elsewhere r.maps h.maps;
+    cue_pid = h.cue_pid;
+    map_pid = h.map_pid ∙ ap (λ o. or_zero (option_map (λ (l : Listed). l.pid) o)) (sym listed_same);
+  }
 
   clean_by : (o : Option Listed) → o ≡ listed c.program past → on_map o p ≡ false → (r : MapReader) → MapsRead r c.program past → maps_fault_at c p past ≡ None
   clean_by (Some l) at off r h = maps_clean_off c r l p past at h off

@@ -10,5 +10,6 @@ pub mod ElsewhereLemmas
 mod UseLemmas
 pub mod PieceLemmas
 pub mod PidLemmas
+pub mod UnfollowedLemmas
 mod StillLemmas
 mod FaultlessMapLemmas

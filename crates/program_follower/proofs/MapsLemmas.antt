@@ -1,6 +1,6 @@
 -- The sections on the PID of the map, one after another.
 use Rattle.std.specs.Option.{option_or}
-use Rattle.std.proofs.Common.{◌≡◌, ℕ, List, [], ◌∷◌, true, false, Option, Some, None, refl, sym, ap, subst, ◌∙◌}
+use Rattle.std.proofs.Common.{◌≡◌, ℕ, List, [], ◌∷◌, Bool, true, false, Option, Some, None, refl, sym, ap, subst, ◌∙◌}
 use Rattle.std.specs.Prelude.{option_map}
 use Rattle.ts_packet.specs.Fields.{on}
 use Rattle.psi_section.specs.declared.assembler.Assembler.{Assembler}
@@ -18,7 +18,8 @@ use Rattle.program_follower.specs.declared.faultless_map.FaultlessMap.{Faultless
 use Rattle.program_follower.specs.Program.{listed, since_pat, tables_in, tables, known_map, map_read, first_map, Program, program_in}
 use Rattle.program_follower.specs.Faults.{table_fault, tables_fault, maps_fault}
 use Rattle.program_follower.specs.Known.{known_seen, IsFaultless}
-use Rattle.program_follower.specs.Standing.{GivesSince, sections_on, newest, MapsRead}
+use Rattle.program_follower.specs.Standing.{GivesSince, sections_on, newest, MapsRead, MapsShow}
+use Rattle.program_follower.specs.Following.{on_map}
 use Rattle.program_follower.specs.Judging.{section_fault}
 use Rattle.program_follower.proofs.OptionLemmas.{option_or-assoc, option_or-none}
 use Rattle.program_follower.proofs.StepLemmas.{known_grows, listed_stays, since_stays, tables_at, tables_off, known_off}
@@ -68,6 +69,22 @@ module _ (c : Purpose) (l : Listed) (before : Option ProgramMap) (all : List (Li
       let m = map_read l.program (pmt s) in
       j.fault ∙ ap (λ ss. tables_fault c l.pid j.first (tables_in l ss)) e ∙ ap (λ x. option_or x (tables_fault c l.pid (option_or j.first m) (tables_in l rest'))) (fault_here s (Some f) h)
 
+-- ---- what is shown
+
+-- it is not what has been read
+pub maps_still : (r : MapReader) (b : Bool) (f : IsFaultless r.faultless (known_seen r.known)) (wanted : Option ℕ) (past : List (List ℕ)) → MapsRead r wanted past
+    → MapsRead (record { assembler = r.assembler; known = r.known; faultless = r.faultless; is_on_map = b; judged = f }) wanted past
+maps_still r b f wanted past h = record { todo = h.todo; assembler = h.assembler; program = h.program }
+
+-- of a packet that is not on the PID of the map nothing is
+newest_by : (wanted : Option ℕ) (p : List ℕ) (past : List (List ℕ)) (o : Option Listed) → on_map o p ≡ false → sections_on o p (since_pat wanted past) ≡ []
+newest_by wanted p past None off = refl
+newest_by wanted p past (Some l) off = given_off l.pid p (since_pat wanted past) off
+
+pub none_shown : (r : MapReader) (f : IsFaultless r.faultless (known_seen r.known)) (wanted : Option ℕ) (p : List ℕ) (past : List (List ℕ)) → on_map (listed wanted past) p ≡ false
+    → MapsShow (record { assembler = r.assembler; known = r.known; faultless = r.faultless; is_on_map = false; judged = f }) wanted (p ∷ past)
+none_shown r f wanted p past off = record { newest_is = sym (newest_by wanted p past (listed wanted past) off) }
+
 -- ---- one packet more
 
 module _ (c : Purpose) (r : MapReader) (l : Listed) (p : List ℕ) (past : List (List ℕ)) (at : Some l ≡ listed c.program past) (h : MapsRead r c.program past) where
@@ -86,13 +103,11 @@ module _ (c : Purpose) (r : MapReader) (l : Listed) (p : List ℕ) (past : List 
   newest_at : newest c.program (p ∷ past) ≡ given l.pid p since
   newest_at = ap (λ x. sections_on x p since) (sym at)
 
-  pub maps_off : (f : IsFaultless r.faultless (known_seen r.known)) → on l.pid p ≡ false
-      → MapsRead (record { assembler = r.assembler; known = r.known; faultless = r.faultless; is_on_map = false; judged = f }) c.program (p ∷ past)
-  maps_off f o = record {
+  pub maps_off : on l.pid p ≡ false → MapsRead r c.program (p ∷ past)
+  maps_off o = record {
     todo = h.todo;
     assembler = gives_next r.assembler h.todo (gives_off r.assembler l.pid p since h.todo o gives_at);
     program = h.program ∙ ap (option_map program_in) (sym (known_off c.program p past l (sym at) o));
-    newest_is = sym (newest_at ∙ given_off l.pid p since o);
   }
 
   pub maps_clean_off : on l.pid p ≡ false → maps_fault c (listed c.program past) (known_map c.program past) (tables c.program p past) ≡ None
@@ -110,8 +125,11 @@ module _ (c : Purpose) (r : MapReader) (l : Listed) (p : List ℕ) (past : List 
       todo = given l.pid p since;
       assembler = gives_next a (given l.pid p since) g;
       program = e ∙ ap (λ ts. option_map program_in (option_or (known_map c.program past) (first_map ts))) tables_are ∙ ap (option_map program_in) (sym (known_grows c.program p past));
-      newest_is = g.todo_left ∙ sym newest_at;
     }
+
+    pub maps_shown : (k : Option KnownProgram) (m : FaultlessMap) (f : IsFaultless m (known_seen k))
+        → MapsShow (record { assembler = a; known = k; faultless = m; is_on_map = true; judged = f }) c.program (p ∷ past)
+    maps_shown k m f = record { newest_is = g.todo_left ∙ sym newest_at }
 
     pub maps_fault_on : (o : Option NetworkFault) → tables_fault c l.pid (known_map c.program past) (tables_in l ss) ≡ o
         → maps_fault c (listed c.program past) (known_map c.program past) (tables c.program p past) ≡ o

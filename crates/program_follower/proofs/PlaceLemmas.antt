@@ -45,7 +45,7 @@ next_numbered n None = refl
 next_numbered n (Some x) = let e : (n + 1) + x.0 + 1 ≡ n + (x.0 + 1) + 1 = omega arith in e
 
 module _ (p : List ℕ) (good : in_error p ≡ false) where
-  on_good : (pid : ℕ) → pid_of p ≡ pid → on pid p ≡ true
+  pub on_good : (pid : ℕ) → pid_of p ≡ pid → on pid p ≡ true
   unfolding on
   on_good pid e = ap (λ b. not b && (pid_of p == pid)) good ∙ eq-eqb (pid_of p) pid e
 

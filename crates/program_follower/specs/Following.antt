@@ -1,6 +1,6 @@
 -- What a follower stands for after the packets that it has seen, newest first, and what a packet is to it.
-use Rattle.std.specs.Prelude.{◌≡◌, ℕ, ℤ, List, [], ◌∷◌, Bool, true, false, Option, Some, None, ◌||◌}
-use Rattle.ts_packet.specs.Fields.{in_error, on}
+use Rattle.std.specs.Prelude.{◌≡◌, ℕ, ℤ, List, [], ◌∷◌, Bool, true, false, Option, Some, None, is_some, ◌||◌, ◌==◌}
+use Rattle.ts_packet.specs.Fields.{in_error, on, is_among}
 use Rattle.unit_stream.specs.Times.{high, begins_one}
 use Rattle.psi_tables.specs.declared.network.NetworkFault.{NetworkFault}
 use Rattle.psi_tables.specs.declared.stream.Stream.{Stream}
@@ -20,9 +20,9 @@ use Rattle.program_follower.specs.declared.follower.Place.{Place}
 use Rattle.program_follower.specs.declared.follower.Place.TheVariants as places
 use Rattle.program_follower.specs.declared.start_follower.StartPlace.{StartPlace}
 use Rattle.program_follower.specs.declared.start_follower.StartPlace.TheVariants as start_places
-use Rattle.program_follower.specs.Program.{listed, Program, program_of, behind_head, pids_of}
-use Rattle.program_follower.specs.Faults.{on_cue}
-use Rattle.program_follower.specs.Standing.{TablesRead}
+use Rattle.program_follower.specs.Program.{listed, Program, program_of, behind_head, pids_of, known_pids}
+use Rattle.program_follower.specs.Faults.{is_pid, on_cue}
+use Rattle.program_follower.specs.Standing.{TablesRead, TablesShow}
 use Rattle.program_follower.specs.PidUses.{HasUses}
 use Rattle.program_follower.specs.Streaming.{first_on, place_in, StreamsRead, StartsRead, IsOfStream, IsOfStarts}
 
@@ -51,6 +51,7 @@ grown (Some r) p past = p ∷ past
 -- It follows for this purpose, was fed this past, and answered no fault.
 pub record FollowerStandsFor (f : ProgramFollower) (c : Purpose) (past : List (List ℕ)) : Type 0 where
   pub tables : TablesRead f.tables c past
+  pub shows : TablesShow f.tables c past
   pub streams : StreamsSince f.streams (program_of c.program past) (behind_head c.program past)
   pub whole : f.is_spent ≡ false
 
@@ -59,6 +60,10 @@ pub record StartsStandFor (f : StartFollower) (c : Purpose) (past : List (List �
   pub tables : TablesRead f.tables c past
   pub streams : StartsSince f.streams (program_of c.program past) (behind_head c.program past)
   pub uses : HasUses f.uses c past
+
+-- it shows the sections that the newest packet finishes on the PID of the map
+abbrev pub StartsShow : StartFollower → Purpose → List (List ℕ) → Type 0
+StartsShow f c past = TablesShow f.tables c past
 
 -- what holds of the packets that it was fed, for its purpose
 abbrev pub OfPast : ProgramFollower → (Purpose → List (List ℕ) → Type 0) → Type 0
@@ -94,6 +99,14 @@ pub record IsElsewhere (c : Purpose) (p : List ℕ) (past : List (List ℕ)) : T
   pub pat : on 0 p ≡ false
   pub cue : on_cue c.cue_pid p ≡ false
   pub map : on_map (listed c.program past) p ≡ false
+
+-- A PID on which nothing of a program is, behind its PAT: it is not that of the PAT, not that of the cues, and none of those that are known of
+-- the program.
+pub record IsUnfollowed (wanted cue_pid : Option ℕ) (pid : ℕ) (past : List (List ℕ)) : Type 0 where
+  pub listed : is_some (listed wanted past) ≡ true
+  pub pat : (pid == 0) ≡ false
+  pub cue : is_pid cue_pid pid ≡ false
+  pub known : is_among pid (known_pids wanted past) ≡ false
 
 -- what holds where the next packet is on no PID of tables or cues, and of this switched stream if it is not marked in error
 abbrev pub OfStreamPast : StartFollower → ℕ → List ℕ → (Purpose → List (List ℕ) → Type 0) → Type 0

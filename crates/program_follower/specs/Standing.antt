@@ -55,11 +55,14 @@ newest wanted (p ∷ past) = sections_on (listed wanted past) p (since_pat wante
 abbrev pub shown : MapReader → List (List ℕ)
 shown r = if r.is_on_map then left r.assembler else []
 
--- The reader of maps has been fed this past, and shows what the newest packet finishes.
+-- The reader of maps has been fed this past.
 pub record MapsRead (r : MapReader) (wanted : Option ℕ) (past : List (List ℕ)) : Type 0 where
   pub todo : List (List ℕ)
   pub assembler : GivesSince r.assembler (listed wanted past) (since_pat wanted past) todo
   pub program : known_seen r.known ≡ program_of wanted past
+
+-- It shows what the newest packet finishes.
+pub record MapsShow (r : MapReader) (wanted : Option ℕ) (past : List (List ℕ)) : Type 0 where
   pub newest_is : shown r ≡ newest wanted past
 
 -- ---- both
@@ -76,6 +79,9 @@ pub record TablesRead (r : TableReader) (c : Purpose) (past : List (List ℕ)) :
   pub maps : MapsRead r.maps c.program past
   pub cue_pid : r.cue_pid ≡ or_zero c.cue_pid
   pub map_pid : r.map_pid ≡ or_zero (pmt_pid_of c.program past)
+
+abbrev pub TablesShow : TableReader → Purpose → List (List ℕ) → Type 0
+TablesShow r c past = MapsShow r.maps c.program past
 
 -- what holds of the packets that it was fed, for its purpose
 abbrev pub OfTables : TableReader → (Purpose → List (List ℕ) → Type 0) → Type 0

@@ -31,12 +31,13 @@ pub struct MapReader {
 }
 
 impl MapReader {
-    ghost use Rattle.program_follower.specs.Standing.{MapsRead, shown, tables_left, lent_program};
+    ghost use Rattle.program_follower.specs.Standing.{MapsRead, MapsShow, shown, tables_left, lent_program};
     ghost use Rattle.program_follower.specs.Following.{on_map, IsElsewhere};
 
     /// A reader that was fed no packet.
     pub fn new() -> MapReader
-        ensures { (wanted : Option ℕ) → MapsRead result wanted [] }
+        ensures reads { (wanted : Option ℕ) → MapsRead result wanted [] }
+        ensures shows { (wanted : Option ℕ) → MapsShow result wanted [] }
     {
         MapReader {
             assembler: Assembler::new(),
@@ -81,6 +82,9 @@ impl MapReader {
         ensures reads { (past : List (List ℕ)) → at ≡ listed purpose.now.program past
             → MapsRead self.old purpose.now.program past
             → OnOk result (MapsRead self.new purpose.now.program (packet.now ∷ past)) }
+        ensures shows { (past : List (List ℕ)) → at ≡ listed purpose.now.program past
+            → MapsRead self.old purpose.now.program past
+            → OnOk result (MapsShow self.new purpose.now.program (packet.now ∷ past)) }
         ensures ok { (past : List (List ℕ)) → at ≡ listed purpose.now.program past
             → MapsRead self.old purpose.now.program past
             → OnOk result (maps_fault_at purpose.now packet.now past ≡ None) }
@@ -106,8 +110,10 @@ impl MapReader {
     /// Passes a packet that is on no PID of the tables: it shows nothing.
     #[inline(always)]
     pub fn pass(&mut self)
-        ensures { (c : Purpose) (p : List ℕ) (past : List (List ℕ)) → IsElsewhere c p past
+        ensures reads { (c : Purpose) (p : List ℕ) (past : List (List ℕ)) → IsElsewhere c p past
             → MapsRead self.old c.program past → MapsRead self.new c.program (p ∷ past) }
+        ensures shows { (c : Purpose) (p : List ℕ) (past : List (List ℕ)) → IsElsewhere c p past
+            → MapsShow self.new c.program (p ∷ past) }
     {
         self.is_on_map = false;
     }
@@ -120,6 +126,9 @@ impl MapReader {
         ensures reads { (past : List (List ℕ)) → Some at ≡ listed purpose.now.program past
             → MapsRead self.old purpose.now.program past
             → OnOk result (MapsRead self.new purpose.now.program (packet.now ∷ past)) }
+        ensures shows { (past : List (List ℕ)) → Some at ≡ listed purpose.now.program past
+            → MapsRead self.old purpose.now.program past
+            → OnOk result (MapsShow self.new purpose.now.program (packet.now ∷ past)) }
         ensures ok { (past : List (List ℕ)) → Some at ≡ listed purpose.now.program past
             → MapsRead self.old purpose.now.program past
             → OnOk result (maps_fault_at purpose.now packet.now past ≡ None) }

@@ -1,6 +1,6 @@
 //! What the packets of each PID are to a follower, looked up at once.
 
-ghost use Rattle.std.specs.Prelude.{◌≡◌, ◌<◌, ◌≤◌, ◌+◌, ℕ, [], List, length, nat_lt, if◌then◌else◌, slice_index_or, slice_set};
+ghost use Rattle.std.specs.Prelude.{◌≡◌, ◌<◌, ◌≤◌, ◌+◌, ℕ, [], List, length, nat_lt, if◌then◌else◌, slice_index_or, slice_set, true};
 ghost use Rattle.ts_packet.specs.Fields.{pid_of};
 ghost use Rattle.program_follower.specs.Faults.{pids_in};
 ghost use Rattle.program_follower.specs.PidUses.{IsTablePid, IsUse, HasPlacesElsewhere};
@@ -98,6 +98,15 @@ impl PidUses {
         if *number < TABLE_PID {
             *number = place + 1;
         }
+    }
+
+    /// The PID is of no table, no cue and no stream.
+    #[inline(always)]
+    pub(crate) fn is_of_none(&self, pid: Pid) -> bool
+        ensures none { result ≡ true → slice_index_or self.now pid 0 ≡ 0 }
+        ensures pid { pid < 8192 }
+    {
+        self.numbers[pid.get() as usize] == 0
     }
 
     /// What the packet's PID is.

@@ -1,6 +1,6 @@
 //! One program of a network, followed by where its units begin.
 
-ghost use Rattle.std.specs.Prelude.{◌≡◌, ◌<◌, ◌≤◌, ◌+◌, ◌∷◌, ◌++◌, [], ℕ, List, length, slice_index_or, Option, Some, None, option_map};
+ghost use Rattle.std.specs.Prelude.{◌≡◌, ◌<◌, ◌≤◌, ◌+◌, ◌∷◌, ◌++◌, [], ℕ, List, length, slice_index_or, Option, Some, None, option_map, true};
 ghost use Rattle.std.specs.Prelude.{OnOk, IfOk, IfErr};
 ghost use Rattle.arrayvec.specs.ArrayVec.{array_vec_len};
 ghost use Rattle.ts_packet.specs.Fields.{on_one};
@@ -11,7 +11,7 @@ ghost use Rattle.program_follower.specs.Faults.{network_fault, pids_in};
 ghost use Rattle.program_follower.specs.PidUses.{IsTablePid, HasPlacesElsewhere};
 ghost use Rattle.program_follower.specs.Standing.{tables_left, lent_program};
 ghost use Rattle.program_follower.specs.Streaming.{IsOfStarts};
-ghost use Rattle.program_follower.specs.Following.{StartsStandFor, OfStartPast, OfStreamPast, OfBegins, StartsSince, grown, high_of};
+ghost use Rattle.program_follower.specs.Following.{StartsStandFor, StartsShow, IsUnfollowed, OfStartPast, OfStreamPast, OfBegins, StartsSince, grown, high_of};
 ghost use Rattle.program_follower.specs.Following.{IsStartPlace, IsOfStartsAt, IsOnTables, streams_of_program};
 
 use crate::follower::of_unit;
@@ -109,6 +109,7 @@ impl StartFollower {
     #[inline(always)]
     pub fn feed(&mut self, packet: &Packet) -> Result<StartPlace, NetworkFault>
         ensures stands { OfStartPast self.old (λ c past. OnOk result (StartsStandFor self.new c (packet.now ∷ past))) }
+        ensures shows { OfStartPast self.old (λ c past. OnOk result (StartsShow self.new c (packet.now ∷ past))) }
         ensures sound { OfStartPast self.old (λ c past. OnOk result (network_fault c packet.now past ≡ None)) }
         ensures place { OfStartPast self.old (λ c past. IfOk result (λ x. IsStartPlace x c packet.now past)) }
         ensures err { OfStartPast self.old (λ c past. IfErr result (λ f. network_fault c packet.now past ≡ Some f)) }
@@ -129,6 +130,8 @@ impl StartFollower {
         requires { index < 8 }
         ensures stands { OfStreamPast self.old index packet.now (λ c past.
             OnOk result (StartsStandFor self.new c (packet.now ∷ past))) }
+        ensures shows { OfStreamPast self.old index packet.now (λ c past.
+            OnOk result (StartsShow self.new c (packet.now ∷ past))) }
         ensures sound { OfStreamPast self.old index packet.now (λ c past.
             OnOk result (network_fault c packet.now past ≡ None)) }
         ensures place { OfStreamPast self.old index packet.now (λ c past.
@@ -154,6 +157,7 @@ impl StartFollower {
     #[inline(never)]
     fn feed_tables(&mut self, packet: &Packet) -> Result<StartPlace, NetworkFault>
         ensures stands { OfStartPast self.old (λ c past. OnOk result (StartsStandFor self.new c (packet.now ∷ past))) }
+        ensures shows { OfStartPast self.old (λ c past. OnOk result (StartsShow self.new c (packet.now ∷ past))) }
         ensures sound { OfStartPast self.old (λ c past. OnOk result (network_fault c packet.now past ≡ None)) }
         ensures place { OfStartPast self.old (λ c past. IfOk result (λ x. IsStartPlace x c packet.now past)) }
         ensures err { OfStartPast self.old (λ c past. IfErr result (λ f. network_fault c packet.now past ≡ Some f)) }
@@ -176,7 +180,7 @@ impl StartFollower {
     /// The sections that the last packet finished on the PID of the map, behind the PAT, in order; none where it was of another PID.
     pub fn tables(&self) -> Tables<'_>
         ensures { (c : Purpose) (p : List ℕ) (past : List (List ℕ)) → StartsStandFor self.now c (p ∷ past)
-            → tables_left result ≡ tables c.program p past }
+            → StartsShow self.now c (p ∷ past) → tables_left result ≡ tables c.program p past }
     {
         self.tables.tables()
     }
@@ -239,6 +243,15 @@ impl StartFollower {
             PidUse::Stream(_) => !packet.error(),
             PidUse::Table => self.has_pid_of(packet),
         }
+    }
+
+    /// Nothing of the program is on the PID, behind its PAT: neither its map nor a switched stream, nor the PAT, nor the cues. A packet of such
+    /// a PID changes nothing.
+    #[inline(always)]
+    pub fn overlooks(&self, pid: Pid) -> bool
+        ensures { OfStartPast self.now (λ c past. result ≡ true → IsUnfollowed c.program c.cue_pid pid past) }
+    {
+        self.tables.is_behind_pat() && self.uses.is_of_none(pid)
     }
 
     /// The same by a look at each of the PIDs, for a packet of a PID of tables or cues.

@@ -1,9 +1,9 @@
 //! The tables of a network: which program it has, and what is wrong with them.
 
-ghost use Rattle.std.specs.Prelude.{◌≡◌, ◌∷◌, [], ℕ, List, Option, Some, option_map, false, OnOk, IfOk, IfErr};
+ghost use Rattle.std.specs.Prelude.{◌≡◌, ◌∷◌, [], ℕ, List, Option, Some, option_map, is_some, false, OnOk, IfOk, IfErr};
 ghost use Rattle.program_follower.specs.Program.{listed, pmt_pid_of, tables, program_of};
 ghost use Rattle.program_follower.specs.Faults.{network_fault, unit_fault_at, on_cue};
-ghost use Rattle.program_follower.specs.Standing.{TablesRead, OfTables, tables_left, lent_program, or_zero};
+ghost use Rattle.program_follower.specs.Standing.{TablesRead, TablesShow, OfTables, tables_left, lent_program, or_zero};
 ghost use Rattle.program_follower.specs.Following.{IsOnTables, IsElsewhere, on_map};
 
 use crate::known::KnownProgram;
@@ -39,7 +39,8 @@ pub struct TableReader {
 impl TableReader {
     /// A reader that was fed no packet.
     pub fn new(purpose: Purpose) -> TableReader
-        ensures { TablesRead result purpose [] }
+        ensures reads { TablesRead result purpose [] }
+        ensures shows { TablesShow result purpose [] }
     {
         TableReader {
             purpose,
@@ -59,6 +60,7 @@ impl TableReader {
     #[inline(always)]
     pub fn feed(&mut self, packet: &Packet) -> Result<OnTables, NetworkFault>
         ensures reads { OfTables self.old (λ c past. OnOk result (TablesRead self.new c (packet.now ∷ past))) }
+        ensures shows { OfTables self.old (λ c past. OnOk result (TablesShow self.new c (packet.now ∷ past))) }
         ensures ok { OfTables self.old (λ c past.
             OnOk result (network_fault c packet.now past ≡ unit_fault_at c packet.now past)) }
         ensures err { OfTables self.old (λ c past. IfErr result (λ f. network_fault c packet.now past ≡ Some f)) }
@@ -74,8 +76,10 @@ impl TableReader {
     /// Passes a packet that is on no PID of the tables, nor on that of the cues.
     #[inline(always)]
     pub(crate) fn pass(&mut self)
-        ensures { (c : Purpose) (p : List ℕ) (past : List (List ℕ)) → IsElsewhere c p past
+        ensures reads { (c : Purpose) (p : List ℕ) (past : List (List ℕ)) → IsElsewhere c p past
             → TablesRead self.old c past → TablesRead self.new c (p ∷ past) }
+        ensures shows { (c : Purpose) (p : List ℕ) (past : List (List ℕ)) → IsElsewhere c p past
+            → TablesShow self.new c (p ∷ past) }
     {
         self.maps.pass();
     }
@@ -85,6 +89,14 @@ impl TableReader {
         ensures { OfTables self.now (λ c past. result ≡ or_zero (pmt_pid_of c.program past)) }
     {
         self.map_pid
+    }
+
+    /// The PAT has come that lists the program.
+    #[inline(always)]
+    pub(crate) fn is_behind_pat(&self) -> bool
+        ensures { OfTables self.now (λ c past. result ≡ is_some (listed c.program past)) }
+    {
+        self.pats.listed().is_some()
     }
 
     /// The packet may be on a PID of the tables or of the cues: a packet of another PID tells nothing of them.
@@ -101,6 +113,7 @@ impl TableReader {
     #[inline(never)]
     fn take(&mut self, packet: &Packet) -> Result<OnTables, NetworkFault>
         ensures reads { OfTables self.old (λ c past. OnOk result (TablesRead self.new c (packet.now ∷ past))) }
+        ensures shows { OfTables self.old (λ c past. OnOk result (TablesShow self.new c (packet.now ∷ past))) }
         ensures ok { OfTables self.old (λ c past.
             OnOk result (network_fault c packet.now past ≡ unit_fault_at c packet.now past)) }
         ensures err { OfTables self.old (λ c past. IfErr result (λ f. network_fault c packet.now past ≡ Some f)) }
@@ -125,7 +138,7 @@ impl TableReader {
     /// The sections that the last packet finished on the PID of the map, behind the PAT, in order; none where it was of another PID.
     pub fn tables(&self) -> Tables<'_>
         ensures { (c : Purpose) (p : List ℕ) (past : List (List ℕ)) → TablesRead self.now c (p ∷ past)
-            → tables_left result ≡ tables c.program p past }
+            → TablesShow self.now c (p ∷ past) → tables_left result ≡ tables c.program p past }
     {
         match self.pats.listed() {
             Some(listed) => self.maps.tables(listed.program),

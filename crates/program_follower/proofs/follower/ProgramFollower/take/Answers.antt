@@ -15,6 +15,7 @@ returns-in-Ok-follow_streams-clause-stands c = λ k past h.
     let goes = goes_to w p past (lent_program c.known.result) known in
     record {
       tables = tables;
+      shows = c.in-Ok.ensures.shows k past h.tables;
       streams = streams_next StreamsRead w p past c.follow_streams.new.streams (lent_program c.known.result) known (c.in-Ok-follow_streams.ensures.reads (program_of w past) (behind_head w past) goes h.streams);
       whole = h.whole;
     }

@@ -13,7 +13,7 @@ returns-then-error-clause-stands c = λ k past h e at.
     let p = c.args.packet.now in
     let pids = pids_of (program_of k.program past) in
     record {
-      tables = c.pass.ensures k p past e h.tables;
+      tables = c.pass.ensures.reads k p past e h.tables;
       streams = streams_off k p past e c.args.self.now.streams (unplaced pids p (no_place pids p (sym c.error.ensures ∙ c.if-error.true))) h.streams;
       uses = uses_passed c.args.self.now.uses k p past h.uses e;
     }
@@ -35,7 +35,7 @@ returns-in-Ok-clause-stands c = λ k past h e at.
     let p = c.args.packet.now in
     let here = at (sym c.error.ensures ∙ c.if-error.false) in
     record {
-      tables = c.pass.ensures k p past e h.tables;
+      tables = c.pass.ensures.reads k p past e h.tables;
       streams = streams_fed k p past e c.in-Some.streams c.feed_stream.new.self (subst (λ s. Since StartsRead s (program_of k.program past) (behind_head k.program past)) c.in-Some.is h.streams)
           (λ r. c.in-Ok.ensures.reads (pids_of (program_of k.program past)) (behind_head k.program past) here r);
       uses = uses_passed c.args.self.now.uses k p past h.uses e;

@@ -5,7 +5,7 @@ use Rattle.program_follower.proofs.start_follower.StartFollower.new.Goals as goa
 
 pub returns : goal.returns
 returns c = record {
-  tables = c.new.ensures;
+  tables = c.new.ensures.reads;
   streams = tt;
   uses = record {
     pat = c.new-uses.ensures.pat;
