@@ -5,6 +5,8 @@ pub mod CueLemmas
 pub mod SendingLemmas
 pub mod CountLemmas
 pub mod FeedLemmas
+pub mod GoOnLemmas
 pub mod RestLemmas
 pub mod CuedLemmas
 pub mod BoundLemmas
+pub mod PassedLemmas

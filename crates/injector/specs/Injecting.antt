@@ -7,9 +7,12 @@ use Rattle.psi_tables.specs.declared.network.FeedFault.{FeedFault}
 use Rattle.psi_tables.specs.declared.network.FeedFault.TheVariants.{Network, Sink, Failed}
 use Rattle.psi_tables.specs.declared.network.NetworkFault.{NetworkFault}
 use Rattle.program_follower.specs.Program.{listed}
-use Rattle.program_follower.specs.Following.{StartsStandFor, on_map, high_of}
+use Rattle.program_follower.specs.Following.{StartsStandFor, StartsShow, on_map, high_of}
 use Rattle.program_follower.specs.Faults.{network_fault}
-use Rattle.outgoing_packets.specs.Numbers.{HasPut, FrontFails}
+use Rattle.outgoing_packets.specs.Numbers.{HasPut, GoOnAs, FrontFails}
+use Rattle.outgoing_packets.specs.declared.outgoing.Outgoing.{Outgoing}
+use Rattle.program_laws.specs.Writing.{number_on}
+use Rattle.program_follower.specs.declared.purpose.Listed.{Listed}
 use Rattle.injector.specs.declared.counts.MessageCounts.{MessageCounts}
 use Rattle.injector.specs.declared.injector.Injector.{Injector}
 use Rattle.injector.specs.Turns.{Turn, high}
@@ -35,6 +38,13 @@ pub record JudgesBy (i : Injector) (c : Config) (past : List Step) : Type 0 wher
   pub requests : RequestsStandFor i.requests c.index (turns_in c.program past)
   pub counted : CountsAre i.counts c.index (turns_in c.program past)
 
+-- What the numbers of its outgoing packets stand for: packets whose counters go on as those of all that is out, also on the PID of the cues.
+pub record CuesGoOn (o : Outgoing) (cue_pid : ℕ) (l : Option Listed) (out : List (List ℕ)) : Type 0 where
+  pub passed : List (List ℕ)
+  pub put : HasPut o passed
+  pub cues : number_on cue_pid passed ≡ number_on cue_pid out
+  pub go_on : GoOnAs l passed out
+
 -- It has been given this history, and answered no fault.
 pub record InjectorStandsFor (i : Injector) (c : Config) (past : List Step) : Type 0 where
   pub judges : JudgesBy i c past
@@ -43,7 +53,7 @@ pub record InjectorStandsFor (i : Injector) (c : Config) (past : List Step) : Ty
   pub news : i.has_news ≡ has_news c.index (turns_in c.program past)
   pub rest : i.has_news ≡ false → RestsAt i.rest c.index (turns_in c.program past)
   pub follower : StartsStandFor i.follower (writing_cues c) (packets_in past)
-  pub out : HasPut i.out (cued c past)
+  pub out : CuesGoOn i.out c.cue_pid (listed (Some c.program) (packets_in past)) (cued c past)
   pub whole : i.is_spent ≡ false
 
 -- Why a packet was not passed on: what is wrong with it behind those before it, before anything of it was put; or the sink failed behind a
@@ -66,6 +76,7 @@ network_answer (Err Failed) = None
 pub record IsBodyOf (i : Injector) (is_map : Bool) (c : Config) (p : List ℕ) (past : List (List ℕ)) : Type 0 where
   pub cue_pid : i.cue_pid ≡ c.cue_pid
   pub follower : StartsStandFor i.follower (writing_cues c) (p ∷ past)
+  pub shows : StartsShow i.follower (writing_cues c) (p ∷ past)
   pub sound : network_fault (writing_cues c) p past ≡ None
   pub map : is_map ≡ on_map (listed (Some c.program) past) p
 
@@ -75,7 +86,7 @@ pub record IsFollowed (i : Injector) (is_map : Bool) (c : Config) (p : List ℕ)
   pub news : i.has_news ≡ has_news c.index (turns_in c.program past)
   pub rest : i.has_news ≡ false → RestsAt i.rest c.index (turns_in c.program past)
   pub body : IsBodyOf i is_map c p (packets_in past)
-  pub out : HasPut i.out (cued c past)
+  pub out : CuesGoOn i.out c.cue_pid (listed (Some c.program) (packets_in past)) (cued c past)
   pub whole : i.is_spent ≡ false
 
 -- the packet was followed and is not on the PID of the map, the greatest time stays with it, and no request was accepted since the last one

@@ -3,7 +3,7 @@
 ghost use Rattle.std.specs.Prelude.{◌≡◌, ◌++◌, ◌∷◌, [], ℕ, List, Option, Some, None, option_map, Err, Bool, true};
 ghost use Rattle.std.specs.Prelude.{false, length, OnOk, IfErr};
 ghost use Rattle.pes_time.specs.Line.{ring_of};
-ghost use Rattle.ts_packet.specs.Fields.{on_one};
+ghost use Rattle.ts_packet.specs.Fields.{pid_of, on_one};
 ghost use Rattle.ts_packet.specs.Runs.{onto};
 ghost use Rattle.ts_packet.specs.Sinks.{Blamed};
 ghost use Rattle.ts_packet.specs.Transfers.{WentWell};
@@ -16,13 +16,13 @@ ghost use Rattle.injector.specs.Turns.{Turn, high};
 ghost use Rattle.injector.specs.Senders.{IsIdle};
 ghost use Rattle.injector.specs.Noting.{NotesStandFor, StaysAtRest};
 ghost use Rattle.injector.specs.Steps.{Step, Message as MessageStep, Packet as PacketStep, packets_in, turns_in};
-ghost use Rattle.injector.specs.Steps.{body_at, sent_at};
+ghost use Rattle.injector.specs.Steps.{body_at, sent_at, has_news};
 ghost use Rattle.injector.specs.Injecting.{InjectorStandsFor, JudgesBy, FeedFails, CountsAre, network_answer};
 ghost use Rattle.injector.specs.Injecting.{IsFollowed, IsStill, IsBodyOf, RestsAt, KeepsRest, KeepsAllButRest};
 ghost use Rattle.outgoing_packets.specs.Faults.{FeedBlamed, KeepsSink, is_err_or};
 ghost use Rattle.program_follower.specs.Purposes.{writing_cues};
 ghost use Rattle.program_follower.specs.Program.{listed, known_pids};
-ghost use Rattle.program_follower.specs.Following.{high_of, on_map, IsStartPlace};
+ghost use Rattle.program_follower.specs.Following.{high_of, on_map, IsStartPlace, IsUnfollowed};
 
 use crate::choice::is_reached;
 use crate::counts::{MessageCounts, counted, has_news_behind};
@@ -122,6 +122,18 @@ impl Injector {
             result ≡ on_one (known_pids (Some c.program) (packets_in past)) packet.now }
     {
         self.follower.owns(packet)
+    }
+
+    /// Nothing of its program is on the packet's PID, behind its PAT, and no request was accepted since the last packet: the packet would go out
+    /// alone, and change nothing. One look-up tells most packets.
+    #[inline(always)]
+    pub fn overlooks(&self, packet: &Packet) -> bool
+        ensures quiet { (c : Config) (past : List Step) → InjectorStandsFor self.now c past → result ≡ true →
+            has_news c.index (turns_in c.program past) ≡ false }
+        ensures unfollowed { (c : Config) (past : List Step) → InjectorStandsFor self.now c past → result ≡ true →
+            IsUnfollowed (Some c.program) (Some c.cue_pid) (pid_of packet.now) (packets_in past) }
+    {
+        !self.has_news && self.follower.overlooks(packet.pid())
     }
 
     /// Takes the next packet of the network, and puts the cues that are due before it, and then the packet, or in the place of a packet

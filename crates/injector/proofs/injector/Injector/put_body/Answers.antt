@@ -23,7 +23,7 @@ returns-then-not-is_map-clause-err g c = λ start ps puts cfg past held h b.
 pub returns-clause-ok : goal.returns-clause-ok
 returns-clause-ok g c = λ start ps puts cfg past held h b.
     let p = c.args.packet.now in
-    let left : tables_left c.tables-tables.result ≡ tables (Some cfg.program) p past = c.tables-tables.ensures (writing_cues cfg) p past b.follower in
+    let left : tables_left c.tables-tables.result ≡ tables (Some cfg.program) p past = c.tables-tables.ensures (writing_cues cfg) p past b.follower b.shows in
     let cue = c.args.self.now.cue_pid in
     let here = sym b.map ∙ c.if-not-is_map.false in
     let good : AllGoOut (Added cue) (tables_left c.tables-tables.result) = subst (λ ts. AllGoOut (Added cue) ts) (sym left) (subst (λ q. AllGoOut (Added q) (tables (Some cfg.program) p past)) (sym b.cue_pid) (tables-go cfg p past b.sound)) in
@@ -33,7 +33,7 @@ returns-clause-ok g c = λ start ps puts cfg past held h b.
 pub returns-clause-numbers : goal.returns-clause-numbers
 returns-clause-numbers g c = λ puts cfg past h b.
     let p = c.args.packet.now in
-    let left : tables_left c.tables-tables.result ≡ tables (Some cfg.program) p past = c.tables-tables.ensures (writing_cues cfg) p past b.follower in
+    let left : tables_left c.tables-tables.result ≡ tables (Some cfg.program) p past = c.tables-tables.ensures (writing_cues cfg) p past b.follower b.shows in
     let cue = c.args.self.now.cue_pid in
     let here = sym b.map ∙ c.if-not-is_map.false in
     let good : AllGoOut (Added cue) (tables_left c.tables-tables.result) = subst (λ ts. AllGoOut (Added cue) ts) (sym left) (subst (λ q. AllGoOut (Added q) (tables (Some cfg.program) p past)) (sym b.cue_pid) (tables-go cfg p past b.sound)) in
@@ -43,7 +43,7 @@ returns-clause-numbers g c = λ puts cfg past h b.
 pub returns-clause-err : goal.returns-clause-err
 returns-clause-err g c = λ start ps puts cfg past held h b.
     let p = c.args.packet.now in
-    let left : tables_left c.tables-tables.result ≡ tables (Some cfg.program) p past = c.tables-tables.ensures (writing_cues cfg) p past b.follower in
+    let left : tables_left c.tables-tables.result ≡ tables (Some cfg.program) p past = c.tables-tables.ensures (writing_cues cfg) p past b.follower b.shows in
     let cue = c.args.self.now.cue_pid in
     let here = sym b.map ∙ c.if-not-is_map.false in
     let good : AllGoOut (Added cue) (tables_left c.tables-tables.result) = subst (λ ts. AllGoOut (Added cue) ts) (sym left) (subst (λ q. AllGoOut (Added q) (tables (Some cfg.program) p past)) (sym b.cue_pid) (tables-go cfg p past b.sound)) in

@@ -18,6 +18,7 @@ returns-in-Ok-put-clause-ok g c = λ start ps cfg past held b.
       body = record {
         cue_pid = b.cue_pid;
         follower = c.in-Ok.ensures.stands (writing_cues cfg) ps_in b.follower;
+        shows = c.in-Ok.ensures.shows (writing_cues cfg) ps_in b.follower;
         sound = sound;
         map = c.is_map.ensures (writing_cues cfg) p ps_in (c.in-Ok.ensures.place (writing_cues cfg) ps_in b.follower);
       };
@@ -40,6 +41,7 @@ returns-in-Ok-put-clause-stands g c = λ cfg past b.
       body = record {
         cue_pid = b.cue_pid;
         follower = c.in-Ok.ensures.stands (writing_cues cfg) ps_in b.follower;
+        shows = c.in-Ok.ensures.shows (writing_cues cfg) ps_in b.follower;
         sound = sound;
         map = c.is_map.ensures (writing_cues cfg) p ps_in (c.in-Ok.ensures.place (writing_cues cfg) ps_in b.follower);
       };
@@ -65,6 +67,7 @@ returns-in-Err-put-clause-err g c = λ start ps cfg past held b.
       body = record {
         cue_pid = b.cue_pid;
         follower = c.in-Ok.ensures.stands (writing_cues cfg) ps_in b.follower;
+        shows = c.in-Ok.ensures.shows (writing_cues cfg) ps_in b.follower;
         sound = sound;
         map = c.is_map.ensures (writing_cues cfg) p ps_in (c.in-Ok.ensures.place (writing_cues cfg) ps_in b.follower);
       };
@@ -101,6 +104,7 @@ returns-in-Ok-put_still-clause-ok g c = λ start ps cfg past held b.
         body = record {
           cue_pid = b.cue_pid;
           follower = c.in-Ok.ensures.stands (writing_cues cfg) ps_in b.follower;
+          shows = c.in-Ok.ensures.shows (writing_cues cfg) ps_in b.follower;
           sound = sound;
           map = sym (c.may_be_due.ensures.elsewhere (writing_cues cfg) p ps_in place c.if-may_be_due.false);
         };
@@ -128,6 +132,7 @@ returns-in-Ok-put_still-clause-stands g c = λ cfg past b.
         body = record {
           cue_pid = b.cue_pid;
           follower = c.in-Ok.ensures.stands (writing_cues cfg) ps_in b.follower;
+          shows = c.in-Ok.ensures.shows (writing_cues cfg) ps_in b.follower;
           sound = sound;
           map = sym (c.may_be_due.ensures.elsewhere (writing_cues cfg) p ps_in place c.if-may_be_due.false);
         };
@@ -158,6 +163,7 @@ returns-in-Err-put_still-clause-err g c = λ start ps cfg past held b.
         body = record {
           cue_pid = b.cue_pid;
           follower = c.in-Ok.ensures.stands (writing_cues cfg) ps_in b.follower;
+          shows = c.in-Ok.ensures.shows (writing_cues cfg) ps_in b.follower;
           sound = sound;
           map = sym (c.may_be_due.ensures.elsewhere (writing_cues cfg) p ps_in place c.if-may_be_due.false);
         };

@@ -1,0 +1,106 @@
+-- A packet before which no cue can be due, and one on whose PID nothing of the program is.
+use Rattle.std.proofs.Common.{◌≡◌, ℕ, List, [], ◌∷◌, ◌++◌, false, refl, sym, ap, subst, ◌∙◌}
+use Rattle.std.specs.Prelude.{None, Some, option_map, filter}
+use Rattle.pes_time.specs.Line.{ring_of}
+use Rattle.ts_packet.specs.Fields.{pid_of}
+use Rattle.ts_packet.specs.Runs.{onto}
+use Rattle.event_table.specs.Standing.{stands}
+use Rattle.event_table.specs.Tables.{StandsFor}
+use Rattle.unit_stream.specs.Clocks.{Rises}
+use Rattle.psi_tables.specs.declared.config.Config.{Config}
+use Rattle.program_follower.specs.Program.{listed}
+use Rattle.program_follower.specs.Purposes.{writing_cues}
+use Rattle.program_follower.specs.Faults.{network_fault}
+use Rattle.program_follower.specs.Following.{high_of, IsUnfollowed}
+use Rattle.program_follower.proofs.UnfollowedLemmas.{unfollowed-elsewhere, stands-past, clean-past, high-past}
+use Rattle.program_laws.specs.Writing.{packets_out}
+use Rattle.outgoing_packets.proofs.NumberLemmas.{number-others}
+use Rattle.outgoing_packets.proofs.GoOnLemmas.{go-on-past, go-on-later}
+use Rattle.injector.specs.declared.injector.Injector.{Injector}
+use Rattle.injector.specs.Turns.{high, events}
+use Rattle.injector.specs.Noting.{IsBefore, NotesStandFor}
+use Rattle.injector.specs.Steps.{Step, Packet, packets_in, turns_in, has_news, cued, cue_packets, body_at, sent_at}
+use Rattle.injector.specs.Injecting.{IsStill, JudgesBy, RestsAt, InjectorStandsFor}
+use Rattle.injector.proofs.FeedLemmas.{rises-at, turns-high, body-off}
+use Rattle.injector.proofs.RestLemmas.{idle-between, idle-told, no-cue-between}
+use Rattle.injector.proofs.BoundLemmas.{stays-still}
+use Rattle.injector.proofs.SenderLemmas.{standing-stays, restate-notes}
+use Rattle.injector.proofs.GoOnLemmas.{body-by}
+
+-- ---- no cue is due
+
+-- none goes out before a packet with which the greatest time stays
+pub no-cues : (c : Config) (p : List ℕ) (past : List Step) → has_news c.index (turns_in c.program past) ≡ false
+    → high_of (Some c.program) (p ∷ packets_in past) ≡ high_of (Some c.program) (packets_in past) → cue_packets c p past (cued c past) ≡ []
+no-cues c p past quiet same = ap (packets_out c.cue_pid (cued c past)) (no-cue-between c p past quiet same)
+
+pub sent-alone : (c : Config) (p : List ℕ) (past : List Step) → has_news c.index (turns_in c.program past) ≡ false
+    → high_of (Some c.program) (p ∷ packets_in past) ≡ high_of (Some c.program) (packets_in past) → sent_at c p past ≡ body_at c p (packets_in past) (cued c past)
+sent-alone c p past quiet same = ap (λ l. l ++ body_at c p (packets_in past) (onto (cued c past) l)) (no-cues c p past quiet same)
+
+pub alone : (i : Injector) (c : Config) (p : List ℕ) (past : List Step) (s : IsStill i c p past) → sent_at c p past ≡ body_at c p (packets_in past) s.followed.out.passed
+alone i c p past s =
+    sent-alone c p past (sym s.followed.news ∙ s.quiet) s.high ∙ sym (body-by c p past s.followed.out.passed (cued c past) s.followed.out.go_on)
+
+-- what it judges by, what it keeps beside the events, and until when no cue is due
+pub record IsQuietBehind (i : Injector) (c : Config) (p : List ℕ) (past : List Step) : Type 0 where
+  pub judges : JudgesBy i c (Packet p ∷ past)
+  pub notes : NotesStandFor i.requests c.index (turns_in c.program (Packet p ∷ past))
+  pub rest : RestsAt i.rest c.index (turns_in c.program (Packet p ∷ past))
+
+pub quiet-behind : (i : Injector) (c : Config) (p : List ℕ) (past : List Step) → JudgesBy i c past → NotesStandFor i.requests c.index (turns_in c.program past)
+    → i.has_news ≡ has_news c.index (turns_in c.program past) → (i.has_news ≡ false → RestsAt i.rest c.index (turns_in c.program past)) → i.has_news ≡ false
+    → network_fault (writing_cues c) p (packets_in past) ≡ None → high_of (Some c.program) (p ∷ packets_in past) ≡ high_of (Some c.program) (packets_in past)
+    → IsQuietBehind i c p past
+quiet-behind i cfg p past judges notes-are news-is rest-is quiet sound stays =
+    let turns = turns_in cfg.program past in
+    let latest = high_of (Some cfg.program) (p ∷ packets_in past) in
+    let same : high turns ≡ latest = turns-high cfg.program past ∙ sym stays in
+    let rises : Rises (high turns) latest = subst (λ h. Rises h latest) (sym (turns-high cfg.program past)) (rises-at cfg p (packets_in past) sound) in
+    let news = sym news-is ∙ quiet in
+    let before : IsBefore false i.requests (option_map ring_of latest) cfg.index turns latest
+    = record { stands = judges.requests; notes = notes-are; rises = rises; time = refl; idle = λ none. idle-between cfg past latest news same } in
+    let n = judges.counted in
+    record {
+      judges = record {
+        requests = record { index_is = judges.requests.index_is; table = subst (λ l. StandsFor i.requests.table l (filter (stands l) (events cfg.index turns))) same judges.requests.table };
+        counted = record { messages = n.messages; accepted = n.accepted; refused = n.refused };
+      };
+      notes = restate-notes i.requests latest _ _ (sym (standing-stays cfg.index turns latest same)) (idle-told i.requests (option_map ring_of latest) cfg.index turns latest before);
+      rest = (stays-still i.rest cfg.index turns latest rises notes-are.kept (idle-between cfg past (high turns) news refl) (rest-is quiet) same).rests;
+    }
+
+-- ---- nothing of the program is on its PID
+
+module _ (i : Injector) (c : Config) (p : List ℕ) (past : List Step) (h : InjectorStandsFor i c past) (quiet : has_news c.index (turns_in c.program past) ≡ false)
+    (u : IsUnfollowed (Some c.program) (Some c.cue_pid) (pid_of p) (packets_in past)) where
+  -- THE PACKET goes out alone
+  pub unfollowed-sent : sent_at c p past ≡ p ∷ []
+  unfollowed-sent =
+      sent-alone c p past quiet (high-past (writing_cues c) p (packets_in past) u)
+      ∙ body-off c p (packets_in past) (cued c past) (unfollowed-elsewhere (writing_cues c) p (packets_in past) u).map
+
+  -- and the injector stands for the history with it as it is
+  pub injector-past : InjectorStandsFor i c (Packet p ∷ past)
+  injector-past =
+      let net = packets_in past in
+      let e = unfollowed-elsewhere (writing_cues c) p net u in
+      let n = quiet-behind i c p past h.judges h.notes h.news h.rest (h.news ∙ quiet) (clean-past (writing_cues c) p net u i.follower h.follower) (high-past (writing_cues c) p net u) in
+      let out : cued c (Packet p ∷ past) ≡ p ∷ cued c past = ap (onto (cued c past)) unfollowed-sent in
+      let l = listed (Some c.program) net in
+      record {
+        judges = n.judges;
+        cue_pid = h.cue_pid;
+        notes = n.notes;
+        news = h.news ∙ quiet;
+        rest = λ still. n.rest;
+        follower = stands-past (writing_cues c) p net u i.follower h.follower;
+        out = record {
+          passed = h.out.passed;
+          put = h.out.put;
+          cues = h.out.cues ∙ sym (ap (λ qs. Rattle.program_laws.specs.Writing.number_on c.cue_pid qs) out ∙ number-others c.cue_pid (p ∷ []) (cued c past) (e.cue, tt));
+          go_on = subst (λ qs. Rattle.outgoing_packets.specs.Numbers.GoOnAs (listed (Some c.program) (p ∷ net)) h.out.passed qs) (sym out)
+              (go-on-later (Some c.program) p net h.out.passed (p ∷ cued c past) (go-on-past l p h.out.passed (cued c past) u.listed e.map h.out.go_on));
+        };
+        whole = h.whole;
+      }
