@@ -1,0 +1,15 @@
+//! Random access points: the units of a stream from which a decoder can begin, by the marks in their first packets. It stands on
+//! `unit_stream` and `pes_time`.
+//! The crates above use one contract of it: what is found in a run of packets are exactly the units with marks, each with its own
+//! packet and its own time stamp.
+#![tactic(auto)]
+
+mod begins;
+mod coding;
+mod marks;
+mod reader;
+
+pub use begins::{Point, UnitBegin, UnitBegins};
+pub use coding::VideoCoding;
+pub use marks::{Mark, Marks};
+pub use reader::{PointReader, points_of};
