@@ -93,6 +93,7 @@ pub fn run_stage<S: Stage, P: PausingPackets, K: GatheringSink>(
     ensures writing { IfErr result (λ f. SinkBlamedAt f (K.counts out.old) (K.counts out.new) (K.is_full out.new)) }
     ensures turns { result ≡ Err (Stop.Read ReadFault.Turns)
         → Stalled P.leads P.counts P.falls_short network.old network.new ⊎ Exhausted P.left P.given network.old }
+    ensures spent { OnOk result (P.is_spent network.new) }
     ensures stage { S.leads stage.old stage.new }
     ensures reads { P.leads network.old network.new }
     ensures leads { K.leads out.old out.new }

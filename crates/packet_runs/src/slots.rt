@@ -1,6 +1,6 @@
 //! The packet that is passed on, and the one that its stage keeps.
 
-ghost use Rattle.std.specs.Prelude.{◌≡◌, ℕ, ◌<◌, ◌+◌, ◌^◌, cond, List, ◌++◌, Option, OnOk, IfOk, IfErr, Err, is_err, false};
+ghost use Rattle.std.specs.Prelude.{◌≡◌, ℕ, ◌<◌, ◌+◌, ◌^◌, cond, List, ◌++◌, Option, OnOk, IfOk, IfErr, Ok, Err, is_err, false};
 ghost use Rattle.ts_packet.specs.Sources.{GivesInto, Refuses, SourceCounts, SourceBlamed};
 ghost use Rattle.ts_packet.specs.Transfers.{WentWell};
 ghost use Rattle.packet_runs.specs.Stages.{Went, StepFails, StepBlamed};
@@ -42,6 +42,7 @@ impl<'a> Slots<'a> {
         ensures blamed { IfErr result (λ f. (P.has_ended network.old ≡ false)
             × SourceBlamed f (P.given network.old) (P.counts network.old) (P.counts network.new)) }
         ensures short { result ≡ Err ReadFault.Turns → P.falls_short network.old network.new }
+        ensures end { result ≡ Ok false → P.is_spent network.new }
         ensures given { IfOk result (λ more. P.given network.new ≡ P.given network.old + cond more 1 0) }
         ensures counted { IfOk result (λ _. P.given network.new < 2 ^ 64) }
         ensures broken { P.is_broken network.new ≡ is_err result }

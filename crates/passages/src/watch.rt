@@ -176,6 +176,10 @@ impl<P: PacketSource> PacketSource for Watched<'_, P> {
 
     ghost falls_short = { λ v w. P.falls_short v.inner.now w.inner.now };
 
+    ghost most_calls = { λ v w. P.most_calls v.inner.now w.inner.now };
+
+    ghost is_spent = { λ w. P.is_spent w.inner.now };
+
     ghost leads_refl = { λ s. (refl, P.leads_refl s.inner.now) };
 
     ghost leads_trans = { λ s t u h k. (k.0 ∙ h.0, P.leads_trans s.inner.now t.inner.now u.inner.now h.1 k.1) };

@@ -6,7 +6,7 @@ use Rattle.std.proofs.lemmas.List.{drop-drop, get_or-drop}
 use Rattle.std.proofs.lemmas.Bool.{and_parts, eqb-true, or_right}
 use Rattle.std.proofs.Math.Bool.{and-false}
 use Rattle.ts_packet.proofs.Cases.{by_test, test-same}
-use Rattle.ts_packet.specs.Fields.{in_error, unit_start, pid_of, scrambled, number, payload, with_number, on, payload_on, bytes, or_none, carries_as, alike, renumbered, without_number, is_among}
+use Rattle.ts_packet.specs.Fields.{in_error, unit_start, pid_of, scrambled, number, payload, with_number, on, payload_on, bytes, or_none, carries_as, alike, renumbered, without_number, is_among, marked}
 
 -- the code's write is the definition
 pub set_is_with_number : (p : List ℕ) (n : ℕ) → length p ≡ 188 → slice_set p 3 (slice_index p 3 / 16 * 16 + n) ≡ with_number n p
@@ -16,6 +16,12 @@ set_is_with_number (a ∷ []) n h = absurd (grind (arith, h))
 set_is_with_number (a ∷ b ∷ []) n h = absurd (grind (arith, h))
 set_is_with_number (a ∷ b ∷ c ∷ []) n h = absurd (grind (arith, h))
 set_is_with_number (a ∷ b ∷ c ∷ d ∷ r) n h = refl
+
+pub set_is_marked : (p : List ℕ) → length p ≡ 188 → slice_set p 1 (slice_index p 1 % 128 + 128) ≡ marked p
+unfolding marked
+set_is_marked [] h = absurd (grind (arith, h))
+set_is_marked (a ∷ []) h = absurd (grind (arith, h))
+set_is_marked (a ∷ b ∷ r) h = refl
 
 pub number-below : (p : List ℕ) → number p < 16
 unfolding number

@@ -57,6 +57,10 @@ pcr p = if has_adaptation 7 p && (slice_index p 5 / 16 % 2 == 1) then Some (take
 unfoldable pub with_number : ℕ → List ℕ → List ℕ
 with_number n p = slice_index p 0 ∷ slice_index p 1 ∷ slice_index p 2 ∷ (slice_index p 3 / 16 * 16 + n) ∷ drop 4 p
 
+-- the packet with transport_error_indicator set, and nothing else changed
+unfoldable pub marked : List ℕ → List ℕ
+marked p = slice_index p 0 ∷ (slice_index p 1 % 128 + 128) ∷ drop 2 p
+
 -- ---- the words of runs
 
 -- a packet of the PID that is not marked in error

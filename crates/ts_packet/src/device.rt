@@ -159,12 +159,19 @@ impl<R: Read> Source for Device<R> {
 }
 
 impl<R: Read> PausingSource for Device<R> {
-    ghost use Rattle.std.specs.Prelude.{true};
+    ghost use Rattle.std.specs.Prelude.{true, None};
 
     ghost may_wait = { λ d count. true };
 
+    ghost first_ready = { λ d. None };
+
     fn may_wait(&self, _count: usize) -> bool {
         true
+    }
+
+    /// Nothing lies ready.
+    fn first_ready(&self) -> Option<u8> {
+        None
     }
 }
 
@@ -249,14 +256,21 @@ impl<R: Read> Source for Buffered<R> {
 }
 
 impl<R: Read> PausingSource for Buffered<R> {
-    ghost use Rattle.std.specs.Prelude.{length, nat_lt, not, ◌&&◌};
+    ghost use Rattle.std.specs.Prelude.{length, nat_lt, not, ◌&&◌, slice_get};
     ghost use Rattle.std.specs.Io.Buffered.{reader_buffer};
 
     ghost may_wait = { λ b count. not b.is_steady && nat_lt (length (reader_buffer b.device.inner)) count };
 
+    ghost first_ready = { λ b. slice_get (reader_buffer b.device.inner) 0 };
+
     #[inline(always)]
     fn may_wait(&self, count: usize) -> bool {
         !self.is_steady && self.device.inner.buffer().len() < count
+    }
+
+    #[inline(always)]
+    fn first_ready(&self) -> Option<u8> {
+        self.device.inner.buffer().first().copied()
     }
 }
 

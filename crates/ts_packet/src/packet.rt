@@ -3,7 +3,8 @@
 ghost use Rattle.std.specs.Prelude.{◌≡◌, ℕ, List, ◌+◌, ◌*◌, ◌/◌, ◌%◌, ◌<◌, ◌≤◌, ◌^◌, ◌↔◌, ◌&&◌, if◌then◌else◌, true, false};
 ghost use Rattle.std.specs.Prelude.{slice_index, slice_set, length, Some, None, Ok, Err, option_map, drop, IsTrue, is_some, IfOk, OnErr};
 ghost use Rattle.ts_packet.specs.Fields.{in_error, unit_start, pid_of, scrambled, number, payload, random_access, pcr};
-ghost use Rattle.ts_packet.specs.Fields.{with_number, renumbered, has_adaptation, on, payload_on, carries_as, alike};
+ghost use Rattle.ts_packet.specs.Fields.{with_number, renumbered, has_adaptation, on, payload_on, carries_as, alike, marked};
+ghost use Rattle.std.specs.Io.KnownBytes.{Consumes};
 ghost use Rattle.ts_packet.specs.Packets.{packet_fault, or_fault, null_packet};
 ghost use Rattle.ts_packet.specs.Clock.{clock_packet};
 ghost use Rattle.ts_packet.specs.Transfers.{Filled, FallsShort, FillCounts};
@@ -115,9 +116,37 @@ impl Packet {
         fill(source, &mut self.bytes)
     }
 
+    /// Fills this packet with the next 188 bytes, where so many lie ready, and answers whether it did; else the source is as it was.
+    /// They are not judged: [`Packet::fault`] does that.
+    #[inline(always)]
+    pub fn fill_ready<S: Source>(&mut self, source: &mut S) -> bool
+        ensures size { length self.new ≡ 188 }
+        ensures bytes { result ≡ true → Consumes (S.remaining source.old) (S.remaining source.new) self.new }
+        ensures counts { S.counts source.new ≡ S.counts source.old }
+        ensures apart { result ≡ false → source.new ≡ source.old }
+    {
+        source.read_ready(&mut self.bytes)
+    }
+
+    /// Makes this the packet of these 188 bytes. They are not judged: [`Packet::fault`] does that.
+    pub fn set_bytes(&mut self, bytes: &[u8])
+        requires { length bytes.now ≡ 188 }
+        ensures { self.new ≡ bytes.now }
+    {
+        self.bytes.copy_from_slice(bytes);
+    }
+
+    /// Sets transport_error_indicator, and changes nothing else.
+    #[tactic(auto, using(crate::proofs::FieldLemmas::set_is_marked))]
+    pub fn mark_in_error(&mut self)
+        ensures { self.new ≡ marked self.old }
+    {
+        self.bytes[1] = self.bytes[1] % 128 + 128;
+    }
+
     /// Why the bytes are no packet.
     #[tactic(auto, unfolding(crate::specs::Packets::packet_fault))]
-    pub(crate) fn fault(&self) -> Option<PacketFault>
+    pub fn fault(&self) -> Option<PacketFault>
         ensures { result ≡ packet_fault self.now }
     {
         if self.bytes[0] != SYNC_BYTE {

@@ -6,7 +6,7 @@ use crate::reader::ReadFault;
 /// What packets are read from, one after another: the bytes of a device, or a text that spells them. After a fault it answers
 /// `Failed`, and nothing of it changes any more.
 pub trait PacketSource {
-    ghost use Rattle.std.specs.Prelude.{◌≡◌, ℕ, ◌+◌, ◌^◌, ◌<◌, ◌≤◌, List, Option, Bool, true, false, Err, cond, is_err, IfOk, IfErr};
+    ghost use Rattle.std.specs.Prelude.{◌≡◌, ℕ, ◌+◌, ◌^◌, ◌<◌, ◌≤◌, List, Option, Bool, true, false, Ok, Err, cond, is_err, IfOk, IfErr};
     ghost use Rattle.ts_packet.specs.declared.reader.ReadFault.TheVariants.{Turns, Failed};
     ghost use Rattle.ts_packet.specs.declared.tally.Tally.{Tally};
     ghost use Rattle.ts_packet.specs.Sources.{GivesInto, Refuses, SourceCounts, SourceBlamed};
@@ -32,6 +32,12 @@ pub trait PacketSource {
     /// The second is the first after reads of fewer bytes than a packet takes.
     ghost falls_short: { Self → Self → Type 0 };
 
+    /// How many calls of its device the read between these two states takes at most.
+    ghost most_calls: { Self → Self → ℕ } = { λ s t. 2 ^ 20 };
+
+    /// It has given the end, and all that it was to count is counted.
+    ghost is_spent: { Self → Type 0 } = { λ s. Unit {0} };
+
     /// Reads the next packet into the slot, where there is one; false at the end. What a fault or the end leaves in the slot is
     /// open.
     fn read_packet(&mut self, packet: &mut Packet) -> Result<bool, ReadFault>
@@ -47,7 +53,8 @@ pub trait PacketSource {
             × (given self.new ≡ given self.old + cond more 1 0)) }
         ensures none { IfErr result (λ _. given self.new ≡ given self.old) }
         ensures counted { IfOk result (λ _. given self.new < 2 ^ 64) }
-        ensures few { (counts self.new).calls ≤ (counts self.old).calls + 2 ^ 20 }
+        ensures few { (counts self.new).calls ≤ (counts self.old).calls + most_calls self.old self.new }
+        ensures end { result ≡ Ok false → is_spent self.new }
         ensures broken { is_broken self.new ≡ is_err result }
         ensures spent { is_broken self.old ≡ true → (result ≡ Err Failed) × (self.new ≡ self.old) };
 
