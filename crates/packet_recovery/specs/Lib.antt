@@ -1,0 +1,4 @@
+pub mod Framing
+pub mod Mending
+pub mod Laws
+pub mod Reading
