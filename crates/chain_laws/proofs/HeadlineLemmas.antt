@@ -94,7 +94,7 @@ module _ (c : Purpose) where
       let clean = no_test as_run_fault (network_fault c p past) here.1 in
       only_by (p ∷ past) ps both.1 (ap (λ x. option_or x (network_fault c p past)) k ∙ clean)
 
-faultless : (c : Config) (bs : List ℕ) → first_run_fault (writing_cues c) bs ≡ None → first_fault (writing_cues c) (reverse (packets_of bs)) ≡ None
+pub faultless : (c : Config) (bs : List ℕ) → first_run_fault (writing_cues c) bs ≡ None → first_fault (writing_cues c) (reverse (packets_of bs)) ≡ None
 faultless c bs h = only_by (writing_cues c) [] (packets_of bs) (or_none (first_of (fault_of Read (network_test as_run_fault (writing_cues c))) (seen_after [] (packets_of bs))) (fault_behind Read (last_part bs)) h).0 refl
 
 -- packets of bytes are of bytes
@@ -110,7 +110,7 @@ module _ (c : Config) (filed : ℕ → Option Advertisement) (library : IsLibrar
   packets-are : packets_in (history_of bs ts rs) ≡ reverse (packets_of bs)
   packets-are = steps_packets (length rs) ts (reverse (packets_of bs))
 
-  whole-run : ArePacketsOfBytes (reverse (packets_of bs)) → AreBytes (bytes_of ts) → IsWholeRun c filed (history_of bs ts rs)
+  pub whole-run : ArePacketsOfBytes (reverse (packets_of bs)) → AreBytes (bytes_of ts) → IsWholeRun c filed (history_of bs ts rs)
   whole-run network automation = record {
     run = record {
       cue_pid = (let below = c.below_null in omega (arith, below));
@@ -124,7 +124,7 @@ module _ (c : Config) (filed : ℕ → Option Advertisement) (library : IsLibrar
     library = libraries_are_packed c filed steps library;
   }
 
-  spliced-so : ArePacketsOfBytes (reverse (packets_of bs)) → AreBytes (bytes_of ts) → IsSpliced c filed (history_of bs ts rs)
+  pub spliced-so : ArePacketsOfBytes (reverse (packets_of bs)) → AreBytes (bytes_of ts) → IsSpliced c filed (history_of bs ts rs)
   spliced-so network automation = let w = whole-run network automation in record {
     placed = λ pid a. carries-placed c filed steps w pid a;
     spliced = λ pid a d. carries-splice c filed steps w pid a d;

@@ -54,15 +54,19 @@ pub record GoesOutToAnEnd (c : Config) (filed : ℕ → Option Advertisement) (s
   pub last : end_of e ≤ℤ stop
   pub goes : sent (as_played e) ≡ (if is_reached (switched_by c steps) pid (behind_by c steps) e then up_to_end stop ((adverts_by c filed steps).units e pid) else [])
 
--- PLACED: the stream's payload packets are its lead, unchanged, and then packets that carry its units outside all played breaks, in order,
--- with what goes out of each reached break before the first unit at or past its start
-pub record CarriesPlaced (c : Config) (filed : ℕ → Option Advertisement) (steps : List Step) (pid : ℕ) : Type 0 where
+-- PLACED, in these packets: the stream's payload packets are its lead, unchanged, and then packets that carry its units outside all played
+-- breaks, in order, with what goes out of each reached break before the first unit at or past its start
+pub record CarriesPlacedIn (out : List (List ℕ)) (c : Config) (filed : ℕ → Option Advertisement) (steps : List Step) (pid : ℕ) : Type 0 where
   pub sent : PlayedEvent → List SliceUnit
   pub slices : AllByRecursion (GoesOutToAnEnd c filed steps pid sent) (played (adverts_by c filed steps) (accepted_by c steps))
   pub whole : AllByRecursion (GoesOutWhole c filed steps pid sent) (played (adverts_by c filed steps) (accepted_by c steps))
   pub carried : List (List ℕ)
-  pub packets : filter (payload_on pid) (output_by c filed steps) ≡ lead_by c steps pid ++ carried
+  pub packets : filter (payload_on pid) out ≡ lead_by c steps pid ++ carried
   pub carries : CarriesUnits carried (placed_payloads (switched_by c steps) pid (played_by c filed steps) sent [] (run_by c steps))
+
+-- in the output of a run
+abbrev pub CarriesPlaced : Config → (ℕ → Option Advertisement) → List Step → ℕ → Type 0
+CarriesPlaced c filed steps pid = CarriesPlacedIn (output_by c filed steps) c filed steps pid
 
 -- THE LAW OF STREAMS, on any network without a fault
 abbrev pub StreamsCarryPlaced : Type 0
@@ -84,11 +88,15 @@ splice_by c filed steps pid =
     break_splice None (played (adverts_by c filed steps) (accepted_by c steps)) (is_reached (switched_by c steps) pid (behind_by c steps)) (slice_of (adverts_by c filed steps) pid)
     (units (switched_by c steps) pid (run_by c steps))
 
--- the stream's payload packets are its lead, unchanged, and then packets that carry the splice
-pub record CarriesSplice (c : Config) (filed : ℕ → Option Advertisement) (steps : List Step) (pid : ℕ) : Type 0 where
+-- in these packets the stream's payload packets are its lead, unchanged, and then packets that carry the splice
+pub record CarriesSpliceIn (out : List (List ℕ)) (c : Config) (filed : ℕ → Option Advertisement) (steps : List Step) (pid : ℕ) : Type 0 where
   pub carried : List (List ℕ)
-  pub packets : filter (payload_on pid) (output_by c filed steps) ≡ lead_by c steps pid ++ carried
+  pub packets : filter (payload_on pid) out ≡ lead_by c steps pid ++ carried
   pub carries : CarriesUnits carried (splice_by c filed steps pid)
+
+-- in the output of a run
+abbrev pub CarriesSplice : Config → (ℕ → Option Advertisement) → List Step → ℕ → Type 0
+CarriesSplice c filed steps pid = CarriesSpliceIn (output_by c filed steps) c filed steps pid
 
 -- THE LAW OF THE SPLICE: so it is with each switched stream that is conditioned at the starts of the played breaks
 abbrev pub StreamsCarrySplice : Type 0
