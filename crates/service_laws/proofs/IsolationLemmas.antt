@@ -321,7 +321,7 @@ all-left takes all [] a h = tt
 all-left takes all (x ∷ xs) a h = (record { sound = a.0; left = h.0 }, all-left takes all xs a.1 h.1)
 
 -- what holds of each service beside those before and behind it holds of all
-at-each : (P : ServiceTerms → Type 0) (all before after : List ServiceTerms) → all ≡ before ++ after → ((before : List ServiceTerms) (s : ServiceTerms) (after : List ServiceTerms) → all ≡ before ++ s ∷ after → P s) → AllByRecursion P after
+pub at-each : (P : ServiceTerms → Type 0) (all before after : List ServiceTerms) → all ≡ before ++ after → ((before : List ServiceTerms) (s : ServiceTerms) (after : List ServiceTerms) → all ≡ before ++ s ∷ after → P s) → AllByRecursion P after
 at-each P all before [] is f = tt
 at-each P all before (s ∷ after) is f = (f before s after is, at-each P all (before ++ s ∷ []) after (is ∙ sym (append_assoc before (s ∷ []) after)) f)
 

@@ -20,7 +20,7 @@ use Rattle.as_session.proofs.WidthLemmas.{each_message_fits}
 use Rattle.injector.specs.Steps.{Step, Message, Packet}
 use Rattle.chain_engine.specs.Automation.{Take, piece, bytes_in, bytes_of}
 use Rattle.chain_engine.specs.Talks.{is_piece, messages_taken, judged_in, judged_before}
-use Rattle.chain_engine.specs.Runs.{asked, steps_of}
+use Rattle.chain_engine.specs.Runs.{asked, steps_of, steps_before}
 use Rattle.chain_engine.proofs.StepsLemmas.{messages_front}
 use Rattle.chain_engine.proofs.TalkLemmas.{bytes_more, none_bytes}
 use Rattle.service_laws.specs.Messages.{is_for, own_steps}
@@ -206,6 +206,13 @@ module _ (index most : ℕ) (ts : List Take) where
         ap (λ l. Packet p ∷ asked l (steps_of (own_judged index most ts k) (own_takes index most ts k) past)) judged
         ∙ ap (λ s. Packet p ∷ asked (own_before (length past)) s) before
         ∙ ap (λ s. Packet p ∷ s) (own_asked index (judged_before most ts (length past)) (steps_of most ts past))
+
+    -- and that before the packet behind it
+    pub own_history_before : (past : List (List ℕ)) → suc (length past) ≤ k → steps_before (own_judged index most ts k) (own_takes index most ts k) past ≡ own_steps index (steps_before most ts past)
+    own_history_before past le =
+        ap (λ l. asked l (steps_of (own_judged index most ts k) (own_takes index most ts k) past)) (own_judged_before (length past) le)
+        ∙ ap (asked (own_before (length past))) (own_history past (omega (arith, le)))
+        ∙ own_asked index (judged_before most ts (length past)) (steps_of most ts past)
 
   -- the messages are of bytes where what was taken is
   own_widths : (k : ℕ) → AreBytes (bytes_of ts) → AllByRecursion IsInWidth (own_in k)
