@@ -4,3 +4,9 @@ pub mod RestLemmas
 pub mod ApartLemmas
 pub mod BeginLemmas
 pub mod StageLemmas
+pub mod AnswerLemmas
+pub mod SoundLemmas
+pub mod HeadlineLemmas
+pub mod AloneLemmas
+pub mod OrderLemmas
+pub mod IsolationLemmas

@@ -3,3 +3,4 @@ pub mod Parts
 pub mod Runs
 pub mod Refused
 pub mod Stages
+pub mod Isolation

@@ -1,7 +1,8 @@
 //! Several services in one stream: one automation speaks for up to eight programmes, and each has a chain of its own.
 //! It stands on `chain_engine`, for what one programme's chain does and the talk with the automation, and on `packet_runs`, for the loop.
-//! What a caller uses: `run_services` says by `specs/Runs.antt` what is out and answered, by the definitions of `service_laws`, whose laws say
-//! that what is one service's is that of a run of its own.
+//! What a caller uses: `run_services` says by `specs/Runs.antt` what is out and answered, by the definitions of `service_laws`; and by
+//! `specs/Isolation.antt` that what is one service's is that of `run` with it alone, with the headline of `chain_laws` for it, that the rest
+//! is the network's, and how all of it is ordered.
 #![tactic(auto)]
 
 mod desk;

@@ -10,6 +10,7 @@ ghost use Rattle.chain_engine.specs.Splices.{NetworkBlamedToEnd};
 ghost use Rattle.service_laws.specs.Faults.{first_services_fault};
 ghost use Rattle.chain_services.specs.Serving.{services_in};
 ghost use Rattle.chain_services.specs.Runs.{ServicesStandFor, ServicesRunAll, ServicesStop, terms_by};
+ghost use Rattle.chain_services.specs.Isolation.{IsolatesAll};
 
 use crate::refusal::{Refusal, put_fault_of, run_fault_of, stage_fault_of};
 use crate::report::ServiceReport;
@@ -138,6 +139,9 @@ pub fn run_services<M: Allocator, P: PausingPackets, U: Automation, K: Gathering
     requires libraries { length libraries.now ≡ length (services_in services.desk) }
     ensures ok { (cs : List Config) (start : Option (List ℕ)) (before : List (List ℕ)) → ServicesStandFor services cs
         → K.holds out.old start before → IfOk result (ServicesRunAll (terms_by cs libraries.now) (P.left network.old)
+        (λ ps. K.holds out.new start (before ++ ps)) (Exchanged U.exchanges U.failures automation.old automation.new)) }
+    ensures isolated { (cs : List Config) (start : Option (List ℕ)) (before : List (List ℕ)) → ServicesStandFor services cs
+        → K.holds out.old start before → IfOk result (IsolatesAll (terms_by cs libraries.now) (P.left network.old)
         (λ ps. K.holds out.new start (before ++ ps)) (Exchanged U.exchanges U.failures automation.old automation.new)) }
     ensures err { (cs : List Config) (start : Option (List ℕ)) (before : List (List ℕ)) → ServicesStandFor services cs
         → K.holds out.old start before → IfErr result (λ f. ServicesStop (terms_by cs libraries.now) f (P.left network.old)
