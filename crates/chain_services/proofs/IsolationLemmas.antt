@@ -28,19 +28,21 @@ use Rattle.service_laws.specs.Services.{ServiceTerms, configs_of, services_outpu
 use Rattle.service_laws.specs.Faults.{share_a_pid}
 use Rattle.service_laws.specs.Laws.{AreServed, IsAlone, all_pids}
 use Rattle.service_laws.proofs.IsolationLemmas.{at-each, each_is_alone, others_are_the_networks, no_cue_goes_out}
-use Rattle.chain_services.specs.Serving.{reply_by}
+use Rattle.chain_services.specs.Serving.{reply_by, services_in}
 use Rattle.chain_services.specs.Parts.{AreEvents}
-use Rattle.chain_services.specs.Runs.{ServicesRan, ServicesRunAll, terms_by}
+use Rattle.chain_services.specs.Runs.{ServicesStandFor, ServicesRan, ServicesRunAll, terms_by}
 use Rattle.chain_services.specs.Isolation.{Given, messages_of, replies_to, is_for_none, left_alone, stands_among, AreAsAlone, AreApart, Isolated, IsolatesAll}
 use Rattle.chain_services.specs.declared.report.ServiceEvents.{ServiceEvents}
 use Rattle.chain_services.specs.declared.report.ServiceReport.{ServiceReport}
+use Rattle.chain_services.specs.declared.services.Services.{Services}
+use Rattle.chain_services.proofs.BeginLemmas.{configs_by, configs_are, as_many}
 use Rattle.chain_services.proofs.AnswerLemmas.{readings_in, takes_few, all_readings, own_replies, none_replies, own_reply_at, none_reply}
 use Rattle.chain_services.proofs.SoundLemmas.{are_apart, all_sound}
 use Rattle.chain_services.proofs.AloneLemmas.{as_alone}
 use Rattle.chain_services.proofs.OrderLemmas.{sends_so, rests_so}
 
 -- what is filed for each service is what a library holds
-pub libraries_by : {A : Type 0} (cs : List Config) (ls : List (AdLibrary A)) → AllByRecursion (λ (t : ServiceTerms). IsLibrary t.filed) (terms_by cs ls)
+libraries_by : {A : Type 0} (cs : List Config) (ls : List (AdLibrary A)) → AllByRecursion (λ (t : ServiceTerms). IsLibrary t.filed) (terms_by cs ls)
 libraries_by [] ls = tt
 libraries_by (c ∷ cs) [] = tt
 libraries_by (c ∷ cs) (l ∷ ls) = (held_is_library l, libraries_by cs ls)
@@ -162,7 +164,16 @@ isolated ts bs is_out exchanged report libraries indexes ran =
     }
 
 -- so it is where the network's bytes are told
-pub isolates_all : (ts : List ServiceTerms) (input : Option (List ℕ)) (is_out : List (List ℕ) → Type 0) (exchanged : Option SessionEnd → List Take → List Reply → Type 0) (report : ServiceReport)
+isolates_all : (ts : List ServiceTerms) (input : Option (List ℕ)) (is_out : List (List ℕ) → Type 0) (exchanged : Option SessionEnd → List Take → List Reply → Type 0) (report : ServiceReport)
     → AllByRecursion (λ (t : ServiceTerms). IsLibrary t.filed) ts → share_an_index (configs_of ts) ≡ false → ServicesRunAll ts input is_out exchanged report → IsolatesAll ts input is_out exchanged report
 isolates_all ts None is_out exchanged report libraries indexes h = tt
 isolates_all ts (Some bs) is_out exchanged report libraries indexes h = isolated ts bs is_out exchanged report libraries indexes h
+
+-- and where they were given nothing before, each with a library
+pub isolates_by : {M A : Type 0} (services : Services M) (cs : List Config) (libraries : List (AdLibrary A)) → ServicesStandFor services cs → length libraries ≡ length (services_in services.desk)
+    → (input : Option (List ℕ)) (is_out : List (List ℕ) → Type 0) (exchanged : Option SessionEnd → List Take → List Reply → Type 0) (report : ServiceReport)
+    → ServicesRunAll (terms_by cs libraries) input is_out exchanged report → IsolatesAll (terms_by cs libraries) input is_out exchanged report
+isolates_by services cs libraries h many input is_out exchanged report ran =
+    let long : length libraries ≡ length cs = many ∙ sym (as_many (services_in services.desk)) ∙ ap length (configs_are services cs h) in
+    isolates_all (terms_by cs libraries) input is_out exchanged report (libraries_by cs libraries)
+    (subst (λ l. share_an_index l ≡ false) (sym (configs_by cs libraries long)) h.indexes) ran

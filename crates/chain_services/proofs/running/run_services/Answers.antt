@@ -1,18 +1,17 @@
 use Rattle.std.proofs.Common.{◌≡◌, Err, List, ◌++◌, ◌∙◌, length, ℕ, refl, sym, ap, subst}
-use Rattle.std.specs.Prelude.{IfSome, None, false}
+use Rattle.std.specs.Prelude.{IfSome, None}
 use Rattle.packet_runs.specs.Stops as stops
 use Rattle.chain_engine.specs.Stops.{run_cause}
 use Rattle.chain_engine.specs.Runs.{Exchanged, OutputBlamed}
 use Rattle.chain_engine.specs.Splices.{NetworkBlamedToEnd}
 use Rattle.chain_engine.specs.declared.faults.RunFault.TheVariants.{Read}
 use Rattle.chain_engine.proofs.ProgressLemmas.{end_progresses, stop_progresses}
-use Rattle.service_laws.specs.Messages.{share_an_index}
 use Rattle.service_laws.specs.Services.{configs_of}
 use Rattle.service_laws.specs.Faults.{services_test, first_services_fault}
 use Rattle.chain_services.specs.Serving.{services_in}
 use Rattle.chain_services.specs.Runs.{ServicesStandFor, ServicesRunAll, ServicesLeave, ServicesStop, terms_by}
 use Rattle.chain_services.specs.Stages.{services_fault_of, terms_in}
-use Rattle.chain_services.proofs.IsolationLemmas.{libraries_by, isolates_all}
+use Rattle.chain_services.proofs.IsolationLemmas.{isolates_by}
 use Rattle.chain_services.proofs.BeginLemmas.{services_begin, configs_are, configs_by, as_many}
 use Rattle.chain_services.proofs.StageLemmas.{services_run_all, services_leave, stops_by, none_by, services_fail, services_sound, network_blamed, output_blamed, turns_of}
 use Rattle.chain_services.proofs.running.run_services.Goals as goal
@@ -41,10 +40,7 @@ returns-in-Ok-clause-ok g c = λ cs start before h is_held.
 
 pub returns-in-Ok-clause-isolated : goal.returns-in-Ok-clause-isolated
 returns-in-Ok-clause-isolated g c = λ cs start before h is_held.
-    let input = g.P.PacketSource.left c.args.network.now in
-    let long : length c.args.libraries.now ≡ length cs = c.requires.libraries ∙ sym (as_many (services_in c.args.services.desk)) ∙ ap length (configs_are c.args.services cs h) in
-    let indexes = subst (λ l. share_an_index l ≡ false) (sym (configs_by cs c.args.libraries.now long)) h.indexes in
-    isolates_all (terms_by cs c.args.libraries.now) input _ _ c.in-Ok.report (libraries_by cs c.args.libraries.now) indexes (returns-in-Ok-clause-ok g c cs start before h is_held)
+    isolates_by c.args.services cs c.args.libraries.now h c.requires.libraries (g.P.PacketSource.left c.args.network.now) _ _ c.in-Ok.report (returns-in-Ok-clause-ok g c cs start before h is_held)
 
 pub returns-clause-err : goal.returns-clause-err
 returns-clause-err g c = λ cs start before h is_held.
