@@ -116,14 +116,14 @@ const INDEX: ValueOption = ValueOption {
     is_required: true,
 };
 
-const SCRIPT: ValueOption = ValueOption {
+pub(crate) const SCRIPT: ValueOption = ValueOption {
     id: "script",
     value_name: "FILE",
     help: "The messages as lines of text, a packet's number, a space and digits; - is standard input",
     is_required: false,
 };
 
-const LISTEN: ValueOption = ValueOption {
+pub(crate) const LISTEN: ValueOption = ValueOption {
     id: "listen",
     value_name: "PORT",
     help: "The port of this machine, from 1 to 65535, to which one automation system may connect",
@@ -186,6 +186,18 @@ pub enum Asking<'a> {
     Port(u16),
 }
 
+impl<'a> Asking<'a> {
+    /// What the end is called where the messages come from.
+    pub fn name(&self) -> &'a str
+        ensures { result.now ≡ asking_name self.now }
+    {
+        match *self {
+            Asking::Script(end) => end.input_name(),
+            Asking::Port(_) => "the port",
+        }
+    }
+}
+
 /// What `inject` is to do.
 #[derive(Clone, Copy, Debug, Drop)]
 pub struct InjectOptions<'a> {
@@ -215,10 +227,7 @@ impl<'a> InjectOptions<'a> {
     pub fn asking_name(&self) -> &'a str
         ensures { result.now ≡ asking_name self.now.asking }
     {
-        match self.asking {
-            Asking::Script(end) => end.input_name(),
-            Asking::Port(_) => "the port",
-        }
+        self.asking.name()
     }
 
     /// What the list is called, where there is one.
@@ -304,7 +313,7 @@ fn config_of<'a>(
 }
 
 /// Where the messages come from: exactly one option says it.
-fn asking_of<'a>(
+pub(crate) fn asking_of<'a>(
     script: Option<&'a str>,
     listen: Option<&'a str>,
 ) -> Result<Asking<'a>, BadInject<'a>>
@@ -354,7 +363,7 @@ fn is_listed_there(adverts: Option<End<'_>>) -> bool
 }
 
 /// The network, the messages and the list, where there is one, come from different ends: one of them alone may be standard input.
-fn check_inputs<'a>(
+pub(crate) fn check_inputs<'a>(
     network: End<'a>,
     asking: Asking<'a>,
     adverts: Option<End<'a>>,

@@ -1,6 +1,6 @@
 //! What is told where a run came to a fault, or a command line names no run, and the exit status.
 
-ghost use Rattle.std.specs.Prelude.{◌≡◌, ◌≢◌};
+ghost use Rattle.std.specs.Prelude.{◌≡◌, ◌≢◌, ◌≤◌};
 ghost use Rattle.clap.specs.Values.{kind_of};
 
 use clap::Error;
@@ -14,7 +14,7 @@ pub const DONE: u8 = 0;
 /// The exit status after a fault, as where memory was refused.
 const FAULT: u8 = 1;
 
-/// The exit status where the command line is not taken, or names no run.
+/// The exit status where the command line is not taken.
 pub const USAGE: u8 = 2;
 
 /// Prints the line of the fault of this name, and answers the exit status.
@@ -25,16 +25,29 @@ pub fn report<E: Write>(faults: &mut E, name: &str) -> u8
     FAULT
 }
 
-/// Answers a command line that names no run, help and version among them: its text is printed on `faults`.
-pub fn answer<E: Write>(faults: &mut E, error: &Error) -> u8
+/// Answers a command line that names no run. Help or the version that was asked for is printed on `output`, what is wrong with a command line
+/// that is not taken on `faults`. The exit status is 0 only where help or the version is out.
+pub fn answer<O: Write, E: Write>(output: &mut O, faults: &mut E, error: &Error) -> u8
     ensures memory { kind_of error.now ≡ ErrorKind.OutOfMemory → result ≡ 1 }
-    ensures mistake { kind_of error.now ≢ ErrorKind.OutOfMemory → result ≡ 2 }
+    ensures help { kind_of error.now ≡ ErrorKind.DisplayHelp → result ≤ 1 }
+    ensures version { kind_of error.now ≡ ErrorKind.DisplayVersion → result ≤ 1 }
+    ensures mistake { kind_of error.now ≢ ErrorKind.OutOfMemory → kind_of error.now ≢ ErrorKind.DisplayHelp
+        → kind_of error.now ≢ ErrorKind.DisplayVersion → (result ≡ 2) × (output.new ≡ output.old) }
+    ensures done { result ≡ 0 → faults.new ≡ faults.old }
 {
-    if error.kind() == ErrorKind::OutOfMemory {
-        return report(faults, "OutOfMemory");
+    match error.kind() {
+        ErrorKind::OutOfMemory => report(faults, "OutOfMemory"),
+        ErrorKind::DisplayHelp | ErrorKind::DisplayVersion => {
+            if write!(output, "{error}").is_err() {
+                return report(faults, "Io");
+            }
+            DONE
+        }
+        _ => {
+            let _ = write!(faults, "{error}");
+            USAGE
+        }
     }
-    let _ = write!(faults, "{error}");
-    USAGE
 }
 
 /// Prints why a command line is not taken, and how its subcommand is called.
