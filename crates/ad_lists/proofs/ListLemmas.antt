@@ -35,7 +35,8 @@ given u id path after before text same some number =
 
 -- ---- the text
 
-line_push : (bs : List ℕ) (b : ℕ) → is_line bs ≡ true → (b == 10) ≡ false → is_line (bs ++ b ∷ []) ≡ true
+-- a byte that is no line feed is of the line
+pub line_push : (bs : List ℕ) (b : ℕ) → is_line bs ≡ true → (b == 10) ≡ false → is_line (bs ++ b ∷ []) ≡ true
 line_push [] b h other = ap (λ t. not t && true) other
 line_push (x ∷ bs) b h other =
     let parts = both (not (x == 10)) (is_line bs) h in
@@ -175,32 +176,32 @@ nothing_read l empty size items = record {
 pub takes_on : (text done part rest behind : List ℕ) (b : ℕ) → part ≡ done ++ rest → rest ≡ b ∷ behind → part ≡ (done ++ b ∷ []) ++ behind
 takes_on text done part rest behind b e first = e ∙ ap (λ r. done ++ r) first ∙ sym (append_assoc done (b ∷ []) behind)
 
-pub take_stops : (f : ListFault) (text done part rest behind more : List ℕ) (b : ℕ) → part ≡ done ++ rest → rest ≡ b ∷ behind
-    → StopsAt f ((text ++ done) ++ b ∷ (behind ++ more)) → StopsAt f (text ++ (part ++ more))
-take_stops f text done part rest behind more b e first h =
-    subst (StopsAt f) (append_assoc text done (b ∷ (behind ++ more)) ∙ ap (λ t. text ++ t) (sym (append_assoc done (b ∷ behind) more))
+pub said_later : (P : List ℕ → Type 0) (text done part rest behind more : List ℕ) (b : ℕ) → part ≡ done ++ rest → rest ≡ b ∷ behind
+    → P ((text ++ done) ++ b ∷ (behind ++ more)) → P (text ++ (part ++ more))
+said_later P text done part rest behind more b e first h =
+    subst P (append_assoc text done (b ∷ (behind ++ more)) ∙ ap (λ t. text ++ t) (sym (append_assoc done (b ∷ behind) more))
     ∙ ap (λ p. text ++ (p ++ more)) (sym (e ∙ ap (λ r. done ++ r) first))) h
 
 -- ---- reads of the list
 
--- it stops within what was read last
-pub stops_within : (f : ListFault) (a b c : Option (List ℕ)) (bs part : List ℕ) → Consumes a b bs → Consumes b c part → ((more : List ℕ) → StopsAt f (bs ++ (part ++ more)))
-    → IfSome a (StopsAt f)
-stops_within f None b c bs part p q h = tt
-stops_within f (Some x) None c bs part p q h = absurd p
-stops_within f (Some x) (Some y) None bs part p q h = absurd q
-stops_within f (Some x) (Some y) (Some z) bs part p q h = subst (StopsAt f) (sym (p ∙ ap (λ l. bs ++ l) q)) (h z)
+-- what is said of all that was to come is said of what was read last and of what is left
+pub said_within : (P : List ℕ → Type 0) (a b c : Option (List ℕ)) (bs part : List ℕ) → Consumes a b bs → Consumes b c part → ((more : List ℕ) → P (bs ++ (part ++ more)))
+    → IfSome a P
+said_within P None b c bs part p q h = tt
+said_within P (Some x) None c bs part p q h = absurd p
+said_within P (Some x) (Some y) None bs part p q h = absurd q
+said_within P (Some x) (Some y) (Some z) bs part p q h = subst P (sym (p ∙ ap (λ l. bs ++ l) q)) (h z)
 
--- it stops at its end
-pub stops_all : (f : ListFault) (a : Option (List ℕ)) (bs : List ℕ) → IfSome a (λ all. all ≡ bs) → StopsAt f bs → IfSome a (StopsAt f)
-stops_all f None bs e h = tt
-stops_all f (Some x) bs e h = subst (StopsAt f) (sym e) h
+-- of all that was read, at the end
+pub said_all : (P : List ℕ → Type 0) (a : Option (List ℕ)) (bs : List ℕ) → IfSome a (λ all. all ≡ bs) → P bs → IfSome a P
+said_all P None bs e h = tt
+said_all P (Some x) bs e h = subst P (sym e) h
 
--- it stops behind what was read
-pub stops_behind : (f : ListFault) (a b : Option (List ℕ)) (bs : List ℕ) → Consumes a b bs → ((more : List ℕ) → StopsAt f (bs ++ more)) → IfSome a (StopsAt f)
-stops_behind f None b bs p h = tt
-stops_behind f (Some x) None bs p h = absurd p
-stops_behind f (Some x) (Some y) bs p h = subst (StopsAt f) (sym p) (h y)
+-- of what was read, and of what is left
+pub said_behind : (P : List ℕ → Type 0) (a b : Option (List ℕ)) (bs : List ℕ) → Consumes a b bs → ((more : List ℕ) → P (bs ++ more)) → IfSome a P
+said_behind P None b bs p h = tt
+said_behind P (Some x) None bs p h = absurd p
+said_behind P (Some x) (Some y) bs p h = subst P (sym p) (h y)
 
 -- ---- a device whose reads take too long
 

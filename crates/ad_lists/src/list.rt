@@ -167,7 +167,7 @@ impl<M: Allocator + Copy> Loading<M> {
 }
 
 /// Whether the line is white space alone.
-fn is_blank(line: &[u8]) -> bool
+pub fn is_blank(line: &[u8]) -> bool
     ensures { result ≡ is_blank line.now }
 {
     line.iter().all(|byte| byte.is_ascii_whitespace())

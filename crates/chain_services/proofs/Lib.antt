@@ -1,8 +1,9 @@
-pub mod ServingLemmas
-pub mod PartLemmas
-pub mod RestLemmas
 pub mod ApartLemmas
 pub mod BeginLemmas
+pub mod ManyLemmas
+pub mod PartLemmas
+pub mod RestLemmas
+pub mod ServingLemmas
 pub mod StageLemmas
 pub mod AnswerLemmas
 pub mod SoundLemmas

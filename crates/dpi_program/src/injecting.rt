@@ -105,10 +105,10 @@ fn script_from<R: Read + Drop, W: Drop>(
     }
 }
 
-/// The automation that the options name, and where it is a file what the system says of that.
-fn open_asker<R, I, W>(
+/// The automation that an option names, and where it is a file what the system says of that.
+pub(crate) fn open_asker<R, I, W>(
     rt: &R,
-    options: &InjectOptions<'_>,
+    asking: Asking<'_>,
     input: &mut I,
     replies: W,
 ) -> Result<(Asker<W, R::Listener>, Option<Metadata>), Stopped>
@@ -117,7 +117,7 @@ where
     I: Read,
     W: Drop,
 {
-    let end = match options.asking {
+    let end = match asking {
         Asking::Script(end) => end,
         Asking::Port(port) => match listen(rt, port) {
             Ok(listener) => return Ok((Asker::Port(listener), None)),
@@ -185,7 +185,7 @@ where
         },
         None => None,
     };
-    let (asker, script) = open_asker(rt, options, input, replies)?;
+    let (asker, script) = open_asker(rt, options.asking, input, replies)?;
     let (library, list) = match options.adverts {
         Some(adverts) => {
             let (library, list) = open_library(rt, adverts, input)?;

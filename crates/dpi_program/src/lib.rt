@@ -6,11 +6,13 @@
 mod cutting;
 mod injecting;
 pub mod program;
+mod serving;
 mod splicing;
 
 pub use ad_lists::{ListFault, load_list};
 pub use automations::{Script, ScriptFault};
 pub use packet_lines::{LinesFault, cut_lines};
 pub use passages::fault::ProgramFault;
-pub use passages::listening::{ListenFault, inject_listening, run_listening};
+pub use passages::listening::{ListenFault, inject_listening, run_listening, services_listening};
+pub use service_lists::{ServiceList, ServicesFault, load_services};
 pub use unit_cut::{CutFault, cut};

@@ -4,12 +4,14 @@ ghost use Rattle.std.specs.Prelude.{◌≡◌, ◌≤◌};
 
 use crate::cutting::run_cut;
 use crate::injecting::{Injected, run_inject_command};
+use crate::serving::{Served, run_services_command};
 use crate::splicing::run_splice_command;
 use command_lines::command::{CUT_USAGE, CutOptions, command, cut_options};
 use command_lines::inject_options::{
     INJECT_USAGE, InjectOptions, RUN_USAGE, inject_options, run_options,
 };
 use command_lines::refusals::{DONE, USAGE, answer, refuse, report};
+use command_lines::services_options::{SERVICES_USAGE, ServicesOptions, services_options};
 use command_lines::splice_options::{SPLICE_USAGE, SpliceOptions, splice_options};
 use passages::fault::{ProgramFault, fault_name};
 use passages::tell::{Side, SpliceAccount, Stopped, Trouble};
@@ -163,6 +165,81 @@ where
     DONE
 }
 
+/// Prints the report of a run of several services, and answers whether it is out.
+fn print_served<W: Write>(printed: &mut W, served: &Served) -> bool {
+    let messages = served.report.messages;
+    let (accepted, refused) = (served.report.accepted, served.report.refused);
+    let text = write!(
+        printed,
+        "messages {messages}\naccepted {accepted}\nrefused {refused}\n"
+    );
+    if text.is_err() {
+        return false;
+    }
+    for events in served.report.services.iter() {
+        let program = events.program;
+        if writeln!(printed, "service {program}").is_err()
+            || !print_switched(printed, &events.switch)
+        {
+            return false;
+        }
+    }
+    true
+}
+
+/// Prints the fault's line of a run of several services, and behind it what is known of it where that is asked for.
+fn report_services<E: Write>(faults: &mut E, options: &ServicesOptions<'_>, stopped: &Stopped) -> u8
+    ensures { result ≡ 1 }
+{
+    let status = report(faults, fault_name(stopped.fault));
+    if options.is_verbose && stopped.fault != ProgramFault::OutOfMemory {
+        let name = match stopped.side {
+            Side::Reading => options.network.input_name(),
+            Side::Writing => options.output.output_name(),
+            Side::Scripting => options.asking_name(),
+            Side::Listening => options.asking_name(),
+            Side::Filing => options.services.input_name(),
+            Side::Printing => "the standard stream",
+        };
+        let trouble = Trouble { stopped, name };
+        let _ = write!(faults, "{trouble}");
+    }
+    status
+}
+
+/// Runs `services`, and answers the exit status.
+fn services<R, I, O, E>(
+    rt: &R,
+    options: &ServicesOptions<'_>,
+    input: &mut I,
+    output: &mut O,
+    faults: &mut E,
+) -> u8
+where
+    R: Files + Net + AllocGlobal,
+    I: Read,
+    O: Write,
+    E: Write,
+    ensures { result ≤ 1 }
+{
+    let served = match run_services_command(rt, options, input, output, faults) {
+        Ok(served) => served,
+        Err(stopped) => return report_services(faults, options, &stopped),
+    };
+    let is_out = if options.has_standard_output() {
+        print_served(faults, &served)
+    } else {
+        print_served(output, &served)
+    };
+    if !is_out {
+        return report(faults, fault_name(ProgramFault::Print));
+    }
+    if let Some(account) = served.account {
+        let _ = write!(faults, "{account}");
+    }
+    DONE
+}
+
 /// Runs `cut`, and answers the exit status.
 fn cut<R, I, O, E>(
     rt: &R,
@@ -189,9 +266,9 @@ where
     }
 }
 
-/// Runs the program with the words after its name, and answers its exit status: 0 where all is done; 1 after a fault, with the one
-/// line `fault: NAME` on `faults`; 2 where the command line is not taken or asks for help or the version, with a text for the user
-/// on `faults`. With `--verbose` one more line stands on `faults`, behind the fault's or alone.
+/// Runs the program with the words after its name, and answers its exit status: 0 where all is done, also where help or the version was asked
+/// for, whose text is then on `output`; 1 after a fault, with the one line `fault: NAME` on `faults`; 2 where the command line is not taken,
+/// with a text for the user on `faults`. With `--verbose` one more line stands on `faults`, behind the fault's or alone.
 pub fn program<R, I, O, E>(
     rt: &R,
     words: &[&str],
@@ -211,7 +288,7 @@ where
     };
     let matches = match line.try_get_matches_from(words) {
         Ok(matches) => matches,
-        Err(error) => return answer(faults, &error),
+        Err(error) => return answer(output, faults, &error),
     };
     if let Some(given) = matches.subcommand_matches("cut") {
         return match cut_options(given) {
@@ -223,6 +300,12 @@ where
         return match splice_options(given) {
             Ok(options) => splice(rt, &options, input, output, faults),
             Err(bad) => refuse(faults, &bad, SPLICE_USAGE),
+        };
+    }
+    if let Some(given) = matches.subcommand_matches("services") {
+        return match services_options(given) {
+            Ok(options) => services(rt, &options, input, output, faults),
+            Err(bad) => refuse(faults, &bad, SERVICES_USAGE),
         };
     }
     let (asked, usage) = if let Some(given) = matches.subcommand_matches("run") {

@@ -1,1 +1,2 @@
 pub mod PassageLemmas
+pub mod ServingLemmas

@@ -8,7 +8,7 @@ use Rattle.unit_cut.specs.declared.run.CutFault.{CutFault}
 use Rattle.unit_cut.specs.declared.run.CutFault.TheVariants.{Read, Scrambled, HeaderSplit, TimeJump, Sink}
 use Rattle.packet_lines.specs.declared.lines.LinesFault.TheVariants.{BadLine, Cut}
 use Rattle.passages.specs.declared.fault.ProgramFault.{ProgramFault}
-use Rattle.passages.specs.declared.fault.ProgramFault.TheVariants.{Lines, Run, Script, List as OfList, Accept, Print, File}
+use Rattle.passages.specs.declared.fault.ProgramFault.TheVariants.{Lines, Run, Script, List as OfList, Services, Accept, Print, File}
 use Rattle.passages.specs.declared.fault.ProgramFault.TheVariants.{Unflushed, OutOfMemory}
 use Rattle.chain_engine.specs.declared.faults.RunFault.{RunFault}
 use Rattle.chain_engine.specs.declared.faults.RunFault.TheVariants as run
@@ -21,6 +21,8 @@ use Rattle.ad_library.specs.declared.fault.AdFault.{AdFault}
 use Rattle.ad_library.specs.declared.fault.AdFault.TheVariants as ad
 use Rattle.ad_lists.specs.declared.list.ListFault.{ListFault}
 use Rattle.ad_lists.specs.declared.list.ListFault.TheVariants as list
+use Rattle.service_lists.specs.declared.fault.ServicesFault.{ServicesFault}
+use Rattle.service_lists.specs.declared.fault.ServicesFault.TheVariants as services
 
 abbrev pub read_name : ReadFault → List ℕ
 read_name read.Truncated = codes "Truncated"
@@ -93,12 +95,24 @@ list_name list.Turns = codes "Turns"
 list_name (list.Ad fault) = ad_name fault
 list_name list.OutOfMemory = codes "OutOfMemory"
 
+-- what the program refuses of the text of a list of services has one name
+abbrev pub services_name : ServicesFault → List ℕ
+services_name services.BadLine = codes "BadList"
+services_name (services.Config bad) = codes "BadList"
+services_name services.File = codes "File"
+services_name (services.Adverts fault) = list_name fault
+services_name (services.Services fault) = codes "BadList"
+services_name services.Io = codes "Io"
+services_name services.Turns = codes "Turns"
+services_name services.OutOfMemory = codes "OutOfMemory"
+
 abbrev pub fault_name : ProgramFault → List ℕ
 fault_name (Lines BadLine) = codes "BadLine"
 fault_name (Lines (Cut fault)) = cut_name fault
 fault_name (Run fault) = run_name fault
 fault_name (Script fault) = script_name fault
 fault_name (OfList fault) = list_name fault
+fault_name (Services fault) = services_name fault
 fault_name Accept = codes "Accept"
 -- what prints failed, or what takes the packets at the end, as a device
 fault_name Print = codes "Io"

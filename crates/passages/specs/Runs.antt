@@ -15,6 +15,9 @@ use Rattle.chain_engine.specs.Runs.{Injected, InjectStops}
 use Rattle.chain_engine.specs.Splices.{Spliced}
 use Rattle.chain_engine.specs.ChainRuns as chain
 use Rattle.chain_engine.specs.declared.report.Report.{Report}
+use Rattle.service_laws.specs.Services.{ServiceTerms}
+use Rattle.chain_services.specs.Runs.{ServicesRan, ServicesStop}
+use Rattle.chain_services.specs.declared.report.ServiceReport.{ServiceReport}
 use Rattle.chain_engine.specs.declared.faults.RunFault.{RunFault}
 use Rattle.automations.specs.ScriptLines.{ScriptLine, GivesLines}
 use Rattle.automations.specs.ScriptTakes.{takes_from}
@@ -83,6 +86,11 @@ abbrev pub Plays : Config → (ℕ → Option Advertisement) → (Option Session
     → List (List ℕ) → Report → Type 0
 Plays c filed told bs ps report = chain.Ran c filed bs (λ qs. qs ≡ ps) told report
 
+-- `services`: the network has no fault for one of the services and no two of them share a PID, these packets are their output, and the report
+-- counts messages and events
+abbrev pub Serves : List ServiceTerms → (Option SessionEnd → List Take → List Reply → Type 0) → List ℕ → List (List ℕ) → ServiceReport → Type 0
+Serves services told bs ps report = ServicesRan services bs (λ qs. qs ≡ ps) told report
+
 -- THE THEOREM of a run with cues that stopped: without a client nothing is out; else the fault says what it says of the network and the
 -- devices, and what is out is by the pieces of messages
 abbrev pub CuesStop : Config → (Option SessionEnd → List Take → List Reply → Type 0) → ListenFault → Option (List ℕ)
@@ -95,6 +103,12 @@ abbrev pub PlaysStop : Config → (ℕ → Option Advertisement) → (Option Ses
     → Option (List ℕ) → (List (List ℕ) → Type 0) → (List (List ℕ) → List ℕ → PutFault → Type 0) → (List (List ℕ) → PutFault → Type 0) → Type 0
 PlaysStop c filed told listen.Accept input is_out fails unsent = is_out []
 PlaysStop c filed told (listen.Run fault) input is_out fails unsent = chain.ChainStops c filed fault input is_out fails unsent told
+
+-- and of one of several services
+abbrev pub ServesStop : List ServiceTerms → (Option SessionEnd → List Take → List Reply → Type 0) → ListenFault → Option (List ℕ)
+    → (List (List ℕ) → Type 0) → (List (List ℕ) → List ℕ → PutFault → Type 0) → (List (List ℕ) → PutFault → Type 0) → Type 0
+ServesStop services told listen.Accept input is_out fails unsent = is_out []
+ServesStop services told (listen.Run fault) input is_out fails unsent = ServicesStop services fault input is_out fails unsent told
 
 -- this is said of the run's answer, where a client came or none was waited for
 abbrev pub IfRan : {R : Type 0} → Result R ListenFault → (Result R RunFault → Type 0) → Type 0

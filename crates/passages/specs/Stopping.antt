@@ -30,6 +30,7 @@ side_of (program.Run (run.Feed feed.Failed)) = side.Reading
 side_of (program.Run run.SharedPid) = side.Reading
 side_of (program.Script fault) = side.Reading
 side_of (program.List fault) = side.Reading
+side_of (program.Services fault) = side.Reading
 side_of program.Accept = side.Listening
 side_of program.Print = side.Reading
 side_of program.Unflushed = side.Writing

@@ -1,6 +1,6 @@
 //! Runs with cues whose messages come from a script or from a client of a port, with advertisements or without.
 
-ghost use Rattle.std.specs.Prelude.{◌≡◌, ℕ, ◌⊎◌, List, [], Option, Err, false, nat_lt, OnOk, IfOk, IfErr};
+ghost use Rattle.std.specs.Prelude.{◌≡◌, ℕ, ◌⊎◌, List, [], length, Option, Err, false, nat_lt, OnOk, IfOk, IfErr};
 ghost use Rattle.ts_packet.specs.Sources.{SourceCounts, Stalled, Exhausted};
 ghost use Rattle.ts_packet.specs.Transfers.{WentWell};
 ghost use Rattle.psi_tables.specs.declared.config.Config.{Config};
@@ -8,13 +8,16 @@ ghost use Rattle.ad_library.specs.Library.{held};
 ghost use Rattle.chain_engine.specs.Chains.{ChainStandsFor};
 ghost use Rattle.chain_engine.specs.Runs.{NetworkBlamed, OutputBlamed};
 ghost use Rattle.chain_engine.specs.Splices.{NetworkBlamedToEnd};
-ghost use Rattle.passages.specs.Runs.{PassesAll, AskerTells, CuesStop, Cues, PlaysStop, Plays, IfRan, IsPort, told_fault, lost_replies};
+ghost use Rattle.chain_services.specs.Serving.{services_in};
+ghost use Rattle.chain_services.specs.Runs.{ServicesStandFor, terms_by};
+ghost use Rattle.passages.specs.Runs.{PassesAll, AskerTells, CuesStop, Cues, PlaysStop, Plays, ServesStop, Serves, IfRan, IsPort, told_fault, lost_replies};
 
 use crate::fault::ProgramFault;
-use crate::listening::{ListenFault, inject_listening, run_listening};
+use crate::listening::{ListenFault, inject_listening, run_listening, services_listening};
 use ad_library::AdLibrary;
 use automations::Script;
 use chain_engine::{Chain, Report, RunFault, run, run_inject};
+use chain_services::{ServiceReport, Services, run_services};
 use std::io::{Read, Write};
 use std::net::{OpenListener, OpenStream};
 use ts_packet::{GatheringSink, PausingPackets, ReadFault};
@@ -130,6 +133,55 @@ where
             Err(fault) => Err(ListenFault::Run(fault)),
         },
         Asker::Port(listener) => run_listening(chain, network, listener, library, out),
+    }
+}
+
+/// Runs several services by this automation, with the advertisements of a library each.
+///
+/// # Errors
+///
+/// `Accept` as for [`cue`], and `Run` as for [`run_services`].
+pub fn serve<P, K, W, L>(
+    services: Services,
+    network: &mut P,
+    asker: &mut Asker<W, L>,
+    libraries: &[AdLibrary],
+    out: &mut K,
+) -> Result<ServiceReport, ListenFault>
+where
+    P: PausingPackets,
+    K: GatheringSink,
+    W: Write,
+    L: OpenListener,
+    L::Stream: OpenStream + Read + Write + Drop,
+    requires unbroken { P.is_broken network.old ≡ false }
+    requires libraries { length libraries.now ≡ length (services_in services.desk) }
+    ensures done { (cs : List Config) (start : Option (List ℕ)) → ServicesStandFor services cs → K.holds out.old start []
+        → IfOk result (PassesAll (Serves (terms_by cs libraries.now) (AskerTells W.contents asker.old asker.new))
+        (P.left network.old) (K.holds out.new start)) }
+    ensures stop { (cs : List Config) (start : Option (List ℕ)) → ServicesStandFor services cs → K.holds out.old start []
+        → IfErr result (λ f. ServesStop (terms_by cs libraries.now) (AskerTells W.contents asker.old asker.new) f
+        (P.left network.old) (K.holds out.new start) (K.fails out.new start) (K.fails_to_send out.new start)) }
+    ensures read { OnOk result (SourceCounts false (P.has_ended network.old) (P.has_ended network.new)
+        (P.counts network.old) (P.counts network.new)) }
+    ensures wrote { OnOk result (WentWell (K.counts out.old) (K.counts out.new)) }
+    ensures reading { IfRan result (λ r. IfErr r (λ f. NetworkBlamedToEnd f
+        (P.has_ended network.old) (P.has_ended network.new) (P.counts network.old) (P.counts network.new))) }
+    ensures writing { IfRan result (λ r. IfErr r (λ f. OutputBlamed f
+        (K.counts out.old) (K.counts out.new) (K.is_full out.new))) }
+    ensures turns { result ≡ Err (ListenFault.Run (RunFault.Read ReadFault.Turns))
+        → Stalled P.leads P.counts P.falls_short network.old network.new ⊎ Exhausted P.left P.given network.old }
+    ensures accept { result ≡ Err ListenFault.Accept → (network.new ≡ network.old) × (out.new ≡ out.old) }
+    ensures port { result ≡ Err ListenFault.Accept → IsPort asker.old }
+    ensures reads { P.leads network.old network.new }
+    ensures leads { K.leads out.old out.new }
+{
+    match asker {
+        Asker::Script(script) => match run_services(services, network, script, libraries, out) {
+            Ok(report) => Ok(report),
+            Err(fault) => Err(ListenFault::Run(fault)),
+        },
+        Asker::Port(listener) => services_listening(services, network, listener, libraries, out),
     }
 }
 

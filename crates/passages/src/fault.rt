@@ -1,7 +1,7 @@
 //! Why a run of the program stopped, and the name that is printed.
 
 ghost use Rattle.std.specs.Prelude.{◌≡◌};
-ghost use Rattle.passages.specs.Names.{read_name, put_name, cut_name, network_name, run_name, script_name, ad_name, list_name, fault_name};
+ghost use Rattle.passages.specs.Names.{read_name, put_name, cut_name, network_name, run_name, script_name, ad_name, list_name, services_name, fault_name};
 
 use ad_library::AdFault;
 use ad_lists::ListFault;
@@ -9,6 +9,7 @@ use automations::ScriptFault;
 use chain_engine::RunFault;
 use packet_lines::LinesFault;
 use psi_tables::{FeedFault, NetworkFault};
+use service_lists::ServicesFault;
 use ts_packet::{PutFault, ReadFault};
 use unit_cut::CutFault;
 
@@ -23,6 +24,8 @@ pub enum ProgramFault {
     Script(ScriptFault),
     /// The list of the advertisements was not loaded.
     List(ListFault),
+    /// The list of the services was not loaded.
+    Services(ServicesFault),
     /// No automation system could connect.
     Accept,
     /// A reply or the report could not be printed.
@@ -154,6 +157,22 @@ fn list_name(fault: ListFault) -> &'static str
     }
 }
 
+/// The name of a fault of a list of services.
+fn services_name(fault: ServicesFault) -> &'static str
+    ensures { result.now ≡ services_name fault }
+{
+    match fault {
+        ServicesFault::BadLine => "BadList",
+        ServicesFault::Config(_) => "BadList",
+        ServicesFault::File => "File",
+        ServicesFault::Adverts(inner) => list_name(inner),
+        ServicesFault::Services(_) => "BadList",
+        ServicesFault::Io => "Io",
+        ServicesFault::Turns => "Turns",
+        ServicesFault::OutOfMemory => "OutOfMemory",
+    }
+}
+
 /// The innermost name of a fault.
 pub fn fault_name(fault: ProgramFault) -> &'static str
     ensures { result.now ≡ fault_name fault }
@@ -164,6 +183,7 @@ pub fn fault_name(fault: ProgramFault) -> &'static str
         ProgramFault::Run(inner) => run_name(inner),
         ProgramFault::Script(inner) => script_name(inner),
         ProgramFault::List(inner) => list_name(inner),
+        ProgramFault::Services(inner) => services_name(inner),
         ProgramFault::Accept => "Accept",
         ProgramFault::Print => "Io",
         ProgramFault::Unflushed => "Io",

@@ -1,14 +1,17 @@
-//! The kinds of passages: a cut, a run with advertisements, one with cues, and one with both, each as its options say.
+//! The kinds of passages: a cut, a run with advertisements, one with cues, and one with both, each as its options say; and one of several
+//! services.
 
-use crate::asking::{Asker, cue, play, told_fault};
+use crate::asking::{Asker, cue, play, serve, told_fault};
 use crate::fault::ProgramFault;
 use crate::running::Passage;
 use ad_library::AdLibrary;
 use chain_engine::{Chain, Report, run_splice};
+use chain_services::{ServiceReport, Services};
 use command_lines::command::CutOptions;
 use command_lines::inject_options::InjectOptions;
 use command_lines::splice_options::SpliceOptions;
 use packet_lines::LinesFault;
+use psi_tables::Config;
 use splice_plans::SwitchReport;
 use std::alloc::Global;
 use std::io::{Read, Write};
@@ -147,6 +150,51 @@ where
             return Err(ProgramFault::OutOfMemory);
         };
         match play(chain, network, asker, library, out) {
+            Ok(report) => Ok(report),
+            Err(fault) => Err(told_fault(fault)),
+        }
+    }
+}
+
+/// A run of several services, each with the advertisements of its library: they were given nothing yet, and there are as many libraries.
+#[derive(Drop)]
+pub struct Serving<'a, W, L> {
+    /// What each service is.
+    pub configs: &'a [Config],
+    /// What runs them.
+    pub services: Services,
+    pub asker: &'a mut Asker<W, L>,
+    pub libraries: &'a [AdLibrary],
+}
+
+impl<W, L> Passage for Serving<'_, W, L>
+where
+    W: Write,
+    L: OpenListener,
+    L::Stream: OpenStream + Read + Write + Drop,
+{
+    ghost use Rattle.std.specs.Prelude.{◌≡◌, length};
+    ghost use Rattle.chain_services.specs.Runs.{ServicesStandFor, terms_by};
+    ghost use Rattle.passages.specs.Runs.{Serves, AsksBy};
+
+    type Report = ServiceReport;
+
+    ghost is_ready = { λ p. ServicesStandFor p.services p.configs.now × (length p.libraries.now ≡ length p.configs.now) };
+
+    ghost passes = { λ p. Serves (terms_by p.configs.now p.libraries.now) (λ ending ts rs. AsksBy p.asker.now ts) };
+
+    fn pass<P: PausingPackets, K: GatheringSink>(
+        self,
+        network: &mut P,
+        out: &mut K,
+    ) -> Result<ServiceReport, ProgramFault> {
+        let Serving {
+            services,
+            asker,
+            libraries,
+            ..
+        } = self;
+        match serve(services, network, asker, libraries, out) {
             Ok(report) => Ok(report),
             Err(fault) => Err(told_fault(fault)),
         }

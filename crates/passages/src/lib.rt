@@ -1,6 +1,6 @@
 //! Passages of a network from a source to a sink: what each subcommand does on the way, runs between a reader and a writer for all of
 //! them, and why a run stopped, with the name that is printed.
-//! It stands on the cut of `unit_cut`, the lines of `packet_lines` and the runs of `chain_engine`.
+//! It stands on the cut of `unit_cut`, the lines of `packet_lines` and the runs of `chain_engine` and `chain_services`.
 //! What a caller uses: of a run that ends well what stands below the buffers, of one that stopped its fault, and `fault_name`.
 #![tactic(auto)]
 

@@ -25,7 +25,8 @@ pub fn run_to_lines<S: Passage, P: PausingPackets, W: Write + Drop>(
     network: &mut P,
     output: W,
 ) -> Result<Finished<S::Report, W>, AllocError>
-    requires { P.is_broken network.old ≡ false }
+    requires unbroken { P.is_broken network.old ≡ false }
+    requires ready { S.is_ready passage }
     ensures done { IfOk result (λ f. IfOk f.outcome (PassesAll (S.passes passage) (P.left network.old)
         (WrittenLines (W.contents f.output.inner) (W.contents output)))) }
 {

@@ -1,6 +1,6 @@
 //! Runs whose automation is a client of a port of this machine.
 
-ghost use Rattle.std.specs.Prelude.{◌≡◌, ℕ, ◌⊎◌, List, ◌++◌, Option, Err, false, OnOk, IfOk, IfErr};
+ghost use Rattle.std.specs.Prelude.{◌≡◌, ℕ, ◌⊎◌, List, ◌++◌, length, Option, Err, false, OnOk, IfOk, IfErr};
 ghost use Rattle.ts_packet.specs.Sources.{SourceCounts, Stalled, Exhausted};
 ghost use Rattle.ts_packet.specs.Transfers.{WentWell};
 ghost use Rattle.psi_tables.specs.declared.config.Config.{Config};
@@ -8,11 +8,14 @@ ghost use Rattle.ad_library.specs.Library.{held};
 ghost use Rattle.chain_engine.specs.Chains.{ChainStandsFor};
 ghost use Rattle.chain_engine.specs.Runs.{NetworkBlamed, OutputBlamed};
 ghost use Rattle.chain_engine.specs.Splices.{NetworkBlamedToEnd};
-ghost use Rattle.passages.specs.Runs.{PassesAll, Untold, Cues, CuesStop, Plays, PlaysStop, IfRan};
+ghost use Rattle.chain_services.specs.Serving.{services_in};
+ghost use Rattle.chain_services.specs.Runs.{ServicesStandFor, terms_by};
+ghost use Rattle.passages.specs.Runs.{PassesAll, Untold, Cues, CuesStop, Plays, PlaysStop, Serves, ServesStop, IfRan};
 
 use ad_library::AdLibrary;
 use automations::accept;
 use chain_engine::{Chain, Report, RunFault, run, run_inject};
+use chain_services::{ServiceReport, Services, run_services};
 use std::alloc::Allocator;
 use std::io::{Read, Write};
 use std::net::{OpenListener, OpenStream};
@@ -119,6 +122,55 @@ where
         return Err(ListenFault::Accept);
     };
     match run(chain, network, &mut connection, library, out) {
+        Ok(report) => Ok(report),
+        Err(fault) => Err(ListenFault::Run(fault)),
+    }
+}
+
+/// Waits for one client of the listener, and then runs [`run_services`] with it as the automation, likewise.
+///
+/// # Errors
+///
+/// `Accept` as for [`inject_listening`], and `Run` as for [`run_services`].
+pub fn services_listening<M, P, L, K>(
+    services: Services<M>,
+    network: &mut P,
+    listener: &L,
+    libraries: &[AdLibrary],
+    out: &mut K,
+) -> Result<ServiceReport, ListenFault>
+where
+    M: Allocator,
+    P: PausingPackets,
+    L: OpenListener,
+    L::Stream: OpenStream + Read + Write + Drop,
+    K: GatheringSink,
+    requires unbroken { P.is_broken network.old ≡ false }
+    requires libraries { length libraries.now ≡ length (services_in services.desk) }
+    ensures ok { (cs : List Config) (start : Option (List ℕ)) (before : List (List ℕ)) → ServicesStandFor services cs
+        → K.holds out.old start before → IfOk result (PassesAll (Serves (terms_by cs libraries.now) Untold) (P.left network.old)
+        (λ ps. K.holds out.new start (before ++ ps))) }
+    ensures err { (cs : List Config) (start : Option (List ℕ)) (before : List (List ℕ)) → ServicesStandFor services cs
+        → K.holds out.old start before → IfErr result (λ f. ServesStop (terms_by cs libraries.now) Untold f (P.left network.old)
+        (λ ps. K.holds out.new start (before ++ ps)) (λ ps. K.fails out.new start (before ++ ps))
+        (λ ps. K.fails_to_send out.new start (before ++ ps))) }
+    ensures read { OnOk result (SourceCounts false (P.has_ended network.old) (P.has_ended network.new)
+        (P.counts network.old) (P.counts network.new)) }
+    ensures wrote { OnOk result (WentWell (K.counts out.old) (K.counts out.new)) }
+    ensures reading { IfRan result (λ r. IfErr r (λ f. NetworkBlamedToEnd f
+        (P.has_ended network.old) (P.has_ended network.new) (P.counts network.old) (P.counts network.new))) }
+    ensures writing { IfRan result (λ r. IfErr r (λ f. OutputBlamed f
+        (K.counts out.old) (K.counts out.new) (K.is_full out.new))) }
+    ensures turns { result ≡ Err (ListenFault.Run (RunFault.Read ReadFault.Turns))
+        → Stalled P.leads P.counts P.falls_short network.old network.new ⊎ Exhausted P.left P.given network.old }
+    ensures accept { result ≡ Err ListenFault.Accept → (network.new ≡ network.old) × (out.new ≡ out.old) }
+    ensures reads { P.leads network.old network.new }
+    ensures leads { K.leads out.old out.new }
+{
+    let Some(mut automation) = accept(listener) else {
+        return Err(ListenFault::Accept);
+    };
+    match run_services(services, network, &mut automation, libraries, out) {
         Ok(report) => Ok(report),
         Err(fault) => Err(ListenFault::Run(fault)),
     }

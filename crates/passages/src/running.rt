@@ -30,6 +30,9 @@ pub trait Passage: Drop {
     /// What is told of a run that went through.
     type Report: Drop;
 
+    /// What a passage needs that is to be made.
+    ghost is_ready: { Self → Type 0 } = { λ p. Unit {0} };
+
     /// Of a network of these bytes these packets go out, and this is the report.
     ghost passes: { Self → List ℕ → List (List ℕ) → Self.Report → Type 0 };
 
@@ -39,7 +42,8 @@ pub trait Passage: Drop {
         network: &mut P,
         out: &mut K,
     ) -> Result<Self::Report, ProgramFault>
-        requires { P.is_broken network.old ≡ false }
+        requires unbroken { P.is_broken network.old ≡ false }
+        requires ready { is_ready self }
         ensures done { (start : Option (List ℕ)) → K.holds out.old start []
             → IfOk result (PassesAll (passes self) (P.left network.old) (K.holds out.new start)) }
         ensures reads { P.leads network.old network.new }
@@ -60,7 +64,8 @@ pub fn pass_watched<S: Passage, P: PausingPackets, K: GatheringSink>(
     network: &mut P,
     out: &mut K,
 ) -> Passed<S::Report>
-    requires { P.is_broken network.old ≡ false }
+    requires unbroken { P.is_broken network.old ≡ false }
+    requires ready { S.is_ready passage }
     ensures done { (start : Option (List ℕ)) → K.holds out.old start []
         → IfOk result.outcome (PassesAll (S.passes passage) (P.left network.old) (K.holds out.new start)) }
     ensures reads { P.leads network.old network.new }
@@ -97,7 +102,8 @@ fn run_to_blocks<S: Passage, P: PausingPackets, O: Write + Drop>(
     network: &mut P,
     output: O,
 ) -> Result<Finished<S::Report, O>, AllocError>
-    requires { P.is_broken network.old ≡ false }
+    requires unbroken { P.is_broken network.old ≡ false }
+    requires ready { S.is_ready passage }
     ensures done { IfOk result (λ f. IfOk f.outcome (PassesAll (S.passes passage) (P.left network.old)
         (Written (O.contents f.output.inner) (O.contents output)))) }
 {
@@ -155,7 +161,8 @@ pub fn run_to<S: Passage, P: PausingPackets, O: Write + Drop>(
     network: &mut P,
     output: O,
 ) -> Result<Ended<S::Report>, AllocError>
-    requires { P.is_broken network.old ≡ false }
+    requires unbroken { P.is_broken network.old ≡ false }
+    requires ready { S.is_ready passage }
 {
     match run_to_blocks(alloc, passage, watched, network, output) {
         Ok(finished) => Ok(let_go(finished)),
@@ -249,7 +256,9 @@ pub fn run_from<S: Passage, R: Read + Drop, O: Write + Drop>(
     is_live: bool,
     input: R,
     output: O,
-) -> Result<Ran<S::Report>, Stopped> {
+) -> Result<Ran<S::Report>, Stopped>
+    requires { S.is_ready passage }
+{
     let Ok(reader) = BufReader::with_capacity(alloc, BUFFER_SIZE, Attended::new(input)) else {
         return Err(out_of_memory());
     };

@@ -20,7 +20,7 @@ pub enum Side {
     Scripting,
     /// It waited for an automation system.
     Listening,
-    /// It loaded the list of the advertisements.
+    /// It loaded the list of the advertisements, or of the services.
     Filing,
     /// It printed replies or the report.
     Printing,
@@ -36,7 +36,7 @@ pub struct Stopped {
     pub reason: Option<io::Error>,
     /// What was read until then, where that was watched.
     pub read: Option<Watch>,
-    /// The line of the script in which the fault stands, from 1.
+    /// The line of the script, or of the list of the services, in which the fault stands, from 1.
     pub line: Option<usize>,
 }
 
@@ -104,11 +104,14 @@ impl Trouble<'_> {
 
     /// Writes where the run stopped.
     fn write_place<W: fmt::Write>(&self, f: &mut fmt::Formatter<W>) -> fmt::Result {
+        if let Some(line) = self.stopped.line {
+            write!(f, ": line {line}")?;
+        }
+        if let ProgramFault::Services(fault) = self.stopped.fault {
+            write!(f, ": {fault}")?;
+        }
         if let Some(reason) = &self.stopped.reason {
             return write!(f, ": {reason}");
-        }
-        if let Some(line) = self.stopped.line {
-            return write!(f, ": line {line}");
         }
         let Some(read) = &self.stopped.read else {
             return Ok(());
@@ -209,5 +212,21 @@ impl fmt::Display for SpliceAccount {
     fn fmt<W: fmt::Write>(&self, f: &mut fmt::Formatter<W>) -> fmt::Result {
         let (read, written) = (self.read.packets(), self.written.packets());
         writeln!(f, "splice: {read} packets read, {written} written")
+    }
+}
+
+/// What a run of several services that went through has done.
+#[derive(Clone, Copy, Debug)]
+pub struct ServicesAccount {
+    /// What was read.
+    pub read: Watch,
+    /// What was written.
+    pub written: Watch,
+}
+
+impl fmt::Display for ServicesAccount {
+    fn fmt<W: fmt::Write>(&self, f: &mut fmt::Formatter<W>) -> fmt::Result {
+        let (read, written) = (self.read.packets(), self.written.packets());
+        writeln!(f, "services: {read} packets read, {written} written")
     }
 }

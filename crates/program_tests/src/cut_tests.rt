@@ -262,14 +262,32 @@ fn expect_usage<R: Files + Net + AllocGlobal + Abort>(
     Ok(())
 }
 
-#[test]
-fn help_is_no_run(rt: HostRuntime) -> Result<(), Fail> {
-    expect_usage(&rt, &["--help"], "dpi_chain <COMMAND>")?;
-    expect_usage(&rt, &["help", "cut"], "--length <TICKS>")?;
-    expect_usage(&rt, &["cut", "-h"], "--from <TICKS>")?;
-    expect_usage(&rt, &["cut", "--help"], "ticks of the 90 kHz clock")?;
-    expect_usage(&rt, &["--version"], "dpi_chain")?;
+/// Help or the version is asked for: a text that has this in it is the output, and nothing is told.
+fn expect_help<R: Files + Net + AllocGlobal + Abort>(
+    rt: &R,
+    words: &[&str],
+    text: &str,
+) -> Result<(), Fail> {
+    let run = run(rt, words, &[]);
+    assert_eq!(rt; run.status, 0, "{text}");
+    assert!(rt; run.faults.is_empty());
+    let says = std::str::from_utf8(run.output.as_slice())?;
+    assert!(rt; says.contains(text), "{text} in {says}");
     Ok(())
+}
+
+#[test]
+fn help_is_printed_where_it_is_asked_for(rt: HostRuntime) -> Result<(), Fail> {
+    expect_help(&rt, &["--help"], "dpi_chain <COMMAND>")?;
+    expect_help(&rt, &["-h"], "dpi_chain <COMMAND>")?;
+    expect_help(&rt, &["help"], "dpi_chain <COMMAND>")?;
+    expect_help(&rt, &["help", "cut"], "--length <TICKS>")?;
+    expect_help(&rt, &["cut", "-h"], "--from <TICKS>")?;
+    expect_help(&rt, &["cut", "--help"], "ticks of the 90 kHz clock")?;
+    expect_help(&rt, &["services", "--help"], "--services <FILE>")?;
+    expect_help(&rt, &["--version"], "dpi_chain")?;
+    expect_usage(&rt, &["help", "cutting"], "cutting")?;
+    expect_usage(&rt, &["--helping"], "--helping")
 }
 
 #[test]

@@ -44,8 +44,6 @@ fn run<'a>(network: &'a str, script: &'a str, adverts: &'a str, output: &'a str)
 
 #[test]
 fn bad_command_lines_are_refused(rt: HostRuntime) {
-    expect(&rt, &["splice", "--help"], 2, "");
-    expect(&rt, &["run", "--help"], 2, "");
     for (place, number) in [
         (4, "0"),
         (4, "65536"),

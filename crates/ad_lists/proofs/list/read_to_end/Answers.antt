@@ -2,7 +2,8 @@ use Rattle.std.proofs.Common.{◌≡◌, ◌<◌, ◌++◌, [], length, take, ap
 use Rattle.std.proofs.KnownBytes.{Consumes-trans, Consumes-kept}
 use Rattle.ts_packet.proofs.Cases.{on_ok_more, if_err_more}
 use Rattle.ts_packet.proofs.TransferLemmas.{at_end}
-use Rattle.ad_lists.proofs.ListLemmas.{stops_all}
+use Rattle.ad_lists.specs.Lists.{StopsAt}
+use Rattle.ad_lists.proofs.ListLemmas.{said_all}
 use Rattle.ad_lists.proofs.list.read_to_end.Goals as goal
 use Rattle.ad_lists.proofs.list.read_to_end.Goals.{in-Ok+in-Ok-take_in, in-Err-Interrupted}
 
@@ -22,7 +23,7 @@ returns-in-Ok-eq0-clause-stops g c =
     let zero : c.in-Ok-eq0.field-0 ≡ 0 = search rules in
     let none : take c.in-Ok-eq0.field-0 c.read.new.buf ≡ [] = ap (λ n. take n c.read.new.buf) zero in
     let room : 0 < length c.read.new.buf = search rules in
-    if_err_more c.finish.result (λ f s. stops_all f _ text (at_end _ _ _ text _ used b.0 none (b.1 zero room)) s) (c.finish.ensures.stops text h)
+    if_err_more c.finish.result (λ f s. said_all (StopsAt f) _ text (at_end _ _ _ text _ used b.0 none (b.1 zero room)) s) (c.finish.ensures.stops text h)
 
 pub loop-turn-preserved : goal.loop-turn-preserved
 loop-turn-preserved g c =

@@ -1,0 +1,228 @@
+//! The subcommand `services`: a run of several services between the ends that its options name, and what it tells.
+
+ghost use Rattle.std.specs.Prelude.{IfOk};
+ghost use Rattle.service_lists.specs.Lists.{AreReady};
+
+use crate::injecting::open_asker;
+use chain_services::ServiceReport;
+use command_lines::services_options::ServicesOptions;
+use passages::asking::Asker;
+use passages::fault::ProgramFault;
+use passages::kinds::Serving;
+use passages::running::{Ran, out_of_memory, run_from, stopped, unopened, with_replies};
+use passages::tell::{ServicesAccount, Side, Stopped};
+use run_ends::{Attended, End, Unopened, create_output, open_input};
+use service_lists::{ServiceList, ServicesFault, Unloaded, load_services};
+use std::alloc::Global;
+use std::fs::Metadata;
+use std::io::{self, Read, Write};
+use std::net::{Net, OpenListener, OpenStream};
+use std::rt::Files;
+use ts_packet::{Device, Pid};
+
+/// What a run of several services that went through has done.
+#[derive(Drop)]
+pub struct Served {
+    /// What was counted.
+    pub report: ServiceReport,
+    /// What `--verbose` tells, where that was asked for.
+    pub account: Option<ServicesAccount>,
+}
+
+/// What is known of a list of services that was not loaded.
+fn unserved(unloaded: Unloaded, reading: Option<io::Error>) -> Stopped {
+    let Unloaded {
+        fault,
+        line,
+        reason,
+    } = unloaded;
+    if fault == ServicesFault::OutOfMemory {
+        return out_of_memory();
+    }
+    Stopped {
+        fault: ProgramFault::Services(fault),
+        side: Side::Filing,
+        reason: if fault == ServicesFault::Io {
+            reading
+        } else {
+            reason
+        },
+        read: None,
+        line,
+    }
+}
+
+/// Loads the list of services that a reader gives.
+fn services_from<F: Files, R: Read + Drop>(
+    rt: &F,
+    alloc: Global,
+    reader: R,
+) -> Result<ServiceList, Stopped>
+    ensures { IfOk result AreReady }
+{
+    let mut list = Device::new(Attended::new(reader));
+    match load_services(rt, alloc, &mut list) {
+        Ok(services) => Ok(services),
+        Err(unloaded) => Err(unserved(unloaded, list.into_inner().into_reason())),
+    }
+}
+
+/// Loads the list of services that the options name, and answers where it is a file what the system says of that.
+fn open_services<R, I>(
+    rt: &R,
+    services: End<'_>,
+    input: &mut I,
+) -> Result<(ServiceList, Option<Metadata>), Stopped>
+where
+    R: Files + AllocGlobal,
+    I: Read,
+    ensures { IfOk result (λ opened. AreReady opened.0) }
+{
+    let Some(path) = services.path() else {
+        return Ok((services_from(rt, rt.alloc(), input)?, None));
+    };
+    match open_input(rt, path) {
+        Ok((file, about)) => Ok((services_from(rt, rt.alloc(), file)?, Some(about))),
+        Err(reason) => Err(stopped(ProgramFault::File, Side::Filing, Some(reason))),
+    }
+}
+
+/// Runs from a reader.
+fn run_services_from<R, O, W, L>(
+    alloc: Global,
+    is_verbose: bool,
+    is_live: bool,
+    input: R,
+    asker: Asker<W, L>,
+    list: ServiceList,
+    output: O,
+) -> Result<Served, Stopped>
+where
+    R: Read + Drop,
+    O: Write + Drop,
+    W: Write + Drop,
+    L: OpenListener + Drop,
+    L::Stream: OpenStream + Read + Write + Drop,
+    requires { AreReady list }
+{
+    let mut asker = asker;
+    let ServiceList {
+        configs,
+        services,
+        libraries,
+    } = list;
+    // Packets alone are told of, so any PID will do.
+    let watched = if is_verbose { Pid::new(0) } else { None };
+    let passage = Serving {
+        configs: configs.as_slice(),
+        services,
+        asker: &mut asker,
+        libraries: libraries.as_slice(),
+    };
+    let ran = run_from(alloc, passage, watched, is_live, input, output);
+    let Ran { report, seen } = with_replies(ran, asker.has_lost_a_reply())?;
+    Ok(Served {
+        report,
+        account: seen.map(|(read, written)| ServicesAccount { read, written }),
+    })
+}
+
+/// Runs between opened ends.
+fn run_ends<F, I, O, W, L>(
+    alloc: Global,
+    is_verbose: bool,
+    network: Option<F>,
+    input: &mut I,
+    is_live: bool,
+    asker: Asker<W, L>,
+    list: ServiceList,
+    output: O,
+) -> Result<Served, Stopped>
+where
+    F: Read + Drop,
+    I: Read,
+    O: Write + Drop,
+    W: Write + Drop,
+    L: OpenListener + Drop,
+    L::Stream: OpenStream + Read + Write + Drop,
+    requires { AreReady list }
+{
+    match network {
+        Some(file) => run_services_from(alloc, is_verbose, is_live, file, asker, list, output),
+        None => run_services_from(alloc, is_verbose, is_live, input, asker, list, output),
+    }
+}
+
+/// Opens the ends in their order, and runs. `standard` is there where packets go to standard output.
+fn open_and_run<R, I, O, W>(
+    rt: &R,
+    options: &ServicesOptions<'_>,
+    input: &mut I,
+    replies: W,
+    standard: Option<O>,
+) -> Result<Served, Stopped>
+where
+    R: Files + Net + AllocGlobal,
+    I: Read,
+    O: Write + Drop,
+    W: Write + Drop,
+{
+    let opened = match options.network.path() {
+        Some(path) => match open_input(rt, path) {
+            Ok(opened) => Some(opened),
+            Err(reason) => return Err(unopened(Unopened::Input(reason))),
+        },
+        None => None,
+    };
+    let (asker, script) = open_asker(rt, options.asking, input, replies)?;
+    let (list, listed) = open_services(rt, options.services, input)?;
+    let about = opened.as_ref().map(|(_, about)| about);
+    let is_live = !about.is_some_and(|about| about.is_file());
+    let alloc = rt.alloc();
+    let is_verbose = options.is_verbose;
+    if let Some(standard) = standard {
+        let network = opened.map(|(file, _)| file);
+        return run_ends(
+            alloc, is_verbose, network, input, is_live, asker, list, standard,
+        );
+    }
+    let path = options.output.path().unwrap_or("");
+    match create_output(rt, path, about, script.as_ref(), listed.as_ref()) {
+        Ok(file) => {
+            let network = opened.map(|(file, _)| file);
+            run_ends(
+                alloc, is_verbose, network, input, is_live, asker, list, file,
+            )
+        }
+        Err(reason) => Err(unopened(Unopened::Output(reason))),
+    }
+}
+
+/// Runs the subcommand `services`: the network is opened first, then the script or the port, then the list is loaded line by line, with all
+/// advertisements of each, and with the memory of the services, then the output file is opened. Then, where there is a port, a client is waited
+/// for. Replies to a script are printed as they come, on `faults` where the packets go to standard output.
+///
+/// # Errors
+///
+/// `File` where a file could not be opened or made, `Accept` where no automation system could connect, `Script` or `Services` where that was
+/// not loaded, `OutOfMemory` where the allocator refused memory. `Run` where the run stopped, else `Unflushed` where the output could not
+/// be flushed at the end, else `Print` where a reply could not be printed. What went out before stands.
+pub fn run_services_command<R, I, O, E>(
+    rt: &R,
+    options: &ServicesOptions<'_>,
+    input: &mut I,
+    output: &mut O,
+    faults: &mut E,
+) -> Result<Served, Stopped>
+where
+    R: Files + Net + AllocGlobal,
+    I: Read,
+    O: Write,
+    E: Write,
+{
+    if options.has_standard_output() {
+        return open_and_run(rt, options, input, faults, Some(output));
+    }
+    let none: Option<&mut E> = None;
+    open_and_run(rt, options, input, output, none)
+}

@@ -1,0 +1,43 @@
+use Rattle.std.proofs.Common.{◌≡◌, ◌<◌, ◌++◌, [], length, take, ap, rules, arith}
+use Rattle.std.proofs.KnownBytes.{Consumes-trans, Consumes-kept}
+use Rattle.ts_packet.proofs.Cases.{on_ok_more, if_err_more}
+use Rattle.ts_packet.proofs.TransferLemmas.{at_end}
+use Rattle.ad_lists.proofs.ListLemmas.{said_all}
+use Rattle.service_lists.specs.Lists.{StopsAt}
+use Rattle.service_lists.proofs.LoadingLemmas.{listed, stops_end}
+use Rattle.service_lists.proofs.list.read_to_end.Goals as goal
+use Rattle.service_lists.proofs.list.read_to_end.Goals.{in-Ok+in-Ok-take_in, in-Err-Interrupted}
+
+pub returns-in-Ok-eq0-clause-lists : goal.returns-in-Ok-eq0-clause-lists
+returns-in-Ok-eq0-clause-lists g c =
+    let (text, used, h) = c.loop-turn.invariant.read in
+    let b = c.in-Ok-eq0.ensures.bytes in
+    let zero : c.in-Ok-eq0.field-0 ≡ 0 = search rules in
+    let none : take c.in-Ok-eq0.field-0 c.read.new.buf ≡ [] = ap (λ n. take n c.read.new.buf) zero in
+    let room : 0 < length c.read.new.buf = search rules in
+    on_ok_more c.load_line.result (λ l. (text, at_end _ _ _ text _ used b.0 none (b.1 zero room), listed _ _ text h l)) (c.load_line.ensures.ok h.before h.services)
+
+pub returns-in-Ok-eq0-clause-stops : goal.returns-in-Ok-eq0-clause-stops
+returns-in-Ok-eq0-clause-stops g c =
+    let (text, used, h) = c.loop-turn.invariant.read in
+    let b = c.in-Ok-eq0.ensures.bytes in
+    let zero : c.in-Ok-eq0.field-0 ≡ 0 = search rules in
+    let none : take c.in-Ok-eq0.field-0 c.read.new.buf ≡ [] = ap (λ n. take n c.read.new.buf) zero in
+    let room : 0 < length c.read.new.buf = search rules in
+    if_err_more c.load_line.result (λ u s. said_all (StopsAt u.fault) _ text (at_end _ _ _ text _ used b.0 none (b.1 zero room)) (stops_end _ u.fault text h s)) c.load_line.ensures.stops
+
+pub loop-turn-preserved : goal.loop-turn-preserved
+loop-turn-preserved g c =
+    let (text, used, h) = c.loop-turn.invariant.read in
+    elim c.match-read.branch [
+      | in-Ok+in-Ok-take_in w ↦ record {
+        turns = grind arith;
+        well = record { calls = grind arith; failed = grind arith; zeros = grind arith };
+        read = (text ++ take w.in-Ok.count c.read.new.buf, Consumes-trans _ _ _ _ _ used w.in-Ok.ensures.bytes.0, rw w.loading-is (w.in-Ok-take_in.ensures.ok text h));
+      }
+      | in-Err-Interrupted w ↦ record {
+        turns = grind arith;
+        well = record { calls = grind arith; failed = grind arith; zeros = grind arith };
+        read = (text, Consumes-kept _ _ _ _ used w.in-Err-Interrupted.ensures.bytes, rw w.loading-is h);
+      }
+    ]

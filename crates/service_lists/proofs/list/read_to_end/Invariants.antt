@@ -1,0 +1,12 @@
+use Rattle.std.proofs.Common.{List, ℕ}
+use Rattle.std.specs.Io.KnownBytes.{Consumes}
+use Rattle.ts_packet.specs.Transfers.{Rose, WentWell}
+use Rattle.service_lists.specs.Lists.{IsRead}
+use Rattle.service_lists.proofs.list.read_to_end.Given as goal
+
+abbrev pub invariant-loop-turn : goal.invariant-loop-turn
+invariant-loop-turn g l = record {
+  turns : Rose l._turn (g.S.Source.counts l.initial.list).calls (g.S.Source.counts l.list).calls;
+  well : WentWell (g.S.Source.counts l.initial.list) (g.S.Source.counts l.list);
+  read : (text : List ℕ) × Consumes (g.S.Source.remaining l.initial.list) (g.S.Source.remaining l.list) text × IsRead l.loading text;
+}

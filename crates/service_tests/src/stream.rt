@@ -1,0 +1,136 @@
+//! Streams of several programs, packet by packet, each packet with a whole payload.
+
+ghost use Rattle.std.specs.Prelude.{◌≡◌, ◌+◌, vec_len, OnOk};
+
+use psi_section::crc;
+use std::alloc::{AllocError, Global};
+
+/// What comes next in a stream. Times are ticks of 90 kHz below 2^33.
+#[derive(Clone, Copy)]
+pub enum Item {
+    /// A PAT that lists program 1 with its map on PID 0x20 and program 2 on 0x21.
+    Pat,
+    /// A PAT that lists both with their maps on PID 0x20.
+    OnePat,
+    /// The map of this program, with these streams of video.
+    Map(u8, &'static [u16]),
+    /// A unit of the network on this PID, with this time.
+    Unit(u16, u64),
+    /// A unit of an advertisement.
+    Ad(u16, u64),
+}
+
+/// The packets so far of PIDs below 512, each PID with counters that go up by one with each packet.
+#[derive(Drop)]
+pub struct Stream {
+    bytes: Vec<u8>,
+    /// continuity_counter of the next packet, by PID.
+    counters: [u8; 512],
+}
+
+/// The unit with this PTS that fills a packet, its data being these bytes (ISO/IEC 13818-1, 2.4.3.6).
+fn unit(pts: u64, data: u8) -> [u8; 184] {
+    let mut bytes = [data; 184];
+    bytes[..14].copy_from_slice(&[
+        0,
+        0,
+        1,
+        0xE0,
+        0,
+        0,
+        0x80,
+        0x80,
+        5,
+        0x21 | ((pts >> 29) & 0x0E) as u8,
+        ((pts >> 22) & 0xFF) as u8,
+        1 | ((pts >> 14) & 0xFE) as u8,
+        ((pts >> 7) & 0xFF) as u8,
+        1 | ((pts << 1) & 0xFE) as u8,
+    ]);
+    bytes
+}
+
+/// The payload in which this section of at most 179 bytes begins and ends, with its CRC_32.
+fn payload(section: &[u8]) -> [u8; 184] {
+    let mut bytes = [0xFF; 184];
+    bytes[0] = 0;
+    let size = section.len().min(179);
+    bytes[1..1 + size].copy_from_slice(&section[..size]);
+    bytes[1 + size..5 + size].copy_from_slice(&crc(&section[..size]).to_be_bytes());
+    bytes
+}
+
+impl Stream {
+    /// The stream of these items, whose counters begin at 0.
+    ///
+    /// # Errors
+    ///
+    /// Where memory was refused.
+    pub fn of(alloc: Global, items: &[Item]) -> Result<Stream, AllocError> {
+        let mut stream = Stream {
+            bytes: Vec::new(alloc),
+            counters: [0; 512],
+        };
+        for item in items {
+            stream.put_item(item)?;
+        }
+        Ok(stream)
+    }
+
+    /// The bytes of the packets.
+    pub fn bytes(&self) -> &[u8] {
+        self.bytes.as_slice()
+    }
+
+    /// Puts a packet that begins a section or a unit.
+    fn put(&mut self, pid: u16, payload: &[u8; 184]) -> Result<(), AllocError>
+        ensures { OnOk result (vec_len self.new.bytes ≡ vec_len self.old.bytes + 188) }
+    {
+        let place = usize::from(pid % 512);
+        let counter = self.counters[place];
+        self.counters[place] = counter.wrapping_add(1);
+        let mut bytes = [0x47; 188];
+        bytes[1] = 0x40 | ((pid / 256) & 0x1F) as u8;
+        bytes[2] = (pid & 0xFF) as u8;
+        bytes[3] = 0x10 | (counter & 15);
+        bytes[4..].copy_from_slice(payload);
+        self.bytes.extend_from_slice(&bytes)
+    }
+
+    /// Puts a map with at most 20 streams of video.
+    fn put_map(&mut self, program: u8, videos: &[u16]) -> Result<(), AllocError> {
+        let count = videos.len().min(20);
+        let mut section = [0xF0; 112];
+        let length = (13 + 5 * count) as u8;
+        section[..12].copy_from_slice(&[
+            2, 0xB0, length, 0, program, 0xC1, 0, 0, 0xFF, 0xFF, 0xF0, 0,
+        ]);
+        for place in 0..count {
+            let [high, low] = videos[place].to_be_bytes();
+            let at = 12 + 5 * place;
+            section[at..at + 5].copy_from_slice(&[0x1B, 0xE0 | high, low, 0xF0, 0]);
+        }
+        let pid = u16::from(program).wrapping_add(0x1F);
+        self.put(pid, &payload(&section[..12 + 5 * count]))
+    }
+
+    fn put_item(&mut self, item: &Item) -> Result<(), AllocError> {
+        match *item {
+            Item::Pat => self.put(
+                0,
+                &payload(&[
+                    0, 0xB0, 0x11, 0, 1, 0xC1, 0, 0, 0, 1, 0xE0, 0x20, 0, 2, 0xE0, 0x21,
+                ]),
+            ),
+            Item::OnePat => self.put(
+                0,
+                &payload(&[
+                    0, 0xB0, 0x11, 0, 1, 0xC1, 0, 0, 0, 1, 0xE0, 0x20, 0, 2, 0xE0, 0x20,
+                ]),
+            ),
+            Item::Map(program, videos) => self.put_map(program, videos),
+            Item::Unit(pid, pts) => self.put(pid, &unit(pts, 0x4E)),
+            Item::Ad(pid, pts) => self.put(pid, &unit(pts, 0x41)),
+        }
+    }
+}
