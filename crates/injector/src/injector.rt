@@ -124,6 +124,15 @@ impl Injector {
         self.follower.owns(packet)
     }
 
+    /// Nothing of its program is on the PID, behind its PAT: neither its map nor a switched stream, nor the PAT, nor the cues.
+    #[inline(always)]
+    pub fn overlooks_pid(&self, pid: Pid) -> bool
+        ensures { (c : Config) (past : List Step) → InjectorStandsFor self.now c past → result ≡ true →
+            IsUnfollowed (Some c.program) (Some c.cue_pid) pid (packets_in past) }
+    {
+        self.follower.overlooks(pid)
+    }
+
     /// Nothing of its program is on the packet's PID, behind its PAT, and no request was accepted since the last packet: the packet would go out
     /// alone, and change nothing. One look-up tells most packets.
     #[inline(always)]
@@ -133,7 +142,7 @@ impl Injector {
         ensures unfollowed { (c : Config) (past : List Step) → InjectorStandsFor self.now c past → result ≡ true →
             IsUnfollowed (Some c.program) (Some c.cue_pid) (pid_of packet.now) (packets_in past) }
     {
-        !self.has_news && self.follower.overlooks(packet.pid())
+        !self.has_news && self.overlooks_pid(packet.pid())
     }
 
     /// Takes the next packet of the network, and puts the cues that are due before it, and then the packet, or in the place of a packet
