@@ -44,9 +44,9 @@ use Rattle.switch_laws.proofs.FaultlessLemmas.{faultless_is_sound, unlisted}
 use Rattle.switch_laws.proofs.StandingLemmas.{is-place, packets_stand_as}
 use Rattle.ts_packet.proofs.FieldLemmas.{pid_is}
 use Rattle.unit_stream.proofs.ClockLemmas.{begins_off_all}
-use Rattle.splice_switch.specs.Standing.{GoOnAs}
 use Rattle.splice_switch.proofs.PremiseLemmas.{no-table, map-switched, OnMap}
-use Rattle.splice_switch.proofs.NumberLemmas.{go-on-later, go-on-others, go-on-same}
+use Rattle.outgoing_packets.specs.Numbers.{GoOnAs}
+use Rattle.outgoing_packets.proofs.GoOnLemmas.{go-on-later, go-on-others, go-on-same}
 
 -- ---- before the packet
 

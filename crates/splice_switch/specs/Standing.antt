@@ -11,20 +11,14 @@ use Rattle.unit_stream.specs.declared.clock.Begun.{Begun}
 use Rattle.program_follower.specs.declared.purpose.Listed.{Listed}
 use Rattle.program_follower.specs.Purposes.{reading_cues}
 use Rattle.program_follower.specs.Program.{listed}
-use Rattle.program_follower.specs.Following.{StartsStandFor, IsStartPlace}
+use Rattle.program_follower.specs.Following.{StartsStandFor, StartsShow, IsStartPlace}
 use Rattle.program_follower.specs.Faults.{network_fault, first_fault}
-use Rattle.program_laws.specs.Writing.{number_on}
-use Rattle.outgoing_packets.specs.Numbers.{HasPut, FrontFails}
+use Rattle.outgoing_packets.specs.Numbers.{HasPut, GoOnAs, FrontFails}
 use Rattle.ad_library.specs.Advertisements.{Advertisement}
 use Rattle.splice_switch.specs.declared.switch.Switch.{Switch}
 use Rattle.splice_plans.specs.Switching.{switched_past, switched_at_packet, rest_at}
 use Rattle.splice_plans.specs.Adverts.{setting_of}
 use Rattle.splice_playing.specs.Relations.{PlaysFor, unasked}
-
--- The same counters go on: of each PID before the PAT, and of the map's PID behind it.
-abbrev pub GoOnAs : Option Listed → List (List ℕ) → List (List ℕ) → Type 0
-GoOnAs None passed out = (pid : ℕ) → number_on pid passed ≡ number_on pid out
-GoOnAs (Some l) passed out = number_on l.pid passed ≡ number_on l.pid out
 
 -- what the numbers of outgoing packets stand for: packets whose counters go on as those of all that is out
 pub record Numbers (s : Switch) (l : Option Listed) (out : List (List ℕ)) : Type 0 where
@@ -65,6 +59,7 @@ pub record IsFollowedAs (s : Switch) (place : StartPlace) (c : Config) (filed : 
     (p : List ℕ) (past : List (List ℕ)) : Type 0 where
   pub cue_pid : s.cue_pid ≡ c.cue_pid
   pub follower : StartsStandFor s.follower (reading_cues c) (p ∷ past)
+  pub shows : StartsShow s.follower (reading_cues c) (p ∷ past)
   pub clean : first_fault (reading_cues c) past ≡ None
   pub sound : network_fault (reading_cues c) p past ≡ None
   pub place_is : IsStartPlace place (reading_cues c) p past

@@ -55,7 +55,7 @@ returns-in-Map-clause-ok g c = λ start ps cfg past h b.
     let b' : IsFollowedAs c.args.self.now places.Map cfg filed p past = subst (λ x. IsFollowedAs c.args.self.now x cfg filed p past) c.in-Map.is b in
     let m = on-map (listed (Some cfg.program) past) p b'.place_is in
     let passed = b'.numbers.passed in
-    let left : tables_left c.tables-tables.result ≡ tables (Some cfg.program) p past = c.tables-tables.ensures (reading_cues cfg) p past b'.follower in
+    let left : tables_left c.tables-tables.result ≡ tables (Some cfg.program) p past = c.tables-tables.ensures (reading_cues cfg) p past b'.follower b'.shows in
     let cue = c.args.self.now.cue_pid in
     let good : AllGoOut (Stripped cue) (tables_left c.tables-tables.result) = subst (λ ts. AllGoOut (Stripped cue) ts) (sym left) (tables-strip cue (Some cfg.program) p past) in
     let same : tables_out (Stripped cue) c.pid.result passed (tables_left c.tables-tables.result) ≡ switched_at_packet k p past
@@ -70,7 +70,7 @@ returns-in-Map-clause-stands g c = λ cfg past b.
     let b' : IsFollowedAs c.args.self.now places.Map cfg filed p past = subst (λ x. IsFollowedAs c.args.self.now x cfg filed p past) c.in-Map.is b in
     let m = on-map (listed (Some cfg.program) past) p b'.place_is in
     let passed = b'.numbers.passed in
-    let left : tables_left c.tables-tables.result ≡ tables (Some cfg.program) p past = c.tables-tables.ensures (reading_cues cfg) p past b'.follower in
+    let left : tables_left c.tables-tables.result ≡ tables (Some cfg.program) p past = c.tables-tables.ensures (reading_cues cfg) p past b'.follower b'.shows in
     let cue = c.args.self.now.cue_pid in
     let good : AllGoOut (Stripped cue) (tables_left c.tables-tables.result) = subst (λ ts. AllGoOut (Stripped cue) ts) (sym left) (tables-strip cue (Some cfg.program) p past) in
     let same : tables_out (Stripped cue) c.pid.result passed (tables_left c.tables-tables.result) ≡ switched_at_packet k p past
@@ -96,7 +96,7 @@ returns-in-Map-clause-err g c = λ start ps cfg past h b.
     let b' : IsFollowedAs c.args.self.now places.Map cfg filed p past = subst (λ x. IsFollowedAs c.args.self.now x cfg filed p past) c.in-Map.is b in
     let m = on-map (listed (Some cfg.program) past) p b'.place_is in
     let passed = b'.numbers.passed in
-    let left : tables_left c.tables-tables.result ≡ tables (Some cfg.program) p past = c.tables-tables.ensures (reading_cues cfg) p past b'.follower in
+    let left : tables_left c.tables-tables.result ≡ tables (Some cfg.program) p past = c.tables-tables.ensures (reading_cues cfg) p past b'.follower b'.shows in
     let cue = c.args.self.now.cue_pid in
     let good : AllGoOut (Stripped cue) (tables_left c.tables-tables.result) = subst (λ ts. AllGoOut (Stripped cue) ts) (sym left) (tables-strip cue (Some cfg.program) p past) in
     let same : tables_out (Stripped cue) c.pid.result passed (tables_left c.tables-tables.result) ≡ switched_at_packet k p past

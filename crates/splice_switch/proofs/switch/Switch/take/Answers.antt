@@ -10,6 +10,7 @@ returns-in-Ok-put-clause-ok g c = λ start ps cfg past h b.
     record {
       cue_pid = b.cue_pid;
       follower = c.in-Ok.ensures.stands (reading_cues cfg) past b.follower;
+      shows = c.in-Ok.ensures.shows (reading_cues cfg) past b.follower;
       clean = b.clean;
       sound = c.in-Ok.ensures.sound (reading_cues cfg) past b.follower;
       place_is = c.in-Ok.ensures.place (reading_cues cfg) past b.follower;
@@ -26,6 +27,7 @@ returns-in-Ok-put-clause-stands g c = λ cfg past b.
     record {
       cue_pid = b.cue_pid;
       follower = c.in-Ok.ensures.stands (reading_cues cfg) past b.follower;
+      shows = c.in-Ok.ensures.shows (reading_cues cfg) past b.follower;
       clean = b.clean;
       sound = c.in-Ok.ensures.sound (reading_cues cfg) past b.follower;
       place_is = c.in-Ok.ensures.place (reading_cues cfg) past b.follower;
@@ -45,6 +47,7 @@ returns-in-Err-put-clause-err g c = λ start ps cfg past h b.
     record {
       cue_pid = b.cue_pid;
       follower = c.in-Ok.ensures.stands (reading_cues cfg) past b.follower;
+      shows = c.in-Ok.ensures.shows (reading_cues cfg) past b.follower;
       clean = b.clean;
       sound = c.in-Ok.ensures.sound (reading_cues cfg) past b.follower;
       place_is = c.in-Ok.ensures.place (reading_cues cfg) past b.follower;
