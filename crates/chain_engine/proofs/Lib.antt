@@ -5,6 +5,7 @@ pub mod ExchangeLemmas
 pub mod RunLemmas
 pub mod SpliceLemmas
 pub mod PassingLemmas
+pub mod UnfollowedLemmas
 pub mod NestedLemmas
 pub mod ChainLemmas
 pub mod ProgressLemmas

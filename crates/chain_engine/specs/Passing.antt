@@ -1,13 +1,15 @@
 -- What a chain sends for one packet: what its switch sends for each packet that its injector sends for it; and what a service stands for.
 use Rattle.std.specs.Prelude.{◌≡◌, ℕ, List, [], ◌∷◌, ◌++◌, Option, None, Some}
+use Rattle.ts_packet.specs.Fields.{pid_of}
 use Rattle.ts_packet.specs.declared.sink.PutFault.{PutFault}
 use Rattle.psi_tables.specs.declared.config.Config.{Config}
 use Rattle.psi_tables.specs.declared.network.FeedFault.{FeedFault}
 use Rattle.psi_tables.specs.declared.network.FeedFault.TheVariants.{Network, Sink, Failed}
 use Rattle.program_follower.specs.Faults.{network_fault, first_fault}
 use Rattle.program_follower.specs.Purposes.{writing_cues}
+use Rattle.program_follower.specs.Following.{IsUnfollowed}
 use Rattle.outgoing_packets.specs.Numbers.{FrontFails}
-use Rattle.injector.specs.Steps.{Step, packets_in, cued, sent_at}
+use Rattle.injector.specs.Steps.{Step, Packet, packets_in, cued, sent_at}
 use Rattle.injector.specs.Injecting.{InjectorStandsFor}
 use Rattle.cued_laws.specs.Laws.{ArePacketsOfBytes}
 use Rattle.ad_library.specs.Advertisements.{Advertisement}
@@ -36,6 +38,13 @@ pub record ServiceStandsFor (s : Service) (c : Config) (filed : ℕ → Option A
   pub switch : SwitchStandsFor s.switch c filed (cued c steps)
   pub network : IsSoundNetwork c (packets_in steps)
   pub config : s.config ≡ c
+
+-- A packet changes nothing of a service that has gone these steps: nothing of the service is on the packet's PID, the service stands for the
+-- packet too as it is, and the packet goes out alone.
+pub record PassesBy (s : Service) (c : Config) (filed : ℕ → Option Advertisement) (p : List ℕ) (steps : List Step) : Type 0 where
+  pub unfollowed : IsUnfollowed (Some c.program) (Some c.cue_pid) (pid_of p) (packets_in steps)
+  pub stands : ServiceStandsFor s c filed (Packet p ∷ steps)
+  pub alone : chain_at c filed p steps ≡ p ∷ []
 
 -- the same service, of which it is open whether what was due of the advertisements that run is out
 abbrev pub service_unasked : Service → Service

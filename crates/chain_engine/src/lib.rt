@@ -27,6 +27,6 @@ pub use inject::run_inject;
 pub use judge::Judge;
 pub use report::Report;
 pub use running::run;
-pub use service::Service;
+pub use service::{Service, of_bytes};
 pub use splice::run_splice;
 pub use talk::Talk;

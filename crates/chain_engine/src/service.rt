@@ -1,9 +1,10 @@
 //! What stands for one programme in a chain: the cues that its injector puts in are obeyed by its switch, packet by packet.
 
-ghost use Rattle.std.specs.Prelude.{◌≡◌, ℕ, ◌++◌, ◌∷◌, [], List, length, Option, Some, OnOk, IfOk, IfErr};
+ghost use Rattle.std.specs.Prelude.{◌≡◌, ℕ, ◌++◌, ◌∷◌, [], List, length, Option, Some, OnOk, IfOk, IfErr, true};
 ghost use Rattle.ts_packet.specs.Fields.{on_one};
 ghost use Rattle.ts_packet.specs.Transfers.{WentWell};
 ghost use Rattle.program_follower.specs.Program.{known_pids};
+ghost use Rattle.program_follower.specs.Following.{IsUnfollowed};
 ghost use Rattle.wire_fields.specs.Numbers.{AreBytes};
 ghost use Rattle.psi_tables.specs.declared.config.Config.{Config};
 ghost use Rattle.ad_library.specs.Advertisements.{Advertisement};
@@ -17,7 +18,7 @@ ghost use Rattle.splice_plans.specs.Switching.{rest_at};
 ghost use Rattle.splice_plans.specs.Reporting.{ReportIs, report_of};
 ghost use Rattle.splice_switch.specs.Standing.{FinishFails};
 ghost use Rattle.chain_engine.specs.Runs.{OutputBlamed};
-ghost use Rattle.chain_engine.specs.Passing.{ServiceStandsFor, PassFails, chain_at, service_unasked};
+ghost use Rattle.chain_engine.specs.Passing.{ServiceStandsFor, PassFails, PassesBy, chain_at, service_unasked};
 
 use crate::faults::RunFault;
 use crate::judge::Judge;
@@ -103,6 +104,25 @@ impl Service {
         self.injector.owns(packet)
     }
 
+    /// Nothing of its program is on the PID, behind its PAT: neither its map nor a switched stream, nor the PAT, nor the cues.
+    pub fn overlooks_pid(&self, pid: Pid) -> bool
+        ensures { (c : Config) (steps : List Step) → InjectsFor c self.now steps → result ≡ true
+            → IsUnfollowed (Some c.program) (Some c.cue_pid) pid (packets_in steps) }
+    {
+        self.injector.overlooks_pid(pid)
+    }
+
+    /// The packet would go out alone, and change nothing: nothing of its program is on the packet's PID, behind its PAT, and no request was
+    /// accepted since the last packet. One look-up tells most packets.
+    #[inline(always)]
+    pub fn overlooks(&self, packet: &Packet) -> bool
+        ensures { (c : Config) (filed : ℕ → Option Advertisement) (steps : List Step)
+            → ServiceStandsFor self.now c filed steps → result ≡ true → PassesBy self.now c filed packet.now steps }
+    {
+        of_bytes(packet);
+        self.injector.overlooks(packet)
+    }
+
     /// Leaves it open what is due of the advertisements that run: the next packet asks for it anew.
     pub fn ask_anew(&mut self)
         ensures { self.new ≡ service_unasked self.old }
@@ -111,7 +131,7 @@ impl Service {
     }
 
     /// Takes the next packet of the network: the injector sends it on to the switch, with the cues that are due, and the switch puts what goes
-    /// out.
+    /// out. A packet that changes nothing is put at once.
     ///
     /// # Errors
     ///
@@ -119,6 +139,37 @@ impl Service {
     /// a front of what the packet sends.
     #[inline(always)]
     pub fn pass<K: PacketSink>(
+        &mut self,
+        packet: &Packet,
+        library: &AdLibrary,
+        out: &mut K,
+    ) -> Result<(), FeedFault>
+        ensures leads { K.leads out.old out.new }
+        ensures ok { (c : Config) (steps : List Step) (start : Option (List ℕ)) (ps : List (List ℕ))
+            → ServiceStandsFor self.old c (held library.now) steps → K.holds out.old start ps
+            → OnOk result (ServiceStandsFor self.new c (held library.now) (PacketStep packet.now ∷ steps)
+            × K.holds out.new start (ps ++ chain_at c (held library.now) packet.now steps)) }
+        ensures err { (c : Config) (steps : List Step) (start : Option (List ℕ)) (ps : List (List ℕ))
+            → ServiceStandsFor self.old c (held library.now) steps → K.holds out.old start ps
+            → IfErr result (λ f. PassFails f c (held library.now) packet.now steps (K.holds out.new start ps)
+            (λ put q x. K.fails out.new start (ps ++ put) q x)) }
+        ensures well { OnOk result (WentWell (K.counts out.old) (K.counts out.new)) }
+        ensures blamed { IfErr result (λ f. OutputBlamed (RunFault.Feed f)
+            (K.counts out.old) (K.counts out.new) (K.is_full out.new)) }
+        ensures config { self.new.config ≡ self.old.config }
+    {
+        if !self.overlooks(packet) {
+            return self.pass_on(packet, library, out);
+        }
+        match out.put(packet) {
+            Ok(()) => Ok(()),
+            Err(fault) => Err(FeedFault::Sink(fault)),
+        }
+    }
+
+    /// The same of each packet.
+    #[inline(always)]
+    fn pass_on<K: PacketSink>(
         &mut self,
         packet: &Packet,
         library: &AdLibrary,
@@ -190,7 +241,7 @@ impl Service {
 
 /// Says that a packet is of bytes, and does nothing.
 #[inline(always)]
-fn of_bytes(packet: &Packet)
+pub fn of_bytes(packet: &Packet)
     ensures { AreBytes packet.now }
 {
     let _bytes = packet.to_bytes();

@@ -1,70 +1,20 @@
-use Rattle.std.proofs.Common.{rules, [], ◌++◌, ◌∙◌, refl, sym, ap, subst}
+use Rattle.std.proofs.Common.{[], ◌++◌, sym, subst}
 use Rattle.std.proofs.lemmas.List.{append-nil}
 use Rattle.ad_library.specs.Library.{held}
-use Rattle.injector.specs.Steps.{packets_in, cued, sent_at}
-use Rattle.injector.specs.Injecting.{FeedFails}
-use Rattle.splice_switch.specs.Standing.{SwitchStandsFor}
-use Rattle.chain_engine.specs.Nested.{fed_behind, FeedingHolds, FeedingFails}
-use Rattle.chain_engine.proofs.NestedLemmas.{fed_now, pass_stops}
-use Rattle.chain_engine.proofs.PassingLemmas.{one_more}
 use Rattle.chain_engine.proofs.service.Service.pass.Goals as goal
 
 pub returns-in-Ok-clause-ok : goal.returns-in-Ok-clause-ok
 returns-in-Ok-clause-ok g c = λ d steps start ps stands is_held.
-    let e = c.args.self.now.config in
-    let f = held c.args.library.now in
-    let p = c.args.packet.now in
-    let sink = c.feed-fed.new.sink in
-    let leads = c.in-Ok.ensures.leads in
-    let sent = sent_at d p steps in
-    let past = cued d steps in
-    let begins : FeedingHolds g.K.PacketSink.holds c.args.self.now.switch e f c.args.out.now start (fed_behind past ps []) = record {
-      past = past;
-      before = ps;
-      fed = [];
-      parts = refl;
-      stands = subst (λ w. SwitchStandsFor c.args.self.now.switch w f past) (sym stands.config) stands.switch;
-      sent = subst (g.K.PacketSink.holds c.args.out.now start) (sym (append-nil ps)) is_held;
-    } in
-    let one = c.in-Ok.ensures.ok start (fed_behind past ps []) d steps begins stands.injector in
-    let two = subst (λ w. FeedingHolds g.K.PacketSink.holds sink.switch.now w (held sink.library.now) sink.out.now start (fed_behind past ps [] ++ sent)) (leads.3 ∙ stands.config) one in
-    let three = subst (λ w. FeedingHolds g.K.PacketSink.holds sink.switch.now d (held w) sink.out.now start (fed_behind past ps [] ++ sent)) leads.2 two in
-    let done = fed_now g.K.PacketSink.holds d f start sink.switch.now sink.out.now past ps sent three in
-    let switch = done.stands in
-    let is_out = done.is_out in
-    let switch_name = leads.0 in
-    let out_name = leads.1 in (
-      record {
-        injector = c.in-Ok.ensures.stands d steps stands.injector;
-        switch = search (rules, switch, switch_name);
-        network = one_more d p (packets_in steps) stands.network c.of_bytes.ensures (c.in-Ok.ensures.sound d steps stands.injector);
-        config = stands.config;
-      },
-      search (rules, is_out, out_name),
-    )
+    let by = c.overlooks.ensures d (held c.args.library.now) steps stands c.if-not-overlooks.false in
+    (by.stands, subst (λ l. g.K.PacketSink.holds c.put.new.self start (ps ++ l)) (sym by.alone) (c.in-Ok.ensures.ok start ps is_held))
 
 pub returns-in-Err-clause-err : goal.returns-in-Err-clause-err
 returns-in-Err-clause-err g c = λ d steps start ps stands is_held.
-    let e = c.args.self.now.config in
-    let f = held c.args.library.now in
-    let p = c.args.packet.now in
-    let sink = c.feed-fed.new.sink in
-    let leads = c.in-Err.ensures.leads in
-    let fault = c.in-Err.fault in
-    let past = cued d steps in
-    let begins : FeedingHolds g.K.PacketSink.holds c.args.self.now.switch e f c.args.out.now start (fed_behind past ps []) = record {
-      past = past;
-      before = ps;
-      fed = [];
-      parts = refl;
-      stands = subst (λ w. SwitchStandsFor c.args.self.now.switch w f past) (sym stands.config) stands.switch;
-      sent = subst (g.K.PacketSink.holds c.args.out.now start) (sym (append-nil ps)) is_held;
-    } in
-    let one = c.in-Err.ensures.err start (fed_behind past ps []) d steps begins stands.injector in
-    let two = subst (λ w. FeedFails fault d p steps (λ put q x. FeedingFails g.K.PacketSink.fails sink.fault w (held sink.library.now) sink.out.now start (fed_behind past ps [] ++ put) q x)) (leads.3 ∙ stands.config) one in
-    let three = subst (λ w. FeedFails fault d p steps (λ put q x. FeedingFails g.K.PacketSink.fails sink.fault d (held w) sink.out.now start (fed_behind past ps [] ++ put) q x)) leads.2 two in
-    let failed = pass_stops d f start g.K.PacketSink.fails sink.out.now ps p steps (g.K.PacketSink.holds sink.out.now start ps) sink.fault fault c.unwrap_or.result c.unwrap_or.ensures
-    (λ x is. let kept = rw is at c.in-Err.ensures.kept in (ap (λ w. w.fault) kept, subst (λ w. g.K.PacketSink.holds w start ps) (sym (ap (λ w. w.out.now) kept)) is_held))
-    stands.network c.of_bytes.ensures (c.in-Err.ensures.found d steps stands.injector) three in
-    let out_name = leads.1 in
-    search (rules, failed, out_name)
+    let by = c.overlooks.ensures d (held c.args.library.now) steps stands c.if-not-overlooks.false in
+    record {
+      put = [];
+      packet = c.args.packet.now;
+      left = [];
+      all = by.alone;
+      fault = subst (λ l. g.K.PacketSink.fails c.put.new.self start l c.args.packet.now c.in-Err.fault) (sym (append-nil ps)) (c.in-Err.ensures.err start ps is_held);
+    }
