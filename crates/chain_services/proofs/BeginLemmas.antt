@@ -16,6 +16,7 @@ use Rattle.service_laws.specs.Faults.{meets, share_a_pid}
 use Rattle.chain_engine.specs.Automation.{Exchange}
 use Rattle.chain_engine.specs.Runs.{Exchanged}
 use Rattle.chain_engine.proofs.RunLemmas.{begun}
+use Rattle.chain_services.proofs.UnfollowedLemmas.{all-take}
 use Rattle.chain_services.specs.Serving.{ServesAs, AllServe, FiledAs, services_in, reply_by}
 use Rattle.chain_services.specs.Runs.{terms_by, ServicesStandFor}
 use Rattle.chain_services.specs.Stages.{ServicesSend, DeskServes, configs_in, terms_in}
@@ -122,7 +123,7 @@ module _ {X : Type 0} (exchanges : X → List Exchange → X → Type 0) (exchan
         few = subst (λ n. n ≤ 8) (sym (terms_long ts ∙ ap length configs)) h.few;
         apart = none_share (configs_of ts);
         run = begun exchanges exchanges_refl exchanges_trans failures (DeskServes ts) (reply_by ts) services.desk services.talk (λ steps. services_send ts steps ≡ []) x h.talk
-            (record { services = h.serve ts configs; counts = h.counts }) refl;
+            (record { services = h.serve ts configs; counts = h.counts; owners = all-take services.desk.owners ts [] h.owners; quiet = λ e. tt }) refl;
       }
 
 -- all services, the first and those behind it, were given nothing

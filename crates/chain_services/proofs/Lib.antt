@@ -1,9 +1,10 @@
+pub mod ServingLemmas
+pub mod PartLemmas
+pub mod UnfollowedLemmas
+pub mod RestLemmas
 pub mod ApartLemmas
 pub mod BeginLemmas
 pub mod ManyLemmas
-pub mod PartLemmas
-pub mod RestLemmas
-pub mod ServingLemmas
 pub mod StageLemmas
 pub mod AnswerLemmas
 pub mod SoundLemmas

@@ -1,4 +1,5 @@
 pub mod Serving
+pub mod Owners
 pub mod Parts
 pub mod Runs
 pub mod Refused

@@ -22,6 +22,7 @@ use Rattle.chain_engine.specs.declared.faults.RunFault.TheVariants.{Read, Feed, 
 use Rattle.service_laws.specs.Messages.{share_an_index}
 use Rattle.service_laws.specs.Services.{ServiceTerms, configs_of, given_at, services_send, services_rest, services_output}
 use Rattle.service_laws.specs.Faults.{services_test, first_services_fault}
+use Rattle.chain_services.specs.Owners.{AllTake}
 use Rattle.chain_services.specs.Serving.{reply_by, AllServe, CountsReplies, services_in}
 use Rattle.chain_services.specs.Parts.{FrontIsOut, AreEvents}
 use Rattle.chain_services.specs.declared.report.ServiceReport.{ServiceReport}
@@ -40,6 +41,7 @@ pub record ServicesStandFor {M : Type 0} (services : Services M) (cs : List Conf
   pub talk : TalkStandsFor services.talk [] 0 0
   pub serve : (ts : List ServiceTerms) → configs_of ts ≡ cs → AllServe (services_in services.desk) ts []
   pub counts : CountsReplies services.desk.counts.messages services.desk.counts.accepted services.desk.counts.refused []
+  pub owners : AllTake services.desk.owners
   pub indexes : share_an_index cs ≡ false
   pub few : length cs ≤ 8
 

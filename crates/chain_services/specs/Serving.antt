@@ -4,7 +4,7 @@ use Rattle.std.specs.List.{list_any}
 use Rattle.psi_section.specs.Assembling.{capped}
 use Rattle.scte104_codec.specs.Reading.{MessageReading}
 use Rattle.scte104_codec.specs.declared.reply.Reply.{Reply}
-use Rattle.injector.specs.Steps.{Step, Message}
+use Rattle.injector.specs.Steps.{Step, Message, packets_in}
 use Rattle.ad_library.specs.declared.library.AdLibrary.{AdLibrary}
 use Rattle.ad_library.specs.Library.{held}
 use Rattle.chain_engine.specs.Passing.{ServiceStandsFor}
@@ -12,6 +12,7 @@ use Rattle.chain_engine.specs.Runs.{replies_by}
 use Rattle.chain_engine.specs.declared.service.Service.{Service}
 use Rattle.service_laws.specs.Messages.{is_for, own_steps, reply_among, accepts, refuses, share_an_index}
 use Rattle.service_laws.specs.Services.{ServiceTerms, configs_of}
+use Rattle.chain_services.specs.Owners.{HasOwners, IsQuiet}
 use Rattle.chain_services.specs.declared.desk.Desk.{Desk}
 
 -- A service has gone the steps of its own: all packets and its own messages, with messages that are for none among them.
@@ -50,6 +51,8 @@ services_in desk = desk.first ∷ desk.others.items
 pub record DeskStandsFor {M : Type 0} (desk : Desk M) (ts : List ServiceTerms) (steps : List Step) : Type 0 where
   pub services : AllServe (services_in desk) ts steps
   pub counts : CountsReplies desk.counts.messages desk.counts.accepted desk.counts.refused (replies_by (reply_by ts) steps)
+  pub owners : HasOwners desk.owners ts (packets_in steps)
+  pub quiet : desk.has_heard ≡ false → IsQuiet steps
 
 -- ---- a message
 

@@ -9,6 +9,7 @@ ghost use Rattle.service_laws.specs.Messages.{is_for, share_an_index, accepts, r
 ghost use Rattle.service_laws.specs.Services.{ServiceTerms, configs_of};
 ghost use Rattle.chain_services.specs.Serving.{AllServe, AskedOwn, CountsReplies, is_index};
 
+use crate::owners::{Owners, owners_of};
 use chain_engine::{Judge, Service};
 use injector::MessageCounts;
 use scte104_codec::operation_ids::INJECT_RESPONSE;
@@ -74,6 +75,10 @@ pub(crate) struct Desk<M: Allocator> {
     pub(crate) others: Vec<Service, M>,
     /// How many messages were judged.
     pub(crate) counts: MessageCounts,
+    /// Which services take the packets of each PID.
+    pub(crate) owners: Owners,
+    /// A message was judged since the last packet: all services take the next one, since cues may go out before it.
+    pub(crate) has_heard: bool,
 }
 
 impl<M: Allocator> Desk<M> {
@@ -84,6 +89,7 @@ impl<M: Allocator> Desk<M> {
         ensures judged { (ts : List ServiceTerms) (steps : List Step) → share_an_index (configs_of ts) ≡ false
             → ServesBehind self.old self.new ts (reading_of message.entry) steps result }
         ensures counts { self.new.counts ≡ self.old.counts }
+        ensures owners { self.new.owners ≡ self.old.owners }
     {
         match index_of(&message) {
             None => self.first.ask(message),
@@ -92,6 +98,24 @@ impl<M: Allocator> Desk<M> {
                 None => self.first.ask(message),
             },
         }
+    }
+}
+
+impl<M: Allocator> Desk<M> {
+    ghost use Rattle.injector.specs.Steps.{packets_in};
+    ghost use Rattle.chain_services.specs.Serving.{services_in};
+    ghost use Rattle.chain_services.specs.Owners.{HasOwners};
+
+    /// Learns anew which services take the packets of each PID.
+    #[cold]
+    #[inline(never)]
+    pub(crate) fn learn(&mut self)
+        ensures owners { (ts : List ServiceTerms) (steps : List Step) → AllServe (services_in self.old) ts steps
+            → HasOwners self.new.owners ts (packets_in steps) }
+        ensures services { services_in self.new ≡ services_in self.old }
+        ensures counts { self.new.counts ≡ self.old.counts }
+    {
+        self.owners = owners_of(&self.first, self.others.as_slice());
     }
 }
 
@@ -104,6 +128,7 @@ impl<M: Allocator> Judge for Desk<M> {
     fn ask(&mut self, message: Result<Message<'_>, BadMessage>) -> Reply {
         let reply = self.judge(message);
         self.counts = counted(self.counts, &reply);
+        self.has_heard = true;
         reply
     }
 }

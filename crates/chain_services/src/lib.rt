@@ -9,6 +9,7 @@ mod desk;
 mod fault;
 mod finishing;
 mod nowhere;
+mod owners;
 mod passing;
 mod refusal;
 mod report;

@@ -1,6 +1,6 @@
 //! One packet through all services.
 
-ghost use Rattle.std.specs.Prelude.{◌≡◌, ◌||◌, ◌++◌, ◌∷◌, ℕ, List, Option, OnOk, IfOk, IfErr, false};
+ghost use Rattle.std.specs.Prelude.{◌≡◌, ◌||◌, ◌++◌, ◌∷◌, ℕ, List, Option, OnOk, IfOk, IfErr, true, false};
 ghost use Rattle.ts_packet.specs.Transfers.{WentWell};
 ghost use Rattle.outgoing_packets.specs.Faults.{FeedBlamed};
 ghost use Rattle.injector.specs.Steps.{Step, Packet as PacketStep, packets_in};
@@ -8,13 +8,15 @@ ghost use Rattle.ad_library.specs.Library.{held};
 ghost use Rattle.chain_engine.specs.Runs.{OutputBlamed};
 ghost use Rattle.service_laws.specs.Services.{ServiceTerms, configs_of, given_at};
 ghost use Rattle.service_laws.specs.Faults.{share_a_pid};
-ghost use Rattle.chain_services.specs.Serving.{ServesAs, AllServe, FiledAs, services_in};
+ghost use Rattle.chain_services.specs.Owners.{IsSkipped, AreSkipped};
+ghost use Rattle.chain_services.specs.Serving.{ServesAs, AllServe, DeskStandsFor, FiledAs, services_in};
 ghost use Rattle.chain_services.specs.Parts.{PassedOn, FailedOn, PassedOne, FailedOne, PassedEach, FailedEach, AllKnowSame, parts_of};
 
 use crate::desk::Desk;
 use crate::nowhere::Nowhere;
+use crate::owners::{leaves_out, leaves_out_all, takes_all};
 use ad_library::AdLibrary;
-use chain_engine::{RunFault, Service};
+use chain_engine::{RunFault, Service, of_bytes};
 use psi_tables::FeedFault;
 use std::alloc::Allocator;
 use ts_packet::{Packet, PacketSink};
@@ -71,13 +73,15 @@ fn pass_and_learn<K: PacketSink>(
     }
 }
 
-/// Passes a packet on through a service: what it sends goes out where the packet is on one of its PIDs, and is the packet else.
+/// Passes a packet on through a service: what it sends goes out where the packet is on one of its PIDs, and is the packet else. A packet that
+/// changes nothing of the service is not passed on, nor one that is kept from it.
 ///
 /// # Errors
 ///
 /// As for [`Service::pass`].
 #[inline(always)]
 fn pass_one<K: PacketSink>(
+    is_left_out: bool,
     service: &mut Service,
     library: &AdLibrary,
     packet: &Packet,
@@ -85,7 +89,8 @@ fn pass_one<K: PacketSink>(
 ) -> Result<Passed, FeedFault>
     ensures leads { K.leads out.old out.new }
     ensures ok { (t : ServiceTerms) (steps : List Step) (start : Option (List ℕ)) (ps : List (List ℕ))
-        → held library.now ≡ t.filed → ServesAs service.old t steps → K.holds out.old start ps
+        → held library.now ≡ t.filed → ServesAs service.old t steps
+        → (is_left_out ≡ true → IsSkipped t packet.now steps) → K.holds out.old start ps
         → IfOk result (λ passed. PassedOne passed.is_own passed.learns service.new t packet.now steps
         (λ l. K.holds out.new start (ps ++ l))) }
     ensures err { (t : ServiceTerms) (steps : List Step) (start : Option (List ℕ)) (ps : List (List ℕ))
@@ -96,6 +101,17 @@ fn pass_one<K: PacketSink>(
     ensures blamed { IfErr result (λ f. OutputBlamed (RunFault.Feed f)
         (K.counts out.old) (K.counts out.new) (K.is_full out.new)) }
 {
+    let none = Passed {
+        is_own: false,
+        learns: false,
+    };
+    if is_left_out {
+        of_bytes(packet);
+        return Ok(none);
+    }
+    if service.overlooks(packet) {
+        return Ok(none);
+    }
     if service.owns(packet) {
         return match pass_and_learn(service, library, packet, out) {
             Ok(learns) => Ok(Passed {
@@ -115,12 +131,14 @@ fn pass_one<K: PacketSink>(
     }
 }
 
-/// Passes a packet on through these services, each with its library.
+/// Passes a packet on through those of these services that take it, each with its library: all, or those whose bits are set.
 ///
 /// # Errors
 ///
 /// The first fault of one of them, in their order: a front of what they send is out then.
 fn pass_each<K: PacketSink>(
+    all: bool,
+    takers: u8,
     services: &mut [Service],
     libraries: &[AdLibrary],
     packet: &Packet,
@@ -128,11 +146,13 @@ fn pass_each<K: PacketSink>(
 ) -> Result<Passed, FeedFault>
     ensures leads { K.leads out.old out.new }
     ensures ok { (ts : List ServiceTerms) (steps : List Step) (start : Option (List ℕ)) (ps : List (List ℕ))
-        → FiledAs libraries.now ts → AllServe services.old ts steps → K.holds out.old start ps
+        → FiledAs libraries.now ts → AllServe services.old ts steps
+        → (all ≡ false → AreSkipped takers ts packet.now steps) → K.holds out.old start ps
         → IfOk result (λ passed. PassedEach passed.is_own passed.learns services.new ts packet.now steps
         (λ l. K.holds out.new start (ps ++ l))) }
     ensures err { (ts : List ServiceTerms) (steps : List Step) (start : Option (List ℕ)) (ps : List (List ℕ))
-        → FiledAs libraries.now ts → AllServe services.old ts steps → K.holds out.old start ps
+        → FiledAs libraries.now ts → AllServe services.old ts steps
+        → (all ≡ false → AreSkipped takers ts packet.now steps) → K.holds out.old start ps
         → IfErr result (λ f. FailedEach f ts packet.now steps (parts_of ts packet.now steps)
         (λ l. K.holds out.new start (ps ++ l)) (λ put q x. K.fails out.new start (ps ++ put) q x)) }
     ensures well { OnOk result (WentWell (K.counts out.old) (K.counts out.new)) }
@@ -143,24 +163,28 @@ fn pass_each<K: PacketSink>(
         is_own: false,
         learns: false,
     };
+    if leaves_out_all(all, takers) {
+        of_bytes(packet);
+        return Ok(none);
+    }
     let Some((service, others)) = services.split_first_mut() else {
         return Ok(none);
     };
     let Some((library, libraries)) = libraries.split_first() else {
         return Ok(none);
     };
-    let one = match pass_one(service, library, packet, out) {
+    let one = match pass_one(leaves_out(all, takers), service, library, packet, out) {
         Ok(one) => one,
         Err(fault) => return Err(fault),
     };
-    match pass_each(others, libraries, packet, out) {
+    match pass_each(all, takers / 2, others, libraries, packet, out) {
         Ok(others) => Ok(joined(one, others)),
         Err(fault) => Err(fault),
     }
 }
 
 impl<M: Allocator> Desk<M> {
-    /// Passes a packet on through all services, the first one and the others.
+    /// Passes a packet on through the services that take it, of the first one and the others: all, or those whose bits are set.
     ///
     /// # Errors
     ///
@@ -168,32 +192,37 @@ impl<M: Allocator> Desk<M> {
     #[inline(always)]
     fn pass_through<K: PacketSink>(
         &mut self,
+        all: bool,
+        takers: u8,
         packet: &Packet,
         libraries: &[AdLibrary],
         out: &mut K,
     ) -> Result<Passed, FeedFault>
         ensures leads { K.leads out.old out.new }
         ensures ok { (ts : List ServiceTerms) (steps : List Step) (start : Option (List ℕ)) (ps : List (List ℕ))
-            → FiledAs libraries.now ts → AllServe (services_in self.old) ts steps → K.holds out.old start ps
+            → FiledAs libraries.now ts → AllServe (services_in self.old) ts steps
+            → (all ≡ false → AreSkipped takers ts packet.now steps) → K.holds out.old start ps
             → IfOk result (λ passed. PassedEach passed.is_own passed.learns (services_in self.new) ts packet.now steps
             (λ l. K.holds out.new start (ps ++ l))) }
         ensures err { (ts : List ServiceTerms) (steps : List Step) (start : Option (List ℕ)) (ps : List (List ℕ))
-            → FiledAs libraries.now ts → AllServe (services_in self.old) ts steps → K.holds out.old start ps
+            → FiledAs libraries.now ts → AllServe (services_in self.old) ts steps
+            → (all ≡ false → AreSkipped takers ts packet.now steps) → K.holds out.old start ps
             → IfErr result (λ f. FailedEach f ts packet.now steps (parts_of ts packet.now steps)
             (λ l. K.holds out.new start (ps ++ l)) (λ put q x. K.fails out.new start (ps ++ put) q x)) }
         ensures well { OnOk result (WentWell (K.counts out.old) (K.counts out.new)) }
         ensures blamed { IfErr result (λ f. OutputBlamed (RunFault.Feed f)
             (K.counts out.old) (K.counts out.new) (K.is_full out.new)) }
         ensures counts { self.new.counts ≡ self.old.counts }
+        ensures owners { self.new.owners ≡ self.old.owners }
     {
         let Some((library, libraries)) = libraries.split_first() else {
             return Err(FeedFault::Failed);
         };
-        let one = match pass_one(&mut self.first, library, packet, out) {
+        let one = match pass_one(leaves_out(all, takers), &mut self.first, library, packet, out) {
             Ok(one) => one,
             Err(fault) => return Err(fault),
         };
-        match pass_each(self.others.as_mut_slice(), libraries, packet, out) {
+        match pass_each(all, takers / 2, self.others.as_mut_slice(), libraries, packet, out) {
             Ok(others) => Ok(joined(one, others)),
             Err(fault) => Err(fault),
         }
@@ -215,21 +244,25 @@ impl<M: Allocator> Desk<M> {
         ensures leads { K.leads out.old out.new }
         ensures ok { (ts : List ServiceTerms) (steps : List Step) (start : Option (List ℕ)) (ps : List (List ℕ))
             → FiledAs libraries.now ts → share_a_pid (configs_of ts) (packets_in steps) ≡ false
-            → AllServe (services_in self.old) ts steps → K.holds out.old start ps
+            → DeskStandsFor self.old ts steps → K.holds out.old start ps
             → IfOk result (λ learns. AllServe (services_in self.new) ts (PacketStep packet.now ∷ steps)
             × K.holds out.new start (ps ++ given_at ts packet.now steps)
             × (learns ≡ false → AllKnowSame ts packet.now (packets_in steps))) }
         ensures err { (ts : List ServiceTerms) (steps : List Step) (start : Option (List ℕ)) (ps : List (List ℕ))
             → FiledAs libraries.now ts → share_a_pid (configs_of ts) (packets_in steps) ≡ false
-            → AllServe (services_in self.old) ts steps → K.holds out.old start ps
+            → DeskStandsFor self.old ts steps → K.holds out.old start ps
             → IfErr result (λ f. FailedEach f ts packet.now steps (given_at ts packet.now steps)
             (λ l. K.holds out.new start (ps ++ l)) (λ put q x. K.fails out.new start (ps ++ put) q x)) }
         ensures well { OnOk result (WentWell (K.counts out.old) (K.counts out.new)) }
         ensures blamed { IfErr result (λ f. OutputBlamed (RunFault.Feed f)
             (K.counts out.old) (K.counts out.new) (K.is_full out.new)) }
         ensures counts { self.new.counts ≡ self.old.counts }
+        ensures owners { self.new.owners ≡ self.old.owners }
     {
-        let passed = match self.pass_through(packet, libraries, out) {
+        let takers = self.owners.takers(packet);
+        let all = takes_all(self.has_heard, takers);
+        self.has_heard = false;
+        let passed = match self.pass_through(all, takers, packet, libraries, out) {
             Ok(passed) => passed,
             Err(fault) => return Err(fault),
         };

@@ -99,6 +99,7 @@ impl<M: Allocator, U: Automation> Stage for Serving<'_, M, U> {
         if !learns {
             return Ok(false);
         }
+        self.services.desk.learn();
         if self.services.desk.share_a_pid() {
             return Err(StageFault::Packet(Refusal::SharedPid));
         }

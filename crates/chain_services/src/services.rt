@@ -11,6 +11,7 @@ ghost use Rattle.chain_services.specs.Refused.{services_refused, share_a_program
 
 use crate::desk::Desk;
 use crate::fault::ServiceFault;
+use crate::owners::Owners;
 use chain_engine::{Automation, OutOfMemory, Service, Talk};
 use injector::MessageCounts;
 use psi_tables::Config;
@@ -21,7 +22,7 @@ use ts_packet::Pid;
 const MOST: usize = 8;
 
 /// What turns a network of several programmes and an automation's requests for each of them into the spliced stream. It takes all its memory
-/// when it is made: two times 65,535 bytes for the automation's messages, and some 90,000 bytes for each service.
+/// when it is made: two times 65,535 bytes for the automation's messages, 8,192 for the PIDs, and some 90,000 bytes for each service.
 #[derive(Drop)]
 pub struct Services<M: Allocator = Global> {
     pub(crate) talk: Talk<M>,
@@ -175,6 +176,8 @@ impl<M: Allocator + Copy> Services<M> {
                 accepted: 0,
                 refused: 0,
             },
+            owners: Owners::new(),
+            has_heard: false,
         };
         Ok(Services { talk, desk })
     }

@@ -3,10 +3,21 @@ use Rattle.std.proofs.lemmas.List.{append-nil}
 use Rattle.chain_services.specs.Parts.{owns}
 use Rattle.injector.specs.Steps.{packets_in}
 use Rattle.chain_services.proofs.PartLemmas.{taken_packets, own_out, other_out, own_failed, other_failed}
+use Rattle.chain_services.proofs.UnfollowedLemmas.{passed-by, skipped-by}
 use Rattle.chain_services.proofs.passing.pass_one.Goals as goal
 
+pub returns-then-is_left_out-clause-ok : goal.returns-then-is_left_out-clause-ok
+returns-then-is_left_out-clause-ok g c = λ t steps start ps filed h skip is_held.
+    passed-by c.args.service.now t c.args.packet.now steps h (λ l. g.K.PacketSink.holds c.args.out.now start (ps ++ l))
+    (skipped-by c.args.service.now t c.args.packet.now steps h c.of_bytes.ensures (skip c.if-is_left_out.true)) (subst (g.K.PacketSink.holds c.args.out.now start) (sym (append-nil ps)) is_held)
+
+pub returns-then-overlooks-clause-ok : goal.returns-then-overlooks-clause-ok
+returns-then-overlooks-clause-ok g c = λ t steps start ps filed h skip is_held.
+    passed-by c.args.service.now t c.args.packet.now steps h (λ l. g.K.PacketSink.holds c.args.out.now start (ps ++ l))
+    (c.overlooks.ensures t.config t.filed h.taken h.stands c.if-overlooks.true) (subst (g.K.PacketSink.holds c.args.out.now start) (sym (append-nil ps)) is_held)
+
 pub returns-in-Ok-clause-ok : goal.returns-in-Ok-clause-ok
-returns-in-Ok-clause-ok g c = λ t steps start ps filed h is_held.
+returns-in-Ok-clause-ok g c = λ t steps start ps filed h skip is_held.
     let p = c.args.packet.now in
     let told : c.owns.result ≡ owns t p (packets_in steps) = c.owns.ensures t.config h.taken h.stands.injector ∙ ap (owns t p) (taken_packets c.args.service.now t steps h) in
     let y = sym told ∙ c.if-owns.true in
@@ -22,7 +33,7 @@ returns-in-Err-clause-err g c = λ t steps start ps filed h is_held.
     (c.in-Err.ensures.err t steps start ps filed h is_held)
 
 pub returns-in-Ok-pass_and_learn-clause-ok : goal.returns-in-Ok-pass_and_learn-clause-ok
-returns-in-Ok-pass_and_learn-clause-ok g c = λ t steps start ps filed h is_held.
+returns-in-Ok-pass_and_learn-clause-ok g c = λ t steps start ps filed h skip is_held.
     let p = c.args.packet.now in
     let told : c.owns.result ≡ owns t p (packets_in steps) = c.owns.ensures t.config h.taken h.stands.injector ∙ ap (owns t p) (taken_packets c.args.service.now t steps h) in
     let n = sym told ∙ c.if-owns.false in

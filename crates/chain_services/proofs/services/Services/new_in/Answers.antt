@@ -12,6 +12,7 @@ returns-clause-ok g c =
       talk = search rules;
       serve = all_begin _ _ c.args.configs.now c.in-Some.first.now c.in-Some.others.now shape c.new.ensures (λ us e. c.in-Ok-services_of.ensures us e);
       counts = record { messages = refl; accepted = refl; refused = refl };
+      owners = c.new-2.ensures;
       indexes = apart;
       few = subst (λ l. length l ≤ 8) (sym shape) few;
     }
