@@ -74,7 +74,7 @@ quiet-own program index (Message m ∷ past) q =
     by_test (is_for index m)
     (λ y. absurd (subst IsQuiet (ap (λ b. if b then Message m ∷ own_steps index past else own_steps index past) y) q))
     (λ n. or_from (has_news index (turns_in program past)) (is_accepted (outcome index m (turns_in program past)))
-        (quiet-own program index past (subst IsQuiet (ap (λ b. if b then Message m ∷ own_steps index past else own_steps index past) n) q)) (others-none program index m past n))
+    (quiet-own program index past (subst IsQuiet (ap (λ b. if b then Message m ∷ own_steps index past else own_steps index past) n) q)) (others-none program index m past n))
 
 own-quiet : (index : ℕ) (steps : List Step) → IsQuiet steps → IsQuiet (own_steps index steps)
 own-quiet index [] q = tt

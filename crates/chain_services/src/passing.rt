@@ -218,11 +218,24 @@ impl<M: Allocator> Desk<M> {
         let Some((library, libraries)) = libraries.split_first() else {
             return Err(FeedFault::Failed);
         };
-        let one = match pass_one(leaves_out(all, takers), &mut self.first, library, packet, out) {
+        let one = match pass_one(
+            leaves_out(all, takers),
+            &mut self.first,
+            library,
+            packet,
+            out,
+        ) {
             Ok(one) => one,
             Err(fault) => return Err(fault),
         };
-        match pass_each(all, takers / 2, self.others.as_mut_slice(), libraries, packet, out) {
+        match pass_each(
+            all,
+            takers / 2,
+            self.others.as_mut_slice(),
+            libraries,
+            packet,
+            out,
+        ) {
             Ok(others) => Ok(joined(one, others)),
             Err(fault) => Err(fault),
         }

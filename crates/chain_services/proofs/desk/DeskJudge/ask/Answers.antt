@@ -14,8 +14,7 @@ returns g c = record {
       let rs = replies_by (reply_by ts) steps in
       let now = c.counted-self.result in
       let before = subst (λ n. CountsReplies n.messages n.accepted n.refused rs) (sym c.judge-reply.ensures.counts) h.counts in
-      let counted = counts_last now.messages now.accepted now.refused c.judge-reply.result rs (c.counted-self.ensures rs before) in
-      (
+      let counted = counts_last now.messages now.accepted now.refused c.judge-reply.result rs (c.counted-self.ensures rs before) in (
         says,
         record {
           services = serve;
