@@ -24,6 +24,14 @@ without_index None cue_pid path = refl
 without_index (Some p) None path = refl
 without_index (Some p) (Some c) path = refl
 
+not_so : {X : Type 0} (u b : Bool) (x : Option X) → (u ≡ true → ⊥) → cond (u && b) x None ≡ None
+not_so true b x h = absurd (h refl)
+not_so false b x h = refl
+
+-- bytes that are no text
+pub no_text : (line : List ℕ) → (is_utf8 line ≡ true → ⊥) → said_by line ≡ None
+no_text line h = not_so (is_utf8 line) (nat_lt 0 (length (behind_index line))) _ h
+
 -- a text without a first number, a second one, a third one, or a path
 pub no_program : (line : List ℕ) → (behind_program line ≡ []) ⊎ (number_below (before_first is_space line) (2 ^ 16) ≡ None) → said_by line ≡ None
 no_program line (inl e) = no_path (is_utf8 line) (behind_index line) _ (ap (λ (l : List ℕ). after_first is_space (after_first is_space l)) e)

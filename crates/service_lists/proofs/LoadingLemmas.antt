@@ -1,5 +1,8 @@
 -- Lines of a list of services, read and loaded one after another.
-use Rattle.std.proofs.Common.{◌≡◌, ℕ, suc, List, [], ◌∷◌, ◌++◌, length, reverse, true, false, ◌&&◌, ◌==◌, refl, sym, ap, ◌∙◌, subst, append_assoc, ◌⊎◌, inl, inr}
+use Rattle.std.proofs.Common.{◌≡◌, ◌≢◌, ℕ, suc, List, [], ◌∷◌, ◌++◌, length, reverse, true, false, ◌&&◌, ◌==◌, refl, sym, ap, ◌∙◌, subst, append_assoc, ◌⊎◌, inl, inr, Option, None, Some, Result, Ok, Err, OnOk, IfOk, IfSome}
+use Rattle.std.specs.Io.KnownBytes.{Consumes}
+use Rattle.ad_lists.specs.declared.list.ListFault.{ListFault}
+use Rattle.ad_lists.specs.declared.list.ListFault.TheVariants as adverts
 use Rattle.std.proofs.lemmas.List.{append-nil, reverse-append, length-reverse}
 use Rattle.psi_tables.specs.declared.config.Config.{Config}
 use Rattle.ad_library.specs.declared.library.AdLibrary.{AdLibrary}
@@ -180,3 +183,30 @@ refused_blames (Services fault) old new h b = h
 refused_blames Io old new h b = absurd b
 refused_blames Turns old new h b = absurd b
 refused_blames OutOfMemory old new h b = inr h
+
+-- ---- what a line is refused for
+
+pub of_file : (c : Config) (path line : List ℕ) → is_blank line ≡ false → IsServiceOf c path line → BlamesLine File line
+of_file c path line blank is = (blank, (c, path, is))
+
+pub of_memory : (c : Config) (path line : List ℕ) → is_blank line ≡ false → IsServiceOf c path line → BlamesLine OutOfMemory line
+of_memory c path line blank is = (blank, (c, path, is))
+
+pub of_adverts : (fault : ServicesFault) (c : Config) (path line : List ℕ) → is_blank line ≡ false → IsServiceOf c path line
+    → (fault ≡ OutOfMemory) ⊎ ((f : ListFault) × (fault ≡ Adverts f) × (f ≢ adverts.OutOfMemory)) → BlamesLine fault line
+of_adverts fault c path line blank is (inl e) = subst (λ f. BlamesLine f line) (sym e) (blank, (c, path, is))
+of_adverts fault c path line blank is (inr h) = subst (λ f. BlamesLine f line) (sym h.1) (blank, (c, path, is), h.2)
+
+pub both_more : {T E : Type 0} {P Q R : Type 0} (r : Result T E) → (P → Q → R) → OnOk r P → OnOk r Q → OnOk r R
+both_more (Ok x) f p q = f p q
+both_more (Err x) f p q = tt
+
+-- what stands behind what was read is open
+pub said_on : (P : List ℕ → Type 0) (a b : Option (List ℕ)) (bs : List ℕ) → Consumes a b bs → ((more : List ℕ) → P (bs ++ more)) → IfSome a P
+said_on P None b bs p h = tt
+said_on P (Some x) None bs p h = absurd p
+said_on P (Some x) (Some y) bs p h = subst P (sym p) (h y)
+
+pub if_ok_more : {T E : Type 0} {P Q : T → Type 0} (r : Result T E) → ((t : T) → P t → Q t) → IfOk r P → IfOk r Q
+if_ok_more (Ok t) f p = f t p
+if_ok_more (Err e) f p = tt

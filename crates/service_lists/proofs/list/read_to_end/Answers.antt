@@ -4,7 +4,8 @@ use Rattle.ts_packet.proofs.Cases.{on_ok_more, if_err_more}
 use Rattle.ts_packet.proofs.TransferLemmas.{at_end}
 use Rattle.ad_lists.proofs.ListLemmas.{said_all}
 use Rattle.service_lists.specs.Lists.{StopsAt}
-use Rattle.service_lists.proofs.LoadingLemmas.{listed, stops_end}
+use Rattle.service_lists.specs.declared.fault.ServicesFault.TheVariants.{Io, Turns}
+use Rattle.service_lists.proofs.LoadingLemmas.{listed, stops, stops_end, said_on}
 use Rattle.service_lists.proofs.list.read_to_end.Goals as goal
 use Rattle.service_lists.proofs.list.read_to_end.Goals.{in-Ok+in-Ok-take_in, in-Err-Interrupted}
 
@@ -15,7 +16,7 @@ returns-in-Ok-eq0-clause-lists g c =
     let zero : c.in-Ok-eq0.field-0 ≡ 0 = search rules in
     let none : take c.in-Ok-eq0.field-0 c.read.new.buf ≡ [] = ap (λ n. take n c.read.new.buf) zero in
     let room : 0 < length c.read.new.buf = search rules in
-    on_ok_more c.load_line.result (λ l. (text, at_end _ _ _ text _ used b.0 none (b.1 zero room), listed _ _ text h l)) (c.load_line.ensures.ok h.before h.services)
+    on_ok_more c.load_line.result (λ l. (text, at_end _ _ _ text _ used b.0 none (b.1 zero room), listed c.loop-turn.loading c.load_line.new.self text h l)) (c.load_line.ensures.ok h.before h.services)
 
 pub returns-in-Ok-eq0-clause-stops : goal.returns-in-Ok-eq0-clause-stops
 returns-in-Ok-eq0-clause-stops g c =
@@ -24,7 +25,7 @@ returns-in-Ok-eq0-clause-stops g c =
     let zero : c.in-Ok-eq0.field-0 ≡ 0 = search rules in
     let none : take c.in-Ok-eq0.field-0 c.read.new.buf ≡ [] = ap (λ n. take n c.read.new.buf) zero in
     let room : 0 < length c.read.new.buf = search rules in
-    if_err_more c.load_line.result (λ u s. said_all (StopsAt u.fault) _ text (at_end _ _ _ text _ used b.0 none (b.1 zero room)) (stops_end _ u.fault text h s)) c.load_line.ensures.stops
+    if_err_more c.load_line.result (λ u s. said_all (StopsAt u.fault) _ text (at_end _ _ _ text _ used b.0 none (b.1 zero room)) (stops_end c.loop-turn.loading u.fault text h s)) c.load_line.ensures.stops
 
 pub loop-turn-preserved : goal.loop-turn-preserved
 loop-turn-preserved g c =
@@ -41,3 +42,13 @@ loop-turn-preserved g c =
         read = (text, Consumes-kept _ _ _ _ used w.in-Err-Interrupted.ensures.bytes, rw w.loading-is h);
       }
     ]
+
+pub returns-in-Err-Failed-clause-stops : goal.returns-in-Err-Failed-clause-stops
+returns-in-Err-Failed-clause-stops g c =
+    let (text, used, h) = c.loop-turn.invariant.read in
+    rw c.of_list.ensures.fault (said_on (StopsAt Io) _ _ text used (λ more. stops c.loop-turn.loading Io text more h tt))
+
+pub returns-clause-stops : goal.returns-clause-stops
+returns-clause-stops g c =
+    let (text, used, h) = c.loop-turn.invariant.read in
+    rw c.of_list-2.ensures.fault (said_on (StopsAt Turns) _ _ text used (λ more. stops c.loop-turn.loading Turns text more h tt))
