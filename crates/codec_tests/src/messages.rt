@@ -106,13 +106,30 @@ fn writes_replies(rt: HostRuntime) {
     }
 }
 
+/// A head with this `message_number`, of program index 1.
+fn head_of(number: u8) -> Head {
+    Head {
+        as_index: 0,
+        number,
+        index: 1,
+    }
+}
+
+/// The bytes of a request, of which nothing is known here.
+fn written(number: u8, request: SpliceRequest) -> ArrayVec<u8, 30> {
+    write_request(head_of(number), request)
+}
+
+fn written_init(number: u8) -> ArrayVec<u8, 13> {
+    write_init_request(head_of(number))
+}
+
+fn written_alive(number: u8) -> ArrayVec<u8, 13> {
+    write_alive_request(head_of(number))
+}
+
 #[test]
 fn writes_requests(rt: HostRuntime) {
-    let head = Head {
-        as_index: 0,
-        number: 5,
-        index: 1,
-    };
     let start = SpliceRequest {
         splice_insert_type: 1,
         splice_event_id: 1,
@@ -123,13 +140,13 @@ fn writes_requests(rt: HostRuntime) {
         avails_expected: 0,
         auto_return: true,
     };
-    expect_eq!(rt; write_request(head, start).as_slice(), REQUEST.as_slice());
+    expect_eq!(rt; written(5, start).as_slice(), REQUEST.as_slice());
     let init = [
         0x00, 0x01, 0x00, 0x0D, 0xFF, 0xFF, 0xFF, 0xFF, 0x00, 0x00, 0x05, 0x00, 0x01,
     ];
-    expect_eq!(rt; write_init_request(head).as_slice(), init.as_slice());
+    expect_eq!(rt; written_init(5).as_slice(), init.as_slice());
     let alive = [
         0x00, 0x03, 0x00, 0x0D, 0xFF, 0xFF, 0xFF, 0xFF, 0x00, 0x00, 0x05, 0x00, 0x01,
     ];
-    expect_eq!(rt; write_alive_request(head).as_slice(), alive.as_slice());
+    expect_eq!(rt; written_alive(5).as_slice(), alive.as_slice());
 }
