@@ -2,15 +2,11 @@ use Rattle.chain_services.specs.Runs.{terms_by}
 use Rattle.passages.specs.Runs.{AsksBy}
 use Rattle.chain_services.proofs.ManyLemmas.{many_served}
 use Rattle.passages.proofs.ServingLemmas.{serves_so}
-use Rattle.passages.proofs.kinds.ServingPassage.pass.Goals.{in-Ok-serve, in-Err}
 use Rattle.passages.proofs.kinds.ServingPassage.pass.Goals as goal
 
 pub serve-requires-clause-libraries : goal.serve-requires-clause-libraries
 serve-requires-clause-libraries g c = many_served c.args.self.services c.args.self.configs.now _ c.requires.ready.0 c.requires.ready.1
 
-pub returns-clause-done : goal.returns-clause-done
-returns-clause-done g c = λ start is_held. elim c.match-serve.branch [
-  | in-Ok-serve w ↦ rw w.result-is (serves_so _ (λ ending ts rs. AsksBy c.args.self.asker.now ts) (λ ending ts rs few x. x.0) (terms_by c.args.self.configs.now c.args.self.libraries.now) _ _ _
-      (w.in-Ok-serve.ensures.done c.args.self.configs.now start c.requires.ready.0 is_held))
-  | in-Err w ↦ rw w.result-is tt
-]
+pub returns-in-Ok-clause-done : goal.returns-in-Ok-clause-done
+returns-in-Ok-clause-done g c = λ start is_held. serves_so _ (λ ending ts rs. AsksBy c.args.self.asker.now ts) (λ ending ts rs few x. x.0) (terms_by c.args.self.configs.now c.args.self.libraries.now) _ _ _
+    (c.in-Ok.ensures.done c.args.self.configs.now start c.requires.ready.0 is_held)
