@@ -190,7 +190,14 @@ impl<M: Allocator> Services<M> {
     ghost use Rattle.chain_engine.specs.Automation.{Take, takes_and_answers};
     ghost use Rattle.chain_engine.specs.Hearing.{Replied};
     ghost use Rattle.chain_engine.specs.Talks.{TalkStandsFor, judged_before, loses, CountsEnd};
-    ghost use Rattle.chain_services.specs.Serving.{DeskJudges};
+    ghost use Rattle.chain_services.specs.Serving.{DeskJudges, services_in};
+
+    /// How many services there are: a run is given as many libraries.
+    pub fn count(&self) -> usize
+        ensures { result ≡ length (services_in self.now.desk) }
+    {
+        1 + self.desk.others.len()
+    }
 
     /// Hears the automation before the next packet, as [`Talk::listen`] does; the desk judges.
     #[inline(always)]

@@ -249,6 +249,9 @@ fn a_client_speaks_for_both_services(rt: HostRuntime) -> Result<(), Fail> {
         return Err(Fail::from("services"));
     };
     let libraries = [AdLibrary::new(rt.alloc()), AdLibrary::new(rt.alloc())];
+    if services.count() != 2 {
+        return Err(Fail::from("two services"));
+    }
     let network = Stream::of(rt.alloc(), NETWORK)?;
     let mut input = Device::new(network.bytes());
     let mut packets = PacketReader::new(&mut input);

@@ -146,6 +146,9 @@ pub(crate) fn run(
     for _ in configs {
         libraries.push(library(alloc)?)?;
     }
+    if libraries.len() != services.count() {
+        return Err(Fail::from("a library for each service"));
+    }
     let mut replies = Vec::new(alloc);
     let mut text = Device::new(script.as_bytes());
     let Ok(mut script) = Script::load(alloc, &mut text, &mut replies) else {
