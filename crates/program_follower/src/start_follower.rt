@@ -1,7 +1,7 @@
 //! One program of a network, followed by where its units begin.
 
-ghost use Rattle.std.specs.Prelude.{◌≡◌, ◌<◌, ◌≤◌, ◌+◌, ◌∷◌, ◌++◌, [], ℕ, List, length, slice_index_or, Option, Some, None, option_map, true};
-ghost use Rattle.std.specs.Prelude.{OnOk, IfOk, IfErr};
+ghost use Rattle.std.specs.Prelude.{◌≡◌, ◌<◌, ◌≤◌, ◌+◌, ◌∷◌, ◌++◌, [], ℕ, List, length, slice_index_or, Option, Some, None};
+ghost use Rattle.std.specs.Prelude.{option_map, true, OnOk, IfOk, IfErr};
 ghost use Rattle.arrayvec.specs.ArrayVec.{array_vec_len};
 ghost use Rattle.ts_packet.specs.Fields.{on_one};
 ghost use Rattle.pes_time.specs.Line.{ring_of};
@@ -11,8 +11,8 @@ ghost use Rattle.program_follower.specs.Faults.{network_fault, pids_in};
 ghost use Rattle.program_follower.specs.PidUses.{IsTablePid, HasPlacesElsewhere};
 ghost use Rattle.program_follower.specs.Standing.{tables_left, lent_program};
 ghost use Rattle.program_follower.specs.Streaming.{IsOfStarts};
-ghost use Rattle.program_follower.specs.Following.{StartsStandFor, StartsShow, IsUnfollowed, OfStartPast, OfStreamPast, OfBegins, StartsSince, grown, high_of};
-ghost use Rattle.program_follower.specs.Following.{IsStartPlace, IsOfStartsAt, IsOnTables, streams_of_program};
+ghost use Rattle.program_follower.specs.Following.{StartsStandFor, StartsShow, IsUnfollowed, OfStartPast, OfStreamPast, OfBegins};
+ghost use Rattle.program_follower.specs.Following.{StartsSince, grown, high_of, IsStartPlace, IsOfStartsAt, IsOnTables, streams_of_program};
 
 use crate::follower::of_unit;
 use crate::known::KnownProgram;

@@ -1,9 +1,10 @@
 //! The values of `opID` that this profile names.
 
 ghost use Rattle.std.specs.Prelude.{◌≡◌};
-ghost use Rattle.scte104_codec.specs.OperationIds.{general_response_id, init_request_id, init_response_id, alive_request_id, alive_response_id, inject_response_id};
-ghost use Rattle.scte104_codec.specs.OperationIds.{splice_request_id, splice_null_request_id, insert_descriptor_id, insert_avail_descriptor_id, insert_segmentation_descriptor_id, insert_tier_id};
-ghost use Rattle.scte104_codec.specs.OperationIds.{multiple_operation_mark};
+ghost use Rattle.scte104_codec.specs.OperationIds.{general_response_id, init_request_id, init_response_id, alive_request_id};
+ghost use Rattle.scte104_codec.specs.OperationIds.{alive_response_id, inject_response_id, splice_request_id, splice_null_request_id};
+ghost use Rattle.scte104_codec.specs.OperationIds.{insert_descriptor_id, insert_avail_descriptor_id, insert_segmentation_descriptor_id};
+ghost use Rattle.scte104_codec.specs.OperationIds.{insert_tier_id, multiple_operation_mark};
 
 /// `general_response`, a single operation: the answer to a request that has no answer of its own.
 pub const GENERAL_RESPONSE: u16 = 0x0000;
