@@ -1,6 +1,7 @@
 -- Lines of a list, read and loaded one after another.
-use Rattle.std.proofs.Common.{◌≡◌, ◌≢◌, ℕ, ◌^◌, ◌<◌, List, [], ◌∷◌, ◌++◌, length, Bool, true, false, not, ◌&&◌, ◌||◌, ◌==◌, cond, nat_lt, Option, Some, None, is_some, refl, sym, ap, ◌∙◌, subst, append_assoc, arith, ◌⊎◌, inl, inr}
-use Rattle.std.specs.Prelude.{if◌then◌else◌, IfSome}
+use Rattle.std.proofs.Common.{◌≡◌, ◌≢◌, ℕ, suc, ◌+◌, ◌-◌, ◌^◌, ◌<◌, List, [], ◌∷◌, ◌++◌, length, Bool, true, false, not, ◌&&◌, ◌||◌, ◌==◌, cond, nat_lt, Option, Some, None, is_some, refl, sym, ap, ◌∙◌, subst, append_assoc, arith, ◌⊎◌, inl, inr}
+use Rattle.std.specs.Prelude.{if◌then◌else◌, IfSome, min}
+use Rattle.psi_section.specs.Assembling.{capped}
 use Rattle.std.proofs.lemmas.List.{append-nil}
 use Rattle.std.specs.Io.KnownBytes.{Consumes}
 use Rattle.indexmap.specs.IndexMap.{index_map_len}
@@ -13,7 +14,7 @@ use Rattle.ad_library.specs.Stops.{StoppedAt, LastReadCameTo}
 use Rattle.ad_library.specs.Advertisements.{Advertisement}
 use Rattle.ad_library.specs.Library.{held}
 use Rattle.decimal_numbers.specs.Numbers.{number_below}
-use Rattle.ad_lists.specs.Lists.{is_blank, entry_of, paired, is_list_line, is_line, text_of, with_number, numbers_of, has_number, are_apart, IsAdvert, FilesOne, IsFiled, IsRead, BlamesAd, BlamesStream, BlamesLine, EndsLine, Blames, StopsAt, StallsOver, StopsOver, LastOver}
+use Rattle.ad_lists.specs.Lists.{is_blank, entry_of, paired, is_list_line, is_line, text_of, with_number, numbers_of, has_number, are_apart, IsAdvert, FilesOne, IsFiled, IsRead, StandsIn, BlamesAd, BlamesStream, BlamesLine, EndsLine, Blames, StopsAt, StallsOver, StopsOver, LastOver}
 use Rattle.ad_lists.specs.declared.list.Loading.{Loading}
 use Rattle.ad_lists.specs.declared.list.ListFault.{ListFault}
 use Rattle.ad_lists.specs.declared.list.ListFault.TheVariants.{BadList, File, Io, Turns, Ad, OutOfMemory}
@@ -48,20 +49,25 @@ line_push (x ∷ bs) b h other =
 
 -- a byte more of a line
 pub pushed : {A : Type 0} (old new : Loading A) (b : ℕ) (text : List ℕ) → (b == 10) ≡ false → new.library ≡ old.library → new.line.items ≡ old.line.items ++ b ∷ []
-    → IsRead old text → IsRead new (text ++ b ∷ [])
-pushed old new b text other same items h = record {
+    → new.number ≡ old.number → IsRead old text → IsRead new (text ++ b ∷ [])
+pushed old new b text other same items number h = record {
   before = h.before;
+  number_is = number ∙ h.number_is;
   text_is = ap (λ t. t ++ b ∷ []) h.text_is ∙ append_assoc (text_of h.before) old.line.items (b ∷ []) ∙ ap (λ x. text_of h.before ++ x) (sym items);
   line = ap is_line items ∙ line_push old.line.items b h.line other;
   lines = h.lines;
   filed = subst (λ library. IsFiled library h.before) (sym same) h.filed;
 }
 
+one_more : (n : ℕ) → min (capped (1 + n) + 1) (2 ^ 64 - 1) ≡ capped (1 + suc n)
+one_more n = omega arith
+
 -- the end of a line
-pub ended : {A : Type 0} (old new : Loading A) (b : ℕ) (text : List ℕ) → b ≡ 10 → new.line.items ≡ [] → (h : IsRead old text) → IsFiled new.library (old.line.items ∷ h.before)
-    → IsRead new (text ++ b ∷ [])
-ended old new b text end items h filed = record {
+pub ended : {A : Type 0} (old new : Loading A) (b : ℕ) (text : List ℕ) → b ≡ 10 → new.line.items ≡ [] → new.number ≡ min (old.number + 1) (2 ^ 64 - 1)
+    → (h : IsRead old text) → IsFiled new.library (old.line.items ∷ h.before) → IsRead new (text ++ b ∷ [])
+ended old new b text end items number h filed = record {
   before = old.line.items ∷ h.before;
+  number_is = number ∙ ap (λ n. min (n + 1) (2 ^ 64 - 1)) h.number_is ∙ one_more (length h.before);
   text_is = (λ i. h.text_is i ++ end i ∷ []) ∙ append_assoc (text_of h.before) old.line.items (10 ∷ []) ∙ sym (append-nil (text_of (old.line.items ∷ h.before)))
       ∙ ap (λ x. text_of (old.line.items ∷ h.before) ++ x) (sym items);
   line = ap is_line items;
@@ -92,6 +98,21 @@ stops l f text rest h blamed = record {
   apart = h.filed.apart;
   blamed = blamed;
 }
+
+-- the loading stands in the line that was read
+pub stands : {A : Type 0} (l m : Loading A) (text rest : List ℕ) → m.line ≡ l.line → m.number ≡ l.number → IsRead l text → StandsIn m (text ++ rest)
+stands l m text rest line number h = record {
+  before = h.before;
+  rest = rest;
+  text_is = ap (λ t. t ++ rest) h.text_is ∙ append_assoc (text_of h.before) l.line.items rest ∙ ap (λ v. text_of h.before ++ (v.items ++ rest)) (sym line);
+  line = ap (λ v. is_line v.items) line ∙ h.line;
+  lines = h.lines;
+  number_is = number ∙ h.number_is;
+}
+
+-- also at the end of the list
+pub stands_end : {A : Type 0} (l m : Loading A) (text : List ℕ) → m.line ≡ l.line → m.number ≡ l.number → IsRead l text → StandsIn m text
+stands_end l m text line number h = subst (StandsIn m) (append-nil text) (stands l m text [] line number h)
 
 -- at a line's end
 pub stops_line : {A : Type 0} (l : Loading A) (f : ListFault) (text more : List ℕ) (b : ℕ) → b ≡ 10 → (h : IsRead l text) → BlamesLine f l.line.items (numbers_of h.before)
@@ -156,9 +177,11 @@ stream_line library (Ad fault) line ls e entry h b =
 stream_line library OutOfMemory line ls e entry h b = ap is_some entry
 
 -- nothing was read
-pub nothing_read : {A : Type 0} (l : Loading A) → ((id : ℕ) → held l.library id ≡ None) → index_map_len l.library.adverts ≡ 0 → l.line.items ≡ [] → IsRead l []
-nothing_read l empty size items = record {
+pub nothing_read : {A : Type 0} (l : Loading A) → ((id : ℕ) → held l.library id ≡ None) → index_map_len l.library.adverts ≡ 0 → l.line.items ≡ []
+    → l.number ≡ 1 → IsRead l []
+nothing_read l empty size items number = record {
   before = [];
+  number_is = number;
   text_is = sym items;
   line = ap is_line items;
   lines = refl;

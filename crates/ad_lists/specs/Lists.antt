@@ -19,6 +19,7 @@ use Rattle.ad_library.specs.Faults.{Says, StreamBlamed, of_read, ad_fault_at, en
 use Rattle.ad_library.specs.Reading.{AreClean}
 use Rattle.ad_library.specs.Stops.{IsWhatIsWrong, IfOfStream}
 use Rattle.ad_library.specs.Library.{held, filed}
+use Rattle.psi_section.specs.Assembling.{capped}
 use Rattle.decimal_numbers.specs.Numbers.{number_below}
 use Rattle.ad_lists.specs.declared.list.Loading.{Loading}
 use Rattle.ad_lists.specs.declared.list.ListFault.{ListFault}
@@ -100,9 +101,14 @@ pub record IsFiled {A : Type 0} (library : AdLibrary A) (ls : List (List ℕ)) :
   pub adverts : (id : ℕ) → IfSome (held library id) IsAdvert
   pub size : index_map_len library.adverts ≡ length (numbers_of ls)
 
+-- the number of the line behind these, from 1
+abbrev pub number_behind : List (List ℕ) → ℕ
+number_behind before = capped (1 + length before)
+
 -- the list was read so far
 pub record IsRead {A : Type 0} (loading : Loading A) (text : List ℕ) : Type 0 where
   pub before : List (List ℕ)
+  pub number_is : loading.number ≡ number_behind before
   pub text_is : text ≡ text_of before ++ loading.line.items
   pub line : is_line loading.line.items ≡ true
   pub lines : list_all is_line before ≡ true
@@ -219,6 +225,15 @@ pub record StopsAt (fault : ListFault) (text : List ℕ) : Type 0 where
   pub apart : are_apart (numbers_of before) ≡ true
   pub blamed : Blames fault part rest (numbers_of before)
 
+-- WHERE A LOADING STANDS in a text: in the line behind these, of which it has the number and as many bytes as were read
+pub record StandsIn {A : Type 0} (loading : Loading A) (text : List ℕ) : Type 0 where
+  pub before : List (List ℕ)
+  pub rest : List ℕ
+  pub text_is : text ≡ text_of before ++ (loading.line.items ++ rest)
+  pub line : is_line loading.line.items ≡ true
+  pub lines : list_all is_line before ≡ true
+  pub number_is : loading.number ≡ number_behind before
+
 -- What the reads of a list came to where it was not loaded: what is wrong with a line, or memory for it, comes behind reads that went well,
 -- or at the end.
 abbrev pub ListBlamed : ListFault → Tally → Tally → Type 0
@@ -228,6 +243,15 @@ ListBlamed Io old new = LastFailed old new
 ListBlamed Turns old new = TookTurns (2 ^ 32) old new
 ListBlamed (Ad fault) old new = WentWell old new ⊎ LastMovedNone old new
 ListBlamed OutOfMemory old new = WentWell old new ⊎ LastMovedNone old new
+
+-- a line of the list is at fault, and not its device or memory
+abbrev pub is_at_line : ListFault → Bool
+is_at_line BadList = true
+is_at_line File = true
+is_at_line Io = false
+is_at_line Turns = false
+is_at_line (Ad fault) = true
+is_at_line OutOfMemory = false
 
 -- no read of the list is to blame
 abbrev pub IsOfLine : ListFault → Type 0

@@ -4,14 +4,14 @@ ghost use Rattle.std.specs.Prelude.{◌≡◌, ◌++◌, ◌∷◌, [], ℕ, Lis
 ghost use Rattle.indexmap.specs.IndexMap.{index_map_len};
 ghost use Rattle.ts_packet.specs.Transfers.{LastMovedNone};
 ghost use Rattle.ad_library.specs.Library.{held};
-ghost use Rattle.ad_lists.specs.Lists.{is_blank, entry_of, numbers_of, FilesOne, IsFiled, IsRead, IsListed};
+ghost use Rattle.ad_lists.specs.Lists.{is_blank, entry_of, numbers_of, FilesOne, IsFiled, IsRead, IsListed, StandsIn};
 ghost use Rattle.ad_lists.specs.Lists.{SaysOf, DeviceBlamed, DeviceStopsAt, StallsOver, BlamesStream, BlamesLine, StopsAt, ListBlamed, IsOfLine};
 
 use ad_library::{AdFault, AdLibrary};
 use decimal_numbers::number_below;
 use run_ends::open_input;
 use std::alloc::Allocator;
-use std::io::{BufReader, Read};
+use std::io::{self, BufReader, Read};
 use std::rt::Files;
 use thiserror::Error;
 use ts_packet::{Device, DeviceFault, PacketReader, ReadFault, Source};
@@ -29,7 +29,7 @@ const BUFFER_SIZE: usize = 131_072;
 #[derive(Clone, Copy, Debug, PartialEq, Eq, Drop, Error)]
 pub enum ListFault {
     /// A line is not a number below 65,536, a space and a path.
-    #[error("a bad line")]
+    #[error("it is not a number below 65536, one space and a path")]
     BadList,
     /// The stream of an advertisement cannot be opened, or is a directory.
     #[error("the stream of an advertisement cannot be opened")]
@@ -46,6 +46,20 @@ pub enum ListFault {
     /// Memory was refused.
     #[error("memory was refused")]
     OutOfMemory,
+}
+
+impl ListFault {
+    ghost use Rattle.ad_lists.specs.Lists.{is_at_line};
+
+    /// A line of the list is at fault, and not its device or memory.
+    pub fn is_at_line(self) -> bool
+        ensures { result ≡ is_at_line self }
+    {
+        match self {
+            ListFault::BadList | ListFault::File | ListFault::Ad(_) => true,
+            ListFault::Io | ListFault::Turns | ListFault::OutOfMemory => false,
+        }
+    }
 }
 
 /// Loads a list, whose lines are the number of an advertisement in decimal digits alone, a space, and the path of its stream; lines of white
@@ -65,18 +79,19 @@ pub fn load_list<R: Files, M: Allocator + Copy, S: Source>(
     ensures blamed { IfErr result (λ f. ListBlamed f (S.counts list.old) (S.counts list.new)) }
     ensures ended { OnOk result (LastMovedNone (S.counts list.old) (S.counts list.new)) }
 {
-    let mut loading = Loading {
-        library: AdLibrary::new_in(alloc),
-        line: Vec::new(alloc),
-    };
-    match read_to_end(rt, alloc, &mut loading, list) {
-        Ok(()) => Ok(loading.library),
+    let mut loading = Loading::new_in(alloc);
+    match load_into(rt, alloc, &mut loading, list) {
+        Ok(()) => Ok(loading.into_library()),
         Err(fault) => Err(fault),
     }
 }
 
-/// Reads a list to its end. An interrupted read is tried again.
-fn read_to_end<R: Files, M: Allocator + Copy, S: Source>(
+/// Loads a list to its end. An interrupted read is tried again.
+///
+/// # Errors
+///
+/// As for [`load_list`]. Then the loading stands in the line that is at fault, where one is.
+pub fn load_into<R: Files, M: Allocator + Copy, S: Source>(
     rt: &R,
     alloc: M,
     loading: &mut Loading<M>,
@@ -86,6 +101,7 @@ fn read_to_end<R: Files, M: Allocator + Copy, S: Source>(
     ensures lists { OnOk result ((text : List ℕ) × IfSome (S.remaining list.old) (λ bs. bs ≡ text)
         × IsListed loading.new.library text) }
     ensures stops { IfErr result (λ f. IfSome (S.remaining list.old) (StopsAt f)) }
+    ensures stands { IfErr result (λ _. IfSome (S.remaining list.old) (StandsIn loading.new)) }
     ensures blamed { IfErr result (λ f. ListBlamed f (S.counts list.old) (S.counts list.new)) }
     ensures ended { OnOk result (LastMovedNone (S.counts list.old) (S.counts list.new)) }
 {
@@ -106,10 +122,63 @@ fn read_to_end<R: Files, M: Allocator + Copy, S: Source>(
 
 /// A list that is being loaded.
 #[derive(Drop)]
-pub(crate) struct Loading<M: Allocator> {
+pub struct Loading<M: Allocator> {
     library: AdLibrary<M>,
     /// The line that is being read, as far as it came.
     line: Vec<u8, M>,
+    /// The number of that line, from 1.
+    number: usize,
+    /// The system's reason, where the stream of the line cannot be opened.
+    reason: Option<io::Error>,
+}
+
+impl<M: Allocator> Loading<M> {
+    ghost use Rattle.std.specs.Prelude.{None};
+
+    /// Nothing was read; all memory will be this allocator's.
+    pub fn new_in(alloc: M) -> Loading<M>
+    where
+        M: Copy,
+        ensures read { IsRead result [] }
+        ensures reason { result.reason ≡ None }
+    {
+        Loading {
+            library: AdLibrary::new_in(alloc),
+            line: Vec::new(alloc),
+            number: 1,
+            reason: None,
+        }
+    }
+
+    /// The number, from 1, of the line in which the loading stands.
+    pub fn line_number(&self) -> usize
+        ensures { result ≡ self.now.number }
+    {
+        self.number
+    }
+
+    /// The bytes of that line, as far as they were read.
+    pub fn line(&self) -> &[u8]
+        ensures { result.now ≡ self.now.line.items }
+    {
+        self.line.as_slice()
+    }
+
+    /// The advertisements of the lines so far.
+    pub fn into_library(self) -> AdLibrary<M>
+        ensures { result ≡ self.library }
+    {
+        let Loading { library, .. } = self;
+        library
+    }
+
+    /// The system's reason, where the stream of the line in which the loading stands cannot be opened.
+    pub fn into_reason(self) -> Option<io::Error>
+        ensures { result ≡ self.reason }
+    {
+        let Loading { reason, .. } = self;
+        reason
+    }
 }
 
 impl<M: Allocator + Copy> Loading<M> {
@@ -118,6 +187,8 @@ impl<M: Allocator + Copy> Loading<M> {
         ensures ok { (text : List ℕ) → IsRead self.old text → OnOk result (IsRead self.new (text ++ part.now)) }
         ensures stops { (text : List ℕ) → IsRead self.old text
             → IfErr result (λ f. (more : List ℕ) → StopsAt f (text ++ (part.now ++ more))) }
+        ensures stands { (text : List ℕ) → IsRead self.old text
+            → IfErr result (λ _. (more : List ℕ) → StandsIn self.new (text ++ (part.now ++ more))) }
         ensures refused { IfErr result IsOfLine }
     {
         let mut rest = part;
@@ -136,6 +207,8 @@ impl<M: Allocator + Copy> Loading<M> {
         ensures ok { (text : List ℕ) → IsRead self.old text → OnOk result (IsRead self.new (text ++ byte ∷ [])) }
         ensures stops { (text : List ℕ) → IsRead self.old text
             → IfErr result (λ f. (more : List ℕ) → StopsAt f (text ++ (byte ∷ more))) }
+        ensures stands { (text : List ℕ) → IsRead self.old text
+            → IfErr result (λ _. (more : List ℕ) → StandsIn self.new (text ++ (byte ∷ more))) }
         ensures refused { IfErr result IsOfLine }
     {
         if byte != b'\n' {
@@ -144,9 +217,10 @@ impl<M: Allocator + Copy> Loading<M> {
                 Err(_) => Err(ListFault::OutOfMemory),
             };
         }
-        match load_line(rt, alloc, &mut self.library, self.line.as_slice()) {
+        match self.load_line(rt, alloc) {
             Ok(()) => {
                 self.line.clear();
+                self.number = self.number.saturating_add(1);
                 Ok(())
             }
             Err(fault) => Err(fault),
@@ -157,9 +231,27 @@ impl<M: Allocator + Copy> Loading<M> {
     fn finish<R: Files>(&mut self, rt: &R, alloc: M) -> Result<(), ListFault>
         ensures ok { (text : List ℕ) → IsRead self.old text → OnOk result (IsListed self.new.library text) }
         ensures stops { (text : List ℕ) → IsRead self.old text → IfErr result (λ f. StopsAt f text) }
+        ensures stands { (text : List ℕ) → IsRead self.old text → IfErr result (λ _. StandsIn self.new text) }
         ensures refused { IfErr result IsOfLine }
     {
-        match load_line(rt, alloc, &mut self.library, self.line.as_slice()) {
+        match self.load_line(rt, alloc) {
+            Ok(()) => Ok(()),
+            Err(fault) => Err(fault),
+        }
+    }
+
+    /// Loads the line that was read.
+    fn load_line<R: Files>(&mut self, rt: &R, alloc: M) -> Result<(), ListFault>
+        ensures ok { (ls : List (List ℕ)) → IsFiled self.old.library ls
+            → OnOk result (IsFiled self.new.library (self.old.line.items ∷ ls)) }
+        ensures stops { (ls : List (List ℕ)) → IsFiled self.old.library ls
+            → IfErr result (λ f. BlamesLine f self.old.line.items (numbers_of ls)) }
+        ensures refused { IfErr result IsOfLine }
+        ensures line { self.new.line ≡ self.old.line }
+        ensures number { self.new.number ≡ self.old.number }
+    {
+        let line = self.line.as_slice();
+        match load_line(rt, alloc, &mut self.library, line, &mut self.reason) {
             Ok(()) => Ok(()),
             Err(fault) => Err(fault),
         }
@@ -198,6 +290,7 @@ fn load_line<R: Files, M: Allocator + Copy>(
     alloc: M,
     library: &mut AdLibrary<M>,
     line: &[u8],
+    reason: &mut Option<io::Error>,
 ) -> Result<(), ListFault>
     ensures ok { (ls : List (List ℕ)) → IsFiled library.old ls → OnOk result (IsFiled library.new (line.now ∷ ls)) }
     ensures stops { (ls : List (List ℕ)) → IsFiled library.old ls
@@ -208,7 +301,7 @@ fn load_line<R: Files, M: Allocator + Copy>(
         return Ok(());
     }
     match entry_of(line) {
-        Some((id, path)) => match load_stream(rt, alloc, library, id, path) {
+        Some((id, path)) => match load_stream(rt, alloc, library, id, path, reason) {
             Ok(()) => Ok(()),
             Err(fault) => Err(fault),
         },
@@ -216,13 +309,14 @@ fn load_line<R: Files, M: Allocator + Copy>(
     }
 }
 
-/// Files the advertisement of the stream at this path.
+/// Files the advertisement of the stream at this path. Where that cannot be opened, the system's reason is kept.
 fn load_stream<R: Files, M: Allocator + Copy>(
     rt: &R,
     alloc: M,
     library: &mut AdLibrary<M>,
     id: u16,
     path: &str,
+    reason: &mut Option<io::Error>,
 ) -> Result<(), ListFault>
     ensures ok { OnOk result ((known : Option (List ℕ)) × FilesOne known library.old library.new id) }
     ensures stops { IfErr result (λ f. BlamesStream f (is_some (held library.old id))
@@ -234,7 +328,10 @@ fn load_stream<R: Files, M: Allocator + Copy>(
             Ok(()) => Ok(()),
             Err(fault) => Err(fault),
         },
-        Err(_) => Err(ListFault::File),
+        Err(error) => {
+            *reason = Some(error);
+            Err(ListFault::File)
+        }
     }
 }
 

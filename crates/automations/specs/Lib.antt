@@ -1,6 +1,7 @@
 pub mod Connections
 pub mod ScriptAnswers
 pub mod ScriptExchanges
+pub mod ScriptLineFaults
 pub mod ScriptLines
 pub mod ScriptReading
 pub mod ScriptTakes

@@ -78,6 +78,15 @@ pub record IsScriptRead {M : Type 0} (r : Reading M) (text : List ℕ) : Type 0 
   pub reading : IsReading r
   pub text_is : IsTextAt r.bytes.items r.lines.items r.place text
 
+-- WHERE THE READING STOPPED in this text: it stands behind what it has read of it, and the byte that comes next is at fault
+pub record StoppedIn {M : Type 0} (r : Reading M) (text : List ℕ) : Type 0 where
+  pub read : List ℕ
+  pub byte : ℕ
+  pub rest : List ℕ
+  pub text_is : text ≡ read ++ byte ∷ rest
+  pub stands : IsScriptRead r read
+  pub bad : r.bad ≡ Some byte
+
 -- THE READING went on from one state to another: what lies before the rest of the text was read
 abbrev pub IsReadOn : {M : Type 0} → Reading M → Reading M → List ℕ → List ℕ → Type 0
 IsReadOn old new part rest =

@@ -1,12 +1,14 @@
 //! Automations of a run: a script, whose bytes stand in a text, and a client of a port of this machine.
 //! It stands on the `Automation` of `chain_engine` and the digits of `hex_digits`.
-//! What a caller uses: a script that is loaded or why it is not, whether a reply was lost, and the clauses of `Automation` for both.
+//! What a caller uses: a script that is loaded or why it is not and in which line, whether a reply was lost, and the clauses of `Automation` for both.
 #![tactic(auto)]
 
 mod connection;
+mod line_fault;
 mod script;
 mod script_text;
 
 pub use connection::{Connection, accept, listen};
+pub use line_fault::ScriptLineFault;
 pub use script::{Script, ScriptFault, load_into};
 pub use script_text::{Line, Reading};

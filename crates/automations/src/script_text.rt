@@ -3,12 +3,15 @@
 ghost use Rattle.std.specs.Prelude.{◌≡◌, ◌≤◌, ◌<◌, ◌+◌, ◌-◌, ◌*◌, ◌^◌, ℕ, List, [], ◌∷◌, ◌++◌, length, true, Some, None, Err, nat_le};
 ghost use Rattle.std.specs.Prelude.{IfErr, IfOk, OnOk};
 ghost use Rattle.std.specs.Char.{is_ascii_digit};
+ghost use Rattle.psi_section.specs.Assembling.{capped};
 ghost use Rattle.hex_digits.specs.Digits.{digit_value};
 ghost use Rattle.automations.specs.Scripts.{IsOfText};
 ghost use Rattle.automations.specs.ScriptReading.{IsAt, IsBehind, IsInLine, IsReading, IsReadOn, IsScriptRead, IsTextAt, IsReadWhole};
-ghost use Rattle.automations.specs.ScriptReading.{BytesSoFar, read_lines, next_line_number};
+ghost use Rattle.automations.specs.ScriptReading.{BytesSoFar, StoppedIn, read_lines, next_line_number};
 ghost use Rattle.automations.specs.ScriptText.{BeginsNoScript, IsNoScript, SpellsLines};
+ghost use Rattle.automations.specs.ScriptLineFaults.{wrong_at, wrong_byte, wrong_end};
 
+use crate::line_fault::ScriptLineFault;
 use crate::script::ScriptFault;
 use hex_digits::value_of;
 use std::alloc::{Allocator, Global};
@@ -44,6 +47,8 @@ pub struct Reading<M: Allocator = Global> {
     bytes: Vec<u8, M>,
     lines: Vec<Line, M>,
     place: Place,
+    /// The byte at which the reading stopped, where one is at fault.
+    bad: Option<u8>,
 }
 
 /// The number with a decimal digit more.
@@ -64,6 +69,33 @@ fn with_digit(number: u64, digit: u8) -> Result<u64, ScriptFault>
     match tens.checked_add(u64::from(value)) {
         Some(sum) => Ok(sum),
         None => Err(ScriptFault::BadScript),
+    }
+}
+
+/// What is wrong with a line at this place, where this byte comes next.
+fn wrong_byte(place: Place, byte: u8) -> ScriptLineFault
+    ensures { result ≡ wrong_byte place byte }
+{
+    match place {
+        Place::Start => ScriptLineFault::NoNumber,
+        Place::Number(_) if byte == b' ' => ScriptLineFault::NotRising,
+        Place::Number(_) => ScriptLineFault::NoNumber,
+        Place::Bytes(_, _) if byte == b'\n' => ScriptLineFault::NoBytes,
+        Place::Bytes(_, count) if count == MOST => ScriptLineFault::TooLong,
+        Place::Bytes(_, _) => ScriptLineFault::NoDigit,
+        Place::Half(_, _, _) if byte == b'\n' => ScriptLineFault::HalfByte,
+        Place::Half(_, _, _) => ScriptLineFault::NoDigit,
+    }
+}
+
+/// What is wrong with a line at this place, where the text ends.
+fn wrong_end(place: Place) -> ScriptLineFault
+    ensures { result ≡ wrong_end place }
+{
+    match place {
+        Place::Start | Place::Number(_) => ScriptLineFault::NoNumber,
+        Place::Bytes(_, _) => ScriptLineFault::NoBytes,
+        Place::Half(_, _, _) => ScriptLineFault::HalfByte,
     }
 }
 
@@ -89,6 +121,7 @@ impl<M: Allocator + Copy> Reading<M> {
             bytes: Vec::new(alloc),
             lines: Vec::new(alloc),
             place: Place::Start,
+            bad: None,
         }
     }
 }
@@ -112,6 +145,7 @@ impl<M: Allocator> Reading<M> {
             → BytesSoFar self.old.bytes.items self.old.lines.items packet [] text
             → OnOk result (SpellsLines 0 (text ++ 10 ∷ []) (read_lines self.new)) }
         ensures empty { result ≡ Err ScriptFault.BadScript → count ≡ 0 }
+        ensures same { result ≡ Err ScriptFault.BadScript → self.new ≡ self.old }
         ensures refused { IfErr result IsOfText }
     {
         if count == 0 {
@@ -131,6 +165,7 @@ impl<M: Allocator> Reading<M> {
             → IfOk result (λ place. IsTextAt self.new.bytes.items self.new.lines.items place (text ++ byte ∷ [])) }
         ensures stops { (text : List ℕ) → IsScriptRead self.old text → result ≡ Err ScriptFault.BadScript
             → BeginsNoScript (text ++ byte ∷ []) }
+        ensures same { result ≡ Err ScriptFault.BadScript → self.new ≡ self.old }
         ensures refused { IfErr result IsOfText }
     {
         match self.place {
@@ -208,13 +243,18 @@ impl<M: Allocator> Reading<M> {
         ensures ok { (text : List ℕ) → IsScriptRead self.old text → OnOk result (IsScriptRead self.new (text ++ part.now)) }
         ensures stops { (text : List ℕ) → IsScriptRead self.old text → result ≡ Err ScriptFault.BadScript
             → BeginsNoScript (text ++ part.now) }
+        ensures stopped { (text : List ℕ) → IsScriptRead self.old text → result ≡ Err ScriptFault.BadScript
+            → StoppedIn self.new (text ++ part.now) }
         ensures refused { IfErr result IsOfText }
     {
         let mut rest = part;
         while let Some((byte, behind)) = rest.split_first() {
             match self.behind(*byte) {
                 Ok(place) => self.place = place,
-                Err(fault) => return Err(fault),
+                Err(fault) => {
+                    self.bad = Some(*byte);
+                    return Err(fault);
+                }
             }
             match self.take_bytes(behind) {
                 Ok(left) => rest = left,
@@ -243,8 +283,21 @@ impl<M: Allocator> Reading<M> {
     }
 
     /// The number, from 1, of the line in which the reading stands.
-    pub fn line(&self) -> usize {
+    pub fn line(&self) -> usize
+        ensures { result ≡ capped (length self.now.lines.items + 1) }
+    {
         self.lines.len().saturating_add(1)
+    }
+
+    /// What is wrong with that line, where the reading stopped in it with `BadScript`.
+    pub fn line_fault(&self) -> ScriptLineFault
+        ensures { result ≡ wrong_at self.now.place self.now.bad }
+    {
+        match self.bad {
+            Some(b'\r') => ScriptLineFault::CarriageReturn,
+            Some(byte) => wrong_byte(self.place, byte),
+            None => wrong_end(self.place),
+        }
     }
 
     /// The bytes of all lines, and the lines.
@@ -256,6 +309,7 @@ impl<M: Allocator> Reading<M> {
             bytes,
             lines,
             place: _,
+            bad: _,
         } = self;
         (bytes, lines)
     }

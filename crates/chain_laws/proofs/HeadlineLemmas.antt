@@ -31,15 +31,22 @@ use Rattle.chain_engine.specs.Runs.{steps_of}
 use Rattle.chain_engine.specs.declared.faults.RunFault.{RunFault}
 use Rattle.chain_engine.specs.declared.faults.RunFault.TheVariants.{Read}
 use Rattle.chain_engine.proofs.StepsLemmas.{steps_packets}
-use Rattle.chain_laws.specs.Breaks.{EndsWithPacket}
-use Rattle.chain_laws.specs.Runs.{IsWholeRun}
-use Rattle.chain_laws.specs.Headline.{history_of, IsGiven, IsSpliced, RunsAreSo, HistoriesAreSo}
+use Rattle.chain_engine.specs.declared.hearing.SessionEnd.{SessionEnd}
+use Rattle.chain_engine.specs.declared.report.Report.{Report}
+use Rattle.event_table.specs.Standing.{Standing}
+use Rattle.splice_laws.specs.Splicing.{PlayedEvent, SliceUnit}
+use Rattle.splice_plans.specs.Playing.{played}
+use Rattle.chain_laws.specs.Breaks.{EndsWithPacket, accepted_by}
+use Rattle.chain_laws.specs.Runs.{adverts_by, output_by, IsWholeRun}
+use Rattle.chain_laws.specs.Streams.{GoesOutToAnEnd, CarriesPlacedIn}
+use Rattle.chain_laws.specs.Exactly.{history_of, IsGiven, IsSpliced, RanExactly, RunsAreSo, HistoriesAreSo}
+use Rattle.chain_laws.specs.Headline.{GoesOutAsSlice, CarriesBreaks, IsNetworkSpliced, Headline}
 use Rattle.chain_laws.proofs.LibraryLemmas.{libraries_are_packed}
 use Rattle.chain_laws.proofs.TableLemmas.{has-tables}
 use Rattle.chain_laws.proofs.PmtPidLemmas.{pmt-stands}
 use Rattle.chain_laws.proofs.WidthLemmas.{steps_fit}
 use Rattle.chain_laws.proofs.RunLemmas.{each-all}
-use Rattle.chain_laws.proofs.CarriedLemmas.{carries-placed, carries-splice}
+use Rattle.chain_laws.proofs.CarriedLemmas.{carries-placed, carries-splice, each-map}
 use Rattle.chain_laws.proofs.ClockLemmas.{clocks-same}
 use Rattle.chain_laws.proofs.UnchangedLemmas.{others-unchanged, unlisted-unchanged, unplayed-unchanged, breaks-counted, in-order}
 use Rattle.program_follower.specs.Purposes.{writing_cues}
@@ -153,6 +160,51 @@ runs_are_so A library c bs is_out exchanged report ran =
       counted = subst (ReportIs report.switch)
           (ap (report_of (setting_of c filed)) (reverse-reverse (cued c steps)) ∙ breaks-counted c filed steps (whole-run c filed full bs ran.sound ran.ts ran.rs ran.bytes ran.serves.bytes)) ran.counted.events;
     }
+
+-- ---- the headline, by the run exactly
+
+any_end : (c : Config) (filed : ℕ → Option Advertisement) (steps : List Step) (pid : ℕ) (sent : PlayedEvent → List SliceUnit) (e : Standing)
+    → GoesOutToAnEnd c filed steps pid sent e → GoesOutAsSlice c filed steps pid sent e
+any_end c filed steps pid sent e h = record { stop = h.stop; last = h.last; goes = h.goes }
+
+carries-breaks : (out : List (List ℕ)) (c : Config) (filed : ℕ → Option Advertisement) (steps : List Step) (pid : ℕ)
+    → CarriesPlacedIn out c filed steps pid → CarriesBreaks out c filed steps pid
+carries-breaks out c filed steps pid h = record {
+  sent = h.sent;
+  slices = each-map (any_end c filed steps pid h.sent) (played (adverts_by c filed steps) (accepted_by c steps)) h.slices;
+  whole = h.whole;
+  carried = h.carried;
+  packets = h.packets;
+  carries = h.carries;
+}
+
+network-spliced : (c : Config) (filed : ℕ → Option Advertisement) (steps : List Step) → IsSpliced c filed steps → IsNetworkSpliced (output_by c filed steps) c filed steps
+network-spliced c filed steps h = record {
+  placed = λ pid a. carries-breaks (output_by c filed steps) c filed steps pid (h.placed pid a);
+  spliced = h.spliced;
+  clocks = h.clocks;
+  others = h.others;
+  pat = h.tables.pat;
+  tables = h.tables.tables;
+  no_cues = h.tables.no_cues;
+  no_program = h.no_program;
+  no_break = λ none. (h.no_break none).packets;
+}
+
+pub headline_by : (c : Config) (filed : ℕ → Option Advertisement) (bs : List ℕ) (is_out : List (List ℕ) → Type 0)
+    (exchanged : Option SessionEnd → List Take → List Reply → Type 0) (report : Report) → RanExactly c filed bs is_out exchanged report
+    → Headline c filed bs is_out exchanged report
+headline_by c filed bs is_out exchanged report h = let steps = history_of bs h.ts h.rs in record {
+  ts = h.ts;
+  rs = h.rs;
+  out = output_by c filed steps;
+  written = h.written;
+  serves = h.serves;
+  messages = h.messages;
+  network = h.network;
+  output = network-spliced c filed steps h.output;
+  counted = record { played = h.counted.played; not_fitted = h.counted.not_fitted; unconditioned = h.counted.unconditioned };
+}
 
 pub histories_are_so : {A : Type 0} (library : AdLibrary A) → HistoriesAreSo (held library)
 histories_are_so library c bs sound ts rs =

@@ -8,4 +8,5 @@ pub mod Reports
 pub mod Tables
 pub mod Clocks
 pub mod Libraries
+pub mod Exactly
 pub mod Headline

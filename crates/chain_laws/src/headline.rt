@@ -5,6 +5,7 @@ ghost use Rattle.psi_tables.specs.declared.config.Config.{Config};
 ghost use Rattle.ad_library.specs.Library.{held};
 ghost use Rattle.chain_engine.specs.Chains.{ChainStandsFor};
 ghost use Rattle.chain_engine.specs.Runs.{Exchanged};
+ghost use Rattle.chain_laws.specs.Exactly.{RanExactly};
 ghost use Rattle.chain_laws.specs.Headline.{Headline};
 
 use ad_library::AdLibrary;
@@ -13,7 +14,8 @@ use std::alloc::Allocator;
 use ts_packet::{GatheringSink, PausingPackets};
 
 /// Passes a network on as [`run`] does, and says of a run that went through what it is by its requests: each message is answered by its
-/// verdict, and each switched stream of what is out is the network's with the advertisements in the played breaks.
+/// verdict, and each switched stream of what is out is the network's with the advertisements in the played breaks. A second clause says
+/// exactly which packet is out in which place.
 ///
 /// # Errors
 ///
@@ -28,6 +30,9 @@ pub fn run_as_requested<M: Allocator, P: PausingPackets, U: Automation, K: Gathe
     requires { P.is_broken network.old ≡ false }
     ensures headline { (c : Config) (start : Option (List ℕ)) (before : List (List ℕ)) → ChainStandsFor chain c
         → K.holds out.old start before → IfOk result (λ r. IfSome (P.left network.old) (λ bs. Headline c (held library.now) bs
+        (λ ps. K.holds out.new start (before ++ ps)) (Exchanged U.exchanges U.failures automation.old automation.new) r)) }
+    ensures exactly { (c : Config) (start : Option (List ℕ)) (before : List (List ℕ)) → ChainStandsFor chain c
+        → K.holds out.old start before → IfOk result (λ r. IfSome (P.left network.old) (λ bs. RanExactly c (held library.now) bs
         (λ ps. K.holds out.new start (before ++ ps)) (Exchanged U.exchanges U.failures automation.old automation.new) r)) }
 {
     run(chain, network, automation, library, out)

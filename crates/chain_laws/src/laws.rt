@@ -3,7 +3,7 @@
 ghost use Rattle.ad_library.specs.Library.{held};
 ghost use Rattle.chain_laws.specs.Breaks.{BreaksAreArmed};
 ghost use Rattle.chain_laws.specs.Clocks.{ClocksAreTheNetworks, UnitsHaveNoClocks};
-ghost use Rattle.chain_laws.specs.Headline.{HistoriesAreSo};
+ghost use Rattle.chain_laws.specs.Exactly.{HistoriesAreSo};
 ghost use Rattle.chain_laws.specs.Libraries.{LibrariesArePacked};
 ghost use Rattle.chain_laws.specs.Order.{OrderIsTheNetworks};
 ghost use Rattle.chain_laws.specs.Others.{OthersAreUnchanged, NoProgramIsNoChange, NoBreakIsNoChange};

@@ -25,7 +25,7 @@ use Rattle.chain_engine.specs.Automation.{Take, bytes_of}
 use Rattle.chain_engine.specs.Stops.{first_run_fault}
 use Rattle.chain_engine.proofs.StepsLemmas.{steps_packets}
 use Rattle.chain_laws.specs.Runs.{switched_by, output_by}
-use Rattle.chain_laws.specs.Headline.{history_of, IsSpliced}
+use Rattle.chain_laws.specs.Exactly.{history_of, IsSpliced}
 use Rattle.chain_laws.proofs.TakenLemmas.{filter-within}
 use Rattle.chain_laws.proofs.CarriedLemmas.{off-one}
 use Rattle.chain_laws.proofs.UnchangedLemmas.{breaks-counted}

@@ -9,7 +9,7 @@ use passages::asking::Asker;
 use passages::fault::ProgramFault;
 use passages::kinds::{Chaining, Cueing};
 use passages::running::{Ran, run_from, stopped, unopened, with_replies};
-use passages::tell::{CueAccount, Side, Stopped};
+use passages::tell::{CueAccount, LineAbout, Side, Stopped};
 use run_ends::{Attended, Unopened, create_output, open_input};
 use std::alloc::Global;
 use std::fs::Metadata;
@@ -91,17 +91,15 @@ fn script_from<R: Read + Drop, W: Drop>(
     let mut reader = Device::new(Attended::new(reader));
     match load_into(&mut reading, &mut reader) {
         Ok(()) => Ok(Script::of(reading, replies)),
-        Err(fault) => Err(Stopped {
-            fault: ProgramFault::Script(fault),
-            side: Side::Scripting,
-            reason: reader.into_inner().into_reason(),
-            read: None,
-            line: if fault == ScriptFault::BadScript {
-                Some(reading.line())
-            } else {
-                None
-            },
-        }),
+        Err(fault) => {
+            let reason = reader.into_inner().into_reason();
+            let mut told = stopped(ProgramFault::Script(fault), Side::Scripting, reason);
+            if fault == ScriptFault::BadScript {
+                told.line = Some(reading.line());
+                told.about = Some(LineAbout::Script(reading.line_fault()));
+            }
+            Err(told)
+        }
     }
 }
 

@@ -10,7 +10,7 @@ use passages::asking::Asker;
 use passages::fault::ProgramFault;
 use passages::kinds::Serving;
 use passages::running::{Ran, out_of_memory, run_from, stopped, unopened, with_replies};
-use passages::tell::{ServicesAccount, Side, Stopped};
+use passages::tell::{LineAbout, ServicesAccount, Side, Stopped};
 use run_ends::{Attended, End, Unopened, create_output, open_input};
 use service_lists::{ServiceList, ServicesFault, Unloaded, load_services};
 use std::alloc::Global;
@@ -34,6 +34,8 @@ fn unserved(unloaded: Unloaded, reading: Option<io::Error>) -> Stopped {
     let Unloaded {
         fault,
         line,
+        adverts_line,
+        has_return,
         reason,
     } = unloaded;
     if fault == ServicesFault::OutOfMemory {
@@ -49,6 +51,11 @@ fn unserved(unloaded: Unloaded, reading: Option<io::Error>) -> Stopped {
         },
         read: None,
         line,
+        about: match adverts_line {
+            Some(line) => Some(LineAbout::Adverts(line)),
+            None if has_return => Some(LineAbout::Return),
+            None => None,
+        },
     }
 }
 

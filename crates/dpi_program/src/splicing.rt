@@ -1,14 +1,15 @@
 //! The subcommand `splice`: a run with advertisements between the ends that its options name, and what it tells.
 
-ghost use Rattle.std.specs.Prelude.{◌≡◌};
+ghost use Rattle.std.specs.Prelude.{◌≡◌, Some, true};
+ghost use Rattle.ad_lists.specs.Lists.{is_at_line};
 
 use ad_library::AdLibrary;
-use ad_lists::{ListFault, load_list};
+use ad_lists::{ListFault, Loading, load_into};
 use command_lines::splice_options::SpliceOptions;
 use passages::fault::ProgramFault;
 use passages::kinds::Splicing;
 use passages::running::{Ran, run_from, stopped, unopened};
-use passages::tell::{Side, Stopped};
+use passages::tell::{LineAbout, Side, Stopped};
 use run_ends::{Attended, End, Unopened, create_output, open_input};
 use splice_plans::SwitchReport;
 use std::alloc::Global;
@@ -17,11 +18,26 @@ use std::io::{self, Read, Write};
 use std::rt::Files;
 use ts_packet::Device;
 
-/// What is known of a list that was not loaded.
-fn unlisted(fault: ListFault, reason: Option<io::Error>) -> Stopped
-    ensures { result.fault ≡ ProgramFault.List fault }
+/// What is known of a list that was not loaded: where a line is at fault its number and its text, and the system's reason where its stream
+/// cannot be opened; else the reason for which the list could not be read on.
+fn unlisted(
+    alloc: Global,
+    fault: ListFault,
+    loading: Loading<Global>,
+    reading: Option<io::Error>,
+) -> Stopped
+    ensures fault { result.fault ≡ ProgramFault.List fault }
+    ensures line { is_at_line fault ≡ true → result.line ≡ Some loading.number }
 {
-    stopped(ProgramFault::List(fault), Side::Filing, reason)
+    let mut told = stopped(ProgramFault::List(fault), Side::Filing, reading);
+    if fault.is_at_line() {
+        told.line = Some(loading.line_number());
+        if let Ok(line) = Vec::from_slice(alloc, loading.line()) {
+            told.about = Some(LineAbout::Entry(line));
+        }
+        told.reason = loading.into_reason();
+    }
+    told
 }
 
 /// Loads the list that a reader gives.
@@ -31,9 +47,13 @@ fn library_from<F: Files, R: Read + Drop>(
     reader: R,
 ) -> Result<AdLibrary, Stopped> {
     let mut list = Device::new(Attended::new(reader));
-    match load_list(rt, alloc, &mut list) {
-        Ok(library) => Ok(library),
-        Err(fault) => Err(unlisted(fault, list.into_inner().into_reason())),
+    let mut loading = Loading::new_in(alloc);
+    match load_into(rt, alloc, &mut loading, &mut list) {
+        Ok(()) => Ok(loading.into_library()),
+        Err(fault) => {
+            let reading = list.into_inner().into_reason();
+            Err(unlisted(alloc, fault, loading, reading))
+        }
     }
 }
 

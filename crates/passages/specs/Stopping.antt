@@ -49,7 +49,7 @@ reason_at side.Printing reading writing = None
 -- the run stopped with this fault, at this end and for this reason, with so much read of its network, and it blames no line of a script
 abbrev pub IsStoppedWith : ProgramFault → Side → Option Error → Option Watch → Stopped → Type 0
 IsStoppedWith fault at reason read stopped = (stopped.fault ≡ fault) × (stopped.side ≡ at) × (stopped.reason ≡ reason)
-    × (stopped.read ≡ read) × (stopped.line ≡ None)
+    × (stopped.read ≡ read) × (stopped.line ≡ None) × (stopped.about ≡ None)
 
 -- a file could not be opened: the one that would be read, or the one that would be written, and why
 abbrev pub IsStoppedUnopened : Unopened → Stopped → Type 0

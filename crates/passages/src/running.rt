@@ -225,6 +225,7 @@ impl<T: Drop> Ended<T> {
             },
             read: seen.map(|(read, _)| read),
             line: None,
+            about: None,
         })
     }
 }
@@ -281,6 +282,7 @@ pub fn stopped(fault: ProgramFault, side: Side, reason: Option<io::Error>) -> St
         reason,
         read: None,
         line: None,
+        about: None,
     }
 }
 

@@ -2,6 +2,7 @@
 
 use crate::fault::ProgramFault;
 use crate::watch::Watch;
+use automations::ScriptLineFault;
 use chain_engine::RunFault;
 use packet_lines::LinesFault;
 use psi_tables::FeedFault;
@@ -26,6 +27,30 @@ pub enum Side {
     Printing,
 }
 
+/// What more is known of the line of a script or of a list in which a fault stands.
+#[derive(Debug, Drop)]
+pub enum LineAbout {
+    /// What is wrong with a line of a script.
+    Script(ScriptLineFault),
+    /// The bytes of a line of a list of advertisements.
+    Entry(Vec<u8>),
+    /// The number, from 1, of the line at fault in the list of advertisements that a line of a list of services names.
+    Adverts(usize),
+    /// The line ends with a carriage return, so that its path does.
+    Return,
+}
+
+/// The path of a line of a list of advertisements: what stands behind its first space.
+fn path_of(line: &[u8]) -> Option<&str> {
+    let Ok(text) = str::from_utf8(line) else {
+        return None;
+    };
+    match text.split_once(' ') {
+        Some((_, path)) => Some(path.trim_end_matches('\r')),
+        None => None,
+    }
+}
+
 /// Why a run stopped, and what is known of it.
 #[derive(Drop)]
 pub struct Stopped {
@@ -36,8 +61,10 @@ pub struct Stopped {
     pub reason: Option<io::Error>,
     /// What was read until then, where that was watched.
     pub read: Option<Watch>,
-    /// The line of the script, or of the list of the services, in which the fault stands, from 1.
+    /// The line of the script or of the list in which the fault stands, from 1.
     pub line: Option<usize>,
+    /// What more is known of that line.
+    pub about: Option<LineAbout>,
 }
 
 /// A PID in decimal and hexadecimal digits.
@@ -102,14 +129,36 @@ impl Trouble<'_> {
         }
     }
 
-    /// Writes where the run stopped.
-    fn write_place<W: fmt::Write>(&self, f: &mut fmt::Formatter<W>) -> fmt::Result {
+    /// Writes what is known of the line in which the fault stands.
+    fn write_line<W: fmt::Write>(&self, f: &mut fmt::Formatter<W>) -> fmt::Result {
         if let Some(line) = self.stopped.line {
             write!(f, ": line {line}")?;
         }
-        if let ProgramFault::Services(fault) = self.stopped.fault {
-            write!(f, ": {fault}")?;
+        if let Some(LineAbout::Entry(bytes)) = &self.stopped.about
+            && let Some(path) = path_of(bytes.as_slice())
+        {
+            write!(f, ", {path}")?;
         }
+        match self.stopped.fault {
+            ProgramFault::List(fault) => write!(f, ": {fault}")?,
+            ProgramFault::Services(fault) => write!(f, ": {fault}")?,
+            _ => {}
+        }
+        match &self.stopped.about {
+            None => Ok(()),
+            Some(LineAbout::Script(fault)) => write!(f, ": {fault}"),
+            Some(LineAbout::Adverts(line)) => write!(f, ", in its line {line}"),
+            Some(LineAbout::Return) => write!(f, "; the line ends with a carriage return"),
+            Some(LineAbout::Entry(bytes)) => match bytes.last() {
+                Some(b'\r') => write!(f, "; the line ends with a carriage return"),
+                _ => Ok(()),
+            },
+        }
+    }
+
+    /// Writes where the run stopped.
+    fn write_place<W: fmt::Write>(&self, f: &mut fmt::Formatter<W>) -> fmt::Result {
+        self.write_line(f)?;
         if let Some(reason) = &self.stopped.reason {
             return write!(f, ": {reason}");
         }

@@ -1,19 +1,21 @@
 -- Lines of a list of services, read and loaded one after another.
-use Rattle.std.proofs.Common.{◌≡◌, ◌≢◌, ℕ, suc, List, [], ◌∷◌, ◌++◌, length, reverse, true, false, ◌&&◌, ◌==◌, refl, sym, ap, ◌∙◌, subst, append_assoc, ◌⊎◌, inl, inr, Option, None, Some, Result, Ok, Err, OnOk, IfOk, IfSome}
+use Rattle.std.proofs.Common.{◌≡◌, ◌≢◌, ℕ, suc, ◌+◌, ◌-◌, ◌^◌, arith, List, [], ◌∷◌, ◌++◌, length, reverse, true, false, ◌&&◌, ◌==◌, refl, sym, ap, ◌∙◌, subst, append_assoc, ◌⊎◌, inl, inr, Option, None, Some, Result, Ok, Err, OnOk, IfOk, IfSome}
 use Rattle.std.specs.Io.KnownBytes.{Consumes}
+use Rattle.std.specs.Prelude.{min}
+use Rattle.psi_section.specs.Assembling.{capped}
 use Rattle.ad_lists.specs.declared.list.ListFault.{ListFault}
 use Rattle.ad_lists.specs.declared.list.ListFault.TheVariants as adverts
 use Rattle.std.proofs.lemmas.List.{append-nil, reverse-append, length-reverse}
 use Rattle.psi_tables.specs.declared.config.Config.{Config}
 use Rattle.ad_library.specs.declared.library.AdLibrary.{AdLibrary}
-use Rattle.ad_lists.specs.Lists.{is_blank, is_line, text_of, EndsLine}
+use Rattle.ad_lists.specs.Lists.{is_blank, is_line, text_of, number_behind, EndsLine}
 use Rattle.ad_lists.proofs.ListLemmas.{line_push}
 use Rattle.ts_packet.specs.declared.tally.Tally.{Tally}
 use Rattle.ts_packet.specs.Transfers.{LastMovedNone}
 use Rattle.chain_services.specs.Refused.{IsRefused}
 use Rattle.chain_services.specs.declared.fault.ServiceFault.{ServiceFault}
 use Rattle.chain_services.specs.declared.fault.ServiceFault.TheVariants as service_faults
-use Rattle.service_lists.specs.Lists.{IsServiceOf, IsLoaded, AreConfigs, AreServices, IsRead, AreListed, BlamesLine, Blames, StopsAt, ListBlamed, IsOfServices, of_services}
+use Rattle.service_lists.specs.Lists.{IsServiceOf, IsLoaded, AreConfigs, AreServices, IsRead, AreListed, BlamesLine, Blames, TellsLine, StopsAt, ListBlamed, IsOfServices, of_services}
 use Rattle.service_lists.specs.declared.loading.Loading.{Loading}
 use Rattle.service_lists.specs.declared.fault.ServicesFault.{ServicesFault}
 use Rattle.service_lists.specs.declared.fault.ServicesFault.TheVariants.{BadLine, Config as BadConfig, File, Adverts, Services, Io, Turns, OutOfMemory}
@@ -53,20 +55,25 @@ same_services cs ds ls ks lines e d h =
 
 -- a byte more of a line
 pub pushed : {A : Type 0} (old new : Loading A) (b : ℕ) (text : List ℕ) → (b == 10) ≡ false → new.configs.items ≡ old.configs.items → new.libraries.items ≡ old.libraries.items
-    → new.line.items ≡ old.line.items ++ b ∷ [] → IsRead old text → IsRead new (text ++ b ∷ [])
-pushed old new b text other configs libraries items h = record {
+    → new.line.items ≡ old.line.items ++ b ∷ [] → new.number ≡ old.number → IsRead old text → IsRead new (text ++ b ∷ [])
+pushed old new b text other configs libraries items number h = record {
   before = h.before;
+  number_is = number ∙ h.number_is;
   text_is = ap (λ t. t ++ b ∷ []) h.text_is ∙ append_assoc (text_of h.before) old.line.items (b ∷ []) ∙ ap (λ x. text_of h.before ++ x) (sym items);
   line = ap is_line items ∙ line_push old.line.items b h.line other;
   lines = h.lines;
   services = same_services old.configs.items new.configs.items old.libraries.items new.libraries.items h.before configs libraries h.services;
 }
 
+one_more_line : (n : ℕ) → min (capped (1 + n) + 1) (2 ^ 64 - 1) ≡ capped (1 + suc n)
+one_more_line n = omega arith
+
 -- the end of a line
-pub ended : {A : Type 0} (old new : Loading A) (b : ℕ) (text : List ℕ) → b ≡ 10 → new.line.items ≡ [] → (h : IsRead old text)
-    → AreServices (reverse new.configs.items) (reverse new.libraries.items) (old.line.items ∷ h.before) → IsRead new (text ++ b ∷ [])
-ended old new b text end items h services = record {
+pub ended : {A : Type 0} (old new : Loading A) (b : ℕ) (text : List ℕ) → b ≡ 10 → new.line.items ≡ [] → new.number ≡ min (old.number + 1) (2 ^ 64 - 1)
+    → (h : IsRead old text) → AreServices (reverse new.configs.items) (reverse new.libraries.items) (old.line.items ∷ h.before) → IsRead new (text ++ b ∷ [])
+ended old new b text end items number h services = record {
   before = old.line.items ∷ h.before;
+  number_is = number ∙ ap (λ n. min (n + 1) (2 ^ 64 - 1)) h.number_is ∙ one_more_line (length h.before);
   text_is = (λ i. h.text_is i ++ end i ∷ []) ∙ append_assoc (text_of h.before) old.line.items (10 ∷ []) ∙ sym (append-nil (text_of (old.line.items ∷ h.before)))
       ∙ ap (λ x. text_of (old.line.items ∷ h.before) ++ x) (sym items);
   line = ap is_line items;
@@ -87,9 +94,11 @@ listed old new text h services = record {
 }
 
 -- nothing was read
-pub nothing_read : {A : Type 0} (l : Loading A) → l.configs.items ≡ [] → l.libraries.items ≡ [] → l.line.items ≡ [] → IsRead l []
-nothing_read l configs libraries items = record {
+pub nothing_read : {A : Type 0} (l : Loading A) → l.configs.items ≡ [] → l.libraries.items ≡ [] → l.line.items ≡ []
+    → l.number ≡ 1 → IsRead l []
+nothing_read l configs libraries items number = record {
   before = [];
+  number_is = number;
   text_is = sym items;
   line = ap is_line items;
   lines = refl;
@@ -108,9 +117,21 @@ whole Io before line rest e b = absurd b
 whole Turns before line rest e b = absurd b
 whole OutOfMemory before line rest e b = tt
 
+-- a line that is to blame is told
+of_its_line : (f : ServicesFault) (n : Option ℕ) (line : List ℕ) (before : List (List ℕ)) → BlamesLine f line → n ≡ Some (number_behind before) → TellsLine f n before
+of_its_line BadLine n line before b e = e
+of_its_line (BadConfig bad) n line before b e = e
+of_its_line File n line before b e = e
+of_its_line (Adverts fault) n line before b e = e
+of_its_line (Services fault) n line before b e = absurd b
+of_its_line Io n line before b e = absurd b
+of_its_line Turns n line before b e = absurd b
+of_its_line OutOfMemory n line before b e = inr e
+
 -- behind what was read
-pub stops : {A : Type 0} (l : Loading A) (f : ServicesFault) (text rest : List ℕ) → (h : IsRead l text) → Blames f h.before l.line.items rest → StopsAt f (text ++ rest)
-stops l f text rest h blamed = record {
+pub stops : {A : Type 0} (l : Loading A) (f : ServicesFault) (n : Option ℕ) (text rest : List ℕ) → (h : IsRead l text) → Blames f h.before l.line.items rest
+    → TellsLine f n h.before → StopsAt f n (text ++ rest)
+stops l f n text rest h blamed told = record {
   before = h.before;
   part = l.line.items;
   rest = rest;
@@ -119,17 +140,21 @@ stops l f text rest h blamed = record {
   lines = h.lines;
   good = (reverse l.configs.items, said_of (reverse l.configs.items) (reverse l.libraries.items) h.before h.services);
   blamed = blamed;
+  told = told;
 }
 
 -- at a line's end
-pub stops_line : {A : Type 0} (l : Loading A) (f : ServicesFault) (text more : List ℕ) (b : ℕ) → b ≡ 10 → (h : IsRead l text) → BlamesLine f l.line.items
-    → StopsAt f (text ++ b ∷ more)
-stops_line l f text more b end h blamed = stops l f text (b ∷ more) h (whole f h.before l.line.items (b ∷ more) end blamed)
+pub stops_line : {A : Type 0} (l : Loading A) (f : ServicesFault) (n : Option ℕ) (text more : List ℕ) (b : ℕ) → b ≡ 10 → n ≡ Some l.number → (h : IsRead l text)
+    → BlamesLine f l.line.items → StopsAt f n (text ++ b ∷ more)
+stops_line l f n text more b end number h blamed =
+    stops l f n text (b ∷ more) h (whole f h.before l.line.items (b ∷ more) end blamed) (of_its_line f n l.line.items h.before blamed (number ∙ ap Some h.number_is))
 
 -- at the end of the list
-pub stops_end : {A : Type 0} (l : Loading A) (f : ServicesFault) (text : List ℕ) → (h : IsRead l text) → BlamesLine f l.line.items → StopsAt f text
-stops_end l f text h blamed =
-    subst (StopsAt f) (append-nil text) (stops l f text [] h (whole f h.before l.line.items [] tt blamed))
+pub stops_end : {A : Type 0} (l : Loading A) (f : ServicesFault) (n : Option ℕ) (text : List ℕ) → n ≡ Some l.number → (h : IsRead l text) → BlamesLine f l.line.items
+    → StopsAt f n text
+stops_end l f n text number h blamed =
+    subst (StopsAt f n) (append-nil text)
+    (stops l f n text [] h (whole f h.before l.line.items [] tt blamed) (of_its_line f n l.line.items h.before blamed (number ∙ ap Some h.number_is)))
 
 tail_of : {A : Type 0} (cs : List Config) (ls : List (AdLibrary A)) (line : List ℕ) (lines : List (List ℕ)) → AreServices cs ls (line ∷ lines)
     → (configs : List Config) × AreConfigs configs lines
@@ -137,9 +162,9 @@ tail_of cs ls line lines (inl h) = (cs, said_of cs ls lines h.1)
 tail_of cs ls line lines (inr h) = let (c, ds, l, ks, path, e, d, is, loaded, more) = h.1 in (ds, said_of ds ks lines more)
 
 -- behind the last line
-pub stops_behind : {A : Type 0} (f : ServicesFault) (cs : List Config) (ls : List (AdLibrary A)) (text : List ℕ) → (h : AreListed cs ls text) → Blames f h.before h.last []
-    → StopsAt f text
-stops_behind f cs ls text h blamed = record {
+pub stops_behind : {A : Type 0} (f : ServicesFault) (n : Option ℕ) (cs : List Config) (ls : List (AdLibrary A)) (text : List ℕ) → (h : AreListed cs ls text)
+    → Blames f h.before h.last [] → TellsLine f n h.before → StopsAt f n text
+stops_behind f n cs ls text h blamed told = record {
   before = h.before;
   part = h.last;
   rest = [];
@@ -148,22 +173,23 @@ stops_behind f cs ls text h blamed = record {
   lines = h.lines;
   good = tail_of (reverse cs) (reverse ls) h.last h.before h.services;
   blamed = blamed;
+  told = told;
 }
 
 -- where the services of all lines are refused
-pub refused_stops : {A : Type 0} (fault : ServiceFault) (cs : List Config) (ls : List (AdLibrary A)) (text : List ℕ) → AreListed cs ls text → IsRefused cs fault
-    → StopsAt (of_services fault) text
-refused_stops service_faults.NoService cs ls text h r =
-    stops_behind (Services service_faults.NoService) cs ls text h (refl, (cs, said_of (reverse cs) (reverse ls) (h.last ∷ h.before) h.services, r, λ e. cc))
-refused_stops service_faults.Many cs ls text h r =
-    stops_behind (Services service_faults.Many) cs ls text h (refl, (cs, said_of (reverse cs) (reverse ls) (h.last ∷ h.before) h.services, r, λ e. cc))
-refused_stops service_faults.SharedIndex cs ls text h r =
-    stops_behind (Services service_faults.SharedIndex) cs ls text h (refl, (cs, said_of (reverse cs) (reverse ls) (h.last ∷ h.before) h.services, r, λ e. cc))
-refused_stops service_faults.SharedProgram cs ls text h r =
-    stops_behind (Services service_faults.SharedProgram) cs ls text h (refl, (cs, said_of (reverse cs) (reverse ls) (h.last ∷ h.before) h.services, r, λ e. cc))
-refused_stops service_faults.SharedCue cs ls text h r =
-    stops_behind (Services service_faults.SharedCue) cs ls text h (refl, (cs, said_of (reverse cs) (reverse ls) (h.last ∷ h.before) h.services, r, λ e. cc))
-refused_stops service_faults.OutOfMemory cs ls text h r = stops_behind OutOfMemory cs ls text h tt
+pub refused_stops : {A : Type 0} (fault : ServiceFault) (n : Option ℕ) (cs : List Config) (ls : List (AdLibrary A)) (text : List ℕ) → n ≡ None → AreListed cs ls text
+    → IsRefused cs fault → StopsAt (of_services fault) n text
+refused_stops service_faults.NoService n cs ls text none h r =
+    stops_behind (Services service_faults.NoService) n cs ls text h (refl, (cs, said_of (reverse cs) (reverse ls) (h.last ∷ h.before) h.services, r, λ e. cc)) none
+refused_stops service_faults.Many n cs ls text none h r =
+    stops_behind (Services service_faults.Many) n cs ls text h (refl, (cs, said_of (reverse cs) (reverse ls) (h.last ∷ h.before) h.services, r, λ e. cc)) none
+refused_stops service_faults.SharedIndex n cs ls text none h r =
+    stops_behind (Services service_faults.SharedIndex) n cs ls text h (refl, (cs, said_of (reverse cs) (reverse ls) (h.last ∷ h.before) h.services, r, λ e. cc)) none
+refused_stops service_faults.SharedProgram n cs ls text none h r =
+    stops_behind (Services service_faults.SharedProgram) n cs ls text h (refl, (cs, said_of (reverse cs) (reverse ls) (h.last ∷ h.before) h.services, r, λ e. cc)) none
+refused_stops service_faults.SharedCue n cs ls text none h r =
+    stops_behind (Services service_faults.SharedCue) n cs ls text h (refl, (cs, said_of (reverse cs) (reverse ls) (h.last ∷ h.before) h.services, r, λ e. cc)) none
+refused_stops service_faults.OutOfMemory n cs ls text none h r = stops_behind OutOfMemory n cs ls text h tt (inl none)
 
 pub refused_so : (fault : ServiceFault) → IsOfServices (of_services fault)
 refused_so service_faults.NoService = tt

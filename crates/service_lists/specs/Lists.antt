@@ -13,7 +13,7 @@ use Rattle.chain_services.specs.declared.fault.ServiceFault.TheVariants as servi
 use Rattle.chain_services.specs.Refused.{IsRefused}
 use Rattle.chain_services.specs.Runs.{ServicesStandFor}
 use Rattle.ad_library.specs.declared.library.AdLibrary.{AdLibrary}
-use Rattle.ad_lists.specs.Lists.{is_blank, is_space, is_line, text_of, EndsLine, IsListed}
+use Rattle.ad_lists.specs.Lists.{is_blank, is_space, is_line, text_of, number_behind, EndsLine, IsListed}
 use Rattle.ad_lists.specs.declared.list.ListFault.TheVariants as adverts
 use Rattle.service_lists.specs.declared.fault.ServicesFault.{ServicesFault}
 use Rattle.service_lists.specs.declared.fault.ServicesFault.TheVariants.{BadLine, Config as BadConfig, File, Adverts, Services, Io, Turns, OutOfMemory}
@@ -108,6 +108,7 @@ AreServices {A} configs libraries (line ∷ lines) = ((is_blank line ≡ true) �
 -- the list was read so far
 pub record IsRead {A : Type 0} (loading : Loading A) (text : List ℕ) : Type 0 where
   pub before : List (List ℕ)
+  pub number_is : loading.number ≡ number_behind before
   pub text_is : text ≡ text_of before ++ loading.line.items
   pub line : is_line loading.line.items ≡ true
   pub lines : list_all is_line before ≡ true
@@ -142,8 +143,19 @@ Blames Io before line rest = Unit {0}
 Blames Turns before line rest = Unit {0}
 Blames OutOfMemory before line rest = Unit {0}
 
--- WHERE A LIST STOPS: each line before is blank or a service's, and the fault is to be blamed on what comes behind them
-pub record StopsAt (fault : ServicesFault) (text : List ℕ) : Type 0 where
+-- the line that is told: the one behind these where one is to blame, and none else; memory may be refused for one or for all services
+abbrev pub TellsLine : ServicesFault → Option ℕ → List (List ℕ) → Type 0
+TellsLine BadLine line before = line ≡ Some (number_behind before)
+TellsLine (BadConfig bad) line before = line ≡ Some (number_behind before)
+TellsLine File line before = line ≡ Some (number_behind before)
+TellsLine (Adverts fault) line before = line ≡ Some (number_behind before)
+TellsLine (Services fault) line before = line ≡ None
+TellsLine Io line before = line ≡ None
+TellsLine Turns line before = line ≡ None
+TellsLine OutOfMemory line before = (line ≡ None) ⊎ (line ≡ Some (number_behind before))
+
+-- WHERE A LIST STOPS, and the line that is told: each line before is blank or a service's, and the fault is to be blamed on what comes behind them
+pub record StopsAt (fault : ServicesFault) (line_told : Option ℕ) (text : List ℕ) : Type 0 where
   pub before : List (List ℕ)
   pub part : List ℕ
   pub rest : List ℕ
@@ -152,6 +164,7 @@ pub record StopsAt (fault : ServicesFault) (text : List ℕ) : Type 0 where
   pub lines : list_all is_line before ≡ true
   pub good : (configs : List Config) × AreConfigs configs before
   pub blamed : Blames fault before part rest
+  pub told : TellsLine fault line_told before
 
 -- What the reads of a list came to where it was not loaded: what is wrong with a line, or memory for it, comes behind reads that went well,
 -- or at the end, where services do not go together.

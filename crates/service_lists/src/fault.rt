@@ -41,7 +41,11 @@ pub struct Unloaded {
     pub fault: ServicesFault,
     /// The number of the line at fault, from 1, where it is one's.
     pub line: Option<usize>,
-    /// The system's reason, where the list of a line's advertisements cannot be opened.
+    /// The number of the line at fault in the list of that line's advertisements, from 1, where it is one's.
+    pub adverts_line: Option<usize>,
+    /// The line at fault ends with a carriage return, so that the path of its list does.
+    pub has_return: bool,
+    /// The system's reason, where the list of a line's advertisements or one of its streams cannot be opened.
     pub reason: Option<io::Error>,
 }
 
@@ -52,11 +56,14 @@ impl Unloaded {
     pub(crate) fn of_list(fault: ServicesFault) -> Unloaded
         ensures fault { result.fault ≡ fault }
         ensures line { result.line ≡ None }
+        ensures adverts { result.adverts_line ≡ None }
         ensures reason { result.reason ≡ None }
     {
         Unloaded {
             fault,
             line: None,
+            adverts_line: None,
+            has_return: false,
             reason: None,
         }
     }
@@ -65,24 +72,31 @@ impl Unloaded {
     pub(crate) fn of_line(number: usize, fault: ServicesFault) -> Unloaded
         ensures fault { result.fault ≡ fault }
         ensures line { result.line ≡ Some number }
+        ensures adverts { result.adverts_line ≡ None }
         ensures reason { result.reason ≡ None }
     {
         Unloaded {
             fault,
             line: Some(number),
+            adverts_line: None,
+            has_return: false,
             reason: None,
         }
     }
 
-    /// The list of this line's advertisements cannot be opened.
-    pub(crate) fn unopened(number: usize, reason: io::Error) -> Unloaded
+    /// The list of this line's advertisements, whose path ends with a carriage return or not, cannot be opened.
+    pub(crate) fn unopened(number: usize, has_return: bool, reason: io::Error) -> Unloaded
         ensures fault { result.fault ≡ ServicesFault.File }
         ensures line { result.line ≡ Some number }
+        ensures adverts { result.adverts_line ≡ None }
+        ensures carriage { result.has_return ≡ has_return }
         ensures reason { result.reason ≡ Some reason }
     {
         Unloaded {
             fault: ServicesFault::File,
             line: Some(number),
+            adverts_line: None,
+            has_return,
             reason: Some(reason),
         }
     }

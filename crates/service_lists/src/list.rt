@@ -33,7 +33,7 @@ pub fn load_services<R: Files, M: Allocator + Copy, S: Source>(
     ensures lists { IfOk result (λ l. (text : List ℕ) × IfSome (S.remaining list.old) (λ bs. bs ≡ text)
         × AreListed l.configs.items l.libraries.items text) }
     ensures ready { IfOk result AreReady }
-    ensures stops { IfErr result (λ u. IfSome (S.remaining list.old) (StopsAt u.fault)) }
+    ensures stops { IfErr result (λ u. IfSome (S.remaining list.old) (StopsAt u.fault u.line)) }
     ensures blamed { IfErr result (λ u. ListBlamed u.fault (S.counts list.old) (S.counts list.new)) }
     ensures ended { OnOk result (LastMovedNone (S.counts list.old) (S.counts list.new)) }
 {
@@ -68,7 +68,7 @@ fn services_of<M: Allocator + Copy>(
         → IfOk result (λ l. AreListed l.configs.items l.libraries.items text) }
     ensures ready { IfOk result AreReady }
     ensures stops { (text : List ℕ) → AreListed loading.configs.items loading.libraries.items text
-        → IfErr result (λ u. StopsAt u.fault text) }
+        → IfErr result (λ u. StopsAt u.fault u.line text) }
     ensures refused { IfErr result (λ u. IsOfServices u.fault) }
 {
     let Loading {
@@ -96,7 +96,7 @@ fn read_to_end<R: Files, M: Allocator + Copy, S: Source>(
     requires { IsRead loading.old [] }
     ensures lists { OnOk result ((text : List ℕ) × IfSome (S.remaining list.old) (λ bs. bs ≡ text)
         × AreListed loading.new.configs.items loading.new.libraries.items text) }
-    ensures stops { IfErr result (λ u. IfSome (S.remaining list.old) (StopsAt u.fault)) }
+    ensures stops { IfErr result (λ u. IfSome (S.remaining list.old) (StopsAt u.fault u.line)) }
     ensures blamed { IfErr result (λ u. ListBlamed u.fault (S.counts list.old) (S.counts list.new)) }
     ensures ended { OnOk result (LastMovedNone (S.counts list.old) (S.counts list.new)) }
 {

@@ -7,7 +7,7 @@ ghost use Rattle.service_lists.specs.Lists.{IsLoaded, AreServices, IsRead, Blame
 use crate::fault::{ServicesFault, Unloaded};
 use crate::line::service_of;
 use ad_library::AdLibrary;
-use ad_lists::{ListFault, is_blank, load_list};
+use ad_lists::{ListFault, Loading as AdvertLoading, is_blank, load_into};
 use psi_tables::Config;
 use run_ends::open_input;
 use std::alloc::Allocator;
@@ -26,12 +26,19 @@ fn load_adverts<R: Files, M: Allocator + Copy, S: Source>(
         ⊎ ((f : ListFault) × (u.fault ≡ ServicesFault.Adverts f) × (f ≢ ListFault.OutOfMemory))) }
     ensures line { IfErr result (λ u. u.line ≡ Some number) }
 {
-    match load_list(rt, alloc, list) {
-        Ok(library) => Ok(library),
+    let mut adverts = AdvertLoading::new_in(alloc);
+    match load_into(rt, alloc, &mut adverts, list) {
+        Ok(()) => Ok(adverts.into_library()),
         Err(ListFault::OutOfMemory) => {
             Err(Unloaded::of_line(number, ServicesFault::OutOfMemory))
         }
-        Err(fault) => Err(Unloaded::of_line(number, ServicesFault::Adverts(fault))),
+        Err(fault) => Err(Unloaded {
+            fault: ServicesFault::Adverts(fault),
+            line: Some(number),
+            adverts_line: fault.is_at_line().then_some(adverts.line_number()),
+            has_return: false,
+            reason: adverts.into_reason(),
+        }),
     }
 }
 
@@ -70,7 +77,7 @@ impl<M: Allocator + Copy> Loading<M> {
     ) -> Result<(), Unloaded>
         ensures ok { (text : List ℕ) → IsRead self.old text → OnOk result (IsRead self.new (text ++ part.now)) }
         ensures stops { (text : List ℕ) → IsRead self.old text
-            → IfErr result (λ u. (more : List ℕ) → StopsAt u.fault (text ++ (part.now ++ more))) }
+            → IfErr result (λ u. (more : List ℕ) → StopsAt u.fault u.line (text ++ (part.now ++ more))) }
         ensures refused { IfErr result (λ u. IsOfLine u.fault) }
     {
         let mut rest = part;
@@ -88,7 +95,7 @@ impl<M: Allocator + Copy> Loading<M> {
     fn take<R: Files>(&mut self, rt: &R, alloc: M, byte: u8) -> Result<(), Unloaded>
         ensures ok { (text : List ℕ) → IsRead self.old text → OnOk result (IsRead self.new (text ++ byte ∷ [])) }
         ensures stops { (text : List ℕ) → IsRead self.old text
-            → IfErr result (λ u. (more : List ℕ) → StopsAt u.fault (text ++ (byte ∷ more))) }
+            → IfErr result (λ u. (more : List ℕ) → StopsAt u.fault u.line (text ++ (byte ∷ more))) }
         ensures refused { IfErr result (λ u. IsOfLine u.fault) }
     {
         if byte != b'\n' {
@@ -129,7 +136,10 @@ impl<M: Allocator + Copy> Loading<M> {
         };
         let file = match open_input(rt, service.adverts) {
             Ok((file, _)) => file,
-            Err(reason) => return Err(Unloaded::unopened(number, reason)),
+            Err(reason) => {
+                let has_return = service.adverts.ends_with('\r');
+                return Err(Unloaded::unopened(number, has_return, reason));
+            }
         };
         let config = service.config;
         match load_adverts(rt, alloc, number, &mut Device::new(file)) {

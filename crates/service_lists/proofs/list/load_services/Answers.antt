@@ -10,7 +10,7 @@ services_of-requires g c = let (text, known, listed) = c.in-Ok.ensures.lists in 
 pub returns-in-Ok-clause-stops : goal.returns-in-Ok-clause-stops
 returns-in-Ok-clause-stops g c =
     let (text, known, listed) = c.in-Ok.ensures.lists in
-    if_err_more c.services_of.result (λ u s. said_all (StopsAt u.fault) _ text known s) (c.services_of.ensures.stops text listed)
+    if_err_more c.services_of.result (λ u s. said_all (StopsAt u.fault u.line) _ text known s) (c.services_of.ensures.stops text listed)
 
 pub returns-in-Ok-clause-blamed : goal.returns-in-Ok-clause-blamed
 returns-in-Ok-clause-blamed g c = if_err_more c.services_of.result (λ u s. refused_blames u.fault _ _ c.in-Ok.ensures.ended s) c.services_of.ensures.refused

@@ -1,6 +1,7 @@
 use Rattle.std.proofs.Common.{◌≡◌, ◌<◌, ◌++◌, [], length, take, ap, rules, arith}
 use Rattle.std.proofs.KnownBytes.{Consumes-trans, Consumes-kept}
-use Rattle.ts_packet.proofs.Cases.{on_ok_more, if_err_more}
+use Rattle.ts_packet.proofs.Cases.{on_ok_more}
+use Rattle.unit_packing.proofs.PutLemmas.{if_err_both}
 use Rattle.ts_packet.proofs.TransferLemmas.{at_end}
 use Rattle.ad_lists.proofs.ListLemmas.{said_all}
 use Rattle.service_lists.specs.Lists.{StopsAt}
@@ -25,7 +26,7 @@ returns-in-Ok-eq0-clause-stops g c =
     let zero : c.in-Ok-eq0.field-0 ≡ 0 = search rules in
     let none : take c.in-Ok-eq0.field-0 c.read.new.buf ≡ [] = ap (λ n. take n c.read.new.buf) zero in
     let room : 0 < length c.read.new.buf = search rules in
-    if_err_more c.load_line.result (λ u s. said_all (StopsAt u.fault) _ text (at_end _ _ _ text _ used b.0 none (b.1 zero room)) (stops_end c.loop-turn.loading u.fault text h s)) c.load_line.ensures.stops
+    if_err_both c.load_line.result (λ u s at. said_all (StopsAt u.fault u.line) _ text (at_end _ _ _ text _ used b.0 none (b.1 zero room)) (stops_end c.loop-turn.loading u.fault u.line text at h s)) c.load_line.ensures.stops c.load_line.ensures.at
 
 pub loop-turn-preserved : goal.loop-turn-preserved
 loop-turn-preserved g c =
@@ -46,9 +47,11 @@ loop-turn-preserved g c =
 pub returns-in-Err-Failed-clause-stops : goal.returns-in-Err-Failed-clause-stops
 returns-in-Err-Failed-clause-stops g c =
     let (text, used, h) = c.loop-turn.invariant.read in
-    rw c.of_list.ensures.fault (said_on (StopsAt Io) _ _ text used (λ more. stops c.loop-turn.loading Io text more h tt))
+    rw c.of_list.ensures.fault (said_on (StopsAt Io c.of_list.result.line) _ _ text used
+    (λ more. stops c.loop-turn.loading Io c.of_list.result.line text more h tt c.of_list.ensures.line))
 
 pub returns-clause-stops : goal.returns-clause-stops
 returns-clause-stops g c =
     let (text, used, h) = c.loop-turn.invariant.read in
-    rw c.of_list-2.ensures.fault (said_on (StopsAt Turns) _ _ text used (λ more. stops c.loop-turn.loading Turns text more h tt))
+    rw c.of_list-2.ensures.fault (said_on (StopsAt Turns c.of_list-2.result.line) _ _ text used
+    (λ more. stops c.loop-turn.loading Turns c.of_list-2.result.line text more h tt c.of_list-2.ensures.line))

@@ -9,7 +9,7 @@ pub returns-clause-stops : goal.returns-clause-stops
 returns-clause-stops g c = λ text h.
     let told : c.of_list.result.fault ≡ of_services c.in-Err.fault = search rules in
     let configs : c.as_slice.result.now ≡ c.args.loading.configs.items = search rules in
-    subst (λ f. StopsAt f text) (sym told) (refused_stops c.in-Err.fault c.args.loading.configs.items c.args.loading.libraries.items text h
+    subst (λ f. StopsAt f c.of_list.result.line text) (sym told) (refused_stops c.in-Err.fault c.of_list.result.line c.args.loading.configs.items c.args.loading.libraries.items text c.of_list.ensures.line h
     (subst (λ (cs : List Config). IsRefused cs c.in-Err.fault) configs c.in-Err.ensures.err))
 
 pub returns-clause-refused : goal.returns-clause-refused

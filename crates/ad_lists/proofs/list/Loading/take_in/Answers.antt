@@ -1,5 +1,5 @@
 use Rattle.std.proofs.Common.{◌≡◌, ◌++◌, ◌∷◌, [], subst, append_assoc, rules}
-use Rattle.ad_lists.specs.Lists.{IsRead, StopsAt}
+use Rattle.ad_lists.specs.Lists.{IsRead, StopsAt, StandsIn}
 use Rattle.ad_lists.proofs.ListLemmas.{takes_on, said_later}
 use Rattle.ad_lists.proofs.list.Loading.take_in.Goals as goal
 
@@ -9,6 +9,13 @@ returns-in-Err-clause-stops g c = λ text h more.
     let first : c.loop-byte.rest.now ≡ c.in-Some.byte.now ∷ c.in-Some.behind.now = search rules in
     said_later (StopsAt c.in-Err.fault) text done c.args.part.now c.loop-byte.rest.now c.in-Some.behind.now more c.in-Some.byte.now e first
     (c.in-Err.ensures.stops (text ++ done) (r text h) (c.in-Some.behind.now ++ more))
+
+pub returns-in-Err-clause-stands : goal.returns-in-Err-clause-stands
+returns-in-Err-clause-stands g c = λ text h more.
+    let (done, e, r) = c.loop-byte.invariant.read in
+    let first : c.loop-byte.rest.now ≡ c.in-Some.byte.now ∷ c.in-Some.behind.now = search rules in
+    said_later (StandsIn c.take.new.self) text done c.args.part.now c.loop-byte.rest.now c.in-Some.behind.now more c.in-Some.byte.now e first
+    (c.in-Err.ensures.stands (text ++ done) (r text h) (c.in-Some.behind.now ++ more))
 
 pub loop-byte-preserved : goal.loop-byte-preserved
 loop-byte-preserved g c =

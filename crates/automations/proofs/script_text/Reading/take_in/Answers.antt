@@ -1,5 +1,5 @@
-use Rattle.std.proofs.Common.{◌≡◌, ◌++◌, ◌∷◌, [], subst, sym, ◌∙◌, ap, append_assoc, rules}
-use Rattle.automations.specs.ScriptReading.{IsScriptRead, IsTextAt}
+use Rattle.std.proofs.Common.{◌≡◌, ◌++◌, ◌∷◌, [], refl, subst, sym, ◌∙◌, ap, append_assoc, rules}
+use Rattle.automations.specs.ScriptReading.{IsScriptRead, IsTextAt, StoppedIn}
 use Rattle.std.specs.Prelude.{Err}
 use Rattle.automations.specs.declared.script.ScriptFault.TheVariants.{BadScript}
 use Rattle.automations.specs.ScriptText.{BeginsNoScript}
@@ -36,3 +36,20 @@ returns-in-Err-clause-stops g c = λ text h bad.
     ∙ ap (λ l. text ++ l) (sym (e ∙ ap (λ l. done ++ l) first)) in
     subst BeginsNoScript all
     (stops_behind ((text ++ done) ++ byte ∷ []) c.in-Some.behind.now (c.in-Err.ensures.stops (text ++ done) (r text h) (ap Err fault)))
+
+pub returns-in-Err-clause-stopped : goal.returns-in-Err-clause-stopped
+returns-in-Err-clause-stopped g c = λ text h bad.
+    let (done, e, r) = c.loop-byte.invariant.read in
+    let first : c.loop-byte.rest.now ≡ c.in-Some.byte.now ∷ c.in-Some.behind.now = search rules in
+    let byte = c.in-Some.byte.now in
+    let fault : c.in-Err.fault ≡ BadScript = cc in
+    let same : c.behind.new.self ≡ c.loop-byte.self = c.in-Err.ensures.same (ap Err fault) in
+    let stood : IsScriptRead c.behind.new.self (text ++ done) = subst (λ s. IsScriptRead s (text ++ done)) (sym same) (r text h) in
+    record {
+      read = text ++ done;
+      byte = byte;
+      rest = c.in-Some.behind.now;
+      text_is = ap (λ l. text ++ l) (e ∙ ap (λ l. done ++ l) first) ∙ sym (append_assoc text done (byte ∷ c.in-Some.behind.now));
+      stands = record { reading = stood.reading; text_is = stood.text_is };
+      bad = refl;
+    }

@@ -7,7 +7,7 @@ pub returns-in-Err-clause-stops : goal.returns-in-Err-clause-stops
 returns-in-Err-clause-stops g c = λ text h more.
     let (done, e, r) = c.loop-byte.invariant.read in
     let first : c.loop-byte.rest.now ≡ c.in-Some.byte.now ∷ c.in-Some.behind.now = search rules in
-    said_later (StopsAt c.in-Err.unloaded.fault) text done c.args.part.now c.loop-byte.rest.now c.in-Some.behind.now more c.in-Some.byte.now e first
+    said_later (StopsAt c.in-Err.unloaded.fault c.in-Err.unloaded.line) text done c.args.part.now c.loop-byte.rest.now c.in-Some.behind.now more c.in-Some.byte.now e first
     (c.in-Err.ensures.stops (text ++ done) (r text h) (c.in-Some.behind.now ++ more))
 
 pub loop-byte-preserved : goal.loop-byte-preserved

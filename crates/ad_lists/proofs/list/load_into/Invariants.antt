@@ -2,7 +2,7 @@ use Rattle.std.proofs.Common.{List, ℕ}
 use Rattle.std.specs.Io.KnownBytes.{Consumes}
 use Rattle.ts_packet.specs.Transfers.{Rose, WentWell}
 use Rattle.ad_lists.specs.Lists.{IsRead}
-use Rattle.ad_lists.proofs.list.read_to_end.Given as goal
+use Rattle.ad_lists.proofs.list.load_into.Given as goal
 
 abbrev pub invariant-loop-turn : goal.invariant-loop-turn
 invariant-loop-turn g l = record {

@@ -4,8 +4,8 @@ use Rattle.ts_packet.proofs.Cases.{on_ok_more, if_err_more}
 use Rattle.ts_packet.proofs.TransferLemmas.{at_end}
 use Rattle.ad_lists.specs.Lists.{StopsAt}
 use Rattle.ad_lists.proofs.ListLemmas.{said_all}
-use Rattle.ad_lists.proofs.list.read_to_end.Goals as goal
-use Rattle.ad_lists.proofs.list.read_to_end.Goals.{in-Ok+in-Ok-take_in, in-Err-Interrupted}
+use Rattle.ad_lists.proofs.list.load_into.Goals as goal
+use Rattle.ad_lists.proofs.list.load_into.Goals.{in-Ok+in-Ok-take_in, in-Err-Interrupted}
 
 pub returns-in-Ok-eq0-clause-lists : goal.returns-in-Ok-eq0-clause-lists
 returns-in-Ok-eq0-clause-lists g c =
