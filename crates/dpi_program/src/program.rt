@@ -1,6 +1,6 @@
 //! The program: a command line, standard streams and files in, an exit status out.
 
-ghost use Rattle.std.specs.Prelude.{◌≡◌, ◌≤◌};
+ghost use Rattle.std.specs.Prelude.{◌≡◌, ◌≤◌, IfErr};
 
 use crate::cutting::run_cut;
 use crate::injecting::{Injected, run_inject_command};
@@ -14,7 +14,9 @@ use command_lines::refusals::{DONE, USAGE, answer, refuse, report};
 use command_lines::services_options::{SERVICES_USAGE, ServicesOptions, services_options};
 use command_lines::splice_options::{SPLICE_USAGE, SpliceOptions, splice_options};
 use passages::fault::{ProgramFault, fault_name};
-use passages::tell::{Side, SpliceAccount, Stopped, Trouble};
+use passages::running::Ran;
+use passages::tell::{Account, Side, SpliceAccount, Stopped, Trouble};
+use report_texts::{print_messages, print_report, print_service, print_switched};
 use splice_plans::SwitchReport;
 use std::io::{Read, Write};
 use std::net::Net;
@@ -34,20 +36,6 @@ fn report_stopped<E: Write>(faults: &mut E, options: &CutOptions<'_>, stopped: &
         let _ = write!(faults, "{trouble}");
     }
     status
-}
-
-/// Prints the report of a run with cues, and answers whether it is out.
-fn print_report<W: Write>(printed: &mut W, injected: &Injected) -> bool {
-    let messages = injected.report.messages;
-    let (accepted, refused) = (injected.report.accepted, injected.report.refused);
-    let text = write!(
-        printed,
-        "messages {messages}\naccepted {accepted}\nrefused {refused}\n"
-    );
-    if text.is_err() || !injected.plays {
-        return text.is_ok() && printed.flush().is_ok();
-    }
-    print_switched(printed, &injected.report.switch)
 }
 
 /// Prints the fault's line of a run with cues, and behind it what is known of it where that is asked for.
@@ -70,6 +58,34 @@ fn report_inject<E: Write>(faults: &mut E, options: &InjectOptions<'_>, stopped:
     status
 }
 
+/// Tells what a run with cues came to, and answers the exit status.
+fn tell_injected<O: Write, E: Write>(
+    options: &InjectOptions<'_>,
+    injected: Result<Injected, Stopped>,
+    output: &mut O,
+    faults: &mut E,
+) -> u8
+    ensures status { result ≤ 1 }
+    ensures stopped { IfErr injected (λ _. result ≡ 1) }
+{
+    let injected = match injected {
+        Ok(injected) => injected,
+        Err(stopped) => return report_inject(faults, options, &stopped),
+    };
+    let is_out = if options.has_standard_output() {
+        print_report(faults, &injected.report, injected.plays)
+    } else {
+        print_report(output, &injected.report, injected.plays)
+    };
+    if !is_out {
+        return report(faults, fault_name(ProgramFault::Print));
+    }
+    if let Some(account) = injected.account {
+        let _ = write!(faults, "{account}");
+    }
+    DONE
+}
+
 /// Runs `inject` or `run`, and answers the exit status.
 fn inject<R, I, O, E>(
     rt: &R,
@@ -85,33 +101,8 @@ where
     E: Write,
     ensures { result ≤ 1 }
 {
-    let injected = match run_inject_command(rt, options, input, output, faults) {
-        Ok(injected) => injected,
-        Err(stopped) => return report_inject(faults, options, &stopped),
-    };
-    let is_out = if options.has_standard_output() {
-        print_report(faults, &injected)
-    } else {
-        print_report(output, &injected)
-    };
-    if !is_out {
-        return report(faults, fault_name(ProgramFault::Print));
-    }
-    if let Some(account) = injected.account {
-        let _ = write!(faults, "{account}");
-    }
-    DONE
-}
-
-/// Prints the report of a switch, and answers whether it is out.
-fn print_switched<W: Write>(printed: &mut W, report: &SwitchReport) -> bool {
-    let (played, not_fitted) = (report.played, report.not_fitted);
-    let (unconditioned, ignored) = (report.unconditioned, report.ignored);
-    let text = write!(
-        printed,
-        "played {played}\nnot-fitted {not_fitted}\nunconditioned {unconditioned}\nignored {ignored}\n"
-    );
-    text.is_ok() && printed.flush().is_ok()
+    let injected = run_inject_command(rt, options, input, output, faults);
+    tell_injected(options, injected, output, faults)
 }
 
 /// Prints the fault's line of a run with advertisements, and behind it what is known of it where that is asked for.
@@ -131,22 +122,17 @@ fn report_splice<E: Write>(faults: &mut E, options: &SpliceOptions<'_>, stopped:
     status
 }
 
-/// Runs `splice`, and answers the exit status.
-fn splice<R, I, O, E>(
-    rt: &R,
+/// Tells what a run with advertisements came to, and answers the exit status.
+fn tell_spliced<O: Write, E: Write>(
     options: &SpliceOptions<'_>,
-    input: &mut I,
+    spliced: Result<Ran<SwitchReport>, Stopped>,
     output: &mut O,
     faults: &mut E,
 ) -> u8
-where
-    R: Files + AllocGlobal,
-    I: Read,
-    O: Write,
-    E: Write,
-    ensures { result ≤ 1 }
+    ensures status { result ≤ 1 }
+    ensures stopped { IfErr spliced (λ _. result ≡ 1) }
 {
-    let spliced = match run_splice_command(rt, options, input, output) {
+    let spliced = match spliced {
         Ok(spliced) => spliced,
         Err(stopped) => return report_splice(faults, options, &stopped),
     };
@@ -165,22 +151,33 @@ where
     DONE
 }
 
+/// Runs `splice`, and answers the exit status.
+fn splice<R, I, O, E>(
+    rt: &R,
+    options: &SpliceOptions<'_>,
+    input: &mut I,
+    output: &mut O,
+    faults: &mut E,
+) -> u8
+where
+    R: Files + AllocGlobal,
+    I: Read,
+    O: Write,
+    E: Write,
+    ensures { result ≤ 1 }
+{
+    let spliced = run_splice_command(rt, options, input, output);
+    tell_spliced(options, spliced, output, faults)
+}
+
 /// Prints the report of a run of several services, and answers whether it is out.
 fn print_served<W: Write>(printed: &mut W, served: &Served) -> bool {
-    let messages = served.report.messages;
-    let (accepted, refused) = (served.report.accepted, served.report.refused);
-    let text = write!(
-        printed,
-        "messages {messages}\naccepted {accepted}\nrefused {refused}\n"
-    );
-    if text.is_err() {
+    let report = &served.report;
+    if !print_messages(printed, report.messages, report.accepted, report.refused) {
         return false;
     }
-    for events in served.report.services.iter() {
-        let program = events.program;
-        if writeln!(printed, "service {program}").is_err()
-            || !print_switched(printed, &events.switch)
-        {
+    for events in report.services.iter() {
+        if !print_service(printed, events.program, &events.switch) {
             return false;
         }
     }
@@ -207,22 +204,17 @@ fn report_services<E: Write>(faults: &mut E, options: &ServicesOptions<'_>, stop
     status
 }
 
-/// Runs `services`, and answers the exit status.
-fn services<R, I, O, E>(
-    rt: &R,
+/// Tells what a run of several services came to, and answers the exit status.
+fn tell_served<O: Write, E: Write>(
     options: &ServicesOptions<'_>,
-    input: &mut I,
+    served: Result<Served, Stopped>,
     output: &mut O,
     faults: &mut E,
 ) -> u8
-where
-    R: Files + Net + AllocGlobal,
-    I: Read,
-    O: Write,
-    E: Write,
-    ensures { result ≤ 1 }
+    ensures status { result ≤ 1 }
+    ensures stopped { IfErr served (λ _. result ≡ 1) }
 {
-    let served = match run_services_command(rt, options, input, output, faults) {
+    let served = match served {
         Ok(served) => served,
         Err(stopped) => return report_services(faults, options, &stopped),
     };
@@ -240,6 +232,45 @@ where
     DONE
 }
 
+/// Runs `services`, and answers the exit status.
+fn services<R, I, O, E>(
+    rt: &R,
+    options: &ServicesOptions<'_>,
+    input: &mut I,
+    output: &mut O,
+    faults: &mut E,
+) -> u8
+where
+    R: Files + Net + AllocGlobal,
+    I: Read,
+    O: Write,
+    E: Write,
+    ensures { result ≤ 1 }
+{
+    let served = run_services_command(rt, options, input, output, faults);
+    tell_served(options, served, output, faults)
+}
+
+/// Tells what a cut came to, and answers the exit status.
+fn tell_cut<E: Write>(
+    options: &CutOptions<'_>,
+    account: Result<Option<Account>, Stopped>,
+    faults: &mut E,
+) -> u8
+    ensures status { result ≤ 1 }
+    ensures stopped { IfErr account (λ _. result ≡ 1) }
+{
+    match account {
+        Ok(account) => {
+            if let Some(account) = account {
+                let _ = write!(faults, "{account}");
+            }
+            DONE
+        }
+        Err(stopped) => report_stopped(faults, options, &stopped),
+    }
+}
+
 /// Runs `cut`, and answers the exit status.
 fn cut<R, I, O, E>(
     rt: &R,
@@ -255,15 +286,8 @@ where
     E: Write,
     ensures { result ≤ 1 }
 {
-    match run_cut(rt, options, input, output) {
-        Ok(account) => {
-            if let Some(account) = account {
-                let _ = write!(faults, "{account}");
-            }
-            DONE
-        }
-        Err(stopped) => report_stopped(faults, options, &stopped),
-    }
+    let account = run_cut(rt, options, input, output);
+    tell_cut(options, account, faults)
 }
 
 /// Runs the program with the words after its name, and answers its exit status: 0 where all is done, also where help or the version was asked

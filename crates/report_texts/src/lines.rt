@@ -1,0 +1,103 @@
+//! The lines of messages, of a switch, and of a service.
+
+ghost use Rattle.std.specs.Bool.{OnTrue};
+ghost use Rattle.std.specs.Io.KnownBytes.{Appends};
+ghost use Rattle.report_texts.specs.Lines.{message_lines, switch_lines, service_lines, report_lines};
+
+use chain_engine::Report;
+use splice_plans::SwitchReport;
+use std::fmt;
+use std::io::Write;
+
+/// The lines of what became of messages.
+#[derive(Clone, Copy)]
+struct MessageLines {
+    messages: u64,
+    accepted: u64,
+    refused: u64,
+}
+
+impl fmt::Display for MessageLines {
+    ghost use Rattle.std.specs.Prelude.{Some};
+    ghost use Rattle.report_texts.specs.Lines.{message_lines};
+
+    ghost output = { λ t. Some (message_lines t.messages t.accepted t.refused) };
+
+    fn fmt<W: fmt::Write>(&self, f: &mut fmt::Formatter<W>) -> fmt::Result {
+        let (messages, accepted, refused) = (self.messages, self.accepted, self.refused);
+        write!(
+            f,
+            "messages {messages}\naccepted {accepted}\nrefused {refused}\n"
+        )
+    }
+}
+
+/// The lines of what became of the events of a switch.
+#[derive(Clone, Copy)]
+struct SwitchLines {
+    report: SwitchReport,
+}
+
+impl fmt::Display for SwitchLines {
+    ghost use Rattle.std.specs.Prelude.{Some};
+    ghost use Rattle.report_texts.specs.Lines.{switch_lines};
+
+    ghost output = { λ t. Some (switch_lines t.report) };
+
+    fn fmt<W: fmt::Write>(&self, f: &mut fmt::Formatter<W>) -> fmt::Result {
+        let (played, not_fitted) = (self.report.played, self.report.not_fitted);
+        let (unconditioned, ignored) = (self.report.unconditioned, self.report.ignored);
+        write!(
+            f,
+            "played {played}\nnot-fitted {not_fitted}\nunconditioned {unconditioned}\nignored {ignored}\n"
+        )
+    }
+}
+
+/// Prints how many messages were judged, accepted and refused, and answers whether the lines are out.
+pub fn print_messages<W: Write>(printed: &mut W, messages: u64, accepted: u64, refused: u64) -> bool
+    ensures { OnTrue result (Appends (W.contents printed.old) (W.contents printed.new) (message_lines messages accepted refused)) }
+{
+    let text = MessageLines {
+        messages,
+        accepted,
+        refused,
+    };
+    write!(printed, "{text}").is_ok() && printed.flush().is_ok()
+}
+
+/// Prints what became of the events of a switch, and answers whether the lines are out.
+pub fn print_switched<W: Write>(printed: &mut W, report: &SwitchReport) -> bool
+    ensures { OnTrue result (Appends (W.contents printed.old) (W.contents printed.new) (switch_lines report.now)) }
+{
+    let text = SwitchLines { report: *report };
+    write!(printed, "{text}").is_ok() && printed.flush().is_ok()
+}
+
+/// Prints the number of a service's program, and behind it what became of its events, and answers whether the lines are out.
+pub fn print_service<W: Write>(printed: &mut W, program: u16, report: &SwitchReport) -> bool
+    ensures { OnTrue result (Appends (W.contents printed.old) (W.contents printed.new) (service_lines program report.now)) }
+{
+    let text = SwitchLines { report: *report };
+    write!(printed, "service {program}\n{text}").is_ok() && printed.flush().is_ok()
+}
+
+/// Prints the report of a run with cues: of the messages, and where it plays advertisements of their events, too. Answers whether the lines are out.
+pub fn print_report<W: Write>(printed: &mut W, report: &Report, plays: bool) -> bool
+    ensures { OnTrue result (Appends (W.contents printed.old) (W.contents printed.new) (report_lines plays report.now)) }
+{
+    let messages = MessageLines {
+        messages: report.messages,
+        accepted: report.accepted,
+        refused: report.refused,
+    };
+    let switched = SwitchLines {
+        report: report.switch,
+    };
+    let text = if plays {
+        write!(printed, "{messages}{switched}")
+    } else {
+        write!(printed, "{messages}")
+    };
+    text.is_ok() && printed.flush().is_ok()
+}
