@@ -167,9 +167,13 @@ impl Service {
         }
     }
 
-    /// The same of each packet.
+    /// Takes the next packet as [`Service::pass`] does, and asks nothing first: for one that is known to be of the service, as one that it owns.
+    ///
+    /// # Errors
+    ///
+    /// As for [`Service::pass`].
     #[inline(always)]
-    fn pass_on<K: PacketSink>(
+    pub fn pass_on<K: PacketSink>(
         &mut self,
         packet: &Packet,
         library: &AdLibrary,
