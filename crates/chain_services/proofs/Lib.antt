@@ -1,6 +1,7 @@
 pub mod ServingLemmas
 pub mod PartLemmas
 pub mod UnfollowedLemmas
+pub mod OwnerLemmas
 pub mod RestLemmas
 pub mod ApartLemmas
 pub mod BeginLemmas
@@ -8,6 +9,7 @@ pub mod ManyLemmas
 pub mod StageLemmas
 pub mod AnswerLemmas
 pub mod SoundLemmas
+pub mod ConverseLemmas
 pub mod HeadlineLemmas
 pub mod AloneLemmas
 pub mod OrderLemmas

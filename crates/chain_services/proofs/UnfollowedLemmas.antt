@@ -1,9 +1,7 @@
 -- A packet on whose PID nothing of a service is: the service owns it not, and no PID more is known of it, so that it may be kept from it.
-use Rattle.std.proofs.Common.{◌≡◌, ◌<◌, ◌+◌, ◌%◌, ◌/◌, ℕ, length, List, [], ◌∷◌, ◌++◌, true, false, ◌==◌, refl, sym, ap, subst, ◌∙◌, arith, Some}
-use Rattle.std.specs.Prelude.{Option, option_map, option_to_list, if◌then◌else◌, is_ok, slice_index_or, ◌≢◌}
-use Rattle.std.proofs.lemmas.Bool.{or_parts, or_from, eqb-true, eqb-false}
-use Rattle.std.proofs.Math.ListN.{set}
-use Rattle.std.proofs.lemmas.List.{get_or-set_same, get_or-set_other}
+use Rattle.std.proofs.Common.{◌≡◌, ◌+◌, ◌%◌, ◌/◌, ℕ, List, [], ◌∷◌, ◌++◌, true, false, ◌==◌, refl, sym, ap, subst, ◌∙◌, arith, Some}
+use Rattle.std.specs.Prelude.{option_map, option_to_list, if◌then◌else◌, is_ok, slice_index_or}
+use Rattle.std.proofs.lemmas.Bool.{or_parts, or_from, eqb-false}
 use Rattle.ts_packet.proofs.Cases.{by_test}
 use Rattle.wire_fields.specs.Numbers.{AreBytes}
 use Rattle.scte104_codec.specs.Reading.{MessageReading, init, alive, other, multiple, bad}
@@ -138,13 +136,3 @@ all-take owners ts past all = λ pid within below. absurd (let e = all pid withi
 pub not-of : (s : Service) (t : ServiceTerms) (pid : ℕ) (steps : List Step) (h : ServesAs s t steps) → IsUnfollowed (Some t.config.program) (Some t.config.cue_pid) pid (packets_in h.taken)
     → IsNotOf t pid (packets_in steps)
 not-of s t pid steps h u = subst (IsUnfollowed (Some t.config.program) (Some t.config.cue_pid) pid) (taken_packets s t steps h) u
-
--- the number under one PID more
-pub owner-set : (owners new : List ℕ) (pid n v : ℕ) → new ≡ set owners pid v → pid ≡ n → n < length owners → (holds : ℕ → ℕ → Type 0) → ((k : ℕ) → k < n → holds k (slice_index_or owners k 0)) → holds n v
-    → (k : ℕ) → k < n + 1 → holds k (slice_index_or new k 0)
-owner-set owners new pid n v is same within holds before here = λ k lt.
-    let moved : (j : ℕ) → slice_index_or new j 0 ≡ slice_index_or (set owners n v) j 0 = (λ j. ap (λ l. slice_index_or l j 0) (is ∙ ap (λ i. set owners i v) same)) in
-    by_test (k == n)
-    (λ y. subst (λ j. holds j (slice_index_or new j 0)) (sym (eqb-true k n y)) (subst (holds n) (sym (moved n ∙ get_or-set_same owners n v 0 within)) here))
-    (λ no. let apart : k ≢ n = eqb-false k n no in
-    subst (holds k) (sym (moved k ∙ get_or-set_other owners n k v 0 apart)) (before k (omega (arith, lt, apart))))

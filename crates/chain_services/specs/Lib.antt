@@ -5,3 +5,4 @@ pub mod Runs
 pub mod Refused
 pub mod Stages
 pub mod Isolation
+pub mod Laws

@@ -1,6 +1,7 @@
 -- Which services take the packets of a PID.
-use Rattle.std.specs.Prelude.{◌≡◌, ◌<◌, ◌%◌, ◌/◌, ℕ, List, [], ◌∷◌, slice_index_or, Some}
-use Rattle.ts_packet.specs.Fields.{pid_of}
+use Rattle.std.specs.Prelude.{◌≡◌, ◌<◌, ◌%◌, ◌/◌, ℕ, Bool, false, List, [], ◌∷◌, slice_index_or, Some}
+use Rattle.ts_packet.specs.Fields.{pid_of, is_among}
+use Rattle.program_follower.specs.Program.{known_pids}
 use Rattle.program_follower.specs.Following.{IsUnfollowed}
 use Rattle.injector.specs.Steps.{Step, Message, Packet, packets_in}
 use Rattle.service_laws.specs.Services.{ServiceTerms}
@@ -14,9 +15,22 @@ abbrev pub LeavesOut : ℕ → List ServiceTerms → ℕ → List (List ℕ) →
 LeavesOut takers [] pid past = Unit {0}
 LeavesOut takers (t ∷ ts) pid past = (takers % 2 ≡ 0 → IsNotOf t pid past) × LeavesOut (takers / 2) ts pid past
 
--- Under each PID (ISO/IEC 13818-1, 2.4.3.3: 13 bits) stands such a number, or 255 where all services take its packets.
+-- it is told of a PID: by such a number, or by 255 where all services take its packets
+abbrev pub IsTold : ℕ → List ServiceTerms → ℕ → List (List ℕ) → Type 0
+IsTold takers ts pid past = takers < 255 → LeavesOut takers ts pid past
+
+-- It is told of each PID (ISO/IEC 13818-1, 2.4.3.3: 13 bits).
 abbrev pub HasOwners : List ℕ → List ServiceTerms → List (List ℕ) → Type 0
-HasOwners owners ts past = (pid : ℕ) → pid < 8192 → slice_index_or owners pid 0 < 255 → LeavesOut (slice_index_or owners pid 0) ts pid past
+HasOwners owners ts past = (pid : ℕ) → pid < 8192 → IsTold (slice_index_or owners pid 0) ts pid past
+
+-- it is told anew of the PIDs of a test, and of each other one as before
+abbrev pub ToldAnew : List ℕ → List ℕ → List ServiceTerms → (ℕ → Bool) → List (List ℕ) → Type 0
+ToldAnew old new ts test past = (pid : ℕ) → pid < 8192 → (test pid ≡ false → IsTold (slice_index_or old pid 0) ts pid past)
+    → IsTold (slice_index_or new pid 0) ts pid past
+
+-- the PID is of a service: it is that for its cues, or known of its program
+abbrev pub has_pid : ℕ → List (List ℕ) → ServiceTerms → Bool
+has_pid pid past t = is_among pid (t.config.cue_pid ∷ known_pids (Some t.config.program) past)
 
 -- all services take the packets of each PID
 abbrev pub AllTake : List ℕ → Type 0

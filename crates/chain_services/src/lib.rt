@@ -8,6 +8,7 @@
 mod desk;
 mod fault;
 mod finishing;
+pub mod laws;
 mod nowhere;
 mod owners;
 mod passing;

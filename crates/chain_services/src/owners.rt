@@ -1,11 +1,14 @@
 //! Which services take the packets of each PID, looked up at once.
 
-ghost use Rattle.std.specs.Prelude.{◌≡◌, ◌<◌, ◌∷◌, ◌%◌, ◌/◌, ℕ, List, slice_index_or, slice_set, length, true, false};
-ghost use Rattle.ts_packet.specs.Fields.{pid_of};
+ghost use Rattle.std.specs.Prelude.{◌≡◌, ◌<◌, ◌==◌, ◌∷◌, ◌%◌, ◌/◌, ℕ, List, Some, slice_index_or, slice_set, length, true, false};
+ghost use Rattle.std.specs.List.{list_any};
+ghost use Rattle.std.specs.Option.{is_some};
+ghost use Rattle.ts_packet.specs.Fields.{pid_of, is_among};
+ghost use Rattle.program_follower.specs.Program.{listed};
 ghost use Rattle.injector.specs.Steps.{Step, packets_in};
 ghost use Rattle.service_laws.specs.Services.{ServiceTerms};
-ghost use Rattle.chain_services.specs.Serving.{AllServe};
-ghost use Rattle.chain_services.specs.Owners.{LeavesOut, HasOwners, AllTake};
+ghost use Rattle.chain_services.specs.Serving.{ServesAs, AllServe};
+ghost use Rattle.chain_services.specs.Owners.{LeavesOut, HasOwners, AllTake, IsTold, ToldAnew, has_pid};
 
 use chain_engine::Service;
 use std::marker::Model;
@@ -36,8 +39,15 @@ impl Owners {
     pub(crate) fn new() -> Owners
         ensures { AllTake result }
     {
+        Owners::of_all(ALL)
+    }
+
+    /// These services take the packets of all PIDs.
+    fn of_all(takers: u8) -> Owners
+        ensures { (pid : ℕ) → pid < 8192 → slice_index_or result pid 0 ≡ takers }
+    {
         Owners {
-            takers: [ALL; 8192],
+            takers: [takers; 8192],
         }
     }
 
@@ -126,15 +136,95 @@ fn all_takers_of(first: &Service, others: &[Service], pid: Pid) -> u8
     with_taker(first.overlooks_pid(pid), behind)
 }
 
-/// Which of these services take the packets of each PID. It is made anew where more PIDs are known of a service.
+/// The PAT has come that lists its program, since a PID of that is known.
+fn is_listed(service: &Service) -> bool
+    ensures { (t : ServiceTerms) (steps : List Step) → ServesAs service.now t steps → result ≡ true
+        → is_some (listed (Some t.config.program) (packets_in steps)) ≡ true }
+{
+    service.pid_count() != 0
+}
+
+/// Which of these services take the packets of the PIDs that are none of theirs, nor that of the PAT: those that wait for their PAT.
+fn waiting_in(services: &[Service]) -> u8
+    ensures { (ts : List ServiceTerms) (steps : List Step) (pid : ℕ) → AllServe services.now ts steps → (0 == pid) ≡ false
+        → list_any (has_pid pid (packets_in steps)) ts ≡ false → IsTold result ts pid (packets_in steps) }
+{
+    match services.split_first() {
+        None => 0,
+        Some((service, others)) => {
+            let behind = waiting_in(others);
+            with_taker(is_listed(service), behind)
+        }
+    }
+}
+
+/// The same of the services, the first one and the others.
+fn all_waiting_in(first: &Service, others: &[Service]) -> u8
+    ensures { (ts : List ServiceTerms) (steps : List Step) (pid : ℕ) → AllServe (first.now ∷ others.now) ts steps
+        → (0 == pid) ≡ false → list_any (has_pid pid (packets_in steps)) ts ≡ false
+        → IsTold result ts pid (packets_in steps) }
+{
+    let behind = waiting_in(others);
+    with_taker(is_listed(first), behind)
+}
+
+/// Tells which of the services take the packets of this PID.
+fn tell(owners: &mut Owners, first: &Service, others: &[Service], pid: Pid)
+    ensures { (ts : List ServiceTerms) (steps : List Step) → AllServe (first.now ∷ others.now) ts steps
+        → ToldAnew owners.old owners.new ts (λ k. pid == k) (packets_in steps) }
+{
+    owners.set(pid, all_takers_of(first, others, pid));
+}
+
+/// Tells it of each of these PIDs.
+fn tell_each(owners: &mut Owners, first: &Service, others: &[Service], pids: &[Pid])
+    ensures { (ts : List ServiceTerms) (steps : List Step) → AllServe (first.now ∷ others.now) ts steps
+        → ToldAnew owners.old owners.new ts (λ k. is_among k pids.now) (packets_in steps) }
+{
+    match pids.split_first() {
+        None => {}
+        Some((pid, behind)) => {
+            tell(owners, first, others, *pid);
+            tell_each(owners, first, others, behind);
+        }
+    }
+}
+
+/// Tells it of each PID of this service: that for its cues, and those that are known of its program.
+fn tell_own(owners: &mut Owners, first: &Service, others: &[Service], service: &Service)
+    ensures { (ts : List ServiceTerms) (u : ServiceTerms) (steps : List Step) → AllServe (first.now ∷ others.now) ts steps
+        → ServesAs service.now u steps
+        → ToldAnew owners.old owners.new ts (λ k. has_pid k (packets_in steps) u) (packets_in steps) }
+{
+    tell(owners, first, others, service.config().cue_pid);
+    let pids = service.pids();
+    tell_each(owners, first, others, pids.as_slice());
+}
+
+/// Tells it of each PID of each of these services.
+fn tell_all(owners: &mut Owners, first: &Service, others: &[Service], services: &[Service])
+    ensures { (ts us : List ServiceTerms) (steps : List Step) → AllServe (first.now ∷ others.now) ts steps
+        → AllServe services.now us steps
+        → ToldAnew owners.old owners.new ts (λ k. list_any (has_pid k (packets_in steps)) us) (packets_in steps) }
+{
+    match services.split_first() {
+        None => {}
+        Some((service, behind)) => {
+            tell_own(owners, first, others, service);
+            tell_all(owners, first, others, behind);
+        }
+    }
+}
+
+/// Which of these services take the packets of each PID. It is made anew where more PIDs are known of a service: the PIDs of the services and
+/// that of the PAT are looked at, and of each other one the same is known at once.
 pub(crate) fn owners_of(first: &Service, others: &[Service]) -> Owners
     ensures { (ts : List ServiceTerms) (steps : List Step) → AllServe (first.now ∷ others.now) ts steps
         → HasOwners result ts (packets_in steps) }
 {
-    let mut owners = Owners::new();
-    for number in 0..8192_u16 {
-        let pid = Pid::of_bits((number / 256) as u8, (number % 256) as u8);
-        owners.set(pid, all_takers_of(first, others, pid));
-    }
+    let mut owners = Owners::of_all(all_waiting_in(first, others));
+    tell(&mut owners, first, others, Pid::of_bits(0, 0));
+    tell_own(&mut owners, first, others, first);
+    tell_all(&mut owners, first, others, others);
     owners
 }

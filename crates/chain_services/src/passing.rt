@@ -46,7 +46,7 @@ fn joined(one: Passed, others: Passed) -> Passed
 ///
 /// # Errors
 ///
-/// As for [`Service::pass`].
+/// As for [`Service::pass_on`].
 #[inline(always)]
 fn pass_and_learn<K: PacketSink>(
     service: &mut Service,
@@ -67,18 +67,19 @@ fn pass_and_learn<K: PacketSink>(
         (K.counts out.old) (K.counts out.new) (K.is_full out.new)) }
 {
     let known = service.pid_count();
-    match service.pass(packet, library, out) {
+    match service.pass_on(packet, library, out) {
         Ok(()) => Ok(service.pid_count() != known),
         Err(fault) => Err(fault),
     }
 }
 
-/// Passes a packet on through a service: what it sends goes out where the packet is on one of its PIDs, and is the packet else. A packet that
-/// changes nothing of the service is not passed on, nor one that is kept from it.
+/// Passes a packet on through a service: what it sends goes out where the packet is on one of its PIDs, and is the packet else. One that is
+/// kept from the service is not passed on, nor one that changes nothing of it: a packet on one of its PIDs may change it, so that one look-up
+/// is enough for that.
 ///
 /// # Errors
 ///
-/// As for [`Service::pass`].
+/// As for [`Service::pass_on`].
 #[inline(always)]
 fn pass_one<K: PacketSink>(
     is_left_out: bool,
@@ -109,9 +110,6 @@ fn pass_one<K: PacketSink>(
         of_bytes(packet);
         return Ok(none);
     }
-    if service.overlooks(packet) {
-        return Ok(none);
-    }
     if service.owns(packet) {
         return match pass_and_learn(service, library, packet, out) {
             Ok(learns) => Ok(Passed {
@@ -120,6 +118,9 @@ fn pass_one<K: PacketSink>(
             }),
             Err(fault) => Err(fault),
         };
+    }
+    if service.overlooks(packet) {
+        return Ok(none);
     }
     let mut nowhere = Nowhere;
     match pass_and_learn(service, library, packet, &mut nowhere) {

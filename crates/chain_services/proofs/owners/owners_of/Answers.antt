@@ -1,22 +1,19 @@
-use Rattle.std.proofs.Common.{◌≡◌, ℕ, ◌<◌, List, ◌∷◌, sym, subst, ◌∙◌, arith}
-use Rattle.injector.specs.Steps.{Step, packets_in}
-use Rattle.service_laws.specs.Services.{ServiceTerms}
-use Rattle.chain_services.specs.Serving.{AllServe}
-use Rattle.chain_services.specs.Owners.{LeavesOut}
-use Rattle.chain_services.proofs.UnfollowedLemmas.{owner-set}
+use Rattle.std.proofs.Common.{◌≡◌, ◌∷◌, ◌==◌, refl, sym, ap, subst, ◌∙◌, arith}
+use Rattle.std.specs.List.{list_any}
+use Rattle.std.proofs.lemmas.Bool.{or_from}
+use Rattle.injector.specs.Steps.{packets_in}
+use Rattle.chain_services.specs.Owners.{IsTold, has_pid}
+use Rattle.chain_services.proofs.ApartLemmas.{split}
 use Rattle.chain_services.proofs.owners.owners_of.Goals as goal
 
-pub loop-number-preserved : goal.loop-number-preserved
-loop-number-preserved c =
-    let n = c.loop-number.number in
-    let pid = c.of_bits-pid.result in
-    let at : pid ≡ n = (let e = c.of_bits-pid.ensures in let below = c.loop-number-test.true in omega (arith, e, below)) in
-    let v = c.all_takers_of.result in
-    owner-set c.loop-number.owners c.set.new.self pid n v c.set.ensures.new at (let long = c.set.ensures.size in let below = c.loop-number-test.true in omega (arith, long, below))
-    (λ k u. (ts : List ServiceTerms) (steps : List Step) → AllServe (c.args.first.now ∷ c.args.others.now) ts steps → u < 255 → LeavesOut u ts k (packets_in steps))
-    c.loop-number.invariant
-    (λ ts steps all below. subst (λ j. LeavesOut v ts j (packets_in steps)) at (c.all_takers_of.ensures ts steps all below))
-
 pub returns : goal.returns
-returns c = λ ts steps all pid within below.
-    c.loop-number.invariant pid (let ge = c.loop-number-test.false in omega (arith, ge, within)) ts steps all below
+returns c = λ ts steps all pid within.
+    let past = packets_in steps in
+    let k = split (c.args.first.now ∷ c.args.others.now) c.args.first.now c.args.others.now ts steps refl all in
+    let zero : c.of_bits.result ≡ 0 = (let e = c.of_bits.ensures in omega (arith, e)) in
+    c.tell_all.ensures ts k.rest steps all k.serve_rest pid within (λ theirs.
+    c.tell_own.ensures ts k.t steps all k.serves pid within (λ its.
+    c.tell.ensures ts steps all pid within (λ pat.
+    subst (λ u. IsTold u ts pid past) (sym (c.of_all-owners.ensures pid within))
+    (c.all_waiting_in.ensures ts steps pid all (ap (λ n. n == pid) (sym zero) ∙ pat)
+    (ap (list_any (has_pid pid past)) k.parts ∙ or_from (has_pid pid past k.t) (list_any (has_pid pid past) k.rest) its theirs)))))
