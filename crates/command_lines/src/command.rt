@@ -7,6 +7,7 @@ ghost use Rattle.command_lines.specs.Options.{IsCutOf, IsNoCut};
 
 use crate::given::{end_of, is_verbose, text_of};
 use crate::inject_options::{INJECT, RUN};
+use crate::request_help::request_command;
 use crate::services_options::SERVICES;
 use crate::splice_options::SPLICE;
 use crate::subcommand::{Subcommand, ValueOption};
@@ -149,7 +150,7 @@ impl fmt::Display for BadNumber<'_> {
 }
 
 /// The number that a text writes in hexadecimal digits behind `0x`, as other tools show PIDs.
-fn hexadecimal(text: &str) -> Option<u64> {
+pub(crate) fn hexadecimal(text: &str) -> Option<u64> {
     let digits = text.strip_prefix("0x")?;
     u64::from_str_radix(digits, 16).ok()
 }
@@ -212,7 +213,8 @@ pub fn command<'a>(alloc: Global) -> Result<Command<'a>, AllocError> {
         .subcommand(INJECT.command(alloc)?)?
         .subcommand(SPLICE.command(alloc)?)?
         .subcommand(RUN.command(alloc)?)?
-        .subcommand(SERVICES.command(alloc)?)
+        .subcommand(SERVICES.command(alloc)?)?
+        .subcommand(request_command(alloc)?)
 }
 
 /// The numbers of a cut: its PID, its start and its length. The first of them that is not in its range is answered.

@@ -9,6 +9,8 @@ pub mod command;
 mod given;
 pub mod inject_options;
 pub mod refusals;
+pub mod request_help;
+pub mod request_options;
 pub mod services_options;
 pub mod splice_options;
 mod subcommand;

@@ -26,7 +26,7 @@ impl ValueOption {
     }
 }
 
-/// A subcommand, with the flag `--verbose`.
+/// A subcommand, with or without the flag `--verbose`.
 #[derive(Clone, Copy)]
 pub(crate) struct Subcommand {
     pub(crate) name: &'static str,
@@ -39,7 +39,7 @@ pub(crate) struct Subcommand {
     /// How it is called.
     pub(crate) usage: &'static str,
     pub(crate) options: &'static [ValueOption],
-    /// What `--verbose` does.
+    /// What `--verbose` does, where it is there.
     pub(crate) verbose: &'static str,
 }
 
@@ -57,12 +57,18 @@ impl Subcommand {
             .after_help(self.example)
     }
 
-    /// The subcommand as the command line has it.
-    pub(crate) fn command<'a>(self, alloc: Global) -> Result<Command<'a>, AllocError> {
+    /// The subcommand with its options, and without `--verbose`: it has nothing more to tell.
+    pub(crate) fn silent<'a>(self, alloc: Global) -> Result<Command<'a>, AllocError> {
         let mut command = self.bare(alloc);
         for option in self.options {
             command = command.arg(option.argument(alloc))?;
         }
+        Ok(command)
+    }
+
+    /// The subcommand as the command line has it.
+    pub(crate) fn command<'a>(self, alloc: Global) -> Result<Command<'a>, AllocError> {
+        let command = self.silent(alloc)?;
         let verbose = Arg::new(alloc, "verbose")
             .long("verbose")
             .action(ArgAction::SetTrue)

@@ -6,6 +6,7 @@
 mod cutting;
 mod injecting;
 pub mod program;
+mod requesting;
 mod serving;
 mod splicing;
 

@@ -4,6 +4,7 @@ ghost use Rattle.std.specs.Prelude.{◌≡◌, ◌≤◌, IfErr};
 
 use crate::cutting::run_cut;
 use crate::injecting::{Injected, run_inject_command};
+use crate::requesting::run_request_command;
 use crate::serving::{Served, run_services_command};
 use crate::splicing::run_splice_command;
 use command_lines::command::{CUT_USAGE, CutOptions, command, cut_options};
@@ -331,6 +332,9 @@ where
             Ok(options) => services(rt, &options, input, output, faults),
             Err(bad) => refuse(faults, &bad, SERVICES_USAGE),
         };
+    }
+    if let Some(given) = matches.subcommand_matches("request") {
+        return run_request_command(given, output, faults);
     }
     let (asked, usage) = if let Some(given) = matches.subcommand_matches("run") {
         (run_options(given), RUN_USAGE)

@@ -32,6 +32,25 @@ impl fmt::Display for MessageLines {
     }
 }
 
+/// The line of one number.
+#[derive(Clone, Copy)]
+struct CountLine<'a> {
+    word: &'a str,
+    number: u64,
+}
+
+impl fmt::Display for CountLine<'_> {
+    ghost use Rattle.std.specs.Prelude.{Some};
+    ghost use Rattle.report_texts.specs.Lines.{count_line};
+
+    ghost output = { λ t. Some (count_line t.word.now t.number) };
+
+    fn fmt<W: fmt::Write>(&self, f: &mut fmt::Formatter<W>) -> fmt::Result {
+        let (word, number) = (self.word, self.number);
+        write!(f, "{word} {number}\n")
+    }
+}
+
 /// The lines of what became of the events of a switch.
 #[derive(Clone, Copy)]
 struct SwitchLines {
@@ -45,12 +64,23 @@ impl fmt::Display for SwitchLines {
     ghost output = { λ t. Some (switch_lines t.report) };
 
     fn fmt<W: fmt::Write>(&self, f: &mut fmt::Formatter<W>) -> fmt::Result {
-        let (played, not_fitted) = (self.report.played, self.report.not_fitted);
-        let (unconditioned, ignored) = (self.report.unconditioned, self.report.ignored);
-        write!(
-            f,
-            "played {played}\nnot-fitted {not_fitted}\nunconditioned {unconditioned}\nignored {ignored}\n"
-        )
+        let played = CountLine {
+            word: "played",
+            number: self.report.played,
+        };
+        let not_fitted = CountLine {
+            word: "not-fitted",
+            number: self.report.not_fitted,
+        };
+        let unconditioned = CountLine {
+            word: "unconditioned",
+            number: self.report.unconditioned,
+        };
+        let ignored = CountLine {
+            word: "ignored",
+            number: self.report.ignored,
+        };
+        write!(f, "{played}{not_fitted}{unconditioned}{ignored}")
     }
 }
 
