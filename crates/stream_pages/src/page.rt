@@ -1,0 +1,272 @@
+//! The page for people.
+
+use crate::distance::{first_time, greatest_distance};
+use crate::names::{CHOOSE, RESYNCHRONISE, advice, fault_name, mark_name, type_name};
+use codec_text::{CueFaultText, CueText};
+use pes_time::Time33;
+use random_access::Point;
+use std::fmt;
+use std::io::{self, Write};
+use stream_facts::{CueFacts, Facts, Profile, ProgramFacts, StreamFacts};
+use ts_packet::Pid;
+
+/// A PID in decimal and hexadecimal.
+#[derive(Clone, Copy)]
+struct PidText(Pid);
+
+impl fmt::Display for PidText {
+    fn fmt<W: fmt::Write>(&self, f: &mut fmt::Formatter<W>) -> fmt::Result {
+        let number = self.0.get();
+        write!(f, "{number} (0x{number:04x})")
+    }
+}
+
+/// Thousandths, with a point before the last three digits.
+#[derive(Clone, Copy)]
+struct Thousandths(u64);
+
+impl fmt::Display for Thousandths {
+    fn fmt<W: fmt::Write>(&self, f: &mut fmt::Formatter<W>) -> fmt::Result {
+        let whole = self.0 / 1000;
+        let part = self.0 % 1000;
+        write!(f, "{whole}.{part:03}")
+    }
+}
+
+/// Writes the page; the random access points too, where they are asked for.
+///
+/// # Errors
+///
+/// What the output answered.
+pub fn write_page<W: Write>(out: &mut W, facts: &Facts, points: bool) -> io::Result<()> {
+    write_counts(out, facts)?;
+    for program in &facts.programs {
+        write_program(out, program, points)?;
+    }
+    write_cues(out, facts)?;
+    write_free(out, facts)?;
+    write_profile(out, facts.profile)
+}
+
+/// Packets, null packets and bit rates.
+fn write_counts<W: Write>(out: &mut W, facts: &Facts) -> io::Result<()> {
+    let packets = facts.packets;
+    let skipped = facts.skipped_bytes;
+    let nulls = facts.null_packets;
+    let share = if packets == 0 {
+        Thousandths(0)
+    } else {
+        Thousandths(nulls.saturating_mul(100_000) / packets)
+    };
+    writeln!(out, "packets: {packets}")?;
+    writeln!(out, "skipped bytes: {skipped}")?;
+    writeln!(out, "null packets: {nulls} ({share} %)")?;
+    match facts.bit_rate {
+        None => writeln!(out, "bit rate: unknown")?,
+        Some(rate) => writeln!(out, "bit rate: {rate} bit/s by PCR")?,
+    }
+    match facts.file_bit_rate {
+        None => Ok(()),
+        Some(rate) => writeln!(out, "bit rate of all bytes: {rate} bit/s"),
+    }
+}
+
+/// A program and its streams.
+fn write_program<W: Write>(out: &mut W, program: &ProgramFacts, points: bool) -> io::Result<()> {
+    let number = program.number;
+    write!(out, "program {number}")?;
+    if let Some(name) = &program.service_name {
+        write!(out, ", {name}")?;
+    }
+    let pmt_pid = PidText(program.pmt_pid);
+    write!(out, ": PMT PID {pmt_pid}")?;
+    match program.pcr_pid {
+        None => writeln!(out, ", no map was read")?,
+        Some(pid) => {
+            let pid = PidText(pid);
+            writeln!(out, ", PCR PID {pid}")?;
+        }
+    }
+    for stream in &program.streams {
+        write_stream(out, stream)?;
+        if points {
+            write_points(out, program, stream)?;
+        }
+    }
+    Ok(())
+}
+
+/// A stream, in a line.
+fn write_stream<W: Write>(out: &mut W, stream: &StreamFacts) -> io::Result<()> {
+    write_kind(out, stream)?;
+    write_language(out, stream)?;
+    if stream.switched {
+        write!(out, "; switched")?;
+    } else {
+        write!(out, "; not switched")?;
+    }
+    write_units(out, stream)?;
+    write_distance(out, stream)
+}
+
+/// The PID and the type of a stream.
+fn write_kind<W: Write>(out: &mut W, stream: &StreamFacts) -> io::Result<()> {
+    let pid = PidText(stream.pid);
+    let kind = stream.stream_type;
+    let name = type_name(kind);
+    write!(out, "  PID {pid}: stream_type 0x{kind:02x}, {name}")
+}
+
+/// The language of a stream, where it has one.
+fn write_language<W: Write>(out: &mut W, stream: &StreamFacts) -> io::Result<()> {
+    match stream.language {
+        None => Ok(()),
+        Some(code) => {
+            let first = letter(code[0]);
+            let second = letter(code[1]);
+            let third = letter(code[2]);
+            write!(out, ", language {first}{second}{third}")
+        }
+    }
+}
+
+/// The units of a stream, with their first and last time stamp.
+fn write_units<W: Write>(out: &mut W, stream: &StreamFacts) -> io::Result<()> {
+    let units = stream.units;
+    write!(out, "; units: {units}")?;
+    match (stream.first_pts, stream.last_pts) {
+        (Some(first), Some(last)) => {
+            let first = first.ticks();
+            let last = last.ticks();
+            write!(out, "; time stamps: {first} to {last}")
+        }
+        _ => Ok(()),
+    }
+}
+
+/// How many random access points a stream has, and how far they lie apart at most.
+fn write_distance<W: Write>(out: &mut W, stream: &StreamFacts) -> io::Result<()> {
+    let count = stream.points.len();
+    write!(out, "; random access points: {count}")?;
+    match greatest_distance(&stream.points) {
+        None => writeln!(out),
+        Some(ticks) => {
+            let seconds = Thousandths(ticks / 90);
+            writeln!(out, ", {seconds} s apart at most")
+        }
+    }
+}
+
+/// A letter of a language's code, or a question mark where the byte is none.
+fn letter(byte: u8) -> char {
+    match byte {
+        b'a'..=b'z' | b'A'..=b'Z' => byte as char,
+        _ => '?',
+    }
+}
+
+/// The random access points of a stream, a line for each.
+fn write_points<W: Write>(
+    out: &mut W,
+    program: &ProgramFacts,
+    stream: &StreamFacts,
+) -> io::Result<()> {
+    for point in &stream.points {
+        write_point(out, stream.pid, point, first_time(program))?;
+    }
+    Ok(())
+}
+
+/// A random access point, in a line.
+fn write_point<W: Write>(
+    out: &mut W,
+    pid: Pid,
+    point: &Point,
+    first: Option<Time33>,
+) -> io::Result<()> {
+    let packet = point.packet;
+    let pid = PidText(pid);
+    write!(out, "    packet {packet}, PID {pid}")?;
+    match point.pts {
+        None => {}
+        Some(pts) => write_time(out, pts, first)?,
+    }
+    let by = mark_name(point.by);
+    writeln!(out, ", {by}")
+}
+
+/// A time stamp, and how long behind the first one it is.
+fn write_time<W: Write>(out: &mut W, pts: Time33, first: Option<Time33>) -> io::Result<()> {
+    let ticks = pts.ticks();
+    write!(out, ", time stamp {ticks}")?;
+    match first {
+        None => Ok(()),
+        Some(first) => {
+            let way = pts.signed_from(first);
+            let seconds = Thousandths(way.unsigned_abs() / 90);
+            if way < 0 {
+                write!(out, ", -{seconds} s")
+            } else {
+                write!(out, ", {seconds} s")
+            }
+        }
+    }
+}
+
+/// The cues.
+fn write_cues<W: Write>(out: &mut W, facts: &Facts) -> io::Result<()> {
+    if facts.cues.is_empty() {
+        return writeln!(out, "cues: none");
+    }
+    writeln!(out, "cues:")?;
+    for cue in &facts.cues {
+        write_cue(out, cue)?;
+    }
+    Ok(())
+}
+
+/// A cue, in a line.
+fn write_cue<W: Write>(out: &mut W, cue: &CueFacts) -> io::Result<()> {
+    let packet = cue.packet;
+    let pid = PidText(cue.pid);
+    write!(out, "  packet {packet}, PID {pid}: ")?;
+    match scte35_codec::read(cue.section.as_slice()) {
+        Ok(cue) => {
+            let text = CueText(cue);
+            writeln!(out, "{text}")
+        }
+        Err(fault) => {
+            let text = CueFaultText(fault);
+            writeln!(out, "{text}")
+        }
+    }
+}
+
+/// The PIDs that are free.
+fn write_free<W: Write>(out: &mut W, facts: &Facts) -> io::Result<()> {
+    write!(out, "PIDs free for cues:")?;
+    for pid in &facts.free_pids {
+        let pid = PidText(*pid);
+        write!(out, " {pid}")?;
+    }
+    writeln!(out)
+}
+
+/// Whether the chain takes the stream.
+fn write_profile<W: Write>(out: &mut W, profile: Profile) -> io::Result<()> {
+    match profile {
+        Profile::Taken => writeln!(out, "profile: yes"),
+        Profile::Faulty { fault, packet } => {
+            let name = fault_name(fault);
+            let advice = advice(fault);
+            writeln!(out, "profile: no, {name} at packet {packet}: {advice}")
+        }
+        Profile::SyncLost { packet } => {
+            writeln!(
+                out,
+                "profile: no, SyncLost at packet {packet}: {RESYNCHRONISE}"
+            )
+        }
+        Profile::NoProgram => writeln!(out, "profile: no, NoProgram: {CHOOSE}"),
+    }
+}
