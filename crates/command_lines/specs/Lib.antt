@@ -1,3 +1,4 @@
 pub mod Command
 pub mod Options
 pub mod Services
+pub mod Inspecting
