@@ -1,4 +1,5 @@
 pub mod Command
 pub mod Options
 pub mod Services
+pub mod Inspecting
 pub mod Requests

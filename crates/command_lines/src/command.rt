@@ -7,6 +7,7 @@ ghost use Rattle.command_lines.specs.Options.{IsCutOf, IsNoCut};
 
 use crate::given::{end_of, is_verbose, text_of};
 use crate::inject_options::{INJECT, RUN};
+use crate::inspect_options::inspect_command;
 use crate::request_help::request_command;
 use crate::services_options::SERVICES;
 use crate::splice_options::SPLICE;
@@ -214,6 +215,7 @@ pub fn command<'a>(alloc: Global) -> Result<Command<'a>, AllocError> {
         .subcommand(SPLICE.command(alloc)?)?
         .subcommand(RUN.command(alloc)?)?
         .subcommand(SERVICES.command(alloc)?)?
+        .subcommand(inspect_command(alloc)?)
         .subcommand(request_command(alloc)?)
 }
 

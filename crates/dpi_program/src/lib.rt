@@ -5,6 +5,7 @@
 
 mod cutting;
 mod injecting;
+mod inspecting;
 pub mod program;
 mod requesting;
 mod serving;

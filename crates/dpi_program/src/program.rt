@@ -4,6 +4,7 @@ ghost use Rattle.std.specs.Prelude.{◌≡◌, ◌≤◌, IfErr};
 
 use crate::cutting::run_cut;
 use crate::injecting::{Injected, run_inject_command};
+use crate::inspecting::run_inspect_command;
 use crate::requesting::run_request_command;
 use crate::serving::{Served, run_services_command};
 use crate::splicing::run_splice_command;
@@ -11,6 +12,7 @@ use command_lines::command::{CUT_USAGE, CutOptions, command, cut_options};
 use command_lines::inject_options::{
     INJECT_USAGE, InjectOptions, RUN_USAGE, inject_options, run_options,
 };
+use command_lines::inspect_options::{INSPECT_USAGE, InspectOptions, inspect_options};
 use command_lines::refusals::{DONE, USAGE, answer, refuse, report};
 use command_lines::services_options::{SERVICES_USAGE, ServicesOptions, services_options};
 use command_lines::splice_options::{SPLICE_USAGE, SpliceOptions, splice_options};
@@ -291,6 +293,48 @@ where
     tell_cut(options, account, faults)
 }
 
+/// Runs `inspect`, and answers the exit status.
+fn inspect<R, I, O, E>(
+    rt: &R,
+    options: &InspectOptions<'_>,
+    input: &mut I,
+    output: &mut O,
+    faults: &mut E,
+) -> u8
+where
+    R: Files + AllocGlobal,
+    I: Read,
+    O: Write,
+    E: Write,
+    ensures { result ≤ 1 }
+{
+    match run_inspect_command(rt, options, input, output) {
+        Ok(packets) => {
+            if options.is_verbose {
+                let _ = writeln!(faults, "inspect: {packets} packets read");
+            }
+            DONE
+        }
+        Err(stopped) => report_inspect(faults, options, &stopped),
+    }
+}
+
+/// Prints the fault's line of an inspection, and behind it what is known of it where that is asked for.
+fn report_inspect<E: Write>(faults: &mut E, options: &InspectOptions<'_>, stopped: &Stopped) -> u8
+    ensures { result ≡ 1 }
+{
+    let status = report(faults, fault_name(stopped.fault));
+    if options.is_verbose && stopped.fault != ProgramFault::OutOfMemory {
+        let name = match stopped.side {
+            Side::Printing => "standard output",
+            _ => options.input.input_name(),
+        };
+        let trouble = Trouble { stopped, name };
+        let _ = write!(faults, "{trouble}");
+    }
+    status
+}
+
 /// Runs the program with the words after its name, and answers its exit status: 0 where all is done, also where help or the version was asked
 /// for, whose text is then on `output`; 1 after a fault, with the one line `fault: NAME` on `faults`; 2 where the command line is not taken,
 /// with a text for the user on `faults`. With `--verbose` one more line stands on `faults`, behind the fault's or alone.
@@ -331,6 +375,12 @@ where
         return match services_options(given) {
             Ok(options) => services(rt, &options, input, output, faults),
             Err(bad) => refuse(faults, &bad, SERVICES_USAGE),
+        };
+    }
+    if let Some(given) = matches.subcommand_matches("inspect") {
+        return match inspect_options(given) {
+            Ok(options) => inspect(rt, &options, input, output, faults),
+            Err(bad) => refuse(faults, &bad, INSPECT_USAGE),
         };
     }
     if let Some(given) = matches.subcommand_matches("request") {

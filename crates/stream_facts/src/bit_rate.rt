@@ -1,6 +1,7 @@
 //! Bit rates by clock references.
 
-ghost use Rattle.std.specs.Prelude.{◌≡◌, ◌<◌, ◌*◌, ◌+◌, ◌^◌};
+ghost use Rattle.std.specs.Prelude.{◌≡◌};
+ghost use Rattle.stream_facts.specs.Rates.{pcr_ticks, rate_of};
 
 /// Ticks of 27 MHz in a second.
 const SECOND: u64 = 27_000_000;
@@ -13,7 +14,9 @@ const TURN: u64 = 300 << 33;
 const GAP: u64 = 10 * SECOND;
 
 /// The ticks of 27 MHz of a clock reference (ISO/IEC 13818-1, 2.4.3.5): 300 times the base of 33 bits, and the extension of 9.
-pub fn ticks_of(pcr: &[u8; 6]) -> u64 {
+pub(crate) fn ticks_of(pcr: &[u8; 6]) -> u64
+    ensures { result ≡ pcr_ticks pcr.now }
+{
     let base = u64::from(pcr[0]) * (1 << 25)
         + u64::from(pcr[1]) * (1 << 17)
         + u64::from(pcr[2]) * (1 << 9)
@@ -25,7 +28,7 @@ pub fn ticks_of(pcr: &[u8; 6]) -> u64 {
 
 /// The clock references of a PID: the last one, and how many packets went by in how many ticks between those that go on from one another.
 #[derive(Clone, Copy, Debug)]
-pub struct ClockRun {
+pub(crate) struct ClockRun {
     last: Option<(u64, u64)>,
     packets: u64,
     ticks: u64,
@@ -33,7 +36,7 @@ pub struct ClockRun {
 
 impl ClockRun {
     /// None yet.
-    pub fn new() -> ClockRun {
+    pub(crate) fn new() -> ClockRun {
         ClockRun {
             last: None,
             packets: 0,
@@ -42,7 +45,7 @@ impl ClockRun {
     }
 
     /// A reference of so many ticks, in the packet before which so many stand.
-    pub fn add(&mut self, ticks: u64, before: u64) {
+    pub(crate) fn add(&mut self, ticks: u64, before: u64) {
         if let Some((then, place)) = self.last {
             let way = if ticks >= then {
                 ticks - then
@@ -58,18 +61,20 @@ impl ClockRun {
     }
 
     /// The ticks between references that go on from one another.
-    pub fn ticks(&self) -> u64 {
+    pub(crate) fn ticks(&self) -> u64 {
         self.ticks
     }
 
     /// Bits a second, by the packets between the references.
-    pub fn bit_rate(&self) -> Option<u64> {
+    pub(crate) fn bit_rate(&self) -> Option<u64> {
         rate_of(self.packets.saturating_mul(188), self.ticks)
     }
 }
 
 /// Bits a second of so many bytes in so many ticks; `None` where no time went by.
-pub fn rate_of(bytes: u64, ticks: u64) -> Option<u64> {
+pub(crate) fn rate_of(bytes: u64, ticks: u64) -> Option<u64>
+    ensures { result ≡ rate_of bytes ticks }
+{
     if ticks == 0 {
         return None;
     }

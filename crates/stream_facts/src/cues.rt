@@ -14,8 +14,6 @@ const CUES: u8 = 0x86;
 struct CueReader {
     pid: Pid,
     assembler: Assembler,
-    /// The packet that finished its last cue.
-    last: Option<u64>,
 }
 
 /// The cues so far.
@@ -79,7 +77,6 @@ fn read_on(readers: &mut Vec<CueReader>, pid: Pid) -> Result<(), AllocError> {
     readers.push(CueReader {
         pid,
         assembler: Assembler::new(),
-        last: None,
     })?;
     Ok(())
 }
@@ -96,7 +93,6 @@ fn take(
     reader.assembler.feed(packet);
     for section in reader.assembler.sections() {
         let kept = Vec::from_slice(alloc, section)?;
-        reader.last = Some(before);
         cues.push(CueFacts {
             packet: before,
             pid: reader.pid,

@@ -1,5 +1,8 @@
 //! What is known of a stream in the end.
 
+ghost use Rattle.std.specs.Prelude.{◌≡◌};
+
+use crate::packet_size::PacketSize;
 use pes_time::Time33;
 use psi_tables::NetworkFault;
 use random_access::Point;
@@ -8,10 +11,12 @@ use ts_packet::Pid;
 /// All that is known of a transport stream.
 #[derive(Debug, Drop)]
 pub struct Facts {
+    /// How its packets stand in its bytes.
+    pub packet_size: PacketSize,
     /// The packets.
     pub packets: u64,
-    /// The bytes between packets, which were passed over.
-    pub skipped_bytes: u64,
+    /// What is no packet, or none that can be read.
+    pub damage: Damage,
     /// The null packets.
     pub null_packets: u64,
     /// Bits a second, by the clock references of one PID: the packets between them (ISO/IEC 13818-1, 2.4.2.2).
@@ -26,6 +31,27 @@ pub struct Facts {
     pub free_pids: Vec<Pid>,
     /// Whether the chain takes the stream.
     pub profile: Profile,
+}
+
+/// What of a stream is no packet, or none that can be read, up to some place.
+#[derive(Clone, Copy, Debug, PartialEq, Eq)]
+pub struct Damage {
+    /// The bytes that are in no packet, which were passed over.
+    pub skipped: u64,
+    /// The packets whose adaptation field does not fit, which are taken as marked in error.
+    pub mended: u64,
+}
+
+impl Damage {
+    /// All bytes are in packets, and all of these can be read.
+    pub fn none() -> Damage
+        ensures { result ≡ record { skipped = 0; mended = 0 } }
+    {
+        Damage {
+            skipped: 0,
+            mended: 0,
+        }
+    }
 }
 
 /// A program.
@@ -75,23 +101,37 @@ pub struct CueFacts {
     pub section: Vec<u8>,
 }
 
+/// What is wrong with a stream, so that the chain does not take it.
+#[derive(Clone, Copy, Debug, PartialEq, Eq)]
+pub enum Wrong {
+    /// What the program that is followed says.
+    Network(NetworkFault),
+    /// Bytes before the packet are in none.
+    SyncLost,
+    /// The packet's adaptation field does not fit.
+    BadAdaptation,
+    /// The stream ends in a part of a packet.
+    Truncated,
+    /// The packets do not follow one another by 188 bytes.
+    NotPlain,
+}
+
+/// What is wrong with a stream, and where.
+#[derive(Clone, Copy, Debug, PartialEq, Eq)]
+pub struct StreamFault {
+    /// What is wrong.
+    pub wrong: Wrong,
+    /// How many packets stand before the one with the fault.
+    pub packet: u64,
+}
+
 /// Whether the chain takes a stream.
 #[derive(Clone, Copy, Debug, PartialEq, Eq)]
 pub enum Profile {
     /// It does.
     Taken,
-    /// It does not, for what is wrong with this packet.
-    Faulty {
-        /// What is wrong.
-        fault: NetworkFault,
-        /// How many packets stand before that one.
-        packet: u64,
-    },
-    /// It does not, for the bytes before this packet are none.
-    SyncLost {
-        /// How many packets stand before that one.
-        packet: u64,
-    },
+    /// It does not: this is the first thing that is wrong.
+    Faulty(StreamFault),
     /// It has nothing to do with it, for the program is not in it: no map of it was read.
     NoProgram,
 }

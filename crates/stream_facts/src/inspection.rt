@@ -1,29 +1,28 @@
 //! An inspection: packets in, facts out.
 
+ghost use Rattle.std.specs.Prelude.{◌≡◌, ◌∷◌, ◌<◌, ◌-◌, ◌^◌, [], ℕ, List, All, length, OnOk, IfOk};
+ghost use Rattle.stream_facts.specs.Judging.{wish_of, fed_of, packets_in};
+ghost use Rattle.stream_facts.specs.Facts.{Inspects, OfInspected, Tells};
+
 use crate::bit_rate::rate_of;
 use crate::counts::PacketCounts;
 use crate::cues::CueList;
-use crate::facts::{Facts, ProgramFacts, StreamFacts};
+use crate::facts::{Damage, Facts};
+use crate::free_pids::free_pids;
 use crate::judge::Judge;
+use crate::packet_size::PacketSize;
 use crate::pid_facts::PidTable;
-use crate::tables::{Listing, TableSet};
-use psi_tables::{Pmt, Stream, is_switched_kind};
-use random_access::VideoCoding;
-use service_names::text_of;
+use crate::programs::{of_number, programs};
+use crate::tables::TableSet;
 use std::alloc::{AllocError, Global};
-use table_descriptors::language_of;
-use ts_packet::{Packet, Pid};
-
-/// The first PID that is offered for cues.
-const FIRST_FREE: u16 = 0x100;
-
-/// As many PIDs are offered.
-const OFFERED: usize = 3;
+use ts_packet::Packet;
 
 /// A transport stream that is looked at packet by packet.
 #[derive(Drop)]
 pub struct Inspection {
     alloc: Global,
+    /// The one program that is told, or all.
+    wanted: Option<u16>,
     counts: PacketCounts,
     tables: TableSet,
     cues: CueList,
@@ -32,65 +31,72 @@ pub struct Inspection {
 }
 
 impl Inspection {
-    /// An inspection that has seen no packet. Whether the chain takes the stream is judged by the program of this number, or by the
-    /// first one.
+    /// An inspection that has seen no packet. The program of this number alone is told and judged; where there is no number, all are told and
+    /// the first is judged.
     ///
     /// # Errors
     ///
     /// Where the allocator refused memory.
-    pub fn new(alloc: Global, program: Option<u16>) -> Result<Inspection, AllocError> {
+    pub fn new(alloc: Global, wanted: Option<u16>) -> Result<Inspection, AllocError>
+        ensures { IfOk result (λ i. Inspects i (wish_of wanted) []) }
+    {
         Ok(Inspection {
             alloc,
+            wanted,
             counts: PacketCounts::new(),
             tables: TableSet::new(alloc),
             cues: CueList::new(alloc),
-            judge: Judge::new(program),
+            judge: Judge::new(wanted),
             pids: PidTable::new(alloc)?,
         })
     }
 
-    /// Takes the next packet, before which so many bytes stand that are no packets.
+    /// Takes the next packet. Before it stand so many bytes that are in none, and it and those before it have so many adaptation fields that do
+    /// not fit.
     ///
     /// # Errors
     ///
-    /// Where the allocator refused memory.
-    pub fn feed(&mut self, packet: &Packet, skipped: u64) -> Result<(), AllocError> {
+    /// Where the allocator refused memory. What is known then is open.
+    pub fn feed(&mut self, packet: &Packet, damage: Damage) -> Result<(), AllocError>
+        ensures { OfInspected self.old (λ c past. length past < 2 ^ 64 - 1
+            → OnOk result (Inspects self.new c (fed_of packet.now damage ∷ past))) }
+    {
         let before = self.counts.packets;
         self.counts.add(packet);
-        self.judge.feed(packet, before, skipped);
+        self.judge.feed(packet, before, damage);
         self.cues.feed(self.alloc, packet, before)?;
         if self.tables.feed(self.alloc, packet)? {
-            self.follow_cues()?;
+            follow_cues(&mut self.cues, &self.tables, self.wanted)?;
         }
         self.pids.feed(self.alloc, packet, before)
     }
 
-    /// Reads on the PIDs on which the maps list cues.
-    fn follow_cues(&mut self) -> Result<(), AllocError> {
-        for listing in self.tables.listings() {
-            if let Some(map) = listing.map() {
-                self.cues.follow(&map)?;
-            }
-        }
-        Ok(())
-    }
-
-    /// The facts, where so many bytes of the stream are no packets.
+    /// The facts, where the packets have this size, and so much of the whole stream is no packet, or none that can be read.
     ///
     /// # Errors
     ///
     /// Where the allocator refused memory.
-    pub fn finish(self, skipped: u64) -> Result<Facts, AllocError> {
-        let programs = self.programs()?;
-        let free_pids = self.free_pids()?;
-        let (bit_rate, file_bit_rate) = self.bit_rates(skipped);
+    pub fn finish(self, size: PacketSize, damage: Damage) -> Result<Facts, AllocError>
+        ensures { OfInspected self (λ c past. length past < 2 ^ 64 → IfOk result (λ facts. Tells facts c size damage past)) }
+    {
+        let alloc = self.alloc;
+        let all = programs(alloc, &self.tables, &self.pids)?;
+        let free_pids = free_pids(alloc, &self.pids, all.as_slice())?;
         let packets = self.counts.packets;
+        let (bit_rate, file_bit_rate) = bit_rates(
+            &self.tables,
+            &self.pids,
+            self.wanted,
+            bytes_of(packets, damage),
+        );
+        let profile = self.judge.verdict(packets, damage, size);
         let null_packets = self.counts.nulls;
-        let profile = self.judge.verdict(packets, skipped);
+        let programs = of_number(alloc, all, self.wanted)?;
         let Inspection { cues, .. } = self;
         Ok(Facts {
+            packet_size: size,
             packets,
-            skipped_bytes: skipped,
+            damage,
             null_packets,
             bit_rate,
             file_bit_rate,
@@ -100,121 +106,52 @@ impl Inspection {
             profile,
         })
     }
+}
 
-    /// The programs.
-    fn programs(&self) -> Result<Vec<ProgramFacts>, AllocError> {
-        let mut programs = Vec::new(self.alloc);
-        for listing in self.tables.listings() {
-            let program = self.program(listing)?;
-            programs.push(program)?;
-        }
-        Ok(programs)
-    }
-
-    /// What is known of a program.
-    fn program(&self, listing: &Listing) -> Result<ProgramFacts, AllocError> {
-        let service_name = match self.tables.name(listing.number) {
-            None => None,
-            Some(name) => Some(text_of(self.alloc, name)?),
-        };
-        let mut streams = Vec::new(self.alloc);
-        let mut pcr_pid = None;
-        if let Some(map) = listing.map() {
-            pcr_pid = Some(map.pcr_pid());
-            for stream in map.entries() {
-                let facts = self.stream(&map, stream)?;
-                streams.push(facts)?;
-            }
-        }
-        Ok(ProgramFacts {
-            number: listing.number,
-            service_name,
-            pmt_pid: listing.pmt_pid,
-            pcr_pid,
-            streams,
-        })
-    }
-
-    /// What is known of a stream that a map lists.
-    fn stream(&self, map: &Pmt<'_>, stream: Stream) -> Result<StreamFacts, AllocError> {
-        let coding = VideoCoding::of_stream_type(stream.kind);
-        let mut facts = StreamFacts {
-            pid: stream.pid,
-            stream_type: stream.kind,
-            switched: is_switched_kind(stream.kind),
-            language: language_of(map, stream.pid),
-            units: 0,
-            first_pts: None,
-            last_pts: None,
-            points: Vec::new(self.alloc),
-        };
-        if let Some(known) = self.pids.get(stream.pid) {
-            let begins = known.begins();
-            facts.units = begins.units();
-            facts.first_pts = begins.first_pts();
-            facts.last_pts = begins.last_pts();
-            facts.points = begins.points(self.alloc, coding)?;
-        }
-        Ok(facts)
-    }
-
-    /// Bits a second by the clock of the first program that has one, of its packets and of all bytes.
-    fn bit_rates(&self, skipped: u64) -> (Option<u64>, Option<u64>) {
-        for listing in self.tables.listings() {
-            if let Some(map) = listing.map()
-                && let Some(known) = self.pids.get(map.pcr_pid())
-                && let Some(rate) = known.clock().bit_rate()
-            {
-                let bytes = self
-                    .counts
-                    .packets
-                    .saturating_mul(188)
-                    .saturating_add(skipped);
-                return (Some(rate), rate_of(bytes, known.clock().ticks()));
-            }
-        }
-        (None, None)
-    }
-
-    /// PIDs on which nothing is and which nothing lists.
-    fn free_pids(&self) -> Result<Vec<Pid>, AllocError> {
-        let mut free = Vec::new(self.alloc);
-        for number in FIRST_FREE..0x1FFF {
-            if free.len() >= OFFERED {
-                break;
-            }
-            if let Some(pid) = Pid::new(number)
-                && self.pids.get(pid).is_none()
-                && !self.lists(pid)
-            {
-                free.push(pid)?;
-            }
-        }
-        Ok(free)
-    }
-
-    /// Whether a table lists a PID.
-    fn lists(&self, pid: Pid) -> bool {
-        for listing in self.tables.listings() {
-            if listing.pmt_pid == pid {
-                return true;
-            }
-            if let Some(map) = listing.map()
-                && (map.pcr_pid() == pid || has_stream(&map, pid))
-            {
-                return true;
-            }
-        }
-        false
+/// Whether the program of this number is one that is told.
+pub(crate) fn is_told(number: u16, wanted: Option<u16>) -> bool {
+    match wanted {
+        None => true,
+        Some(wanted) => number == wanted,
     }
 }
 
-/// Whether a map lists a stream on a PID.
-fn has_stream(map: &Pmt<'_>, pid: Pid) -> bool {
-    for stream in map.entries() {
-        if stream.pid == pid {
-            return true;
+/// Reads on the PIDs on which the maps list cues.
+fn follow_cues(
+    cues: &mut CueList,
+    tables: &TableSet,
+    wanted: Option<u16>,
+) -> Result<(), AllocError> {
+    for listing in tables.listings() {
+        if is_told(listing.number, wanted)
+            && let Some(map) = listing.map()
+        {
+            cues.follow(&map)?;
         }
     }
-    false
+    Ok(())
+}
+
+/// The bytes of so many packets, and of what is in none.
+fn bytes_of(packets: u64, damage: Damage) -> u64 {
+    packets.saturating_mul(188).saturating_add(damage.skipped)
+}
+
+/// Bits a second by the clock of the first program that is told and has one: of its packets, and of so many bytes.
+fn bit_rates(
+    tables: &TableSet,
+    pids: &PidTable,
+    wanted: Option<u16>,
+    bytes: u64,
+) -> (Option<u64>, Option<u64>) {
+    for listing in tables.listings() {
+        if is_told(listing.number, wanted)
+            && let Some(map) = listing.map()
+            && let Some(known) = pids.get(map.pcr_pid())
+            && let Some(rate) = known.clock().bit_rate()
+        {
+            return (Some(rate), rate_of(bytes, known.clock().ticks()));
+        }
+    }
+    (None, None)
 }

@@ -94,7 +94,7 @@ impl TableSet {
         }
         let pid = packet.pid().get();
         if pid == 0 {
-            self.associate(alloc, packet)?;
+            self.associate(packet)?;
         } else if pid == DESCRIPTIONS {
             self.describe(alloc, packet)?;
         }
@@ -109,14 +109,14 @@ impl TableSet {
     }
 
     /// Takes a packet of PID 0.
-    fn associate(&mut self, alloc: Global, packet: &Packet) -> Result<(), AllocError> {
+    fn associate(&mut self, packet: &Packet) -> Result<(), AllocError> {
         self.associations.pass_over();
         self.associations.feed(packet);
         for section in self.associations.sections() {
             if let Ok(pat) = Pat::read(section)
                 && pat.current()
             {
-                list_all(alloc, &mut self.listings, section)?;
+                list_all(&mut self.listings, section)?;
             }
         }
         Ok(())
@@ -147,13 +147,13 @@ fn holds(sections: &Vec<Vec<u8>>, section: &[u8]) -> bool {
 }
 
 /// Lists the programs of a PAT.
-fn list_all(alloc: Global, listings: &mut Vec<Listing>, pat: &[u8]) -> Result<(), AllocError> {
+fn list_all(listings: &mut Vec<Listing>, pat: &[u8]) -> Result<(), AllocError> {
     let pairs = pat.get(8..pat.len().saturating_sub(4)).unwrap_or(&[]);
     for pair in pairs.chunks_exact(4) {
         if let [high, low, pid_high, pid_low] = pair {
             let number = u16::from(*high) * 256 + u16::from(*low);
             if number != 0 {
-                list(alloc, listings, number, Pid::of_bits(*pid_high, *pid_low))?;
+                list(listings, number, Pid::of_bits(*pid_high, *pid_low))?;
             }
         }
     }
@@ -161,12 +161,7 @@ fn list_all(alloc: Global, listings: &mut Vec<Listing>, pat: &[u8]) -> Result<()
 }
 
 /// Lists a program, with the PID of its map.
-fn list(
-    _alloc: Global,
-    listings: &mut Vec<Listing>,
-    number: u16,
-    pmt_pid: Pid,
-) -> Result<(), AllocError> {
+fn list(listings: &mut Vec<Listing>, number: u16, pmt_pid: Pid) -> Result<(), AllocError> {
     for listing in listings.iter_mut() {
         if listing.number == number {
             if listing.pmt_pid != pmt_pid {

@@ -2,6 +2,7 @@
 
 use psi_tables::NetworkFault;
 use random_access::Mark;
+use stream_facts::{SpliceCommand, SpliceDescriptor, Wrong};
 
 /// A stream_type in words (ISO/IEC 13818-1, 2.4.4.10; ANSI/SCTE 35 for 0x86; the common ones of ATSC for 0x81 and 0x87).
 pub fn type_name(kind: u8) -> &'static str {
@@ -40,23 +41,68 @@ pub fn mark_name(mark: Mark) -> &'static str {
     }
 }
 
+/// What a cue is for.
+pub fn command_name(command: SpliceCommand) -> &'static str {
+    match command {
+        SpliceCommand::Null => "null",
+        SpliceCommand::Schedule => "splice_schedule",
+        SpliceCommand::Insert => "splice_insert",
+        SpliceCommand::TimeSignal => "time_signal",
+        SpliceCommand::BandwidthReservation => "bandwidth_reservation",
+        SpliceCommand::Private => "private_command",
+        SpliceCommand::Reserved => "reserved",
+    }
+}
+
+/// What a descriptor of a cue is called (ANSI/SCTE 35, 10.2).
+pub fn descriptor_name(descriptor: SpliceDescriptor) -> &'static str {
+    if !descriptor.is_standard {
+        return "private_descriptor";
+    }
+    match descriptor.tag {
+        0x00 => "avail_descriptor",
+        0x01 => "DTMF_descriptor",
+        0x02 => "segmentation_descriptor",
+        0x03 => "time_descriptor",
+        0x04 => "audio_descriptor",
+        _ => "reserved_descriptor",
+    }
+}
+
 /// The key of a fault.
-pub fn fault_name(fault: NetworkFault) -> &'static str {
-    match fault {
-        NetworkFault::TimeJump => "TimeJump",
-        NetworkFault::HeaderSplit => "HeaderSplit",
-        NetworkFault::Scrambled => "Scrambled",
-        NetworkFault::ProgramChanged => "ProgramChanged",
-        NetworkFault::TooManyStreams => "TooManyStreams",
-        NetworkFault::BadPids => "BadPids",
-        NetworkFault::PmtTooLong => "PmtTooLong",
-        NetworkFault::CuePidUsed => "CuePidUsed",
-        NetworkFault::Sections => "Sections",
+pub fn fault_name(wrong: Wrong) -> &'static str {
+    match wrong {
+        Wrong::Network(NetworkFault::TimeJump) => "TimeJump",
+        Wrong::Network(NetworkFault::HeaderSplit) => "HeaderSplit",
+        Wrong::Network(NetworkFault::Scrambled) => "Scrambled",
+        Wrong::Network(NetworkFault::ProgramChanged) => "ProgramChanged",
+        Wrong::Network(NetworkFault::TooManyStreams) => "TooManyStreams",
+        Wrong::Network(NetworkFault::BadPids) => "BadPids",
+        Wrong::Network(NetworkFault::PmtTooLong) => "PmtTooLong",
+        Wrong::Network(NetworkFault::CuePidUsed) => "CuePidUsed",
+        Wrong::Network(NetworkFault::Sections) => "Sections",
+        Wrong::SyncLost => "SyncLost",
+        Wrong::BadAdaptation => "BadAdaptation",
+        Wrong::Truncated => "Truncated",
+        Wrong::NotPlain => "SyncLost",
     }
 }
 
 /// What to do about a fault.
-pub fn advice(fault: NetworkFault) -> &'static str {
+pub fn advice(wrong: Wrong) -> &'static str {
+    match wrong {
+        Wrong::Network(fault) => network_advice(fault),
+        Wrong::SyncLost => "bytes between packets: put the stream through a multiplexer again",
+        Wrong::BadAdaptation =>
+            "an adaptation field does not fit its packet: put the stream through a multiplexer again",
+        Wrong::Truncated => "the last packet is not whole: cut the stream before it",
+        Wrong::NotPlain =>
+            "the packets have more than 188 bytes: write the stream with packets of 188 bytes",
+    }
+}
+
+/// What to do about what is wrong with a network.
+fn network_advice(fault: NetworkFault) -> &'static str {
     match fault {
         NetworkFault::TimeJump =>
             "time stamps jump by more than 10 s: cut the stream there, or write its stamps anew",
@@ -76,9 +122,6 @@ pub fn advice(fault: NetworkFault) -> &'static str {
         NetworkFault::Sections => "the PAT has several sections: take programs out of it",
     }
 }
-
-/// What to do where packets are lost between bytes that are none.
-pub const RESYNCHRONISE: &str = "bytes between packets: have them taken out, as by a multiplexer";
 
 /// What to do where there is no program.
 pub const CHOOSE: &str =

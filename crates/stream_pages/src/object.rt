@@ -1,13 +1,15 @@
 //! The JSON object.
 
-use crate::names::{CHOOSE, RESYNCHRONISE, advice, fault_name, mark_name};
+use crate::names::{CHOOSE, advice, command_name, descriptor_name, fault_name, mark_name};
 use codec_text::CueFaultText;
 use pes_time::Time33;
 use random_access::Point;
-use scte35_codec::Cue;
+use scte35_codec::{Cue, SpliceInsert};
 use serde_json::{Value, json};
 use std::alloc::{AllocError, Global};
-use stream_facts::{CueFacts, Facts, Profile, ProgramFacts, StreamFacts};
+use stream_facts::{
+    CueFacts, Facts, Profile, ProgramFacts, StreamFacts, command_of, descriptors_of, signal_time,
+};
 
 /// The object of all facts, with the random access points where they are asked for. Time stamps are the 33-bit values of the stream.
 ///
@@ -31,14 +33,20 @@ pub fn object_of(alloc: Global, facts: &Facts, points: bool) -> Result<Value, Al
     }
     let profile = profile_of(alloc, facts.profile)?;
     let packets = facts.packets;
-    let skipped = facts.skipped_bytes;
+    let size = facts.packet_size.bytes();
+    let skipped = facts.damage.skipped;
+    let mended = facts.damage.mended;
     let nulls = facts.null_packets;
     let rate = facts.bit_rate;
+    let file_rate = facts.file_bit_rate;
     json!(in alloc; {
+        "packet_size": size,
         "packets": packets,
         "skipped_bytes": skipped,
+        "mended": mended,
         "null_packets": nulls,
         "bit_rate": rate,
+        "file_bit_rate": file_rate,
         "programs": programs,
         "cues": cues,
         "free_pids": free,
@@ -140,60 +148,83 @@ fn point_of(alloc: Global, point: &Point) -> Result<Value, AllocError> {
 fn cue_of(alloc: Global, cue: &CueFacts) -> Result<Value, AllocError> {
     let packet = cue.packet;
     let pid = cue.pid.get();
+    let descriptors = descriptor_names(alloc, cue.section.as_slice())?;
     match scte35_codec::read(cue.section.as_slice()) {
         Err(fault) => {
             let text = CueFaultText(fault);
             let name = format!(in alloc; "{text}")?;
             json!(in alloc; {"packet": packet, "pid": pid, "kind": "fault", "fault": name})
         }
-        Ok(Cue::Null) => json!(in alloc; {"packet": packet, "pid": pid, "kind": "null"}),
-        Ok(Cue::Other) => json!(in alloc; {"packet": packet, "pid": pid, "kind": "other"}),
+        Ok(Cue::Null) => {
+            json!(in alloc; {"packet": packet, "pid": pid, "kind": "null", "descriptors": descriptors})
+        }
+        Ok(Cue::Other) => {
+            let kind = match command_of(cue.section.as_slice()) {
+                None => "reserved",
+                Some(command) => command_name(command),
+            };
+            let time = ticks(signal_time(cue.section.as_slice()));
+            json!(in alloc; {"packet": packet, "pid": pid, "kind": kind, "time": time, "descriptors": descriptors})
+        }
         Ok(Cue::Cancel(event)) => {
-            json!(in alloc; {"packet": packet, "pid": pid, "kind": "cancel", "event": event})
+            json!(in alloc; {"packet": packet, "pid": pid, "kind": "cancel", "event": event, "descriptors": descriptors})
         }
-        Ok(Cue::Insert(insert, _)) => {
-            let event = insert.event;
-            let out = insert.out;
-            let time = ticks(insert.time);
-            let length = match insert.length {
-                None => None,
-                Some((_, length)) => Some(length.ticks()),
-            };
-            let auto = match insert.length {
-                None => false,
-                Some((auto, _)) => auto,
-            };
-            let program = insert.program;
-            let avail = insert.avail;
-            let expected = insert.expected;
-            json!(in alloc; {
-                "packet": packet,
-                "pid": pid,
-                "kind": "insert",
-                "event": event,
-                "out": out,
-                "time": time,
-                "length": length,
-                "auto_return": auto,
-                "program": program,
-                "avail": avail,
-                "expected": expected
-            })
-        }
+        Ok(Cue::Insert(insert, _)) => insert_of(alloc, cue, &insert, descriptors),
     }
+}
+
+/// The names of a cue's descriptors.
+fn descriptor_names(alloc: Global, section: &[u8]) -> Result<Vec<Value>, AllocError> {
+    let mut names = Vec::new(alloc);
+    for descriptor in descriptors_of(alloc, section)? {
+        let name = Value::try_from_str(alloc, descriptor_name(descriptor))?;
+        names.push(name)?;
+    }
+    Ok(names)
+}
+
+/// A splice_insert with these descriptors.
+fn insert_of(
+    alloc: Global,
+    cue: &CueFacts,
+    insert: &SpliceInsert,
+    descriptors: Vec<Value>,
+) -> Result<Value, AllocError> {
+    let packet = cue.packet;
+    let pid = cue.pid.get();
+    let event = insert.event;
+    let out = insert.out;
+    let time = ticks(insert.time);
+    let length = insert.length.map(|(_, length)| length.ticks());
+    let auto = insert.length.is_some_and(|(auto, _)| auto);
+    let program = insert.program;
+    let avail = insert.avail;
+    let expected = insert.expected;
+    json!(in alloc; {
+        "packet": packet,
+        "pid": pid,
+        "kind": "insert",
+        "event": event,
+        "out": out,
+        "time": time,
+        "length": length,
+        "auto_return": auto,
+        "program": program,
+        "avail": avail,
+        "expected": expected,
+        "descriptors": descriptors
+    })
 }
 
 /// Whether the chain takes the stream.
 fn profile_of(alloc: Global, profile: Profile) -> Result<Value, AllocError> {
     match profile {
         Profile::Taken => json!(in alloc; {"taken": true}),
-        Profile::Faulty { fault, packet } => {
-            let name = fault_name(fault);
-            let advice = advice(fault);
+        Profile::Faulty(fault) => {
+            let packet = fault.packet;
+            let name = fault_name(fault.wrong);
+            let advice = advice(fault.wrong);
             json!(in alloc; {"taken": false, "fault": name, "packet": packet, "advice": advice})
-        }
-        Profile::SyncLost { packet } => {
-            json!(in alloc; {"taken": false, "fault": "SyncLost", "packet": packet, "advice": RESYNCHRONISE})
         }
         Profile::NoProgram => {
             json!(in alloc; {"taken": false, "fault": "NoProgram", "packet": null, "advice": CHOOSE})

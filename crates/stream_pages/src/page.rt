@@ -1,13 +1,19 @@
 //! The page for people.
 
 use crate::distance::{first_time, greatest_distance};
-use crate::names::{CHOOSE, RESYNCHRONISE, advice, fault_name, mark_name, type_name};
+use crate::names::{
+    CHOOSE, advice, command_name, descriptor_name, fault_name, mark_name, type_name,
+};
 use codec_text::{CueFaultText, CueText};
 use pes_time::Time33;
 use random_access::Point;
+use scte35_codec::Cue;
+use std::alloc::Global;
 use std::fmt;
 use std::io::{self, Write};
-use stream_facts::{CueFacts, Facts, Profile, ProgramFacts, StreamFacts};
+use stream_facts::{
+    CueFacts, Facts, Profile, ProgramFacts, StreamFacts, command_of, descriptors_of, signal_time,
+};
 use ts_packet::Pid;
 
 /// A PID in decimal and hexadecimal.
@@ -37,29 +43,39 @@ impl fmt::Display for Thousandths {
 ///
 /// # Errors
 ///
-/// What the output answered.
-pub fn write_page<W: Write>(out: &mut W, facts: &Facts, points: bool) -> io::Result<()> {
+/// What the output answered, or that the allocator refused memory.
+pub fn write_page<W: Write>(
+    alloc: Global,
+    out: &mut W,
+    facts: &Facts,
+    points: bool,
+) -> io::Result<()> {
     write_counts(out, facts)?;
     for program in &facts.programs {
         write_program(out, program, points)?;
     }
-    write_cues(out, facts)?;
+    write_cues(alloc, out, facts)?;
     write_free(out, facts)?;
     write_profile(out, facts.profile)
 }
 
 /// Packets, null packets and bit rates.
 fn write_counts<W: Write>(out: &mut W, facts: &Facts) -> io::Result<()> {
+    let size = facts.packet_size.bytes();
     let packets = facts.packets;
-    let skipped = facts.skipped_bytes;
+    let skipped = facts.damage.skipped;
+    let mended = facts.damage.mended;
     let nulls = facts.null_packets;
     let share = if packets == 0 {
         Thousandths(0)
     } else {
         Thousandths(nulls.saturating_mul(100_000) / packets)
     };
-    writeln!(out, "packets: {packets}")?;
-    writeln!(out, "skipped bytes: {skipped}")?;
+    writeln!(out, "packets: {packets} of {size} bytes")?;
+    writeln!(
+        out,
+        "skipped bytes: {skipped}, packets taken as damaged: {mended}"
+    )?;
     writeln!(out, "null packets: {nulls} ({share} %)")?;
     match facts.bit_rate {
         None => writeln!(out, "bit rate: unknown")?,
@@ -214,32 +230,55 @@ fn write_time<W: Write>(out: &mut W, pts: Time33, first: Option<Time33>) -> io::
 }
 
 /// The cues.
-fn write_cues<W: Write>(out: &mut W, facts: &Facts) -> io::Result<()> {
+fn write_cues<W: Write>(alloc: Global, out: &mut W, facts: &Facts) -> io::Result<()> {
     if facts.cues.is_empty() {
         return writeln!(out, "cues: none");
     }
     writeln!(out, "cues:")?;
     for cue in &facts.cues {
+        let packet = cue.packet;
+        let pid = PidText(cue.pid);
+        write!(out, "  packet {packet}, PID {pid}: ")?;
         write_cue(out, cue)?;
+        write_descriptors(alloc, out, cue)?;
+        writeln!(out)?;
     }
     Ok(())
 }
 
-/// A cue, in a line.
+/// What a cue says: its fields where its command is read, else its command, and the time of a time_signal.
 fn write_cue<W: Write>(out: &mut W, cue: &CueFacts) -> io::Result<()> {
-    let packet = cue.packet;
-    let pid = PidText(cue.pid);
-    write!(out, "  packet {packet}, PID {pid}: ")?;
-    match scte35_codec::read(cue.section.as_slice()) {
-        Ok(cue) => {
-            let text = CueText(cue);
-            writeln!(out, "{text}")
+    let section = cue.section.as_slice();
+    match (scte35_codec::read(section), command_of(section)) {
+        (Ok(Cue::Other), Some(command)) => {
+            let name = command_name(command);
+            write!(out, "{name}")?;
+            match signal_time(section) {
+                None => Ok(()),
+                Some(time) => {
+                    let ticks = time.ticks();
+                    write!(out, " time={ticks}")
+                }
+            }
         }
-        Err(fault) => {
+        (Ok(cue), _) => {
+            let text = CueText(cue);
+            write!(out, "{text}")
+        }
+        (Err(fault), _) => {
             let text = CueFaultText(fault);
-            writeln!(out, "{text}")
+            write!(out, "{text}")
         }
     }
+}
+
+/// The descriptors of a cue, by name.
+fn write_descriptors<W: Write>(alloc: Global, out: &mut W, cue: &CueFacts) -> io::Result<()> {
+    for descriptor in descriptors_of(alloc, cue.section.as_slice())? {
+        let name = descriptor_name(descriptor);
+        write!(out, " {name}")?;
+    }
+    Ok(())
 }
 
 /// The PIDs that are free.
@@ -256,16 +295,11 @@ fn write_free<W: Write>(out: &mut W, facts: &Facts) -> io::Result<()> {
 fn write_profile<W: Write>(out: &mut W, profile: Profile) -> io::Result<()> {
     match profile {
         Profile::Taken => writeln!(out, "profile: yes"),
-        Profile::Faulty { fault, packet } => {
-            let name = fault_name(fault);
-            let advice = advice(fault);
+        Profile::Faulty(fault) => {
+            let packet = fault.packet;
+            let name = fault_name(fault.wrong);
+            let advice = advice(fault.wrong);
             writeln!(out, "profile: no, {name} at packet {packet}: {advice}")
-        }
-        Profile::SyncLost { packet } => {
-            writeln!(
-                out,
-                "profile: no, SyncLost at packet {packet}: {RESYNCHRONISE}"
-            )
         }
         Profile::NoProgram => writeln!(out, "profile: no, NoProgram: {CHOOSE}"),
     }

@@ -1,0 +1,3 @@
+pub mod JudgeLemmas
+pub mod PidLemmas
+pub mod StreamLemmas
