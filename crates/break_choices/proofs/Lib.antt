@@ -1,0 +1,2 @@
+pub mod PictureLemmas
+pub mod EndingLemmas

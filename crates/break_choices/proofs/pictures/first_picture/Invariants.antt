@@ -1,0 +1,10 @@
+use Rattle.std.proofs.Common.{◌≡◌, length, None}
+use Rattle.break_choices.specs.Pictures.{first_picture}
+use Rattle.break_choices.proofs.pictures.first_picture.Given as goal
+
+-- the best of all is that of what is left, from the best so far on
+abbrev pub invariant-loop-picture : goal.invariant-loop-picture
+invariant-loop-picture l = first_picture l.wanted l.at l.best l.rest ≡ first_picture l.wanted l.at None l.fn.pictures
+
+abbrev pub decreases-loop-picture : goal.decreases-loop-picture
+decreases-loop-picture l = length l.rest

@@ -1,0 +1,4 @@
+pub mod Pictures
+pub mod Cuts
+pub mod Placing
+pub mod Endings
