@@ -7,7 +7,8 @@ use Rattle.hex_digits.specs.Digits.{digit_value}
 use Rattle.automations.specs.declared.script_text.Line.{Line}
 use Rattle.automations.specs.ScriptLines.{ScriptLine, lines_from}
 use Rattle.automations.specs.ScriptReading.{last_end, next_line_number, IsInLine, TextSoFar, NumberSoFar, BytesSoFar}
-use Rattle.automations.specs.ScriptText.{SpellsLines, BeginsNoScript, IsNoScript}
+use Rattle.std.specs.Io.KnownBytes.{Consumes}
+use Rattle.automations.specs.ScriptText.{IsScript, SpellsLines, BeginsNoScript, IsNoScript}
 use Rattle.automations.proofs.TextLemmas.{next_of, next_is}
 use Rattle.automations.proofs.RefusalLemmas.{NextLine, peel, next_line, no_digit, no_rise, no_bytes, no_half, no_more, no_second, no_end, no_space, no_first, others, others_both, one_other, digits_other, spelled_other, hex_other, space_other, number_of, hex_ten, not_ten, none_other, feed_other}
 
@@ -113,6 +114,20 @@ stops_behind text more h = λ rest lns k. h (more ++ rest) lns (subst (λ t. Spe
 pub all_no_script : (a : Option (List ℕ)) (text : List ℕ) → IfSome a (λ all. all ≡ text) → IsNoScript text → IfSome a IsNoScript
 all_no_script None text e h = tt
 all_no_script (Some x) text e h = subst IsNoScript (sym e) h
+
+-- so of bytes that begin no script, whatever comes behind them
+pub begun_no_script : (a b c : Option (List ℕ)) (bs part : List ℕ) → Consumes a b bs → Consumes b c part → BeginsNoScript (bs ++ part) → IfSome a IsNoScript
+begun_no_script None b c bs part p q h = tt
+begun_no_script (Some x) None c bs part p q h = absurd p
+begun_no_script (Some x) (Some y) None bs part p q h = absurd q
+begun_no_script (Some x) (Some y) (Some z) bs part p q h = none
+  where
+    all : x ≡ (bs ++ part) ++ z
+    all = p ∙ ap (λ l. bs ++ l) q ∙ sym (append_assoc bs part z)
+
+    none : (lines : List ScriptLine) → IsScript x lines → ⊥
+    none lines (inl s) = h z lines (subst (λ t. SpellsLines 0 t lines) all s)
+    none lines (inr s) = h (z ++ 10 ∷ []) lines (subst (λ t. SpellsLines 0 t lines) (ap (λ t. t ++ 10 ∷ []) all ∙ append_assoc (bs ++ part) z (10 ∷ [])) s)
 
 pub when_ok : {T E X Y : Type 0} (r : Result T E) → (X → Y) → OnOk r X → OnOk r Y
 when_ok (Ok v) f h = f h

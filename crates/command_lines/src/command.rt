@@ -215,7 +215,7 @@ pub fn command<'a>(alloc: Global) -> Result<Command<'a>, AllocError> {
         .subcommand(SPLICE.command(alloc)?)?
         .subcommand(RUN.command(alloc)?)?
         .subcommand(SERVICES.command(alloc)?)?
-        .subcommand(inspect_command(alloc)?)
+        .subcommand(inspect_command(alloc)?)?
         .subcommand(request_command(alloc)?)
 }
 
