@@ -1,3 +1,4 @@
+pub mod FreeLemmas
 pub mod JudgeLemmas
 pub mod PidLemmas
 pub mod StreamLemmas

@@ -1,11 +1,10 @@
 -- What is told of a stream, over its packets, newest first.
-use Rattle.std.specs.Prelude.{◌≡◌, ℕ, ◌-◌, ◌^◌, ◌≤◌, ◌<◌, List, [], ◌∷◌, Bool, false, ◌||◌, ◌==◌, Option, None, Some, length, min, reverse, count_by, All}
-use Rattle.std.specs.List.{list_any, filter_map}
-use Rattle.ts_packet.specs.Fields.{on}
+use Rattle.std.specs.Prelude.{◌≡◌, ℕ, ◌-◌, ◌^◌, ◌≤◌, ◌<◌, List, Bool, true, false, ◌||◌, ◌==◌, Option, None, Some, length, min, reverse, count_by, All}
+use Rattle.std.specs.List.{list_any}
 use Rattle.psi_tables.specs.Streams.{is_switched}
 use Rattle.program_follower.specs.declared.purpose.Purpose.{Purpose}
 use Rattle.random_access.specs.Marks.{coding_of}
-use Rattle.random_access.specs.Points.{begins_of, first_stamp, last_stamp, point_of, points}
+use Rattle.random_access.specs.Points.{begins_of, first_stamp, last_stamp, points}
 use Rattle.stream_facts.specs.declared.facts.Damage.{Damage}
 use Rattle.stream_facts.specs.declared.facts.Facts.{Facts}
 use Rattle.stream_facts.specs.declared.facts.ProgramFacts.{ProgramFacts}
@@ -29,6 +28,16 @@ pub record IsStreamOf (past : List (List ℕ)) (s : StreamFacts) : Type 0 where
 
 abbrev pub AreStreamsOf : List (List ℕ) → ProgramFacts → Type 0
 AreStreamsOf past r = All (IsStreamOf past) r.streams.items
+
+-- ---- the programs that are told
+
+-- the program of this number, or any where there is none
+abbrev pub is_told_by : Option ℕ → ℕ → Bool
+is_told_by None number = true
+is_told_by (Some wanted) number = number == wanted
+
+abbrev pub is_told_program : Option ℕ → ProgramFacts → Bool
+is_told_program wanted r = is_told_by wanted r.number
 
 -- ---- free PIDs
 

@@ -1,6 +1,6 @@
 -- Whether the chain takes a stream: the first thing that is wrong with its packets, by what comes before each, newest first.
 use Rattle.std.specs.Option.{option_or}
-use Rattle.std.specs.Prelude.{◌≡◌, ℕ, ◌-◌, List, [], ◌∷◌, Bool, false, not, ◌==◌, if◌then◌else◌, Option, None, Some, option_map, is_some, map, length, nat_le, nat_lt}
+use Rattle.std.specs.Prelude.{◌≡◌, ℕ, ◌-◌, List, [], ◌∷◌, false, not, ◌==◌, if◌then◌else◌, Option, None, Some, option_map, is_some, map, length, nat_le, nat_lt}
 use Rattle.program_follower.specs.declared.follower.ProgramFollower.{ProgramFollower}
 use Rattle.program_follower.specs.declared.purpose.Purpose.{Purpose}
 use Rattle.program_follower.specs.Faults.{network_fault}

@@ -1,5 +1,5 @@
 -- How packets stand in the bytes of a stream: one behind the other, or with bytes before or behind each.
-use Rattle.std.specs.Prelude.{ℕ, ◌+◌, ◌*◌, List, [], ◌∷◌, Bool, false, ◌&&◌, ◌||◌, ◌==◌, if◌then◌else◌, nat_lt, length, slice_index}
+use Rattle.std.specs.Prelude.{ℕ, ◌*◌, List, [], ◌∷◌, Bool, false, ◌&&◌, ◌||◌, ◌==◌, if◌then◌else◌, nat_lt, length, slice_index}
 use Rattle.stream_facts.specs.declared.packet_size.PacketSize.{PacketSize}
 use Rattle.stream_facts.specs.declared.packet_size.PacketSize.TheVariants.{Plain, Timed, Coded}
 

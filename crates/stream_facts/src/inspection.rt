@@ -2,7 +2,7 @@
 
 ghost use Rattle.std.specs.Prelude.{◌≡◌, ◌∷◌, ◌<◌, ◌-◌, ◌^◌, [], ℕ, List, All, length, OnOk, IfOk};
 ghost use Rattle.stream_facts.specs.Judging.{wish_of, fed_of, packets_in};
-ghost use Rattle.stream_facts.specs.Facts.{Inspects, OfInspected, Tells};
+ghost use Rattle.stream_facts.specs.Facts.{Inspects, OfInspected, Tells, is_told_by};
 
 use crate::bit_rate::rate_of;
 use crate::counts::PacketCounts;
@@ -91,7 +91,7 @@ impl Inspection {
         );
         let profile = self.judge.verdict(packets, damage, size);
         let null_packets = self.counts.nulls;
-        let programs = of_number(alloc, all, self.wanted)?;
+        let programs = of_number(all, self.wanted);
         let Inspection { cues, .. } = self;
         Ok(Facts {
             packet_size: size,
@@ -109,7 +109,9 @@ impl Inspection {
 }
 
 /// Whether the program of this number is one that is told.
-pub(crate) fn is_told(number: u16, wanted: Option<u16>) -> bool {
+pub(crate) fn is_told(number: u16, wanted: Option<u16>) -> bool
+    ensures { result ≡ is_told_by wanted number }
+{
     match wanted {
         None => true,
         Some(wanted) => number == wanted,

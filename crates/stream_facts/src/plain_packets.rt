@@ -1,5 +1,7 @@
 //! The packets of a stream without what stands with each of them.
 
+ghost use Rattle.std.specs.Prelude.{◌≤◌, length};
+
 use crate::packet_size::{PacketSize, is_sync};
 use std::alloc::{AllocError, Global};
 use std::io::{self, ErrorKind, Read};
@@ -93,7 +95,9 @@ impl<R> PlainPackets<R> {
     }
 
     /// Gives as many of the bytes that are held as there is room for, of so many.
-    fn give(&mut self, most: usize, buf: &mut [u8]) -> usize {
+    fn give(&mut self, most: usize, buf: &mut [u8]) -> usize
+        ensures { result ≤ length buf.old }
+    {
         let window = self.window();
         let count = most.min(window.len()).min(buf.len());
         if let Some(from) = window.get(..count)
@@ -136,7 +140,9 @@ impl<R> PlainPackets<R> {
     }
 
     /// Gives bytes of those that are held; none where more are to be read first, or at the end.
-    fn give_some(&mut self, size: PacketSize, buf: &mut [u8]) -> usize {
+    fn give_some(&mut self, size: PacketSize, buf: &mut [u8]) -> usize
+        ensures { result ≤ length buf.old }
+    {
         if size == PacketSize::Plain {
             return self.give(HELD, buf);
         }

@@ -1,7 +1,7 @@
 //! The programs of a stream and what is known of their streams.
 
 ghost use Rattle.std.specs.Prelude.{◌≡◌, All, IfOk, true, filter};
-ghost use Rattle.stream_facts.specs.Facts.{AreStreamsOf, IsStreamOf};
+ghost use Rattle.stream_facts.specs.Facts.{AreStreamsOf, IsStreamOf, is_told_program};
 ghost use Rattle.stream_facts.specs.Pids.{OfPidsKnown};
 
 use crate::facts::{ProgramFacts, StreamFacts};
@@ -118,23 +118,9 @@ fn stream_facts(
 }
 
 /// Of these programs those that are told.
-///
-/// # Errors
-///
-/// Where the allocator refused memory.
-pub(crate) fn of_number(
-    alloc: Global,
-    programs: Vec<ProgramFacts>,
-    wanted: Option<u16>,
-) -> Result<Vec<ProgramFacts>, AllocError> {
-    if wanted.is_none() {
-        return Ok(programs);
-    }
-    let mut told = Vec::new(alloc);
-    for program in programs {
-        if is_told(program.number, wanted) {
-            told.push(program)?;
-        }
-    }
-    Ok(told)
+pub(crate) fn of_number(mut programs: Vec<ProgramFacts>, wanted: Option<u16>) -> Vec<ProgramFacts>
+    ensures { result.items ≡ filter (is_told_program wanted) programs.items }
+{
+    programs.retain(|program| is_told(program.number, wanted));
+    programs
 }

@@ -1,4 +1,4 @@
-use Rattle.std.proofs.Common.{All, List, ℕ}
+use Rattle.std.proofs.Common.{All}
 use Rattle.stream_facts.specs.Facts.{IsStreamOf}
 use Rattle.stream_facts.specs.Pids.{OfPidsKnown}
 use Rattle.stream_facts.proofs.programs.streams.Given as goal
