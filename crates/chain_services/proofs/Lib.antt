@@ -2,6 +2,7 @@ pub mod ServingLemmas
 pub mod PartLemmas
 pub mod UnfollowedLemmas
 pub mod OwnerLemmas
+pub mod ShiftLemmas
 pub mod RestLemmas
 pub mod ApartLemmas
 pub mod BeginLemmas

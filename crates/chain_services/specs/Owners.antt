@@ -1,5 +1,5 @@
 -- Which services take the packets of a PID.
-use Rattle.std.specs.Prelude.{◌≡◌, ◌<◌, ◌%◌, ◌/◌, ℕ, Bool, false, List, [], ◌∷◌, slice_index_or, Some}
+use Rattle.std.specs.Prelude.{◌≡◌, ◌<◌, ◌%◌, ◌/◌, ℕ, zero, suc, Bool, false, List, [], ◌∷◌, slice_index_or, Some}
 use Rattle.ts_packet.specs.Fields.{pid_of, is_among}
 use Rattle.program_follower.specs.Program.{known_pids}
 use Rattle.program_follower.specs.Following.{IsUnfollowed}
@@ -14,6 +14,11 @@ IsNotOf t pid past = IsUnfollowed (Some t.config.program) (Some t.config.cue_pid
 abbrev pub LeavesOut : ℕ → List ServiceTerms → ℕ → List (List ℕ) → Type 0
 LeavesOut takers [] pid past = Unit {0}
 LeavesOut takers (t ∷ ts) pid past = (takers % 2 ≡ 0 → IsNotOf t pid past) × LeavesOut (takers / 2) ts pid past
+
+-- so many of the lowest bits of a number are not set, and behind them it is this one
+abbrev pub IsShifted : ℕ → ℕ → ℕ → Type 0
+IsShifted zero left takers = left ≡ takers
+IsShifted (suc count) left takers = (takers % 2 ≡ 0) × IsShifted count left (takers / 2)
 
 -- it is told of a PID: by such a number, or by 255 where all services take its packets
 abbrev pub IsTold : ℕ → List ServiceTerms → ℕ → List (List ℕ) → Type 0

@@ -1,6 +1,6 @@
 //! Which services take the packets of each PID, looked up at once.
 
-ghost use Rattle.std.specs.Prelude.{◌≡◌, ◌<◌, ◌==◌, ◌∷◌, ◌%◌, ◌/◌, ℕ, List, Some, slice_index_or, slice_set, length, true, false};
+ghost use Rattle.std.specs.Prelude.{◌≡◌, ◌<◌, ◌≤◌, ◌==◌, ◌∷◌, ◌%◌, ◌/◌, ℕ, List, Some, slice_index_or, slice_set, length, true, false};
 ghost use Rattle.std.specs.List.{list_any};
 ghost use Rattle.std.specs.Option.{is_some};
 ghost use Rattle.ts_packet.specs.Fields.{pid_of, is_among};
@@ -8,7 +8,7 @@ ghost use Rattle.program_follower.specs.Program.{listed};
 ghost use Rattle.injector.specs.Steps.{Step, packets_in};
 ghost use Rattle.service_laws.specs.Services.{ServiceTerms};
 ghost use Rattle.chain_services.specs.Serving.{ServesAs, AllServe};
-ghost use Rattle.chain_services.specs.Owners.{LeavesOut, HasOwners, AllTake, IsTold, ToldAnew, has_pid};
+ghost use Rattle.chain_services.specs.Owners.{LeavesOut, HasOwners, AllTake, IsTold, ToldAnew, IsShifted, has_pid};
 
 use chain_engine::Service;
 use std::marker::Model;
@@ -95,6 +95,33 @@ pub(crate) fn leaves_out_all(all: bool, takers: u8) -> bool
     ensures none { result ≡ true → takers ≡ 0 }
 {
     !all && takers == 0
+}
+
+/// Where the first service stands that takes a packet.
+#[derive(Clone, Copy, Debug, PartialEq, Eq)]
+pub(crate) struct Shift {
+    /// So many services before it take none.
+    pub(crate) count: usize,
+    /// Its bit, and those of the services behind it.
+    pub(crate) takers: u8,
+}
+
+/// Where the first of the services of these bits stands that takes a packet, or the one behind so many.
+#[inline(always)]
+pub(crate) fn shift_of(takers: u8, most: usize) -> Shift
+    ensures shifted { IsShifted result.count result.takers takers }
+    ensures few { result.count ≤ most }
+{
+    let mut count = 0;
+    let mut left = takers;
+    while count < most && left % 2 == 0 {
+        left /= 2;
+        count += 1;
+    }
+    Shift {
+        count,
+        takers: left,
+    }
 }
 
 /// The bits of a service before those of others.

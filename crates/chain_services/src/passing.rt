@@ -14,7 +14,7 @@ ghost use Rattle.chain_services.specs.Parts.{PassedOn, FailedOn, PassedOne, Fail
 
 use crate::desk::Desk;
 use crate::nowhere::Nowhere;
-use crate::owners::{leaves_out, leaves_out_all, takes_all};
+use crate::owners::{leaves_out, leaves_out_all, shift_of, takes_all};
 use ad_library::AdLibrary;
 use chain_engine::{RunFault, Service, of_bytes};
 use psi_tables::FeedFault;
@@ -184,6 +184,51 @@ fn pass_each<K: PacketSink>(
     }
 }
 
+/// Does what [`pass_each`] does, and begins with the first of these services that takes the packet.
+///
+/// # Errors
+///
+/// As for [`pass_each`].
+#[inline(always)]
+fn pass_some<K: PacketSink>(
+    all: bool,
+    takers: u8,
+    services: &mut [Service],
+    libraries: &[AdLibrary],
+    packet: &Packet,
+    out: &mut K,
+) -> Result<Passed, FeedFault>
+    ensures leads { K.leads out.old out.new }
+    ensures ok { (ts : List ServiceTerms) (steps : List Step) (start : Option (List ℕ)) (ps : List (List ℕ))
+        → FiledAs libraries.now ts → AllServe services.old ts steps
+        → (all ≡ false → AreSkipped takers ts packet.now steps) → K.holds out.old start ps
+        → IfOk result (λ passed. PassedEach passed.is_own passed.learns services.new ts packet.now steps
+        (λ l. K.holds out.new start (ps ++ l))) }
+    ensures err { (ts : List ServiceTerms) (steps : List Step) (start : Option (List ℕ)) (ps : List (List ℕ))
+        → FiledAs libraries.now ts → AllServe services.old ts steps
+        → (all ≡ false → AreSkipped takers ts packet.now steps) → K.holds out.old start ps
+        → IfErr result (λ f. FailedEach f ts packet.now steps (parts_of ts packet.now steps)
+        (λ l. K.holds out.new start (ps ++ l)) (λ put q x. K.fails out.new start (ps ++ put) q x)) }
+    ensures well { OnOk result (WentWell (K.counts out.old) (K.counts out.new)) }
+    ensures blamed { IfErr result (λ f. OutputBlamed (RunFault.Feed f)
+        (K.counts out.old) (K.counts out.new) (K.is_full out.new)) }
+{
+    of_bytes(packet);
+    if leaves_out_all(all, takers) {
+        return Ok(Passed {
+            is_own: false,
+            learns: false,
+        });
+    }
+    if all {
+        return pass_each(all, takers, services, libraries, packet, out);
+    }
+    let shift = shift_of(takers, services.len().min(libraries.len()));
+    let (_, services) = services.split_at_mut(shift.count);
+    let (_, libraries) = libraries.split_at(shift.count);
+    pass_each(false, shift.takers, services, libraries, packet, out)
+}
+
 impl<M: Allocator> Desk<M> {
     /// Passes a packet on through the services that take it, of the first one and the others: all, or those whose bits are set.
     ///
@@ -229,7 +274,7 @@ impl<M: Allocator> Desk<M> {
             Ok(one) => one,
             Err(fault) => return Err(fault),
         };
-        match pass_each(
+        match pass_some(
             all,
             takers / 2,
             self.others.as_mut_slice(),
