@@ -18,9 +18,9 @@ use Rattle.stream_facts.specs.Facts.{AreStreamsOf, IsFree, has_pid, is_told_prog
 -- ---- counts
 
 -- counts that have not come to the greatest number
-pub counted : (counts : PacketCounts) (past : List Fed) → Counts counts (packets_in past) → length past < 2 ^ 64
+pub told_counts : (counts : PacketCounts) (past : List Fed) → Counts counts (packets_in past) → length past < 2 ^ 64
     → (counts.packets ≡ length past) × (counts.nulls ≡ count_by is_null (packets_in past))
-counted counts past k small =
+told_counts counts past k small =
     let same : length (packets_in past) ≡ length past = length-map past _ in
     let at_most = count_by-le-length is_null (packets_in past) in
     (grind (arith, k.packets, same, small), grind (arith, k.nulls, same, small, at_most))
@@ -62,8 +62,8 @@ free_now past rs pid None offered shown none unlisted = record { least = offered
 free_now past rs pid (Some f) offered shown none unlisted = absurd (cc)
 
 -- the number that makes a PID is the PID
-pub same_number : (n pid : ℕ) → Some pid ≡ (if nat_lt n 8192 then Some n else None) → pid ≡ n
-same_number n pid h =
+pub pid_from_number : (n pid : ℕ) → Some pid ≡ (if nat_lt n 8192 then Some n else None) → pid ≡ n
+pid_from_number n pid h =
     by_test (nat_lt n 8192)
     (λ t. let e = simp t at h in cc)
     (λ f. absurd (let e = simp f at h in cc))
