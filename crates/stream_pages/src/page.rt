@@ -39,6 +39,21 @@ impl fmt::Display for Thousandths {
     }
 }
 
+/// Ticks of 90 kHz as seconds.
+#[derive(Clone, Copy)]
+struct Seconds(i64);
+
+impl fmt::Display for Seconds {
+    fn fmt<W: fmt::Write>(&self, f: &mut fmt::Formatter<W>) -> fmt::Result {
+        let seconds = Thousandths(self.0.unsigned_abs() / 90);
+        if self.0 < 0 {
+            write!(f, "-{seconds} s")
+        } else {
+            write!(f, "{seconds} s")
+        }
+    }
+}
+
 /// Writes the page; the random access points too, where they are asked for.
 ///
 /// # Errors
@@ -78,12 +93,15 @@ fn write_counts<W: Write>(out: &mut W, facts: &Facts) -> io::Result<()> {
     )?;
     writeln!(out, "null packets: {nulls} ({share} %)")?;
     match facts.bit_rate {
-        None => writeln!(out, "bit rate: unknown")?,
-        Some(rate) => writeln!(out, "bit rate: {rate} bit/s by PCR")?,
+        None => writeln!(out, "bit rate by PCR: unknown")?,
+        Some(rate) => writeln!(out, "bit rate by PCR: {rate} bit/s")?,
     }
     match facts.file_bit_rate {
         None => Ok(()),
-        Some(rate) => writeln!(out, "bit rate of all bytes: {rate} bit/s"),
+        Some(rate) => writeln!(
+            out,
+            "all bytes over the time from the first PCR to the last: {rate} bit/s"
+        ),
     }
 }
 
@@ -152,9 +170,10 @@ fn write_units<W: Write>(out: &mut W, stream: &StreamFacts) -> io::Result<()> {
     write!(out, "; units: {units}")?;
     match (stream.first_pts, stream.last_pts) {
         (Some(first), Some(last)) => {
+            let way = Seconds(last.signed_from(first));
             let first = first.ticks();
             let last = last.ticks();
-            write!(out, "; time stamps: {first} to {last}")
+            write!(out, "; time stamps: {first} to {last}, {way}")
         }
         _ => Ok(()),
     }
@@ -187,22 +206,17 @@ fn write_points<W: Write>(
     program: &ProgramFacts,
     stream: &StreamFacts,
 ) -> io::Result<()> {
+    let first = first_time(program);
     for point in &stream.points {
-        write_point(out, stream.pid, point, first_time(program))?;
+        write_point(out, point, first)?;
     }
     Ok(())
 }
 
 /// A random access point, in a line.
-fn write_point<W: Write>(
-    out: &mut W,
-    pid: Pid,
-    point: &Point,
-    first: Option<Time33>,
-) -> io::Result<()> {
+fn write_point<W: Write>(out: &mut W, point: &Point, first: Option<Time33>) -> io::Result<()> {
     let packet = point.packet;
-    let pid = PidText(pid);
-    write!(out, "    packet {packet}, PID {pid}")?;
+    write!(out, "    packet {packet}")?;
     match point.pts {
         None => {}
         Some(pts) => write_time(out, pts, first)?,
@@ -211,20 +225,15 @@ fn write_point<W: Write>(
     writeln!(out, ", {by}")
 }
 
-/// A time stamp, and how long behind the first one it is.
+/// A time stamp, and how long it is behind the first one of the program's switched streams.
 fn write_time<W: Write>(out: &mut W, pts: Time33, first: Option<Time33>) -> io::Result<()> {
     let ticks = pts.ticks();
     write!(out, ", time stamp {ticks}")?;
     match first {
         None => Ok(()),
         Some(first) => {
-            let way = pts.signed_from(first);
-            let seconds = Thousandths(way.unsigned_abs() / 90);
-            if way < 0 {
-                write!(out, ", -{seconds} s")
-            } else {
-                write!(out, ", {seconds} s")
-            }
+            let way = Seconds(pts.signed_from(first));
+            write!(out, ", at {way}")
         }
     }
 }
@@ -299,8 +308,8 @@ fn write_profile<W: Write>(out: &mut W, profile: Profile) -> io::Result<()> {
             let packet = fault.packet;
             let name = fault_name(fault.wrong);
             let advice = advice(fault.wrong);
-            writeln!(out, "profile: no, {name} at packet {packet}: {advice}")
+            writeln!(out, "profile: no, {name} at packet {packet} ({advice})")
         }
-        Profile::NoProgram => writeln!(out, "profile: no, NoProgram: {CHOOSE}"),
+        Profile::NoProgram => writeln!(out, "profile: no, NoProgram ({CHOOSE})"),
     }
 }

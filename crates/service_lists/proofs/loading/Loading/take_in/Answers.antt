@@ -1,7 +1,11 @@
-use Rattle.std.proofs.Common.{◌≡◌, ◌++◌, ◌∷◌, [], subst, append_assoc, rules}
+use Rattle.std.proofs.Common.{◌≡◌, ◌++◌, ◌∷◌, [], refl, sym, subst, append_assoc, rules}
+use Rattle.std.proofs.lemmas.List.{append-nil}
 use Rattle.service_lists.specs.Lists.{IsRead, StopsAt}
 use Rattle.ad_lists.proofs.ListLemmas.{takes_on, said_later}
 use Rattle.service_lists.proofs.loading.Loading.take_in.Goals as goal
+
+pub loop-byte-init : goal.loop-byte-init
+loop-byte-init g c = record { read = ([], refl, λ text h. subst (IsRead c.args.self.now) (sym (append-nil text)) h) }
 
 pub returns-in-Err-clause-stops : goal.returns-in-Err-clause-stops
 returns-in-Err-clause-stops g c = λ text h more.
