@@ -206,9 +206,8 @@ fn write_points<W: Write>(
     program: &ProgramFacts,
     stream: &StreamFacts,
 ) -> io::Result<()> {
-    let first = first_time(program);
     for point in &stream.points {
-        write_point(out, point, first)?;
+        write_point(out, point, first_time(program))?;
     }
     Ok(())
 }
