@@ -1,6 +1,6 @@
 //! Sections out of packets.
 
-ghost use Rattle.std.specs.Prelude.{◌≡◌, ◌∷◌, [], ◌≤◌, ◌-◌, ◌^◌, ℕ, List, length, Some, None, true, false};
+ghost use Rattle.std.specs.Prelude.{◌≡◌, ◌∷◌, [], ◌≤◌, ◌-◌, ◌^◌, ℕ, List, length, nat_lt, Some, None, true, false};
 
 use crate::front::{Front, front_of, is_bad};
 use crate::sections::Sections;
@@ -21,7 +21,7 @@ pub struct Assembler {
 impl Assembler {
     ghost use Rattle.ts_packet.specs.Fields.{payload, bytes};
     ghost use Rattle.ts_packet.specs.Duplicates.{repeats_last, follows_on};
-    ghost use Rattle.psi_section.specs.Sections.{given, taken, failed, packet_taken};
+    ghost use Rattle.psi_section.specs.Sections.{given, held, taken, failed, packet_taken};
     ghost use Rattle.psi_section.specs.Storing.{content};
     ghost use Rattle.psi_section.specs.Assembling.{IsOf, IsReady, Waits, StillGives, capped, bad_left, left};
     ghost use Rattle.psi_section.specs.SectionsLeft.{sections_left};
@@ -122,6 +122,24 @@ impl Assembler {
                     return;
                 }
             }
+        }
+    }
+
+    /// Whether a section has begun that is not whole yet, once those that are were passed over.
+    pub fn has_part(&self) -> bool
+        ensures { (pid : ℕ) (past : List (List ℕ)) → Waits self.now pid past → result ≡ nat_lt 0 (length (held pid past)) }
+    {
+        self.store.len() > 0
+    }
+
+    /// An assembler that was fed the same.
+    pub fn copied(&self) -> Assembler
+        ensures { result ≡ self.now }
+    {
+        Assembler {
+            last: self.last,
+            store: self.store.copied(),
+            bad: self.bad,
         }
     }
 

@@ -32,6 +32,17 @@ impl Store {
         }
     }
 
+    /// A store of the same bytes.
+    pub(crate) fn copied(&self) -> Store
+        ensures { result ≡ self.now }
+    {
+        Store {
+            bytes: self.bytes,
+            at: self.at,
+            end: self.end,
+        }
+    }
+
     /// The number of bytes not given yet.
     pub(crate) fn len(&self) -> usize
         ensures { result ≡ length (content self.now) }
