@@ -1,5 +1,5 @@
 -- The table of what each PID is: how it is filled, and what it tells of a packet.
-use Rattle.std.proofs.Common.{◌≡◌, ℕ, ◌+◌, ◌<◌, ◌≤◌, List, ◌∷◌, false, ◌==◌, if◌then◌else◌, nat_lt, refl, sym, ap, subst, ◌∙◌, arith, length, Option, Some, None}
+use Rattle.std.proofs.Common.{◌≡◌, ℕ, ◌+◌, ◌<◌, ◌≤◌, List, [], ◌∷◌, false, ◌==◌, if◌then◌else◌, nat_lt, refl, sym, ap, subst, ◌∙◌, arith, length, Option, Some, None}
 use Rattle.std.specs.Prelude.{option_map, ◌≢◌, slice_index_or, replicate}
 use Rattle.std.proofs.lemmas.Bool.{eqb-true, eq-eqb, ltb-true, ltb-false}
 use Rattle.std.proofs.Math.ListN.{set}
@@ -134,3 +134,8 @@ module _ (c : Purpose) (p : List ℕ) (past : List (List ℕ)) (e : IsElsewhere 
 
   pub sound_off : (r : MapReader) → MapsRead r c.program past → first_on (pids_of (program_of c.program past)) p ≡ None → network_fault c p past ≡ None
   sound_off r h off = fault_elsewhere c p past e r h ∙ ap as_network (none_fault (pids_of (program_of c.program past)) p (behind_head c.program past) off)
+
+-- nothing is followed in the head
+pub none_since : (r : Option Program) (b : List (List ℕ)) → Since StartsRead None r b → pids_of r ≡ []
+none_since None b h = refl
+none_since (Some r) b h = absurd h

@@ -14,6 +14,7 @@ use Rattle.program_follower.specs.declared.streams.Streams.{Streams}
 use Rattle.program_follower.specs.declared.starts.Starts.{Starts}
 use Rattle.program_follower.specs.declared.streams.StreamPacket.{StreamPacket}
 use Rattle.program_follower.specs.declared.streams.StreamPacket.TheVariants.{Start, More, Repeat, Lead, NoPayload}
+use Rattle.program_follower.specs.declared.starts.UnitStart.{UnitStart}
 use Rattle.program_follower.specs.declared.starts.StartPacket.{StartPacket}
 use Rattle.program_follower.specs.declared.starts.StartPacket.TheVariants as starts
 
@@ -93,3 +94,11 @@ IsStartPacket starts.NoStart pids pid p past = begins pid p past ≡ false
 abbrev pub IsOfStarts : Option (ℕ × StartPacket) → List ℕ → List ℕ → List (List ℕ) → Type 0
 IsOfStarts None pids p past = first_on pids p ≡ None
 IsOfStarts (Some x) pids p past = (pid : ℕ) × ((first_on pids p ≡ Some (x.0, pid)) × IsStartPacket x.1 pids pid p past)
+
+-- the unit that a packet would begin, on the first of these PIDs that it is on
+abbrev pub start_on : Option (ℕ × ℕ) → List ℕ → List (List ℕ) → Option UnitStart
+start_on None p past = None
+start_on (Some x) p past = if begins x.1 p past then Some (record { pts = stamp p }) else None
+
+abbrev pub start_in : List ℕ → List ℕ → List (List ℕ) → Option UnitStart
+start_in pids p past = start_on (first_on pids p) p past

@@ -47,6 +47,22 @@ impl MapReader {
         }
     }
 
+    /// A reader that was fed the same. It judges each map anew.
+    pub(crate) fn copied(&self) -> MapReader
+        ensures { (wanted : Option ℕ) (past : List (List ℕ)) → MapsRead self.now wanted past → MapsRead result wanted past }
+    {
+        let known = match &self.known {
+            None => None,
+            Some(known) => Some(known.copied()),
+        };
+        MapReader {
+            assembler: self.assembler.copied(),
+            known,
+            faultless: FaultlessMap::new(),
+            is_on_map: self.is_on_map,
+        }
+    }
+
     /// What is known of the program; `None` in the head.
     pub fn known(&self) -> Option<&KnownProgram>
         ensures { (wanted : Option ℕ) (past : List (List ℕ)) → MapsRead self.now wanted past

@@ -33,6 +33,16 @@ impl PatReader {
         }
     }
 
+    /// A reader that was fed the same.
+    pub(crate) fn copied(&self) -> PatReader
+        ensures { result ≡ self.now }
+    {
+        PatReader {
+            assembler: self.assembler.copied(),
+            listed: self.listed,
+        }
+    }
+
     /// The program and the PID of its map; `None` before the PAT, the first that lists the program.
     pub fn listed(&self) -> Option<Listed>
         ensures { (wanted : Option ℕ) (past : List (List ℕ)) → PatsRead self.now wanted past

@@ -1,16 +1,16 @@
 //! One program of a network, followed by where its units begin.
 
 ghost use Rattle.std.specs.Prelude.{◌≡◌, ◌<◌, ◌≤◌, ◌+◌, ◌∷◌, ◌++◌, [], ℕ, List, length, slice_index_or, Option, Some, None};
-ghost use Rattle.std.specs.Prelude.{option_map, true, OnOk, IfOk, IfErr};
+ghost use Rattle.std.specs.Prelude.{option_map, true, OnOk, IfOk, IfErr, IfSome};
 ghost use Rattle.arrayvec.specs.ArrayVec.{array_vec_len};
 ghost use Rattle.ts_packet.specs.Fields.{on_one};
 ghost use Rattle.pes_time.specs.Line.{ring_of};
 ghost use Rattle.unit_stream.specs.Faults.{unit_fault};
-ghost use Rattle.program_follower.specs.Program.{tables, Program, program_of, pids_of, known_pids};
-ghost use Rattle.program_follower.specs.Faults.{network_fault, pids_in};
+ghost use Rattle.program_follower.specs.Program.{tables, Program, program_of, pids_of, known_pids, behind_head};
+ghost use Rattle.program_follower.specs.Faults.{network_fault, unit_fault_at, pids_in};
 ghost use Rattle.program_follower.specs.PidUses.{IsTablePid, HasPlacesElsewhere};
 ghost use Rattle.program_follower.specs.Standing.{tables_left, lent_program};
-ghost use Rattle.program_follower.specs.Streaming.{IsOfStarts};
+ghost use Rattle.program_follower.specs.Streaming.{IsOfStarts, place_in, start_in};
 ghost use Rattle.program_follower.specs.Following.{StartsStandFor, StartsShow, IsUnfollowed, OfStartPast, OfStreamPast, OfBegins};
 ghost use Rattle.program_follower.specs.Following.{StartsSince, grown, high_of, IsStartPlace, IsOfStartsAt, IsOnTables, streams_of_program};
 
@@ -18,7 +18,7 @@ use crate::follower::of_unit;
 use crate::known::KnownProgram;
 use crate::pid_uses::{PidUse, PidUses};
 use crate::purpose::Purpose;
-use crate::starts::{StartPacket, Starts};
+use crate::starts::{StartPacket, Starts, UnitStart};
 use crate::table_reader::{OnTables, TableReader, or_zero};
 use crate::tables::Tables;
 use arrayvec::ArrayVec;
@@ -175,6 +175,88 @@ impl StartFollower {
             Ok(of_stream) => Ok(start_place_of(on_tables, of_stream)),
             Err(fault) => Err(of_unit(fault)),
         }
+    }
+
+    /// What is wrong with the next packet of the network, behind those before it. It is not taken, and nothing changes.
+    #[inline(always)]
+    pub fn look(&self, packet: &Packet) -> Option<NetworkFault>
+        ensures { OfStartPast self.now (λ c past. result ≡ network_fault c packet.now past) }
+    {
+        match self.uses.use_of(packet) {
+            PidUse::Other => None,
+            PidUse::Stream(index) => self.look_at_stream(index, packet),
+            PidUse::Table => self.look_at_tables(packet),
+        }
+    }
+
+    /// Looks at a packet of a PID under which the switched stream of this number stands, and no table.
+    #[inline(always)]
+    fn look_at_stream(&self, index: usize, packet: &Packet) -> Option<NetworkFault>
+        requires { index < 8 }
+        ensures { OfStreamPast self.now index packet.now (λ c past. result ≡ network_fault c packet.now past) }
+    {
+        let Some(streams) = &self.streams else {
+            return None;
+        };
+        let is_marked = packet.error();
+        if is_marked {
+            return None;
+        }
+        match streams.look_at(index, packet) {
+            None => None,
+            Some(fault) => Some(of_unit(fault)),
+        }
+    }
+
+    /// Looks at a packet of a PID of tables or cues: a copy of what reads them takes it.
+    #[cold]
+    #[inline(never)]
+    fn look_at_tables(&self, packet: &Packet) -> Option<NetworkFault>
+        ensures { OfStartPast self.now (λ c past. result ≡ network_fault c packet.now past) }
+    {
+        let mut tables = self.tables.copied();
+        match tables.feed(packet) {
+            Ok(_) => self.look_at_units(packet),
+            Err(fault) => Some(fault),
+        }
+    }
+
+    /// What is wrong with the unit that a packet is of.
+    fn look_at_units(&self, packet: &Packet) -> Option<NetworkFault>
+        ensures { OfStartPast self.now (λ c past. result ≡ unit_fault_at c packet.now past) }
+    {
+        let Some(streams) = &self.streams else {
+            return None;
+        };
+        match streams.look(packet) {
+            None => None,
+            Some(fault) => Some(of_unit(fault)),
+        }
+    }
+
+    /// The number of the switched stream that the packet is of, behind the head, counted from 0 in the order of the map; `None` where it is of
+    /// none.
+    pub fn stream_of(&self, packet: &Packet) -> Option<usize>
+        ensures below { IfSome result (λ place. place < 8) }
+        ensures place { OfStartPast self.now (λ c past. result ≡ place_in (pids_of (program_of c.program past)) packet.now) }
+    {
+        let Some(streams) = &self.streams else {
+            return None;
+        };
+        streams.place_of(packet)
+    }
+
+    /// The unit that the next packet of the network, which is of the switched stream of this number, would begin there, scrambled or not;
+    /// `None` where it begins none. It is not taken.
+    pub fn start_at(&self, stream: usize, packet: &Packet) -> Option<UnitStart>
+        requires { stream < 8 }
+        ensures { OfStartPast self.now (λ c past. Some stream ≡ place_in (pids_of (program_of c.program past)) packet.now
+            → result ≡ start_in (pids_of (program_of c.program past)) packet.now (behind_head c.program past)) }
+    {
+        let Some(streams) = &self.streams else {
+            return None;
+        };
+        streams.start_at(stream, packet)
     }
 
     /// The sections that the last packet finished on the PID of the map, behind the PAT, in order; none where it was of another PID.

@@ -1,7 +1,7 @@
 //! Where the units of the switched streams begin behind the head, and the greatest time of these.
 
 ghost use Rattle.std.specs.Prelude.{◌≡◌, ◌<◌, ◌≤◌, ◌≢◌, ◌∷◌, [], ℕ, List, length, Option, Some, None, option_map};
-ghost use Rattle.std.specs.Prelude.{OnOk, IfOk, IfErr, slice_index_or, true};
+ghost use Rattle.std.specs.Prelude.{OnOk, IfOk, IfErr, IfSome, slice_index_or, true};
 ghost use Rattle.ts_packet.specs.Fields.{payload_on};
 ghost use Rattle.pes_time.specs.Line.{ring_of};
 ghost use Rattle.unit_stream.specs.Faults.{unit_fault};
@@ -9,10 +9,11 @@ ghost use Rattle.unit_stream.specs.Times.{high};
 ghost use Rattle.unit_stream.specs.Starts.{ReadsStarts, IsBegin};
 ghost use Rattle.unit_stream.specs.Clocks.{ClockAt};
 ghost use Rattle.program_follower.specs.Faults.{pids_in};
-ghost use Rattle.program_follower.specs.Streaming.{AllStartsRead, StartsRead, IsOne, begin_fault, place_in, IsStartPacket, IsOfStarts};
+ghost use Rattle.program_follower.specs.Streaming.{AllStartsRead, StartsRead, IsOne, begin_fault, place_in, IsStartPacket, IsOfStarts, start_in};
+ghost use Rattle.pes_time.specs.Stamps.{stamp_of};
 
 use crate::places::StreamPlaces;
-use pes_time::Time33;
+use pes_time::{PesHead, Time33};
 use psi_tables::Stream;
 use ts_packet::{Packet, Pid};
 use unit_stream::{Begun, Clock, StartReader, UnitFault};
@@ -40,6 +41,13 @@ impl StartPacket {
             StartPacket::NoStart => false,
         }
     }
+}
+
+/// A unit that begins with a packet.
+#[derive(Clone, Copy, Debug, PartialEq, Eq)]
+pub struct UnitStart {
+    /// Its PTS, where it has one that stands whole in the packet.
+    pub pts: Option<Time33>,
 }
 
 /// Follows up to eight switched streams, and tells of their packets only which begin units.
@@ -130,6 +138,80 @@ impl Starts {
             Ok(part) => Ok(part),
             Err(fault) => Err(fault),
         }
+    }
+}
+
+impl Starts {
+    /// What is wrong with the next packet behind the head, of whatever PID. It is not taken.
+    pub fn look(&self, packet: &Packet) -> Option<UnitFault>
+        ensures { (pids : List ℕ) (past : List (List ℕ)) → StartsRead self.now pids past
+            → result ≡ unit_fault pids packet.now past }
+    {
+        let Some(index) = self.places.place_of(packet) else {
+            return None;
+        };
+        self.look_at(index, packet)
+    }
+
+    /// The number of the stream that the packet is of; `None` where it is of none of these.
+    pub fn place_of(&self, packet: &Packet) -> Option<usize>
+        ensures below { IfSome result (λ place. place < 8) }
+        ensures place { (pids : List ℕ) (past : List (List ℕ)) → StartsRead self.now pids past
+            → result ≡ place_in pids packet.now }
+    {
+        self.places.place_of(packet)
+    }
+
+    /// What is wrong with the next packet behind the head, which is of the stream of this number. It is not taken.
+    #[inline(always)]
+    pub(crate) fn look_at(&self, index: usize, packet: &Packet) -> Option<UnitFault>
+        requires { index < 8 }
+        ensures { (pids : List ℕ) (past : List (List ℕ)) → Some index ≡ place_in pids packet.now
+            → StartsRead self.now pids past → result ≡ unit_fault pids packet.now past }
+    {
+        if !packet.has_payload() {
+            return None;
+        }
+        if packet.scrambled() {
+            return Some(UnitFault::Scrambled);
+        }
+        if !packet.unit_start() {
+            return None;
+        }
+        let (mut reader, mut clock) = (self.readers[index], self.clock);
+        match pass(&mut clock, reader.take(packet)) {
+            Ok(_) => None,
+            Err(fault) => Some(fault),
+        }
+    }
+
+    /// The unit that the next packet behind the head, which is of the stream of this number, would begin there, scrambled or not; `None` where
+    /// it begins none. It is not taken.
+    pub fn start_at(&self, index: usize, packet: &Packet) -> Option<UnitStart>
+        requires { index < 8 }
+        ensures { (pids : List ℕ) (past : List (List ℕ)) → Some index ≡ place_in pids packet.now
+            → StartsRead self.now pids past → result ≡ start_in pids packet.now past }
+    {
+        if !packet.has_payload() {
+            return None;
+        }
+        let mut reader = self.readers[index];
+        match reader.take(packet) {
+            None => None,
+            Some(payload) => Some(UnitStart {
+                pts: stamp_in(payload),
+            }),
+        }
+    }
+}
+
+/// The PTS of a unit with this payload in its first packet; `None` where it has none, or ends before the end of it.
+fn stamp_in(payload: &[u8]) -> Option<Time33>
+    ensures { result ≡ stamp_of payload.now }
+{
+    match PesHead::read(payload) {
+        Ok(head) => head.pts(),
+        Err(_) => None,
     }
 }
 

@@ -51,6 +51,19 @@ impl TableReader {
         }
     }
 
+    /// A reader that was fed the same.
+    pub(crate) fn copied(&self) -> TableReader
+        ensures { OfTables self.now (λ c past. TablesRead result c past) }
+    {
+        TableReader {
+            purpose: self.purpose,
+            pats: self.pats.copied(),
+            maps: self.maps.copied(),
+            cue_pid: self.cue_pid,
+            map_pid: self.map_pid,
+        }
+    }
+
     /// Takes the next packet of the network, of whatever PID, and answers whether it is on the PID of the map or on that of the cues. The
     /// unit that it is of is not judged.
     ///
