@@ -153,6 +153,7 @@ impl<T: Copy + Default> ArmedEvents<T> {
     ghost use Rattle.ts_packet.specs.Fields.{on};
     ghost use Rattle.event_table.specs.Rings.{CanAdvance};
     ghost use Rattle.event_table.specs.Standing.{Standing, IsTimeAt, still_standing};
+    ghost use Rattle.event_table.specs.Events.{open_count_of};
     ghost use Rattle.event_table.specs.Tables.{StandsFor, high_time_of, events_of, values_of};
     ghost use Rattle.psi_section.specs.Assembling.{IsOf, IsReady, capped};
     ghost use Rattle.armed_events.specs.Arming.{standing, ignored};
@@ -250,6 +251,13 @@ impl<T: Copy + Default> ArmedEvents<T> {
             StandsFor result.now (high past) (standing pid high past) }
     {
         &self.obeyed.table
+    }
+
+    /// How many uncancelled events have an end that lies past the high time. There is none before the first high time.
+    pub fn open_count(&self) -> usize
+        ensures { result ≡ open_count_of (high_time_of self.now.obeyed.table) (events_of self.now.obeyed.table) }
+    {
+        self.obeyed.table.open_count()
     }
 
     /// How many cues were ignored: those that asked for what was refused. A repeat of an event that stands is not ignored. The count

@@ -1,5 +1,5 @@
 -- An event on the ring: what the code asks of it, and the condition under which it may be armed.
-use Rattle.std.specs.Prelude.{◌≡◌, ℕ, ◌+◌, ◌%◌, ◌^◌, ◌<◌, ◌≤◌, ◌==◌, Bool, true, false, not, ◌&&◌, pos, int_le, int_lt, unsigned_abs, Option, None, Some}
+use Rattle.std.specs.Prelude.{◌≡◌, ℕ, ◌+◌, ◌%◌, ◌^◌, ◌<◌, ◌≤◌, ◌==◌, Bool, true, false, not, ◌&&◌, pos, int_le, int_lt, unsigned_abs, Option, None, Some, List, count_by}
 use Rattle.pes_time.specs.Line.{signed}
 use Rattle.event_table.specs.declared.event.Event.{Event}
 use Rattle.event_table.specs.Rings.{is_before_on_ring, IsAheadOnRing}
@@ -15,6 +15,15 @@ ring_end e = (e.start + e.length) % 2 ^ 33
 -- an uncancelled event holds the time
 abbrev pub covers_on_ring : Event → ℕ → Bool
 covers_on_ring e time = not e.cancelled && int_le (pos 0) (signed time e.start) && int_lt (signed time e.start) (pos e.length)
+
+-- it is not cancelled, and its end lies past this time
+abbrev pub is_open_on_ring : ℕ → Event → Bool
+is_open_on_ring high e = not e.cancelled && is_before_on_ring high (ring_end e)
+
+-- how many of the events are so at the high time; none is before the first
+abbrev pub open_count_of : Option ℕ → List Event → ℕ
+open_count_of None events = 0
+open_count_of (Some high) events = count_by (is_open_on_ring high) events
 
 -- each begins before the other ends
 abbrev pub meets_on_ring : Event → Event → Bool

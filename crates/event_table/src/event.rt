@@ -76,7 +76,7 @@ pub(crate) fn is_ahead(time: Time33, high: Time33) -> bool
 }
 
 impl Event {
-    ghost use Rattle.event_table.specs.Events.{ring_end, covers_on_ring, meets_on_ring, repeats_on_ring, ends_early_on_ring};
+    ghost use Rattle.event_table.specs.Events.{ring_end, is_open_on_ring, covers_on_ring, meets_on_ring, repeats_on_ring, ends_early_on_ring};
     ghost use Rattle.event_table.specs.Events.{cancelled_event, ended_on_ring, IsFresh};
 
     /// The end that is in force now, on the ring: the first time outside.
@@ -99,6 +99,13 @@ impl Event {
     {
         let way = time.signed_from(self.start);
         !self.cancelled && 0 <= way && (way as u64) < self.length
+    }
+
+    /// Whether an uncancelled event has an end past this time.
+    pub(crate) fn is_open_at(&self, high: Time33) -> bool
+        ensures { result ≡ is_open_on_ring high self.now }
+    {
+        !self.cancelled && is_before(high, self.end())
     }
 
     /// Whether the two intervals have a time in common.

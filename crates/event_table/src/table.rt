@@ -93,7 +93,7 @@ pub struct Table<T = ()> {
 
 impl<T: Copy + Default> Table<T> {
     ghost use Rattle.event_table.specs.Rings.{CanAdvance, has_reached_on_ring, IsAheadOf};
-    ghost use Rattle.event_table.specs.Events.{CanArm, meets_on_ring, repeats_on_ring, covers_on_ring};
+    ghost use Rattle.event_table.specs.Events.{open_count_of, CanArm, meets_on_ring, repeats_on_ring, covers_on_ring};
     ghost use Rattle.event_table.specs.Standing.{Standing, on_ring, on_line, covers, repeats, has_id, arm_answer, cancel_answer, shorten_answer};
     ghost use Rattle.event_table.specs.Standing.{with_cancelled, with_end, still_standing, forgotten_at, IsTimeAt};
     ghost use Rattle.event_table.specs.Tables.{StandsFor, high_time_of, events_of, values_of};
@@ -336,6 +336,22 @@ impl<T: Copy + Default> Table<T> {
         let _ticks = high.ticks();
         let Table { last: highest, .. } = self;
         *highest = Some(high);
+    }
+
+    /// How many uncancelled events have an end that lies past the high time. There is none before the first high time.
+    pub fn open_count(&self) -> usize
+        ensures { result ≡ open_count_of (high_time_of self.now) (events_of self.now) }
+    {
+        let Some(high) = self.high() else {
+            return 0;
+        };
+        let mut count = 0;
+        for entry in self.entries.as_slice() {
+            if entry.event.is_open_at(high) {
+                count += 1;
+            }
+        }
+        count
     }
 
     /// Where the event of this id stands in the list, or `None`.
