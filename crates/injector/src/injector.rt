@@ -1,7 +1,7 @@
 //! The injector: messages in and answers out, packets in and packets with cues out.
 
 ghost use Rattle.std.specs.Prelude.{◌≡◌, ◌++◌, ◌∷◌, [], ℕ, List, Option, Some, None, option_map, Err, Bool, true};
-ghost use Rattle.std.specs.Prelude.{false, length, OnOk, IfErr};
+ghost use Rattle.std.specs.Prelude.{◌<◌, false, length, OnOk, IfErr, IfSome};
 ghost use Rattle.pes_time.specs.Line.{ring_of};
 ghost use Rattle.ts_packet.specs.Fields.{pid_of, on_one};
 ghost use Rattle.ts_packet.specs.Runs.{onto};
@@ -21,7 +21,10 @@ ghost use Rattle.injector.specs.Injecting.{InjectorStandsFor, JudgesBy, FeedFail
 ghost use Rattle.injector.specs.Injecting.{IsFollowed, IsStill, IsBodyOf, RestsAt, KeepsRest, KeepsAllButRest};
 ghost use Rattle.outgoing_packets.specs.Faults.{FeedBlamed, KeepsSink, is_err_or};
 ghost use Rattle.program_follower.specs.Purposes.{writing_cues};
-ghost use Rattle.program_follower.specs.Program.{listed, known_pids};
+ghost use Rattle.event_table.specs.Events.{open_count_of};
+ghost use Rattle.event_table.specs.Tables.{high_time_of, events_of};
+ghost use Rattle.program_follower.specs.Streaming.{place_in, start_in};
+ghost use Rattle.program_follower.specs.Program.{listed, known_pids, program_of, pids_of, behind_head};
 ghost use Rattle.program_follower.specs.Following.{high_of, on_map, IsStartPlace, IsUnfollowed};
 
 use crate::choice::is_reached;
@@ -31,8 +34,8 @@ use crate::requests::Requests;
 use arrayvec::ArrayVec;
 use outgoing_packets::{CueEntry, Outgoing};
 use pes_time::Time33;
-use program_follower::{Purpose, StartFollower, StartPlace};
-use psi_tables::{Config, FeedFault};
+use program_follower::{Purpose, StartFollower, StartPlace, UnitStart};
+use psi_tables::{Config, FeedFault, NetworkFault};
 use scte104_codec::{BadMessage, Message, Reply};
 use ts_packet::{Packet, PacketSink, Pid, PutFault};
 
@@ -143,6 +146,45 @@ impl Injector {
             IsUnfollowed (Some c.program) (Some c.cue_pid) (pid_of packet.now) (packets_in past) }
     {
         !self.has_news && self.overlooks_pid(packet.pid())
+    }
+
+    /// What is wrong with the next packet of the network, behind those before it. It is not taken, and nothing changes.
+    #[inline(always)]
+    pub fn look(&self, packet: &Packet) -> Option<NetworkFault>
+        ensures { (c : Config) (past : List Step) → InjectorStandsFor self.now c past →
+            result ≡ network_fault (writing_cues c) packet.now (packets_in past) }
+    {
+        self.follower.look(packet)
+    }
+
+    /// The number of the switched stream that the packet is of, behind the head, counted from 0 in the order of the map; `None` where it is of
+    /// none.
+    pub fn stream_of(&self, packet: &Packet) -> Option<usize>
+        ensures below { IfSome result (λ place. place < 8) }
+        ensures place { (c : Config) (past : List Step) → InjectorStandsFor self.now c past →
+            result ≡ place_in (pids_of (program_of (Some c.program) (packets_in past))) packet.now }
+    {
+        self.follower.stream_of(packet)
+    }
+
+    /// The unit that the next packet of the network, which is of the switched stream of this number, would begin there, scrambled or not;
+    /// `None` where it begins none. It is not taken.
+    pub fn start_at(&self, stream: usize, packet: &Packet) -> Option<UnitStart>
+        requires { stream < 8 }
+        ensures { (c : Config) (past : List Step) → InjectorStandsFor self.now c past →
+            Some stream ≡ place_in (pids_of (program_of (Some c.program) (packets_in past))) packet.now →
+            result ≡ start_in (pids_of (program_of (Some c.program) (packets_in past))) packet.now
+            (behind_head (Some c.program) (packets_in past)) }
+    {
+        self.follower.start_at(stream, packet)
+    }
+
+    /// How many of the starts that were accepted are not cancelled, and have an end that lies past the greatest time. There is none before the
+    /// first time.
+    pub fn open_count(&self) -> usize
+        ensures { result ≡ open_count_of (high_time_of self.now.requests.table) (events_of self.now.requests.table) }
+    {
+        self.requests.open_count()
     }
 
     /// Takes the next packet of the network, and puts the cues that are due before it, and then the packet, or in the place of a packet

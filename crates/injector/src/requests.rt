@@ -5,6 +5,7 @@ ghost use Rattle.std.specs.Prelude.{OnErr, IsTrue, length, slice_index_or, slice
 ghost use Rattle.scte104_codec.specs.Views.{reading_of};
 ghost use Rattle.event_table.specs.Rings.{CanAdvance};
 ghost use Rattle.event_table.specs.Standing.{Standing, IsTimeAt, on_ring, has_id, with_cancelled};
+ghost use Rattle.event_table.specs.Events.{open_count_of};
 ghost use Rattle.event_table.specs.Tables.{StandsFor, high_time_of, events_of, values_of};
 ghost use Rattle.pes_time.specs.Line.{ring_of};
 ghost use Rattle.injector.specs.Asking.{fields_of, asked_of_multiple, IsStartable};
@@ -167,6 +168,14 @@ impl Requests {
         let entry = self.entry(place);
         let high = self.high();
         next_time(&entry.event, entry.value.last, high)
+    }
+
+    /// How many of the starts that were accepted are not cancelled, and have an end that lies past the greatest time. There is none before the
+    /// first time.
+    pub fn open_count(&self) -> usize
+        ensures { result ≡ open_count_of (high_time_of self.now.table) (events_of self.now.table) }
+    {
+        self.table.open_count()
     }
 
     /// How many events stand.
