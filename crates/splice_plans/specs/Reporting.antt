@@ -26,6 +26,15 @@ pub record EventCounts : Type 0 where
   pub unconditioned : ℕ
   pub ignored : ℕ
 
+-- what two stretches of a run counted, summed; each count stops at the greatest u64
+abbrev pub events_sum : SwitchReport → SwitchReport → SwitchReport
+events_sum a b = record {
+  played = capped (a.played + b.played);
+  not_fitted = capped (a.not_fitted + b.not_fitted);
+  unconditioned = capped (a.unconditioned + b.unconditioned);
+  ignored = capped (a.ignored + b.ignored);
+}
+
 -- of no events
 abbrev pub no_counts : EventCounts
 no_counts = record { played = 0; not_fitted = 0; unconditioned = 0; ignored = 0 }

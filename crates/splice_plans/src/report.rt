@@ -1,6 +1,7 @@
 //! What a switch reports.
 
-ghost use Rattle.splice_plans.specs.Reporting.{EventCounts, ReportIs, with_one, no_counts};
+ghost use Rattle.std.specs.Prelude.{◌≡◌};
+ghost use Rattle.splice_plans.specs.Reporting.{EventCounts, ReportIs, with_one, no_counts, events_sum};
 
 /// What became of the events that the cues of a network armed. A count stops at the greatest.
 #[derive(Clone, Copy, Debug, PartialEq, Eq)]
@@ -25,6 +26,18 @@ impl SwitchReport {
             not_fitted: 0,
             unconditioned: 0,
             ignored: 0,
+        }
+    }
+
+    /// What two stretches of a run counted, summed.
+    pub fn plus(self, other: SwitchReport) -> SwitchReport
+        ensures { result ≡ events_sum self other }
+    {
+        SwitchReport {
+            played: self.played.saturating_add(other.played),
+            not_fitted: self.not_fitted.saturating_add(other.not_fitted),
+            unconditioned: self.unconditioned.saturating_add(other.unconditioned),
+            ignored: self.ignored.saturating_add(other.ignored),
         }
     }
 
