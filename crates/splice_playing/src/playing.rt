@@ -2,7 +2,10 @@
 
 ghost use Rattle.std.specs.Prelude.{◌≡◌, ◌<◌, ◌≤◌, ◌+◌, ◌%◌, ◌++◌, ◌∷◌, ◌^◌, [], ℕ, ℤ, List, length, slice_index_or};
 ghost use Rattle.std.specs.Prelude.{Option, None, Some, IfSome, OnOk, IfErr, true};
-ghost use Rattle.ts_packet.specs.Numbering.{Step, Counts};
+ghost use Rattle.ts_packet.specs.Numbering.{Step, Kept, Counts, moved};
+ghost use Rattle.ts_packet.specs.Fields.{renumbered};
+ghost use Rattle.event_table.specs.Events.{open_count_of};
+ghost use Rattle.event_table.specs.Tables.{high_time_of, events_of};
 ghost use Rattle.unit_stream.specs.UnitPackets.{put_in};
 ghost use Rattle.event_table.specs.Standing.{Standing};
 ghost use Rattle.splice_plans.specs.Parts.{KeepsEvents, IsReached};
@@ -598,6 +601,45 @@ impl Playing {
         let put = kept.keep(packet, sink);
         self.streams[stream % 8] = kept;
         put
+    }
+
+    /// Puts a packet on the PID of the stream of this number that is of no unit of it, in a played event or not. It is counted as one that is
+    /// kept.
+    ///
+    /// # Errors
+    ///
+    /// The sink's, at this packet, which is counted all the same.
+    pub fn put_beside<S: PacketSink>(
+        &mut self,
+        stream: usize,
+        packet: &Packet,
+        sink: &mut S,
+    ) -> Result<(), PutFault>
+        requires { stream < 8 }
+        ensures leads { S.leads sink.old sink.new }
+        ensures ok { (start : Option (List ℕ)) (ps : List (List ℕ)) (d : SwitchedStream) (steps : List Step) →
+            S.holds sink.old start ps → Counts (slice_index_or self.old.streams stream d).counter steps →
+            OnOk result (S.holds sink.new start (ps ++ renumbered (moved steps) packet.now ∷ [])) }
+        ensures counts { (d : SwitchedStream) (steps : List Step) →
+            Counts (slice_index_or self.old.streams stream d).counter steps →
+            Counts (slice_index_or self.new.streams stream d).counter (Kept packet.now ∷ steps) }
+        ensures err { (start : Option (List ℕ)) (ps : List (List ℕ)) (d : SwitchedStream) (steps : List Step) →
+            S.holds sink.old start ps → Counts (slice_index_or self.old.streams stream d).counter steps →
+            IfErr result (λ f. S.fails sink.new start ps (renumbered (moved steps) packet.now) f) }
+        ensures well { OnOk result (WentWell (S.counts sink.old) (S.counts sink.new)) }
+        ensures blamed { IfErr result (λ f. Blamed f (S.counts sink.old) (S.counts sink.new) (S.is_full sink.new)) }
+    {
+        let mut kept = self.streams[stream];
+        let put = kept.keep(packet, sink);
+        self.streams[stream] = kept;
+        put
+    }
+
+    /// How many events are not cancelled, and have an end that lies past the greatest time. There is none before the first time.
+    pub fn open_count(&self) -> usize
+        ensures { result ≡ open_count_of (high_time_of self.now.events.obeyed.table) (events_of self.now.events.obeyed.table) }
+    {
+        self.events.open_count()
     }
 
     /// Takes this as the greatest time behind the packet that was put, and counts the events that are forgotten by it.

@@ -1,6 +1,13 @@
 //! The switch.
 
-ghost use Rattle.std.specs.Prelude.{◌≡◌, ◌<◌, ◌++◌, ◌∷◌, [], ℕ, List, length, Option, None, Err, OnOk, IfOk, IfErr, true};
+ghost use Rattle.std.specs.Prelude.{◌≡◌, ◌<◌, ◌++◌, ◌∷◌, [], ℕ, List, length, slice_index_or, Option, None, Some, Err, OnOk, IfOk, IfErr, IfSome, true};
+ghost use Rattle.ts_packet.specs.Fields.{renumbered};
+ghost use Rattle.ts_packet.specs.Numbering.{Step as NumberStep, Kept, Counts, moved};
+ghost use Rattle.event_table.specs.Events.{open_count_of};
+ghost use Rattle.event_table.specs.Tables.{high_time_of, events_of};
+ghost use Rattle.program_follower.specs.Program.{known_pids, program_of, pids_of, behind_head};
+ghost use Rattle.program_follower.specs.Streaming.{place_in, start_in};
+ghost use Rattle.splice_plans.specs.declared.stream.SwitchedStream.{SwitchedStream};
 ghost use Rattle.ts_packet.specs.Sinks.{Blamed};
 ghost use Rattle.ts_packet.specs.Transfers.{WentWell};
 ghost use Rattle.program_follower.specs.Faults.{network_fault};
@@ -16,10 +23,11 @@ ghost use Rattle.outgoing_packets.specs.Faults.{FeedBlamed, KeepsSink, is_err_or
 ghost use Rattle.splice_switch.specs.Standing.{IsFollowedAs, IsStart};
 
 use ad_library::AdLibrary;
+use arrayvec::ArrayVec;
 use outgoing_packets::{CueEntry, Outgoing};
 use pes_time::Time33;
-use program_follower::{Purpose, StartFollower, StartPacket, StartPlace};
-use psi_tables::{Config, FeedFault};
+use program_follower::{Purpose, StartFollower, StartPacket, StartPlace, UnitStart};
+use psi_tables::{Config, FeedFault, NetworkFault};
 use splice_plans::SwitchReport;
 use splice_playing::Playing;
 use ts_packet::{Packet, PacketSink, Pid, PutFault};
@@ -142,6 +150,90 @@ impl Switch {
                 Err(fault)
             }
         }
+    }
+
+    /// What is wrong with the next packet of the network, behind those before it. It is not taken, and nothing changes.
+    #[inline(always)]
+    pub fn look(&self, packet: &Packet) -> Option<NetworkFault>
+        ensures { (c : Config) (filed : ℕ → Option Advertisement) (past : List (List ℕ)) → SwitchStandsFor self.now c filed past →
+            result ≡ network_fault (reading_cues c) packet.now past }
+    {
+        self.follower.look(packet)
+    }
+
+    /// The PIDs that are known of its program: that of the map once the PAT gave it, and behind it those of the switched streams in the order
+    /// of the map, once that came.
+    pub fn pids(&self) -> ArrayVec<Pid, 9>
+        ensures { (c : Config) (filed : ℕ → Option Advertisement) (past : List (List ℕ)) → SwitchStandsFor self.now c filed past →
+            result.items ≡ known_pids (Some c.program) past }
+    {
+        self.follower.pids()
+    }
+
+    /// The number of the switched stream that the packet is of, behind the head, counted from 0 in the order of the map; `None` where it is of
+    /// none.
+    pub fn stream_of(&self, packet: &Packet) -> Option<usize>
+        ensures below { IfSome result (λ place. place < 8) }
+        ensures place { (c : Config) (filed : ℕ → Option Advertisement) (past : List (List ℕ)) → SwitchStandsFor self.now c filed past →
+            result ≡ place_in (pids_of (program_of (Some c.program) past)) packet.now }
+    {
+        self.follower.stream_of(packet)
+    }
+
+    /// The unit that the next packet of the network, which is of the switched stream of this number, would begin there, scrambled or not;
+    /// `None` where it begins none. It is not taken.
+    pub fn start_at(&self, stream: usize, packet: &Packet) -> Option<UnitStart>
+        requires { stream < 8 }
+        ensures { (c : Config) (filed : ℕ → Option Advertisement) (past : List (List ℕ)) → SwitchStandsFor self.now c filed past →
+            Some stream ≡ place_in (pids_of (program_of (Some c.program) past)) packet.now →
+            result ≡ start_in (pids_of (program_of (Some c.program) past)) packet.now (behind_head (Some c.program) past) }
+    {
+        self.follower.start_at(stream, packet)
+    }
+
+    /// How many events are not cancelled, and have an end that lies past the greatest time. There is none before the first time.
+    pub fn open_count(&self) -> usize
+        ensures { result ≡ open_count_of (high_time_of self.now.playing.events.obeyed.table)
+            (events_of self.now.playing.events.obeyed.table) }
+    {
+        self.playing.open_count()
+    }
+
+    /// Puts a packet on the PID of the switched stream of this number that is of no unit of it. Its counter goes on as that of a packet that is
+    /// kept. The follower does not take it.
+    ///
+    /// # Errors
+    ///
+    /// The sink's, at this packet.
+    pub fn put_beside<S: PacketSink>(
+        &mut self,
+        stream: usize,
+        packet: &Packet,
+        sink: &mut S,
+    ) -> Result<(), PutFault>
+        requires { stream < 8 }
+        ensures leads { S.leads sink.old sink.new }
+        ensures ok { (start : Option (List ℕ)) (ps : List (List ℕ)) (d : SwitchedStream) (steps : List NumberStep) →
+            S.holds sink.old start ps → Counts (slice_index_or self.old.playing.streams stream d).counter steps →
+            OnOk result (S.holds sink.new start (ps ++ renumbered (moved steps) packet.now ∷ [])) }
+        ensures counts { (d : SwitchedStream) (steps : List NumberStep) →
+            Counts (slice_index_or self.old.playing.streams stream d).counter steps →
+            Counts (slice_index_or self.new.playing.streams stream d).counter (Kept packet.now ∷ steps) }
+        ensures err { (start : Option (List ℕ)) (ps : List (List ℕ)) (d : SwitchedStream) (steps : List NumberStep) →
+            S.holds sink.old start ps → Counts (slice_index_or self.old.playing.streams stream d).counter steps →
+            IfErr result (λ f. S.fails sink.new start ps (renumbered (moved steps) packet.now) f) }
+        ensures well { OnOk result (WentWell (S.counts sink.old) (S.counts sink.new)) }
+        ensures blamed { IfErr result (λ f. Blamed f (S.counts sink.old) (S.counts sink.new) (S.is_full sink.new)) }
+    {
+        self.playing.put_beside(stream, packet, sink)
+    }
+
+    /// What has become of the events so far, and of those that stand, as it will stand in the report.
+    pub fn report(&self, library: &AdLibrary) -> SwitchReport
+        ensures { (c : Config) (past : List (List ℕ)) → SwitchStandsFor self.now c (held library.now) past →
+            ReportIs result (report_of (setting_of c (held library.now)) past) }
+    {
+        self.playing.report(self.follower.streams(), library)
     }
 
     /// Puts what is left of the advertisements that run, and reports. No packet is taken any more.
