@@ -11,3 +11,4 @@ pub mod Passing
 pub mod Nested
 pub mod ChainRuns
 pub mod Stages
+pub mod Unjudged

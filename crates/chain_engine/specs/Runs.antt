@@ -1,6 +1,7 @@
 -- Whole runs: what is put and answered, by the network's bytes and what the automation gave; what a fault says, and
 -- what the devices did there.
-use Rattle.std.specs.Prelude.{◌≡◌, ◌⊎◌, ℕ, suc, List, [], ◌∷◌, ◌++◌, Bool, Option, None, IfSome, length, reverse}
+use Rattle.std.specs.Prelude.{◌+◌, ◌≡◌, ◌⊎◌, ℕ, suc, List, [], ◌∷◌, ◌++◌, Bool, Option, None, IfSome, length, reverse}
+use Rattle.splice_plans.specs.Reporting.{events_sum}
 use Rattle.ts_packet.specs.Packets.{packets_of}
 use Rattle.ts_packet.specs.Sources.{ReadSo, ReadOn, RunBlamed}
 use Rattle.ts_packet.specs.Sinks.{Blamed}
@@ -68,6 +69,15 @@ report_of c steps = record {
   accepted = capped (accepted_in c.index (turns_in c.program steps));
   refused = capped (refused_in c.index (turns_in c.program steps));
   switch = no_events;
+}
+
+-- what two stretches of a run counted, summed
+abbrev pub reports_sum : Report → Report → Report
+reports_sum a b = record {
+  messages = capped (a.messages + b.messages);
+  accepted = capped (a.accepted + b.accepted);
+  refused = capped (a.refused + b.refused);
+  switch = events_sum a.switch b.switch;
 }
 
 -- the packets that go out by them, in order

@@ -21,23 +21,23 @@ use ts_packet::{GatheringSink, Packet, PacketSink, PausingPackets, PutFault, Rea
 
 /// A chain that passes packets on through its injector alone, and the automation that it hears before each.
 #[derive(Drop)]
-struct Injecting<'a, M: Allocator, U> {
-    chain: &'a mut Chain<M>,
-    automation: &'a mut U,
+pub struct InjectorStage<'a, M: Allocator, U> {
+    pub(crate) chain: &'a mut Chain<M>,
+    pub(crate) automation: &'a mut U,
 }
 
-impl<'a, M: Allocator, U> Injecting<'a, M, U> {
+impl<'a, M: Allocator, U> InjectorStage<'a, M, U> {
     /// This chain and this automation.
-    fn new(chain: &'a mut Chain<M>, automation: &'a mut U) -> Injecting<'a, M, U>
+    pub fn new(chain: &'a mut Chain<M>, automation: &'a mut U) -> InjectorStage<'a, M, U>
         ensures chain { result.chain.now ≡ chain.old }
         ensures automation { result.automation.now ≡ automation.old }
         ensures same { result.automation.ghost_name ≡ automation.entry.ghost_name }
     {
-        Injecting { chain, automation }
+        InjectorStage { chain, automation }
     }
 }
 
-impl<M: Allocator, U: Automation> Stage for Injecting<'_, M, U> {
+impl<M: Allocator, U: Automation> Stage for InjectorStage<'_, M, U> {
     ghost use Rattle.std.specs.Prelude.{◌≡◌, false};
     ghost use Rattle.std.proofs.Common.{refl, ◌∙◌};
     ghost use Rattle.program_follower.specs.Faults.{network_fault};
@@ -132,7 +132,7 @@ pub fn run_inject<M: Allocator, P: PausingPackets, U: Automation, K: GatheringSi
     ensures leads { K.leads out.old out.new }
 {
     let mut chain = chain;
-    let mut stage = Injecting::new(&mut chain, automation);
+    let mut stage = InjectorStage::new(&mut chain, automation);
     match run_stage(&mut stage, network, out) {
         Ok(report) => Ok(report),
         Err(stop) => Err(RunFault::of(stop)),

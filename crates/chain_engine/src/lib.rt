@@ -7,6 +7,7 @@
 //! (`judged_before` of `specs/Talks.antt`), up to the session's end.
 #![tactic(auto)]
 
+mod air;
 pub mod automation;
 mod chain;
 mod faults;
@@ -18,15 +19,17 @@ mod running;
 mod service;
 mod splice;
 mod talk;
+mod unjudged;
 
+pub use air::{AirStage, StretchEnd};
 pub use automation::{Automation, Taken};
 pub use chain::{Chain, OutOfMemory};
 pub use faults::RunFault;
 pub use hearing::SessionEnd;
-pub use inject::run_inject;
+pub use inject::{InjectorStage, run_inject};
 pub use judge::Judge;
 pub use report::Report;
-pub use running::run;
+pub use running::{ChainStage, run};
 pub use service::{Service, of_bytes};
-pub use splice::run_splice;
+pub use splice::{SwitchStage, run_splice};
 pub use talk::Talk;

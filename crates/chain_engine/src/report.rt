@@ -4,7 +4,7 @@ ghost use Rattle.std.specs.Prelude.{◌≡◌, List};
 ghost use Rattle.psi_tables.specs.declared.config.Config.{Config};
 ghost use Rattle.injector.specs.Injecting.{CountsAre};
 ghost use Rattle.injector.specs.Steps.{Step, turns_in};
-ghost use Rattle.chain_engine.specs.Runs.{report_of};
+ghost use Rattle.chain_engine.specs.Runs.{report_of, reports_sum};
 ghost use Rattle.chain_engine.specs.ChainRuns.{MessagesAre};
 
 use injector::MessageCounts;
@@ -34,6 +34,18 @@ impl Report {
             accepted: counts.accepted,
             refused: counts.refused,
             switch: SwitchReport::new(),
+        }
+    }
+
+    /// What two stretches of a run counted, summed.
+    pub fn plus(self, other: Report) -> Report
+        ensures { result ≡ reports_sum self other }
+    {
+        Report {
+            messages: self.messages.saturating_add(other.messages),
+            accepted: self.accepted.saturating_add(other.accepted),
+            refused: self.refused.saturating_add(other.refused),
+            switch: self.switch.plus(other.switch),
         }
     }
 

@@ -113,25 +113,25 @@ impl<M: Allocator> Chain<M> {
 
 /// A chain, the automation that it hears before each packet, and the library that it plays.
 #[derive(Drop)]
-struct Playing<'a, M: Allocator, U> {
-    chain: &'a mut Chain<M>,
-    automation: &'a mut U,
-    library: &'a AdLibrary,
+pub struct ChainStage<'a, M: Allocator, U> {
+    pub(crate) chain: &'a mut Chain<M>,
+    pub(crate) automation: &'a mut U,
+    pub(crate) library: &'a AdLibrary,
 }
 
-impl<'a, M: Allocator, U> Playing<'a, M, U> {
+impl<'a, M: Allocator, U> ChainStage<'a, M, U> {
     /// This chain, automation and library.
-    fn new(
+    pub fn new(
         chain: &'a mut Chain<M>,
         automation: &'a mut U,
         library: &'a AdLibrary,
-    ) -> Playing<'a, M, U>
+    ) -> ChainStage<'a, M, U>
         ensures chain { result.chain.now ≡ chain.old }
         ensures automation { result.automation.now ≡ automation.old }
         ensures library { result.library.now ≡ library.now }
         ensures same { result.automation.ghost_name ≡ automation.entry.ghost_name }
     {
-        Playing {
+        ChainStage {
             chain,
             automation,
             library,
@@ -139,7 +139,7 @@ impl<'a, M: Allocator, U> Playing<'a, M, U> {
     }
 }
 
-impl<M: Allocator, U: Automation> Stage for Playing<'_, M, U> {
+impl<M: Allocator, U: Automation> Stage for ChainStage<'_, M, U> {
     ghost use Rattle.std.specs.Prelude.{◌≡◌, true};
     ghost use Rattle.std.proofs.Common.{refl, ◌∙◌};
     ghost use Rattle.program_follower.specs.Faults.{network_fault};
@@ -238,7 +238,7 @@ pub fn run<M: Allocator, P: PausingPackets, U: Automation, K: GatheringSink>(
     ensures leads { K.leads out.old out.new }
 {
     let mut chain = chain;
-    let mut stage = Playing::new(&mut chain, automation, library);
+    let mut stage = ChainStage::new(&mut chain, automation, library);
     match run_stage(&mut stage, network, out) {
         Ok(report) => Ok(report),
         Err(stop) => Err(RunFault::of(stop)),

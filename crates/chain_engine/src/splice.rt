@@ -1,6 +1,8 @@
 //! Whole runs of the switch: a network with cues in, the spliced stream out.
 
-ghost use Rattle.std.specs.Prelude.{◌≡◌, ℕ, ◌⊎◌, List, ◌++◌, Option, Err, false, OnOk, IfOk, IfErr};
+ghost use Rattle.ad_library.specs.Advertisements.{Advertisement};
+ghost use Rattle.splice_switch.specs.Standing.{SwitchStandsFor};
+ghost use Rattle.std.specs.Prelude.{◌≡◌, ℕ, ◌⊎◌, [], List, ◌++◌, Option, Err, false, OnOk, IfOk, IfErr};
 ghost use Rattle.ts_packet.specs.Sources.{SourceCounts, Stalled, Exhausted};
 ghost use Rattle.ts_packet.specs.Transfers.{WentWell};
 ghost use Rattle.program_follower.specs.Purposes.{reading_cues};
@@ -19,13 +21,29 @@ use ts_packet::{GatheringSink, Packet, PacketSink, PausingPackets, PutFault, Rea
 
 /// A switch, the configuration that it was made for, and the library that it plays.
 #[derive(Drop)]
-struct Splicing<'a> {
-    switch: Switch,
-    config: Config,
-    library: &'a AdLibrary,
+pub struct SwitchStage<'a> {
+    pub(crate) switch: Switch,
+    pub(crate) config: Config,
+    pub(crate) library: &'a AdLibrary,
 }
 
-impl Stage for Splicing<'_> {
+impl<'a> SwitchStage<'a> {
+    /// A switch of this configuration that was given no packet, and this library.
+    pub fn new(config: Config, library: &'a AdLibrary) -> SwitchStage<'a>
+        ensures switch { (filed : ℕ → Option Advertisement) → SwitchStandsFor result.switch config filed [] }
+        ensures config { result.config ≡ config }
+        ensures library { result.library.now ≡ library.now }
+    {
+        let given = &config;
+        SwitchStage {
+            switch: Switch::new(*given),
+            config: *given,
+            library,
+        }
+    }
+}
+
+impl Stage for SwitchStage<'_> {
     ghost use Rattle.std.specs.Prelude.{◌≡◌, true};
     ghost use Rattle.program_follower.specs.Faults.{network_fault};
     ghost use Rattle.program_follower.specs.Purposes.{reading_cues};
@@ -115,7 +133,7 @@ pub fn run_splice<P: PausingPackets, K: GatheringSink>(
     ensures leads { K.leads out.old out.new }
 {
     let given = &config;
-    let mut stage = Splicing {
+    let mut stage = SwitchStage {
         switch: Switch::new(*given),
         config: *given,
         library,

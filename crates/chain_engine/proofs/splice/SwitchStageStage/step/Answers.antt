@@ -8,7 +8,7 @@ use Rattle.splice_switch.specs.Standing.{SwitchStandsFor, FeedFails}
 use Rattle.chain_engine.specs.Splices.{switch_sends}
 use Rattle.chain_engine.proofs.SpliceLemmas.{sent_more}
 use Rattle.chain_engine.proofs.StageLemmas.{switch_fails_so, splice_step_fails, stage_blamed}
-use Rattle.chain_engine.proofs.splice.SplicingStage.step.Goals as goal
+use Rattle.chain_engine.proofs.splice.SwitchStageStage.step.Goals as goal
 
 pub returns-in-Ok-clause-ok : goal.returns-in-Ok-clause-ok
 returns-in-Ok-clause-ok g c = λ first ps qs start before s is_held.

@@ -1,5 +1,5 @@
 use Rattle.chain_engine.proofs.StageLemmas.{injected}
-use Rattle.chain_engine.proofs.inject.InjectingStage.finish.Goals as goal
+use Rattle.chain_engine.proofs.inject.InjectorStageStage.finish.Goals as goal
 
 pub returns-clause-ok : goal.returns-clause-ok
 returns-clause-ok g c = λ first ps qs kept start before s held.

@@ -7,7 +7,7 @@ use Rattle.splice_plans.specs.Reporting.{ReportIs, report_of}
 use Rattle.splice_switch.specs.Standing.{SwitchStandsFor, FinishFails}
 use Rattle.chain_engine.specs.Splices.{switch_sends}
 use Rattle.chain_engine.proofs.StageLemmas.{spliced, rest_fails_so, splice_finish_fails, finish_blamed}
-use Rattle.chain_engine.proofs.splice.SplicingStage.finish.Goals as goal
+use Rattle.chain_engine.proofs.splice.SwitchStageStage.finish.Goals as goal
 
 pub returns-in-Ok-clause-ok : goal.returns-in-Ok-clause-ok
 returns-in-Ok-clause-ok g c = λ first ps qs kept start before s is_held.

@@ -11,7 +11,7 @@ use Rattle.chain_engine.proofs.PassingLemmas.{injects-one}
 use Rattle.chain_engine.proofs.RunLemmas.{heard, passed}
 use Rattle.chain_engine.proofs.StageLemmas.{run_of, fails_so, inject_step_fails, stage_blamed}
 use Rattle.chain_engine.proofs.StepsLemmas.{before_packets}
-use Rattle.chain_engine.proofs.inject.InjectingStage.step.Goals as goal
+use Rattle.chain_engine.proofs.inject.InjectorStageStage.step.Goals as goal
 
 pub returns-in-Ok-clause-ok : goal.returns-in-Ok-clause-ok
 returns-in-Ok-clause-ok g c = λ first ps qs start before s held.

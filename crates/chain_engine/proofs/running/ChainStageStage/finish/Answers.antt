@@ -12,7 +12,7 @@ use Rattle.chain_engine.specs.Runs.{reply_in, sent_by, steps_of, Exchanged}
 use Rattle.chain_engine.specs.ChainRuns.{chain_sends}
 use Rattle.chain_engine.specs.Stages.{HasRun, ServesFor, ChainEnds, ChainBreaks}
 use Rattle.chain_engine.proofs.StageLemmas.{ran, rest_fails_so, chain_finish_fails, finish_blamed}
-use Rattle.chain_engine.proofs.running.PlayingStage.finish.Goals as goal
+use Rattle.chain_engine.proofs.running.ChainStageStage.finish.Goals as goal
 
 pub returns-in-Ok-clause-ok : goal.returns-in-Ok-clause-ok
 returns-in-Ok-clause-ok g c = λ first ps qs kept start before s is_held.

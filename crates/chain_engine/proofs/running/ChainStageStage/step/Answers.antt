@@ -14,7 +14,7 @@ use Rattle.chain_engine.proofs.PassingLemmas.{serves-one, chain-more, last-sound
 use Rattle.chain_engine.proofs.RunLemmas.{heard, passed}
 use Rattle.chain_engine.proofs.StageLemmas.{run_of, chain_step_fails, chain_blamed}
 use Rattle.chain_engine.proofs.StepsLemmas.{steps_packets}
-use Rattle.chain_engine.proofs.running.PlayingStage.step.Goals as goal
+use Rattle.chain_engine.proofs.running.ChainStageStage.step.Goals as goal
 
 pub returns-in-Ok-clause-ok : goal.returns-in-Ok-clause-ok
 returns-in-Ok-clause-ok g c = λ first ps qs start before s is_held.

@@ -1,0 +1,176 @@
+//! Packets that are passed on unjudged: they are read as ones that are marked in error (ISO/IEC 13818-1, 2.4.3.3, transport_error_indicator),
+//! of which nothing is relied on, and go out as they came.
+
+ghost use Rattle.std.specs.Prelude.{◌≡◌, OnOk, IfErr};
+ghost use Rattle.ts_packet.specs.Fields.{marked};
+ghost use Rattle.ts_packet.specs.Sinks.{Blamed};
+ghost use Rattle.ts_packet.specs.Transfers.{WentWell};
+
+use crate::faults::put_fault;
+use crate::service::Service;
+use ad_library::AdLibrary;
+use splice_switch::Switch;
+use ts_packet::{Packet, PacketSink, PutFault};
+
+/// The packet, marked in error.
+pub(crate) fn marked(packet: &Packet) -> Packet
+    ensures { result ≡ marked packet.now }
+{
+    let mut marked = *packet;
+    marked.mark_in_error();
+    marked
+}
+
+/// A sink that puts a packet as it came in the place of one that is marked in error.
+#[derive(Drop)]
+pub(crate) struct Restoring<'a, K: PacketSink> {
+    pub(crate) packet: &'a Packet,
+    pub(crate) out: &'a mut K,
+}
+
+impl<K: PacketSink> PacketSink for Restoring<'_, K> {
+    ghost use Rattle.std.specs.Prelude.{◌≡◌, map, true};
+    ghost use Rattle.std.proofs.Common.{refl, ap, ◌∙◌};
+    ghost use Rattle.chain_engine.specs.Unjudged.{restored};
+
+    ghost holds = { λ g start ps. K.holds g.out.now start (map (restored g.packet.now) ps) };
+
+    ghost fails = { λ g start ps p f. K.fails g.out.now start (map (restored g.packet.now) ps) (restored g.packet.now p) f };
+
+    ghost is_broken = { λ g. K.is_broken g.out.now };
+
+    ghost counts = { λ g. K.counts g.out.now };
+
+    ghost is_full = { λ g. K.is_full g.out.now };
+
+    ghost leads = { λ g h. (h.out.ghost_name ≡ g.out.ghost_name) × (h.packet.now ≡ g.packet.now) × K.leads g.out.now h.out.now
+        × (K.is_broken g.out.now ≡ true → h ≡ g) };
+
+    ghost leads_refl = { λ s. (refl, refl, K.leads_refl s.out.now, λ b. refl) };
+
+    ghost leads_trans = { λ s t u h k. (
+      k.0 ∙ h.0,
+      k.1 ∙ h.1,
+      K.leads_trans s.out.now t.out.now u.out.now h.2 k.2,
+      λ b. k.3 (ap (λ w. K.is_broken w.out.now) (h.3 b) ∙ b) ∙ h.3 b,
+    ) };
+
+    ghost leads_later = { λ s t h. K.leads_later s.out.now t.out.now h.2 };
+
+    ghost leads_full = { λ s t h. K.leads_full s.out.now t.out.now h.2 };
+
+    ghost leads_spent = { λ s t h. h.3 };
+
+    fn put(&mut self, packet: &Packet) -> Result<(), PutFault> {
+        if packet.error() {
+            self.out.put(self.packet)
+        } else {
+            self.out.put(packet)
+        }
+    }
+}
+
+/// Has the switch pass on a packet unjudged. On the PID of a switched stream its counter goes on as that of a packet that is kept.
+pub(crate) fn put_unjudged<K: PacketSink>(
+    switch: &mut Switch,
+    packet: &Packet,
+    library: &AdLibrary,
+    out: &mut K,
+) -> Result<(), PutFault>
+    ensures leads { K.leads out.old out.new }
+    ensures well { OnOk result (WentWell (K.counts out.old) (K.counts out.new)) }
+    ensures blamed { IfErr result (λ f. Blamed f (K.counts out.old) (K.counts out.new) (K.is_full out.new)) }
+{
+    match switch.stream_of(packet) {
+        Some(stream) => switch.put_beside(stream, packet, out),
+        None => {
+            let mut restoring = Restoring { packet, out };
+            match switch.feed_with_same(&marked(packet), library, &mut restoring) {
+                Ok(()) => Ok(()),
+                Err(fault) => Err(put_fault(fault)),
+            }
+        }
+    }
+}
+
+/// A sink that feeds a switch, and has it pass on a packet unjudged in the place of one that is marked in error. It says nothing of what is
+/// out.
+#[derive(Drop)]
+pub(crate) struct Beside<'a, K: PacketSink> {
+    pub(crate) switch: &'a mut Switch,
+    pub(crate) packet: &'a Packet,
+    pub(crate) library: &'a AdLibrary,
+    pub(crate) out: &'a mut K,
+    pub(crate) is_broken: bool,
+}
+
+impl<K: PacketSink> PacketSink for Beside<'_, K> {
+    ghost use Rattle.std.specs.Prelude.{◌≡◌, true};
+    ghost use Rattle.std.proofs.Common.{refl, ap, ◌∙◌};
+
+    ghost holds = { λ g start ps. ⊥ };
+
+    ghost fails = { λ g start ps p f. ⊥ };
+
+    ghost is_broken = { λ g. g.is_broken };
+
+    ghost counts = { λ g. K.counts g.out.now };
+
+    ghost is_full = { λ g. K.is_full g.out.now };
+
+    ghost leads = { λ g h. (h.switch.ghost_name ≡ g.switch.ghost_name) × (h.out.ghost_name ≡ g.out.ghost_name)
+        × K.leads g.out.now h.out.now × (g.is_broken ≡ true → h ≡ g) };
+
+    ghost leads_refl = { λ s. (refl, refl, K.leads_refl s.out.now, λ b. refl) };
+
+    ghost leads_trans = { λ s t u h k. (
+      k.0 ∙ h.0,
+      k.1 ∙ h.1,
+      K.leads_trans s.out.now t.out.now u.out.now h.2 k.2,
+      λ b. k.3 (ap (λ w. w.is_broken) (h.3 b) ∙ b) ∙ h.3 b,
+    ) };
+
+    ghost leads_later = { λ s t h. K.leads_later s.out.now t.out.now h.2 };
+
+    ghost leads_full = { λ s t h. K.leads_full s.out.now t.out.now h.2 };
+
+    ghost leads_spent = { λ s t h. h.3 };
+
+    fn put(&mut self, packet: &Packet) -> Result<(), PutFault> {
+        if self.is_broken {
+            return Err(PutFault::Failed);
+        }
+        let put = if packet.error() {
+            put_unjudged(self.switch, self.packet, self.library, self.out)
+        } else {
+            match self.switch.feed_with_same(packet, self.library, self.out) {
+                Ok(()) => Ok(()),
+                Err(fault) => Err(put_fault(fault)),
+            }
+        };
+        self.is_broken = put.is_err();
+        put
+    }
+}
+
+impl Service {
+    /// Has the injector pass on a packet unjudged to the switch, with the cues that are due before it, and the switch pass it on.
+    pub(crate) fn pass_unjudged<K: PacketSink>(
+        &mut self,
+        packet: &Packet,
+        library: &AdLibrary,
+        out: &mut K,
+    ) -> Result<(), PutFault> {
+        let mut beside = Beside {
+            switch: &mut self.switch,
+            packet,
+            library,
+            out,
+            is_broken: false,
+        };
+        match self.injector.feed(&marked(packet), &mut beside) {
+            Ok(()) => Ok(()),
+            Err(fault) => Err(put_fault(fault)),
+        }
+    }
+}
