@@ -1,0 +1,162 @@
+//! What is kept of the packets of each switched stream that were left unjudged.
+
+use chain_engine::AirStage;
+use program_follower::UnitStart;
+use psi_tables::NetworkFault;
+use ts_packet::Packet;
+
+/// What becomes of a packet.
+#[derive(Clone, Copy, Debug, PartialEq, Eq, Drop)]
+pub(crate) enum Verdict {
+    /// It is judged.
+    Judged,
+    /// It is left unjudged.
+    Unjudged,
+    /// A stretch begins anew with it, since this is wrong with it.
+    BeginsAnew(NetworkFault),
+}
+
+/// Of one switched stream, what is kept of the packets that were left unjudged.
+#[derive(Clone, Copy, Debug, Drop)]
+struct StreamMarks {
+    /// The unit that has begun last was left unjudged: its packets are, up to the next unit with a time.
+    is_damaged: bool,
+    /// A unit lay too far from the greatest time, and none with a time was judged since.
+    has_jumped: bool,
+    /// The last payload packet began such a unit.
+    is_jump: bool,
+    /// That packet.
+    jump: Packet,
+}
+
+impl StreamMarks {
+    /// Nothing is kept.
+    fn new() -> StreamMarks {
+        StreamMarks {
+            is_damaged: false,
+            has_jumped: false,
+            is_jump: false,
+            jump: Packet::null(),
+        }
+    }
+
+    /// Something is kept.
+    fn is_any(&self) -> bool {
+        self.is_damaged || self.has_jumped || self.is_jump
+    }
+
+    /// What becomes of a packet of the stream, which begins this unit, if one, and has no fault.
+    fn take_sound(&mut self, start: Option<UnitStart>) -> Verdict {
+        let is_timed = match start {
+            None => false,
+            Some(start) => start.pts.is_some(),
+        };
+        if is_timed {
+            self.is_damaged = false;
+            self.has_jumped = false;
+            return Verdict::Judged;
+        }
+        if self.is_damaged {
+            Verdict::Unjudged
+        } else {
+            Verdict::Judged
+        }
+    }
+
+    /// What becomes of a packet that begins a unit too far from the greatest time. One damaged stamp costs its unit; a new time base is seen
+    /// at the second unit of a stream.
+    fn take_jump(&mut self, packet: &Packet, is_repeat: bool) -> Verdict {
+        if self.has_jumped && !is_repeat {
+            return Verdict::BeginsAnew(NetworkFault::TimeJump);
+        }
+        self.is_damaged = true;
+        self.has_jumped = true;
+        self.is_jump = true;
+        self.jump = *packet;
+        Verdict::Unjudged
+    }
+
+    /// What becomes of a packet of the stream, which begins this unit, if one, and of which this is wrong.
+    fn take(
+        &mut self,
+        packet: &Packet,
+        start: Option<UnitStart>,
+        fault: Option<NetworkFault>,
+    ) -> Verdict {
+        let is_repeat = self.is_jump && self.jump.is_like(packet);
+        if packet.has_payload() {
+            self.is_jump = false;
+        }
+        match fault {
+            None => self.take_sound(start),
+            Some(NetworkFault::Scrambled | NetworkFault::HeaderSplit) => {
+                if start.is_some() {
+                    self.is_damaged = true;
+                }
+                Verdict::Unjudged
+            }
+            Some(NetworkFault::TimeJump) => self.take_jump(packet, is_repeat),
+            Some(fault) => Verdict::BeginsAnew(fault),
+        }
+    }
+}
+
+/// What is kept of the packets of each switched stream that were left unjudged.
+#[derive(Clone, Copy, Debug, Drop)]
+pub(crate) struct Marks {
+    streams: [StreamMarks; 8],
+    /// Something is kept of some stream.
+    has_any: bool,
+}
+
+impl Marks {
+    /// Nothing is kept.
+    pub(crate) fn new() -> Marks {
+        Marks {
+            streams: [StreamMarks::new(); 8],
+            has_any: false,
+        }
+    }
+
+    /// What becomes of the next packet of the stage.
+    #[inline(always)]
+    pub(crate) fn judge<S: AirStage>(&mut self, stage: &S, packet: &Packet) -> Verdict {
+        let fault = stage.look(packet);
+        if fault.is_none() && !self.has_any {
+            return Verdict::Judged;
+        }
+        self.judge_closely(stage, packet, fault)
+    }
+
+    /// What becomes of a packet of which this is wrong, or behind one that was left unjudged.
+    #[cold]
+    #[inline(never)]
+    fn judge_closely<S: AirStage>(
+        &mut self,
+        stage: &S,
+        packet: &Packet,
+        fault: Option<NetworkFault>,
+    ) -> Verdict {
+        let Some(index) = stage.stream_of(packet) else {
+            return match fault {
+                None => Verdict::Judged,
+                Some(NetworkFault::CuePidUsed) if stage.is_cue(packet) => Verdict::Unjudged,
+                Some(fault) => Verdict::BeginsAnew(fault),
+            };
+        };
+        let start = stage.start_at(index, packet);
+        let verdict = self.streams[index].take(packet, start, fault);
+        self.has_any = self.is_any();
+        verdict
+    }
+
+    /// Something is kept of some stream.
+    fn is_any(&self) -> bool {
+        for stream in &self.streams {
+            if stream.is_any() {
+                return true;
+            }
+        }
+        false
+    }
+}
