@@ -66,6 +66,7 @@ pub record IsInjectOf (matches : ArgMatches) (adverts : Option End) (options : I
   pub asking : IsAsking (given matches (codes "script")) (given matches (codes "listen")) options.asking
   pub adverts_are : options.adverts ≡ adverts
   pub output : IsNamed (given matches (codes "out")) options.output
+  pub on_air : IsFlag (one_text (found_of matches) (codes "on-air")) options.is_on_air
   pub verbose : IsFlag (one_text (found_of matches) (codes "verbose")) options.is_verbose
   pub apart : are_two (is_standard options.network) (is_asked_there options.asking) (is_listed_there options.adverts) ≡ false
 
@@ -81,6 +82,7 @@ pub record IsSpliceOf (matches : ArgMatches) (options : SpliceOptions) : Type 0 
   pub network : IsNamed (given matches (codes "network")) options.network
   pub adverts : IsNamed (given matches (codes "adverts")) options.adverts
   pub output : IsNamed (given matches (codes "out")) options.output
+  pub on_air : IsFlag (one_text (found_of matches) (codes "on-air")) options.is_on_air
   pub verbose : IsFlag (one_text (found_of matches) (codes "verbose")) options.is_verbose
   pub apart : (is_standard options.network && is_standard options.adverts) ≡ false
 

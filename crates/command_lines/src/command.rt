@@ -211,9 +211,9 @@ pub fn command<'a>(alloc: Global) -> Result<Command<'a>, AllocError> {
         .no_binary_name(true)
         .subcommand_required(true)
         .subcommand(CUT.command(alloc)?)?
-        .subcommand(INJECT.command(alloc)?)?
-        .subcommand(SPLICE.command(alloc)?)?
-        .subcommand(RUN.command(alloc)?)?
+        .subcommand(INJECT.on_air(alloc)?)?
+        .subcommand(SPLICE.on_air(alloc)?)?
+        .subcommand(RUN.on_air(alloc)?)?
         .subcommand(SERVICES.command(alloc)?)?
         .subcommand(inspect_command(alloc)?)?
         .subcommand(request_command(alloc)?)

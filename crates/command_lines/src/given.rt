@@ -25,6 +25,13 @@ pub(crate) fn end_of<'a>(matches: &ArgMatches<'a>, name: &str) -> End<'a>
     End::named(matches.get_str(name))
 }
 
+/// Whether the run goes on behind faults of the network.
+pub(crate) fn is_on_air(matches: &ArgMatches<'_>) -> bool
+    ensures { IsFlag (one_text (found_of matches.now) (codes "on-air")) result }
+{
+    matches.get_flag("on-air")
+}
+
 /// Whether more is to be told than the fault's line.
 pub(crate) fn is_verbose(matches: &ArgMatches<'_>) -> bool
     ensures { IsFlag (one_text (found_of matches.now) (codes "verbose")) result }

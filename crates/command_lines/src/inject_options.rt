@@ -8,7 +8,7 @@ ghost use Rattle.command_lines.specs.Command.{AreShared, refused_text, shown_of,
 ghost use Rattle.command_lines.specs.Options.{IsAsking, IsNotAsking, IsInjectOf, IsRunOf, IsNoInject, IsNoRun};
 
 use crate::command::{BadNumber, NumberOption};
-use crate::given::{end_of, is_verbose, text_of};
+use crate::given::{end_of, is_on_air, is_verbose, text_of};
 use crate::subcommand::{Subcommand, ValueOption};
 use clap::ArgMatches;
 use decimal_numbers::{number_below, number_within};
@@ -43,6 +43,14 @@ and the stream goes on.
 At the end standard output has three lines: how many `messages` came, and how many requests were `accepted` and `refused`. With
 --out - the packets go to standard output, and the replies and these lines to standard error.
 
+With --on-air no fault of the network ends the run, as a channel does not end. Bytes that are in no packet are left out. What cannot
+be judged, as a scrambled packet or a unit with a damaged time stamp, goes out unjudged, as it came and at its place, and the rest
+of its unit with it. Where the tables or the time base change all begins anew with that packet, in a new stretch: there is no clock
+until the next time stamp, and the breaks that were accepted before are not cued on. At the end of the network the status is 0, and
+five lines more stand behind these: how many `stretches` there were (1 where none began anew), how many accepted breaks were `lost`
+at the end of one, how many packets went out `unjudged`, how many were marked in error for an adaptation field that does not fit
+(`mended`), and how many bytes were left out (`skipped`). With --verbose each new stretch is told as it begins.
+
 FILE may be a pipe, and - is standard input or output. What came in before a pause of the network goes out before it. The contents
 of the output file are replaced; it may not be an input.";
 
@@ -61,8 +69,11 @@ Example, program 1, whose automation uses DPI_PID_index 1:
 The same from a pipe, with an automation system on port 5167:
   dpi_chain inject --network - --program 1 --cue-pid 496 --index 1 --listen 5167 --out cued.ts < network.ts
 
+A channel in a pipe, which goes on behind its faults and tells of them:
+  dpi_chain inject --network - --program 1 --cue-pid 496 --index 1 --listen 5167 --out - --on-air --verbose < network.ts > cued.ts
+
 Exit status: 0 where the whole stream went through; 1 at a fault, which is named on standard error as `fault: NAME`, and
-what went out before it stands; 2 where the command line is not taken, or asks for help or the version.";
+what went out before it stands (with --on-air only files, pipes, memory and the options have faults); 2 where the command line is not taken, or asks for help or the version.";
 
 const RUN_ABOUT: &str =
     "Plays advertisements in the breaks that an automation asks for (SCTE 104), in one pass";
@@ -73,20 +84,25 @@ what `splice` makes of the output of `inject`.
 
 At the end standard output has the three lines of `inject` and the four of `splice`. With --out - the packets go to standard output,
 and the replies and these lines to standard error. One of the network, the script and the list may be standard input. The contents of the
-output file are replaced; it may not be an input.";
+output file are replaced; it may not be an input.
+
+With --on-air no fault of the network ends the run, and the report has five lines more; `dpi_chain inject --help` tells of them.";
 
 const RUN_EXAMPLE: &str = "Example, with a list whose one line is `7 advert.ts`:
   dpi_chain run --network network.ts --program 1 --cue-pid 496 --index 1 --script breaks.txt --adverts list.txt --out spliced.ts
+
+The same for a channel in a pipe, which goes on behind its faults and tells of them:
+  dpi_chain run --network - --program 1 --cue-pid 496 --index 1 --listen 5167 --adverts list.txt --out - --on-air --verbose < network.ts > spliced.ts
 
 `dpi_chain inject --help` tells of scripts and ports, `dpi_chain splice --help` of lists.";
 
 /// How `run` is called.
 pub const RUN_USAGE: &str =
-    "dpi_chain run --network <FILE> --program <N> --cue-pid <PID> --index <N> <--script <FILE>|--listen <PORT>> --adverts <FILE> --out <FILE> [--verbose]";
+    "dpi_chain run --network <FILE> --program <N> --cue-pid <PID> --index <N> <--script <FILE>|--listen <PORT>> --adverts <FILE> --out <FILE> [--on-air] [--verbose]";
 
 /// How `inject` is called.
 pub const INJECT_USAGE: &str =
-    "dpi_chain inject --network <FILE> --program <N> --cue-pid <PID> --index <N> <--script <FILE>|--listen <PORT>> --out <FILE> [--verbose]";
+    "dpi_chain inject --network <FILE> --program <N> --cue-pid <PID> --index <N> <--script <FILE>|--listen <PORT>> --out <FILE> [--on-air] [--verbose]";
 
 pub(crate) const NETWORK: ValueOption = ValueOption {
     id: "network",
@@ -211,6 +227,8 @@ pub struct InjectOptions<'a> {
     pub adverts: Option<End<'a>>,
     /// What is written.
     pub output: End<'a>,
+    /// Whether the run goes on behind faults of the network.
+    pub is_on_air: bool,
     /// Whether more is told than the fault's line.
     pub is_verbose: bool,
 }
@@ -405,6 +423,7 @@ fn asked_options<'a>(
         asking,
         adverts,
         output: end_of(matches, "out"),
+        is_on_air: is_on_air(matches),
         is_verbose: is_verbose(matches),
     })
 }

@@ -9,8 +9,8 @@ ghost use Rattle.command_lines.specs.Inspecting.{IsInspectOf, IsNoInspect, IsWan
 use crate::command::{BadNumber, NumberOption};
 use crate::given::is_verbose;
 use crate::inject_options::NUMBER_LIMIT;
-use crate::subcommand::{Subcommand, ValueOption};
-use clap::{Arg, ArgAction, ArgMatches, Command};
+use crate::subcommand::{Subcommand, ValueOption, flag};
+use clap::{ArgMatches, Command};
 use decimal_numbers::number_within;
 use run_ends::End;
 use std::alloc::{AllocError, Global};
@@ -80,14 +80,6 @@ pub(crate) fn inspect_command<'a>(alloc: Global) -> Result<Command<'a>, AllocErr
         "Write one JSON object in place of the page (docs/INSPECT.md says its keys)",
     );
     INSPECT.command(alloc)?.arg(points)?.arg(json)
-}
-
-/// A flag.
-fn flag<'a>(alloc: Global, name: &'static str, help: &'static str) -> Arg<'a> {
-    Arg::new(alloc, name)
-        .long(name)
-        .action(ArgAction::SetTrue)
-        .help(help)
 }
 
 /// What `inspect` is to do.

@@ -7,7 +7,7 @@ ghost use Rattle.command_lines.specs.Command.{IsRefusedOfSplice, refused_of_spli
 ghost use Rattle.command_lines.specs.Options.{IsSpliceOf, IsNoSplice};
 
 use crate::command::{BadNumber, NumberOption};
-use crate::given::{end_of, is_verbose, text_of};
+use crate::given::{end_of, is_on_air, is_verbose, text_of};
 use crate::inject_options::{
     ADVERTS, LEAST_PID, NETWORK, NULL_PID, NUMBER_LIMIT, OUT, PLAYING_VERBOSE, PROGRAM, is_standard,
 };
@@ -36,6 +36,14 @@ At the end standard output has four lines: how many breaks were `played`, how ma
 how many played breaks units stepped back over the start or the end (`unconditioned`), and how many cues were
 `ignored`. With --out - the packets go to standard output, and these lines to standard error.
 
+With --on-air no fault of the network ends the run, as a channel does not end. Bytes that are in no packet are left out. What cannot
+be judged, as a scrambled packet or a unit with a damaged time stamp, goes out unjudged, as it came and at its place, and the rest
+of its unit with it. Where the tables or the time base change all begins anew with that packet, in a new stretch: there is no clock
+until the next time stamp, and what played is broken off. At the end of the network the status is 0, and five lines more stand
+behind these: how many `stretches` there were (1 where none began anew), how many announced breaks were `lost` at the end of one,
+how many packets went out `unjudged`, how many were marked in error for an adaptation field that does not fit (`mended`), and how
+many bytes were left out (`skipped`). With --verbose each new stretch is told as it begins.
+
 FILE may be a pipe, and - is standard input or output. What came in before a pause of the network goes out before it. The contents
 of the output file are replaced; it may not be an input.";
 
@@ -45,12 +53,15 @@ const SPLICE_EXAMPLE: &str =
 Example, with a list whose one line is `7 advert.ts`:
   dpi_chain splice --network cued.ts --program 1 --cue-pid 496 --adverts list.txt --out spliced.ts
 
+The same for a channel in a pipe, which goes on behind its faults:
+  dpi_chain splice --network - --program 1 --cue-pid 496 --adverts list.txt --out - --on-air < cued.ts > spliced.ts
+
 Exit status: 0 where the whole stream went through; 1 at a fault, which is named on standard error as `fault: NAME`, and
-what went out before it stands; 2 where the command line is not taken, or asks for help or the version.";
+what went out before it stands (with --on-air only files, pipes, memory and the options have faults); 2 where the command line is not taken, or asks for help or the version.";
 
 /// How `splice` is called.
 pub const SPLICE_USAGE: &str =
-    "dpi_chain splice --network <FILE> --program <N> --cue-pid <PID> --adverts <FILE> --out <FILE> [--verbose]";
+    "dpi_chain splice --network <FILE> --program <N> --cue-pid <PID> --adverts <FILE> --out <FILE> [--on-air] [--verbose]";
 
 const CUE_PID: ValueOption = ValueOption {
     id: "cue-pid",
@@ -82,6 +93,8 @@ pub struct SpliceOptions<'a> {
     pub adverts: End<'a>,
     /// What is written.
     pub output: End<'a>,
+    /// Whether the run goes on behind faults of the network.
+    pub is_on_air: bool,
     /// Whether more is told than the fault's line.
     pub is_verbose: bool,
 }
@@ -178,6 +191,7 @@ pub fn splice_options<'a>(matches: &ArgMatches<'a>) -> Result<SpliceOptions<'a>,
         network,
         adverts,
         output: end_of(matches, "out"),
+        is_on_air: is_on_air(matches),
         is_verbose: is_verbose(matches),
     })
 }

@@ -26,6 +26,18 @@ impl ValueOption {
     }
 }
 
+/// What `--on-air` does.
+const ON_AIR: &str =
+    "Go on behind every fault of the network; what cannot be judged goes out as it came, and the report has five more lines";
+
+/// A flag.
+pub(crate) fn flag<'a>(alloc: Global, name: &'static str, help: &'static str) -> Arg<'a> {
+    Arg::new(alloc, name)
+        .long(name)
+        .action(ArgAction::SetTrue)
+        .help(help)
+}
+
 /// A subcommand, with or without the flag `--verbose`.
 #[derive(Clone, Copy)]
 pub(crate) struct Subcommand {
@@ -68,11 +80,14 @@ impl Subcommand {
 
     /// The subcommand as the command line has it.
     pub(crate) fn command<'a>(self, alloc: Global) -> Result<Command<'a>, AllocError> {
-        let command = self.silent(alloc)?;
-        let verbose = Arg::new(alloc, "verbose")
-            .long("verbose")
-            .action(ArgAction::SetTrue)
-            .help(self.verbose);
-        command.arg(verbose)
+        let verbose = flag(alloc, "verbose", self.verbose);
+        self.silent(alloc)?.arg(verbose)
+    }
+
+    /// Likewise, with the flag `--on-air`.
+    pub(crate) fn on_air<'a>(self, alloc: Global) -> Result<Command<'a>, AllocError> {
+        let on_air = flag(alloc, "on-air", ON_AIR);
+        let verbose = flag(alloc, "verbose", self.verbose);
+        self.silent(alloc)?.arg(on_air)?.arg(verbose)
     }
 }

@@ -3,6 +3,7 @@ use Rattle.std.specs.Prelude.{ℕ, List, [], ◌∷◌, ◌++◌, Bool, cond, co
 use Rattle.std.specs.Fmt.{decimal}
 use Rattle.chain_engine.specs.declared.report.Report.{Report}
 use Rattle.splice_plans.specs.declared.report.SwitchReport.{SwitchReport}
+use Rattle.report_texts.specs.declared.lines.AirCounts.{AirCounts}
 
 -- one line
 abbrev pub count_line : List ℕ → ℕ → List ℕ
@@ -24,3 +25,9 @@ service_lines program r = count_line (codes "service") program ++ switch_lines r
 -- of a run with cues: its messages, and of one that plays advertisements its events behind them
 abbrev pub report_lines : Bool → Report → List ℕ
 report_lines plays r = message_lines r.messages r.accepted r.refused ++ cond plays (switch_lines r.switch) []
+
+-- of a run on air, behind these: its stretches, the events that were lost at the end of one, the packets left unjudged, those marked in error,
+-- and the bytes left out
+abbrev pub air_lines : AirCounts → List ℕ
+air_lines r = count_line (codes "stretches") r.stretches ++ (count_line (codes "lost") r.lost ++ (count_line (codes "unjudged") r.unjudged
+    ++ (count_line (codes "mended") r.mended ++ count_line (codes "skipped") r.skipped)))

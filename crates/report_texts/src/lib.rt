@@ -5,4 +5,6 @@
 
 mod lines;
 
-pub use lines::{print_messages, print_report, print_service, print_switched};
+pub use lines::{
+    AirCounts, print_air_counts, print_messages, print_report, print_service, print_switched,
+};
