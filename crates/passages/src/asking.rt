@@ -1,4 +1,4 @@
-//! Runs with cues whose messages come from a script or from a client of a port, with advertisements or without.
+//! Runs with cues whose messages come from a script or from a client of a port, with advertisements or without, on air or not.
 
 ghost use Rattle.std.specs.Prelude.{◌≡◌, ℕ, ◌⊎◌, List, [], length, Option, Err, false, nat_lt, OnOk, IfOk, IfErr};
 ghost use Rattle.ts_packet.specs.Sources.{SourceCounts, Stalled, Exhausted};
@@ -10,14 +10,17 @@ ghost use Rattle.chain_engine.specs.Runs.{NetworkBlamed, OutputBlamed};
 ghost use Rattle.chain_engine.specs.Splices.{NetworkBlamedToEnd};
 ghost use Rattle.chain_services.specs.Serving.{services_in};
 ghost use Rattle.chain_services.specs.Runs.{ServicesStandFor, terms_by};
+ghost use Rattle.passages.specs.OnAir.{IsOfListening};
 ghost use Rattle.passages.specs.Runs.{PassesAll, AskerTells, CuesStop, Cues, PlaysStop, Plays, ServesStop, Serves, IfRan, IsPort, told_fault, lost_replies};
 
+use crate::air_listening::{inject_listening_on_air, run_listening_on_air};
 use crate::fault::ProgramFault;
 use crate::listening::{ListenFault, inject_listening, run_listening, services_listening};
 use ad_library::AdLibrary;
 use automations::Script;
 use chain_engine::{Chain, Report, RunFault, run, run_inject};
 use chain_services::{ServiceReport, Services, run_services};
+use on_air::{AirReport, AirWatch, inject_on_air, run_on_air};
 use std::io::{Read, Write};
 use std::net::{OpenListener, OpenStream};
 use ts_packet::{GatheringSink, PausingPackets, ReadFault};
@@ -133,6 +136,75 @@ where
             Err(fault) => Err(ListenFault::Run(fault)),
         },
         Asker::Port(listener) => run_listening(chain, network, listener, library, out),
+    }
+}
+
+/// Runs on air with cues by this automation: no fault of the network ends the run.
+///
+/// # Errors
+///
+/// `Accept` as for [`cue`], and `Run` as for [`inject_on_air`].
+pub fn cue_on_air<P, K, W, L, A>(
+    chain: Chain,
+    network: &mut P,
+    asker: &mut Asker<W, L>,
+    out: &mut K,
+    watch: &mut A,
+) -> Result<AirReport<Report>, ListenFault>
+where
+    P: PausingPackets,
+    K: GatheringSink,
+    W: Write,
+    L: OpenListener,
+    L::Stream: OpenStream + Read + Write + Drop,
+    A: AirWatch,
+    requires { P.is_broken network.old ≡ false }
+    ensures devices { IfErr result IsOfListening }
+    ensures accept { result ≡ Err ListenFault.Accept → (network.new ≡ network.old) × (out.new ≡ out.old) }
+    ensures port { result ≡ Err ListenFault.Accept → IsPort asker.old }
+{
+    match asker {
+        Asker::Script(script) => match inject_on_air(chain, network, script, out, watch) {
+            Ok(report) => Ok(report),
+            Err(fault) => Err(ListenFault::Run(fault)),
+        },
+        Asker::Port(listener) => inject_listening_on_air(chain, network, listener, out, watch),
+    }
+}
+
+/// Runs on air with cues by this automation, and with the advertisements of a library.
+///
+/// # Errors
+///
+/// `Accept` as for [`cue`], and `Run` as for [`run_on_air`].
+pub fn play_on_air<P, K, W, L, A>(
+    chain: Chain,
+    network: &mut P,
+    asker: &mut Asker<W, L>,
+    library: &AdLibrary,
+    out: &mut K,
+    watch: &mut A,
+) -> Result<AirReport<Report>, ListenFault>
+where
+    P: PausingPackets,
+    K: GatheringSink,
+    W: Write,
+    L: OpenListener,
+    L::Stream: OpenStream + Read + Write + Drop,
+    A: AirWatch,
+    requires { P.is_broken network.old ≡ false }
+    ensures devices { IfErr result IsOfListening }
+    ensures accept { result ≡ Err ListenFault.Accept → (network.new ≡ network.old) × (out.new ≡ out.old) }
+    ensures port { result ≡ Err ListenFault.Accept → IsPort asker.old }
+{
+    match asker {
+        Asker::Script(script) => match run_on_air(chain, network, script, library, out, watch) {
+            Ok(report) => Ok(report),
+            Err(fault) => Err(ListenFault::Run(fault)),
+        },
+        Asker::Port(listener) => {
+            run_listening_on_air(chain, network, listener, library, out, watch)
+        }
     }
 }
 

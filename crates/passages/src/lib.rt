@@ -4,6 +4,10 @@
 //! What a caller uses: of a run that ends well what stands below the buffers, of one that stopped its fault, and `fault_name`.
 #![tactic(auto)]
 
+pub mod air_kinds;
+pub mod air_listening;
+pub mod air_running;
+pub mod air_telling;
 pub mod asking;
 pub mod fault;
 pub mod kinds;

@@ -69,8 +69,8 @@ pub struct Stopped {
 
 /// A PID in decimal and hexadecimal digits.
 #[derive(Clone, Copy, Debug, PartialEq, Eq)]
-struct BothWays {
-    pid: Pid,
+pub(crate) struct BothWays {
+    pub(crate) pid: Pid,
 }
 
 impl fmt::Display for BothWays {

@@ -1,0 +1,127 @@
+//! The kinds of passages on air: a run with advertisements, one with cues, and one with both, each as its options say. No fault of the
+//! network ends them.
+
+use crate::air_running::AirPassage;
+use crate::asking::{Asker, cue_on_air, play_on_air, told_fault};
+use crate::fault::ProgramFault;
+use ad_library::AdLibrary;
+use chain_engine::{Chain, Report};
+use command_lines::inject_options::InjectOptions;
+use command_lines::splice_options::SpliceOptions;
+use on_air::{AirReport, AirWatch, splice_on_air};
+use splice_plans::SwitchReport;
+use std::alloc::Global;
+use std::io::{Read, Write};
+use std::net::{OpenListener, OpenStream};
+use ts_packet::{GatheringSink, PausingPackets};
+
+/// A run on air with the advertisements of a library, as the options say.
+#[derive(Drop)]
+pub struct SplicingOnAir<'a, A> {
+    pub options: &'a SpliceOptions<'a>,
+    pub library: &'a AdLibrary,
+    /// Who is told of the run while it goes on.
+    pub watch: &'a mut A,
+}
+
+impl<A: AirWatch> AirPassage for SplicingOnAir<'_, A> {
+    type Report = AirReport<SwitchReport>;
+
+    fn pass<P: PausingPackets, K: GatheringSink>(
+        self,
+        network: &mut P,
+        out: &mut K,
+    ) -> Result<AirReport<SwitchReport>, ProgramFault> {
+        let SplicingOnAir {
+            options,
+            library,
+            watch,
+        } = self;
+        match splice_on_air(options.config, network, library, out, watch) {
+            Ok(report) => Ok(report),
+            Err(fault) => Err(ProgramFault::Run(fault)),
+        }
+    }
+}
+
+/// A run on air with cues, as the options say.
+#[derive(Drop)]
+pub struct CueingOnAir<'a, W, L, A> {
+    pub alloc: Global,
+    pub options: &'a InjectOptions<'a>,
+    pub asker: &'a mut Asker<W, L>,
+    /// Who is told of the run while it goes on.
+    pub watch: &'a mut A,
+}
+
+impl<W, L, A> AirPassage for CueingOnAir<'_, W, L, A>
+where
+    W: Write,
+    L: OpenListener,
+    L::Stream: OpenStream + Read + Write + Drop,
+    A: AirWatch,
+{
+    type Report = AirReport<Report>;
+
+    fn pass<P: PausingPackets, K: GatheringSink>(
+        self,
+        network: &mut P,
+        out: &mut K,
+    ) -> Result<AirReport<Report>, ProgramFault> {
+        let CueingOnAir {
+            alloc,
+            options,
+            asker,
+            watch,
+        } = self;
+        let Ok(chain) = Chain::new(alloc, options.config) else {
+            return Err(ProgramFault::OutOfMemory);
+        };
+        match cue_on_air(chain, network, asker, out, watch) {
+            Ok(report) => Ok(report),
+            Err(fault) => Err(told_fault(fault)),
+        }
+    }
+}
+
+/// A run on air with cues and the advertisements of a library, as the options say.
+#[derive(Drop)]
+pub struct ChainingOnAir<'a, W, L, A> {
+    pub alloc: Global,
+    pub options: &'a InjectOptions<'a>,
+    pub asker: &'a mut Asker<W, L>,
+    pub library: &'a AdLibrary,
+    /// Who is told of the run while it goes on.
+    pub watch: &'a mut A,
+}
+
+impl<W, L, A> AirPassage for ChainingOnAir<'_, W, L, A>
+where
+    W: Write,
+    L: OpenListener,
+    L::Stream: OpenStream + Read + Write + Drop,
+    A: AirWatch,
+{
+    type Report = AirReport<Report>;
+
+    fn pass<P: PausingPackets, K: GatheringSink>(
+        self,
+        network: &mut P,
+        out: &mut K,
+    ) -> Result<AirReport<Report>, ProgramFault> {
+        let ChainingOnAir {
+            alloc,
+            options,
+            asker,
+            library,
+            watch,
+        } = self;
+        let Ok(chain) = Chain::new(alloc, options.config) else {
+            return Err(ProgramFault::OutOfMemory);
+        };
+        match play_on_air(chain, network, asker, library, out, watch) {
+            Ok(report) => Ok(report),
+            Err(fault) => Err(told_fault(fault)),
+        }
+    }
+}
