@@ -1,17 +1,26 @@
 //! The subcommands `inject` and `run`: a run with cues, or with cues and advertisements, between the ends that its options name.
 
+use crate::counting::air_counts;
+use crate::sharing::Sharing;
 use crate::splicing::open_library;
 use ad_library::AdLibrary;
 use automations::{Reading, Script, ScriptFault, listen, load_into};
 use chain_engine::Report;
 use command_lines::inject_options::{Asking, InjectOptions};
+use on_air::{AirWatch, Unwatched};
+use passages::air_kinds::{ChainingOnAir, CueingOnAir};
+use passages::air_running::run_on_air_from;
+use passages::air_telling::AirTeller;
 use passages::asking::Asker;
 use passages::fault::ProgramFault;
 use passages::kinds::{Chaining, Cueing};
 use passages::running::{Ran, run_from, stopped, unopened, with_replies};
 use passages::tell::{CueAccount, LineAbout, Side, Stopped};
+use passages::watch::Watch;
+use report_texts::AirCounts;
 use run_ends::{Attended, Unopened, create_output, open_input};
 use std::alloc::Global;
+use std::cell::RefCell;
 use std::fs::Metadata;
 use std::io::{Read, Write};
 use std::net::{Net, OpenListener, OpenStream};
@@ -25,8 +34,31 @@ pub struct Injected {
     pub plays: bool,
     /// What it counted.
     pub report: Report,
+    /// What it counted besides, where it was on air.
+    pub air: Option<AirCounts>,
     /// What `--verbose` tells, where that was asked for.
     pub account: Option<CueAccount>,
+}
+
+/// What a run with these options has done that counted this and saw this go by.
+fn injected_with(
+    options: &InjectOptions<'_>,
+    report: Report,
+    air: Option<AirCounts>,
+    seen: Option<(Watch, Watch)>,
+) -> Injected {
+    let plays = options.adverts.is_some();
+    Injected {
+        plays,
+        report,
+        air,
+        account: seen.map(|(read, written)| CueAccount {
+            plays,
+            cue_pid: options.config.cue_pid,
+            read,
+            written,
+        }),
+    }
 }
 
 /// Runs from a reader, with advertisements where there is a library.
@@ -47,8 +79,7 @@ where
     L::Stream: OpenStream + Read + Write + Drop,
 {
     let mut asker = asker;
-    let cue_pid = options.config.cue_pid;
-    let watched = options.is_verbose.then_some(cue_pid);
+    let watched = options.is_verbose.then_some(options.config.cue_pid);
     let ran = match &library {
         Some(library) => {
             let passage = Chaining {
@@ -69,16 +100,92 @@ where
         }
     };
     let Ran { report, seen } = with_replies(ran, asker.has_lost_a_reply())?;
-    Ok(Injected {
-        plays: library.is_some(),
-        report,
-        account: seen.map(|(read, written)| CueAccount {
-            plays: library.is_some(),
-            cue_pid,
-            read,
-            written,
-        }),
-    })
+    Ok(injected_with(options, report, None, seen))
+}
+
+/// Runs on air from a reader, with advertisements where there is a library.
+fn run_asked_on_air<R, O, W, L, A>(
+    alloc: Global,
+    options: &InjectOptions<'_>,
+    is_live: bool,
+    input: R,
+    asker: Asker<W, L>,
+    library: Option<AdLibrary>,
+    watch: &mut A,
+    output: O,
+) -> Result<Injected, Stopped>
+where
+    R: Read + Drop,
+    O: Write + Drop,
+    W: Write + Drop,
+    L: OpenListener + Drop,
+    L::Stream: OpenStream + Read + Write + Drop,
+    A: AirWatch,
+{
+    let mut asker = asker;
+    let watched = options.is_verbose.then_some(options.config.cue_pid);
+    let ran = match &library {
+        Some(library) => {
+            let passage = ChainingOnAir {
+                alloc,
+                options: &*options,
+                asker: &mut asker,
+                library,
+                watch,
+            };
+            run_on_air_from(alloc, passage, watched, is_live, input, output)
+        }
+        None => {
+            let passage = CueingOnAir {
+                alloc,
+                options: &*options,
+                asker: &mut asker,
+                watch,
+            };
+            run_on_air_from(alloc, passage, watched, is_live, input, output)
+        }
+    };
+    let Ran { report, seen } = with_replies(ran, asker.has_lost_a_reply())?;
+    let air = Some(air_counts(&report));
+    Ok(injected_with(options, report.report.report, air, seen))
+}
+
+/// Runs from a reader, on air or not, as the options say. A run on air is told of on the stream, where there is one.
+fn inject_from<R, O, W, L, T>(
+    alloc: Global,
+    options: &InjectOptions<'_>,
+    is_live: bool,
+    input: R,
+    asker: Asker<W, L>,
+    library: Option<AdLibrary>,
+    told: Option<T>,
+    output: O,
+) -> Result<Injected, Stopped>
+where
+    R: Read + Drop,
+    O: Write + Drop,
+    W: Write + Drop,
+    L: OpenListener + Drop,
+    L::Stream: OpenStream + Read + Write + Drop,
+    T: Write + Drop,
+{
+    if !options.is_on_air {
+        return run_asked(alloc, options, is_live, input, asker, library, output);
+    }
+    match told {
+        Some(stream) => {
+            let watch = &mut AirTeller::new(stream);
+            run_asked_on_air(
+                alloc, options, is_live, input, asker, library, watch, output,
+            )
+        }
+        None => {
+            let watch = &mut Unwatched;
+            run_asked_on_air(
+                alloc, options, is_live, input, asker, library, watch, output,
+            )
+        }
+    }
 }
 
 /// Loads a script.
@@ -138,7 +245,7 @@ where
 }
 
 /// Runs between opened ends.
-fn run_ends<F, I, O, W, L>(
+fn run_ends<F, I, O, W, L, T>(
     alloc: Global,
     options: &InjectOptions<'_>,
     network: Option<F>,
@@ -146,6 +253,7 @@ fn run_ends<F, I, O, W, L>(
     is_live: bool,
     asker: Asker<W, L>,
     library: Option<AdLibrary>,
+    told: Option<T>,
     output: O,
 ) -> Result<Injected, Stopped>
 where
@@ -155,26 +263,30 @@ where
     W: Write + Drop,
     L: OpenListener + Drop,
     L::Stream: OpenStream + Read + Write + Drop,
+    T: Write + Drop,
 {
     match network {
-        Some(file) => run_asked(alloc, options, is_live, file, asker, library, output),
-        None => run_asked(alloc, options, is_live, input, asker, library, output),
+        Some(file) => inject_from(alloc, options, is_live, file, asker, library, told, output),
+        None => inject_from(alloc, options, is_live, input, asker, library, told, output),
     }
 }
 
-/// Opens the ends in their order, and runs. `standard` is there where packets go to standard output.
-fn open_and_run<R, I, O, W>(
+/// Opens the ends in their order, and runs. `standard` is there where packets go to standard output, `told` where a run on air is to be
+/// told of.
+fn open_and_run<R, I, O, W, T>(
     rt: &R,
     options: &InjectOptions<'_>,
     input: &mut I,
     replies: W,
     standard: Option<O>,
+    told: Option<T>,
 ) -> Result<Injected, Stopped>
 where
     R: Files + Net + AllocGlobal,
     I: Read,
     O: Write + Drop,
     W: Write + Drop,
+    T: Write + Drop,
 {
     let opened = match options.network.path() {
         Some(path) => match open_input(rt, path) {
@@ -197,7 +309,7 @@ where
     if let Some(standard) = standard {
         let network = opened.map(|(file, _)| file);
         return run_ends(
-            alloc, options, network, input, is_live, asker, library, standard,
+            alloc, options, network, input, is_live, asker, library, told, standard,
         );
     }
     let path = options.output.path().unwrap_or("");
@@ -205,7 +317,7 @@ where
         Ok(file) => {
             let network = opened.map(|(file, _)| file);
             run_ends(
-                alloc, options, network, input, is_live, asker, library, file,
+                alloc, options, network, input, is_live, asker, library, told, file,
             )
         }
         Err(reason) => Err(unopened(Unopened::Output(reason))),
@@ -215,7 +327,7 @@ where
 /// Runs the subcommand `inject`, or `run` where the options name advertisements: the network is opened first, then the script or the port,
 /// then the list is loaded with all its advertisements, then the output file is opened. Then the memory of the run is taken, and where
 /// there is a port a client is waited for. Replies to a script are printed as they come, on `faults` where the packets go to standard
-/// output.
+/// output. With `--verbose` a run on air is told of on `faults` while it goes on.
 ///
 /// # Errors
 ///
@@ -235,9 +347,17 @@ where
     O: Write,
     E: Write,
 {
-    if options.has_standard_output() {
-        return open_and_run(rt, options, input, faults, Some(output));
+    let tells = options.is_on_air && options.is_verbose;
+    if !options.has_standard_output() {
+        let none: Option<&mut E> = None;
+        return open_and_run(rt, options, input, output, none, tells.then_some(faults));
     }
-    let none: Option<&mut E> = None;
-    open_and_run(rt, options, input, output, none)
+    if tells {
+        let stream = RefCell::new(faults);
+        let replies = Sharing::new(&stream);
+        let told = Some(Sharing::new(&stream));
+        return open_and_run(rt, options, input, replies, Some(output), told);
+    }
+    let told: Option<&mut E> = None;
+    open_and_run(rt, options, input, faults, Some(output), told)
 }

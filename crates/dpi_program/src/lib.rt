@@ -3,12 +3,14 @@
 //! What a caller uses: `cut` says which bytes come out, `cut_lines` is it over lines, and `program` answers 0, 1 or 2.
 #![tactic(auto)]
 
+mod counting;
 mod cutting;
 mod injecting;
 mod inspecting;
 pub mod program;
 mod requesting;
 mod serving;
+mod sharing;
 mod splicing;
 
 pub use ad_lists::{ListFault, load_list};

@@ -7,7 +7,7 @@ use crate::injecting::{Injected, run_inject_command};
 use crate::inspecting::run_inspect_command;
 use crate::requesting::run_request_command;
 use crate::serving::{Served, run_services_command};
-use crate::splicing::run_splice_command;
+use crate::splicing::{Spliced, run_splice_command};
 use command_lines::command::{CUT_USAGE, CutOptions, command, cut_options};
 use command_lines::inject_options::{
     INJECT_USAGE, InjectOptions, RUN_USAGE, inject_options, run_options,
@@ -17,10 +17,8 @@ use command_lines::refusals::{DONE, USAGE, answer, refuse, report};
 use command_lines::services_options::{SERVICES_USAGE, ServicesOptions, services_options};
 use command_lines::splice_options::{SPLICE_USAGE, SpliceOptions, splice_options};
 use passages::fault::{ProgramFault, fault_name};
-use passages::running::Ran;
 use passages::tell::{Account, Side, SpliceAccount, Stopped, Trouble};
-use report_texts::{print_messages, print_report, print_service, print_switched};
-use splice_plans::SwitchReport;
+use report_texts::{print_air_counts, print_messages, print_report, print_service, print_switched};
 use std::io::{Read, Write};
 use std::net::Net;
 use std::rt::Files;
@@ -61,6 +59,17 @@ fn report_inject<E: Write>(faults: &mut E, options: &InjectOptions<'_>, stopped:
     status
 }
 
+/// Prints the report of a run with cues, and answers whether it is out.
+fn print_injected<W: Write>(printed: &mut W, injected: &Injected) -> bool {
+    if !print_report(printed, &injected.report, injected.plays) {
+        return false;
+    }
+    match &injected.air {
+        Some(counts) => print_air_counts(printed, counts),
+        None => true,
+    }
+}
+
 /// Tells what a run with cues came to, and answers the exit status.
 fn tell_injected<O: Write, E: Write>(
     options: &InjectOptions<'_>,
@@ -76,9 +85,9 @@ fn tell_injected<O: Write, E: Write>(
         Err(stopped) => return report_inject(faults, options, &stopped),
     };
     let is_out = if options.has_standard_output() {
-        print_report(faults, &injected.report, injected.plays)
+        print_injected(faults, &injected)
     } else {
-        print_report(output, &injected.report, injected.plays)
+        print_injected(output, &injected)
     };
     if !is_out {
         return report(faults, fault_name(ProgramFault::Print));
@@ -125,10 +134,21 @@ fn report_splice<E: Write>(faults: &mut E, options: &SpliceOptions<'_>, stopped:
     status
 }
 
+/// Prints the report of a run with advertisements, and answers whether it is out.
+fn print_spliced<W: Write>(printed: &mut W, spliced: &Spliced) -> bool {
+    if !print_switched(printed, &spliced.report) {
+        return false;
+    }
+    match &spliced.air {
+        Some(counts) => print_air_counts(printed, counts),
+        None => true,
+    }
+}
+
 /// Tells what a run with advertisements came to, and answers the exit status.
 fn tell_spliced<O: Write, E: Write>(
     options: &SpliceOptions<'_>,
-    spliced: Result<Ran<SwitchReport>, Stopped>,
+    spliced: Result<Spliced, Stopped>,
     output: &mut O,
     faults: &mut E,
 ) -> u8
@@ -140,9 +160,9 @@ fn tell_spliced<O: Write, E: Write>(
         Err(stopped) => return report_splice(faults, options, &stopped),
     };
     let is_out = if options.has_standard_output() {
-        print_switched(faults, &spliced.report)
+        print_spliced(faults, &spliced)
     } else {
-        print_switched(output, &spliced.report)
+        print_spliced(output, &spliced)
     };
     if !is_out {
         return report(faults, fault_name(ProgramFault::Print));
@@ -169,7 +189,7 @@ where
     E: Write,
     ensures { result ≤ 1 }
 {
-    let spliced = run_splice_command(rt, options, input, output);
+    let spliced = run_splice_command(rt, options, input, output, faults);
     tell_spliced(options, spliced, output, faults)
 }
 

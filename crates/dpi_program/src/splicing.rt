@@ -3,13 +3,20 @@
 ghost use Rattle.std.specs.Prelude.{◌≡◌, Some, true};
 ghost use Rattle.ad_lists.specs.Lists.{is_at_line};
 
+use crate::counting::air_counts;
 use ad_library::AdLibrary;
 use ad_lists::{ListFault, Loading, load_into};
 use command_lines::splice_options::SpliceOptions;
+use on_air::{AirWatch, Unwatched};
+use passages::air_kinds::SplicingOnAir;
+use passages::air_running::run_on_air_from;
+use passages::air_telling::AirTeller;
 use passages::fault::ProgramFault;
 use passages::kinds::Splicing;
 use passages::running::{Ran, run_from, stopped, unopened};
 use passages::tell::{LineAbout, Side, Stopped};
+use passages::watch::Watch;
+use report_texts::AirCounts;
 use run_ends::{Attended, End, Unopened, create_output, open_input};
 use splice_plans::SwitchReport;
 use std::alloc::Global;
@@ -17,6 +24,17 @@ use std::fs::Metadata;
 use std::io::{self, Read, Write};
 use std::rt::Files;
 use ts_packet::Device;
+
+/// What a run with advertisements that went through has done.
+#[derive(Clone, Copy, Debug)]
+pub struct Spliced {
+    /// What it counted.
+    pub report: SwitchReport,
+    /// What it counted besides, where it was on air.
+    pub air: Option<AirCounts>,
+    /// What was seen go by, where that was asked for.
+    pub seen: Option<(Watch, Watch)>,
+}
 
 /// What is known of a list that was not loaded: where a line is at fault its number and its text, and the system's reason where its stream
 /// cannot be opened; else the reason for which the list could not be read on.
@@ -76,41 +94,103 @@ where
     }
 }
 
+/// Runs on air from a reader.
+fn splice_watched<R: Read + Drop, A: AirWatch, O: Write + Drop>(
+    alloc: Global,
+    options: &SpliceOptions<'_>,
+    is_live: bool,
+    input: R,
+    library: &AdLibrary,
+    watch: &mut A,
+    output: O,
+) -> Result<Spliced, Stopped> {
+    let watched = options.is_verbose.then_some(options.config.cue_pid);
+    let passage = SplicingOnAir {
+        options,
+        library,
+        watch,
+    };
+    let Ran { report, seen } = run_on_air_from(alloc, passage, watched, is_live, input, output)?;
+    Ok(Spliced {
+        report: report.report.report,
+        air: Some(air_counts(&report)),
+        seen,
+    })
+}
+
+/// Runs from a reader. A run on air is told of on the stream, where there is one.
+fn splice_from<R: Read + Drop, T: Write + Drop, O: Write + Drop>(
+    alloc: Global,
+    options: &SpliceOptions<'_>,
+    is_live: bool,
+    input: R,
+    library: &AdLibrary,
+    told: Option<T>,
+    output: O,
+) -> Result<Spliced, Stopped> {
+    if options.is_on_air {
+        return match told {
+            Some(stream) => {
+                let mut teller = AirTeller::new(stream);
+                splice_watched(alloc, options, is_live, input, library, &mut teller, output)
+            }
+            None => splice_watched(
+                alloc,
+                options,
+                is_live,
+                input,
+                library,
+                &mut Unwatched,
+                output,
+            ),
+        };
+    }
+    let watched = options.is_verbose.then_some(options.config.cue_pid);
+    let passage = Splicing { options, library };
+    let Ran { report, seen } = run_from(alloc, passage, watched, is_live, input, output)?;
+    Ok(Spliced {
+        report,
+        air: None,
+        seen,
+    })
+}
+
 /// Runs between opened ends.
-fn run_ends<F: Read + Drop, I: Read, O: Write + Drop>(
+fn run_ends<F: Read + Drop, I: Read, T: Write + Drop, O: Write + Drop>(
     alloc: Global,
     options: &SpliceOptions<'_>,
     network: Option<F>,
     input: &mut I,
     is_live: bool,
     library: &AdLibrary,
+    told: Option<T>,
     output: O,
-) -> Result<Ran<SwitchReport>, Stopped> {
-    let watched = options.is_verbose.then_some(options.config.cue_pid);
-    let passage = Splicing { options, library };
+) -> Result<Spliced, Stopped> {
     match network {
-        Some(file) => run_from(alloc, passage, watched, is_live, file, output),
-        None => run_from(alloc, passage, watched, is_live, input, output),
+        Some(file) => splice_from(alloc, options, is_live, file, library, told, output),
+        None => splice_from(alloc, options, is_live, input, library, told, output),
     }
 }
 
 /// Runs the subcommand `splice`: the network is opened first, then the list is loaded with all its advertisements, then the output file is
-/// opened.
+/// opened. With `--verbose` a run on air is told of on `faults` while it goes on.
 ///
 /// # Errors
 ///
 /// `File` where a file could not be opened or made, `List` where the list was not loaded, `OutOfMemory` where the allocator refused
 /// memory, `Run` where the run stopped, `Unflushed` where the output could not be flushed at the end. What went out before stands.
-pub fn run_splice_command<R, I, O>(
+pub fn run_splice_command<R, I, O, E>(
     rt: &R,
     options: &SpliceOptions<'_>,
     input: &mut I,
     output: &mut O,
-) -> Result<Ran<SwitchReport>, Stopped>
+    faults: &mut E,
+) -> Result<Spliced, Stopped>
 where
     R: Files + AllocGlobal,
     I: Read,
     O: Write,
+    E: Write,
 {
     let opened = match options.network.path() {
         Some(path) => match open_input(rt, path) {
@@ -123,14 +203,19 @@ where
     let about = opened.as_ref().map(|(_, about)| about);
     let is_live = !about.is_some_and(|about| about.is_file());
     let alloc = rt.alloc();
+    let told = options.is_verbose.then_some(faults);
     let Some(path) = options.output.path() else {
         let network = opened.map(|(file, _)| file);
-        return run_ends(alloc, options, network, input, is_live, &library, output);
+        return run_ends(
+            alloc, options, network, input, is_live, &library, told, output,
+        );
     };
     match create_output(rt, path, about, None, list.as_ref()) {
         Ok(file) => {
             let network = opened.map(|(file, _)| file);
-            run_ends(alloc, options, network, input, is_live, &library, file)
+            run_ends(
+                alloc, options, network, input, is_live, &library, told, file,
+            )
         }
         Err(reason) => Err(unopened(Unopened::Output(reason))),
     }
