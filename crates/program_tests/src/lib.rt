@@ -11,6 +11,8 @@ macro_rules! expect_eq {
 }
 
 #[cfg(test)]
+mod air_tests;
+#[cfg(test)]
 mod cut_tests;
 #[cfg(test)]
 mod device_tests;
