@@ -172,6 +172,7 @@ fn run_asked(alloc: Global, job: Job) -> Result<Outcome, Fault> {
         asking: Asking::Script(End::Standard),
         adverts: None,
         output: End::Standard,
+        is_on_air: false,
         is_verbose: false,
     };
     let mut replies = TextDigest::new();

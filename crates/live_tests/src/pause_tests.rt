@@ -66,6 +66,7 @@ fn splice<R: Read + Drop, O: Write + Drop>(
         network: End::Standard,
         adverts: End::Standard,
         output: End::Standard,
+        is_on_air: false,
         is_verbose: false,
     };
     let library = AdLibrary::new(alloc);
