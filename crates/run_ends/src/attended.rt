@@ -1,5 +1,6 @@
-//! A reader or a writer that remembers the system's last reason for a failure, and how its last flush went.
+//! A reader or a writer that remembers the system's last reason for a failure, counts its flushes and remembers how the last one went.
 
+use crate::flushes::Flushes;
 use std::io::{self, ErrorKind, Read, Write};
 
 /// How what was written to a writer was flushed.
@@ -19,27 +20,41 @@ pub struct Attended<D> {
     inner: D,
     reason: Option<io::Error>,
     last_flush: LastFlush,
+    flushes: Flushes,
 }
 
 impl<D> Attended<D> {
-    ghost use Rattle.std.specs.Prelude.{◌≡◌, ◌≢◌, Some};
+    ghost use Rattle.std.specs.Prelude.{◌≡◌, ◌≢◌, None, Some};
     ghost use Rattle.std.specs.IoError.{error_kind};
+    ghost use Rattle.run_ends.specs.Flushes.{no_flushes};
 
-    /// Attends to this reader or writer.
-    pub fn new(inner: D) -> Attended<D>
-        ensures { result.inner ≡ inner }
+    /// The reader or writer as before its first call.
+    fn uncalled(inner: D) -> Attended<D>
+        ensures inner { result.inner ≡ inner }
+        ensures reason { result.reason ≡ None }
+        ensures due { result.last_flush ≡ LastFlush.Due }
+        ensures flushes { result.flushes ≡ no_flushes }
     {
         Attended {
             inner,
             reason: None,
             last_flush: LastFlush::Due,
+            flushes: Flushes::new(),
         }
+    }
+
+    /// Attends to this reader or writer.
+    pub fn new(inner: D) -> Attended<D>
+        ensures { result.inner ≡ inner }
+    {
+        Attended::uncalled(inner)
     }
 
     /// Keeps the reason, where the call may not be made again, and answers one of the same kind.
     fn keep(&mut self, error: io::Error) -> io::Error
         ensures inner { self.new.inner ≡ self.old.inner }
         ensures flush { self.new.last_flush ≡ self.old.last_flush }
+        ensures flushes { self.new.flushes ≡ self.old.flushes }
         ensures kind { error_kind result ≡ error_kind error }
         ensures reason { error_kind error ≢ ErrorKind.Interrupted → self.new.reason ≡ Some error }
         ensures again { error_kind error ≡ ErrorKind.Interrupted → self.new.reason ≡ self.old.reason }
@@ -62,6 +77,7 @@ impl<D> Attended<D> {
             inner: _,
             reason,
             last_flush: _,
+            flushes: _,
         } = self;
         reason
     }
@@ -81,12 +97,13 @@ impl<R: Read> Read for Attended<R> {
 impl<W: Write> Attended<W> {
     ghost use Rattle.std.specs.Prelude.{◌≡◌, OnOk};
     ghost use Rattle.std.specs.Io.KnownBytes.{Appends};
-    ghost use Rattle.run_ends.specs.Flushes.{flush_told};
+    ghost use Rattle.run_ends.specs.Flushes.{flush_told, WasFlushed};
 
     /// Writes these last bytes and flushes.
     pub(crate) fn flush_behind(&mut self, rest: &[u8]) -> io::Result<()>
         ensures bytes { OnOk result (Appends (W.contents self.old.inner) (W.contents self.new.inner) rest.now) }
         ensures told { self.new.last_flush ≡ flush_told result }
+        ensures counted { OnOk result (WasFlushed self.old.flushes self.new.flushes) }
     {
         match self.write_all(rest) {
             Ok(()) => self.flush(),
@@ -99,10 +116,10 @@ impl<W: Write> Attended<W> {
 }
 
 impl<W: Write> Write for Attended<W> {
-    ghost use Rattle.std.specs.Prelude.{◌≡◌};
+    ghost use Rattle.std.specs.Prelude.{◌≡◌, OnOk};
     ghost use Rattle.std.specs.Io.{WritesAtMost};
-    ghost use Rattle.std.specs.Io.KnownBytes.{Keeps, WriteAppends};
-    ghost use Rattle.run_ends.specs.Flushes.{flush_told};
+    ghost use Rattle.std.specs.Io.KnownBytes.{Appends, Keeps, WriteAppends};
+    ghost use Rattle.run_ends.specs.Flushes.{flush_told, CountsFlush};
 
     ghost contents = { λ a. W.contents a.inner };
 
@@ -110,6 +127,7 @@ impl<W: Write> Write for Attended<W> {
         ensures bound { WritesAtMost result buf.now }
         ensures bytes { WriteAppends (W.contents self.old.inner) (W.contents self.new.inner) result buf.now }
         ensures due { self.new.last_flush ≡ LastFlush.Due }
+        ensures flushes { self.new.flushes ≡ self.old.flushes }
     {
         self.last_flush = LastFlush::Due;
         match self.inner.write(buf) {
@@ -118,11 +136,26 @@ impl<W: Write> Write for Attended<W> {
         }
     }
 
+    fn write_all(&mut self, buf: &[u8]) -> io::Result<()>
+        ensures bytes { OnOk result (Appends (W.contents self.old.inner) (W.contents self.new.inner) buf.now) }
+        ensures due { self.new.last_flush ≡ LastFlush.Due }
+        ensures flushes { self.new.flushes ≡ self.old.flushes }
+    {
+        self.last_flush = LastFlush::Due;
+        match self.inner.write_all(buf) {
+            Ok(()) => Ok(()),
+            Err(error) => Err(self.keep(error)),
+        }
+    }
+
     fn flush(&mut self) -> io::Result<()>
         ensures bytes { Keeps (W.contents self.old.inner) (W.contents self.new.inner) }
         ensures told { self.new.last_flush ≡ flush_told result }
+        ensures counted { CountsFlush result self.old.flushes self.new.flushes }
     {
-        match self.inner.flush() {
+        let answer = self.inner.flush();
+        self.flushes.count(&answer);
+        match answer {
             Ok(()) => {
                 self.last_flush = LastFlush::Done;
                 Ok(())

@@ -2,7 +2,8 @@
 
 ghost use Rattle.std.specs.Prelude.{◌≡◌, ◌≢◌, Err, IfErr, IfOk, OnOk, OnErr};
 ghost use Rattle.std.specs.Io.KnownBytes.{Keeps};
-ghost use Rattle.std.specs.Io.Buffered.{writer_contents};
+ghost use Rattle.std.specs.Io.Buffered.{writer_contents, writer_inner};
+ghost use Rattle.run_ends.specs.Flushes.{WasFlushed, FailedToFlush};
 
 use crate::attended::{Attended, LastFlush};
 use std::io::{self, BufWriter, Write};
@@ -36,6 +37,9 @@ pub fn finish<X: Drop, F: Drop, W: Write>(
     ensures kept { Keeps (W.contents writer.old.inner) (W.contents writer.new.inner) }
     ensures made { writer.new.last_flush ≢ LastFlush.Due }
     ensures well { writer.new.last_flush ≡ LastFlush.Done → result ≡ outcome }
+    ensures counted { writer.new.last_flush ≡ LastFlush.Done → WasFlushed writer.old.flushes writer.new.flushes }
+    ensures counted_failed { writer.new.last_flush ≡ LastFlush.Failed
+        → FailedToFlush writer.old.flushes writer.new.flushes }
     ensures failed { writer.new.last_flush ≡ LastFlush.Failed → OnOk outcome (result ≡ Err lost) }
 {
     let flushed = writer.flush();
@@ -60,6 +64,8 @@ pub fn finish_buffer<X: Drop, F: Drop, W: Write + Drop>(
         (Keeps (writer_contents (λ a. W.contents a.inner) writer) (W.contents result.1.inner)) }
     ensures made { result.1.last_flush ≢ LastFlush.Due }
     ensures well { result.1.last_flush ≡ LastFlush.Done → result.0 ≡ outcome }
+    ensures counted { result.1.last_flush ≡ LastFlush.Done
+        → WasFlushed (writer_inner writer).flushes result.1.flushes }
     ensures failed { result.1.last_flush ≡ LastFlush.Failed → OnOk outcome (result.0 ≡ Err lost) }
     ensures emptied { result.1.last_flush ≡ LastFlush.Done
         → Keeps (writer_contents (λ a. W.contents a.inner) writer) (W.contents result.1.inner) }

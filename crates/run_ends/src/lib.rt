@@ -6,6 +6,7 @@
 
 mod attended;
 mod ends;
+mod flushes;
 mod flushing;
 
 pub use attended::Attended;
