@@ -3,3 +3,4 @@ pub mod Options
 pub mod Services
 pub mod Inspecting
 pub mod Requests
+pub mod Faults

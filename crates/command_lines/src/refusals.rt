@@ -1,7 +1,10 @@
 //! What is told where a run came to a fault, or a command line names no run, and the exit status.
 
 ghost use Rattle.std.specs.Prelude.{◌≡◌, ◌≢◌, ◌≤◌};
+ghost use Rattle.std.specs.Bool.{OnTrue};
+ghost use Rattle.std.specs.Io.KnownBytes.{Appends};
 ghost use Rattle.clap.specs.Values.{kind_of};
+ghost use Rattle.command_lines.specs.Faults.{fault_line};
 
 use clap::Error;
 use clap::error::ErrorKind;
@@ -17,11 +20,18 @@ const FAULT: u8 = 1;
 /// The exit status where the command line is not taken.
 pub const USAGE: u8 = 2;
 
+/// Prints the line of the fault of this name, and answers whether it is out.
+fn print_fault<E: Write>(faults: &mut E, name: &str) -> bool
+    ensures { OnTrue result (Appends (E.contents faults.old) (E.contents faults.new) (fault_line name.now)) }
+{
+    writeln!(faults, "fault: {name}").is_ok()
+}
+
 /// Prints the line of the fault of this name, and answers the exit status.
 pub fn report<E: Write>(faults: &mut E, name: &str) -> u8
     ensures { result ≡ 1 }
 {
-    let _ = writeln!(faults, "fault: {name}");
+    let _ = print_fault(faults, name);
     FAULT
 }
 

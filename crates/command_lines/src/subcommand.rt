@@ -1,5 +1,7 @@
 //! What a subcommand is made of: texts for help, and options.
 
+ghost use Rattle.std.specs.Prelude.{◌≡◌, Some, false};
+
 use clap::{Arg, ArgAction, Command};
 use std::alloc::{AllocError, Global};
 
@@ -15,7 +17,12 @@ pub(crate) struct ValueOption {
 
 impl ValueOption {
     /// The option as the command line has it.
-    fn argument<'a>(self, alloc: Global) -> Arg<'a> {
+    fn argument<'a>(self, alloc: Global) -> Arg<'a>
+        ensures id { result.id ≡ self.id }
+        ensures long { result.long ≡ Some self.id }
+        ensures required { result.required ≡ self.is_required }
+        ensures action { result.action ≡ Some ArgAction.Set }
+    {
         Arg::new(alloc, self.id)
             .long(self.id)
             .value_name(self.value_name)
@@ -31,7 +38,12 @@ const ON_AIR: &str =
     "Go on behind every fault of the network; what cannot be judged goes out as it came, and the report has five more lines";
 
 /// A flag.
-pub(crate) fn flag<'a>(alloc: Global, name: &'static str, help: &'static str) -> Arg<'a> {
+pub(crate) fn flag<'a>(alloc: Global, name: &'static str, help: &'static str) -> Arg<'a>
+    ensures id { result.id ≡ name.entry }
+    ensures long { result.long ≡ Some name.entry }
+    ensures optional { result.required ≡ false }
+    ensures action { result.action ≡ Some ArgAction.SetTrue }
+{
     Arg::new(alloc, name)
         .long(name)
         .action(ArgAction::SetTrue)
