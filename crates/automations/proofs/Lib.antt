@@ -1,8 +1,9 @@
-mod ScriptLemmas
-mod ReadingLemmas
-mod TextLemmas
+mod ClientsLemmas
 mod PlaceLemmas
+mod ReadingLemmas
 mod RefusalLemmas
-mod StopLemmas
 mod ReplyLemmas
+mod ScriptLemmas
+mod StopLemmas
+mod TextLemmas
 pub mod AnswerLemmas

@@ -11,22 +11,34 @@ use std::net::{Net, OpenListener, OpenStream, SocketAddr, TcpListener};
 
 /// How many takes in a row answer without asking the system, after one that found nothing. A call into the system before each packet
 /// would cost more than the packet.
-const QUIET: u8 = 15;
+pub(crate) const QUIET: u8 = 15;
 
 /// The most writes of one reply.
 const WRITES: u32 = 64;
 
 /// What requests are read from, and how many reads were made of it. The count stops at the greatest u64.
 #[derive(Drop)]
-struct Requests<R> {
+pub(crate) struct Requests<R> {
     reader: R,
     reads: u64,
+}
+
+impl<R> Requests<R> {
+    ghost use Rattle.std.specs.Prelude.{◌≡◌};
+
+    /// Requests from this reader, which was not read.
+    pub(crate) fn new(reader: R) -> Requests<R>
+        ensures reader { result.reader ≡ reader }
+        ensures reads { result.reads ≡ 0 }
+    {
+        Requests { reader, reads: 0 }
+    }
 }
 
 impl<R: Read> Requests<R> {
     /// Reads into the front of the room, as the reader does.
     #[inline(always)]
-    fn read(&mut self, room: &mut [u8]) -> io::Result<usize>
+    pub(crate) fn read(&mut self, room: &mut [u8]) -> io::Result<usize>
         ensures bound { ReadsAtMost result room.new }
         ensures bytes { ReadConsumes (R.remaining self.old.reader) (R.remaining self.new.reader) result room.new }
         ensures counted { IsCounted self.old.reads self.new.reads }
@@ -48,7 +60,7 @@ pub struct Connection<R, W> {
 }
 
 /// Whether a call that failed so found nothing, and may be made again.
-fn is_nothing(kind: ErrorKind) -> bool {
+pub(crate) fn is_nothing(kind: ErrorKind) -> bool {
     kind == ErrorKind::WouldBlock || kind == ErrorKind::TimedOut || kind == ErrorKind::Interrupted
 }
 
@@ -106,7 +118,7 @@ impl<R: Read, W: Write> Automation for Connection<R, W> {
 }
 
 /// Writes all of these bytes, and answers whether they were taken.
-fn send<W: Write>(stream: &mut W, bytes: &[u8]) -> bool
+pub(crate) fn send<W: Write>(stream: &mut W, bytes: &[u8]) -> bool
     ensures { OnTrue result (Appends (W.contents stream.old) (W.contents stream.new) bytes.now) }
 {
     let mut rest = bytes;
@@ -136,6 +148,18 @@ pub fn listen<R: Net>(rt: &R, port: u16) -> io::Result<R::Listener> {
     TcpListener::bind(rt, SocketAddr::from(([127, 0, 0, 1], port)))
 }
 
+/// The two ends of a stream that does not block: requests are read from the one, and replies are written to the other. `None` where it could
+/// not be set not to block, or its handle could not be copied.
+pub(crate) fn ends_of<S: OpenStream + Drop>(stream: S) -> Option<(S, S)> {
+    if stream.set_nonblocking(true).is_err() {
+        return None;
+    }
+    let Ok(replies) = stream.try_clone() else {
+        return None;
+    };
+    Some((stream, replies))
+}
+
 /// Accepts one connection, which may wait for a client. `None` where none could be accepted, it could not be set not to block, or its
 /// handle could not be copied: requests are read from the one, and replies are written to the other.
 pub fn accept<L: OpenListener>(listener: &L) -> Option<Connection<L::Stream, L::Stream>>
@@ -145,17 +169,9 @@ where
     let Ok((stream, _)) = listener.accept() else {
         return None;
     };
-    if stream.set_nonblocking(true).is_err() {
-        return None;
-    }
-    let Ok(replies) = stream.try_clone() else {
-        return None;
-    };
+    let (reader, replies) = ends_of(stream)?;
     Some(Connection {
-        requests: Requests {
-            reader: stream,
-            reads: 0,
-        },
+        requests: Requests::new(reader),
         replies,
         quiet: 0,
         failures: 0,

@@ -3,11 +3,14 @@
 //! What a caller uses: a script that is loaded or why it is not and in which line, whether a reply was lost, and the clauses of `Automation` for both.
 #![tactic(auto)]
 
+mod clients;
 mod connection;
+mod letter;
 mod line_fault;
 mod script;
 mod script_text;
 
+pub use clients::Clients;
 pub use connection::{Connection, accept, listen};
 pub use line_fault::ScriptLineFault;
 pub use script::{Script, ScriptFault, load_into};
