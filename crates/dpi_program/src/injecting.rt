@@ -10,10 +10,11 @@ use command_lines::inject_options::{Asking, InjectOptions};
 use on_air::{AirWatch, Unwatched};
 use passages::air_kinds::{ChainingOnAir, CueingOnAir};
 use passages::air_running::run_on_air_from;
-use passages::air_telling::AirTeller;
+use passages::air_telling::{AirTeller, TellingInTurn};
 use passages::asking::Asker;
 use passages::fault::ProgramFault;
 use passages::kinds::{Chaining, Cueing};
+use passages::recovery_watch::RecoveryWatch;
 use passages::running::{Ran, run_from, stopped, unopened, with_replies};
 use passages::tell::{CueAccount, LineAbout, Side, Stopped};
 use passages::watch::Watch;
@@ -104,7 +105,7 @@ where
 }
 
 /// Runs on air from a reader, with advertisements where there is a library.
-fn run_asked_on_air<R, O, W, L, A>(
+fn run_asked_on_air<R, O, W, L, A, V>(
     alloc: Global,
     options: &InjectOptions<'_>,
     is_live: bool,
@@ -112,6 +113,7 @@ fn run_asked_on_air<R, O, W, L, A>(
     asker: Asker<W, L>,
     library: Option<AdLibrary>,
     watch: &mut A,
+    reading: V,
     output: O,
 ) -> Result<Injected, Stopped>
 where
@@ -121,6 +123,7 @@ where
     L: OpenListener + Drop,
     L::Stream: OpenStream + Read + Write + Drop,
     A: AirWatch,
+    V: RecoveryWatch + Drop,
 {
     let mut asker = asker;
     let watched = options.is_verbose.then_some(options.config.cue_pid);
@@ -133,7 +136,7 @@ where
                 library,
                 watch,
             };
-            run_on_air_from(alloc, passage, watched, is_live, input, output)
+            run_on_air_from(alloc, passage, watched, is_live, input, reading, output)
         }
         None => {
             let passage = CueingOnAir {
@@ -142,7 +145,7 @@ where
                 asker: &mut asker,
                 watch,
             };
-            run_on_air_from(alloc, passage, watched, is_live, input, output)
+            run_on_air_from(alloc, passage, watched, is_live, input, reading, output)
         }
     };
     let Ran { report, seen } = with_replies(ran, asker.has_lost_a_reply())?;
@@ -174,15 +177,17 @@ where
     }
     match told {
         Some(stream) => {
-            let watch = &mut AirTeller::new(stream);
+            let teller = RefCell::new(AirTeller::new(stream));
+            let watch = &mut TellingInTurn::new(&teller);
+            let reading = TellingInTurn::new(&teller);
             run_asked_on_air(
-                alloc, options, is_live, input, asker, library, watch, output,
+                alloc, options, is_live, input, asker, library, watch, reading, output,
             )
         }
         None => {
             let watch = &mut Unwatched;
             run_asked_on_air(
-                alloc, options, is_live, input, asker, library, watch, output,
+                alloc, options, is_live, input, asker, library, watch, Unwatched, output,
             )
         }
     }
@@ -326,7 +331,7 @@ where
 
 /// Runs the subcommand `inject`, or `run` where the options name advertisements: the network is opened first, then the script or the port,
 /// then the list is loaded with all its advertisements, then the output file is opened. Then the memory of the run is taken, and where
-/// there is a port a client is waited for. Replies to a script are printed as they come, on `faults` where the packets go to standard
+/// there is a port a client is waited for, but on air. Replies to a script are printed as they come, on `faults` where the packets go to standard
 /// output. With `--verbose` a run on air is told of on `faults` while it goes on.
 ///
 /// # Errors

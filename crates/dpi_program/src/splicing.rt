@@ -10,9 +10,10 @@ use command_lines::splice_options::SpliceOptions;
 use on_air::{AirWatch, Unwatched};
 use passages::air_kinds::SplicingOnAir;
 use passages::air_running::run_on_air_from;
-use passages::air_telling::AirTeller;
+use passages::air_telling::{AirTeller, TellingInTurn};
 use passages::fault::ProgramFault;
 use passages::kinds::Splicing;
+use passages::recovery_watch::RecoveryWatch;
 use passages::running::{Ran, run_from, stopped, unopened};
 use passages::tell::{LineAbout, Side, Stopped};
 use passages::watch::Watch;
@@ -20,6 +21,7 @@ use report_texts::AirCounts;
 use run_ends::{Attended, End, Unopened, create_output, open_input};
 use splice_plans::SwitchReport;
 use std::alloc::Global;
+use std::cell::RefCell;
 use std::fs::Metadata;
 use std::io::{self, Read, Write};
 use std::rt::Files;
@@ -95,22 +97,31 @@ where
 }
 
 /// Runs on air from a reader.
-fn splice_watched<R: Read + Drop, A: AirWatch, O: Write + Drop>(
+fn splice_watched<R, A, V, O>(
     alloc: Global,
     options: &SpliceOptions<'_>,
     is_live: bool,
     input: R,
     library: &AdLibrary,
     watch: &mut A,
+    reading: V,
     output: O,
-) -> Result<Spliced, Stopped> {
+) -> Result<Spliced, Stopped>
+where
+    R: Read + Drop,
+    A: AirWatch,
+    V: RecoveryWatch + Drop,
+    O: Write + Drop,
+{
     let watched = options.is_verbose.then_some(options.config.cue_pid);
     let passage = SplicingOnAir {
         options,
         library,
         watch,
     };
-    let Ran { report, seen } = run_on_air_from(alloc, passage, watched, is_live, input, output)?;
+    let Ran { report, seen } = run_on_air_from(
+        alloc, passage, watched, is_live, input, reading, output,
+    )?;
     Ok(Spliced {
         report: report.report.report,
         air: Some(air_counts(&report)),
@@ -131,8 +142,12 @@ fn splice_from<R: Read + Drop, T: Write + Drop, O: Write + Drop>(
     if options.is_on_air {
         return match told {
             Some(stream) => {
-                let mut teller = AirTeller::new(stream);
-                splice_watched(alloc, options, is_live, input, library, &mut teller, output)
+                let teller = RefCell::new(AirTeller::new(stream));
+                let watch = &mut TellingInTurn::new(&teller);
+                let reading = TellingInTurn::new(&teller);
+                splice_watched(
+                    alloc, options, is_live, input, library, watch, reading, output,
+                )
             }
             None => splice_watched(
                 alloc,
@@ -141,6 +156,7 @@ fn splice_from<R: Read + Drop, T: Write + Drop, O: Write + Drop>(
                 input,
                 library,
                 &mut Unwatched,
+                Unwatched,
                 output,
             ),
         };

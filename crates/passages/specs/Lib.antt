@@ -1,4 +1,3 @@
 pub mod Names
 pub mod Runs
 pub mod Stopping
-pub mod OnAir

@@ -2,7 +2,7 @@
 //! network ends them.
 
 use crate::air_running::AirPassage;
-use crate::asking::{Asker, cue_on_air, play_on_air, told_fault};
+use crate::asking::{Asker, cue_on_air, play_on_air};
 use crate::fault::ProgramFault;
 use ad_library::AdLibrary;
 use chain_engine::{Chain, Report};
@@ -79,7 +79,7 @@ where
         };
         match cue_on_air(chain, network, asker, out, watch) {
             Ok(report) => Ok(report),
-            Err(fault) => Err(told_fault(fault)),
+            Err(fault) => Err(ProgramFault::Run(fault)),
         }
     }
 }
@@ -121,7 +121,7 @@ where
         };
         match play_on_air(chain, network, asker, library, out, watch) {
             Ok(report) => Ok(report),
-            Err(fault) => Err(told_fault(fault)),
+            Err(fault) => Err(ProgramFault::Run(fault)),
         }
     }
 }

@@ -1,31 +1,29 @@
-//! Runs on air whose automation is a client of a port of this machine.
+//! Runs on air whose automations are the clients of a port of this machine, one after another.
 
-ghost use Rattle.std.specs.Prelude.{◌≡◌, Err, false, IfErr};
-ghost use Rattle.passages.specs.OnAir.{IsOfListening};
+ghost use Rattle.std.specs.Prelude.{◌≡◌, false, IfErr};
+ghost use Rattle.on_air.specs.Plain.{IsOfDevices};
 
-use crate::listening::ListenFault;
 use ad_library::AdLibrary;
-use automations::accept;
-use chain_engine::{Chain, Report};
+use automations::Clients;
+use chain_engine::{Chain, Report, RunFault};
 use on_air::{AirReport, AirWatch, inject_on_air, run_on_air};
 use std::alloc::Allocator;
 use std::io::{Read, Write};
 use std::net::{OpenListener, OpenStream};
 use ts_packet::{GatheringSink, PausingPackets};
 
-/// Waits for one client of the listener, and then runs [`inject_on_air`] with it as the automation.
+/// Runs [`inject_on_air`] with the clients of the listener as the automation. The network waits for none of them.
 ///
 /// # Errors
 ///
-/// `Accept` where no connection was accepted, or it could not be set not to block, or its handle not be copied: the network and the output
-/// are as they were then. `Run` as for [`inject_on_air`].
+/// As for [`inject_on_air`].
 pub fn inject_listening_on_air<M, P, L, K, A>(
     chain: Chain<M>,
     network: &mut P,
     listener: &L,
     out: &mut K,
     watch: &mut A,
-) -> Result<AirReport<Report>, ListenFault>
+) -> Result<AirReport<Report>, RunFault>
 where
     M: Allocator,
     P: PausingPackets,
@@ -34,23 +32,17 @@ where
     K: GatheringSink,
     A: AirWatch,
     requires { P.is_broken network.old ≡ false }
-    ensures devices { IfErr result IsOfListening }
-    ensures accept { result ≡ Err ListenFault.Accept → (network.new ≡ network.old) × (out.new ≡ out.old) }
+    ensures devices { IfErr result IsOfDevices }
 {
-    let Some(mut client) = accept(listener) else {
-        return Err(ListenFault::Accept);
-    };
-    match inject_on_air(chain, network, &mut client, out, watch) {
-        Ok(report) => Ok(report),
-        Err(fault) => Err(ListenFault::Run(fault)),
-    }
+    let mut clients = Clients::new(listener);
+    inject_on_air(chain, network, &mut clients, out, watch)
 }
 
-/// Waits for one client of the listener, and then runs [`run_on_air`] with it as the automation, likewise.
+/// Runs [`run_on_air`] with the clients of the listener as the automation, likewise.
 ///
 /// # Errors
 ///
-/// `Accept` as for [`inject_listening_on_air`], and `Run` as for [`run_on_air`].
+/// As for [`run_on_air`].
 pub fn run_listening_on_air<M, P, L, K, A>(
     chain: Chain<M>,
     network: &mut P,
@@ -58,7 +50,7 @@ pub fn run_listening_on_air<M, P, L, K, A>(
     library: &AdLibrary,
     out: &mut K,
     watch: &mut A,
-) -> Result<AirReport<Report>, ListenFault>
+) -> Result<AirReport<Report>, RunFault>
 where
     M: Allocator,
     P: PausingPackets,
@@ -67,14 +59,8 @@ where
     K: GatheringSink,
     A: AirWatch,
     requires { P.is_broken network.old ≡ false }
-    ensures devices { IfErr result IsOfListening }
-    ensures accept { result ≡ Err ListenFault.Accept → (network.new ≡ network.old) × (out.new ≡ out.old) }
+    ensures devices { IfErr result IsOfDevices }
 {
-    let Some(mut client) = accept(listener) else {
-        return Err(ListenFault::Accept);
-    };
-    match run_on_air(chain, network, &mut client, library, out, watch) {
-        Ok(report) => Ok(report),
-        Err(fault) => Err(ListenFault::Run(fault)),
-    }
+    let mut clients = Clients::new(listener);
+    run_on_air(chain, network, &mut clients, library, out, watch)
 }

@@ -3,6 +3,7 @@
 ghost use Rattle.std.specs.Prelude.{◌≡◌, false};
 
 use crate::fault::ProgramFault;
+use crate::recovery_watch::{RecoveringPackets, RecoveryWatch, ToldPackets};
 use crate::running::{
     BUFFER_SIZE, Ended, Finished, Passed, Ran, let_go, network_of, out_of_memory,
 };
@@ -90,18 +91,35 @@ fn run_on_air_to<S: AirPassage, P: PausingPackets, O: Write + Drop>(
     }))
 }
 
+/// Runs to a writer, and tells of each read.
+fn run_told<S: AirPassage, P: RecoveringPackets, V: RecoveryWatch + Drop, O: Write + Drop>(
+    alloc: Global,
+    passage: S,
+    watched: Option<Pid>,
+    packets: &mut P,
+    watch: V,
+    output: O,
+) -> Result<Ended<S::Report>, AllocError>
+    requires { P.is_broken packets.old ≡ false }
+{
+    let mut told_packets = ToldPackets::new(packets, watch);
+    run_on_air_to(alloc, passage, watched, &mut told_packets, output)
+}
+
 /// Runs from a reader to a writer, as [`run_from`](crate::running::run_from) does, but over whatever packets the reader's bytes hold: where
-/// sync is lost the bytes up to its next place are left out, and a packet whose adaptation field does not fit is marked in error.
+/// sync is lost the bytes up to its next place are left out, and a packet whose adaptation field does not fit is marked in error. `watch` is
+/// told of each read.
 ///
 /// # Errors
 ///
 /// As for `run_from`; of the network only the faults of its device.
-pub fn run_on_air_from<S: AirPassage, R: Read + Drop, O: Write + Drop>(
+pub fn run_on_air_from<S: AirPassage, V: RecoveryWatch + Drop, R: Read + Drop, O: Write + Drop>(
     alloc: Global,
     passage: S,
     watched: Option<Pid>,
     is_live: bool,
     input: R,
+    watch: V,
     output: O,
 ) -> Result<Ran<OnAir<S::Report>>, Stopped> {
     let Ok(reader) = BufReader::with_capacity(alloc, BUFFER_SIZE, Attended::new(input)) else {
@@ -109,7 +127,7 @@ pub fn run_on_air_from<S: AirPassage, R: Read + Drop, O: Write + Drop>(
     };
     let mut network = network_of(reader, is_live);
     let mut packets = RecoveringReader::new(&mut network);
-    let Ok(ended) = run_on_air_to(alloc, passage, watched, &mut packets, output) else {
+    let Ok(ended) = run_told(alloc, passage, watched, &mut packets, watch, output) else {
         return Err(out_of_memory());
     };
     let (mended, skipped) = (packets.mended(), packets.skipped());

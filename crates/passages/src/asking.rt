@@ -10,8 +10,9 @@ ghost use Rattle.chain_engine.specs.Runs.{NetworkBlamed, OutputBlamed};
 ghost use Rattle.chain_engine.specs.Splices.{NetworkBlamedToEnd};
 ghost use Rattle.chain_services.specs.Serving.{services_in};
 ghost use Rattle.chain_services.specs.Runs.{ServicesStandFor, terms_by};
-ghost use Rattle.passages.specs.OnAir.{IsOfListening};
-ghost use Rattle.passages.specs.Runs.{PassesAll, AskerTells, CuesStop, Cues, PlaysStop, Plays, ServesStop, Serves, IfRan, IsPort, told_fault, lost_replies};
+ghost use Rattle.on_air.specs.Plain.{IsOfDevices};
+ghost use Rattle.passages.specs.Runs.{PassesAll, AskerTells, CuesStop, Cues, PlaysStop, Plays, ServesStop};
+ghost use Rattle.passages.specs.Runs.{Serves, IfRan, IsPort, told_fault, lost_replies};
 
 use crate::air_listening::{inject_listening_on_air, run_listening_on_air};
 use crate::fault::ProgramFault;
@@ -139,18 +140,18 @@ where
     }
 }
 
-/// Runs on air with cues by this automation: no fault of the network ends the run.
+/// Runs on air with cues by this automation: no fault of the network ends the run, and it waits for no client.
 ///
 /// # Errors
 ///
-/// `Accept` as for [`cue`], and `Run` as for [`inject_on_air`].
+/// As for [`inject_on_air`].
 pub fn cue_on_air<P, K, W, L, A>(
     chain: Chain,
     network: &mut P,
     asker: &mut Asker<W, L>,
     out: &mut K,
     watch: &mut A,
-) -> Result<AirReport<Report>, ListenFault>
+) -> Result<AirReport<Report>, RunFault>
 where
     P: PausingPackets,
     K: GatheringSink,
@@ -159,24 +160,19 @@ where
     L::Stream: OpenStream + Read + Write + Drop,
     A: AirWatch,
     requires { P.is_broken network.old ≡ false }
-    ensures devices { IfErr result IsOfListening }
-    ensures accept { result ≡ Err ListenFault.Accept → (network.new ≡ network.old) × (out.new ≡ out.old) }
-    ensures port { result ≡ Err ListenFault.Accept → IsPort asker.old }
+    ensures devices { IfErr result IsOfDevices }
 {
     match asker {
-        Asker::Script(script) => match inject_on_air(chain, network, script, out, watch) {
-            Ok(report) => Ok(report),
-            Err(fault) => Err(ListenFault::Run(fault)),
-        },
+        Asker::Script(script) => inject_on_air(chain, network, script, out, watch),
         Asker::Port(listener) => inject_listening_on_air(chain, network, listener, out, watch),
     }
 }
 
-/// Runs on air with cues by this automation, and with the advertisements of a library.
+/// Runs on air with cues by this automation, and with the advertisements of a library, likewise.
 ///
 /// # Errors
 ///
-/// `Accept` as for [`cue`], and `Run` as for [`run_on_air`].
+/// As for [`run_on_air`].
 pub fn play_on_air<P, K, W, L, A>(
     chain: Chain,
     network: &mut P,
@@ -184,7 +180,7 @@ pub fn play_on_air<P, K, W, L, A>(
     library: &AdLibrary,
     out: &mut K,
     watch: &mut A,
-) -> Result<AirReport<Report>, ListenFault>
+) -> Result<AirReport<Report>, RunFault>
 where
     P: PausingPackets,
     K: GatheringSink,
@@ -193,15 +189,10 @@ where
     L::Stream: OpenStream + Read + Write + Drop,
     A: AirWatch,
     requires { P.is_broken network.old ≡ false }
-    ensures devices { IfErr result IsOfListening }
-    ensures accept { result ≡ Err ListenFault.Accept → (network.new ≡ network.old) × (out.new ≡ out.old) }
-    ensures port { result ≡ Err ListenFault.Accept → IsPort asker.old }
+    ensures devices { IfErr result IsOfDevices }
 {
     match asker {
-        Asker::Script(script) => match run_on_air(chain, network, script, library, out, watch) {
-            Ok(report) => Ok(report),
-            Err(fault) => Err(ListenFault::Run(fault)),
-        },
+        Asker::Script(script) => run_on_air(chain, network, script, library, out, watch),
         Asker::Port(listener) => {
             run_listening_on_air(chain, network, listener, library, out, watch)
         }

@@ -13,6 +13,7 @@ pub mod fault;
 pub mod kinds;
 pub mod line_runs;
 pub mod listening;
+pub mod recovery_watch;
 pub mod running;
 pub mod tell;
 pub mod watch;
