@@ -46,10 +46,11 @@ At the end standard output has three lines: how many `messages` came, and how ma
 With --on-air no fault of the network ends the run, as a channel does not end. Bytes that are in no packet are left out. What cannot
 be judged, as a scrambled packet or a unit with a damaged time stamp, goes out unjudged, as it came and at its place, and the rest
 of its unit with it. Where the tables or the time base change all begins anew with that packet, in a new stretch: there is no clock
-until the next time stamp, and the breaks that were accepted before are not cued on. At the end of the network the status is 0, and
-five lines more stand behind these: how many `stretches` there were (1 where none began anew), how many accepted breaks were `lost`
+until the next time stamp, and the breaks that were accepted before are not cued on. With --listen the network waits for no client:
+automation systems are served one after another, each until it closes or fails, does not take a reply, or sends a size that no
+message has; what one has asked for stands when it goes. At the end of the network the status is 0, and five lines more stand behind these: how many `stretches` there were (1 where none began anew), how many accepted breaks were `lost`
 at the end of one, how many packets went out `unjudged`, how many were marked in error for an adaptation field that does not fit
-(`mended`), and how many bytes were left out (`skipped`). With --verbose each new stretch is told as it begins.
+(`mended`), and how many bytes were left out (`skipped`). With --verbose each new stretch is told as it begins, and damage too, at most once in 16,384 packets of each kind.
 
 FILE may be a pipe, and - is standard input or output. What came in before a pause of the network goes out before it. The contents
 of the output file are replaced; it may not be an input.";
