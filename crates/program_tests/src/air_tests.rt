@@ -145,7 +145,7 @@ fn another_time_base_begins_a_stretch(rt: HostRuntime) -> Result<(), Fail> {
         script,
         &network,
         &cued,
-        "stretch 2: packet 5, PID 256 (0x0100): TimeJump\n",
+        "stretch 2: packet 5, byte 940, PID 256 (0x0100): TimeJump\n",
         "messages 1\naccepted 1\nrefused 0\nstretches 2\nlost 1\nunjudged 1\nmended 0\nskipped 0\n",
     )?;
     fs::remove_file(&rt, script)?;
