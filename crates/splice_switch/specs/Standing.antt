@@ -9,6 +9,7 @@ use Rattle.program_follower.specs.declared.start_follower.StartPlace.TheVariants
 use Rattle.program_follower.specs.declared.starts.StartPacket.TheVariants.{Start}
 use Rattle.unit_stream.specs.declared.clock.Begun.{Begun}
 use Rattle.program_follower.specs.declared.purpose.Listed.{Listed}
+use Rattle.program_follower.specs.declared.purpose.Purpose.{Purpose}
 use Rattle.program_follower.specs.Purposes.{reading_cues}
 use Rattle.program_follower.specs.Program.{listed}
 use Rattle.program_follower.specs.Following.{StartsStandFor, StartsShow, IsStartPlace}
@@ -34,6 +35,10 @@ pub record SwitchStandsFor (s : Switch) (c : Config) (filed : ℕ → Option Adv
   pub playing : PlaysFor s.playing (setting_of c filed) past
   pub numbers : Numbers s (listed (Some c.program) past) (switched_past (setting_of c filed) past)
   pub whole : s.is_spent ≡ false
+
+-- Its follower has read this past, also where packets of it went out beside the switch: all that tells what is wrong with the next one.
+abbrev pub SwitchFollows : Switch → Purpose → List (List ℕ) → Type 0
+SwitchFollows s c past = StartsStandFor s.follower c past
 
 -- the same switch, of which it is open whether what was due of the advertisements that run is out
 abbrev pub switch_unasked : Switch → Switch

@@ -12,13 +12,14 @@ ghost use Rattle.ts_packet.specs.Sinks.{Blamed};
 ghost use Rattle.ts_packet.specs.Transfers.{WentWell};
 ghost use Rattle.program_follower.specs.Faults.{network_fault};
 ghost use Rattle.program_follower.specs.Purposes.{reading_cues};
+ghost use Rattle.program_follower.specs.declared.purpose.Purpose.{Purpose as FollowedFor};
 ghost use Rattle.outgoing_packets.specs.Numbers.{FrontFails};
 ghost use Rattle.ad_library.specs.Advertisements.{Advertisement};
 ghost use Rattle.ad_library.specs.Library.{held};
 ghost use Rattle.splice_plans.specs.Adverts.{setting_of};
 ghost use Rattle.splice_plans.specs.Switching.{switched_at_packet, rest_at};
 ghost use Rattle.splice_plans.specs.Reporting.{ReportIs, report_of};
-ghost use Rattle.splice_switch.specs.Standing.{SwitchStandsFor, switch_unasked, FeedFails, FinishFails};
+ghost use Rattle.splice_switch.specs.Standing.{SwitchStandsFor, SwitchFollows, switch_unasked, FeedFails, FinishFails};
 ghost use Rattle.outgoing_packets.specs.Faults.{FeedBlamed, KeepsSink, is_err_or};
 ghost use Rattle.splice_switch.specs.Standing.{IsFollowedAs, IsStart};
 
@@ -90,6 +91,8 @@ impl Switch {
         ensures sound { (c : Config) (past : List (List ℕ)) →
             SwitchStandsFor (switch_unasked self.old) c (held library.now) past →
             OnOk result (network_fault (reading_cues c) packet.now past ≡ None) }
+        ensures follows { (c : FollowedFor) (past : List (List ℕ)) → SwitchFollows self.old c past →
+            OnOk result (SwitchFollows self.new c (packet.now ∷ past)) }
         ensures err { (start : Option (List ℕ)) (ps : List (List ℕ)) (c : Config) (past : List (List ℕ)) →
             S.holds sink.old start ps → SwitchStandsFor (switch_unasked self.old) c (held library.now) past →
             IfErr result (λ f. FeedFails f c (held library.now) packet.now past
@@ -129,6 +132,8 @@ impl Switch {
             OnOk result (SwitchStandsFor self.new c (held library.now) (packet.now ∷ past)) }
         ensures sound { (c : Config) (past : List (List ℕ)) → SwitchStandsFor self.old c (held library.now) past →
             OnOk result (network_fault (reading_cues c) packet.now past ≡ None) }
+        ensures follows { (c : FollowedFor) (past : List (List ℕ)) → SwitchFollows self.old c past →
+            OnOk result (SwitchFollows self.new c (packet.now ∷ past)) }
         ensures err { (start : Option (List ℕ)) (ps : List (List ℕ)) (c : Config) (past : List (List ℕ)) →
             S.holds sink.old start ps → SwitchStandsFor self.old c (held library.now) past →
             IfErr result (λ f. FeedFails f c (held library.now) packet.now past
@@ -155,8 +160,10 @@ impl Switch {
     /// What is wrong with the next packet of the network, behind those before it. It is not taken, and nothing changes.
     #[inline(always)]
     pub fn look(&self, packet: &Packet) -> Option<NetworkFault>
-        ensures { (c : Config) (filed : ℕ → Option Advertisement) (past : List (List ℕ)) → SwitchStandsFor self.now c filed past →
+        ensures stands { (c : Config) (filed : ℕ → Option Advertisement) (past : List (List ℕ)) → SwitchStandsFor self.now c filed past →
             result ≡ network_fault (reading_cues c) packet.now past }
+        ensures follows { (c : FollowedFor) (past : List (List ℕ)) → SwitchFollows self.now c past →
+            result ≡ network_fault c packet.now past }
     {
         self.follower.look(packet)
     }
@@ -164,8 +171,10 @@ impl Switch {
     /// The PIDs that are known of its program: that of the map once the PAT gave it, and behind it those of the switched streams in the order
     /// of the map, once that came.
     pub fn pids(&self) -> ArrayVec<Pid, 9>
-        ensures { (c : Config) (filed : ℕ → Option Advertisement) (past : List (List ℕ)) → SwitchStandsFor self.now c filed past →
+        ensures stands { (c : Config) (filed : ℕ → Option Advertisement) (past : List (List ℕ)) → SwitchStandsFor self.now c filed past →
             result.items ≡ known_pids (Some c.program) past }
+        ensures follows { (c : FollowedFor) (past : List (List ℕ)) → SwitchFollows self.now c past →
+            result.items ≡ known_pids c.program past }
     {
         self.follower.pids()
     }
@@ -176,6 +185,8 @@ impl Switch {
         ensures below { IfSome result (λ place. place < 8) }
         ensures place { (c : Config) (filed : ℕ → Option Advertisement) (past : List (List ℕ)) → SwitchStandsFor self.now c filed past →
             result ≡ place_in (pids_of (program_of (Some c.program) past)) packet.now }
+        ensures follows { (c : FollowedFor) (past : List (List ℕ)) → SwitchFollows self.now c past →
+            result ≡ place_in (pids_of (program_of c.program past)) packet.now }
     {
         self.follower.stream_of(packet)
     }
@@ -184,9 +195,12 @@ impl Switch {
     /// `None` where it begins none. It is not taken.
     pub fn start_at(&self, stream: usize, packet: &Packet) -> Option<UnitStart>
         requires { stream < 8 }
-        ensures { (c : Config) (filed : ℕ → Option Advertisement) (past : List (List ℕ)) → SwitchStandsFor self.now c filed past →
+        ensures stands { (c : Config) (filed : ℕ → Option Advertisement) (past : List (List ℕ)) → SwitchStandsFor self.now c filed past →
             Some stream ≡ place_in (pids_of (program_of (Some c.program) past)) packet.now →
             result ≡ start_in (pids_of (program_of (Some c.program) past)) packet.now (behind_head (Some c.program) past) }
+        ensures follows { (c : FollowedFor) (past : List (List ℕ)) → SwitchFollows self.now c past →
+            Some stream ≡ place_in (pids_of (program_of c.program past)) packet.now →
+            result ≡ start_in (pids_of (program_of c.program past)) packet.now (behind_head c.program past) }
     {
         self.follower.start_at(stream, packet)
     }
@@ -222,6 +236,7 @@ impl Switch {
         ensures err { (start : Option (List ℕ)) (ps : List (List ℕ)) (d : SwitchedStream) (steps : List NumberStep) →
             S.holds sink.old start ps → Counts (slice_index_or self.old.playing.streams stream d).counter steps →
             IfErr result (λ f. S.fails sink.new start ps (renumbered (moved steps) packet.now) f) }
+        ensures follower { self.new.follower ≡ self.old.follower }
         ensures well { OnOk result (WentWell (S.counts sink.old) (S.counts sink.new)) }
         ensures blamed { IfErr result (λ f. Blamed f (S.counts sink.old) (S.counts sink.new) (S.is_full sink.new)) }
     {
@@ -288,6 +303,8 @@ impl Switch {
             OnOk result (SwitchStandsFor self.new c (held library.now) (packet.now ∷ past)) }
         ensures sound { (c : Config) (past : List (List ℕ)) → SwitchStandsFor self.old c (held library.now) past →
             OnOk result (network_fault (reading_cues c) packet.now past ≡ None) }
+        ensures follows { (c : FollowedFor) (past : List (List ℕ)) → SwitchFollows self.old c past →
+            OnOk result (SwitchFollows self.new c (packet.now ∷ past)) }
         ensures err { (start : Option (List ℕ)) (ps : List (List ℕ)) (c : Config) (past : List (List ℕ)) →
             S.holds sink.old start ps → SwitchStandsFor self.old c (held library.now) past →
             IfErr result (λ f. FeedFails f c (held library.now) packet.now past
@@ -329,6 +346,7 @@ impl Switch {
         ensures well { OnOk result (WentWell (S.counts sink.old) (S.counts sink.new)) }
         ensures blamed { IfErr result (λ f. Blamed f (S.counts sink.old) (S.counts sink.new) (S.is_full sink.new)) }
         ensures spent { self.new.is_spent ≡ self.old.is_spent }
+        ensures follower { self.new.follower ≡ self.old.follower }
     {
         match place {
             StartPlace::Other => self.out.pass(packet, sink),
@@ -373,6 +391,7 @@ impl Switch {
         ensures well { OnOk result (WentWell (S.counts sink.old) (S.counts sink.new)) }
         ensures blamed { IfErr result (λ f. Blamed f (S.counts sink.old) (S.counts sink.new) (S.is_full sink.new)) }
         ensures spent { self.new.is_spent ≡ self.old.is_spent }
+        ensures follower { self.new.follower ≡ self.old.follower }
     {
         match part {
             StartPacket::Start(begun) => {
@@ -410,6 +429,7 @@ impl Switch {
         ensures well { OnOk result (WentWell (S.counts sink.old) (S.counts sink.new)) }
         ensures blamed { IfErr result (λ f. Blamed f (S.counts sink.old) (S.counts sink.new) (S.is_full sink.new)) }
         ensures spent { self.new.is_spent ≡ self.old.is_spent }
+        ensures follower { self.new.follower ≡ self.old.follower }
     {
         let high = self.follower.high();
         let streams = self.follower.streams();

@@ -1,5 +1,5 @@
 use Rattle.program_follower.specs.Purposes.{reading_cues}
 use Rattle.splice_switch.proofs.switch.Switch.pids.Goals as goal
 
-pub returns : goal.returns
-returns c = λ d filed past h. c.pids.ensures (reading_cues d) past h.follower
+pub returns-clause-stands : goal.returns-clause-stands
+returns-clause-stands c = λ d filed past h. c.pids.ensures (reading_cues d) past h.follower
