@@ -12,3 +12,4 @@ pub mod ProgressLemmas
 pub mod ForgetLemmas
 pub mod UnaskedLemmas
 pub mod StageLemmas
+pub mod FollowedLemmas

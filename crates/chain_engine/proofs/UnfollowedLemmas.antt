@@ -1,5 +1,5 @@
 -- A packet on whose PID nothing of a service is changes nothing of it.
-use Rattle.std.proofs.Common.{◌≡◌, ℕ, List, [], ◌∷◌, ◌++◌, false, sym, ap, subst, ◌∙◌}
+use Rattle.std.proofs.Common.{◌≡◌, ℕ, List, [], ◌++◌, false, sym, ap, subst, ◌∙◌}
 use Rattle.std.specs.Prelude.{Option, Some}
 use Rattle.ts_packet.specs.Fields.{pid_of}
 use Rattle.ts_packet.specs.Runs.{onto}

@@ -12,3 +12,4 @@ pub mod Nested
 pub mod ChainRuns
 pub mod Stages
 pub mod Unjudged
+pub mod Followed

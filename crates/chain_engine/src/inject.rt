@@ -15,7 +15,7 @@ use crate::chain::Chain;
 use crate::faults::{RunFault, stage_fault};
 use crate::report::Report;
 use packet_runs::{Stage, StageFault, run_stage};
-use psi_tables::NetworkFault;
+use psi_tables::{Config, NetworkFault};
 use std::alloc::Allocator;
 use ts_packet::{GatheringSink, Packet, PacketSink, PausingPackets, PutFault, ReadFault};
 
@@ -24,6 +24,8 @@ use ts_packet::{GatheringSink, Packet, PacketSink, PausingPackets, PutFault, Rea
 pub struct InjectorStage<'a, M: Allocator, U> {
     pub(crate) chain: &'a mut Chain<M>,
     pub(crate) automation: &'a mut U,
+    /// What the chain is configured for.
+    pub(crate) config: Config,
 }
 
 impl<'a, M: Allocator, U> InjectorStage<'a, M, U> {
@@ -31,9 +33,15 @@ impl<'a, M: Allocator, U> InjectorStage<'a, M, U> {
     pub fn new(chain: &'a mut Chain<M>, automation: &'a mut U) -> InjectorStage<'a, M, U>
         ensures chain { result.chain.now ≡ chain.old }
         ensures automation { result.automation.now ≡ automation.old }
+        ensures config { result.config ≡ chain.old.service.config }
         ensures same { result.automation.ghost_name ≡ automation.entry.ghost_name }
     {
-        InjectorStage { chain, automation }
+        let config = chain.service.config;
+        InjectorStage {
+            chain,
+            automation,
+            config,
+        }
     }
 }
 
@@ -63,13 +71,13 @@ impl<M: Allocator, U: Automation> Stage for InjectorStage<'_, M, U> {
     ghost ends = { λ first ps sent report now. InjectEnds first.chain.now.service.config
         (Exchanged U.exchanges U.failures first.automation.now now.automation.now) ps sent report };
 
-    ghost leads = { λ s t. t.automation.ghost_name ≡ s.automation.ghost_name };
+    ghost leads = { λ s t. (t.automation.ghost_name ≡ s.automation.ghost_name) × (t.config ≡ s.config) };
 
     ghost puts_rest = { false };
 
-    ghost leads_refl = { λ s. refl };
+    ghost leads_refl = { λ s. (refl, refl) };
 
-    ghost leads_trans = { λ s t u h k. k ∙ h };
+    ghost leads_trans = { λ s t u h k. (k.0 ∙ h.0, k.1 ∙ h.1) };
 
     #[inline(always)]
     fn step<K: PacketSink>(

@@ -22,7 +22,7 @@ use crate::faults::{RunFault, put_fault, stage_fault};
 use crate::report::Report;
 use ad_library::AdLibrary;
 use packet_runs::{Stage, StageFault, run_stage};
-use psi_tables::{FeedFault, NetworkFault};
+use psi_tables::{Config, FeedFault, NetworkFault};
 use std::alloc::Allocator;
 use ts_packet::{GatheringSink, Packet, PacketSink, PausingPackets, PutFault, ReadFault};
 
@@ -117,6 +117,8 @@ pub struct ChainStage<'a, M: Allocator, U> {
     pub(crate) chain: &'a mut Chain<M>,
     pub(crate) automation: &'a mut U,
     pub(crate) library: &'a AdLibrary,
+    /// What the chain is configured for.
+    pub(crate) config: Config,
 }
 
 impl<'a, M: Allocator, U> ChainStage<'a, M, U> {
@@ -129,12 +131,15 @@ impl<'a, M: Allocator, U> ChainStage<'a, M, U> {
         ensures chain { result.chain.now ≡ chain.old }
         ensures automation { result.automation.now ≡ automation.old }
         ensures library { result.library.now ≡ library.now }
+        ensures config { result.config ≡ chain.old.service.config }
         ensures same { result.automation.ghost_name ≡ automation.entry.ghost_name }
     {
+        let config = chain.service.config;
         ChainStage {
             chain,
             automation,
             library,
+            config,
         }
     }
 }
@@ -167,13 +172,13 @@ impl<M: Allocator, U: Automation> Stage for ChainStage<'_, M, U> {
     ghost ends = { λ first ps sent report now. ChainEnds first.chain.now.service.config (held first.library.now)
         (Exchanged U.exchanges U.failures first.automation.now now.automation.now) ps sent report };
 
-    ghost leads = { λ s t. t.automation.ghost_name ≡ s.automation.ghost_name };
+    ghost leads = { λ s t. (t.automation.ghost_name ≡ s.automation.ghost_name) × (t.config ≡ s.config) };
 
     ghost puts_rest = { true };
 
-    ghost leads_refl = { λ s. refl };
+    ghost leads_refl = { λ s. (refl, refl) };
 
-    ghost leads_trans = { λ s t u h k. k ∙ h };
+    ghost leads_trans = { λ s t u h k. (k.0 ∙ h.0, k.1 ∙ h.1) };
 
     #[inline(always)]
     fn step<K: PacketSink>(

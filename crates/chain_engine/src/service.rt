@@ -116,8 +116,10 @@ impl Service {
     /// accepted since the last packet. One look-up tells most packets.
     #[inline(always)]
     pub fn overlooks(&self, packet: &Packet) -> bool
-        ensures { (c : Config) (filed : ℕ → Option Advertisement) (steps : List Step)
+        ensures stands { (c : Config) (filed : ℕ → Option Advertisement) (steps : List Step)
             → ServiceStandsFor self.now c filed steps → result ≡ true → PassesBy self.now c filed packet.now steps }
+        ensures injector { (c : Config) (steps : List Step) → InjectsFor c self.now steps → result ≡ true
+            → InjectsFor c self.now (PacketStep packet.now ∷ steps) }
     {
         of_bytes(packet);
         self.injector.overlooks(packet)
@@ -157,6 +159,8 @@ impl Service {
         ensures blamed { IfErr result (λ f. OutputBlamed (RunFault.Feed f)
             (K.counts out.old) (K.counts out.new) (K.is_full out.new)) }
         ensures config { self.new.config ≡ self.old.config }
+        ensures injector { (c : Config) (steps : List Step) → InjectsFor c self.old steps
+            → OnOk result (InjectsFor c self.new (PacketStep packet.now ∷ steps)) }
     {
         if !self.overlooks(packet) {
             return self.pass_on(packet, library, out);
@@ -192,6 +196,8 @@ impl Service {
         ensures blamed { IfErr result (λ f. OutputBlamed (RunFault.Feed f)
             (K.counts out.old) (K.counts out.new) (K.is_full out.new)) }
         ensures config { self.new.config ≡ self.old.config }
+        ensures injector { (c : Config) (steps : List Step) → InjectsFor c self.old steps
+            → OnOk result (InjectsFor c self.new (PacketStep packet.now ∷ steps)) }
     {
         of_bytes(packet);
         let mut feeding = Feeding {

@@ -45,6 +45,7 @@ impl<'a> SwitchStage<'a> {
 
 impl Stage for SwitchStage<'_> {
     ghost use Rattle.std.specs.Prelude.{◌≡◌, true};
+    ghost use Rattle.std.proofs.Common.{refl, ◌∙◌};
     ghost use Rattle.program_follower.specs.Faults.{network_fault};
     ghost use Rattle.program_follower.specs.Purposes.{reading_cues};
     ghost use Rattle.ad_library.specs.Library.{held};
@@ -66,13 +67,13 @@ impl Stage for SwitchStage<'_> {
 
     ghost ends = { λ first ps sent report now. SpliceEnds first.config (held first.library.now) ps sent report };
 
-    ghost leads = { λ s t. Unit {0} };
+    ghost leads = { λ s t. t.config ≡ s.config };
 
     ghost puts_rest = { true };
 
-    ghost leads_refl = { λ s. tt };
+    ghost leads_refl = { λ s. refl };
 
-    ghost leads_trans = { λ s t u h k. tt };
+    ghost leads_trans = { λ s t u h k. k ∙ h };
 
     #[inline(always)]
     fn step<K: PacketSink>(

@@ -1,10 +1,15 @@
 //! Packets that are passed on unjudged: they are read as ones that are marked in error (ISO/IEC 13818-1, 2.4.3.3, transport_error_indicator),
 //! of which nothing is relied on, and go out as they came.
 
-ghost use Rattle.std.specs.Prelude.{◌≡◌, OnOk, IfErr};
+ghost use Rattle.std.specs.Prelude.{◌≡◌, ℕ, List, ◌∷◌, OnOk, IfErr};
 ghost use Rattle.ts_packet.specs.Fields.{marked};
 ghost use Rattle.ts_packet.specs.Sinks.{Blamed};
 ghost use Rattle.ts_packet.specs.Transfers.{WentWell};
+ghost use Rattle.psi_tables.specs.declared.config.Config.{Config};
+ghost use Rattle.program_follower.specs.declared.purpose.Purpose.{Purpose as FollowedFor};
+ghost use Rattle.injector.specs.Injecting.{InjectorStandsFor};
+ghost use Rattle.injector.specs.Steps.{Step, Packet as PacketStep};
+ghost use Rattle.splice_switch.specs.Standing.{SwitchFollows};
 
 use crate::faults::put_fault;
 use crate::service::Service;
@@ -80,9 +85,14 @@ pub(crate) fn put_unjudged<K: PacketSink>(
     ensures leads { K.leads out.old out.new }
     ensures well { OnOk result (WentWell (K.counts out.old) (K.counts out.new)) }
     ensures blamed { IfErr result (λ f. Blamed f (K.counts out.old) (K.counts out.new) (K.is_full out.new)) }
+    ensures follows { (c : FollowedFor) (past : List (List ℕ)) → SwitchFollows switch.old c past
+        → OnOk result (SwitchFollows switch.new c (marked packet.now ∷ past)) }
 {
     match switch.stream_of(packet) {
-        Some(stream) => switch.put_beside(stream, packet, out),
+        Some(stream) => match switch.follow(&marked(packet)) {
+            Ok(()) => switch.put_beside(stream, packet, out),
+            Err(_) => Err(PutFault::Failed),
+        },
         None => {
             let mut restoring = Restoring { packet, out };
             match switch.feed_with_same(&marked(packet), library, &mut restoring) {
@@ -160,7 +170,10 @@ impl Service {
         packet: &Packet,
         library: &AdLibrary,
         out: &mut K,
-    ) -> Result<(), PutFault> {
+    ) -> Result<(), PutFault>
+        ensures injector { (c : Config) (steps : List Step) → InjectorStandsFor self.old.injector c steps
+            → OnOk result (InjectorStandsFor self.new.injector c (PacketStep (marked packet.now) ∷ steps)) }
+    {
         let mut beside = Beside {
             switch: &mut self.switch,
             packet,

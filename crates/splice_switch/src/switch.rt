@@ -213,6 +213,23 @@ impl Switch {
         self.playing.open_count()
     }
 
+    /// Takes a packet that is marked in error as the next one of the network, and puts nothing for it.
+    ///
+    /// # Errors
+    ///
+    /// What is wrong with it behind those before it.
+    pub fn follow(&mut self, packet: &Packet) -> Result<(), NetworkFault>
+        ensures follows { (c : FollowedFor) (past : List (List ℕ)) → SwitchFollows self.old c past →
+            OnOk result (SwitchFollows self.new c (packet.now ∷ past)) }
+        ensures playing { self.new.playing ≡ self.old.playing }
+        ensures spent { self.new.is_spent ≡ self.old.is_spent }
+    {
+        match self.follower.feed(packet) {
+            Ok(_) => Ok(()),
+            Err(fault) => Err(fault),
+        }
+    }
+
     /// Puts a packet on the PID of the switched stream of this number that is of no unit of it. Its counter goes on as that of a packet that is
     /// kept. The follower does not take it.
     ///

@@ -25,7 +25,7 @@ returns-in-Ok-clause-ok g c = λ d start before h held.
     let all = injects_all c.run_stage.new.stage is_out stage.chain.now.service.config (exchanged stage.automation.now) _ (λ ps sent report e. e) _ c.in-Ok.report through in
     let done = subst (λ x. InjectsAll d (g.P.PacketSource.left c.args.network.now) is_out (exchanged x) c.in-Ok.report) c.new-stage.ensures.automation
     (subst (λ w. InjectsAll w (g.P.PacketSource.left c.args.network.now) is_out (exchanged stage.automation.now) c.in-Ok.report) config all) in
-    let named = c.in-Ok.ensures.stage ∙ c.new-stage.ensures.same in
+    let named = c.in-Ok.ensures.stage.0 ∙ c.new-stage.ensures.same in
     subst (λ x. InjectsAll d (g.P.PacketSource.left c.args.network.now) is_out (Exchanged g.U.Automation.exchanges g.U.Automation.failures c.args.automation.now x) c.in-Ok.report) (sym (c.automation-1.given.1 (sym named))) done
 
 pub returns-clause-err : goal.returns-clause-err
@@ -46,7 +46,7 @@ returns-clause-err g c = λ d start before h held.
     let done = subst (λ x. InjectStops d c.of.result input is_out fails unsent (exchanged x)) c.new-stage.ensures.automation
     (subst (λ f. InjectStops d f input is_out fails unsent (exchanged stage.automation.now)) (sym c.of.ensures)
     (subst (λ w. InjectStops w (run_fault_of c.in-Err.stop) input is_out fails unsent (exchanged stage.automation.now)) config all)) in
-    let named = c.in-Err.ensures.stage ∙ c.new-stage.ensures.same in
+    let named = c.in-Err.ensures.stage.0 ∙ c.new-stage.ensures.same in
     subst (λ x. InjectStops d c.of.result input is_out fails unsent (Exchanged g.U.Automation.exchanges g.U.Automation.failures c.args.automation.now x)) (sym (c.automation-1.given.1 (sym named))) done
 
 pub returns-clause-reading : goal.returns-clause-reading

@@ -32,7 +32,7 @@ returns-in-Ok-clause-ok g c = λ d start before h is_held.
     let done = subst (λ x. RunsAll d (held c.args.library.now) (g.P.PacketSource.left c.args.network.now) is_out (exchanged x) c.in-Ok.report) c.new-stage.ensures.automation
     (subst (λ (v : ℕ → Option Advertisement). RunsAll d v (g.P.PacketSource.left c.args.network.now) is_out (exchanged stage.automation.now) c.in-Ok.report) library
     (subst (λ w. RunsAll w filed (g.P.PacketSource.left c.args.network.now) is_out (exchanged stage.automation.now) c.in-Ok.report) config all)) in
-    let named = c.in-Ok.ensures.stage ∙ c.new-stage.ensures.same in
+    let named = c.in-Ok.ensures.stage.0 ∙ c.new-stage.ensures.same in
     subst (λ x. RunsAll d (held c.args.library.now) (g.P.PacketSource.left c.args.network.now) is_out (Exchanged g.U.Automation.exchanges g.U.Automation.failures c.args.automation.now x) c.in-Ok.report) (sym (c.automation-1.given.1 (sym named))) done
 
 pub returns-clause-err : goal.returns-clause-err
@@ -56,7 +56,7 @@ returns-clause-err g c = λ d start before h is_held.
     (subst (λ (v : ℕ → Option Advertisement). ChainStops d v c.of.result input is_out fails unsent (exchanged stage.automation.now)) library
     (subst (λ f. ChainStops d filed f input is_out fails unsent (exchanged stage.automation.now)) (sym c.of.ensures)
     (subst (λ w. ChainStops w filed (run_fault_of c.in-Err.stop) input is_out fails unsent (exchanged stage.automation.now)) config all))) in
-    let named = c.in-Err.ensures.stage ∙ c.new-stage.ensures.same in
+    let named = c.in-Err.ensures.stage.0 ∙ c.new-stage.ensures.same in
     subst (λ x. ChainStops d (held c.args.library.now) c.of.result input is_out fails unsent (Exchanged g.U.Automation.exchanges g.U.Automation.failures c.args.automation.now x)) (sym (c.automation-1.given.1 (sym named))) done
 
 pub returns-clause-reading : goal.returns-clause-reading

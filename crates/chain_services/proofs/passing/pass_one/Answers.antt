@@ -14,7 +14,7 @@ returns-then-is_left_out-clause-ok g c = λ t steps start ps filed h skip is_hel
 pub returns-then-overlooks-clause-ok : goal.returns-then-overlooks-clause-ok
 returns-then-overlooks-clause-ok g c = λ t steps start ps filed h skip is_held.
     passed-by c.args.service.now t c.args.packet.now steps h (λ l. g.K.PacketSink.holds c.args.out.now start (ps ++ l))
-    (c.overlooks.ensures t.config t.filed h.taken h.stands c.if-overlooks.true) (subst (g.K.PacketSink.holds c.args.out.now start) (sym (append-nil ps)) is_held)
+    (c.overlooks.ensures.stands t.config t.filed h.taken h.stands c.if-overlooks.true) (subst (g.K.PacketSink.holds c.args.out.now start) (sym (append-nil ps)) is_held)
 
 pub returns-in-Ok-clause-ok : goal.returns-in-Ok-clause-ok
 returns-in-Ok-clause-ok g c = λ t steps start ps filed h skip is_held.

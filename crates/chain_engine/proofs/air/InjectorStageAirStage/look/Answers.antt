@@ -5,8 +5,8 @@ use Rattle.chain_engine.specs.Runs.{steps_of}
 use Rattle.chain_engine.proofs.StepsLemmas.{steps_packets}
 use Rattle.chain_engine.proofs.air.InjectorStageAirStage.look.Goals as goal
 
-pub returns : goal.returns
-returns g c = λ first ps qs kept s.
+pub returns-clause-sends : goal.returns-clause-sends
+returns-clause-sends g c = λ first ps qs kept s.
     let run = s.run in
     let d = first.chain.now.service.config in
     c.look.ensures d (steps_of (length run.rs) run.ts (reverse ps)) run.gone

@@ -5,12 +5,12 @@ use Rattle.chain_engine.proofs.service.Service.pass.Goals as goal
 
 pub returns-in-Ok-clause-ok : goal.returns-in-Ok-clause-ok
 returns-in-Ok-clause-ok g c = λ d steps start ps stands is_held.
-    let by = c.overlooks.ensures d (held c.args.library.now) steps stands c.if-not-overlooks.false in
+    let by = c.overlooks.ensures.stands d (held c.args.library.now) steps stands c.if-not-overlooks.false in
     (by.stands, subst (λ l. g.K.PacketSink.holds c.put.new.self start (ps ++ l)) (sym by.alone) (c.in-Ok.ensures.ok start ps is_held))
 
 pub returns-in-Err-clause-err : goal.returns-in-Err-clause-err
 returns-in-Err-clause-err g c = λ d steps start ps stands is_held.
-    let by = c.overlooks.ensures d (held c.args.library.now) steps stands c.if-not-overlooks.false in
+    let by = c.overlooks.ensures.stands d (held c.args.library.now) steps stands c.if-not-overlooks.false in
     record {
       put = [];
       packet = c.args.packet.now;

@@ -1,0 +1,20 @@
+use Rattle.chain_engine.proofs.FollowedLemmas.{heard-followed, packet-followed}
+use Rattle.chain_engine.proofs.air.ChainStageAirStage.pass_judged.Goals as goal
+
+pub returns-in-Ok : goal.returns-in-Ok
+returns-in-Ok g c = λ purpose past (is, f).
+    let config = c.args.self.now.config in
+    let old = c.args.self.now.chain.now in
+    let now = c.hear.new.self in
+    let (more, rs, talks, replied) = c.hear.ensures.talk f.ts f.n f.k f.talks in
+    let heard = heard-followed old now config past f more rs _ _ _ talks replied in
+    let service = c.pass.new.self in (
+      is,
+      record {
+        ts = heard.ts;
+        n = heard.n;
+        k = heard.k;
+        talks = heard.talks;
+        followed = packet-followed now.service service config c.args.packet.now past heard.followed (c.in-Ok.ensures.injector config heard.followed.steps heard.followed.injector);
+      },
+    )
