@@ -1,1 +1,3 @@
 mod SoundLemmas
+mod MarkLemmas
+mod AirLemmas

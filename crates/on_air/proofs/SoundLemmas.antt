@@ -1,5 +1,5 @@
 -- What a stage says of itself, a stage around it says of itself.
-use Rattle.std.proofs.Common.{◌≡◌, ℕ, List, Option, sym, ◌∙◌}
+use Rattle.std.proofs.Common.{◌≡◌, ℕ, List, Option, ◌∙◌}
 use Rattle.ts_packet.specs.Runs.{Seen}
 use Rattle.ts_packet.specs.declared.sink.PutFault.{PutFault}
 use Rattle.packet_runs.specs.Stages.{StepFails, seen_behind}

@@ -1,1 +1,4 @@
 pub mod Plain
+pub mod Stretches
+pub mod Marking
+pub mod AirRuns

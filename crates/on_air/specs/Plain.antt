@@ -1,5 +1,5 @@
 -- Runs on air of networks without a fault: what is told of them beside what their one stretch counts.
-use Rattle.std.specs.Prelude.{◌≡◌, ℕ, List, [], ◌∷◌, Bool, true, false, Option, None}
+use Rattle.std.specs.Prelude.{◌≡◌, ℕ, List, [], ◌∷◌, Bool, true, false, None}
 use Rattle.ts_packet.specs.Packets.{packets_of}
 use Rattle.ts_packet.specs.FirstFault.{first_fault}
 use Rattle.packet_runs.specs.Stops.{refusal_test}

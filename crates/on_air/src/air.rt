@@ -1,6 +1,11 @@
 //! The stretches of a run on air, packet by packet.
 
-ghost use Rattle.std.specs.Prelude.{ℕ, List, [], ◌∷◌, ◌++◌};
+ghost use Rattle.std.specs.Prelude.{◌≡◌, ℕ, List, [], ◌∷◌, ◌++◌, true, false, OnOk};
+ghost use Rattle.ts_packet.specs.Fields.{marked};
+ghost use Rattle.program_follower.specs.declared.purpose.Purpose.{Purpose};
+ghost use Rattle.on_air.specs.Stretches.{Entry, as_read, with_next};
+ghost use Rattle.on_air.specs.Marking.{Keeps};
+ghost use Rattle.on_air.specs.AirRuns.{AirStands, Counted, newest, unjudged_in};
 ghost use Rattle.on_air.specs.Plain.{IsPlain, IsToldPlain};
 
 use crate::marks::{Marks, Verdict};
@@ -8,7 +13,6 @@ use crate::report::AirReport;
 use crate::tail::MapTail;
 use crate::watch::{AirWatch, Begun};
 use chain_engine::{AirStage, StretchEnd};
-use packet_runs::StageFault;
 use psi_tables::NetworkFault;
 use ts_packet::{Packet, PacketSink, PutFault};
 
@@ -31,7 +35,8 @@ pub(crate) struct Air<R> {
 impl<R: Copy + Drop> Air<R> {
     /// No packet has come.
     pub(crate) fn new() -> Air<R>
-        ensures { IsPlain result [] }
+        ensures plain { IsPlain result [] }
+        ensures stands { (c : Purpose) → AirStands result c [] }
     {
         Air {
             marks: Marks::new(),
@@ -48,7 +53,8 @@ impl<R: Copy + Drop> Air<R> {
     /// Takes a packet that is judged.
     #[inline(always)]
     pub(crate) fn take<S: AirStage<Report = R>>(&mut self, stage: &S, packet: &Packet)
-        ensures { (ps : List (List ℕ)) (p : List ℕ) → IsPlain self.old ps → IsPlain self.new (ps ++ p ∷ []) }
+        ensures plain { (ps : List (List ℕ)) (p : List ℕ) → IsPlain self.old ps → IsPlain self.new (ps ++ p ∷ []) }
+        ensures counted { Counted self.old self.new true }
     {
         if self.is_empty {
             self.is_empty = false;
@@ -67,24 +73,26 @@ impl<R: Copy + Drop> Air<R> {
     pub(crate) fn pass<S: AirStage<Report = R>, K: PacketSink, A: AirWatch>(
         &mut self,
         stage: &mut S,
-        packet: &mut Packet,
-        kept: &Packet,
+        packet: &Packet,
         out: &mut K,
         watch: &mut A,
-    ) -> Result<(), PutFault> {
+    ) -> Result<(), PutFault>
+        ensures { (c : Purpose) (ss : List (List Entry)) → AirStands self.old c ss → S.follows stage.old c (as_read (newest ss))
+            → OnOk result (AirStands self.new c (with_next c packet.now ss)
+            × S.follows stage.new c (as_read (newest (with_next c packet.now ss)))) }
+    {
         match self.marks.judge(stage, packet) {
-            Verdict::Judged => self.pass_judged(stage, packet, kept, out),
+            Verdict::Judged => self.pass_judged(stage, packet, out),
             Verdict::Unjudged => self.pass_unjudged(stage, packet, out, watch),
             Verdict::BeginsAnew(_) if self.is_empty => self.pass_unjudged(
                 stage, packet, out, watch,
             ),
             Verdict::BeginsAnew(fault) => {
                 self.begin_anew(stage, packet, fault, out, watch)?;
-                match self.marks.judge(stage, packet) {
-                    Verdict::Judged => self.pass_judged(stage, packet, kept, out),
-                    Verdict::Unjudged | Verdict::BeginsAnew(_) => {
-                        self.pass_unjudged(stage, packet, out, watch)
-                    }
+                if self.marks.judge(stage, packet).is_judged() {
+                    self.pass_judged(stage, packet, out)
+                } else {
+                    self.pass_unjudged(stage, packet, out, watch)
                 }
             }
         }
@@ -95,16 +103,15 @@ impl<R: Copy + Drop> Air<R> {
     fn pass_judged<S: AirStage<Report = R>, K: PacketSink>(
         &mut self,
         stage: &mut S,
-        packet: &mut Packet,
-        kept: &Packet,
+        packet: &Packet,
         out: &mut K,
-    ) -> Result<(), PutFault> {
+    ) -> Result<(), PutFault>
+        ensures counted { Counted self.old self.new true }
+        ensures follows { (c : Purpose) (past : List (List ℕ)) → S.follows stage.old c past
+            → OnOk result (S.follows stage.new c (packet.now ∷ past)) }
+    {
         self.take(stage, packet);
-        match stage.step(packet, kept, out) {
-            Ok(_) => Ok(()),
-            Err(StageFault::Packet(_)) => Ok(()),
-            Err(StageFault::Sink(fault)) => Err(fault),
-        }
+        stage.pass_judged(packet, out)
     }
 
     /// Passes a packet on that is left unjudged.
@@ -114,7 +121,11 @@ impl<R: Copy + Drop> Air<R> {
         packet: &Packet,
         out: &mut K,
         watch: &mut A,
-    ) -> Result<(), PutFault> {
+    ) -> Result<(), PutFault>
+        ensures counted { Counted self.old self.new false }
+        ensures follows { (c : Purpose) (past : List (List ℕ)) → S.follows stage.old c past
+            → OnOk result (S.follows stage.new c (marked packet.now ∷ past)) }
+    {
         if self.is_empty {
             self.is_empty = false;
             self.stretches = self.stretches.saturating_add(1);
@@ -133,7 +144,11 @@ impl<R: Copy + Drop> Air<R> {
         fault: NetworkFault,
         out: &mut K,
         watch: &mut A,
-    ) -> Result<(), PutFault> {
+    ) -> Result<(), PutFault>
+        ensures marks { (c : Purpose) → Keeps self.new.marks c [] }
+        ensures counts { (self.new.is_empty ≡ true) × (self.new.stretches ≡ self.old.stretches) × (self.new.unjudged ≡ self.old.unjudged) }
+        ensures follows { (c : Purpose) (past : List (List ℕ)) → S.follows stage.old c past → S.follows stage.new c [] }
+    {
         let StretchEnd { report, lost } = stage.begin_anew();
         let ended = match &self.ended {
             None => report,
@@ -141,10 +156,10 @@ impl<R: Copy + Drop> Air<R> {
         };
         self.ended = Some(ended);
         self.lost = self.lost.saturating_add(lost);
-        self.tail.put(out)?;
-        self.tail = MapTail::new();
         self.marks = Marks::new();
         self.is_empty = true;
+        self.tail.put(out)?;
+        self.tail = MapTail::new();
         watch.begun(&Begun {
             stretch: self.stretches.saturating_add(1),
             packet: self.packets,
@@ -156,7 +171,8 @@ impl<R: Copy + Drop> Air<R> {
 
     /// What is told at the end, where the last stretch counted this.
     pub(crate) fn told<S: AirStage<Report = R>>(&self, report: R) -> AirReport<R>
-        ensures { (ps : List (List ℕ)) → IsPlain self.now ps → IsToldPlain result ps report }
+        ensures plain { (ps : List (List ℕ)) → IsPlain self.now ps → IsToldPlain result ps report }
+        ensures told { (result.stretches ≡ self.now.stretches) × (result.unjudged ≡ self.now.unjudged) }
     {
         AirReport {
             report: match &self.ended {

@@ -1,5 +1,14 @@
 //! What is kept of the packets of each switched stream that were left unjudged.
 
+ghost use Rattle.std.specs.Prelude.{◌≡◌, ℕ, List, [], ◌∷◌, Option, Some, false, true, not, ◌&&◌, if◌then◌else◌, is_some};
+ghost use Rattle.psi_tables.specs.declared.network.NetworkFault.TheVariants.{TimeJump};
+ghost use Rattle.ts_packet.specs.Fields.{payload, alike};
+ghost use Rattle.std.specs.List.{list_any};
+ghost use Rattle.program_follower.specs.declared.purpose.Purpose.{Purpose};
+ghost use Rattle.program_follower.specs.Faults.{network_fault};
+ghost use Rattle.on_air.specs.Stretches.{Entry, as_read, has_time, stream_at, start_at, verdict, verdict_of};
+ghost use Rattle.on_air.specs.Marking.{keeps_any, Keeps, KeepsOf, Becomes, BecomesOf, is_judged_by};
+
 use chain_engine::AirStage;
 use program_follower::UnitStart;
 use psi_tables::NetworkFault;
@@ -14,6 +23,18 @@ pub(crate) enum Verdict {
     Unjudged,
     /// A stretch begins anew with it, since this is wrong with it.
     BeginsAnew(NetworkFault),
+}
+
+impl Verdict {
+    /// It is that the packet is judged.
+    pub(crate) fn is_judged(self) -> bool
+        ensures { result ≡ is_judged_by self }
+    {
+        match self {
+            Verdict::Judged => true,
+            Verdict::Unjudged | Verdict::BeginsAnew(_) => false,
+        }
+    }
 }
 
 /// Of one switched stream, what is kept of the packets that were left unjudged.
@@ -31,7 +52,11 @@ struct StreamMarks {
 
 impl StreamMarks {
     /// Nothing is kept.
-    fn new() -> StreamMarks {
+    fn new() -> StreamMarks
+        ensures damaged { result.is_damaged ≡ false }
+        ensures jumped { result.has_jumped ≡ false }
+        ensures jump { result.is_jump ≡ false }
+    {
         StreamMarks {
             is_damaged: false,
             has_jumped: false,
@@ -41,12 +66,19 @@ impl StreamMarks {
     }
 
     /// Something is kept.
-    fn is_any(&self) -> bool {
+    fn is_any(&self) -> bool
+        ensures { result ≡ keeps_any self.now }
+    {
         self.is_damaged || self.has_jumped || self.is_jump
     }
 
     /// What becomes of a packet of the stream, which begins this unit, if one, and has no fault.
-    fn take_sound(&mut self, start: Option<UnitStart>) -> Verdict {
+    fn take_sound(&mut self, start: Option<UnitStart>) -> Verdict
+        ensures verdict { result ≡ (if self.old.is_damaged && not (has_time start) then Verdict.Unjudged else Verdict.Judged) }
+        ensures damaged { self.new.is_damaged ≡ (self.old.is_damaged && not (has_time start)) }
+        ensures jumped { self.new.has_jumped ≡ (if has_time start then false else self.old.has_jumped) }
+        ensures jump { (self.new.is_jump ≡ self.old.is_jump) × (self.new.jump ≡ self.old.jump) }
+    {
         let is_timed = match start {
             None => false,
             Some(start) => start.pts.is_some(),
@@ -65,14 +97,22 @@ impl StreamMarks {
 
     /// What becomes of a packet that begins a unit too far from the greatest time. One damaged stamp costs its unit; a new time base is seen
     /// at the second unit of a stream.
-    fn take_jump(&mut self, packet: &Packet, is_repeat: bool) -> Verdict {
+    fn take_jump(&mut self, packet: &Packet, is_repeat: bool) -> Verdict
+        ensures anew { (self.old.has_jumped && not is_repeat) ≡ true → (result ≡ Verdict.BeginsAnew TimeJump) × (self.new ≡ self.old) }
+        ensures unjudged { (self.old.has_jumped && not is_repeat) ≡ false → (result ≡ Verdict.Unjudged)
+            × (self.new.is_damaged ≡ true) × (self.new.has_jumped ≡ true)
+            × ((p : List ℕ) → (self.new.is_jump && alike self.new.jump p)
+            ≡ (if is_some (payload packet.now) then alike packet.now p else self.old.is_jump && alike self.old.jump p)) }
+    {
         if self.has_jumped && !is_repeat {
             return Verdict::BeginsAnew(NetworkFault::TimeJump);
         }
         self.is_damaged = true;
         self.has_jumped = true;
-        self.is_jump = true;
-        self.jump = *packet;
+        if packet.has_payload() {
+            self.is_jump = true;
+            self.jump = *packet;
+        }
         Verdict::Unjudged
     }
 
@@ -82,7 +122,11 @@ impl StreamMarks {
         packet: &Packet,
         start: Option<UnitStart>,
         fault: Option<NetworkFault>,
-    ) -> Verdict {
+    ) -> Verdict
+        ensures { (c : Purpose) (n : ℕ) (past : List Entry) → KeepsOf self.old c n past
+            → stream_at c packet.now past ≡ Some n → start ≡ start_at c packet.now past
+            → BecomesOf result (verdict_of c n fault packet.now past) (λ j. KeepsOf self.new c n (record { packet = packet.now; judgement = j } ∷ past)) }
+    {
         let is_repeat = self.is_jump && self.jump.is_like(packet);
         if packet.has_payload() {
             self.is_jump = false;
@@ -111,7 +155,9 @@ pub(crate) struct Marks {
 
 impl Marks {
     /// Nothing is kept.
-    pub(crate) fn new() -> Marks {
+    pub(crate) fn new() -> Marks
+        ensures { (c : Purpose) → Keeps result c [] }
+    {
         Marks {
             streams: [StreamMarks::new(); 8],
             has_any: false,
@@ -120,7 +166,10 @@ impl Marks {
 
     /// What becomes of the next packet of the stage.
     #[inline(always)]
-    pub(crate) fn judge<S: AirStage>(&mut self, stage: &S, packet: &Packet) -> Verdict {
+    pub(crate) fn judge<S: AirStage>(&mut self, stage: &S, packet: &Packet) -> Verdict
+        ensures { (c : Purpose) (past : List Entry) → Keeps self.old c past → S.follows stage.now c (as_read past)
+            → Becomes result self.new c packet.now past }
+    {
         let fault = stage.look(packet);
         if fault.is_none() && !self.has_any {
             return Verdict::Judged;
@@ -136,7 +185,10 @@ impl Marks {
         stage: &S,
         packet: &Packet,
         fault: Option<NetworkFault>,
-    ) -> Verdict {
+    ) -> Verdict
+        ensures { (c : Purpose) (past : List Entry) → Keeps self.old c past → S.follows stage.now c (as_read past)
+            → fault ≡ network_fault c packet.now (as_read past) → Becomes result self.new c packet.now past }
+    {
         let Some(index) = stage.stream_of(packet) else {
             return match fault {
                 None => Verdict::Judged,
@@ -151,12 +203,9 @@ impl Marks {
     }
 
     /// Something is kept of some stream.
-    fn is_any(&self) -> bool {
-        for stream in &self.streams {
-            if stream.is_any() {
-                return true;
-            }
-        }
-        false
+    fn is_any(&self) -> bool
+        ensures { result ≡ list_any keeps_any self.now.streams }
+    {
+        self.streams.iter().any(|stream| stream.is_any())
     }
 }

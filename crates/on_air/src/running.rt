@@ -48,9 +48,8 @@ where
     ensures same { sound.new.stage.ghost_name ≡ sound.old.stage.ghost_name }
 {
     let mut next = sound.refused;
-    let kept = Packet::null();
     loop {
-        match sound.air.pass(sound.stage, &mut next, &kept, out, watch) {
+        match sound.air.pass(sound.stage, &next, out, watch) {
             Ok(()) => {}
             Err(fault) => return Err(of_sink(fault)),
         }

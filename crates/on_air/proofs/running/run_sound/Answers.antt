@@ -1,5 +1,3 @@
-use Rattle.std.proofs.Common.{ℕ, List}
-use Rattle.ts_packet.specs.Packets.{packets_of}
 use Rattle.on_air.proofs.running.run_sound.Goals as goal
 
 pub returns-in-Ok-clause-sound : goal.returns-in-Ok-clause-sound

@@ -5,7 +5,7 @@ returns-in-Ok-clause-ok g c = λ first ps qs kept start before s is_held.
     let e = c.in-Ok.ensures.ok first.stage.now ps qs kept start before s.0 is_held in
     record {
       sent = e.sent;
-      ends_so = (c.in-Ok.report, e.ends_so, c.told.ensures ps s.1);
+      ends_so = (c.in-Ok.report, e.ends_so, c.told.ensures.plain ps s.1);
       out = e.out;
     }
 

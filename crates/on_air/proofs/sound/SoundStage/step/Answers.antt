@@ -8,7 +8,7 @@ returns-in-None-clause-ok g c = λ first ps qs start before s is_held.
     IfOk-weaker c.step.result _ _ (λ keeps w. record {
       sent = w.sent;
       sound = w.sound;
-      sends_it = (w.sends_it, c.take.ensures ps c.args.packet.now s.1);
+      sends_it = (w.sends_it, c.take.ensures.plain ps c.args.packet.now s.1);
       out = w.out;
     }) (c.step.ensures.ok first.stage.now ps qs start before s.0 is_held)
 

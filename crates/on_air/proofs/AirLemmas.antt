@@ -1,0 +1,55 @@
+-- A stretch that begins anew with a packet.
+use Rattle.std.proofs.Common.{◌≡◌, ℕ, suc, ◌+◌, List, [], ◌∷◌, length, Bool, true, false, refl, sym, ap, subst, ◌∙◌, arith}
+use Rattle.std.specs.Prelude.{if◌then◌else◌}
+use Rattle.psi_section.specs.Assembling.{capped}
+use Rattle.psi_tables.specs.declared.network.NetworkFault.{NetworkFault}
+use Rattle.program_follower.specs.declared.purpose.Purpose.{Purpose}
+use Rattle.on_air.specs.Stretches.{Entry, Judgement, Judged, Passed, Damaged, Jumped, Verdict as Verdict', Is, BeginsNew, is_judged, as_first, first_entry, verdict, joined, with_next}
+use Rattle.on_air.specs.Marking.{Keeps, Becomes, BecomesOf, is_judged_by}
+use Rattle.on_air.specs.AirRuns.{AirStands, Counted, newest, has_no, unjudged_of, unjudged_in}
+use Rattle.on_air.specs.declared.air.Air.{Air}
+use Rattle.on_air.specs.declared.marks.Marks.{Marks}
+use Rattle.on_air.specs.declared.marks.Verdict.{Verdict}
+use Rattle.on_air.specs.declared.marks.Verdict.TheVariants as verdicts
+
+-- the packet does begin one, where there is one before it
+pub begun : (answer : Verdict) (fault : NetworkFault) (m : Marks) (c : Purpose) (p : List ℕ) (ss : List (List Entry)) → has_no ss ≡ false → answer ≡ verdicts.BeginsAnew fault
+    → Becomes answer m c p (newest ss) → with_next c p ss ≡ (first_entry c p ∷ []) ∷ ss
+begun answer fault m c p [] some is b = absurd (cc)
+begun answer fault m c p (past ∷ earlier) some is b = by_verdict (verdict c p past) (λ j. Keeps m c (record { packet = p; judgement = j } ∷ past)) b where
+  by_verdict : (v : Verdict') (keeps : Judgement → Type 0) → BecomesOf answer v keeps → joined c v p past earlier ≡ (first_entry c p ∷ []) ∷ (past ∷ earlier)
+  by_verdict (Is Judged) keeps b = let no : verdicts.Judged ≡ verdicts.BeginsAnew fault = sym b.0 ∙ is in absurd (cc)
+  by_verdict (Is Passed) keeps b = let no : verdicts.Unjudged ≡ verdicts.BeginsAnew fault = sym b.0 ∙ is in absurd (cc)
+  by_verdict (Is Damaged) keeps b = let no : verdicts.Unjudged ≡ verdicts.BeginsAnew fault = sym b.0 ∙ is in absurd (cc)
+  by_verdict (Is Jumped) keeps b = let no : verdicts.Unjudged ≡ verdicts.BeginsAnew fault = sym b.0 ∙ is in absurd (cc)
+  by_verdict (BeginsNew other) keeps b = refl
+
+-- and is its first: judged or not
+pub first-is : (answer : Verdict) (v : Verdict') (keeps : Judgement → Type 0) → BecomesOf answer v keeps
+    → (is_judged (as_first v) ≡ is_judged_by answer) × keeps (as_first v)
+first-is answer (Is Judged) keeps b = (sym (ap is_judged_by b.0), b.1)
+first-is answer (Is Passed) keeps b = (sym (ap is_judged_by b.0), b.1)
+first-is answer (Is Damaged) keeps b = (sym (ap is_judged_by b.0), b.1)
+first-is answer (Is Jumped) keeps b = (sym (ap is_judged_by b.0), b.1)
+first-is answer (BeginsNew fault) keeps b = (sym (ap is_judged_by b.0), b.1)
+
+one-more : (n k : ℕ) → n ≡ capped k → capped (n + 1) ≡ capped (suc k)
+one-more n k e = grind arith
+
+-- what is counted of it
+counted-first : (j : Judgement) (p : List ℕ) (b : Bool) (n k : ℕ) → is_judged j ≡ b → n ≡ capped k
+    → (if b then n else capped (n + 1)) ≡ capped (unjudged_of (record { packet = p; judgement = j } ∷ []) + k)
+counted-first Judged p b n k is e = subst (λ d. (if d then n else capped (n + 1)) ≡ capped (0 + k)) is (grind arith)
+counted-first Passed p b n k is e = subst (λ d. (if d then n else capped (n + 1)) ≡ capped (1 + k)) is (grind arith)
+counted-first Damaged p b n k is e = subst (λ d. (if d then n else capped (n + 1)) ≡ capped (1 + k)) is (grind arith)
+counted-first Jumped p b n k is e = subst (λ d. (if d then n else capped (n + 1)) ≡ capped (1 + k)) is (grind arith)
+
+pub stands-anew : {R : Type 0} (before anew now : Air R) (c : Purpose) (p : List ℕ) (ss : List (List Entry)) (b : Bool) → AirStands before c ss
+    → anew.is_empty ≡ true → anew.stretches ≡ before.stretches → anew.unjudged ≡ before.unjudged → Counted anew now b → is_judged (as_first (verdict c p [])) ≡ b
+    → Keeps now.marks c (first_entry c p ∷ []) → AirStands now c ((first_entry c p ∷ []) ∷ ss)
+stands-anew before anew now c p ss b h empty stretches unjudged counted is keeps = record {
+  marks = keeps;
+  is_empty = counted.is_empty;
+  stretches = counted.stretches ∙ ap (λ e. if e then capped (anew.stretches + 1) else anew.stretches) empty ∙ one-more anew.stretches (length ss) (stretches ∙ h.stretches);
+  unjudged = counted.unjudged ∙ counted-first (as_first (verdict c p [])) p b anew.unjudged (unjudged_in ss) is (unjudged ∙ h.unjudged);
+}
