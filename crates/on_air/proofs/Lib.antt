@@ -1,3 +1,3 @@
-mod SoundLemmas
 mod MarkLemmas
 mod AirLemmas
+mod LoopLemmas

@@ -3,7 +3,7 @@ use Rattle.std.specs.Prelude.{◌≡◌, ℕ, ◌+◌, List, [], ◌∷◌, leng
 use Rattle.ts_packet.specs.Packets.{packets_of}
 use Rattle.psi_section.specs.Assembling.{capped}
 use Rattle.program_follower.specs.declared.purpose.Purpose.{Purpose}
-use Rattle.on_air.specs.Stretches.{Entry, is_judged, stretches}
+use Rattle.on_air.specs.Stretches.{Entry, is_judged, with_next, stretches}
 use Rattle.on_air.specs.Marking.{Keeps}
 use Rattle.on_air.specs.declared.air.Air.{Air}
 use Rattle.on_air.specs.declared.report.AirReport.{AirReport}
@@ -39,7 +39,16 @@ pub record Counted {R : Type 0} (old new : Air R) (is_judged : Bool) : Type 0 wh
   pub stretches : new.stretches ≡ (if old.is_empty then capped (old.stretches + 1) else old.stretches)
   pub unjudged : new.unjudged ≡ (if is_judged then old.unjudged else capped (old.unjudged + 1))
 
+-- the stretches once these packets have come too, in order
+abbrev pub all_next : Purpose → List (List ℕ) → List (List Entry) → List (List Entry)
+all_next c [] ss = ss
+all_next c (p ∷ ps) ss = all_next c ps (with_next c p ss)
+
+-- what is told of stretches
+pub record TellsOf {R : Type 0} (told : AirReport R) (ss : List (List Entry)) : Type 0 where
+  pub count : told.stretches ≡ capped (length ss)
+  pub unjudged : told.unjudged ≡ capped (unjudged_in ss)
+
 -- THE THEOREM for any network: what is told of its stretches
-pub record TellsStretches {R : Type 0} (told : AirReport R) (c : Purpose) (bs : List ℕ) : Type 0 where
-  pub count : told.stretches ≡ capped (length (stretches c (reverse (packets_of bs))))
-  pub unjudged : told.unjudged ≡ capped (unjudged_in (stretches c (reverse (packets_of bs))))
+abbrev pub TellsStretches : {R : Type 0} → AirReport R → Purpose → List ℕ → Type 0
+TellsStretches told c bs = TellsOf told (stretches c (reverse (packets_of bs)))

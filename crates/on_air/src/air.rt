@@ -37,6 +37,7 @@ impl<R: Copy + Drop> Air<R> {
     pub(crate) fn new() -> Air<R>
         ensures plain { IsPlain result [] }
         ensures stands { (c : Purpose) → AirStands result c [] }
+        ensures none { result.marks.has_any ≡ false }
     {
         Air {
             marks: Marks::new(),

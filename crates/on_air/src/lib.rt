@@ -6,7 +6,6 @@ mod air;
 mod marks;
 mod report;
 mod running;
-mod sound;
 mod tail;
 mod watch;
 

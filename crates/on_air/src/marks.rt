@@ -156,7 +156,8 @@ pub(crate) struct Marks {
 impl Marks {
     /// Nothing is kept.
     pub(crate) fn new() -> Marks
-        ensures { (c : Purpose) → Keeps result c [] }
+        ensures keeps { (c : Purpose) → Keeps result c [] }
+        ensures none { result.has_any ≡ false }
     {
         Marks {
             streams: [StreamMarks::new(); 8],

@@ -1,6 +1,10 @@
 //! Whole runs on air: up to the network's first fault as any other, and behind it stretch by stretch.
 
-ghost use Rattle.std.specs.Prelude.{◌≡◌, ℕ, List, [], ◌++◌, Option, None, Some, false, IfOk, IfErr};
+ghost use Rattle.std.specs.Prelude.{◌≡◌, ◌<◌, ◌^◌, ◌+◌, cond, ℕ, List, [], ◌++◌, Option, None, Some, false, OnOk, IfOk, IfErr};
+ghost use Rattle.ts_packet.specs.Packets.{packets_of};
+ghost use Rattle.ts_packet.specs.Sources.{GivesInto};
+ghost use Rattle.program_follower.specs.declared.purpose.Purpose.{Purpose};
+ghost use Rattle.packet_runs.specs.Stages.{Ended};
 ghost use Rattle.ts_packet.specs.FirstFault.{first_fault};
 ghost use Rattle.packet_runs.specs.Stops.{refusal_test};
 ghost use Rattle.program_follower.specs.Purposes.{reading_cues, writing_cues};
@@ -9,16 +13,18 @@ ghost use Rattle.chain_engine.specs.Chains.{ChainStandsFor};
 ghost use Rattle.chain_engine.specs.Runs.{Exchanged, Injected};
 ghost use Rattle.chain_engine.specs.Splices.{Spliced};
 ghost use Rattle.chain_engine.specs.ChainRuns.{Ran};
-ghost use Rattle.on_air.specs.Plain.{IsPlain, GoesPlainly, IsSound, RunsPlainly, IsOfDevices};
+ghost use Rattle.on_air.specs.Plain.{IsPlain, IsToldPlain, GoesPlainly, IsSound, RunsPlainly, IsOfDevices};
+ghost use Rattle.on_air.specs.Stretches.{Entry, as_read};
+ghost use Rattle.on_air.specs.AirRuns.{AirStands, TellsOf, TellsStretches, newest, all_next};
 
+use crate::air::Air;
 use crate::report::AirReport;
-use crate::sound::Sound;
 use crate::watch::AirWatch;
 use ad_library::AdLibrary;
 use chain_engine::{
     AirStage, Automation, Chain, ChainStage, InjectorStage, Report, RunFault, SwitchStage,
 };
-use packet_runs::{Stage, Stop, run_stage};
+use packet_runs::{Stage, StageFault, Stop};
 use psi_tables::{Config, FeedFault};
 use splice_plans::SwitchReport;
 use std::alloc::Allocator;
@@ -31,49 +37,52 @@ fn of_sink(fault: PutFault) -> RunFault
     RunFault::Feed(FeedFault::Sink(fault))
 }
 
-/// Passes on the packet that was refused, and the rest of the network, stretch by stretch.
-fn go_on<S, R, P, K, A>(
-    sound: &mut Sound<'_, S, R>,
+/// Sends what the sink keeps back, where the read of the next packet may wait, and reads that packet.
+fn read_next<P: PausingPackets, K: GatheringSink>(
     network: &mut P,
+    next: &mut Packet,
     out: &mut K,
-    watch: &mut A,
-) -> Result<AirReport<R>, RunFault>
-where
-    S: AirStage<Report = R>,
-    R: Copy + Drop,
-    P: PausingPackets,
-    K: GatheringSink,
-    A: AirWatch,
+) -> Result<bool, RunFault>
+    ensures read { IfOk result (λ more. GivesInto (P.left network.old) (P.left network.new) more next.new) }
+    ensures given { IfOk result (λ more. (P.given network.new ≡ P.given network.old + cond more 1 0) × (P.given network.new < 2 ^ 64)) }
+    ensures held { (start : Option (List ℕ)) (ps : List (List ℕ)) → K.holds out.old start ps → OnOk result (K.holds out.new start ps) }
     ensures devices { IfErr result IsOfDevices }
-    ensures same { sound.new.stage.ghost_name ≡ sound.old.stage.ghost_name }
 {
-    let mut next = sound.refused;
-    loop {
-        match sound.air.pass(sound.stage, &next, out, watch) {
+    if network.next_may_wait() {
+        match out.send() {
             Ok(()) => {}
             Err(fault) => return Err(of_sink(fault)),
         }
-        if network.next_may_wait() {
-            match out.send() {
-                Ok(()) => {}
-                Err(fault) => return Err(of_sink(fault)),
-            }
-        }
-        match network.read_packet(&mut next) {
-            Ok(true) => {}
-            Ok(false) => break,
-            Err(fault) => return Err(RunFault::Read(fault)),
-        }
     }
-    match sound.finish(out) {
-        Ok(told) => Ok(told),
+    match network.read_packet(next) {
+        Ok(more) => Ok(more),
+        Err(fault) => Err(RunFault::Read(fault)),
+    }
+}
+
+/// Puts what is left at the end, and tells of all stretches.
+fn finish<S, R, K>(air: &Air<R>, stage: &mut S, out: &mut K) -> Result<AirReport<R>, RunFault>
+where
+    S: AirStage<Report = R>,
+    R: Copy + Drop,
+    K: GatheringSink,
+    ensures plain { (first : S) (ps qs : List (List ℕ)) (kept : List ℕ) (start : Option (List ℕ)) (before : List (List ℕ))
+        → S.sends first ps qs kept stage.old → K.holds out.old start (before ++ qs) → IsPlain air.now ps
+        → IfOk result (λ told. (report : R) × IsToldPlain told ps report
+        × Ended S.ends first ps report stage.new (λ l. K.holds out.new start (before ++ l))) }
+    ensures told { IfOk result (λ told. (told.stretches ≡ air.now.stretches) × (told.unjudged ≡ air.now.unjudged)) }
+    ensures devices { IfErr result IsOfDevices }
+{
+    match stage.finish(out) {
+        Ok(report) => Ok(air.told::<S>(report)),
         Err(fault) => Err(of_sink(fault)),
     }
 }
 
-/// Passes on the packets up to the first that is at fault, and the rest of the network stretch by stretch.
-fn run_sound<S, R, P, K, A>(
-    sound: &mut Sound<'_, S, R>,
+/// Passes on the rest of the network, stretch by stretch.
+fn go_on<S, R, P, K, A>(
+    air: &mut Air<R>,
+    stage: &mut S,
     network: &mut P,
     out: &mut K,
     watch: &mut A,
@@ -84,25 +93,27 @@ where
     P: PausingPackets,
     K: GatheringSink,
     A: AirWatch,
-    requires { P.is_broken network.old ≡ false }
-    ensures sound { (start : Option (List ℕ)) (before : List (List ℕ)) (bs : List ℕ)
-        → ((kept : List ℕ) → S.sends sound.old.stage.now [] [] kept sound.old.stage.now) → IsPlain sound.old.air []
-        → K.holds out.old start before → P.left network.old ≡ Some bs
-        → first_fault Stop.Read (refusal_test (S.refusal sound.old.stage.now)) bs ≡ None
-        → IfOk result (λ told. GoesPlainly (S.ends sound.old.stage.now) bs told sound.new.stage.now
-        (λ l. K.holds out.new start (before ++ l))) }
+    ensures stretches { (c : Purpose) (ss : List (List Entry)) (bs : List ℕ) → AirStands air.old c ss
+        → S.follows stage.old c (as_read (newest ss)) → P.left network.old ≡ Some bs
+        → IfOk result (λ told. TellsOf told (all_next c (packets_of bs) ss)) }
     ensures devices { IfErr result IsOfDevices }
-    ensures same { sound.new.stage.ghost_name ≡ sound.old.stage.ghost_name }
 {
-    match run_stage(sound, network, out) {
-        Ok(told) => Ok(told),
-        Err(Stop::Packet(_)) => go_on(sound, network, out, watch),
-        Err(Stop::Read(fault)) => Err(RunFault::Read(fault)),
-        Err(Stop::Sink(fault)) => Err(of_sink(fault)),
+    let mut next = Packet::null();
+    loop {
+        match read_next(network, &mut next, out) {
+            Ok(true) => {}
+            Ok(false) => break,
+            Err(fault) => return Err(fault),
+        }
+        match air.pass(stage, &next, out, watch) {
+            Ok(()) => {}
+            Err(fault) => return Err(of_sink(fault)),
+        }
     }
+    finish(air, stage, out)
 }
 
-/// Runs a stage on air.
+/// Runs a stage on air: passes on the packets up to the first that is at fault, and the rest of the network stretch by stretch.
 fn run_air<S, R, P, K, A>(
     stage: &mut S,
     network: &mut P,
@@ -115,15 +126,38 @@ where
     P: PausingPackets,
     K: GatheringSink,
     A: AirWatch,
-    requires { P.is_broken network.old ≡ false }
     ensures sound { (start : Option (List ℕ)) (before : List (List ℕ)) (bs : List ℕ)
         → ((kept : List ℕ) → S.sends stage.old [] [] kept stage.old) → K.holds out.old start before → P.left network.old ≡ Some bs
         → first_fault Stop.Read (refusal_test (S.refusal stage.old)) bs ≡ None
         → IfOk result (λ told. (now : S) × GoesPlainly (S.ends stage.old) bs told now (λ l. K.holds out.new start (before ++ l))) }
+    ensures stretches { (c : Purpose) (start : Option (List ℕ)) (before : List (List ℕ)) (bs : List ℕ) → S.begins stage.old c
+        → ((kept : List ℕ) → S.sends stage.old [] [] kept stage.old) → K.holds out.old start before → P.left network.old ≡ Some bs
+        → IfOk result (λ told. TellsStretches told c bs) }
     ensures devices { IfErr result IsOfDevices }
 {
-    let mut sound = Sound::new(stage);
-    run_sound(&mut sound, network, out, watch)
+    let mut air = Air::new();
+    let (mut next, mut kept) = (Packet::null(), Packet::null());
+    loop {
+        match read_next(network, &mut next, out) {
+            Ok(true) => {}
+            Ok(false) => break,
+            Err(fault) => return Err(fault),
+        }
+        if stage.look(&next).is_some() {
+            match air.pass(stage, &next, out, watch) {
+                Ok(()) => return go_on(&mut air, stage, network, out, watch),
+                Err(fault) => return Err(of_sink(fault)),
+            }
+        }
+        air.take(stage, &next);
+        match stage.step(&mut next, &kept, out) {
+            Ok(true) => kept = next,
+            Ok(false) => {}
+            Err(StageFault::Packet(_)) => return Err(of_sink(PutFault::Failed)),
+            Err(StageFault::Sink(fault)) => return Err(of_sink(fault)),
+        }
+    }
+    finish(&air, stage, out)
 }
 
 /// Passes a network on, with advertisements in the breaks that the automation asks for, as [`chain_engine::run`] does, and goes on behind its
@@ -145,6 +179,9 @@ pub fn run_on_air<M: Allocator, P: PausingPackets, U: Automation, K: GatheringSi
         → K.holds out.old start before → P.left network.old ≡ Some bs → IsSound (writing_cues c) bs
         → IfOk result (λ told. (later : U) × RunsPlainly (Ran c (held library.now) bs (λ ps. K.holds out.new start (before ++ ps))
         (Exchanged U.exchanges U.failures automation.old later)) bs told) }
+    ensures stretches { (c : Config) (start : Option (List ℕ)) (before : List (List ℕ)) (bs : List ℕ) → ChainStandsFor chain c
+        → K.holds out.old start before → P.left network.old ≡ Some bs
+        → IfOk result (λ told. TellsStretches told (writing_cues c) bs) }
     ensures devices { IfErr result IsOfDevices }
 {
     let mut chain = chain;
@@ -170,6 +207,9 @@ pub fn inject_on_air<M: Allocator, P: PausingPackets, U: Automation, K: Gatherin
         → K.holds out.old start before → P.left network.old ≡ Some bs → IsSound (writing_cues c) bs
         → IfOk result (λ told. (later : U) × RunsPlainly (Injected c bs (λ ps. K.holds out.new start (before ++ ps))
         (Exchanged U.exchanges U.failures automation.old later)) bs told) }
+    ensures stretches { (c : Config) (start : Option (List ℕ)) (before : List (List ℕ)) (bs : List ℕ) → ChainStandsFor chain c
+        → K.holds out.old start before → P.left network.old ≡ Some bs
+        → IfOk result (λ told. TellsStretches told (writing_cues c) bs) }
     ensures devices { IfErr result IsOfDevices }
 {
     let mut chain = chain;
@@ -194,6 +234,8 @@ pub fn splice_on_air<P: PausingPackets, K: GatheringSink, A: AirWatch>(
     ensures sound { (start : Option (List ℕ)) (before : List (List ℕ)) (bs : List ℕ) → K.holds out.old start before
         → P.left network.old ≡ Some bs → IsSound (reading_cues config) bs
         → IfOk result (RunsPlainly (Spliced config (held library.now) bs (λ ps. K.holds out.new start (before ++ ps))) bs) }
+    ensures stretches { (start : Option (List ℕ)) (before : List (List ℕ)) (bs : List ℕ) → K.holds out.old start before
+        → P.left network.old ≡ Some bs → IfOk result (λ told. TellsStretches told (reading_cues config) bs) }
     ensures devices { IfErr result IsOfDevices }
 {
     let mut stage = SwitchStage::new(config, library);

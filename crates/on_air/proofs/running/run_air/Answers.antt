@@ -1,11 +1,119 @@
-use Rattle.std.proofs.Common.{ℕ, List, [], sym, subst}
+use Rattle.std.proofs.Common.{rules, ◌≡◌, [], ◌∷◌, ◌++◌, None, reverse, sym, ap, subst, ◌∙◌, true}
+use Rattle.std.specs.Prelude.{is_some}
+use Rattle.std.proofs.lemmas.List.{reverse-append}
 use Rattle.std.proofs.lemmas.Result.{IfOk-weaker}
+use Rattle.ts_packet.specs.Packets.{packets_of}
+use Rattle.ts_packet.proofs.RunBlameLemmas.{given_more}
+use Rattle.ts_packet.proofs.PacketsLemmas.{read_to_end}
+use Rattle.packet_runs.proofs.RunLemmas.{gone_more}
+use Rattle.on_air.specs.Stretches.{stretches, with_next}
+use Rattle.on_air.specs.Plain.{IsToldPlain}
+use Rattle.on_air.specs.AirRuns.{TellsOf, all_next}
+use Rattle.on_air.proofs.AirLemmas.{sound-next}
+use Rattle.on_air.proofs.LoopLemmas.{stretches-append, read-on, some-of, no-fault}
 use Rattle.on_air.proofs.running.run_air.Goals as goal
 
+-- ---- behind the first packet at fault
+
+pub returns-in-Ok-clause-sound : goal.returns-in-Ok-clause-sound
+returns-in-Ok-clause-sound g c = λ start before bs begins is_held given none.
+    let (ps, n, leads, plain, run) = c.loop-fault.invariant in
+    let p = c.read_next.new.next in
+    let r = rw c.in-Ok-true.field-0-test at c.in-Ok-true.ensures.read in
+    let (gone, sound) = run start before begins is_held in
+    let some : is_some c.look.result ≡ true = search rules in
+    let (why, is) = some-of c.look.result some in
+    let read = rw given at n.read in
+    absurd (no-fault (g.S.Stage.refusal c.args.stage.now) bs _ _ ps p why gone.sound read r (sym (c.look.ensures.sends c.args.stage.now ps gone.sent _ gone.sends_it) ∙ is) none)
+
+pub returns-in-Ok-clause-stretches : goal.returns-in-Ok-clause-stretches
+returns-in-Ok-clause-stretches g c = λ purpose start before bs for begins is_held given.
+    let (ps, n, leads, plain, run) = c.loop-fault.invariant in
+    let p = c.read_next.new.next in
+    let r = rw c.in-Ok-true.field-0-test at c.in-Ok-true.ensures.read in
+    let e = rw c.in-Ok-true.field-0-test at c.in-Ok-true.ensures.given in
+    let (gone, sound) = run start before begins is_held in
+    let s = sound purpose for in
+    let ss = stretches purpose (reverse ps) in
+    let f = g.met.S.AirStage.sends_follows c.args.stage.now purpose ps gone.sent _ c.loop-fault.stage for leads gone.sends_it in
+    let (stands, follows) = c.in-Ok.ensures purpose ss s.stands (subst (g.S.AirStage.follows c.loop-fault.stage purpose) (sym s.read) f) in
+    let more = given_more _ _ _ _ _ _ ps p n r e.0 in
+    let (rest, left, all) = read-on bs _ (ps ++ p ∷ []) (rw given at more.read) in
+    let one : stretches purpose (reverse (ps ++ p ∷ [])) ≡ with_next purpose p ss = ap (stretches purpose) (reverse-append ps (p ∷ [])) in
+    let whole : stretches purpose (reverse (packets_of bs)) ≡ all_next purpose (packets_of rest) (with_next purpose p ss) =
+    ap (λ l. stretches purpose (reverse l)) all ∙ stretches-append purpose (ps ++ p ∷ []) (packets_of rest) ∙ ap (all_next purpose (packets_of rest)) one in
+    IfOk-weaker c.go_on.result _ _ (λ told w. subst (TellsOf told) (sym whole) w) (c.go_on.ensures.stretches purpose (with_next purpose p ss) rest stands follows left)
+
+-- ---- a packet without a fault
+
+pub loop-fault-preserved-in-Ok-true-step : goal.loop-fault-preserved-in-Ok-true-step
+loop-fault-preserved-in-Ok-true-step g c =
+    let (ps, n, leads, plain, run) = c.loop-fault.invariant in
+    let p = c.read_next.new.next in
+    let r = rw c.in-Ok-true.field-0-test at c.in-Ok-true.ensures.read in
+    let e = rw c.in-Ok-true.field-0-test at c.in-Ok-true.ensures.given in
+    let none : c.look.result ≡ None = search rules in (
+      ps ++ p ∷ [],
+      given_more _ _ _ _ _ _ ps p n r e.0,
+      g.met.S.Stage.leads_trans _ _ _ leads c.in-Ok-true-step.ensures.stage,
+      c.take.ensures.plain ps p plain,
+      λ start before begins is_held.
+          let (gone, sound) = run start before begins is_held in
+          let went = rw c.in-Ok-true-step.field-0-test at (c.in-Ok-true-step.ensures.ok c.args.stage.now ps gone.sent start before gone.sends_it (c.in-Ok-true.ensures.held start (before ++ gone.sent) gone.out)) in (
+            gone_more g.S.Stage.refusal g.S.Stage.sends c.args.stage.now ps p _ c.step.new.packet c.loop-fault.stage c.step.new.self _ (λ qs. g.K.PacketSink.holds c.step.new.out start (before ++ qs)) gone went,
+            λ purpose for.
+                let f = g.met.S.AirStage.sends_follows c.args.stage.now purpose ps gone.sent _ c.loop-fault.stage for leads gone.sends_it in
+                sound-next c.loop-fault.air c.take.new.self purpose ps p (sound purpose for) c.take.ensures.counted (sym (c.look.ensures.follows purpose (reverse ps) f) ∙ none),
+          ),
+    )
+
+pub loop-fault-preserved : goal.loop-fault-preserved
+loop-fault-preserved g c =
+    let (ps, n, leads, plain, run) = c.loop-fault.invariant in
+    let p = c.read_next.new.next in
+    let r = rw c.in-Ok-true.field-0-test at c.in-Ok-true.ensures.read in
+    let e = rw c.in-Ok-true.field-0-test at c.in-Ok-true.ensures.given in
+    let none : c.look.result ≡ None = search rules in (
+      ps ++ p ∷ [],
+      given_more _ _ _ _ _ _ ps p n r e.0,
+      g.met.S.Stage.leads_trans _ _ _ leads c.in-Ok-false-step.ensures.stage,
+      c.take.ensures.plain ps p plain,
+      λ start before begins is_held.
+          let (gone, sound) = run start before begins is_held in
+          let went = rw c.in-Ok-false-step.field-0-test at (c.in-Ok-false-step.ensures.ok c.args.stage.now ps gone.sent start before gone.sends_it (c.in-Ok-true.ensures.held start (before ++ gone.sent) gone.out)) in (
+            gone_more g.S.Stage.refusal g.S.Stage.sends c.args.stage.now ps p _ _ c.loop-fault.stage c.step.new.self _ (λ qs. g.K.PacketSink.holds c.step.new.out start (before ++ qs)) gone went,
+            λ purpose for.
+                let f = g.met.S.AirStage.sends_follows c.args.stage.now purpose ps gone.sent _ c.loop-fault.stage for leads gone.sends_it in
+                sound-next c.loop-fault.air c.take.new.self purpose ps p (sound purpose for) c.take.ensures.counted (sym (c.look.ensures.follows purpose (reverse ps) f) ∙ none),
+          ),
+    )
+
+-- ---- the end
+
 pub returns-clause-sound : goal.returns-clause-sound
-returns-clause-sound g c = λ start before bs begins is_held given sound.
-    let first = c.new-sound.result in
-    let from : (kept : List ℕ) → g.S.Stage.sends first.stage.now [] [] kept first.stage.now =
-    (λ kept. subst (λ s. g.S.Stage.sends s [] [] kept s) (sym c.new-sound.ensures.stage) (begins kept)) in
-    let done = c.run_sound.ensures.sound start before bs from c.new-sound.ensures.air is_held given (rw (c.new-sound.ensures.stage) sound) in
-    IfOk-weaker c.run_sound.result _ _ (λ told w. (c.run_sound.new.sound.stage.now, rw c.new-sound.ensures.stage at w)) done
+returns-clause-sound g c = λ start before bs begins is_held given none.
+    let (ps, n, leads, plain, run) = c.loop-fault.invariant in
+    let r = rw c.in-Ok-false.field-0-test at c.in-Ok-false.ensures.read in
+    let (gone, sound) = run start before begins is_held in
+    let all = rw given at (read_to_end _ _ ps n.read r.0) in
+    let done = c.finish.ensures.plain c.args.stage.now ps gone.sent _ start before gone.sends_it (c.in-Ok-false.ensures.held start (before ++ gone.sent) gone.out) plain in
+    IfOk-weaker c.finish.result _ _ (λ told w. (
+      c.finish.new.stage,
+      record {
+        sent = w.2.sent;
+        report = w.0;
+        ends_so = subst (λ l. g.S.Stage.ends c.args.stage.now l w.2.sent w.0 c.finish.new.stage) (sym all.0) w.2.ends_so;
+        tells = subst (λ l. IsToldPlain told l w.0) (sym all.0) w.1;
+        out = w.2.out;
+      },
+    )) done
+
+pub returns-clause-stretches : goal.returns-clause-stretches
+returns-clause-stretches g c = λ purpose start before bs for begins is_held given.
+    let (ps, n, leads, plain, run) = c.loop-fault.invariant in
+    let r = rw c.in-Ok-false.field-0-test at c.in-Ok-false.ensures.read in
+    let (gone, sound) = run start before begins is_held in
+    let all = rw given at (read_to_end _ _ ps n.read r.0) in
+    let s = sound purpose for in
+    IfOk-weaker c.finish.result _ _ (λ told w.
+    subst (λ l. TellsOf told (stretches purpose (reverse l))) (sym all.0) (record { count = w.0 ∙ s.stands.stretches; unjudged = w.1 ∙ s.stands.unjudged })) c.finish.ensures.told

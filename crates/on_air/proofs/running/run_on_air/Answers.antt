@@ -10,6 +10,7 @@ use Rattle.chain_engine.specs.Stages.{ServesFor, ChainEnds}
 use Rattle.chain_engine.proofs.RunLemmas.{begun}
 use Rattle.chain_engine.proofs.StageLemmas.{runs_all}
 use Rattle.on_air.specs.Plain.{IsSound}
+use Rattle.on_air.specs.AirRuns.{TellsStretches}
 use Rattle.on_air.proofs.running.run_on_air.Goals as goal
 
 pub returns-clause-sound : goal.returns-clause-sound
@@ -42,3 +43,16 @@ returns-clause-sound g c = λ d start before bs h is_held given sound.
         tells = w.1.tells;
       },
     )) ran
+
+pub returns-clause-stretches : goal.returns-clause-stretches
+returns-clause-stretches g c = λ d start before bs h is_held given.
+    let stage = c.new-stage.result in
+    let cfg = stage.chain.now.service.config in
+    let filed = held stage.library.now in
+    let here = subst (λ w. ChainStandsFor w w.service.config) (sym c.new-stage.ensures.chain) (subst (ChainStandsFor c.args.chain) (sym h.config) h) in
+    let begins = begun g.U.Automation.exchanges g.met.U.Automation.exchanges_refl g.met.U.Automation.exchanges_trans g.U.Automation.failures (ServesFor cfg filed) (reply_in cfg) stage.chain.now.service stage.chain.now.talk
+    (λ steps. chain_sends cfg filed steps ≡ []) stage.automation.now here.talk (here.service filed) refl in
+    let config = c.new-stage.ensures.config ∙ h.config in
+    let same = ap (λ w. w.service.config) c.new-stage.ensures.chain ∙ sym c.new-stage.ensures.config in
+    IfOk-weaker c.run_air.result _ _ (λ told w. subst (λ x. TellsStretches told (writing_cues x) bs) config w)
+    (c.run_air.ensures.stretches (writing_cues stage.config) start before bs (refl, same) (λ kept. (refl, record { begins = here; run = begins })) is_held given)

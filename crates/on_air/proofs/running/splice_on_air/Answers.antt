@@ -8,6 +8,7 @@ use Rattle.chain_engine.specs.Stages.{SpliceEnds}
 use Rattle.chain_engine.specs.Splices.{Spliced}
 use Rattle.chain_engine.proofs.StageLemmas.{splices_all}
 use Rattle.on_air.specs.Plain.{IsSound}
+use Rattle.on_air.specs.AirRuns.{TellsStretches}
 use Rattle.on_air.proofs.running.splice_on_air.Goals as goal
 
 pub returns-clause-sound : goal.returns-clause-sound
@@ -34,3 +35,12 @@ returns-clause-sound g c = λ start before bs is_held given sound.
           (subst (λ x. Spliced x filed bs is_out w.1.report) config all);
       tells = w.1.tells;
     }) ran
+
+pub returns-clause-stretches : goal.returns-clause-stretches
+returns-clause-stretches g c = λ start before bs is_held given.
+    let stage = c.new-stage.result in
+    let filed = held stage.library.now in
+    let config = c.new-stage.ensures.config in
+    let stands = subst (λ w. SwitchStandsFor stage.switch w filed []) (sym config) (c.new-stage.ensures.switch filed) in
+    IfOk-weaker c.run_air.result _ _ (λ told w. subst (λ x. TellsStretches told (reading_cues x) bs) config w)
+    (c.run_air.ensures.stretches (reading_cues stage.config) start before bs refl (λ kept. (refl, record { stands = stands; sent = refl })) is_held given)
