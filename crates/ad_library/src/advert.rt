@@ -1,7 +1,9 @@
 //! A filed advertisement.
 
-ghost use Rattle.std.specs.Prelude.{◌≡◌, ◌≤◌, ◌<◌, List, length, drop, map, slice_get, option_map, IfSome, OnSome, Option, Some, None, true};
-ghost use Rattle.ad_library.specs.Advertisements.{AdvertStream, stream_at, slice, reaches, reaches_end, fits, fits_behind, one_of_kind, count_of_kind};
+ghost use Rattle.std.specs.Prelude.{◌≡◌, ◌≤◌, ◌<◌, List, length, drop, map, slice_get};
+ghost use Rattle.std.specs.Prelude.{option_map, IfSome, OnSome, Option, Some, None, true};
+ghost use Rattle.ad_library.specs.Advertisements.{AdvertStream, stream_at, slice, reaches, reaches_end};
+ghost use Rattle.ad_library.specs.Advertisements.{fits, fits_behind, one_of_kind, count_of_kind};
 ghost use Rattle.std.specs.List.{list_all};
 ghost use Rattle.ad_library.specs.Zeros.{has_zero};
 

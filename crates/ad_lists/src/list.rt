@@ -5,7 +5,8 @@ ghost use Rattle.indexmap.specs.IndexMap.{index_map_len};
 ghost use Rattle.ts_packet.specs.Transfers.{LastMovedNone};
 ghost use Rattle.ad_library.specs.Library.{held};
 ghost use Rattle.ad_lists.specs.Lists.{is_blank, entry_of, numbers_of, FilesOne, IsFiled, IsRead, IsListed, StandsIn};
-ghost use Rattle.ad_lists.specs.Lists.{SaysOf, DeviceBlamed, DeviceStopsAt, StallsOver, BlamesStream, BlamesLine, StopsAt, ListBlamed, IsOfLine};
+ghost use Rattle.ad_lists.specs.Lists.{SaysOf, DeviceBlamed, DeviceStopsAt, StallsOver, BlamesStream};
+ghost use Rattle.ad_lists.specs.Lists.{BlamesLine, StopsAt, ListBlamed, IsOfLine};
 
 use ad_library::{AdFault, AdLibrary};
 use decimal_numbers::number_below;

@@ -67,7 +67,8 @@ pub(crate) fn is_nothing(kind: ErrorKind) -> bool {
 impl<R: Read, W: Write> Automation for Connection<R, W> {
     ghost use Rattle.std.specs.Prelude.{◌≡◌, [], ◌∷◌, length};
     ghost use Rattle.chain_engine.specs.Automation.{taken, answered, take_of, answer_of, IsRoomFor, CountsTake, CountsAnswer};
-    ghost use Rattle.automations.specs.Connections.{IsTakenFrom, AsksInTurn, ConnectionExchanges, ConnectionExchanges-refl, ConnectionExchanges-trans};
+    ghost use Rattle.automations.specs.Connections.{IsTakenFrom, AsksInTurn, ConnectionExchanges};
+    ghost use Rattle.automations.specs.Connections.{ConnectionExchanges-refl, ConnectionExchanges-trans};
 
     ghost exchanges = { λ s es t. ConnectionExchanges R.remaining W.contents s es t };
 

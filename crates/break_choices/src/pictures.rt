@@ -1,7 +1,8 @@
 //! The pictures of a video, and the nearest of them to a time.
 
 ghost use Rattle.std.specs.Prelude.{◌≡◌, ◌<◌, ◌≤◌, ◌&&◌, [], Option, None, Some, nat_le, nat_lt, MatchOption};
-ghost use Rattle.break_choices.specs.Pictures.{takes, earlier_picture, later_picture, first_picture, last_picture, IsFirstFrom, IsLastBefore, NoPictureFrom, NoPictureBefore};
+ghost use Rattle.break_choices.specs.Pictures.{takes, earlier_picture, later_picture, first_picture, last_picture};
+ghost use Rattle.break_choices.specs.Pictures.{IsFirstFrom, IsLastBefore, NoPictureFrom, NoPictureBefore};
 
 /// A picture of a video, by the begin of its unit.
 #[derive(Clone, Copy, Debug, PartialEq, Eq)]

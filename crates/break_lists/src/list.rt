@@ -2,7 +2,8 @@
 
 ghost use Rattle.std.specs.Prelude.{◌≡◌, ◌≤◌, ◌++◌, ◌∷◌, [], length, Option, Some, None, OnOk, IfOk, IfErr};
 ghost use Rattle.break_lists.specs.Lines.{line_plan};
-ghost use Rattle.break_lists.specs.Lists.{text_lines, lines_left, bytes_left, with_planned, planned_from, or_refused, refused_from, RefusesList};
+ghost use Rattle.break_lists.specs.Lists.{text_lines, lines_left, bytes_left, with_planned};
+ghost use Rattle.break_lists.specs.Lists.{planned_from, or_refused, refused_from, RefusesList};
 
 use crate::line::{BreakLine, Expected, line_plan};
 use crate::words::cut_at;

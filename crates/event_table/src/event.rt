@@ -76,7 +76,8 @@ pub(crate) fn is_ahead(time: Time33, high: Time33) -> bool
 }
 
 impl Event {
-    ghost use Rattle.event_table.specs.Events.{ring_end, is_open_on_ring, covers_on_ring, meets_on_ring, repeats_on_ring, ends_early_on_ring};
+    ghost use Rattle.event_table.specs.Events.{ring_end, is_open_on_ring, covers_on_ring};
+    ghost use Rattle.event_table.specs.Events.{meets_on_ring, repeats_on_ring, ends_early_on_ring};
     ghost use Rattle.event_table.specs.Events.{cancelled_event, ended_on_ring, IsFresh};
 
     /// The end that is in force now, on the ring: the first time outside.

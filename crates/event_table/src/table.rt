@@ -94,7 +94,8 @@ pub struct Table<T = ()> {
 impl<T: Copy + Default> Table<T> {
     ghost use Rattle.event_table.specs.Rings.{CanAdvance, has_reached_on_ring, IsAheadOf};
     ghost use Rattle.event_table.specs.Events.{open_count_of, CanArm, meets_on_ring, repeats_on_ring, covers_on_ring};
-    ghost use Rattle.event_table.specs.Standing.{Standing, on_ring, on_line, covers, repeats, has_id, arm_answer, cancel_answer, shorten_answer};
+    ghost use Rattle.event_table.specs.Standing.{Standing, on_ring, on_line, covers, repeats};
+    ghost use Rattle.event_table.specs.Standing.{has_id, arm_answer, cancel_answer, shorten_answer};
     ghost use Rattle.event_table.specs.Standing.{with_cancelled, with_end, still_standing, forgotten_at, IsTimeAt};
     ghost use Rattle.event_table.specs.Tables.{StandsFor, high_time_of, events_of, values_of};
 

@@ -1,6 +1,7 @@
 //! What holds of the packets of any bytes, over the definitions alone.
 
-ghost use Rattle.packet_recovery.specs.Laws.{PartsHoldNone, PacketsFollow, SyncIsFoundAgain, BytesAreCounted, MendedAreSound, SoundStreamsStay};
+ghost use Rattle.packet_recovery.specs.Laws.{PartsHoldNone, PacketsFollow, SyncIsFoundAgain};
+ghost use Rattle.packet_recovery.specs.Laws.{BytesAreCounted, MendedAreSound, SoundStreamsStay};
 
 /// Fewer than 188 bytes hold no packet.
 pub fn parts_hold_none()

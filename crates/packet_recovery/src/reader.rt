@@ -3,7 +3,8 @@
 ghost use Rattle.std.specs.Prelude.{◌≡◌, ℕ, ◌+◌, ◌*◌, ◌^◌, ◌<◌, ◌≤◌, ◌∷◌, [], cond, false, true, IfOk, IfErr};
 ghost use Rattle.ts_packet.specs.Sources.{SourceCounts, SourceBlamed};
 ghost use Rattle.packet_recovery.specs.Mending.{mend, mends};
-ghost use Rattle.packet_recovery.specs.Reading.{capped, rest_of, is_ahead_by, has_ended_by, is_packet_by, Recovers, Missed, IsOfDevice, read_fault_of, most_calls_of};
+ghost use Rattle.packet_recovery.specs.Reading.{capped, rest_of, is_ahead_by, has_ended_by, is_packet_by};
+ghost use Rattle.packet_recovery.specs.Reading.{Recovers, Missed, IsOfDevice, read_fault_of, most_calls_of};
 
 use crate::search::Regained;
 use crate::sight::look;
@@ -219,7 +220,8 @@ impl<'a, S: Source> RecoveringReader<'a, S> {
 impl<S: Source> PacketSource for RecoveringReader<'_, S> {
     ghost use Rattle.std.specs.Prelude.{◌≡◌, false};
     ghost use Rattle.std.specs.Io.KnownBytes.{IsAtEnd};
-    ghost use Rattle.packet_recovery.specs.Reading.{rest_of, left_to_give, skipped_by, mended_by, Stays, Stays-refl, Stays-trans, Missed, most_calls_of};
+    ghost use Rattle.packet_recovery.specs.Reading.{rest_of, left_to_give, skipped_by, mended_by, Stays};
+    ghost use Rattle.packet_recovery.specs.Reading.{Stays-refl, Stays-trans, Missed, most_calls_of};
     ghost use Rattle.std.proofs.Common.{refl, ◌∙◌};
 
     ghost left = { λ r. left_to_give (rest_of r.has_ended r.is_ahead (S.remaining r.source.now)) };

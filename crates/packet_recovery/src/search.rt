@@ -1,10 +1,12 @@
 //! The search for the next packet where sync is lost.
 
-ghost use Rattle.std.specs.Prelude.{◌≡◌, ◌≢◌, ℕ, List, Option, ◌+◌, ◌-◌, ◌^◌, ◌<◌, ◌≤◌, false, length, take, drop, slice_index, IfOk, OnErr};
+ghost use Rattle.std.specs.Prelude.{◌≡◌, ◌≢◌, ℕ, List, Option, ◌+◌, ◌-◌, ◌^◌, ◌<◌};
+ghost use Rattle.std.specs.Prelude.{◌≤◌, false, length, take, drop, slice_index, IfOk, OnErr};
 ghost use Rattle.std.specs.Io.KnownBytes.{Keeps, prepend_known};
 ghost use Rattle.ts_packet.specs.Transfers.{IsCounted, CountsFailure, CountsZero, halts};
 ghost use Rattle.packet_recovery.specs.Framing.{begins_with_sync};
-ghost use Rattle.packet_recovery.specs.Reading.{WasReadBehind, PassedOn, Searching, Stepped, takes_few, StepCounts, Searched, Missed, SearchCounts, most_turns};
+ghost use Rattle.packet_recovery.specs.Reading.{WasReadBehind, PassedOn, Searching, Stepped, takes_few};
+ghost use Rattle.packet_recovery.specs.Reading.{StepCounts, Searched, Missed, SearchCounts, most_turns};
 
 use ts_packet::packet::SYNC_BYTE;
 use ts_packet::transfer::{FillFault, MAX_TURNS};

@@ -17,7 +17,8 @@ fn fill_rest<S: Source>(
     is_ahead: bool,
 ) -> Result<usize, FillFault>
     ensures ok { IfOk result (λ n. WasFilled (rest_of false is_ahead (S.remaining source.old)) (S.remaining source.new) bytes.new n) }
-    ensures err { (before : ℕ) → before < 2 ^ 64 → OnErr result (Missed (rest_of false is_ahead (S.remaining source.old)) (S.remaining source.new) before before) }
+    ensures err { (before : ℕ) → before < 2 ^ 64
+        → OnErr result (Missed (rest_of false is_ahead (S.remaining source.old)) (S.remaining source.new) before before) }
     ensures counts { FilledCounts result (S.counts source.old) (S.counts source.new) }
     ensures few { (S.counts source.new).calls ≤ (S.counts source.old).calls + 2 ^ 20 }
 {
@@ -84,7 +85,8 @@ fn look_apart<S: Source>(
     is_ahead: bool,
     skipped: &mut u64,
 ) -> Result<Option<Regained>, FillFault>
-    ensures ok { IfOk result (λ o. Sighted o (rest_of false is_ahead (S.remaining source.old)) (S.remaining source.new) packet.new skipped.old skipped.new) }
+    ensures ok { IfOk result (λ o. Sighted o (rest_of false is_ahead (S.remaining source.old)) (S.remaining source.new)
+        packet.new skipped.old skipped.new) }
     ensures err { OnErr result (Missed (rest_of false is_ahead (S.remaining source.old)) (S.remaining source.new) skipped.old skipped.new) }
     ensures counts { SightCounts result (S.counts source.old) (S.counts source.new) }
     ensures few { (S.counts source.new).calls ≤ (S.counts source.old).calls + most_calls_of skipped.old skipped.new }
@@ -119,7 +121,8 @@ pub(crate) fn look<S: Source>(
     is_ahead: bool,
     skipped: &mut u64,
 ) -> Result<Option<Regained>, FillFault>
-    ensures ok { IfOk result (λ o. Sighted o (rest_of false is_ahead (S.remaining source.old)) (S.remaining source.new) packet.new skipped.old skipped.new) }
+    ensures ok { IfOk result (λ o. Sighted o (rest_of false is_ahead (S.remaining source.old)) (S.remaining source.new)
+        packet.new skipped.old skipped.new) }
     ensures err { OnErr result (Missed (rest_of false is_ahead (S.remaining source.old)) (S.remaining source.new) skipped.old skipped.new) }
     ensures counts { SightCounts result (S.counts source.old) (S.counts source.new) }
     ensures few { (S.counts source.new).calls ≤ (S.counts source.old).calls + most_calls_of skipped.old skipped.new }

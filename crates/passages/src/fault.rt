@@ -1,7 +1,8 @@
 //! Why a run of the program stopped, and the name that is printed.
 
 ghost use Rattle.std.specs.Prelude.{◌≡◌};
-ghost use Rattle.passages.specs.Names.{read_name, put_name, cut_name, network_name, run_name, script_name, ad_name, list_name, services_name, fault_name};
+ghost use Rattle.passages.specs.Names.{read_name, put_name, cut_name, network_name, run_name};
+ghost use Rattle.passages.specs.Names.{script_name, ad_name, list_name, services_name, fault_name};
 
 use ad_library::AdFault;
 use ad_lists::ListFault;

@@ -1,7 +1,8 @@
 //! The laws of the cue path, each on a function of its own.
 
 ghost use Rattle.path_laws.specs.Telling.{StartTells, EndTells, CancelTells};
-ghost use Rattle.path_laws.specs.Packets.{SectionsReadBack, StreamArms, CuePathInPackets, CuePathInPacketsAtTheEnd, CuedStreamBrings, CuedStreamArms};
+ghost use Rattle.path_laws.specs.Packets.{SectionsReadBack, StreamArms, CuePathInPackets};
+ghost use Rattle.path_laws.specs.Packets.{CuePathInPacketsAtTheEnd, CuedStreamBrings, CuedStreamArms};
 ghost use Rattle.path_laws.specs.Thinning.{ThinnedBrings, ThinnedOfAll, ThinnedCuePath};
 ghost use Rattle.path_laws.specs.Laws.{RequestsAreARun, CuesTellTheLine, CuePathOfEvents, CuePathOfEventsAtTheEnd};
 

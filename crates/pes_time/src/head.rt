@@ -1,7 +1,9 @@
 //! The front of a PES packet (ISO/IEC 13818-1, 2.4.3.6 and 2.4.3.7), as far as its time stamps.
 
-ghost use Rattle.std.specs.Prelude.{◌≡◌, ℕ, ◌+◌, ◌*◌, ◌/◌, ◌%◌, ◌^◌, ◌<◌, ◌≤◌, nat_lt, length, slice_index, IfOk, IfSome, MatchResult, true, false};
-ghost use Rattle.pes_time.specs.Stamps.{head_of, stamp_of, is_split, pts_of, stamp_at, is_untimed, is_headless, other_start_code, shows, stamp_count};
+ghost use Rattle.std.specs.Prelude.{◌≡◌, ℕ, ◌+◌, ◌*◌, ◌/◌, ◌%◌, ◌^◌, ◌<◌, ◌≤◌};
+ghost use Rattle.std.specs.Prelude.{nat_lt, length, slice_index, IfOk, IfSome, MatchResult, true, false};
+ghost use Rattle.pes_time.specs.Stamps.{head_of, stamp_of, is_split, pts_of, stamp_at};
+ghost use Rattle.pes_time.specs.Stamps.{is_untimed, is_headless, other_start_code, shows, stamp_count};
 
 use crate::time::Time33;
 use thiserror::Error;

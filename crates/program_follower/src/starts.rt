@@ -9,7 +9,8 @@ ghost use Rattle.unit_stream.specs.Times.{high};
 ghost use Rattle.unit_stream.specs.Starts.{ReadsStarts, IsBegin};
 ghost use Rattle.unit_stream.specs.Clocks.{ClockAt};
 ghost use Rattle.program_follower.specs.Faults.{pids_in};
-ghost use Rattle.program_follower.specs.Streaming.{AllStartsRead, StartsRead, IsOne, begin_fault, place_in, IsStartPacket, IsOfStarts, start_in};
+ghost use Rattle.program_follower.specs.Streaming.{AllStartsRead, StartsRead, IsOne, begin_fault};
+ghost use Rattle.program_follower.specs.Streaming.{place_in, IsStartPacket, IsOfStarts, start_in};
 ghost use Rattle.pes_time.specs.Stamps.{stamp_of};
 
 use crate::places::StreamPlaces;

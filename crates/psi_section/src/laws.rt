@@ -1,7 +1,8 @@
 //! Laws over the definitions of sections, each a function that does nothing and whose contract is the law.
 
 ghost use Rattle.psi_section.specs.Laws.{SectionsGrow, SectionsOfPid, OthersChangeNothing, OthersGiveNothing, SectionsHavePackets};
-ghost use Rattle.psi_section.specs.Laws.{GivenWhereSound, GivenCanBeGiven, GivenAreBytes, FitsOnePacket, ReadsBack, ReadBackInTurn, CrcCloses};
+ghost use Rattle.psi_section.specs.Laws.{GivenWhereSound, GivenCanBeGiven, GivenAreBytes, FitsOnePacket};
+ghost use Rattle.psi_section.specs.Laws.{ReadsBack, ReadBackInTurn, CrcCloses};
 
 /// A packet behind others adds the sections that it finishes.
 pub fn sections_grow()

@@ -1,6 +1,7 @@
 //! Sections into packets.
 
-ghost use Rattle.std.specs.Prelude.{◌≡◌, ◌<◌, ◌≤◌, ◌+◌, ◌%◌, ◌/◌, ◌++◌, ◌∷◌, [], ℕ, List, Option, length, slice_index, drop, replicate, OnOk, IfErr};
+ghost use Rattle.std.specs.Prelude.{◌≡◌, ◌<◌, ◌≤◌, ◌+◌, ◌%◌, ◌/◌, ◌++◌, ◌∷◌, []};
+ghost use Rattle.std.specs.Prelude.{ℕ, List, Option, length, slice_index, drop, replicate, OnOk, IfErr};
 
 use ts_packet::packet::SYNC_BYTE;
 use ts_packet::{Packet, PacketSink, Pid, PutFault};

@@ -2,7 +2,8 @@
 
 ghost use Rattle.std.specs.Prelude.{◌≡◌, ◌≤◌, option_map, length, true};
 ghost use Rattle.psi_tables.specs.Runs.{things_of};
-ghost use Rattle.service_names.specs.Services.{is_description, services_in, service_at, descriptors_of, counted_at, name_in, name_told, name_of};
+ghost use Rattle.service_names.specs.Services.{is_description, services_in, service_at, descriptors_of};
+ghost use Rattle.service_names.specs.Services.{counted_at, name_in, name_told, name_of};
 ghost use Rattle.service_names.specs.Services.{taken_service, shown_service};
 
 use psi_section::section_length;

@@ -2,7 +2,8 @@
 
 ghost use Rattle.splice_laws.specs.Laws.{OutGrows, CountedIsPlaced, CarriedIsPlaced, PlacedIsSplice, PidsAreStreams};
 ghost use Rattle.splice_laws.specs.Rows.{CarriesPlacedUnits, CarriesSpliceUnits};
-ghost use Rattle.splice_laws.specs.Settled.{FlagsSettle, HoldsSettle, SwitchedPidsNeverPassHigh, NothingEarly, NothingLate, NearIsPastForgotten};
+ghost use Rattle.splice_laws.specs.Settled.{FlagsSettle, HoldsSettle, SwitchedPidsNeverPassHigh};
+ghost use Rattle.splice_laws.specs.Settled.{NothingEarly, NothingLate, NearIsPastForgotten};
 ghost use Rattle.splice_laws.specs.Ends.{SentIsPlaced, EndsMayComeEarlier};
 ghost use Rattle.splice_laws.specs.Streams.{StreamsCarryByCount, StreamsCarry, StreamsAreSpliced, StreamsCarryNow};
 

@@ -1,6 +1,7 @@
 //! The switch.
 
-ghost use Rattle.std.specs.Prelude.{◌≡◌, ◌<◌, ◌++◌, ◌∷◌, [], ℕ, List, length, slice_index_or, Option, None, Some, Err, OnOk, IfOk, IfErr, IfSome, true};
+ghost use Rattle.std.specs.Prelude.{◌≡◌, ◌<◌, ◌++◌, ◌∷◌, [], ℕ, List, length, slice_index_or};
+ghost use Rattle.std.specs.Prelude.{Option, None, Some, Err, OnOk, IfOk, IfErr, IfSome, true};
 ghost use Rattle.ts_packet.specs.Fields.{renumbered};
 ghost use Rattle.ts_packet.specs.Numbering.{Step as NumberStep, Kept, Counts, moved};
 ghost use Rattle.event_table.specs.Events.{open_count_of};

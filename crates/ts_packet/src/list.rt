@@ -59,7 +59,8 @@ impl<A: Allocator> PacketList<A> {
 }
 
 impl<A: Allocator> PacketSink for PacketList<A> {
-    ghost use Rattle.std.specs.Prelude.{◌≡◌, ◌∷◌, [], ◌++◌, ℕ, List, Option, true, false, Ok, Err, nat_le, nat_lt, vec_len, OnOk, IfErr, is_err, ◌<◌};
+    ghost use Rattle.std.specs.Prelude.{◌≡◌, ◌∷◌, [], ◌++◌, ℕ, List, Option, true, false};
+    ghost use Rattle.std.specs.Prelude.{Ok, Err, nat_le, nat_lt, vec_len, OnOk, IfErr, is_err, ◌<◌};
     ghost use Rattle.ts_packet.specs.declared.sink.PutFault.TheVariants.{Failed, Stuck};
     ghost use Rattle.ts_packet.specs.Transfers.{no_tally, WentWell};
     ghost use Rattle.ts_packet.specs.Sinks.{Blamed, Later-refl};

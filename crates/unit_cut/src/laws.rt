@@ -1,6 +1,7 @@
 //! What holds of every cut, over the definitions alone.
 
-ghost use Rattle.unit_cut.specs.Laws.{CutLeavesUnits, CutCarriesUnits, CutLeavesRows, CutStaysGapless, CutLeavesOthers, CutGrows, GaplessIsNeeded};
+ghost use Rattle.unit_cut.specs.Laws.{CutLeavesUnits, CutCarriesUnits, CutLeavesRows, CutStaysGapless};
+ghost use Rattle.unit_cut.specs.Laws.{CutLeavesOthers, CutGrows, GaplessIsNeeded};
 
 /// On a gapless PID, the units in what a cut leaves are the units that stay, in order,
 /// whichever streams the output is read with.
