@@ -45,8 +45,8 @@ pub(crate) fn stage_fault(fault: FeedFault) -> StageFault<NetworkFault>
     }
 }
 
-/// What a stage answers where what is left at the end was not taken.
-pub(crate) fn put_fault(fault: FeedFault) -> PutFault
+/// What a sink answers where what it feeds did not take a packet, and a stage where what is left at the end was not taken.
+pub fn put_fault(fault: FeedFault) -> PutFault
     ensures { result ≡ put_fault_of fault }
 {
     match fault {

@@ -165,12 +165,18 @@ impl<K: PacketSink> PacketSink for Beside<'_, K> {
 
 impl Service {
     /// Has the injector pass on a packet unjudged to the switch, with the cues that are due before it, and the switch pass it on.
-    pub(crate) fn pass_unjudged<K: PacketSink>(
+    ///
+    /// # Errors
+    ///
+    /// The sink's.
+    pub fn pass_unjudged<K: PacketSink>(
         &mut self,
         packet: &Packet,
         library: &AdLibrary,
         out: &mut K,
     ) -> Result<(), PutFault>
+        ensures leads { K.leads out.old out.new }
+        ensures config { self.new.config ≡ self.old.config }
         ensures injector { (c : Config) (steps : List Step) → InjectorStandsFor self.old.injector c steps
             → OnOk result (InjectorStandsFor self.new.injector c (PacketStep (marked packet.now) ∷ steps)) }
     {
