@@ -33,3 +33,5 @@ mod sessions;
 mod stamps;
 #[cfg(test)]
 mod tables;
+#[cfg(test)]
+mod texts;

@@ -1,5 +1,5 @@
 -- What the texts are, where the bytes that are printed are stated.
-use Rattle.std.specs.Prelude.{ℕ, Bool, List, [], ◌∷◌, ◌++◌, Option, Some, None, Ok, codes, drop, if◌then◌else◌}
+use Rattle.std.specs.Prelude.{ℕ, Bool, List, [], ◌∷◌, ◌++◌, Option, Some, None, Ok, codes, length, drop, nat_lt, ◌==◌, if◌then◌else◌}
 use Rattle.std.specs.Fmt.{decimal}
 use Rattle.std.specs.Int.{w16, w32, to_be_bytes}
 use Rattle.hex_digits.specs.Digits.{digits_of}
@@ -22,7 +22,8 @@ use Rattle.psi_tables.specs.Sections.{is_current}
 use Rattle.psi_tables.specs.Streams.{pid_in}
 use Rattle.psi_tables.specs.Association.{Association, first_program_of}
 use Rattle.psi_tables.specs.ProgramMap.{ProgramMap, streams_of}
-use Rattle.codec_text.specs.Names.{cue_fault_name}
+use Rattle.wire_fields.specs.Numbers.{number16_at}
+use Rattle.codec_text.specs.Names.{cue_fault_name, result_name}
 
 -- bytes in digits; `-` where there are none
 abbrev pub bytes_text : List ℕ → List ℕ
@@ -126,17 +127,37 @@ versions_text m = codes "version=" ++ decimal m.version ++ codes " cue_version="
 abbrev pub multiple_text : message_reading.Multiple → List ℕ
 multiple_text m = codes "Multi " ++ head_text m.head ++ codes " " ++ versions_text m ++ operations_text m.operations
 
+-- the number of a result: the standard's in decimal digits, this project's in hexadecimal ones
+abbrev pub result_number_text : ℕ → List ℕ
+result_number_text number = if nat_lt number 0x8000 then decimal number else codes "0x" ++ digits_of (to_be_bytes w16 number)
+
+-- a name behind a number, where there is one
+abbrev pub name_text : Option (List ℕ) → List ℕ
+name_text None = []
+name_text (Some name) = codes "/" ++ name
+
+abbrev pub result_text : ℕ → List ℕ
+result_text number = result_number_text number ++ name_text (result_name number)
+
+-- the result that a single_operation_message states: it stands at place 4, and 0xFFFF there is none
+abbrev pub stated_result : List ℕ → Option ℕ
+stated_result bytes = if nat_lt (length bytes) 6 then None else (if number16_at bytes 4 == 0xFFFF then None else Some (number16_at bytes 4))
+
+abbrev pub stated_text : Option ℕ → List ℕ
+stated_text None = []
+stated_text (Some number) = codes " result=" ++ result_text number
+
 -- what a whole message is, from its bytes, or how it breaks the syntax
 abbrev pub message_reading_text : List ℕ → message_reading.MessageReading → List ℕ
 message_reading_text bytes (message_reading.init head) = codes "Init " ++ head_text head
 message_reading_text bytes (message_reading.alive head body) = codes "Alive " ++ head_text head ++ codes " data=" ++ bytes_text body
-message_reading_text bytes (message_reading.other head) = codes "Other " ++ head_text head
+message_reading_text bytes (message_reading.other head) = codes "Other " ++ head_text head ++ stated_text (stated_result bytes)
 message_reading_text bytes (message_reading.multiple m) = multiple_text m
 message_reading_text bytes (message_reading.bad multi head) = bad_message_text (record { multi = multi; head = head }) bytes
 
--- only the text of a message that breaks the syntax is from its bytes
-abbrev pub message_text : Message → List ℕ
-message_text m = message_reading_text [] (message_view.reading_of (Ok m))
+-- the text of a message that was read, from its bytes
+abbrev pub message_text : Message → List ℕ → List ℕ
+message_text m bytes = message_reading_text bytes (message_view.reading_of (Ok m))
 
 -- what is shown of the fields of a multiple_operation_message
 abbrev pub multiple_of : Multi → message_reading.Multiple

@@ -1,7 +1,7 @@
 //! What the codecs read as text of one line: cues, messages, program association and program map sections, and each fault.
-//! It stands on `scte35_codec`, `scte104_codec` and `psi_tables`, whose types it wraps for `Display`, and on the digits of `hex_digits`.
+//! It stands on `scte35_codec`, `scte104_codec` and `psi_tables`, whose types it wraps for `Display`, on the digits of `hex_digits`, and on `wire_fields`.
 //! It takes no memory.
-//! The crates above use one contract of it: a fault prints as its name in the code, exactly.
+//! The crates above use one contract of it: a fault prints as its name in the code, exactly, and so does the result of a reply.
 #![tactic(auto)]
 
 mod bytes;
@@ -9,6 +9,7 @@ mod cue;
 mod fault;
 mod flag;
 mod message;
+mod reply;
 mod table;
 
 pub use bytes::BytesText;
@@ -16,4 +17,5 @@ pub use cue::{AvailsText, CueText, InsertText};
 pub use fault::{CueFaultText, TableFaultText, TooLongText};
 pub use flag::FlagText;
 pub use message::{BadMessageText, FrameText, HeadText, MessageText};
+pub use reply::ResultText;
 pub use table::{PatText, PmtText};

@@ -3,6 +3,7 @@
 ghost use Rattle.std.specs.Prelude.{◌≡◌, drop};
 
 use crate::bytes::BytesText;
+use crate::reply::{StatedText, stated_result};
 use hex_digits::Digits;
 use scte104_codec::{BadMessage, Frame, Head, Message, Multi, Operations};
 use std::fmt;
@@ -46,18 +47,22 @@ impl fmt::Display for HeadText {
     }
 }
 
-/// A message: its kind, its head and what else is read of it.
+/// A message, with the bytes of it whole: its kind, its head and what else is read of it; of a reply, as of any other single operation, the
+/// result that it states.
 #[derive(Clone, Copy)]
-pub struct MessageText<'a>(pub Message<'a>);
+pub struct MessageText<'a> {
+    pub message: Message<'a>,
+    pub bytes: &'a [u8],
+}
 
 impl fmt::Display for MessageText<'_> {
     ghost use Rattle.std.specs.Prelude.{Some};
     ghost use Rattle.codec_text.specs.Texts.{message_text};
 
-    ghost output = { λ t. Some (message_text t.0) };
+    ghost output = { λ t. Some (message_text t.message t.bytes.now) };
 
     fn fmt<W: fmt::Write>(&self, f: &mut fmt::Formatter<W>) -> fmt::Result {
-        match self.0 {
+        match self.message {
             Message::Init(head) => {
                 let head = HeadText(head);
                 write!(f, "Init {head}")
@@ -69,7 +74,8 @@ impl fmt::Display for MessageText<'_> {
             }
             Message::Other(head) => {
                 let head = HeadText(head);
-                write!(f, "Other {head}")
+                let result = StatedText(stated_result(self.bytes));
+                write!(f, "Other {head}{result}")
             }
             Message::Multi(multi) => {
                 let text = MultiText(multi);

@@ -96,7 +96,10 @@ fn write_whole<O: Write>(output: &mut O, message: &[u8]) -> io::Result<()>
 {
     match scte104_codec::read(message) {
         Ok(read) => {
-            let text = MessageText(read);
+            let text = MessageText {
+                message: read,
+                bytes: message,
+            };
             writeln!(output, "{text}")
         }
         Err(bad) => {

@@ -29,3 +29,5 @@ mod networks;
 mod outgoing;
 #[cfg(test)]
 mod requests;
+#[cfg(test)]
+mod results;
