@@ -1,5 +1,5 @@
 -- The front of some bytes that a whole frame names is whole by itself.
-use Rattle.std.proofs.Common.{◌≡◌, ℕ, ◌-◌, ◌≤◌, List, length, take, drop, Some, sym, ap, ◌∙◌, arith}
+use Rattle.std.proofs.Common.{◌≡◌, ℕ, ◌≤◌, List, length, take, drop, Some, sym, ap, ◌∙◌, arith}
 use Rattle.std.proofs.lemmas.List.{take-append-drop, length-take-le}
 use Rattle.scte104_codec.specs.declared.framing.Frame.TheVariants.{Whole}
 use Rattle.scte104_codec.specs.Framing.{size_in, frame_of}

@@ -1,12 +1,12 @@
 -- Lines, one after the other.
-use Rattle.std.proofs.Common.{◌≡◌, ℕ, suc, ◌-◌, ◌<◌, List, [], ◌∷◌, ◌++◌, Bool, true, false, nat_eq, nat_lt, length, take, Option, None, Some, IfSome, refl, sym, ap, ◌∙◌, subst, append_assoc, append-nil, eqb-true, lt-ltb, arith}
+use Rattle.std.proofs.Common.{◌≡◌, ℕ, suc, ◌+◌, ◌-◌, ◌<◌, ◌≤◌, List, [], ◌∷◌, ◌++◌, Bool, true, false, nat_eq, nat_lt, length, take, Option, None, Some, IfSome, refl, sym, ap, ◌∙◌, subst, append_assoc, append-nil, eqb-true, lt-ltb, arith}
 use Rattle.std.proofs.KnownBytes.{Appends-nil, Appends-trans}
 use Rattle.std.specs.Prelude.{IsSomeAnd, slice_index, ◌==◌, if◌then◌else◌}
 use Rattle.std.specs.Io.BufRead.{take_through, drop_through, strip_last, DropsThrough}
 use Rattle.std.specs.Io.KnownBytes.{Appends, IsAtEnd}
 use Rattle.conformance.specs.Sections.{before_word}
 use Rattle.conformance.specs.Answers.{IsAnswer}
-use Rattle.conformance.specs.Run.{lines_of, TakesLine, AreAnswers, Answered}
+use Rattle.conformance.specs.Run.{lines_of, TakesLine, AreAnswers, Answered, HasLines}
 
 -- ---- the first line
 
@@ -99,3 +99,27 @@ answered_all (Some bytes) (Some more) None old new line so_far takes = absurd ta
 answered_all (Some bytes) (Some more) (Some others) old new line so_far takes =
     let none : AreAnswers (lines_of more) [] = subst (λ lines. AreAnswers lines []) (sym takes) refl in
     (so_far.0, subst (AreAnswers (lines_of bytes)) (append-nil so_far.0) (so_far.2 [] none), so_far.1)
+
+-- ---- how many lines there are
+
+-- this many lines are taken, and the others are left
+abbrev pub CountedSoFar : ℕ → Option (List ℕ) → Option (List ℕ) → Type 0
+CountedSoFar count input left = IfSome input (λ bytes. IsSomeAnd left (λ more. length (lines_of bytes) ≡ count + length (lines_of more)))
+
+pub counted_nothing : (input : Option (List ℕ)) → CountedSoFar 0 input input
+counted_nothing None = tt
+counted_nothing (Some bytes) = omega arith
+
+pub counted_line : (count : ℕ) (input left after : Option (List ℕ)) (line : List ℕ) → CountedSoFar count input left → TakesLine left after true line
+    → CountedSoFar (count + 1) input after
+counted_line count None left after line so_far takes = tt
+counted_line count (Some bytes) None after line so_far takes = absurd so_far
+counted_line count (Some bytes) (Some more) None line so_far takes = absurd takes
+counted_line count (Some bytes) (Some more) (Some others) line so_far takes =
+    let one : length (lines_of more) ≡ length (line ∷ lines_of others) = ap length takes in
+    omega arith
+
+pub counted_all : (least count : ℕ) (input left : Option (List ℕ)) → least ≤ count → CountedSoFar count input left → HasLines least input
+counted_all least count None left le so_far = tt
+counted_all least count (Some bytes) None le so_far = absurd so_far
+counted_all least count (Some bytes) (Some more) le so_far = omega (arith, le, so_far)

@@ -1,5 +1,5 @@
 -- The answers to all lines of the input.
-use Rattle.std.specs.Prelude.{◌≡◌, ℕ, List, [], ◌∷◌, ◌++◌, Bool, true, false, Option, None, Some, ⊤, IfSome, ◌==◌, if◌then◌else◌}
+use Rattle.std.specs.Prelude.{◌≡◌, ℕ, ◌≤◌, length, List, [], ◌∷◌, ◌++◌, Bool, true, false, Option, None, Some, ⊤, IfSome, ◌==◌, if◌then◌else◌}
 use Rattle.std.specs.Io.KnownBytes.{Appends}
 use Rattle.conformance.specs.Sections.{before_word}
 use Rattle.conformance.specs.Answers.{IsAnswer}
@@ -24,3 +24,7 @@ AreAnswers (line ∷ lines) text = (first : List ℕ) × (rest : List ℕ) × Is
 -- the output has grown by the answers to the lines of the input, where both tell their bytes
 abbrev pub Answered : Option (List ℕ) → Option (List ℕ) → Option (List ℕ) → Type 0
 Answered input old new = IfSome input (λ bytes. (text : List ℕ) × AreAnswers (lines_of bytes) text × Appends old new text)
+
+-- the input has this many lines, where it tells its bytes
+abbrev pub HasLines : ℕ → Option (List ℕ) → Type 0
+HasLines count input = IfSome input (λ bytes. count ≤ length (lines_of bytes))
