@@ -33,5 +33,3 @@ mod sessions;
 mod stamps;
 #[cfg(test)]
 mod tables;
-#[cfg(test)]
-mod texts;

@@ -11,6 +11,8 @@ mod sections;
 mod table;
 #[cfg(test)]
 mod tests;
+#[cfg(test)]
+mod text_tests;
 mod usage;
 
 use std::io;

@@ -29,5 +29,3 @@ mod networks;
 mod outgoing;
 #[cfg(test)]
 mod requests;
-#[cfg(test)]
-mod results;

@@ -1,6 +1,6 @@
-//! The results of replies as they are told: each refusal by its number and its name in the code.
+//! Texts of `codec_text` beside what they tell of: each refusal by its number and its name in the code, and texts that are as long as they come.
 
-use codec_text::ResultText;
+use codec_text::{BytesText, ResultText};
 use injector::Refusal;
 use std::test::Fail;
 
@@ -34,7 +34,23 @@ fn refusals_are_told_by_their_names(rt: HostRuntime) -> Result<(), Fail> {
         let number = refusal.number();
         let told = format!(in rt.alloc(); "{}", ResultText(number))?;
         let named = format!(in rt.alloc(); "0x{number:04X}/{refusal:?}")?;
-        expect_eq!(rt; told.as_str(), named.as_str());
+        assert_eq!(rt; told.as_str(), named.as_str());
     }
+    Ok(())
+}
+
+/// The most data that a `single_operation_message` has.
+const MOST_DATA: usize = 65_535 - 13;
+
+#[test]
+fn the_most_data_print_whole(rt: HostRuntime) -> Result<(), Fail> {
+    let data = vec![in rt.alloc(); 0xA5_u8; MOST_DATA]?;
+    let text = format!(in rt.alloc(); "{}", BytesText(data.as_slice()))?;
+    assert_eq!(rt; text.len(), 2 * MOST_DATA);
+    assert!(rt;
+        text.as_bytes()
+            .chunks(2)
+            .all(|digits| digits == b"A5".as_slice())
+    );
     Ok(())
 }
