@@ -8,6 +8,7 @@ ghost use Rattle.command_lines.specs.Options.{IsCutOf, IsNoCut};
 use crate::given::{end_of, is_verbose, text_of};
 use crate::inject_options::{INJECT, RUN};
 use crate::inspect_options::inspect_command;
+use crate::plan_options::PLAN;
 use crate::request_help::request_command;
 use crate::services_options::SERVICES;
 use crate::splice_options::SPLICE;
@@ -216,7 +217,8 @@ pub fn command<'a>(alloc: Global) -> Result<Command<'a>, AllocError> {
         .subcommand(RUN.on_air(alloc)?)?
         .subcommand(SERVICES.command(alloc)?)?
         .subcommand(inspect_command(alloc)?)?
-        .subcommand(request_command(alloc)?)
+        .subcommand(request_command(alloc)?)?
+        .subcommand(PLAN.command(alloc)?)
 }
 
 /// The numbers of a cut: its PID, its start and its length. The first of them that is not in its range is answered.

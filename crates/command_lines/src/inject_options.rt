@@ -126,7 +126,7 @@ const CUE_PID: ValueOption = ValueOption {
     is_required: true,
 };
 
-const INDEX: ValueOption = ValueOption {
+pub(crate) const INDEX: ValueOption = ValueOption {
     id: "index",
     value_name: "N",
     help: "The DPI_PID_index of the messages to this program, from 0 to 65535",

@@ -9,6 +9,7 @@ pub mod command;
 mod given;
 pub mod inject_options;
 pub mod inspect_options;
+pub mod plan_options;
 pub mod refusals;
 pub mod request_help;
 pub mod request_options;

@@ -7,6 +7,7 @@ mod counting;
 mod cutting;
 mod injecting;
 mod inspecting;
+mod planning;
 pub mod program;
 mod requesting;
 mod serving;

@@ -5,6 +5,7 @@ ghost use Rattle.std.specs.Prelude.{◌≡◌, ◌≤◌, IfErr};
 use crate::cutting::run_cut;
 use crate::injecting::{Injected, run_inject_command};
 use crate::inspecting::run_inspect_command;
+use crate::planning::run_plan_command;
 use crate::requesting::run_request_command;
 use crate::serving::{Served, run_services_command};
 use crate::splicing::{Spliced, run_splice_command};
@@ -13,6 +14,7 @@ use command_lines::inject_options::{
     INJECT_USAGE, InjectOptions, RUN_USAGE, inject_options, run_options,
 };
 use command_lines::inspect_options::{INSPECT_USAGE, InspectOptions, inspect_options};
+use command_lines::plan_options::{PLAN_USAGE, plan_options};
 use command_lines::refusals::{DONE, USAGE, answer, refuse, report};
 use command_lines::services_options::{SERVICES_USAGE, ServicesOptions, services_options};
 use command_lines::splice_options::{SPLICE_USAGE, SpliceOptions, splice_options};
@@ -405,6 +407,12 @@ where
     }
     if let Some(given) = matches.subcommand_matches("request") {
         return run_request_command(given, output, faults);
+    }
+    if let Some(given) = matches.subcommand_matches("plan") {
+        return match plan_options(given) {
+            Ok(options) => run_plan_command(rt, &options, input, output, faults),
+            Err(bad) => refuse(faults, &bad, PLAN_USAGE),
+        };
     }
     let (asked, usage) = if let Some(given) = matches.subcommand_matches("run") {
         (run_options(given), RUN_USAGE)

@@ -1,0 +1,144 @@
+//! The command line of the subcommand `plan`: its options and their ranges.
+
+use crate::command::{BadNumber, NumberOption};
+use crate::given::{end_of, text_of};
+use crate::inject_options::{ADVERTS, INDEX, NETWORK, PROGRAM};
+use crate::subcommand::{Subcommand, ValueOption};
+use clap::ArgMatches;
+use decimal_numbers::{number_below, number_within};
+use run_ends::End;
+use std::fmt;
+
+const PLAN_ABOUT: &str =
+    "Plans breaks in a program of a transport stream, and writes the script by which `run` makes them";
+
+const PLAN_LONG_ABOUT: &str =
+    "Plans breaks in a program of a transport stream, and writes the script by which `run` makes them. The list of breaks has lines that a person
+writes:
+
+  12.48 for 30 play 7             a break of 30 seconds with advertisement 7
+  00:01:30.000 for 20 play 8 as 4 another one, whose event has the number 4
+  pts 1933200 end 4               event 4 ends early
+  40 cancel 1                     the event of line 1 is cancelled
+
+A time is in seconds, or hours, minutes and seconds, behind the program's first one, or a time stamp in ticks of 90 kHz. An event that is
+given no number has that of its line. What stands behind # is a comment. A break begins at the first random access picture at or behind its
+time, within 10 seconds, and ends before such a picture where one lies within half a second of its length. Each line is told on standard
+output: what becomes of it, whether its edges are clean, and whether the advertisement fits.";
+
+const PLAN_EXAMPLE: &str = "Example:
+  dpi_chain plan --network network.ts --program 1 --index 1 --adverts adverts.txt --breaks breaks.txt --script script.txt
+
+The script is for `run --script`, over the same network.";
+
+/// How `plan` is called.
+pub const PLAN_USAGE: &str =
+    "dpi_chain plan --network <FILE> --program <N> --index <N> --adverts <FILE> --breaks <FILE> --script <FILE> [--verbose]";
+
+const BREAKS: ValueOption = ValueOption {
+    id: "breaks",
+    value_name: "FILE",
+    help: "The list of breaks, lines of a time and what is to happen; - is standard input",
+    is_required: true,
+};
+
+const SCRIPT_OUT: ValueOption = ValueOption {
+    id: "script",
+    value_name: "FILE",
+    help: "The script to write, whose contents are replaced",
+    is_required: true,
+};
+
+const PLAN_OPTIONS: [ValueOption; 6] = [NETWORK, PROGRAM, INDEX, ADVERTS, BREAKS, SCRIPT_OUT];
+
+pub(crate) const PLAN: Subcommand = Subcommand {
+    name: "plan",
+    about: PLAN_ABOUT,
+    long_about: PLAN_LONG_ABOUT,
+    example: PLAN_EXAMPLE,
+    usage: PLAN_USAGE,
+    options: &PLAN_OPTIONS,
+    verbose: "Tell more on standard error where a fault stands",
+};
+
+/// What `plan` is to do.
+#[derive(Clone, Copy, Debug, Drop)]
+pub struct PlanOptions<'a> {
+    /// The number of the program, not 0.
+    pub program: u16,
+    /// The `DPI_PID_index` of its messages.
+    pub index: u16,
+    /// What is read.
+    pub network: End<'a>,
+    /// The list of the advertisements.
+    pub adverts: End<'a>,
+    /// The list of the breaks.
+    pub breaks: End<'a>,
+    /// What is written.
+    pub script: End<'a>,
+}
+
+/// Why the options of `plan` are not taken.
+#[derive(Clone, Copy, Debug, Drop)]
+pub enum BadPlan<'a> {
+    /// An option's text is no number in its range.
+    Number(BadNumber<'a>),
+    /// More than one input is standard input, or the script is to be standard output.
+    Input,
+}
+
+impl fmt::Display for BadPlan<'_> {
+    fn fmt<W: fmt::Write>(&self, f: &mut fmt::Formatter<W>) -> fmt::Result {
+        match self {
+            BadPlan::Number(bad) => write!(f, "{bad}"),
+            BadPlan::Input => write!(
+                f,
+                "error: only one of '--network <FILE>', '--adverts <FILE>' and '--breaks <FILE>' can be standard input, and the script has to be a file"
+            ),
+        }
+    }
+}
+
+/// The ends differ: one input at most is standard input, and the script is a file.
+fn are_apart(network: End<'_>, adverts: End<'_>, breaks: End<'_>, script: End<'_>) -> bool {
+    let mut standard = 0;
+    for end in [network, adverts, breaks] {
+        if end.path().is_none() {
+            standard += 1;
+        }
+    }
+    standard <= 1 && script.path().is_some()
+}
+
+/// What the options of `plan` say.
+///
+/// # Errors
+///
+/// The first of the numbers that is not in its range; `Input` where the ends are not apart.
+pub fn plan_options<'a>(matches: &ArgMatches<'a>) -> Result<PlanOptions<'a>, BadPlan<'a>> {
+    let text = text_of(matches, "program");
+    let Some(program) = number_within(text, 1, 1 << 16) else {
+        let option = NumberOption::Program;
+        return Err(BadPlan::Number(BadNumber { option, text }));
+    };
+    let text = text_of(matches, "index");
+    let Some(index) = number_below(text, 1 << 16) else {
+        let option = NumberOption::Index;
+        return Err(BadPlan::Number(BadNumber { option, text }));
+    };
+    let network = end_of(matches, "network");
+    let adverts = end_of(matches, "adverts");
+    let breaks = end_of(matches, "breaks");
+    let script = end_of(matches, "script");
+    if !are_apart(network, adverts, breaks, script) {
+        return Err(BadPlan::Input);
+    }
+    Ok(PlanOptions {
+        program: program as u16,
+        index: index as u16,
+        network,
+        adverts,
+        breaks,
+        script,
+    })
+}

@@ -1,0 +1,245 @@
+//! The subcommand `plan`: breaks planned for a network, and the script by which `run` makes them.
+
+ghost use Rattle.std.specs.Prelude.{◌≤◌};
+
+use crate::splicing::open_library;
+use ad_library::AdLibrary;
+use break_lists::{BreaksFault, NumberedLine, RefusedLine, read_breaks};
+use break_plans::{Plan, Setting, Timeline, TimelineFault, Told, plan, script_of};
+use chain_engine::RunFault;
+use command_lines::plan_options::PlanOptions;
+use command_lines::refusals::{DONE, report};
+use passages::fault::{ProgramFault, fault_name};
+use psi_tables::FeedFault;
+use run_ends::{End, create_output, open_input};
+use std::alloc::Global;
+use std::io::{BufReader, Read, Write};
+use std::rt::Files;
+use ts_packet::{Device, DeviceFault, Packet, PacketReader, Source};
+
+/// The most reads of a list.
+const READS: u64 = 1 << 32;
+
+/// How many bytes of a list are read at a time.
+const ROOM: usize = 4_096;
+
+/// How many bytes of a network are read at a time.
+const BUFFER: usize = 262_144;
+
+/// Why no plan was made.
+#[derive(Clone, Copy, Debug, PartialEq, Eq)]
+enum PlanFault {
+    /// What any run may come to.
+    Program(ProgramFault),
+    /// A line of the list of breaks plans nothing.
+    Line(RefusedLine),
+    /// The list has more than 2^32 parts.
+    Turns,
+    /// The program has no video of which the chain knows the pictures.
+    NoVideo,
+    /// The program has no time.
+    NoTime,
+    /// A list could not be read on.
+    Io,
+}
+
+/// Memory was refused.
+const NO_MEMORY: PlanFault = PlanFault::Program(ProgramFault::OutOfMemory);
+
+/// The bytes that a reader gives, to their end.
+fn read_all<S: Source>(alloc: Global, source: &mut S) -> Result<Vec<u8>, PlanFault> {
+    let mut bytes = Vec::new(alloc);
+    let mut room = [0; ROOM];
+    for _turn in 0..READS {
+        match source.read(&mut room) {
+            Ok(0) => return Ok(bytes),
+            Ok(count) => {
+                if bytes.extend_from_slice(&room[..count]).is_err() {
+                    return Err(NO_MEMORY);
+                }
+            }
+            Err(DeviceFault::Interrupted) => {}
+            Err(DeviceFault::Failed) => return Err(PlanFault::Io),
+        }
+    }
+    Err(PlanFault::Turns)
+}
+
+/// The list of breaks that a reader gives.
+fn breaks_from<R: Read + Drop>(alloc: Global, reader: R) -> Result<Vec<NumberedLine>, PlanFault> {
+    let mut source = Device::new(reader);
+    let text = read_all(alloc, &mut source)?;
+    match read_breaks(alloc, text.as_slice()) {
+        Ok(lines) => Ok(lines),
+        Err(BreaksFault::Line(line)) => Err(PlanFault::Line(line)),
+        Err(BreaksFault::OutOfMemory) => Err(NO_MEMORY),
+    }
+}
+
+/// The list of breaks that the options name.
+fn open_breaks<R: Files + AllocGlobal, I: Read>(
+    rt: &R,
+    breaks: End<'_>,
+    input: &mut I,
+) -> Result<Vec<NumberedLine>, PlanFault> {
+    let Some(path) = breaks.path() else {
+        return breaks_from(rt.alloc(), input);
+    };
+    match open_input(rt, path) {
+        Ok((file, _)) => breaks_from(rt.alloc(), file),
+        Err(_) => Err(PlanFault::Program(ProgramFault::File)),
+    }
+}
+
+/// The pictures of the network that a reader gives.
+fn timeline_from<R: Read + Drop>(
+    alloc: Global,
+    reader: R,
+    program: u16,
+) -> Result<Timeline, PlanFault> {
+    let Ok(reader) = BufReader::with_capacity(alloc, BUFFER, reader) else {
+        return Err(NO_MEMORY);
+    };
+    let mut device = Device::new(reader);
+    let mut packets = PacketReader::new(&mut device);
+    let mut timeline = Timeline::new(alloc, program);
+    let mut packet = Packet::null();
+    for _turn in 0..u64::MAX {
+        match packets.read_into(&mut packet) {
+            Ok(true) => {}
+            Ok(false) => break,
+            Err(fault) => return Err(PlanFault::Program(ProgramFault::Run(RunFault::Read(fault)))),
+        }
+        match timeline.feed(&packet) {
+            Ok(()) => {}
+            Err(TimelineFault::Network(fault)) => {
+                let fault = RunFault::Feed(FeedFault::Network(fault));
+                return Err(PlanFault::Program(ProgramFault::Run(fault)));
+            }
+            Err(TimelineFault::Long) => return Err(PlanFault::NoTime),
+            Err(TimelineFault::OutOfMemory) => return Err(NO_MEMORY),
+        }
+    }
+    timeline.finish();
+    Ok(timeline)
+}
+
+/// The pictures of the network that the options name.
+fn open_timeline<R: Files + AllocGlobal, I: Read>(
+    rt: &R,
+    options: &PlanOptions<'_>,
+    input: &mut I,
+) -> Result<Timeline, PlanFault> {
+    let Some(path) = options.network.path() else {
+        return timeline_from(rt.alloc(), input, options.program);
+    };
+    match open_input(rt, path) {
+        Ok((file, _)) => timeline_from(rt.alloc(), file, options.program),
+        Err(_) => Err(PlanFault::Program(ProgramFault::File)),
+    }
+}
+
+/// Writes the script of a plan to the file of this path, and tells each of its lines.
+fn write_plan<R: Files + AllocGlobal, O: Write>(
+    rt: &R,
+    options: &PlanOptions<'_>,
+    planned: &Plan,
+    first: u64,
+    output: &mut O,
+) -> Result<(), PlanFault> {
+    let Ok(script) = script_of(rt.alloc(), planned.requests.as_slice(), options.index) else {
+        return Err(NO_MEMORY);
+    };
+    let path = options.script.path().unwrap_or("");
+    let Ok(mut file) = create_output(rt, path, None, None, None) else {
+        return Err(PlanFault::Program(ProgramFault::File));
+    };
+    if file.write_all(script.as_bytes()).is_err() || file.flush().is_err() {
+        return Err(PlanFault::Io);
+    }
+    for line in planned.lines.as_slice() {
+        let told = Told { line, first };
+        if writeln!(output, "{told}").is_err() {
+            return Err(PlanFault::Program(ProgramFault::Print));
+        }
+    }
+    match output.flush() {
+        Ok(()) => Ok(()),
+        Err(_) => Err(PlanFault::Program(ProgramFault::Print)),
+    }
+}
+
+/// Plans the breaks of a list for a network whose pictures are known.
+fn plan_for<R: Files + AllocGlobal, O: Write>(
+    rt: &R,
+    options: &PlanOptions<'_>,
+    timeline: &Timeline,
+    library: &AdLibrary,
+    list: &[NumberedLine],
+    output: &mut O,
+) -> Result<(), PlanFault> {
+    if !timeline.has_video() {
+        return Err(PlanFault::NoVideo);
+    }
+    let Some(first) = timeline.first() else {
+        return Err(PlanFault::NoTime);
+    };
+    let setting = Setting {
+        timeline,
+        first,
+        library,
+        index: options.index,
+    };
+    match plan(rt.alloc(), &setting, list) {
+        Ok(planned) => write_plan(rt, options, &planned, first, output),
+        Err(_) => Err(NO_MEMORY),
+    }
+}
+
+/// Plans, between the ends that the options name.
+fn plan_ends<R: Files + AllocGlobal, I: Read, O: Write>(
+    rt: &R,
+    options: &PlanOptions<'_>,
+    input: &mut I,
+    output: &mut O,
+) -> Result<(), PlanFault> {
+    let list = open_breaks(rt, options.breaks, input)?;
+    let library = match open_library(rt, options.adverts, input) {
+        Ok((library, _)) => library,
+        Err(stopped) => return Err(PlanFault::Program(stopped.fault)),
+    };
+    let timeline = open_timeline(rt, options, input)?;
+    plan_for(rt, options, &timeline, &library, list.as_slice(), output)
+}
+
+/// Runs the subcommand `plan`, and answers the exit status: the list of breaks is read first, then that of the advertisements with their
+/// streams, then the network; then the script is written, and each line told on `output`. A line of the list that plans nothing is
+/// told on `faults` behind the fault, by its number and what was expected.
+pub fn run_plan_command<R, I, O, E>(
+    rt: &R,
+    options: &PlanOptions<'_>,
+    input: &mut I,
+    output: &mut O,
+    faults: &mut E,
+) -> u8
+where
+    R: Files + AllocGlobal,
+    I: Read,
+    O: Write,
+    E: Write,
+    ensures { result ≤ 1 }
+{
+    match plan_ends(rt, options, input, output) {
+        Ok(()) => DONE,
+        Err(PlanFault::Program(fault)) => report(faults, fault_name(fault)),
+        Err(PlanFault::Line(line)) => {
+            let status = report(faults, "BadBreaks");
+            let _ = writeln!(faults, "{line}");
+            status
+        }
+        Err(PlanFault::Turns) => report(faults, "Turns"),
+        Err(PlanFault::NoVideo) => report(faults, "NoVideo"),
+        Err(PlanFault::NoTime) => report(faults, "NoTime"),
+        Err(PlanFault::Io) => report(faults, "Io"),
+    }
+}
