@@ -2,13 +2,13 @@
 
 use crate::fits::fit_of;
 use crate::planned::{Edge, Outcome, Plan, PlannedLine, Verdict};
-use crate::request::{PlannedRequest, request_bytes};
 use crate::timeline::{Timeline, stamp_of};
 use ad_library::AdLibrary;
 use break_choices::{
     Ending, Mark, Picture, Placed, Unplaced, Wanted, choose_ending, first_from, last_before, place,
 };
 use break_lists::{At, NumberedLine, Order};
+use break_scripts::{PlacedRequest, request_bytes};
 use injector::Requests;
 use scte104_codec::{SpliceRequest, read};
 use std::alloc::{AllocError, Global};
@@ -21,6 +21,16 @@ const TENTH: u64 = 9_000;
 
 /// `result` of a reply where a request was taken.
 const SUCCESS: u16 = 100;
+
+/// The most requests before a packet: a line of a script has 4,096 bytes at most, and a message 30.
+const MOST: usize = 136;
+
+/// A request of the line at this place, counted from 0.
+#[derive(Clone, Copy)]
+struct AskedBy {
+    place: usize,
+    placed: PlacedRequest,
+}
 
 /// What a plan is made for.
 #[derive(Clone, Copy)]
@@ -201,13 +211,12 @@ impl Setting<'_> {
     }
 
     /// Judges requests in the order of their packets, as the chain does, and keeps those that are taken.
-    fn judge(&self, plan: &mut Plan) -> Result<(), AllocError> {
+    fn judge(&self, plan: &mut Plan, drafts: &[AskedBy]) -> Result<(), AllocError> {
         let mut requests = Requests::new(self.index);
         let mut marks = self.timeline.marks();
-        let drafts = std::mem::replace(&mut plan.requests, Vec::new(*plan.lines.allocator()));
-        for (number, asked) in drafts.iter().enumerate() {
+        for asked in drafts {
             while let Some((mark, behind)) = marks.split_first() {
-                if asked.packet < mark.packet {
+                if asked.placed.packet < mark.packet {
                     break;
                 }
                 let high = stamp_of(mark.high);
@@ -216,27 +225,47 @@ impl Setting<'_> {
                 }
                 marks = behind;
             }
-            let bytes = request_bytes(asked.request, (number % 256) as u8, self.index);
-            let reply = requests.ask(read(bytes.as_slice()));
-            let verdict = if reply.result == SUCCESS {
-                plan.requests.push(*asked)?;
-                Verdict::Taken
+            let verdict = if is_crowded(plan.requests.as_slice(), asked.placed.packet) {
+                Verdict::Crowded
             } else {
-                Verdict::Refused(reply.result)
+                self.ask(&mut requests, &asked.placed)
             };
+            if verdict == Verdict::Taken {
+                plan.requests.push(asked.placed)?;
+            }
             if let Some(line) = plan.lines.get_mut(asked.place) {
                 line.verdict = Some(verdict);
             }
         }
         Ok(())
     }
+
+    /// How the chain answers a request.
+    fn ask(&self, requests: &mut Requests, placed: &PlacedRequest) -> Verdict {
+        let bytes = request_bytes(placed.request, 0, self.index);
+        let reply = requests.ask(read(bytes.as_slice()));
+        if reply.result == SUCCESS {
+            Verdict::Taken
+        } else {
+            Verdict::Refused(reply.result)
+        }
+    }
+}
+
+/// Whether no request more has room in the line of this packet.
+fn is_crowded(requests: &[PlacedRequest], packet: u64) -> bool {
+    requests
+        .iter()
+        .filter(|placed| placed.packet == packet)
+        .count()
+        >= MOST
 }
 
 /// Puts a request behind all that come before its packet or at it.
-fn insert(requests: &mut Vec<PlannedRequest>, asked: PlannedRequest) -> Result<(), AllocError> {
+fn insert(requests: &mut Vec<AskedBy>, asked: AskedBy) -> Result<(), AllocError> {
     let mut place = 0;
     for other in requests.as_slice() {
-        if other.packet <= asked.packet {
+        if other.placed.packet <= asked.placed.packet {
             place += 1;
         }
     }
@@ -258,6 +287,7 @@ pub fn plan(
         lines: Vec::new(alloc),
         requests: Vec::new(alloc),
     };
+    let mut drafts = Vec::new(alloc);
     for (place, line) in list.iter().enumerate() {
         let draft = setting.draft(line);
         let mut planned = PlannedLine {
@@ -270,16 +300,12 @@ pub fn plan(
         if let Some((mark, request)) = draft.request {
             planned.packet = Some(mark.packet);
             planned.pre_roll = request.pre_roll_time;
-            let asked = PlannedRequest {
-                place,
-                packet: mark.packet,
-                high: mark.high,
-                request,
-            };
-            insert(&mut plan.requests, asked)?;
+            let packet = mark.packet;
+            let placed = PlacedRequest { packet, request };
+            insert(&mut drafts, AskedBy { place, placed })?;
         }
         plan.lines.push(planned)?;
     }
-    setting.judge(&mut plan)?;
+    setting.judge(&mut plan, drafts.as_slice())?;
     Ok(plan)
 }

@@ -2,6 +2,7 @@
 
 use crate::fits::Fit;
 use break_choices::Unplaced;
+use break_scripts::PlacedRequest;
 
 /// How a cut lies to the random access pictures.
 #[derive(Clone, Copy, Debug, PartialEq, Eq)]
@@ -24,6 +25,8 @@ pub enum Verdict {
     Taken,
     /// It refuses it with this number, so that it is not in the script.
     Refused(u16),
+    /// As many requests as a line of a script holds come before its packet already, so that it is not in the script.
+    Crowded,
 }
 
 /// What becomes of a line.
@@ -93,5 +96,5 @@ pub struct Plan {
     /// The lines that plan something.
     pub lines: Vec<PlannedLine>,
     /// The requests that are taken.
-    pub requests: Vec<crate::request::PlannedRequest>,
+    pub requests: Vec<PlacedRequest>,
 }

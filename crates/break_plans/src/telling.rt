@@ -69,6 +69,10 @@ impl fmt::Display for Fit {
     fn fmt<W: fmt::Write>(&self, f: &mut fmt::Formatter<W>) -> fmt::Result {
         match self {
             Fit::Fits => write!(f, "fits"),
+            Fit::Missing => write!(
+                f,
+                "does not fit: it is not listed, or no stream is switched"
+            ),
             Fit::NoStream(stream) => {
                 let (kind, pid) = (stream.kind, stream.pid.get());
                 write!(
@@ -91,6 +95,10 @@ impl fmt::Display for Verdict {
             Verdict::Refused(number) => write!(
                 f,
                 "refused with {number:04X}, and not in the script"
+            ),
+            Verdict::Crowded => write!(
+                f,
+                "not in the script, where 136 requests stand before this packet"
             ),
         }
     }

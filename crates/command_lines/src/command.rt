@@ -218,7 +218,7 @@ pub fn command<'a>(alloc: Global) -> Result<Command<'a>, AllocError> {
         .subcommand(SERVICES.command(alloc)?)?
         .subcommand(inspect_command(alloc)?)?
         .subcommand(request_command(alloc)?)?
-        .subcommand(PLAN.command(alloc)?)
+        .subcommand(PLAN.silent(alloc)?)
 }
 
 /// The numbers of a cut: its PID, its start and its length. The first of them that is not in its range is answered.

@@ -33,7 +33,7 @@ The script is for `run --script`, over the same network.";
 
 /// How `plan` is called.
 pub const PLAN_USAGE: &str =
-    "dpi_chain plan --network <FILE> --program <N> --index <N> --adverts <FILE> --breaks <FILE> --script <FILE> [--verbose]";
+    "dpi_chain plan --network <FILE> --program <N> --index <N> --adverts <FILE> --breaks <FILE> --script <FILE>";
 
 const BREAKS: ValueOption = ValueOption {
     id: "breaks",
@@ -45,7 +45,7 @@ const BREAKS: ValueOption = ValueOption {
 const SCRIPT_OUT: ValueOption = ValueOption {
     id: "script",
     value_name: "FILE",
-    help: "The script to write, whose contents are replaced",
+    help: "The script to write, whose contents are replaced; it may not be an input",
     is_required: true,
 };
 
@@ -58,7 +58,7 @@ pub(crate) const PLAN: Subcommand = Subcommand {
     example: PLAN_EXAMPLE,
     usage: PLAN_USAGE,
     options: &PLAN_OPTIONS,
-    verbose: "Tell more on standard error where a fault stands",
+    verbose: "",
 };
 
 /// What `plan` is to do.

@@ -5,7 +5,8 @@ ghost use Rattle.std.specs.Prelude.{◌≤◌};
 use crate::splicing::open_library;
 use ad_library::AdLibrary;
 use break_lists::{BreaksFault, NumberedLine, RefusedLine, read_breaks};
-use break_plans::{Plan, Setting, Timeline, TimelineFault, Told, plan, script_of};
+use break_plans::{Plan, Setting, Timeline, TimelineFault, Told, plan};
+use break_scripts::script_of;
 use chain_engine::RunFault;
 use command_lines::plan_options::PlanOptions;
 use command_lines::refusals::{DONE, report};
@@ -13,6 +14,7 @@ use passages::fault::{ProgramFault, fault_name};
 use psi_tables::FeedFault;
 use run_ends::{End, create_output, open_input};
 use std::alloc::Global;
+use std::fs::Metadata;
 use std::io::{BufReader, Read, Write};
 use std::rt::Files;
 use ts_packet::{Device, DeviceFault, Packet, PacketReader, Source};
@@ -81,12 +83,12 @@ fn open_breaks<R: Files + AllocGlobal, I: Read>(
     rt: &R,
     breaks: End<'_>,
     input: &mut I,
-) -> Result<Vec<NumberedLine>, PlanFault> {
+) -> Result<(Vec<NumberedLine>, Option<Metadata>), PlanFault> {
     let Some(path) = breaks.path() else {
-        return breaks_from(rt.alloc(), input);
+        return Ok((breaks_from(rt.alloc(), input)?, None));
     };
     match open_input(rt, path) {
-        Ok((file, _)) => breaks_from(rt.alloc(), file),
+        Ok((file, about)) => Ok((breaks_from(rt.alloc(), file)?, Some(about))),
         Err(_) => Err(PlanFault::Program(ProgramFault::File)),
     }
 }
@@ -129,14 +131,25 @@ fn open_timeline<R: Files + AllocGlobal, I: Read>(
     rt: &R,
     options: &PlanOptions<'_>,
     input: &mut I,
-) -> Result<Timeline, PlanFault> {
+) -> Result<(Timeline, Option<Metadata>), PlanFault> {
     let Some(path) = options.network.path() else {
-        return timeline_from(rt.alloc(), input, options.program);
+        return Ok((timeline_from(rt.alloc(), input, options.program)?, None));
     };
     match open_input(rt, path) {
-        Ok((file, _)) => timeline_from(rt.alloc(), file, options.program),
+        Ok((file, about)) => Ok((
+            timeline_from(rt.alloc(), file, options.program)?,
+            Some(about),
+        )),
         Err(_) => Err(PlanFault::Program(ProgramFault::File)),
     }
+}
+
+/// What the system says of the inputs that are files: none of them may be the script.
+#[derive(Drop)]
+struct Inputs {
+    network: Option<Metadata>,
+    adverts: Option<Metadata>,
+    breaks: Option<Metadata>,
 }
 
 /// Writes the script of a plan to the file of this path, and tells each of its lines.
@@ -145,16 +158,23 @@ fn write_plan<R: Files + AllocGlobal, O: Write>(
     options: &PlanOptions<'_>,
     planned: &Plan,
     first: u64,
+    inputs: &Inputs,
     output: &mut O,
 ) -> Result<(), PlanFault> {
     let Ok(script) = script_of(rt.alloc(), planned.requests.as_slice(), options.index) else {
         return Err(NO_MEMORY);
     };
     let path = options.script.path().unwrap_or("");
-    let Ok(mut file) = create_output(rt, path, None, None, None) else {
+    let Ok(mut file) = create_output(
+        rt,
+        path,
+        inputs.network.as_ref(),
+        inputs.breaks.as_ref(),
+        inputs.adverts.as_ref(),
+    ) else {
         return Err(PlanFault::Program(ProgramFault::File));
     };
-    if file.write_all(script.as_bytes()).is_err() || file.flush().is_err() {
+    if file.write_all(script.as_slice()).is_err() || file.flush().is_err() {
         return Err(PlanFault::Io);
     }
     for line in planned.lines.as_slice() {
@@ -176,6 +196,7 @@ fn plan_for<R: Files + AllocGlobal, O: Write>(
     timeline: &Timeline,
     library: &AdLibrary,
     list: &[NumberedLine],
+    inputs: &Inputs,
     output: &mut O,
 ) -> Result<(), PlanFault> {
     if !timeline.has_video() {
@@ -191,7 +212,7 @@ fn plan_for<R: Files + AllocGlobal, O: Write>(
         index: options.index,
     };
     match plan(rt.alloc(), &setting, list) {
-        Ok(planned) => write_plan(rt, options, &planned, first, output),
+        Ok(planned) => write_plan(rt, options, &planned, first, inputs, output),
         Err(_) => Err(NO_MEMORY),
     }
 }
@@ -203,13 +224,26 @@ fn plan_ends<R: Files + AllocGlobal, I: Read, O: Write>(
     input: &mut I,
     output: &mut O,
 ) -> Result<(), PlanFault> {
-    let list = open_breaks(rt, options.breaks, input)?;
-    let library = match open_library(rt, options.adverts, input) {
-        Ok((library, _)) => library,
+    let (list, breaks) = open_breaks(rt, options.breaks, input)?;
+    let (library, adverts) = match open_library(rt, options.adverts, input) {
+        Ok(opened) => opened,
         Err(stopped) => return Err(PlanFault::Program(stopped.fault)),
     };
-    let timeline = open_timeline(rt, options, input)?;
-    plan_for(rt, options, &timeline, &library, list.as_slice(), output)
+    let (timeline, network) = open_timeline(rt, options, input)?;
+    let inputs = Inputs {
+        network,
+        adverts,
+        breaks,
+    };
+    plan_for(
+        rt,
+        options,
+        &timeline,
+        &library,
+        list.as_slice(),
+        &inputs,
+        output,
+    )
 }
 
 /// Runs the subcommand `plan`, and answers the exit status: the list of breaks is read first, then that of the advertisements with their
