@@ -1,0 +1,10 @@
+pub mod Times
+pub mod Requests
+pub mod Edges
+pub mod Fits
+pub mod Marks
+pub mod Drafts
+pub mod Verdicts
+pub mod Order
+pub mod Judging
+pub mod Plans

@@ -1,5 +1,8 @@
 //! What a plan comes to.
 
+ghost use Rattle.std.specs.Prelude.{◌≡◌};
+ghost use Rattle.break_plans.specs.Verdicts.{verdict_at};
+
 use crate::fits::Fit;
 use break_choices::Unplaced;
 use break_scripts::PlacedRequest;
@@ -9,7 +12,7 @@ use break_scripts::PlacedRequest;
 pub enum Edge {
     /// It falls just before one, and the pictures do not step back over it.
     Clean,
-    /// It does not. How many ticks the nearest time at which a cut is clean lies before it and behind it, where there are such.
+    /// It does not. How many ticks the nearest picture at which a cut is clean lies before it and behind it, where there are such.
     Rough {
         /// Before it.
         before: Option<u64>,
@@ -25,11 +28,11 @@ pub enum Verdict {
     Taken,
     /// It refuses it with this number, so that it is not in the script.
     Refused(u16),
-    /// As many requests as a line of a script holds come before its packet already, so that it is not in the script.
+    /// So many requests come before its packet that the line of the script has no room for it.
     Crowded,
 }
 
-/// What becomes of a line.
+/// What becomes of a line. Times and ways are ticks of 90 kHz.
 #[derive(Clone, Copy, Debug, PartialEq, Eq)]
 pub enum Outcome {
     /// A break begins.
@@ -75,26 +78,58 @@ pub enum Outcome {
     Length,
 }
 
+/// What a line comes to: what becomes of it, and its request, where it has one.
+#[derive(Clone, Copy, Debug, PartialEq, Eq)]
+pub struct Draft {
+    /// What becomes of it.
+    pub outcome: Outcome,
+    /// The request, and the packet before which it comes.
+    pub request: Option<PlacedRequest>,
+}
+
 /// A line that was planned.
 #[derive(Clone, Copy, Debug, PartialEq, Eq)]
 pub struct PlannedLine {
     /// Its number in the list.
     pub number: u64,
-    /// What becomes of it.
-    pub outcome: Outcome,
-    /// The packet before which its request comes, where there is one.
-    pub packet: Option<u64>,
-    /// The pre-roll of its request, in milliseconds.
-    pub pre_roll: u16,
-    /// How its request is answered.
-    pub verdict: Option<Verdict>,
+    /// What it comes to.
+    pub draft: Draft,
 }
 
-/// A plan: its lines in the order of the list, and the requests that the chain takes in the order of the network.
+/// A request that was judged.
+#[derive(Clone, Copy, Debug, PartialEq, Eq)]
+pub struct Judged {
+    /// The place of its line among those that were planned, from 0.
+    pub place: usize,
+    /// The request.
+    pub placed: PlacedRequest,
+    /// How it is answered.
+    pub verdict: Verdict,
+}
+
+/// A plan: its lines in the order of the list, and the requests in the order of the network.
 #[derive(Drop)]
 pub struct Plan {
     /// The lines that plan something.
     pub lines: Vec<PlannedLine>,
-    /// The requests that are taken.
+    /// Their requests, judged.
+    pub judged: Vec<Judged>,
+    /// Those that are taken.
     pub requests: Vec<PlacedRequest>,
+}
+
+impl Plan {
+    /// How the request of the line at this place is answered; `None` where it has none.
+    pub fn verdict(&self, place: usize) -> Option<Verdict>
+        ensures { result ≡ verdict_at place self.now.judged.items }
+    {
+        let mut rest = self.judged.as_slice();
+        while let Some((judged, behind)) = rest.split_first() {
+            if judged.place == place {
+                return Some(judged.verdict);
+            }
+            rest = behind;
+        }
+        None
+    }
 }

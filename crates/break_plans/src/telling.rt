@@ -2,18 +2,17 @@
 
 use crate::fits::Fit;
 use crate::planned::{Edge, Outcome, PlannedLine, Verdict};
-use crate::timeline::stamp_of;
+use crate::times::{MILLISECOND, stamp_of};
 use break_choices::{Picture, Unplaced};
 use std::fmt;
-
-/// Ticks of a millisecond.
-const MILLISECOND: u64 = 90;
 
 /// A planned line, told by times from the first one of its program on.
 #[derive(Clone, Copy)]
 pub struct Told<'a> {
     /// The line.
     pub line: &'a PlannedLine,
+    /// How its request is answered, where it has one.
+    pub verdict: Option<Verdict>,
     /// The first time.
     pub first: u64,
 }
@@ -69,15 +68,12 @@ impl fmt::Display for Fit {
     fn fmt<W: fmt::Write>(&self, f: &mut fmt::Formatter<W>) -> fmt::Result {
         match self {
             Fit::Fits => write!(f, "fits"),
-            Fit::Missing => write!(
-                f,
-                "does not fit: it is not listed, or no stream is switched"
-            ),
+            Fit::Missing => write!(f, "does not fit: it is not listed"),
             Fit::NoStream(stream) => {
                 let (kind, pid) = (stream.kind, stream.pid.get());
                 write!(
                     f,
-                    "does not fit: it is not listed, or has no stream of type {kind} for PID {pid}"
+                    "does not fit: it has no stream of type {kind} for PID {pid}"
                 )
             }
             Fit::Short(stream) => {
@@ -152,7 +148,7 @@ impl Told<'_> {
 
     /// What becomes of it.
     fn outcome<W: fmt::Write>(&self, f: &mut fmt::Formatter<W>) -> fmt::Result {
-        match &self.line.outcome {
+        match &self.line.draft.outcome {
             Outcome::Starts {
                 event,
                 advert,
@@ -192,11 +188,11 @@ impl fmt::Display for Told<'_> {
         let number = self.line.number;
         write!(f, "line {number}: ")?;
         self.outcome(f)?;
-        if let Some(packet) = self.line.packet {
-            let pre_roll = self.line.pre_roll;
+        if let Some(placed) = self.line.draft.request {
+            let (packet, pre_roll) = (placed.packet, placed.request.pre_roll_time);
             write!(f, "; asked before packet {packet}, {pre_roll} ms ahead")?;
         }
-        if let Some(verdict) = self.line.verdict {
+        if let Some(verdict) = self.verdict {
             write!(f, "; {verdict}")?;
         }
         Ok(())

@@ -1,6 +1,7 @@
 pub mod Command
 pub mod Options
 pub mod Services
+pub mod Plans
 pub mod Inspecting
 pub mod Requests
 pub mod Faults

@@ -1,8 +1,13 @@
 //! The command line of the subcommand `plan`: its options and their ranges.
 
+ghost use Rattle.std.specs.Prelude.{◌≡◌, ◌^◌, ◌⊎◌, not, Some, None, IfOk, IfErr};
+ghost use Rattle.decimal_numbers.specs.Numbers.{number_below, number_within};
+ghost use Rattle.command_lines.specs.Command.{is_standard, are_two};
+ghost use Rattle.command_lines.specs.Plans.{IsPlanOf, IsNoPlan};
+
 use crate::command::{BadNumber, NumberOption};
 use crate::given::{end_of, text_of};
-use crate::inject_options::{ADVERTS, INDEX, NETWORK, PROGRAM};
+use crate::inject_options::{ADVERTS, INDEX, NETWORK, NUMBER_LIMIT, PROGRAM, is_standard};
 use crate::subcommand::{Subcommand, ValueOption};
 use clap::ArgMatches;
 use decimal_numbers::{number_below, number_within};
@@ -83,59 +88,90 @@ pub struct PlanOptions<'a> {
 pub enum BadPlan<'a> {
     /// An option's text is no number in its range.
     Number(BadNumber<'a>),
-    /// More than one input is standard input, or the script is to be standard output.
-    Input,
+    /// More than one input is standard input.
+    Inputs,
+    /// The script is to be standard output.
+    Script,
 }
 
 impl fmt::Display for BadPlan<'_> {
     fn fmt<W: fmt::Write>(&self, f: &mut fmt::Formatter<W>) -> fmt::Result {
         match self {
             BadPlan::Number(bad) => write!(f, "{bad}"),
-            BadPlan::Input => write!(
+            BadPlan::Inputs => write!(
                 f,
-                "error: only one of '--network <FILE>', '--adverts <FILE>' and '--breaks <FILE>' can be standard input, and the script has to be a file"
+                "error: only one of '--network <FILE>', '--adverts <FILE>' and '--breaks <FILE>' can be standard input"
+            ),
+            BadPlan::Script => write!(
+                f,
+                "error: '--script <FILE>' is a file to write, and not standard output"
             ),
         }
     }
 }
 
-/// The ends differ: one input at most is standard input, and the script is a file.
-fn are_apart(network: End<'_>, adverts: End<'_>, breaks: End<'_>, script: End<'_>) -> bool {
-    let mut standard = 0;
-    for end in [network, adverts, breaks] {
-        if end.path().is_none() {
-            standard += 1;
-        }
+/// At most one input is standard input.
+fn are_apart(network: End<'_>, adverts: End<'_>, breaks: End<'_>) -> bool
+    ensures { result ≡ not (are_two (is_standard network.entry) (is_standard adverts.entry) (is_standard breaks.entry)) }
+{
+    let is_network = is_standard(network);
+    let is_list = is_standard(adverts);
+    !(is_network && is_list) && !(is_standard(breaks) && (is_network || is_list))
+}
+
+/// The program and the index. The first of them that is not in its range is answered.
+fn numbers_of<'a>(program: &'a str, index: &'a str) -> Result<(u16, u16), BadNumber<'a>>
+    ensures program { IfOk result (λ x. number_within program.now 1 (2 ^ 16) ≡ Some x.0) }
+    ensures index { IfOk result (λ x. number_below index.now (2 ^ 16) ≡ Some x.1) }
+    ensures refused { IfErr result (λ bad. ((bad.option ≡ NumberOption.Program) × (bad.text.now ≡ program.now)
+        × (number_within program.now 1 (2 ^ 16) ≡ None))
+        ⊎ ((bad.option ≡ NumberOption.Index) × (bad.text.now ≡ index.now) × (number_below index.now (2 ^ 16) ≡ None))) }
+{
+    let Some(number) = number_within(program, 1, NUMBER_LIMIT) else {
+        return Err(BadNumber {
+            option: NumberOption::Program,
+            text: program,
+        });
+    };
+    match number_below(index, NUMBER_LIMIT) {
+        Some(index) => Ok((number as u16, index as u16)),
+        None => Err(BadNumber {
+            option: NumberOption::Index,
+            text: index,
+        }),
     }
-    standard <= 1 && script.path().is_some()
 }
 
 /// What the options of `plan` say.
 ///
 /// # Errors
 ///
-/// The first of the numbers that is not in its range; `Input` where the ends are not apart.
-pub fn plan_options<'a>(matches: &ArgMatches<'a>) -> Result<PlanOptions<'a>, BadPlan<'a>> {
-    let text = text_of(matches, "program");
-    let Some(program) = number_within(text, 1, 1 << 16) else {
-        let option = NumberOption::Program;
-        return Err(BadPlan::Number(BadNumber { option, text }));
-    };
-    let text = text_of(matches, "index");
-    let Some(index) = number_below(text, 1 << 16) else {
-        let option = NumberOption::Index;
-        return Err(BadPlan::Number(BadNumber { option, text }));
+/// The first of the numbers that is not in its range; else `Inputs` where more than one input is standard input; else `Script` where the
+/// script is to be standard output.
+pub fn plan_options<'a>(matches: &ArgMatches<'a>) -> Result<PlanOptions<'a>, BadPlan<'a>>
+    ensures taken { IfOk result (IsPlanOf matches.now) }
+    ensures refused { IfErr result (IsNoPlan matches.now) }
+{
+    let (program, index) = match numbers_of(
+        text_of(matches, "program"),
+        text_of(matches, "index"),
+    ) {
+        Ok(numbers) => numbers,
+        Err(bad) => return Err(BadPlan::Number(bad)),
     };
     let network = end_of(matches, "network");
     let adverts = end_of(matches, "adverts");
     let breaks = end_of(matches, "breaks");
     let script = end_of(matches, "script");
-    if !are_apart(network, adverts, breaks, script) {
-        return Err(BadPlan::Input);
+    if !are_apart(network, adverts, breaks) {
+        return Err(BadPlan::Inputs);
+    }
+    if is_standard(script) {
+        return Err(BadPlan::Script);
     }
     Ok(PlanOptions {
-        program: program as u16,
-        index: index as u16,
+        program,
+        index,
         network,
         adverts,
         breaks,

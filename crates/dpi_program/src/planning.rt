@@ -5,8 +5,9 @@ ghost use Rattle.std.specs.Prelude.{◌≤◌};
 use crate::splicing::open_library;
 use ad_library::AdLibrary;
 use break_lists::{BreaksFault, NumberedLine, RefusedLine, read_breaks};
-use break_plans::{Plan, Setting, Timeline, TimelineFault, Told, plan};
+use break_plans::{Plan, Setting, Told, plan};
 use break_scripts::script_of;
+use break_timelines::{Timeline, TimelineFault, TimelineReader};
 use chain_engine::RunFault;
 use command_lines::plan_options::PlanOptions;
 use command_lines::refusals::{DONE, report};
@@ -104,7 +105,7 @@ fn timeline_from<R: Read + Drop>(
     };
     let mut device = Device::new(reader);
     let mut packets = PacketReader::new(&mut device);
-    let mut timeline = Timeline::new(alloc, program);
+    let mut timeline = TimelineReader::new(alloc, program);
     let mut packet = Packet::null();
     for _turn in 0..u64::MAX {
         match packets.read_into(&mut packet) {
@@ -118,12 +119,11 @@ fn timeline_from<R: Read + Drop>(
                 let fault = RunFault::Feed(FeedFault::Network(fault));
                 return Err(PlanFault::Program(ProgramFault::Run(fault)));
             }
-            Err(TimelineFault::Long) => return Err(PlanFault::NoTime),
+            Err(TimelineFault::Long) => return Err(PlanFault::Turns),
             Err(TimelineFault::OutOfMemory) => return Err(NO_MEMORY),
         }
     }
-    timeline.finish();
-    Ok(timeline)
+    Ok(timeline.finish())
 }
 
 /// The pictures of the network that the options name.
@@ -177,8 +177,13 @@ fn write_plan<R: Files + AllocGlobal, O: Write>(
     if file.write_all(script.as_slice()).is_err() || file.flush().is_err() {
         return Err(PlanFault::Io);
     }
-    for line in planned.lines.as_slice() {
-        let told = Told { line, first };
+    for (place, line) in planned.lines.iter().enumerate() {
+        let verdict = planned.verdict(place);
+        let told = Told {
+            line,
+            verdict,
+            first,
+        };
         if writeln!(output, "{told}").is_err() {
             return Err(PlanFault::Program(ProgramFault::Print));
         }
@@ -206,7 +211,9 @@ fn plan_for<R: Files + AllocGlobal, O: Write>(
         return Err(PlanFault::NoTime);
     };
     let setting = Setting {
-        timeline,
+        pictures: timeline.pictures(),
+        marks: timeline.marks(),
+        streams: timeline.streams(),
         first,
         library,
         index: options.index,

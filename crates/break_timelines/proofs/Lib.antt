@@ -1,0 +1,3 @@
+pub mod RiseLemmas
+pub mod PictureLemmas
+pub mod CleanLemmas
