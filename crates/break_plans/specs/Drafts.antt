@@ -8,7 +8,7 @@ use Rattle.break_choices.specs.declared.placing.Placed.{Placed}
 use Rattle.break_choices.specs.declared.endings.Ending.{Ending}
 use Rattle.break_choices.specs.Cuts.{CutsBefore, named_time}
 use Rattle.break_choices.specs.Placing.{IsPlaced, IsUnplaced}
-use Rattle.break_choices.specs.Endings.{IsNearLength, BreakEndsAt, break_start, break_end}
+use Rattle.break_choices.specs.Endings.{IsNearLength, BreakEndsAt, break_start}
 use Rattle.break_scripts.specs.declared.request.PlacedRequest.{PlacedRequest}
 use Rattle.scte104_codec.specs.declared.requests.SpliceRequest.{SpliceRequest}
 use Rattle.ad_library.specs.Library.{held}
@@ -44,15 +44,19 @@ asked_at m r = Some (record { packet = m.packet; request = r })
 pub record IsBreak (s : Setting) (at event advert long : ℕ) (d : Draft) : Type 0 where
   pub placed : Placed
   pub ending : Ending
+  pub start : ℕ
+  pub stop : ℕ
   pub start_edge : Edge
   pub end_edge : Edge
   pub fit : Fit
   pub is_placed : IsPlaced s.pictures.now s.marks.now at placed
   pub ends : BreakEndsAt s.pictures.now placed long ending
+  pub starts_at : start ≡ bounded (break_start placed ending)
+  pub stops_at : stop ≡ bounded (start + 9000 * ending.tenths)
   pub is_start : IsEdge s.pictures.now placed.picture.time (Some placed.picture) start_edge
-  pub is_end : IsEdge s.pictures.now (bounded (bounded (break_start placed ending) + 9000 * ending.tenths)) ending.clean end_edge
+  pub is_end : IsEdge s.pictures.now stop ending.clean end_edge
   pub fits : IsFit (held s.library.now advert) s.streams.now (9000 * ending.tenths) fit
-  pub outcome : d.outcome ≡ Starts event advert (bounded (break_start placed ending)) placed.picture.time ending.tenths start_edge end_edge fit
+  pub outcome : d.outcome ≡ Starts event advert start placed.picture.time ending.tenths start_edge end_edge fit
   pub request : d.request ≡ asked_at placed.mark (start_request event advert ending.pre_roll ending.tenths)
 
 -- no length of 1 to 65,535 tenths of a second is within half a second of it
@@ -74,11 +78,13 @@ IsBreakOrNone s at event advert long d Behind = ⊥
 -- and not past it
 pub record IsEarlyEnd (s : Setting) (at event : ℕ) (d : Draft) : Type 0 where
   pub placed : Placed
+  pub stop : ℕ
   pub edge : Edge
   pub is_placed : IsPlaced s.pictures.now s.marks.now at placed
   pub cuts : CutsBefore s.pictures.now placed.picture (named_time placed.mark.high placed.pre_rolls.most)
+  pub stops_at : stop ≡ bounded (named_time placed.mark.high placed.pre_rolls.most)
   pub is_edge : IsEdge s.pictures.now placed.picture.time (Some placed.picture) edge
-  pub outcome : d.outcome ≡ Ends event (bounded (named_time placed.mark.high placed.pre_rolls.most)) placed.picture.time edge
+  pub outcome : d.outcome ≡ Ends event stop placed.picture.time edge
   pub request : d.request ≡ asked_at placed.mark (end_request event placed.pre_rolls.most)
 
 abbrev pub IsEndOrNone : Setting → ℕ → ℕ → Draft → Outcome → Type 0

@@ -4,7 +4,7 @@ ghost use Rattle.std.specs.Prelude.{◌≡◌, ◌<◌, ◌^◌, ℕ, MatchOptio
 ghost use Rattle.break_choices.specs.Placing.{IsPlaced};
 ghost use Rattle.break_choices.specs.Endings.{BreakEndsAt};
 ghost use Rattle.break_plans.specs.Marks.{first_past};
-ghost use Rattle.break_plans.specs.Drafts.{event_of, IsBreak, IsBreakOrNone, IsEndOrNone, cancelled, IsDraft};
+ghost use Rattle.break_plans.specs.Drafts.{event_of, IsBreak, IsBreakOrNone, IsEarlyEnd, IsEndOrNone, cancelled, IsDraft};
 
 use crate::edges::edge_at;
 use crate::fits::fit_of;
@@ -104,8 +104,8 @@ impl Setting<'_> {
 
     /// A break with this ending.
     fn started(&self, placed: &Placed, ending: &Ending, event: u32, advert: u16) -> Draft
-        requires some { (at : ℕ) × IsPlaced self.now.pictures.now self.now.marks.now at placed.now }
-        requires ends { (long : ℕ) × BreakEndsAt self.now.pictures.now placed.now long ending.now }
+        requires pre_roll { ending.now.pre_roll < 2 ^ 16 }
+        requires tenths { ending.now.tenths < 2 ^ 16 }
         ensures { (at long : ℕ) → IsPlaced self.now.pictures.now self.now.marks.now at placed.now
             → BreakEndsAt self.now.pictures.now placed.now long ending.now → IsBreak self.now at event advert long result }
     {
@@ -146,9 +146,8 @@ impl Setting<'_> {
 
     /// An early end at this place.
     fn ended(&self, placed: &Placed, event: u32) -> Draft
-        requires { (at : ℕ) × IsPlaced self.now.pictures.now self.now.marks.now at placed.now }
-        ensures { (at : ℕ) → IsPlaced self.now.pictures.now self.now.marks.now at placed.now
-            → IsEndOrNone self.now at event result result.outcome }
+        requires { placed.now.pre_rolls.most < 2 ^ 16 }
+        ensures { (at : ℕ) → IsPlaced self.now.pictures.now self.now.marks.now at placed.now → IsEarlyEnd self.now at event result }
     {
         let pre_roll = placed.pre_rolls.most;
         Draft {

@@ -2,7 +2,7 @@
 
 ghost use Rattle.std.specs.Prelude.{◌≡◌, MatchOption};
 ghost use Rattle.break_choices.specs.Pictures.{NoPictureFrom, NoPictureBefore};
-ghost use Rattle.break_plans.specs.Edges.{IsWayBefore, IsWayBehind, IsEdge};
+ghost use Rattle.break_plans.specs.Edges.{IsWayBefore, IsWayBehind, is_clean_one, IsEdge};
 
 use crate::planned::Edge;
 use break_choices::{Picture, Wanted, first_from, last_before};
@@ -27,13 +27,21 @@ fn way_behind(pictures: &[Picture], time: u64) -> Option<u64>
     }
 }
 
+/// There is a picture, and a cut at it is clean.
+fn is_clean_one(picture: Option<Picture>) -> bool
+    ensures { result ≡ is_clean_one picture }
+{
+    match picture {
+        Some(picture) => picture.is_clean,
+        None => false,
+    }
+}
+
 /// How a cut at a time lies that is made for this picture.
 pub(crate) fn edge_at(pictures: &[Picture], time: u64, picture: Option<Picture>) -> Edge
     ensures { IsEdge pictures.now time picture result }
 {
-    if let Some(picture) = picture
-        && picture.is_clean
-    {
+    if is_clean_one(picture) {
         return Edge::Clean;
     }
     Edge::Rough {

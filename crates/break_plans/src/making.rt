@@ -19,11 +19,13 @@ fn plan_lines(
     ensures { IfOk result (λ v. AllPlanned setting.now list.now v.items) }
 {
     let mut lines = Vec::new(alloc);
-    for line in list {
+    let mut rest = list;
+    while let Some((line, behind)) = rest.split_first() {
         lines.push(PlannedLine {
             number: line.number,
             draft: setting.draft(line),
         })?;
+        rest = behind;
     }
     Ok(lines)
 }

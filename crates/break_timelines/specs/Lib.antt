@@ -1,5 +1,5 @@
 pub mod Line
 pub mod Video
-pub mod Timelines
 pub mod Cleaning
+pub mod Timelines
 pub mod Standing

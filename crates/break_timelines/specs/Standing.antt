@@ -9,8 +9,12 @@ use Rattle.break_timelines.specs.declared.reader.TimelineFault.{TimelineFault}
 use Rattle.break_timelines.specs.declared.reader.TimelineFault.TheVariants.{Network, Long, OutOfMemory}
 use Rattle.break_timelines.specs.declared.timeline.Timeline.{Timeline}
 use Rattle.break_timelines.specs.Line.{tick_of, IsPast, Follows}
-use Rattle.break_timelines.specs.Timelines.{planning, pictures_of, risen, rises_of}
+use Rattle.break_timelines.specs.Timelines.{planning, has_place, has_begun, first_of, pictures_of, risen, rises_of}
 use Rattle.break_timelines.specs.Cleaning.{cleaned_behind}
+
+-- of each stream it is known whether a unit with a time has begun
+abbrev pub HasBegun : List ℕ → ℕ → List (List ℕ) → Type 0
+HasBegun begun program past = (place : ℕ) → has_place place begun ≡ has_begun program place past
 
 -- It reads the timeline of this program, was fed this past, newest first, and answered no fault.
 pub record ReaderStandsFor (r : TimelineReader) (program : ℕ) (past : List (List ℕ)) : Type 0 where
@@ -18,6 +22,8 @@ pub record ReaderStandsFor (r : TimelineReader) (program : ℕ) (past : List (Li
   pub packets : r.packets ≡ length past
   pub high : r.high ≡ option_map tick_of (high_of (Some program) past)
   pub is_past : IsPast (high_of (Some program) past)
+  pub first : r.first ≡ first_of program past
+  pub begun : HasBegun r.begun.items program past
   pub pictures : r.pictures.items ≡ pictures_of program past
   pub marks : r.marks.items ≡ rises_of program past
 
@@ -28,6 +34,8 @@ pub record ReaderMeets (r : TimelineReader) (program : ℕ) (p : List ℕ) (past
   pub high : r.high ≡ option_map tick_of (high_of (Some program) past)
   pub is_past : IsPast (high_of (Some program) past)
   pub follows : Follows (high_of (Some program) past) (high_of (Some program) (p ∷ past))
+  pub first : r.first ≡ first_of program past
+  pub begun : HasBegun r.begun.items program past
   pub pictures : r.pictures.items ≡ pictures_of program past
   pub marks : r.marks.items ≡ rises_of program past
 
@@ -47,5 +55,6 @@ SaysOf OutOfMemory wrong = Unit {0}
 -- IT IS THE TIMELINE of the program in these packets, newest first
 pub record IsTimelineOf (t : Timeline) (program : ℕ) (past : List (List ℕ)) : Type 0 where
   pub follower : StartsStandFor t.follower (planning program) past
+  pub first : t.first ≡ first_of program past
   pub pictures : t.pictures.items ≡ cleaned_behind [] (pictures_of program past)
   pub marks : t.marks.items ≡ rises_of program past

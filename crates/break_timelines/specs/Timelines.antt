@@ -1,7 +1,7 @@
 -- THE TIMELINE of a program: its pictures, and where its greatest time rises, over all packets of a network, newest first.
-use Rattle.std.specs.Prelude.{ℕ, ◌+◌, ℤ, List, [], ◌∷◌, ◌++◌, length, false, ◌&&◌, ◌==◌, if◌then◌else◌, Option, None, Some, is_some}
+use Rattle.std.specs.Prelude.{Bool, false, ◌||◌, ◌==◌, ℕ, ◌+◌, ℤ, List, [], ◌∷◌, ◌++◌, length, if◌then◌else◌, Option, None, Some, is_some}
 use lib.Signed.{lt_z}
-use Rattle.pes_time.specs.Line.{place}
+use Rattle.pes_time.specs.Line.{place as line_place}
 use Rattle.unit_stream.specs.Times.{begins, stamp}
 use Rattle.random_access.specs.Marks as said
 use Rattle.random_access.specs.declared.coding.VideoCoding.{VideoCoding}
@@ -12,6 +12,8 @@ use Rattle.program_follower.specs.Following.{on_map, high_of, streams_of_program
 use Rattle.break_choices.specs.declared.pictures.Picture.{Picture}
 use Rattle.break_choices.specs.declared.pre_rolls.Mark.{Mark}
 use Rattle.break_timelines.specs.declared.video.Video.{Video}
+use Rattle.break_timelines.specs.declared.reader.Timed.{Timed}
+use Rattle.break_timelines.specs.Cleaning.{lesser_of}
 use Rattle.break_timelines.specs.Line.{tick_of}
 use Rattle.break_timelines.specs.Video.{video_from}
 
@@ -19,34 +21,69 @@ use Rattle.break_timelines.specs.Video.{video_from}
 abbrev pub planning : ℕ → Purpose
 planning program = record { program = Some program; cue_pid = None; writes_cues = false }
 
+-- ---- units
+
+-- a unit with this time stamp begins in the stream of this place: where it stands
+abbrev pub timed_with : ℕ → Option ℤ → Option ℕ → Option Timed
+timed_with place high None = None
+timed_with place high (Some t) = Some (record { index = place; time = tick_of (line_place high t) })
+
+-- a unit begins in the stream of this place and PID
+abbrev pub timed_of : Option (ℕ × ℕ) → List ℕ → List (List ℕ) → Option ℤ → Option Timed
+timed_of None p behind high = None
+timed_of (Some x) p behind high = if begins x.1 p behind then timed_with x.0 high (stamp p) else None
+
+-- THE UNIT with a time that begins with a packet in a switched stream; none with one on the PID of the map
+abbrev pub timed_at : ℕ → List ℕ → List (List ℕ) → Option Timed
+timed_at program p past = if on_map (listed (Some program) past) p then None else
+    timed_of (first_on (pids_of (program_of (Some program) past)) p) p (behind_head (Some program) past) (high_of (Some program) past)
+
+-- ---- the first time
+
+-- one of the stream of this place has begun
+abbrev pub is_of : ℕ → Option Timed → Bool
+is_of place None = false
+is_of place (Some x) = x.index == place
+
+-- it is one of these
+abbrev pub has_place : ℕ → List ℕ → Bool
+has_place place [] = false
+has_place place (i ∷ is) = (i == place) || has_place place is
+
+unfoldable pub has_begun : ℕ → ℕ → List (List ℕ) → Bool
+has_begun program place [] = false
+has_begun program place (p ∷ past) = is_of place (timed_at program p past) || has_begun program place past
+
+-- the earlier of the first time so far and a stream's first time
+abbrev pub first_with : Option Timed → (ℕ → Bool) → Option ℕ → Option ℕ
+first_with None begun first = first
+first_with (Some x) begun first = if begun x.index then first else Some (lesser_of first x.time)
+
+-- THE FIRST TIME: the earliest of the first times of the switched streams
+unfoldable pub first_of : ℕ → List (List ℕ) → Option ℕ
+first_of program [] = None
+first_of program (p ∷ past) = first_with (timed_at program p past) (λ place. has_begun program place past) (first_of program past)
+
 -- ---- pictures
 
--- the first packet of a unit with this time stamp is that of a random access picture, or of another one; whether a cut is clean there, all
--- packets tell
-abbrev pub picture_with : VideoCoding → ℕ → List ℕ → Option ℤ → Option ℕ → List Picture
-picture_with coding before p high None = []
-picture_with coding before p high (Some t) = record {
-  time = tick_of (place high t);
+-- the first packet of a unit is that of a random access picture, or of another one; whether a cut is clean there, all packets tell
+abbrev pub picture_with : VideoCoding → ℕ → List ℕ → ℕ → Picture
+picture_with coding before p time = record {
+  time = time;
   packet = before;
   is_point = is_some (said.mark_for (Some coding) (said.marks_of p));
   is_clean = false;
-} ∷ []
+}
 
--- of the stream of this place and PID, if that is the video
-abbrev pub picture_on : Option Video → ℕ × ℕ → List ℕ → List (List ℕ) → ℕ → Option ℤ → List Picture
-picture_on None x p behind before high = []
-picture_on (Some v) x p behind before high =
-    if (v.index == x.0) && begins x.1 p behind then picture_with v.coding before p high (stamp p) else []
+-- if the unit is of the video
+abbrev pub picture_of : Option Video → Option Timed → List ℕ → ℕ → List Picture
+picture_of None x p before = []
+picture_of (Some v) None p before = []
+picture_of (Some v) (Some x) p before = if v.index == x.index then picture_with v.coding before p x.time ∷ [] else []
 
-abbrev pub picture_of : Option Video → Option (ℕ × ℕ) → List ℕ → List (List ℕ) → ℕ → Option ℤ → List Picture
-picture_of v None p behind before high = []
-picture_of v (Some x) p behind before high = picture_on v x p behind before high
-
--- the picture that begins with a packet; none with one on the PID of the map
+-- the picture that begins with a packet
 abbrev pub picture_at : ℕ → List ℕ → List (List ℕ) → List Picture
-picture_at program p past = if on_map (listed (Some program) past) p then [] else
-    picture_of (video_from 0 (streams_of_program (program_of (Some program) past))) (first_on (pids_of (program_of (Some program) past)) p)
-    p (behind_head (Some program) past) (length past) (high_of (Some program) past)
+picture_at program p past = picture_of (video_from 0 (streams_of_program (program_of (Some program) past))) (timed_at program p past) p (length past)
 
 -- THE PICTURES, in the order of the stream
 unfoldable pub pictures_of : ℕ → List (List ℕ) → List Picture

@@ -15,7 +15,7 @@ pub(crate) fn clean(pictures: &mut [Picture])
 }
 
 /// The lesser of them.
-fn lesser_of(least: Option<u64>, time: u64) -> u64
+pub(crate) fn lesser_of(least: Option<u64>, time: u64) -> u64
     ensures { result ≡ lesser_of least time }
 {
     match least {

@@ -1,19 +1,19 @@
 //! The timeline of a program, read packet by packet.
 
-ghost use Rattle.std.specs.Prelude.{◌≡◌, ◌∷◌, ◌++◌, [], ℕ, ℤ, List, Option, Some, None, OnOk, IfOk, IfErr, option_map};
+ghost use Rattle.std.specs.Prelude.{◌≡◌, ◌∷◌, ◌++◌, [], ℕ, ℤ, List, Option, Some, None, OnOk, IfOk, IfErr, option_map, ◌||◌};
 ghost use Rattle.std.specs.Option.{option_to_list};
 ghost use Rattle.pes_time.specs.Line.{ring_of};
 ghost use Rattle.program_follower.specs.Faults.{network_fault};
 ghost use Rattle.program_follower.specs.Following.{IsStartPlace, high_of};
-ghost use Rattle.unit_stream.specs.Clocks.{Tells};
 ghost use Rattle.break_timelines.specs.Line.{tick_of, IsPast, Follows};
-ghost use Rattle.break_timelines.specs.Timelines.{planning, picture_with, picture_at, risen};
+ghost use Rattle.break_timelines.specs.Timelines.{planning, timed_at, has_place, is_of, first_with};
+ghost use Rattle.break_timelines.specs.Timelines.{picture_with, picture_of, picture_at, risen};
 ghost use Rattle.break_timelines.specs.Standing.{ReaderStandsFor, ReaderMeets, IsRise, SaysOf, IsTimelineOf};
 
-use crate::cleaning::clean;
+use crate::cleaning::{clean, lesser_of};
 use crate::line::{TooLong, risen, time_of};
 use crate::timeline::Timeline;
-use crate::video::video_of;
+use crate::video::{Video, video_of};
 use break_choices::{Mark, Picture};
 use pes_time::Time33;
 use program_follower::{Purpose, StartFollower, StartPacket, StartPlace};
@@ -22,7 +22,6 @@ use random_access::{Marks, VideoCoding};
 use std::alloc::{AllocError, Global};
 use thiserror::Error;
 use ts_packet::Packet;
-use unit_stream::Begun;
 
 /// Why a network has no timeline.
 #[derive(Clone, Copy, Debug, PartialEq, Eq, Drop, Error)]
@@ -46,6 +45,10 @@ pub struct TimelineReader {
     packets: u64,
     /// The greatest time so far.
     high: Option<u64>,
+    /// The earliest of the first times of the streams so far.
+    first: Option<u64>,
+    /// The numbers of the streams in which a unit with a time has begun.
+    begun: Vec<usize>,
     pictures: Vec<Picture>,
     marks: Vec<Mark>,
 }
@@ -64,6 +67,8 @@ impl TimelineReader {
             follower: StartFollower::new(purpose),
             packets: 0,
             high: None,
+            first: None,
+            begun: Vec::new(alloc),
             pictures: Vec::new(alloc),
             marks: Vec::new(alloc),
         }
@@ -87,57 +92,26 @@ impl TimelineReader {
             Ok(place) => place,
             Err(fault) => return Err(TimelineFault::Network(fault)),
         };
-        let Ok(picture) = self.picture_at(place, packet) else {
+        let Ok(timed) = timed_at(place, self.high) else {
             return Err(TimelineFault::Long);
         };
         let Ok(rise) = self.rise(earlier) else {
             return Err(TimelineFault::Long);
         };
-        match self.take(picture, rise) {
+        let picture = self.picture_at(timed, packet);
+        match self.take(timed, picture, rise) {
             Ok(()) => Ok(()),
             Err(_) => Err(TimelineFault::OutOfMemory),
         }
     }
 
-    /// The picture that begins with a packet, which the follower was fed.
-    fn picture_at(&self, place: StartPlace, packet: &Packet) -> Result<Option<Picture>, TooLong>
+    /// The picture that begins with a packet that the follower was fed, where this unit does.
+    fn picture_at(&self, timed: Option<Timed>, packet: &Packet) -> Option<Picture>
         ensures { (program : ℕ) (past : List (List ℕ)) → ReaderMeets self.now program packet.now past
-            → IsStartPlace place (planning program) packet.now past
-            → IfOk result (λ x. option_to_list x ≡ picture_at program packet.now past) }
+            → timed ≡ timed_at program packet.now past → option_to_list result ≡ picture_at program packet.now past }
     {
-        match place {
-            StartPlace::Map => Ok(None),
-            StartPlace::Cue => Ok(None),
-            StartPlace::Other => Ok(None),
-            StartPlace::Stream(_, StartPacket::NoStart) => Ok(None),
-            StartPlace::Stream(_, StartPacket::Start(None)) => Ok(None),
-            StartPlace::Stream(index, StartPacket::Start(Some(begun))) => {
-                self.picture_of(index, begun, packet)
-            }
-        }
-    }
-
-    /// The picture that begins with a packet, where a unit of the stream of this number does.
-    fn picture_of(
-        &self,
-        index: usize,
-        begun: Begun,
-        packet: &Packet,
-    ) -> Result<Option<Picture>, TooLong>
-        ensures { (program : ℕ) (past : List (List ℕ)) → ReaderMeets self.now program packet.now past
-            → IsStartPlace (StartPlace.Stream index (StartPacket.Start (Some begun))) (planning program) packet.now past
-            → IfOk result (λ x. option_to_list x ≡ picture_at program packet.now past) }
-    {
-        let Some(video) = video_of(self.follower.streams()) else {
-            return Ok(None);
-        };
-        if video.index != index {
-            return Ok(None);
-        }
-        match picture_with(video.coding, self.packets, packet, self.high, begun) {
-            Ok(picture) => Ok(Some(picture)),
-            Err(TooLong) => Err(TooLong),
-        }
+        let video = video_of(self.follower.streams());
+        picture_of(video, timed, packet, self.packets)
     }
 
     /// What a packet that the follower was fed is to the greatest time, whose stamp before it this was.
@@ -160,13 +134,20 @@ impl TimelineReader {
     }
 
     /// Takes what a packet is.
-    fn take(&mut self, picture: Option<Picture>, rise: Rise) -> Result<(), AllocError>
+    fn take(
+        &mut self,
+        timed: Option<Timed>,
+        picture: Option<Picture>,
+        rise: Rise,
+    ) -> Result<(), AllocError>
         ensures { (program : ℕ) (p : List ℕ) (past : List (List ℕ)) → ReaderMeets self.old program p past
-            → option_to_list picture ≡ picture_at program p past → IsRise rise program p past
+            → timed ≡ timed_at program p past → option_to_list picture ≡ picture_at program p past → IsRise rise program p past
             → OnOk result (ReaderStandsFor self.new program (p ∷ past)) }
     {
         add_picture(&mut self.pictures, picture)?;
         add_mark(&mut self.marks, rise.mark)?;
+        self.first = first_with(timed, self.begun.as_slice(), self.first);
+        add_begun(&mut self.begun, timed)?;
         self.packets = rise.packets;
         self.high = rise.high;
         Ok(())
@@ -180,6 +161,7 @@ impl TimelineReader {
         clean(pictures.as_mut_slice());
         Timeline {
             follower: self.follower,
+            first: self.first,
             pictures,
             marks: self.marks,
         }
@@ -197,26 +179,111 @@ struct Rise {
     mark: Option<Mark>,
 }
 
-/// The picture of a coding that begins with a packet before which so many stand, at a greatest time.
-fn picture_with(
-    coding: VideoCoding,
-    before: u64,
-    packet: &Packet,
-    high: Option<u64>,
-    begun: Begun,
-) -> Result<Picture, TooLong>
-    ensures { (h : Option ℤ) (stamp : Option ℕ) → high ≡ option_map tick_of h → IsPast h → Tells (Some begun) h stamp
-        → IfOk result (λ x. x ∷ [] ≡ picture_with coding before packet.now h stamp) }
+/// A unit with a time that begins in a switched stream.
+#[derive(Clone, Copy, Debug, PartialEq, Eq)]
+struct Timed {
+    /// The number of the stream in the order of the map, from 0.
+    index: usize,
+    /// Its time.
+    time: u64,
+}
+
+/// The unit with a time that begins with a packet, by what that is to the follower, at a greatest time.
+fn timed_at(place: StartPlace, high: Option<u64>) -> Result<Option<Timed>, TooLong>
+    ensures { (program : ℕ) (p : List ℕ) (past : List (List ℕ)) → IsStartPlace place (planning program) p past
+        → high ≡ option_map tick_of (high_of (Some program) past) → IsPast (high_of (Some program) past)
+        → IfOk result (λ x. x ≡ timed_at program p past) }
 {
-    let Some(time) = time_of(high, begun) else {
-        return Err(TooLong);
+    match place {
+        StartPlace::Map => Ok(None),
+        StartPlace::Cue => Ok(None),
+        StartPlace::Other => Ok(None),
+        StartPlace::Stream(_, StartPacket::NoStart) => Ok(None),
+        StartPlace::Stream(_, StartPacket::Start(None)) => Ok(None),
+        StartPlace::Stream(index, StartPacket::Start(Some(begun))) => match time_of(high, begun) {
+            Some(time) => Ok(Some(Timed { index, time })),
+            None => Err(TooLong),
+        },
+    }
+}
+
+/// Whether a unit with a time has begun in the stream of this number.
+fn has_place(begun: &[usize], place: usize) -> bool
+    ensures { result ≡ has_place place begun.now }
+{
+    let mut rest = begun;
+    while let Some((one, behind)) = rest.split_first() {
+        if *one == place {
+            return true;
+        }
+        rest = behind;
+    }
+    false
+}
+
+/// The first time, with a unit that begins.
+fn first_with(timed: Option<Timed>, begun: &[usize], first: Option<u64>) -> Option<u64>
+    ensures { result ≡ first_with timed (λ place. has_place place begun.now) first }
+{
+    match timed {
+        None => first,
+        Some(timed) => {
+            if has_place(begun, timed.index) {
+                first
+            } else {
+                Some(lesser_of(first, timed.time))
+            }
+        }
+    }
+}
+
+/// Notes that a unit with a time has begun.
+fn add_begun(begun: &mut Vec<usize>, timed: Option<Timed>) -> Result<(), AllocError>
+    ensures { OnOk result ((place : ℕ) → has_place place begun.new.items ≡ is_of place timed || has_place place begun.old.items) }
+{
+    let Some(timed) = timed else {
+        return Ok(());
     };
-    Ok(Picture {
+    if !has_place(begun.as_slice(), timed.index) {
+        begun.push(timed.index)?;
+    }
+    Ok(())
+}
+
+/// The picture that begins with a packet before which so many stand, where this unit does, if it is of the video.
+fn picture_of(
+    video: Option<Video>,
+    timed: Option<Timed>,
+    packet: &Packet,
+    before: u64,
+) -> Option<Picture>
+    ensures { option_to_list result ≡ picture_of video timed packet.now before }
+{
+    match video {
+        None => None,
+        Some(video) => match timed {
+            None => None,
+            Some(timed) => {
+                if video.index == timed.index {
+                    Some(picture_with(video.coding, before, packet, timed.time))
+                } else {
+                    None
+                }
+            }
+        },
+    }
+}
+
+/// The picture of a coding that begins with a packet before which so many stand.
+fn picture_with(coding: VideoCoding, before: u64, packet: &Packet, time: u64) -> Picture
+    ensures { result ≡ picture_with coding before packet.now time }
+{
+    Picture {
         time,
         packet: before,
         is_point: Marks::of(packet).mark_for(Some(coding)).is_some(),
         is_clean: false,
-    })
+    }
 }
 
 /// The mark before the packet behind which so many were fed, where the greatest time is another one there.

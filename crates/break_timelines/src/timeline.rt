@@ -1,9 +1,8 @@
 //! The timeline of a program.
 
-ghost use Rattle.std.specs.Prelude.{◌≡◌, ℕ, List, [], Some, option_map, slice_get, is_some};
+ghost use Rattle.std.specs.Prelude.{◌≡◌, ℕ, List, [], Some, is_some};
 ghost use Rattle.program_follower.specs.Program.{program_of};
 ghost use Rattle.program_follower.specs.Following.{streams_of_program};
-ghost use Rattle.break_choices.specs.declared.pre_rolls.Mark.{Mark};
 ghost use Rattle.break_timelines.specs.Video.{video_from};
 ghost use Rattle.break_timelines.specs.Standing.{IsTimelineOf};
 
@@ -17,19 +16,17 @@ use psi_tables::Stream;
 #[derive(Drop)]
 pub struct Timeline {
     pub(crate) follower: StartFollower,
+    pub(crate) first: Option<u64>,
     pub(crate) pictures: Vec<Picture>,
     pub(crate) marks: Vec<Mark>,
 }
 
 impl Timeline {
-    /// The first time of the program, that of the first unit that has one; `None` where none has.
+    /// The first time of the program, the earliest of the first times of its switched streams; `None` where no unit has one.
     pub fn first(&self) -> Option<u64>
-        ensures { result ≡ option_map (λ (m : Mark). m.high) (slice_get self.now.marks.items 0) }
+        ensures { result ≡ self.now.first }
     {
-        match self.marks.first() {
-            Some(mark) => Some(mark.high),
-            None => None,
-        }
+        self.first
     }
 
     /// Whether its map lists a video whose pictures are known.

@@ -1,7 +1,7 @@
 use Rattle.std.proofs.Common.{◌≡◌, None}
 use Rattle.program_follower.specs.Faults.{network_fault}
 use Rattle.break_timelines.specs.Standing.{ReaderMeets}
-use Rattle.break_timelines.specs.Timelines.{planning}
+use Rattle.break_timelines.specs.Timelines.{planning, timed_at}
 use Rattle.break_timelines.proofs.RiseLemmas.{follows}
 use Rattle.break_timelines.proofs.reader.TimelineReader.feed.Goals as goal
 
@@ -18,11 +18,14 @@ returns-in-Ok-take-clause-stands c = λ program past s.
       high = s.high;
       is_past = s.is_past;
       follows = follows program p past good;
+      first = s.first;
+      begun = s.begun;
       pictures = s.pictures;
       marks = s.marks;
     } in
-    c.in-Ok-take.ensures program p past m
-    (c.in-Ok-picture_at.ensures program past m (c.in-Ok.ensures.place (planning program) past s.follower))
+    let timed : c.in-Ok-timed_at.timed ≡ timed_at program p past
+    = c.in-Ok-timed_at.ensures program p past (c.in-Ok.ensures.place (planning program) past s.follower) s.high s.is_past in
+    c.in-Ok-take.ensures program p past m timed (c.picture_at-picture.ensures program past m timed)
     (c.in-Ok-rise.ensures program p past m (c.high-earlier.ensures (planning program) past s.follower))
 
 pub returns-in-Ok-take-clause-sound : goal.returns-in-Ok-take-clause-sound

@@ -1,14 +1,16 @@
-use Rattle.std.proofs.Common.{refl}
-use Rattle.break_timelines.specs.Timelines.{pictures_of, rises_of}
+use Rattle.std.proofs.Common.{refl, ap}
+use Rattle.break_timelines.specs.Timelines.{has_place, has_begun, first_of, pictures_of, rises_of}
 use Rattle.break_timelines.proofs.reader.TimelineReader.new.Goals as goal
 
 pub returns : goal.returns
-unfolding pictures_of rises_of
+unfolding has_begun first_of pictures_of rises_of
 returns c = record {
   follower = c.new.ensures;
   packets = refl;
   high = refl;
   is_past = tt;
-  pictures = c.new-2.ensures.items;
-  marks = c.new-3.ensures.items;
+  first = refl;
+  begun = λ place. ap (has_place place) c.new-2.ensures.items;
+  pictures = c.new-3.ensures.items;
+  marks = c.new-4.ensures.items;
 }
