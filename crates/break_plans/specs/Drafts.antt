@@ -1,5 +1,5 @@
 -- WHAT A LINE COMES TO: what becomes of it, and its request with the packet before which it comes.
-use Rattle.std.specs.Prelude.{◌≡◌, ℕ, ◌+◌, ◌*◌, ◌/◌, ◌%◌, ◌^◌, ◌<◌, ◌≤◌, min, true, Option, None, Some}
+use Rattle.std.specs.Prelude.{◌≡◌, ℕ, ◌+◌, ◌-◌, ◌*◌, ◌/◌, ◌%◌, ◌^◌, ◌<◌, ◌≤◌, min, true, Option, None, Some}
 use Rattle.break_lists.specs.declared.line.Order.{Order}
 use Rattle.break_lists.specs.declared.line.Order.TheVariants.{Play, Cancel, End}
 use Rattle.break_lists.specs.declared.list.NumberedLine.{NumberedLine}

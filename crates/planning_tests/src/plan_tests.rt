@@ -51,7 +51,7 @@ ignored 0
 ";
 
 /// A file of this name for tests.
-fn file<R: Files + AllocGlobal>(rt: &R, name: &str) -> Result<PathBuf, Fail> {
+fn file(rt: &HostRuntime, name: &str) -> Result<PathBuf, Fail> {
     Ok(env::temp_dir(rt)?.join(rt.alloc(), name)?)
 }
 
