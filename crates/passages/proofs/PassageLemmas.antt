@@ -1,6 +1,6 @@
 -- What is flushed at the end of a run is what the run sent; and runs of the chain, where some pieces of messages are spoken of.
 use Rattle.std.specs.Prelude.{Result, Ok, Err, OnOk, IfOk, IfErr, IfSome}
-use Rattle.std.proofs.Common.{◌≡◌, ◌≤◌, ℕ, List, [], ◌++◌, length, reverse, Option, None, Some, Bool, false, ap, sym, subst, arith, ◌∙◌, refl}
+use Rattle.std.proofs.Common.{◌≡◌, ◌≤◌, ℕ, List, [], ◌++◌, take, length, reverse, Option, None, Some, Bool, true, false, ◌≢◌, ap, sym, subst, arith, ◌∙◌, refl}
 use Rattle.std.proofs.lemmas.List.{append-nil}
 use Rattle.std.specs.Io.KnownBytes.{Keeps, append_known}
 use Rattle.psi_tables.specs.declared.config.Config.{Config}
@@ -26,6 +26,13 @@ use Rattle.chain_engine.specs.declared.report.Report.{Report}
 use Rattle.chain_engine.proofs.ForgetLemmas.{serves_so, stops_so, chain_stops_so}
 use Rattle.unit_cut.specs.Runs.{CutsAll}
 use Rattle.passages.specs.Runs.{AsksByLines, PrintsReplies, PassesAll, Cuts, Cues, Splices, Plays, CuesStop, PlaysStop}
+use Rattle.ts_packet.specs.declared.sink.PutFault.TheVariants.{Failed}
+use Rattle.packet_runs.specs.Devices.{OfPackets, OfPut, OfSending}
+use Rattle.run_ends.specs.declared.attended.LastFlush.{LastFlush}
+use Rattle.run_ends.specs.declared.attended.LastFlush.TheVariants.{Done}
+use Rattle.passages.specs.Runs.{told_fault}
+use Rattle.passages.specs.Stops.{OfAsked}
+use Rattle.passages.specs.declared.fault.ProgramFault.{ProgramFault}
 use Rattle.passages.specs.declared.listening.ListenFault.{ListenFault}
 use Rattle.passages.specs.declared.listening.ListenFault.TheVariants as listen
 
@@ -78,6 +85,35 @@ finished passes input start out out' form broken (Ok x) (Ok y) h e d k =
     let same : x ≡ y = cc in
     rw (← same) (passes_so passes input (λ ps. (broken ≡ false) × IfSome start (λ bs. out ≡ Some (bs ++ form ps))) (λ ps. IfSome start (λ bs. out' ≡ Some (bs ++ form ps))) x (λ ps w. kept_bytes start out out' (form ps) w.1 k) h)
 finished passes input start out out' form broken (Err f) (Ok y) h e d k = absurd (cc)
+
+-- what is told of a run that was asked is what its fault says
+pub asked_told : (fault : ListenFault) (said : ListenFault → Type 0) (refused : Type 0) → said fault → OfAsked (told_fault fault) said refused
+asked_told listen.Accept said refused h = h
+asked_told (listen.Run fault) said refused h = h
+
+-- A run that stopped, behind a writer whose bytes stand for packets, and whose output was flushed. `form` is what is made of packets, and
+-- `part` of one alone: their bytes, or their lines.
+pub stopped : {R : Type 0} (stops : ProgramFault → Option (List ℕ) → OfPackets → OfPut → OfSending → Type 0)
+    → ((fault : ProgramFault) (input : Option (List ℕ)) (is_out is_out' : OfPackets) (fails fails' : OfPut) (unsent unsent' : OfSending)
+    → ((ps : List (List ℕ)) → is_out ps → is_out' ps) → ((ps : List (List ℕ)) (p : List ℕ) (f : PutFault) → fails ps p f → fails' ps p f)
+    → ((ps : List (List ℕ)) (f : PutFault) → unsent ps f → unsent' ps f)
+    → stops fault input is_out fails unsent → stops fault input is_out' fails' unsent')
+    → (input start out out' : Option (List ℕ)) (form : List (List ℕ) → List ℕ) (part : List ℕ → List ℕ) (broken : Bool) (last : LastFlush) (o r : Result R ProgramFault)
+    → IfErr o (λ fault. stops fault input (λ ps. (broken ≡ false) × IfSome start (λ bs. out ≡ Some (bs ++ form ps)))
+    (λ ps p f. (broken ≡ true) × (f ≢ Failed) × ((n : ℕ) × IfSome start (λ bs. out ≡ Some (bs ++ (form ps ++ take n (part p))))))
+    (λ ps f. (broken ≡ true) × (f ≢ Failed) × IfSome start (λ bs. out ≡ Some (bs ++ form ps))))
+    → (last ≡ Done → r ≡ o) → (last ≡ Done → Keeps out out')
+    → IfErr r (λ fault. last ≡ Done → stops fault input (λ ps. IfSome start (λ bs. out' ≡ Some (bs ++ form ps)))
+    (λ ps p f. (n : ℕ) × IfSome start (λ bs. out' ≡ Some (bs ++ (form ps ++ take n (part p)))))
+    (λ ps f. IfSome start (λ bs. out' ≡ Some (bs ++ form ps))))
+stopped stops so input start out out' form part broken last o (Ok x) h e k = tt
+stopped stops so input start out out' form part broken last o (Err fault) h e k = λ done.
+    let was = subst (λ q. IfErr q (λ f. stops f input (λ ps. (broken ≡ false) × IfSome start (λ bs. out ≡ Some (bs ++ form ps)))
+    (λ ps p x. (broken ≡ true) × (x ≢ Failed) × ((n : ℕ) × IfSome start (λ bs. out ≡ Some (bs ++ (form ps ++ take n (part p))))))
+    (λ ps x. (broken ≡ true) × (x ≢ Failed) × IfSome start (λ bs. out ≡ Some (bs ++ form ps))))) (sym (e done)) h in
+    so fault input _ _ _ _ _ _ (λ ps w. kept_bytes start out out' (form ps) w.1 (k done))
+    (λ ps p x w. let (n, is_out) = w.2 in (n, kept_bytes start out out' (form ps ++ take n (part p)) is_out (k done)))
+    (λ ps x w. kept_bytes start out out' (form ps) w.2 (k done)) was
 
 -- ---- what the runs below say
 

@@ -1,7 +1,7 @@
 -- Runs of several services, where some pieces of messages are spoken of.
-use Rattle.std.proofs.Common.{◌≡◌, ◌≤◌, ℕ, List, length, Option, None, Some, ◌⊎◌, inl, inr, refl, sym, ap, ◌∙◌}
+use Rattle.std.proofs.Common.{◌≤◌, ℕ, List, length, Option, None, Some, inl, inr, refl}
 use Rattle.ts_packet.specs.declared.sink.PutFault.{PutFault}
-use Rattle.packet_runs.specs.Stops.{Stopped, StopsBy}
+use Rattle.packet_runs.specs.Stops.{Stopped}
 use Rattle.psi_tables.specs.declared.network.FeedFault.TheVariants.{Network, Sink, Failed}
 use Rattle.scte104_codec.specs.declared.reply.Reply.{Reply}
 use Rattle.injector.specs.Steps.{Step}

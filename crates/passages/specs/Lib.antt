@@ -1,3 +1,5 @@
 pub mod Names
 pub mod Runs
+pub mod StopLaws
 pub mod Stopping
+pub mod Stops

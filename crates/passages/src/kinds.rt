@@ -27,10 +27,17 @@ pub struct Cutting<'a> {
 
 impl Passage for Cutting<'_> {
     ghost use Rattle.passages.specs.Runs.{Cuts};
+    ghost use Rattle.passages.specs.Stops.{CutStops};
+    ghost use Rattle.passages.specs.StopLaws.{cut-stops-so};
 
     type Report = ();
 
     ghost passes = { λ p. Cuts p.options.now.pid p.options.now.from p.options.now.length };
+
+    ghost stops = { λ p. CutStops p.options.now.pid p.options.now.from p.options.now.length };
+
+    ghost stops_so = { λ p fault input a a' b b' c c' one two three h. cut-stops-so a a' b b' c c' one two three
+        p.options.now.pid p.options.now.from p.options.now.length fault input h };
 
     fn pass<P: PausingPackets, K: GatheringSink>(
         self,
@@ -56,10 +63,17 @@ pub struct Splicing<'a> {
 impl Passage for Splicing<'_> {
     ghost use Rattle.ad_library.specs.Library.{held};
     ghost use Rattle.passages.specs.Runs.{Splices};
+    ghost use Rattle.passages.specs.Stops.{SplicingStops};
+    ghost use Rattle.passages.specs.StopLaws.{splicing-stops-so};
 
     type Report = SwitchReport;
 
     ghost passes = { λ p. Splices p.options.now.config (held p.library.now) };
+
+    ghost stops = { λ p. SplicingStops p.options.now.config (held p.library.now) };
+
+    ghost stops_so = { λ p fault input a a' b b' c c' one two three h. splicing-stops-so a a' b b' c c' one two three
+        p.options.now.config (held p.library.now) fault input h };
 
     fn pass<P: PausingPackets, K: GatheringSink>(
         self,
@@ -87,11 +101,18 @@ where
     L: OpenListener,
     L::Stream: OpenStream + Read + Write + Drop,
 {
-    ghost use Rattle.passages.specs.Runs.{Cues, AsksBy};
+    ghost use Rattle.passages.specs.Runs.{Cues, CuesStop, AsksBy};
+    ghost use Rattle.passages.specs.Stops.{AskedStops};
+    ghost use Rattle.passages.specs.StopLaws.{cues-stop-so};
 
     type Report = Report;
 
     ghost passes = { λ p. Cues p.options.now.config (λ ending ts rs. AsksBy p.asker.now ts) };
+
+    ghost stops = { λ p. AskedStops (CuesStop p.options.now.config (λ ending ts rs. AsksBy p.asker.now ts)) };
+
+    ghost stops_so = { λ p fault input a a' b b' c c' one two three h. cues-stop-so a a' b b' c c' one two three
+        (λ ending ts rs. AsksBy p.asker.now ts) p.options.now.config fault input h };
 
     fn pass<P: PausingPackets, K: GatheringSink>(
         self,
@@ -129,11 +150,18 @@ where
     L::Stream: OpenStream + Read + Write + Drop,
 {
     ghost use Rattle.ad_library.specs.Library.{held};
-    ghost use Rattle.passages.specs.Runs.{Plays, AsksBy};
+    ghost use Rattle.passages.specs.Runs.{Plays, PlaysStop, AsksBy};
+    ghost use Rattle.passages.specs.Stops.{AskedStops};
+    ghost use Rattle.passages.specs.StopLaws.{plays-stop-so};
 
     type Report = Report;
 
     ghost passes = { λ p. Plays p.options.now.config (held p.library.now) (λ ending ts rs. AsksBy p.asker.now ts) };
+
+    ghost stops = { λ p. AskedStops (PlaysStop p.options.now.config (held p.library.now) (λ ending ts rs. AsksBy p.asker.now ts)) };
+
+    ghost stops_so = { λ p fault input a a' b b' c c' one two three h. plays-stop-so a a' b b' c c' one two three
+        (λ ending ts rs. AsksBy p.asker.now ts) p.options.now.config (held p.library.now) fault input h };
 
     fn pass<P: PausingPackets, K: GatheringSink>(
         self,
@@ -175,13 +203,20 @@ where
 {
     ghost use Rattle.std.specs.Prelude.{◌≡◌, length};
     ghost use Rattle.chain_services.specs.Runs.{ServicesStandFor, terms_by};
-    ghost use Rattle.passages.specs.Runs.{Serves, AsksBy};
+    ghost use Rattle.passages.specs.Runs.{Serves, ServesStop, AsksBy};
+    ghost use Rattle.passages.specs.Stops.{AskedStops};
+    ghost use Rattle.passages.specs.StopLaws.{serves-stop-so};
 
     type Report = ServiceReport;
 
     ghost is_ready = { λ p. ServicesStandFor p.services p.configs.now × (length p.libraries.now ≡ length p.configs.now) };
 
     ghost passes = { λ p. Serves (terms_by p.configs.now p.libraries.now) (λ ending ts rs. AsksBy p.asker.now ts) };
+
+    ghost stops = { λ p. AskedStops (ServesStop (terms_by p.configs.now p.libraries.now) (λ ending ts rs. AsksBy p.asker.now ts)) };
+
+    ghost stops_so = { λ p fault input a a' b b' c c' one two three h. serves-stop-so a a' b b' c c' one two three
+        (λ ending ts rs. AsksBy p.asker.now ts) (terms_by p.configs.now p.libraries.now) fault input h };
 
     fn pass<P: PausingPackets, K: GatheringSink>(
         self,

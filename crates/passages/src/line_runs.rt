@@ -1,8 +1,10 @@
 //! Runs to lines of digits.
 
-ghost use Rattle.std.specs.Prelude.{◌≡◌, false, IfOk};
+ghost use Rattle.std.specs.Prelude.{◌≡◌, false, IfOk, IfErr};
 ghost use Rattle.packet_lines.specs.Texts.{WrittenLines};
+ghost use Rattle.run_ends.specs.declared.attended.LastFlush.TheVariants.{Done};
 ghost use Rattle.passages.specs.Runs.{PassesAll};
+ghost use Rattle.passages.specs.Stops.{StopsInLines};
 
 use crate::fault::ProgramFault;
 use crate::running::{BUFFER_SIZE, Finished, Passage, Passed, pass_watched};
@@ -29,6 +31,8 @@ pub fn run_to_lines<S: Passage, P: PausingPackets, W: Write + Drop>(
     requires ready { S.is_ready passage }
     ensures done { IfOk result (λ f. IfOk f.outcome (PassesAll (S.passes passage) (P.left network.old)
         (WrittenLines (W.contents f.output.inner) (W.contents output)))) }
+    ensures stopped { IfOk result (λ f. IfErr f.outcome (λ fault. f.output.last_flush ≡ Done
+        → StopsInLines (S.stops passage fault) (P.left network.old) (W.contents output) (W.contents f.output.inner))) }
 {
     let Ok(buffer) = BufWriter::with_capacity(alloc, BUFFER_SIZE, Attended::new(output)) else {
         return Err(AllocError);

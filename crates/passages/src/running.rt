@@ -5,6 +5,8 @@ ghost use Rattle.std.specs.Prelude.{◌≡◌, ℕ, List, [], Option, None, true
 ghost use Rattle.ts_packet.specs.Sinks.{Written};
 ghost use Rattle.ts_packet.specs.Transfers.{no_tally};
 ghost use Rattle.passages.specs.Runs.{PassesAll};
+ghost use Rattle.run_ends.specs.declared.attended.LastFlush.TheVariants.{Done};
+ghost use Rattle.passages.specs.Stops.{StopsAtDevice};
 ghost use Rattle.passages.specs.Stopping.{side_of, IsStoppedWith, IsStoppedUnopened};
 
 use crate::fault::ProgramFault;
@@ -24,7 +26,10 @@ pub const BUFFER_SIZE: usize = 262_144;
 
 /// What is done with a network on its way from a source to a sink.
 pub trait Passage: Drop {
-    ghost use Rattle.std.specs.Prelude.{◌≡◌, ℕ, List, [], Option, false, IfOk};
+    ghost use Rattle.std.specs.Prelude.{◌≡◌, ℕ, List, [], Option, false, IfOk, IfErr};
+    ghost use Rattle.ts_packet.specs.declared.sink.PutFault.{PutFault};
+    ghost use Rattle.packet_runs.specs.Devices.{OfPackets, OfPut, OfSending};
+    ghost use Rattle.passages.specs.declared.fault.ProgramFault.{ProgramFault};
     ghost use Rattle.passages.specs.Runs.{PassesAll};
 
     /// What is told of a run that went through.
@@ -36,6 +41,16 @@ pub trait Passage: Drop {
     /// Of a network of these bytes these packets go out, and this is the report.
     ghost passes: { Self → List ℕ → List (List ℕ) → Self.Report → Type 0 };
 
+    /// It stopped with this fault: what that says of the network's bytes, where they are known, and of the packets that are out.
+    ghost stops: { Self → ProgramFault → Option (List ℕ) → OfPackets → OfPut → OfSending → Type 0 };
+
+    /// What it says is said in any form of what is known of the packets that are out.
+    ghost stops_so: { (passage : Self) (fault : ProgramFault) (input : Option (List ℕ)) (is_out is_out' : OfPackets) (fails fails' : OfPut)
+        (unsent unsent' : OfSending) → ((ps : List (List ℕ)) → is_out ps → is_out' ps)
+        → ((ps : List (List ℕ)) (p : List ℕ) (f : PutFault) → fails ps p f → fails' ps p f)
+        → ((ps : List (List ℕ)) (f : PutFault) → unsent ps f → unsent' ps f)
+        → stops passage fault input is_out fails unsent → stops passage fault input is_out' fails' unsent' };
+
     /// Passes the network on.
     fn pass<P: PausingPackets, K: GatheringSink>(
         self,
@@ -46,6 +61,9 @@ pub trait Passage: Drop {
         requires ready { is_ready self }
         ensures done { (start : Option (List ℕ)) → K.holds out.old start []
             → IfOk result (PassesAll (passes self) (P.left network.old) (K.holds out.new start)) }
+        ensures stopped { (start : Option (List ℕ)) → K.holds out.old start []
+            → IfErr result (λ fault. stops self fault (P.left network.old) (K.holds out.new start) (K.fails out.new start)
+            (K.fails_to_send out.new start)) }
         ensures reads { P.leads network.old network.new }
         ensures leads { K.leads out.old out.new };
 }
@@ -68,6 +86,9 @@ pub fn pass_watched<S: Passage, P: PausingPackets, K: GatheringSink>(
     requires ready { S.is_ready passage }
     ensures done { (start : Option (List ℕ)) → K.holds out.old start []
         → IfOk result.outcome (PassesAll (S.passes passage) (P.left network.old) (K.holds out.new start)) }
+    ensures stopped { (start : Option (List ℕ)) → K.holds out.old start []
+        → IfErr result.outcome (λ fault. S.stops passage fault (P.left network.old) (K.holds out.new start) (K.fails out.new start)
+        (K.fails_to_send out.new start)) }
     ensures reads { P.leads network.old network.new }
     ensures leads { K.leads out.old out.new }
 {
@@ -106,6 +127,8 @@ fn run_to_blocks<S: Passage, P: PausingPackets, O: Write + Drop>(
     requires ready { S.is_ready passage }
     ensures done { IfOk result (λ f. IfOk f.outcome (PassesAll (S.passes passage) (P.left network.old)
         (Written (O.contents f.output.inner) (O.contents output)))) }
+    ensures stopped { IfOk result (λ f. IfErr f.outcome (λ fault. f.output.last_flush ≡ Done
+        → StopsAtDevice (S.stops passage fault) (P.left network.old) (O.contents output) (O.contents f.output.inner))) }
 {
     let Ok(buffer) = BufWriter::with_capacity(alloc, BUFFER_SIZE, Attended::new(output)) else {
         return Err(AllocError);

@@ -1,8 +1,8 @@
 use Rattle.std.proofs.Common.{◌≡◌, rules, refl, [], ◌++◌, ◌∙◌, false, Some}
 use Rattle.std.specs.Prelude.{IfSome}
 use Rattle.std.specs.Io.Buffered.{writer_contents}
-use Rattle.packet_lines.specs.Lines.{lines_of}
-use Rattle.passages.proofs.PassageLemmas.{buffered_none, finished}
+use Rattle.packet_lines.specs.Lines.{line_of, lines_of}
+use Rattle.passages.proofs.PassageLemmas.{buffered_none, finished, stopped}
 use Rattle.passages.proofs.line_runs.run_to_lines.Goals as goal
 
 pub returns : goal.returns
@@ -15,7 +15,11 @@ returns g c =
     let inner = c.into_inner.ensures in
     let same : c.into_inner.result ≡ c.pass_watched-outcome.new.out.target.now.device.inner = search (rules, inner, named) in
     let kept = rw same at c.finish_buffer-outcome.ensures.kept in
+    let emptied = rw same at c.finish_buffer-outcome.ensures.emptied in
+    let halted = c.pass_watched-outcome.ensures.stopped start held in
     record {
       done = finished _ _ start (writer_contents (λ a. g.W.Write.contents a.inner) c.pass_watched-outcome.new.out.target.now.device.inner) _ lines_of c.pass_watched-outcome.new.out.is_broken c.pass_watched-outcome.result.outcome _ done
           c.finish_buffer-outcome.ensures.first c.finish_buffer-outcome.ensures.done kept;
+      stopped = stopped _ (g.S.Passage.stops_so c.args.passage) _ start (writer_contents (λ a. g.W.Write.contents a.inner) c.pass_watched-outcome.new.out.target.now.device.inner) _ lines_of line_of c.pass_watched-outcome.new.out.is_broken _ c.pass_watched-outcome.result.outcome _ halted
+          c.finish_buffer-outcome.ensures.well emptied;
     }

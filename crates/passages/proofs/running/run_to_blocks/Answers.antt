@@ -2,7 +2,7 @@ use Rattle.std.proofs.Common.{◌≡◌, rules, refl, [], ◌++◌, ◌∙◌, f
 use Rattle.std.specs.Prelude.{IfSome}
 use Rattle.std.specs.Io.Buffered.{writer_contents}
 use Rattle.ts_packet.specs.Packets.{bytes_of}
-use Rattle.passages.proofs.PassageLemmas.{buffered_none, finished}
+use Rattle.passages.proofs.PassageLemmas.{buffered_none, finished, stopped}
 use Rattle.passages.proofs.running.run_to_blocks.Goals as goal
 
 pub returns : goal.returns
@@ -15,7 +15,11 @@ returns g c =
     let inner = c.into_inner.ensures in
     let same : c.into_inner.result ≡ c.pass_watched-outcome.new.out.target.now.device.inner = search (rules, inner, named) in
     let kept = rw same at c.finish_buffer-outcome.ensures.kept in
+    let emptied = rw same at c.finish_buffer-outcome.ensures.emptied in
+    let halted = c.pass_watched-outcome.ensures.stopped start held in
     record {
       done = finished _ _ start (writer_contents (λ a. g.O.Write.contents a.inner) c.pass_watched-outcome.new.out.target.now.device.inner) _ bytes_of c.pass_watched-outcome.new.out.is_broken c.pass_watched-outcome.result.outcome _ done
           c.finish_buffer-outcome.ensures.first c.finish_buffer-outcome.ensures.done kept;
+      stopped = stopped _ (g.S.Passage.stops_so c.args.passage) _ start (writer_contents (λ a. g.O.Write.contents a.inner) c.pass_watched-outcome.new.out.target.now.device.inner) _ bytes_of (λ p. p) c.pass_watched-outcome.new.out.is_broken _ c.pass_watched-outcome.result.outcome _ halted
+          c.finish_buffer-outcome.ensures.well emptied;
     }

@@ -1,5 +1,5 @@
 use Rattle.passages.specs.Runs.{AsksBy}
-use Rattle.passages.proofs.PassageLemmas.{plays_so}
+use Rattle.passages.proofs.PassageLemmas.{asked_told, plays_so, plays_stop_so}
 use Rattle.ad_library.specs.Library.{held}
 use Rattle.passages.proofs.kinds.ChainingPassage.pass.Goals.{in-Ok-play, in-Err}
 use Rattle.passages.proofs.kinds.ChainingPassage.pass.Goals as goal
@@ -9,4 +9,11 @@ returns-clause-done g c = λ start is_held. elim c.match-play.branch [
   | in-Ok-play w ↦ rw w.result-is (plays_so _ (λ ending ts rs. AsksBy c.args.self.asker.now ts) (λ ending ts rs few x. x.0) c.args.self.options.now.config (held c.args.self.library.now) _ _ _
       (w.in-Ok-play.ensures.done c.args.self.options.now.config start c.in-Ok.ensures is_held))
   | in-Err w ↦ rw w.result-is tt
+]
+
+pub returns-clause-stopped : goal.returns-clause-stopped
+returns-clause-stopped g c = λ start is_held. elim c.match-play.branch [
+  | in-Ok-play w ↦ rw w.result-is tt
+  | in-Err w ↦ rw (w.result-is, w.told_fault.ensures) (asked_told w.in-Err.fault _ _ (plays_stop_so _ (λ ending ts rs. AsksBy c.args.self.asker.now ts) (λ ending ts rs few x. x.0)
+      c.args.self.options.now.config (held c.args.self.library.now) w.in-Err.fault _ _ _ _ (w.in-Err.ensures.stop c.args.self.options.now.config start c.in-Ok.ensures is_held)))
 ]

@@ -1,7 +1,8 @@
 use Rattle.chain_services.specs.Runs.{terms_by}
 use Rattle.passages.specs.Runs.{AsksBy}
 use Rattle.chain_services.proofs.ManyLemmas.{many_served}
-use Rattle.passages.proofs.ServingLemmas.{serves_so}
+use Rattle.passages.proofs.PassageLemmas.{asked_told}
+use Rattle.passages.proofs.ServingLemmas.{serves_so, serves_stop_so}
 use Rattle.passages.proofs.kinds.ServingPassage.pass.Goals as goal
 
 pub serve-requires-clause-libraries : goal.serve-requires-clause-libraries
@@ -10,3 +11,7 @@ serve-requires-clause-libraries g c = many_served c.args.self.services c.args.se
 pub returns-in-Ok-clause-done : goal.returns-in-Ok-clause-done
 returns-in-Ok-clause-done g c = λ start is_held. serves_so _ (λ ending ts rs. AsksBy c.args.self.asker.now ts) (λ ending ts rs few x. x.0) (terms_by c.args.self.configs.now c.args.self.libraries.now) _ _ _
     (c.in-Ok.ensures.done c.args.self.configs.now start c.requires.ready.0 is_held)
+
+pub returns-in-Err-clause-stopped : goal.returns-in-Err-clause-stopped
+returns-in-Err-clause-stopped g c = λ start is_held. rw c.told_fault.ensures (asked_told c.in-Err.fault _ _ (serves_stop_so _ (λ ending ts rs. AsksBy c.args.self.asker.now ts) (λ ending ts rs few x. x.0)
+    (terms_by c.args.self.configs.now c.args.self.libraries.now) c.in-Err.fault _ _ _ _ (c.in-Err.ensures.stop c.args.self.configs.now start c.requires.ready.0 is_held)))
