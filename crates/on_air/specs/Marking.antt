@@ -1,10 +1,13 @@
 -- What is kept of the packets of a stretch, newest first, and what becomes of the next one.
-use Rattle.std.specs.Prelude.{◌≡◌, ℕ, List, [], ◌∷◌, Bool, true, false, ◌||◌, ◌&&◌, slice_index_or}
+use Rattle.std.specs.Prelude.{◌≡◌, ℕ, List, [], ◌∷◌, Bool, true, false, ◌||◌, ◌&&◌, nat_lt, None, Some, slice_index_or}
 use Rattle.ts_packet.specs.Fields.{alike}
 use Rattle.program_follower.specs.declared.purpose.Purpose.{Purpose}
-use Rattle.on_air.specs.Stretches.{Entry, Judgement, Judged, Passed, Damaged, Jumped, Verdict as Verdict', Is, BeginsNew, verdict, in_damaged, jumped_last, last_payload, repeats_jumped}
+use Rattle.program_follower.specs.Faults.{on_cue}
+use Rattle.on_air.specs.Stretches.{Entry, Judgement, Judged, Passed, Damaged, Jumped, Verdict as Verdict', Is, BeginsNew, verdict, stream_at, start_at, in_damaged, jumped_last, last_payload, repeats_jumped}
 use Rattle.on_air.specs.declared.marks.Verdict.{Verdict}
 use Rattle.on_air.specs.declared.marks.Verdict.TheVariants as verdicts
+use Rattle.on_air.specs.declared.marks.Standing.{Standing}
+use Rattle.on_air.specs.declared.marks.Standing.TheVariants as standings
 use Rattle.on_air.specs.declared.marks.StreamMarks.{StreamMarks}
 use Rattle.on_air.specs.declared.marks.Marks.{Marks}
 
@@ -41,3 +44,16 @@ abbrev pub is_judged_by : Verdict → Bool
 is_judged_by verdicts.Judged = true
 is_judged_by verdicts.Unjudged = false
 is_judged_by (verdicts.BeginsAnew fault) = false
+
+-- THE PLACE of the next packet among those of its program: of a switched stream, with the unit that it would begin there; on the PID of the
+-- cues that are written; or beside
+abbrev pub StandsSo : Standing → Purpose → List ℕ → List Entry → Type 0
+StandsSo (standings.Streamed stream start) c p past = (stream_at c p past ≡ Some stream) × (start ≡ start_at c p past)
+StandsSo standings.Cued c p past = (stream_at c p past ≡ None) × ((c.writes_cues && on_cue c.cue_pid p) ≡ true)
+StandsSo standings.Beside c p past = (stream_at c p past ≡ None) × ((c.writes_cues && on_cue c.cue_pid p) ≡ false)
+
+-- a program has at most eight switched streams
+abbrev pub is_in_place : Standing → Bool
+is_in_place (standings.Streamed stream start) = nat_lt stream 8
+is_in_place standings.Cued = true
+is_in_place standings.Beside = true

@@ -9,6 +9,8 @@ mod running;
 mod tail;
 mod watch;
 
+pub use marks::{Marks, Standing, Verdict};
 pub use report::AirReport;
 pub use running::{inject_on_air, run_on_air, splice_on_air};
+pub use tail::MapTail;
 pub use watch::{AirWatch, Begun, Unwatched};

@@ -7,7 +7,7 @@ ghost use Rattle.std.specs.List.{list_any};
 ghost use Rattle.program_follower.specs.declared.purpose.Purpose.{Purpose};
 ghost use Rattle.program_follower.specs.Faults.{network_fault};
 ghost use Rattle.on_air.specs.Stretches.{Entry, as_read, has_time, stream_at, start_at, verdict, verdict_of};
-ghost use Rattle.on_air.specs.Marking.{keeps_any, Keeps, KeepsOf, Becomes, BecomesOf, is_judged_by};
+ghost use Rattle.on_air.specs.Marking.{keeps_any, Keeps, KeepsOf, Becomes, BecomesOf, StandsSo, is_judged_by, is_in_place};
 
 use chain_engine::AirStage;
 use program_follower::UnitStart;
@@ -27,7 +27,7 @@ pub(crate) enum Verdict {
 
 impl Verdict {
     /// It is that the packet is judged.
-    pub(crate) fn is_judged(self) -> bool
+    pub fn is_judged(self) -> bool
         ensures { result ≡ is_judged_by self }
     {
         match self {
@@ -145,9 +145,20 @@ impl StreamMarks {
     }
 }
 
+/// What a packet is among those of its program.
+#[derive(Clone, Copy, Debug, PartialEq, Eq, Drop)]
+pub enum Standing {
+    /// It is of the switched stream of this number, below 8, and would begin this unit there, scrambled or not.
+    Streamed(usize, Option<UnitStart>),
+    /// It is on the PID of the cues that are written: no packet of the network may be there.
+    Cued,
+    /// It is neither.
+    Beside,
+}
+
 /// What is kept of the packets of each switched stream that were left unjudged.
 #[derive(Clone, Copy, Debug, Drop)]
-pub(crate) struct Marks {
+pub struct Marks {
     streams: [StreamMarks; 8],
     /// Something is kept of some stream.
     has_any: bool,
@@ -155,7 +166,7 @@ pub(crate) struct Marks {
 
 impl Marks {
     /// Nothing is kept.
-    pub(crate) fn new() -> Marks
+    pub fn new() -> Marks
         ensures keeps { (c : Purpose) → Keeps result c [] }
         ensures none { result.has_any ≡ false }
     {
@@ -163,6 +174,16 @@ impl Marks {
             streams: [StreamMarks::new(); 8],
             has_any: false,
         }
+    }
+
+    /// Something is kept of some stream. Else a packet of which nothing is wrong is judged, and nothing is kept behind it either.
+    #[inline(always)]
+    pub fn has_any(&self) -> bool
+        ensures value { result ≡ self.now.has_any }
+        ensures judged { (c : Purpose) (past : List Entry) (p : List ℕ) → Keeps self.now c past → result ≡ false
+            → network_fault c p (as_read past) ≡ None → Becomes Verdict.Judged self.now c p past }
+    {
+        self.has_any
     }
 
     /// What becomes of the next packet of the stage.
@@ -190,15 +211,36 @@ impl Marks {
         ensures { (c : Purpose) (past : List Entry) → Keeps self.old c past → S.follows stage.now c (as_read past)
             → fault ≡ network_fault c packet.now (as_read past) → Becomes result self.new c packet.now past }
     {
-        let Some(index) = stage.stream_of(packet) else {
-            return match fault {
-                None => Verdict::Judged,
-                Some(NetworkFault::CuePidUsed) if stage.is_cue(packet) => Verdict::Unjudged,
-                Some(fault) => Verdict::BeginsAnew(fault),
-            };
+        let standing = match stage.stream_of(packet) {
+            Some(stream) => Standing::Streamed(stream, stage.start_at(stream, packet)),
+            None if stage.is_cue(packet) => Standing::Cued,
+            None => Standing::Beside,
         };
-        let start = stage.start_at(index, packet);
-        let verdict = self.streams[index].take(packet, start, fault);
+        self.judge_standing(packet, standing, fault)
+    }
+
+    /// What becomes of the next packet of a program's stretch, which is this among its packets, and of which this is wrong.
+    pub fn judge_standing(
+        &mut self,
+        packet: &Packet,
+        standing: Standing,
+        fault: Option<NetworkFault>,
+    ) -> Verdict
+        requires { is_in_place standing ≡ true }
+        ensures { (c : Purpose) (past : List Entry) → Keeps self.old c past → StandsSo standing c packet.now past
+            → fault ≡ network_fault c packet.now (as_read past) → Becomes result self.new c packet.now past }
+    {
+        let (stream, start) = match standing {
+            Standing::Streamed(stream, start) => (stream, start),
+            Standing::Cued if fault == Some(NetworkFault::CuePidUsed) => return Verdict::Unjudged,
+            Standing::Cued | Standing::Beside => {
+                return match fault {
+                    None => Verdict::Judged,
+                    Some(fault) => Verdict::BeginsAnew(fault),
+                };
+            }
+        };
+        let verdict = self.streams[stream].take(packet, start, fault);
         self.has_any = self.is_any();
         verdict
     }

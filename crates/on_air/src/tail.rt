@@ -11,7 +11,7 @@ const MOST: usize = 32;
 /// The packets that have brought the section on the PID of the map that is not whole yet. Where a stretch ends with them, they go out as they
 /// came. It takes no memory.
 #[derive(Drop)]
-pub(crate) struct MapTail {
+pub struct MapTail {
     /// The PID of the map, behind the PAT.
     pid: Option<Pid>,
     assembler: Assembler,
@@ -25,7 +25,7 @@ pub(crate) struct MapTail {
 
 impl MapTail {
     /// No packet has come, and the PAT neither.
-    pub(crate) fn new() -> MapTail {
+    pub fn new() -> MapTail {
         MapTail {
             pid: None,
             assembler: Assembler::new(),
@@ -38,19 +38,19 @@ impl MapTail {
 
     /// The PID of the map is not known yet.
     #[inline(always)]
-    pub(crate) fn is_before_pat(&self) -> bool {
+    pub fn is_before_pat(&self) -> bool {
         self.pid.is_none()
     }
 
     /// The PAT has come, and gives the map this PID.
-    pub(crate) fn begin(&mut self, pid: Pid) {
+    pub fn begin(&mut self, pid: Pid) {
         self.pid = Some(pid);
         self.follower = Follower::new(pid);
     }
 
     /// Takes the next packet that is judged.
     #[inline(always)]
-    pub(crate) fn take(&mut self, packet: &Packet) {
+    pub fn take(&mut self, packet: &Packet) {
         match self.pid {
             Some(pid) if packet.is_on(pid) => self.take_of_map(packet),
             Some(_) | None => {}
@@ -91,7 +91,7 @@ impl MapTail {
     }
 
     /// Puts the packets that have brought a part of a section, as they came; none where there are more than 32.
-    pub(crate) fn put<K: PacketSink>(&self, out: &mut K) -> Result<(), PutFault> {
+    pub fn put<K: PacketSink>(&self, out: &mut K) -> Result<(), PutFault> {
         if self.count > MOST {
             return Ok(());
         }
