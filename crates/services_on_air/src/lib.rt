@@ -15,6 +15,3 @@ mod watch;
 pub use running::run_services_on_air;
 pub use services::AirServices;
 pub use watch::{ServiceBegun, ServicesWatch};
-
-#[test]
-fn nothing() {}
