@@ -20,7 +20,7 @@ use std::alloc::Allocator;
 const SUCCESS: u16 = 100;
 
 /// The `DPI_PID_index` of a multiple operation, also of one that breaks the syntax behind it; `None` of a single operation.
-fn index_of(message: &Result<Message<'_>, BadMessage>) -> Option<u16>
+pub fn index_of(message: &Result<Message<'_>, BadMessage>) -> Option<u16>
     ensures { (index : ℕ) → is_for index (reading_of message.now) ≡ is_index index result }
 {
     match message {
@@ -52,7 +52,7 @@ fn ask_own(
 }
 
 /// The counts with one message more, which was answered so.
-fn counted(before: MessageCounts, reply: &Reply) -> MessageCounts
+pub fn counted(before: MessageCounts, reply: &Reply) -> MessageCounts
     ensures { (rs : List Reply) → CountsReplies before.messages before.accepted before.refused rs
         → CountsReplies result.messages result.accepted result.refused (reply.now ∷ rs) }
 {

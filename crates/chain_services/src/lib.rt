@@ -18,7 +18,9 @@ mod running;
 mod services;
 mod sharing;
 
+pub use desk::{counted, index_of};
 pub use fault::ServiceFault;
+pub use nowhere::Nowhere;
 pub use report::{ServiceEvents, ServiceReport};
 pub use running::run_services;
 pub use services::Services;

@@ -4,7 +4,7 @@ use ts_packet::{Packet, PacketSink, PutFault};
 
 /// Takes every packet, and puts it nowhere: what a service sends for the packets of others.
 #[derive(Drop)]
-pub(crate) struct Nowhere;
+pub struct Nowhere;
 
 impl PacketSink for Nowhere {
     ghost use Rattle.std.specs.Prelude.{false};

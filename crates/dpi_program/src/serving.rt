@@ -223,13 +223,15 @@ where
             let watch = &mut TellingInTurn::new(&teller);
             let reading = TellingInTurn::new(&teller);
             run_on_air(
-                alloc, is_verbose, is_live, input, asker, services, libraries, watch, reading, output,
+                alloc, is_verbose, is_live, input, asker, services, libraries, watch, reading,
+                output,
             )
         }
         None => {
             let watch = &mut Unwatched;
             run_on_air(
-                alloc, is_verbose, is_live, input, asker, services, libraries, watch, Unwatched, output,
+                alloc, is_verbose, is_live, input, asker, services, libraries, watch, Unwatched,
+                output,
             )
         }
     }

@@ -16,7 +16,7 @@ use ts_packet::Packet;
 
 /// What becomes of a packet.
 #[derive(Clone, Copy, Debug, PartialEq, Eq, Drop)]
-pub(crate) enum Verdict {
+pub enum Verdict {
     /// It is judged.
     Judged,
     /// It is left unjudged.

@@ -130,13 +130,13 @@ impl<'a, W> TellingInTurn<'a, W> {
 impl<W: Write> AirWatch for TellingInTurn<'_, W> {
     fn begun(&mut self, begun: &Begun) {
         if let Ok(mut teller) = self.teller.try_borrow_mut() {
-            teller.begun(begun);
+            AirWatch::begun(&mut *teller, begun);
         }
     }
 
     fn unjudged(&mut self, packet: u64) {
         if let Ok(mut teller) = self.teller.try_borrow_mut() {
-            teller.unjudged(packet);
+            AirWatch::unjudged(&mut *teller, packet);
         }
     }
 }

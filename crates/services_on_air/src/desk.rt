@@ -2,35 +2,26 @@
 
 use crate::service::AirService;
 use chain_engine::Judge;
+use chain_services::{counted, index_of};
 use injector::{MessageCounts, Requests};
-use scte104_codec::operation_ids::INJECT_RESPONSE;
 use scte104_codec::{BadMessage, Message, Reply};
 use std::alloc::Allocator;
 
-/// `result` of a reply: success.
-const SUCCESS: u16 = 100;
-
-/// The `DPI_PID_index` of a multiple operation, also of one that breaks the syntax behind it; `None` of a single operation.
-fn index_of(message: &Result<Message<'_>, BadMessage>) -> Option<u16> {
-    match message {
-        Ok(Message::Multi(multi)) => Some(multi.head.index),
-        Ok(_) => None,
-        Err(bad) => bad.multi.then_some(bad.head.index),
-    }
-}
-
-/// The counts with one message more, which was answered so.
-fn counted(before: MessageCounts, reply: &Reply) -> MessageCounts {
-    let mut counts = before;
-    counts.messages = counts.messages.saturating_add(1);
-    if reply.op == INJECT_RESPONSE {
-        if reply.result == SUCCESS {
-            counts.accepted = counts.accepted.saturating_add(1);
-        } else {
-            counts.refused = counts.refused.saturating_add(1);
+/// Has the service with this index judge the message, where there is one.
+fn ask_own(
+    services: &mut [AirService],
+    index: u16,
+    message: Result<Message<'_>, BadMessage>,
+) -> Option<Reply> {
+    match services.split_first_mut() {
+        None => None,
+        Some((service, others)) => {
+            if index == service.config().index {
+                return Some(service.ask(message));
+            }
+            ask_own(others, index, message)
         }
     }
-    counts
 }
 
 /// The services, in their order.
@@ -41,21 +32,18 @@ pub(crate) struct AirDesk<M: Allocator> {
     pub(crate) none: Requests,
     /// How many messages were judged.
     pub(crate) counts: MessageCounts,
-    /// A message was judged since the last packet: all services take the next one, since cues may be due before it.
-    pub(crate) has_heard: bool,
 }
 
 impl<M: Allocator> AirDesk<M> {
     /// Has the service that the message is for judge it.
     fn judge(&mut self, message: Result<Message<'_>, BadMessage>) -> Reply {
-        if let Some(index) = index_of(&message) {
-            for service in self.services.as_mut_slice() {
-                if service.config().index == index {
-                    return service.ask(message);
-                }
-            }
+        match index_of(&message) {
+            None => self.none.ask(message),
+            Some(index) => match ask_own(self.services.as_mut_slice(), index, message) {
+                Some(reply) => reply,
+                None => self.none.ask(message),
+            },
         }
-        self.none.ask(message)
     }
 }
 
@@ -66,7 +54,6 @@ impl<M: Allocator> Judge for AirDesk<M> {
     fn ask(&mut self, message: Result<Message<'_>, BadMessage>) -> Reply {
         let reply = self.judge(message);
         self.counts = counted(self.counts, &reply);
-        self.has_heard = true;
         reply
     }
 }

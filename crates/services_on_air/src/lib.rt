@@ -1,6 +1,6 @@
 //! Several services in one stream, on air: no fault of the network ends the run, and a fault of one service leaves the others as they are.
-//! It stands on `on_air`, for what becomes of a packet that is at fault, on `injector` and `splice_switch`, for what one program's service
-//! does, and on `chain_services`, for what services are refused and what is reported.
+//! It stands on `chain_engine`, for what one program's service does, on `on_air`, for what becomes of a packet that is at fault, and on
+//! `chain_services`, for what services are refused, whose a message is, and what is reported.
 #![tactic(auto)]
 
 mod desk;
@@ -8,8 +8,6 @@ mod running;
 mod service;
 mod services;
 mod sharing;
-mod takers;
-mod unjudged;
 mod watch;
 
 pub use running::run_services_on_air;

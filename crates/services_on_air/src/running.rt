@@ -20,10 +20,30 @@ fn of_sink(fault: PutFault) -> RunFault
     RunFault::Feed(FeedFault::Sink(fault))
 }
 
+/// Sends what the sink keeps back, where the read of the next packet may wait, and reads that packet.
+fn read_next<P: PausingPackets, K: GatheringSink>(
+    network: &mut P,
+    next: &mut Packet,
+    out: &mut K,
+) -> Result<bool, RunFault>
+    ensures devices { IfErr result IsOfDevices }
+{
+    if network.next_may_wait() {
+        match out.send() {
+            Ok(()) => {}
+            Err(fault) => return Err(of_sink(fault)),
+        }
+    }
+    match network.read_packet(next) {
+        Ok(more) => Ok(more),
+        Err(fault) => Err(RunFault::Read(fault)),
+    }
+}
+
 /// Passes a network of several programmes on, with the advertisements of each in the breaks that are asked for it, as
 /// [`chain_services::run_services`] does, and goes on behind its faults. Each service has stretches of its own: a packet that is damaged for one
-/// goes out as it came, and behind any other fault a stretch of that service alone begins anew. Where two share a PID, the later one begins
-/// anew behind the packet that makes it known. There are as many libraries as services.
+/// goes out as it came, and with one that is at fault otherwise a stretch of that service alone begins anew. Where two services share a PID, a
+/// stretch of the later one begins anew behind the packet that makes it known. There are as many libraries as services.
 ///
 /// # Errors
 ///
@@ -48,20 +68,14 @@ where
     let mut services = services;
     let mut next = Packet::null();
     loop {
-        match network.read_packet(&mut next) {
+        match read_next(network, &mut next, out) {
             Ok(true) => {}
             Ok(false) => break,
-            Err(fault) => return Err(RunFault::Read(fault)),
+            Err(fault) => return Err(fault),
         }
         match services.pass(&next, automation, libraries, out, watch) {
             Ok(()) => {}
             Err(fault) => return Err(of_sink(fault)),
-        }
-        if network.next_may_wait() {
-            match out.send() {
-                Ok(()) => {}
-                Err(fault) => return Err(of_sink(fault)),
-            }
         }
     }
     match services.finish(libraries, out) {

@@ -1,31 +1,30 @@
 //! One service on air, stretch by stretch.
 
-use crate::unjudged::{Switching, marked, put_fault};
 use crate::watch::{ServiceBegun, ServicesWatch};
 use ad_library::AdLibrary;
 use arrayvec::ArrayVec;
-use chain_engine::RunFault;
-use injector::Injector;
+use chain_engine::{Judge, RunFault, Service, put_fault};
+use chain_services::Nowhere;
 use on_air::{MapTail, Marks, Standing, Verdict};
 use psi_tables::{Config, FeedFault};
 use scte104_codec::{BadMessage, Message, Reply};
-use splice_switch::{Switch, SwitchReport};
+use splice_switch::SwitchReport;
 use ts_packet::{Packet, PacketSink, Pid, PutFault};
 
 /// What a packet is that passed through a service, or through several.
 #[derive(Clone, Copy, Debug, PartialEq, Eq)]
 pub(crate) struct Passed {
-    /// It is on a PID of the service, and what that sends for it is out.
+    /// It is on a PID of a service, and what that sends for it is out.
     pub(crate) is_own: bool,
     /// The service whose it is left it unjudged, or where it is none's some service did.
     pub(crate) is_unjudged: bool,
-    /// With it more PIDs are known of a service.
+    /// With it more PIDs may be known of a service.
     pub(crate) learns: bool,
 }
 
 impl Passed {
-    /// Of no service.
-    pub(crate) fn none() -> Passed {
+    /// It is of no service, and was judged.
+    pub(crate) fn beside() -> Passed {
         Passed {
             is_own: false,
             is_unjudged: false,
@@ -35,98 +34,59 @@ impl Passed {
 
     /// What a packet is that passed through these, and then through those of which the other tells.
     pub(crate) fn joined(self, other: Passed) -> Passed {
+        let is_unjudged = if self.is_own {
+            self.is_unjudged
+        } else if other.is_own {
+            other.is_unjudged
+        } else {
+            self.is_unjudged || other.is_unjudged
+        };
         Passed {
             is_own: self.is_own || other.is_own,
-            is_unjudged: if self.is_own {
-                self.is_unjudged
-            } else if other.is_own {
-                other.is_unjudged
-            } else {
-                self.is_unjudged || other.is_unjudged
-            },
+            is_unjudged,
             learns: self.learns || other.learns,
         }
     }
 }
 
-/// A sink that takes packets and puts them nowhere: what a service sends for the packets of others.
-#[derive(Drop)]
-struct Nowhere;
-
-impl PacketSink for Nowhere {
-    ghost use Rattle.std.specs.Prelude.{false};
-    ghost use Rattle.ts_packet.specs.Transfers.{no_tally};
-    ghost use Rattle.ts_packet.proofs.CountLemmas.{well-later, well-refl};
-
-    ghost holds = { λ s start ps. Unit {0} };
-
-    ghost fails = { λ s start ps p f. ⊥ };
-
-    ghost is_broken = { λ s. false };
-
-    ghost counts = { λ s. no_tally };
-
-    ghost is_full = { λ s. false };
-
-    ghost leads = { λ s t. Unit {0} };
-
-    ghost leads_refl = { λ s. tt };
-
-    ghost leads_trans = { λ s t u h k. tt };
-
-    ghost leads_later = { λ s t h. well-later no_tally no_tally (well-refl no_tally) };
-
-    ghost leads_full = { λ s t h b. b };
-
-    ghost leads_spent = { λ s t h b. absurd (cc) };
-
-    #[inline(always)]
-    fn put(&mut self, _packet: &Packet) -> Result<(), PutFault> {
-        Ok(())
-    }
+/// A packet of the network and its number, from 0.
+#[derive(Clone, Copy)]
+pub(crate) struct Numbered<'a> {
+    pub(crate) packet: &'a Packet,
+    pub(crate) number: u64,
 }
 
-/// Where the run stands: the number of a packet of the network, from 0, and its PID.
-#[derive(Clone, Copy, Debug, PartialEq, Eq)]
-pub(crate) struct Place {
-    pub(crate) packet: u64,
-    pub(crate) pid: Pid,
-}
-
-/// One program's service on air: an injector, and a switch that is fed what it sends, of the packets of one stretch. Where the stretch ends both
-/// begin anew.
+/// One program's service on air. Where a stretch ends it begins anew, and is given the packets and messages of the next one.
 #[derive(Drop)]
 pub(crate) struct AirService {
-    config: Config,
-    injector: Injector,
-    switch: Switch,
+    service: Service,
     marks: Marks,
     tail: MapTail,
     /// Its stretch has no packet yet.
     is_empty: bool,
-    /// It leaves the packet that comes next unjudged.
+    /// Its stretch ends with the packet that came last: with that a service before it shares a PID.
+    shares: bool,
+    /// It leaves the packet unjudged that was settled last.
     is_unjudged: bool,
-    /// The number of its stretch, from 1.
-    stretch: u64,
+    /// How many stretches have a packet; the count stops at the greatest u64.
+    stretches: u64,
     /// What the stretches that ended counted, summed.
     ended: SwitchReport,
-    /// The events that stood at the end of these, and whose end had not come.
+    /// The events that stood at their ends, and whose end had not come.
     lost: u64,
 }
 
 impl AirService {
     /// A service that was given no message and no packet.
     pub(crate) fn new(config: Config) -> AirService {
-        let given = &config;
         AirService {
-            injector: Injector::new(*given),
-            switch: Switch::new(*given),
-            config: *given,
+            service: Service::new(config),
             marks: Marks::new(),
             tail: MapTail::new(),
             is_empty: true,
+            shares: false,
             is_unjudged: false,
-            stretch: 1,
+            stretches: 0,
             ended: SwitchReport::new(),
             lost: 0,
         }
@@ -134,7 +94,7 @@ impl AirService {
 
     /// What it is configured for.
     pub(crate) fn config(&self) -> Config {
-        self.config
+        self.service.config()
     }
 
     /// The events that stood at the ends of its stretches but the last, and whose end had not come.
@@ -142,149 +102,141 @@ impl AirService {
         self.lost
     }
 
-    /// How many stretches began anew.
+    /// How many of its stretches began behind another one.
     pub(crate) fn begun(&self) -> u64 {
-        self.stretch.saturating_sub(1)
+        self.stretches.saturating_sub(1)
+    }
+
+    /// Its stretch ends with the packet that came last.
+    pub(crate) fn shares(&self) -> bool {
+        self.shares
     }
 
     /// The PIDs that are known of its program in this stretch: that of its map first.
     pub(crate) fn pids(&self) -> ArrayVec<Pid, 9> {
-        self.injector.pids()
-    }
-
-    /// Its PAT has not come in this stretch: it follows all PIDs.
-    pub(crate) fn waits_for_pat(&self) -> bool {
-        self.injector.pid_count() == 0
-    }
-
-    /// Something of its program may be on the PID.
-    pub(crate) fn takes(&self, pid: Pid) -> bool {
-        !self.injector.overlooks_pid(pid)
+        self.service.pids()
     }
 
     /// Judges a message by the packets of its stretch, and answers it.
     pub(crate) fn ask(&mut self, message: Result<Message<'_>, BadMessage>) -> Reply {
-        self.injector.ask(message)
-    }
-
-    /// Its stretch has a packet from now on.
-    pub(crate) fn enter(&mut self) {
-        self.is_empty = false;
+        self.service.ask(message)
     }
 
     /// What becomes of the next packet in its stretch.
     #[inline(always)]
     fn judge(&mut self, packet: &Packet) -> Verdict {
-        let fault = self.injector.look(packet);
+        let fault = self.service.look(packet);
         if fault.is_none() && !self.marks.has_any() {
             return Verdict::Judged;
         }
-        let standing = match self.injector.stream_of(packet) {
-            Some(stream) => Standing::Streamed(stream, self.injector.start_at(stream, packet)),
-            None if packet.is_on(self.config.cue_pid) => Standing::Cued,
+        let standing = match self.service.stream_of(packet) {
+            Some(stream) => Standing::Streamed(stream, self.service.start_at(stream, packet)),
+            None if packet.is_on(self.service.config().cue_pid) => Standing::Cued,
             None => Standing::Beside,
         };
         self.marks.judge_standing(packet, standing, fault)
     }
 
     /// Settles what becomes of the next packet, before the messages that come before it are heard: a stretch that begins anew with it begins
-    /// here. Whether one does.
+    /// here.
     ///
     /// # Errors
     ///
     /// The sink's.
     pub(crate) fn settle<K: PacketSink, A: ServicesWatch>(
         &mut self,
-        packet: &Packet,
-        place: Place,
+        next: Numbered<'_>,
         library: &AdLibrary,
         out: &mut K,
         watch: &mut A,
-    ) -> Result<bool, PutFault> {
-        let first = self.judge(packet);
-        let fault = match first {
-            Verdict::BeginsAnew(fault) if !self.is_empty => fault,
-            _ => {
-                self.is_unjudged = first != Verdict::Judged;
-                return Ok(false);
+    ) -> Result<(), PutFault> {
+        if self.shares {
+            match self.begin_anew(library, out) {
+                Ok(()) => {}
+                Err(fault) => return Err(fault),
             }
-        };
-        self.begin_anew(
-            RunFault::Feed(FeedFault::Network(fault)),
-            place,
-            library,
-            out,
-            watch,
-        )?;
-        self.is_unjudged = self.judge(packet) != Verdict::Judged;
-        Ok(true)
+        }
+        let mut verdict = self.judge(next.packet);
+        if let Verdict::BeginsAnew(fault) = verdict {
+            if !self.is_empty {
+                self.tell(RunFault::Feed(FeedFault::Network(fault)), next, watch);
+                match self.begin_anew(library, out) {
+                    Ok(()) => {}
+                    Err(fault) => return Err(fault),
+                }
+                verdict = self.judge(next.packet);
+            }
+        }
+        self.is_unjudged = !verdict.is_judged();
+        if self.is_empty {
+            self.is_empty = false;
+            self.stretches = self.stretches.saturating_add(1);
+        }
+        Ok(())
+    }
+
+    /// Tells that its next stretch begins, and why.
+    fn tell<A: ServicesWatch>(&self, fault: RunFault, at: Numbered<'_>, watch: &mut A) {
+        watch.begun(&ServiceBegun {
+            program: self.service.config().program,
+            stretch: self.stretches.saturating_add(1),
+            packet: at.number,
+            pid: at.packet.pid(),
+            fault,
+        });
+    }
+
+    /// Ends its stretch with the packet that came last, since with that a service before it shares a PID.
+    pub(crate) fn part<A: ServicesWatch>(&mut self, last: Numbered<'_>, watch: &mut A) {
+        self.shares = true;
+        self.tell(RunFault::SharedPid, last, watch);
     }
 
     /// Ends its stretch, and begins one anew behind it: the packets that brought a part of a section of its map go out as they came, and nothing
     /// more of an advertisement that runs.
-    ///
-    /// # Errors
-    ///
-    /// The sink's.
     #[cold]
     #[inline(never)]
-    pub(crate) fn begin_anew<K: PacketSink, A: ServicesWatch>(
+    fn begin_anew<K: PacketSink>(
         &mut self,
-        fault: RunFault,
-        place: Place,
         library: &AdLibrary,
         out: &mut K,
-        watch: &mut A,
     ) -> Result<(), PutFault> {
-        self.ended = self.ended.plus(self.switch.report(library));
-        self.lost = self.lost.saturating_add(self.injector.open_count() as u64);
-        self.tail.put(out)?;
-        let given = &self.config;
-        self.injector = Injector::new(*given);
-        self.switch = Switch::new(*given);
+        self.ended = self.ended.plus(self.service.report(library));
+        self.lost = self.lost.saturating_add(self.service.open_count() as u64);
+        self.service = Service::new(self.service.config());
         self.marks = Marks::new();
-        self.tail = MapTail::new();
         self.is_empty = true;
-        self.stretch = self.stretch.saturating_add(1);
-        watch.begun(&ServiceBegun {
-            program: self.config.program,
-            stretch: self.stretch,
-            packet: place.packet,
-            pid: place.pid,
-            fault,
-        });
-        Ok(())
-    }
-
-    /// Passes a packet on through its injector and its switch: judged, or unjudged as it was settled.
-    fn pass_on<K: PacketSink>(
-        &mut self,
-        is_unjudged: bool,
-        packet: &Packet,
-        library: &AdLibrary,
-        out: &mut K,
-    ) -> Result<(), PutFault> {
-        let fed = if is_unjudged {
-            let mut switching = Switching::new(&mut self.switch, Some(packet), library, out);
-            self.injector.feed(&marked(packet), &mut switching)
-        } else {
-            let mut switching = Switching::new(&mut self.switch, None, library, out);
-            self.injector.feed(packet, &mut switching)
-        };
-        match fed {
-            Ok(()) => Ok(()),
-            Err(fault) => Err(put_fault(fault)),
-        }
+        self.shares = false;
+        let put = self.tail.put(out);
+        self.tail = MapTail::new();
+        put
     }
 
     /// Keeps a judged packet that brings a part of a section of its map.
     fn keep(&mut self, packet: &Packet) {
         if self.tail.is_before_pat() {
-            if let Some(pid) = self.injector.pids().first() {
+            if let Some(pid) = self.service.pids().first() {
                 self.tail.begin(*pid);
             }
         }
         self.tail.take(packet);
+    }
+
+    /// Passes the packet on that was settled. One that is left unjudged goes out as it came, but for its continuity_counter.
+    fn pass_to<K: PacketSink>(
+        &mut self,
+        packet: &Packet,
+        library: &AdLibrary,
+        out: &mut K,
+    ) -> Result<(), PutFault> {
+        if self.is_unjudged {
+            return self.service.pass_unjudged(packet, library, out);
+        }
+        self.keep(packet);
+        match self.service.pass_on(packet, library, out) {
+            Ok(()) => Ok(()),
+            Err(fault) => Err(put_fault(fault)),
+        }
     }
 
     /// Passes the packet on that was settled: what it sends goes out where the packet is on one of its PIDs, and is the packet else.
@@ -299,26 +251,24 @@ impl AirService {
         library: &AdLibrary,
         out: &mut K,
     ) -> Result<Passed, PutFault> {
-        let is_unjudged = self.is_unjudged;
-        self.is_unjudged = false;
-        let is_own = self.injector.owns(packet);
-        if !is_own && !is_unjudged && self.injector.overlooks(packet) {
-            return Ok(Passed::none());
+        let is_own = self.service.owns(packet);
+        if !is_own && !self.is_unjudged && self.service.overlooks(packet) {
+            return Ok(Passed::beside());
         }
-        if !is_unjudged {
-            self.keep(packet);
-        }
-        let known = self.injector.pid_count();
-        if is_own {
-            self.pass_on(is_unjudged, packet, library, out)?;
+        let known = self.service.pid_count();
+        let put = if is_own {
+            self.pass_to(packet, library, out)
         } else {
-            self.pass_on(is_unjudged, packet, library, &mut Nowhere)?;
+            self.pass_to(packet, library, &mut Nowhere)
+        };
+        match put {
+            Ok(()) => Ok(Passed {
+                is_own,
+                is_unjudged: self.is_unjudged,
+                learns: self.service.pid_count() != known,
+            }),
+            Err(fault) => Err(fault),
         }
-        Ok(Passed {
-            is_own,
-            is_unjudged,
-            learns: self.injector.pid_count() != known,
-        })
     }
 
     /// Puts what is left of the advertisements that run, and tells what became of the events of all its stretches.
@@ -331,7 +281,7 @@ impl AirService {
         library: &AdLibrary,
         out: &mut K,
     ) -> Result<SwitchReport, PutFault> {
-        match self.switch.finish(library, out) {
+        match self.service.finish(library, out) {
             Ok(last) => Ok(self.ended.plus(last)),
             Err(fault) => Err(put_fault(fault)),
         }

@@ -1,13 +1,12 @@
 //! The services of a run on air, packet by packet.
 
 use crate::desk::AirDesk;
-use crate::service::{AirService, Passed, Place};
-use crate::sharing::shares_with;
-use crate::takers::{ALL, Takers};
+use crate::service::{AirService, Numbered, Passed};
+use crate::sharing::part_each;
 use crate::watch::ServicesWatch;
 use ad_library::AdLibrary;
 use arrayvec::ArrayVec;
-use chain_engine::{Automation, RunFault, Talk};
+use chain_engine::{Automation, OutOfMemory, Talk};
 use chain_services::{ServiceEvents, ServiceFault, ServiceReport, Services};
 use injector::{MessageCounts, Requests};
 use on_air::AirReport;
@@ -16,31 +15,129 @@ use std::alloc::{Allocator, Global};
 use ts_packet::{Packet, PacketSink, PutFault};
 
 /// What turns a network of several programmes, whatever is wrong with it, and an automation's requests for each of them into the spliced stream.
-/// It takes all its memory when it is made: two times 65,535 bytes for the automation's messages, 8,192 for the PIDs, and some 100,000 bytes
-/// for each service.
+/// It takes all its memory when it is made: two times 65,535 bytes for the automation's messages, and some 100,000 bytes for each service.
 #[derive(Drop)]
 pub struct AirServices<M: Allocator = Global> {
     talk: Talk<M>,
     desk: AirDesk<M>,
-    takers: Takers,
     /// How many packets have come; the count stops at the greatest u64.
     packets: u64,
+    /// How many of them were left unjudged.
     unjudged: u64,
 }
 
-/// Services of these, which were given nothing.
-fn services_of<M: Allocator + Copy>(
-    alloc: M,
+/// Adds services of these, which were given nothing.
+fn add_services<M: Allocator>(
+    services: &mut Vec<AirService, M>,
     configs: &[Config],
-) -> Result<Vec<AirService, M>, ServiceFault> {
-    let mut services = Vec::new(alloc);
-    for config in configs {
-        match services.push(AirService::new(*config)) {
-            Ok(()) => {}
-            Err(_) => return Err(ServiceFault::OutOfMemory),
-        }
+) -> Result<(), OutOfMemory> {
+    let Some((config, others)) = configs.split_first() else {
+        return Ok(());
+    };
+    match services.push(AirService::new(*config)) {
+        Ok(()) => add_services(services, others),
+        Err(_) => Err(OutOfMemory),
     }
-    Ok(services)
+}
+
+/// Settles for each of these services what becomes of the next packet, before the messages that come before it are heard.
+///
+/// # Errors
+///
+/// The sink's.
+fn settle_each<K: PacketSink, A: ServicesWatch>(
+    services: &mut [AirService],
+    libraries: &[AdLibrary],
+    next: Numbered<'_>,
+    out: &mut K,
+    watch: &mut A,
+) -> Result<(), PutFault> {
+    let Some((service, others)) = services.split_first_mut() else {
+        return Ok(());
+    };
+    let Some((library, libraries)) = libraries.split_first() else {
+        return Ok(());
+    };
+    match service.settle(next, library, out, watch) {
+        Ok(()) => settle_each(others, libraries, next, out, watch),
+        Err(fault) => Err(fault),
+    }
+}
+
+/// Passes a packet on through these services, each with its library.
+///
+/// # Errors
+///
+/// The sink's.
+fn pass_each<K: PacketSink>(
+    services: &mut [AirService],
+    libraries: &[AdLibrary],
+    packet: &Packet,
+    out: &mut K,
+) -> Result<Passed, PutFault> {
+    let Some((service, others)) = services.split_first_mut() else {
+        return Ok(Passed::beside());
+    };
+    let Some((library, libraries)) = libraries.split_first() else {
+        return Ok(Passed::beside());
+    };
+    let one = match service.pass(packet, library, out) {
+        Ok(one) => one,
+        Err(fault) => return Err(fault),
+    };
+    match pass_each(others, libraries, packet, out) {
+        Ok(others) => Ok(one.joined(others)),
+        Err(fault) => Err(fault),
+    }
+}
+
+/// Puts what is left of the advertisements of these services, each with its library, and adds what became of their events.
+///
+/// # Errors
+///
+/// The sink's; `Failed` where there is no room for more events.
+fn finish_each<K: PacketSink>(
+    services: &mut [AirService],
+    libraries: &[AdLibrary],
+    events: &mut ArrayVec<ServiceEvents, 8>,
+    out: &mut K,
+) -> Result<(), PutFault> {
+    let Some((service, others)) = services.split_first_mut() else {
+        return Ok(());
+    };
+    let Some((library, libraries)) = libraries.split_first() else {
+        return Ok(());
+    };
+    let config = service.config();
+    let switch = match service.finish(library, out) {
+        Ok(switch) => switch,
+        Err(fault) => return Err(fault),
+    };
+    let one = ServiceEvents {
+        index: config.index,
+        program: config.program,
+        switch,
+    };
+    match events.try_push(one) {
+        Ok(()) => finish_each(others, libraries, events, out),
+        Err(_) => Err(PutFault::Failed),
+    }
+}
+
+/// How many stretches of these services began behind another one.
+fn begun_of(services: &[AirService]) -> u64 {
+    match services.split_first() {
+        None => 0,
+        Some((service, others)) => service.begun().saturating_add(begun_of(others)),
+    }
+}
+
+/// The events of these services that stood at the ends of their stretches but the last, and whose end had not come.
+fn lost_of(services: &[AirService]) -> u64 {
+    match services.split_first() {
+        None => 0,
+        Some((service, others)) => service.lost().saturating_add(lost_of(others)),
+    }
 }
 
 impl AirServices {
@@ -61,6 +158,7 @@ impl<M: Allocator + Copy> AirServices<M> {
     ///
     /// As for [`Services::new`].
     pub fn new_in(alloc: M, configs: &[Config]) -> Result<AirServices<M>, ServiceFault> {
+        // What is refused off air is refused on air.
         match Services::new_in(alloc, configs) {
             Ok(_) => {}
             Err(fault) => return Err(fault),
@@ -71,20 +169,22 @@ impl<M: Allocator + Copy> AirServices<M> {
         let Ok(talk) = Talk::new_in(alloc) else {
             return Err(ServiceFault::OutOfMemory);
         };
+        let mut services = Vec::new(alloc);
+        let Ok(()) = add_services(&mut services, configs) else {
+            return Err(ServiceFault::OutOfMemory);
+        };
         let desk = AirDesk {
-            services: services_of(alloc, configs)?,
+            services,
             none: Requests::new(first.index),
             counts: MessageCounts {
                 messages: 0,
                 accepted: 0,
                 refused: 0,
             },
-            has_heard: false,
         };
         Ok(AirServices {
             talk,
             desk,
-            takers: Takers::new(),
             packets: 0,
             unjudged: 0,
         })
@@ -92,104 +192,6 @@ impl<M: Allocator + Copy> AirServices<M> {
 }
 
 impl<M: Allocator> AirServices<M> {
-    /// Settles for each service of these bits what becomes of the next packet, before the messages that come before it are heard. Whether a
-    /// stretch begins anew.
-    ///
-    /// # Errors
-    ///
-    /// The sink's.
-    fn settle<K: PacketSink, A: ServicesWatch>(
-        &mut self,
-        takers: u8,
-        packet: &Packet,
-        libraries: &[AdLibrary],
-        out: &mut K,
-        watch: &mut A,
-    ) -> Result<bool, PutFault> {
-        let place = Place {
-            packet: self.packets,
-            pid: packet.pid(),
-        };
-        let mut begins = false;
-        let (mut left, mut libraries) = (takers, libraries);
-        for service in self.desk.services.as_mut_slice() {
-            let Some((library, others)) = libraries.split_first() else {
-                return Ok(begins);
-            };
-            let takes = left % 2 == 1;
-            left /= 2;
-            libraries = others;
-            if takes && service.settle(packet, place, library, out, watch)? {
-                begins = true;
-            }
-        }
-        Ok(begins)
-    }
-
-    /// Passes the packet on through the services of these bits.
-    ///
-    /// # Errors
-    ///
-    /// The sink's.
-    fn pass_through<K: PacketSink>(
-        &mut self,
-        takers: u8,
-        packet: &Packet,
-        libraries: &[AdLibrary],
-        out: &mut K,
-    ) -> Result<Passed, PutFault> {
-        let mut passed = Passed::none();
-        let (mut left, mut libraries) = (takers, libraries);
-        for service in self.desk.services.as_mut_slice() {
-            service.enter();
-            let Some((library, others)) = libraries.split_first() else {
-                return Ok(passed);
-            };
-            let takes = left % 2 == 1;
-            left /= 2;
-            libraries = others;
-            if takes {
-                passed = passed.joined(service.pass(packet, library, out)?);
-            }
-        }
-        Ok(passed)
-    }
-
-    /// Where two services share a PID, the later one begins a stretch anew behind this packet.
-    ///
-    /// # Errors
-    ///
-    /// The sink's.
-    fn part<K: PacketSink, A: ServicesWatch>(
-        &mut self,
-        packet: &Packet,
-        libraries: &[AdLibrary],
-        out: &mut K,
-        watch: &mut A,
-    ) -> Result<(), PutFault> {
-        let place = Place {
-            packet: self.packets,
-            pid: packet.pid(),
-        };
-        let services = self.desk.services.as_mut_slice();
-        let mut later = libraries;
-        let mut count = 0;
-        while count < services.len() {
-            let Some((library, others)) = later.split_first() else {
-                return Ok(());
-            };
-            later = others;
-            let (before, behind) = services.split_at_mut(count);
-            if let Some((service, _)) = behind.split_first_mut() {
-                if shares_with(service, before) {
-                    service.begin_anew(RunFault::SharedPid, place, library, out, watch)?;
-                }
-            }
-            count += 1;
-        }
-        Ok(())
-    }
-
     /// Hears the automation, and passes the next packet on, whatever is wrong with it.
     ///
     /// # Errors
@@ -203,24 +205,33 @@ impl<M: Allocator> AirServices<M> {
         out: &mut K,
         watch: &mut A,
     ) -> Result<(), PutFault> {
-        let takers = self.takers.of(packet);
-        let begins = self.settle(takers, packet, libraries, out, watch)?;
+        let next = Numbered {
+            packet,
+            number: self.packets,
+        };
+        let services = self.desk.services.as_mut_slice();
+        match settle_each(services, libraries, next, out, watch) {
+            Ok(()) => {}
+            Err(fault) => return Err(fault),
+        }
         self.talk.listen(&mut self.desk, automation);
-        let takers = if self.desk.has_heard { ALL } else { takers };
-        self.desk.has_heard = false;
-        let passed = self.pass_through(takers, packet, libraries, out)?;
+        let services = self.desk.services.as_mut_slice();
+        let passed = match pass_each(services, libraries, packet, out) {
+            Ok(passed) => passed,
+            Err(fault) => return Err(fault),
+        };
         if !passed.is_own {
-            out.put(packet)?;
+            match out.put(packet) {
+                Ok(()) => {}
+                Err(fault) => return Err(fault),
+            }
         }
         if passed.is_unjudged {
             watch.unjudged(self.packets);
             self.unjudged = self.unjudged.saturating_add(1);
         }
         if passed.learns {
-            self.part(packet, libraries, out, watch)?;
-        }
-        if begins || passed.learns {
-            self.takers.learn(self.desk.services.as_slice());
+            part_each(self.desk.services.as_mut_slice(), next, watch);
         }
         self.packets = self.packets.saturating_add(1);
         Ok(())
@@ -230,44 +241,29 @@ impl<M: Allocator> AirServices<M> {
     ///
     /// # Errors
     ///
-    /// The sink's.
+    /// The sink's; `Failed` where there are more than eight services.
     pub(crate) fn finish<K: PacketSink>(
         &mut self,
         libraries: &[AdLibrary],
         out: &mut K,
     ) -> Result<AirReport<ServiceReport>, PutFault> {
         let mut events = ArrayVec::new();
-        let (mut begun, mut lost) = (0u64, 0u64);
-        let mut libraries = libraries;
-        for service in self.desk.services.as_mut_slice() {
-            let Some((library, others)) = libraries.split_first() else {
-                return Err(PutFault::Failed);
-            };
-            libraries = others;
-            let config = service.config();
-            let one = ServiceEvents {
-                index: config.index,
-                program: config.program,
-                switch: service.finish(library, out)?,
-            };
-            match events.try_push(one) {
-                Ok(()) => {}
-                Err(_) => return Err(PutFault::Failed),
-            }
-            begun = begun.saturating_add(service.begun());
-            lost = lost.saturating_add(service.lost());
+        let services = self.desk.services.as_mut_slice();
+        match finish_each(services, libraries, &mut events, out) {
+            Ok(()) => {}
+            Err(fault) => return Err(fault),
         }
         let counts = self.desk.counts;
-        let report = ServiceReport {
-            messages: counts.messages,
-            accepted: counts.accepted,
-            refused: counts.refused,
-            services: events,
-        };
+        let services = self.desk.services.as_slice();
         Ok(AirReport {
-            report,
-            stretches: begun.saturating_add(self.packets.min(1)),
-            lost,
+            report: ServiceReport {
+                messages: counts.messages,
+                accepted: counts.accepted,
+                refused: counts.refused,
+                services: events,
+            },
+            stretches: begun_of(services).saturating_add(self.packets.min(1)),
+            lost: lost_of(services),
             unjudged: self.unjudged,
         })
     }

@@ -4,15 +4,15 @@ use chain_engine::RunFault;
 use on_air::Unwatched;
 use ts_packet::Pid;
 
-/// A stretch of a service that began anew.
+/// A stretch of a service that began behind another one.
 #[derive(Clone, Copy, Debug, PartialEq, Eq)]
 pub struct ServiceBegun {
     /// The number of the service's program.
     pub program: u16,
     /// The number of the stretch among those of the service: the first one has 1.
     pub stretch: u64,
-    /// The number of the packet in which the fault stands, among those of the network, from 0. The stretch begins with it; behind it where two
-    /// services share a PID.
+    /// The number of the packet in which the fault stands, among those of the network, from 0. The stretch begins with it; with the next packet
+    /// where two services share a PID.
     pub packet: u64,
     /// The PID of that packet.
     pub pid: Pid,
