@@ -24,3 +24,4 @@ pub use nowhere::Nowhere;
 pub use report::{ServiceEvents, ServiceReport};
 pub use running::run_services;
 pub use services::Services;
+pub use sharing::one_is_among;

@@ -24,7 +24,7 @@ fn is_among(pid: Pid, pids: &[Pid]) -> bool
 }
 
 /// One of these PIDs is the PID of the cues, or one of those.
-fn one_is_among(ours: &[Pid], cue_pid: Pid, theirs: &[Pid]) -> bool
+pub fn one_is_among(ours: &[Pid], cue_pid: Pid, theirs: &[Pid]) -> bool
     ensures { result ≡ list_any (λ pid. is_among pid (cue_pid ∷ theirs.now)) ours.now }
 {
     match ours.split_first() {

@@ -33,7 +33,8 @@ not be an input.
 
 With --on-air no fault of the network ends the run, and the report has five lines more; `dpi_chain inject --help` tells of them. Each
 program has stretches of its own: what is wrong with one program, or with a packet of it, leaves the others as they are. Where two
-services share a PID, the later one in the list begins anew behind the packet that makes it known.";
+services share a PID, the later one in the list begins anew behind the packet that makes it known. With --verbose the line of a new
+stretch begins with `service` and the program's number.";
 
 const SERVICES_EXAMPLE: &str =
     "Example, with a list whose two lines are `1 496 1 news.txt` and `2 497 2 films.txt`, and as lists of advertisements the files news.txt and

@@ -107,11 +107,6 @@ impl AirService {
         self.stretches.saturating_sub(1)
     }
 
-    /// Its stretch ends with the packet that came last.
-    pub(crate) fn shares(&self) -> bool {
-        self.shares
-    }
-
     /// The PIDs that are known of its program in this stretch: that of its map first.
     pub(crate) fn pids(&self) -> ArrayVec<Pid, 9> {
         self.service.pids()
@@ -186,10 +181,12 @@ impl AirService {
         });
     }
 
-    /// Ends its stretch with the packet that came last, since with that a service before it shares a PID.
+    /// Ends its stretch with the packet that came last, since with that a service before it shares a PID. It is told once.
     pub(crate) fn part<A: ServicesWatch>(&mut self, last: Numbered<'_>, watch: &mut A) {
+        if !self.shares {
+            self.tell(RunFault::SharedPid, last, watch);
+        }
         self.shares = true;
-        self.tell(RunFault::SharedPid, last, watch);
     }
 
     /// Ends its stretch, and begins one anew behind it: the packets that brought a part of a section of its map go out as they came, and nothing

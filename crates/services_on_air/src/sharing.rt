@@ -2,17 +2,23 @@
 
 use crate::service::{AirService, Numbered};
 use crate::watch::ServicesWatch;
+use chain_services::one_is_among;
 
 /// A PID that is known of the one is known of the other, or the PID of its cues.
 fn meets(one: &AirService, other: &AirService) -> bool {
-    let cue_pid = other.config().cue_pid;
-    let theirs = other.pids();
-    one.pids()
-        .iter()
-        .any(|pid| *pid == cue_pid || theirs.contains(pid))
+    let (ours, theirs) = (one.pids(), other.pids());
+    one_is_among(ours.as_slice(), other.config().cue_pid, theirs.as_slice())
 }
 
-/// Parts those of these services from the one before them that share a PID with it.
+/// These two share a PID.
+fn share_one(one: &AirService, other: &AirService) -> bool {
+    if meets(one, other) {
+        return true;
+    }
+    meets(other, one)
+}
+
+/// Ends the stretch of each of these services that shares a PID with the one before them.
 fn part_from<A: ServicesWatch>(
     one: &AirService,
     others: &mut [AirService],
@@ -22,14 +28,13 @@ fn part_from<A: ServicesWatch>(
     let Some((other, others)) = others.split_first_mut() else {
         return;
     };
-    if !other.shares() && (meets(one, other) || meets(other, one)) {
+    if share_one(one, other) {
         other.part(last, watch);
     }
     part_from(one, others, last, watch);
 }
 
-/// Where two of these services share a PID, ends the stretch of the later one with the packet that came last: it knows no PIDs then. One whose
-/// stretch has ended shares none.
+/// Where two of these services share a PID, ends the stretch of the later one with the packet that came last.
 pub(crate) fn part_each<A: ServicesWatch>(
     services: &mut [AirService],
     last: Numbered<'_>,
@@ -38,8 +43,6 @@ pub(crate) fn part_each<A: ServicesWatch>(
     let Some((one, others)) = services.split_first_mut() else {
         return;
     };
-    if !one.shares() {
-        part_from(one, others, last, watch);
-    }
     part_each(others, last, watch);
+    part_from(one, others, last, watch);
 }
