@@ -1,5 +1,9 @@
 //! Whose a message is.
 
+ghost use Rattle.std.specs.Prelude.{ℕ, List};
+ghost use Rattle.services_on_air.specs.Airing.{Airing};
+ghost use Rattle.services_on_air.specs.Standing.{AllSettled};
+
 use crate::service::AirService;
 use chain_engine::Judge;
 use chain_services::{counted, index_of};
@@ -12,7 +16,9 @@ fn ask_own(
     services: &mut [AirService],
     index: u16,
     message: Result<Message<'_>, BadMessage>,
-) -> Option<Reply> {
+) -> Option<Reply>
+    ensures { (p : List ℕ) (xs : List Airing) → AllSettled services.old p xs → AllSettled services.new p xs }
+{
     match services.split_first_mut() {
         None => None,
         Some((service, others)) => {
@@ -36,7 +42,9 @@ pub(crate) struct AirDesk<M: Allocator> {
 
 impl<M: Allocator> AirDesk<M> {
     /// Has the service that the message is for judge it.
-    fn judge(&mut self, message: Result<Message<'_>, BadMessage>) -> Reply {
+    fn judge(&mut self, message: Result<Message<'_>, BadMessage>) -> Reply
+        ensures { (p : List ℕ) (xs : List Airing) → AllSettled self.old.services.items p xs → AllSettled self.new.services.items p xs }
+    {
         match index_of(&message) {
             None => self.none.ask(message),
             Some(index) => match ask_own(self.services.as_mut_slice(), index, message) {
@@ -49,7 +57,9 @@ impl<M: Allocator> AirDesk<M> {
 
 /// A message goes to the service whose index it has, in the stretch that this is in.
 impl<M: Allocator> Judge for AirDesk<M> {
-    ghost judges = { λ old m reply new. Unit {0} };
+    ghost use Rattle.services_on_air.specs.Standing.{AirDeskJudges};
+
+    ghost judges = { λ old m reply new. AirDeskJudges old m reply new };
 
     fn ask(&mut self, message: Result<Message<'_>, BadMessage>) -> Reply {
         let reply = self.judge(message);

@@ -1,7 +1,10 @@
 //! Whole runs of several services on air.
 
-ghost use Rattle.std.specs.Prelude.{◌≡◌, false, IfErr};
+ghost use Rattle.std.specs.Prelude.{◌≡◌, ◌+◌, ◌<◌, ◌^◌, ℕ, List, [], length, cond, Some, false, IfOk, IfErr};
+ghost use Rattle.ts_packet.specs.Sources.{GivesInto};
+ghost use Rattle.psi_tables.specs.declared.config.Config.{Config};
 ghost use Rattle.on_air.specs.Plain.{IsOfDevices};
+ghost use Rattle.services_on_air.specs.Standing.{AirServicesStandFor, TellsServices};
 
 use crate::services::AirServices;
 use crate::watch::ServicesWatch;
@@ -26,6 +29,8 @@ fn read_next<P: PausingPackets, K: GatheringSink>(
     next: &mut Packet,
     out: &mut K,
 ) -> Result<bool, RunFault>
+    ensures read { IfOk result (λ more. GivesInto (P.left network.old) (P.left network.new) more next.new) }
+    ensures given { IfOk result (λ more. (P.given network.new ≡ P.given network.old + cond more 1 0) × (P.given network.new < 2 ^ 64)) }
     ensures devices { IfErr result IsOfDevices }
 {
     if network.next_may_wait() {
@@ -63,6 +68,8 @@ where
     K: GatheringSink,
     A: ServicesWatch,
     requires { P.is_broken network.old ≡ false }
+    ensures stretches { (cs : List Config) (bs : List ℕ) → AirServicesStandFor services cs [] → length libraries.now ≡ length cs
+        → P.left network.old ≡ Some bs → IfOk result (λ told. TellsServices told cs bs) }
     ensures devices { IfErr result IsOfDevices }
 {
     let mut services = services;

@@ -1,5 +1,18 @@
 //! One service on air, stretch by stretch.
 
+ghost use Rattle.std.specs.Prelude.{◌≡◌, ℕ, ◌||◌, if◌then◌else◌, List, [], ◌∷◌, true, false, OnOk, IfOk};
+ghost use Rattle.psi_tables.specs.declared.config.Config.{Config};
+ghost use Rattle.program_follower.specs.Purposes.{writing_cues};
+ghost use Rattle.psi_section.specs.Assembling.{capped};
+ghost use Rattle.scte104_codec.specs.Views.{reading_of};
+ghost use Rattle.chain_engine.specs.Followed.{HasFollowed};
+ghost use Rattle.chain_engine.specs.Judging.{ServiceJudges};
+ghost use Rattle.on_air.specs.Stretches.{Entry, as_read, first_entry};
+ghost use Rattle.on_air.specs.Marking.{Keeps, Becomes};
+ghost use Rattle.on_air.specs.AirRuns.{newest};
+ghost use Rattle.services_on_air.specs.Airing.{Airing, begins, next_of, known_of, owns, leaves, learns, behind_first};
+ghost use Rattle.services_on_air.specs.Standing.{AirStandsFor, BeginsBehind, IsSettled};
+
 use crate::watch::{ServiceBegun, ServicesWatch};
 use ad_library::AdLibrary;
 use arrayvec::ArrayVec;
@@ -24,7 +37,11 @@ pub(crate) struct Passed {
 
 impl Passed {
     /// It is of no service, and was judged.
-    pub(crate) fn beside() -> Passed {
+    pub(crate) fn beside() -> Passed
+        ensures own { result.is_own ≡ false }
+        ensures unjudged { result.is_unjudged ≡ false }
+        ensures learns { result.learns ≡ false }
+    {
         Passed {
             is_own: false,
             is_unjudged: false,
@@ -33,7 +50,12 @@ impl Passed {
     }
 
     /// What a packet is that passed through these, and then through those of which the other tells.
-    pub(crate) fn joined(self, other: Passed) -> Passed {
+    pub(crate) fn joined(self, other: Passed) -> Passed
+        ensures own { result.is_own ≡ (self.is_own || other.is_own) }
+        ensures unjudged { result.is_unjudged ≡ (if self.is_own then self.is_unjudged
+            else (if other.is_own then other.is_unjudged else (self.is_unjudged || other.is_unjudged))) }
+        ensures learns { result.learns ≡ (self.learns || other.learns) }
+    {
         let is_unjudged = if self.is_own {
             self.is_unjudged
         } else if other.is_own {
@@ -62,14 +84,14 @@ pub(crate) struct AirService {
     service: Service,
     marks: Marks,
     tail: MapTail,
-    /// Its stretch has no packet yet.
+    /// No packet has come.
     is_empty: bool,
     /// Its stretch ends with the packet that came last: with that a service before it shares a PID.
     shares: bool,
     /// It leaves the packet unjudged that was settled last.
     is_unjudged: bool,
-    /// How many stretches have a packet; the count stops at the greatest u64.
-    stretches: u64,
+    /// How many stretches began behind another one; the count stops at the greatest u64.
+    begun: u64,
     /// What the stretches that ended counted, summed.
     ended: SwitchReport,
     /// The events that stood at their ends, and whose end had not come.
@@ -78,7 +100,9 @@ pub(crate) struct AirService {
 
 impl AirService {
     /// A service that was given no message and no packet.
-    pub(crate) fn new(config: Config) -> AirService {
+    pub(crate) fn new(config: Config) -> AirService
+        ensures { AirStandsFor result (begins config) }
+    {
         AirService {
             service: Service::new(config),
             marks: Marks::new(),
@@ -86,14 +110,16 @@ impl AirService {
             is_empty: true,
             shares: false,
             is_unjudged: false,
-            stretches: 0,
+            begun: 0,
             ended: SwitchReport::new(),
             lost: 0,
         }
     }
 
     /// What it is configured for.
-    pub(crate) fn config(&self) -> Config {
+    pub(crate) fn config(&self) -> Config
+        ensures { result ≡ self.now.service.config }
+    {
         self.service.config()
     }
 
@@ -103,23 +129,34 @@ impl AirService {
     }
 
     /// How many of its stretches began behind another one.
-    pub(crate) fn begun(&self) -> u64 {
-        self.stretches.saturating_sub(1)
+    pub(crate) fn begun(&self) -> u64
+        ensures { result ≡ self.now.begun }
+    {
+        self.begun
     }
 
     /// The PIDs that are known of its program in this stretch: that of its map first.
-    pub(crate) fn pids(&self) -> ArrayVec<Pid, 9> {
+    pub(crate) fn pids(&self) -> ArrayVec<Pid, 9>
+        ensures { (a : Airing) → AirStandsFor self.now a → result.items ≡ known_of a }
+    {
         self.service.pids()
     }
 
     /// Judges a message by the packets of its stretch, and answers it.
-    pub(crate) fn ask(&mut self, message: Result<Message<'_>, BadMessage>) -> Reply {
+    pub(crate) fn ask(&mut self, message: Result<Message<'_>, BadMessage>) -> Reply
+        ensures { (p : List ℕ) (a : Airing) → IsSettled self.old p a → IsSettled self.new p a }
+    {
         self.service.ask(message)
     }
 
     /// What becomes of the next packet in its stretch.
     #[inline(always)]
-    fn judge(&mut self, packet: &Packet) -> Verdict {
+    fn judge(&mut self, packet: &Packet) -> Verdict
+        ensures becomes { (c : Config) (past : List Entry) → self.old.service.config ≡ c → Keeps self.old.marks (writing_cues c) past
+            → HasFollowed self.old.service c (as_read past) → Becomes result self.new.marks (writing_cues c) packet.now past }
+        ensures service { self.new.service ≡ self.old.service }
+        ensures counts { (self.new.is_empty ≡ self.old.is_empty) × (self.new.shares ≡ self.old.shares) × (self.new.begun ≡ self.old.begun) }
+    {
         let fault = self.service.look(packet);
         if fault.is_none() && !self.marks.has_any() {
             return Verdict::Judged;
@@ -130,6 +167,17 @@ impl AirService {
             None => Standing::Beside,
         };
         self.marks.judge_standing(packet, standing, fault)
+    }
+
+    /// Settles what becomes of a packet with which a stretch begins: it begins no other.
+    fn settle_first(&mut self, packet: &Packet)
+        ensures { (c : Config) (ss : List (List Entry)) → BeginsBehind self.old c ss
+            → IsSettled self.new packet.now (record { config = c; stretches = (first_entry (writing_cues c) packet.now ∷ []) ∷ ss; shares = false }) }
+    {
+        let verdict = self.judge(packet);
+        self.is_unjudged = !verdict.is_judged();
+        self.is_empty = false;
+        self.shares = false;
     }
 
     /// Settles what becomes of the next packet, before the messages that come before it are heard: a stretch that begins anew with it begins
@@ -144,29 +192,33 @@ impl AirService {
         library: &AdLibrary,
         out: &mut K,
         watch: &mut A,
-    ) -> Result<(), PutFault> {
-        if self.shares {
-            match self.begin_anew(library, out) {
-                Ok(()) => {}
-                Err(fault) => return Err(fault),
-            }
-        }
-        let mut verdict = self.judge(next.packet);
-        if let Verdict::BeginsAnew(fault) = verdict {
-            if !self.is_empty {
-                self.tell(RunFault::Feed(FeedFault::Network(fault)), next, watch);
-                match self.begin_anew(library, out) {
-                    Ok(()) => {}
-                    Err(fault) => return Err(fault),
-                }
-                verdict = self.judge(next.packet);
-            }
-        }
-        self.is_unjudged = !verdict.is_judged();
+    ) -> Result<(), PutFault>
+        ensures { (a : Airing) → AirStandsFor self.old a → OnOk result (IsSettled self.new next.packet.now (next_of next.packet.now a)) }
+    {
         if self.is_empty {
-            self.is_empty = false;
-            self.stretches = self.stretches.saturating_add(1);
+            self.settle_first(next.packet);
+            return Ok(());
         }
+        if !self.shares {
+            match self.judge(next.packet) {
+                Verdict::Judged => {
+                    self.is_unjudged = false;
+                    return Ok(());
+                }
+                Verdict::Unjudged => {
+                    self.is_unjudged = true;
+                    return Ok(());
+                }
+                Verdict::BeginsAnew(fault) => {
+                    self.tell(RunFault::Feed(FeedFault::Network(fault)), next, watch);
+                }
+            }
+        }
+        match self.begin_anew(library, out) {
+            Ok(()) => {}
+            Err(fault) => return Err(fault),
+        }
+        self.settle_first(next.packet);
         Ok(())
     }
 
@@ -174,7 +226,7 @@ impl AirService {
     fn tell<A: ServicesWatch>(&self, fault: RunFault, at: Numbered<'_>, watch: &mut A) {
         watch.begun(&ServiceBegun {
             program: self.service.config().program,
-            stretch: self.stretches.saturating_add(1),
+            stretch: self.begun.saturating_add(2),
             packet: at.number,
             pid: at.packet.pid(),
             fault,
@@ -182,7 +234,10 @@ impl AirService {
     }
 
     /// Ends its stretch with the packet that came last, since with that a service before it shares a PID. It is told once.
-    pub(crate) fn part<A: ServicesWatch>(&mut self, last: Numbered<'_>, watch: &mut A) {
+    pub(crate) fn part<A: ServicesWatch>(&mut self, last: Numbered<'_>, watch: &mut A)
+        ensures { (a : Airing) → AirStandsFor self.old a
+            → AirStandsFor self.new (record { config = a.config; stretches = a.stretches; shares = true }) }
+    {
         if !self.shares {
             self.tell(RunFault::SharedPid, last, watch);
         }
@@ -197,20 +252,26 @@ impl AirService {
         &mut self,
         library: &AdLibrary,
         out: &mut K,
-    ) -> Result<(), PutFault> {
+    ) -> Result<(), PutFault>
+        ensures { (c : Config) (ss : List (List Entry)) → self.old.service.config ≡ c → self.old.begun ≡ capped (behind_first ss)
+            → self.old.is_empty ≡ false → BeginsBehind self.new c ss }
+    {
         self.ended = self.ended.plus(self.service.report(library));
         self.lost = self.lost.saturating_add(self.service.open_count() as u64);
+        self.begun = self.begun.saturating_add(1);
         self.service = Service::new(self.service.config());
         self.marks = Marks::new();
-        self.is_empty = true;
-        self.shares = false;
         let put = self.tail.put(out);
         self.tail = MapTail::new();
         put
     }
 
     /// Keeps a judged packet that brings a part of a section of its map.
-    fn keep(&mut self, packet: &Packet) {
+    fn keep(&mut self, packet: &Packet)
+        ensures service { self.new.service ≡ self.old.service }
+        ensures others { (self.new.marks ≡ self.old.marks) × (self.new.is_unjudged ≡ self.old.is_unjudged)
+            × (self.new.is_empty ≡ self.old.is_empty) × (self.new.shares ≡ self.old.shares) × (self.new.begun ≡ self.old.begun) }
+    {
         if self.tail.is_before_pat() {
             if let Some(pid) = self.service.pids().first() {
                 self.tail.begin(*pid);
@@ -225,7 +286,10 @@ impl AirService {
         packet: &Packet,
         library: &AdLibrary,
         out: &mut K,
-    ) -> Result<(), PutFault> {
+    ) -> Result<(), PutFault>
+        ensures stands { (a : Airing) → IsSettled self.old packet.now a → OnOk result (AirStandsFor self.new a) }
+        ensures unjudged { self.new.is_unjudged ≡ self.old.is_unjudged }
+    {
         if self.is_unjudged {
             return self.service.pass_unjudged(packet, library, out);
         }
@@ -247,12 +311,15 @@ impl AirService {
         packet: &Packet,
         library: &AdLibrary,
         out: &mut K,
-    ) -> Result<Passed, PutFault> {
+    ) -> Result<Passed, PutFault>
+        ensures { (a : Airing) → IsSettled self.old packet.now a → IfOk result (λ passed. AirStandsFor self.new a
+            × (passed.is_own ≡ owns packet.now a) × (passed.is_unjudged ≡ leaves a) × (passed.learns ≡ learns a)) }
+    {
         let is_own = self.service.owns(packet);
+        let known = self.service.pid_count();
         if !is_own && !self.is_unjudged && self.service.overlooks(packet) {
             return Ok(Passed::beside());
         }
-        let known = self.service.pid_count();
         let put = if is_own {
             self.pass_to(packet, library, out)
         } else {

@@ -1,5 +1,13 @@
 //! The services of a run on air, packet by packet.
 
+ghost use Rattle.std.specs.Prelude.{◌≡◌, ◌++◌, ℕ, List, ◌∷◌, [], map, length, None, OnOk, IfOk, IfErr};
+ghost use Rattle.std.specs.List.{list_any};
+ghost use Rattle.psi_section.specs.Assembling.{capped};
+ghost use Rattle.psi_tables.specs.declared.config.Config.{Config};
+ghost use Rattle.chain_services.specs.Refused.{services_refused, IsRefused};
+ghost use Rattle.services_on_air.specs.Airing.{Airing, begins, nexts, owns, learns, is_left, begun_in};
+ghost use Rattle.services_on_air.specs.Standing.{AllStand, AllSettled, AirServicesStandFor, TellsOfAll};
+
 use crate::desk::AirDesk;
 use crate::service::{AirService, Numbered, Passed};
 use crate::sharing::part_each;
@@ -30,7 +38,10 @@ pub struct AirServices<M: Allocator = Global> {
 fn add_services<M: Allocator>(
     services: &mut Vec<AirService, M>,
     configs: &[Config],
-) -> Result<(), OutOfMemory> {
+) -> Result<(), OutOfMemory>
+    ensures { (xs : List Airing) → AllStand services.old.items xs
+        → OnOk result (AllStand services.new.items (xs ++ map begins configs.now)) }
+{
     let Some((config, others)) = configs.split_first() else {
         return Ok(());
     };
@@ -51,7 +62,10 @@ fn settle_each<K: PacketSink, A: ServicesWatch>(
     next: Numbered<'_>,
     out: &mut K,
     watch: &mut A,
-) -> Result<(), PutFault> {
+) -> Result<(), PutFault>
+    ensures { (xs : List Airing) → AllStand services.old xs → length libraries.now ≡ length xs
+        → OnOk result (AllSettled services.new next.packet.now (nexts next.packet.now xs)) }
+{
     let Some((service, others)) = services.split_first_mut() else {
         return Ok(());
     };
@@ -74,7 +88,11 @@ fn pass_each<K: PacketSink>(
     libraries: &[AdLibrary],
     packet: &Packet,
     out: &mut K,
-) -> Result<Passed, PutFault> {
+) -> Result<Passed, PutFault>
+    ensures { (xs : List Airing) → AllSettled services.old packet.now xs → length libraries.now ≡ length xs
+        → IfOk result (λ passed. AllStand services.new xs × (passed.is_own ≡ list_any (owns packet.now) xs)
+        × (passed.is_unjudged ≡ is_left packet.now xs) × (passed.learns ≡ list_any learns xs)) }
+{
     let Some((service, others)) = services.split_first_mut() else {
         return Ok(Passed::beside());
     };
@@ -125,7 +143,9 @@ fn finish_each<K: PacketSink>(
 }
 
 /// How many stretches of these services began behind another one.
-fn begun_of(services: &[AirService]) -> u64 {
+fn begun_of(services: &[AirService]) -> u64
+    ensures { (xs : List Airing) → AllStand services.now xs → result ≡ capped (begun_in xs) }
+{
     match services.split_first() {
         None => 0,
         Some((service, others)) => service.begun().saturating_add(begun_of(others)),
@@ -146,7 +166,11 @@ impl AirServices {
     /// # Errors
     ///
     /// As for [`Services::new`].
-    pub fn new(alloc: Global, configs: &[Config]) -> Result<AirServices, ServiceFault> {
+    pub fn new(alloc: Global, configs: &[Config]) -> Result<AirServices, ServiceFault>
+        ensures ok { IfOk result (λ services. AirServicesStandFor services configs.now []) }
+        ensures sound { OnOk result (services_refused configs.now ≡ None) }
+        ensures err { IfErr result (IsRefused configs.now) }
+    {
         AirServices::new_in(alloc, configs)
     }
 }
@@ -157,7 +181,11 @@ impl<M: Allocator + Copy> AirServices<M> {
     /// # Errors
     ///
     /// As for [`Services::new`].
-    pub fn new_in(alloc: M, configs: &[Config]) -> Result<AirServices<M>, ServiceFault> {
+    pub fn new_in(alloc: M, configs: &[Config]) -> Result<AirServices<M>, ServiceFault>
+        ensures ok { IfOk result (λ services. AirServicesStandFor services configs.now []) }
+        ensures sound { OnOk result (services_refused configs.now ≡ None) }
+        ensures err { IfErr result (IsRefused configs.now) }
+    {
         // What is refused off air is refused on air.
         match Services::new_in(alloc, configs) {
             Ok(_) => {}
@@ -204,7 +232,10 @@ impl<M: Allocator> AirServices<M> {
         libraries: &[AdLibrary],
         out: &mut K,
         watch: &mut A,
-    ) -> Result<(), PutFault> {
+    ) -> Result<(), PutFault>
+        ensures { (cs : List Config) (past : List (List ℕ)) → AirServicesStandFor self.old cs past → length libraries.now ≡ length cs
+            → OnOk result (AirServicesStandFor self.new cs (packet.now ∷ past)) }
+    {
         let next = Numbered {
             packet,
             number: self.packets,
@@ -246,7 +277,12 @@ impl<M: Allocator> AirServices<M> {
         &mut self,
         libraries: &[AdLibrary],
         out: &mut K,
-    ) -> Result<AirReport<ServiceReport>, PutFault> {
+    ) -> Result<AirReport<ServiceReport>, PutFault>
+        ensures { (cs : List Config) (past : List (List ℕ)) → AirServicesStandFor self.old cs past
+            → IfOk result (λ told. TellsOfAll told cs past) }
+    {
+        let begun = begun_of(self.desk.services.as_slice());
+        let lost = lost_of(self.desk.services.as_slice());
         let mut events = ArrayVec::new();
         let services = self.desk.services.as_mut_slice();
         match finish_each(services, libraries, &mut events, out) {
@@ -254,7 +290,6 @@ impl<M: Allocator> AirServices<M> {
             Err(fault) => return Err(fault),
         }
         let counts = self.desk.counts;
-        let services = self.desk.services.as_slice();
         Ok(AirReport {
             report: ServiceReport {
                 messages: counts.messages,
@@ -262,8 +297,8 @@ impl<M: Allocator> AirServices<M> {
                 refused: counts.refused,
                 services: events,
             },
-            stretches: begun_of(services).saturating_add(self.packets.min(1)),
-            lost: lost_of(services),
+            stretches: begun.saturating_add(self.packets.min(1)),
+            lost,
             unjudged: self.unjudged,
         })
     }

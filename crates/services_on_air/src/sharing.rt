@@ -1,17 +1,25 @@
 //! PIDs of two services.
 
+ghost use Rattle.std.specs.Prelude.{◌≡◌, List, map};
+ghost use Rattle.services_on_air.specs.Airing.{Airing, meets, share_one, parted_from, parted};
+ghost use Rattle.services_on_air.specs.Standing.{AirStandsFor, AllStand};
+
 use crate::service::{AirService, Numbered};
 use crate::watch::ServicesWatch;
 use chain_services::one_is_among;
 
 /// A PID that is known of the one is known of the other, or the PID of its cues.
-fn meets(one: &AirService, other: &AirService) -> bool {
+fn meets(one: &AirService, other: &AirService) -> bool
+    ensures { (a b : Airing) → AirStandsFor one.now a → AirStandsFor other.now b → result ≡ meets a b }
+{
     let (ours, theirs) = (one.pids(), other.pids());
     one_is_among(ours.as_slice(), other.config().cue_pid, theirs.as_slice())
 }
 
 /// These two share a PID.
-fn share_one(one: &AirService, other: &AirService) -> bool {
+fn share_one(one: &AirService, other: &AirService) -> bool
+    ensures { (a b : Airing) → AirStandsFor one.now a → AirStandsFor other.now b → result ≡ share_one a b }
+{
     if meets(one, other) {
         return true;
     }
@@ -24,7 +32,9 @@ fn part_from<A: ServicesWatch>(
     others: &mut [AirService],
     last: Numbered<'_>,
     watch: &mut A,
-) {
+)
+    ensures { (a : Airing) (bs : List Airing) → AirStandsFor one.now a → AllStand others.old bs → AllStand others.new (map (parted_from a) bs) }
+{
     let Some((other, others)) = others.split_first_mut() else {
         return;
     };
@@ -39,7 +49,9 @@ pub(crate) fn part_each<A: ServicesWatch>(
     services: &mut [AirService],
     last: Numbered<'_>,
     watch: &mut A,
-) {
+)
+    ensures { (xs : List Airing) → AllStand services.old xs → AllStand services.new (parted xs) }
+{
     let Some((one, others)) = services.split_first_mut() else {
         return;
     };
