@@ -26,6 +26,10 @@ stretches_with shares c p ss = if shares then (first_entry (writing_cues c) p �
 abbrev pub next_of : List ℕ → Airing → Airing
 next_of p a = record { config = a.config; stretches = stretches_with a.shares a.config p a.stretches; shares = false }
 
+-- where another stretch begins with it, behind these
+abbrev pub anew_with : List ℕ → Config → List (List Entry) → Airing
+anew_with p c ss = record { config = c; stretches = (first_entry (writing_cues c) p ∷ []) ∷ ss; shares = false }
+
 abbrev pub nexts : List ℕ → List Airing → List Airing
 nexts p xs = map (next_of p) xs
 

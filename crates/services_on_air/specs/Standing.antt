@@ -13,8 +13,9 @@ use Rattle.on_air.specs.Stretches.{Entry, Judgement, is_judged, as_read}
 use Rattle.on_air.specs.Marking.{Keeps}
 use Rattle.on_air.specs.AirRuns.{newest, has_no}
 use Rattle.on_air.specs.declared.report.AirReport.{AirReport}
-use Rattle.services_on_air.specs.Airing.{Airing, airings, unjudged_among, begun_in, behind_first, one_if_some}
+use Rattle.services_on_air.specs.Airing.{Airing, owns, leaves, learns, airings, unjudged_among, begun_in, behind_first, one_if_some}
 use Rattle.services_on_air.specs.declared.service.AirService.{AirService}
+use Rattle.services_on_air.specs.declared.service.Passed.{Passed}
 use Rattle.services_on_air.specs.declared.desk.AirDesk.{AirDesk}
 use Rattle.services_on_air.specs.declared.services.AirServices.{AirServices}
 
@@ -49,6 +50,12 @@ pub record IsSettled (service : AirService) (p : List ℕ) (a : Airing) : Type 0
   pub is_empty : service.is_empty ≡ false
   pub shares : service.shares ≡ a.shares
   pub begun : service.begun ≡ capped (behind_first a.stretches)
+
+-- what is told of a packet that it passed on
+pub record IsPassed (passed : Passed) (p : List ℕ) (a : Airing) : Type 0 where
+  pub own : passed.is_own ≡ owns p a
+  pub unjudged : passed.is_unjudged ≡ leaves a
+  pub learns : passed.learns ≡ learns a
 
 -- ---- several
 

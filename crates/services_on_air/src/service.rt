@@ -1,17 +1,15 @@
 //! One service on air, stretch by stretch.
 
-ghost use Rattle.std.specs.Prelude.{◌≡◌, ℕ, ◌||◌, if◌then◌else◌, List, [], ◌∷◌, true, false, OnOk, IfOk};
+ghost use Rattle.std.specs.Prelude.{◌≡◌, ℕ, ◌||◌, if◌then◌else◌, List, [], length, true, false, OnOk, IfOk};
 ghost use Rattle.psi_tables.specs.declared.config.Config.{Config};
 ghost use Rattle.program_follower.specs.Purposes.{writing_cues};
 ghost use Rattle.psi_section.specs.Assembling.{capped};
-ghost use Rattle.scte104_codec.specs.Views.{reading_of};
 ghost use Rattle.chain_engine.specs.Followed.{HasFollowed};
-ghost use Rattle.chain_engine.specs.Judging.{ServiceJudges};
-ghost use Rattle.on_air.specs.Stretches.{Entry, as_read, first_entry};
+ghost use Rattle.on_air.specs.Stretches.{Entry, as_read};
 ghost use Rattle.on_air.specs.Marking.{Keeps, Becomes};
-ghost use Rattle.on_air.specs.AirRuns.{newest};
-ghost use Rattle.services_on_air.specs.Airing.{Airing, begins, next_of, known_of, owns, leaves, learns, behind_first};
-ghost use Rattle.services_on_air.specs.Standing.{AirStandsFor, BeginsBehind, IsSettled};
+ghost use Rattle.on_air.specs.AirRuns.{has_no};
+ghost use Rattle.services_on_air.specs.Airing.{Airing, begins, next_of, anew_with, known_of, known_before, owns, behind_first};
+ghost use Rattle.services_on_air.specs.Standing.{AirStandsFor, BeginsBehind, IsSettled, IsPassed};
 
 use crate::watch::{ServiceBegun, ServicesWatch};
 use ad_library::AdLibrary;
@@ -172,12 +170,35 @@ impl AirService {
     /// Settles what becomes of a packet with which a stretch begins: it begins no other.
     fn settle_first(&mut self, packet: &Packet)
         ensures { (c : Config) (ss : List (List Entry)) → BeginsBehind self.old c ss
-            → IsSettled self.new packet.now (record { config = c; stretches = (first_entry (writing_cues c) packet.now ∷ []) ∷ ss; shares = false }) }
+            → IsSettled self.new packet.now (anew_with packet.now c ss) }
     {
         let verdict = self.judge(packet);
         self.is_unjudged = !verdict.is_judged();
         self.is_empty = false;
         self.shares = false;
+    }
+
+    /// Ends its stretch, and settles what becomes of the next packet, with which another begins.
+    ///
+    /// # Errors
+    ///
+    /// The sink's.
+    fn settle_anew<K: PacketSink>(
+        &mut self,
+        packet: &Packet,
+        library: &AdLibrary,
+        out: &mut K,
+    ) -> Result<(), PutFault>
+        ensures { (c : Config) (ss : List (List Entry)) → self.old.service.config ≡ c → self.old.begun ≡ capped (behind_first ss)
+            → has_no ss ≡ false → OnOk result (IsSettled self.new packet.now (anew_with packet.now c ss)) }
+    {
+        match self.begin_anew(library, out) {
+            Ok(()) => {
+                self.settle_first(packet);
+                Ok(())
+            }
+            Err(fault) => Err(fault),
+        }
     }
 
     /// Settles what becomes of the next packet, before the messages that come before it are heard: a stretch that begins anew with it begins
@@ -193,33 +214,31 @@ impl AirService {
         out: &mut K,
         watch: &mut A,
     ) -> Result<(), PutFault>
-        ensures { (a : Airing) → AirStandsFor self.old a → OnOk result (IsSettled self.new next.packet.now (next_of next.packet.now a)) }
+        ensures { (a : Airing) → AirStandsFor self.old a
+            → OnOk result (IsSettled self.new next.entry.packet.now (next_of next.entry.packet.now a)) }
     {
+        let packet = next.packet;
         if self.is_empty {
-            self.settle_first(next.packet);
+            self.settle_first(packet);
             return Ok(());
         }
-        if !self.shares {
-            match self.judge(next.packet) {
-                Verdict::Judged => {
-                    self.is_unjudged = false;
-                    return Ok(());
-                }
-                Verdict::Unjudged => {
-                    self.is_unjudged = true;
-                    return Ok(());
-                }
-                Verdict::BeginsAnew(fault) => {
-                    self.tell(RunFault::Feed(FeedFault::Network(fault)), next, watch);
-                }
+        if self.shares {
+            return self.settle_anew(packet, library, out);
+        }
+        match self.judge(packet) {
+            Verdict::Judged => {
+                self.is_unjudged = false;
+                Ok(())
+            }
+            Verdict::Unjudged => {
+                self.is_unjudged = true;
+                Ok(())
+            }
+            Verdict::BeginsAnew(fault) => {
+                self.tell(RunFault::Feed(FeedFault::Network(fault)), next, watch);
+                self.settle_anew(packet, library, out)
             }
         }
-        match self.begin_anew(library, out) {
-            Ok(()) => {}
-            Err(fault) => return Err(fault),
-        }
-        self.settle_first(next.packet);
-        Ok(())
     }
 
     /// Tells that its next stretch begins, and why.
@@ -254,7 +273,7 @@ impl AirService {
         out: &mut K,
     ) -> Result<(), PutFault>
         ensures { (c : Config) (ss : List (List Entry)) → self.old.service.config ≡ c → self.old.begun ≡ capped (behind_first ss)
-            → self.old.is_empty ≡ false → BeginsBehind self.new c ss }
+            → has_no ss ≡ false → BeginsBehind self.new c ss }
     {
         self.ended = self.ended.plus(self.service.report(library));
         self.lost = self.lost.saturating_add(self.service.open_count() as u64);
@@ -300,6 +319,28 @@ impl AirService {
         }
     }
 
+    /// Passes the packet on that was settled, and tells what it is: of its own or not, where so many PIDs were known of it before.
+    fn pass_and_tell<K: PacketSink>(
+        &mut self,
+        is_own: bool,
+        known: usize,
+        packet: &Packet,
+        library: &AdLibrary,
+        out: &mut K,
+    ) -> Result<Passed, PutFault>
+        ensures { (a : Airing) → IsSettled self.old packet.now a → is_own ≡ owns packet.now a → known ≡ length (known_before a)
+            → IfOk result (λ passed. AirStandsFor self.new a × IsPassed passed packet.now a) }
+    {
+        match self.pass_to(packet, library, out) {
+            Ok(()) => Ok(Passed {
+                is_own,
+                is_unjudged: self.is_unjudged,
+                learns: self.service.pid_count() != known,
+            }),
+            Err(fault) => Err(fault),
+        }
+    }
+
     /// Passes the packet on that was settled: what it sends goes out where the packet is on one of its PIDs, and is the packet else.
     ///
     /// # Errors
@@ -312,27 +353,17 @@ impl AirService {
         library: &AdLibrary,
         out: &mut K,
     ) -> Result<Passed, PutFault>
-        ensures { (a : Airing) → IsSettled self.old packet.now a → IfOk result (λ passed. AirStandsFor self.new a
-            × (passed.is_own ≡ owns packet.now a) × (passed.is_unjudged ≡ leaves a) × (passed.learns ≡ learns a)) }
+        ensures { (a : Airing) → IsSettled self.old packet.now a
+            → IfOk result (λ passed. AirStandsFor self.new a × IsPassed passed packet.now a) }
     {
-        let is_own = self.service.owns(packet);
         let known = self.service.pid_count();
-        if !is_own && !self.is_unjudged && self.service.overlooks(packet) {
+        if self.service.owns(packet) {
+            return self.pass_and_tell(true, known, packet, library, out);
+        }
+        if !self.is_unjudged && self.service.overlooks(packet) {
             return Ok(Passed::beside());
         }
-        let put = if is_own {
-            self.pass_to(packet, library, out)
-        } else {
-            self.pass_to(packet, library, &mut Nowhere)
-        };
-        match put {
-            Ok(()) => Ok(Passed {
-                is_own,
-                is_unjudged: self.is_unjudged,
-                learns: self.service.pid_count() != known,
-            }),
-            Err(fault) => Err(fault),
-        }
+        self.pass_and_tell(false, known, packet, library, &mut Nowhere)
     }
 
     /// Puts what is left of the advertisements that run, and tells what became of the events of all its stretches.

@@ -64,7 +64,7 @@ fn settle_each<K: PacketSink, A: ServicesWatch>(
     watch: &mut A,
 ) -> Result<(), PutFault>
     ensures { (xs : List Airing) → AllStand services.old xs → length libraries.now ≡ length xs
-        → OnOk result (AllSettled services.new next.packet.now (nexts next.packet.now xs)) }
+        → OnOk result (AllSettled services.new next.entry.packet.now (nexts next.entry.packet.now xs)) }
 {
     let Some((service, others)) = services.split_first_mut() else {
         return Ok(());

@@ -6,7 +6,7 @@ use Rattle.on_air.proofs.MarkLemmas.{of-stream}
 use Rattle.on_air.proofs.marks.Marks.judge_standing.Goals as goal
 
 pub returns : goal.returns
-returns g c = λ purpose past keeps stands is.
+returns c = λ purpose past keeps stands is.
     let n = c.in-Streamed.stream in
     let p = c.args.packet.now in
     let at : stream_at purpose p past ≡ Some n = stands.0 in

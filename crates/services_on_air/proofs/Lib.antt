@@ -1,0 +1,2 @@
+mod ServiceLemmas
+mod ListLemmas

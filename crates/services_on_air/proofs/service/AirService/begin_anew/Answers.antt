@@ -1,0 +1,17 @@
+use Rattle.std.proofs.Common.{rules, ◌≡◌, ◌+◌, [], refl, subst, ◌∙◌, None}
+use Rattle.psi_section.specs.Assembling.{capped}
+use Rattle.program_follower.specs.Purposes.{writing_cues}
+use Rattle.injector.specs.Injecting.{InjectorStandsFor}
+use Rattle.services_on_air.proofs.ServiceLemmas.{one-behind}
+use Rattle.services_on_air.proofs.service.AirService.begin_anew.Goals as goal
+
+pub returns : goal.returns
+returns g c = λ config ss is begun some.
+    let stands = c.new.ensures (λ n. None) in
+    let of = c.config.ensures ∙ is in
+    record {
+      config = stands.config ∙ of;
+      marks = c.new-2.ensures.keeps (writing_cues config);
+      followed = record { steps = []; injector = subst (λ d. InjectorStandsFor c.new.result.injector d []) of stands.injector; packets = refl };
+      begun = c.saturating_add-2.ensures ∙ one-behind c.args.self.now.begun ss some begun;
+    }
