@@ -1,9 +1,12 @@
 -- Several services, one after another.
-use Rattle.std.proofs.Common.{◌≡◌, ℕ, suc, ◌+◌, List, [], ◌∷◌, ◌++◌, length, Bool, true, false, refl, sym, ap, subst, ◌∙◌, arith, absurd, append_assoc}
-use Rattle.std.specs.Prelude.{map, OnOk, Result, Ok, Err}
+use Rattle.std.proofs.Common.{◌≡◌, ℕ, zero, suc, ◌+◌, List, [], ◌∷◌, ◌++◌, length, Bool, true, false, refl, sym, ap, subst, ◌∙◌, arith, absurd}
+use Rattle.std.specs.Prelude.{map, ◌||◌, if◌then◌else◌}
+use Rattle.std.specs.List.{list_any}
+use Rattle.psi_section.specs.Assembling.{capped}
 use Rattle.psi_tables.specs.declared.config.Config.{Config}
-use Rattle.services_on_air.specs.Airing.{Airing, begins, next_of, nexts, parted_from, parted}
-use Rattle.services_on_air.specs.Standing.{AirStandsFor, IsSettled, AllStand, AllSettled}
+use Rattle.services_on_air.specs.Airing.{Airing, begins, next_of, nexts, owns, leaves, learns, is_left, parted_from, parted, behind_first, begun_in}
+use Rattle.services_on_air.specs.Standing.{AirStandsFor, IsSettled, IsPassed, ArePassed, AllStand, AllSettled}
+use Rattle.services_on_air.specs.declared.service.Passed.{Passed}
 use Rattle.services_on_air.specs.declared.service.AirService.{AirService}
 
 -- ---- the first of them and the others
@@ -60,3 +63,71 @@ one-more [] [] s a h k = (k, tt)
 one-more [] (x ∷ xs) s a h k = absurd h
 one-more (y ∷ ss) [] s a h k = absurd h
 one-more (y ∷ ss) (x ∷ xs) s a h k = (h.0, one-more ss xs s a h.1 k)
+
+-- ---- no library is missing
+
+pub none-left : {L : Type 0} (l : List AirService) (s : AirService) (ss : List AirService) (xs : List Airing) (libraries : List L) → l ≡ s ∷ ss → AllStand l xs → libraries ≡ []
+    → length libraries ≡ length xs → ⊥
+none-left l s ss xs libraries shape h e many =
+    let k = standing l s ss xs shape h in
+    let no : zero ≡ suc (length k.more) = sym (ap length e) ∙ many ∙ ap length k.parts in absurd (cc)
+
+pub none-left-settled : {L : Type 0} (l : List AirService) (s : AirService) (ss : List AirService) (p : List ℕ) (xs : List Airing) (libraries : List L) → l ≡ s ∷ ss → AllSettled l p xs → libraries ≡ []
+    → length libraries ≡ length xs → ⊥
+none-left-settled l s ss p xs libraries shape h e many =
+    let k = settling l s ss p xs shape h in
+    let no : zero ≡ suc (length k.more) = sym (ap length e) ∙ many ∙ ap length k.parts in absurd (cc)
+
+pub fewer : {L : Type 0} (libraries : List L) (library : L) (more : List L) (xs : List Airing) (a : Airing) (ys : List Airing) → libraries ≡ library ∷ more → xs ≡ a ∷ ys
+    → length libraries ≡ length xs → length more ≡ length ys
+fewer libraries library more xs a ys e f many = let both : length (library ∷ more) ≡ length (a ∷ ys) = sym (ap length e) ∙ many ∙ ap length f in cc
+
+-- ---- a message
+
+pub asked-first : (l : List AirService) (s : AirService) (ss : List AirService) (p : List ℕ) (xs : List Airing) (now : AirService) → l ≡ s ∷ ss → AllSettled l p xs
+    → ((a : Airing) → IsSettled s p a → IsSettled now p a) → AllSettled (now ∷ ss) p xs
+asked-first l s ss p xs now shape h f =
+    let k = settling l s ss p xs shape h in subst (AllSettled (now ∷ ss) p) (sym k.parts) (f k.a k.first, k.others)
+
+pub asked-later : (l : List AirService) (s : AirService) (ss : List AirService) (p : List ℕ) (xs : List Airing) (now : List AirService) → l ≡ s ∷ ss → AllSettled l p xs
+    → ((ys : List Airing) → AllSettled ss p ys → AllSettled now p ys) → AllSettled (s ∷ now) p xs
+asked-later l s ss p xs now shape h f =
+    let k = settling l s ss p xs shape h in subst (AllSettled (s ∷ now) p) (sym k.parts) (k.first, f k.more k.others)
+
+-- ---- PIDs of two services
+
+pub parted-one : (l : List AirService) (s : AirService) (ss : List AirService) (xs : List Airing) (a : Airing) (now : AirService) (others : List AirService) → l ≡ s ∷ ss → AllStand l xs
+    → ((b : Airing) → AirStandsFor s b → AirStandsFor now (parted_from a b)) → ((ys : List Airing) → AllStand ss ys → AllStand others (map (parted_from a) ys))
+    → AllStand (now ∷ others) (map (parted_from a) xs)
+parted-one l s ss xs a now others shape h f g =
+    let k = standing l s ss xs shape h in subst (λ w. AllStand (now ∷ others) (map (parted_from a) w)) (sym k.parts) (f k.a k.first, g k.more k.others)
+
+pub parted-all : (l : List AirService) (s : AirService) (ss : List AirService) (xs : List Airing) (mid others : List AirService) → l ≡ s ∷ ss → AllStand l xs
+    → ((ys : List Airing) → AllStand ss ys → AllStand mid (parted ys))
+    → ((a : Airing) (ys : List Airing) → AirStandsFor s a → AllStand mid ys → AllStand others (map (parted_from a) ys)) → AllStand (s ∷ others) (parted xs)
+parted-all l s ss xs mid others shape h f g =
+    let k = standing l s ss xs shape h in
+    subst (λ w. AllStand (s ∷ others) (parted w)) (sym k.parts) (k.first, g k.a (parted k.more) k.first (f k.more k.others))
+
+-- ---- what a packet is
+
+pick : Bool → Bool → Bool → Bool → Bool
+pick a b c d = if a then b else (if c then d else (b || d))
+
+pub joined-are : (one others all : Passed) (p : List ℕ) (a : Airing) (xs : List Airing) → all.is_own ≡ (one.is_own || others.is_own)
+    → all.is_unjudged ≡ (if one.is_own then one.is_unjudged else (if others.is_own then others.is_unjudged else (one.is_unjudged || others.is_unjudged)))
+    → all.learns ≡ (one.learns || others.learns) → IsPassed one p a → ArePassed others p xs → ArePassed all p (a ∷ xs)
+joined-are one others all p a xs own unjudged more i o = record {
+  own = own ∙ ap (λ b. b || others.is_own) i.own ∙ ap (λ b. owns p a || b) o.own;
+  unjudged = unjudged
+      ∙ ap (λ b. pick b one.is_unjudged others.is_own others.is_unjudged) i.own
+      ∙ ap (λ b. pick (owns p a) b others.is_own others.is_unjudged) i.unjudged
+      ∙ ap (λ b. pick (owns p a) (leaves a) b others.is_unjudged) o.own
+      ∙ ap (λ b. pick (owns p a) (leaves a) (list_any (owns p) xs) b) o.unjudged;
+  learns = more ∙ ap (λ b. b || others.learns) i.learns ∙ ap (λ b. learns a || b) o.learns;
+}
+
+-- ---- counts
+
+pub begun-more : (n m k : ℕ) (a : Airing) (xs : List Airing) → n ≡ capped (behind_first a.stretches) → m ≡ capped (begun_in xs) → k ≡ capped (n + m) → k ≡ capped (begun_in (a ∷ xs))
+begun-more n m k a xs e f g = grind arith

@@ -1,5 +1,6 @@
 -- What several services on air stand for, packet by packet.
 use Rattle.std.specs.Prelude.{◌≡◌, ℕ, ◌+◌, List, [], ◌∷◌, reverse, length, Bool, true, false, not}
+use Rattle.std.specs.List.{list_any}
 use Rattle.ts_packet.specs.Packets.{packets_of}
 use Rattle.psi_section.specs.Assembling.{capped}
 use Rattle.psi_tables.specs.declared.config.Config.{Config}
@@ -13,7 +14,7 @@ use Rattle.on_air.specs.Stretches.{Entry, Judgement, is_judged, as_read}
 use Rattle.on_air.specs.Marking.{Keeps}
 use Rattle.on_air.specs.AirRuns.{newest, has_no}
 use Rattle.on_air.specs.declared.report.AirReport.{AirReport}
-use Rattle.services_on_air.specs.Airing.{Airing, owns, leaves, learns, airings, unjudged_among, begun_in, behind_first, one_if_some}
+use Rattle.services_on_air.specs.Airing.{Airing, owns, leaves, learns, is_left, airings, unjudged_among, begun_in, behind_first, one_if_some}
 use Rattle.services_on_air.specs.declared.service.AirService.{AirService}
 use Rattle.services_on_air.specs.declared.service.Passed.{Passed}
 use Rattle.services_on_air.specs.declared.desk.AirDesk.{AirDesk}
@@ -70,6 +71,12 @@ AllSettled [] p [] = Unit {0}
 AllSettled [] p (a ∷ xs) = ⊥
 AllSettled (s ∷ ss) p [] = ⊥
 AllSettled (s ∷ ss) p (a ∷ xs) = IsSettled s p a × AllSettled ss p xs
+
+-- what is told of a packet that all passed on
+pub record ArePassed (passed : Passed) (p : List ℕ) (xs : List Airing) : Type 0 where
+  pub own : passed.is_own ≡ list_any (owns p) xs
+  pub unjudged : passed.is_unjudged ≡ is_left p xs
+  pub learns : passed.learns ≡ list_any learns xs
 
 -- a message was judged: each service goes on as it stood
 pub record AirDeskJudges {M : Type 0} (old : AirDesk M) (m : MessageReading) (reply : Reply) (new : AirDesk M) : Type 0 where

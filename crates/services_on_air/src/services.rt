@@ -1,12 +1,11 @@
 //! The services of a run on air, packet by packet.
 
 ghost use Rattle.std.specs.Prelude.{◌≡◌, ◌++◌, ℕ, List, ◌∷◌, [], map, length, None, OnOk, IfOk, IfErr};
-ghost use Rattle.std.specs.List.{list_any};
 ghost use Rattle.psi_section.specs.Assembling.{capped};
 ghost use Rattle.psi_tables.specs.declared.config.Config.{Config};
 ghost use Rattle.chain_services.specs.Refused.{services_refused, IsRefused};
-ghost use Rattle.services_on_air.specs.Airing.{Airing, begins, nexts, owns, learns, is_left, begun_in};
-ghost use Rattle.services_on_air.specs.Standing.{AllStand, AllSettled, AirServicesStandFor, TellsOfAll};
+ghost use Rattle.services_on_air.specs.Airing.{Airing, begins, nexts, begun_in};
+ghost use Rattle.services_on_air.specs.Standing.{AllStand, AllSettled, ArePassed, AirServicesStandFor, TellsOfAll};
 
 use crate::desk::AirDesk;
 use crate::service::{AirService, Numbered, Passed};
@@ -90,8 +89,7 @@ fn pass_each<K: PacketSink>(
     out: &mut K,
 ) -> Result<Passed, PutFault>
     ensures { (xs : List Airing) → AllSettled services.old packet.now xs → length libraries.now ≡ length xs
-        → IfOk result (λ passed. AllStand services.new xs × (passed.is_own ≡ list_any (owns packet.now) xs)
-        × (passed.is_unjudged ≡ is_left packet.now xs) × (passed.learns ≡ list_any learns xs)) }
+        → IfOk result (λ passed. AllStand services.new xs × ArePassed passed packet.now xs) }
 {
     let Some((service, others)) = services.split_first_mut() else {
         return Ok(Passed::beside());
