@@ -1,10 +1,10 @@
 -- Several services, one after another.
-use Rattle.std.proofs.Common.{◌≡◌, ℕ, zero, suc, ◌+◌, List, [], ◌∷◌, ◌++◌, length, Bool, true, false, refl, sym, ap, subst, ◌∙◌, arith, absurd}
+use Rattle.std.proofs.Common.{◌≡◌, ℕ, zero, suc, ◌+◌, List, [], ◌∷◌, ◌++◌, length, Bool, true, false, refl, sym, ap, subst, ◌∙◌, arith}
 use Rattle.std.specs.Prelude.{map, ◌||◌, if◌then◌else◌}
 use Rattle.std.specs.List.{list_any}
 use Rattle.psi_section.specs.Assembling.{capped}
 use Rattle.psi_tables.specs.declared.config.Config.{Config}
-use Rattle.services_on_air.specs.Airing.{Airing, begins, next_of, nexts, owns, leaves, learns, is_left, parted_from, parted, behind_first, begun_in}
+use Rattle.services_on_air.specs.Airing.{Airing, begins, next_of, nexts, owns, leaves, learns, is_left, share_one, parted_from, parted, behind_first, begun_in}
 use Rattle.services_on_air.specs.Standing.{AirStandsFor, IsSettled, IsPassed, ArePassed, AllStand, AllSettled}
 use Rattle.services_on_air.specs.declared.service.Passed.{Passed}
 use Rattle.services_on_air.specs.declared.service.AirService.{AirService}
@@ -95,6 +95,12 @@ asked-later l s ss p xs now shape h f =
     let k = settling l s ss p xs shape h in subst (AllSettled (s ∷ now) p) (sym k.parts) (k.first, f k.more k.others)
 
 -- ---- PIDs of two services
+
+pub parts-so : (s : AirService) (a b : Airing) → share_one a b ≡ true → AirStandsFor s (record { config = b.config; stretches = b.stretches; shares = true }) → AirStandsFor s (parted_from a b)
+parts-so s a b y h = subst (λ x. AirStandsFor s (record { config = b.config; stretches = b.stretches; shares = if x then true else b.shares })) (sym y) h
+
+pub stays-so : (s : AirService) (a b : Airing) → share_one a b ≡ false → AirStandsFor s b → AirStandsFor s (parted_from a b)
+stays-so s a b n h = subst (λ x. AirStandsFor s (record { config = b.config; stretches = b.stretches; shares = if x then true else b.shares })) (sym n) h
 
 pub parted-one : (l : List AirService) (s : AirService) (ss : List AirService) (xs : List Airing) (a : Airing) (now : AirService) (others : List AirService) → l ≡ s ∷ ss → AllStand l xs
     → ((b : Airing) → AirStandsFor s b → AirStandsFor now (parted_from a b)) → ((ys : List Airing) → AllStand ss ys → AllStand others (map (parted_from a) ys))

@@ -1,5 +1,5 @@
 -- One service: what becomes of a packet in its stretch, and behind it.
-use Rattle.std.proofs.Common.{◌≡◌, ℕ, suc, ◌+◌, List, [], ◌∷◌, length, Bool, true, false, not, refl, sym, ap, subst, ◌∙◌, arith, absurd}
+use Rattle.std.proofs.Common.{◌≡◌, ℕ, suc, ◌+◌, List, [], ◌∷◌, length, Bool, true, false, not, refl, sym, ap, subst, ◌∙◌, arith}
 use Rattle.std.specs.Prelude.{if◌then◌else◌, ◌==◌, Some}
 use Rattle.ts_packet.specs.Fields.{marked, on_one}
 use Rattle.program_follower.specs.Program.{known_pids}
@@ -182,6 +182,3 @@ pub learns-is : (a : Airing) (known now : ℕ) (steps : List Step) → known ≡
 learns-is a known now steps k f is =
     let n : now ≡ length (known_of a) = f ∙ ap (λ l. length (known_pids (Some a.config.program) l)) is in
     ap (λ x. not (x == known)) n ∙ ap (λ x. not (length (known_of a) == x)) k
-
-same-number : (n : ℕ) → not (n == n) ≡ false
-same-number n = grind (arith, common_steps)

@@ -26,6 +26,21 @@ fn share_one(one: &AirService, other: &AirService) -> bool
     meets(other, one)
 }
 
+/// Ends the stretch of a service that shares a PID with one before it.
+fn part_one<A: ServicesWatch>(
+    one: &AirService,
+    other: &mut AirService,
+    last: Numbered<'_>,
+    watch: &mut A,
+)
+    ensures { (a b : Airing) → AirStandsFor one.now a → AirStandsFor other.old b → AirStandsFor other.new (parted_from a b) }
+{
+    if share_one(one, other) {
+        other.part(last, watch);
+        return;
+    }
+}
+
 /// Ends the stretch of each of these services that shares a PID with the one before them.
 fn part_from<A: ServicesWatch>(
     one: &AirService,
@@ -38,9 +53,7 @@ fn part_from<A: ServicesWatch>(
     let Some((other, others)) = others.split_first_mut() else {
         return;
     };
-    if share_one(one, other) {
-        other.part(last, watch);
-    }
+    part_one(one, other, last, watch);
     part_from(one, others, last, watch);
 }
 
