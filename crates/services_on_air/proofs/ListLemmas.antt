@@ -1,6 +1,7 @@
 -- Several services, one after another.
-use Rattle.std.proofs.Common.{◌≡◌, ℕ, zero, suc, ◌+◌, List, [], ◌∷◌, ◌++◌, length, Bool, true, false, refl, sym, ap, subst, ◌∙◌, arith}
-use Rattle.std.specs.Prelude.{map, ◌||◌, if◌then◌else◌}
+use Rattle.std.proofs.Common.{◌≡◌, ℕ, zero, suc, ◌+◌, List, [], ◌∷◌, ◌++◌, length, Bool, true, false, refl, sym, ap, subst, ◌∙◌, arith, append_assoc}
+use Rattle.std.specs.Prelude.{map, ◌||◌, if◌then◌else◌, Result, OnOk}
+use Rattle.std.proofs.lemmas.Result.{on_ok_weaker}
 use Rattle.std.specs.List.{list_any}
 use Rattle.psi_section.specs.Assembling.{capped}
 use Rattle.psi_tables.specs.declared.config.Config.{Config}
@@ -63,6 +64,12 @@ one-more [] [] s a h k = (k, tt)
 one-more [] (x ∷ xs) s a h k = absurd h
 one-more (y ∷ ss) [] s a h k = absurd h
 one-more (y ∷ ss) (x ∷ xs) s a h k = (h.0, one-more ss xs s a h.1 k)
+
+pub added : {X Y : Type 0} (r : Result X Y) (before mid now : List AirService) (s : AirService) (c : Config) (cs configs : List Config) (xs : List Airing) → configs ≡ c ∷ cs → mid ≡ before ++ s ∷ []
+    → AirStandsFor s (begins c) → AllStand before xs → ((ys : List Airing) → AllStand mid ys → OnOk r (AllStand now (ys ++ map begins cs))) → OnOk r (AllStand now (xs ++ map begins configs))
+added r before mid now s c cs configs xs shape is stands all goes =
+    let more = subst (λ l. AllStand l (xs ++ begins c ∷ [])) (sym is) (one-more before xs s (begins c) all stands) in
+    on_ok_weaker r (subst (λ l. AllStand now l) (append_assoc xs (begins c ∷ []) (map begins cs) ∙ ap (λ l. xs ++ map begins l) (sym shape))) (goes (xs ++ begins c ∷ []) more)
 
 -- ---- no library is missing
 

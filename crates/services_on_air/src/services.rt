@@ -146,7 +146,10 @@ fn begun_of(services: &[AirService]) -> u64
 {
     match services.split_first() {
         None => 0,
-        Some((service, others)) => service.begun().saturating_add(begun_of(others)),
+        Some((service, others)) => {
+            let behind = begun_of(others);
+            service.begun().saturating_add(behind)
+        }
     }
 }
 
