@@ -124,7 +124,7 @@ parted-all l s ss xs mid others shape h f g =
 
 -- ---- what a packet is
 
-pick : Bool → Bool → Bool → Bool → Bool
+abbrev pick : Bool → Bool → Bool → Bool → Bool
 pick a b c d = if a then b else (if c then d else (b || d))
 
 pub joined-are : (one others all : Passed) (p : List ℕ) (a : Airing) (xs : List Airing) → all.is_own ≡ (one.is_own || others.is_own)

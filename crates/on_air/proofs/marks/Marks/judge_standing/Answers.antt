@@ -13,4 +13,4 @@ returns c = λ purpose past keeps stands is.
     let at : stream_at purpose p past ≡ Some n = so.0 in
     let below : n < length c.args.self.now.streams = search rules in
     of-stream c.args.self.now purpose n p past c.args.fault c.take-verdict.new.self _ _ c.take-verdict.result keeps below at is
-    (λ mine. c.take-verdict.ensures purpose n past (subst (λ s. KeepsOf s purpose n past) (get_or_default c.args.self.now.streams n nothing c.index-self-index.result below) mine) at so.1) refl c.is_any-self.ensures
+    (λ mine. c.take-verdict.ensures purpose n past (subst (λ s. KeepsOf s purpose n past) (get_or_default c.args.self.now.streams n nothing c.index-self-stream.result below) mine) at so.1) refl c.is_any-self.ensures
