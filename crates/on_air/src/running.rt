@@ -31,14 +31,18 @@ use std::alloc::Allocator;
 use ts_packet::{GatheringSink, Packet, PausingPackets, PutFault};
 
 /// The fault of a run whose sink failed so.
-fn of_sink(fault: PutFault) -> RunFault
+pub fn of_sink(fault: PutFault) -> RunFault
     ensures { result ≡ RunFault.Feed (FeedFault.Sink fault) }
 {
     RunFault::Feed(FeedFault::Sink(fault))
 }
 
-/// Sends what the sink keeps back, where the read of the next packet may wait, and reads that packet.
-fn read_next<P: PausingPackets, K: GatheringSink>(
+/// Sends what the sink keeps back, where the read of the next packet may wait, and reads that packet; false at the network's end.
+///
+/// # Errors
+///
+/// The fault of the device that failed.
+pub fn read_next<P: PausingPackets, K: GatheringSink>(
     network: &mut P,
     next: &mut Packet,
     out: &mut K,
