@@ -14,7 +14,7 @@ use Rattle.on_air.specs.Stretches.{Entry, Judgement, is_judged, as_read}
 use Rattle.on_air.specs.Marking.{Keeps}
 use Rattle.on_air.specs.AirRuns.{newest, has_no}
 use Rattle.on_air.specs.declared.report.AirReport.{AirReport}
-use Rattle.services_on_air.specs.Airing.{Airing, owns, leaves, learns, is_left, airings, unjudged_among, begun_in, behind_first, one_if_some}
+use Rattle.services_on_air.specs.Airing.{Airing, nexts, owns, leaves, learns, is_left, airings, unjudged_among, begun_in, behind_first, one_if_some}
 use Rattle.services_on_air.specs.declared.service.AirService.{AirService}
 use Rattle.services_on_air.specs.declared.service.Passed.{Passed}
 use Rattle.services_on_air.specs.declared.desk.AirDesk.{AirDesk}
@@ -91,6 +91,27 @@ pub record AirServicesStandFor {M : Type 0} (services : AirServices M) (cs : Lis
   pub all : AllStand services.desk.services.items (airings cs past)
   pub packets : services.packets ≡ capped (length past)
   pub unjudged : services.unjudged ≡ capped (unjudged_among cs past)
+
+-- these have, and what becomes of this one is settled for each service, which has not passed it on yet
+pub record AreSettled {M : Type 0} (services : AirServices M) (cs : List Config) (p : List ℕ) (past : List (List ℕ)) : Type 0 where
+  pub ts : List Take
+  pub n : ℕ
+  pub k : ℕ
+  pub talks : TalkStandsFor services.talk ts n k
+  pub all : AllSettled services.desk.services.items p (nexts p (airings cs past))
+  pub packets : services.packets ≡ capped (length past)
+  pub unjudged : services.unjudged ≡ capped (unjudged_among cs past)
+
+-- each has passed it on, and this is told of it; it is not counted yet, and where services share a PID no stretch has ended
+pub record HavePassed {M : Type 0} (services : AirServices M) (cs : List Config) (p : List ℕ) (past : List (List ℕ)) (passed : Passed) : Type 0 where
+  pub ts : List Take
+  pub n : ℕ
+  pub k : ℕ
+  pub talks : TalkStandsFor services.talk ts n k
+  pub all : AllStand services.desk.services.items (nexts p (airings cs past))
+  pub packets : services.packets ≡ capped (length past)
+  pub unjudged : services.unjudged ≡ capped (unjudged_among cs past)
+  pub is : ArePassed passed p (nexts p (airings cs past))
 
 -- THE THEOREM for any network: what is told of the stretches of all services, and of their packets that were left unjudged
 pub record TellsOfAll {R : Type 0} (told : AirReport R) (cs : List Config) (past : List (List ℕ)) : Type 0 where

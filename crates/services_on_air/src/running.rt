@@ -1,7 +1,6 @@
 //! Whole runs of several services on air.
 
-ghost use Rattle.std.specs.Prelude.{◌≡◌, ◌+◌, ◌<◌, ◌^◌, ℕ, List, [], length, cond, Some, false, IfOk, IfErr};
-ghost use Rattle.ts_packet.specs.Sources.{GivesInto};
+ghost use Rattle.std.specs.Prelude.{◌≡◌, ℕ, List, [], length, Some, false, IfOk, IfErr};
 ghost use Rattle.psi_tables.specs.declared.config.Config.{Config};
 ghost use Rattle.on_air.specs.Plain.{IsOfDevices};
 ghost use Rattle.services_on_air.specs.Standing.{AirServicesStandFor, TellsServices};
@@ -11,39 +10,9 @@ use crate::watch::ServicesWatch;
 use ad_library::AdLibrary;
 use chain_engine::{Automation, RunFault};
 use chain_services::ServiceReport;
-use on_air::AirReport;
-use psi_tables::FeedFault;
+use on_air::{AirReport, of_sink, read_next};
 use std::alloc::Allocator;
-use ts_packet::{GatheringSink, Packet, PausingPackets, PutFault};
-
-/// The fault of a run whose sink failed so.
-fn of_sink(fault: PutFault) -> RunFault
-    ensures { result ≡ RunFault.Feed (FeedFault.Sink fault) }
-{
-    RunFault::Feed(FeedFault::Sink(fault))
-}
-
-/// Sends what the sink keeps back, where the read of the next packet may wait, and reads that packet.
-fn read_next<P: PausingPackets, K: GatheringSink>(
-    network: &mut P,
-    next: &mut Packet,
-    out: &mut K,
-) -> Result<bool, RunFault>
-    ensures read { IfOk result (λ more. GivesInto (P.left network.old) (P.left network.new) more next.new) }
-    ensures given { IfOk result (λ more. (P.given network.new ≡ P.given network.old + cond more 1 0) × (P.given network.new < 2 ^ 64)) }
-    ensures devices { IfErr result IsOfDevices }
-{
-    if network.next_may_wait() {
-        match out.send() {
-            Ok(()) => {}
-            Err(fault) => return Err(of_sink(fault)),
-        }
-    }
-    match network.read_packet(next) {
-        Ok(more) => Ok(more),
-        Err(fault) => Err(RunFault::Read(fault)),
-    }
-}
+use ts_packet::{GatheringSink, Packet, PausingPackets};
 
 /// Passes a network of several programmes on, with the advertisements of each in the breaks that are asked for it, as
 /// [`chain_services::run_services`] does, and goes on behind its faults. Each service has stretches of its own: a packet that is damaged for one

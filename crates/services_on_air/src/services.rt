@@ -1,11 +1,11 @@
 //! The services of a run on air, packet by packet.
 
-ghost use Rattle.std.specs.Prelude.{◌≡◌, ◌++◌, ℕ, List, ◌∷◌, [], map, length, None, OnOk, IfOk, IfErr};
+ghost use Rattle.std.specs.Prelude.{◌≡◌, ◌++◌, ◌+◌, ℕ, if◌then◌else◌, List, ◌∷◌, [], map, length, None, OnOk, IfOk, IfErr};
 ghost use Rattle.psi_section.specs.Assembling.{capped};
 ghost use Rattle.psi_tables.specs.declared.config.Config.{Config};
 ghost use Rattle.chain_services.specs.Refused.{services_refused, IsRefused};
-ghost use Rattle.services_on_air.specs.Airing.{Airing, begins, nexts, begun_in};
-ghost use Rattle.services_on_air.specs.Standing.{AllStand, AllSettled, ArePassed, AirServicesStandFor, TellsOfAll};
+ghost use Rattle.services_on_air.specs.Airing.{Airing, begins, nexts, parted, begun_in};
+ghost use Rattle.services_on_air.specs.Standing.{AllStand, AllSettled, ArePassed, AirServicesStandFor, AreSettled, HavePassed, TellsOfAll};
 
 use crate::desk::AirDesk;
 use crate::service::{AirService, Numbered, Passed};
@@ -221,6 +221,85 @@ impl<M: Allocator + Copy> AirServices<M> {
 }
 
 impl<M: Allocator> AirServices<M> {
+    /// Settles for each service what becomes of the next packet.
+    ///
+    /// # Errors
+    ///
+    /// The sink's.
+    fn settle<K: PacketSink, A: ServicesWatch>(
+        &mut self,
+        next: Numbered<'_>,
+        libraries: &[AdLibrary],
+        out: &mut K,
+        watch: &mut A,
+    ) -> Result<(), PutFault>
+        ensures { (cs : List Config) (past : List (List ℕ)) → AirServicesStandFor self.old cs past → length libraries.now ≡ length cs
+            → OnOk result (AreSettled self.new cs next.entry.packet.now past) }
+    {
+        let services = self.desk.services.as_mut_slice();
+        settle_each(services, libraries, next, out, watch)
+    }
+
+    /// Hears the automation before the packet that is settled.
+    fn hear<U: Automation>(&mut self, automation: &mut U)
+        ensures { (cs : List Config) (p : List ℕ) (past : List (List ℕ)) → AreSettled self.old cs p past → AreSettled self.new cs p past }
+    {
+        self.talk.listen(&mut self.desk, automation);
+    }
+
+    /// Passes the packet on that is settled, through each service; where it is of none it goes out.
+    ///
+    /// # Errors
+    ///
+    /// The sink's.
+    fn pass_settled<K: PacketSink>(
+        &mut self,
+        packet: &Packet,
+        libraries: &[AdLibrary],
+        out: &mut K,
+    ) -> Result<Passed, PutFault>
+        ensures { (cs : List Config) (past : List (List ℕ)) → AreSettled self.old cs packet.now past → length libraries.now ≡ length cs
+            → IfOk result (HavePassed self.new cs packet.now past) }
+    {
+        let services = self.desk.services.as_mut_slice();
+        let passed = match pass_each(services, libraries, packet, out) {
+            Ok(passed) => passed,
+            Err(fault) => return Err(fault),
+        };
+        if passed.is_own {
+            return Ok(passed);
+        }
+        match out.put(packet) {
+            Ok(()) => Ok(passed),
+            Err(fault) => Err(fault),
+        }
+    }
+
+    /// Ends the stretches of services that share a PID, where with the packet that came last more PIDs are known.
+    fn part<A: ServicesWatch>(&mut self, learns: bool, last: Numbered<'_>, watch: &mut A)
+        ensures all { (xs : List Airing) → AllStand self.old.desk.services.items xs
+            → AllStand self.new.desk.services.items (if learns then parted xs else xs) }
+        ensures others { (self.new.talk ≡ self.old.talk) × (self.new.packets ≡ self.old.packets) × (self.new.unjudged ≡ self.old.unjudged) }
+    {
+        if learns {
+            part_each(self.desk.services.as_mut_slice(), last, watch);
+            return;
+        }
+    }
+
+    /// Counts the packet that came last.
+    fn count<A: ServicesWatch>(&mut self, is_unjudged: bool, watch: &mut A)
+        ensures packets { self.new.packets ≡ capped (self.old.packets + 1) }
+        ensures unjudged { self.new.unjudged ≡ (if is_unjudged then capped (self.old.unjudged + 1) else self.old.unjudged) }
+        ensures others { (self.new.talk ≡ self.old.talk) × (self.new.desk ≡ self.old.desk) }
+    {
+        if is_unjudged {
+            watch.unjudged(self.packets);
+            self.unjudged = self.unjudged.saturating_add(1);
+        }
+        self.packets = self.packets.saturating_add(1);
+    }
+
     /// Hears the automation, and passes the next packet on, whatever is wrong with it.
     ///
     /// # Errors
@@ -241,32 +320,19 @@ impl<M: Allocator> AirServices<M> {
             packet,
             number: self.packets,
         };
-        let services = self.desk.services.as_mut_slice();
-        match settle_each(services, libraries, next, out, watch) {
+        match self.settle(next, libraries, out, watch) {
             Ok(()) => {}
             Err(fault) => return Err(fault),
         }
-        self.talk.listen(&mut self.desk, automation);
-        let services = self.desk.services.as_mut_slice();
-        let passed = match pass_each(services, libraries, packet, out) {
-            Ok(passed) => passed,
-            Err(fault) => return Err(fault),
-        };
-        if !passed.is_own {
-            match out.put(packet) {
-                Ok(()) => {}
-                Err(fault) => return Err(fault),
+        self.hear(automation);
+        match self.pass_settled(packet, libraries, out) {
+            Ok(passed) => {
+                self.count(passed.is_unjudged, watch);
+                self.part(passed.learns, next, watch);
+                Ok(())
             }
+            Err(fault) => Err(fault),
         }
-        if passed.is_unjudged {
-            watch.unjudged(self.packets);
-            self.unjudged = self.unjudged.saturating_add(1);
-        }
-        if passed.learns {
-            part_each(self.desk.services.as_mut_slice(), next, watch);
-        }
-        self.packets = self.packets.saturating_add(1);
-        Ok(())
     }
 
     /// Puts what is left of all advertisements, service by service, and tells what was counted.
@@ -285,22 +351,21 @@ impl<M: Allocator> AirServices<M> {
         let begun = begun_of(self.desk.services.as_slice());
         let lost = lost_of(self.desk.services.as_slice());
         let mut events = ArrayVec::new();
+        let counts = self.desk.counts;
         let services = self.desk.services.as_mut_slice();
         match finish_each(services, libraries, &mut events, out) {
-            Ok(()) => {}
-            Err(fault) => return Err(fault),
+            Ok(()) => Ok(AirReport {
+                report: ServiceReport {
+                    messages: counts.messages,
+                    accepted: counts.accepted,
+                    refused: counts.refused,
+                    services: events,
+                },
+                stretches: begun.saturating_add(self.packets.min(1)),
+                lost,
+                unjudged: self.unjudged,
+            }),
+            Err(fault) => Err(fault),
         }
-        let counts = self.desk.counts;
-        Ok(AirReport {
-            report: ServiceReport {
-                messages: counts.messages,
-                accepted: counts.accepted,
-                refused: counts.refused,
-                services: events,
-            },
-            stretches: begun.saturating_add(self.packets.min(1)),
-            lost,
-            unjudged: self.unjudged,
-        })
     }
 }
