@@ -5,7 +5,7 @@ use Rattle.std.proofs.lemmas.Result.{on_ok_weaker}
 use Rattle.std.specs.List.{list_any}
 use Rattle.psi_section.specs.Assembling.{capped}
 use Rattle.psi_tables.specs.declared.config.Config.{Config}
-use Rattle.services_on_air.specs.Airing.{Airing, begins, next_of, nexts, owns, leaves, learns, is_left, share_one, parted_from, parted, behind_first, begun_in}
+use Rattle.services_on_air.specs.Airing.{Airing, begins, nexts, owns, leaves, learns, share_one, parted_from, parted, behind_first, begun_in}
 use Rattle.services_on_air.specs.Standing.{AirStandsFor, IsSettled, IsPassed, ArePassed, AllStand, AllSettled}
 use Rattle.services_on_air.specs.declared.service.Passed.{Passed}
 use Rattle.services_on_air.specs.declared.service.AirService.{AirService}

@@ -1,5 +1,5 @@
 -- All services, packet by packet.
-use Rattle.std.proofs.Common.{◌≡◌, ℕ, suc, ◌+◌, List, [], ◌∷◌, ◌++◌, length, Bool, true, false, refl, sym, ap, subst, ◌∙◌, arith}
+use Rattle.std.proofs.Common.{◌≡◌, ℕ, suc, ◌+◌, List, [], ◌∷◌, length, Bool, true, false, refl, sym, ap, subst, ◌∙◌, arith}
 use Rattle.std.specs.Prelude.{map, min, if◌then◌else◌}
 use Rattle.std.specs.List.{list_any}
 use Rattle.psi_section.specs.Assembling.{capped}
@@ -76,7 +76,7 @@ stands-next {M} mid counted now cs p past passed h packets unjudged talk desk pa
       k = h.k;
       talks = subst (λ (t : Talk M). TalkStandsFor t h.ts h.n h.k) (sym (talk' ∙ talk)) h.talks;
       all = subst (λ b. AllStand now.desk.services.items (if b then parted xs else xs)) h.is.learns
-      (parts xs (subst (λ (d : AirDesk M). AllStand d.services.items xs) (sym desk) h.all));
+          (parts xs (subst (λ (d : AirDesk M). AllStand d.services.items xs) (sym desk) h.all));
       packets = packets' ∙ packets ∙ one-more mid.packets (length past) h.packets;
       unjudged = unjudged' ∙ unjudged ∙ counted-if passed.is_unjudged (is_left p xs) mid.unjudged (unjudged_among cs past) h.is.unjudged h.unjudged;
     }

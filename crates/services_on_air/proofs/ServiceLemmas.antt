@@ -1,5 +1,5 @@
 -- One service: what becomes of a packet in its stretch, and behind it.
-use Rattle.std.proofs.Common.{◌≡◌, ℕ, suc, ◌+◌, List, [], ◌∷◌, length, Bool, true, false, not, refl, sym, ap, subst, ◌∙◌, arith}
+use Rattle.std.proofs.Common.{◌≡◌, ℕ, ◌+◌, List, [], ◌∷◌, length, Bool, true, false, not, refl, sym, ap, subst, ◌∙◌, arith}
 use Rattle.std.specs.Prelude.{if◌then◌else◌, ◌==◌, Some}
 use Rattle.ts_packet.specs.Fields.{marked, on_one}
 use Rattle.program_follower.specs.Program.{known_pids}

@@ -1,5 +1,5 @@
 -- What several services on air stand for, packet by packet.
-use Rattle.std.specs.Prelude.{◌≡◌, ℕ, ◌+◌, List, [], ◌∷◌, reverse, length, Bool, true, false, not}
+use Rattle.std.specs.Prelude.{◌≡◌, ℕ, ◌+◌, List, [], ◌∷◌, reverse, length, false, not}
 use Rattle.std.specs.List.{list_any}
 use Rattle.ts_packet.specs.Packets.{packets_of}
 use Rattle.psi_section.specs.Assembling.{capped}

@@ -1,6 +1,5 @@
 use Rattle.std.proofs.Common.{[], ◌∷◌, ◌++◌, reverse, sym, subst}
 use Rattle.std.proofs.lemmas.List.{reverse-append}
-use Rattle.std.proofs.lemmas.Result.{IfOk-weaker}
 use Rattle.ts_packet.proofs.RunBlameLemmas.{given_none, given_more}
 use Rattle.ts_packet.proofs.PacketsLemmas.{read_to_end}
 use Rattle.services_on_air.specs.Standing.{AirServicesStandFor, TellsOfAll}

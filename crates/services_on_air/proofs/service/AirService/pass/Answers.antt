@@ -1,5 +1,5 @@
-use Rattle.std.proofs.Common.{sym, refl, ◌∙◌}
-use Rattle.services_on_air.proofs.ServiceLemmas.{owns-is, known-is, leaves-is, learns-is, stands-behind, is-itself}
+use Rattle.std.proofs.Common.{sym, ◌∙◌}
+use Rattle.services_on_air.proofs.ServiceLemmas.{owns-is, known-is}
 use Rattle.services_on_air.proofs.service.AirService.pass.Goals as goal
 
 pub returns-then-owns : goal.returns-then-owns

@@ -1,7 +1,7 @@
 use Rattle.std.proofs.Common.{rules, ◌≡◌, length, sym, subst, ◌∙◌}
 use Rattle.std.proofs.lemmas.List.{with_items_is}
 use Rattle.services_on_air.specs.Airing.{nexts, airings}
-use Rattle.services_on_air.specs.Standing.{AllStand, AllSettled, HavePassed}
+use Rattle.services_on_air.specs.Standing.{AllStand, AllSettled}
 use Rattle.services_on_air.proofs.PassLemmas.{nexts-long}
 use Rattle.services_on_air.proofs.services.AirServices.pass_settled.Goals as goal
 

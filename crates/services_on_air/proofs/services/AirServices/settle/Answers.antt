@@ -2,7 +2,7 @@ use Rattle.std.proofs.Common.{rules, ◌≡◌, length, sym, subst, ◌∙◌}
 use Rattle.std.proofs.lemmas.List.{with_items_is}
 use Rattle.std.proofs.lemmas.Result.{on_ok_weaker}
 use Rattle.services_on_air.specs.Airing.{nexts, airings}
-use Rattle.services_on_air.specs.Standing.{AllStand, AllSettled, AreSettled}
+use Rattle.services_on_air.specs.Standing.{AllStand, AllSettled}
 use Rattle.services_on_air.proofs.PassLemmas.{airings-long}
 use Rattle.services_on_air.proofs.services.AirServices.settle.Goals as goal
 
