@@ -17,6 +17,7 @@ pub record IsServicesOf (matches : ArgMatches) (options : ServicesOptions) : Typ
   pub asking : IsAsking (given matches (codes "script")) (given matches (codes "listen")) options.asking
   pub services : IsNamed (given matches (codes "services")) options.services
   pub output : IsNamed (given matches (codes "out")) options.output
+  pub on_air : IsFlag (one_text (found_of matches) (codes "on-air")) options.is_on_air
   pub verbose : IsFlag (one_text (found_of matches) (codes "verbose")) options.is_verbose
   pub apart : are_two (is_standard options.network) (is_asked_there options.asking) (is_standard options.services) ≡ false
 

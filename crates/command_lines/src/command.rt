@@ -215,7 +215,7 @@ pub fn command<'a>(alloc: Global) -> Result<Command<'a>, AllocError> {
         .subcommand(INJECT.on_air(alloc)?)?
         .subcommand(SPLICE.on_air(alloc)?)?
         .subcommand(RUN.on_air(alloc)?)?
-        .subcommand(SERVICES.command(alloc)?)?
+        .subcommand(SERVICES.on_air(alloc)?)?
         .subcommand(inspect_command(alloc)?)?
         .subcommand(request_command(alloc)?)?
         .subcommand(PLAN.silent(alloc)?)

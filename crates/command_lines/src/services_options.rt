@@ -5,7 +5,7 @@ ghost use Rattle.run_ends.specs.Ends.{path_of};
 ghost use Rattle.command_lines.specs.Command.{asking_name};
 ghost use Rattle.command_lines.specs.Services.{IsServicesOf, IsNoServices};
 
-use crate::given::{end_of, is_verbose};
+use crate::given::{end_of, is_on_air, is_verbose};
 use crate::inject_options::{
     Asking, BadInject, LISTEN, NETWORK, OUT, PLAYING_VERBOSE, SCRIPT, asking_of, check_inputs,
 };
@@ -29,7 +29,12 @@ and in the network the map, the streams and the cues of each need PIDs of their 
 At the end standard output has the three lines of `inject`, and then for each service, in the order of the list, a line `service` with
 the program's number and the four lines of `splice`. With --out - the packets go to standard output, and the replies and these lines to
 standard error. One of the network, the script and the list may be standard input. The contents of the output file are replaced; it may
-not be an input.";
+not be an input.
+
+With --on-air no fault of the network ends the run, and the report has five lines more; `dpi_chain inject --help` tells of them. Each
+program has stretches of its own: what is wrong with one program, or with a packet of it, leaves the others as they are. Where two
+services share a PID, the later one in the list begins anew behind the packet that makes it known. With --verbose the line of a new
+stretch begins with `service` and the program's number.";
 
 const SERVICES_EXAMPLE: &str =
     "Example, with a list whose two lines are `1 496 1 news.txt` and `2 497 2 films.txt`, and as lists of advertisements the files news.txt and
@@ -40,7 +45,7 @@ films.txt:
 
 /// How `services` is called.
 pub const SERVICES_USAGE: &str =
-    "dpi_chain services --network <FILE> --services <FILE> <--script <FILE>|--listen <PORT>> --out <FILE> [--verbose]";
+    "dpi_chain services --network <FILE> --services <FILE> <--script <FILE>|--listen <PORT>> --out <FILE> [--on-air] [--verbose]";
 
 const SERVICES_LIST: ValueOption = ValueOption {
     id: "services",
@@ -72,6 +77,8 @@ pub struct ServicesOptions<'a> {
     pub services: End<'a>,
     /// What is written.
     pub output: End<'a>,
+    /// Whether the run goes on behind faults of the network.
+    pub is_on_air: bool,
     /// Whether more is told than the fault's line.
     pub is_verbose: bool,
 }
@@ -141,6 +148,7 @@ pub fn services_options<'a>(
         asking,
         services,
         output: end_of(matches, "out"),
+        is_on_air: is_on_air(matches),
         is_verbose: is_verbose(matches),
     })
 }

@@ -206,7 +206,10 @@ fn print_served<W: Write>(printed: &mut W, served: &Served) -> bool {
             return false;
         }
     }
-    true
+    match &served.air {
+        Some(counts) => print_air_counts(printed, counts),
+        None => true,
+    }
 }
 
 /// Prints the fault's line of a run of several services, and behind it what is known of it where that is asked for.

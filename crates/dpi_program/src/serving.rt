@@ -3,17 +3,28 @@
 ghost use Rattle.std.specs.Prelude.{IfOk};
 ghost use Rattle.service_lists.specs.Lists.{AreReady};
 
+use crate::counting::air_counts;
 use crate::injecting::open_asker;
+use crate::sharing::Sharing;
+use ad_library::AdLibrary;
 use chain_services::ServiceReport;
 use command_lines::services_options::ServicesOptions;
+use on_air::Unwatched;
+use passages::air_kinds::ServingOnAir;
+use passages::air_running::run_on_air_from;
+use passages::air_telling::{AirTeller, TellingInTurn};
 use passages::asking::Asker;
 use passages::fault::ProgramFault;
 use passages::kinds::Serving;
+use passages::recovery_watch::RecoveryWatch;
 use passages::running::{Ran, out_of_memory, run_from, stopped, unopened, with_replies};
 use passages::tell::{LineAbout, ServicesAccount, Side, Stopped};
+use report_texts::AirCounts;
 use run_ends::{Attended, End, Unopened, create_output, open_input};
 use service_lists::{ServiceList, ServicesFault, Unloaded, load_services};
+use services_on_air::{AirServices, ServicesWatch};
 use std::alloc::Global;
+use std::cell::RefCell;
 use std::fs::Metadata;
 use std::io::{self, Read, Write};
 use std::net::{Net, OpenListener, OpenStream};
@@ -25,6 +36,8 @@ use ts_packet::{Device, Pid};
 pub struct Served {
     /// What was counted.
     pub report: ServiceReport,
+    /// What was counted besides, where it was on air.
+    pub air: Option<AirCounts>,
     /// What `--verbose` tells, where that was asked for.
     pub account: Option<ServicesAccount>,
 }
@@ -94,8 +107,13 @@ where
     }
 }
 
+/// Packets alone are told of, so any PID will do.
+fn watched_for(is_verbose: bool) -> Option<Pid> {
+    if is_verbose { Pid::new(0) } else { None }
+}
+
 /// Runs from a reader.
-fn run_services_from<R, O, W, L>(
+fn run_plainly<R, O, W, L>(
     alloc: Global,
     is_verbose: bool,
     is_live: bool,
@@ -118,8 +136,7 @@ where
         services,
         libraries,
     } = list;
-    // Packets alone are told of, so any PID will do.
-    let watched = if is_verbose { Pid::new(0) } else { None };
+    let watched = watched_for(is_verbose);
     let passage = Serving {
         configs: configs.as_slice(),
         services,
@@ -130,12 +147,98 @@ where
     let Ran { report, seen } = with_replies(ran, asker.has_lost_a_reply())?;
     Ok(Served {
         report,
+        air: None,
         account: seen.map(|(read, written)| ServicesAccount { read, written }),
     })
 }
 
+/// Runs on air from a reader.
+fn run_on_air<R, O, W, L, A, V>(
+    alloc: Global,
+    is_verbose: bool,
+    is_live: bool,
+    input: R,
+    asker: Asker<W, L>,
+    services: AirServices,
+    libraries: &[AdLibrary],
+    watch: &mut A,
+    reading: V,
+    output: O,
+) -> Result<Served, Stopped>
+where
+    R: Read + Drop,
+    O: Write + Drop,
+    W: Write + Drop,
+    L: OpenListener + Drop,
+    L::Stream: OpenStream + Read + Write + Drop,
+    A: ServicesWatch,
+    V: RecoveryWatch + Drop,
+{
+    let mut asker = asker;
+    let watched = watched_for(is_verbose);
+    let passage = ServingOnAir {
+        services,
+        asker: &mut asker,
+        libraries,
+        watch,
+    };
+    let ran = run_on_air_from(alloc, passage, watched, is_live, input, reading, output);
+    let Ran { report, seen } = with_replies(ran, asker.has_lost_a_reply())?;
+    let air = Some(air_counts(&report));
+    Ok(Served {
+        report: report.report.report,
+        air,
+        account: seen.map(|(read, written)| ServicesAccount { read, written }),
+    })
+}
+
+/// Runs from a reader, on air where there are services for that. A run on air is told of on the stream, where there is one.
+fn run_services_from<R, O, W, L, T>(
+    alloc: Global,
+    is_verbose: bool,
+    is_live: bool,
+    input: R,
+    asker: Asker<W, L>,
+    list: ServiceList,
+    on_air: Option<AirServices>,
+    told: Option<T>,
+    output: O,
+) -> Result<Served, Stopped>
+where
+    R: Read + Drop,
+    O: Write + Drop,
+    W: Write + Drop,
+    L: OpenListener + Drop,
+    L::Stream: OpenStream + Read + Write + Drop,
+    T: Write + Drop,
+    requires { AreReady list }
+{
+    let Some(services) = on_air else {
+        return run_plainly(alloc, is_verbose, is_live, input, asker, list, output);
+    };
+    let libraries = list.libraries.as_slice();
+    match told {
+        Some(stream) => {
+            let teller = RefCell::new(AirTeller::new(stream));
+            let watch = &mut TellingInTurn::new(&teller);
+            let reading = TellingInTurn::new(&teller);
+            run_on_air(
+                alloc, is_verbose, is_live, input, asker, services, libraries, watch, reading,
+                output,
+            )
+        }
+        None => {
+            let watch = &mut Unwatched;
+            run_on_air(
+                alloc, is_verbose, is_live, input, asker, services, libraries, watch, Unwatched,
+                output,
+            )
+        }
+    }
+}
+
 /// Runs between opened ends.
-fn run_ends<F, I, O, W, L>(
+fn run_ends<F, I, O, W, L, T>(
     alloc: Global,
     is_verbose: bool,
     network: Option<F>,
@@ -143,6 +246,8 @@ fn run_ends<F, I, O, W, L>(
     is_live: bool,
     asker: Asker<W, L>,
     list: ServiceList,
+    on_air: Option<AirServices>,
+    told: Option<T>,
     output: O,
 ) -> Result<Served, Stopped>
 where
@@ -152,27 +257,50 @@ where
     W: Write + Drop,
     L: OpenListener + Drop,
     L::Stream: OpenStream + Read + Write + Drop,
+    T: Write + Drop,
     requires { AreReady list }
 {
     match network {
-        Some(file) => run_services_from(alloc, is_verbose, is_live, file, asker, list, output),
-        None => run_services_from(alloc, is_verbose, is_live, input, asker, list, output),
+        Some(file) => run_services_from(
+            alloc, is_verbose, is_live, file, asker, list, on_air, told, output,
+        ),
+        None => run_services_from(
+            alloc, is_verbose, is_live, input, asker, list, on_air, told, output,
+        ),
     }
 }
 
-/// Opens the ends in their order, and runs. `standard` is there where packets go to standard output.
-fn open_and_run<R, I, O, W>(
+/// The services of a list that are run on air, where the options say so; their memory is taken here.
+fn services_on_air_of(
+    alloc: Global,
+    options: &ServicesOptions<'_>,
+    list: &ServiceList,
+) -> Result<Option<AirServices>, Stopped> {
+    if !options.is_on_air {
+        return Ok(None);
+    }
+    match AirServices::new(alloc, list.configs.as_slice()) {
+        Ok(services) => Ok(Some(services)),
+        Err(_) => Err(out_of_memory()),
+    }
+}
+
+/// Opens the ends in their order, and runs. `standard` is there where packets go to standard output, `told` where a run on air is to be
+/// told of.
+fn open_and_run<R, I, O, W, T>(
     rt: &R,
     options: &ServicesOptions<'_>,
     input: &mut I,
     replies: W,
     standard: Option<O>,
+    told: Option<T>,
 ) -> Result<Served, Stopped>
 where
     R: Files + Net + AllocGlobal,
     I: Read,
     O: Write + Drop,
     W: Write + Drop,
+    T: Write + Drop,
 {
     let opened = match options.network.path() {
         Some(path) => match open_input(rt, path) {
@@ -186,11 +314,12 @@ where
     let about = opened.as_ref().map(|(_, about)| about);
     let is_live = !about.is_some_and(|about| about.is_file());
     let alloc = rt.alloc();
+    let on_air = services_on_air_of(alloc, options, &list)?;
     let is_verbose = options.is_verbose;
     if let Some(standard) = standard {
         let network = opened.map(|(file, _)| file);
         return run_ends(
-            alloc, is_verbose, network, input, is_live, asker, list, standard,
+            alloc, is_verbose, network, input, is_live, asker, list, on_air, told, standard,
         );
     }
     let path = options.output.path().unwrap_or("");
@@ -198,7 +327,7 @@ where
         Ok(file) => {
             let network = opened.map(|(file, _)| file);
             run_ends(
-                alloc, is_verbose, network, input, is_live, asker, list, file,
+                alloc, is_verbose, network, input, is_live, asker, list, on_air, told, file,
             )
         }
         Err(reason) => Err(unopened(Unopened::Output(reason))),
@@ -207,7 +336,8 @@ where
 
 /// Runs the subcommand `services`: the network is opened first, then the script or the port, then the list is loaded line by line, with all
 /// advertisements of each, and with the memory of the services, then the output file is opened. Then, where there is a port, a client is waited
-/// for. Replies to a script are printed as they come, on `faults` where the packets go to standard output.
+/// for, but on air. Replies to a script are printed as they come, on `faults` where the packets go to standard output. With `--verbose` a run on air is told
+/// of on `faults` while it goes on.
 ///
 /// # Errors
 ///
@@ -227,9 +357,17 @@ where
     O: Write,
     E: Write,
 {
-    if options.has_standard_output() {
-        return open_and_run(rt, options, input, faults, Some(output));
+    let tells = options.is_on_air && options.is_verbose;
+    if !options.has_standard_output() {
+        let none: Option<&mut E> = None;
+        return open_and_run(rt, options, input, output, none, tells.then_some(faults));
     }
-    let none: Option<&mut E> = None;
-    open_and_run(rt, options, input, output, none)
+    if tells {
+        let stream = RefCell::new(faults);
+        let replies = Sharing::new(&stream);
+        let told = Some(Sharing::new(&stream));
+        return open_and_run(rt, options, input, replies, Some(output), told);
+    }
+    let told: Option<&mut E> = None;
+    open_and_run(rt, options, input, faults, Some(output), told)
 }

@@ -1,14 +1,16 @@
-//! The kinds of passages on air: a run with advertisements, one with cues, and one with both, each as its options say. No fault of the
-//! network ends them.
+//! The kinds of passages on air: a run with advertisements, one with cues, and one with both, each as its options say; and one of
+//! several services. No fault of the network ends them.
 
 use crate::air_running::AirPassage;
-use crate::asking::{Asker, cue_on_air, play_on_air};
+use crate::asking::{Asker, cue_on_air, play_on_air, serve_on_air};
 use crate::fault::ProgramFault;
 use ad_library::AdLibrary;
 use chain_engine::{Chain, Report};
+use chain_services::ServiceReport;
 use command_lines::inject_options::InjectOptions;
 use command_lines::splice_options::SpliceOptions;
 use on_air::{AirReport, AirWatch, splice_on_air};
+use services_on_air::{AirServices, ServicesWatch};
 use splice_plans::SwitchReport;
 use std::alloc::Global;
 use std::io::{Read, Write};
@@ -120,6 +122,44 @@ where
             return Err(ProgramFault::OutOfMemory);
         };
         match play_on_air(chain, network, asker, library, out, watch) {
+            Ok(report) => Ok(report),
+            Err(fault) => Err(ProgramFault::Run(fault)),
+        }
+    }
+}
+
+/// A run on air of several services, each with the advertisements of its library: they were given nothing yet, and there are as many libraries.
+#[derive(Drop)]
+pub struct ServingOnAir<'a, W, L, A> {
+    /// What runs them.
+    pub services: AirServices,
+    pub asker: &'a mut Asker<W, L>,
+    pub libraries: &'a [AdLibrary],
+    /// Who is told of the run while it goes on.
+    pub watch: &'a mut A,
+}
+
+impl<W, L, A> AirPassage for ServingOnAir<'_, W, L, A>
+where
+    W: Write,
+    L: OpenListener,
+    L::Stream: OpenStream + Read + Write + Drop,
+    A: ServicesWatch,
+{
+    type Report = AirReport<ServiceReport>;
+
+    fn pass<P: PausingPackets, K: GatheringSink>(
+        self,
+        network: &mut P,
+        out: &mut K,
+    ) -> Result<AirReport<ServiceReport>, ProgramFault> {
+        let ServingOnAir {
+            services,
+            asker,
+            libraries,
+            watch,
+        } = self;
+        match serve_on_air(services, network, asker, libraries, out, watch) {
             Ok(report) => Ok(report),
             Err(fault) => Err(ProgramFault::Run(fault)),
         }

@@ -6,7 +6,9 @@ ghost use Rattle.on_air.specs.Plain.{IsOfDevices};
 use ad_library::AdLibrary;
 use automations::Clients;
 use chain_engine::{Chain, Report, RunFault};
+use chain_services::ServiceReport;
 use on_air::{AirReport, AirWatch, inject_on_air, run_on_air};
+use services_on_air::{AirServices, ServicesWatch, run_services_on_air};
 use std::alloc::Allocator;
 use std::io::{Read, Write};
 use std::net::{OpenListener, OpenStream};
@@ -63,4 +65,31 @@ where
 {
     let mut clients = Clients::new(listener);
     run_on_air(chain, network, &mut clients, library, out, watch)
+}
+
+/// Runs [`run_services_on_air`] with the clients of the listener as the automation, likewise.
+///
+/// # Errors
+///
+/// As for [`run_services_on_air`].
+pub fn services_listening_on_air<M, P, L, K, A>(
+    services: AirServices<M>,
+    network: &mut P,
+    listener: &L,
+    libraries: &[AdLibrary],
+    out: &mut K,
+    watch: &mut A,
+) -> Result<AirReport<ServiceReport>, RunFault>
+where
+    M: Allocator,
+    P: PausingPackets,
+    L: OpenListener,
+    L::Stream: OpenStream + Read + Write + Drop,
+    K: GatheringSink,
+    A: ServicesWatch,
+    requires { P.is_broken network.old ≡ false }
+    ensures devices { IfErr result IsOfDevices }
+{
+    let mut clients = Clients::new(listener);
+    run_services_on_air(services, network, &mut clients, libraries, out, watch)
 }

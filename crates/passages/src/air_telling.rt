@@ -6,6 +6,7 @@ use crate::tell::BothWays;
 use chain_engine::RunFault;
 use on_air::{AirWatch, Begun};
 use psi_tables::FeedFault;
+use services_on_air::{ServiceBegun, ServicesWatch};
 use std::cell::RefCell;
 use std::fmt::Display;
 use std::io::Write;
@@ -129,13 +130,13 @@ impl<'a, W> TellingInTurn<'a, W> {
 impl<W: Write> AirWatch for TellingInTurn<'_, W> {
     fn begun(&mut self, begun: &Begun) {
         if let Ok(mut teller) = self.teller.try_borrow_mut() {
-            teller.begun(begun);
+            AirWatch::begun(&mut *teller, begun);
         }
     }
 
     fn unjudged(&mut self, packet: u64) {
         if let Ok(mut teller) = self.teller.try_borrow_mut() {
-            teller.unjudged(packet);
+            AirWatch::unjudged(&mut *teller, packet);
         }
     }
 }
@@ -145,5 +146,36 @@ impl<W: Write> RecoveryWatch for TellingInTurn<'_, W> {
         if let Ok(mut teller) = self.teller.try_borrow_mut() {
             teller.read(recovery);
         }
+    }
+}
+
+/// A line for a stretch that begins anew names the program of its service, and counts the stretches of that service.
+impl<W: Write> ServicesWatch for AirTeller<W> {
+    fn begun(&mut self, begun: &ServiceBegun) {
+        let (program, stretch) = (begun.program, begun.stretch);
+        let (packet, place) = (begun.packet, self.recovery.place);
+        let pid = BothWays { pid: begun.pid };
+        let name = fault_name(ProgramFault::Run(begun.fault));
+        let _ = writeln!(
+            self.stream,
+            "service {program}: stretch {stretch}: packet {packet}, byte {place}, {pid}: {name}"
+        );
+        let _ = self.stream.flush();
+    }
+
+    fn unjudged(&mut self, packet: u64) {
+        AirWatch::unjudged(self, packet);
+    }
+}
+
+impl<W: Write> ServicesWatch for TellingInTurn<'_, W> {
+    fn begun(&mut self, begun: &ServiceBegun) {
+        if let Ok(mut teller) = self.teller.try_borrow_mut() {
+            ServicesWatch::begun(&mut *teller, begun);
+        }
+    }
+
+    fn unjudged(&mut self, packet: u64) {
+        AirWatch::unjudged(self, packet);
     }
 }

@@ -14,7 +14,9 @@ ghost use Rattle.on_air.specs.Plain.{IsOfDevices};
 ghost use Rattle.passages.specs.Runs.{PassesAll, AskerTells, CuesStop, Cues, PlaysStop, Plays, ServesStop};
 ghost use Rattle.passages.specs.Runs.{Serves, IfRan, IsPort, told_fault, lost_replies};
 
-use crate::air_listening::{inject_listening_on_air, run_listening_on_air};
+use crate::air_listening::{
+    inject_listening_on_air, run_listening_on_air, services_listening_on_air,
+};
 use crate::fault::ProgramFault;
 use crate::listening::{ListenFault, inject_listening, run_listening, services_listening};
 use ad_library::AdLibrary;
@@ -22,6 +24,7 @@ use automations::Script;
 use chain_engine::{Chain, Report, RunFault, run, run_inject};
 use chain_services::{ServiceReport, Services, run_services};
 use on_air::{AirReport, AirWatch, inject_on_air, run_on_air};
+use services_on_air::{AirServices, ServicesWatch, run_services_on_air};
 use std::io::{Read, Write};
 use std::net::{OpenListener, OpenStream};
 use ts_packet::{GatheringSink, PausingPackets, ReadFault};
@@ -245,6 +248,39 @@ where
             Err(fault) => Err(ListenFault::Run(fault)),
         },
         Asker::Port(listener) => services_listening(services, network, listener, libraries, out),
+    }
+}
+
+/// Runs several services on air by this automation: no fault of the network ends the run, and it waits for no client.
+///
+/// # Errors
+///
+/// As for [`run_services_on_air`].
+pub fn serve_on_air<P, K, W, L, A>(
+    services: AirServices,
+    network: &mut P,
+    asker: &mut Asker<W, L>,
+    libraries: &[AdLibrary],
+    out: &mut K,
+    watch: &mut A,
+) -> Result<AirReport<ServiceReport>, RunFault>
+where
+    P: PausingPackets,
+    K: GatheringSink,
+    W: Write,
+    L: OpenListener,
+    L::Stream: OpenStream + Read + Write + Drop,
+    A: ServicesWatch,
+    requires { P.is_broken network.old ≡ false }
+    ensures devices { IfErr result IsOfDevices }
+{
+    match asker {
+        Asker::Script(script) => {
+            run_services_on_air(services, network, script, libraries, out, watch)
+        }
+        Asker::Port(listener) => {
+            services_listening_on_air(services, network, listener, libraries, out, watch)
+        }
     }
 }
 

@@ -1,0 +1,3 @@
+mod ServiceLemmas
+mod ListLemmas
+mod PassLemmas

@@ -1,0 +1,20 @@
+use Rattle.std.proofs.Common.{◌∷◌, ◌∙◌}
+use Rattle.injector.specs.Steps.{Message}
+use Rattle.services_on_air.proofs.service.AirService.ask.Goals as goal
+
+pub returns : goal.returns
+returns c = λ p a h.
+    let asked = c.ask.ensures in
+    record {
+      j = h.j;
+      past = h.past;
+      earlier = h.earlier;
+      parts = h.parts;
+      config = asked.config ∙ h.config;
+      marks = h.marks;
+      followed = record { steps = Message _ ∷ h.followed.steps; injector = asked.judged.stands a.config h.followed.steps h.followed.injector; packets = h.followed.packets };
+      unjudged = h.unjudged;
+      is_empty = h.is_empty;
+      shares = h.shares;
+      begun = h.begun;
+    }

@@ -1,0 +1,14 @@
+use Rattle.std.proofs.Common.{◌∙◌}
+use Rattle.services_on_air.proofs.ServiceLemmas.{leaves-is, learns-is}
+use Rattle.services_on_air.proofs.service.AirService.pass_and_tell.Goals as goal
+
+pub returns-in-Ok : goal.returns-in-Ok
+returns-in-Ok g c = λ a h own known.
+    let stands = c.in-Ok.ensures.stands a h in (
+      stands,
+      record {
+        own = own;
+        unjudged = c.pass_to.ensures.unjudged ∙ leaves-is c.args.self.now c.args.packet.now a h;
+        learns = learns-is a c.args.known c.pid_count.result stands.followed.steps known (c.pid_count.ensures a.config stands.followed.steps stands.followed.injector) stands.followed.packets;
+      },
+    )

@@ -1,0 +1,2 @@
+pub mod Airing
+pub mod Standing

@@ -1,0 +1,384 @@
+//! One service on air, stretch by stretch.
+
+ghost use Rattle.std.specs.Prelude.{◌≡◌, ℕ, ◌||◌, if◌then◌else◌, List, [], length, true, false, OnOk, IfOk};
+ghost use Rattle.psi_tables.specs.declared.config.Config.{Config};
+ghost use Rattle.program_follower.specs.Purposes.{writing_cues};
+ghost use Rattle.psi_section.specs.Assembling.{capped};
+ghost use Rattle.chain_engine.specs.Followed.{HasFollowed};
+ghost use Rattle.on_air.specs.Stretches.{Entry, as_read};
+ghost use Rattle.on_air.specs.Marking.{Keeps, Becomes};
+ghost use Rattle.on_air.specs.AirRuns.{has_no};
+ghost use Rattle.services_on_air.specs.Airing.{Airing, begins, next_of, anew_with, known_of, known_before, owns, behind_first};
+ghost use Rattle.services_on_air.specs.Standing.{AirStandsFor, BeginsBehind, IsSettled, IsPassed};
+
+use crate::watch::{ServiceBegun, ServicesWatch};
+use ad_library::AdLibrary;
+use arrayvec::ArrayVec;
+use chain_engine::{Judge, RunFault, Service, put_fault};
+use chain_services::Nowhere;
+use on_air::{MapTail, Marks, Standing, Verdict};
+use psi_tables::{Config, FeedFault};
+use scte104_codec::{BadMessage, Message, Reply};
+use splice_switch::SwitchReport;
+use ts_packet::{Packet, PacketSink, Pid, PutFault};
+
+/// What a packet is that passed through a service, or through several.
+#[derive(Clone, Copy, Debug, PartialEq, Eq)]
+pub(crate) struct Passed {
+    /// It is on a PID of a service, and what that sends for it is out.
+    pub(crate) is_own: bool,
+    /// The service whose it is left it unjudged, or where it is none's some service did.
+    pub(crate) is_unjudged: bool,
+    /// With it more PIDs may be known of a service.
+    pub(crate) learns: bool,
+}
+
+impl Passed {
+    /// It is of no service, and was judged.
+    pub(crate) fn beside() -> Passed
+        ensures own { result.is_own ≡ false }
+        ensures unjudged { result.is_unjudged ≡ false }
+        ensures learns { result.learns ≡ false }
+    {
+        Passed {
+            is_own: false,
+            is_unjudged: false,
+            learns: false,
+        }
+    }
+
+    /// What a packet is that passed through these, and then through those of which the other tells.
+    pub(crate) fn joined(self, other: Passed) -> Passed
+        ensures own { result.is_own ≡ (self.is_own || other.is_own) }
+        ensures unjudged { result.is_unjudged ≡ (if self.is_own then self.is_unjudged
+            else (if other.is_own then other.is_unjudged else (self.is_unjudged || other.is_unjudged))) }
+        ensures learns { result.learns ≡ (self.learns || other.learns) }
+    {
+        let is_unjudged = if self.is_own {
+            self.is_unjudged
+        } else if other.is_own {
+            other.is_unjudged
+        } else {
+            self.is_unjudged || other.is_unjudged
+        };
+        Passed {
+            is_own: self.is_own || other.is_own,
+            is_unjudged,
+            learns: self.learns || other.learns,
+        }
+    }
+}
+
+/// A packet of the network and its number, from 0.
+#[derive(Clone, Copy)]
+pub(crate) struct Numbered<'a> {
+    pub(crate) packet: &'a Packet,
+    pub(crate) number: u64,
+}
+
+/// One program's service on air. Where a stretch ends it begins anew, and is given the packets and messages of the next one.
+#[derive(Drop)]
+pub(crate) struct AirService {
+    service: Service,
+    marks: Marks,
+    tail: MapTail,
+    /// No packet has come.
+    is_empty: bool,
+    /// Its stretch ends with the packet that came last: with that a service before it shares a PID.
+    shares: bool,
+    /// It leaves the packet unjudged that was settled last.
+    is_unjudged: bool,
+    /// How many stretches began behind another one; the count stops at the greatest u64.
+    begun: u64,
+    /// What the stretches that ended counted, summed.
+    ended: SwitchReport,
+    /// The events that stood at their ends, and whose end had not come.
+    lost: u64,
+}
+
+impl AirService {
+    /// A service that was given no message and no packet.
+    pub(crate) fn new(config: Config) -> AirService
+        ensures { AirStandsFor result (begins config) }
+    {
+        AirService {
+            service: Service::new(config),
+            marks: Marks::new(),
+            tail: MapTail::new(),
+            is_empty: true,
+            shares: false,
+            is_unjudged: false,
+            begun: 0,
+            ended: SwitchReport::new(),
+            lost: 0,
+        }
+    }
+
+    /// What it is configured for.
+    pub(crate) fn config(&self) -> Config
+        ensures { result ≡ self.now.service.config }
+    {
+        self.service.config()
+    }
+
+    /// The events that stood at the ends of its stretches but the last, and whose end had not come.
+    pub(crate) fn lost(&self) -> u64 {
+        self.lost
+    }
+
+    /// How many of its stretches began behind another one.
+    pub(crate) fn begun(&self) -> u64
+        ensures { result ≡ self.now.begun }
+    {
+        self.begun
+    }
+
+    /// The PIDs that are known of its program in this stretch: that of its map first.
+    pub(crate) fn pids(&self) -> ArrayVec<Pid, 9>
+        ensures { (a : Airing) → AirStandsFor self.now a → result.items ≡ known_of a }
+    {
+        self.service.pids()
+    }
+
+    /// Judges a message by the packets of its stretch, and answers it.
+    pub(crate) fn ask(&mut self, message: Result<Message<'_>, BadMessage>) -> Reply
+        ensures { (p : List ℕ) (a : Airing) → IsSettled self.old p a → IsSettled self.new p a }
+    {
+        self.service.ask(message)
+    }
+
+    /// What becomes of the next packet in its stretch.
+    #[inline(always)]
+    fn judge(&mut self, packet: &Packet) -> Verdict
+        ensures becomes { (c : Config) (past : List Entry) → self.old.service.config ≡ c → Keeps self.old.marks (writing_cues c) past
+            → HasFollowed self.old.service c (as_read past) → Becomes result self.new.marks (writing_cues c) packet.now past }
+        ensures service { self.new.service ≡ self.old.service }
+        ensures counts { (self.new.is_empty ≡ self.old.is_empty) × (self.new.shares ≡ self.old.shares) × (self.new.begun ≡ self.old.begun) }
+    {
+        let fault = self.service.look(packet);
+        if fault.is_none() && !self.marks.has_any() {
+            return Verdict::Judged;
+        }
+        let standing = match self.service.stream_of(packet) {
+            Some(stream) => Standing::Streamed(stream, self.service.start_at(stream, packet)),
+            None if packet.is_on(self.service.config().cue_pid) => Standing::Cued,
+            None => Standing::Beside,
+        };
+        self.marks.judge_standing(packet, standing, fault)
+    }
+
+    /// Settles what becomes of a packet with which a stretch begins: it begins no other.
+    fn settle_first(&mut self, packet: &Packet)
+        ensures { (c : Config) (ss : List (List Entry)) → BeginsBehind self.old c ss
+            → IsSettled self.new packet.now (anew_with packet.now c ss) }
+    {
+        let verdict = self.judge(packet);
+        self.is_unjudged = !verdict.is_judged();
+        self.is_empty = false;
+        self.shares = false;
+    }
+
+    /// Ends its stretch, and settles what becomes of the next packet, with which another begins.
+    ///
+    /// # Errors
+    ///
+    /// The sink's.
+    fn settle_anew<K: PacketSink>(
+        &mut self,
+        packet: &Packet,
+        library: &AdLibrary,
+        out: &mut K,
+    ) -> Result<(), PutFault>
+        ensures { (c : Config) (ss : List (List Entry)) → self.old.service.config ≡ c → self.old.begun ≡ capped (behind_first ss)
+            → has_no ss ≡ false → OnOk result (IsSettled self.new packet.now (anew_with packet.now c ss)) }
+    {
+        match self.begin_anew(library, out) {
+            Ok(()) => {
+                self.settle_first(packet);
+                Ok(())
+            }
+            Err(fault) => Err(fault),
+        }
+    }
+
+    /// Settles what becomes of the next packet, before the messages that come before it are heard: a stretch that begins anew with it begins
+    /// here.
+    ///
+    /// # Errors
+    ///
+    /// The sink's.
+    pub(crate) fn settle<K: PacketSink, A: ServicesWatch>(
+        &mut self,
+        next: Numbered<'_>,
+        library: &AdLibrary,
+        out: &mut K,
+        watch: &mut A,
+    ) -> Result<(), PutFault>
+        ensures { (a : Airing) → AirStandsFor self.old a
+            → OnOk result (IsSettled self.new next.entry.packet.now (next_of next.entry.packet.now a)) }
+    {
+        let packet = next.packet;
+        if self.is_empty {
+            self.settle_first(packet);
+            return Ok(());
+        }
+        if self.shares {
+            return self.settle_anew(packet, library, out);
+        }
+        match self.judge(packet) {
+            Verdict::Judged => {
+                self.is_unjudged = false;
+                Ok(())
+            }
+            Verdict::Unjudged => {
+                self.is_unjudged = true;
+                Ok(())
+            }
+            Verdict::BeginsAnew(fault) => {
+                self.tell(RunFault::Feed(FeedFault::Network(fault)), next, watch);
+                self.settle_anew(packet, library, out)
+            }
+        }
+    }
+
+    /// Tells that its next stretch begins, and why.
+    fn tell<A: ServicesWatch>(&self, fault: RunFault, at: Numbered<'_>, watch: &mut A) {
+        watch.begun(&ServiceBegun {
+            program: self.service.config().program,
+            stretch: self.begun.saturating_add(2),
+            packet: at.number,
+            pid: at.packet.pid(),
+            fault,
+        });
+    }
+
+    /// Ends its stretch with the packet that came last, since with that a service before it shares a PID. It is told once.
+    pub(crate) fn part<A: ServicesWatch>(&mut self, last: Numbered<'_>, watch: &mut A)
+        ensures { (a : Airing) → AirStandsFor self.old a
+            → AirStandsFor self.new (record { config = a.config; stretches = a.stretches; shares = true }) }
+    {
+        if !self.shares {
+            self.tell(RunFault::SharedPid, last, watch);
+        }
+        self.shares = true;
+    }
+
+    /// Ends its stretch, and begins one anew behind it: the packets that brought a part of a section of its map go out as they came, and nothing
+    /// more of an advertisement that runs.
+    #[cold]
+    #[inline(never)]
+    fn begin_anew<K: PacketSink>(
+        &mut self,
+        library: &AdLibrary,
+        out: &mut K,
+    ) -> Result<(), PutFault>
+        ensures { (c : Config) (ss : List (List Entry)) → self.old.service.config ≡ c → self.old.begun ≡ capped (behind_first ss)
+            → has_no ss ≡ false → BeginsBehind self.new c ss }
+    {
+        self.ended = self.ended.plus(self.service.report(library));
+        self.lost = self.lost.saturating_add(self.service.open_count() as u64);
+        self.begun = self.begun.saturating_add(1);
+        self.service = Service::new(self.service.config());
+        self.marks = Marks::new();
+        let put = self.tail.put(out);
+        self.tail = MapTail::new();
+        put
+    }
+
+    /// Keeps a judged packet that brings a part of a section of its map.
+    fn keep(&mut self, packet: &Packet)
+        ensures service { self.new.service ≡ self.old.service }
+        ensures others { (self.new.marks ≡ self.old.marks) × (self.new.is_unjudged ≡ self.old.is_unjudged)
+            × (self.new.is_empty ≡ self.old.is_empty) × (self.new.shares ≡ self.old.shares) × (self.new.begun ≡ self.old.begun) }
+    {
+        if self.tail.is_before_pat() {
+            if let Some(pid) = self.service.pids().first() {
+                self.tail.begin(*pid);
+            }
+        }
+        self.tail.take(packet);
+    }
+
+    /// Passes the packet on that was settled. One that is left unjudged goes out as it came, but for its continuity_counter.
+    fn pass_to<K: PacketSink>(
+        &mut self,
+        packet: &Packet,
+        library: &AdLibrary,
+        out: &mut K,
+    ) -> Result<(), PutFault>
+        ensures stands { (a : Airing) → IsSettled self.old packet.now a → OnOk result (AirStandsFor self.new a) }
+        ensures unjudged { self.new.is_unjudged ≡ self.old.is_unjudged }
+    {
+        if self.is_unjudged {
+            return self.service.pass_unjudged(packet, library, out);
+        }
+        self.keep(packet);
+        match self.service.pass_on(packet, library, out) {
+            Ok(()) => Ok(()),
+            Err(fault) => Err(put_fault(fault)),
+        }
+    }
+
+    /// Passes the packet on that was settled, and tells what it is: of its own or not, where so many PIDs were known of it before.
+    fn pass_and_tell<K: PacketSink>(
+        &mut self,
+        is_own: bool,
+        known: usize,
+        packet: &Packet,
+        library: &AdLibrary,
+        out: &mut K,
+    ) -> Result<Passed, PutFault>
+        ensures { (a : Airing) → IsSettled self.old packet.now a → is_own ≡ owns packet.now a → known ≡ length (known_before a)
+            → IfOk result (λ passed. AirStandsFor self.new a × IsPassed passed packet.now a) }
+    {
+        match self.pass_to(packet, library, out) {
+            Ok(()) => Ok(Passed {
+                is_own,
+                is_unjudged: self.is_unjudged,
+                learns: self.service.pid_count() != known,
+            }),
+            Err(fault) => Err(fault),
+        }
+    }
+
+    /// Passes the packet on that was settled: what it sends goes out where the packet is on one of its PIDs, and is the packet else.
+    ///
+    /// # Errors
+    ///
+    /// The sink's.
+    #[inline(always)]
+    pub(crate) fn pass<K: PacketSink>(
+        &mut self,
+        packet: &Packet,
+        library: &AdLibrary,
+        out: &mut K,
+    ) -> Result<Passed, PutFault>
+        ensures { (a : Airing) → IsSettled self.old packet.now a
+            → IfOk result (λ passed. AirStandsFor self.new a × IsPassed passed packet.now a) }
+    {
+        let known = self.service.pid_count();
+        if self.service.owns(packet) {
+            return self.pass_and_tell(true, known, packet, library, out);
+        }
+        if !self.is_unjudged && self.service.overlooks(packet) {
+            return Ok(Passed::beside());
+        }
+        self.pass_and_tell(false, known, packet, library, &mut Nowhere)
+    }
+
+    /// Puts what is left of the advertisements that run, and tells what became of the events of all its stretches.
+    ///
+    /// # Errors
+    ///
+    /// The sink's.
+    pub(crate) fn finish<K: PacketSink>(
+        &mut self,
+        library: &AdLibrary,
+        out: &mut K,
+    ) -> Result<SwitchReport, PutFault> {
+        match self.service.finish(library, out) {
+            Ok(last) => Ok(self.ended.plus(last)),
+            Err(fault) => Err(put_fault(fault)),
+        }
+    }
+}

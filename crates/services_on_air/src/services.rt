@@ -1,0 +1,371 @@
+//! The services of a run on air, packet by packet.
+
+ghost use Rattle.std.specs.Prelude.{◌≡◌, ◌++◌, ◌+◌, ℕ, if◌then◌else◌, List, ◌∷◌, [], map, length, None, OnOk, IfOk, IfErr};
+ghost use Rattle.psi_section.specs.Assembling.{capped};
+ghost use Rattle.psi_tables.specs.declared.config.Config.{Config};
+ghost use Rattle.chain_services.specs.Refused.{services_refused, IsRefused};
+ghost use Rattle.services_on_air.specs.Airing.{Airing, begins, nexts, parted, begun_in};
+ghost use Rattle.services_on_air.specs.Standing.{AllStand, AllSettled, ArePassed, AirServicesStandFor, AreSettled, HavePassed, TellsOfAll};
+
+use crate::desk::AirDesk;
+use crate::service::{AirService, Numbered, Passed};
+use crate::sharing::part_each;
+use crate::watch::ServicesWatch;
+use ad_library::AdLibrary;
+use arrayvec::ArrayVec;
+use chain_engine::{Automation, OutOfMemory, Talk};
+use chain_services::{ServiceEvents, ServiceFault, ServiceReport, Services};
+use injector::{MessageCounts, Requests};
+use on_air::AirReport;
+use psi_tables::Config;
+use std::alloc::{Allocator, Global};
+use ts_packet::{Packet, PacketSink, PutFault};
+
+/// What turns a network of several programmes, whatever is wrong with it, and an automation's requests for each of them into the spliced stream.
+/// It takes all its memory when it is made: two times 65,535 bytes for the automation's messages, and some 100,000 bytes for each service.
+#[derive(Drop)]
+pub struct AirServices<M: Allocator = Global> {
+    talk: Talk<M>,
+    desk: AirDesk<M>,
+    /// How many packets have come; the count stops at the greatest u64.
+    packets: u64,
+    /// How many of them were left unjudged.
+    unjudged: u64,
+}
+
+/// Adds services of these, which were given nothing.
+fn add_services<M: Allocator>(
+    services: &mut Vec<AirService, M>,
+    configs: &[Config],
+) -> Result<(), OutOfMemory>
+    ensures { (xs : List Airing) → AllStand services.old.items xs
+        → OnOk result (AllStand services.new.items (xs ++ map begins configs.now)) }
+{
+    let Some((config, others)) = configs.split_first() else {
+        return Ok(());
+    };
+    match services.push(AirService::new(*config)) {
+        Ok(()) => add_services(services, others),
+        Err(_) => Err(OutOfMemory),
+    }
+}
+
+/// Settles for each of these services what becomes of the next packet, before the messages that come before it are heard.
+///
+/// # Errors
+///
+/// The sink's.
+fn settle_each<K: PacketSink, A: ServicesWatch>(
+    services: &mut [AirService],
+    libraries: &[AdLibrary],
+    next: Numbered<'_>,
+    out: &mut K,
+    watch: &mut A,
+) -> Result<(), PutFault>
+    ensures { (xs : List Airing) → AllStand services.old xs → length libraries.now ≡ length xs
+        → OnOk result (AllSettled services.new next.entry.packet.now (nexts next.entry.packet.now xs)) }
+{
+    let Some((service, others)) = services.split_first_mut() else {
+        return Ok(());
+    };
+    let Some((library, libraries)) = libraries.split_first() else {
+        return Ok(());
+    };
+    match service.settle(next, library, out, watch) {
+        Ok(()) => settle_each(others, libraries, next, out, watch),
+        Err(fault) => Err(fault),
+    }
+}
+
+/// Passes a packet on through these services, each with its library.
+///
+/// # Errors
+///
+/// The sink's.
+fn pass_each<K: PacketSink>(
+    services: &mut [AirService],
+    libraries: &[AdLibrary],
+    packet: &Packet,
+    out: &mut K,
+) -> Result<Passed, PutFault>
+    ensures { (xs : List Airing) → AllSettled services.old packet.now xs → length libraries.now ≡ length xs
+        → IfOk result (λ passed. AllStand services.new xs × ArePassed passed packet.now xs) }
+{
+    let Some((service, others)) = services.split_first_mut() else {
+        return Ok(Passed::beside());
+    };
+    let Some((library, libraries)) = libraries.split_first() else {
+        return Ok(Passed::beside());
+    };
+    let one = match service.pass(packet, library, out) {
+        Ok(one) => one,
+        Err(fault) => return Err(fault),
+    };
+    match pass_each(others, libraries, packet, out) {
+        Ok(others) => Ok(one.joined(others)),
+        Err(fault) => Err(fault),
+    }
+}
+
+/// Puts what is left of the advertisements of these services, each with its library, and adds what became of their events.
+///
+/// # Errors
+///
+/// The sink's; `Failed` where there is no room for more events.
+fn finish_each<K: PacketSink>(
+    services: &mut [AirService],
+    libraries: &[AdLibrary],
+    events: &mut ArrayVec<ServiceEvents, 8>,
+    out: &mut K,
+) -> Result<(), PutFault> {
+    let Some((service, others)) = services.split_first_mut() else {
+        return Ok(());
+    };
+    let Some((library, libraries)) = libraries.split_first() else {
+        return Ok(());
+    };
+    let config = service.config();
+    let switch = match service.finish(library, out) {
+        Ok(switch) => switch,
+        Err(fault) => return Err(fault),
+    };
+    let one = ServiceEvents {
+        index: config.index,
+        program: config.program,
+        switch,
+    };
+    match events.try_push(one) {
+        Ok(()) => finish_each(others, libraries, events, out),
+        Err(_) => Err(PutFault::Failed),
+    }
+}
+
+/// How many stretches of these services began behind another one.
+fn begun_of(services: &[AirService]) -> u64
+    ensures { (xs : List Airing) → AllStand services.now xs → result ≡ capped (begun_in xs) }
+{
+    match services.split_first() {
+        None => 0,
+        Some((service, others)) => {
+            let behind = begun_of(others);
+            service.begun().saturating_add(behind)
+        }
+    }
+}
+
+/// The events of these services that stood at the ends of their stretches but the last, and whose end had not come.
+fn lost_of(services: &[AirService]) -> u64 {
+    match services.split_first() {
+        None => 0,
+        Some((service, others)) => service.lost().saturating_add(lost_of(others)),
+    }
+}
+
+impl AirServices {
+    /// Services of these configurations, in this order, that were given nothing.
+    ///
+    /// # Errors
+    ///
+    /// As for [`Services::new`].
+    pub fn new(alloc: Global, configs: &[Config]) -> Result<AirServices, ServiceFault>
+        ensures ok { IfOk result (λ services. AirServicesStandFor services configs.now []) }
+        ensures sound { OnOk result (services_refused configs.now ≡ None) }
+        ensures err { IfErr result (IsRefused configs.now) }
+    {
+        AirServices::new_in(alloc, configs)
+    }
+}
+
+impl<M: Allocator + Copy> AirServices<M> {
+    /// The same, whose memory is this allocator's.
+    ///
+    /// # Errors
+    ///
+    /// As for [`Services::new`].
+    pub fn new_in(alloc: M, configs: &[Config]) -> Result<AirServices<M>, ServiceFault>
+        ensures ok { IfOk result (λ services. AirServicesStandFor services configs.now []) }
+        ensures sound { OnOk result (services_refused configs.now ≡ None) }
+        ensures err { IfErr result (IsRefused configs.now) }
+    {
+        // What is refused off air is refused on air.
+        match Services::new_in(alloc, configs) {
+            Ok(_) => {}
+            Err(fault) => return Err(fault),
+        }
+        let Some(first) = configs.first() else {
+            return Err(ServiceFault::NoService);
+        };
+        let Ok(talk) = Talk::new_in(alloc) else {
+            return Err(ServiceFault::OutOfMemory);
+        };
+        let mut services = Vec::new(alloc);
+        let Ok(()) = add_services(&mut services, configs) else {
+            return Err(ServiceFault::OutOfMemory);
+        };
+        let desk = AirDesk {
+            services,
+            none: Requests::new(first.index),
+            counts: MessageCounts {
+                messages: 0,
+                accepted: 0,
+                refused: 0,
+            },
+        };
+        Ok(AirServices {
+            talk,
+            desk,
+            packets: 0,
+            unjudged: 0,
+        })
+    }
+}
+
+impl<M: Allocator> AirServices<M> {
+    /// Settles for each service what becomes of the next packet.
+    ///
+    /// # Errors
+    ///
+    /// The sink's.
+    fn settle<K: PacketSink, A: ServicesWatch>(
+        &mut self,
+        next: Numbered<'_>,
+        libraries: &[AdLibrary],
+        out: &mut K,
+        watch: &mut A,
+    ) -> Result<(), PutFault>
+        ensures { (cs : List Config) (past : List (List ℕ)) → AirServicesStandFor self.old cs past → length libraries.now ≡ length cs
+            → OnOk result (AreSettled self.new cs next.entry.packet.now past) }
+    {
+        let services = self.desk.services.as_mut_slice();
+        settle_each(services, libraries, next, out, watch)
+    }
+
+    /// Hears the automation before the packet that is settled.
+    fn hear<U: Automation>(&mut self, automation: &mut U)
+        ensures { (cs : List Config) (p : List ℕ) (past : List (List ℕ)) → AreSettled self.old cs p past → AreSettled self.new cs p past }
+    {
+        self.talk.listen(&mut self.desk, automation);
+    }
+
+    /// Passes the packet on that is settled, through each service; where it is of none it goes out.
+    ///
+    /// # Errors
+    ///
+    /// The sink's.
+    fn pass_settled<K: PacketSink>(
+        &mut self,
+        packet: &Packet,
+        libraries: &[AdLibrary],
+        out: &mut K,
+    ) -> Result<Passed, PutFault>
+        ensures { (cs : List Config) (past : List (List ℕ)) → AreSettled self.old cs packet.now past → length libraries.now ≡ length cs
+            → IfOk result (HavePassed self.new cs packet.now past) }
+    {
+        let services = self.desk.services.as_mut_slice();
+        let passed = match pass_each(services, libraries, packet, out) {
+            Ok(passed) => passed,
+            Err(fault) => return Err(fault),
+        };
+        if passed.is_own {
+            return Ok(passed);
+        }
+        match out.put(packet) {
+            Ok(()) => Ok(passed),
+            Err(fault) => Err(fault),
+        }
+    }
+
+    /// Ends the stretches of services that share a PID, where with the packet that came last more PIDs are known.
+    fn part<A: ServicesWatch>(&mut self, learns: bool, last: Numbered<'_>, watch: &mut A)
+        ensures all { (xs : List Airing) → AllStand self.old.desk.services.items xs
+            → AllStand self.new.desk.services.items (if learns then parted xs else xs) }
+        ensures others { (self.new.talk ≡ self.old.talk) × (self.new.packets ≡ self.old.packets) × (self.new.unjudged ≡ self.old.unjudged) }
+    {
+        if learns {
+            part_each(self.desk.services.as_mut_slice(), last, watch);
+            return;
+        }
+    }
+
+    /// Counts the packet that came last.
+    fn count<A: ServicesWatch>(&mut self, is_unjudged: bool, watch: &mut A)
+        ensures packets { self.new.packets ≡ capped (self.old.packets + 1) }
+        ensures unjudged { self.new.unjudged ≡ (if is_unjudged then capped (self.old.unjudged + 1) else self.old.unjudged) }
+        ensures others { (self.new.talk ≡ self.old.talk) × (self.new.desk ≡ self.old.desk) }
+    {
+        if is_unjudged {
+            watch.unjudged(self.packets);
+            self.unjudged = self.unjudged.saturating_add(1);
+        }
+        self.packets = self.packets.saturating_add(1);
+    }
+
+    /// Hears the automation, and passes the next packet on, whatever is wrong with it.
+    ///
+    /// # Errors
+    ///
+    /// The sink's.
+    pub(crate) fn pass<U: Automation, K: PacketSink, A: ServicesWatch>(
+        &mut self,
+        packet: &Packet,
+        automation: &mut U,
+        libraries: &[AdLibrary],
+        out: &mut K,
+        watch: &mut A,
+    ) -> Result<(), PutFault>
+        ensures { (cs : List Config) (past : List (List ℕ)) → AirServicesStandFor self.old cs past → length libraries.now ≡ length cs
+            → OnOk result (AirServicesStandFor self.new cs (packet.now ∷ past)) }
+    {
+        let next = Numbered {
+            packet,
+            number: self.packets,
+        };
+        match self.settle(next, libraries, out, watch) {
+            Ok(()) => {}
+            Err(fault) => return Err(fault),
+        }
+        self.hear(automation);
+        match self.pass_settled(packet, libraries, out) {
+            Ok(passed) => {
+                self.count(passed.is_unjudged, watch);
+                self.part(passed.learns, next, watch);
+                Ok(())
+            }
+            Err(fault) => Err(fault),
+        }
+    }
+
+    /// Puts what is left of all advertisements, service by service, and tells what was counted.
+    ///
+    /// # Errors
+    ///
+    /// The sink's; `Failed` where there are more than eight services.
+    pub(crate) fn finish<K: PacketSink>(
+        &mut self,
+        libraries: &[AdLibrary],
+        out: &mut K,
+    ) -> Result<AirReport<ServiceReport>, PutFault>
+        ensures { (cs : List Config) (past : List (List ℕ)) → AirServicesStandFor self.old cs past
+            → IfOk result (λ told. TellsOfAll told cs past) }
+    {
+        let begun = begun_of(self.desk.services.as_slice());
+        let lost = lost_of(self.desk.services.as_slice());
+        let mut events = ArrayVec::new();
+        let counts = self.desk.counts;
+        let services = self.desk.services.as_mut_slice();
+        match finish_each(services, libraries, &mut events, out) {
+            Ok(()) => Ok(AirReport {
+                report: ServiceReport {
+                    messages: counts.messages,
+                    accepted: counts.accepted,
+                    refused: counts.refused,
+                    services: events,
+                },
+                stretches: begun.saturating_add(self.packets.min(1)),
+                lost,
+                unjudged: self.unjudged,
+            }),
+            Err(fault) => Err(fault),
+        }
+    }
+}
