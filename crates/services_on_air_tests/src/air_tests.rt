@@ -1,10 +1,10 @@
 //! One service on air is one chain on air.
 
 use crate::runs::*;
-use crate::stream::Item::*;
-use crate::stream::{Item, Stream};
 use std::process::Abort;
 use std::test::Fail;
+use two_program_streams::Item::*;
+use two_program_streams::{Item, Stream};
 
 /// A network whose program 1 is scrambled for a while, has a stamp that lies far off, changes, and comes again.
 const NETWORK: &[Item] = &[

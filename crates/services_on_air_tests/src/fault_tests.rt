@@ -1,8 +1,6 @@
 //! What is wrong with one program leaves the other as it is.
 
 use crate::runs::*;
-use crate::stream::Item::*;
-use crate::stream::{Item, Stream};
 use chain_services::ServiceFault;
 use psi_tables::{Config, NetworkFault};
 use services_on_air::{AirServices, ServiceBegun};
@@ -10,6 +8,8 @@ use std::alloc::Global;
 use std::process::Abort;
 use std::test::Fail;
 use ts_packet::Pid;
+use two_program_streams::Item::*;
+use two_program_streams::{Item, Stream};
 
 /// A run of both services over this network, with a break of each asked for before packet 5: this is out, and the rest of what came of it.
 fn expect_out<R: Abort + AllocGlobal>(

@@ -10,5 +10,3 @@ mod fault_tests;
 mod runs;
 #[cfg(test)]
 mod sharing_tests;
-#[cfg(test)]
-mod stream;

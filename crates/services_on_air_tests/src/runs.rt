@@ -1,7 +1,5 @@
 //! Runs on air of services over streams made by hand, and the parts of which these are made.
 
-use crate::stream::Item::*;
-use crate::stream::{Item, Stream};
 use ad_library::AdLibrary;
 use automations::Script;
 use chain_engine::{Chain, Report, RunFault};
@@ -13,6 +11,8 @@ use splice_plans::SwitchReport;
 use std::alloc::Global;
 use std::test::Fail;
 use ts_packet::{Device, PacketReader, PacketWriter, Pid};
+use two_program_streams::Item::*;
+use two_program_streams::{Item, Stream};
 
 /// Video of the first program.
 pub(crate) const ONE: u16 = 0x100;

@@ -1,13 +1,13 @@
 //! PIDs of two services.
 
 use crate::runs::*;
-use crate::stream::Item::*;
-use crate::stream::{Item, Stream};
 use chain_engine::RunFault;
 use services_on_air::ServiceBegun;
 use std::process::Abort;
 use std::test::Fail;
 use ts_packet::Pid;
+use two_program_streams::Item::*;
+use two_program_streams::{Item, Stream};
 
 /// That the later service begins anew behind this packet on the PID of its map.
 fn shared_at(packet: u64) -> Result<Option<ServiceBegun>, Fail> {

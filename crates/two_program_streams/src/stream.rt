@@ -1,13 +1,17 @@
-//! Streams of several programs, packet by packet, each packet with a whole payload.
+//! Streams of two programs, packet by packet, each packet with a whole payload.
+
+ghost use Rattle.std.specs.Prelude.{◌≡◌, ◌+◌, vec_len, OnOk};
 
 use psi_section::crc;
 use std::alloc::{AllocError, Global};
 
 /// What comes next in a stream. Times are ticks of 90 kHz below 2^33.
 #[derive(Clone, Copy)]
-pub(crate) enum Item {
+pub enum Item {
     /// A PAT that lists program 1 with its map on PID 0x20 and program 2 on 0x21.
     Pat,
+    /// A PAT that lists both with their maps on PID 0x20.
+    OnePat,
     /// The map of this program, with these streams of video.
     Map(u8, &'static [u16]),
     /// A unit of the network on this PID, with this time.
@@ -22,7 +26,7 @@ pub(crate) enum Item {
 
 /// The packets so far of PIDs below 512, each PID with counters that go up by one with each packet.
 #[derive(Drop)]
-pub(crate) struct Stream {
+pub struct Stream {
     bytes: Vec<u8>,
     /// continuity_counter of the next packet, by PID.
     counters: [u8; 512],
@@ -66,7 +70,7 @@ impl Stream {
     /// # Errors
     ///
     /// Where memory was refused.
-    pub(crate) fn of(alloc: Global, items: &[Item]) -> Result<Stream, AllocError> {
+    pub fn of(alloc: Global, items: &[Item]) -> Result<Stream, AllocError> {
         let mut stream = Stream {
             bytes: Vec::new(alloc),
             counters: [0; 512],
@@ -78,12 +82,14 @@ impl Stream {
     }
 
     /// The bytes of the packets.
-    pub(crate) fn bytes(&self) -> &[u8] {
+    pub fn bytes(&self) -> &[u8] {
         self.bytes.as_slice()
     }
 
     /// Puts a packet that begins a section or a unit, with these bits of transport_scrambling_control.
-    fn put(&mut self, pid: u16, scrambling: u8, payload: &[u8; 184]) -> Result<(), AllocError> {
+    fn put(&mut self, pid: u16, scrambling: u8, payload: &[u8; 184]) -> Result<(), AllocError>
+        ensures { OnOk result (vec_len self.new.bytes ≡ vec_len self.old.bytes + 188) }
+    {
         let place = usize::from(pid % 512);
         let counter = self.counters[place];
         self.counters[place] = counter.wrapping_add(1);
@@ -112,14 +118,19 @@ impl Stream {
         self.put(pid, 0, &payload(&section[..12 + 5 * count]))
     }
 
+    /// Puts a PAT that lists program 1 with its map on PID 0x20, and program 2 with its map on this one, of 0x00 to 0xFF.
+    fn put_pat(&mut self, second: u8) -> Result<(), AllocError> {
+        let section = [
+            0, 0xB0, 0x11, 0, 1, 0xC1, 0, 0, 0, 1, 0xE0, 0x20, 0, 2, 0xE0, second,
+        ];
+        self.put(0, 0, &payload(&section))
+    }
+
+    /// Puts what this item says.
     fn put_item(&mut self, item: &Item) -> Result<(), AllocError> {
         match *item {
-            Item::Pat => {
-                let section = [
-                    0, 0xB0, 0x11, 0, 1, 0xC1, 0, 0, 0, 1, 0xE0, 0x20, 0, 2, 0xE0, 0x21,
-                ];
-                self.put(0, 0, &payload(&section))
-            }
+            Item::Pat => self.put_pat(0x21),
+            Item::OnePat => self.put_pat(0x20),
             Item::Map(program, videos) => self.put_map(program, videos),
             Item::Unit(pid, pts) => self.put(pid, 0, &unit(pts, 0x4E)),
             Item::Scrambled(pid) => self.put(pid, 0x80, &[0x53; 184]),
