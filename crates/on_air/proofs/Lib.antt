@@ -1,3 +1,4 @@
+mod TailLemmas
 mod MarkLemmas
 mod AirLemmas
 mod LoopLemmas

@@ -2,3 +2,4 @@ pub mod Plain
 pub mod Stretches
 pub mod Marking
 pub mod AirRuns
+pub mod Tails

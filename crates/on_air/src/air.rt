@@ -62,12 +62,7 @@ impl<R: Copy + Drop> Air<R> {
             self.stretches = self.stretches.saturating_add(1);
         }
         self.packets = self.packets.saturating_add(1);
-        if self.tail.is_before_pat() {
-            if let Some(pid) = stage.pids().first() {
-                self.tail.begin(*pid);
-            }
-        }
-        self.tail.take(packet);
+        self.tail.follow(stage, packet);
     }
 
     /// Passes the next packet on, whatever is wrong with it.
