@@ -3,3 +3,5 @@ pub mod Stretches
 pub mod Marking
 pub mod AirRuns
 pub mod Tails
+pub mod AirOutputs
+pub mod AirInjects
