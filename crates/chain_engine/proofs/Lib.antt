@@ -10,6 +10,8 @@ pub mod NestedLemmas
 pub mod ChainLemmas
 pub mod ProgressLemmas
 pub mod ForgetLemmas
+pub mod RestoringLemmas
 pub mod UnaskedLemmas
 pub mod StageLemmas
 pub mod FollowedLemmas
+pub mod AiringLemmas

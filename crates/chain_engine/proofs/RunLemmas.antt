@@ -81,7 +81,7 @@ module _ {X : Type 0} (exchanges : X → List Exchange → X → Type 0) (exchan
 
   -- ---- the messages before a packet
 
-  exchanged_more : (x y z : X) (end end' : Option SessionEnd) (ts more : List Take) (rs rs' : List Reply) → end ≡ None → Exchanged exchanges failures x y end ts rs
+  pub exchanged_more : (x y z : X) (end end' : Option SessionEnd) (ts more : List Take) (rs rs' : List Reply) → end ≡ None → Exchanged exchanges failures x y end ts rs
       → length rs ≡ length (messages_taken ts) → length more ≤ 1 → length rs + length rs' ≤ length (messages_taken (ts ++ more))
       → exchanges y (takes_and_answers more (answers_to (loses end end') rs')) z → (loses end end' ≡ true → 0 < length rs')
       → CountsEnd end end' (failures y) (failures z) → Exchanged exchanges failures x z end' (ts ++ more) (rs ++ rs')

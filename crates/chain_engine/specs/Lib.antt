@@ -13,3 +13,5 @@ pub mod ChainRuns
 pub mod Stages
 pub mod Unjudged
 pub mod Followed
+pub mod Airing
+pub mod Injected

@@ -27,13 +27,15 @@ pub struct StretchEnd<R> {
 
 /// A stage whose packets are those of one program, and that may begin anew behind any of them.
 pub trait AirStage: Stage<Refusal = NetworkFault> {
-    ghost use Rattle.std.specs.Prelude.{◌≡◌, ◌<◌, ◌&&◌, ℕ, List, [], ◌∷◌, reverse, Some, IfSome, OnOk};
+    ghost use Rattle.std.specs.Prelude.{◌≡◌, ◌<◌, ◌&&◌, ℕ, List, [], ◌∷◌, ◌++◌, map, reverse, Option, Some, IfSome, OnOk, IfOk};
     ghost use Rattle.ts_packet.specs.Fields.{marked};
     ghost use Rattle.packet_runs.specs.Stages.{seen_behind};
     ghost use Rattle.program_follower.specs.declared.purpose.Purpose.{Purpose};
     ghost use Rattle.program_follower.specs.Faults.{network_fault, on_cue};
     ghost use Rattle.program_follower.specs.Program.{known_pids, program_of, pids_of, behind_head};
     ghost use Rattle.program_follower.specs.Streaming.{place_in, start_in};
+    ghost use Rattle.packet_runs.specs.Stages.{Ended};
+    ghost use Rattle.chain_engine.specs.Airing.{Aired, judged, unjudged, Stretch, WentOnAir, EndedOnAir};
 
     /// It is to follow a program for this purpose.
     ghost begins: { Self → Purpose → Type 0 };
@@ -41,6 +43,19 @@ pub trait AirStage: Stage<Refusal = NetworkFault> {
     /// For this purpose it was given these packets since it began, newest first, as they are read: one that is passed on unjudged is read as one
     /// that is marked in error.
     ghost follows: { Self → Purpose → List (List ℕ) → Type 0 };
+
+    /// It tells of a run from this state on what goes out.
+    ghost tells_out: { Self → Type 0 };
+
+    /// What two stretches counted, summed.
+    ghost summed: { Self.Report → Self.Report → Self.Report };
+
+    /// Between these states these stretches ended, and the last one has these packets, newest first; this was told of those that ended, newest
+    /// first; and this was sent for all, with what went out behind those that ended.
+    ghost airs: { Self → List Stretch → List Aired → List Self.Report → List (List ℕ) → Self → Type 0 };
+
+    /// So it was, and then the network ended: this was sent in all, and this is told of the last stretch.
+    ghost airs_to_end: { Self → List Stretch → List Aired → List Self.Report → List (List ℕ) → Self.Report → Self → Type 0 };
 
     /// What is wrong with the next packet, behind those since it began. It is not taken, and nothing changes.
     fn look(&self, packet: &Packet) -> Option<NetworkFault>
@@ -76,8 +91,11 @@ pub trait AirStage: Stage<Refusal = NetworkFault> {
     ///
     /// The sink's.
     fn pass_judged<K: PacketSink>(&mut self, packet: &Packet, out: &mut K) -> Result<(), PutFault>
-        ensures { (c : Purpose) (past : List (List ℕ)) → follows self.old c past
-            → OnOk result (follows self.new c (packet.now ∷ past)) };
+        ensures follows { (c : Purpose) (past : List (List ℕ)) → follows self.old c past
+            → OnOk result (follows self.new c (packet.now ∷ past)) }
+        ensures airs { (first : Self) (ended : List Stretch) (last : List Aired) (told : List Self.Report) (qs : List (List ℕ))
+            (start : Option (List ℕ)) (before : List (List ℕ)) → airs first ended last told qs self.old → K.holds out.old start (before ++ qs)
+            → OnOk result (WentOnAir (airs first ended (judged packet.now ∷ last) told) self.new (λ l. K.holds out.new start (before ++ l))) };
 
     /// Passes the next packet on as it came, but for its continuity_counter: it is read as one that is marked in error, and of no unit.
     ///
@@ -85,31 +103,66 @@ pub trait AirStage: Stage<Refusal = NetworkFault> {
     ///
     /// The sink's.
     fn pass_unjudged<K: PacketSink>(&mut self, packet: &Packet, out: &mut K) -> Result<(), PutFault>
-        ensures { (c : Purpose) (past : List (List ℕ)) → follows self.old c past
-            → OnOk result (follows self.new c (marked packet.now ∷ past)) };
+        ensures follows { (c : Purpose) (past : List (List ℕ)) → follows self.old c past
+            → OnOk result (follows self.new c (marked packet.now ∷ past)) }
+        ensures airs { (first : Self) (ended : List Stretch) (last : List Aired) (told : List Self.Report) (qs : List (List ℕ))
+            (start : Option (List ℕ)) (before : List (List ℕ)) → airs first ended last told qs self.old → K.holds out.old start (before ++ qs)
+            → OnOk result (WentOnAir (airs first ended (unjudged packet.now ∷ last) told) self.new (λ l. K.holds out.new start (before ++ l))) };
 
     /// Begins anew: nothing more of an advertisement that runs is put. Tells of the packets since it began before.
     fn begin_anew(&mut self) -> StretchEnd<Self::Report>
-        ensures { (c : Purpose) (past : List (List ℕ)) → follows self.old c past → follows self.new c [] };
+        ensures follows { (c : Purpose) (past : List (List ℕ)) → follows self.old c past → follows self.new c [] }
+        ensures airs { (first : Self) (ended : List Stretch) (last : List Aired) (told : List Self.Report) (qs behind : List (List ℕ))
+            → airs first ended last told qs self.old
+            → airs first (record { packets = last; behind = behind } ∷ ended) [] (result.report ∷ told) (qs ++ behind) self.new };
+
+    /// Puts what is left at the end of the last stretch, and reports, as [`Stage::finish`] does. No packet is taken any more.
+    ///
+    /// # Errors
+    ///
+    /// The sink's.
+    fn finish_last<K: PacketSink>(&mut self, out: &mut K) -> Result<Self::Report, PutFault>
+        ensures sends { (first : Self) (ps qs : List (List ℕ)) (kept : List ℕ) (start : Option (List ℕ)) (before : List (List ℕ))
+            → Self.Stage.sends first ps qs kept self.old → K.holds out.old start (before ++ qs)
+            → IfOk result (λ report. Ended Self.Stage.ends first ps report self.new (λ l. K.holds out.new start (before ++ l))) }
+        ensures airs { (first : Self) (ended : List Stretch) (last : List Aired) (told : List Self.Report) (qs : List (List ℕ))
+            (start : Option (List ℕ)) (before : List (List ℕ)) → airs first ended last told qs self.old → K.holds out.old start (before ++ qs)
+            → IfOk result (λ report. EndedOnAir (airs_to_end first ended last told) self.new report (λ l. K.holds out.new start (before ++ l))) };
 
     /// What two stretches counted, summed.
-    fn sum(one: &Self::Report, other: &Self::Report) -> Self::Report;
+    fn sum(one: &Self::Report, other: &Self::Report) -> Self::Report
+        ensures { result ≡ summed one.now other.now };
 
     /// It follows what it was given as a stage.
     ghost sends_follows: { (first : Self) (c : Purpose) (ps qs : List (List ℕ)) (kept : List ℕ) (now : Self)
         → begins first c → Self.Stage.leads first now → Self.Stage.sends first ps qs kept now → follows now c (reverse ps) };
+
+    /// What it sent as a stage is one stretch, whose packets are all judged.
+    ghost sends_airs: { (first : Self) (c : Purpose) (ps qs : List (List ℕ)) (kept : List ℕ) (now : Self)
+        → tells_out first → begins first c → Self.Stage.leads first now → Self.Stage.sends first ps qs kept now
+        → airs first [] (map judged (reverse ps)) [] qs now };
 }
 
 impl<M: Allocator, U: Automation> AirStage for ChainStage<'_, M, U> {
     ghost use Rattle.std.proofs.Common.{◌≡◌, length, reverse, ap, sym, subst, ◌∙◌};
     ghost use Rattle.program_follower.specs.Purposes.{writing_cues};
     ghost use Rattle.injector.specs.Injecting.{InjectorStandsFor};
-    ghost use Rattle.chain_engine.specs.Runs.{steps_of};
+    ghost use Rattle.chain_engine.specs.Runs.{steps_of, reports_sum};
     ghost use Rattle.chain_engine.specs.Followed.{ChainFollows, run-followed};
 
     ghost begins = { λ s c. (c ≡ writing_cues s.config) × (s.chain.now.service.config ≡ s.config) };
 
     ghost follows = { λ s c past. (c ≡ writing_cues s.config) × ChainFollows s.chain.now s.config past };
+
+    ghost tells_out = { λ s. ⊥ };
+
+    ghost summed = { reports_sum };
+
+    ghost airs = { λ first ended last told qs now. ⊥ };
+
+    ghost airs_to_end = { λ first ended last told sent report now. ⊥ };
+
+    ghost sends_airs = { λ first c ps qs kept now tells b l s. absurd tells };
 
     ghost sends_follows = { λ first c ps qs kept now b l s.
         let run = s.1.run in
@@ -168,6 +221,10 @@ impl<M: Allocator, U: Automation> AirStage for ChainStage<'_, M, U> {
         end
     }
 
+    fn finish_last<K: PacketSink>(&mut self, out: &mut K) -> Result<Report, PutFault> {
+        self.finish(out)
+    }
+
     fn sum(one: &Report, other: &Report) -> Report {
         one.plus(*other)
     }
@@ -177,12 +234,30 @@ impl<M: Allocator, U: Automation> AirStage for InjectorStage<'_, M, U> {
     ghost use Rattle.std.proofs.Common.{◌≡◌, length, reverse, ap, sym, subst, ◌∙◌};
     ghost use Rattle.program_follower.specs.Purposes.{writing_cues};
     ghost use Rattle.injector.specs.Injecting.{InjectorStandsFor};
-    ghost use Rattle.chain_engine.specs.Runs.{steps_of};
+    ghost use Rattle.chain_engine.specs.Runs.{steps_of, reports_sum, Exchanged};
     ghost use Rattle.chain_engine.specs.Followed.{ChainFollows, run-followed};
+    ghost use Rattle.chain_engine.specs.Injected.{InjectAirs, InjectAirsToEnd, inject-airs-first};
 
     ghost begins = { λ s c. (c ≡ writing_cues s.config) × (s.chain.now.service.config ≡ s.config) };
 
     ghost follows = { λ s c past. (c ≡ writing_cues s.config) × ChainFollows s.chain.now s.config past };
+
+    ghost tells_out = { λ s. Unit {0} };
+
+    ghost summed = { reports_sum };
+
+    ghost airs = { λ first ended last told qs now. (now.config ≡ first.chain.now.service.config)
+        × InjectAirs first.chain.now.service.config now.chain.now
+        (Exchanged U.exchanges U.failures first.automation.now now.automation.now) ended last told qs };
+
+    ghost airs_to_end = { λ first ended last told sent report now. InjectAirsToEnd first.chain.now.service.config now.chain.now
+        (Exchanged U.exchanges U.failures first.automation.now now.automation.now) ended last told sent report };
+
+    ghost sends_airs = { λ first c ps qs kept now tells b l s. (
+      l.1 ∙ sym b.1,
+      inject-airs-first first.chain.now.service.config now.chain.now
+          (Exchanged U.exchanges U.failures first.automation.now now.automation.now) ps qs s.run,
+    ) };
 
     ghost sends_follows = { λ first c ps qs kept now b l s.
         let run = s.run in
@@ -240,13 +315,18 @@ impl<M: Allocator, U: Automation> AirStage for InjectorStage<'_, M, U> {
     }
 
     fn begin_anew(&mut self) -> StretchEnd<Report> {
-        let service = &mut self.chain.service;
+        let injector = &self.chain.service.injector;
         let end = StretchEnd {
-            report: Report::of(service.injector.counts()),
-            lost: service.injector.open_count() as u64,
+            report: Report::of(injector.counts()),
+            lost: injector.open_count() as u64,
         };
-        *service = Service::new(self.config);
+        self.chain.service = Service::new(self.config);
         end
+    }
+
+    /// Nothing is left.
+    fn finish_last<K: PacketSink>(&mut self, _out: &mut K) -> Result<Report, PutFault> {
+        Ok(Report::of(self.chain.service.injector.counts()))
     }
 
     fn sum(one: &Report, other: &Report) -> Report {
@@ -257,11 +337,22 @@ impl<M: Allocator, U: Automation> AirStage for InjectorStage<'_, M, U> {
 impl AirStage for SwitchStage<'_> {
     ghost use Rattle.std.proofs.Common.{◌≡◌, reverse, sym, ap, subst, ◌∙◌};
     ghost use Rattle.program_follower.specs.Purposes.{reading_cues};
+    ghost use Rattle.splice_plans.specs.Reporting.{events_sum};
     ghost use Rattle.splice_switch.specs.Standing.{SwitchFollows};
 
     ghost begins = { λ s c. c ≡ reading_cues s.config };
 
     ghost follows = { λ s c past. (c ≡ reading_cues s.config) × SwitchFollows s.switch c past };
+
+    ghost tells_out = { λ s. ⊥ };
+
+    ghost summed = { events_sum };
+
+    ghost airs = { λ first ended last told qs now. ⊥ };
+
+    ghost airs_to_end = { λ first ended last told sent report now. ⊥ };
+
+    ghost sends_airs = { λ first c ps qs kept now tells b l s. absurd tells };
 
     ghost sends_follows = { λ first c ps qs kept now b l s.
         (b ∙ ap reading_cues (sym l), subst (λ d. SwitchFollows now.switch d (reverse ps)) (sym b) s.1.stands.follower) };
@@ -311,7 +402,13 @@ impl AirStage for SwitchStage<'_> {
         end
     }
 
-    fn sum(one: &SwitchReport, other: &SwitchReport) -> SwitchReport {
+    fn finish_last<K: PacketSink>(&mut self, out: &mut K) -> Result<SwitchReport, PutFault> {
+        self.finish(out)
+    }
+
+    fn sum(one: &SwitchReport, other: &SwitchReport) -> SwitchReport
+        ensures { result ≡ events_sum one.now other.now }
+    {
         one.plus(*other)
     }
 }

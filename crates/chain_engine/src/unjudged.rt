@@ -34,13 +34,13 @@ pub(crate) struct Restoring<'a, K: PacketSink> {
 }
 
 impl<K: PacketSink> PacketSink for Restoring<'_, K> {
-    ghost use Rattle.std.specs.Prelude.{◌≡◌, map, true};
+    ghost use Rattle.std.specs.Prelude.{◌≡◌, true};
     ghost use Rattle.std.proofs.Common.{refl, ap, ◌∙◌};
-    ghost use Rattle.chain_engine.specs.Unjudged.{restored};
+    ghost use Rattle.chain_engine.specs.Unjudged.{RestoringHolds, RestoringFails};
 
-    ghost holds = { λ g start ps. K.holds g.out.now start (map (restored g.packet.now) ps) };
+    ghost holds = { λ g start ps. RestoringHolds K.holds g.packet.now g.out.now start ps };
 
-    ghost fails = { λ g start ps p f. K.fails g.out.now start (map (restored g.packet.now) ps) (restored g.packet.now p) f };
+    ghost fails = { λ g start ps p f. RestoringFails K.fails g.packet.now g.out.now start ps p f };
 
     ghost is_broken = { λ g. K.is_broken g.out.now };
 

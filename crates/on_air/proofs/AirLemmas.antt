@@ -1,5 +1,5 @@
 -- A stretch that begins anew with a packet.
-use Rattle.std.proofs.Common.{◌++◌, reverse, None, ◌≡◌, ℕ, suc, ◌+◌, List, [], ◌∷◌, length, Bool, true, false, refl, sym, ap, subst, ◌∙◌, arith}
+use Rattle.std.proofs.Common.{◌++◌, reverse, map, None, ◌≡◌, ℕ, suc, ◌+◌, List, [], ◌∷◌, length, Bool, true, false, refl, sym, ap, subst, ◌∙◌, arith}
 use Rattle.std.specs.Prelude.{if◌then◌else◌}
 use Rattle.std.proofs.lemmas.List.{reverse-append}
 use Rattle.program_follower.specs.Faults.{network_fault}
@@ -10,6 +10,9 @@ use Rattle.program_follower.specs.declared.purpose.Purpose.{Purpose}
 use Rattle.on_air.specs.Stretches.{Entry, Judgement, Judged, Passed, Damaged, Jumped, Verdict as Verdict', Is, BeginsNew, is_judged, as_first, first_entry, verdict, joined, with_next, as_read, stretches}
 use Rattle.on_air.specs.Marking.{Keeps, Becomes, BecomesOf, is_judged_by}
 use Rattle.on_air.specs.AirRuns.{AirStands, Counted, newest, has_no, unjudged_of, unjudged_in}
+use Rattle.chain_engine.specs.Airing.{judged}
+use Rattle.on_air.specs.Tails.{TailOf}
+use Rattle.on_air.specs.AirOutputs.{aired, ended_of, ended_in}
 use Rattle.on_air.specs.declared.air.Air.{Air}
 use Rattle.on_air.specs.declared.marks.Marks.{Marks}
 use Rattle.on_air.specs.declared.marks.Verdict.{Verdict}
@@ -63,6 +66,13 @@ pub record SoundAir {R : Type 0} (air : Air R) (c : Purpose) (ps : List (List �
   pub none : air.marks.has_any ≡ false
   pub stands : AirStands air c (stretches c (reverse ps))
   pub read : as_read (newest (stretches c (reverse ps))) ≡ reverse ps
+  pub only : ended_in c (stretches c (reverse ps)) ≡ []
+  pub aired_so : aired (newest (stretches c (reverse ps))) ≡ map judged (reverse ps)
+  pub tail : TailOf air.tail c (reverse ps)
+  pub ended : air.ended ≡ None
+
+pub sound-none : {R : Type 0} (air : Air R) (c : Purpose) → air.marks.has_any ≡ false → AirStands air c [] → TailOf air.tail c [] → air.ended ≡ None → SoundAir air c []
+sound-none air c none stands tail ended = record { none = none; stands = stands; read = refl; only = refl; aired_so = refl; tail = tail; ended = ended }
 
 is-judged : (v : Verdict') (keeps : Judgement → Type 0) → BecomesOf verdicts.Judged v keeps → (v ≡ Is Judged) × keeps Judged
 is-judged (Is Judged) keeps b = (refl, b.1)
@@ -74,6 +84,7 @@ is-judged (BeginsNew fault) keeps b = let no = b.0 in absurd (cc)
 judged-next : {R : Type 0} (old new : Air R) (c : Purpose) (p : List ℕ) (ss : List (List Entry)) → AirStands old c ss → Counted old new true
     → verdict c p (newest ss) ≡ Is Judged → Keeps old.marks c (record { packet = p; judgement = Judged } ∷ newest ss)
     → AirStands new c (with_next c p ss) × (as_read (newest (with_next c p ss)) ≡ p ∷ as_read (newest ss))
+    × (ended_in c (with_next c p ss) ≡ ended_in c ss) × (aired (newest (with_next c p ss)) ≡ judged p ∷ aired (newest ss))
 judged-next old new c p [] h counted is keeps =
     let first : first_entry c p ≡ record { packet = p; judgement = Judged } = ap (λ v. record { packet = p; judgement = as_first v }) is in (
       record {
@@ -83,9 +94,12 @@ judged-next old new c p [] h counted is keeps =
         unjudged = counted.unjudged ∙ h.unjudged ∙ ap (λ e. capped (unjudged_in ((e ∷ []) ∷ []))) (sym first);
       },
       ap (λ e. as_read (e ∷ [])) first,
+      refl,
+      ap (λ e. aired (e ∷ [])) first,
     )
 judged-next old new c p (past ∷ earlier) h counted is keeps =
-    subst (λ v. AirStands new c (joined c v p past earlier) × (as_read (newest (joined c v p past earlier)) ≡ p ∷ as_read past)) (sym is) (
+    subst (λ v. AirStands new c (joined c v p past earlier) × (as_read (newest (joined c v p past earlier)) ≡ p ∷ as_read past)
+    × (ended_in c (joined c v p past earlier) ≡ map (ended_of c) earlier) × (aired (newest (joined c v p past earlier)) ≡ judged p ∷ aired past)) (sym is) (
       record {
         marks = subst (λ m. Keeps m c (record { packet = p; judgement = Judged } ∷ past)) (sym counted.marks) keeps;
         is_empty = counted.is_empty;
@@ -93,11 +107,13 @@ judged-next old new c p (past ∷ earlier) h counted is keeps =
         unjudged = counted.unjudged ∙ h.unjudged;
       },
       refl,
+      refl,
+      refl,
     )
 
 pub sound-next : {R : Type 0} (old new : Air R) (c : Purpose) (ps : List (List ℕ)) (p : List ℕ) → SoundAir old c ps → Counted old new true
-    → network_fault c p (reverse ps) ≡ None → SoundAir new c (ps ++ p ∷ [])
-sound-next old new c ps p h counted sound =
+    → network_fault c p (reverse ps) ≡ None → TailOf new.tail c (p ∷ reverse ps) → new.ended ≡ old.ended → SoundAir new c (ps ++ p ∷ [])
+sound-next old new c ps p h counted sound tail ended =
     let ss = stretches c (reverse ps) in
     let past = newest ss in
     let quiet-so = quiet old.marks c p past h.stands.marks h.none (ap (network_fault c p) h.read ∙ sound) in
@@ -108,4 +124,8 @@ sound-next old new c ps p h counted sound =
       none = ap (λ m. m.has_any) counted.marks ∙ h.none;
       stands = subst (λ l. AirStands new c (stretches c l)) (sym all) next.0;
       read = subst (λ l. as_read (newest (stretches c l)) ≡ l) (sym all) (next.1 ∙ ap (λ l. p ∷ l) h.read);
+      only = subst (λ l. ended_in c (stretches c l) ≡ []) (sym all) (next.2 ∙ h.only);
+      aired_so = subst (λ l. aired (newest (stretches c l)) ≡ map judged l) (sym all) (next.3 ∙ ap (λ l. judged p ∷ l) h.aired_so);
+      tail = subst (TailOf new.tail c) (sym all) tail;
+      ended = ended ∙ h.ended;
     }

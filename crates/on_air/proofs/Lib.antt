@@ -1,3 +1,6 @@
+mod TailLemmas
 mod MarkLemmas
 mod AirLemmas
+mod OutputLemmas
 mod LoopLemmas
+mod InjectLemmas

@@ -1,12 +1,15 @@
 //! The stretches of a run on air, packet by packet.
 
-ghost use Rattle.std.specs.Prelude.{◌≡◌, ℕ, List, [], ◌∷◌, ◌++◌, true, false, OnOk};
+ghost use Rattle.std.specs.Prelude.{◌≡◌, ℕ, List, [], ◌∷◌, ◌++◌, true, false, Option, None, OnOk};
 ghost use Rattle.ts_packet.specs.Fields.{marked};
 ghost use Rattle.program_follower.specs.declared.purpose.Purpose.{Purpose};
 ghost use Rattle.on_air.specs.Stretches.{Entry, as_read, with_next};
 ghost use Rattle.on_air.specs.Marking.{Keeps};
 ghost use Rattle.on_air.specs.AirRuns.{AirStands, Counted, newest, unjudged_in};
 ghost use Rattle.on_air.specs.Plain.{IsPlain, IsToldPlain};
+ghost use Rattle.on_air.specs.Tails.{TailOf};
+ghost use Rattle.on_air.specs.AirOutputs.{IsOnAir, BeganAnew, sum_of};
+ghost use Rattle.chain_engine.specs.Airing.{Aired, judged, unjudged, Stretch, WentOnAir, total};
 
 use crate::marks::{Marks, Verdict};
 use crate::report::AirReport;
@@ -38,6 +41,8 @@ impl<R: Copy + Drop> Air<R> {
         ensures plain { IsPlain result [] }
         ensures stands { (c : Purpose) → AirStands result c [] }
         ensures none { result.marks.has_any ≡ false }
+        ensures tail { (c : Purpose) → TailOf result.tail c [] }
+        ensures ended { result.ended ≡ None }
     {
         Air {
             marks: Marks::new(),
@@ -56,18 +61,16 @@ impl<R: Copy + Drop> Air<R> {
     pub(crate) fn take<S: AirStage<Report = R>>(&mut self, stage: &S, packet: &Packet)
         ensures plain { (ps : List (List ℕ)) (p : List ℕ) → IsPlain self.old ps → IsPlain self.new (ps ++ p ∷ []) }
         ensures counted { Counted self.old self.new true }
+        ensures tail { (c : Purpose) (read : List (List ℕ)) → S.follows stage.now c read → TailOf self.old.tail c read
+            → TailOf self.new.tail c (packet.now ∷ read) }
+        ensures ended { self.new.ended ≡ self.old.ended }
     {
         if self.is_empty {
             self.is_empty = false;
             self.stretches = self.stretches.saturating_add(1);
         }
         self.packets = self.packets.saturating_add(1);
-        if self.tail.is_before_pat() {
-            if let Some(pid) = stage.pids().first() {
-                self.tail.begin(*pid);
-            }
-        }
-        self.tail.take(packet);
+        self.tail.follow(stage, packet);
     }
 
     /// Passes the next packet on, whatever is wrong with it.
@@ -78,9 +81,14 @@ impl<R: Copy + Drop> Air<R> {
         out: &mut K,
         watch: &mut A,
     ) -> Result<(), PutFault>
-        ensures { (c : Purpose) (ss : List (List Entry)) → AirStands self.old c ss → S.follows stage.old c (as_read (newest ss))
+        ensures stands { (c : Purpose) (ss : List (List Entry)) → AirStands self.old c ss → S.follows stage.old c (as_read (newest ss))
             → OnOk result (AirStands self.new c (with_next c packet.now ss)
             × S.follows stage.new c (as_read (newest (with_next c packet.now ss)))) }
+        ensures out { (first : S) (c : Purpose) (ss : List (List Entry)) (start : Option (List ℕ)) (before : List (List ℕ))
+            → AirStands self.old c ss → S.follows stage.old c (as_read (newest ss))
+            → IsOnAir S.summed (S.airs first) self.old stage.old c ss (λ l. K.holds out.old start (before ++ l))
+            → OnOk result (IsOnAir S.summed (S.airs first) self.new stage.new c (with_next c packet.now ss)
+            (λ l. K.holds out.new start (before ++ l))) }
     {
         match self.marks.judge(stage, packet) {
             Verdict::Judged => self.pass_judged(stage, packet, out),
@@ -110,6 +118,12 @@ impl<R: Copy + Drop> Air<R> {
         ensures counted { Counted self.old self.new true }
         ensures follows { (c : Purpose) (past : List (List ℕ)) → S.follows stage.old c past
             → OnOk result (S.follows stage.new c (packet.now ∷ past)) }
+        ensures tail { (c : Purpose) (read : List (List ℕ)) → S.follows stage.old c read → TailOf self.old.tail c read
+            → TailOf self.new.tail c (packet.now ∷ read) }
+        ensures ended { self.new.ended ≡ self.old.ended }
+        ensures airs { (first : S) (ended : List Stretch) (last : List Aired) (told : List R) (qs : List (List ℕ)) (start : Option (List ℕ))
+            (before : List (List ℕ)) → S.airs first ended last told qs stage.old → K.holds out.old start (before ++ qs)
+            → OnOk result (WentOnAir (S.airs first ended (judged packet.now ∷ last) told) stage.new (λ l. K.holds out.new start (before ++ l))) }
     {
         self.take(stage, packet);
         stage.pass_judged(packet, out)
@@ -126,6 +140,12 @@ impl<R: Copy + Drop> Air<R> {
         ensures counted { Counted self.old self.new false }
         ensures follows { (c : Purpose) (past : List (List ℕ)) → S.follows stage.old c past
             → OnOk result (S.follows stage.new c (marked packet.now ∷ past)) }
+        ensures tail { (c : Purpose) (read : List (List ℕ)) → TailOf self.old.tail c read
+            → TailOf self.new.tail c (marked packet.now ∷ read) }
+        ensures ended { self.new.ended ≡ self.old.ended }
+        ensures airs { (first : S) (ended : List Stretch) (last : List Aired) (told : List R) (qs : List (List ℕ)) (start : Option (List ℕ))
+            (before : List (List ℕ)) → S.airs first ended last told qs stage.old → K.holds out.old start (before ++ qs)
+            → OnOk result (WentOnAir (S.airs first ended (unjudged packet.now ∷ last) told) stage.new (λ l. K.holds out.new start (before ++ l))) }
     {
         if self.is_empty {
             self.is_empty = false;
@@ -149,6 +169,12 @@ impl<R: Copy + Drop> Air<R> {
         ensures marks { (c : Purpose) → Keeps self.new.marks c [] }
         ensures counts { (self.new.is_empty ≡ true) × (self.new.stretches ≡ self.old.stretches) × (self.new.unjudged ≡ self.old.unjudged) }
         ensures follows { (c : Purpose) (past : List (List ℕ)) → S.follows stage.old c past → S.follows stage.new c [] }
+        ensures tail { (c : Purpose) → OnOk result (TailOf self.new.tail c []) }
+        ensures out { (first : S) (c : Purpose) (read : List (List ℕ)) (ended : List Stretch) (last : List Aired) (told : List R)
+            (qs : List (List ℕ)) (start : Option (List ℕ)) (before : List (List ℕ)) → TailOf self.old.tail c read
+            → self.old.ended ≡ sum_of S.summed told → S.airs first ended last told qs stage.old → K.holds out.old start (before ++ qs)
+            → OnOk result (BeganAnew S.summed (S.airs first) self.new stage.new c read ended last qs
+            (λ l. K.holds out.new start (before ++ l))) }
     {
         let StretchEnd { report, lost } = stage.begin_anew();
         let ended = match &self.ended {
@@ -174,6 +200,7 @@ impl<R: Copy + Drop> Air<R> {
     pub(crate) fn told<S: AirStage<Report = R>>(&self, report: R) -> AirReport<R>
         ensures plain { (ps : List (List ℕ)) → IsPlain self.now ps → IsToldPlain result ps report }
         ensures told { (result.stretches ≡ self.now.stretches) × (result.unjudged ≡ self.now.unjudged) }
+        ensures summed { (told : List R) → self.now.ended ≡ sum_of S.summed told → result.report ≡ total S.summed report told }
     {
         AirReport {
             report: match &self.ended {

@@ -16,6 +16,8 @@ ghost use Rattle.chain_engine.specs.ChainRuns.{Ran};
 ghost use Rattle.on_air.specs.Plain.{IsPlain, IsToldPlain, GoesPlainly, IsSound, RunsPlainly, IsOfDevices};
 ghost use Rattle.on_air.specs.Stretches.{Entry, as_read};
 ghost use Rattle.on_air.specs.AirRuns.{AirStands, TellsOf, TellsStretches, newest, all_next};
+ghost use Rattle.on_air.specs.AirOutputs.{IsOnAir, EndsOnAir, stretches_in};
+ghost use Rattle.on_air.specs.AirInjects.{InjectedOnAir};
 
 use crate::air::Air;
 use crate::report::AirReport;
@@ -75,9 +77,12 @@ where
         → IfOk result (λ told. (report : R) × IsToldPlain told ps report
         × Ended S.ends first ps report stage.new (λ l. K.holds out.new start (before ++ l))) }
     ensures told { IfOk result (λ told. (told.stretches ≡ air.now.stretches) × (told.unjudged ≡ air.now.unjudged)) }
+    ensures out { (first : S) (c : Purpose) (ss : List (List Entry)) (start : Option (List ℕ)) (before : List (List ℕ))
+        → IsOnAir S.summed (S.airs first) air.now stage.old c ss (λ l. K.holds out.old start (before ++ l))
+        → IfOk result (λ told. EndsOnAir S.summed (S.airs_to_end first) c ss told.report (λ l. K.holds out.new start (before ++ l))) }
     ensures devices { IfErr result IsOfDevices }
 {
-    match stage.finish(out) {
+    match stage.finish_last(out) {
         Ok(report) => Ok(air.told::<S>(report)),
         Err(fault) => Err(of_sink(fault)),
     }
@@ -100,6 +105,11 @@ where
     ensures stretches { (c : Purpose) (ss : List (List Entry)) (bs : List ℕ) → AirStands air.old c ss
         → S.follows stage.old c (as_read (newest ss)) → P.left network.old ≡ Some bs
         → IfOk result (λ told. TellsOf told (all_next c (packets_of bs) ss)) }
+    ensures out { (first : S) (c : Purpose) (ss : List (List Entry)) (start : Option (List ℕ)) (before : List (List ℕ)) (bs : List ℕ)
+        → AirStands air.old c ss → S.follows stage.old c (as_read (newest ss))
+        → IsOnAir S.summed (S.airs first) air.old stage.old c ss (λ l. K.holds out.old start (before ++ l)) → P.left network.old ≡ Some bs
+        → IfOk result (λ told. EndsOnAir S.summed (S.airs_to_end first) c (all_next c (packets_of bs) ss) told.report
+        (λ l. K.holds out.new start (before ++ l))) }
     ensures devices { IfErr result IsOfDevices }
 {
     let mut next = Packet::null();
@@ -137,6 +147,10 @@ where
     ensures stretches { (c : Purpose) (start : Option (List ℕ)) (before : List (List ℕ)) (bs : List ℕ) → S.begins stage.old c
         → ((kept : List ℕ) → S.sends stage.old [] [] kept stage.old) → K.holds out.old start before → P.left network.old ≡ Some bs
         → IfOk result (λ told. TellsStretches told c bs) }
+    ensures out { (c : Purpose) (start : Option (List ℕ)) (before : List (List ℕ)) (bs : List ℕ) → S.begins stage.old c → S.tells_out stage.old
+        → ((kept : List ℕ) → S.sends stage.old [] [] kept stage.old) → K.holds out.old start before → P.left network.old ≡ Some bs
+        → IfOk result (λ told. EndsOnAir S.summed (S.airs_to_end stage.old) c (stretches_in c bs) told.report
+        (λ l. K.holds out.new start (before ++ l))) }
     ensures devices { IfErr result IsOfDevices }
 {
     let mut air = Air::new();
@@ -214,6 +228,10 @@ pub fn inject_on_air<M: Allocator, P: PausingPackets, U: Automation, K: Gatherin
     ensures stretches { (c : Config) (start : Option (List ℕ)) (before : List (List ℕ)) (bs : List ℕ) → ChainStandsFor chain c
         → K.holds out.old start before → P.left network.old ≡ Some bs
         → IfOk result (λ told. TellsStretches told (writing_cues c) bs) }
+    ensures out { (c : Config) (start : Option (List ℕ)) (before : List (List ℕ)) (bs : List ℕ) → ChainStandsFor chain c
+        → K.holds out.old start before → P.left network.old ≡ Some bs
+        → IfOk result (λ told. (later : U) × InjectedOnAir c bs (λ ps. K.holds out.new start (before ++ ps))
+        (Exchanged U.exchanges U.failures automation.old later) told.report) }
     ensures devices { IfErr result IsOfDevices }
 {
     let mut chain = chain;

@@ -68,7 +68,7 @@ fn expect<R: Files + Net + AllocGlobal + Abort>(
 /// How `services` is called, behind what is wrong.
 const USAGE: &str = "
 
-Usage: dpi_chain services --network <FILE> --services <FILE> <--script <FILE>|--listen <PORT>> --out <FILE> [--verbose]
+Usage: dpi_chain services --network <FILE> --services <FILE> <--script <FILE>|--listen <PORT>> --out <FILE> [--on-air] [--verbose]
 
 For more information, try '--help'.
 ";

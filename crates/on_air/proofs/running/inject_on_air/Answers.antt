@@ -8,6 +8,8 @@ use Rattle.chain_engine.proofs.RunLemmas.{begun}
 use Rattle.chain_engine.proofs.StageLemmas.{injects_all}
 use Rattle.on_air.specs.Plain.{IsSound}
 use Rattle.on_air.specs.AirRuns.{TellsStretches}
+use Rattle.on_air.specs.AirInjects.{InjectedOnAir}
+use Rattle.on_air.proofs.InjectLemmas.{injected-on-air}
 use Rattle.on_air.proofs.running.inject_on_air.Goals as goal
 
 pub returns-clause-sound : goal.returns-clause-sound
@@ -49,3 +51,22 @@ returns-clause-stretches g c = λ d start before bs h is_held given.
     let same = ap (λ w. w.service.config) c.new-stage.ensures.chain ∙ sym c.new-stage.ensures.config in
     IfOk-weaker c.run_air.result _ _ (λ told w. subst (λ x. TellsStretches told (writing_cues x) bs) config w)
     (c.run_air.ensures.stretches (writing_cues stage.config) start before bs (refl, same) (λ kept. record { begins = here; run = begins }) is_held given)
+
+pub returns-clause-out : goal.returns-clause-out
+returns-clause-out g c = λ d start before bs h is_held given.
+    let stage = c.new-stage.result in
+    let cfg = stage.chain.now.service.config in
+    let here = subst (λ w. ChainStandsFor w w.service.config) (sym c.new-stage.ensures.chain) (subst (ChainStandsFor c.args.chain) (sym h.config) h) in
+    let begins = begun g.U.Automation.exchanges g.met.U.Automation.exchanges_refl g.met.U.Automation.exchanges_trans g.U.Automation.failures (InjectsFor cfg) (reply_in cfg) stage.chain.now.service stage.chain.now.talk
+    (λ steps. sent_by cfg steps ≡ []) stage.automation.now here.talk (here.service (λ n. None)).injector refl in
+    let config = ap (λ w. w.service.config) c.new-stage.ensures.chain ∙ h.config in
+    let same = ap (λ w. w.service.config) c.new-stage.ensures.chain ∙ sym c.new-stage.ensures.config in
+    let is_out = (λ (qs : List (List ℕ)). g.K.PacketSink.holds c.run_air.new.out start (before ++ qs)) in
+    IfOk-weaker c.run_air.result _ _ (λ told w.
+    let exchanged = (λ (x : g.row.U.Denot). Exchanged g.U.Automation.exchanges g.U.Automation.failures x w.now.automation.now) in
+    let all = injected-on-air cfg (writing_cues stage.config) (ap writing_cues (sym same)) w.now.chain.now (exchanged stage.automation.now) bs is_out w.told w.sent w.last told.report w.tells_so w.summed_so w.out in (
+      w.now.automation.now,
+      subst (λ x. InjectedOnAir d bs is_out (exchanged x) told.report) c.new-stage.ensures.automation
+          (subst (λ x. InjectedOnAir x bs is_out (exchanged stage.automation.now) told.report) config all),
+    ))
+    (c.run_air.ensures.out (writing_cues stage.config) start before bs (refl, same) tt (λ kept. record { begins = here; run = begins }) is_held given)

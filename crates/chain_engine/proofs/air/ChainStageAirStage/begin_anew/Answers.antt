@@ -2,8 +2,8 @@ use Rattle.std.proofs.Common.{[], refl}
 use Rattle.std.specs.Prelude.{None}
 use Rattle.chain_engine.proofs.air.ChainStageAirStage.begin_anew.Goals as goal
 
-pub returns : goal.returns
-returns g c = λ purpose past (is, f). (
+pub returns-clause-follows : goal.returns-clause-follows
+returns-clause-follows g c = λ purpose past (is, f). (
   is,
   record {
     ts = f.ts;
@@ -13,3 +13,6 @@ returns g c = λ purpose past (is, f). (
     followed = record { steps = []; injector = (c.new.ensures (λ n. None)).injector; packets = refl };
   },
 )
+
+pub returns-clause-airs : goal.returns-clause-airs
+returns-clause-airs g c = λ first ended last told qs behind tells. absurd tells

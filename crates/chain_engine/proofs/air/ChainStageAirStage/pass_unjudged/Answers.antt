@@ -3,8 +3,8 @@ use Rattle.ts_packet.specs.Fields.{marked}
 use Rattle.chain_engine.proofs.FollowedLemmas.{heard-followed, packet-followed}
 use Rattle.chain_engine.proofs.air.ChainStageAirStage.pass_unjudged.Goals as goal
 
-pub returns : goal.returns
-returns g c = λ purpose past (is, f).
+pub returns-clause-follows : goal.returns-clause-follows
+returns-clause-follows g c = λ purpose past (is, f).
     let config = c.args.self.now.config in
     let old = c.args.self.now.chain.now in
     let now = c.hear.new.self in
@@ -20,3 +20,6 @@ returns g c = λ purpose past (is, f).
         followed = packet-followed now.service c.pass_unjudged.new.self config (marked c.args.packet.now) past heard.followed stands;
       },
     )) (c.pass_unjudged.ensures.injector config heard.followed.steps heard.followed.injector)
+
+pub returns-clause-airs : goal.returns-clause-airs
+returns-clause-airs g c = λ first ended last told qs start before tells held. absurd tells

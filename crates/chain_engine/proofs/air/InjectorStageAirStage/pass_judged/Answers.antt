@@ -1,8 +1,17 @@
+use Rattle.std.proofs.Common.{◌∷◌, ◌++◌, length, subst, append_assoc}
+use Rattle.injector.specs.Steps.{sent_at}
+use Rattle.chain_engine.specs.Judging.{ServiceJudges}
+use Rattle.chain_engine.specs.Runs.{reply_in, Exchanged}
+use Rattle.chain_engine.specs.Stages.{InjectsFor}
+use Rattle.chain_engine.specs.Airing.{judged, packets_through, steps_ahead}
+use Rattle.chain_engine.specs.Injected.{InjectedSoFar}
+use Rattle.chain_engine.proofs.PassingLemmas.{injects-one}
+use Rattle.chain_engine.proofs.AiringLemmas.{heard_on_air, passed_on_air, injected-stays, injected-more}
 use Rattle.chain_engine.proofs.FollowedLemmas.{heard-followed, packet-followed}
 use Rattle.chain_engine.proofs.air.InjectorStageAirStage.pass_judged.Goals as goal
 
-pub returns-in-Ok : goal.returns-in-Ok
-returns-in-Ok g c = λ purpose past (is, f).
+pub returns-in-Ok-clause-follows : goal.returns-in-Ok-clause-follows
+returns-in-Ok-clause-follows g c = λ purpose past (is, f).
     let config = c.args.self.now.config in
     let old = c.args.self.now.chain.now in
     let now = c.hear.new.self in
@@ -18,3 +27,27 @@ returns-in-Ok g c = λ purpose past (is, f).
         followed = packet-followed now.service service config c.args.packet.now past heard.followed (c.in-Ok.ensures.stands config heard.followed.steps heard.followed.injector);
       },
     )
+
+pub returns-in-Ok-clause-airs : goal.returns-in-Ok-clause-airs
+returns-in-Ok-clause-airs g c = λ first ended last told qs start before (is, h) held.
+    let d = first.chain.now.service.config in
+    let p = c.args.packet.now in
+    let old = c.args.self.now.chain.now in
+    let heard_service = c.hear.new.self.service in
+    let service = record heard_service { injector = c.feed.new.self } in
+    let exchanged = Exchanged g.U.Automation.exchanges g.U.Automation.failures first.automation.now c.hear.new.automation in
+    let so_far = InjectedSoFar d ended last told qs in
+    let heard = heard_on_air g.U.Automation.exchanges g.met.U.Automation.exchanges_refl g.met.U.Automation.exchanges_trans g.U.Automation.failures ServiceJudges (InjectsFor d) (reply_in d) (injects-one d)
+    so_far ended last (injected-stays d ended last told qs) first.automation.now c.args.self.now.automation.now c.hear.new.automation old.service heard_service old.talk c.hear.new.self.talk h
+    c.hear.ensures.talk c.hear.ensures.closed c.hear.ensures.failures in
+    let steps = steps_ahead (length heard.rs) heard.ts (packets_through ended) last in
+    let sent = sent_at d p steps in
+    record {
+      sent = qs ++ sent;
+      airs_so = (
+        is,
+        passed_on_air (InjectsFor d) (reply_in d) exchanged ended last heard_service service c.hear.new.self.talk so_far (InjectedSoFar d ended (judged p ∷ last) told (qs ++ sent)) (judged p) heard
+            (λ stands. c.in-Ok.ensures.stands d steps stands) (injected-more d ended last told qs (judged p) (length heard.rs) heard.ts heard.out),
+      );
+      out = subst (g.K.PacketSink.holds c.feed.new.sink start) (append_assoc before qs sent) (c.in-Ok.ensures.ok start (before ++ qs) d steps held heard.gone);
+    }

@@ -1,0 +1,4 @@
+use Rattle.chain_engine.proofs.air.SwitchStageAirStage.finish_last.Goals as goal
+
+pub returns-clause-airs : goal.returns-clause-airs
+returns-clause-airs g c = λ first ended last told qs start before tells held. absurd tells
