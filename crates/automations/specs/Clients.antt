@@ -12,7 +12,7 @@ use Rattle.scte104_codec.specs.declared.framing.Frame.TheVariants.{Whole}
 use Rattle.chain_engine.specs.Automation.{Take, piece, ended, failed, Answer, Exchange, takes_in, answers_in, bytes_in, bytes_of}
 use Rattle.chain_engine.proofs.ExchangeLemmas.{takes_both, answers_both_in}
 use Rattle.automations.specs.ScriptAnswers.{are_given}
-use Rattle.automations.specs.declared.connection.Requests.{Requests}
+use Rattle.automations.specs.declared.calls.Requests.{Requests}
 use Rattle.automations.specs.declared.letter.Letter.{Letter}
 use Rattle.automations.specs.declared.letter.Progress.{Progress}
 use Rattle.automations.specs.declared.letter.Progress.TheVariants as progress
@@ -69,7 +69,7 @@ TakesTurn quiet quiet' client asked asked' = ((quiet' + 1 ≡ quiet) × (asked' 
 
 -- A reply is written to the client that is there, whole, or its session ends.
 abbrev pub AnswersClient : {W : Type 0} → (W → Option (List ℕ)) → Option (Client W) → Option (Client W) → List ℕ → Type 0
-AnswersClient contents (Some c) (Some d) reply = Appends (contents c.replies) (contents d.replies) reply
+AnswersClient contents (Some c) (Some d) reply = Appends (contents c.replies.writer) (contents d.replies.writer) reply
 AnswersClient contents (Some c) None reply = Unit {0}
 AnswersClient contents None (Some d) reply = ⊥
 AnswersClient contents None None reply = Unit {0}

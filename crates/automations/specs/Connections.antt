@@ -11,7 +11,9 @@ use Rattle.chain_engine.specs.declared.automation.Taken.{Taken}
 use Rattle.chain_engine.specs.declared.automation.Taken.TheVariants.{Bytes, Nothing, Ended, Failed}
 use Rattle.chain_engine.proofs.ExchangeLemmas.{takes_both, answers_both_in}
 use Rattle.automations.specs.ScriptAnswers.{are_given, given_both}
+use Rattle.automations.specs.declared.calls.ReadCounts.{ReadCounts}
 use Rattle.automations.specs.declared.connection.Connection.{Connection}
+use Rattle.automations.specs.Calls.{HasRead, FoundNothing, FailedToRead}
 
 -- bytes come off the front of those that the stream has left; it has none at the end, and else keeps them
 abbrev pub IsTakenFrom : Option (List ℕ) → Option (List ℕ) → List ℕ → Taken → Type 0
@@ -19,6 +21,14 @@ IsTakenFrom old new room (Bytes n) = (0 < n) × Consumes old new (take n room)
 IsTakenFrom old new room Nothing = Keeps old new
 IsTakenFrom old new room Ended = IsAtEnd new
 IsTakenFrom old new room Failed = Keeps old new
+
+-- WHAT A TAKE TELLS is what became of its read: bytes, the client's end, a failure for good, or that nothing was there; and where it asked
+-- nothing, one of the takes that need not ask is gone
+abbrev pub IsTakenBy : ℕ → ℕ → ReadCounts → ReadCounts → Taken → Type 0
+IsTakenBy quiet quiet' old new (Bytes n) = HasRead n old new
+IsTakenBy quiet quiet' old new Nothing = ((quiet' + 1 ≡ quiet) × (new ≡ old)) ⊎ FoundNothing old new
+IsTakenBy quiet quiet' old new Ended = HasRead 0 old new
+IsTakenBy quiet quiet' old new Failed = FailedToRead old new
 
 -- A take asks the client by a read, and at most 15 takes behind it need not; or it counts one of these, and asks nothing. So of sixteen takes
 -- in a row one at least asks.
@@ -34,13 +44,13 @@ replies_of answers = flat_map (λ (a : Answer). a.reply) answers
 abbrev pub ConnectionExchanges : {R W : Type 0} → (R → Option (List ℕ)) → (W → Option (List ℕ)) → Connection R W → List Exchange → Connection R W → Type 0
 ConnectionExchanges remaining contents s es t =
     Consumes (remaining s.requests.reader) (remaining t.requests.reader) (bytes_of (takes_in es))
-    × (are_given (answers_in es) ≡ true → Appends (contents s.replies) (contents t.replies) (replies_of (answers_in es)))
+    × (are_given (answers_in es) ≡ true → Appends (contents s.replies.writer) (contents t.replies.writer) (replies_of (answers_in es)))
 
 -- ---- exchanges follow one another
 
 pub ConnectionExchanges-refl : {R W : Type 0} (remaining : R → Option (List ℕ)) (contents : W → Option (List ℕ)) (s : Connection R W)
     → ConnectionExchanges remaining contents s [] s
-ConnectionExchanges-refl remaining contents s = (Consumes-nil (remaining s.requests.reader), λ given. Appends-nil (contents s.replies))
+ConnectionExchanges-refl remaining contents s = (Consumes-nil (remaining s.requests.reader), λ given. Appends-nil (contents s.replies.writer))
 
 bytes_both : (xs ys : List Exchange) → bytes_of (takes_in xs) ++ bytes_of (takes_in ys) ≡ bytes_of (takes_in (xs ++ ys))
 bytes_both xs ys = sym (flat_map-append bytes_in (takes_in xs) (takes_in ys)) ∙ ap bytes_of (sym (takes_both xs ys))
@@ -56,6 +66,6 @@ ConnectionExchanges-trans remaining contents s t u xs ys one two = (
       (Consumes-trans (remaining s.requests.reader) (remaining t.requests.reader) (remaining u.requests.reader) (bytes_of (takes_in xs)) (bytes_of (takes_in ys)) one.0 two.0),
   λ given.
       let (first, second) = given_both (answers_in xs) (answers_in ys) (subst (λ l. are_given l ≡ true) (answers_both_in xs ys) given) in
-      subst (Appends (contents s.replies) (contents u.replies)) (replies_both xs ys)
-      (Appends-trans (contents s.replies) (contents t.replies) (contents u.replies) (replies_of (answers_in xs)) (replies_of (answers_in ys)) (one.1 first) (two.1 second)),
+      subst (Appends (contents s.replies.writer) (contents u.replies.writer)) (replies_both xs ys)
+      (Appends-trans (contents s.replies.writer) (contents t.replies.writer) (contents u.replies.writer) (replies_of (answers_in xs)) (replies_of (answers_in ys)) (one.1 first) (two.1 second)),
 )

@@ -24,7 +24,7 @@ are_given answers = list_all (λ (a : Answer). a.is_given) answers
 
 -- THE ANSWERS OF A SCRIPT between these states: where each was printed whole, what the writer of the replies holds has grown by their lines
 abbrev pub ScriptAnswers : {W M : Type 0} → (W → Option (List ℕ)) → Script W M → List Answer → Script W M → Type 0
-ScriptAnswers contents s answers t = are_given answers ≡ true → Appends (contents s.replies) (contents t.replies) (lines_of answers)
+ScriptAnswers contents s answers t = are_given answers ≡ true → Appends (contents s.replies.writer) (contents t.replies.writer) (lines_of answers)
 
 -- ---- answers follow one another
 
@@ -42,11 +42,11 @@ given_both (x ∷ xs) ys h = by x.is_given h (given_both xs ys)
     by false k rest = absurd (cc)
 
 pub ScriptAnswers-refl : {W M : Type 0} (contents : W → Option (List ℕ)) (s : Script W M) → ScriptAnswers contents s [] s
-ScriptAnswers-refl contents s given = Appends-nil (contents s.replies)
+ScriptAnswers-refl contents s given = Appends-nil (contents s.replies.writer)
 
 pub ScriptAnswers-trans : {W M : Type 0} (contents : W → Option (List ℕ)) (s t u : Script W M) (xs ys : List Answer)
     → ScriptAnswers contents s xs t → ScriptAnswers contents t ys u → ScriptAnswers contents s (xs ++ ys) u
 ScriptAnswers-trans contents s t u xs ys one two given =
     let (first, second) = given_both xs ys given in
-    subst (Appends (contents s.replies) (contents u.replies)) (lines_more xs ys)
-    (Appends-trans (contents s.replies) (contents t.replies) (contents u.replies) (lines_of xs) (lines_of ys) (one first) (two second))
+    subst (Appends (contents s.replies.writer) (contents u.replies.writer)) (lines_more xs ys)
+    (Appends-trans (contents s.replies.writer) (contents t.replies.writer) (contents u.replies.writer) (lines_of xs) (lines_of ys) (one first) (two second))

@@ -3,7 +3,8 @@
 
 ghost use Rattle.ts_packet.specs.Transfers.{IsCounted};
 
-use crate::connection::{QUIET, Requests, ends_of, send};
+use crate::calls::{Replies, Requests};
+use crate::connection::{QUIET, ends_of, send};
 use crate::letter::{Letter, Progress};
 use chain_engine::{Automation, Taken};
 use std::io::{Read, Write};
@@ -13,7 +14,7 @@ use std::net::{OpenListener, OpenStream};
 #[derive(Drop)]
 struct Client<S> {
     requests: Requests<S>,
-    replies: S,
+    replies: Replies<S>,
 }
 
 /// A listener that is asked for its next client without waiting, and how often it was asked. The count stops at the greatest u64.
@@ -46,7 +47,7 @@ where
         let (reader, replies) = ends_of(stream)?;
         Some(Client {
             requests: Requests::new(reader),
-            replies,
+            replies: Replies::new(replies),
         })
     }
 }

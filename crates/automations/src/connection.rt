@@ -1,10 +1,11 @@
 //! An automation on a connection: a client of a port of this machine.
 
+ghost use Rattle.std.specs.Prelude.{◌≡◌, false};
 ghost use Rattle.std.specs.Bool.{OnTrue};
-ghost use Rattle.std.specs.Io.{ReadsAtMost};
-ghost use Rattle.std.specs.Io.KnownBytes.{Appends, ReadConsumes};
-ghost use Rattle.ts_packet.specs.Transfers.{IsCounted};
+ghost use Rattle.std.specs.Io.KnownBytes.{Appends};
+ghost use Rattle.automations.specs.Calls.{LosesReply};
 
+use crate::calls::{Replies, Requests, is_nothing};
 use chain_engine::{Automation, Taken};
 use std::io::{self, ErrorKind, Read, Write};
 use std::net::{Net, OpenListener, OpenStream, SocketAddr, TcpListener};
@@ -16,58 +17,21 @@ pub(crate) const QUIET: u8 = 15;
 /// The most writes of one reply.
 const WRITES: u32 = 64;
 
-/// What requests are read from, and how many reads were made of it. The count stops at the greatest u64.
-#[derive(Drop)]
-pub(crate) struct Requests<R> {
-    reader: R,
-    reads: u64,
-}
-
-impl<R> Requests<R> {
-    ghost use Rattle.std.specs.Prelude.{◌≡◌};
-
-    /// Requests from this reader, which was not read.
-    pub(crate) fn new(reader: R) -> Requests<R>
-        ensures reader { result.reader ≡ reader }
-        ensures reads { result.reads ≡ 0 }
-    {
-        Requests { reader, reads: 0 }
-    }
-}
-
-impl<R: Read> Requests<R> {
-    /// Reads into the front of the room, as the reader does.
-    #[inline(always)]
-    pub(crate) fn read(&mut self, room: &mut [u8]) -> io::Result<usize>
-        ensures bound { ReadsAtMost result room.new }
-        ensures bytes { ReadConsumes (R.remaining self.old.reader) (R.remaining self.new.reader) result room.new }
-        ensures counted { IsCounted self.old.reads self.new.reads }
-    {
-        self.reads = self.reads.saturating_add(1);
-        self.reader.read(room)
-    }
-}
-
 /// An automation at the other end of a connection that does not block: its requests are read, and the replies written.
 #[derive(Drop)]
 pub struct Connection<R, W> {
     requests: Requests<R>,
-    replies: W,
+    replies: Replies<W>,
     /// How many takes may still answer without asking the system.
     quiet: u8,
     /// How many takes and answers failed.
     failures: u64,
 }
 
-/// Whether a call that failed so found nothing, and may be made again.
-pub(crate) fn is_nothing(kind: ErrorKind) -> bool {
-    kind == ErrorKind::WouldBlock || kind == ErrorKind::TimedOut || kind == ErrorKind::Interrupted
-}
-
 impl<R: Read, W: Write> Automation for Connection<R, W> {
-    ghost use Rattle.std.specs.Prelude.{◌≡◌, [], ◌∷◌, length};
+    ghost use Rattle.std.specs.Prelude.{[], ◌∷◌, length};
     ghost use Rattle.chain_engine.specs.Automation.{taken, answered, take_of, answer_of, IsRoomFor, CountsTake, CountsAnswer};
-    ghost use Rattle.automations.specs.Connections.{IsTakenFrom, AsksInTurn, ConnectionExchanges};
+    ghost use Rattle.automations.specs.Connections.{IsTakenFrom, IsTakenBy, AsksInTurn, ConnectionExchanges};
     ghost use Rattle.automations.specs.Connections.{ConnectionExchanges-refl, ConnectionExchanges-trans};
 
     ghost exchanges = { λ s es t. ConnectionExchanges R.remaining W.contents s es t };
@@ -85,7 +49,8 @@ impl<R: Read, W: Write> Automation for Connection<R, W> {
         ensures failures { CountsTake result self.old.failures self.new.failures }
         ensures read { IsTakenFrom (R.remaining self.old.requests.reader) (R.remaining self.new.requests.reader) room.new result }
         ensures exchanges { ConnectionExchanges R.remaining W.contents self.old (taken (take_of result room.new) ∷ []) self.new }
-        ensures turn { AsksInTurn self.old.quiet self.new.quiet self.old.requests.reads self.new.requests.reads }
+        ensures turn { AsksInTurn self.old.quiet self.new.quiet self.old.requests.counts.made self.new.requests.counts.made }
+        ensures by { IsTakenBy self.old.quiet self.new.quiet self.old.requests.counts self.new.requests.counts result }
     {
         if self.quiet > 0 {
             self.quiet -= 1;
@@ -107,7 +72,8 @@ impl<R: Read, W: Write> Automation for Connection<R, W> {
 
     fn answer(&mut self, reply: &[u8]) -> bool
         ensures failures { CountsAnswer result self.old.failures self.new.failures }
-        ensures sent { OnTrue result (Appends (W.contents self.old.replies) (W.contents self.new.replies) reply.now) }
+        ensures sent { OnTrue result (Appends (W.contents self.old.replies.writer) (W.contents self.new.replies.writer) reply.now) }
+        ensures lost { result ≡ false → LosesReply self.old.replies.counts self.new.replies.counts }
         ensures exchanges { ConnectionExchanges R.remaining W.contents self.old (answered (answer_of reply.now result) ∷ []) self.new }
     {
         if send(&mut self.replies, reply) {
@@ -119,11 +85,12 @@ impl<R: Read, W: Write> Automation for Connection<R, W> {
 }
 
 /// Writes all of these bytes, and answers whether they were taken.
-pub(crate) fn send<W: Write>(stream: &mut W, bytes: &[u8]) -> bool
-    ensures { OnTrue result (Appends (W.contents stream.old) (W.contents stream.new) bytes.now) }
+pub(crate) fn send<W: Write>(stream: &mut Replies<W>, bytes: &[u8]) -> bool
+    ensures sent { OnTrue result (Appends (W.contents stream.old.writer) (W.contents stream.new.writer) bytes.now) }
+    ensures lost { result ≡ false → LosesReply stream.old.counts stream.new.counts }
 {
     let mut rest = bytes;
-    for _ in 0..WRITES {
+    for _turn in 0..WRITES {
         if rest.is_empty() {
             return true;
         }
@@ -173,7 +140,7 @@ where
     let (reader, replies) = ends_of(stream)?;
     Some(Connection {
         requests: Requests::new(reader),
-        replies,
+        replies: Replies::new(replies),
         quiet: 0,
         failures: 0,
     })

@@ -2,7 +2,7 @@
 
 ghost use Rattle.std.specs.Prelude.{◌≡◌, false};
 
-use crate::connection::{Requests, is_nothing};
+use crate::calls::{Requests, is_nothing};
 use arrayvec::ArrayVec;
 use scte104_codec::{Frame, frame};
 use std::io::Read;

@@ -3,6 +3,7 @@
 //! What a caller uses: a script that is loaded or why it is not and in which line, whether a reply was lost, and the clauses of `Automation` for both.
 #![tactic(auto)]
 
+mod calls;
 mod clients;
 mod connection;
 mod letter;

@@ -1,14 +1,16 @@
 //! A script: an automation whose bytes stand in a text, each line before a packet of the network, and whose replies are printed.
 
-ghost use Rattle.std.specs.Prelude.{◌≡◌, ◌<◌, ◌^◌, ◌-◌, ℕ, List, [], Err, nat_lt, drop, IfErr, IfOk, IfSome, OnOk};
+ghost use Rattle.std.specs.Prelude.{◌≡◌, ◌<◌, ◌^◌, ◌-◌, ℕ, List, [], Err, nat_lt, drop, false, IfErr, IfOk, IfSome, OnOk};
 ghost use Rattle.std.specs.Bool.{OnTrue};
 ghost use Rattle.std.specs.Io.KnownBytes.{Appends};
 ghost use Rattle.ts_packet.specs.Transfers.{LastMovedNone};
+ghost use Rattle.automations.specs.Calls.{OneFlushed, OneFailed};
 ghost use Rattle.automations.specs.Scripts.{ScriptBlamed, reply_line};
 ghost use Rattle.automations.specs.ScriptLines.{GivesLines, count_due};
 ghost use Rattle.automations.specs.ScriptText.{IsNoScript};
 ghost use Rattle.automations.specs.ScriptReading.{IsLoaded, IsReadFrom, IsReadWhole, IsScriptRead, read_lines};
 
+use crate::calls::Replies;
 use crate::script_text::{Line, Reading};
 use chain_engine::{Automation, Taken};
 use hex_digits::spell;
@@ -57,7 +59,7 @@ pub struct Script<W, M: Allocator = Global> {
     begin: usize,
     /// How many pieces were asked for: the number of the packet that comes next.
     packet: u64,
-    replies: W,
+    replies: Replies<W>,
     /// How many replies could not be printed.
     lost: u64,
 }
@@ -122,7 +124,7 @@ impl<W, M: Allocator> Script<W, M> {
             next: 0,
             begin: 0,
             packet: 0,
-            replies,
+            replies: Replies::new(replies),
             lost: 0,
         }
     }
@@ -182,8 +184,10 @@ pub fn load_into<M: Allocator, S: Source>(
 /// Prints the line of a reply, the word and its digits, and answers whether all of it is out.
 /// The writer is given the line at once, since each write to it may be a call of the system. Only a line of more than 64 bytes goes out
 /// in pieces of so many.
-fn print_reply<W: Write>(replies: &mut W, reply: &[u8]) -> bool
-    ensures { OnTrue result (Appends (W.contents replies.old) (W.contents replies.new) (reply_line reply.now)) }
+fn print_reply<W: Write>(replies: &mut Replies<W>, reply: &[u8]) -> bool
+    ensures printed { OnTrue result (Appends (W.contents replies.old.writer) (W.contents replies.new.writer) (reply_line reply.now)) }
+    ensures flushed { OnTrue result (OneFlushed replies.old.counts replies.new.counts) }
+    ensures lost { result ≡ false → OneFailed replies.old.counts replies.new.counts }
 {
     let mut line = [0; PIECE];
     line[..6].copy_from_slice(b"reply ");
@@ -250,6 +254,8 @@ impl<W: Write, M: Allocator> Automation for Script<W, M> {
         ensures takes { ScriptTakes self.old [] self.new }
         ensures failures { CountsAnswer result self.old.lost self.new.lost }
         ensures answers { ScriptAnswers W.contents self.old (answer_of reply.now result ∷ []) self.new }
+        ensures flushed { OnTrue result (OneFlushed self.old.replies.counts self.new.replies.counts) }
+        ensures lost { result ≡ false → OneFailed self.old.replies.counts self.new.replies.counts }
     {
         if print_reply(&mut self.replies, reply) {
             return true;

@@ -1,24 +1,26 @@
 //! One channel, bounded in packets, and its clients.
 
 use crate::channel::{Channel, PACKETS, null_packet};
-use automations::Clients;
+use automations::{Clients, listen};
 use chain_engine::Chain;
 use on_air::{Unwatched, inject_on_air};
 use psi_tables::Config;
-use std::net::{OpenListener, SocketAddr, TcpListener};
+use std::net::OpenListener;
 use std::test::Fail;
 use ts_packet::{Device, PacketReader, PacketWriter, Pid};
 
 #[test]
 fn clients_come_and_go_and_the_network_goes_on(rt: HostRuntime) -> Result<(), Fail> {
-    let listener = TcpListener::bind(&rt, SocketAddr::from(([127, 0, 0, 1], 0)))?;
+    let listener = listen(&rt, 0)?;
+    let address = listener.local_addr()?;
+    assert!(rt; address.ip().is_loopback());
     let Ok(config) = Config::new(1, Pid::new(496).ok_or("a PID")?, 1) else {
         return Err(Fail::from("a configuration"));
     };
     let Ok(chain) = Chain::new(rt.alloc(), config) else {
         return Err(Fail::from("memory"));
     };
-    let mut input = Device::new(Channel::new(&rt, listener.local_addr()?));
+    let mut input = Device::new(Channel::new(&rt, address));
     let mut target = Device::new(Vec::new(rt.alloc()));
     let mut network = PacketReader::new(&mut input);
     let mut out = PacketWriter::new(&mut target);

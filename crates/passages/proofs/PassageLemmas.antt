@@ -179,7 +179,7 @@ module _ {W M : Type 0} (contents : W → Option (List ℕ)) (s t : Script W M) 
       let long = answers_long (lost_by ending) rs in
       let told = subst (λ l. ScriptAnswers contents s l t) (answers_are (answers_to (lost_by ending) rs) ts (omega (arith, long, few))) h.1 in
       let all = subst (λ b. ScriptAnswers contents s (answers_to b rs) t) e told in
-      subst (Appends (contents s.replies) (contents t.replies)) (their_lines rs) (all (all_given rs))
+      subst (Appends (contents s.replies.writer) (contents t.replies.writer)) (their_lines rs) (all (all_given rs))
 
   pub script_tells : AsksByLines s ts × PrintsReplies contents s t ending rs
   script_tells = (script_asks, script_replies)

@@ -49,7 +49,7 @@ AsksByLines s ts = (script : List ScriptLine) → GivesLines s script → s.pack
 
 -- where no reply to it was lost, what it prints them to has grown by their lines, in order
 abbrev pub PrintsReplies : {W M : Type 0} → (W → Option (List ℕ)) → Script W M → Script W M → Option SessionEnd → List Reply → Type 0
-PrintsReplies contents s t ending rs = lost_by ending ≡ false → Appends (contents s.replies) (contents t.replies) (reply_lines rs)
+PrintsReplies contents s t ending rs = lost_by ending ≡ false → Appends (contents s.replies.writer) (contents t.replies.writer) (reply_lines rs)
 
 -- THE TAKES OF AN ASKER: those of a client are not known
 abbrev pub AsksBy : {W L : Type 0} → Asker W L → List Take → Type 0
