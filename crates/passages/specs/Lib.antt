@@ -3,3 +3,4 @@ pub mod Runs
 pub mod StopLaws
 pub mod Stopping
 pub mod Stops
+pub mod Watching

@@ -1,5 +1,9 @@
 //! What a run with `--verbose` tells of a stream: how far it went, and the units of the PID in it.
 
+ghost use Rattle.std.specs.Prelude.{◌≡◌, Some};
+ghost use Rattle.ts_packet.specs.Fields.{pid_of};
+ghost use Rattle.passages.specs.Watching.{with_stamp, nothing_seen, with_packet, with_begun, without_packet, last_number};
+
 use pes_time::{PesHead, Time33};
 use std::fmt;
 use ts_packet::{
@@ -16,7 +20,9 @@ pub struct StampRange {
 
 impl StampRange {
     /// The range after one more stamp.
-    fn with(range: Option<StampRange>, pts: Time33) -> StampRange {
+    fn with(range: Option<StampRange>, pts: Time33) -> StampRange
+        ensures { result ≡ with_stamp range pts }
+    {
         let Some(range) = range else {
             return StampRange {
                 least: pts,
@@ -57,7 +63,9 @@ pub struct Watch {
 
 impl Watch {
     /// Nothing was seen.
-    pub fn new() -> Watch {
+    pub fn new() -> Watch
+        ensures { result ≡ nothing_seen }
+    {
         Watch {
             packets: 0,
             last: None,
@@ -68,13 +76,17 @@ impl Watch {
     }
 
     /// Sees this packet go by.
-    fn see(&mut self, packet: &Packet) {
+    fn see(&mut self, packet: &Packet)
+        ensures { self.new ≡ with_packet (pid_of packet.now) self.old }
+    {
         self.packets = self.packets.saturating_add(1);
         self.last = Some(packet.pid());
     }
 
     /// Sees a unit begin with this payload.
-    fn see_unit(&mut self, payload: &[u8]) {
+    fn see_unit(&mut self, payload: &[u8])
+        ensures { self.new ≡ with_begun payload.now self.old }
+    {
         self.units = self.units.saturating_add(1);
         if let Ok(head) = PesHead::read(payload)
             && let Some(pts) = head.pts()
@@ -84,28 +96,38 @@ impl Watch {
     }
 
     /// Sees that what comes next is no packet.
-    fn refuse(&mut self) {
+    fn refuse(&mut self)
+        ensures { self.new ≡ without_packet self.old }
+    {
         self.last = None;
         self.was_refused = true;
     }
 
     /// How many packets went by.
-    pub fn packets(&self) -> u64 {
+    pub fn packets(&self) -> u64
+        ensures { result ≡ self.now.packets }
+    {
         self.packets
     }
 
     /// How many units of the PID have begun in them.
-    pub fn units(&self) -> u64 {
+    pub fn units(&self) -> u64
+        ensures { result ≡ self.now.units }
+    {
         self.units
     }
 
     /// The time stamps of these units.
-    pub fn stamps(&self) -> Option<StampRange> {
+    pub fn stamps(&self) -> Option<StampRange>
+        ensures { result ≡ self.now.stamps }
+    {
         self.stamps
     }
 
     /// The number, from 0, of the last packet, or of what was no packet behind it.
-    pub fn last_packet(&self) -> u64 {
+    pub fn last_packet(&self) -> u64
+        ensures { result ≡ last_number self.now }
+    {
         if self.was_refused {
             self.packets
         } else {
@@ -114,7 +136,9 @@ impl Watch {
     }
 
     /// The PID of the last packet, where it was one.
-    pub fn last_pid(&self) -> Option<Pid> {
+    pub fn last_pid(&self) -> Option<Pid>
+        ensures { result ≡ self.now.last }
+    {
         self.last
     }
 }
@@ -128,12 +152,11 @@ pub struct Watched<'a, D> {
 }
 
 impl<'a, D> Watched<'a, D> {
-    ghost use Rattle.std.specs.Prelude.{◌≡◌};
-
     /// Watches the units of this PID.
     pub fn new(inner: &'a mut D, pid: Pid) -> Watched<'a, D>
         ensures same { result.inner.ghost_name ≡ inner.entry.ghost_name }
         ensures inner { result.inner.now ≡ inner.old }
+        ensures watch { result.watch ≡ nothing_seen }
     {
         Watched {
             inner,
@@ -144,7 +167,10 @@ impl<'a, D> Watched<'a, D> {
 
     /// Sees this packet go by.
     fn see(&mut self, packet: &Packet)
-        ensures { self.new.inner ≡ self.old.inner }
+        ensures inner { self.new.inner ≡ self.old.inner }
+        ensures packets { self.new.watch.packets ≡ (with_packet (pid_of packet.now) self.old.watch).packets }
+        ensures last { self.new.watch.last ≡ Some (pid_of packet.now) }
+        ensures refused { self.new.watch.was_refused ≡ self.old.watch.was_refused }
     {
         self.watch.see(packet);
         if let Piece::Start { payload } = self.units.feed(packet) {
@@ -153,7 +179,9 @@ impl<'a, D> Watched<'a, D> {
     }
 
     /// What was seen so far.
-    pub fn seen(&self) -> Watch {
+    pub fn seen(&self) -> Watch
+        ensures { result ≡ self.now.watch }
+    {
         self.watch
     }
 }
