@@ -10,7 +10,7 @@ use Rattle.chain_engine.specs.Automation.{Take}
 use Rattle.chain_engine.specs.Talks.{HasTalked}
 use Rattle.chain_engine.specs.Runs.{reports_sum}
 use Rattle.chain_engine.specs.Airing.{packets_through, total}
-use Rattle.chain_engine.specs.Injected.{InjectAirsToEnd, report_of_last}
+use Rattle.chain_engine.specs.Injected.{InjectAirsToEnd, report_of_last, reports_of_ended}
 use Rattle.chain_engine.specs.declared.hearing.SessionEnd.{SessionEnd}
 use Rattle.chain_engine.specs.declared.report.Report.{Report}
 use Rattle.chain_engine.specs.declared.chain.Chain.{Chain}
@@ -53,5 +53,5 @@ injected-on-air c purpose is chain exchanged bs is_out told sent last report air
       exchanges = h.exchanges;
       replies = h.replies;
       written = subst is_out (sym h.out.0.0) out;
-      counted = sums ∙ ap (total reports_sum last) h.out.0.1 ∙ ap (λ r. total reports_sum r _) h.out.1;
+      counted = sums ∙ ap (total reports_sum last) h.out.0.1 ∙ ap (λ r. total reports_sum r (reports_of_ended c n h.ts (ended_in (writing_cues c) (stretches_in (writing_cues c) bs)))) h.out.1;
     }
