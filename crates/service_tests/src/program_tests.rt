@@ -223,7 +223,7 @@ fn a_bad_list_is_told_by_its_line(rt: HostRuntime) -> Result<(), Fail> {
         ),
         (
             bad_adverts.as_str(),
-            "fault: BadList\nloading the list {}: line 1: its list of advertisements: a bad line\n",
+            "fault: BadList\nloading the list {}: line 1: its list of advertisements: it is not a number below 65536, one space and a path, in its line 2\n",
         ),
     ] {
         fs::write(&rt, services, text.as_bytes())?;
