@@ -34,10 +34,10 @@ const NETWORK: &[Item] = &[
 #[test]
 fn one_service_goes_as_one_chain(rt: HostRuntime) -> Result<(), Fail> {
     let alloc = rt.alloc();
-    let config = service(1, 0x1F0, 1)?;
+    let configs = [service(1, 0x1F0, 1)?];
     let network = Stream::of(alloc, NETWORK)?;
-    let served = run(alloc, &[config], network.bytes(), BOTH)?;
-    let alone = run_alone(alloc, config, network.bytes(), BOTH)?;
+    let served = run(alloc, &configs, network.bytes(), BOTH)?;
+    let alone = run_alone(alloc, service(1, 0x1F0, 1)?, network.bytes(), BOTH)?;
     assert!(rt; served.out.as_slice() == alone.out.as_slice());
     assert!(rt; served.replies.as_slice() == alone.replies.as_slice());
     assert!(rt; served.told == alone.told);
