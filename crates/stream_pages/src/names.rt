@@ -111,7 +111,7 @@ fn network_advice(fault: NetworkFault) -> &'static str {
         NetworkFault::Scrambled =>
             "a switched stream is scrambled: take the stream before the scrambler",
         NetworkFault::ProgramChanged =>
-            "the program's streams, PCR PID or PMT PID change: run on the parts before and behind",
+            "the program's streams, PCR PID or PMT PID change: run on the parts before and behind, or with --on-air",
         NetworkFault::TooManyStreams =>
             "more than eight switched streams: take streams out of the program",
         NetworkFault::BadPids =>

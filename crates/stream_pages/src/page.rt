@@ -109,8 +109,9 @@ fn write_counts<W: Write>(out: &mut W, facts: &Facts) -> io::Result<()> {
 fn write_program<W: Write>(out: &mut W, program: &ProgramFacts, points: bool) -> io::Result<()> {
     let number = program.number;
     write!(out, "program {number}")?;
-    if let Some(name) = &program.service_name {
-        write!(out, ", {name}")?;
+    match &program.service_name {
+        Some(name) if !name.is_empty() => write!(out, ", {name}")?,
+        _ => {}
     }
     let pmt_pid = PidText(program.pmt_pid);
     write!(out, ": PMT PID {pmt_pid}")?;
@@ -134,13 +135,20 @@ fn write_program<W: Write>(out: &mut W, program: &ProgramFacts, points: bool) ->
 fn write_stream<W: Write>(out: &mut W, stream: &StreamFacts) -> io::Result<()> {
     write_kind(out, stream)?;
     write_language(out, stream)?;
-    if stream.switched {
-        write!(out, "; switched")?;
-    } else {
-        write!(out, "; not switched")?;
-    }
+    let way = way_of(stream);
+    write!(out, "; {way}")?;
     write_units(out, stream)?;
     write_distance(out, stream)
+}
+
+/// What a break does to a stream. One with time stamps that is not switched may well be sound, as AC-3 that the map lists as private data
+/// with a descriptor (ETSI EN 300 468, annex D).
+fn way_of(stream: &StreamFacts) -> &'static str {
+    match (stream.switched, stream.first_pts) {
+        (true, _) => "switched",
+        (false, None) => "not switched",
+        (false, Some(_)) => "not switched: it goes on through a break",
+    }
 }
 
 /// The PID and the type of a stream.
