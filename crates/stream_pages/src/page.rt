@@ -2,7 +2,7 @@
 
 use crate::distance::{first_time, greatest_distance};
 use crate::names::{
-    CHOOSE, advice, command_name, descriptor_name, fault_name, mark_name, type_name,
+    CHOOSE, advice, command_name, descriptor_name, fault_name, mark_name, stream_name,
 };
 use codec_text::{CueFaultText, CueText};
 use pes_time::Time33;
@@ -155,7 +155,7 @@ fn way_of(stream: &StreamFacts) -> &'static str {
 fn write_kind<W: Write>(out: &mut W, stream: &StreamFacts) -> io::Result<()> {
     let pid = PidText(stream.pid);
     let kind = stream.stream_type;
-    let name = type_name(kind);
+    let name = stream_name(kind, stream.private_audio);
     write!(out, "  PID {pid}: stream_type 0x{kind:02x}, {name}")
 }
 
