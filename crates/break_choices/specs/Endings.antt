@@ -10,7 +10,7 @@ use Rattle.break_choices.specs.Cuts.{CutsBefore, named_time}
 abbrev pub IsNearLength : ℕ → ℕ → Type 0
 IsNearLength tenths long = (1 ≤ tenths) × (tenths < 2 ^ 16) × (100 * tenths ≤ long + 500) × (long ≤ 100 * tenths + 500)
 
--- A CLEAN CUT at a time: it falls just before this random access picture of the video
+-- A CLEAN CUT at a time: it falls just before this entry picture of the video
 pub record IsCleanAt (ps : List Picture) (time : ℕ) (p : Picture) : Type 0 where
   pub of : IsOneOf ps p
   pub clean : p.is_clean ≡ true

@@ -2,12 +2,12 @@
 use Rattle.std.specs.Prelude.{◌≡◌, ◌⊎◌, ℕ, ◌<◌, ◌≤◌, Bool, true, not, ◌||◌, nat_lt, nat_le, List, [], ◌∷◌, if◌then◌else◌, Option, None, Some}
 use Rattle.break_choices.specs.declared.pictures.Picture.{Picture}
 use Rattle.break_choices.specs.declared.pictures.Wanted.{Wanted}
-use Rattle.break_choices.specs.declared.pictures.Wanted.TheVariants.{Any, Point, Clean}
+use Rattle.break_choices.specs.declared.pictures.Wanted.TheVariants.{Any, Entry, Clean}
 
 -- the picture is one of these
 abbrev pub takes : Wanted → Picture → Bool
 takes Any p = true
-takes Point p = p.is_point
+takes Entry p = p.is_entry
 takes Clean p = p.is_clean
 
 -- it is one of the list

@@ -1,4 +1,4 @@
-//! Where a break ends: a length near the one that was asked for, by which it ends just before a random access picture.
+//! Where a break ends: a length near the one that was asked for, by which it ends just before an entry picture.
 
 ghost use Rattle.std.specs.Prelude.{◌≡◌, ◌↔◌, ◌+◌, ◌/◌, ◌^◌, ◌<◌, ◌≤◌, ℕ, IsTrue, IfSome, IfNone};
 ghost use Rattle.break_choices.specs.Placing.{StandsAt};
@@ -15,7 +15,7 @@ pub struct Ending {
     pub pre_roll: u64,
     /// Its length, in tenths of a second.
     pub tenths: u64,
-    /// The random access picture before which it ends, where it ends cleanly.
+    /// The entry picture before which it ends, where it ends cleanly.
     pub clean: Option<Picture>,
 }
 

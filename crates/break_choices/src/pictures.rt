@@ -11,8 +11,8 @@ pub struct Picture {
     pub time: u64,
     /// How many packets stand before its first one.
     pub packet: u64,
-    /// It is a random access picture.
-    pub is_point: bool,
+    /// It is an entry picture: a decoder can begin at it without the pictures before it.
+    pub is_entry: bool,
     /// It is one, and in the order of the stream all pictures before it are shown before it, and all behind it are not.
     pub is_clean: bool,
 }
@@ -22,8 +22,8 @@ pub struct Picture {
 pub enum Wanted {
     /// All.
     Any,
-    /// Random access pictures.
-    Point,
+    /// Entry pictures.
+    Entry,
     /// Those at which a cut is clean.
     Clean,
 }
@@ -35,7 +35,7 @@ impl Wanted {
     {
         match self {
             Wanted::Any => true,
-            Wanted::Point => picture.is_point,
+            Wanted::Entry => picture.is_entry,
             Wanted::Clean => picture.is_clean,
         }
     }

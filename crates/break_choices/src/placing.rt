@@ -13,7 +13,7 @@ const FAR: u64 = 900_000;
 /// Where something is to happen, and by which requests.
 #[derive(Clone, Copy, Debug, PartialEq, Eq)]
 pub struct Placed {
-    /// The random access picture.
+    /// The entry picture.
     pub picture: Picture,
     /// The times at which a cut falls just before it.
     pub slot: Slot,
@@ -26,7 +26,7 @@ pub struct Placed {
 /// Why nothing can happen at a time.
 #[derive(Clone, Copy, Debug, PartialEq, Eq)]
 pub enum Unplaced {
-    /// No random access picture lies within 10 seconds behind it. The nearest before it and behind it, where there are such.
+    /// No entry picture lies within 10 seconds behind it. The nearest before it and behind it, where there are such.
     NoPicture {
         /// The last before the time.
         before: Option<Picture>,
@@ -37,7 +37,7 @@ pub enum Unplaced {
     NoPacket(Picture),
 }
 
-/// Places something at the first random access picture at or behind a time.
+/// Places something at the first entry picture at or behind a time.
 ///
 /// # Errors
 ///
@@ -46,13 +46,13 @@ pub fn place(pictures: &[Picture], marks: &[Mark], at: u64) -> Result<Placed, Un
     ensures placed { IfOk result (IsPlaced pictures.now marks.now at) }
     ensures unplaced { IfErr result (IsUnplaced pictures.now marks.now at) }
 {
-    let behind = first_from(pictures, Wanted::Point, at);
+    let behind = first_from(pictures, Wanted::Entry, at);
     let Some(picture) = behind else {
-        let before = last_before(pictures, Wanted::Point, at);
+        let before = last_before(pictures, Wanted::Entry, at);
         return Err(Unplaced::NoPicture { before, behind });
     };
     if picture.time - at > FAR {
-        let before = last_before(pictures, Wanted::Point, at);
+        let before = last_before(pictures, Wanted::Entry, at);
         return Err(Unplaced::NoPicture { before, behind });
     }
     let slot = slot_of(pictures, picture.time);

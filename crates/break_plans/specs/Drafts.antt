@@ -1,5 +1,5 @@
 -- WHAT A LINE COMES TO: what becomes of it, and its request with the packet before which it comes.
-use Rattle.std.specs.Prelude.{◌≡◌, ℕ, ◌+◌, ◌-◌, ◌*◌, ◌/◌, ◌%◌, ◌^◌, ◌<◌, ◌≤◌, min, true, Option, None, Some}
+use Rattle.std.specs.Prelude.{◌≡◌, ℕ, ◌+◌, ◌-◌, ◌*◌, ◌/◌, ◌%◌, ◌^◌, ◌<◌, ◌≤◌, min, Bool, true, Option, None, Some}
 use Rattle.break_lists.specs.declared.line.Order.{Order}
 use Rattle.break_lists.specs.declared.line.Order.TheVariants.{Play, Cancel, End}
 use Rattle.break_lists.specs.declared.list.NumberedLine.{NumberedLine}
@@ -22,6 +22,7 @@ use Rattle.break_plans.specs.Times.{time_of}
 use Rattle.break_plans.specs.Requests.{start_request, end_request, cancel_request}
 use Rattle.break_plans.specs.Edges.{IsEdge}
 use Rattle.break_plans.specs.Fits.{IsFit}
+use Rattle.break_plans.specs.Openings.{opens_continued}
 use Rattle.break_plans.specs.Marks.{first_past}
 
 -- the number of an event: that of its line, where it is given none
@@ -39,7 +40,7 @@ asked_at m r = Some (record { packet = m.packet; request = r })
 
 -- ---- a break
 
--- A BREAK that is asked for at a time, of this event, advertisement and length in milliseconds: it starts at the first random access
+-- A BREAK that is asked for at a time, of this event, advertisement and length in milliseconds: it starts at the first entry
 -- picture from the time on, past the picture before it and not past it, and ends as chosen; the request names just that
 pub record IsBreak (s : Setting) (at event advert long : ℕ) (d : Draft) : Type 0 where
   pub placed : Placed
@@ -49,6 +50,7 @@ pub record IsBreak (s : Setting) (at event advert long : ℕ) (d : Draft) : Type
   pub start_edge : Edge
   pub end_edge : Edge
   pub fit : Fit
+  pub is_continued : Bool
   pub is_placed : IsPlaced s.pictures.now s.marks.now at placed
   pub ends : BreakEndsAt s.pictures.now placed long ending
   pub starts_at : start ≡ bounded (break_start placed ending)
@@ -56,7 +58,8 @@ pub record IsBreak (s : Setting) (at event advert long : ℕ) (d : Draft) : Type
   pub is_start : IsEdge s.pictures.now placed.picture.time (Some placed.picture) start_edge
   pub is_end : IsEdge s.pictures.now stop ending.clean end_edge
   pub fits : IsFit (held s.library.now advert) s.streams.now (9000 * ending.tenths) fit
-  pub outcome : d.outcome ≡ Starts event advert start placed.picture.time ending.tenths start_edge end_edge fit
+  pub opens : is_continued ≡ opens_continued (held s.library.now advert) s.streams.now (9000 * ending.tenths)
+  pub outcome : d.outcome ≡ Starts event advert start placed.picture.time ending.tenths start_edge end_edge fit is_continued
   pub request : d.request ≡ asked_at placed.mark (start_request event advert ending.pre_roll ending.tenths)
 
 -- no length of 1 to 65,535 tenths of a second is within half a second of it
@@ -65,7 +68,7 @@ IsNoLength long = (tenths : ℕ) → tenths ≡ (long + 50) / 100 → IsNearLeng
 
 -- or it is not made
 abbrev pub IsBreakOrNone : Setting → ℕ → ℕ → ℕ → ℕ → Draft → Outcome → Type 0
-IsBreakOrNone s at event advert long d (Starts a b c e f g h i) = IsBreak s at event advert long d
+IsBreakOrNone s at event advert long d (Starts a b c e f g h i j) = IsBreak s at event advert long d
 IsBreakOrNone s at event advert long d (Unplaced why) = IsUnplaced s.pictures.now s.marks.now at why × (d.request ≡ None)
 IsBreakOrNone s at event advert long d Length = IsNoLength long × (d.request ≡ None)
 IsBreakOrNone s at event advert long d (Ends a b c e) = ⊥
@@ -74,7 +77,7 @@ IsBreakOrNone s at event advert long d Behind = ⊥
 
 -- ---- an early end
 
--- AN EARLY END of this event at a time: the break ends at the first random access picture from the time on, past the picture before it
+-- AN EARLY END of this event at a time: the break ends at the first entry picture from the time on, past the picture before it
 -- and not past it
 pub record IsEarlyEnd (s : Setting) (at event : ℕ) (d : Draft) : Type 0 where
   pub placed : Placed
@@ -90,7 +93,7 @@ pub record IsEarlyEnd (s : Setting) (at event : ℕ) (d : Draft) : Type 0 where
 abbrev pub IsEndOrNone : Setting → ℕ → ℕ → Draft → Outcome → Type 0
 IsEndOrNone s at event d (Ends a b c e) = IsEarlyEnd s at event d
 IsEndOrNone s at event d (Unplaced why) = IsUnplaced s.pictures.now s.marks.now at why × (d.request ≡ None)
-IsEndOrNone s at event d (Starts a b c e f g h i) = ⊥
+IsEndOrNone s at event d (Starts a b c e f g h i j) = ⊥
 IsEndOrNone s at event d Length = ⊥
 IsEndOrNone s at event d (Cancels a) = ⊥
 IsEndOrNone s at event d Behind = ⊥

@@ -2,6 +2,7 @@ pub mod Times
 pub mod Requests
 pub mod Edges
 pub mod Fits
+pub mod Openings
 pub mod Marks
 pub mod Drafts
 pub mod Verdicts

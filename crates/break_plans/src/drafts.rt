@@ -8,6 +8,7 @@ ghost use Rattle.break_plans.specs.Drafts.{event_of, IsBreak, IsBreakOrNone, IsE
 
 use crate::edges::edge_at;
 use crate::fits::fit_of;
+use crate::openings::opens_continued;
 use crate::planned::{Draft, Outcome};
 use crate::requests::{cancel_request, end_request, start_request};
 use crate::times::{MILLISECOND, time_of};
@@ -126,6 +127,7 @@ impl Setting<'_> {
                 start_edge: edge_at(self.pictures, placed.picture.time, Some(placed.picture)),
                 end_edge: edge_at(self.pictures, end, ending.clean),
                 fit: fit_of(self.library, advert, self.streams, length),
+                is_continued: opens_continued(self.library, advert, self.streams, length),
             },
             request: Some(PlacedRequest {
                 packet: placed.mark.packet,

@@ -7,7 +7,7 @@ use crate::fits::Fit;
 use break_choices::Unplaced;
 use break_scripts::PlacedRequest;
 
-/// How a cut lies to the random access pictures.
+/// How a cut lies to the entry pictures.
 #[derive(Clone, Copy, Debug, PartialEq, Eq)]
 pub enum Edge {
     /// It falls just before one, and the pictures do not step back over it.
@@ -53,6 +53,8 @@ pub enum Outcome {
         end_edge: Edge,
         /// Whether the advertisement fits.
         fit: Fit,
+        /// Whether its first picture shows that its numbers go on from pictures before it.
+        is_continued: bool,
     },
     /// A break ends early.
     Ends {

@@ -101,7 +101,7 @@ impl fmt::Display for Verdict {
 }
 
 impl Told<'_> {
-    /// A random access picture on one side, where there is one.
+    /// An entry picture on one side, where there is one.
     fn side<W: fmt::Write>(
         &self,
         f: &mut fmt::Formatter<W>,
@@ -132,7 +132,7 @@ impl Told<'_> {
     ) -> fmt::Result {
         match unplaced {
             Unplaced::NoPicture { before, behind } => {
-                write!(f, "not planned: no random access picture within 10 s")?;
+                write!(f, "not planned: no entry picture within 10 s")?;
                 self.side(f, *before, "before")?;
                 self.side(f, *behind, "behind")
             }
@@ -157,6 +157,7 @@ impl Told<'_> {
                 start_edge,
                 end_edge,
                 fit,
+                is_continued,
                 ..
             } => {
                 let moment = self.moment(*picture);
@@ -164,7 +165,11 @@ impl Told<'_> {
                 write!(
                     f,
                     "event {event} plays {advert} at {moment} for {length} s; start {start_edge}; end {end_edge}; advertisement {fit}"
-                )
+                )?;
+                if *is_continued {
+                    write!(f, "; its first picture goes on from pictures before it")?;
+                }
+                Ok(())
             }
             Outcome::Ends {
                 event,

@@ -69,9 +69,9 @@ unfolding cleaned_behind
 both_behind most before [] knows = refl
 both_behind most before (p ∷ ps) knows =
     ap (λ b. (record p { is_clean = b }) ∷ from_before (Some (greater_of most p.time)) (from_behind ps))
-    (swap p.is_point (is_up_to (least_time ps) p.time) (is_past most p.time)
-    ∙ ap (λ b. p.is_point && (b && is_up_to (least_time ps) p.time)) (knows p.time)
-    ∙ ap (λ b. p.is_point && (list_all (λ (q : Picture). nat_lt q.time p.time) before && b)) (up_to p.time ps))
+    (swap p.is_entry (is_up_to (least_time ps) p.time) (is_past most p.time)
+    ∙ ap (λ b. p.is_entry && (b && is_up_to (least_time ps) p.time)) (knows p.time)
+    ∙ ap (λ b. p.is_entry && (list_all (λ (q : Picture). nat_lt q.time p.time) before && b)) (up_to p.time ps))
     ∙ ap (λ ys. cleaned before p ps ∷ ys) (both_behind (Some (greater_of most p.time)) (before ++ p ∷ []) ps (knows_more most before p knows))
 
 -- WHAT BOTH PASSES COME TO

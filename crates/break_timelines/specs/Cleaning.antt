@@ -1,12 +1,12 @@
--- At which random access pictures a cut is clean.
+-- At which entry pictures a cut is clean.
 use Rattle.std.specs.Prelude.{ℕ, List, [], ◌∷◌, ◌++◌, Bool, true, ◌&&◌, nat_lt, nat_le, min, max, Option, None, Some}
 use Rattle.std.specs.List.{list_all}
 use Rattle.break_choices.specs.declared.pictures.Picture.{Picture}
 
--- CLEAN is a cut at a random access picture that all pictures before it in the order of the stream are shown before, and all behind it are not
+-- CLEAN is a cut at an entry picture that all pictures before it in the order of the stream are shown before, and all behind it are not
 abbrev pub cleaned : List Picture → Picture → List Picture → Picture
 cleaned before p behind = record p {
-  is_clean = p.is_point && (list_all (λ (q : Picture). nat_lt q.time p.time) before && list_all (λ (q : Picture). nat_le p.time q.time) behind);
+  is_clean = p.is_entry && (list_all (λ (q : Picture). nat_lt q.time p.time) before && list_all (λ (q : Picture). nat_le p.time q.time) behind);
 }
 
 -- the pictures of a stream, behind these ones
@@ -29,7 +29,7 @@ is_up_to None time = true
 is_up_to (Some least) time = nat_le time least
 
 abbrev pub clear_of : Picture → Option ℕ → Picture
-clear_of p least = record p { is_clean = p.is_point && is_up_to least p.time }
+clear_of p least = record p { is_clean = p.is_entry && is_up_to least p.time }
 
 abbrev pub from_behind : List Picture → List Picture
 from_behind [] = []

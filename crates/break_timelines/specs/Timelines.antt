@@ -1,9 +1,11 @@
 -- THE TIMELINE of a program: its pictures, and where its greatest time rises, over all packets of a network, newest first.
-use Rattle.std.specs.Prelude.{Bool, false, ◌||◌, ◌==◌, ℕ, ◌+◌, ℤ, List, [], ◌∷◌, ◌++◌, length, if◌then◌else◌, Option, None, Some, is_some}
+use Rattle.std.specs.Prelude.{Bool, false, not, ◌&&◌, ◌||◌, ◌==◌, ℕ, ◌+◌, ℤ, List, [], ◌∷◌, ◌++◌, length, if◌then◌else◌, Option, None, Some, is_some}
 use lib.Signed.{lt_z}
 use Rattle.pes_time.specs.Line.{place as line_place}
 use Rattle.unit_stream.specs.Times.{begins, stamp}
+use Rattle.ts_packet.specs.Fields.{bytes}
 use Rattle.random_access.specs.Marks as said
+use Rattle.random_access.specs.Numbering.{continues}
 use Rattle.random_access.specs.declared.coding.VideoCoding.{VideoCoding}
 use Rattle.program_follower.specs.declared.purpose.Purpose.{Purpose}
 use Rattle.program_follower.specs.Program.{listed, program_of, behind_head, pids_of}
@@ -66,12 +68,16 @@ first_of program (p ∷ past) = first_with (timed_at program p past) (λ place. 
 
 -- ---- pictures
 
--- the first packet of a unit is that of a random access picture, or of another one; whether a cut is clean there, all packets tell
+-- AN ENTRY PICTURE is a random access picture whose first packet does not show that its numbers go on from the pictures before it
+abbrev pub is_entry : VideoCoding → List ℕ → Bool
+is_entry coding p = is_some (said.mark_for (Some coding) (said.marks_of p)) && not (continues coding (bytes p))
+
+-- the picture whose unit begins with a packet; whether a cut is clean there, all packets tell
 abbrev pub picture_with : VideoCoding → ℕ → List ℕ → ℕ → Picture
 picture_with coding before p time = record {
   time = time;
   packet = before;
-  is_point = is_some (said.mark_for (Some coding) (said.marks_of p));
+  is_entry = is_entry coding p;
   is_clean = false;
 }
 

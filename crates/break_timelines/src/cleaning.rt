@@ -34,17 +34,17 @@ fn is_up_to(least: Option<u64>, time: u64) -> bool
     }
 }
 
-/// The picture, clean where it is a random access picture and none behind it is shown before it.
+/// The picture, clean where it is an entry picture and none behind it is shown before it.
 fn clear_of(picture: Picture, least: Option<u64>) -> Picture
     ensures { result ≡ clear_of picture least }
 {
     Picture {
-        is_clean: picture.is_point && is_up_to(least, picture.time),
+        is_clean: picture.is_entry && is_up_to(least, picture.time),
         ..picture
     }
 }
 
-/// Random access pictures behind which none is shown before them are clean.
+/// Entry pictures behind which none is shown before them are clean.
 fn clear_behind(pictures: &mut [Picture])
     ensures { pictures.new ≡ from_behind pictures.old }
 {

@@ -7,7 +7,7 @@ ghost use Rattle.program_follower.specs.Faults.{network_fault};
 ghost use Rattle.program_follower.specs.Following.{IsStartPlace, high_of};
 ghost use Rattle.break_timelines.specs.Line.{tick_of, IsPast, Follows};
 ghost use Rattle.break_timelines.specs.Timelines.{planning, timed_at, has_place, is_of, first_with};
-ghost use Rattle.break_timelines.specs.Timelines.{picture_with, picture_of, picture_at, risen};
+ghost use Rattle.break_timelines.specs.Timelines.{is_entry, picture_with, picture_of, picture_at, risen};
 ghost use Rattle.break_timelines.specs.Standing.{ReaderStandsFor, ReaderMeets, IsRise, SaysOf, IsTimelineOf};
 
 use crate::cleaning::{clean, lesser_of};
@@ -18,7 +18,7 @@ use break_choices::{Mark, Picture};
 use pes_time::Time33;
 use program_follower::{Purpose, StartFollower, StartPacket, StartPlace};
 use psi_tables::NetworkFault;
-use random_access::{Marks, VideoCoding};
+use random_access::{Marks, VideoCoding, packet_continues};
 use std::alloc::{AllocError, Global};
 use thiserror::Error;
 use ts_packet::Packet;
@@ -274,6 +274,14 @@ fn picture_of(
     }
 }
 
+/// Whether a packet begins an entry picture of a coding: a random access picture whose numbers it does not show to go on from the pictures
+/// before it.
+fn is_entry(coding: VideoCoding, packet: &Packet) -> bool
+    ensures { result ≡ is_entry coding packet.now }
+{
+    Marks::of(packet).mark_for(Some(coding)).is_some() && !packet_continues(coding, packet)
+}
+
 /// The picture of a coding that begins with a packet before which so many stand.
 fn picture_with(coding: VideoCoding, before: u64, packet: &Packet, time: u64) -> Picture
     ensures { result ≡ picture_with coding before packet.now time }
@@ -281,7 +289,7 @@ fn picture_with(coding: VideoCoding, before: u64, packet: &Packet, time: u64) ->
     Picture {
         time,
         packet: before,
-        is_point: Marks::of(packet).mark_for(Some(coding)).is_some(),
+        is_entry: is_entry(coding, packet),
         is_clean: false,
     }
 }

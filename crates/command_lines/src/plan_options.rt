@@ -27,9 +27,11 @@ writes:
   40 cancel 1                     the event of line 1 is cancelled
 
 A time is in seconds, or hours, minutes and seconds, behind the program's first one, or a time stamp in ticks of 90 kHz. An event that is
-given no number has that of its line. What stands behind # is a comment. A break begins at the first random access picture at or behind its
-time, within 10 seconds, and ends before such a picture where one lies within half a second of its length. Each line is told on standard
-output: what becomes of it, whether its edges are clean, and whether the advertisement fits.";
+given no number has that of its line. What stands behind # is a comment. A break begins at the first entry picture at or behind its time,
+within 10 seconds, and ends before such a picture where one lies within half a second of its length. An entry picture is a random access
+picture that does not show that its numbers go on from the pictures before it: an IDR picture, or in HEVC a BLA picture. Each line is told on
+standard output: what becomes of it, whether its edges are clean, whether the advertisement fits, and whether its first picture goes on from
+pictures before it.";
 
 const PLAN_EXAMPLE: &str = "Example:
   dpi_chain plan --network network.ts --program 1 --index 1 --adverts adverts.txt --breaks breaks.txt --script script.txt

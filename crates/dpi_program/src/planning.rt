@@ -12,13 +12,14 @@ use chain_engine::RunFault;
 use command_lines::plan_options::PlanOptions;
 use command_lines::refusals::{DONE, report};
 use passages::fault::{ProgramFault, fault_name};
-use psi_tables::FeedFault;
+use psi_tables::{FeedFault, NetworkFault};
 use run_ends::{End, create_output, open_input};
 use std::alloc::Global;
+use std::fmt;
 use std::fs::Metadata;
 use std::io::{BufReader, Read, Write};
 use std::rt::Files;
-use ts_packet::{Device, DeviceFault, Packet, PacketReader, Source};
+use ts_packet::{Device, DeviceFault, Packet, PacketReader, Pid, Source};
 
 /// The most reads of a list.
 const READS: u64 = 1 << 32;
@@ -29,11 +30,34 @@ const ROOM: usize = 4_096;
 /// How many bytes of a network are read at a time.
 const BUFFER: usize = 262_144;
 
+/// A packet of the network that shows what is wrong with its program.
+#[derive(Clone, Copy, Debug, PartialEq, Eq)]
+struct FaultyPacket {
+    fault: NetworkFault,
+    /// How many packets stand before it.
+    number: u64,
+    pid: Pid,
+}
+
+impl fmt::Display for FaultyPacket {
+    fn fmt<W: fmt::Write>(&self, f: &mut fmt::Formatter<W>) -> fmt::Result {
+        let number = self.number;
+        let byte = number.saturating_mul(188);
+        let pid = self.pid.get();
+        write!(
+            f,
+            "packet {number}, byte {byte}, PID {pid} (0x{pid:04X}): plan for the part before it; run --on-air goes on behind it"
+        )
+    }
+}
+
 /// Why no plan was made.
 #[derive(Clone, Copy, Debug, PartialEq, Eq)]
 enum PlanFault {
     /// What any run may come to.
     Program(ProgramFault),
+    /// The program of the network is not as it is to be.
+    Network(FaultyPacket),
     /// A line of the list of breaks plans nothing.
     Line(RefusedLine),
     /// The list has more than 2^32 parts.
@@ -107,7 +131,7 @@ fn timeline_from<R: Read + Drop>(
     let mut packets = PacketReader::new(&mut device);
     let mut timeline = TimelineReader::new(alloc, program);
     let mut packet = Packet::null();
-    for _turn in 0..u64::MAX {
+    for number in 0..u64::MAX {
         match packets.read_into(&mut packet) {
             Ok(true) => {}
             Ok(false) => break,
@@ -116,8 +140,11 @@ fn timeline_from<R: Read + Drop>(
         match timeline.feed(&packet) {
             Ok(()) => {}
             Err(TimelineFault::Network(fault)) => {
-                let fault = RunFault::Feed(FeedFault::Network(fault));
-                return Err(PlanFault::Program(ProgramFault::Run(fault)));
+                return Err(PlanFault::Network(FaultyPacket {
+                    fault,
+                    number,
+                    pid: packet.pid(),
+                }));
             }
             Err(TimelineFault::Long) => return Err(PlanFault::Turns),
             Err(TimelineFault::OutOfMemory) => return Err(NO_MEMORY),
@@ -255,7 +282,8 @@ fn plan_ends<R: Files + AllocGlobal, I: Read, O: Write>(
 
 /// Runs the subcommand `plan`, and answers the exit status: the list of breaks is read first, then that of the advertisements with their
 /// streams, then the network; then the script is written, and each line told on `output`. A line of the list that plans nothing is
-/// told on `faults` behind the fault, by its number and what was expected.
+/// told on `faults` behind the fault, by its number and what was expected; and so is the packet that shows what is wrong with the program of
+/// the network.
 pub fn run_plan_command<R, I, O, E>(
     rt: &R,
     options: &PlanOptions<'_>,
@@ -273,6 +301,12 @@ where
     match plan_ends(rt, options, input, output) {
         Ok(()) => DONE,
         Err(PlanFault::Program(fault)) => report(faults, fault_name(fault)),
+        Err(PlanFault::Network(faulty)) => {
+            let fault = RunFault::Feed(FeedFault::Network(faulty.fault));
+            let status = report(faults, fault_name(ProgramFault::Run(fault)));
+            let _ = writeln!(faults, "{faulty}");
+            status
+        }
         Err(PlanFault::Line(line)) => {
             let status = report(faults, "BadBreaks");
             let _ = writeln!(faults, "{line}");

@@ -8,6 +8,7 @@ use stream_facts::{
     Damage, Facts, Inspection, PacketSize, Profile, ProgramFacts, SpliceCommand, StreamFacts,
     StreamFault, Wrong, command_of, descriptors_of, signal_time,
 };
+use stream_pages::write_page;
 use ts_packet::Packet;
 
 /// The map of program 1 is on PID 0x1000.
@@ -21,6 +22,16 @@ const MAP: &[u8] = &[
     0x47, 0x50, 0x00, 0x10, 0x00, 0x02, 0xB0, 0x22, 0x00, 0x01, 0xC1, 0x00, 0x00, 0xE1, 0x01, 0xF0,
     0x00, 0x1B, 0xE1, 0x01, 0xF0, 0x00, 0x0F, 0xE1, 0x02, 0xF0, 0x06, 0x0A, 0x04, 0x64, 0x65, 0x75,
     0x00, 0x86, 0xE1, 0xF0, 0xF0, 0x00, 0xBC, 0x6C, 0x0D, 0xBB,
+];
+
+/// A map with H.264 video on PID 0x101, and as DVB lists them AC-3 in German on 0x102, E-AC-3 on 0x103 and subtitles on 0x104; on 0x105 is
+/// AC-3 as ATSC lists it, with the descriptor of DVB.
+const PRIVATE_MAP: &[u8] = &[
+    0x47, 0x50, 0x00, 0x10, 0x00, 0x02, 0xB0, 0x3F, 0x00, 0x01, 0xC1, 0x00, 0x00, 0xE1, 0x01, 0xF0,
+    0x00, 0x1B, 0xE1, 0x01, 0xF0, 0x00, 0x06, 0xE1, 0x02, 0xF0, 0x09, 0x0A, 0x04, 0x64, 0x65, 0x75,
+    0x00, 0x6A, 0x01, 0x00, 0x06, 0xE1, 0x03, 0xF0, 0x03, 0x7A, 0x01, 0x00, 0x06, 0xE1, 0x04, 0xF0,
+    0x0A, 0x59, 0x08, 0x64, 0x65, 0x75, 0x10, 0x00, 0x01, 0x00, 0x01, 0x81, 0xE1, 0x05, 0xF0, 0x03,
+    0x6A, 0x01, 0x00, 0x83, 0xB7, 0xA8, 0x66,
 ];
 
 /// A picture of the time stamp 108,000 with a random_access_indicator, and the clock reference of one second.
@@ -213,6 +224,36 @@ fn streams_and_their_random_access_points(rt: HostRuntime) -> Result<(), Fail> {
         "program 1 4096 257; 257 27 true None 3 Some(108000) Some(115200) 2 Some(108000) Indicator 7 Some(115200) AvcParameterSet; 258 15 true \
         Some([100, 101, 117]) 1 Some(109000) Some(109000); 496 134 false None 1 None None"
     );
+    Ok(())
+}
+
+/// The page of it: the sound on PID 0x102 has a time stamp, and so goes on through a break.
+const PRIVATE_PAGE: &str = "packets: 3 of 188 bytes
+skipped bytes: 0, packets taken as damaged: 0
+null packets: 0 (0.000 %)
+bit rate by PCR: unknown
+program 1: PMT PID 4096 (0x1000), PCR PID 257 (0x0101)
+  PID 257 (0x0101): stream_type 0x1b, H.264 video; switched; units: 0; random access points: 0
+  PID 258 (0x0102): stream_type 0x06, AC-3 audio, language deu; not switched: it goes on through a break; units: 1; time stamps: 109000 to 109000, 0.000 s; random access points: 0
+  PID 259 (0x0103): stream_type 0x06, E-AC-3 audio; not switched; units: 0; random access points: 0
+  PID 260 (0x0104): stream_type 0x06, private data; not switched; units: 0; random access points: 0
+  PID 261 (0x0105): stream_type 0x81, AC-3 audio; switched; units: 0; random access points: 0
+cues: none
+PIDs free for cues: 256 (0x0100) 262 (0x0106) 263 (0x0107)
+profile: yes
+";
+
+#[test]
+fn sound_that_is_listed_as_private_data(rt: HostRuntime) -> Result<(), Fail> {
+    let alloc = rt.alloc();
+    let shown = Shown {
+        fronts: &[PAT, PRIVATE_MAP, SOUND],
+        ..sound(None)
+    };
+    let facts = facts_of(alloc, shown)?;
+    let mut page = Vec::new(alloc);
+    write_page(alloc, &mut page, &facts, false)?;
+    assert!(rt; page.as_slice() == PRIVATE_PAGE.as_bytes());
     Ok(())
 }
 

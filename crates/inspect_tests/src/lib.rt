@@ -4,6 +4,8 @@
 #[cfg(test)]
 mod facts;
 #[cfg(test)]
+mod numbering;
+#[cfg(test)]
 mod plain;
 #[cfg(test)]
 mod texts;

@@ -1,4 +1,4 @@
-//! Choices in a video of 29.97 pictures a second: a picture is 3,003 ticks, each 15th is a random access picture, and one packet in ten begins
+//! Choices in a video of 29.97 pictures a second: a picture is 3,003 ticks, each 15th is an entry picture, and one packet in ten begins
 //! a picture.
 
 use break_choices::{Ending, Mark, Picture, Placed, Unplaced, choose_ending, place};
@@ -14,12 +14,12 @@ const STEP: u64 = 3_003;
 fn pictures(alloc: Global) -> Result<Vec<Picture>, AllocError> {
     let mut pictures = Vec::new(alloc);
     for k in 0..COUNT {
-        let is_point = k % 15 == 0;
+        let is_entry = k % 15 == 0;
         pictures.push(Picture {
             time: STEP * k,
             packet: 10 * k,
-            is_point,
-            is_clean: is_point,
+            is_entry,
+            is_clean: is_entry,
         })?;
     }
     Ok(pictures)
@@ -51,7 +51,7 @@ fn ended(alloc: Global, at: u64, length: u64) -> Result<Option<Ending>, AllocErr
     }
 }
 
-/// The time of picture 200 is in the group of which picture 210 is the next random access picture, at 630,630. Picture 209 is at 627,627, and
+/// The time of picture 200 is in the group of which picture 210 is the next entry picture, at 630,630. Picture 209 is at 627,627, and
 /// picture 89 at 267,267 is the last that is 360,000 ticks before it. From there 4,005 milliseconds are 360,450 ticks, the first past
 /// picture 209, and 4,037 are 363,330, the last up to picture 210.
 #[test]
@@ -76,7 +76,7 @@ fn break_ends_at_one(rt: HostRuntime) -> Result<(), Fail> {
     Ok(())
 }
 
-/// Behind picture 435, the last random access picture, there is none.
+/// Behind picture 435, the last entry picture, there is none.
 #[test]
 fn nothing_is_placed_behind_the_last_one(rt: HostRuntime) -> Result<(), Fail> {
     let unplaced = placed(rt.alloc(), 435 * STEP + 1)?

@@ -1,6 +1,6 @@
 //! Breaks planned, and made by the script.
 
-use crate::streams::stream;
+use crate::streams::{Pictures, changed_stream, stream, stream_of};
 use dpi_program::program::program;
 use std::io::Cursor;
 use std::net::Net;
@@ -11,7 +11,7 @@ use std::test::Fail;
 use std::{env, fs};
 
 /// Picture `k` of the network is at 900000 + 3600 `k`, and before packet 3 + `k` that is the greatest time. Line 2: from 1436400 on the
-/// first random access picture is picture 150, at 1440000. The last packet before which the greatest time is at least 4 seconds before
+/// first entry picture is picture 150, at 1440000. The last packet before which the greatest time is at least 4 seconds before
 /// picture 149, at 1436400, is that behind picture 49, packet 52, with 1076400: from there 4,040 milliseconds are 363,600 ticks. Two
 /// seconds behind it is picture 200, where a group begins. So with the others: line 4 begins at picture 250, and line 5 ends it at picture
 /// 300, as the time stamp 1890001 lies behind picture 275; line 6 begins at picture 375, and line 7 comes when picture 350 has come.
@@ -146,6 +146,70 @@ fn planned_breaks_are_made(rt: HostRuntime) -> Result<(), Fail> {
         "",
         "fault: BadBreaks\nline 2: expected `for`, `cancel` or `end` behind the time\n",
     );
+    for path in [network, advert, adverts, breaks, script] {
+        fs::remove_file(&rt, path)?;
+    }
+    Ok(())
+}
+
+/// In this network and advertisement most random access pictures are no IDR pictures: each hundredth is one in the network, and the
+/// advertisement begins with another one. Line 1 begins at picture 200, at 1620000, the first IDR picture at or behind 1436400: picture 99, at
+/// 1256400, is 4 seconds before picture 199, and behind it comes packet 102. Two seconds behind is picture 250, between the IDR pictures 200
+/// and 300. Behind 17 seconds there is none; the last is picture 400, at 2340000.
+const OPEN_BREAKS: &[u8] = b"5.96 for 2 play 7\n17 for 2 play 7\n";
+
+/// What is told of them.
+const OPEN_TOLD: &str =
+    "line 1: event 1 plays 7 at 8.000 (pts 1620000) for 2.000 s; start clean; end not clean, a clean one 2.000 s before, a clean one 2.000 s behind; advertisement fits; its first picture goes on from pictures before it; asked before packet 102, 4040 ms ahead; taken
+line 2: not planned: no entry picture within 10 s, the nearest before at 16.000 (pts 2340000), none behind
+";
+
+/// What is told of a network whose program changes.
+const CHANGED: &str = "fault: ProgramChanged
+packet 12, byte 2256, PID 32 (0x0020): plan for the part before it; run --on-air goes on behind it
+";
+
+#[test]
+fn breaks_begin_at_entry_pictures(rt: HostRuntime) -> Result<(), Fail> {
+    let network = file(&rt, "planning_tests_open_network.ts")?;
+    let network = network.to_str().ok_or("a name")?;
+    let advert = file(&rt, "planning_tests_open_advert.ts")?;
+    let advert = advert.to_str().ok_or("a name")?;
+    let adverts = file(&rt, "planning_tests_open_adverts.txt")?;
+    let adverts = adverts.to_str().ok_or("a name")?;
+    let breaks = file(&rt, "planning_tests_open_breaks.txt")?;
+    let breaks = breaks.to_str().ok_or("a name")?;
+    let script = file(&rt, "planning_tests_open_script.txt")?;
+    let script = script.to_str().ok_or("a name")?;
+    let pictures = Pictures {
+        count: 500,
+        first: 900_000,
+        from_idr: 0,
+        to_idr: 100,
+    };
+    fs::write(&rt, network, stream_of(rt.alloc(), pictures)?.as_slice())?;
+    let pictures = Pictures {
+        count: 50,
+        first: 0,
+        from_idr: 25,
+        to_idr: 100,
+    };
+    fs::write(&rt, advert, stream_of(rt.alloc(), pictures)?.as_slice())?;
+    fs::write(
+        &rt,
+        adverts,
+        format!(in rt.alloc(); "7 {advert}\n")?.as_bytes(),
+    )?;
+    fs::write(&rt, breaks, OPEN_BREAKS)?;
+    expect(
+        &rt,
+        &plan(network, adverts, breaks, script),
+        0,
+        OPEN_TOLD,
+        "",
+    );
+    fs::write(&rt, network, changed_stream(rt.alloc())?.as_slice())?;
+    expect(&rt, &plan(network, adverts, breaks, script), 1, "", CHANGED);
     for path in [network, advert, adverts, breaks, script] {
         fs::remove_file(&rt, path)?;
     }

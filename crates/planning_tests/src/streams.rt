@@ -13,6 +13,12 @@ const MAP: [u8; 21] = [
     0x00, 0x15, 0xBD, 0x4D, 0x56,
 ];
 
+/// A later one, by which the video is on PID 257.
+const CHANGED_MAP: [u8; 21] = [
+    0x02, 0xB0, 0x12, 0x00, 0x01, 0xC3, 0x00, 0x00, 0xE1, 0x00, 0xF0, 0x00, 0x1B, 0xE1, 0x01, 0xF0,
+    0x00, 0x1B, 0x88, 0x27, 0xDD,
+];
+
 /// Ticks from one picture to the next: 25 in a second.
 const PICTURE: u64 = 3_600;
 
@@ -42,26 +48,73 @@ fn stamp(pts: u64) -> [u8; 5] {
     ]
 }
 
-/// The packet of the picture of this number: an adaptation field with random_access_indicator, and a PES header.
-fn picture(number: u64, pts: u64) -> [u8; 188] {
+/// The packet of the picture of this number: an adaptation field with random_access_indicator, a PES header, and the begin of a slice with this
+/// first byte of its NAL unit (ISO/IEC 14496-10, 7.3.1), four bytes.
+fn picture(number: u64, pts: u64, nal: u8) -> [u8; 188] {
     let mut packet = [0xFF; 188];
     let counter = (number % 16) as u8;
     let flags = if number % GROUP == 0 { 0x40 } else { 0x00 };
-    packet[..6].copy_from_slice(&[0x47, 0x41, 0x00, 0x30 + counter, 169, flags]);
-    packet[174..183].copy_from_slice(&[0x00, 0x00, 0x01, 0xE0, 0x00, 0x00, 0x80, 0x80, 0x05]);
-    packet[183..].copy_from_slice(&stamp(pts));
+    packet[..6].copy_from_slice(&[0x47, 0x41, 0x00, 0x30 + counter, 165, flags]);
+    packet[170..179].copy_from_slice(&[0x00, 0x00, 0x01, 0xE0, 0x00, 0x00, 0x80, 0x80, 0x05]);
+    packet[179..184].copy_from_slice(&stamp(pts));
+    packet[184..].copy_from_slice(&[0x00, 0x00, 0x01, nal]);
     packet
 }
 
-/// A stream of so many pictures, the first of this time stamp: packet 0 is the PAT, packet 1 the map, and packet `2 + k` picture `k`.
+/// The first byte of a slice of an IDR picture, and of another one (table 7-1).
+const IDR: u8 = 0x65;
+
+const NO_IDR: u8 = 0x41;
+
+/// The pictures of a stream.
+#[derive(Clone, Copy)]
+pub(crate) struct Pictures {
+    /// How many there are.
+    pub(crate) count: u64,
+    /// The time stamp of the first.
+    pub(crate) first: u64,
+    /// How many lie from an IDR picture to the first.
+    pub(crate) from_idr: u64,
+    /// How many pictures lie from one IDR picture to the next.
+    pub(crate) to_idr: u64,
+}
+
+/// A stream of so many pictures, the first of this time stamp, with an IDR picture at each random access.
 pub(crate) fn stream(alloc: Global, count: u64, first: u64) -> Result<Vec<u8>, AllocError> {
+    stream_of(
+        alloc,
+        Pictures {
+            count,
+            first,
+            from_idr: 0,
+            to_idr: GROUP,
+        },
+    )
+}
+
+/// A stream of these pictures: packet 0 is the PAT, packet 1 the map, and packet `2 + k` picture `k`.
+pub(crate) fn stream_of(alloc: Global, pictures: Pictures) -> Result<Vec<u8>, AllocError> {
     let mut bytes = Vec::new(alloc);
     bytes.extend_from_slice(&table(0, &PAT))?;
     bytes.extend_from_slice(&table(32, &MAP))?;
-    let mut pts = first;
-    for number in 0..count {
-        bytes.extend_from_slice(&picture(number, pts))?;
+    let mut pts = pictures.first;
+    let mut far = pictures.from_idr;
+    for number in 0..pictures.count {
+        let nal = if far == 0 { IDR } else { NO_IDR };
+        bytes.extend_from_slice(&picture(number, pts, nal))?;
         pts = pts.wrapping_add(PICTURE) % (1 << 33);
+        far = if far.wrapping_add(1) == pictures.to_idr {
+            0
+        } else {
+            far.wrapping_add(1)
+        };
     }
+    Ok(bytes)
+}
+
+/// Ten pictures, and then another map: packet 12.
+pub(crate) fn changed_stream(alloc: Global) -> Result<Vec<u8>, AllocError> {
+    let mut bytes = stream(alloc, 10, 0)?;
+    bytes.extend_from_slice(&table(32, &CHANGED_MAP))?;
     Ok(bytes)
 }

@@ -88,7 +88,7 @@ impl Marks {
 
 /// The payload, empty where there is none.
 #[tactic(auto, unfolding(ts_packet::specs::Fields::bytes))]
-fn payload_of(packet: &Packet) -> &[u8]
+pub(crate) fn payload_of(packet: &Packet) -> &[u8]
     ensures { result.now ≡ bytes packet.now }
 {
     match packet.payload() {
@@ -111,7 +111,7 @@ fn has_video_header(payload: &[u8]) -> bool
 
 /// The video behind the header of a PES packet.
 #[tactic(auto, unfolding(crate::specs::Marks::video_of))]
-fn video_of(payload: &[u8]) -> &[u8]
+pub(crate) fn video_of(payload: &[u8]) -> &[u8]
     ensures { result.now ≡ video_of payload.now }
 {
     if !has_video_header(payload) {

@@ -6,6 +6,7 @@ use crate::packet_size::PacketSize;
 use pes_time::Time33;
 use psi_tables::NetworkFault;
 use random_access::Point;
+use table_descriptors::PrivateAudio;
 use ts_packet::Pid;
 
 /// All that is known of a transport stream.
@@ -80,6 +81,8 @@ pub struct StreamFacts {
     pub switched: bool,
     /// The first ISO_639_language_code of its entry.
     pub language: Option<[u8; 3]>,
+    /// What sound it is, where its entry lists it as private data.
+    pub private_audio: Option<PrivateAudio>,
     /// The units that begin on its PID.
     pub units: u64,
     /// The first time stamp of a unit, in the order of the stream.

@@ -3,9 +3,10 @@
 use psi_tables::NetworkFault;
 use random_access::Mark;
 use stream_facts::{SpliceCommand, SpliceDescriptor, Wrong};
+use table_descriptors::PrivateAudio;
 
 /// A stream_type in words (ISO/IEC 13818-1, 2.4.4.10; ANSI/SCTE 35 for 0x86; the common ones of ATSC for 0x81 and 0x87).
-pub fn type_name(kind: u8) -> &'static str {
+fn type_name(kind: u8) -> &'static str {
     match kind {
         0x01 => "MPEG-1 video",
         0x02 => "MPEG-2 video",
@@ -28,6 +29,15 @@ pub fn type_name(kind: u8) -> &'static str {
         0xD1 => "Dirac video",
         0xEA => "VC-1 video",
         _ => "unknown",
+    }
+}
+
+/// A stream in words: by its stream_type, or as the sound that DVB lists as private data.
+pub fn stream_name(kind: u8, private_audio: Option<PrivateAudio>) -> &'static str {
+    match private_audio {
+        Some(PrivateAudio::Ac3) => "AC-3 audio",
+        Some(PrivateAudio::EnhancedAc3) => "E-AC-3 audio",
+        None => type_name(kind),
     }
 }
 
@@ -111,7 +121,7 @@ fn network_advice(fault: NetworkFault) -> &'static str {
         NetworkFault::Scrambled =>
             "a switched stream is scrambled: take the stream before the scrambler",
         NetworkFault::ProgramChanged =>
-            "the program's streams, PCR PID or PMT PID change: run on the parts before and behind",
+            "the program's streams, PCR PID or PMT PID change: run on the parts before and behind, or with --on-air",
         NetworkFault::TooManyStreams =>
             "more than eight switched streams: take streams out of the program",
         NetworkFault::BadPids =>

@@ -2,7 +2,7 @@
 
 use crate::distance::{first_time, greatest_distance};
 use crate::names::{
-    CHOOSE, advice, command_name, descriptor_name, fault_name, mark_name, type_name,
+    CHOOSE, advice, command_name, descriptor_name, fault_name, mark_name, stream_name,
 };
 use codec_text::{CueFaultText, CueText};
 use pes_time::Time33;
@@ -109,8 +109,9 @@ fn write_counts<W: Write>(out: &mut W, facts: &Facts) -> io::Result<()> {
 fn write_program<W: Write>(out: &mut W, program: &ProgramFacts, points: bool) -> io::Result<()> {
     let number = program.number;
     write!(out, "program {number}")?;
-    if let Some(name) = &program.service_name {
-        write!(out, ", {name}")?;
+    match &program.service_name {
+        Some(name) if !name.is_empty() => write!(out, ", {name}")?,
+        _ => {}
     }
     let pmt_pid = PidText(program.pmt_pid);
     write!(out, ": PMT PID {pmt_pid}")?;
@@ -134,20 +135,27 @@ fn write_program<W: Write>(out: &mut W, program: &ProgramFacts, points: bool) ->
 fn write_stream<W: Write>(out: &mut W, stream: &StreamFacts) -> io::Result<()> {
     write_kind(out, stream)?;
     write_language(out, stream)?;
-    if stream.switched {
-        write!(out, "; switched")?;
-    } else {
-        write!(out, "; not switched")?;
-    }
+    let way = way_of(stream);
+    write!(out, "; {way}")?;
     write_units(out, stream)?;
     write_distance(out, stream)
+}
+
+/// What a break does to a stream. One with time stamps that is not switched may well be sound, as AC-3 that the map lists as private data
+/// with a descriptor (ETSI EN 300 468, annex D).
+fn way_of(stream: &StreamFacts) -> &'static str {
+    match (stream.switched, stream.first_pts) {
+        (true, _) => "switched",
+        (false, None) => "not switched",
+        (false, Some(_)) => "not switched: it goes on through a break",
+    }
 }
 
 /// The PID and the type of a stream.
 fn write_kind<W: Write>(out: &mut W, stream: &StreamFacts) -> io::Result<()> {
     let pid = PidText(stream.pid);
     let kind = stream.stream_type;
-    let name = type_name(kind);
+    let name = stream_name(kind, stream.private_audio);
     write!(out, "  PID {pid}: stream_type 0x{kind:02x}, {name}")
 }
 

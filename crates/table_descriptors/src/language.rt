@@ -38,7 +38,7 @@ fn language_told(info: &[u8]) -> Option<[u8; 3]>
 
 /// The bytes of a map's entries.
 #[tactic(auto, using(psi_tables::proofs::MapLemmas::map_long, psi_tables::proofs::MapLemmas::map_sixteen))]
-fn entries<'a>(map: &Pmt<'a>) -> &'a [u8]
+pub(crate) fn entries<'a>(map: &Pmt<'a>) -> &'a [u8]
     ensures { result.now ≡ entries_in map.now.bytes.now }
 {
     let bytes = map.bytes;
@@ -65,7 +65,7 @@ fn first_entry(bytes: &[u8]) -> Option<(Pid, &[u8], &[u8])>
 
 /// The descriptors of the first of the entries that lists this PID.
 #[tactic(auto, using(crate::proofs::FindingLemmas::info_here, crate::proofs::FindingLemmas::info_later, crate::proofs::FindingLemmas::info_never, crate::proofs::FindingLemmas::entry_shorter))]
-fn find_info(entries: &[u8], pid: Pid) -> Option<&[u8]>
+pub(crate) fn find_info(entries: &[u8], pid: Pid) -> Option<&[u8]>
     ensures { option_map (λ b. b.now) result ≡ info_on pid (things_of entry_at entries.now) }
 {
     let mut rest = entries;
