@@ -12,7 +12,7 @@ use psi_tables::{Pmt, Stream, is_switched_kind};
 use random_access::VideoCoding;
 use service_names::text_of;
 use std::alloc::{AllocError, Global};
-use table_descriptors::{PrivateAudio, language_of, private_audio_of};
+use table_descriptors::{language_of, private_audio_of};
 
 /// The programs, in the order in which the stream lists them.
 ///
@@ -72,39 +72,26 @@ fn streams(
         return Ok(streams);
     };
     for stream in map.entries() {
-        let told = Told {
-            language: language_of(&map, stream.pid),
-            private_audio: private_audio_of(&map, stream),
-        };
-        let facts = stream_facts(alloc, pids, stream, told)?;
+        let facts = stream_facts(alloc, pids, &map, stream)?;
         streams.push(facts)?;
     }
     Ok(streams)
 }
 
-/// What the descriptors of a stream's entry tell.
-#[derive(Clone, Copy, Debug, PartialEq, Eq)]
-struct Told {
-    language: Option<[u8; 3]>,
-    private_audio: Option<PrivateAudio>,
-}
-
-/// What is known of a stream that a map lists, with what its descriptors tell.
+/// What is known of a stream that a map lists.
 fn stream_facts(
     alloc: Global,
     pids: &PidTable,
+    map: &Pmt<'_>,
     stream: Stream,
-    told: Told,
 ) -> Result<StreamFacts, AllocError>
     ensures { OfPidsKnown pids.now (λ past. IfOk result (IsStreamOf past)) }
 {
     let pid = stream.pid;
     let stream_type = stream.kind;
     let switched = is_switched_kind(stream_type);
-    let Told {
-        language,
-        private_audio,
-    } = told;
+    let language = language_of(map, stream.pid);
+    let private_audio = private_audio_of(map, stream);
     match pids.get(pid) {
         None => Ok(StreamFacts {
             pid,
