@@ -1,6 +1,7 @@
 //! Streams of two programs, packet by packet, each packet with a whole payload.
 
-ghost use Rattle.std.specs.Prelude.{◌≡◌, ◌+◌, vec_len, OnOk};
+ghost use Rattle.std.specs.Prelude.{◌≡◌, ◌+◌, vec_len, IfOk, OnOk};
+ghost use Rattle.two_program_streams.specs.Sizes.{item_size, size_of};
 
 use psi_section::crc;
 use std::alloc::{AllocError, Global};
@@ -70,7 +71,10 @@ impl Stream {
     /// # Errors
     ///
     /// Where memory was refused.
-    pub fn of(alloc: Global, items: &[Item]) -> Result<Stream, AllocError> {
+    #[tactic(auto, using(std::proofs::lemmas::List::Sums::sum_by_more))]
+    pub fn of(alloc: Global, items: &[Item]) -> Result<Stream, AllocError>
+        ensures { IfOk result (λ stream. vec_len stream.bytes ≡ size_of items.now) }
+    {
         let mut stream = Stream {
             bytes: Vec::new(alloc),
             counters: [0; 512],
@@ -82,7 +86,9 @@ impl Stream {
     }
 
     /// The bytes of the packets.
-    pub fn bytes(&self) -> &[u8] {
+    pub fn bytes(&self) -> &[u8]
+        ensures { result.now ≡ self.now.bytes.items }
+    {
         self.bytes.as_slice()
     }
 
@@ -102,7 +108,9 @@ impl Stream {
     }
 
     /// Puts a map with at most 20 streams of video.
-    fn put_map(&mut self, program: u8, videos: &[u16]) -> Result<(), AllocError> {
+    fn put_map(&mut self, program: u8, videos: &[u16]) -> Result<(), AllocError>
+        ensures { OnOk result (vec_len self.new.bytes ≡ vec_len self.old.bytes + 188) }
+    {
         let count = videos.len().min(20);
         let mut section = [0xF0; 112];
         let length = (13 + 5 * count) as u8;
@@ -119,7 +127,9 @@ impl Stream {
     }
 
     /// Puts a PAT that lists program 1 with its map on PID 0x20, and program 2 with its map on this one, of 0x00 to 0xFF.
-    fn put_pat(&mut self, second: u8) -> Result<(), AllocError> {
+    fn put_pat(&mut self, second: u8) -> Result<(), AllocError>
+        ensures { OnOk result (vec_len self.new.bytes ≡ vec_len self.old.bytes + 188) }
+    {
         let section = [
             0, 0xB0, 0x11, 0, 1, 0xC1, 0, 0, 0, 1, 0xE0, 0x20, 0, 2, 0xE0, second,
         ];
@@ -127,7 +137,9 @@ impl Stream {
     }
 
     /// Puts what this item says.
-    fn put_item(&mut self, item: &Item) -> Result<(), AllocError> {
+    fn put_item(&mut self, item: &Item) -> Result<(), AllocError>
+        ensures { OnOk result (vec_len self.new.bytes ≡ vec_len self.old.bytes + item_size item.now) }
+    {
         match *item {
             Item::Pat => self.put_pat(0x21),
             Item::OnePat => self.put_pat(0x20),

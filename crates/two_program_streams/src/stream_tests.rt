@@ -1,0 +1,77 @@
+//! One small stream, whose bytes are worked by hand.
+
+use crate::{Item, Stream};
+use std::alloc::AllocError;
+use std::test::Fail;
+
+/// Puts a packet that begins with these bytes and is filled with this one.
+fn put_packet(bytes: &mut Vec<u8>, front: &[u8], fill: u8) -> Result<(), AllocError> {
+    let mut packet = [fill; 188];
+    let count = front.len().min(188);
+    packet[..count].copy_from_slice(&front[..count]);
+    bytes.extend_from_slice(&packet)
+}
+
+/// The packets of a PAT, another, a map, a unit at 1 s, and behind a counter that begins again a scrambled packet and a unit at the last tick
+/// of the clock: the bytes that each begins with, and the one that fills it (ISO/IEC 13818-1, 2.4.3.2, 2.4.3.6, 2.4.4.4 and 2.4.4.9; the
+/// CRC_32 by annex A).
+const WORKED: &[(&[u8], u8)] = &[
+    (
+        &[
+            0x47, 0x40, 0x00, 0x10, 0x00, 0x00, 0xB0, 0x11, 0x00, 0x01, 0xC1, 0x00, 0x00, 0x00,
+            0x01, 0xE0, 0x20, 0x00, 0x02, 0xE0, 0x21, 0x1D, 0xD4, 0x9C, 0x26,
+        ],
+        0xFF,
+    ),
+    (
+        &[
+            0x47, 0x40, 0x00, 0x11, 0x00, 0x00, 0xB0, 0x11, 0x00, 0x01, 0xC1, 0x00, 0x00, 0x00,
+            0x01, 0xE0, 0x20, 0x00, 0x02, 0xE0, 0x20, 0x19, 0x15, 0x81, 0x91,
+        ],
+        0xFF,
+    ),
+    (
+        &[
+            0x47, 0x40, 0x21, 0x10, 0x00, 0x02, 0xB0, 0x12, 0x00, 0x02, 0xC1, 0x00, 0x00, 0xFF,
+            0xFF, 0xF0, 0x00, 0x1B, 0xE1, 0x01, 0xF0, 0x00, 0xFD, 0xAE, 0x0A, 0xDF,
+        ],
+        0xFF,
+    ),
+    (
+        &[
+            0x47, 0x41, 0x01, 0x10, 0x00, 0x00, 0x01, 0xE0, 0x00, 0x00, 0x80, 0x80, 0x05, 0x21,
+            0x00, 0x05, 0xBF, 0x21,
+        ],
+        0x4E,
+    ),
+    (&[0x47, 0x41, 0x01, 0x90], 0x53),
+    (
+        &[
+            0x47, 0x41, 0x01, 0x11, 0x00, 0x00, 0x01, 0xE0, 0x00, 0x00, 0x80, 0x80, 0x05, 0x2F,
+            0xFF, 0xFF, 0xFF, 0xFF,
+        ],
+        0x41,
+    ),
+];
+
+#[test]
+fn items_become_these_packets(rt: HostRuntime) -> Result<(), Fail> {
+    let stream = Stream::of(
+        rt.alloc(),
+        &[
+            Item::Pat,
+            Item::OnePat,
+            Item::Map(2, &[0x101]),
+            Item::Unit(0x101, 90_000),
+            Item::FromZero(0x101),
+            Item::Scrambled(0x101),
+            Item::Ad(0x101, 0x1_FFFF_FFFF),
+        ],
+    )?;
+    let mut worked = Vec::new(rt.alloc());
+    for (front, fill) in WORKED {
+        put_packet(&mut worked, front, *fill)?;
+    }
+    assert_eq!(rt; stream.bytes(), worked.as_slice());
+    Ok(())
+}
