@@ -1,6 +1,7 @@
 -- What packets are passed on for those that were framed, and that a stream without a fault is passed on as it is.
-use Rattle.std.proofs.Common.{◌≡◌, ℕ, zero, suc, ◌+◌, ◌*◌, ◌-◌, ◌/◌, ◌%◌, ◌<◌, ◌≤◌, List, [], ◌∷◌, Bool, true, false, not, if◌then◌else◌, Option, None, Some, All, arith, length, take, drop, map, slice_index, refl, sym, ap, ◌∙◌, subst, length-take-le, length-drop, take-append-drop}
+use Rattle.std.proofs.Common.{◌≡◌, ℕ, zero, suc, ◌+◌, ◌*◌, ◌-◌, ◌/◌, ◌%◌, ◌<◌, ◌≤◌, ◌^◌, ◌==◌, List, [], ◌∷◌, Bool, true, false, not, ◌&&◌, ◌||◌, nat_le, if◌then◌else◌, Option, None, Some, All, arith, length, take, drop, map, slice_index, refl, sym, ap, ◌∙◌, subst, length-take-le, length-drop, take-append-drop}
 use Rattle.std.specs.Prelude.{filter}
+use Rattle.std.proofs.lemmas.Bool.Decides.{nat_tests}
 use Rattle.std.proofs.lemmas.List.{append-nil}
 use Rattle.std.proofs.lemmas.List.Elements.{All-nil, All-cons, All-head, All-tail}
 use Rattle.ts_packet.proofs.Cases.{by_test}
@@ -10,7 +11,8 @@ use Rattle.ts_packet.specs.Packets.{parts, packets_of, last_part, bytes_of, pack
 use Rattle.ts_packet.specs.declared.packet.PacketFault.{PacketFault}
 use Rattle.ts_packet.specs.declared.packet.PacketFault.TheVariants.{SyncLost, BadAdaptation}
 use Rattle.packet_recovery.specs.Framing.{begins_with_sync, framed, skipped}
-use Rattle.packet_recovery.specs.Mending.{mend, mend_by, mended, mends, is_mended, of_adaptation}
+use Rattle.packet_recovery.specs.Mending.{mend, mend_by, mended, mends, is_mended, is_plain, of_adaptation}
+use Rattle.packet_recovery.specs.Reading.{capped}
 use Rattle.packet_recovery.proofs.FramingLemmas.{framed-short, framed-next, framed-sized, framed-synced}
 
 -- ---- one packet
@@ -180,3 +182,57 @@ mends-lost p h = let e : is_mended p ≡ false = ap of_adaptation h in rw e refl
 pub mends-none : (p : List ℕ) → packet_fault p ≡ None → mends (p ∷ []) ≡ 0
 unfolding mends
 mends-none p h = let e : is_mended p ≡ false = ap of_adaptation h in rw e refl
+
+-- ---- packets of which it is seen at once
+
+sound_if : (s e x : Bool) → s ≡ true → x ≡ false → (if not s then Some SyncLost else (if e then None else (if x then Some BadAdaptation else None))) ≡ None
+sound_if true true x h k = refl
+sound_if true false true h k = absurd (cc)
+sound_if true false false h k = refl
+sound_if false e x h k = absurd (cc)
+
+neither : (a b c d : Bool) → a ≡ false → c ≡ false → ((a && b) || (c && d)) ≡ false
+neither a b c d h k = rw (h, k) refl
+
+none_long : (a c : Bool) → ((a && not true) || (c && not true)) ≡ false
+none_long true true = refl
+none_long true false = refl
+none_long false true = refl
+none_long false false = refl
+
+fits : (a b c d : Bool) → b ≡ true → d ≡ true → ((a && not b) || (c && not d)) ≡ false
+fits a b c d h k = rw (h, k) (none_long a c)
+
+no_two : (n : ℕ) → (n / 32 % 2 == 0) ≡ true → (n / 16 % 4 == 2) ≡ false
+no_two n h = grind (arith, nat_tests, h)
+
+no_three : (n : ℕ) → (n / 32 % 2 == 0) ≡ true → (n / 16 % 4 == 3) ≡ false
+no_three n h = grind (arith, nat_tests, h)
+
+fits_too : (n : ℕ) → nat_le n 182 ≡ true → nat_le n 183 ≡ true
+fits_too n h = grind (arith, nat_tests, h)
+
+plain_fits : (p : List ℕ) (f l : Bool) → (slice_index p 3 / 32 % 2 == 0) ≡ f → nat_le (slice_index p 4) 182 ≡ l → (f || l) ≡ true
+    → (((slice_index p 3 / 16 % 4 == 2) && not (nat_le (slice_index p 4) 183)) || ((slice_index p 3 / 16 % 4 == 3) && not (nat_le (slice_index p 4) 182))) ≡ false
+plain_fits p true l h k e = neither _ _ _ _ (no_two (slice_index p 3) h) (no_three (slice_index p 3) h)
+plain_fits p false true h k e = fits _ _ _ _ (fits_too (slice_index p 4) k) k
+plain_fits p false false h k e = absurd (cc)
+
+front_true : (a b : Bool) → (a && b) ≡ true → (a ≡ true) × (b ≡ true)
+front_true true true h = (refl, refl)
+front_true true false h = absurd (cc)
+front_true false b h = absurd (cc)
+
+pub plain_sound : (p : List ℕ) → is_plain p ≡ true → packet_fault p ≡ None
+unfolding packet_fault
+plain_sound p h =
+    let both = front_true (slice_index p 0 == 71) _ h in
+    sound_if (slice_index p 0 == 71) _ _ both.0 (plain_fits p _ _ refl refl both.1)
+
+-- such a packet is passed on as it is
+pub plain_stays : (p : List ℕ) → is_plain p ≡ true → p ≡ mend p
+plain_stays p h = sym (mend_none p (plain_sound p h))
+
+-- and is not counted
+pub plain_counts : (p : List ℕ) (n : ℕ) → is_plain p ≡ true → n < 2 ^ 64 → n ≡ capped (n + mends (p ∷ []))
+plain_counts p n h l = let none = mends-none p (plain_sound p h) in omega (arith, none, l)

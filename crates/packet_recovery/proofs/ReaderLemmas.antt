@@ -1,5 +1,5 @@
 -- What the reads of a reader come to, one after another.
-use Rattle.std.proofs.Common.{◌≡◌, ℕ, ◌+◌, ◌-◌, ◌^◌, ◌<◌, ◌≤◌, List, [], ◌∷◌, ◌++◌, Bool, true, false, Option, None, Some, IfSome, arith, length, refl, sym, ap, ◌∙◌, length-append}
+use Rattle.std.proofs.Common.{◌≡◌, ℕ, ◌+◌, ◌-◌, ◌^◌, ◌<◌, ◌≤◌, ◌*◌, List, [], ◌∷◌, ◌++◌, Bool, true, false, Option, None, Some, IfSome, arith, length, refl, sym, ap, subst, ◌∙◌, length-append}
 use Rattle.std.specs.Prelude.{min, Result, Ok, Err, IfOk, IfErr}
 use Rattle.std.specs.Io.KnownBytes.{Consumes, IsAtEnd, prepend_known}
 use Rattle.std.proofs.KnownBytes.{Consumes-nil}
@@ -8,10 +8,11 @@ use Rattle.ts_packet.specs.Sources.{WasGiven, GivesInto, Refuses}
 use Rattle.ts_packet.specs.declared.reader.ReadFault.{ReadFault}
 use Rattle.ts_packet.specs.declared.reader.ReadFault.TheVariants as read_faults
 use Rattle.packet_recovery.specs.Framing.{framed, skipped}
-use Rattle.packet_recovery.specs.Mending.{mend, mended, mends}
-use Rattle.packet_recovery.specs.Reading.{capped, rest_of, Framed, RanOut, Missed, Given, Recovers, IsOfDevice, left_to_give, skipped_by, mended_by, Stays}
+use Rattle.packet_recovery.specs.Mending.{mend, mended, mends, is_plain}
+use Rattle.packet_recovery.specs.Reading.{capped, rest_of, StartsAt, Framed, RanOut, Missed, Given, Recovers, IsOfDevice, left_to_give, skipped_by, mended_by, Stays}
 use Rattle.packet_recovery.proofs.FramingLemmas.{framed-short, counted}
-use Rattle.packet_recovery.proofs.MendingLemmas.{mend_sound, mend_sized, mended-nil, mended-cons, mends-nil, mends-cons}
+use Rattle.packet_recovery.proofs.MendingLemmas.{mend_sound, mend_sized, mended-nil, mended-cons, mends-nil, mends-cons, plain_sound, plain_stays, plain_counts, sound_sync}
+use Rattle.packet_recovery.proofs.SightLemmas.{in_place, unfilled}
 
 none_out : (n : ℕ) → n < 2 ^ 64 → n ≡ min (n + 0) (2 ^ 64 - 1)
 none_out n h = omega (arith, h)
@@ -158,3 +159,38 @@ spent_by (Err f) old new slot given n m a b p q h e = absurd (cc)
 pub short_by : (r : Result Bool ReadFault) (P : Type 0) → IfErr r (λ f. P) → r ≡ Err read_faults.Turns → P
 short_by (Ok more) P h e = absurd (cc)
 short_by (Err f) P h e = h
+
+-- ---- one call
+
+-- none of it was read
+pub unbroken : (b x : Bool) (P Q R : Type 0) → (b ≡ true → (x ≡ false) × P × Q × R) → x ≡ true → b ≡ true → ⊥
+unbroken b x P Q R h e t = let f = (h t).0 in cc
+
+pub unended : (b x : Bool) (P Q R : Type 0) → (b ≡ true → P × (x ≡ false) × Q × R) → x ≡ true → b ≡ true → ⊥
+unended b x P Q R h e t = let f = (h t).1 in cc
+
+pub unfull : (b : Bool) (n : ℕ) (P Q R : Type 0) → (b ≡ true → P × Q × R × (n < 2 ^ 64 - 1)) → n ≡ 2 ^ 64 - 1 → b ≡ true → ⊥
+unfull b n P Q R h e t = let l = (h t).3 in grind (arith, l, e)
+
+pub still_at : (b ended ahead : Bool) (start left : Option (List ℕ)) (p : List ℕ) (n : ℕ) → (b ≡ true → ⊥) → StartsAt b start (rest_of ended ahead left) p → ended ≡ false → n < 2 ^ 64
+    → Missed start left n n
+still_at b ended ahead start left p n never h e l =
+    subst (λ s. Missed s left n n) (sym (unfilled b start (rest_of ended ahead left) p never h)) (still ended ahead left n e l)
+
+pub over_at : (b ended ahead : Bool) (start left : Option (List ℕ)) (p : List ℕ) (n : ℕ) → (b ≡ true → ⊥) → StartsAt b start (rest_of ended ahead left) p → ended ≡ true → n < 2 ^ 64
+    → RanOut start (rest_of ended ahead left) n n
+over_at b ended ahead start left p n never h e l =
+    subst (λ s. RanOut s (rest_of ended ahead left) n n) (sym (unfilled b start (rest_of ended ahead left) p never h)) (over ended ahead left n e l)
+
+-- a plain packet that lay ready in its place
+pub given_plain : (ended ahead : Bool) (old new : Option (List ℕ)) (p : List ℕ) (given n m place : ℕ) → ended ≡ false → ahead ≡ false → Consumes old new p → length p ≡ 188
+    → is_plain p ≡ true → n < 2 ^ 64 → m < 2 ^ 64 → place ≡ capped (n + 188 * given) → Given (rest_of ended ahead old) (rest_of ended ahead new) p given n n m m place
+given_plain true ahead old new p given n m place e a h s f k l q = absurd (cc)
+given_plain false true old new p given n m place e a h s f k l q = absurd (cc)
+given_plain false false old new p given n m place e a h s f k l q = record {
+  raw = p;
+  found = in_place old new p n h s (sound_sync p (plain_sound p f)) k;
+  passed = plain_stays p f;
+  marks = plain_counts p m f l;
+  place_is = q;
+}

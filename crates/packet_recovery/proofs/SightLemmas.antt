@@ -12,7 +12,7 @@ use Rattle.ts_packet.specs.declared.transfer.FillFault.{FillFault}
 use Rattle.packet_recovery.specs.Framing.{begins_with_sync, resumes, resumed, framed}
 use Rattle.packet_recovery.specs.declared.search.Regained.{Regained}
 use Rattle.packet_recovery.specs.declared.search.Regained.TheVariants.{Followed, Last, Nowhere}
-use Rattle.packet_recovery.specs.Reading.{rest_of, Searched, Missed, Framed, RanOut, Sighted, WasFilled}
+use Rattle.packet_recovery.specs.Reading.{rest_of, StartsAt, Searched, Missed, Framed, RanOut, Sighted, WasFilled}
 use Rattle.packet_recovery.proofs.FramingLemmas.{resumed-here, framed-short, framed-next, framed-lost}
 
 -- ---- the bytes of a packet
@@ -217,6 +217,11 @@ missed_as old left now w v before after read e h =
 pub is_sync : (p : List ℕ) → get_or p 0 0 ≡ 71 → begins_with_sync p ≡ true
 is_sync p h = ap (λ n. n == 71) h
 
-pub unread : (b : Bool) (left now : Option (List ℕ)) (p : List ℕ) → b ≡ false → Consumes left now p → Consumes (rest_of false b left) now p
-unread false left now p e h = h
-unread true left now p e h = absurd (cc)
+pub filled : (b a : Bool) (start left : Option (List ℕ)) (p : List ℕ) → b ≡ true → a ≡ false → StartsAt b start (rest_of false a left) p → Consumes start left p
+filled true false start left p e k h = h
+filled true true start left p e k h = absurd (cc)
+filled false a start left p e k h = absurd (cc)
+
+pub unfilled : (b : Bool) (start left : Option (List ℕ)) (p : List ℕ) → (b ≡ true → ⊥) → StartsAt b start left p → start ≡ left
+unfilled true start left p never h = absurd (never refl)
+unfilled false start left p never h = h

@@ -1,6 +1,6 @@
 -- Packets whose adaptation field does not fit, taken for damaged ones (ISO/IEC 13818-1, 2.4.3.4 and 2.4.3.5, adaptation_field_length): they
 -- are marked in error (2.4.3.3, transport_error_indicator), so that nothing is read from their other bytes.
-use Rattle.std.specs.Prelude.{ℕ, List, Bool, true, false, Option, None, Some, length, map, filter}
+use Rattle.std.specs.Prelude.{ℕ, ◌/◌, ◌%◌, List, Bool, true, false, ◌&&◌, ◌||◌, ◌==◌, nat_le, Option, None, Some, length, map, filter, slice_index}
 use Rattle.ts_packet.specs.Fields.{marked}
 use Rattle.ts_packet.specs.Packets.{packet_fault}
 use Rattle.ts_packet.specs.declared.packet.PacketFault.{PacketFault}
@@ -31,3 +31,7 @@ is_mended p = of_adaptation (packet_fault p)
 
 unfoldable pub mends : List (List ℕ) → ℕ
 mends ps = length (filter is_mended ps)
+
+-- It is seen at once that the packet has no fault: sync is there, and no adaptation field is, or one that leaves a byte of the packet.
+abbrev pub is_plain : List ℕ → Bool
+is_plain p = (slice_index p 0 == 71) && ((slice_index p 3 / 32 % 2 == 0) || nat_le (slice_index p 4) 182)

@@ -100,6 +100,11 @@ most_turns before after = if after == 2 ^ 64 - 1 then 2 ^ 64 else 2 ^ 20 * (1 + 
 
 -- ---- one call of the reader
 
+-- where a call starts of which the next 188 bytes were read into the slot, or none were, by what is left
+abbrev pub StartsAt : Bool → Option (List ℕ) → Option (List ℕ) → List ℕ → Type 0
+StartsAt true start left slot = Consumes start left slot
+StartsAt false start left slot = start ≡ left
+
 -- behind some bytes that are left out, the next packet stands in the slot
 pub record Framed (old new : Option (List ℕ)) (slot : List ℕ) (before after : ℕ) : Type 0 where
   pub out : List ℕ

@@ -1,10 +1,10 @@
 //! Packets from a device whose bytes are not all packets.
 
-ghost use Rattle.std.specs.Prelude.{◌≡◌, ℕ, ◌+◌, ◌*◌, ◌^◌, ◌<◌, ◌≤◌, ◌∷◌, [], cond, false, true, IfOk, IfErr};
+ghost use Rattle.std.specs.Prelude.{◌≡◌, ℕ, ◌+◌, ◌-◌, ◌*◌, ◌^◌, ◌<◌, ◌≤◌, ◌∷◌, [], List, Option, cond, false, true, IfOk, IfErr};
 ghost use Rattle.ts_packet.specs.Sources.{SourceCounts, SourceBlamed};
-ghost use Rattle.packet_recovery.specs.Mending.{mend, mends};
+ghost use Rattle.packet_recovery.specs.Mending.{mend, mends, is_plain};
 ghost use Rattle.packet_recovery.specs.Reading.{capped, rest_of, is_ahead_by, has_ended_by, is_packet_by};
-ghost use Rattle.packet_recovery.specs.Reading.{Recovers, Missed, IsOfDevice, read_fault_of, most_calls_of};
+ghost use Rattle.packet_recovery.specs.Reading.{Recovers, Missed, StartsAt, IsOfDevice, read_fault_of, most_calls_of};
 
 use crate::search::Regained;
 use crate::sight::look;
@@ -75,8 +75,17 @@ fn is_packet(sight: Option<Regained>) -> bool
     }
 }
 
-/// Marks a packet in error whose adaptation field does not fit, and answers how many were marked so with it.
+/// Whether a packet is seen at once to have no fault: sync is there, and an adaptation field is not, or leaves a byte behind it. A packet of
+/// which this is not seen may have none either.
 #[inline(always)]
+fn is_plain(packet: &Packet) -> bool
+    ensures { result ≡ is_plain packet.now }
+{
+    let bytes = packet.as_bytes();
+    bytes[0] == SYNC_BYTE && (bytes[3] / 32 % 2 == 0 || bytes[4] <= 182)
+}
+
+/// Marks a packet in error whose adaptation field does not fit, and answers how many were marked so with it.
 fn mend_packet(packet: &mut Packet, mended: u64) -> u64
     ensures passed { packet.new ≡ mend packet.old }
     ensures count { result ≡ capped (mended + mends (packet.old ∷ [])) }
@@ -154,6 +163,15 @@ impl<'a, S: Source> RecoveringReader<'a, S> {
         self.place
     }
 
+    /// A packet is read next in its place, of which nothing was read.
+    #[inline(always)]
+    fn is_in_place(&self) -> bool
+        ensures { result ≡ true → (self.now.is_broken ≡ false) × (self.now.has_ended ≡ false) × (self.now.is_ahead ≡ false)
+            × (self.now.given < 2 ^ 64 - 1) }
+    {
+        !self.is_broken && !self.has_ended && !self.is_ahead && self.given != u64::MAX
+    }
+
     /// Reads the next packet into the slot, where there is one; false at the end of the bytes. What a fault or the end leaves in the slot is
     /// open.
     ///
@@ -184,6 +202,49 @@ impl<'a, S: Source> RecoveringReader<'a, S> {
         ensures broken { IfErr result (λ _. self.new.is_broken ≡ true) }
         ensures failed { self.old.is_broken ≡ true → (result ≡ Err ReadFault.Failed) × (self.new ≡ self.old) }
     {
+        if !self.is_in_place() {
+            return self.read_apart(packet, false);
+        }
+        if !packet.fill_ready(self.source) {
+            return self.read_apart(packet, false);
+        }
+        if !is_plain(packet) {
+            return self.read_apart(packet, true);
+        }
+        self.place = place_behind(self.given, self.skipped);
+        self.given += 1;
+        Ok(true)
+    }
+
+    /// Does what `read_into` does, where the next packet is not a plain one that lies ready in its place. The 188 bytes that come next may
+    /// have been read into the slot.
+    #[cold]
+    #[inline(never)]
+    fn read_apart(&mut self, packet: &mut Packet, is_filled: bool) -> Result<bool, ReadFault>
+        requires { is_filled ≡ true → (self.old.is_broken ≡ false) × (self.old.has_ended ≡ false) × (self.old.is_ahead ≡ false)
+            × (self.old.given < 2 ^ 64 - 1) }
+        ensures same { self.new.source.ghost_name ≡ self.old.source.ghost_name }
+        ensures ok { (start : Option (List ℕ)) → StartsAt is_filled start
+            (rest_of self.old.has_ended self.old.is_ahead (S.remaining self.old.source.now)) packet.old
+            → IfOk result (λ more. Recovers more start
+            (rest_of self.new.has_ended self.new.is_ahead (S.remaining self.new.source.now)) packet.new self.old.given
+            self.old.skipped self.new.skipped self.old.mended self.new.mended self.old.place self.new.place) }
+        ensures err { IfErr result (λ f. IsOfDevice self.old.is_broken f) }
+        ensures missed { (start : Option (List ℕ)) → StartsAt is_filled start
+            (rest_of self.old.has_ended self.old.is_ahead (S.remaining self.old.source.now)) packet.old
+            → IfErr result (λ f. Missed start (S.remaining self.new.source.now) self.old.skipped self.new.skipped) }
+        ensures counts { IfOk result (λ more. SourceCounts more self.old.has_ended self.new.has_ended
+            (S.counts self.old.source.now) (S.counts self.new.source.now)) }
+        ensures blamed { IfErr result (λ f. (self.old.has_ended ≡ false) × SourceBlamed f self.old.given
+            (S.counts self.old.source.now) (S.counts self.new.source.now)) }
+        ensures few { (S.counts self.new.source.now).calls ≤ (S.counts self.old.source.now).calls
+            + most_calls_of self.old.skipped self.new.skipped }
+        ensures given { IfOk result (λ more. (self.old.is_broken ≡ false) × (self.new.is_broken ≡ false)
+            × (self.new.given ≡ self.old.given + cond more 1 0)) }
+        ensures none { IfErr result (λ _. self.new.given ≡ self.old.given) }
+        ensures broken { IfErr result (λ _. self.new.is_broken ≡ true) }
+        ensures failed { self.old.is_broken ≡ true → (result ≡ Err ReadFault.Failed) × (self.new ≡ self.old) }
+    {
         if self.is_broken {
             return Err(ReadFault::Failed);
         }
@@ -195,7 +256,7 @@ impl<'a, S: Source> RecoveringReader<'a, S> {
             return Err(ReadFault::Turns);
         }
         let mut skipped = self.skipped;
-        match look(self.source, packet, self.is_ahead, &mut skipped) {
+        match look(self.source, packet, is_filled, self.is_ahead, &mut skipped) {
             Ok(sight) => {
                 self.skipped = skipped;
                 self.is_ahead = is_followed(sight);
@@ -292,7 +353,10 @@ impl<S: PausingSource> PausingPackets for RecoveringReader<'_, S> {
         if self.is_ahead {
             return self.source.may_wait(187);
         }
-        self.source.may_wait(188)
-            || self.source.first_ready() != Some(SYNC_BYTE) && self.source.may_wait(usize::MAX)
+        if self.source.may_wait(188) {
+            return true;
+        }
+        // Asked first, as a reader that never waits knows the answer at once.
+        self.source.may_wait(usize::MAX) && self.source.first_ready() != Some(SYNC_BYTE)
     }
 }

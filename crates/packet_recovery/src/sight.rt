@@ -1,9 +1,9 @@
 //! The look for the next packet: in its place, or where sync is found again.
 
-ghost use Rattle.std.specs.Prelude.{◌≡◌, ℕ, ◌+◌, ◌^◌, ◌<◌, ◌≤◌, false, List, Option, length, take, IfOk, OnErr};
+ghost use Rattle.std.specs.Prelude.{◌≡◌, ℕ, ◌+◌, ◌^◌, ◌<◌, ◌≤◌, true, false, List, Option, length, take, IfOk, OnErr};
 ghost use Rattle.std.specs.Io.KnownBytes.{Consumes};
 ghost use Rattle.packet_recovery.specs.Framing.{begins_with_sync};
-ghost use Rattle.packet_recovery.specs.Reading.{rest_of, WasFilled, FilledCounts, Missed, Sighted, SightCounts, most_turns, most_calls_of};
+ghost use Rattle.packet_recovery.specs.Reading.{rest_of, StartsAt, WasFilled, FilledCounts, Missed, Sighted, SightCounts, most_turns, most_calls_of};
 
 use crate::search::{Regained, search};
 use ts_packet::packet::SYNC_BYTE;
@@ -51,8 +51,6 @@ fn set_front(packet: &mut Packet, window: &[u8; 189])
 }
 
 /// Looks for the next packet behind these 188 bytes, of which the first is no sync byte.
-#[cold]
-#[inline(never)]
 fn look_behind<S: Source>(
     source: &mut S,
     packet: &mut Packet,
@@ -77,8 +75,6 @@ fn look_behind<S: Source>(
 }
 
 /// Looks for the next packet where fewer than 188 bytes lie ready.
-#[cold]
-#[inline(never)]
 fn look_apart<S: Source>(
     source: &mut S,
     packet: &mut Packet,
@@ -109,26 +105,28 @@ fn look_apart<S: Source>(
     }
 }
 
-/// Looks for the next packet. Where it stands in its place and lies ready, it is read into the slot, and nothing is copied.
+/// Looks for the next packet, of which the 188 bytes that come next may have been read into the slot.
 ///
 /// # Errors
 ///
 /// `Io` where a read failed; `Turns` where 2^20 reads brought fewer than 188 bytes, or a search took that many for 188 bytes to leave out.
-#[inline(always)]
 pub(crate) fn look<S: Source>(
     source: &mut S,
     packet: &mut Packet,
+    is_filled: bool,
     is_ahead: bool,
     skipped: &mut u64,
 ) -> Result<Option<Regained>, FillFault>
-    ensures ok { IfOk result (λ o. Sighted o (rest_of false is_ahead (S.remaining source.old)) (S.remaining source.new)
-        packet.new skipped.old skipped.new) }
-    ensures err { OnErr result (Missed (rest_of false is_ahead (S.remaining source.old)) (S.remaining source.new) skipped.old skipped.new) }
+    requires { is_filled ≡ true → is_ahead ≡ false }
+    ensures ok { (start : Option (List ℕ)) → StartsAt is_filled start (rest_of false is_ahead (S.remaining source.old)) packet.old
+        → IfOk result (λ o. Sighted o start (S.remaining source.new) packet.new skipped.old skipped.new) }
+    ensures err { (start : Option (List ℕ)) → StartsAt is_filled start (rest_of false is_ahead (S.remaining source.old)) packet.old
+        → OnErr result (Missed start (S.remaining source.new) skipped.old skipped.new) }
     ensures counts { SightCounts result (S.counts source.old) (S.counts source.new) }
     ensures few { (S.counts source.new).calls ≤ (S.counts source.old).calls + most_calls_of skipped.old skipped.new }
 {
     let _before = *skipped;
-    if !is_ahead && packet.fill_ready(source) {
+    if is_filled {
         if packet.as_bytes()[0] == SYNC_BYTE {
             return Ok(None);
         }

@@ -1,18 +1,12 @@
-use Rattle.std.proofs.Common.{arith, refl}
-use Rattle.packet_recovery.proofs.ReaderLemmas.{still, over, not_ended}
+use Rattle.std.proofs.Common.{◌≡◌, true, arith, refl}
+use Rattle.packet_recovery.specs.Mending.{is_plain}
+use Rattle.packet_recovery.proofs.ReaderLemmas.{given_plain}
 use Rattle.packet_recovery.proofs.reader.RecoveringReader.read_into.Goals as goal
 
-pub returns-then-self-clause-missed : goal.returns-then-self-clause-missed
-returns-then-self-clause-missed g c =
+pub returns-clause-ok : goal.returns-clause-ok
+returns-clause-ok g c =
     let self = c.args.self.now in
-    still self.has_ended self.is_ahead (g.S.Source.remaining self.source.now) self.skipped (not_ended self.has_ended self.is_broken self.ended c.if-self.true) (omega arith)
-
-pub returns-then-self-2-clause-ok : goal.returns-then-self-2-clause-ok
-returns-then-self-2-clause-ok g c =
-    let self = c.args.self.now in
-    (over self.has_ended self.is_ahead (g.S.Source.remaining self.source.now) self.skipped c.if-self-2.true (omega arith), refl, refl)
-
-pub returns-then-self-3-clause-missed : goal.returns-then-self-3-clause-missed
-returns-then-self-3-clause-missed g c =
-    let self = c.args.self.now in
-    still self.has_ended self.is_ahead (g.S.Source.remaining self.source.now) self.skipped c.if-self-2.false (omega arith)
+    let at = c.if-not-is_in_place.ensures refl in
+    let plain : is_plain c.fill_ready.new.self ≡ true = cc in
+    given_plain self.has_ended self.is_ahead _ _ c.fill_ready.new.self self.given self.skipped self.mended _ at.1 at.2
+    (c.if-not-fill_ready.ensures.bytes refl) c.fill_ready.ensures.size plain (omega arith) (omega arith) c.place_behind-self.ensures
