@@ -26,7 +26,7 @@ use Rattle.ad_library.specs.declared.fault.AdFault.TheVariants as ad_faults
 use Rattle.ad_library.specs.declared.gathering.Gathering.{Gathering}
 use Rattle.ad_library.specs.Advertisements.{kept_streams, zero_of, Advertisement, advertisement}
 use Rattle.program_follower.specs.Purposes.{reading_advertisement}
-use Rattle.ad_library.specs.Faults.{of_network, as_ad_fault, large_fault, loss_fault, ad_fault_at, ad_test, end_fault, without_zero, advertisement_fault, ad_cause, Says, of_read, is_of_library, StreamBlamed}
+use Rattle.ad_library.specs.Faults.{of_network, as_ad_fault, large_fault, loss_fault, ad_fault_at, IsWhatIsWrong, ad_test, end_fault, without_zero, advertisement_fault, ad_cause, Says, of_read, is_of_library, StreamBlamed}
 use Rattle.ad_library.specs.Gathering.{Gathers}
 use Rattle.ad_library.specs.Reading.{AreClean, GathersAll}
 
@@ -118,8 +118,8 @@ every_some P None f = tt
 every_some P (Some x) f = f x
 
 pub take_says : {A : Type 0} (input left left' : Option (List ℕ)) (first given : ℕ) (g : Gathering A) (p : List ℕ) (f : AdFault) (h : HasTaken input left first given g) → WasGiven left left' p
-    → (f ≡ ad_faults.OutOfMemory) ⊎ (ad_fault_at p (reverse h.packets) ≡ Some f) → IfSome input (Says f) × (is_of_library f ≡ false)
-take_says input left left' first given g p f h r (inl e) = subst (λ (x : AdFault). IfSome input (Says x) × (is_of_library x ≡ false)) (sym e) (every_some (Says ad_faults.OutOfMemory) input (λ bs. tt), refl)
+    → IsWhatIsWrong (ad_fault_at p (reverse h.packets)) f → IfSome input (Says f) × (is_of_library f ≡ false)
+take_says input left left' first given g p f h r (inl e) = subst (λ (x : AdFault). IfSome input (Says x) × (is_of_library x ≡ false)) (sym e.0) (every_some (Says ad_faults.OutOfMemory) input (λ bs. tt), refl)
 take_says input left left' first given g p f h r (inr e) =
     let k = of_packet p (reverse h.packets) f e in
     let first = packet_stops ad_faults.Packets ad_test input left left' h.packets p f h.read.read h.clean r e in
@@ -215,8 +215,8 @@ quiet_packet p past f e =
     (λ g k. quiet_either (as_ad_fault (network_fault reading_advertisement p past)) (loss_fault p past) g (quiet_net (network_fault reading_advertisement p past)) (λ h l. quiet_if _ ad_faults.Loss h refl l) k)
     e
 
-pub quiet_take : (p : List ℕ) (past : List (List ℕ)) (f : AdFault) → (f ≡ ad_faults.OutOfMemory) ⊎ (ad_fault_at p past ≡ Some f) → is_quiet f ≡ true
-quiet_take p past f (inl e) = ap is_quiet e
+pub quiet_take : (p : List ℕ) (past : List (List ℕ)) (f : AdFault) → IsWhatIsWrong (ad_fault_at p past) f → is_quiet f ≡ true
+quiet_take p past f (inl e) = ap is_quiet e.0
 quiet_take p past f (inr e) = quiet_packet p past f e
 
 pub told_blamed : (first now now' : Bool) (a b c : Tally) (f : AdFault) → ReadOn first now a b → SourceCounts true now now' b c → is_quiet f ≡ true → StreamBlamed f a c
@@ -268,12 +268,12 @@ end_by ps (Some z) f e = absurd (cc)
 of_end : (ps : List (List ℕ)) (f : AdFault) → end_fault ps ≡ Some f → OfPacket f × (is_quiet f ≡ true)
 of_end ps f e = end_by ps (zero_of (kept_streams ps)) f e
 
-pub end_is_quiet : (ps : List (List ℕ)) (f : AdFault) → (f ≡ ad_faults.OutOfMemory) ⊎ (end_fault ps ≡ Some f) → is_quiet f ≡ true
-end_is_quiet ps f (inl e) = ap is_quiet e
+pub end_is_quiet : (ps : List (List ℕ)) (f : AdFault) → IsWhatIsWrong (end_fault ps) f → is_quiet f ≡ true
+end_is_quiet ps f (inl e) = ap is_quiet e.0
 end_is_quiet ps f (inr e) = (of_end ps f e).1
 
-pub end_own : (ps : List (List ℕ)) (f : AdFault) → (f ≡ ad_faults.OutOfMemory) ⊎ (end_fault ps ≡ Some f) → is_of_library f ≡ false
-end_own ps f (inl e) = ap is_of_library e
+pub end_own : (ps : List (List ℕ)) (f : AdFault) → IsWhatIsWrong (end_fault ps) f → is_of_library f ≡ false
+end_own ps f (inl e) = ap is_of_library e.0
 end_own ps f (inr e) = (of_end ps f e).0.own
 
 module _ {A : Type 0} (input : Option (List ℕ)) (g : Gathering A) (h : GathersAll input g) where
@@ -287,8 +287,8 @@ module _ {A : Type 0} (input : Option (List ℕ)) (g : Gathering A) (h : Gathers
   pub end_sound : end_fault (reverse (reverse h.packets)) ≡ None → IfSome input (λ bs. advertisement_fault bs ≡ None)
   end_sound e = whole_fault None e
 
-  pub end_says : (f : AdFault) → (f ≡ ad_faults.OutOfMemory) ⊎ (end_fault (reverse (reverse h.packets)) ≡ Some f) → IfSome input (Says f)
-  end_says f (inl e) = subst (λ (x : AdFault). IfSome input (Says x)) (sym e) (every_some (Says ad_faults.OutOfMemory) input (λ bs. tt))
+  pub end_says : (f : AdFault) → IsWhatIsWrong (end_fault (reverse (reverse h.packets))) f → IfSome input (Says f)
+  end_says f (inl e) = subst (λ (x : AdFault). IfSome input (Says x)) (sym e.0) (every_some (Says ad_faults.OutOfMemory) input (λ bs. tt))
   end_says f (inr e) = if_some _ (Says f) input (λ bs s. says_input bs f (ad_cause f) (of_end (reverse (reverse h.packets)) f e).0.cause s) (whole_fault (Some f) e)
 
   pub end_files : (ad : Option Advertisement) → ad ≡ advertisement (reverse (reverse h.packets)) → ad ≡ advertisement h.packets

@@ -32,7 +32,7 @@ use Rattle.ad_library.specs.declared.gathered.Gathered.{Gathered}
 use Rattle.ad_library.specs.declared.gathering.Gathering.{Gathering}
 use Rattle.ad_library.specs.Storing.{on_line}
 use Rattle.program_follower.specs.Purposes.{reading_advertisement}
-use Rattle.ad_library.specs.Faults.{as_ad_fault, gap_on_one, large_fault, loss_fault, ad_fault_at}
+use Rattle.ad_library.specs.Faults.{as_ad_fault, gap_on_one, large_fault, loss_fault, ad_fault_at, IsWhatIsWrong, IsToldOf}
 use Rattle.ad_library.specs.Gathering.{AllGathered, StreamsGathered, StreamsStand, IsOfOne, IsWholeStart, IsNearStart, stream_in, Gathers, IsHeld}
 use Rattle.ad_library.proofs.ProgramLemmas.{NoPayload as NonePayload, streams_apart, none_marked, none_first, none_map}
 use Rattle.ad_library.proofs.StreamsLemmas.{all_off, begins_none, gap_first, begins_first}
@@ -165,8 +165,8 @@ module _ (p : List ℕ) (past : List (List ℕ)) (few : length past < 356962) wh
   is_refused f e = not_large (or_then (as_ad_fault (network_fault reading_advertisement p past)) (loss_fault p past)) ∙ ap (λ o. or_then o (loss_fault p past)) e
 
   pub lost_or : network_fault reading_advertisement p past ≡ None → (f : AdFault) (gap : Bool) → gap_on_one (pids_of (program_of None past)) p (behind_head None past) ≡ gap
-      → (f ≡ ad_faults.OutOfMemory) ⊎ ((f ≡ ad_faults.Loss) × (gap ≡ true)) → (f ≡ ad_faults.OutOfMemory) ⊎ (ad_fault_at p past ≡ Some f)
-  lost_or n f gap g (inl e) = inl e
+      → IsToldOf gap f → IsWhatIsWrong (ad_fault_at p past) f
+  lost_or n f gap g (inl e) = inl (e.0, is_clean n (g ∙ e.1))
   lost_or n f gap g (inr e) = inr (is_lost n (g ∙ e.1) ∙ ap Some (sym e.0))
 
 pub held_more : (o : Option ℕ) (n : ℕ) → IfSome o (IsHeld n) → IfSome o (IsHeld (n + 1))

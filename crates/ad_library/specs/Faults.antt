@@ -1,5 +1,5 @@
 -- What is wrong with a stream that is to be an advertisement: the first thing that it reaches.
-use Rattle.std.specs.Prelude.{◌≡◌, ℕ, ◌+◌, ◌*◌, List, [], ◌∷◌, length, reverse, Bool, true, false, ◌||◌, nat_lt, if◌then◌else◌, Option, None, Some}
+use Rattle.std.specs.Prelude.{◌≡◌, ◌⊎◌, ℕ, ◌+◌, ◌*◌, List, [], ◌∷◌, length, reverse, Bool, true, false, ◌||◌, nat_lt, if◌then◌else◌, Option, None, Some}
 use Rattle.ts_packet.specs.Packets.{packets_of}
 use Rattle.ts_packet.specs.Duplicates.{is_gap}
 use Rattle.ts_packet.specs.Runs.{Seen}
@@ -60,6 +60,14 @@ without_zero (Some r) = Some NoTime
 
 abbrev pub end_fault : List (List ℕ) → Option AdFault
 end_fault ps = elim (zero_of (kept_streams ps)) [ None ↦ without_zero (program_of None (reverse ps)) | Some zero ↦ None ]
+
+-- what is told where this is wrong: it, and that memory was refused only where nothing is wrong
+abbrev pub IsWhatIsWrong : Option AdFault → AdFault → Type 0
+IsWhatIsWrong wrong fault = ((fault ≡ OutOfMemory) × (wrong ≡ None)) ⊎ (wrong ≡ Some fault)
+
+-- what is told of a packet of a stream, before which one is missing or not
+abbrev pub IsToldOf : Bool → AdFault → Type 0
+IsToldOf is_missing fault = ((fault ≡ OutOfMemory) × (is_missing ≡ false)) ⊎ ((fault ≡ Loss) × (is_missing ≡ true))
 
 -- THE FIRST FAULT of these bytes
 abbrev pub advertisement_fault : List ℕ → Option AdFault

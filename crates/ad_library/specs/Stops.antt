@@ -6,8 +6,7 @@ use Rattle.ts_packet.specs.declared.tally.Tally.{Tally}
 use Rattle.ts_packet.specs.declared.reader.ReadFault.{ReadFault}
 use Rattle.ts_packet.specs.declared.reader.ReadFault.TheVariants as read_faults
 use Rattle.ad_library.specs.declared.fault.AdFault.{AdFault}
-use Rattle.ad_library.specs.declared.fault.AdFault.TheVariants.{OutOfMemory}
-use Rattle.ad_library.specs.Faults.{ad_fault_at, end_fault, of_read, is_of_library}
+use Rattle.ad_library.specs.Faults.{ad_fault_at, end_fault, of_read, is_of_library, IsWhatIsWrong}
 use Rattle.ad_library.specs.Reading.{AreClean}
 
 -- ---- one read
@@ -43,10 +42,6 @@ pub record GaveClean {X : Type 0} (leads : X → X → Type 0) (left : X → Opt
   pub clean : AreClean ps
 
 -- ---- the whole
-
--- memory was refused, or this is what is wrong
-abbrev pub IsWhatIsWrong : Option AdFault → AdFault → Type 0
-IsWhatIsWrong wrong fault = (fault ≡ OutOfMemory) ⊎ (wrong ≡ Some fault)
 
 -- THE END of a stream: all of its packets were given, and one read told the end behind them
 pub record ReadToEnd {X : Type 0} (leads : X → X → Type 0) (left : X → Option (List ℕ)) (given : X → ℕ) (counts : X → Tally) (ended broken : X → Bool) (ps : List (List ℕ)) (first now : X) : Type 0 where

@@ -1,11 +1,11 @@
 //! What was gathered, filed: each unit by how far it lies past the least time of all.
 
 ghost use Rattle.std.specs.List.{list_all};
-ghost use Rattle.std.specs.Prelude.{◌≡◌, ◌⊎◌, ℕ, List, Option, Some, None, OnOk, IfOk, IfErr, reverse, map, option_map, true};
+ghost use Rattle.std.specs.Prelude.{◌≡◌, ℕ, List, Option, Some, None, OnOk, IfOk, IfErr, reverse, map, option_map, true};
 ghost use Rattle.ad_library.specs.Storing.{StoredUnit, Stores, on_line};
 ghost use Rattle.ad_library.specs.Advertisements.{KeptStream, stream_from, lower, lower_of, zero_of, advertisement};
 ghost use Rattle.ad_library.specs.Library.{stream_seen, advert_seen};
-ghost use Rattle.ad_library.specs.Faults.{end_fault};
+ghost use Rattle.ad_library.specs.Faults.{end_fault, IsWhatIsWrong};
 ghost use Rattle.ad_library.specs.Gathering.{Gathers};
 ghost use Rattle.ad_library.specs.Filing.{least_of_places, kept_of, ArePast, AllStored, AreOf};
 ghost use Rattle.ad_library.specs.Zeros.{has_zero};
@@ -23,14 +23,14 @@ impl<A: Allocator + Copy> Gathering<A> {
     ///
     /// # Errors
     ///
-    /// `NoProgram`, `NoTime`, `OutOfMemory`.
+    /// `NoProgram`, `NoTime`; `OutOfMemory` only where neither is wrong.
     pub(crate) fn finish(self) -> Result<Advert<A>, AdFault>
         requires { (past : List (List ℕ)) × Gathers self past }
         ensures ok { (past : List (List ℕ)) → Gathers self past
             → IfOk result (λ ad. Some (advert_seen ad) ≡ advertisement (reverse past)) }
         ensures sound { (past : List (List ℕ)) → Gathers self past → OnOk result (end_fault (reverse past) ≡ None) }
         ensures err { (past : List (List ℕ)) → Gathers self past
-            → IfErr result (λ f. (f ≡ AdFault.OutOfMemory) ⊎ (end_fault (reverse past) ≡ Some f)) }
+            → IfErr result (IsWhatIsWrong (end_fault (reverse past))) }
     {
         let alloc = self.alloc;
         match self.streams {
@@ -53,7 +53,7 @@ fn advert_of<A: Allocator + Copy>(
         → IfOk result (λ ad. Some (advert_seen ad) ≡ advertisement (reverse past)) }
     ensures sound { (past : List (List ℕ)) → AreOf gathered.items past → OnOk result (end_fault (reverse past) ≡ None) }
     ensures err { (past : List (List ℕ)) → AreOf gathered.items past
-        → IfErr result (λ f. (f ≡ AdFault.OutOfMemory) ⊎ (end_fault (reverse past) ≡ Some f)) }
+        → IfErr result (IsWhatIsWrong (end_fault (reverse past))) }
 {
     match zero_of(gathered.as_slice()) {
         None => Err(AdFault::NoTime),

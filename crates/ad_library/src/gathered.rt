@@ -1,10 +1,11 @@
 //! What was read of one switched stream.
 
 ghost use Rattle.std.specs.Option.{option_or};
-ghost use Rattle.std.specs.Prelude.{◌≡◌, ◌⊎◌, ◌||◌, ℕ, List, [], ◌∷◌, Option, OnOk, IfErr, true, false};
+ghost use Rattle.std.specs.Prelude.{◌≡◌, ◌||◌, ℕ, List, [], ◌∷◌, Option, OnOk, IfErr, false};
 ghost use Rattle.pes_time.specs.Stamps.{is_split};
 ghost use Rattle.ts_packet.specs.Fields.{bytes};
 ghost use Rattle.ts_packet.specs.Duplicates.{is_gap};
+ghost use Rattle.ad_library.specs.Faults.{IsToldOf};
 ghost use Rattle.ad_library.specs.Storing.{StoredUnit, Stores};
 ghost use Rattle.ad_library.specs.Gathering.{added, IsWholeStart, IsGathered, GathersStream, is_next, is_repeat};
 
@@ -43,7 +44,7 @@ impl<A: Allocator> Gathered<A> {
     ///
     /// # Errors
     ///
-    /// `Loss` where a packet is missing before it, or `OutOfMemory`.
+    /// `Loss` where a packet is missing before it, else `OutOfMemory`.
     pub(crate) fn take(
         &mut self,
         part: &StreamPacket,
@@ -58,7 +59,7 @@ impl<A: Allocator> Gathered<A> {
             → IsGathered part.now time pids pid packet.now past → OnOk result (is_gap pid packet.now past ≡ false) }
         ensures err { (pids : List ℕ) (pid : ℕ) (past : List (List ℕ)) → GathersStream self.old pids pid past
             → IsGathered part.now time pids pid packet.now past
-            → IfErr result (λ f. (f ≡ AdFault.OutOfMemory) ⊎ ((f ≡ AdFault.Loss) × (is_gap pid packet.now past ≡ true))) }
+            → IfErr result (IsToldOf (is_gap pid packet.now past)) }
     {
         let Some(payload) = packet.payload() else {
             return Ok(());

@@ -1,6 +1,6 @@
 //! The units of a stream's first program, gathered packet by packet.
 
-ghost use Rattle.std.specs.Prelude.{◌≡◌, ◌+◌, true, ◌⊎◌, ◌∷◌, [], ℕ, ℤ, List, Option, Some, None, OnOk, IfOk, IfErr};
+ghost use Rattle.std.specs.Prelude.{◌≡◌, ◌+◌, ◌∷◌, [], ℕ, List, Option, None, OnOk, IfOk, IfErr};
 ghost use Rattle.std.specs.Prelude.{IfSome, IsSome, reverse, map, option_map, false};
 ghost use Rattle.pes_time.specs.Line.{place};
 ghost use Rattle.ts_packet.specs.Fields.{bytes};
@@ -13,7 +13,7 @@ ghost use Rattle.program_follower.specs.Streaming.{first_on, IsStreamPacket};
 ghost use Rattle.program_follower.specs.Following.{FollowerStandsFor};
 ghost use Rattle.ad_library.specs.Storing.{on_line};
 ghost use Rattle.program_follower.specs.Purposes.{reading_advertisement};
-ghost use Rattle.ad_library.specs.Faults.{ad_fault_at};
+ghost use Rattle.ad_library.specs.Faults.{ad_fault_at, IsWhatIsWrong, IsToldOf};
 ghost use Rattle.ad_library.specs.Gathering.{Gathers, AllGathered, StreamsGathered, IsWholeStart, IsNearStart};
 ghost use Rattle.ad_library.specs.Gathering.{HasWay, IsHeld, IsOfOne, StreamsStand, stream_in};
 
@@ -58,7 +58,7 @@ impl<A: Allocator + Copy> Gathering<A> {
     ///
     /// # Errors
     ///
-    /// The first thing that is wrong with it, or `OutOfMemory`.
+    /// The first thing that is wrong with it; `OutOfMemory` only where nothing is.
     pub(crate) fn take(&mut self, packet: &Packet) -> Result<(), AdFault>
         requires { (past : List (List ℕ)) × Gathers self.old past }
         ensures ok { (past : List (List ℕ)) → Gathers self.old past
@@ -66,7 +66,7 @@ impl<A: Allocator + Copy> Gathering<A> {
         ensures sound { (past : List (List ℕ)) → Gathers self.old past
             → OnOk result (ad_fault_at packet.now past ≡ None) }
         ensures err { (past : List (List ℕ)) → Gathers self.old past
-            → IfErr result (λ f. (f ≡ AdFault.OutOfMemory) ⊎ (ad_fault_at packet.now past ≡ Some f)) }
+            → IfErr result (IsWhatIsWrong (ad_fault_at packet.now past)) }
     {
         if self.packets >= MAX_PACKETS {
             return Err(AdFault::Large);
@@ -123,7 +123,7 @@ fn keep<A: Allocator>(
         → OnOk result (is_gap one.1 packet.now past ≡ false) }
     ensures err { (one : ℕ × ℕ) (ss : List Stream) (past : List (List ℕ))
         → IsOfOne streams.old high.old part.now index one ss packet.now past
-        → IfErr result (λ f. (f ≡ AdFault.OutOfMemory) ⊎ ((f ≡ AdFault.Loss) × (is_gap one.1 packet.now past ≡ true))) }
+        → IfErr result (IsToldOf (is_gap one.1 packet.now past)) }
     ensures held { (count : ℕ) → IfSome high.old (IsHeld count) → IfSome high.new (IsHeld (count + 1)) }
 {
     let time = pass(high, part);

@@ -9,7 +9,7 @@ ghost use Rattle.ts_packet.specs.Sources.{Stalled, Exhausted};
 ghost use Rattle.ad_library.specs.Advertisements.{advertisement};
 ghost use Rattle.ad_library.specs.Storing.{on_line};
 ghost use Rattle.ad_library.specs.Slices.{left};
-ghost use Rattle.ad_library.specs.Faults.{advertisement_fault, Says, StreamBlamed};
+ghost use Rattle.ad_library.specs.Faults.{advertisement_fault, end_fault, Says, StreamBlamed};
 ghost use Rattle.ad_library.specs.Stops.{ReadToEnd, StoppedAt, IfOfStream};
 ghost use Rattle.ad_library.specs.Library.{advert_seen, held, filed, fits_held, slice_held, zero_held};
 
@@ -80,7 +80,7 @@ impl<A: Allocator + Copy> AdLibrary<A> {
             → Stalled P.leads P.counts P.falls_short source.old source.new ⊎ Exhausted P.left P.given source.old }
         ensures reads { P.leads source.old source.new }
         ensures end { OnOk result ((ps : List (List ℕ)) × ReadToEnd P.leads P.left P.given P.counts P.has_ended
-            P.is_broken ps source.old source.new) }
+            P.is_broken ps source.old source.new × (end_fault ps ≡ None)) }
         ensures at { IfErr result (λ f. IfOfStream f (StoppedAt P.leads P.left P.given P.counts P.has_ended
             P.is_broken P.falls_short f source.old source.new)) }
     {

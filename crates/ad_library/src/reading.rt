@@ -6,7 +6,7 @@ ghost use Rattle.ts_packet.specs.Sources.{SourceCounts};
 ghost use Rattle.ts_packet.specs.Sources.{Stalled, Exhausted};
 ghost use Rattle.ad_library.specs.Advertisements.{advertisement};
 ghost use Rattle.ad_library.specs.Library.{advert_seen};
-ghost use Rattle.ad_library.specs.Faults.{advertisement_fault, Says, is_of_library, StreamBlamed};
+ghost use Rattle.ad_library.specs.Faults.{advertisement_fault, end_fault, Says, is_of_library, StreamBlamed};
 ghost use Rattle.ad_library.specs.Gathering.{Gathers};
 ghost use Rattle.ad_library.specs.Reading.{GathersAll};
 ghost use Rattle.ad_library.specs.Stops.{ReadToEnd, StoppedAt};
@@ -35,7 +35,7 @@ pub(crate) fn read_advert<P: PacketSource, A: Allocator + Copy>(
         → Stalled P.leads P.counts P.falls_short source.old source.new ⊎ Exhausted P.left P.given source.old }
     ensures reads { P.leads source.old source.new }
     ensures end { OnOk result ((ps : List (List ℕ)) × ReadToEnd P.leads P.left P.given P.counts P.has_ended P.is_broken
-        ps source.old source.new) }
+        ps source.old source.new × (end_fault ps ≡ None)) }
     ensures at { IfErr result (λ f. StoppedAt P.leads P.left P.given P.counts P.has_ended P.is_broken P.falls_short
         f source.old source.new) }
 {

@@ -15,9 +15,9 @@ use Rattle.ad_library.specs.declared.library.AdLibrary.{AdLibrary}
 use Rattle.ad_library.specs.declared.fault.AdFault.{AdFault}
 use Rattle.ad_library.specs.declared.fault.AdFault.TheVariants as ad
 use Rattle.ad_library.specs.Advertisements.{Advertisement, advertisement}
-use Rattle.ad_library.specs.Faults.{Says, StreamBlamed, of_read, ad_fault_at, end_fault}
+use Rattle.ad_library.specs.Faults.{Says, StreamBlamed, IsWhatIsWrong, of_read, ad_fault_at, end_fault}
 use Rattle.ad_library.specs.Reading.{AreClean}
-use Rattle.ad_library.specs.Stops.{IsWhatIsWrong, IfOfStream}
+use Rattle.ad_library.specs.Stops.{IfOfStream}
 use Rattle.ad_library.specs.Library.{held, filed}
 use Rattle.psi_section.specs.Assembling.{capped}
 use Rattle.decimal_numbers.specs.Numbers.{number_below}

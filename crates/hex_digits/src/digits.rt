@@ -1,6 +1,6 @@
 //! Bytes as upper case hexadecimal digits.
 
-ghost use Rattle.std.specs.Prelude.{◌≡◌, ◌+◌, ◌*◌, ◌<◌, ◌≤◌, ◌++◌, length, take, drop, IfOk, IfSome, Some, None, is_some, option_map};
+ghost use Rattle.std.specs.Prelude.{◌≡◌, ◌+◌, ◌*◌, ◌<◌, ◌≤◌, ◌++◌, length, take, drop, IfOk, IfErr, IfSome, Some, true, None, is_some, option_map};
 ghost use Rattle.std.specs.Bool.{OnTrue, OnFalse};
 ghost use Rattle.std.specs.List.{list_all};
 ghost use Rattle.hex_digits.specs.Digits.{digit_value, digit_of, digits_of, spelled};
@@ -51,10 +51,11 @@ pub fn spell(line: &mut [u8], start: usize, bytes: &[u8])
 ///
 /// # Errors
 ///
-/// Where the allocator refused memory.
+/// Where the allocator refused memory for bytes that are spelled.
 #[tactic(auto, using(crate::proofs::DigitLemmas::none_there, crate::proofs::DigitLemmas::spelled_size))]
 pub fn bytes_of(alloc: Global, text: &[u8]) -> Result<Option<Vec<u8>>, AllocError>
-    ensures { IfOk result (λ bytes. option_map (λ b. b.items) bytes ≡ spelled text.now) }
+    ensures bytes { IfOk result (λ bytes. option_map (λ b. b.items) bytes ≡ spelled text.now) }
+    ensures refused { IfErr result (λ e. is_some (spelled text.now) ≡ true) }
 {
     if !spells_bytes(text) {
         return Ok(None);

@@ -1,4 +1,4 @@
-use Rattle.std.proofs.Common.{sym, inr}
+use Rattle.std.proofs.Common.{sym, inl, inr, refl}
 use Rattle.std.specs.Prelude.{reverse}
 use Rattle.ad_library.specs.Advertisements.{kept_streams}
 use Rattle.ad_library.proofs.FiledLemmas.{gathered_stored, stored_as, no_time, is_filed, ends_with}
@@ -24,3 +24,8 @@ pub returns-in-Ok-clause-sound : goal.returns-in-Ok-clause-sound
 returns-in-Ok-clause-sound g c = λ past h.
     let s = gathered_stored _ past h in
     ends_with (reverse past) _ (sym (c.in-Some.ensures (kept_streams (reverse past)) (stored_as _ _ _ c.as_slice.ensures.value s)))
+
+pub returns-in-Err-clause-err : goal.returns-in-Err-clause-err
+returns-in-Err-clause-err g c = λ past h.
+    let s = gathered_stored _ past h in
+    inl (refl, ends_with (reverse past) _ (sym (c.in-Some.ensures (kept_streams (reverse past)) (stored_as _ _ _ c.as_slice.ensures.value s))))

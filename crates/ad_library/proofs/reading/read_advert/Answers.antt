@@ -1,7 +1,9 @@
-use Rattle.std.proofs.Common.{ap, ◌≡◌, Err}
+use Rattle.std.proofs.Common.{ap, sym, ◌∙◌, ◌≡◌, Err}
+use Rattle.std.proofs.lemmas.List.{reverse-reverse}
 use Rattle.std.specs.Prelude.{reverse}
 use Rattle.ts_packet.specs.declared.reader.ReadFault.TheVariants as read_faults
 use Rattle.ad_library.specs.declared.fault.AdFault.TheVariants as ad_faults
+use Rattle.ad_library.specs.Faults.{end_fault}
 use Rattle.ad_library.proofs.ReadLemmas.{end_files, end_sound, end_says, end_own, end_is_quiet, end_blamed, not_turns}
 use Rattle.ad_library.proofs.StopLemmas.{stopped_end}
 use Rattle.ad_library.proofs.reading.read_advert.Goals as goal
@@ -18,6 +20,11 @@ pub returns-in-Ok-finish-clause-sound : goal.returns-in-Ok-finish-clause-sound
 returns-in-Ok-finish-clause-sound g c =
     let h = c.in-Ok.ensures.ok in
     end_sound _ _ h (c.in-Ok-finish.ensures.sound (reverse h.packets) h.gathered)
+
+pub returns-in-Ok-finish-clause-end : goal.returns-in-Ok-finish-clause-end
+returns-in-Ok-finish-clause-end g c =
+    let (ps, end, gathered) = c.in-Ok.ensures.end in
+    (ps, end, ap end_fault (sym (reverse-reverse ps)) ∙ c.in-Ok-finish.ensures.sound (reverse ps) gathered)
 
 pub returns-in-Err-finish-clause-says : goal.returns-in-Err-finish-clause-says
 returns-in-Err-finish-clause-says g c =

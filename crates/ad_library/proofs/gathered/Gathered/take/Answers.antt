@@ -1,4 +1,4 @@
-use Rattle.std.proofs.Common.{sym, inr, refl}
+use Rattle.std.proofs.Common.{sym, inl, inr, refl}
 use Rattle.ts_packet.specs.Fields.{bytes}
 use Rattle.unit_stream.proofs.ReadingLemmas.{bytes_are}
 use Rattle.ad_library.proofs.GatheredLemmas.{off, no_gap, no_payload, has_payload, told, gathers_more, starts_whole}
@@ -33,3 +33,12 @@ returns-in-Ok-clause-whole g c = λ pids pid past h is.
     let p = c.args.packet.now in
     told pids pid p past c.args.part.now c.args.time _ _ _ _ is (has_payload pids pid p past c.in-Some.payload.now is.is_on c.in-Some.ensures) h.counter c.counter.ensures.value
     c.goes_on-is_whole.ensures c.if-not-is_whole.false
+
+pub returns-in-Err-clause-err : goal.returns-in-Err-clause-err
+returns-in-Err-clause-err g c = λ pids pid past h is.
+    let p = c.args.packet.now in
+    inl (
+      refl,
+      told pids pid p past c.args.part.now c.args.time _ _ _ _ is (has_payload pids pid p past c.in-Some.payload.now is.is_on c.in-Some.ensures) h.counter c.counter.ensures.value
+          c.goes_on-is_whole.ensures c.if-not-is_whole.false,
+    )

@@ -1,4 +1,4 @@
-use Rattle.std.proofs.Common.{◌∙◌, ◌<◌, refl, inr, arith, None, ◌∷◌}
+use Rattle.std.proofs.Common.{◌∙◌, ◌<◌, refl, inl, inr, arith, None, ◌∷◌}
 use Rattle.program_follower.specs.Program.{program_of, behind_head, pids_of}
 use Rattle.ts_packet.specs.Duplicates.{is_gap}
 use Rattle.program_follower.specs.Purposes.{reading_advertisement}
@@ -87,3 +87,15 @@ returns-in-Ok-open-clause-sound g c = λ past h.
     let at = c.in-Ok.ensures.place reading_advertisement past h.follower in
     let clean = c.in-Ok.ensures.sound reading_advertisement past h.follower in
     is_clean p past (few self p past h room) clean (gaps_none p (behind_head None past) (pids_of (program_of None past)) (of_none c.in-Ok.place p past h.sound at c.in-None.ensures))
+
+pub returns-in-Err-open-clause-err : goal.returns-in-Err-open-clause-err
+returns-in-Err-open-clause-err g c = λ past h.
+    let self = c.args.self.now in
+    let p = c.args.packet.now in
+    let room : self.packets < 356962 = grind (arith, c.if-self-ge-MAX_PACKETS.false) in
+    let at = c.in-Ok.ensures.place reading_advertisement past h.follower in
+    let clean = c.in-Ok.ensures.sound reading_advertisement past h.follower in
+    inl (
+      c.in-Err-open.ensures.err,
+      is_clean p past (few self p past h room) clean (gaps_none p (behind_head None past) (pids_of (program_of None past)) (of_none c.in-Ok.place p past h.sound at c.in-None.ensures)),
+    )
