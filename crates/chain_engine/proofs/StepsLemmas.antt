@@ -12,7 +12,7 @@ use Rattle.as_session.proofs.SplitLemmas.{the_split, only_split}
 use Rattle.injector.specs.Steps.{Step, Message, Packet, packets_in, cued}
 use Rattle.chain_engine.specs.Automation.{Take, bytes_in, bytes_of}
 use Rattle.chain_engine.specs.Judging.{JudgesAll}
-use Rattle.chain_engine.specs.Talks.{messages_taken, judged_in, judged_before}
+use Rattle.chain_engine.specs.Talks.{messages_taken, messages_judged, judged_before}
 use Rattle.chain_engine.specs.Runs.{asked, steps_of, steps_before, replies_by}
 use Rattle.chain_engine.proofs.TalkLemmas.{judged_none}
 
@@ -54,16 +54,16 @@ fewer ts j =
 -- ---- the steps of a front stay
 
 module _ (ts us : List Take) (n m : ℕ) (e : n ≡ length (messages_taken ts)) where
-  judged_front : (j : ℕ) → j ≤ length ts → judged_in (n + m) (take j (ts ++ us)) ≡ judged_in n (take j ts)
+  judged_front : (j : ℕ) → j ≤ length ts → messages_judged (n + m) (take j (ts ++ us)) ≡ messages_judged n (take j ts)
   judged_front j le =
       let few = fewer ts j in
-      ap (judged_in (n + m)) (take-append-le j ts us le) ∙ take_all (n + m) (messages_taken (take j ts)) (omega (arith, few, e)) ∙ sym (take_all n (messages_taken (take j ts)) (omega (arith, few, e)))
+      ap (messages_judged (n + m)) (take-append-le j ts us le) ∙ take_all (n + m) (messages_taken (take j ts)) (omega (arith, few, e)) ∙ sym (take_all n (messages_taken (take j ts)) (omega (arith, few, e)))
 
   pub judged_stays : (k : ℕ) → suc k ≤ length ts → judged_before (n + m) (ts ++ us) k ≡ judged_before n ts k
   judged_stays k le =
       let here = judged_front k (omega (arith, le)) in
       let next = judged_front (suc k) le in
-      ap (λ l. drop (length l) (judged_in (n + m) (take (suc k) (ts ++ us)))) here ∙ ap (drop (length (judged_in n (take k ts)))) next
+      ap (λ l. drop (length l) (messages_judged (n + m) (take (suc k) (ts ++ us)))) here ∙ ap (drop (length (messages_judged n (take k ts)))) next
 
   pub steps_stay : (past : List (List ℕ)) → length past ≤ length ts → steps_of (n + m) (ts ++ us) past ≡ steps_of n ts past
   steps_stay [] le = refl

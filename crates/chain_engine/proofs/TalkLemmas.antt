@@ -20,7 +20,7 @@ use Rattle.chain_engine.specs.Automation.{Answer, CountsAnswer, Take, piece, end
 use Rattle.chain_engine.specs.Hearing.{HearsPiece, Replied, CanEnd, lost_by}
 use Rattle.chain_engine.specs.declared.hearing.SessionEnd.{SessionEnd}
 use Rattle.chain_engine.specs.declared.hearing.SessionEnd.TheVariants.{Ended, TakeFailed, BadSize, AnswerFailed}
-use Rattle.chain_engine.specs.Talks.{is_piece, messages_taken, judged_in, judged_before, HasTalked, TalkStandsFor, loses, CountsEnd}
+use Rattle.chain_engine.specs.Talks.{is_piece, messages_taken, messages_judged, judged_before, HasTalked, TalkStandsFor, loses, CountsEnd}
 use Rattle.chain_engine.specs.declared.talk.Talk.{Talk}
 use Rattle.chain_engine.proofs.HearingLemmas.{replied_none, judged_count}
 
@@ -55,20 +55,20 @@ pub judged_new : (takes : List Take) (t : Take) (k : ℕ) (ms more : List (List 
 judged_new takes t k ms more e h =
     let most = length (messages_taken takes) + length ms in
     let long = length-append takes (t ∷ []) in
-    let before : judged_in most (take k (takes ++ t ∷ [])) ≡ messages_taken takes =
-    ap (judged_in most) (take_front takes (t ∷ []) k e) ∙ take_whole (messages_taken takes) most (omega arith) in
-    let all : judged_in most (take (suc k) (takes ++ t ∷ [])) ≡ messages_taken takes ++ ms =
-    ap (judged_in most) (take_whole (takes ++ t ∷ []) (suc k) (omega (arith, long, e)))
+    let before : messages_judged most (take k (takes ++ t ∷ [])) ≡ messages_taken takes =
+    ap (messages_judged most) (take_front takes (t ∷ []) k e) ∙ take_whole (messages_taken takes) most (omega arith) in
+    let all : messages_judged most (take (suc k) (takes ++ t ∷ [])) ≡ messages_taken takes ++ ms =
+    ap (messages_judged most) (take_whole (takes ++ t ∷ []) (suc k) (omega (arith, long, e)))
     ∙ ap (take most) (h ∙ sym (append_assoc (messages_taken takes) ms more))
     ∙ take_front (messages_taken takes ++ ms) more most (length-append (messages_taken takes) ms) in
-    ap (λ l. drop (length l) (judged_in most (take (suc k) (takes ++ t ∷ [])))) before ∙ ap (drop (length (messages_taken takes))) all ∙ (drop_at (messages_taken takes) ms (length (messages_taken takes)) refl)
+    ap (λ l. drop (length l) (messages_judged most (take (suc k) (takes ++ t ∷ [])))) before ∙ ap (drop (length (messages_taken takes))) all ∙ (drop_at (messages_taken takes) ms (length (messages_taken takes)) refl)
 
 -- no take before it
 pub judged_none : (most : ℕ) (takes : List Take) (k : ℕ) → length takes ≤ k → judged_before most takes k ≡ []
 judged_none most takes k le =
-    let here : judged_in most (take k takes) ≡ judged_in most takes = ap (judged_in most) (take_whole takes k le) in
-    let next : judged_in most (take (suc k) takes) ≡ judged_in most takes = ap (judged_in most) (take_whole takes (suc k) (omega (arith, le))) in
-    ap (λ l. drop (length l) (judged_in most (take (suc k) takes))) here ∙ ap (drop (length (judged_in most takes))) next ∙ drop-length (judged_in most takes)
+    let here : messages_judged most (take k takes) ≡ messages_judged most takes = ap (messages_judged most) (take_whole takes k le) in
+    let next : messages_judged most (take (suc k) takes) ≡ messages_judged most takes = ap (messages_judged most) (take_whole takes (suc k) (omega (arith, le))) in
+    ap (λ l. drop (length l) (messages_judged most (take (suc k) takes))) here ∙ ap (drop (length (messages_judged most takes))) next ∙ drop-length (messages_judged most takes)
 
 -- ---- a take
 

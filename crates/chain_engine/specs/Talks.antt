@@ -27,12 +27,12 @@ abbrev pub messages_taken : List Take → List (List ℕ)
 messages_taken takes = (messages_of (bytes_of takes)).messages
 
 -- those that are judged: so many, where a reply was lost, else all
-abbrev pub judged_in : ℕ → List Take → List (List ℕ)
-judged_in most takes = take most (messages_taken takes)
+abbrev pub messages_judged : ℕ → List Take → List (List ℕ)
+messages_judged most takes = take most (messages_taken takes)
 
 -- those of them whose last byte stands in the take before packet k, which is judged behind the message
 abbrev pub judged_before : ℕ → List Take → ℕ → List (List ℕ)
-judged_before most takes k = drop (length (judged_in most (take k takes))) (judged_in most (take (suc k) takes))
+judged_before most takes k = drop (length (messages_judged most (take k takes))) (messages_judged most (take (suc k) takes))
 
 -- the answers to the messages whose last byte stands in the take behind those before it, newest first
 abbrev pub answers_behind : List Answer → Take → List Take → List Answer

@@ -17,7 +17,7 @@ use Rattle.ad_library.specs.Advertisements.{AdvertUnit, AdvertStream, Advertisem
 use Rattle.ad_library.specs.Library.{HasBytes, IsLibrary}
 use Rattle.injector.specs.Steps.{packets_in}
 use Rattle.splice_laws.specs.Splicing.{SliceUnit}
-use Rattle.splice_plans.specs.Adverts.{slice_unit, units_of, kind_and_place, units_at, packed_units}
+use Rattle.splice_plans.specs.Adverts.{slice_unit, slice_units, kind_and_place, units_at, packed_units}
 use Rattle.chain_laws.specs.Libraries.{LibrariesArePacked}
 
 -- ---- PIDs of 13 bits
@@ -64,7 +64,7 @@ module _ (pid : ℕ) (small : pid < 8192) (start : ℤ) (ad : Advertisement) whe
     units-packed us a.1,
   )
 
-  stream-packed : (o : Option AdvertStream) (ss : List AdvertStream) (i : ℕ) → slice_get ss i ≡ o → AllByRecursion HasBytes ss → AllByRecursion (CanBePacked pid) (units_of start ad o)
+  stream-packed : (o : Option AdvertStream) (ss : List AdvertStream) (i : ℕ) → slice_get ss i ≡ o → AllByRecursion HasBytes ss → AllByRecursion (CanBePacked pid) (slice_units start ad o)
   stream-packed None ss i h a = tt
   stream-packed (Some s) ss i h a = units-packed s.units (one-got HasBytes s ss i h a)
 

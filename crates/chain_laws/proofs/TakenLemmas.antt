@@ -10,7 +10,7 @@ use Rattle.unit_stream.specs.Times.{begins, high, unit_time}
 use Rattle.unit_stream.specs.Units.{is_original, rest_of_unit, has_payload, rest_of_row, lead_in}
 use Rattle.program_laws.specs.Behind.{TakesAll, SameUnits}
 use Rattle.program_laws.proofs.UnitLemmas.{others_are_no_units}
-use Rattle.splice_laws.specs.Splicing.{PlayedEvent, SliceUnit, TimedStream, stream, at_or_past, below, outside, stands, comes, passed, opens, begun, as_inserted, slice_at, all_slices_at}
+use Rattle.splice_laws.specs.Splicing.{PlayedEvent, SliceUnit, TimedStream, stream, at_or_past, below, outside, break_stands, comes, passed, opens, begun, as_inserted, slice_at, all_slices_at}
 use Rattle.output_laws.specs.Spliced.{inserted_payloads, unit_at, placed_payloads}
 use Rattle.splice_plans.specs.Playing.{is_crossed}
 use Rattle.std.proofs.Math.Bool.{or-false}
@@ -78,11 +78,11 @@ module _ (takes : List ℕ → Bool) (switched : List ℕ) (every : AllByRecursi
 
   opens_taken : (x : PlayedEvent) (p : List ℕ) (past : List (List ℕ)) → takes p ≡ true → opens r x p past ≡ opens r x p (filter takes past)
   opens_taken x p past y =
-      ap (λ b. b && stands x (high switched past)) (comes_taken x.start p past y)
-      ∙ ap (λ h. comes r x.start p (filter takes past) && stands x h) (high_taken past)
+      ap (λ b. b && break_stands x (high switched past)) (comes_taken x.start p past y)
+      ∙ ap (λ h. comes r x.start p (filter takes past) && break_stands x h) (high_taken past)
 
   opens_not : (x : PlayedEvent) (p : List ℕ) (past : List (List ℕ)) → takes p ≡ false → opens r x p past ≡ false
-  opens_not x p past n = ap (λ b. b && stands x (high switched past)) (comes_not x.start p past n)
+  opens_not x p past n = ap (λ b. b && break_stands x (high switched past)) (comes_not x.start p past n)
 
   pub passed_taken : (edge : ℤ) (past : List (List ℕ)) → passed r edge past ≡ passed r edge (filter takes past)
   passed_taken edge [] = refl

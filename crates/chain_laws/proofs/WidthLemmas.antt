@@ -20,7 +20,7 @@ use Rattle.injector.specs.Steps.{Step, Message}
 use Rattle.path_laws.specs.Path.{FitsIn, RequestFits}
 use Rattle.path_laws.specs.Packets.{RequestsFit}
 use Rattle.chain_engine.specs.Automation.{Take, bytes_in, bytes_of}
-use Rattle.chain_engine.specs.Talks.{messages_taken, judged_in, judged_before}
+use Rattle.chain_engine.specs.Talks.{messages_taken, messages_judged, judged_before}
 use Rattle.chain_engine.specs.Runs.{asked, steps_of}
 
 -- ---- one message
@@ -79,7 +79,7 @@ taken_bytes n ts h = front_bytes (bytes_of (take n ts)) (bytes_of (drop n ts)) (
 
 judged_fit : (most : ℕ) (ts : List Take) (k : ℕ) → AreBytes (bytes_of ts) → AllByRecursion IsInWidth (judged_before most ts k)
 judged_fit most ts k h =
-    each_behind IsInWidth (length (judged_in most (take k ts))) (judged_in most (take (suc k) ts))
+    each_behind IsInWidth (length (messages_judged most (take k ts))) (messages_judged most (take (suc k) ts))
     (each_taken IsInWidth most (messages_taken (take (suc k) ts)) (each_message_fits (bytes_of (take (suc k) ts)) (taken_bytes (suc k) ts h)))
 
 -- ---- the history

@@ -16,7 +16,7 @@ use Rattle.splice_plans.specs.Adverts.{setting_of}
 use Rattle.splice_plans.specs.Reporting.{ReportIs, report_of}
 use Rattle.splice_plans.specs.Switching.{spliced_network}
 use Rattle.chain_engine.specs.Automation.{bytes_of}
-use Rattle.chain_engine.specs.Talks.{HasTalked, judged_in, messages_taken}
+use Rattle.chain_engine.specs.Talks.{HasTalked, messages_judged, messages_taken}
 use Rattle.chain_engine.specs.Stops.{first_run_fault}
 use Rattle.chain_engine.specs.Runs.{steps_of, sent_by, replies_in, reply_in}
 use Rattle.chain_engine.specs.ChainRuns.{Ran, Counted}
@@ -67,11 +67,11 @@ module _ (g : Given) (automation : AreBytes (bytes_of g.takes)) where
       let ts = takes_alone g c in
       let t = has_talked c in
       let few : length ts ≤ length past = (let a = t.0 in let b = long in omega (arith, a, b)) in
-      let all : length (judged_in n ts) ≡ n = (let a = length-take n (messages_taken ts) in let b = t.2 in omega (arith, a, b)) in
+      let all : length (messages_judged n ts) ≡ n = (let a = length-take n (messages_taken ts) in let b = t.2 in omega (arith, a, b)) in
       sym (same_count (reply_in c) (history_alone g c))
       ∙ ap length (steps_readings n ts past)
-      ∙ length-map (judged_in n (take (length past) ts)) message_of
-      ∙ ap (λ l. length (judged_in n l)) (take_all (length past) ts few)
+      ∙ length-map (messages_judged n (take (length past) ts)) message_of
+      ∙ ap (λ l. length (messages_judged n l)) (take_all (length past) ts few)
       ∙ all
 
   -- ---- one service

@@ -13,7 +13,7 @@ use Rattle.scte104_codec.specs.declared.reply.Reply.{Reply}
 use Rattle.as_session.specs.Messages.{messages_of, messages_within}
 use Rattle.injector.specs.Steps.{Step, Message, Packet}
 use Rattle.chain_engine.specs.Automation.{Take}
-use Rattle.chain_engine.specs.Talks.{judged_in, judged_before, HasTalked}
+use Rattle.chain_engine.specs.Talks.{messages_judged, judged_before, HasTalked}
 use Rattle.chain_engine.specs.Runs.{asked, steps_of, replies_by, reply_in, replies_in}
 use Rattle.chain_engine.specs.declared.hearing.SessionEnd.{SessionEnd}
 use Rattle.service_laws.specs.Messages.{is_for, own_steps, reply_of_none, reply_among, share_an_index}
@@ -41,13 +41,13 @@ unfolding messages_within
 no_messages = refl
 
 -- of the steps of a run they are those that are judged
-pub steps_readings : (most : ℕ) (ts : List Take) (past : List (List ℕ)) → readings_in (steps_of most ts past) ≡ map message_of (judged_in most (take (length past) ts))
+pub steps_readings : (most : ℕ) (ts : List Take) (past : List (List ℕ)) → readings_in (steps_of most ts past) ≡ map message_of (messages_judged most (take (length past) ts))
 steps_readings most ts [] = sym (ap (λ ms. map message_of (take most ms)) no_messages ∙ ap (map message_of) (take-nil most))
 steps_readings most ts (p ∷ past) =
     let k = length past in
     asked_readings (judged_before most ts k) (steps_of most ts past)
     ∙ ap (λ l. l ++ map message_of (judged_before most ts k)) (steps_readings most ts past)
-    ∙ sym (map-append message_of (judged_in most (take k ts)) (judged_before most ts k))
+    ∙ sym (map-append message_of (messages_judged most (take k ts)) (judged_before most ts k))
     ∙ ap (map message_of) (sym (judged_more 0 most ts k))
 
 -- a talk has no more takes than packets
@@ -56,8 +56,8 @@ takes_few None ts n k h = let long = h.0 in omega (arith, long)
 takes_few (Some end) ts n k h = h.0
 
 -- so all of what it judged is judged
-pub all_readings : (most : ℕ) (ts : List Take) (past : List (List ℕ)) → length ts ≤ length past → readings_in (steps_of most ts past) ≡ map message_of (judged_in most ts)
-all_readings most ts past few = steps_readings most ts past ∙ ap (λ l. map message_of (judged_in most l)) (take_all (length past) ts few)
+pub all_readings : (most : ℕ) (ts : List Take) (past : List (List ℕ)) → length ts ≤ length past → readings_in (steps_of most ts past) ≡ map message_of (messages_judged most ts)
+all_readings most ts past few = steps_readings most ts past ∙ ap (λ l. map message_of (messages_judged most l)) (take_all (length past) ts few)
 
 -- there is a reply for each
 pub same_count : (rule : MessageReading → List Step → Reply) (steps : List Step) → length (readings_in steps) ≡ length (replies_by rule steps)

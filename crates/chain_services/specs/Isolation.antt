@@ -20,7 +20,7 @@ use Rattle.splice_plans.specs.Switching.{spliced_network, rest_at}
 use Rattle.splice_plans.specs.declared.report.SwitchReport.{SwitchReport}
 use Rattle.switch_laws.specs.Clocks.{clocks}
 use Rattle.chain_engine.specs.Automation.{Take}
-use Rattle.chain_engine.specs.Talks.{HasTalked, judged_in}
+use Rattle.chain_engine.specs.Talks.{HasTalked, messages_judged}
 use Rattle.chain_engine.specs.Stops.{first_run_fault}
 use Rattle.chain_engine.specs.Runs.{steps_of, steps_before, sent_by, replies_in}
 use Rattle.chain_engine.specs.Passing.{chain_at}
@@ -51,7 +51,7 @@ pub record Given : Type 0 where
 
 -- the messages that were answered, in order
 abbrev pub messages_of : Given → List MessageReading
-messages_of g = map message_of (judged_in (length g.replies) g.takes)
+messages_of g = map message_of (messages_judged (length g.replies) g.takes)
 
 -- of these replies those to the messages that a test takes, in order
 abbrev pub replies_to : (MessageReading → Bool) → List MessageReading → List Reply → List Reply

@@ -9,7 +9,7 @@ use Rattle.ts_packet.specs.Membership.{In}
 use Rattle.ts_packet.proofs.MembershipLemmas.{In-mapped, In-filter, In-filtered}
 use Rattle.cue_laws.specs.Events.{Turn, LineEvent, Name, Started, Cancelled, Ended, Passed, high, before, events, can_start, fresh, can_cancel, cancel_by, end_by, covers, name_of}
 use Rattle.cue_laws.specs.Thinning.{MayAllCome, thinned, KeepsStart, KeepsCancel, KeepsEnds}
-use Rattle.cue_laws.specs.Cueing.{IsRun, cued}
+use Rattle.cue_laws.specs.Cueing.{IsRun, cue_turns}
 use Rattle.cue_laws.specs.Laws.{CuePathHolders, NothingLostIsEnough, Invariant, NoStartRefused, CuedIsSound}
 use Rattle.cue_laws.proofs.Lists.{Distinct, distinct-filter, has_start}
 use Rattle.cue_laws.proofs.Orders.{Orderly, is_of-parts}
@@ -84,7 +84,7 @@ nothing_lost_is_enough h past r = record {
 }
   where
     all : List Turn
-    all = cued (Passed h ∷ past)
+    all = cue_turns (Passed h ∷ past)
 
     sound : MayAllCome all
     sound = (cued_goes (Passed h ∷ past) r).sound
@@ -146,7 +146,7 @@ cue_path_holders copies h past later last r k time b =
     one_start x y p.0 q.0 (covers-parts time x p.1) (covers-parts time y q.1) (decide_start x.start y.start)))
   where
     front : List Turn
-    front = cued (Passed h ∷ past)
+    front = cue_turns (Passed h ∷ past)
 
     here : List LineEvent
     here = events (thinned copies front)
@@ -180,12 +180,12 @@ cue_path_holders copies h past later last r k time b =
 
 pub invariant : Invariant
 invariant copies h past r k a i =
-    let m = (below copies (cued (Passed h ∷ past)) (cued_goes (Passed h ∷ past) r).sound k).part a i in
+    let m = (below copies (cue_turns (Passed h ∷ past)) (cued_goes (Passed h ∷ past) r).sound k).part a i in
     let p = m.2 in
     (m.0, known_of h past r m.0 m.1, record { id = p.id; start = p.start; asked = p.asked; end = p.end; cancelled = p.cancelled })
 
 pub no_start_refused : NoStartRefused
-no_start_refused copies run r k id start end i = kept_armed copies (cued run) (cued_goes run r).sound k id start end i
+no_start_refused copies run r k id start end i = kept_armed copies (cue_turns run) (cued_goes run r).sound k id start end i
 
 pub cued_is_sound : CuedIsSound
 cued_is_sound run r = (cued_goes run r).sound

@@ -5,7 +5,7 @@ use Rattle.std.proofs.lemmas.Int.{ints}
 use Rattle.cue_laws.specs.Events.{Turn, Started, Cancelled, Ended, Passed, high, before, events, NeverFalls, stands, covers, name_of, holders, upon}
 use Rattle.unit_stream.specs.Clocks.{Rises}
 use Rattle.cue_laws.specs.Thinning.{MayAllCome, times, thinned}
-use Rattle.cue_laws.specs.Cueing.{IsRun, cued}
+use Rattle.cue_laws.specs.Cueing.{IsRun, cue_turns}
 use Rattle.cue_laws.specs.Tables.{standing}
 use Rattle.cue_laws.specs.Laws.{TableIsJudged}
 use Rattle.cue_laws.proofs.Settling.{settlement}
@@ -52,6 +52,6 @@ pub table_is_judged : TableIsJudged
 table_is_judged copies h past later last r k time reached near =
     let front = Passed h ∷ past in
     let sound = (cued_goes front (run_front front later r.1)).sound in
-    holders-standing (thinned copies (cued front)) (falls-thinned copies (cued front) sound) time near
+    holders-standing (thinned copies (cue_turns front)) (falls-thinned copies (cue_turns front) sound) time near
     ∙ cue_path_holders copies h past later last r k time reached
     ∙ sym (settlement front (Passed last ∷ later) time (falls-run (Passed last ∷ upon later front) r) reached)

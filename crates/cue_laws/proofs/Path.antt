@@ -9,7 +9,7 @@ use Rattle.ts_packet.proofs.MembershipLemmas.{In-map}
 use Rattle.cue_laws.specs.Events.{Turn, LineEvent, Started, Cancelled, Ended, Passed, high, events, stands, cancel_by, end_by, upon}
 use Rattle.unit_stream.specs.Clocks.{Rises}
 use Rattle.cue_laws.specs.Thinning.{MayAllCome, KeepsEnough}
-use Rattle.cue_laws.specs.Cueing.{IsRun, Told, Untold, Known, Never, Sender, is_cancel_new, is_news, current, is_due, end_on, told_on, block_on, told_now, tell, change, senders, cued}
+use Rattle.cue_laws.specs.Cueing.{IsRun, Told, Untold, Known, Never, Sender, is_cancel_new, is_news, current, is_due, end_on, told_on, block_on, told_now, tell, change, senders, cue_turns}
 use Rattle.cue_laws.specs.Laws.{KeepsEnoughOf, CuePath, CuePathAtTheEnd}
 use Rattle.cue_laws.proofs.Lists.{Distinct}
 use Rattle.cue_laws.proofs.Orders.{Orderly, orderly-tail, before-more}
@@ -149,26 +149,26 @@ module _ (h later : Option ℤ) where
           apart y.event (In-map event_of y xs i) s k.1 (sym is ∙ k.0)
 
 -- THE STREAM OF A RUN may come, and what was told is what a splicer has
-pub cued_goes : (run : List Turn) → IsRun run → Goes (high run) (cued run) (told_events (senders run))
+pub cued_goes : (run : List Turn) → IsRun run → Goes (high run) (cue_turns run) (told_events (senders run))
 cued_goes [] r = record { sound = tt; clock = refl; list = refl }
 cued_goes (Started id start end ∷ past) r = cued_goes past r.1
-cued_goes (Cancelled id ∷ past) r = goes-to (high past) (cued past) _ _ (sym (told_events-change (cancel_by (high past) id) (senders past))) (cued_goes past r.1)
-cued_goes (Ended id time ∷ past) r = goes-to (high past) (cued past) _ _ (sym (told_events-change (end_by (high past) id time) (senders past))) (cued_goes past r.1)
+cued_goes (Cancelled id ∷ past) r = goes-to (high past) (cue_turns past) _ _ (sym (told_events-change (cancel_by (high past) id) (senders past))) (cued_goes past r.1)
+cued_goes (Ended id time ∷ past) r = goes-to (high past) (cue_turns past) _ _ (sym (told_events-change (end_by (high past) id time) (senders past))) (cued_goes past r.1)
 cued_goes (Passed later ∷ past) r =
     let s = stand past r.1 in
-    let g : Goes (high past) (block_on (high past) later (senders past) (cued past)) (told_events (map (tell (high past) later) (senders past))) =
-    block (high past) later (senders past) [] (cued past) s.fair (subst (λ l. Orderly (high past) l) (sym s.same) s.order) (inl refl) (λ x i t e j. absurd j) (cued_goes past r.1) in
+    let g : Goes (high past) (block_on (high past) later (senders past) (cue_turns past)) (told_events (map (tell (high past) later) (senders past))) =
+    block (high past) later (senders past) [] (cue_turns past) s.fair (subst (λ l. Orderly (high past) l) (sym s.same) s.order) (inl refl) (λ x i t e j. absurd j) (cued_goes past r.1) in
     record { sound = (subst (λ k. Rises k later) (sym g.clock) r.0, g.sound); clock = refl; list = g.list }
 
 -- with nothing lost, behind a packet
-pub nothing_lost : (h : Option ℤ) (past : List Turn) → IsRun (Passed h ∷ past) → (x : LineEvent) → x.cancelled ≡ false → In x (events (cued (Passed h ∷ past))) ↔ In x (events (Passed h ∷ past))
+pub nothing_lost : (h : Option ℤ) (past : List Turn) → IsRun (Passed h ∷ past) → (x : LineEvent) → x.cancelled ≡ false → In x (events (cue_turns (Passed h ∷ past))) ↔ In x (events (Passed h ∷ past))
 nothing_lost h past r x c =
     let s = stand past r.1 in let g = cued_goes (Passed h ∷ past) r in (
       λ i. subst (In x) s.same (now_part (high past) h (senders past) x (subst (In x) g.list i)),
       λ i. subst (In x) (sym g.list) (now_all (high past) h (senders past) s.fair x c (subst (In x) (sym s.same) i)),
     )
 
-pub known_of : (h : Option ℤ) (past : List Turn) → IsRun (Passed h ∷ past) → (x : LineEvent) → In x (events (cued (Passed h ∷ past))) → In x (events (Passed h ∷ past))
+pub known_of : (h : Option ℤ) (past : List Turn) → IsRun (Passed h ∷ past) → (x : LineEvent) → In x (events (cue_turns (Passed h ∷ past))) → In x (events (Passed h ∷ past))
 known_of h past r x i =
     let s = stand past r.1 in let g = cued_goes (Passed h ∷ past) r in
     subst (In x) s.same (now_part (high past) h (senders past) x (subst (In x) g.list i))
@@ -200,27 +200,27 @@ front_block : (h later : Option ℤ) (xs : List Sender) (front all : List Turn) 
 front_block h later [] front all f = f
 front_block h later (x ∷ xs) front all f = front_told h later x.event x.last x.told front (block_on h later xs all) (front_block h later xs front all f)
 
-pub front_cued : (front later : List Turn) → IsFront (cued front) (cued (upon later front))
+pub front_cued : (front later : List Turn) → IsFront (cue_turns front) (cue_turns (upon later front))
 front_cued front [] = ([], refl)
 front_cued front (Started id start end ∷ later) = front_cued front later
 front_cued front (Cancelled id ∷ later) = front_cued front later
 front_cued front (Ended id time ∷ later) = front_cued front later
 front_cued front (Passed h ∷ later) =
-    front_more (Passed h) (cued front) _ (front_block (high (upon later front)) h (senders (upon later front)) (cued front) (cued (upon later front)) (front_cued front later))
+    front_more (Passed h) (cue_turns front) _ (front_block (high (upon later front)) h (senders (upon later front)) (cue_turns front) (cue_turns (upon later front)) (front_cued front later))
 
 pub run_front : (front later : List Turn) → IsRun (upon later front) → IsRun front
 run_front front [] r = r
 run_front front (s ∷ later) r = run_front front later r.1
 
-pub front_whole : (h last : Option ℤ) (past later : List Turn) → IsFront (cued (Passed h ∷ past)) (cued (Passed last ∷ upon later (Passed h ∷ past)))
+pub front_whole : (h last : Option ℤ) (past later : List Turn) → IsFront (cue_turns (Passed h ∷ past)) (cue_turns (Passed last ∷ upon later (Passed h ∷ past)))
 front_whole h last past later =
     let run = upon later (Passed h ∷ past) in
-    front_more (Passed last) (cued (Passed h ∷ past)) (block_on (high run) last (senders run) (cued run))
-    (front_block (high run) last (senders run) (cued (Passed h ∷ past)) (cued run) (front_cued (Passed h ∷ past) later))
+    front_more (Passed last) (cue_turns (Passed h ∷ past)) (block_on (high run) last (senders run) (cue_turns run))
+    (front_block (high run) last (senders run) (cue_turns (Passed h ∷ past)) (cue_turns run) (front_cued (Passed h ∷ past) later))
 
 -- ---- the laws
 
-enough : (copies : List Turn → ℕ) (h : Option ℤ) (past : List Turn) → IsRun (Passed h ∷ past) → KeepsEnoughOf copies (Passed h ∷ past) → KeepsEnough copies (cued (Passed h ∷ past))
+enough : (copies : List Turn → ℕ) (h : Option ℤ) (past : List Turn) → IsRun (Passed h ∷ past) → KeepsEnoughOf copies (Passed h ∷ past) → KeepsEnough copies (cue_turns (Passed h ∷ past))
 enough copies h past r k = record {
   starts = λ x i c. k.starts x (known_of h past r x i) c;
   cancels = λ x i c. k.cancels x (known_of h past r x i) c;
@@ -229,7 +229,7 @@ enough copies h past r k = record {
 
 pub cue_path_at_the_end : CuePathAtTheEnd
 cue_path_at_the_end copies h past r k x c =
-    let lost = lost_cues_at_the_end copies (cued (Passed h ∷ past)) (cued_goes (Passed h ∷ past) r).sound (enough copies h past r k) x c in
+    let lost = lost_cues_at_the_end copies (cue_turns (Passed h ∷ past)) (cued_goes (Passed h ∷ past) r).sound (enough copies h past r k) x c in
     let whole = nothing_lost h past r x c in
     (λ i. whole.0 (lost.0 i), λ i. lost.1 (whole.1 i))
 
@@ -239,6 +239,6 @@ cue_path copies h past later last r k x c b =
     let f = front_whole h last past later in
     let sound = subst MayAllCome f.1 (cued_goes (Passed last ∷ run) r).sound in
     let kept = subst (KeepsEnough copies) f.1 (enough copies last run r k) in
-    let lost = lost_cues copies (cued (Passed h ∷ past)) f.0 sound kept x c b in
+    let lost = lost_cues copies (cue_turns (Passed h ∷ past)) f.0 sound kept x c b in
     let whole = nothing_lost h past (run_front (Passed h ∷ past) later r.1) x c in
     (λ i. whole.0 (lost.0 i), λ i. lost.1 (whole.1 i))

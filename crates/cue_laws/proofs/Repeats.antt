@@ -9,7 +9,7 @@ use Rattle.ts_packet.specs.Membership.{In}
 use Rattle.ts_packet.proofs.MembershipLemmas.{In-mapped}
 use Rattle.cue_laws.specs.Events.{Turn, LineEvent, Name, Started, Cancelled, Ended, Passed, high, before, events, taken, NeverFalls, stands, is_of, can_start, fresh, cancel_by, can_end, end_by, name_of, upon}
 use Rattle.cue_laws.specs.Thinning.{MayAllCome, times, thinned, id_in, count_of, TellsAgain, IsToldBefore, LeavesOne, LeavesOutRepeats, KeepsEnds, KeepsStart, KeepsCancel, Knows}
-use Rattle.cue_laws.specs.Cueing.{cued}
+use Rattle.cue_laws.specs.Cueing.{cue_turns}
 use Rattle.cue_laws.specs.Laws.{RepeatsLoseNothing}
 use Rattle.cue_laws.proofs.Settling.{can_end-parts, reached_upon}
 use Rattle.cue_laws.proofs.Orders.{before-more, is_of-parts, is_of-is, Shrinks, cancel-shrinks, end-shrinks}
@@ -293,11 +293,11 @@ ends_kept copies given (Passed h ∷ past) s l k = ends_kept copies given past s
 
 pub repeats_lose_nothing : RepeatsLoseNothing
 repeats_lose_nothing copies given run r l k = record {
-  starts = λ x i c. left copies given (Started x.id x.start x.asked) (cued run) l (k.starts x i c);
+  starts = λ x i c. left copies given (Started x.id x.start x.asked) (cue_turns run) l (k.starts x i c);
   cancels = λ x i c. which x (k.cancels x i c);
-  ends = ends_kept copies given (cued run) (cued_is_sound run r) l k.ends;
+  ends = ends_kept copies given (cue_turns run) (cued_is_sound run r) l k.ends;
 }
   where
-    which : (x : LineEvent) → KeepsCancel copies x (cued run) ⊎ (KeepsStart copies x (cued run) → ⊥) → KeepsCancel given x (cued run) ⊎ (KeepsStart given x (cued run) → ⊥)
-    which x (inl cancel) = inl (cancel_kept copies given x (cued run) (cued_is_sound run r) l cancel)
-    which x (inr never) = inr (λ start. never (back copies given (Started x.id x.start x.asked) (cued run) l start))
+    which : (x : LineEvent) → KeepsCancel copies x (cue_turns run) ⊎ (KeepsStart copies x (cue_turns run) → ⊥) → KeepsCancel given x (cue_turns run) ⊎ (KeepsStart given x (cue_turns run) → ⊥)
+    which x (inl cancel) = inl (cancel_kept copies given x (cue_turns run) (cued_is_sound run r) l cancel)
+    which x (inr never) = inr (λ start. never (back copies given (Started x.id x.start x.asked) (cue_turns run) l start))

@@ -9,7 +9,7 @@ use Rattle.ts_packet.specs.Membership.{In}
 use Rattle.ts_packet.proofs.MembershipLemmas.{In-filter, In-filtered}
 use Rattle.cue_laws.specs.Events.{LineEvent, Passed, events}
 use Rattle.cue_laws.specs.Thinning.{thinned}
-use Rattle.cue_laws.specs.Cueing.{cued}
+use Rattle.cue_laws.specs.Cueing.{cue_turns}
 use Rattle.cue_laws.specs.Tables.{put_by_start, by_start, is_uncancelled, uncancelled_events}
 use Rattle.cue_laws.specs.Laws.{UncancelledEventsAgree}
 use Rattle.cue_laws.proofs.Lists.{Distinct, distinct-filter}
@@ -126,7 +126,7 @@ uncancelled_events_agree copies h past r k =
     by_start-to (filter is_uncancelled here) x (In-filter is_uncancelled x here ((cue_path_at_the_end copies h past r k x (not-true x.cancelled p.1)).1 p.0) p.1))
   where
     here : List LineEvent
-    here = events (thinned copies (cued (Passed h ∷ past)))
+    here = events (thinned copies (cue_turns (Passed h ∷ past)))
 
     there : List LineEvent
     there = events (Passed h ∷ past)
@@ -134,5 +134,5 @@ uncancelled_events_agree copies h past r k =
     order : Orderly h there
     order = (stand (Passed h ∷ past) r).order
 
-    part : Below here (events (cued (Passed h ∷ past)))
-    part = below copies (cued (Passed h ∷ past)) (cued_goes (Passed h ∷ past) r).sound k.ends
+    part : Below here (events (cue_turns (Passed h ∷ past)))
+    part = below copies (cue_turns (Passed h ∷ past)) (cued_goes (Passed h ∷ past) r).sound k.ends

@@ -104,9 +104,9 @@ senders (Ended id time ∷ past) = map (change (end_by (high past) id time)) (se
 senders (Passed later ∷ past) = map (tell (high past) later) (senders past)
 
 -- THE CUE PATH of a run: before each packet the cues that are due
-abbrev pub cued : List Turn → List Turn
-cued [] = []
-cued (Started id start end ∷ past) = cued past
-cued (Cancelled id ∷ past) = cued past
-cued (Ended id time ∷ past) = cued past
-cued (Passed later ∷ past) = Passed later ∷ block_on (high past) later (senders past) (cued past)
+abbrev pub cue_turns : List Turn → List Turn
+cue_turns [] = []
+cue_turns (Started id start end ∷ past) = cue_turns past
+cue_turns (Cancelled id ∷ past) = cue_turns past
+cue_turns (Ended id time ∷ past) = cue_turns past
+cue_turns (Passed later ∷ past) = Passed later ∷ block_on (high past) later (senders past) (cue_turns past)

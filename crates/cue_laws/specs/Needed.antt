@@ -3,7 +3,7 @@ use Rattle.std.specs.Prelude.{◌≡◌, ℕ, true, false, List, [], ◌∷◌, 
 use Rattle.ts_packet.specs.Membership.{In}
 use Rattle.cue_laws.specs.Events.{Turn, Started, Cancelled, Ended, Passed, LineEvent, events}
 use Rattle.cue_laws.specs.Thinning.{thinned, KeepsStart, KeepsCancel, KeepsEnds}
-use Rattle.cue_laws.specs.Cueing.{IsRun, cued}
+use Rattle.cue_laws.specs.Cueing.{IsRun, cue_turns}
 
 -- An event is sent, ended early, cancelled; then another one is accepted where the first one would have gone on.
 abbrev pub ended_then_cancelled : List Turn
@@ -25,10 +25,10 @@ without_ends (Passed h ∷ past) = 1
 -- THE FIRST SENDING OF AN END IS NEEDED, also where the event is cancelled: without it a splicer refuses the next start
 abbrev pub EndsAreNeeded : Type 0
 EndsAreNeeded = IsRun ended_then_cancelled
-    × ((x : LineEvent) → In x (events ended_then_cancelled) → x.cancelled ≡ false → KeepsStart without_ends x (cued ended_then_cancelled))
-    × ((x : LineEvent) → In x (events ended_then_cancelled) → x.cancelled ≡ true → KeepsCancel without_ends x (cued ended_then_cancelled))
+    × ((x : LineEvent) → In x (events ended_then_cancelled) → x.cancelled ≡ false → KeepsStart without_ends x (cue_turns ended_then_cancelled))
+    × ((x : LineEvent) → In x (events ended_then_cancelled) → x.cancelled ≡ true → KeepsCancel without_ends x (cue_turns ended_then_cancelled))
     × In second (events ended_then_cancelled)
-    × (In second (events (thinned without_ends (cued ended_then_cancelled))) → ⊥)
+    × (In second (events (thinned without_ends (cue_turns ended_then_cancelled))) → ⊥)
 
 -- An event is sent and cancelled.
 abbrev pub started_then_cancelled : List Turn
@@ -47,9 +47,9 @@ first = record { id = 1; start = pos 100; asked = pos 200; end = pos 200; cancel
 -- A CANCEL IS NEEDED where a start is left
 abbrev pub CancelsAreNeeded : Type 0
 CancelsAreNeeded = IsRun started_then_cancelled
-    × ((x : LineEvent) → In x (events started_then_cancelled) → x.cancelled ≡ false → KeepsStart without_cancels x (cued started_then_cancelled))
-    × KeepsEnds without_cancels (cued started_then_cancelled)
-    × In first (events (thinned without_cancels (cued started_then_cancelled)))
+    × ((x : LineEvent) → In x (events started_then_cancelled) → x.cancelled ≡ false → KeepsStart without_cancels x (cue_turns started_then_cancelled))
+    × KeepsEnds without_cancels (cue_turns started_then_cancelled)
+    × In first (events (thinned without_cancels (cue_turns started_then_cancelled)))
     × (In first (events started_then_cancelled) → ⊥)
 
 -- In one piece an event is asked for, then its early end, then another event where the first one would have gone on.
@@ -65,4 +65,4 @@ shortened = record { id = 1; start = pos 100; asked = pos 200; end = pos 150; ca
 
 -- THE ORDER OF ACCEPTANCE IS NEEDED: in another order a splicer that loses nothing refuses a start
 abbrev pub OrderIsNeeded : Type 0
-OrderIsNeeded = IsRun one_piece × In shortened (events one_piece) × In shortened (events (cued one_piece)) × (In shortened (events later_first) → ⊥)
+OrderIsNeeded = IsRun one_piece × In shortened (events one_piece) × In shortened (events (cue_turns one_piece)) × (In shortened (events later_first) → ⊥)

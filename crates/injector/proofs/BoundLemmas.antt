@@ -8,8 +8,8 @@ use Rattle.scte104_codec.specs.Reading.{MessageReading}
 use Rattle.event_table.specs.Rings.{is_before_on_ring}
 use Rattle.event_table.specs.Standing.{Standing, on_ring, IsWithin}
 use Rattle.event_table.proofs.TimeLemmas.{ring-plus}
-use Rattle.injector.specs.Turns.{Turn, Judged, Passed, high}
-use Rattle.injector.specs.Senders.{Sender, is_none, limit, is_repeated, chosen, stands_now, standing_senders, IsIdle}
+use Rattle.injector.specs.Turns.{Turn, Judged, Passed, greatest_in}
+use Rattle.injector.specs.Senders.{Sender, is_none, limit, is_repeated, chosen, sender_stands, standing_senders, IsIdle}
 use Rattle.injector.specs.Noting.{ring_limit, ring_next, ring_earlier, ring_reached, next_by, next_of, AtOrAfter, IsDueWithinASecond, Rests, StaysAtRest, LastIn, IsKept}
 use Rattle.unit_stream.specs.Clocks.{Rises}
 use Rattle.injector.specs.Steps.{outcome, is_accepted}
@@ -202,27 +202,27 @@ all-waits bound latest later rises (x ∷ xs) kept waits =
     All-cons (Waits bound later) x xs (waits-later x.event bound x.last latest later rises here.last (All-head (Waits bound latest) x xs waits))
     (all-waits bound latest later rises xs (All-tail (IsKept latest) x xs kept) (All-tail (Waits bound latest) x xs waits))
 
-stays-below : (rest : Option ℕ) (index : ℕ) (past : List Turn) (later : Option ℤ) → Rises (high past) later → All (IsKept (high past)) (standing_senders index past) → IsIdle index (high past) past
+stays-below : (rest : Option ℕ) (index : ℕ) (past : List Turn) (later : Option ℤ) → Rises (greatest_in past) later → All (IsKept (greatest_in past)) (standing_senders index past) → IsIdle index (greatest_in past) past
     → (r : RestsAt rest index past) → NotReached r.bound later → StaysAtRest rest index later past
 stays-below rest index past later rises kept quiet r below =
     let xs = standing_senders index past in
-    let idle : IsIdle index later past = all-idle r.bound (high past) later below xs quiet r.waits in
-    let same : standing_senders index (Passed later ∷ past) ≡ filter (stands_now later) xs = standing-told index past later rises ∙ ap (filter (stands_now later)) (none-told (high past) later xs idle) in
+    let idle : IsIdle index later past = all-idle r.bound (greatest_in past) later below xs quiet r.waits in
+    let same : standing_senders index (Passed later ∷ past) ≡ filter (sender_stands later) xs = standing-told index past later rises ∙ ap (filter (sender_stands later)) (none-told (greatest_in past) later xs idle) in
     record {
       idle = idle;
       rests = subst (Rests rest later) (sym same)
           (record {
             bound = r.bound;
             kept = r.kept;
-            ahead = ahead-later r.bound (high past) later rises r.ahead below;
-            waits = All-filter (stands_now later) (Waits r.bound later) xs (all-waits r.bound (high past) later rises xs kept r.waits);
+            ahead = ahead-later r.bound (greatest_in past) later rises r.ahead below;
+            waits = All-filter (sender_stands later) (Waits r.bound later) xs (all-waits r.bound (greatest_in past) later rises xs kept r.waits);
           });
     }
 
-pub stays-at-rest : (rest : Option ℕ) (index : ℕ) (past : List Turn) (later : Option ℤ) → Rises (high past) later → All (IsKept (high past)) (standing_senders index past) → IsIdle index (high past) past
+pub stays-at-rest : (rest : Option ℕ) (index : ℕ) (past : List Turn) (later : Option ℤ) → Rises (greatest_in past) later → All (IsKept (greatest_in past)) (standing_senders index past) → IsIdle index (greatest_in past) past
     → RestsAt rest index past → ring_reached rest (option_map ring_of later) ≡ false → StaysAtRest rest index later past
 stays-at-rest rest index past later rises kept quiet r free = stays-below rest index past later rises kept quiet r
-    (not-reached r.bound (high past) later rises r.ahead (ap (λ q. ring_reached q (option_map ring_of later)) (sym r.kept) ∙ free))
+    (not-reached r.bound (greatest_in past) later rises r.ahead (ap (λ q. ring_reached q (option_map ring_of later)) (sym r.kept) ∙ free))
 
 not-reached-yet : (bound latest : Option ℤ) → IsDueWithinASecond bound latest → NotReached bound latest
 not-reached-yet None latest ahead = tt
@@ -230,12 +230,12 @@ not-reached-yet (Some b) None ahead = tt
 not-reached-yet (Some b) (Some h) ahead = ahead.0
 
 -- the same where the greatest time stays
-pub stays-still : (rest : Option ℕ) (index : ℕ) (past : List Turn) (later : Option ℤ) → Rises (high past) later → All (IsKept (high past)) (standing_senders index past) → IsIdle index (high past) past
-    → RestsAt rest index past → high past ≡ later → StaysAtRest rest index later past
+pub stays-still : (rest : Option ℕ) (index : ℕ) (past : List Turn) (later : Option ℤ) → Rises (greatest_in past) later → All (IsKept (greatest_in past)) (standing_senders index past) → IsIdle index (greatest_in past) past
+    → RestsAt rest index past → greatest_in past ≡ later → StaysAtRest rest index later past
 stays-still rest index past later rises kept quiet r same = stays-below rest index past later rises kept quiet r
-    (subst (NotReached r.bound) same (not-reached-yet r.bound (high past) r.ahead))
+    (subst (NotReached r.bound) same (not-reached-yet r.bound (greatest_in past) r.ahead))
 
 -- ---- a message that is not accepted
 
 pub rests-asked : (index : ℕ) (m : MessageReading) (past : List Turn) (rest : Option ℕ) → is_accepted (outcome index m past) ≡ false → RestsAt rest index past → RestsAt rest index (Judged m ∷ past)
-rests-asked index m past rest refused r = subst (λ xs. Rests rest (high past) (filter (stands_now (high past)) xs)) (sym (same-refused index m past refused)) r
+rests-asked index m past rest refused r = subst (λ xs. Rests rest (greatest_in past) (filter (sender_stands (greatest_in past)) xs)) (sym (same-refused index m past refused)) r

@@ -30,7 +30,7 @@ use Rattle.program_laws.proofs.ReadingLemmas.{or_first}
 use Rattle.outgoing_packets.specs.declared.entry.CueEntry.TheVariants.{Added}
 use Rattle.outgoing_packets.specs.Entries.{change_of, HasRoom, GoesOut, AllGoOut}
 use Rattle.ts_packet.proofs.FieldLemmas.{pid_is}
-use Rattle.injector.specs.Turns.{high}
+use Rattle.injector.specs.Turns.{greatest_in}
 use Rattle.unit_stream.specs.Clocks.{Rises}
 use Rattle.injector.specs.Steps.{Step, Message, Packet, packets_in, turns_in, body_at}
 use Rattle.program_follower.specs.Purposes.{writing_cues}
@@ -107,7 +107,7 @@ rises-at c p past good = by (program_of (Some c.program) past) refl
         (subst (λ x. Rises (unit_high (pids_of (Some r)) (behind_head (Some c.program) past)) (unit_high (pids_of x) (behind_head (Some c.program) (p ∷ past)))) (sym known)
         (subst (λ ps. Rises (unit_high (pids_of (Some r)) (behind_head (Some c.program) past)) (unit_high (pids_of (Some r)) ps)) behind rises))
 
-pub turns-high : (program : ℕ) (past : List Step) → high (turns_in program past) ≡ high_of (Some program) (packets_in past)
+pub turns-high : (program : ℕ) (past : List Step) → greatest_in (turns_in program past) ≡ high_of (Some program) (packets_in past)
 turns-high program [] = sym (no_high [])
 turns-high program (Message m ∷ past) = turns-high program past
 turns-high program (Packet p ∷ past) = refl

@@ -17,7 +17,7 @@ use Rattle.program_laws.specs.Writing.{packets_out}
 use Rattle.outgoing_packets.proofs.NumberLemmas.{number-others}
 use Rattle.outgoing_packets.proofs.GoOnLemmas.{go-on-past, go-on-later}
 use Rattle.injector.specs.declared.injector.Injector.{Injector}
-use Rattle.injector.specs.Turns.{high, events}
+use Rattle.injector.specs.Turns.{greatest_in, events}
 use Rattle.injector.specs.Noting.{IsBefore, NotesStandFor}
 use Rattle.injector.specs.Steps.{Step, Packet, packets_in, turns_in, has_news, cued, cue_packets, body_at, sent_at}
 use Rattle.injector.specs.Injecting.{IsStill, JudgesBy, RestsAt, InjectorStandsFor}
@@ -55,8 +55,8 @@ pub quiet-behind : (i : Injector) (c : Config) (p : List ℕ) (past : List Step)
 quiet-behind i cfg p past judges notes-are news-is rest-is quiet sound stays =
     let turns = turns_in cfg.program past in
     let latest = high_of (Some cfg.program) (p ∷ packets_in past) in
-    let same : high turns ≡ latest = turns-high cfg.program past ∙ sym stays in
-    let rises : Rises (high turns) latest = subst (λ h. Rises h latest) (sym (turns-high cfg.program past)) (rises-at cfg p (packets_in past) sound) in
+    let same : greatest_in turns ≡ latest = turns-high cfg.program past ∙ sym stays in
+    let rises : Rises (greatest_in turns) latest = subst (λ h. Rises h latest) (sym (turns-high cfg.program past)) (rises-at cfg p (packets_in past) sound) in
     let news = sym news-is ∙ quiet in
     let before : IsBefore false i.requests (option_map ring_of latest) cfg.index turns latest
     = record { stands = judges.requests; notes = notes-are; rises = rises; time = refl; idle = λ none. idle-between cfg past latest news same } in
@@ -67,7 +67,7 @@ quiet-behind i cfg p past judges notes-are news-is rest-is quiet sound stays =
         counted = record { messages = n.messages; accepted = n.accepted; refused = n.refused };
       };
       notes = restate-notes i.requests latest _ _ (sym (standing-stays cfg.index turns latest same)) (idle-told i.requests (option_map ring_of latest) cfg.index turns latest before);
-      rest = (stays-still i.rest cfg.index turns latest rises notes-are.kept (idle-between cfg past (high turns) news refl) (rest-is quiet) same).rests;
+      rest = (stays-still i.rest cfg.index turns latest rises notes-are.kept (idle-between cfg past (greatest_in turns) news refl) (rest-is quiet) same).rests;
     }
 
 -- ---- nothing of the program is on its PID

@@ -26,7 +26,7 @@ use Rattle.injector.specs.declared.refusal.Refusal.{Refusal}
 use Rattle.injector.specs.declared.refusal.Refusal.TheVariants.{NoClock, InUse, Full, Overlap, NoSuchEvent, TooLate, BadEnd}
 use Rattle.scte104_codec.specs.Reading.{MessageReading, multiple, Multiple}
 use Rattle.injector.specs.Asking.{is_start, asked_of_multiple, asked_of}
-use Rattle.injector.specs.Verdicts.{time_at, start_event, event_on_ring, start_verdict, end_verdict, end_verdict_at, cancel_verdict, cancel_verdict_at, verdict_of, started, ended, changed, after, after_by}
+use Rattle.injector.specs.Verdicts.{time_at, start_event, event_on_ring, start_verdict, end_verdict, end_verdict_at, cancel_verdict, cancel_verdict_at, verdict_of, with_start, ended, changed, after, after_by}
 use Rattle.injector.specs.Turns.{with_asked}
 use Rattle.injector.proofs.ListLemmas.{filter-twice, filter-push, with_first-filter, any-mono}
 
@@ -175,9 +175,9 @@ start-answer latest standing high o r event answer fits event_is is =
     ∙ start-told o.time standing r ∙ ap (λ l. start_verdict l standing r) (sym o.is)
 
 pub started-is : (latest : Option ℤ) (standing : List Standing) (high : ℕ) (o : OnLine latest high) (r : SpliceRequest) (event : Event) → r.pre_roll_time < 65536
-    → event ≡ event_on_ring high r → standing ++ on_line latest event ∷ [] ≡ started latest standing r
+    → event ≡ event_on_ring high r → standing ++ on_line latest event ∷ [] ≡ with_start latest standing r
 started-is latest standing high o r event fits event_is =
-    ap (λ s. standing ++ s ∷ []) (ap (on_line latest) event_is ∙ event-line latest high o r fits) ∙ ap (λ l. started l standing r) (sym o.is)
+    ap (λ s. standing ++ s ∷ []) (ap (on_line latest) event_is ∙ event-line latest high o r fits) ∙ ap (λ l. with_start l standing r) (sym o.is)
 
 pub start-no_time : {T : Type 0} (t : Table T) (latest : Option ℤ) (standing : List Standing) (r : SpliceRequest) → high_time_of t ≡ None → StandsFor t latest standing
     → Err NoClock ≡ start_verdict latest standing r
@@ -212,7 +212,7 @@ pub filter-asked : (latest : Option ℤ) (events : List Standing) (a : Result Se
 filter-asked latest events (Err e) = refl
 filter-asked latest events (Ok a) = by (verdict_of latest (filter (stands latest) events) a.request)
   where
-    start-case : (l : Option ℤ) → filter (stands l) (started l events a.request) ≡ started l (filter (stands l) events) a.request
+    start-case : (l : Option ℤ) → filter (stands l) (with_start l events a.request) ≡ with_start l (filter (stands l) events) a.request
     start-case None = refl
     start-case (Some h) = filter-push (stands (Some h)) (start_event h a.request) (new-stands h (90 * a.request.pre_roll_time) (9000 * a.request.break_duration)) events
 
@@ -228,8 +228,8 @@ filter-asked latest events (Ok a) = by (verdict_of latest (filter (stands latest
     cancel-case = with_first-filter (stands latest) (has_id a.request.splice_event_id) cancelled_one (cancel-stays latest) events
 
     kinds : (b c : Bool)
-        → filter (stands latest) (cond b (started latest events a.request) (cond c (ended latest (is_of latest a.request.splice_event_id) events a.request) (with_first (is_of latest a.request.splice_event_id) cancelled_one events)))
-        ≡ cond b (started latest (filter (stands latest) events) a.request) (cond c (ended latest (has_id a.request.splice_event_id) (filter (stands latest) events) a.request) (with_first (has_id a.request.splice_event_id) cancelled_one (filter (stands latest) events)))
+        → filter (stands latest) (cond b (with_start latest events a.request) (cond c (ended latest (is_of latest a.request.splice_event_id) events a.request) (with_first (is_of latest a.request.splice_event_id) cancelled_one events)))
+        ≡ cond b (with_start latest (filter (stands latest) events) a.request) (cond c (ended latest (has_id a.request.splice_event_id) (filter (stands latest) events) a.request) (with_first (has_id a.request.splice_event_id) cancelled_one (filter (stands latest) events)))
     kinds true c = start-case latest
     kinds false true = end-case latest
     kinds false false = cancel-case

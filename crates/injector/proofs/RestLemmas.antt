@@ -21,8 +21,8 @@ use Rattle.injector.specs.declared.refusal.Refusal.{Refusal}
 use Rattle.injector.specs.declared.requests.Requests.{Requests}
 use Rattle.injector.specs.Asking.{is_start, asked_of, asked_of_multiple}
 use Rattle.injector.specs.Verdicts.{time_at, verdict_of, verdict_by}
-use Rattle.injector.specs.Turns.{Turn, high, standing}
-use Rattle.injector.specs.Senders.{Sender, is_none, news, current, is_ended, is_repeated, chosen, cues_of, tell, told_now, fresh, with_event, begun, cut_short, with_judged, stands_now, stands_by, events_in, with_request, senders, standing_senders, cues_before, IsIdle}
+use Rattle.injector.specs.Turns.{Turn, greatest_in, standing}
+use Rattle.injector.specs.Senders.{Sender, is_none, news, current, is_ended, is_repeated, chosen, cues_of, tell, told_now, new_sender, with_event, begun, cut_short, with_judged, sender_stands, stands_by, events_in, with_request, senders, standing_senders, cues_before, IsIdle}
 use Rattle.injector.specs.Noting.{notes_of, NotesTold, IsBefore}
 use Rattle.injector.specs.Steps.{Step, Message, Packet, packets_in, turns_in, outcome, is_accepted, has_news}
 use Rattle.injector.specs.Laws.{NoCueBetween}
@@ -144,18 +144,18 @@ same-judged : (latest : Option ℤ) (test : Sender → Bool) (xs : List Sender) 
 same-judged latest test xs a (Err e) is = refl
 same-judged latest test xs a (Ok u) is = absurd (let no : true ≡ false = is in cc)
 
-pub same-refused : (index : ℕ) (m : MessageReading) (past : List Turn) → is_accepted (outcome index m past) ≡ false → with_request (high past) (senders index past) (asked_of index m) ≡ senders index past
+pub same-refused : (index : ℕ) (m : MessageReading) (past : List Turn) → is_accepted (outcome index m past) ≡ false → with_request (greatest_in past) (senders index past) (asked_of index m) ≡ senders index past
 same-refused index (init head) past is = refl
 same-refused index (alive head body) past is = refl
 same-refused index (other head) past is = refl
 same-refused index (bad multi head) past is = refl
 same-refused index (multiple m) past is = by (asked_of_multiple index m) is
   where
-    by : (r : Result ServedRequest Refusal) → is_ok (verdict_by (high past) (standing index past) r) ≡ false → with_request (high past) (senders index past) r ≡ senders index past
+    by : (r : Result ServedRequest Refusal) → is_ok (verdict_by (greatest_in past) (standing index past) r) ≡ false → with_request (greatest_in past) (senders index past) r ≡ senders index past
     by (Err e) is = refl
     by (Ok a) is =
-        same-judged (high past) (stands_by (high past) a.request.splice_event_id) (senders index past) a (verdict_of (high past) (events_in (standing_senders index past)) a.request)
-        (ap (λ es. is_ok (verdict_of (high past) es a.request)) (standing-events index past) ∙ is)
+        same-judged (greatest_in past) (stands_by (greatest_in past) a.request.splice_event_id) (senders index past) a (verdict_of (greatest_in past) (events_in (standing_senders index past)) a.request)
+        (ap (λ es. is_ok (verdict_of (greatest_in past) es a.request)) (standing-events index past) ∙ is)
 
 abbrev IsTimed : Option ℤ → Sender → Type 0
 IsTimed latest x = latest ≡ None → x.last ≡ None
@@ -174,7 +174,7 @@ timed-judged latest test xs a (Ok u) all = kinds (is_start a.request) (a.request
   where
     start-case : (l : Option ℤ) → All (IsTimed latest) (begun l xs a)
     start-case None = all
-    start-case (Some h) = All-push (IsTimed latest) xs (fresh h a) all (λ none. refl)
+    start-case (Some h) = All-push (IsTimed latest) xs (new_sender h a) all (λ none. refl)
 
     end-case : (l : Option ℤ) → All (IsTimed latest) (cut_short l test xs a)
     end-case None = all
@@ -187,7 +187,7 @@ timed-judged latest test xs a (Ok u) all = kinds (is_start a.request) (a.request
 
 timed-request : (latest : Option ℤ) (xs : List Sender) (a : Result ServedRequest Refusal) → All (IsTimed latest) xs → All (IsTimed latest) (with_request latest xs a)
 timed-request latest xs (Err e) all = all
-timed-request latest xs (Ok a) all = timed-judged latest (stands_by latest a.request.splice_event_id) xs a (verdict_of latest (events_in (filter (stands_now latest) xs)) a.request) all
+timed-request latest xs (Ok a) all = timed-judged latest (stands_by latest a.request.splice_event_id) xs a (verdict_of latest (events_in (filter (sender_stands latest) xs)) a.request) all
 
 times-of : (has : Bool) (latest : Option ℤ) (xs : List Sender) → All (IsAtRest has latest) xs → All (IsTimed latest) xs
 times-of has latest [] all = All-nil (IsTimed latest)
@@ -205,24 +205,24 @@ or-true false = refl
 
 -- ---- the history
 
-judged-at-rest : (index : ℕ) (m : MessageReading) (turns : List Turn) → All (IsAtRest (has_news index turns) (high turns)) (senders index turns)
-    → All (IsAtRest (has_news index turns || is_accepted (outcome index m turns)) (high turns)) (with_request (high turns) (senders index turns) (asked_of index m))
+judged-at-rest : (index : ℕ) (m : MessageReading) (turns : List Turn) → All (IsAtRest (has_news index turns) (greatest_in turns)) (senders index turns)
+    → All (IsAtRest (has_news index turns || is_accepted (outcome index m turns)) (greatest_in turns)) (with_request (greatest_in turns) (senders index turns) (asked_of index m))
 judged-at-rest index m turns before = by (is_accepted (outcome index m turns)) refl
   where
-    by : (b : Bool) → is_accepted (outcome index m turns) ≡ b → All (IsAtRest (has_news index turns || is_accepted (outcome index m turns)) (high turns)) (with_request (high turns) (senders index turns) (asked_of index m))
+    by : (b : Bool) → is_accepted (outcome index m turns) ≡ b → All (IsAtRest (has_news index turns || is_accepted (outcome index m turns)) (greatest_in turns)) (with_request (greatest_in turns) (senders index turns) (asked_of index m))
     by true is =
-        subst (λ b. All (IsAtRest b (high turns)) (with_request (high turns) (senders index turns) (asked_of index m))) (sym (ap (λ b. has_news index turns || b) is ∙ or-true (has_news index turns)))
-        (stirred (high turns) (with_request (high turns) (senders index turns) (asked_of index m))
-        (timed-request (high turns) (senders index turns) (asked_of index m) (times-of (has_news index turns) (high turns) (senders index turns) before)))
+        subst (λ b. All (IsAtRest b (greatest_in turns)) (with_request (greatest_in turns) (senders index turns) (asked_of index m))) (sym (ap (λ b. has_news index turns || b) is ∙ or-true (has_news index turns)))
+        (stirred (greatest_in turns) (with_request (greatest_in turns) (senders index turns) (asked_of index m))
+        (timed-request (greatest_in turns) (senders index turns) (asked_of index m) (times-of (has_news index turns) (greatest_in turns) (senders index turns) before)))
     by false is =
-        subst (λ b. All (IsAtRest b (high turns)) (with_request (high turns) (senders index turns) (asked_of index m))) (sym (ap (λ b. has_news index turns || b) is ∙ or-false (has_news index turns)))
-        (subst (All (IsAtRest (has_news index turns) (high turns))) (sym (same-refused index m turns is)) before)
+        subst (λ b. All (IsAtRest b (greatest_in turns)) (with_request (greatest_in turns) (senders index turns) (asked_of index m))) (sym (ap (λ b. has_news index turns || b) is ∙ or-false (has_news index turns)))
+        (subst (All (IsAtRest (has_news index turns) (greatest_in turns))) (sym (same-refused index m turns is)) before)
 
-all-at-rest : (c : Config) (past : List Step) → All (IsAtRest (has_news c.index (turns_in c.program past)) (high (turns_in c.program past))) (senders c.index (turns_in c.program past))
+all-at-rest : (c : Config) (past : List Step) → All (IsAtRest (has_news c.index (turns_in c.program past)) (greatest_in (turns_in c.program past))) (senders c.index (turns_in c.program past))
 all-at-rest c [] = All-nil (IsAtRest false None)
 all-at-rest c (Message m ∷ past) = judged-at-rest c.index m (turns_in c.program past) (all-at-rest c past)
 all-at-rest c (Packet p ∷ past) =
-    all-told (has_news c.index (turns_in c.program past)) (high (turns_in c.program past)) (high_of (Some c.program) (p ∷ packets_in past))
+    all-told (has_news c.index (turns_in c.program past)) (greatest_in (turns_in c.program past)) (high_of (Some c.program) (p ∷ packets_in past))
     (subst (λ h. Climbs h (high_of (Some c.program) (p ∷ packets_in past))) (sym (turns-high c.program past)) (climbs-at c.program p (packets_in past)))
     (senders c.index (turns_in c.program past)) (all-at-rest c past)
 
@@ -232,12 +232,12 @@ none-due latest (x ∷ xs) all = let here = All-head (IsAtRest false latest) x x
     All-cons (λ y. is_none (chosen y latest latest) ≡ true) x xs (here.rest refl) (none-due latest xs (All-tail (IsAtRest false latest) x xs all))
 
 -- no event has a cue where the greatest time stays, and nothing was accepted
-pub idle-between : (c : Config) (past : List Step) (later : Option ℤ) → has_news c.index (turns_in c.program past) ≡ false → high (turns_in c.program past) ≡ later → IsIdle c.index later (turns_in c.program past)
+pub idle-between : (c : Config) (past : List Step) (later : Option ℤ) → has_news c.index (turns_in c.program past) ≡ false → greatest_in (turns_in c.program past) ≡ later → IsIdle c.index later (turns_in c.program past)
 idle-between c past later quiet same =
     let turns = turns_in c.program past in
-    let all : All (IsAtRest false (high turns)) (senders c.index turns) = subst (λ b. All (IsAtRest b (high turns)) (senders c.index turns)) quiet (all-at-rest c past) in
+    let all : All (IsAtRest false (greatest_in turns)) (senders c.index turns) = subst (λ b. All (IsAtRest b (greatest_in turns)) (senders c.index turns)) quiet (all-at-rest c past) in
     subst (λ l. IsIdle c.index l turns) same
-    (none-due (high turns) (standing_senders c.index turns) (All-filter (stands_now (high turns)) (IsAtRest false (high turns)) (senders c.index turns) all))
+    (none-due (greatest_in turns) (standing_senders c.index turns) (All-filter (sender_stands (greatest_in turns)) (IsAtRest false (greatest_in turns)) (senders c.index turns) all))
 
 -- ---- what idle events send
 
@@ -257,15 +257,15 @@ none-told latest later (x ∷ xs) all =
     ∙ ap (λ ys. x ∷ ys) (none-told latest later xs (All-tail (λ y. is_none (chosen y latest later) ≡ true) x xs all))
 
 pub idle-cues : (index : ℕ) (later : Option ℤ) (past : List Turn) → IsIdle index later past → cues_before index later past ≡ []
-idle-cues index later past idle = no-cues (high past) later (standing_senders index past) idle
+idle-cues index later past idle = no-cues (greatest_in past) later (standing_senders index past) idle
 
 pub idle-told : (r : Requests) (place : Option ℕ) (index : ℕ) (past : List Turn) (latest : Option ℤ) → IsBefore false r place index past latest → NotesTold r index past latest
 idle-told r place index past latest b =
     let xs = standing_senders index past in
-    let within : All (IsWithin (high past)) (events_in xs) = subst (All (IsWithin (high past))) (sym (standing-events index past)) b.stands.table.within in
+    let within : All (IsWithin (greatest_in past)) (events_in xs) = subst (All (IsWithin (greatest_in past))) (sym (standing-events index past)) b.stands.table.within in
     record {
-      notes = b.notes.notes ∙ ap (map notes_of) (sym (none-told (high past) latest xs (b.idle refl)));
-      kept = all-kept (high past) latest b.rises xs within b.notes.kept;
+      notes = b.notes.notes ∙ ap (map notes_of) (sym (none-told (greatest_in past) latest xs (b.idle refl)));
+      kept = all-kept (greatest_in past) latest b.rises xs within b.notes.kept;
     }
 
 pub no-cue-between : NoCueBetween

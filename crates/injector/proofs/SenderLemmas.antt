@@ -16,9 +16,9 @@ use Rattle.injector.specs.declared.refusal.Refusal.{Refusal}
 use Rattle.injector.specs.declared.notes.Notes.{Notes}
 use Rattle.injector.specs.declared.requests.Requests.{Requests}
 use Rattle.injector.specs.Asking.{is_start, asked_of}
-use Rattle.injector.specs.Verdicts.{time_at, start_event, verdict_of, started, ended, changed}
-use Rattle.injector.specs.Turns.{Turn, Judged, Passed, high, events, standing, with_asked}
-use Rattle.injector.specs.Senders.{Sender, is_none, chosen, tell, told_now, fresh, with_event, begun, cut_short, with_judged, stands_now, stands_by, events_in, with_request, noted_after, senders, standing_senders}
+use Rattle.injector.specs.Verdicts.{time_at, start_event, verdict_of, with_start, ended, changed}
+use Rattle.injector.specs.Turns.{Turn, Judged, Passed, greatest_in, events, standing, with_asked}
+use Rattle.injector.specs.Senders.{Sender, is_none, chosen, tell, told_now, new_sender, with_event, begun, cut_short, with_judged, sender_stands, stands_by, events_in, with_request, noted_after, senders, standing_senders}
 use Rattle.injector.specs.Noting.{notes_of, IsKept, LastIn, AreNoted}
 use Rattle.unit_stream.specs.Clocks.{Rises}
 use Rattle.injector.proofs.ListLemmas.{filter-twice, filter-push, with_first-filter}
@@ -53,9 +53,9 @@ accepted-events : (latest : Option ℤ) (test : Standing → Bool) (xs : List Se
 accepted-events latest test xs a (Err e) = refl
 accepted-events latest test xs a (Ok u) = kinds (is_start a.request) (a.request.splice_insert_type == 3)
   where
-    start-case : (l : Option ℤ) → events_in (begun l xs a) ≡ started l (events_in xs) a.request
+    start-case : (l : Option ℤ) → events_in (begun l xs a) ≡ with_start l (events_in xs) a.request
     start-case None = refl
-    start-case (Some h) = push-events xs (fresh h a)
+    start-case (Some h) = push-events xs (new_sender h a)
 
     end-case : (l : Option ℤ) → events_in (cut_short l (λ x. test x.event) xs a) ≡ ended l test (events_in xs) a.request
     end-case None = refl
@@ -63,7 +63,7 @@ accepted-events latest test xs a (Ok u) = kinds (is_start a.request) (a.request.
 
     kinds : (b c : Bool)
         → events_in (cond b (begun latest xs a) (cond c (cut_short latest (λ x. test x.event) xs a) (with_first (λ x. test x.event) (with_event cancelled_one) xs)))
-        ≡ cond b (started latest (events_in xs) a.request) (cond c (ended latest test (events_in xs) a.request) (with_first test cancelled_one (events_in xs)))
+        ≡ cond b (with_start latest (events_in xs) a.request) (cond c (ended latest test (events_in xs) a.request) (with_first test cancelled_one (events_in xs)))
     kinds true c = start-case latest
     kinds false true = end-case latest
     kinds false false = first-events test cancelled_one xs
@@ -72,7 +72,7 @@ request-events : (latest : Option ℤ) (xs : List Sender) (es : List Standing) (
 request-events latest xs es (Err e) same = same
 request-events latest xs es (Ok a) same =
     let test : Standing → Bool = is_of latest a.request.splice_event_id in
-    accepted-events latest test xs a (verdict_of latest (events_in (filter (stands_now latest) xs)) a.request)
+    accepted-events latest test xs a (verdict_of latest (events_in (filter (sender_stands latest) xs)) a.request)
     ∙ ap (λ fs. changed latest test (events_in xs) a.request (verdict_of latest fs a.request)) (filter-events (stands latest) xs)
     ∙ ap (λ fs. changed latest test fs a.request (verdict_of latest (filter (stands latest) fs) a.request)) same
 
@@ -90,80 +90,80 @@ tell-events latest later (x ∷ xs) = ap (λ e. e ∷ events_in (map (tell lates
 -- THE EVENTS of the senders are the events
 pub senders-events : (index : ℕ) (past : List Turn) → events_in (senders index past) ≡ events index past
 senders-events index [] = refl
-senders-events index (Judged m ∷ past) = request-events (high past) (senders index past) (events index past) (asked_of index m) (senders-events index past)
-senders-events index (Passed later ∷ past) = tell-events (high past) later (senders index past) ∙ senders-events index past
+senders-events index (Judged m ∷ past) = request-events (greatest_in past) (senders index past) (events index past) (asked_of index m) (senders-events index past)
+senders-events index (Passed later ∷ past) = tell-events (greatest_in past) later (senders index past) ∙ senders-events index past
 
 pub standing-events : (index : ℕ) (past : List Turn) → events_in (standing_senders index past) ≡ standing index past
-standing-events index past = filter-events (stands (high past)) (senders index past) ∙ ap (filter (stands (high past))) (senders-events index past)
+standing-events index past = filter-events (stands (greatest_in past)) (senders index past) ∙ ap (filter (stands (greatest_in past))) (senders-events index past)
 
 -- ---- a packet
 
-filter-told : (l latest later : Option ℤ) (xs : List Sender) → filter (stands_now l) (map (tell latest later) xs) ≡ map (tell latest later) (filter (stands_now l) xs)
+filter-told : (l latest later : Option ℤ) (xs : List Sender) → filter (sender_stands l) (map (tell latest later) xs) ≡ map (tell latest later) (filter (sender_stands l) xs)
 filter-told l latest later [] = refl
-filter-told l latest later (x ∷ xs) = ap (λ b. cond b (tell latest later x ∷ filter (stands_now l) (map (tell latest later) xs)) (filter (stands_now l) (map (tell latest later) xs))) (ap (stands l) (tell-event latest later x)) ∙ step (stands l x.event) (filter-told l latest later xs)
+filter-told l latest later (x ∷ xs) = ap (λ b. cond b (tell latest later x ∷ filter (sender_stands l) (map (tell latest later) xs)) (filter (sender_stands l) (map (tell latest later) xs))) (ap (stands l) (tell-event latest later x)) ∙ step (stands l x.event) (filter-told l latest later xs)
   where
-    step : (b : Bool) → filter (stands_now l) (map (tell latest later) xs) ≡ map (tell latest later) (filter (stands_now l) xs)
-        → cond b (tell latest later x ∷ filter (stands_now l) (map (tell latest later) xs)) (filter (stands_now l) (map (tell latest later) xs))
-        ≡ map (tell latest later) (cond b (x ∷ filter (stands_now l) xs) (filter (stands_now l) xs))
+    step : (b : Bool) → filter (sender_stands l) (map (tell latest later) xs) ≡ map (tell latest later) (filter (sender_stands l) xs)
+        → cond b (tell latest later x ∷ filter (sender_stands l) (map (tell latest later) xs)) (filter (sender_stands l) (map (tell latest later) xs))
+        ≡ map (tell latest later) (cond b (x ∷ filter (sender_stands l) xs) (filter (sender_stands l) xs))
     step true same = ap (λ ys. tell latest later x ∷ ys) same
     step false same = same
 
-stands-later : (latest later : Option ℤ) → Rises latest later → (x : Sender) → stands_now later x ≡ true → stands_now latest x ≡ true
+stands-later : (latest later : Option ℤ) → Rises latest later → (x : Sender) → sender_stands later x ≡ true → sender_stands latest x ≡ true
 stands-later None later rises x is = refl
 stands-later (Some h) None rises x is = absurd rises
 stands-later (Some h) (Some l) rises x is = grind (arith, ints)
 
 -- those that stand behind a packet, of those that stood before it
-pub standing-told : (index : ℕ) (past : List Turn) (later : Option ℤ) → Rises (high past) later
-    → standing_senders index (Passed later ∷ past) ≡ filter (stands_now later) (map (tell (high past) later) (standing_senders index past))
+pub standing-told : (index : ℕ) (past : List Turn) (later : Option ℤ) → Rises (greatest_in past) later
+    → standing_senders index (Passed later ∷ past) ≡ filter (sender_stands later) (map (tell (greatest_in past) later) (standing_senders index past))
 standing-told index past later rises =
-    filter-told later (high past) later (senders index past)
-    ∙ ap (map (tell (high past) later)) (sym (filter-twice (stands_now later) (stands_now (high past)) (stands-later (high past) later rises) (senders index past)))
-    ∙ sym (filter-told later (high past) later (standing_senders index past))
+    filter-told later (greatest_in past) later (senders index past)
+    ∙ ap (map (tell (greatest_in past) later)) (sym (filter-twice (sender_stands later) (sender_stands (greatest_in past)) (stands-later (greatest_in past) later rises) (senders index past)))
+    ∙ sym (filter-told later (greatest_in past) later (standing_senders index past))
 
 -- where the greatest time stays, all do
-pub standing-stays : (index : ℕ) (past : List Turn) (later : Option ℤ) → high past ≡ later → standing_senders index (Passed later ∷ past) ≡ map (tell (high past) later) (standing_senders index past)
+pub standing-stays : (index : ℕ) (past : List Turn) (later : Option ℤ) → greatest_in past ≡ later → standing_senders index (Passed later ∷ past) ≡ map (tell (greatest_in past) later) (standing_senders index past)
 standing-stays index past later same =
-    filter-told later (high past) later (senders index past) ∙ ap (λ l. map (tell (high past) later) (filter (stands_now l) (senders index past))) (sym same)
+    filter-told later (greatest_in past) later (senders index past) ∙ ap (λ l. map (tell (greatest_in past) later) (filter (sender_stands l) (senders index past))) (sym same)
 
-pub told-events : (index : ℕ) (past : List Turn) (later : Option ℤ) → events_in (map (tell (high past) later) (standing_senders index past)) ≡ standing index past
-told-events index past later = tell-events (high past) later (standing_senders index past) ∙ standing-events index past
+pub told-events : (index : ℕ) (past : List Turn) (later : Option ℤ) → events_in (map (tell (greatest_in past) later) (standing_senders index past)) ≡ standing index past
+told-events index past later = tell-events (greatest_in past) later (standing_senders index past) ∙ standing-events index past
 
 -- ---- a message
 
 filter-judged : (latest : Option ℤ) (xs : List Sender) (a : ServedRequest) (v : Result (Unit {0}) Refusal)
     → ((h : ℤ) (n m : ℕ) → stands (Some h) (start_event h a.request) ≡ true)
     → ((h : ℤ) (s : Standing) → stands (Some h) s ≡ true → stands (Some h) (ending_at (time_at h a.request) s) ≡ true)
-    → filter (stands_now latest) (with_judged latest (stands_by latest a.request.splice_event_id) xs a v) ≡ with_judged latest (λ x. has_id a.request.splice_event_id x.event) (filter (stands_now latest) xs) a v
+    → filter (sender_stands latest) (with_judged latest (stands_by latest a.request.splice_event_id) xs a v) ≡ with_judged latest (λ x. has_id a.request.splice_event_id x.event) (filter (sender_stands latest) xs) a v
 filter-judged latest xs a (Err e) new ends = refl
 filter-judged latest xs a (Ok u) new ends = kinds (is_start a.request) (a.request.splice_insert_type == 3)
   where
-    start-case : (l : Option ℤ) → filter (stands_now l) (begun l xs a) ≡ begun l (filter (stands_now l) xs) a
+    start-case : (l : Option ℤ) → filter (sender_stands l) (begun l xs a) ≡ begun l (filter (sender_stands l) xs) a
     start-case None = refl
-    start-case (Some h) = filter-push (stands_now (Some h)) (fresh h a) (new h 0 0) xs
+    start-case (Some h) = filter-push (sender_stands (Some h)) (new_sender h a) (new h 0 0) xs
 
-    end-case : (l : Option ℤ) → filter (stands_now l) (cut_short l (stands_by l a.request.splice_event_id) xs a) ≡ cut_short l (λ x. has_id a.request.splice_event_id x.event) (filter (stands_now l) xs) a
+    end-case : (l : Option ℤ) → filter (sender_stands l) (cut_short l (stands_by l a.request.splice_event_id) xs a) ≡ cut_short l (λ x. has_id a.request.splice_event_id x.event) (filter (sender_stands l) xs) a
     end-case None = refl
-    end-case (Some h) = with_first-filter (stands_now (Some h)) (λ x. has_id a.request.splice_event_id x.event) (with_event (ending_at (time_at h a.request))) (λ x is. ends h x.event is) xs
+    end-case (Some h) = with_first-filter (sender_stands (Some h)) (λ x. has_id a.request.splice_event_id x.event) (with_event (ending_at (time_at h a.request))) (λ x is. ends h x.event is) xs
 
-    cancel-stays : (l : Option ℤ) (x : Sender) → stands_now l x ≡ true → stands_now l (with_event cancelled_one x) ≡ true
+    cancel-stays : (l : Option ℤ) (x : Sender) → sender_stands l x ≡ true → sender_stands l (with_event cancelled_one x) ≡ true
     cancel-stays None x is = refl
     cancel-stays (Some h) x is = is
 
-    cancel-case : (l : Option ℤ) → filter (stands_now l) (with_first (stands_by l a.request.splice_event_id) (with_event cancelled_one) xs)
-        ≡ with_first (λ x. has_id a.request.splice_event_id x.event) (with_event cancelled_one) (filter (stands_now l) xs)
-    cancel-case l = with_first-filter (stands_now l) (λ x. has_id a.request.splice_event_id x.event) (with_event cancelled_one) (cancel-stays l) xs
+    cancel-case : (l : Option ℤ) → filter (sender_stands l) (with_first (stands_by l a.request.splice_event_id) (with_event cancelled_one) xs)
+        ≡ with_first (λ x. has_id a.request.splice_event_id x.event) (with_event cancelled_one) (filter (sender_stands l) xs)
+    cancel-case l = with_first-filter (sender_stands l) (λ x. has_id a.request.splice_event_id x.event) (with_event cancelled_one) (cancel-stays l) xs
 
     kinds : (b c : Bool)
-        → filter (stands_now latest) (cond b (begun latest xs a) (cond c (cut_short latest (stands_by latest a.request.splice_event_id) xs a) (with_first (stands_by latest a.request.splice_event_id) (with_event cancelled_one) xs)))
-        ≡ cond b (begun latest (filter (stands_now latest) xs) a) (cond c (cut_short latest (λ x. has_id a.request.splice_event_id x.event) (filter (stands_now latest) xs) a) (with_first (λ x. has_id a.request.splice_event_id x.event) (with_event cancelled_one) (filter (stands_now latest) xs)))
+        → filter (sender_stands latest) (cond b (begun latest xs a) (cond c (cut_short latest (stands_by latest a.request.splice_event_id) xs a) (with_first (stands_by latest a.request.splice_event_id) (with_event cancelled_one) xs)))
+        ≡ cond b (begun latest (filter (sender_stands latest) xs) a) (cond c (cut_short latest (λ x. has_id a.request.splice_event_id x.event) (filter (sender_stands latest) xs) a) (with_first (λ x. has_id a.request.splice_event_id x.event) (with_event cancelled_one) (filter (sender_stands latest) xs)))
     kinds true c = start-case latest
     kinds false true = end-case latest
     kinds false false = cancel-case latest
 
-pub filter-request : (latest : Option ℤ) (xs : List Sender) (a : Result ServedRequest Refusal) → filter (stands_now latest) (with_request latest xs a) ≡ noted_after latest (filter (stands_now latest) xs) a
+pub filter-request : (latest : Option ℤ) (xs : List Sender) (a : Result ServedRequest Refusal) → filter (sender_stands latest) (with_request latest xs a) ≡ noted_after latest (filter (sender_stands latest) xs) a
 filter-request latest xs (Err e) = refl
-filter-request latest xs (Ok a) = filter-judged latest xs a (verdict_of latest (events_in (filter (stands_now latest) xs)) a.request) (λ h n m. new-stands h (90 * a.request.pre_roll_time) (9000 * a.request.break_duration)) (λ h s is. ended-stands h (90 * a.request.pre_roll_time) s.start)
+filter-request latest xs (Ok a) = filter-judged latest xs a (verdict_of latest (events_in (filter (sender_stands latest) xs)) a.request) (λ h n m. new-stands h (90 * a.request.pre_roll_time) (9000 * a.request.break_duration)) (λ h s is. ended-stands h (90 * a.request.pre_roll_time) s.start)
 
 -- ---- notes
 
@@ -236,23 +236,23 @@ pairs-events xs = map-map (λ (x : Sender). (x.event, notes_of x)) (λ (p : Stan
 pub pairs-notes : (xs : List Sender) → map (λ (p : Standing × Notes). p.1) (in_pairs xs) ≡ map notes_of xs
 pairs-notes xs = map-map (λ (x : Sender). (x.event, notes_of x)) (λ (p : Standing × Notes). p.1) xs
 
-pairs-filter : (later : ℤ) (xs : List Sender) → filter (λ (p : Standing × Notes). int_lt later (forgotten_at p.0)) (in_pairs xs) ≡ in_pairs (filter (stands_now (Some later)) xs)
+pairs-filter : (later : ℤ) (xs : List Sender) → filter (λ (p : Standing × Notes). int_lt later (forgotten_at p.0)) (in_pairs xs) ≡ in_pairs (filter (sender_stands (Some later)) xs)
 pairs-filter later [] = refl
 pairs-filter later (x ∷ xs) = step (int_lt later (forgotten_at x.event)) (pairs-filter later xs)
   where
-    step : (b : Bool) → filter (λ (p : Standing × Notes). int_lt later (forgotten_at p.0)) (in_pairs xs) ≡ in_pairs (filter (stands_now (Some later)) xs)
+    step : (b : Bool) → filter (λ (p : Standing × Notes). int_lt later (forgotten_at p.0)) (in_pairs xs) ≡ in_pairs (filter (sender_stands (Some later)) xs)
         → cond b ((x.event, notes_of x) ∷ filter (λ (p : Standing × Notes). int_lt later (forgotten_at p.0)) (in_pairs xs)) (filter (λ (p : Standing × Notes). int_lt later (forgotten_at p.0)) (in_pairs xs))
-        ≡ in_pairs (cond b (x ∷ filter (stands_now (Some later)) xs) (filter (stands_now (Some later)) xs))
+        ≡ in_pairs (cond b (x ∷ filter (sender_stands (Some later)) xs) (filter (sender_stands (Some later)) xs))
     step true same = ap (λ ps. (x.event, notes_of x) ∷ ps) same
     step false same = same
 
 pub noted-risen : (old new : Requests) (later : ℤ) (xs : List Sender) → AreNoted old (Some later) xs
     → (values_of old.table ≡ map (λ (p : Standing × Notes). p.1) (in_pairs xs) → values_of new.table ≡ map (λ (p : Standing × Notes). p.1) (filter (λ (p : Standing × Notes). int_lt later (forgotten_at p.0)) (in_pairs xs)))
-    → AreNoted new (Some later) (filter (stands_now (Some later)) xs)
+    → AreNoted new (Some later) (filter (sender_stands (Some later)) xs)
 noted-risen old new later xs n risen =
     record {
-      notes = risen (n.notes ∙ sym (pairs-notes xs)) ∙ ap (map (λ (p : Standing × Notes). p.1)) (pairs-filter later xs) ∙ pairs-notes (filter (stands_now (Some later)) xs);
-      kept = All-filter (stands_now (Some later)) (IsKept (Some later)) xs n.kept;
+      notes = risen (n.notes ∙ sym (pairs-notes xs)) ∙ ap (map (λ (p : Standing × Notes). p.1)) (pairs-filter later xs) ∙ pairs-notes (filter (sender_stands (Some later)) xs);
+      kept = All-filter (sender_stands (Some later)) (IsKept (Some later)) xs n.kept;
     }
 
 pub restate-notes : (r : Requests) (latest : Option ℤ) (xs ys : List Sender) → xs ≡ ys → AreNoted r latest xs → AreNoted r latest ys

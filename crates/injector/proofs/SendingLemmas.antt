@@ -16,7 +16,7 @@ use Rattle.event_table.proofs.ListLemmas.{map-map}
 use Rattle.injector.specs.declared.choice.Choice.{Choice}
 use Rattle.injector.specs.declared.notes.Notes.{Notes}
 use Rattle.injector.specs.declared.requests.Requests.{Requests}
-use Rattle.injector.specs.Turns.{Turn, high}
+use Rattle.injector.specs.Turns.{Turn, greatest_in}
 use Rattle.injector.specs.Requests.{RequestsStandFor}
 use Rattle.injector.specs.Senders.{Sender, is_none, chosen, cues_by, tell, told_now, events_in, standing_senders, packed}
 use Rattle.injector.specs.Noting.{notes_of, told_by_cue, ring_chosen, IsShown, IsKept, LastIn, AreNoted, Sending, NotesStandFor, NotesTold}
@@ -128,9 +128,9 @@ none-left r latest after done [] place sending at over = refl
 none-left r latest after done (x ∷ rest) place sending at over = absurd (let n = items-count r latest after done (x ∷ rest) sending in omega arith)
 
 -- the begin, where nothing has gone out, and the end
-pub sending-first : (r : Requests) (index : ℕ) (past : List Turn) (after : Option ℤ) → RequestsStandFor r index past → NotesStandFor r index past → Sending r (high past) after [] (standing_senders index past)
+pub sending-first : (r : Requests) (index : ℕ) (past : List Turn) (after : Option ℤ) → RequestsStandFor r index past → NotesStandFor r index past → Sending r (greatest_in past) after [] (standing_senders index past)
 sending-first r index past after stands noted =
-    record { table = subst (StandsFor r.table (high past)) (sym (standing-events index past)) stands.table; notes = noted.notes; kept = noted.kept }
+    record { table = subst (StandsFor r.table (greatest_in past)) (sym (standing-events index past)) stands.table; notes = noted.notes; kept = noted.kept }
 
 kept-told : (latest after : Option ℤ) → Rises latest after → (x : Sender) → IsWithin latest x.event → IsKept latest x → IsKept after (tell latest after x)
 kept-told None after rises x within kept = absurd within
@@ -155,12 +155,12 @@ all-kept latest after rises (x ∷ xs) within kept =
     (kept-told latest after rises x (All-head (IsWithin latest) x.event (events_in xs) within) (All-head (IsKept latest) x xs kept))
     (all-kept latest after rises xs (All-tail (IsWithin latest) x.event (events_in xs) within) (All-tail (IsKept latest) x xs kept))
 
-pub sending-last : (r : Requests) (index : ℕ) (past : List Turn) (after : Option ℤ) (done : List Sender) → Rises (high past) after → standing_senders index past ≡ done → Sending r (high past) after done [] → NotesTold r index past after
+pub sending-last : (r : Requests) (index : ℕ) (past : List Turn) (after : Option ℤ) (done : List Sender) → Rises (greatest_in past) after → standing_senders index past ≡ done → Sending r (greatest_in past) after done [] → NotesTold r index past after
 sending-last r index past after done rises same sending =
-    subst (λ xs. AreNoted r after (map (tell (high past) after) xs)) (sym same)
+    subst (λ xs. AreNoted r after (map (tell (greatest_in past) after) xs)) (sym same)
     (record {
-      notes = sending.notes ∙ ap (map notes_of) (append-nil (map (tell (high past) after) done));
-      kept = all-kept (high past) after rises done (subst (λ xs. All (IsWithin (high past)) (events_in xs)) (append-nil done) sending.table.within) (subst (All (IsKept (high past))) (append-nil done) sending.kept);
+      notes = sending.notes ∙ ap (map notes_of) (append-nil (map (tell (greatest_in past) after) done));
+      kept = all-kept (greatest_in past) after rises done (subst (λ xs. All (IsWithin (greatest_in past)) (events_in xs)) (append-nil done) sending.table.within) (subst (All (IsKept (greatest_in past))) (append-nil done) sending.kept);
     })
 
 -- one event's cues more

@@ -15,7 +15,7 @@ use Rattle.program_laws.specs.Writing.{number_on}
 use Rattle.program_follower.specs.declared.purpose.Listed.{Listed}
 use Rattle.injector.specs.declared.counts.MessageCounts.{MessageCounts}
 use Rattle.injector.specs.declared.injector.Injector.{Injector}
-use Rattle.injector.specs.Turns.{Turn, high}
+use Rattle.injector.specs.Turns.{Turn, greatest_in}
 use Rattle.injector.specs.Senders.{standing_senders}
 use Rattle.injector.specs.Requests.{RequestsStandFor}
 use Rattle.injector.specs.Noting.{NotesStandFor, Rests}
@@ -25,7 +25,7 @@ use Rattle.program_follower.specs.Purposes.{writing_cues}
 
 -- the time until which no cue is due
 abbrev pub RestsAt : Option ℕ → ℕ → List Turn → Type 0
-RestsAt rest index past = Rests rest (high past) (standing_senders index past)
+RestsAt rest index past = Rests rest (greatest_in past) (standing_senders index past)
 
 -- each count stops at the greatest u64
 pub record CountsAre (counts : MessageCounts) (index : ℕ) (past : List Turn) : Type 0 where

@@ -16,7 +16,7 @@ use Rattle.injector.specs.declared.notes.Told.{Told}
 use Rattle.injector.specs.declared.notes.Notes.{Notes}
 use Rattle.injector.specs.declared.choice.Choice.{Choice}
 use Rattle.injector.specs.declared.requests.Requests.{Requests}
-use Rattle.injector.specs.Turns.{Turn, Passed, high}
+use Rattle.injector.specs.Turns.{Turn, Passed, greatest_in}
 use Rattle.injector.specs.Requests.{RequestsStandFor}
 use Rattle.injector.specs.Senders.{Sender, is_none, no_cue, limit, tell, events_in, standing_senders, IsIdle}
 
@@ -134,11 +134,11 @@ pub record Sending (requests : Requests) (high later : Option ℤ) (done left : 
 
 -- before a packet, and when the cues before it have gone out
 abbrev pub NotesStandFor : Requests → ℕ → List Turn → Type 0
-NotesStandFor requests index past = AreNoted requests (high past) (standing_senders index past)
+NotesStandFor requests index past = AreNoted requests (greatest_in past) (standing_senders index past)
 
 abbrev pub NotesTold : Requests → ℕ → List Turn → Option ℤ → Type 0
 NotesTold requests index past later =
-    AreNoted requests later (map (tell (high past) later) (standing_senders index past))
+    AreNoted requests later (map (tell (greatest_in past) later) (standing_senders index past))
 
 -- ---- until when no cue is due
 
@@ -177,7 +177,7 @@ pub record IsBefore
     (latest : Option ℤ) : Type 0 where
   pub stands : RequestsStandFor requests index past
   pub notes : NotesStandFor requests index past
-  pub rises : Rises (high past) latest
+  pub rises : Rises (greatest_in past) latest
   pub time : later ≡ option_map ring_of latest
   pub idle : is_due ≡ false → IsIdle index latest past
 

@@ -13,7 +13,7 @@ use Rattle.injector.specs.declared.choice.Choice.{Choice}
 use Rattle.injector.specs.declared.refusal.Refusal.{Refusal}
 use Rattle.injector.specs.Asking.{asked_of, is_start}
 use Rattle.injector.specs.Verdicts.{time_at, start_event, verdict_of}
-use Rattle.injector.specs.Turns.{Turn, Judged, Passed, high}
+use Rattle.injector.specs.Turns.{Turn, Judged, Passed, greatest_in}
 
 -- An event that was accepted, as it is now; what its start cue tells beside it; the event as it was when all that was new of it had been
 -- sent the last time, or none before; and the greatest time behind the packet before which its last cue went out.
@@ -101,8 +101,8 @@ tell high later x = if is_none (chosen x high later) then x else told_now later 
 -- ---- the history
 
 -- an event that was just accepted, of which nothing was told
-abbrev pub fresh : ℤ → ServedRequest → Sender
-fresh high a =
+abbrev pub new_sender : ℤ → ServedRequest → Sender
+new_sender high a =
     record {
       event = start_event high a.request;
       avail_num = a.request.avail_num;
@@ -117,7 +117,7 @@ with_event change x = record x { event = change x.event }
 
 abbrev pub begun : Option ℤ → List Sender → ServedRequest → List Sender
 begun None xs a = xs
-begun (Some high) xs a = xs ++ fresh high a ∷ []
+begun (Some high) xs a = xs ++ new_sender high a ∷ []
 
 abbrev pub cut_short : Option ℤ → (Sender → Bool) → List Sender → ServedRequest → List Sender
 cut_short None test xs a = xs
@@ -134,8 +134,8 @@ abbrev pub with_judged : Option ℤ → (Sender → Bool) → List Sender → Se
 with_judged high test xs a (Ok u) = with_accepted high test xs a
 with_judged high test xs a (Err e) = xs
 
-abbrev pub stands_now : Option ℤ → Sender → Bool
-stands_now high x = stands high x.event
+abbrev pub sender_stands : Option ℤ → Sender → Bool
+sender_stands high x = stands high x.event
 
 -- it stands, with this id
 abbrev pub stands_by : Option ℤ → ℕ → Sender → Bool
@@ -149,7 +149,7 @@ abbrev pub with_request : Option ℤ → List Sender → Result ServedRequest Re
 with_request high xs (Err e) = xs
 with_request high xs (Ok a) =
     with_judged high (stands_by high a.request.splice_event_id) xs a
-    (verdict_of high (events_in (filter (stands_now high) xs)) a.request)
+    (verdict_of high (events_in (filter (sender_stands high) xs)) a.request)
 
 -- of those that stand
 abbrev pub noted_after : Option ℤ → List Sender → Result ServedRequest Refusal → List Sender
@@ -161,17 +161,17 @@ noted_after high xs (Ok a) =
 -- ALL EVENTS that were accepted, in order of acceptance, with what was told of each
 abbrev pub senders : ℕ → List Turn → List Sender
 senders index [] = []
-senders index (Judged m ∷ past) = with_request (high past) (senders index past) (asked_of index m)
-senders index (Passed later ∷ past) = map (tell (high past) later) (senders index past)
+senders index (Judged m ∷ past) = with_request (greatest_in past) (senders index past) (asked_of index m)
+senders index (Passed later ∷ past) = map (tell (greatest_in past) later) (senders index past)
 
 -- those that stand
 abbrev pub standing_senders : ℕ → List Turn → List Sender
-standing_senders index past = filter (stands_now (high past)) (senders index past)
+standing_senders index past = filter (sender_stands (greatest_in past)) (senders index past)
 
 -- THE CUES that go out before a packet behind which this is the greatest time: those of the events that stand, in order of acceptance
 abbrev pub cues_before : ℕ → Option ℤ → List Turn → List CueOut
-cues_before index later past = flat_map (cues_of (high past) later) (standing_senders index past)
+cues_before index later past = flat_map (cues_of (greatest_in past) later) (standing_senders index past)
 
 -- no event that stands has one
 abbrev pub IsIdle : ℕ → Option ℤ → List Turn → Type 0
-IsIdle index later past = All (λ x. is_none (chosen x (high past) later) ≡ true) (standing_senders index past)
+IsIdle index later past = All (λ x. is_none (chosen x (greatest_in past) later) ≡ true) (standing_senders index past)

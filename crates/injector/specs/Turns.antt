@@ -15,10 +15,10 @@ pub data Turn : Type 0 where
   Passed : Option ℤ → Turn
 
 -- the greatest time
-abbrev pub high : List Turn → Option ℤ
-high [] = None
-high (Judged m ∷ past) = high past
-high (Passed h ∷ past) = h
+abbrev pub greatest_in : List Turn → Option ℤ
+greatest_in [] = None
+greatest_in (Judged m ∷ past) = greatest_in past
+greatest_in (Passed h ∷ past) = h
 
 -- the events, with one request more
 abbrev pub with_asked : Option ℤ → List Standing → Result ServedRequest Refusal → List Standing
@@ -30,13 +30,13 @@ with_asked h events (Ok a) =
 -- THE EVENTS that were accepted, in order of acceptance, each with its present end, the cancelled ones among them
 abbrev pub events : ℕ → List Turn → List Standing
 events index [] = []
-events index (Judged m ∷ past) = with_asked (high past) (events index past) (asked_of index m)
+events index (Judged m ∷ past) = with_asked (greatest_in past) (events index past) (asked_of index m)
 events index (Passed h ∷ past) = events index past
 
 -- those that stand
 abbrev pub standing : ℕ → List Turn → List Standing
-standing index past = filter (stands (high past)) (events index past)
+standing index past = filter (stands (greatest_in past)) (events index past)
 
 -- THE VERDICT on a multiple operation
 abbrev pub verdict : ℕ → Multiple → List Turn → Result (Unit {0}) Refusal
-verdict index m past = verdict_by (high past) (standing index past) (asked_of_multiple index m)
+verdict index m past = verdict_by (greatest_in past) (standing index past) (asked_of_multiple index m)

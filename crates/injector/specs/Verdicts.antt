@@ -114,9 +114,9 @@ verdict_by high standing (Err e) = Err e
 
 -- What an accepted request makes of a list of events: a start adds one behind all others; an end or a cancel changes the first one that
 -- passes the test.
-abbrev pub started : Option ℤ → List Standing → SpliceRequest → List Standing
-started None events r = events
-started (Some high) events r = events ++ start_event high r ∷ []
+abbrev pub with_start : Option ℤ → List Standing → SpliceRequest → List Standing
+with_start None events r = events
+with_start (Some high) events r = events ++ start_event high r ∷ []
 
 abbrev pub ended : Option ℤ → (Standing → Bool) → List Standing → SpliceRequest → List Standing
 ended None test events r = events
@@ -124,7 +124,7 @@ ended (Some high) test events r = with_first test (ending_at (time_at high r)) e
 
 abbrev pub accepted : Option ℤ → (Standing → Bool) → List Standing → SpliceRequest → List Standing
 accepted high test events r =
-    if is_start r then started high events r
+    if is_start r then with_start high events r
     else (if r.splice_insert_type == 3 then ended high test events r
     else with_first test cancelled_one events)
 

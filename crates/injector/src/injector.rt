@@ -12,7 +12,7 @@ ghost use Rattle.program_follower.specs.Faults.{network_fault};
 ghost use Rattle.outgoing_packets.specs.Numbers.{HasPut, FrontFails};
 ghost use Rattle.injector.specs.Replies.{reply_to};
 ghost use Rattle.injector.specs.Requests.{RequestsStandFor};
-ghost use Rattle.injector.specs.Turns.{Turn, high};
+ghost use Rattle.injector.specs.Turns.{Turn, greatest_in};
 ghost use Rattle.injector.specs.Senders.{IsIdle};
 ghost use Rattle.injector.specs.Noting.{NotesStandFor, StaysAtRest};
 ghost use Rattle.injector.specs.Steps.{Step, Message as MessageStep, Packet as PacketStep, packets_in, turns_in};
@@ -362,7 +362,7 @@ impl Injector {
     #[inline(always)]
     fn note_rest(&mut self, is_due: bool)
         ensures rest { (index : ℕ) (past : List Turn) → RequestsStandFor self.old.requests index past →
-            NotesStandFor self.old.requests index past → IsIdle index (high past) past →
+            NotesStandFor self.old.requests index past → IsIdle index (greatest_in past) past →
             (is_due ≡ false → RestsAt self.old.rest index past) → RestsAt self.new.rest index past }
         ensures news { (is_due ≡ false → self.old.has_news ≡ false) → self.new.has_news ≡ false }
         ensures kept { KeepsAllButRest self.old self.new }

@@ -10,8 +10,8 @@ ghost use Rattle.event_table.specs.Tables.{StandsFor, high_time_of, events_of, v
 ghost use Rattle.pes_time.specs.Line.{ring_of};
 ghost use Rattle.injector.specs.Asking.{fields_of, asked_of_multiple, IsStartable};
 ghost use Rattle.injector.specs.Verdicts.{start_verdict, end_verdict, cancel_verdict, verdict_of, verdict_by};
-ghost use Rattle.injector.specs.Verdicts.{started, ended, after, after_by, event_on_ring};
-ghost use Rattle.injector.specs.Turns.{Turn, Judged, Passed, high};
+ghost use Rattle.injector.specs.Verdicts.{with_start, ended, after, after_by, event_on_ring};
+ghost use Rattle.injector.specs.Turns.{Turn, Judged, Passed, greatest_in};
 ghost use Rattle.injector.specs.Replies.{reply_to};
 ghost use Rattle.injector.specs.Requests.{RequestsStandFor};
 ghost use Rattle.injector.specs.Senders.{Sender, events_in, noted_after, standing_senders, IsIdle};
@@ -71,11 +71,11 @@ impl Requests {
     pub fn advance(&mut self, time: Time33)
         requires { CanAdvance (high_time_of self.old.table) time }
         ensures stands { (index : ℕ) (past : List Turn) (later : ℤ) → RequestsStandFor self.old index past →
-            IsTimeAt (high past) time later →
+            IsTimeAt (greatest_in past) time later →
             RequestsStandFor self.new index (Passed (Some later) ∷ past) }
         ensures notes { (index : ℕ) (past : List Turn) (later : ℤ) → RequestsStandFor self.old index past →
             NotesTold self.old index past (Some later) →
-            IsTimeAt (high past) time later → NotesStandFor self.new index (Passed (Some later) ∷ past) }
+            IsTimeAt (greatest_in past) time later → NotesStandFor self.new index (Passed (Some later) ∷ past) }
         ensures high { high_time_of self.new.table ≡ Some time }
     {
         self.table.advance(time);
@@ -85,11 +85,11 @@ impl Requests {
     #[inline(always)]
     pub(crate) fn rise(&mut self, later: Option<Time33>)
         ensures stands { (index : ℕ) (past : List Turn) (latest : Option ℤ) → RequestsStandFor self.old index past →
-            Rises (high past) latest →
+            Rises (greatest_in past) latest →
             later ≡ option_map ring_of latest → RequestsStandFor self.new index (Passed latest ∷ past) }
         ensures notes { (index : ℕ) (past : List Turn) (latest : Option ℤ) → RequestsStandFor self.old index past →
             NotesTold self.old index past latest →
-            Rises (high past) latest → later ≡ option_map ring_of latest →
+            Rises (greatest_in past) latest → later ≡ option_map ring_of latest →
             NotesStandFor self.new index (Passed latest ∷ past) }
     {
         if later == self.high() {
@@ -145,8 +145,8 @@ impl Requests {
     /// The time until which no cue is due, behind a packet before which those that were due went out.
     pub(crate) fn rest(&self) -> Option<Time33>
         ensures { (index : ℕ) (past : List Turn) → RequestsStandFor self.now index past →
-            NotesStandFor self.now index past → IsIdle index (high past) past →
-            Rests result (high past) (standing_senders index past) }
+            NotesStandFor self.now index past → IsIdle index (greatest_in past) past →
+            Rests result (greatest_in past) (standing_senders index past) }
     {
         let mut rest = None;
         let mut place = 0;
@@ -256,7 +256,7 @@ impl Requests {
             result ≡ start_verdict latest standing request }
         ensures started { result ≡ Ok tt → (latest : Option ℤ) (standing : List Standing) →
             StandsFor self.old.table latest standing →
-            StandsFor self.new.table latest (started latest standing request) }
+            StandsFor self.new.table latest (with_start latest standing request) }
         ensures notes { result ≡ Ok tt → values_of self.new.table ≡ values_of self.old.table ++ notes ∷ [] }
         ensures refused { OnErr result (self.new ≡ self.old) }
         ensures index { self.new.index ≡ self.old.index }

@@ -9,7 +9,7 @@ use Rattle.unit_stream.specs.Times.{begins, begins_one, high, unit_time, stamp, 
 use Rattle.unit_stream.specs.Faults.{unit_fault, scrambled_one, start_fault, jumps, is_far}
 use Rattle.unit_stream.specs.declared.fault.UnitFault.{UnitFault}
 use Rattle.unit_stream.specs.declared.fault.UnitFault.TheVariants.{Scrambled}
-use Rattle.splice_laws.specs.Splicing.{PlayedEvent, TimedStream, at_or_past, below, holds, stands, begun, closed}
+use Rattle.splice_laws.specs.Splicing.{PlayedEvent, TimedStream, at_or_past, below, holds, break_stands, begun, closed}
 use Rattle.splice_laws.specs.Laws.{Risen, IsStream}
 use Rattle.splice_laws.specs.Settled.{IsAhead, IsSettled, IsSettledSince, NeverPassesHigh}
 use Rattle.splice_laws.proofs.SettledLemmas.{flags_settle, begins-among}
@@ -46,7 +46,7 @@ past-below edge None h b = true≢false (sym h)
 past-below edge (Some t) h b = grind (arith, ints)
 
 -- an event that stands no more has its end behind
-pub gone-ahead : (x : PlayedEvent) (h h' : Option ℤ) → Risen h h' → stands x h ≡ false → IsAhead h' x.stop → ⊥
+pub gone-ahead : (x : PlayedEvent) (h h' : Option ℤ) → Risen h h' → break_stands x h ≡ false → IsAhead h' x.stop → ⊥
 gone-ahead x None h' r s a = true≢false s
 gone-ahead x (Some h) None r s a = r
 gone-ahead x (Some h) (Some h') r s a = grind (arith, ints)
@@ -101,7 +101,7 @@ module _ (r : TimedStream) (k : IsStream r) (w : NeverPassesHigh r) (x : PlayedE
   begun-behind (p ∷ past) b a = by_test (begun r x past)
       (λ y. begun-behind past y (ahead-before (r.high past) (r.high (p ∷ past)) x.start (k.rises p past) a))
       (λ n. not-ahead x.start (r.time (p ∷ past)) (r.high (p ∷ past)) (w (p ∷ past))
-      (new-begun (begun r x past) (r.begins p past) (at_or_past x.start (r.time (p ∷ past))) (stands x (r.high past)) n b) a)
+      (new-begun (begun r x past) (r.begins p past) (at_or_past x.start (r.time (p ∷ past))) (break_stands x (r.high past)) n b) a)
 
   crosses-over : (stop t : Option ℤ) (h : Option ℤ) → (IsAhead h x.start → ⊥) → IsSettled x stop h → below x.stop t ≡ true → below_known r x known stop t ≡ true
   crosses-over None t h past s b = absurd (past s)
@@ -132,14 +132,14 @@ module _ (r : TimedStream) (k : IsStream r) (w : NeverPassesHigh r) (x : PlayedE
         by_test (begun r x past)
         (λ ran. at-stage Running (stage-settled past s.1 ∙ ap (λ a. stage_of a (begun r x past)) was ∙ ap (λ a. stage_of false a) ran) low y)
         (λ not_yet. absurd (past-below x.start (r.time (p ∷ past))
-        (new-begun (begun r x past) (r.begins p past) (at_or_past x.start (r.time (p ∷ past))) (stands x (r.high past)) not_yet (closed-begun r k x (p ∷ past) c)) low)))
+        (new-begun (begun r x past) (r.begins p past) (at_or_past x.start (r.time (p ∷ past))) (break_stands x (r.high past)) not_yet (closed-begun r k x (p ∷ past) c)) low)))
 
   pub over-crossed : (past : List (List ℕ)) → SettledAll past → closed r x past ≡ true → below x.stop (r.time past) ≡ true → crossed_known r x known past ≡ true
   over-crossed [] s c b = absurd (true≢false (sym c))
   over-crossed (p ∷ past) s c b = by_test (r.begins p past) (starts p past s c b) (λ n. goes-on p past s c b n (over-crossed past s.1))
 
   -- a unit of an event that stands no more, with the time of the unit before it or at or past the end, crosses nothing
-  module _ (order : x.start ≤ℤ x.stop) (p : List ℕ) (past : List (List ℕ)) (y : r.begins p past ≡ true) (gone : stands x (r.high past) ≡ false) (s : SettledAll (p ∷ past))
+  module _ (order : x.start ≤ℤ x.stop) (p : List ℕ) (past : List (List ℕ)) (y : r.begins p past ≡ true) (gone : break_stands x (r.high past) ≡ false) (s : SettledAll (p ∷ past))
       (near : (r.time (p ∷ past) ≡ r.time past) ⊎ (below x.stop (r.time (p ∷ past)) ≡ false)) where
     last-end : (stop : Option ℤ) → IsSettled x stop (r.high (p ∷ past)) → below x.stop (r.time (p ∷ past)) ≡ false → below_known r x known stop (r.time (p ∷ past)) ≡ false
     last-end None st b = refl
@@ -181,16 +181,16 @@ begun-fault true starts f y h = absurd (let no : Some Scrambled ≡ None = h in 
 begun-fault false true f y h = h
 begun-fault false false f y h = absurd (true≢false (sym y))
 
-far-by : (x : PlayedEvent) (h : Option ℤ) (s : Option ℕ) (before : Option ℤ) → stands x h ≡ false → jumps h s ≡ false → (timed h s before ≡ before) ⊎ (below x.stop (timed h s before) ≡ false)
+far-by : (x : PlayedEvent) (h : Option ℤ) (s : Option ℕ) (before : Option ℤ) → break_stands x h ≡ false → jumps h s ≡ false → (timed h s before ≡ before) ⊎ (below x.stop (timed h s before) ≡ false)
 far-by x h None before gone j = inl refl
 far-by x None (Some t) before gone j = absurd (true≢false gone)
 far-by x (Some h) (Some t) before gone j = inr (at h (place (Some h) t) x.stop (near-above h (place (Some h) t) j) gone)
   where
-    at : (h t stop : ℤ) → h ≤ℤ (t +ℤ pos 900000) → stands (record { start = stop; stop = stop; name = 0 }) (Some h) ≡ false → below stop (Some t) ≡ false
+    at : (h t stop : ℤ) → h ≤ℤ (t +ℤ pos 900000) → break_stands (record { start = stop; stop = stop; name = 0 }) (Some h) ≡ false → below stop (Some t) ≡ false
     at h t stop l g = grind (arith, ints)
 
 -- a unit that begins without a fault, of an event that stands no more
-pub unit-near : (sw : List ℕ) (pid : ℕ) → Contains sw pid → (x : PlayedEvent) (p : List ℕ) (past : List (List ℕ)) → begins pid p past ≡ true → unit_fault sw p past ≡ None → stands x (high sw past) ≡ false
+pub unit-near : (sw : List ℕ) (pid : ℕ) → Contains sw pid → (x : PlayedEvent) (p : List ℕ) (past : List (List ℕ)) → begins pid p past ≡ true → unit_fault sw p past ≡ None → break_stands x (high sw past) ≡ false
     → (unit_time sw pid (p ∷ past) ≡ unit_time sw pid past) ⊎ (below x.stop (unit_time sw pid (p ∷ past)) ≡ false)
 unit-near sw pid c x p past y sound gone =
     let one = begins-among sw pid c p past y in

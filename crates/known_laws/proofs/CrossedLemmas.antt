@@ -3,7 +3,7 @@ use Rattle.std.proofs.Common.{◌≡◌, ℕ, List, [], ◌∷◌, Bool, true, f
 use Rattle.std.specs.Prelude.{ℤ, ◌≤ℤ◌, is_some}
 use Rattle.std.proofs.lemmas.Bool.{true≢false, or_left, or_right}
 use Rattle.ts_packet.proofs.Cases.{by_test}
-use Rattle.splice_laws.specs.Splicing.{PlayedEvent, TimedStream, at_or_past, below, holds, stands, comes, passed, begun, closed}
+use Rattle.splice_laws.specs.Splicing.{PlayedEvent, TimedStream, at_or_past, below, holds, break_stands, comes, passed, begun, closed}
 use Rattle.splice_laws.specs.Laws.{IsStream}
 use Rattle.splice_laws.specs.Settled.{IsAhead, IsSettled, NeverPassesHigh}
 use Rattle.splice_laws.proofs.EndLemmas.{not-ahead}
@@ -130,11 +130,11 @@ module _ (r : TimedStream) (k : IsStream r) where
         (by_test (begun r x past)
         (λ was. running-short past was inside.0)
         (λ was. stop-start past (by_test (passed r x.start past)
-        (λ before. absurd (true≢false (sym (new-stands (begun r x past) (r.begins p past) (at_or_past x.start (r.time (p ∷ past))) (stands x (r.high past)) was b) ∙ passed-dead r k x past before was)))
+        (λ before. absurd (true≢false (sym (new-stands (begun r x past) (r.begins p past) (at_or_past x.start (r.time (p ∷ past))) (break_stands x (r.high past)) was b) ∙ passed-dead r k x past before was)))
         (λ before. before)))) low)
         (λ n. ap (λ g. passed r x.stop past || (g && at_or_past x.stop (r.time (p ∷ past)))) n
         ∙ alone (passed r x.stop past) (running-short past
-        (still-begun (begun r x past) (r.begins p past) (at_or_past x.start (r.time (p ∷ past))) (stands x (r.high past)) n b)
+        (still-begun (begun r x past) (r.begins p past) (at_or_past x.start (r.time (p ∷ past))) (break_stands x (r.high past)) n b)
         (still-open (closed r x past) (begun r x (p ∷ past)) (r.begins p past) (not (holds x (r.time (p ∷ past)))) n c)))
       where
         alone : (a : Bool) → a ≡ false → (a || false) ≡ false
@@ -144,7 +144,7 @@ module _ (r : TimedStream) (k : IsStream r) where
     begun-timed [] b = absurd (true≢false (sym b))
     begun-timed (p ∷ past) b = by_test (begun r x past)
         (λ was. k.timed p past (begun-timed past was))
-        (λ was. timed_past x.start (r.time (p ∷ past)) (new-begun (begun r x past) (r.begins p past) (at_or_past x.start (r.time (p ∷ past))) (stands x (r.high past)) was b))
+        (λ was. timed_past x.start (r.time (p ∷ past)) (new-begun (begun r x past) (r.begins p past) (at_or_past x.start (r.time (p ∷ past))) (break_stands x (r.high past)) was b))
 
     -- where it is closed, the stream has passed its end, or has crossed its start
     closed-how : (past : List (List ℕ)) → closed r x past ≡ true → (passed r x.stop past ≡ true) ⊎ (is_crossed r x.start past ≡ true)
@@ -165,7 +165,7 @@ module _ (r : TimedStream) (k : IsStream r) where
             by_test (begun r x past)
             (λ ran. inr (both-true (is_crossed r x.start past) (r.begins p past) (passed r x.start past) (below x.start (r.time (p ∷ past))) parts.1 (begun-passed r k x past ran) low))
             (λ ran. absurd (past-below x.start (r.time (p ∷ past))
-            (new-begun (begun r x past) (r.begins p past) (at_or_past x.start (r.time (p ∷ past))) (stands x (r.high past)) ran parts.0) low)))
+            (new-begun (begun r x past) (r.begins p past) (at_or_past x.start (r.time (p ∷ past))) (break_stands x (r.high past)) ran parts.0) low)))
             (λ b.
             let top = not-below x.stop (r.time (p ∷ past)) b (begun-timed (p ∷ past) parts.0) in
             inl (or_right (passed r x.stop past) (r.begins p past && at_or_past x.stop (r.time (p ∷ past))) (and-both (r.begins p past) _ parts.1 top)))
@@ -177,7 +177,7 @@ module _ (r : TimedStream) (k : IsStream r) where
 
     abbrev pub AllNear : List (List ℕ) → Type 0
     AllNear [] = Unit {0}
-    AllNear (p ∷ past) = (r.begins p past ≡ true → stands x (r.high past) ≡ false → (r.time (p ∷ past) ≡ r.time past) ⊎ (below x.stop (r.time (p ∷ past)) ≡ false)) × AllNear past
+    AllNear (p ∷ past) = (r.begins p past ≡ true → break_stands x (r.high past) ≡ false → (r.time (p ∷ past) ≡ r.time past) ⊎ (below x.stop (r.time (p ∷ past)) ≡ false)) × AllNear past
 
     module _ (w : NeverPassesHigh r) (known : List (List ℕ) → Option ℤ) where
       abbrev crossed_in_all : List (List ℕ) → Bool

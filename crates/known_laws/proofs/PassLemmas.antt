@@ -20,7 +20,7 @@ use Rattle.armed_events.specs.Valuing.{values_by}
 use Rattle.armed_events.proofs.PastLemmas.{heard-off}
 use Rattle.armed_laws.specs.Laws.{IsApartOf, NoneMeet}
 use Rattle.armed_laws.proofs.MeetLemmas.{none-meet, starts-differ}
-use Rattle.splice_laws.specs.Splicing.{stream}
+use Rattle.splice_laws.specs.Splicing.{stream, break_stands}
 use Rattle.splice_laws.specs.Laws.{Risen}
 use Rattle.splice_laws.specs.Settled.{IsSettled}
 use Rattle.splice_laws.proofs.PidLemmas.{pids_are_streams}
@@ -105,11 +105,11 @@ module _ (switched : List ℕ) (ads : Adverts) (steady : AreSteady ads) (events 
   abbrev IsCrossedOn : Standing → ℕ → Type 0
   IsCrossedOn e pid = crossed_known (stream switched pid) (as_played e) (end_known ads events e.start) (p ∷ past) ≡ crossed_known (stream switched pid) (as_played e) (end_known ads events e.start) past
 
-  gone-stands : (latest : Option ℤ) (e : Standing) → is_forgotten latest e ≡ true → Rattle.splice_laws.specs.Splicing.stands (as_played e) latest ≡ false
+  gone-stands : (latest : Option ℤ) (e : Standing) → is_forgotten latest e ≡ true → break_stands (as_played e) latest ≡ false
   gone-stands None e gone = absurd (true≢false (sym gone))
   gone-stands (Some high) e gone = at high (end_of e) gone
     where
-      at : (high stop : ℤ) → not (int_lt high (stop +ℤ pos 900000)) ≡ true → Rattle.splice_laws.specs.Splicing.stands (record { start = stop; stop = stop; name = 0 }) (Some high) ≡ false
+      at : (high stop : ℤ) → not (int_lt high (stop +ℤ pos 900000)) ≡ true → break_stands (record { start = stop; stop = stop; name = 0 }) (Some high) ≡ false
       at high stop gone = grind (arith, ints)
 
   crossed-on : (pid : ℕ) (c : Contains switched pid) (e : Standing) → IsSettledIn switched pid c ads steady events h (p ∷ past) e → is_played ads e ≡ true → is_forgotten (high switched past) e ≡ true → IsCrossedOn e pid

@@ -14,12 +14,12 @@ use Rattle.event_table.specs.Standing.{Standing, end_of}
 use Rattle.injector.specs.declared.refusal.Refusal.{Refusal}
 use Rattle.injector.specs.Asking.{is_start, asked_of}
 use Rattle.injector.specs.Verdicts.{verdict_of}
-use Rattle.injector.specs.Turns.{Turn, Judged, Passed, high, standing}
-use Rattle.injector.specs.Senders.{Sender, cues_of, stands_now, senders}
+use Rattle.injector.specs.Turns.{Turn, Judged, Passed, greatest_in, standing}
+use Rattle.injector.specs.Senders.{Sender, cues_of, sender_stands, senders}
 use Rattle.cue_laws.specs.Events.{Turn as LineTurn, LineEvent, before}
 use Rattle.unit_stream.specs.Clocks.{Rises}
 use Rattle.cue_laws.specs.Events.{Passed as LinePassed}
-use Rattle.cue_laws.specs.Cueing.{Sender as LineSender, Told, Untold, Known, Never, is_news, is_due, is_second, told_on, block_on, cued}
+use Rattle.cue_laws.specs.Cueing.{Sender as LineSender, Told, Untold, Known, Never, is_news, is_due, is_second, told_on, block_on, cue_turns}
 use Rattle.cue_laws.specs.Cueing.{senders as line_senders, limit as line_limit}
 use Rattle.cue_laws.proofs.Fair.{IsFair, IsKnown, Fair, stand}
 use Rattle.pes_time.proofs.IntLemmas.{lt-test}
@@ -76,12 +76,12 @@ sent-append items [] two = refl
 sent-append items (cue ∷ one) two = sent-append (Sent cue ∷ items) one two
 
 abbrev cues_in : ℤ → Option ℤ → List Sender → List CueOut
-cues_in h later xs = flat_map (cues_of (Some h) later) (filter (stands_now (Some h)) xs)
+cues_in h later xs = flat_map (cues_of (Some h) later) (filter (sender_stands (Some h)) xs)
 
 cues-pushed : (h : ℤ) (later : Option ℤ) (items : List Item) (zs : List Sender) (x : Sender) → sent_onto items (cues_in h later (zs ++ x ∷ [])) ≡ sent_onto (sent_onto items (cues_in h later zs)) (cues_in h later (x ∷ []))
 cues-pushed h later items zs x =
-    ap (λ l. sent_onto items (flat_map (cues_of (Some h) later) l)) (filter-append (stands_now (Some h)) zs (x ∷ []))
-    ∙ ap (sent_onto items) (flat_map-append (cues_of (Some h) later) (filter (stands_now (Some h)) zs) (filter (stands_now (Some h)) (x ∷ [])))
+    ap (λ l. sent_onto items (flat_map (cues_of (Some h) later) l)) (filter-append (sender_stands (Some h)) zs (x ∷ []))
+    ∙ ap (sent_onto items) (flat_map-append (cues_of (Some h) later) (filter (sender_stands (Some h)) zs) (filter (sender_stands (Some h)) (x ∷ [])))
     ∙ sent-append items (cues_in h later zs) (cues_in h later (x ∷ []))
 
 -- each event has the program that is known for its start
@@ -92,12 +92,12 @@ module _ (program : ℤ → ℕ) (h : ℤ) (later : Option ℤ) where
   one-in : (x : Sender) (y : LineSender) (older : List LineEvent) → IsSender (Some h) x y → IsFair (Some h) y.event y.told older → x.event.program ≡ program x.event.start
       → (items : List Item) (rest : List LineTurn) → Tells program (Some h) items rest → Tells program (Some h) (sent_onto items (cues_in h later (x ∷ []))) (told_on (Some h) later y.event y.last y.told rest)
   one-in x y older same fair name items rest t =
-      by_test (stands_now (Some h) x)
+      by_test (sender_stands (Some h) x)
       (λ s. simp s (subst (λ l. Tells program (Some h) (sent_onto items l) (told_on (Some h) later y.event y.last y.told rest)) (sym (append-nil (cues_of (Some h) later x)))
       (sender-sent program h later items rest t x y older same fair name)))
       (λ s. simp s (subst (λ l. Tells program (Some h) items l) (sym (silent s)) t))
     where
-      silent : stands_now (Some h) x ≡ false → told_on (Some h) later y.event y.last y.told rest ≡ rest
+      silent : sender_stands (Some h) x ≡ false → told_on (Some h) later y.event y.last y.told rest ≡ rest
       silent s = ap (λ e. told_on (Some h) later e y.last y.told rest) (sym same.event_is)
           ∙ forgotten-silent h later x.event s y.last y.told older rest (subst (λ e. IsFair (Some h) e y.told older) (sym same.event_is) fair)
 
@@ -112,22 +112,22 @@ module _ (program : ℤ → ℕ) (h : ℤ) (later : Option ℤ) where
       (sym (ap (λ l. sent_onto items (cues_in h later l)) a.2 ∙ cues-pushed h later items a.0 a.1)) one
 
 block-at : (program : ℤ → ℕ) (h later : Option ℤ) (xs : List Sender) (run : List LineTurn) → Stood h xs run → SendersNamed program xs → (items : List Item) (rest : List LineTurn) → Tells program h items rest
-    → Tells program h (sent_onto items (flat_map (cues_of h later) (filter (stands_now h) xs))) (block_on h later (line_senders run) rest)
+    → Tells program h (sent_onto items (flat_map (cues_of h later) (filter (sender_stands h) xs))) (block_on h later (line_senders run) rest)
 block-at program None later xs run s names items rest t =
     let none = none-there xs (line_senders run) s.alike in
-    subst (λ l. Tells program None (sent_onto items (flat_map (cues_of None later) (filter (stands_now None) l))) (block_on None later (line_senders run) rest)) (sym none.0)
+    subst (λ l. Tells program None (sent_onto items (flat_map (cues_of None later) (filter (sender_stands None) l))) (block_on None later (line_senders run) rest)) (sym none.0)
     (subst (λ l. Tells program None items (block_on None later l rest)) (sym none.1) t)
 block-at program (Some h) later xs run s names items rest t =
     block-in program h later xs (line_senders run) s.alike (fair-in (Some h) (line_senders run) (subst (λ k. Fair k (line_senders run)) s.clock (stand run s.accepted).fair)) names items rest t
 
 -- ---- the path
 
-cued-verdict : (h : Option ℤ) (r : SpliceRequest) (v : Result (Unit {0}) Refusal) (run : List LineTurn) → cued (with_verdict h r v run) ≡ cued run
+cued-verdict : (h : Option ℤ) (r : SpliceRequest) (v : Result (Unit {0}) Refusal) (run : List LineTurn) → cue_turns (with_verdict h r v run) ≡ cue_turns run
 cued-verdict None r v run = refl
 cued-verdict (Some h) r (Err e) run = refl
 cued-verdict (Some h) r (Ok u) run = by_test (is_start r) (λ c. simp c refl) (λ c. by_test (r.splice_insert_type == 3) (λ d. simp (c, d) refl) (λ d. simp (c, d) refl))
 
-cued-asked : {A : Type 0} (h : Option ℤ) (standing : List Standing) (x : Result A Refusal) (request : A → SpliceRequest) (run : List LineTurn) → cued (with_asked h standing x request run) ≡ cued run
+cued-asked : {A : Type 0} (h : Option ℤ) (standing : List Standing) (x : Result A Refusal) (request : A → SpliceRequest) (run : List LineTurn) → cue_turns (with_asked h standing x request run) ≡ cue_turns run
 cued-asked h standing (Ok a) request run = cued-verdict h (request a) (verdict_of h standing (request a)) run
 cued-asked h standing (Err e) request run = refl
 
@@ -136,16 +136,16 @@ abbrev pub AlwaysNamed : (ℤ → ℕ) → ℕ → List Turn → Type 0
 AlwaysNamed program index [] = Unit {0}
 AlwaysNamed program index (t ∷ past) = SendersNamed program (senders index past) × AlwaysNamed program index past
 
-pub path-tells : (program : ℤ → ℕ) (index : ℕ) (past : List Turn) → IsSteadyHistory index past → AlwaysNamed program index past → Tells program (high past) (path index past) (cued (asked_line index past))
+pub path-tells : (program : ℤ → ℕ) (index : ℕ) (past : List Turn) → IsSteadyHistory index past → AlwaysNamed program index past → Tells program (greatest_in past) (path index past) (cue_turns (asked_line index past))
 path-tells program index [] i n = record { clock = refl; line_is = refl; near = tt; named = tt }
 path-tells program index (Judged m ∷ past) i n =
-    subst (λ l. Tells program (high past) (path index past) l) (sym (cued-asked (high past) (standing index past) (asked_of index m) (λ a. a.request) (asked_line index past))) (path-tells program index past i.1 n.1)
+    subst (λ l. Tells program (greatest_in past) (path index past) l) (sym (cued-asked (greatest_in past) (standing index past) (asked_of index m) (λ a. a.request) (asked_line index past))) (path-tells program index past i.1 n.1)
 path-tells program index (Passed later ∷ past) i n =
     let s = stood index past i.1 in
-    let t = block-at program (high past) later (senders index past) (asked_line index past) s n.0 (path index past) (cued (asked_line index past)) (path-tells program index past i.1 n.1) in
+    let t = block-at program (greatest_in past) later (senders index past) (asked_line index past) s n.0 (path index past) (cue_turns (asked_line index past)) (path-tells program index past i.1 n.1) in
     record {
       clock = refl;
-      line_is = ap (λ l. LinePassed later ∷ l) (t.line_is ∙ ap (λ k. block_on k later (line_senders (asked_line index past)) (cued (asked_line index past))) (sym s.clock));
+      line_is = ap (λ l. LinePassed later ∷ l) (t.line_is ∙ ap (λ k. block_on k later (line_senders (asked_line index past)) (cue_turns (asked_line index past))) (sym s.clock));
       near = (subst (λ k. Rises k later) (sym t.clock) i.0, t.near);
       named = t.named;
     }

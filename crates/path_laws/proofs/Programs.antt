@@ -20,8 +20,8 @@ use Rattle.injector.specs.declared.refusal.Refusal.{Refusal}
 use Rattle.injector.specs.Asking.{is_start}
 use Rattle.injector.specs.Verdicts.{time_at, verdict_of}
 use Rattle.injector.specs.Asking.{asked_of as request_of}
-use Rattle.injector.specs.Turns.{Turn, Judged, Passed, high}
-use Rattle.injector.specs.Senders.{Sender, is_none, chosen, tell, with_event, fresh, stands_by, stands_now, events_in, with_judged, with_request, senders}
+use Rattle.injector.specs.Turns.{Turn, Judged, Passed, greatest_in}
+use Rattle.injector.specs.Senders.{Sender, is_none, chosen, tell, with_event, new_sender, stands_by, sender_stands, events_in, with_judged, with_request, senders}
 use Rattle.cue_laws.specs.Events.{LineEvent}
 use Rattle.cue_laws.proofs.Lists.{Distinct}
 use Rattle.pes_time.proofs.IntLemmas.{int-same, int-is}
@@ -108,7 +108,7 @@ kin-tell h later xs x i = (tell h later x, In-map (tell h later) x xs i, ap (λ 
 
 kin-request : (h : Option ℤ) (xs : List Sender) (x : Result _ Refusal) → Kin xs (with_request h xs x)
 kin-request h xs (Err e) = kin-self xs
-kin-request None xs (Ok a) = by (verdict_of None (events_in (filter (stands_now None) xs)) a.request)
+kin-request None xs (Ok a) = by (verdict_of None (events_in (filter (sender_stands None) xs)) a.request)
   where
     by : (v : Result (Unit {0}) Refusal) → Kin xs (with_judged None (stands_by None a.request.splice_event_id) xs a v)
     by (Err e) = kin-self xs
@@ -118,20 +118,20 @@ kin-request None xs (Ok a) = by (verdict_of None (events_in (filter (stands_now 
         (λ c. by_test (a.request.splice_insert_type == 3)
         (λ d. simp (c, d) (kin-self xs))
         (λ d. simp (c, d) (kin-first (stands_by None a.request.splice_event_id) (with_event cancelled_one) (λ x. (refl, refl)) xs)))
-kin-request (Some h) xs (Ok a) = by (verdict_of (Some h) (events_in (filter (stands_now (Some h)) xs)) a.request)
+kin-request (Some h) xs (Ok a) = by (verdict_of (Some h) (events_in (filter (sender_stands (Some h)) xs)) a.request)
   where
     by : (v : Result (Unit {0}) Refusal) → Kin xs (with_judged (Some h) (stands_by (Some h) a.request.splice_event_id) xs a v)
     by (Err e) = kin-self xs
     by (Ok u) =
         by_test (is_start a.request)
-        (λ c. simp c (kin-push xs (fresh h a)))
+        (λ c. simp c (kin-push xs (new_sender h a)))
         (λ c. by_test (a.request.splice_insert_type == 3)
         (λ d. simp (c, d) (kin-first (stands_by (Some h) a.request.splice_event_id) (with_event (ending_at (time_at h a.request))) (λ x. (refl, refl)) xs))
         (λ d. simp (c, d) (kin-first (stands_by (Some h) a.request.splice_event_id) (with_event cancelled_one) (λ x. (refl, refl)) xs)))
 
 kin-turn : (index : ℕ) (t : Turn) (past : List Turn) → Kin (senders index past) (senders index (t ∷ past))
-kin-turn index (Judged m) past = kin-request (high past) (senders index past) (request_of index m)
-kin-turn index (Passed later) past = kin-tell (high past) later (senders index past)
+kin-turn index (Judged m) past = kin-request (greatest_in past) (senders index past) (request_of index m)
+kin-turn index (Passed later) past = kin-tell (greatest_in past) later (senders index past)
 
 named-back : (program : ℤ → ℕ) (xs ys : List Sender) → Kin xs ys → SendersNamed program ys → SendersNamed program xs
 named-back program xs ys kin named x i = let r = kin x i in sym r.3 ∙ named r.0 r.1 ∙ ap program r.2

@@ -7,13 +7,13 @@ use Rattle.event_table.specs.Standing.{Standing}
 use Rattle.injector.specs.declared.refusal.Refusal.{Refusal}
 use Rattle.injector.specs.Asking.{asked_of}
 use Rattle.injector.specs.Verdicts.{verdict_of}
-use Rattle.injector.specs.Turns.{Turn, Judged, Passed, high, standing, events}
+use Rattle.injector.specs.Turns.{Turn, Judged, Passed, greatest_in, standing, events}
 use Rattle.injector.specs.Senders.{Sender, senders, events_in}
 use Rattle.injector.proofs.SenderLemmas.{senders-events}
 use Rattle.cue_laws.specs.Events.{Turn as LineTurn, LineEvent, Passed as LinePassed, upon}
 use Rattle.cue_laws.specs.Events.{events as line_events}
 use Rattle.cue_laws.specs.Thinning.{thinned}
-use Rattle.cue_laws.specs.Cueing.{IsRun, cued}
+use Rattle.cue_laws.specs.Cueing.{IsRun, cue_turns}
 use Rattle.cue_laws.specs.Cueing.{senders as line_senders}
 use Rattle.cue_laws.specs.Laws.{KeepsEnoughOf}
 use Rattle.cue_laws.proofs.Path.{cue_path, cue_path_at_the_end}
@@ -36,7 +36,7 @@ pub events-alike : (index : ℕ) (past : List Turn) → IsSteadyHistory index pa
 events-alike index past i =
     let s = stood index past i in
     subst (λ xs. Alike IsView xs (line_events (asked_line index past))) (senders-events index past)
-    (subst (Alike IsView (events_in (senders index past))) (stand (asked_line index past) s.accepted).same (view-senders (high past) (senders index past) (line_senders (asked_line index past)) s.alike))
+    (subst (Alike IsView (events_in (senders index past))) (stand (asked_line index past) s.accepted).same (view-senders (greatest_in past) (senders index past) (line_senders (asked_line index past)) s.alike))
 
 abbrev programs : ℕ → List Turn → ℤ → ℕ
 programs index past = program_at (events index past)
@@ -53,7 +53,7 @@ event-in x (y ∷ xs) (inr i) = inr (event-in x xs i)
 senders-named : (index : ℕ) (past : List Turn) → IsSteadyHistory index past → SendersNamed (programs index past) (senders index past)
 senders-named index past i x j = events-named index past i x.event (subst (In x.event) (senders-events index past) (event-in x (senders index past) j))
 
-pub tells : (index : ℕ) (past : List Turn) → IsSteadyHistory index past → Tells (programs index past) (high past) (path index past) (cued (asked_line index past))
+pub tells : (index : ℕ) (past : List Turn) → IsSteadyHistory index past → Tells (programs index past) (greatest_in past) (path index past) (cue_turns (asked_line index past))
 tells index past i = path-tells (programs index past) index past i (always-named (programs index past) index past (senders-named index past i))
 
 -- ---- one event on both sides
@@ -91,20 +91,20 @@ module _ (index : ℕ) (copies : List LineTurn → ℕ) (h : Option ℤ) (past :
   way-near : AreNear way
   way-near = near-left copies (path index all_here) (tells index all_here i).near
 
-  way-line : line way ≡ thinned copies (cued (asked_line index all_here))
+  way-line : line way ≡ thinned copies (cue_turns (asked_line index all_here))
   way-line = line-left copies (path index all_here) ∙ ap (thinned copies) (tells index all_here i).line_is
 
-  armed-here : Alike IsView (armed_on way) (line_events (thinned copies (cued (asked_line index all_here))))
+  armed-here : Alike IsView (armed_on way) (line_events (thinned copies (cue_turns (asked_line index all_here))))
   armed-here = subst (λ l. Alike IsView (armed_on way) (line_events l)) way-line (armed-alike way way-near)
 
   armed-programs : Named (programs index all_here) (armed_on way)
   armed-programs = armed-named (programs index all_here) way way-near (named-left (programs index all_here) copies (path index all_here) (tells index all_here i).named)
 
-  both-ways : (e : Standing) → (In (view e) (line_events (thinned copies (cued (asked_line index all_here)))) ↔ In (view e) (line_events (asked_line index all_here)))
+  both-ways : (e : Standing) → (In (view e) (line_events (thinned copies (cue_turns (asked_line index all_here)))) ↔ In (view e) (line_events (asked_line index all_here)))
       → In e (armed_on way) ↔ In e (events index all_here)
   both-ways e law = (
     λ j. moved (programs index all_here) (events index all_here) (line_events (asked_line index all_here)) (events-alike index all_here i) (events-named index all_here i) e (armed-programs e j) (law.0 (seen (armed_on way) _ armed-here e j)),
-    λ j. moved (programs index all_here) (armed_on way) (line_events (thinned copies (cued (asked_line index all_here)))) armed-here armed-programs e (events-named index all_here i e j) (law.1 (seen (events index all_here) _ (events-alike index all_here i) e j)),
+    λ j. moved (programs index all_here) (armed_on way) (line_events (thinned copies (cue_turns (asked_line index all_here)))) armed-here armed-programs e (events-named index all_here i e j) (law.1 (seen (events index all_here) _ (events-alike index all_here i) e j)),
   )
 
 -- ---- fronts
@@ -129,7 +129,7 @@ asked-upon h standing (Err e) request front rest u = u
 line-upon : (index : ℕ) (later front : List Turn) → IsUpon (asked_line index front) (asked_line index (later ++ front))
 line-upon index [] front = ([], refl)
 line-upon index (Judged m ∷ later) front =
-    asked-upon (high (later ++ front)) (standing index (later ++ front)) (asked_of index m) (λ a. a.request) (asked_line index front) (asked_line index (later ++ front)) (line-upon index later front)
+    asked-upon (greatest_in (later ++ front)) (standing index (later ++ front)) (asked_of index m) (λ a. a.request) (asked_line index front) (asked_line index (later ++ front)) (line-upon index later front)
 line-upon index (Passed h ∷ later) front = let u = line-upon index later front in (LinePassed h ∷ u.0, ap (λ l. LinePassed h ∷ l) u.1)
 
 -- ---- the laws

@@ -10,8 +10,8 @@ use Rattle.injector.specs.declared.refusal.Refusal.{Refusal}
 use Rattle.injector.specs.declared.refusal.Refusal.TheVariants.{InUse, Full, Overlap, NoSuchEvent}
 use Rattle.injector.specs.Asking.{is_start, asked_of}
 use Rattle.injector.specs.Verdicts.{time_at, start_event, start_verdict_at, end_verdict_at, cancel_verdict_at, verdict_of}
-use Rattle.injector.specs.Turns.{Turn, Judged, Passed, high, standing}
-use Rattle.injector.specs.Senders.{Sender, with_event, stands_now, stands_by, events_in, with_request, with_judged, senders}
+use Rattle.injector.specs.Turns.{Turn, Judged, Passed, greatest_in, standing}
+use Rattle.injector.specs.Senders.{Sender, with_event, sender_stands, stands_by, events_in, with_request, with_judged, senders}
 use Rattle.injector.proofs.SenderLemmas.{standing-events, filter-events}
 use Rattle.cue_laws.specs.Events.{Turn as LineTurn, Started, Cancelled, Ended, LineEvent, before, events, can_start, can_cancel, can_end, cancel_by, end_by}
 use Rattle.unit_stream.specs.Clocks.{Rises}
@@ -69,10 +69,10 @@ module _ (h : ℤ) (xs : List Sender) (run : List LineTurn) (s : Stood (Some h) 
       let early : before (Some h) (r.0).start ≡ true = ap (λ (e : LineEvent). before (Some h) e.start) (sym r.2) ∙ begun-not z (by_test (has_begun (Some h) z) (λ b. absurd (let bad = simp b at verdict in cc)) (λ b. b)) in
       (r.0, r.1, simp (t, early) refl)
 
-  found-is : (id : ℕ) → find (has_id id) (events_in (filter (stands_now (Some h)) xs)) ≡ find (is_of (Some h) id) (events_in xs)
+  found-is : (id : ℕ) → find (has_id id) (events_in (filter (sender_stands (Some h)) xs)) ≡ find (is_of (Some h) id) (events_in xs)
   found-is id = ap (find (has_id id)) (filter-events (stands (Some h)) xs) ∙ sym (find-filter (stands (Some h)) (has_id id) (events_in xs))
 
-  pub cancel-stood : (id : ℕ) → cancel_verdict_at (Some h) (find (has_id id) (events_in (filter (stands_now (Some h)) xs))) ≡ Ok tt
+  pub cancel-stood : (id : ℕ) → cancel_verdict_at (Some h) (find (has_id id) (events_in (filter (sender_stands (Some h)) xs))) ≡ Ok tt
       → Stood (Some h) (with_first (stands_by (Some h) id) (with_event cancelled_one) xs) (Cancelled id ∷ run)
   cancel-stood id verdict =
       let e = cancel-by-found id (find (is_of (Some h) id) (events_in xs)) refl (ap (cancel_verdict_at (Some h)) (sym (found-is id)) ∙ verdict) in
@@ -102,7 +102,7 @@ module _ (h : ℤ) (xs : List Sender) (run : List LineTurn) (s : Stood (Some h) 
           (λ c. simp (t, c) refl)
           (λ c. absurd (let bad = simp c at verdict in cc))
 
-  pub end-stood : (r : SpliceRequest) → r.pre_roll_time < 2 ^ 16 → end_verdict_at (Some h) (find (has_id r.splice_event_id) (events_in (filter (stands_now (Some h)) xs))) r ≡ Ok tt
+  pub end-stood : (r : SpliceRequest) → r.pre_roll_time < 2 ^ 16 → end_verdict_at (Some h) (find (has_id r.splice_event_id) (events_in (filter (sender_stands (Some h)) xs))) r ≡ Ok tt
       → Stood (Some h) (with_first (stands_by (Some h) r.splice_event_id) (with_event (ending_at (time_at h r))) xs) (Ended r.splice_event_id (time_at h r) ∷ run)
   end-stood r small verdict =
       let id = r.splice_event_id in
@@ -131,7 +131,7 @@ module _ (h : ℤ) (xs : List Sender) (run : List LineTurn) (s : Stood (Some h) 
   start-parts false false false is = (refl, refl, refl)
 
   pub start-stood : (r : SpliceRequest) (avails : List ℕ) (num expected : ℕ) → FieldsFit r avails → IsServed r avails → is_start r ≡ true
-      → start_verdict_at h (events_in (filter (stands_now (Some h)) xs)) r ≡ Ok tt
+      → start_verdict_at h (events_in (filter (sender_stands (Some h)) xs)) r ≡ Ok tt
       → Stood (Some h) (xs ++ (record { event = start_event h r; avail_num = num; avails_expected = expected; avails = avails; told = None; last = None }) ∷ [])
       (Started r.splice_event_id (time_at h r) (time_at h r +ℤ pos (9000 * r.break_duration)) ∷ run)
   start-stood r avails num expected fits served is verdict =
@@ -209,15 +209,15 @@ none-asked standing (Ok a) xs run s = s
 
 judged-stood : (h : Option ℤ) (xs : List Sender) (run : List LineTurn) → Stood h xs run → (x : Result _ Refusal) (after : List Sender) → with_request h xs x ≡ after
     → FitsIn x (λ a. a.request) (λ a. a.avails.items) → ServedBy x (λ a. a.request) (λ a. a.avails.items)
-    → Stood h (with_request h xs x) (with_asked h (events_in (filter (stands_now h) xs)) x (λ a. a.request) run)
+    → Stood h (with_request h xs x) (with_asked h (events_in (filter (sender_stands h) xs)) x (λ a. a.request) run)
 judged-stood None xs run s x after is f v =
     let none = none-there xs (line_senders run) s.alike in
-    none-asked (events_in (filter (stands_now None) xs)) x xs run
+    none-asked (events_in (filter (sender_stands None) xs)) x xs run
     (record { clock = s.clock; accepted = s.accepted; alike = subst (λ ys. Alike (IsSender None) (with_request None xs x) ys) (sym none.1) (ap (λ zs. with_request None zs x) none.0 ∙ none-judged x) })
 judged-stood (Some h) xs run s (Err e) after same f v = s
-judged-stood (Some h) xs run s (Ok a) after same f v = by (verdict_of (Some h) (events_in (filter (stands_now (Some h)) xs)) a.request) refl
+judged-stood (Some h) xs run s (Ok a) after same f v = by (verdict_of (Some h) (events_in (filter (sender_stands (Some h)) xs)) a.request) refl
   where
-    by : (w : Result (Unit {0}) Refusal) → verdict_of (Some h) (events_in (filter (stands_now (Some h)) xs)) a.request ≡ w
+    by : (w : Result (Unit {0}) Refusal) → verdict_of (Some h) (events_in (filter (sender_stands (Some h)) xs)) a.request ≡ w
         → Stood (Some h) (with_judged (Some h) (stands_by (Some h) a.request.splice_event_id) xs a w) (with_verdict (Some h) a.request w run)
     by (Err e) is = s
     by (Ok u) is =
@@ -228,17 +228,17 @@ judged-stood (Some h) xs run s (Ok a) after same f v = by (verdict_of (Some h) (
         (λ d. let w = simp (c, d) at is in simp (c, d) (cancel-stood h xs run s a.request.splice_event_id w)))
 
 -- THE HISTORY
-pub stood : (index : ℕ) (past : List Turn) → IsSteadyHistory index past → Stood (high past) (senders index past) (asked_line index past)
+pub stood : (index : ℕ) (past : List Turn) → IsSteadyHistory index past → Stood (greatest_in past) (senders index past) (asked_line index past)
 stood index [] i = record { clock = refl; accepted = tt; alike = refl }
 stood index (Judged m ∷ past) i =
-    subst (λ l. Stood (high past) (with_request (high past) (senders index past) (asked_of index m)) (with_asked (high past) l (asked_of index m) (λ a. a.request) (asked_line index past)))
+    subst (λ l. Stood (greatest_in past) (with_request (greatest_in past) (senders index past) (asked_of index m)) (with_asked (greatest_in past) l (asked_of index m) (λ a. a.request) (asked_line index past)))
     (standing-events index past)
-    (judged-stood (high past) (senders index past) (asked_line index past) (stood index past i.1) (asked_of index m) _ refl i.0 (asked-facts index m))
+    (judged-stood (greatest_in past) (senders index past) (asked_line index past) (stood index past i.1) (asked_of index m) _ refl i.0 (asked-facts index m))
 stood index (Passed later ∷ past) i =
     let s = stood index past i.1 in
     record {
       clock = refl;
       accepted = (subst (λ k. Rises k later) (sym s.clock) i.0, s.accepted);
       alike = subst (λ k. Alike (IsSender later) (senders index (Passed later ∷ past)) (map (line_tell k later) (line_senders (asked_line index past)))) (sym s.clock)
-          (tell-senders (high past) later i.0 (senders index past) (line_senders (asked_line index past)) (subst (λ k. Fair k (line_senders (asked_line index past))) s.clock (stand (asked_line index past) s.accepted).fair) s.alike);
+          (tell-senders (greatest_in past) later i.0 (senders index past) (line_senders (asked_line index past)) (subst (λ k. Fair k (line_senders (asked_line index past))) s.clock (stand (asked_line index past) s.accepted).fair) s.alike);
     }

@@ -2,7 +2,7 @@
 use Rattle.std.specs.Prelude.{◌≡◌, ◌↔◌, ℕ, List, ◌∷◌, ◌++◌, ℤ, Option, false}
 use Rattle.event_table.specs.Standing.{Standing}
 use Rattle.cue_laws.specs.Events.{Turn as LineTurn, before}
-use Rattle.cue_laws.specs.Cueing.{IsRun, cued}
+use Rattle.cue_laws.specs.Cueing.{IsRun, cue_turns}
 use Rattle.cue_laws.specs.Laws.{KeepsEnoughOf}
 use Rattle.injector.specs.Turns.{Turn, Passed, events}
 use Rattle.ts_packet.specs.Membership.{In}
@@ -15,7 +15,7 @@ RequestsAreARun = (index : ℕ) (past : List Turn) → IsSteadyHistory index pas
 -- THE CUES TELL THE LINE: read at the greatest time, the ring times of an injector's cues are the times that its requests asked for,
 -- and the cues those that its accepted requests make due, through any number of turns of the ring
 abbrev pub CuesTellTheLine : Type 0
-CuesTellTheLine = (index : ℕ) (past : List Turn) → IsSteadyHistory index past → line (path index past) ≡ cued (asked_line index past)
+CuesTellTheLine = (index : ℕ) (past : List Turn) → IsSteadyHistory index past → line (path index past) ≡ cue_turns (asked_line index past)
 
 -- THE CUE PATH: behind each packet, an uncancelled event whose start is reached is armed by what is left of an injector's cues exactly
 -- where the injector accepted it, with the same id, start, length in force, length first asked for and program, whatever cues were

@@ -15,7 +15,7 @@ use Rattle.cue_laws.specs.Thinning.{times}
 use Rattle.injector.specs.declared.refusal.Refusal.{Refusal}
 use Rattle.injector.specs.Asking.{asked_of, is_start}
 use Rattle.injector.specs.Verdicts.{time_at, verdict_of}
-use Rattle.injector.specs.Turns.{Turn, Judged, Passed, high, standing}
+use Rattle.injector.specs.Turns.{Turn, Judged, Passed, greatest_in, standing}
 use Rattle.injector.specs.Senders.{cues_before}
 
 -- what goes over the path: a cue, or a packet of the network, behind which this is the greatest time
@@ -94,7 +94,7 @@ with_asked h standing (Err e) request past = past
 -- THE ACCEPTED REQUESTS of a history, and its packets
 abbrev pub asked_line : ℕ → List Turn → List LineTurn
 asked_line index [] = []
-asked_line index (Judged m ∷ past) = with_asked (high past) (standing index past) (asked_of index m) (λ a. a.request) (asked_line index past)
+asked_line index (Judged m ∷ past) = with_asked (greatest_in past) (standing index past) (asked_of index m) (λ a. a.request) (asked_line index past)
 asked_line index (Passed h ∷ past) = LinePassed h ∷ asked_line index past
 
 -- ---- histories
@@ -119,4 +119,4 @@ RequestFits index m = FitsIn (asked_of index m) (λ a. a.request) (λ a. a.avail
 abbrev pub IsSteadyHistory : ℕ → List Turn → Type 0
 IsSteadyHistory index [] = Unit {0}
 IsSteadyHistory index (Judged m ∷ past) = RequestFits index m × IsSteadyHistory index past
-IsSteadyHistory index (Passed h ∷ past) = Rises (high past) h × IsSteadyHistory index past
+IsSteadyHistory index (Passed h ∷ past) = Rises (greatest_in past) h × IsSteadyHistory index past

@@ -20,7 +20,7 @@ use Rattle.splice_laws.proofs.EndLemmas.{run_of}
 use Rattle.output_laws.specs.Output.{Move, Put, Packing, counter_steps, out_at, out_after}
 use Rattle.ad_library.specs.Advertisements.{AdvertUnit, AdvertStream, Advertisement, stream_at, count_of_kind, slice_of}
 use Rattle.ad_library.specs.Library.{slice_held}
-use Rattle.splice_plans.specs.Adverts.{slice_unit, units_of, kind_and_place, units_at, packed_units}
+use Rattle.splice_plans.specs.Adverts.{slice_unit, slice_units, kind_and_place, units_at, packed_units}
 use Rattle.splice_plans.specs.Slicing.{due_units, delta_at, moved_packets, slice_packets}
 use Rattle.splice_plans.specs.Parts.{units_or, delta_in}
 use Rattle.splice_plans.proofs.SliceLemmas.{put_in-append}
@@ -121,7 +121,7 @@ module _ (start : ℤ) where
     abbrev pub slice_filed : Option Advertisement → List AdvertUnit
     slice_filed o = units_or (slice_held o kind k n)
 
-    by-stream : (ad : Advertisement) (s : Option AdvertStream) → up_to_end (start +ℤ pos n) (units_of start ad s) ≡ map (slice_unit start ad) (units_or (option_map (λ (s : AdvertStream). slice_of n s.units) s))
+    by-stream : (ad : Advertisement) (s : Option AdvertStream) → up_to_end (start +ℤ pos n) (slice_units start ad s) ≡ map (slice_unit start ad) (units_or (option_map (λ (s : AdvertStream). slice_of n s.units) s))
     by-stream ad None = refl
     by-stream ad (Some s) = below-end start ad n s.units
 

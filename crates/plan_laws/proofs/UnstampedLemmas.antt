@@ -6,7 +6,7 @@ use Rattle.std.proofs.lemmas.Bool.{true≢false, and_parts, or_left, or_right, n
 use lib.Signed.{le_z, lt_z}
 use Rattle.ts_packet.proofs.Cases.{by_test}
 use Rattle.event_table.specs.Standing.{Standing}
-use Rattle.splice_laws.specs.Splicing.{PlayedEvent, TimedStream, at_or_past, below, holds, comes, opens, passed, begun, closed, stands}
+use Rattle.splice_laws.specs.Splicing.{PlayedEvent, TimedStream, at_or_past, below, holds, comes, opens, passed, begun, closed, break_stands}
 use Rattle.splice_laws.specs.Laws.{IsStream}
 use Rattle.splice_laws.specs.Settled.{begun_now, closed_now, stands_now, holds_now}
 use Rattle.splice_laws.proofs.HistoryLemmas.{passed-dead, running-inside}
@@ -65,8 +65,8 @@ module _ (r : TimedStream) (k : IsStream r) where
   module _ (x : PlayedEvent) (p : List ℕ) (past : List (List ℕ)) (same : r.time (p ∷ past) ≡ r.time past) where
     opens-not : begun r x past ≡ false → opens r x p past ≡ false
     opens-not n = by_test (passed r x.start past)
-        (λ y. right (comes r x.start p past) (stands x (r.high past)) (passed-dead r k x past y n))
-        (λ y. left (r.begins p past) (at_or_past x.start (r.time (p ∷ past))) (stands x (r.high past)) (ap (at_or_past x.start) same ∙ by_test (at_or_past x.start (r.time past)) (λ z. absurd (true≢false (sym (time-passed x.start past z) ∙ y))) (λ z. z)))
+        (λ y. right (comes r x.start p past) (break_stands x (r.high past)) (passed-dead r k x past y n))
+        (λ y. left (r.begins p past) (at_or_past x.start (r.time (p ∷ past))) (break_stands x (r.high past)) (ap (at_or_past x.start) same ∙ by_test (at_or_past x.start (r.time past)) (λ z. absurd (true≢false (sym (time-passed x.start past z) ∙ y))) (λ z. z)))
       where
         right : (a b : Bool) → b ≡ false → (a && b) ≡ false
         right true b h = h

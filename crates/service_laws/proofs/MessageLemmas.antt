@@ -12,8 +12,8 @@ use Rattle.injector.specs.declared.refusal.Refusal.{Refusal}
 use Rattle.injector.specs.declared.refusal.Refusal.TheVariants.{BadSyntax}
 use Rattle.injector.specs.Asking.{asked_of, asked_of_multiple}
 use Rattle.injector.specs.Verdicts.{verdict_by}
-use Rattle.injector.specs.Turns.{with_asked, high, events, standing, verdict}
-use Rattle.injector.specs.Senders.{Sender, cues_of, packed, tell, with_request, stands_now, senders}
+use Rattle.injector.specs.Turns.{with_asked, greatest_in, events, standing, verdict}
+use Rattle.injector.specs.Senders.{Sender, cues_of, packed, tell, with_request, sender_stands, senders}
 use Rattle.injector.specs.Replies.{reply_to, verdict_reply_of}
 use Rattle.injector.specs.Steps.{Step, Message, Packet, packets_in, turns_in, body_at, sent_behind, cued}
 use Rattle.service_laws.specs.Messages.{is_for, own_steps, refusal_of_none, reply_of_none}
@@ -33,11 +33,11 @@ own_packets index (Message m ∷ past) =
 own_packets index (Packet p ∷ past) = ap (λ qs. p ∷ qs) (own_packets index past)
 
 -- and so the greatest time of all
-pub own_high : (program index : ℕ) (steps : List Step) → high (turns_in program (own_steps index steps)) ≡ high (turns_in program steps)
+pub own_high : (program index : ℕ) (steps : List Step) → greatest_in (turns_in program (own_steps index steps)) ≡ greatest_in (turns_in program steps)
 own_high program index [] = refl
 own_high program index (Message m ∷ past) =
     let before = own_high program index past in
-    cond_both (is_for index m) (Message m ∷ own_steps index past) (own_steps index past) (λ s. high (turns_in program s) ≡ high (turns_in program past)) (λ h. before) (λ h. before)
+    cond_both (is_for index m) (Message m ∷ own_steps index past) (own_steps index past) (λ s. greatest_in (turns_in program s) ≡ greatest_in (turns_in program past)) (λ h. before) (λ h. before)
 own_high program index (Packet p ∷ past) = ap (λ qs. high_of (Some program) (p ∷ qs)) (own_packets index past)
 
 -- ---- what a message for another asks for
@@ -63,7 +63,7 @@ own_events program index [] = refl
 own_events program index (Message m ∷ past) =
     let own = own_steps index past in
     let before = own_events program index past in
-    let t = high (turns_in program past) in
+    let t = greatest_in (turns_in program past) in
     let xs = events index (turns_in program past) in
     cond_both (is_for index m) (Message m ∷ own) own (λ s. events index (turns_in program s) ≡ with_asked t xs (asked_of index m))
     (λ h. ap (λ u. with_asked u (events index (turns_in program own)) (asked_of index m)) (own_high program index past) ∙ ap (λ ys. with_asked t ys (asked_of index m)) before)
@@ -76,47 +76,47 @@ own_senders program index [] = refl
 own_senders program index (Message m ∷ past) =
     let own = own_steps index past in
     let before = own_senders program index past in
-    let t = high (turns_in program past) in
+    let t = greatest_in (turns_in program past) in
     let xs = senders index (turns_in program past) in
     cond_both (is_for index m) (Message m ∷ own) own (λ s. senders index (turns_in program s) ≡ with_request t xs (asked_of index m))
     (λ h. ap (λ u. with_request u (senders index (turns_in program own)) (asked_of index m)) (own_high program index past) ∙ ap (λ ys. with_request t ys (asked_of index m)) before)
     (λ h. before ∙ sym (ap (with_request t xs) (others_ask_nothing index m h).1))
 own_senders program index (Packet p ∷ past) =
     ap (λ t. map (tell t (high_of (Some program) (p ∷ packets_in (own_steps index past)))) (senders index (turns_in program (own_steps index past)))) (own_high program index past)
-    ∙ ap (λ qs. map (tell (high (turns_in program past)) (high_of (Some program) (p ∷ qs))) (senders index (turns_in program (own_steps index past)))) (own_packets index past)
-    ∙ ap (map (tell (high (turns_in program past)) (high_of (Some program) (p ∷ packets_in past)))) (own_senders program index past)
+    ∙ ap (λ qs. map (tell (greatest_in (turns_in program past)) (high_of (Some program) (p ∷ qs))) (senders index (turns_in program (own_steps index past)))) (own_packets index past)
+    ∙ ap (map (tell (greatest_in (turns_in program past)) (high_of (Some program) (p ∷ packets_in past)))) (own_senders program index past)
 
 -- those that stand
 pub own_standing : (program index : ℕ) (steps : List Step) → standing index (turns_in program (own_steps index steps)) ≡ standing index (turns_in program steps)
 own_standing program index steps =
     ap (λ t. filter (stands t) (events index (turns_in program (own_steps index steps)))) (own_high program index steps)
-    ∙ ap (filter (stands (high (turns_in program steps)))) (own_events program index steps)
+    ∙ ap (filter (stands (greatest_in (turns_in program steps)))) (own_events program index steps)
 
 -- the verdict on any multiple operation
 pub own_verdict : (program index : ℕ) (m : Multiple) (steps : List Step) → verdict index m (turns_in program (own_steps index steps)) ≡ verdict index m (turns_in program steps)
 own_verdict program index m steps =
     ap (λ t. verdict_by t (standing index (turns_in program (own_steps index steps))) (asked_of_multiple index m)) (own_high program index steps)
-    ∙ ap (λ xs. verdict_by (high (turns_in program steps)) xs (asked_of_multiple index m)) (own_standing program index steps)
+    ∙ ap (λ xs. verdict_by (greatest_in (turns_in program steps)) xs (asked_of_multiple index m)) (own_standing program index steps)
 
 -- that on one for another, at any history
 pub others_verdict : (program index : ℕ) (m : Multiple) (steps : List Step) → m.head.index == index ≡ false → verdict index m (turns_in program steps) ≡ Err (refusal_of_none m)
-others_verdict program index m steps h = ap (verdict_by (high (turns_in program steps)) (standing index (turns_in program steps))) (others_refusal index m h)
+others_verdict program index m steps h = ap (verdict_by (greatest_in (turns_in program steps)) (standing index (turns_in program steps))) (others_refusal index m h)
 
 -- ---- what goes out
 
 -- what a packet sends, by the packets, the greatest time and the events before it
 abbrev sends : Config → List ℕ → List (List ℕ) → Option ℤ → List Sender → List (List ℕ) → List (List ℕ)
 sends c p ps h xs out =
-    let cues = packed c.cue_pid out (flat_map (cues_of h (high_of (Some c.program) (p ∷ ps))) (filter (stands_now h) xs)) in
+    let cues = packed c.cue_pid out (flat_map (cues_of h (high_of (Some c.program) (p ∷ ps))) (filter (sender_stands h) xs)) in
     cues ++ body_at c p ps (onto out cues)
 
 -- behind a service's own history a packet sends what it sends behind that of all
 pub own_sent : (c : Config) (p : List ℕ) (steps : List Step) (out : List (List ℕ)) → sent_behind c p (own_steps c.index steps) out ≡ sent_behind c p steps out
 own_sent c p steps out =
     let own = own_steps c.index steps in
-    ap (λ ps. sends c p ps (high (turns_in c.program own)) (senders c.index (turns_in c.program own)) out) (own_packets c.index steps)
+    ap (λ ps. sends c p ps (greatest_in (turns_in c.program own)) (senders c.index (turns_in c.program own)) out) (own_packets c.index steps)
     ∙ ap (λ t. sends c p (packets_in steps) t (senders c.index (turns_in c.program own)) out) (own_high c.program c.index steps)
-    ∙ ap (λ xs. sends c p (packets_in steps) (high (turns_in c.program steps)) xs out) (own_senders c.program c.index steps)
+    ∙ ap (λ xs. sends c p (packets_in steps) (greatest_in (turns_in c.program steps)) xs out) (own_senders c.program c.index steps)
 
 -- the cued stream is the same
 pub own_cued : (c : Config) (steps : List Step) → cued c (own_steps c.index steps) ≡ cued c steps

@@ -19,7 +19,7 @@ use Rattle.as_session.proofs.SplitLemmas.{the_split, only_split}
 use Rattle.as_session.proofs.WidthLemmas.{each_message_fits}
 use Rattle.injector.specs.Steps.{Step, Message, Packet}
 use Rattle.chain_engine.specs.Automation.{Take, piece, bytes_in, bytes_of}
-use Rattle.chain_engine.specs.Talks.{is_piece, messages_taken, judged_in, judged_before}
+use Rattle.chain_engine.specs.Talks.{is_piece, messages_taken, messages_judged, judged_before}
 use Rattle.chain_engine.specs.Runs.{asked, steps_of, steps_before}
 use Rattle.chain_engine.proofs.StepsLemmas.{messages_front}
 use Rattle.chain_engine.proofs.TalkLemmas.{bytes_more, none_bytes}
@@ -88,7 +88,7 @@ own_asked index (m ∷ ms) past =
 
 module _ (index most : ℕ) (ts : List Take) where
   -- the messages judged before a packet follow those before the one before it
-  pub judged_more : (k : ℕ) → judged_in most (take (suc k) ts) ≡ judged_in most (take k ts) ++ judged_before most ts k
+  pub judged_more : (k : ℕ) → messages_judged most (take (suc k) ts) ≡ messages_judged most (take k ts) ++ judged_before most ts k
   judged_more k =
       let us = take (suc k) ts in
       let (more, front) = messages_front (bytes_of (take k ts)) (bytes_of (drop k us)) in
@@ -96,11 +96,11 @@ module _ (index most : ℕ) (ts : List Take) where
       ap (λ l. bytes_of l ++ bytes_of (drop k us)) (sym (take-take k (suc k) ts (omega arith)))
       ∙ sym (flat_map-append bytes_in (take k us) (drop k us)) ∙ ap bytes_of (take-append-drop k us) in
       let all : messages_taken us ≡ messages_taken (take k ts) ++ more = sym (ap (λ (b : List ℕ). (messages_of b).messages) whole) ∙ front in
-      subst (λ ms. take most ms ≡ judged_in most (take k ts) ++ drop (length (judged_in most (take k ts))) (take most ms)) (sym all) (front_goes_on most (messages_taken (take k ts)) more)
+      subst (λ ms. take most ms ≡ messages_judged most (take k ts) ++ drop (length (messages_judged most (take k ts))) (take most ms)) (sym all) (front_goes_on most (messages_taken (take k ts)) more)
 
   -- the service's own messages before so many packets
   abbrev own_in : ℕ → List (List ℕ)
-  own_in k = own_messages index (judged_in most (take k ts))
+  own_in k = own_messages index (messages_judged most (take k ts))
 
   -- and those judged between a packet and the next
   abbrev own_before : ℕ → List (List ℕ)
@@ -112,12 +112,12 @@ module _ (index most : ℕ) (ts : List Take) where
 
   -- before the next packet these, and those judged between
   own_more : (k : ℕ) → own_in (suc k) ≡ own_in k ++ own_before k
-  own_more k = ap (own_messages index) (judged_more k) ∙ filter-append (λ m. is_for index (message_of m)) (judged_in most (take k ts)) (judged_before most ts k)
+  own_more k = ap (own_messages index) (judged_more k) ∙ filter-append (λ m. is_for index (message_of m)) (messages_judged most (take k ts)) (judged_before most ts k)
 
   -- they are whole messages
   own_whole : (k : ℕ) → AllByRecursion IsMessage (own_in k)
   own_whole k =
-      each_kept IsMessage (λ m. is_for index (message_of m)) (judged_in most (take k ts))
+      each_kept IsMessage (λ m. is_for index (message_of m)) (messages_judged most (take k ts))
       (each_taken IsMessage most (messages_taken (take k ts)) (the_split (bytes_of (take k ts))).each)
 
   -- there is a take for each packet
@@ -184,7 +184,7 @@ module _ (index most : ℕ) (ts : List Take) where
 
   module _ (k : ℕ) where
     -- of the takes before k packets those messages are judged that are the service's own, before each packet
-    own_judged_in : (j : ℕ) → j ≤ k → judged_in (own_judged index most ts k) (take j (own_takes index most ts k)) ≡ own_in j
+    own_judged_in : (j : ℕ) → j ≤ k → messages_judged (own_judged index most ts k) (take j (own_takes index most ts k)) ≡ own_in j
     own_judged_in j le =
         let few = own_grows j k le in
         ap (λ l. take (length (own_in k)) (messages_taken l)) (own_front j k le) ∙ ap (take (length (own_in k))) (own_taken j) ∙ take_all (length (own_in k)) (own_in j) few
@@ -194,7 +194,7 @@ module _ (index most : ℕ) (ts : List Take) where
     own_judged_before j le =
         let here = own_judged_in j (omega (arith, le)) in
         let next = own_judged_in (suc j) le in
-        ap (λ l. drop (length l) (judged_in (own_judged index most ts k) (take (suc j) (own_takes index most ts k)))) here
+        ap (λ l. drop (length l) (messages_judged (own_judged index most ts k) (take (suc j) (own_takes index most ts k)))) here
         ∙ ap (drop (length (own_in j))) (next ∙ own_more j) ∙ drop_at (own_in j) (own_before j) (length (own_in j)) refl
 
     -- so the history is the service's own
@@ -219,7 +219,7 @@ module _ (index most : ℕ) (ts : List Take) where
   own_widths k bytes =
       let front : AreBytes (bytes_of (take k ts)) =
       front_bytes (bytes_of (take k ts)) (bytes_of (drop k ts)) (subst (λ (b : List ℕ). AreBytes b) (ap bytes_of (sym (take-append-drop k ts)) ∙ flat_map-append bytes_in (take k ts) (drop k ts)) bytes) in
-      each_kept IsInWidth (λ m. is_for index (message_of m)) (judged_in most (take k ts)) (each_taken IsInWidth most (messages_taken (take k ts)) (each_message_fits (bytes_of (take k ts)) front))
+      each_kept IsInWidth (λ m. is_for index (message_of m)) (messages_judged most (take k ts)) (each_taken IsInWidth most (messages_taken (take k ts)) (each_message_fits (bytes_of (take k ts)) front))
 
 -- THE LAW OF TAKES
 pub own_takes_give : OwnTakesGive
@@ -233,5 +233,5 @@ own_takes_give index most ts past bytes =
         record { pieces = own_pieces index most ts k; partial = ap (λ (s : Split). is_partial s.rest) split ∙ partial_none [] refl },
         sym (ap length (own_taken index most ts k)),
       );
-      bytes = subst (λ (b : List ℕ). AreBytes b) (sym (own_bytes index most ts k)) (joined_bytes (own_messages index (judged_in most (take k ts))) (own_widths index most ts k bytes));
+      bytes = subst (λ (b : List ℕ). AreBytes b) (sym (own_bytes index most ts k)) (joined_bytes (own_messages index (messages_judged most (take k ts))) (own_widths index most ts k bytes));
     }

@@ -4,7 +4,7 @@ use Rattle.std.specs.Prelude.{ℕ, zero, suc, List, [], ◌∷◌, ◌++◌, fil
 use Rattle.scte104_codec.specs.Reading.{message_of}
 use Rattle.as_session.specs.Messages.{joined}
 use Rattle.chain_engine.specs.Automation.{Take, piece}
-use Rattle.chain_engine.specs.Talks.{judged_in, judged_before}
+use Rattle.chain_engine.specs.Talks.{messages_judged, judged_before}
 use Rattle.service_laws.specs.Messages.{is_for}
 
 -- those of these messages that have this index
@@ -18,4 +18,4 @@ own_takes index most takes (suc k) = own_takes index most takes k ++ piece (join
 
 -- how many messages stand in them
 abbrev pub own_judged : ℕ → ℕ → List Take → ℕ → ℕ
-own_judged index most takes k = length (own_messages index (judged_in most (take k takes)))
+own_judged index most takes k = length (own_messages index (messages_judged most (take k takes)))

@@ -2,7 +2,7 @@
 use Rattle.std.specs.Prelude.{ℤ, ◌≤ℤ◌}
 use Rattle.std.proofs.Common.{◌≡◌, ℕ, ◌≤◌, List, [], ◌∷◌, length, true, false, not, ◌&&◌, ap, Option, arith}
 use Rattle.ts_packet.proofs.Cases.{by_test, true_or_false}
-use Rattle.splice_laws.specs.Splicing.{PlayedEvent, SliceUnit, TimedStream, at_or_past, holds, stands, comes, passed, opens, begun, closed, front, out_of}
+use Rattle.splice_laws.specs.Splicing.{PlayedEvent, SliceUnit, TimedStream, at_or_past, holds, break_stands, comes, passed, opens, begun, closed, front, out_of}
 use Rattle.splice_laws.specs.Laws.{Risen, IsStream, OutGrows}
 use Rattle.splice_laws.proofs.TimeLemmas.{stands-later, past_lower, holds-past, holds-below, due-later}
 use Rattle.splice_laws.proofs.StepLemmas.{step_passed, step_lower, step_dead, step_begun, step_inside, count-grows}
@@ -35,13 +35,13 @@ module _ (r : TimedStream) (k : IsStream r) where
   -- an event that has begun is passed
   pub begun-passed : (x : PlayedEvent) (past : List (List ℕ)) → begun r x past ≡ true → passed r x.start past ≡ true
   begun-passed x [] h = h
-  begun-passed x (p ∷ past) h = step_passed (begun r x past) (passed r x.start past) (comes r x.start p past) (stands x (r.high past)) (begun-passed x past) h
+  begun-passed x (p ∷ past) h = step_passed (begun r x past) (passed r x.start past) (comes r x.start p past) (break_stands x (r.high past)) (begun-passed x past) h
 
   -- one that is passed and has not begun will not
-  pub passed-dead : (x : PlayedEvent) (past : List (List ℕ)) → passed r x.start past ≡ true → begun r x past ≡ false → stands x (r.high past) ≡ false
+  pub passed-dead : (x : PlayedEvent) (past : List (List ℕ)) → passed r x.start past ≡ true → begun r x past ≡ false → break_stands x (r.high past) ≡ false
   passed-dead x [] h g = cc
   passed-dead x (p ∷ past) h g =
-      step_dead (passed r x.start past) (comes r x.start p past) (begun r x past) (stands x (r.high past)) (stands x (r.high (p ∷ past)))
+      step_dead (passed r x.start past) (comes r x.start p past) (begun r x past) (break_stands x (r.high past)) (break_stands x (r.high (p ∷ past)))
       (passed-dead x past) (stands-later x (r.high past) (r.high (p ∷ past)) (k.rises p past)) h g
 
   pub closed-begun : (x : PlayedEvent) (past : List (List ℕ)) → closed r x past ≡ true → begun r x past ≡ true
@@ -53,7 +53,7 @@ module _ (r : TimedStream) (k : IsStream r) where
   pub running-inside : (x : PlayedEvent) (past : List (List ℕ)) → begun r x past ≡ true → closed r x past ≡ false → holds x (r.time past) ≡ true
   running-inside x [] h g = cc
   running-inside x (p ∷ past) h g =
-      step_inside (r.begins p past) (begun r x past) (at_or_past x.start (r.time (p ∷ past))) (stands x (r.high past)) (closed r x past) (holds x (r.time past)) (holds x (r.time (p ∷ past)))
+      step_inside (r.begins p past) (begun r x past) (at_or_past x.start (r.time (p ∷ past))) (break_stands x (r.high past)) (closed r x past) (holds x (r.time past)) (holds x (r.time (p ∷ past)))
       (running-inside x past) (λ s. ap (holds x) (k.steady p past s)) h g
 
   -- THE LAW OF GROWTH

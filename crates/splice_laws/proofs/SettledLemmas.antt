@@ -5,7 +5,7 @@ use Rattle.std.proofs.Common.{◌≡◌, ℕ, List, [], ◌∷◌, Bool, true, f
 use Rattle.std.proofs.lemmas.Int.{ints}
 use Rattle.ts_packet.proofs.Cases.{by_test}
 use Rattle.unit_stream.specs.Times.{begins, begins_one, stamp, timed, raised, high, unit_time}
-use Rattle.splice_laws.specs.Splicing.{PlayedEvent, at_or_past, holds, stands, begun, TimedStream, opens, comes}
+use Rattle.splice_laws.specs.Splicing.{PlayedEvent, at_or_past, holds, break_stands, begun, TimedStream, opens, comes}
 use Rattle.splice_laws.specs.Laws.{Risen, IsStream}
 use Rattle.splice_laws.specs.Settled.{ending, holds_now, stands_now, begun_now, IsAhead, IsSettled, FlagsSettle, HoldsSettle, SwitchedPidsNeverPassHigh, NeverPassesHigh, IsForgotten}
 use Rattle.splice_laws.proofs.PidLemmas.{raised-risen}
@@ -31,13 +31,13 @@ holds-settled x None t h w k = sym (early-out x t (early x t h w k))
 holds-settled x (Some stop) t h w (inl e) = rw e refl
 holds-settled x (Some stop) t h w (inr k) = held x stop t h w k.0 k.1
 
-stood : (x : PlayedEvent) (stop : ℤ) (h h' : Option ℤ) → Risen h h' → IsAhead h' x.stop → x.stop ≤ℤ stop → stands (ending x stop) h ≡ stands x h
+stood : (x : PlayedEvent) (stop : ℤ) (h h' : Option ℤ) → Risen h h' → IsAhead h' x.stop → x.stop ≤ℤ stop → break_stands (ending x stop) h ≡ break_stands x h
 stood x stop None h' w a l = refl
 stood x stop (Some h) None w a l = absurd w
 stood x stop (Some h) (Some h') w a l = grind (arith, ints)
 
 -- where the unit comes, whether the event stands
-stands-settled : (x : PlayedEvent) (known t h h' : Option ℤ) (b : Bool) → Risen t h' → Risen h h' → IsSettled x known h' → (b && at_or_past x.start t) && stands_now x known h ≡ (b && at_or_past x.start t) && stands x h
+stands-settled : (x : PlayedEvent) (known t h h' : Option ℤ) (b : Bool) → Risen t h' → Risen h h' → IsSettled x known h' → (b && at_or_past x.start t) && stands_now x known h ≡ (b && at_or_past x.start t) && break_stands x h
 stands-settled x None t h h' b w g k = let e = early x t h' w k in none b _ _ e where
   none : (b a s : Bool) → a ≡ false → (b && a) && false ≡ (b && a) && s
   none true a s e = rw e refl

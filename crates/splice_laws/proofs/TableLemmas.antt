@@ -4,7 +4,7 @@ use Rattle.std.proofs.Common.{◌≡◌, ℕ, suc, List, [], ◌∷◌, Bool, tr
 use Rattle.std.proofs.lemmas.Int.{ints}
 use Rattle.std.proofs.lemmas.List.Elements.{All-head, All-tail}
 use Rattle.ts_packet.proofs.Cases.{by_test}
-use Rattle.splice_laws.specs.Splicing.{PlayedEvent, SliceUnit, TimedStream, holds, stands, comes, opens, begun, closed, front, at_or_past}
+use Rattle.splice_laws.specs.Splicing.{PlayedEvent, SliceUnit, TimedStream, holds, break_stands, comes, opens, begun, closed, front, at_or_past}
 use Rattle.splice_laws.specs.Laws.{Risen, IsStream}
 use Rattle.splice_laws.specs.Settled.{IsAhead, NeverPassesHigh, NothingEarly, NothingLate, NearIsPastForgotten}
 use Rattle.splice_laws.proofs.TimeLemmas.{stands-later}
@@ -27,11 +27,11 @@ pub nothing_early : NothingEarly
 nothing_early r k w x past a = (not_begun r k w x past a, early-out x (r.time past) (early x (r.time past) (r.high past) (w past) a))
 
 -- a unit below the end is due once the event stands no more
-due-late : (x : PlayedEvent) (t : ℤ) (h : Option ℤ) → t <ℤ x.stop → stands x h ≡ false → at_or_past t h ≡ true
+due-late : (x : PlayedEvent) (t : ℤ) (h : Option ℤ) → t <ℤ x.stop → break_stands x h ≡ false → at_or_past t h ≡ true
 due-late x t None l s = sym s
 due-late x t (Some h) l s = grind (arith, ints)
 
-front-late : (x : PlayedEvent) (us : List SliceUnit) (h : Option ℤ) → All (λ (u : SliceUnit). u.time <ℤ x.stop) us → stands x h ≡ false → front us h ≡ length us
+front-late : (x : PlayedEvent) (us : List SliceUnit) (h : Option ℤ) → All (λ (u : SliceUnit). u.time <ℤ x.stop) us → break_stands x h ≡ false → front us h ≡ length us
 front-late x [] h n s = refl
 front-late x (u ∷ us) h n s =
     let f = λ (u : SliceUnit). u.time <ℤ x.stop in
@@ -50,7 +50,7 @@ pub nothing_late : NothingLate
 nothing_late r k x units n p past s =
     let s' = stands-later x (r.high past) (r.high (p ∷ past)) (k.rises p past) s in
     same_count (closed r x past) (begun r x past) (opens r x p past) (r.begins p past && not (holds x (r.time (p ∷ past)))) (length units) (front units (r.high past)) (front units (r.high (p ∷ past)))
-    (front-late x units (r.high past) n s) (front-late x units (r.high (p ∷ past)) n s') (none (comes r x.start p past) (stands x (r.high past)) s) (closed-begun r k x past) where
+    (front-late x units (r.high past) n s) (front-late x units (r.high (p ∷ past)) n s') (none (comes r x.start p past) (break_stands x (r.high past)) s) (closed-begun r k x past) where
       none : (a b : Bool) → b ≡ false → a && b ≡ false
       none true b e = e
       none false b e = refl

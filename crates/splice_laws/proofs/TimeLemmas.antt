@@ -2,10 +2,10 @@
 use Rattle.std.specs.Prelude.{ℤ, ◌≤ℤ◌, is_some}
 use Rattle.std.proofs.Common.{◌≡◌, true, false, not, refl, Option, None, Some, arith}
 use Rattle.std.proofs.lemmas.Int.{ints}
-use Rattle.splice_laws.specs.Splicing.{PlayedEvent, at_or_past, below, holds, stands}
+use Rattle.splice_laws.specs.Splicing.{PlayedEvent, at_or_past, below, holds, break_stands}
 use Rattle.splice_laws.specs.Laws.{Risen}
 
-pub stands-later : (x : PlayedEvent) (h h' : Option ℤ) → Risen h h' → stands x h ≡ false → stands x h' ≡ false
+pub stands-later : (x : PlayedEvent) (h h' : Option ℤ) → Risen h h' → break_stands x h ≡ false → break_stands x h' ≡ false
 stands-later x None h' k s = cc
 stands-later x (Some a) None k s = absurd k
 stands-later x (Some a) (Some b) k s = grind (arith, ints)

@@ -1,6 +1,6 @@
 -- Breaks that become known while the stream runs, and whose end may come earlier than it was said first.
 use Rattle.std.specs.Prelude.{◌≡◌, ℕ, ℤ, ◌≤ℤ◌, ◌<ℤ◌, ◌⊎◌, ◌∷◌, List, [], Bool, false, not, ◌&&◌, ◌||◌, Option, None, Some, Contains, All, pos, ◌+ℤ◌, true}
-use Rattle.splice_laws.specs.Splicing.{PlayedEvent, SliceUnit, out_of, TimedStream, stream, comes, holds, stands, begun, closed}
+use Rattle.splice_laws.specs.Splicing.{PlayedEvent, SliceUnit, out_of, TimedStream, stream, comes, holds, break_stands, begun, closed}
 use Rattle.splice_laws.specs.Laws.{Risen, IsStream}
 
 -- the event, with another end
@@ -13,7 +13,7 @@ holds_now x (Some stop) t = holds (ending x stop) t
 
 abbrev pub stands_now : PlayedEvent → Option ℤ → Option ℤ → Bool
 stands_now x None h = false
-stands_now x (Some stop) h = stands (ending x stop) h
+stands_now x (Some stop) h = break_stands (ending x stop) h
 
 -- The same flags, by what is known at each packet: `known` gives the end in force, none where the event is not known. A packet that
 -- begins a unit tells of no event, so what is known with it is what was known before it.
@@ -39,7 +39,7 @@ IsSettled x (Some stop) h = (stop ≡ x.stop) ⊎ (IsAhead h x.stop × (x.stop �
 -- times do not jump; one without has the time of the unit before it, so whether it lies in the event is to be kept, not asked for.)
 pub record IsForgotten (r : TimedStream) (x : PlayedEvent) (known : Option ℤ) (p : List ℕ) (past : List (List ℕ)) : Type 0 where
   pub unknown : known ≡ None
-  pub stands_not : stands x (r.high past) ≡ false
+  pub stands_not : break_stands x (r.high past) ≡ false
   pub holds_not : r.begins p past ≡ true → holds x (r.time (p ∷ past)) ≡ false
 
 abbrev pub IsSettledSince : TimedStream → PlayedEvent → (List (List ℕ) → Option ℤ) → List (List ℕ) → Type 0
@@ -73,8 +73,8 @@ NothingEarly = (r : TimedStream) → IsStream r → NeverPassesHigh r → (x : P
 -- THE LAW OF FORGETTING: of one that stands no more nothing goes out, if all of its slice lies below its end
 abbrev pub NothingLate : Type 0
 NothingLate = (r : TimedStream) → IsStream r → (x : PlayedEvent) (units : List SliceUnit) → All (λ (u : SliceUnit). u.time <ℤ x.stop) units → (p : List ℕ) (past : List (List ℕ)) →
-    stands x (r.high past) ≡ false → out_of r x units (p ∷ past) ≡ out_of r x units past
+    break_stands x (r.high past) ≡ false → out_of r x units (p ∷ past) ≡ out_of r x units past
 
 -- a time at most ten seconds below the greatest does not lie in an event that stands no more
 abbrev pub NearIsPastForgotten : Type 0
-NearIsPastForgotten = (x : PlayedEvent) (h t : ℤ) → h ≤ℤ (t +ℤ pos 900000) → stands x (Some h) ≡ false → holds x (Some t) ≡ false
+NearIsPastForgotten = (x : PlayedEvent) (h t : ℤ) → h ≤ℤ (t +ℤ pos 900000) → break_stands x (Some h) ≡ false → holds x (Some t) ≡ false

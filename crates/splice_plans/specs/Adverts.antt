@@ -15,9 +15,9 @@ use Rattle.splice_plans.specs.Histories.{AreSteady}
 abbrev pub slice_unit : ℤ → Advertisement → AdvertUnit → SliceUnit
 slice_unit start ad u = record { time = start +ℤ u.offset; payload = played_bytes start ad u; random_access = u.random_access }
 
-abbrev pub units_of : ℤ → Advertisement → Option AdvertStream → List SliceUnit
-units_of start ad None = []
-units_of start ad (Some s) = map (slice_unit start ad) s.units
+abbrev pub slice_units : ℤ → Advertisement → Option AdvertStream → List SliceUnit
+slice_units start ad None = []
+slice_units start ad (Some s) = map (slice_unit start ad) s.units
 
 -- the type of the stream of this PID, and how many of that type come before it
 abbrev pub kind_and_place : ℕ → List Stream → List Stream → Option (ℕ × ℕ)
@@ -27,7 +27,7 @@ kind_and_place pid before (s ∷ ss) = if s.pid == pid then Some (s.kind, count_
 abbrev pub units_at : ℤ → Option Advertisement → Option (ℕ × ℕ) → List SliceUnit
 units_at start None which = []
 units_at start (Some ad) None = []
-units_at start (Some ad) (Some which) = units_of start ad (stream_at ad which.0 which.1)
+units_at start (Some ad) (Some which) = slice_units start ad (stream_at ad which.0 which.1)
 
 -- what is filed under each number, for these streams: an event's program is the number of its advertisement
 abbrev pub adverts_of : (ℕ → Option Advertisement) → List Stream → Adverts

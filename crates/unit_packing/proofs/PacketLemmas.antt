@@ -5,7 +5,7 @@ use lib.Seq.{take_all}
 use borrow.Rule.Slice.PartMut.{put_mid}
 use Rattle.std.proofs.Math.ListN.{drop_of_length-le}
 use Rattle.ts_packet.proofs.Cases.{by_test}
-use Rattle.unit_packing.specs.Packing.{field, front, unit_packet}
+use Rattle.unit_packing.specs.Packing.{field, header_front, unit_packet}
 
 length-replicate' : (k x : ℕ) → length (replicate k x) ≡ k
 length-replicate' zero x = refl
@@ -28,7 +28,7 @@ pub not_whole : (size : ℕ) → size < 184 → (size == 184) ≡ false
 not_whole size h = by_test (size == 184) (λ e. absurd (grind (arith, e))) (λ e. e)
 
 pub front_filled : (pid n size : ℕ) (start access : Bool) → size < 183 → 0 < size
-    → 71 ∷ (pid / 256 + (if start then 64 else 0)) ∷ pid % 256 ∷ (48 + n) ∷ (183 - size) ∷ (if access then 64 else 0) ∷ replicate 182 255 ≡ front pid n start access size ++ replicate size 255
+    → 71 ∷ (pid / 256 + (if start then 64 else 0)) ∷ pid % 256 ∷ (48 + n) ∷ (183 - size) ∷ (if access then 64 else 0) ∷ replicate 182 255 ≡ header_front pid n start access size ++ replicate size 255
 front_filled pid n size start access h k =
     let e : (size == 184) ≡ false = not_whole size (omega arith) in
     let f : (183 - size) + size ≡ 183 = omega arith in
@@ -37,14 +37,14 @@ front_filled pid n size start access h k =
 
 -- the bytes as they are written
 pub front_written : (pid number i k n size : ℕ) (start access : Bool) → number ≡ pid → i ≡ (if start then 64 else 0) → k ≡ (if access then 64 else 0) → size ≤ 184 → 0 < size → (size ≡ 184 → ⊥) → (size ≡ 183 → ⊥)
-    → 71 ∷ (number / 256 + i) ∷ number % 256 ∷ (48 + n) ∷ (183 - size) ∷ k ∷ replicate 182 255 ≡ front pid n start access size ++ replicate size 255
+    → 71 ∷ (number / 256 + i) ∷ number % 256 ∷ (48 + n) ∷ (183 - size) ∷ k ∷ replicate 182 255 ≡ header_front pid n start access size ++ replicate size 255
 front_written pid number i k n size start access e f g h m u v =
     ap (λ x. 71 ∷ (x / 256 + i) ∷ x % 256 ∷ (48 + n) ∷ (183 - size) ∷ k ∷ replicate 182 255) e
     ∙ ap (λ x. 71 ∷ (pid / 256 + x) ∷ pid % 256 ∷ (48 + n) ∷ (183 - size) ∷ k ∷ replicate 182 255) f
     ∙ ap (λ x. 71 ∷ (pid / 256 + (if start then 64 else 0)) ∷ pid % 256 ∷ (48 + n) ∷ (183 - size) ∷ x ∷ replicate 182 255) g
     ∙ front_filled pid n size start access (omega arith) m
 
-pub length-front : (pid n size : ℕ) (start access : Bool) → size ≤ 184 → length (front pid n start access size) + size ≡ 188
+pub length-front : (pid n size : ℕ) (start access : Bool) → size ≤ 184 → length (header_front pid n start access size) + size ≡ 188
 length-front pid n size start access h =
     by_test (size == 184)
     (λ e. rw e (grind (arith, e)))
@@ -57,11 +57,11 @@ nothing_behind : (k : ℕ) (xs : List ℕ) → length xs ≤ k → drop k xs ≡
 nothing_behind k xs h = drop_of_length-le xs h
 
 -- a part written at the end of a packet
-pub part_written : (pid n : ℕ) (start access : Bool) (h ys part : List ℕ) → h ≡ front pid n start access (length part) ++ replicate (length part) 255 → ys ≡ part → length part ≤ 184
+pub part_written : (pid n : ℕ) (start access : Bool) (h ys part : List ℕ) → h ≡ header_front pid n start access (length part) ++ replicate (length part) 255 → ys ≡ part → length part ≤ 184
     → put_mid (188 - length part) (188 - (188 - length part)) h ys ≡ unit_packet pid n start access part
 unfolding unit_packet
 part_written pid n start access h ys part e f s =
-    let F = front pid n start access (length part) in
+    let F = header_front pid n start access (length part) in
     let lf : length F + length part ≡ 188 = length-front pid n (length part) start access s in
     let lh : length h ≡ 188 = rw e (length-append F (replicate (length part) 255) ∙ ap (λ k. length F + k) (length-replicate' (length part) 255) ∙ lf) in
     let t : take (188 - length part) h ≡ F = rw e (front_of (188 - length part) F (replicate (length part) 255) (omega arith)) in
@@ -81,7 +81,7 @@ full_written pid number n ys part e h k g l =
 -- the part at the end of a packet, and another in its place
 module _ (pid n : ℕ) (start access : Bool) (size : ℕ) (raw part : List ℕ) (made : raw ≡ unit_packet pid n start access part) (is_size : size ≡ length part) (few : size ≤ 184) where
   abbrev head : List ℕ
-  head = front pid n start access (length part)
+  head = header_front pid n start access (length part)
 
   head_size : length head ≡ 188 - size
   head_size = let l = length-front pid n (length part) start access (omega (arith, is_size, few)) in omega (arith, l, is_size)
@@ -101,4 +101,4 @@ module _ (pid n : ℕ) (start access : Bool) (size : ℕ) (raw part : List ℕ) 
   part_rewritten ys e =
       let t : take (188 - size) raw ≡ head = ap (take (188 - size)) raw_is ∙ front_of (188 - size) head part (sym head_size) in
       let d : drop (188 - (188 - size)) (drop (188 - size) raw) ≡ [] = ap (drop (188 - (188 - size))) behind_head ∙ nothing_behind (188 - (188 - size)) part (omega (arith, is_size, few)) in
-      rw (t, d, append-nil) (ap (λ k. front pid n start access k ++ ys) (sym e))
+      rw (t, d, append-nil) (ap (λ k. header_front pid n start access k ++ ys) (sym e))

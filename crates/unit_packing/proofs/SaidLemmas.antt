@@ -8,7 +8,7 @@ use Rattle.ts_packet.proofs.Cases.{by_test}
 use Rattle.ts_packet.specs.Fields.{in_error, unit_start, pid_of, scrambled, number, payload, random_access, pcr}
 use Rattle.ts_packet.specs.Packets.{packet_fault}
 use Rattle.std.proofs.Math.Bool.{and-false}
-use Rattle.unit_packing.specs.Packing.{field, front, unit_packet}
+use Rattle.unit_packing.specs.Packing.{field, header_front, unit_packet}
 use Rattle.unit_packing.proofs.PacketLemmas.{length-front, length-field}
 
 -- the second byte, by the start bit
@@ -158,4 +158,4 @@ module _ (pid n : ℕ) (start access : Bool) (part : List ℕ) (h : pid < 8192) 
 
   pub size : length (unit_packet pid n start access part) ≡ 188
   unfolding unit_packet
-  size = length-append (front pid n start access (length part)) part ∙ length-front pid n (length part) start access m
+  size = length-append (header_front pid n start access (length part)) part ∙ length-front pid n (length part) start access m

@@ -18,12 +18,12 @@ abbrev pub behind_pid : ℕ → Bool → ℕ → List ℕ
 behind_pid n access size = if size == 184 then (16 + n) ∷ [] else ((48 + n) ∷ (183 - size) ∷ field access (183 - size))
 
 -- what stands before so many bytes of the unit
-abbrev pub front : ℕ → ℕ → Bool → Bool → ℕ → List ℕ
-front pid n start access size = 71 ∷ (pid / 256 + (if start then 64 else 0)) ∷ pid % 256 ∷ behind_pid n access size
+abbrev pub header_front : ℕ → ℕ → Bool → Bool → ℕ → List ℕ
+header_front pid n start access size = 71 ∷ (pid / 256 + (if start then 64 else 0)) ∷ pid % 256 ∷ behind_pid n access size
 
 -- a packet of a unit with this counter and these bytes of it
 unfoldable pub unit_packet : ℕ → ℕ → Bool → Bool → List ℕ → List ℕ
-unit_packet pid n start access part = front pid n start access (length part) ++ part
+unit_packet pid n start access part = header_front pid n start access (length part) ++ part
 
 -- so many packets in which a unit goes on with these bytes
 abbrev pub later_unit_packets : ℕ → ℕ → ℕ → List ℕ → List (List ℕ)

@@ -2,7 +2,7 @@
 
 ghost use Rattle.std.specs.Prelude.{◌≡◌, ℕ, ◌<◌, ◌≤◌, ◌++◌, ◌/◌, ◌%◌, length, slice_index, replicate, None, false, if◌then◌else◌};
 ghost use Rattle.ts_packet.specs.Packets.{packet_fault};
-ghost use Rattle.unit_packing.specs.Packing.{room, front, unit_packet};
+ghost use Rattle.unit_packing.specs.Packing.{room, header_front, unit_packet};
 
 use ts_packet::packet::{PACKET_SIZE, SYNC_BYTE};
 use ts_packet::{Packet, Pid};
@@ -37,7 +37,7 @@ fn write_front(
     requires number { counter < 16 }
     requires some { 0 < size }
     requires fits { size ≤ 184 }
-    ensures value { bytes.new ≡ front pid counter start random_access size ++ replicate size 0xFF }
+    ensures value { bytes.new ≡ header_front pid counter start random_access size ++ replicate size 0xFF }
     ensures below { pid < 8192 }
 {
     let number = pid.get();

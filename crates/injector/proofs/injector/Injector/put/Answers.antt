@@ -7,7 +7,7 @@ use Rattle.ts_packet.proofs.RunLemmas.{onto-append}
 use Rattle.program_laws.specs.Writing.{packets_out}
 use Rattle.outgoing_packets.specs.Numbers.{HasPut}
 use Rattle.outgoing_packets.proofs.NumberLemmas.{fails-behind}
-use Rattle.injector.specs.Turns.{high, Passed}
+use Rattle.injector.specs.Turns.{greatest_in, Passed}
 use Rattle.injector.specs.Senders.{standing_senders}
 use Rattle.injector.specs.Noting.{Rests, IsBefore, NotesStandFor}
 use Rattle.unit_stream.specs.Clocks.{Rises}
@@ -27,7 +27,7 @@ returns-in-Err-clause-err g c = λ start ps cfg past held b.
     let turns = turns_in cfg.program past in
     let latest = high_of (Some cfg.program) (p ∷ packets_in past) in
     let is : c.high-later.result ≡ option_map ring_of latest = c.high-later.ensures (writing_cues cfg) (p ∷ packets_in past) b.body.follower in
-    let rises : Rises (high turns) latest = subst (λ h. Rises h latest) (sym (turns-high cfg.program past)) (rises-at cfg p (packets_in past) b.body.sound) in
+    let rises : Rises (greatest_in turns) latest = subst (λ h. Rises h latest) (sym (turns-high cfg.program past)) (rises-at cfg p (packets_in past) b.body.sound) in
     let before : IsBefore c.is_due-is_due.result c.args.self.now.requests c.high-later.result cfg.index turns latest
     = record { stands = b.judges.requests; notes = b.notes; rises = rises; time = is; idle = λ none. (c.is_due-is_due.ensures.stays c.args.is_map cfg p past b is none).idle } in
     let out = b.out.passed in
@@ -45,7 +45,7 @@ returns-in-Err-put_body-clause-err g c = λ start ps cfg past held b.
     let turns = turns_in cfg.program past in
     let latest = high_of (Some cfg.program) (p ∷ packets_in past) in
     let is : c.high-later.result ≡ option_map ring_of latest = c.high-later.ensures (writing_cues cfg) (p ∷ packets_in past) b.body.follower in
-    let rises : Rises (high turns) latest = subst (λ h. Rises h latest) (sym (turns-high cfg.program past)) (rises-at cfg p (packets_in past) b.body.sound) in
+    let rises : Rises (greatest_in turns) latest = subst (λ h. Rises h latest) (sym (turns-high cfg.program past)) (rises-at cfg p (packets_in past) b.body.sound) in
     let before : IsBefore c.is_due-is_due.result c.args.self.now.requests c.high-later.result cfg.index turns latest
     = record { stands = b.judges.requests; notes = b.notes; rises = rises; time = is; idle = λ none. (c.is_due-is_due.ensures.stays c.args.is_map cfg p past b is none).idle } in
     let out = b.out.passed in
@@ -65,7 +65,7 @@ returns-clause-ok g c = λ start ps cfg past held b.
     let turns = turns_in cfg.program past in
     let latest = high_of (Some cfg.program) (p ∷ packets_in past) in
     let is : c.high-later.result ≡ option_map ring_of latest = c.high-later.ensures (writing_cues cfg) (p ∷ packets_in past) b.body.follower in
-    let rises : Rises (high turns) latest = subst (λ h. Rises h latest) (sym (turns-high cfg.program past)) (rises-at cfg p (packets_in past) b.body.sound) in
+    let rises : Rises (greatest_in turns) latest = subst (λ h. Rises h latest) (sym (turns-high cfg.program past)) (rises-at cfg p (packets_in past) b.body.sound) in
     let before : IsBefore c.is_due-is_due.result c.args.self.now.requests c.high-later.result cfg.index turns latest
     = record { stands = b.judges.requests; notes = b.notes; rises = rises; time = is; idle = λ none. (c.is_due-is_due.ensures.stays c.args.is_map cfg p past b is none).idle } in
     let out = b.out.passed in
@@ -83,7 +83,7 @@ returns-clause-stands g c = λ cfg past b.
     let turns = turns_in cfg.program past in
     let latest = high_of (Some cfg.program) (p ∷ packets_in past) in
     let is : c.high-later.result ≡ option_map ring_of latest = c.high-later.ensures (writing_cues cfg) (p ∷ packets_in past) b.body.follower in
-    let rises : Rises (high turns) latest = subst (λ h. Rises h latest) (sym (turns-high cfg.program past)) (rises-at cfg p (packets_in past) b.body.sound) in
+    let rises : Rises (greatest_in turns) latest = subst (λ h. Rises h latest) (sym (turns-high cfg.program past)) (rises-at cfg p (packets_in past) b.body.sound) in
     let before : IsBefore c.is_due-is_due.result c.args.self.now.requests c.high-later.result cfg.index turns latest
     = record { stands = b.judges.requests; notes = b.notes; rises = rises; time = is; idle = λ none. (c.is_due-is_due.ensures.stays c.args.is_map cfg p past b is none).idle } in
     let out = b.out.passed in

@@ -5,7 +5,7 @@ use Rattle.outgoing_packets.specs.Numbers.{HasPut, FrontFails}
 use Rattle.program_follower.specs.Purposes.{writing_cues}
 use Rattle.program_follower.specs.Following.{StartsStandFor, high_of}
 use Rattle.ts_packet.proofs.Cases.{on_ok_more}
-use Rattle.injector.specs.Turns.{Passed, high}
+use Rattle.injector.specs.Turns.{Passed, greatest_in}
 use Rattle.injector.specs.Noting.{NotesStandFor}
 use Rattle.injector.specs.Requests.{RequestsStandFor}
 use Rattle.injector.specs.Steps.{packets_in, turns_in, cued, sent_at}
@@ -33,7 +33,7 @@ returns-clause-stands g c = λ cfg past s.
     let f = s.followed in
     let turns = turns_in cfg.program past in
     let latest = high_of (Some cfg.program) (p ∷ packets_in past) in
-    let same : high turns ≡ latest = turns-high cfg.program past ∙ sym s.high in
+    let same : greatest_in turns ≡ latest = turns-high cfg.program past ∙ sym s.high in
     let n = quiet-behind old cfg p past f.judges f.notes f.news f.rest s.quiet f.body.sound s.high in
     let k = c.put_body.ensures.rest in
     on_ok_more c.put_body.result

@@ -3,7 +3,7 @@ use Rattle.std.specs.Prelude.{All, option_map}
 use Rattle.std.proofs.lemmas.List.{append-nil}
 use Rattle.pes_time.specs.Line.{ring_of}
 use Rattle.event_table.specs.Standing.{on_ring}
-use Rattle.injector.specs.Turns.{high}
+use Rattle.injector.specs.Turns.{greatest_in}
 use Rattle.injector.specs.Senders.{Sender, is_none, chosen, standing_senders}
 use Rattle.injector.specs.Noting.{Rests, Sending, ring_next, ring_earlier}
 use Rattle.injector.proofs.SendingLemmas.{at_within, at_kept, seam-all, next-left, none-left, sending-first, sending-skip}
@@ -11,7 +11,7 @@ use Rattle.injector.proofs.BoundLemmas.{rests_none, rests-push}
 use Rattle.injector.proofs.requests.Requests.rest.Goals as goal
 
 pub loop-place-init : goal.loop-place-init
-loop-place-init c = λ index past stands noted idle. ([], standing_senders index past, refl, refl, sending-first c.args.self.now index past (high past) stands noted, rests_none (high past))
+loop-place-init c = λ index past stands noted idle. ([], standing_senders index past, refl, refl, sending-first c.args.self.now index past (greatest_in past) stands noted, rests_none (greatest_in past))
 
 pub loop-place-smaller : goal.loop-place-smaller
 loop-place-smaller c =
@@ -22,7 +22,7 @@ loop-place-smaller c =
 pub loop-place-preserved : goal.loop-place-preserved
 loop-place-preserved c = λ index past stands noted idle.
     let s = c.loop-place.invariant index past stands noted idle in
-    let latest = high past in
+    let latest = greatest_in past in
     let done = s.0 in
     let below : c.loop-place.place < length c.args.self.now.table.entries.items = subst (λ n. c.loop-place.place < n) c.count.ensures c.loop-place-test.true in
     let m = next-left c.args.self.now latest latest done s.1 c.loop-place.place s.4 s.3 below in
@@ -46,6 +46,6 @@ pub returns : goal.returns
 returns c = λ index past stands noted idle.
     let s = c.loop-place.invariant index past stands noted idle in
     let over : length c.args.self.now.table.entries.items ≤ c.loop-place.place = subst (λ n. n ≤ c.loop-place.place) c.count.ensures c.loop-place-test.false in
-    let none = none-left c.args.self.now (high past) (high past) s.0 s.1 c.loop-place.place s.4 s.3 over in
+    let none = none-left c.args.self.now (greatest_in past) (greatest_in past) s.0 s.1 c.loop-place.place s.4 s.3 over in
     let all : standing_senders index past ≡ s.0 = s.2 ∙ ap (λ l. s.0 ++ l) none ∙ append-nil s.0 in
-    subst (Rests c.loop-place.rest (high past)) (sym all) s.5
+    subst (Rests c.loop-place.rest (greatest_in past)) (sym all) s.5
