@@ -1,7 +1,7 @@
 //! The injector: messages in and answers out, packets in and packets with cues out.
 
 ghost use Rattle.std.specs.Prelude.{◌≡◌, ◌++◌, ◌∷◌, [], ℕ, List, Option, Some, None, option_map, Err, Bool, true};
-ghost use Rattle.std.specs.Prelude.{◌<◌, false, length, OnOk, IfErr, IfSome};
+ghost use Rattle.std.specs.Prelude.{◌<◌, false, length, slice_get, OnOk, IfErr, IfSome};
 ghost use Rattle.pes_time.specs.Line.{ring_of};
 ghost use Rattle.ts_packet.specs.Fields.{pid_of, on_one};
 ghost use Rattle.ts_packet.specs.Runs.{onto};
@@ -32,6 +32,7 @@ use crate::counts::{MessageCounts, counted, has_news_behind};
 use crate::cues::put_due;
 use crate::requests::Requests;
 use arrayvec::ArrayVec;
+use event_table::Event;
 use outgoing_packets::{CueEntry, Outgoing};
 use pes_time::Time33;
 use program_follower::{Purpose, StartFollower, StartPlace, UnitStart};
@@ -90,6 +91,14 @@ impl Injector {
         self.counts = counted(self.counts, &reply);
         self.has_news = has_news_behind(self.has_news, &reply);
         reply
+    }
+
+    /// The event that stands at this place, in order of the starts that were accepted, those that are cancelled among them; `None` behind
+    /// the last one.
+    pub fn standing_event(&self, place: usize) -> Option<Event>
+        ensures { result ≡ slice_get (events_of self.now.requests.table) place }
+    {
+        self.requests.standing_event(place)
     }
 
     /// How many messages were judged.

@@ -1,7 +1,7 @@
 //! Requests, judged.
 
 ghost use Rattle.std.specs.Prelude.{◌≡◌, ◌↔◌, ◌+◌, ◌*◌, ◌%◌, ◌^◌, ◌<◌, ◌∷◌, [], ℕ, ℤ, List, ◌++◌, Option, Ok, Some};
-ghost use Rattle.std.specs.Prelude.{OnErr, IsTrue, length, slice_index_or, slice_set, option_map};
+ghost use Rattle.std.specs.Prelude.{OnErr, IsTrue, length, slice_get, slice_index_or, slice_set, option_map};
 ghost use Rattle.scte104_codec.specs.Views.{reading_of};
 ghost use Rattle.event_table.specs.Rings.{CanAdvance};
 ghost use Rattle.event_table.specs.Standing.{Standing, IsTimeAt, on_ring, has_id, with_cancelled};
@@ -176,6 +176,13 @@ impl Requests {
         ensures { result ≡ open_count_of (high_time_of self.now.table) (events_of self.now.table) }
     {
         self.table.open_count()
+    }
+
+    /// The event that stands at this place, in order of arming, those that are cancelled among them; `None` behind the last one.
+    pub fn standing_event(&self, place: usize) -> Option<Event>
+        ensures { result ≡ slice_get (events_of self.now.table) place }
+    {
+        self.table.standing().get(place).map(|entry| entry.event)
     }
 
     /// How many events stand.
