@@ -12,7 +12,7 @@ mod slices;
 mod stream;
 mod turns;
 
-pub use plan::Plan;
+pub use plan::{Part, Plan, Stage};
 pub use report::SwitchReport;
 pub use runs::{close_all, put_running};
 pub use stream::SwitchedStream;

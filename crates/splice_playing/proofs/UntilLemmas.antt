@@ -2,6 +2,7 @@
 use Rattle.std.proofs.Common.{◌≡◌, ℕ, ◌^◌, ◌<◌, List, [], ◌∷◌, length, map, Bool, true, false, ◌&&◌, if◌then◌else◌, refl, sym, ap, ◌∙◌, subst, arith, Option, None, Some}
 use Rattle.std.specs.Prelude.{ℤ, pos, negsuc, ◌+ℤ◌, ◌-ℤ◌, ◌≤ℤ◌, ◌<ℤ◌, int_le, int_lt, All, option_map, IfSome}
 use Rattle.std.specs.List.{list_all}
+use Rattle.std.specs.Option.{is_some}
 use Rattle.std.proofs.lemmas.Int.{ints}
 use Rattle.std.proofs.lemmas.Bool.{true≢false, and_parts}
 use Rattle.std.proofs.lemmas.Option.{none-some, same_Some}
@@ -58,6 +59,11 @@ waits-by rest table r some h = by (high_time_of table) (subst (λ o. is_rest o t
     by : (high : Option ℕ) → all_wait_until r high table.entries.items ≡ true → all_wait (values_of table) ≡ true
     by None all = ap (λ xs. all_wait (map (λ (x : Held). x.value) xs)) (none-there table.entries.items all)
     by (Some high) all = wait-until r high table.entries.items all
+
+-- the same, of some time
+pub waits-by-some : (rest : Option ℕ) (table : Table Plan) → is_rest rest table ≡ true → is_some rest ≡ true → all_wait (values_of table) ≡ true
+waits-by-some None table h is = absurd (true≢false (sym is))
+waits-by-some (Some r) table h is = waits-by (Some r) table r refl h
 
 -- ---- all start past a unit before that time
 

@@ -6,7 +6,7 @@ use Rattle.unit_stream.specs.Times.{begins, stamp}
 use Rattle.unit_stream.specs.Faults.{unit_fault}
 use Rattle.psi_tables.specs.declared.stream.Stream.{Stream as ListedStream}
 use Rattle.event_table.specs.Tables.{values_of}
-use Rattle.armed_events.specs.Arming.{standing}
+use Rattle.armed_events.specs.Arming.{standing, ignored}
 use Rattle.armed_events.specs.Obeying.{Obeys}
 use Rattle.armed_events.specs.Valuing.{values_by}
 use Rattle.output_laws.specs.Output.{Move}
@@ -16,7 +16,7 @@ use Rattle.splice_playing.specs.declared.playing.Playing.{Playing}
 use Rattle.splice_playing.specs.Leaving.{AllTaken, OthersTaken}
 use Rattle.splice_plans.specs.Switching.{Setting, fate, switched_at, streams_at, high_at, history_at}
 use Rattle.splice_plans.specs.Histories.{AreSteady}
-use Rattle.splice_plans.specs.Reporting.{ReportIs}
+use Rattle.splice_plans.specs.Reporting.{ReportIs, EventCounts}
 use Rattle.splice_plans.specs.Adverts.{adverts_of, packed_units}
 use Rattle.splice_plans.specs.Known.{is_crossed_known, AllGo, AreSeparate, adverts_at, behind_at, plans_at, inside_at, moves_at, puts_at, counts_known, is_forgotten}
 use Rattle.known_laws.specs.Laws.{AreFaultless}
@@ -30,6 +30,10 @@ pub record PlaysFor (playing : Playing) (k : Setting) (past : List (List ℕ)) :
   pub leaving : AllTaken playing.leaving playing.streams (switched_at k past) (behind_at k past)
   pub forgotten : ReportIs playing.forgotten (counts_known k past (is_forgotten (high_at k past)))
   pub all_out : IsAllOut playing.all_out (high_at k past) → NoneDueAt k past
+
+-- what is settled behind a past: what became of the events that are forgotten, and how many cues were ignored
+abbrev pub settled_of : Setting → List (List ℕ) → EventCounts
+settled_of k past = record (counts_known k past (is_forgotten (high_at k past))) { ignored = ignored k.cue_pid (high_at k) past }
 
 -- the same playing, of which it is open whether what was due of the events that run is out
 abbrev pub unasked : Playing → Playing

@@ -2,6 +2,7 @@
 
 ghost use Rattle.std.specs.Prelude.{◌≡◌, ◌<◌, ◌≤◌, ◌+◌, ◌%◌, ◌++◌, ◌∷◌, ◌^◌, [], ℕ, ℤ, List, length, slice_index_or};
 ghost use Rattle.std.specs.Prelude.{Option, None, Some, IfSome, OnOk, IfErr, true};
+ghost use Rattle.std.specs.Option.{is_some};
 ghost use Rattle.ts_packet.specs.Numbering.{Step, Kept, Counts, moved};
 ghost use Rattle.ts_packet.specs.Fields.{renumbered};
 ghost use Rattle.event_table.specs.Events.{open_count_of};
@@ -25,7 +26,7 @@ use crate::leaving::{LeavingUnit, is_repeat_in};
 use crate::resting::{first_rest, keeps_all};
 use ad_library::AdLibrary;
 use armed_events::ArmedEvents;
-use event_table::is_before;
+use event_table::{Entry, is_before};
 use pes_time::Time33;
 use psi_tables::Stream;
 use splice_plans::{
@@ -59,7 +60,7 @@ impl Playing {
     ghost use Rattle.splice_playing.specs.Going.{closing_in, closed_in, running_in_all, running_in_one, ran_in_all, LeavesNoneDue};
     ghost use Rattle.splice_playing.specs.Going.{KeepsUnit, HoldsUnit};
     ghost use Rattle.splice_playing.specs.Relations.{PlaysFor, PlaysBefore, PlaysBehind, BeginsIn, unasked};
-    ghost use Rattle.splice_playing.specs.Relations.{IsCueOf, IsPacketOf, EndsWith, Reports};
+    ghost use Rattle.splice_playing.specs.Relations.{IsCueOf, IsPacketOf, EndsWith, Reports, settled_of};
 
     /// No event, and nothing is out.
     pub fn new() -> Playing
@@ -640,6 +641,33 @@ impl Playing {
         ensures { result ≡ open_count_of (high_time_of self.now.events.obeyed.table) (events_of self.now.events.obeyed.table) }
     {
         self.events.open_count()
+    }
+
+    /// The events that stand, in order of arming, each with its plan.
+    pub fn standing(&self) -> &[Entry<Plan>]
+        ensures entries { result.now ≡ self.now.events.obeyed.table.entries.items }
+        ensures most { length result.now ≤ 32 }
+    {
+        self.events.table().standing()
+    }
+
+    /// What became of the events that are forgotten, and how many cues were ignored.
+    pub fn settled(&self) -> SwitchReport
+        ensures { (k : Setting) (past : List (List ℕ)) → PlaysFor self.now k past → ReportIs result (settled_of k past) }
+    {
+        SwitchReport {
+            ignored: self.events.ignored(),
+            ..self.forgotten
+        }
+    }
+
+    /// It is known that all events that stand wait in all streams, or that none stands.
+    #[inline(always)]
+    pub fn rests(&self) -> bool
+        ensures value { result ≡ is_some self.now.rest }
+        ensures waits { result ≡ true → all_wait (plans_in self.now) ≡ true }
+    {
+        self.rest.is_some()
     }
 
     /// Takes this as the greatest time behind the packet that was put, and counts the events that are forgotten by it.

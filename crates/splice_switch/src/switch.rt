@@ -1,7 +1,9 @@
 //! The switch.
 
-ghost use Rattle.std.specs.Prelude.{◌≡◌, ◌<◌, ◌++◌, ◌∷◌, [], ℕ, List, length, slice_index_or};
+ghost use Rattle.std.specs.Prelude.{◌≡◌, ◌<◌, ◌≤◌, ◌++◌, ◌∷◌, [], ℕ, List, length, slice_index_or};
 ghost use Rattle.std.specs.Prelude.{Option, None, Some, Err, OnOk, IfOk, IfErr, IfSome, true};
+ghost use Rattle.std.specs.Option.{is_some};
+ghost use Rattle.program_follower.specs.Following.{streams_of_program};
 ghost use Rattle.ts_packet.specs.Fields.{renumbered};
 ghost use Rattle.ts_packet.specs.Numbering.{Step as NumberStep, Kept, Counts, moved};
 ghost use Rattle.event_table.specs.Events.{open_count_of};
@@ -23,14 +25,18 @@ ghost use Rattle.splice_plans.specs.Reporting.{ReportIs, report_of};
 ghost use Rattle.splice_switch.specs.Standing.{SwitchStandsFor, SwitchFollows, switch_unasked, FeedFails, FinishFails};
 ghost use Rattle.outgoing_packets.specs.Faults.{FeedBlamed, KeepsSink, is_err_or};
 ghost use Rattle.splice_switch.specs.Standing.{IsFollowedAs, IsStart};
+ghost use Rattle.splice_playing.specs.Going.{plans_in};
+ghost use Rattle.splice_playing.specs.Relations.{settled_of};
+ghost use Rattle.splice_playing.specs.Resting.{all_wait};
 
 use ad_library::AdLibrary;
 use arrayvec::ArrayVec;
+use event_table::Entry;
 use outgoing_packets::{CueEntry, Outgoing};
 use pes_time::Time33;
 use program_follower::{Purpose, StartFollower, StartPacket, StartPlace, UnitStart};
-use psi_tables::{Config, FeedFault, NetworkFault};
-use splice_plans::SwitchReport;
+use psi_tables::{Config, FeedFault, NetworkFault, Stream};
+use splice_plans::{Plan, SwitchReport};
 use splice_playing::Playing;
 use ts_packet::{Packet, PacketSink, Pid, PutFault};
 
@@ -212,6 +218,39 @@ impl Switch {
             (events_of self.now.playing.events.obeyed.table) }
     {
         self.playing.open_count()
+    }
+
+    /// The events that stand, in order of arming, each with its plan.
+    pub fn standing(&self) -> &[Entry<Plan>]
+        ensures entries { result.now ≡ self.now.playing.events.obeyed.table.entries.items }
+        ensures most { length result.now ≤ 32 }
+    {
+        self.playing.standing()
+    }
+
+    /// What became of the events that are forgotten, and how many cues were ignored.
+    pub fn settled(&self) -> SwitchReport
+        ensures { (c : Config) (filed : ℕ → Option Advertisement) (past : List (List ℕ)) → SwitchStandsFor self.now c filed past →
+            ReportIs result (settled_of (setting_of c filed) past) }
+    {
+        self.playing.settled()
+    }
+
+    /// It is known that all events that stand wait in all streams, or that none stands.
+    #[inline(always)]
+    pub fn rests(&self) -> bool
+        ensures value { result ≡ is_some self.now.playing.rest }
+        ensures waits { result ≡ true → all_wait (plans_in self.now.playing) ≡ true }
+    {
+        self.playing.rests()
+    }
+
+    /// The switched streams, in the order of the map; none before the head is whole.
+    pub fn streams(&self) -> &[Stream]
+        ensures { (c : FollowedFor) (past : List (List ℕ)) → SwitchFollows self.now c past →
+            result.now ≡ streams_of_program (program_of c.program past) }
+    {
+        self.follower.streams()
     }
 
     /// Takes a packet that is marked in error as the next one of the network, and puts nothing for it.
