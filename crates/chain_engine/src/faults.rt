@@ -20,7 +20,7 @@ impl RunFault {
     ghost use Rattle.chain_engine.specs.Stops.{run_fault_of};
 
     /// What a run answers that was stopped so.
-    pub(crate) fn of(stop: Stop<NetworkFault>) -> RunFault
+    pub fn of(stop: Stop<NetworkFault>) -> RunFault
         ensures { result ≡ run_fault_of stop }
     {
         match stop {

@@ -14,6 +14,7 @@ mod faults;
 mod hearing;
 mod inject;
 pub mod judge;
+mod looking;
 mod report;
 mod running;
 mod service;

@@ -46,6 +46,13 @@ impl<M: Allocator + Copy> Talk<M> {
 }
 
 impl<M: Allocator> Talk<M> {
+    /// Why the automation is not listened to any more; `None` while its session is open.
+    pub fn end(&self) -> Option<SessionEnd>
+        ensures { result ≡ self.now.end }
+    {
+        self.end
+    }
+
     ghost use Rattle.std.specs.Prelude.{◌≡◌, ℕ, suc, ◌+◌, List, ◌++◌, length, true};
     ghost use Rattle.std.specs.Option.{is_some};
     ghost use Rattle.scte104_codec.specs.declared.reply.Reply.{Reply};

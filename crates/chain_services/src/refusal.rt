@@ -11,7 +11,7 @@ use ts_packet::PutFault;
 
 /// What is wrong with a packet for several services.
 #[derive(Clone, Copy, Debug, PartialEq, Eq, Drop)]
-pub(crate) enum Refusal {
+pub enum Refusal {
     /// What is wrong with it for one of them, the first in their order.
     Network(NetworkFault),
     /// With it two of them share a PID. All that the packet sends is out.
@@ -19,7 +19,7 @@ pub(crate) enum Refusal {
 }
 
 /// What a run answers that was stopped so.
-pub(crate) fn run_fault_of(stop: Stop<Refusal>) -> RunFault
+pub fn run_fault_of(stop: Stop<Refusal>) -> RunFault
     ensures { result ≡ services_fault_of stop }
 {
     match stop {

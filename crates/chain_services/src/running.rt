@@ -23,25 +23,25 @@ use ts_packet::{GatheringSink, Packet, PacketSink, PausingPackets, PutFault, Rea
 
 /// The services, the automation that they hear before each packet, and the libraries that they play.
 #[derive(Drop)]
-struct Serving<'a, M: Allocator, U> {
+pub struct ServicesStage<'a, M: Allocator, U> {
     services: &'a mut Services<M>,
     automation: &'a mut U,
     libraries: &'a [AdLibrary],
 }
 
-impl<'a, M: Allocator, U> Serving<'a, M, U> {
+impl<'a, M: Allocator, U> ServicesStage<'a, M, U> {
     /// These services, this automation and these libraries.
-    fn new(
+    pub fn new(
         services: &'a mut Services<M>,
         automation: &'a mut U,
         libraries: &'a [AdLibrary],
-    ) -> Serving<'a, M, U>
+    ) -> ServicesStage<'a, M, U>
         ensures services { result.services.now ≡ services.old }
         ensures automation { result.automation.now ≡ automation.old }
         ensures libraries { result.libraries.now ≡ libraries.now }
         ensures same { result.automation.ghost_name ≡ automation.entry.ghost_name }
     {
-        Serving {
+        ServicesStage {
             services,
             automation,
             libraries,
@@ -49,8 +49,26 @@ impl<'a, M: Allocator, U> Serving<'a, M, U> {
     }
 }
 
+impl<M: Allocator, U> ServicesStage<'_, M, U> {
+    ghost use Rattle.std.specs.Prelude.{◌≡◌};
+
+    /// The services.
+    pub fn services(&self) -> &Services<M>
+        ensures { result.now ≡ self.now.services.now }
+    {
+        &*self.services
+    }
+
+    /// The library of each service, in their order.
+    pub fn libraries(&self) -> &[AdLibrary]
+        ensures { result.now ≡ self.now.libraries.now }
+    {
+        self.libraries
+    }
+}
+
 /// Where it refuses a packet a front of what that sends is out, and all of it where two services share a PID.
-impl<M: Allocator, U: Automation> Stage for Serving<'_, M, U> {
+impl<M: Allocator, U: Automation> Stage for ServicesStage<'_, M, U> {
     ghost use Rattle.std.specs.Prelude.{◌≡◌, true};
     ghost use Rattle.std.proofs.Common.{refl, ◌∙◌};
     ghost use Rattle.chain_engine.specs.Runs.{Exchanged};
@@ -167,7 +185,7 @@ pub fn run_services<M: Allocator, P: PausingPackets, U: Automation, K: Gathering
     ensures leads { K.leads out.old out.new }
 {
     let mut services = services;
-    let mut stage = Serving::new(&mut services, automation, libraries);
+    let mut stage = ServicesStage::new(&mut services, automation, libraries);
     match run_stage(&mut stage, network, out) {
         Ok(report) => Ok(report),
         Err(stop) => Err(run_fault_of(stop)),

@@ -12,7 +12,7 @@ ghost use Rattle.chain_services.specs.Refused.{services_refused, share_a_program
 use crate::desk::Desk;
 use crate::fault::ServiceFault;
 use crate::owners::Owners;
-use chain_engine::{Automation, OutOfMemory, Service, Talk};
+use chain_engine::{Automation, OutOfMemory, Service, SessionEnd, Talk};
 use injector::MessageCounts;
 use psi_tables::Config;
 use std::alloc::{Allocator, Global};
@@ -184,7 +184,7 @@ impl<M: Allocator + Copy> Services<M> {
 }
 
 impl<M: Allocator> Services<M> {
-    ghost use Rattle.std.specs.Prelude.{ℕ, suc, ◌+◌, length, true};
+    ghost use Rattle.std.specs.Prelude.{ℕ, suc, ◌+◌, length, slice_get, option_map, true};
     ghost use Rattle.std.specs.Option.{is_some};
     ghost use Rattle.scte104_codec.specs.declared.reply.Reply.{Reply};
     ghost use Rattle.chain_engine.specs.Automation.{Take, takes_and_answers};
@@ -197,6 +197,23 @@ impl<M: Allocator> Services<M> {
         ensures { result ≡ length (services_in self.now.desk) }
     {
         1 + self.desk.others.len()
+    }
+
+    /// The service at this place in their order; `None` behind the last one.
+    pub fn get(&self, place: usize) -> Option<&Service>
+        ensures { option_map (λ service. service.now) result ≡ slice_get (services_in self.now.desk) place }
+    {
+        match place.checked_sub(1) {
+            None => Some(&self.desk.first),
+            Some(place) => self.desk.others.get(place),
+        }
+    }
+
+    /// Why the automation is not listened to any more; `None` while its session is open.
+    pub fn session_end(&self) -> Option<SessionEnd>
+        ensures { result ≡ self.now.talk.end }
+    {
+        self.talk.end()
     }
 
     /// Hears the automation before the next packet, as [`Talk::listen`] does; the desk judges.

@@ -17,5 +17,5 @@ pub use cue::{AvailsText, CueText, InsertText};
 pub use fault::{CueFaultText, TableFaultText, TooLongText};
 pub use flag::FlagText;
 pub use message::{BadMessageText, FrameText, HeadText, MessageText};
-pub use reply::ResultText;
+pub use reply::{ResultText, result_name};
 pub use table::{PatText, PmtText};

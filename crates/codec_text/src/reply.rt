@@ -31,7 +31,7 @@ pub(crate) fn stated_result(bytes: &[u8]) -> Option<u16>
 }
 
 /// The name of a result: `Success`, or of a refusal as the injector has it; `None` for any other number.
-fn result_name(number: u16) -> Option<&'static str>
+pub fn result_name(number: u16) -> Option<&'static str>
     ensures { option_map (λ name. name.now) result ≡ result_name number }
 {
     match number {

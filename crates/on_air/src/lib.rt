@@ -11,6 +11,6 @@ mod watch;
 
 pub use marks::{Marks, Standing, Verdict};
 pub use report::AirReport;
-pub use running::{inject_on_air, of_sink, read_next, run_on_air, splice_on_air};
+pub use running::{inject_on_air, of_sink, read_next, run_air, run_on_air, splice_on_air};
 pub use tail::MapTail;
 pub use watch::{AirWatch, Begun, Unwatched};

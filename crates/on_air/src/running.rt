@@ -128,7 +128,11 @@ where
 }
 
 /// Runs a stage on air: passes on the packets up to the first that is at fault, and the rest of the network stretch by stretch.
-fn run_air<S, R, P, K, A>(
+///
+/// # Errors
+///
+/// The fault of a device alone, at the packet where it came.
+pub fn run_air<S, R, P, K, A>(
     stage: &mut S,
     network: &mut P,
     out: &mut K,

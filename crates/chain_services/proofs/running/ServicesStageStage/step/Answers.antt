@@ -13,7 +13,7 @@ use Rattle.chain_services.proofs.ApartLemmas.{share_same}
 use Rattle.chain_services.proofs.PartLemmas.{behind_part}
 use Rattle.chain_services.proofs.UnfollowedLemmas.{owners-same}
 use Rattle.chain_services.proofs.StageLemmas.{services_went, services_step_fails, services_share, step_blamed}
-use Rattle.chain_services.proofs.running.ServingStage.step.Goals as goal
+use Rattle.chain_services.proofs.running.ServicesStageStage.step.Goals as goal
 
 pub returns-in-Err-clause-err : goal.returns-in-Err-clause-err
 returns-in-Err-clause-err g c = λ first ps qs start before s is_held.

@@ -4,7 +4,7 @@ use Rattle.ts_packet.specs.Sinks.{Blamed}
 use Rattle.service_laws.specs.Services.{services_rest}
 use Rattle.chain_services.specs.Stages.{terms_in}
 use Rattle.chain_services.proofs.StageLemmas.{services_ended, services_finish_fails, rest_fails_so, finish_blamed}
-use Rattle.chain_services.proofs.running.ServingStage.finish.Goals as goal
+use Rattle.chain_services.proofs.running.ServicesStageStage.finish.Goals as goal
 
 pub returns-in-Ok-clause-ok : goal.returns-in-Ok-clause-ok
 returns-in-Ok-clause-ok g c = λ first ps qs kept start before s is_held.
