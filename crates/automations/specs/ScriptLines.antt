@@ -1,6 +1,7 @@
 -- What a script gives: its lines, and the bytes that a take before a packet has.
-use Rattle.std.specs.Prelude.{◌≡◌, ℕ, ◌+◌, ◌-◌, Bool, true, List, [], ◌∷◌, ◌++◌, ◌&&◌, length, drop, slice_range, ◌==◌, nat_lt, nat_le, if◌then◌else◌}
+use Rattle.std.specs.Prelude.{◌≡◌, ℕ, ◌+◌, ◌-◌, Bool, true, List, [], ◌∷◌, ◌++◌, ◌&&◌, length, drop, slice_range, ◌==◌, nat_lt, nat_le, if◌then◌else◌, Option, option_map, find, count_by}
 use Rattle.std.specs.List.{list_all}
+use Rattle.automations.specs.declared.script.LateLines.{LateLines}
 use Rattle.automations.specs.declared.script.Script.{Script}
 use Rattle.automations.specs.declared.script_text.Line.{Line}
 
@@ -45,3 +46,12 @@ pub record GivesFrom (bytes : List ℕ) (begin packet : ℕ) (left : List Line) 
 
 abbrev pub GivesLines : {W M : Type 0} → Script W M → List ScriptLine → Type 0
 GivesLines s script = GivesFrom s.bytes.items s.begin s.packet (drop s.next s.lines.items) script
+
+-- the line is of no packet of a network of so many: its bytes never come
+abbrev pub is_late : ℕ → Line → Bool
+is_late packets l = nat_le packets l.packet
+
+-- how many lines are late, and the packet of the first of them, where any is
+abbrev pub late_lines : ℕ → List Line → Option LateLines
+late_lines packets lines =
+    option_map (λ (first : Line). record { count = count_by (is_late packets) lines; first = first.packet }) (find (is_late packets) lines)

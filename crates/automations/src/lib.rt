@@ -14,5 +14,5 @@ mod script_text;
 pub use clients::Clients;
 pub use connection::{Connection, accept, listen};
 pub use line_fault::ScriptLineFault;
-pub use script::{Script, ScriptFault, load_into};
+pub use script::{LateLines, Script, ScriptFault, load_into};
 pub use script_text::{Line, Reading};

@@ -1,12 +1,12 @@
 //! A script: an automation whose bytes stand in a text, each line before a packet of the network, and whose replies are printed.
 
-ghost use Rattle.std.specs.Prelude.{◌≡◌, ◌<◌, ◌^◌, ◌-◌, ℕ, List, [], Err, nat_lt, drop, false, IfErr, IfOk, IfSome, OnOk};
+ghost use Rattle.std.specs.Prelude.{◌≡◌, ◌<◌, ◌^◌, ◌-◌, ℕ, List, [], Err, nat_lt, drop, find, count_by, false, IfErr, IfOk, IfSome, OnOk};
 ghost use Rattle.std.specs.Bool.{OnTrue};
 ghost use Rattle.std.specs.Io.KnownBytes.{Appends};
 ghost use Rattle.ts_packet.specs.Transfers.{LastMovedNone};
 ghost use Rattle.automations.specs.Calls.{OneFlushed, OneFailed};
 ghost use Rattle.automations.specs.Scripts.{ScriptBlamed, reply_line};
-ghost use Rattle.automations.specs.ScriptLines.{GivesLines, count_due};
+ghost use Rattle.automations.specs.ScriptLines.{GivesLines, count_due, is_late, late_lines};
 ghost use Rattle.automations.specs.ScriptText.{IsNoScript};
 ghost use Rattle.automations.specs.ScriptReading.{IsLoaded, IsReadFrom, IsReadWhole, IsScriptRead, read_lines};
 
@@ -46,6 +46,15 @@ pub enum ScriptFault {
     /// Memory was refused.
     #[error("memory was refused")]
     OutOfMemory,
+}
+
+/// Lines of a script that lie past the end of a network.
+#[derive(Clone, Copy, Debug, PartialEq, Eq)]
+pub struct LateLines {
+    /// How many they are.
+    pub count: usize,
+    /// The packet before which the bytes of the first of them would come.
+    pub first: u64,
 }
 
 /// An automation that gives the bytes of a script, and prints the replies. After the script's last line it has nothing more.
@@ -136,6 +145,18 @@ impl<W, M: Allocator> Script<W, M> {
         self.lost > 0
     }
 
+    /// The lines whose bytes never come in a network of so many packets, where there are any.
+    pub fn late_lines(&self, packets: u64) -> Option<LateLines>
+        ensures { result ≡ late_lines packets self.now.lines.items }
+    {
+        let lines = self.lines.as_slice();
+        let first = first_late(lines, packets)?;
+        Some(LateLines {
+            count: count_late(lines, packets),
+            first: first.packet,
+        })
+    }
+
     /// How many bytes come before the packet that is next: those that are left of the line with its number.
     fn count_due(&self) -> usize
         ensures due { result ≡ count_due self.now.begin self.now.packet (drop self.now.next self.now.lines.items) }
@@ -149,6 +170,20 @@ impl<W, M: Allocator> Script<W, M> {
         }
         line.end.saturating_sub(self.begin)
     }
+}
+
+/// The first line whose bytes never come in a network of so many packets.
+fn first_late(lines: &[Line], packets: u64) -> Option<Line>
+    ensures { result ≡ find (is_late packets) lines.now }
+{
+    lines.iter().copied().find(|line| line.packet >= packets)
+}
+
+/// How many lines have bytes that never come in a network of so many packets.
+fn count_late(lines: &[Line], packets: u64) -> usize
+    ensures { result ≡ count_by (is_late packets) lines.now }
+{
+    lines.iter().filter(|line| line.packet >= packets).count()
 }
 
 /// Reads a text to its end. An interrupted read is tried again.
