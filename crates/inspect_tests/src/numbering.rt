@@ -79,7 +79,8 @@ fn unit(alloc: Global, video: &[u8]) -> Result<(Vec<u8>, Packet), AllocError> {
     unit.extend_from_slice(video)?;
     let mut bytes = [0xFF; 188];
     let room = 184_usize.wrapping_sub(unit.len());
-    bytes[..6].copy_from_slice(&[0x47, 0x41, 0x00, 0x30, room.wrapping_sub(1) as u8, 0x00]);
+    let length = u8::try_from(room.wrapping_sub(1)).unwrap_or(0);
+    bytes[..6].copy_from_slice(&[0x47, 0x41, 0x00, 0x30, length, 0x00]);
     for (place, byte) in unit.iter().enumerate() {
         if let Some(slot) = bytes.get_mut(4_usize.wrapping_add(room).wrapping_add(place)) {
             *slot = *byte;
