@@ -8,7 +8,7 @@ use Rattle.std.proofs.lemmas.List.Elements.{All-append, All-nil}
 use Rattle.std.proofs.lemmas.List.Folds.{concat-append, list_all-append}
 use Rattle.ts_packet.specs.Transfers.{IsCounted}
 use Rattle.scte104_codec.specs.Framing.{frame_of}
-use Rattle.scte104_codec.specs.declared.framing.Frame.TheVariants.{Whole}
+use Rattle.scte104_codec.specs.declared.framing.Frame.TheVariants.{Whole, BadSize}
 use Rattle.chain_engine.specs.Automation.{Take, piece, ended, failed, Answer, Exchange, takes_in, answers_in, bytes_in, bytes_of}
 use Rattle.chain_engine.proofs.ExchangeLemmas.{takes_both, answers_both_in}
 use Rattle.automations.specs.ScriptAnswers.{are_given}
@@ -22,6 +22,10 @@ use Rattle.automations.specs.declared.clients.Clients.{Clients}
 -- the bytes are one message: they end where its field messageSize says (ANSI/SCTE 104, 8.2.1 and 8.2.2)
 abbrev pub IsMessage : List ℕ → Type 0
 IsMessage bs = frame_of bs ≡ Whole (length bs)
+
+-- the bytes state a size that no message has (ANSI/SCTE 104, 8.2.1 and 8.2.2)
+abbrev pub IsBadSize : List ℕ → Type 0
+IsBadSize bs = frame_of bs ≡ BadSize
 
 -- ---- a message on its way
 
@@ -38,6 +42,7 @@ abbrev pub ReadsOn : Progress → Option (List ℕ) → Option (List ℕ) → Le
 ReadsOn progress.Whole old new l m = Keeps old new × (m.is_whole ≡ true) × IsMessage (held m) × (held m ≡ held l)
 ReadsOn progress.Some old new l m = (bs : List ℕ) × Consumes old new bs × (m.is_whole ≡ false) × (held m ≡ held l ++ bs)
 ReadsOn progress.Nothing old new l m = Keeps old new × (m ≡ l)
+ReadsOn progress.BadSize old new l m = Keeps old new × (m ≡ l) × IsBadSize (held m)
 ReadsOn progress.Over old new l m = m.is_whole ≡ false
 
 -- what reads do until it is whole, or nothing is there
@@ -45,6 +50,7 @@ abbrev pub Gathers : Progress → Option (List ℕ) → Option (List ℕ) → Le
 Gathers progress.Whole old new l m = (bs : List ℕ) × Consumes old new bs × (m.is_whole ≡ true) × IsMessage (held m) × (held m ≡ held l ++ bs)
 Gathers progress.Some old new l m = (bs : List ℕ) × Consumes old new bs × (m.is_whole ≡ false) × (held m ≡ held l ++ bs)
 Gathers progress.Nothing old new l m = (bs : List ℕ) × Consumes old new bs × (m.is_whole ≡ false) × (held m ≡ held l ++ bs)
+Gathers progress.BadSize old new l m = (bs : List ℕ) × Consumes old new bs × (m.is_whole ≡ false) × IsBadSize (held m) × (held m ≡ held l ++ bs)
 Gathers progress.Over old new l m = m.is_whole ≡ false
 
 -- ---- clients
@@ -73,6 +79,11 @@ AnswersClient contents (Some c) (Some d) reply = Appends (contents c.replies.wri
 AnswersClient contents (Some c) None reply = Unit {0}
 AnswersClient contents None (Some d) reply = ⊥
 AnswersClient contents None None reply = Unit {0}
+
+-- The count of clients that were sent off for a size grows by one where what was held of a message, or is then read of the client that is there
+-- or comes, states a size that no message has; else it stays. It stops at the greatest u64.
+abbrev pub SendsOff : ℕ → ℕ → List ℕ → Type 0
+SendsOff closed closed' old = (closed' ≡ closed) ⊎ (IsCounted closed closed' × ((bs : List ℕ) × IsBadSize (old ++ bs)))
 
 -- no take told an end or a failure
 abbrev pub is_piece : Take → Type 0

@@ -6,6 +6,7 @@ ghost use Rattle.ts_packet.specs.Transfers.{IsCounted};
 use crate::calls::{Replies, Requests};
 use crate::connection::{QUIET, ends_of, send};
 use crate::letter::{Letter, Progress};
+use crate::sessions::Sessions;
 use chain_engine::{Automation, Taken};
 use std::io::{Read, Write};
 use std::net::{OpenListener, OpenStream};
@@ -61,6 +62,8 @@ pub struct Clients<'a, L: OpenListener> {
     door: Door<'a, L>,
     client: Option<Client<L::Stream>>,
     letter: Letter,
+    /// How many clients were sent off for a size that no message has. The count stops at the greatest u64.
+    closed: u64,
     /// How many takes may still answer without asking the system.
     quiet: u8,
 }
@@ -70,11 +73,12 @@ where
     L::Stream: OpenStream + Read + Write + Drop,
 {
     ghost use Rattle.std.specs.Prelude.{◌≡◌, ◌≤◌, [], length, true, false};
-    ghost use Rattle.automations.specs.Clients.{held, unsent, IsMessage, TakesOf, AsksListener};
+    ghost use Rattle.automations.specs.Clients.{held, unsent, IsMessage, TakesOf, AsksListener, SendsOff};
 
     /// The clients of this listener, which is set not to block before it is asked first.
     pub fn new(listener: &'a L) -> Clients<'a, L>
-        ensures { unsent result.letter ≡ [] }
+        ensures unsent { unsent result.letter ≡ [] }
+        ensures closed { result.closed ≡ 0 }
     {
         Clients {
             door: Door {
@@ -84,6 +88,7 @@ where
             },
             client: None,
             letter: Letter::new(),
+            closed: 0,
             quiet: 0,
         }
     }
@@ -96,6 +101,7 @@ where
         ensures quiet { self.new.quiet ≤ 15 }
         ensures asked { AsksListener self.old.client self.old.door.asked self.new.door.asked }
         ensures message { result ≡ true → IsMessage (held self.new.letter) }
+        ensures closed { SendsOff self.old.closed self.new.closed (held self.old.letter) }
         ensures reads { TakesOf (L.Stream.Read.remaining) self.old.client self.new.client (held self.old.letter) [] (held self.new.letter) }
         ensures room { length room.new ≡ length room.old }
     {
@@ -108,7 +114,10 @@ where
             return false;
         };
         let progress = self.letter.gather(&mut client.requests, room);
-        if progress == Progress::Over {
+        if progress == Progress::BadSize {
+            self.closed = self.closed.saturating_add(1);
+        }
+        if progress == Progress::Over || progress == Progress::BadSize {
             self.letter.clear();
             return false;
         }
@@ -126,7 +135,7 @@ where
 {
     ghost use Rattle.std.specs.Prelude.{◌≡◌, ◌∷◌, [], length, true};
     ghost use Rattle.chain_engine.specs.Automation.{taken, answered, take_of, answer_of, IsRoomFor, CountsTake, CountsAnswer, bytes_in};
-    ghost use Rattle.automations.specs.Clients.{held, unsent, TakesOf, TakesTurn, AnswersClient};
+    ghost use Rattle.automations.specs.Clients.{held, unsent, TakesOf, TakesTurn, SendsOff, AnswersClient};
     ghost use Rattle.automations.specs.Clients.{ClientsExchange, ClientsExchange-refl, ClientsExchange-trans};
 
     ghost exchanges = { λ s es t. ClientsExchange (unsent s.letter) es (unsent t.letter) };
@@ -145,6 +154,7 @@ where
         ensures exchanges { ClientsExchange (unsent self.old.letter) (taken (take_of result room.new) ∷ []) (unsent self.new.letter) }
         ensures failures { CountsTake result 0 0 }
         ensures turn { TakesTurn self.old.quiet self.new.quiet self.old.client self.old.door.asked self.new.door.asked }
+        ensures closed { SendsOff self.old.closed self.new.closed (held self.old.letter) }
         ensures reads { TakesOf (L.Stream.Read.remaining) self.old.client self.new.client (held self.old.letter)
             (bytes_in (take_of result room.new)) (held self.new.letter) }
     {
@@ -162,6 +172,7 @@ where
         ensures taken { result ≡ true }
         ensures failures { CountsAnswer result 0 0 }
         ensures exchanges { ClientsExchange (unsent self.old.letter) (answered (answer_of reply.now result) ∷ []) (unsent self.new.letter) }
+        ensures closed { self.new.closed ≡ self.old.closed }
         ensures sent { AnswersClient (L.Stream.Write.contents) self.old.client self.new.client reply.now }
     {
         if let Some(mut client) = self.client.take()
@@ -174,5 +185,17 @@ where
             self.letter.clear();
         }
         true
+    }
+}
+
+impl<L: OpenListener> Sessions for Clients<'_, L>
+where
+    L::Stream: OpenStream + Read + Write + Drop,
+{
+    ghost closed_so_far = { λ s. s.closed };
+
+    #[inline(always)]
+    fn closed(&self) -> u64 {
+        self.closed
     }
 }

@@ -6,6 +6,7 @@ ghost use Rattle.std.specs.Io.KnownBytes.{Appends};
 ghost use Rattle.automations.specs.Calls.{LosesReply};
 
 use crate::calls::{Replies, Requests, is_nothing};
+use crate::sessions::Sessions;
 use chain_engine::{Automation, Taken};
 use std::io::{self, ErrorKind, Read, Write};
 use std::net::{Net, OpenListener, OpenStream, SocketAddr, TcpListener};
@@ -81,6 +82,15 @@ impl<R: Read, W: Write> Automation for Connection<R, W> {
         }
         self.failures = self.failures.saturating_add(1);
         false
+    }
+}
+
+impl<R, W> Sessions for Connection<R, W> {
+    ghost closed_so_far = { λ s. 0 };
+
+    #[inline(always)]
+    fn closed(&self) -> u64 {
+        0
     }
 }
 

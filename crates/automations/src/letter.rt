@@ -22,7 +22,9 @@ pub(crate) enum Progress {
     Some,
     /// Nothing more of it is there now.
     Nothing,
-    /// It never becomes whole: its client has ended or failed, or it states a size that no message has.
+    /// It states a size that no message has.
+    BadSize,
+    /// It never becomes whole: its client has ended or failed.
     Over,
 }
 
@@ -80,7 +82,8 @@ impl Letter {
                 self.is_whole = true;
                 return Progress::Whole;
             }
-            Frame::Whole(_) | Frame::BadSize => return Progress::Over,
+            Frame::BadSize => return Progress::BadSize,
+            Frame::Whole(_) => return Progress::Over,
         };
         let (front, _) = room.split_at_mut(missing.min(room.len()));
         match requests.read(front) {

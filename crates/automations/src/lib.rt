@@ -10,9 +10,11 @@ mod letter;
 mod line_fault;
 mod script;
 mod script_text;
+mod sessions;
 
 pub use clients::Clients;
 pub use connection::{Connection, accept, listen};
 pub use line_fault::ScriptLineFault;
 pub use script::{LateLines, Script, ScriptFault, load_into};
 pub use script_text::{Line, Reading};
+pub use sessions::Sessions;

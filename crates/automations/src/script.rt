@@ -12,6 +12,7 @@ ghost use Rattle.automations.specs.ScriptReading.{IsLoaded, IsReadFrom, IsReadWh
 
 use crate::calls::Replies;
 use crate::script_text::{Line, Reading};
+use crate::sessions::Sessions;
 use chain_engine::{Automation, Taken};
 use hex_digits::spell;
 use std::alloc::{Allocator, Global};
@@ -297,5 +298,14 @@ impl<W: Write, M: Allocator> Automation for Script<W, M> {
         }
         self.lost = self.lost.saturating_add(1);
         false
+    }
+}
+
+impl<W, M: Allocator> Sessions for Script<W, M> {
+    ghost closed_so_far = { λ s. 0 };
+
+    #[inline(always)]
+    fn closed(&self) -> u64 {
+        0
     }
 }

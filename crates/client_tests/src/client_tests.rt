@@ -1,7 +1,7 @@
 //! One channel, bounded in packets, and its clients.
 
 use crate::channel::{Channel, PACKETS, null_packet};
-use automations::{Clients, listen};
+use automations::{Clients, Sessions, listen};
 use chain_engine::Chain;
 use on_air::{Unwatched, inject_on_air};
 use psi_tables::Config;
@@ -34,6 +34,7 @@ fn clients_come_and_go_and_the_network_goes_on(rt: HostRuntime) -> Result<(), Fa
         (5, 0, 5)
     );
     assert_eq!(rt; told.stretches, 1);
+    assert_eq!(rt; clients.closed(), 1);
     let mut wanted = Vec::new(rt.alloc());
     for _ in 0..PACKETS {
         wanted.extend_from_slice(&null_packet())?;
