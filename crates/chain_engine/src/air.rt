@@ -150,9 +150,9 @@ impl<M: Allocator, U: Automation> AirStage for ChainStage<'_, M, U> {
     ghost use Rattle.chain_engine.specs.Runs.{steps_of, reports_sum};
     ghost use Rattle.chain_engine.specs.Followed.{ChainFollows, run-followed};
 
-    ghost begins = { λ s c. (c ≡ writing_cues s.config) × (s.chain.now.service.config ≡ s.config) };
+    ghost begins = { λ s c. (c ≡ writing_cues s.config.now) × (s.chain.now.service.config ≡ s.config.now) };
 
-    ghost follows = { λ s c past. (c ≡ writing_cues s.config) × ChainFollows s.chain.now s.config past };
+    ghost follows = { λ s c past. (c ≡ writing_cues s.config.now) × ChainFollows s.chain.now s.config.now past };
 
     ghost tells_out = { λ s. ⊥ };
 
@@ -168,7 +168,7 @@ impl<M: Allocator, U: Automation> AirStage for ChainStage<'_, M, U> {
         let run = s.1.run in
         let same = b.1 ∙ sym l.1 in (
           b.0 ∙ ap writing_cues (sym l.1),
-          run-followed now.chain.now now.config ps run.ts run.rs run.talks
+          run-followed now.chain.now now.config.now ps run.ts run.rs run.talks
               (subst (λ d. InjectorStandsFor now.chain.now.service.injector d (steps_of (length run.rs) run.ts (reverse ps))) same run.gone.injector),
         ) };
 
@@ -217,7 +217,7 @@ impl<M: Allocator, U: Automation> AirStage for ChainStage<'_, M, U> {
             report: Report::of_chain(service.injector.counts(), events),
             lost: service.injector.open_count() as u64,
         };
-        *service = Service::new(self.config);
+        *service = Service::new(*self.config);
         end
     }
 
@@ -238,15 +238,15 @@ impl<M: Allocator, U: Automation> AirStage for InjectorStage<'_, M, U> {
     ghost use Rattle.chain_engine.specs.Followed.{ChainFollows, run-followed};
     ghost use Rattle.chain_engine.specs.Injected.{InjectAirs, InjectAirsToEnd, inject-airs-first};
 
-    ghost begins = { λ s c. (c ≡ writing_cues s.config) × (s.chain.now.service.config ≡ s.config) };
+    ghost begins = { λ s c. (c ≡ writing_cues s.config.now) × (s.chain.now.service.config ≡ s.config.now) };
 
-    ghost follows = { λ s c past. (c ≡ writing_cues s.config) × ChainFollows s.chain.now s.config past };
+    ghost follows = { λ s c past. (c ≡ writing_cues s.config.now) × ChainFollows s.chain.now s.config.now past };
 
     ghost tells_out = { λ s. Unit {0} };
 
     ghost summed = { reports_sum };
 
-    ghost airs = { λ first ended last told qs now. (now.config ≡ first.chain.now.service.config)
+    ghost airs = { λ first ended last told qs now. (now.config.now ≡ first.chain.now.service.config)
         × InjectAirs first.chain.now.service.config now.chain.now
         (Exchanged U.exchanges U.failures first.automation.now now.automation.now) ended last told qs };
 
@@ -263,7 +263,7 @@ impl<M: Allocator, U: Automation> AirStage for InjectorStage<'_, M, U> {
         let run = s.run in
         let same = b.1 ∙ sym l.1 in (
           b.0 ∙ ap writing_cues (sym l.1),
-          run-followed now.chain.now now.config ps run.ts run.rs run.talks
+          run-followed now.chain.now now.config.now ps run.ts run.rs run.talks
               (subst (λ d. InjectorStandsFor now.chain.now.service.injector d (steps_of (length run.rs) run.ts (reverse ps))) same run.gone),
         ) };
 
@@ -320,7 +320,7 @@ impl<M: Allocator, U: Automation> AirStage for InjectorStage<'_, M, U> {
             report: Report::of(injector.counts()),
             lost: injector.open_count() as u64,
         };
-        self.chain.service = Service::new(self.config);
+        self.chain.service = Service::new(*self.config);
         end
     }
 

@@ -25,18 +25,21 @@ pub struct InjectorStage<'a, M: Allocator, U> {
     pub(crate) chain: &'a mut Chain<M>,
     pub(crate) automation: &'a mut U,
     /// What the chain is configured for.
-    pub(crate) config: Config,
+    pub(crate) config: &'a Config,
 }
 
 impl<'a, M: Allocator, U> InjectorStage<'a, M, U> {
-    /// This chain and this automation.
-    pub fn new(chain: &'a mut Chain<M>, automation: &'a mut U) -> InjectorStage<'a, M, U>
+    /// This chain and this automation; the chain is configured for this.
+    pub fn new(
+        chain: &'a mut Chain<M>,
+        automation: &'a mut U,
+        config: &'a Config,
+    ) -> InjectorStage<'a, M, U>
         ensures chain { result.chain.now ≡ chain.old }
         ensures automation { result.automation.now ≡ automation.old }
-        ensures config { result.config ≡ chain.old.service.config }
+        ensures config { result.config.now ≡ config.now }
         ensures same { result.automation.ghost_name ≡ automation.entry.ghost_name }
     {
-        let config = chain.service.config;
         InjectorStage {
             chain,
             automation,
@@ -71,7 +74,7 @@ impl<M: Allocator, U: Automation> Stage for InjectorStage<'_, M, U> {
     ghost ends = { λ first ps sent report now. InjectEnds first.chain.now.service.config
         (Exchanged U.exchanges U.failures first.automation.now now.automation.now) ps sent report };
 
-    ghost leads = { λ s t. (t.automation.ghost_name ≡ s.automation.ghost_name) × (t.config ≡ s.config) };
+    ghost leads = { λ s t. (t.automation.ghost_name ≡ s.automation.ghost_name) × (t.config.now ≡ s.config.now) };
 
     ghost puts_rest = { false };
 
@@ -140,7 +143,8 @@ pub fn run_inject<M: Allocator, P: PausingPackets, U: Automation, K: GatheringSi
     ensures leads { K.leads out.old out.new }
 {
     let mut chain = chain;
-    let mut stage = InjectorStage::new(&mut chain, automation);
+    let config = chain.config();
+    let mut stage = InjectorStage::new(&mut chain, automation, &config);
     match run_stage(&mut stage, network, out) {
         Ok(report) => Ok(report),
         Err(stop) => Err(RunFault::of(stop)),

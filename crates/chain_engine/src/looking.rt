@@ -2,6 +2,7 @@
 
 ghost use Rattle.std.specs.Prelude.{◌≡◌};
 
+use crate::chain::Chain;
 use crate::hearing::SessionEnd;
 use crate::inject::InjectorStage;
 use crate::running::ChainStage;
@@ -28,6 +29,15 @@ impl Service {
         ensures { result.now ≡ self.now.switch }
     {
         &self.switch
+    }
+}
+
+impl<M: Allocator> Chain<M> {
+    /// What it is configured for.
+    pub fn config(&self) -> Config
+        ensures { result ≡ self.now.service.config }
+    {
+        self.service.config
     }
 }
 

@@ -118,23 +118,23 @@ pub struct ChainStage<'a, M: Allocator, U> {
     pub(crate) automation: &'a mut U,
     pub(crate) library: &'a AdLibrary,
     /// What the chain is configured for.
-    pub(crate) config: Config,
+    pub(crate) config: &'a Config,
 }
 
 impl<'a, M: Allocator, U> ChainStage<'a, M, U> {
-    /// This chain, automation and library.
+    /// This chain, automation and library; the chain is configured for this.
     pub fn new(
         chain: &'a mut Chain<M>,
         automation: &'a mut U,
         library: &'a AdLibrary,
+        config: &'a Config,
     ) -> ChainStage<'a, M, U>
         ensures chain { result.chain.now ≡ chain.old }
         ensures automation { result.automation.now ≡ automation.old }
         ensures library { result.library.now ≡ library.now }
-        ensures config { result.config ≡ chain.old.service.config }
+        ensures config { result.config.now ≡ config.now }
         ensures same { result.automation.ghost_name ≡ automation.entry.ghost_name }
     {
-        let config = chain.service.config;
         ChainStage {
             chain,
             automation,
@@ -172,7 +172,7 @@ impl<M: Allocator, U: Automation> Stage for ChainStage<'_, M, U> {
     ghost ends = { λ first ps sent report now. ChainEnds first.chain.now.service.config (held first.library.now)
         (Exchanged U.exchanges U.failures first.automation.now now.automation.now) ps sent report };
 
-    ghost leads = { λ s t. (t.automation.ghost_name ≡ s.automation.ghost_name) × (t.config ≡ s.config) };
+    ghost leads = { λ s t. (t.automation.ghost_name ≡ s.automation.ghost_name) × (t.config.now ≡ s.config.now) };
 
     ghost puts_rest = { true };
 
@@ -243,7 +243,8 @@ pub fn run<M: Allocator, P: PausingPackets, U: Automation, K: GatheringSink>(
     ensures leads { K.leads out.old out.new }
 {
     let mut chain = chain;
-    let mut stage = ChainStage::new(&mut chain, automation, library);
+    let config = chain.config();
+    let mut stage = ChainStage::new(&mut chain, automation, library, &config);
     match run_stage(&mut stage, network, out) {
         Ok(report) => Ok(report),
         Err(stop) => Err(RunFault::of(stop)),

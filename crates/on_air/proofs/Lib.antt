@@ -3,4 +3,4 @@ mod MarkLemmas
 mod AirLemmas
 mod OutputLemmas
 mod LoopLemmas
-mod InjectLemmas
+pub mod InjectLemmas

@@ -207,7 +207,8 @@ pub fn run_on_air<M: Allocator, P: PausingPackets, U: Automation, K: GatheringSi
     ensures devices { IfErr result IsOfDevices }
 {
     let mut chain = chain;
-    let mut stage = ChainStage::new(&mut chain, automation, library);
+    let config = chain.config();
+    let mut stage = ChainStage::new(&mut chain, automation, library, &config);
     run_air(&mut stage, network, out, watch)
 }
 
@@ -239,7 +240,8 @@ pub fn inject_on_air<M: Allocator, P: PausingPackets, U: Automation, K: Gatherin
     ensures devices { IfErr result IsOfDevices }
 {
     let mut chain = chain;
-    let mut stage = InjectorStage::new(&mut chain, automation);
+    let config = chain.config();
+    let mut stage = InjectorStage::new(&mut chain, automation, &config);
     run_air(&mut stage, network, out, watch)
 }
 

@@ -47,10 +47,10 @@ returns-clause-stretches g c = λ d start before bs h is_held given.
     let here = subst (λ w. ChainStandsFor w w.service.config) (sym c.new-stage.ensures.chain) (subst (ChainStandsFor c.args.chain) (sym h.config) h) in
     let begins = begun g.U.Automation.exchanges g.met.U.Automation.exchanges_refl g.met.U.Automation.exchanges_trans g.U.Automation.failures (InjectsFor cfg) (reply_in cfg) stage.chain.now.service stage.chain.now.talk
     (λ steps. sent_by cfg steps ≡ []) stage.automation.now here.talk (here.service (λ n. None)).injector refl in
-    let config = c.new-stage.ensures.config ∙ h.config in
-    let same = ap (λ w. w.service.config) c.new-stage.ensures.chain ∙ sym c.new-stage.ensures.config in
+    let config = (c.new-stage.ensures.config ∙ c.config-config.ensures) ∙ h.config in
+    let same = ap (λ w. w.service.config) c.new-stage.ensures.chain ∙ sym (c.new-stage.ensures.config ∙ c.config-config.ensures) in
     IfOk-weaker c.run_air.result _ _ (λ told w. subst (λ x. TellsStretches told (writing_cues x) bs) config w)
-    (c.run_air.ensures.stretches (writing_cues stage.config) start before bs (refl, same) (λ kept. record { begins = here; run = begins }) is_held given)
+    (c.run_air.ensures.stretches (writing_cues stage.config.now) start before bs (refl, same) (λ kept. record { begins = here; run = begins }) is_held given)
 
 pub returns-clause-out : goal.returns-clause-out
 returns-clause-out g c = λ d start before bs h is_held given.
@@ -60,13 +60,13 @@ returns-clause-out g c = λ d start before bs h is_held given.
     let begins = begun g.U.Automation.exchanges g.met.U.Automation.exchanges_refl g.met.U.Automation.exchanges_trans g.U.Automation.failures (InjectsFor cfg) (reply_in cfg) stage.chain.now.service stage.chain.now.talk
     (λ steps. sent_by cfg steps ≡ []) stage.automation.now here.talk (here.service (λ n. None)).injector refl in
     let config = ap (λ w. w.service.config) c.new-stage.ensures.chain ∙ h.config in
-    let same = ap (λ w. w.service.config) c.new-stage.ensures.chain ∙ sym c.new-stage.ensures.config in
+    let same = ap (λ w. w.service.config) c.new-stage.ensures.chain ∙ sym (c.new-stage.ensures.config ∙ c.config-config.ensures) in
     let is_out = (λ (qs : List (List ℕ)). g.K.PacketSink.holds c.run_air.new.out start (before ++ qs)) in
     IfOk-weaker c.run_air.result _ _ (λ told w.
     let exchanged = (λ (x : g.row.U.Denot). Exchanged g.U.Automation.exchanges g.U.Automation.failures x w.now.automation.now) in
-    let all = injected-on-air cfg (writing_cues stage.config) (ap writing_cues (sym same)) w.now.chain.now (exchanged stage.automation.now) bs is_out w.told w.sent w.last told.report w.tells_so w.summed_so w.out in (
+    let all = injected-on-air cfg (writing_cues stage.config.now) (ap writing_cues (sym same)) w.now.chain.now (exchanged stage.automation.now) bs is_out w.told w.sent w.last told.report w.tells_so w.summed_so w.out in (
       w.now.automation.now,
       subst (λ x. InjectedOnAir d bs is_out (exchanged x) told.report) c.new-stage.ensures.automation
           (subst (λ x. InjectedOnAir x bs is_out (exchanged stage.automation.now) told.report) config all),
     ))
-    (c.run_air.ensures.out (writing_cues stage.config) start before bs (refl, same) tt (λ kept. record { begins = here; run = begins }) is_held given)
+    (c.run_air.ensures.out (writing_cues stage.config.now) start before bs (refl, same) tt (λ kept. record { begins = here; run = begins }) is_held given)

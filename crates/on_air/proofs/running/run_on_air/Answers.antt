@@ -52,7 +52,7 @@ returns-clause-stretches g c = λ d start before bs h is_held given.
     let here = subst (λ w. ChainStandsFor w w.service.config) (sym c.new-stage.ensures.chain) (subst (ChainStandsFor c.args.chain) (sym h.config) h) in
     let begins = begun g.U.Automation.exchanges g.met.U.Automation.exchanges_refl g.met.U.Automation.exchanges_trans g.U.Automation.failures (ServesFor cfg filed) (reply_in cfg) stage.chain.now.service stage.chain.now.talk
     (λ steps. chain_sends cfg filed steps ≡ []) stage.automation.now here.talk (here.service filed) refl in
-    let config = c.new-stage.ensures.config ∙ h.config in
-    let same = ap (λ w. w.service.config) c.new-stage.ensures.chain ∙ sym c.new-stage.ensures.config in
+    let config = (c.new-stage.ensures.config ∙ c.config-config.ensures) ∙ h.config in
+    let same = ap (λ w. w.service.config) c.new-stage.ensures.chain ∙ sym (c.new-stage.ensures.config ∙ c.config-config.ensures) in
     IfOk-weaker c.run_air.result _ _ (λ told w. subst (λ x. TellsStretches told (writing_cues x) bs) config w)
-    (c.run_air.ensures.stretches (writing_cues stage.config) start before bs (refl, same) (λ kept. (refl, record { begins = here; run = begins })) is_held given)
+    (c.run_air.ensures.stretches (writing_cues stage.config.now) start before bs (refl, same) (λ kept. (refl, record { begins = here; run = begins })) is_held given)

@@ -5,7 +5,7 @@ use Rattle.chain_engine.proofs.air.ChainStageAirStage.pass_unjudged.Goals as goa
 
 pub returns-clause-follows : goal.returns-clause-follows
 returns-clause-follows g c = λ purpose past (is, f).
-    let config = c.args.self.now.config in
+    let config = c.args.self.now.config.now in
     let old = c.args.self.now.chain.now in
     let now = c.hear.new.self in
     let (more, rs, talks, replied) = c.hear.ensures.talk f.ts f.n f.k f.talks in

@@ -12,7 +12,7 @@ use Rattle.chain_engine.proofs.air.InjectorStageAirStage.pass_judged.Goals as go
 
 pub returns-in-Ok-clause-follows : goal.returns-in-Ok-clause-follows
 returns-in-Ok-clause-follows g c = λ purpose past (is, f).
-    let config = c.args.self.now.config in
+    let config = c.args.self.now.config.now in
     let old = c.args.self.now.chain.now in
     let now = c.hear.new.self in
     let (more, rs, talks, replied) = c.hear.ensures.talk f.ts f.n f.k f.talks in
