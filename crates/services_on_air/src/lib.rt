@@ -12,4 +12,4 @@ mod watch;
 
 pub use running::run_services_on_air;
 pub use services::AirServices;
-pub use watch::{ServiceBegun, ServicesWatch};
+pub use watch::{ServiceBegun, ServicesWatch, Shown};

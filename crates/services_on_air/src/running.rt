@@ -54,7 +54,7 @@ where
             Err(fault) => return Err(of_sink(fault)),
         }
     }
-    match services.finish(libraries, out) {
+    match services.finish(libraries, out, watch) {
         Ok(told) => Ok(told),
         Err(fault) => Err(of_sink(fault)),
     }

@@ -11,7 +11,7 @@ ghost use Rattle.on_air.specs.AirRuns.{has_no};
 ghost use Rattle.services_on_air.specs.Airing.{Airing, begins, next_of, anew_with, known_of, known_before, owns, behind_first};
 ghost use Rattle.services_on_air.specs.Standing.{AirStandsFor, BeginsBehind, IsSettled, IsPassed};
 
-use crate::watch::{ServiceBegun, ServicesWatch};
+use crate::watch::{ServiceBegun, ServicesWatch, Shown};
 use ad_library::AdLibrary;
 use arrayvec::ArrayVec;
 use chain_engine::{Judge, RunFault, Service, put_fault};
@@ -183,16 +183,17 @@ impl AirService {
     /// # Errors
     ///
     /// The sink's.
-    fn settle_anew<K: PacketSink>(
+    fn settle_anew<K: PacketSink, A: ServicesWatch>(
         &mut self,
         packet: &Packet,
         library: &AdLibrary,
         out: &mut K,
+        watch: &mut A,
     ) -> Result<(), PutFault>
         ensures { (c : Config) (ss : List (List Entry)) → self.old.service.config ≡ c → self.old.begun ≡ capped (behind_first ss)
             → has_no ss ≡ false → OnOk result (IsSettled self.new packet.now (anew_with packet.now c ss)) }
     {
-        match self.begin_anew(library, out) {
+        match self.begin_anew(library, out, watch) {
             Ok(()) => {
                 self.settle_first(packet);
                 Ok(())
@@ -223,7 +224,7 @@ impl AirService {
             return Ok(());
         }
         if self.shares {
-            return self.settle_anew(packet, library, out);
+            return self.settle_anew(packet, library, out, watch);
         }
         match self.judge(packet) {
             Verdict::Judged => {
@@ -236,7 +237,7 @@ impl AirService {
             }
             Verdict::BeginsAnew(fault) => {
                 self.tell(RunFault::Feed(FeedFault::Network(fault)), next, watch);
-                self.settle_anew(packet, library, out)
+                self.settle_anew(packet, library, out, watch)
             }
         }
     }
@@ -267,18 +268,24 @@ impl AirService {
     /// more of an advertisement that runs.
     #[cold]
     #[inline(never)]
-    fn begin_anew<K: PacketSink>(
+    fn begin_anew<K: PacketSink, A: ServicesWatch>(
         &mut self,
         library: &AdLibrary,
         out: &mut K,
+        watch: &mut A,
     ) -> Result<(), PutFault>
         ensures { (c : Config) (ss : List (List Entry)) → self.old.service.config ≡ c → self.old.begun ≡ capped (behind_first ss)
             → has_no ss ≡ false → BeginsBehind self.new c ss }
     {
-        self.ended = self.ended.plus(self.service.report(library));
-        self.lost = self.lost.saturating_add(self.service.open_count() as u64);
+        let config = self.service.config();
+        let report = self.service.report(library);
+        let lost = self.service.open_count() as u64;
+        watch.shown(&self.service, library, Shown::Last);
+        watch.ended(config.program, &report, lost);
+        self.ended = self.ended.plus(report);
+        self.lost = self.lost.saturating_add(lost);
         self.begun = self.begun.saturating_add(1);
-        self.service = Service::new(self.service.config());
+        self.service = Service::new(config);
         self.marks = Marks::new();
         let put = self.tail.put(out);
         self.tail = MapTail::new();
@@ -371,14 +378,34 @@ impl AirService {
     /// # Errors
     ///
     /// The sink's.
-    pub(crate) fn finish<K: PacketSink>(
+    pub(crate) fn finish<K: PacketSink, A: ServicesWatch>(
         &mut self,
         library: &AdLibrary,
         out: &mut K,
+        watch: &mut A,
     ) -> Result<SwitchReport, PutFault> {
+        watch.shown(&self.service, library, Shown::Last);
         match self.service.finish(library, out) {
-            Ok(last) => Ok(self.ended.plus(last)),
+            Ok(last) => {
+                watch.ended(self.service.config().program, &last, 0);
+                Ok(self.ended.plus(last))
+            }
             Err(fault) => Err(put_fault(fault)),
         }
+    }
+
+    /// Shows itself behind a packet that has passed.
+    pub(crate) fn show<A: ServicesWatch>(
+        &self,
+        library: &AdLibrary,
+        packet: &Packet,
+        watch: &mut A,
+    ) {
+        let shown = if self.is_unjudged {
+            Shown::Unjudged
+        } else {
+            Shown::Judged(packet)
+        };
+        watch.shown(&self.service, library, shown);
     }
 }

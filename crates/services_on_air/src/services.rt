@@ -112,11 +112,12 @@ fn pass_each<K: PacketSink>(
 /// # Errors
 ///
 /// The sink's; `Failed` where there is no room for more events.
-fn finish_each<K: PacketSink>(
+fn finish_each<K: PacketSink, A: ServicesWatch>(
     services: &mut [AirService],
     libraries: &[AdLibrary],
     events: &mut ArrayVec<ServiceEvents, 8>,
     out: &mut K,
+    watch: &mut A,
 ) -> Result<(), PutFault> {
     let Some((service, others)) = services.split_first_mut() else {
         return Ok(());
@@ -125,7 +126,7 @@ fn finish_each<K: PacketSink>(
         return Ok(());
     };
     let config = service.config();
-    let switch = match service.finish(library, out) {
+    let switch = match service.finish(library, out, watch) {
         Ok(switch) => switch,
         Err(fault) => return Err(fault),
     };
@@ -135,8 +136,22 @@ fn finish_each<K: PacketSink>(
         switch,
     };
     match events.try_push(one) {
-        Ok(()) => finish_each(others, libraries, events, out),
+        Ok(()) => finish_each(others, libraries, events, out, watch),
         Err(_) => Err(PutFault::Failed),
+    }
+}
+
+/// Shows each of these services behind a packet that has passed, where that is asked for.
+fn show_each<A: ServicesWatch>(
+    services: &[AirService],
+    libraries: &[AdLibrary],
+    packet: &Packet,
+    watch: &mut A,
+) {
+    if watch.looks(packet) {
+        for (service, library) in services.iter().zip(libraries.iter()) {
+            service.show(library, packet, watch);
+        }
     }
 }
 
@@ -327,6 +342,7 @@ impl<M: Allocator> AirServices<M> {
         self.hear(automation);
         match self.pass_settled(packet, libraries, out) {
             Ok(passed) => {
+                show_each(self.desk.services.as_slice(), libraries, packet, watch);
                 self.count(passed.is_unjudged, watch);
                 self.part(passed.learns, next, watch);
                 Ok(())
@@ -340,10 +356,11 @@ impl<M: Allocator> AirServices<M> {
     /// # Errors
     ///
     /// The sink's; `Failed` where there are more than eight services.
-    pub(crate) fn finish<K: PacketSink>(
+    pub(crate) fn finish<K: PacketSink, A: ServicesWatch>(
         &mut self,
         libraries: &[AdLibrary],
         out: &mut K,
+        watch: &mut A,
     ) -> Result<AirReport<ServiceReport>, PutFault>
         ensures { (cs : List Config) (past : List (List ℕ)) → AirServicesStandFor self.old cs past
             → IfOk result (λ told. TellsOfAll told cs past) }
@@ -353,7 +370,7 @@ impl<M: Allocator> AirServices<M> {
         let mut events = ArrayVec::new();
         let counts = self.desk.counts;
         let services = self.desk.services.as_mut_slice();
-        match finish_each(services, libraries, &mut events, out) {
+        match finish_each(services, libraries, &mut events, out, watch) {
             Ok(()) => Ok(AirReport {
                 report: ServiceReport {
                     messages: counts.messages,

@@ -1,8 +1,10 @@
 //! What is told of a run of several services on air while it goes on.
 
-use chain_engine::RunFault;
+use ad_library::AdLibrary;
+use chain_engine::{RunFault, Service};
 use on_air::Unwatched;
-use ts_packet::Pid;
+use splice_switch::SwitchReport;
+use ts_packet::{Packet, Pid};
 
 /// A stretch of a service that began behind another one.
 #[derive(Clone, Copy, Debug, PartialEq, Eq)]
@@ -20,6 +22,17 @@ pub struct ServiceBegun {
     pub fault: RunFault,
 }
 
+/// When a service is shown.
+#[derive(Clone, Copy)]
+pub enum Shown<'a> {
+    /// Behind this packet, which has passed and which the service judged.
+    Judged(&'a Packet),
+    /// Behind a packet that has passed and that the service left unjudged.
+    Unjudged,
+    /// Before its stretch or the run ends.
+    Last,
+}
+
 /// Who is told of a run of several services on air while it goes on.
 pub trait ServicesWatch {
     /// A stretch of a service begins anew.
@@ -27,10 +40,28 @@ pub trait ServicesWatch {
 
     /// The packet of this number among those of the network, from 0, is left unjudged.
     fn unjudged(&mut self, packet: u64);
+
+    /// The services are to be shown behind this packet, which has passed. It is asked once for each packet.
+    fn looks(&mut self, packet: &Packet) -> bool;
+
+    /// This is a service, at such a moment.
+    fn shown(&mut self, service: &Service, library: &AdLibrary, shown: Shown<'_>);
+
+    /// A stretch of the service of this program is over, and counted this; so many events were lost with it. The last stretch loses none.
+    fn ended(&mut self, program: u16, report: &SwitchReport, lost: u64);
 }
 
 impl ServicesWatch for Unwatched {
     fn begun(&mut self, _begun: &ServiceBegun) {}
 
     fn unjudged(&mut self, _packet: u64) {}
+
+    #[inline(always)]
+    fn looks(&mut self, _packet: &Packet) -> bool {
+        false
+    }
+
+    fn shown(&mut self, _service: &Service, _library: &AdLibrary, _shown: Shown<'_>) {}
+
+    fn ended(&mut self, _program: u16, _report: &SwitchReport, _lost: u64) {}
 }

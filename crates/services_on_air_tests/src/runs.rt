@@ -2,15 +2,15 @@
 
 use ad_library::AdLibrary;
 use automations::Script;
-use chain_engine::{Chain, Report, RunFault};
+use chain_engine::{Chain, Report, RunFault, Service};
 use chain_services::{ServiceEvents, ServiceReport};
 use on_air::{AirReport, AirWatch, Begun, run_on_air};
 use psi_tables::{Config, FeedFault, NetworkFault};
-use services_on_air::{AirServices, ServiceBegun, ServicesWatch, run_services_on_air};
+use services_on_air::{AirServices, ServiceBegun, ServicesWatch, Shown, run_services_on_air};
 use splice_plans::SwitchReport;
 use std::alloc::Global;
 use std::test::Fail;
-use ts_packet::{Device, PacketReader, PacketWriter, Pid};
+use ts_packet::{Device, Packet, PacketReader, PacketWriter, Pid};
 use two_program_streams::Item::*;
 use two_program_streams::{Item, Stream};
 
@@ -118,6 +118,14 @@ impl ServicesWatch for Told {
     fn unjudged(&mut self, packet: u64) {
         self.keep_unjudged(packet);
     }
+
+    fn looks(&mut self, _packet: &Packet) -> bool {
+        false
+    }
+
+    fn shown(&mut self, _service: &Service, _library: &AdLibrary, _shown: Shown<'_>) {}
+
+    fn ended(&mut self, _program: u16, _report: &SwitchReport, _lost: u64) {}
 }
 
 /// Of one chain as of a service of program 1.

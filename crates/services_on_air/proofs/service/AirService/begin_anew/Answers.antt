@@ -7,7 +7,7 @@ use Rattle.services_on_air.proofs.service.AirService.begin_anew.Goals as goal
 pub returns : goal.returns
 returns g c = λ config ss is begun some.
     let stands = c.new-self.ensures (λ n. None) in
-    let of = c.config.ensures ∙ is in
+    let of = c.config-config.ensures ∙ is in
     record {
       config = stands.config ∙ of;
       marks = c.new-self-2.ensures.keeps (writing_cues config);
