@@ -1,0 +1,4 @@
+pub mod ToldLemmas
+pub mod TellingLemmas
+pub mod SettlingLemmas
+pub mod ReportLemmas

@@ -1,0 +1,58 @@
+use Rattle.std.proofs.Common.{◌≡◌, ℕ, List, [], ◌++◌, ◌∙◌, Option, Some, refl, sym, ap, subst}
+use Rattle.std.proofs.lemmas.Result.{IfOk-weaker}
+use Rattle.program_follower.specs.Purposes.{writing_cues}
+use Rattle.ad_library.specs.Advertisements.{Advertisement}
+use Rattle.ad_library.specs.Library.{held}
+use Rattle.chain_engine.specs.Chains.{ChainStandsFor}
+use Rattle.chain_engine.specs.Runs.{reply_in, Exchanged}
+use Rattle.chain_engine.specs.ChainRuns.{chain_sends, Ran}
+use Rattle.chain_engine.specs.Stages.{ServesFor, ChainEnds}
+use Rattle.chain_engine.proofs.RunLemmas.{begun}
+use Rattle.chain_engine.proofs.StageLemmas.{runs_all}
+use Rattle.on_air.specs.Plain.{IsSound}
+use Rattle.on_air.specs.AirRuns.{TellsStretches}
+use Rattle.run_events.proofs.air_runs.run_told_on_air.Goals as goal
+
+pub returns-clause-sound : goal.returns-clause-sound
+returns-clause-sound g c = λ d start before bs h is_held given sound.
+    let stage = c.new-told.result.inner.now in
+    let cfg = stage.chain.now.service.config in
+    let filed = held stage.library.now in
+    let library = ap held (ap (λ s. s.library.now) c.new-told.ensures.inner ∙ c.new-stage.ensures.library) in
+    let here = subst (λ w. ChainStandsFor w w.service.config) (sym (ap (λ s. s.chain.now) c.new-told.ensures.inner ∙ c.new-stage.ensures.chain)) (subst (ChainStandsFor c.args.chain) (sym h.config) h) in
+    let config = ap (λ w. w.service.config) (ap (λ s. s.chain.now) c.new-told.ensures.inner ∙ c.new-stage.ensures.chain) ∙ h.config in
+    let begins = begun g.U.Automation.exchanges g.met.U.Automation.exchanges_refl g.met.U.Automation.exchanges_trans g.U.Automation.failures (ServesFor cfg filed) (reply_in cfg) stage.chain.now.service stage.chain.now.talk
+    (λ steps. chain_sends cfg filed steps ≡ []) stage.automation.now here.talk (here.service filed) refl in
+    let is_out = (λ (qs : List (List ℕ)). g.K.PacketSink.holds c.run_air.new.out start (before ++ qs)) in
+    let faultless = subst (λ w. IsSound (writing_cues w) bs) (sym config) sound in
+    let ran = c.run_air.ensures.sound start before bs (λ kept. (refl, record { begins = here; run = begins })) is_held given faultless in
+    IfOk-weaker c.run_air.result _ _ (λ told w.
+    let exchanged = (λ (x : g.row.U.Denot). Exchanged g.U.Automation.exchanges g.U.Automation.failures x w.0.inner.now.automation.now) in
+    let all = runs_all w.0 is_out cfg filed (exchanged stage.automation.now) (λ ps sent report end. ChainEnds cfg filed (exchanged stage.automation.now) ps sent report) (λ ps sent report e. e) (Some bs) w.1.report (record {
+      sound = faultless;
+      sent = w.1.sent;
+      ends_so = w.1.ends_so;
+      out = w.1.out;
+    }) in (
+      w.0.inner.now.automation.now,
+      record {
+        report = w.1.report;
+        ran_so = subst (λ x. Ran d (held c.args.library.now) bs is_out (exchanged x) w.1.report) (ap (λ s. s.automation.now) c.new-told.ensures.inner ∙ c.new-stage.ensures.automation)
+            (subst (λ (v : ℕ → Option Advertisement). Ran d v bs is_out (exchanged stage.automation.now) w.1.report) library
+            (subst (λ x. Ran x filed bs is_out (exchanged stage.automation.now) w.1.report) config all));
+        tells = w.1.tells;
+      },
+    )) ran
+
+pub returns-clause-stretches : goal.returns-clause-stretches
+returns-clause-stretches g c = λ d start before bs h is_held given.
+    let stage = c.new-told.result.inner.now in
+    let cfg = stage.chain.now.service.config in
+    let filed = held stage.library.now in
+    let here = subst (λ w. ChainStandsFor w w.service.config) (sym (ap (λ s. s.chain.now) c.new-told.ensures.inner ∙ c.new-stage.ensures.chain)) (subst (ChainStandsFor c.args.chain) (sym h.config) h) in
+    let begins = begun g.U.Automation.exchanges g.met.U.Automation.exchanges_refl g.met.U.Automation.exchanges_trans g.U.Automation.failures (ServesFor cfg filed) (reply_in cfg) stage.chain.now.service stage.chain.now.talk
+    (λ steps. chain_sends cfg filed steps ≡ []) stage.automation.now here.talk (here.service filed) refl in
+    let config = ((ap (λ s. s.config.now) c.new-told.ensures.inner ∙ c.new-stage.ensures.config) ∙ c.config-config.ensures) ∙ h.config in
+    let same = ap (λ w. w.service.config) (ap (λ s. s.chain.now) c.new-told.ensures.inner ∙ c.new-stage.ensures.chain) ∙ sym ((ap (λ s. s.config.now) c.new-told.ensures.inner ∙ c.new-stage.ensures.config) ∙ c.config-config.ensures) in
+    IfOk-weaker c.run_air.result _ _ (λ told w. subst (λ x. TellsStretches told (writing_cues x) bs) config w)
+    (c.run_air.ensures.stretches (writing_cues stage.config.now) start before bs (refl, same) (λ kept. (refl, record { begins = here; run = begins })) is_held given)

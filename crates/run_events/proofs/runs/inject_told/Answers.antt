@@ -1,0 +1,81 @@
+use Rattle.std.proofs.Common.{◌≡◌, None, ℕ, List, [], ◌++◌, ◌∙◌, Err, refl, sym, ap, subst}
+use Rattle.ts_packet.specs.declared.reader.ReadFault.TheVariants.{Turns}
+use Rattle.program_follower.specs.FirstFault.{network_test}
+use Rattle.program_follower.specs.Purposes.{writing_cues}
+use Rattle.chain_engine.specs.Chains.{ChainStandsFor}
+use Rattle.chain_engine.specs.Stops.{as_run_fault, run_fault_of}
+use Rattle.chain_engine.specs.Stages.{InjectsFor}
+use Rattle.chain_engine.specs.Runs.{reply_in, sent_by, Exchanged, InjectsAll, InjectStops, InjectLeaves, NetworkBlamed, OutputBlamed}
+use Rattle.chain_engine.specs.declared.faults.RunFault.TheVariants.{Read}
+use Rattle.chain_engine.proofs.RunLemmas.{begun}
+use Rattle.chain_engine.proofs.StageLemmas.{stops_by, inject_leaves, injects_all, network_blamed, to_the_end, output_blamed, turns_of}
+use Rattle.chain_engine.proofs.ProgressLemmas.{end_progresses, stop_progresses, inject_fails, inject_sound}
+use Rattle.run_events.proofs.runs.inject_told.Goals as goal
+
+pub returns-in-Ok-clause-ok : goal.returns-in-Ok-clause-ok
+returns-in-Ok-clause-ok g c = λ d start before h held.
+    let stage = c.new-stage.result in
+    let here = subst (λ w. ChainStandsFor w w.service.config) (sym c.new-stage.ensures.chain) (subst (ChainStandsFor c.args.chain) (sym h.config) h) in
+    let config = ap (λ w. w.service.config) c.new-stage.ensures.chain ∙ h.config in
+    let is_out = (λ (qs : List (List ℕ)). g.K.PacketSink.holds c.run_stage_told.new.out start (before ++ qs)) in
+    let exchanged = (λ (x : g.row.U.Denot). Exchanged g.U.Automation.exchanges g.U.Automation.failures x c.run_stage_told.new.stage.automation.now) in
+    let begins = begun g.U.Automation.exchanges g.met.U.Automation.exchanges_refl g.met.U.Automation.exchanges_trans g.U.Automation.failures (InjectsFor stage.chain.now.service.config) (reply_in stage.chain.now.service.config) stage.chain.now.service stage.chain.now.talk
+    (λ steps. sent_by stage.chain.now.service.config steps ≡ []) stage.automation.now here.talk (here.service (λ n. None)).injector refl in
+    let through = c.in-Ok.ensures.ok start before (λ kept. record { begins = here; run = begins }) held in
+    let all = injects_all c.run_stage_told.new.stage is_out stage.chain.now.service.config (exchanged stage.automation.now) _ (λ ps sent report e. e) _ c.in-Ok.report through in
+    let done = subst (λ x. InjectsAll d (g.P.PacketSource.left c.args.network.now) is_out (exchanged x) c.in-Ok.report) c.new-stage.ensures.automation
+    (subst (λ w. InjectsAll w (g.P.PacketSource.left c.args.network.now) is_out (exchanged stage.automation.now) c.in-Ok.report) config all) in
+    let named = c.in-Ok.ensures.stage.0 ∙ c.new-stage.ensures.same in
+    subst (λ x. InjectsAll d (g.P.PacketSource.left c.args.network.now) is_out (Exchanged g.U.Automation.exchanges g.U.Automation.failures c.args.automation.now x) c.in-Ok.report) (sym (c.automation-1.given.1 (sym named))) done
+
+pub returns-clause-err : goal.returns-clause-err
+returns-clause-err g c = λ d start before h held.
+    let stage = c.new-stage.result in
+    let here = subst (λ w. ChainStandsFor w w.service.config) (sym c.new-stage.ensures.chain) (subst (ChainStandsFor c.args.chain) (sym h.config) h) in
+    let config = ap (λ w. w.service.config) c.new-stage.ensures.chain ∙ h.config in
+    let input = g.P.PacketSource.left c.args.network.now in
+    let is_out = (λ (qs : List (List ℕ)). g.K.PacketSink.holds c.run_stage_told.new.out start (before ++ qs)) in
+    let fails = (λ (qs : List (List ℕ)). g.K.PacketSink.fails c.run_stage_told.new.out start (before ++ qs)) in
+    let unsent = (λ (qs : List (List ℕ)). g.K.GatheringSink.fails_to_send c.run_stage_told.new.out start (before ++ qs)) in
+    let exchanged = (λ (x : g.row.U.Denot). Exchanged g.U.Automation.exchanges g.U.Automation.failures x c.run_stage_told.new.stage.automation.now) in
+    let begins = begun g.U.Automation.exchanges g.met.U.Automation.exchanges_refl g.met.U.Automation.exchanges_trans g.U.Automation.failures (InjectsFor stage.chain.now.service.config) (reply_in stage.chain.now.service.config) stage.chain.now.service stage.chain.now.talk
+    (λ steps. sent_by stage.chain.now.service.config steps ≡ []) stage.automation.now here.talk (here.service (λ n. None)).injector refl in
+    let stops = c.in-Err.ensures.err start before (λ kept. record { begins = here; run = begins }) held in
+    let all = stops_by (writing_cues stage.chain.now.service.config) c.in-Err.stop input _ (InjectLeaves stage.chain.now.service.config (run_fault_of c.in-Err.stop) is_out fails unsent (exchanged stage.automation.now))
+    (inject_leaves _ _ _ _ stage c.run_stage_told.new.stage is_out fails unsent stage.chain.now c.run_stage_told.new.stage.chain.now (exchanged stage.automation.now) (λ ps qs kept s. s) (λ ps qs p r. r) (λ ps next put q b. b) c.in-Err.stop) stops in
+    let done = subst (λ x. InjectStops d c.of.result input is_out fails unsent (exchanged x)) c.new-stage.ensures.automation
+    (subst (λ f. InjectStops d f input is_out fails unsent (exchanged stage.automation.now)) (sym c.of.ensures)
+    (subst (λ w. InjectStops w (run_fault_of c.in-Err.stop) input is_out fails unsent (exchanged stage.automation.now)) config all)) in
+    let named = c.in-Err.ensures.stage.0 ∙ c.new-stage.ensures.same in
+    subst (λ x. InjectStops d c.of.result input is_out fails unsent (Exchanged g.U.Automation.exchanges g.U.Automation.failures c.args.automation.now x)) (sym (c.automation-1.given.1 (sym named))) done
+
+pub returns-clause-reading : goal.returns-clause-reading
+returns-clause-reading g c =
+    subst (λ f. NetworkBlamed f (g.P.PacketSource.has_ended c.args.network.now) (g.P.PacketSource.has_ended c.run_stage_told.new.network) (g.P.PacketSource.counts c.args.network.now) (g.P.PacketSource.counts c.run_stage_told.new.network)) (sym c.of.ensures)
+    (network_blamed c.in-Err.stop _ _ _ _ c.in-Err.ensures.reading)
+
+pub returns-clause-writing : goal.returns-clause-writing
+returns-clause-writing g c =
+    subst (λ f. OutputBlamed f (g.K.PacketSink.counts c.args.out.now) (g.K.PacketSink.counts c.run_stage_told.new.out) (g.K.PacketSink.is_full c.run_stage_told.new.out)) (sym c.of.ensures)
+    (output_blamed c.in-Err.stop _ _ _ c.in-Err.ensures.writing)
+
+pub returns-clause-turns : goal.returns-clause-turns
+returns-clause-turns g c = λ e.
+    let is : c.of.result ≡ Read Turns = cc in
+    c.in-Err.ensures.turns (ap Err (turns_of c.in-Err.stop (sym c.of.ensures ∙ is)))
+
+pub returns-in-Ok-clause-progress : goal.returns-in-Ok-clause-progress
+returns-in-Ok-clause-progress g c = λ d start before h held.
+    end_progresses (network_test as_run_fault (writing_cues d)) _ (g.P.PacketSource.has_ended c.args.network.now) (g.P.PacketSource.has_ended c.run_stage_told.new.network) _ _ _ _
+    (inject_sound d _ _ _ _ (returns-in-Ok-clause-ok g c d start before h held)) c.in-Ok.ensures.read c.in-Ok.ensures.wrote
+
+pub returns-clause-progress : goal.returns-clause-progress
+returns-clause-progress g c = λ d start before h held.
+    let is_out = (λ (qs : List (List ℕ)). g.K.PacketSink.holds c.run_stage_told.new.out start (before ++ qs)) in
+    let fails = (λ (qs : List (List ℕ)). g.K.PacketSink.fails c.run_stage_told.new.out start (before ++ qs)) in
+    let unsent = (λ (qs : List (List ℕ)). g.K.GatheringSink.fails_to_send c.run_stage_told.new.out start (before ++ qs)) in
+    let exchanged = (λ (x : g.row.U.Denot). Exchanged g.U.Automation.exchanges g.U.Automation.failures c.args.automation.now x) in
+    stop_progresses (network_test as_run_fault (writing_cues d)) _ _ (g.P.PacketSource.has_ended c.args.network.now) (g.P.PacketSource.has_ended c.run_stage_told.new.network) _ _ _ _ _ fails unsent
+    (λ f. InjectLeaves d f is_out fails unsent (exchanged c.automation-1.given.0)) (λ f bs passed rest. inject_fails d is_out fails unsent f bs passed (exchanged c.automation-1.given.0) rest)
+    c.of.result (returns-clause-err g c d start before h held) (to_the_end c.of.result _ _ _ _ (returns-clause-reading g c)) (returns-clause-writing g c)
+    (λ e. returns-clause-turns g c (ap Err e))

@@ -1,0 +1,222 @@
+//! Whole runs of several services on air that are looked at between their packets.
+
+ghost use Rattle.std.specs.Prelude.{◌≡◌, ℕ, List, [], length, Some, false, IfOk, IfErr};
+ghost use Rattle.psi_tables.specs.declared.config.Config.{Config};
+ghost use Rattle.on_air.specs.Plain.{IsOfDevices};
+ghost use Rattle.services_on_air.specs.Standing.{AirServicesStandFor, TellsServices};
+
+use crate::occurrence::What;
+use crate::tracker::{Taken, Tracker};
+use crate::watch::{Site, Watch};
+use ad_library::AdLibrary;
+use arrayvec::ArrayVec;
+use chain_engine::{Automation, RunFault, Service};
+use chain_services::ServiceReport;
+use on_air::AirReport;
+use services_on_air::{AirServices, ServiceBegun, ServicesWatch, Shown, run_services_on_air};
+use splice_switch::SwitchReport;
+use std::alloc::Allocator;
+use ts_packet::{GatheringSink, Packet, PausingPackets};
+
+/// The most services.
+const MOST: usize = 8;
+
+/// The breaks of one service on air.
+#[derive(Drop)]
+struct ServiceSight {
+    program: u16,
+    /// Its map was found by the PAT in some stretch.
+    is_found: bool,
+    tracker: Tracker,
+}
+
+impl Default for ServiceSight {
+    /// What fills an unused place of a list.
+    fn default() -> ServiceSight {
+        ServiceSight {
+            program: 0,
+            is_found: false,
+            tracker: Tracker::default(),
+        }
+    }
+}
+
+/// One who is told of services on air, and what is known of their breaks besides.
+#[derive(Drop)]
+pub struct SeenServices<'a, A, W> {
+    inner: &'a mut A,
+    watch: W,
+    /// Something is to be told.
+    is_on: bool,
+    /// Each cue is, at its packet.
+    is_detailed: bool,
+    /// How many packets have passed; the count stops at the greatest u64.
+    passed: u64,
+    /// The number of the packet behind which the services are shown.
+    packet: u64,
+    /// Cues may have come before it.
+    has_news: bool,
+    services: ArrayVec<ServiceSight, MOST>,
+}
+
+impl<'a, A, W: Watch> SeenServices<'a, A, W> {
+    /// No packet has passed.
+    pub fn new(inner: &'a mut A, watch: W) -> SeenServices<'a, A, W> {
+        let (is_on, is_detailed) = (watch.is_on(), watch.is_detailed());
+        SeenServices {
+            inner,
+            watch,
+            is_on,
+            is_detailed,
+            passed: 0,
+            packet: 0,
+            has_news: false,
+            services: ArrayVec::new(),
+        }
+    }
+
+    /// Where the service of this program stands among those that are known, which it joins.
+    fn place_of(&mut self, program: u16) -> usize {
+        for place in 0..self.services.len() {
+            if self.services[place].program == program {
+                return place;
+            }
+        }
+        let mut sight = ServiceSight::default();
+        sight.program = program;
+        sight.tracker = Tracker::new(self.is_detailed);
+        let _ = self.services.try_push(sight);
+        self.services.len().saturating_sub(1)
+    }
+
+    /// Tells of the programs that were not found in the whole network.
+    fn tell_amiss(&mut self) {
+        if !self.is_on {
+            return;
+        }
+        for sight in self.services.iter() {
+            if !sight.is_found {
+                let site = Site {
+                    service: Some(sight.program),
+                    packet: self.passed,
+                };
+                site.tell(&mut self.watch, What::NotFound(sight.program));
+            }
+        }
+        let site = Site {
+            service: None,
+            packet: self.passed,
+        };
+        site.tell(&mut self.watch, What::End);
+    }
+}
+
+impl<A: ServicesWatch, W: Watch> ServicesWatch for SeenServices<'_, A, W> {
+    fn begun(&mut self, begun: &ServiceBegun) {
+        self.inner.begun(begun);
+    }
+
+    fn unjudged(&mut self, packet: u64) {
+        self.inner.unjudged(packet);
+    }
+
+    #[inline(always)]
+    fn looks(&mut self, packet: &Packet) -> bool {
+        if !self.is_on {
+            return false;
+        }
+        self.packet = self.passed;
+        self.passed = self.passed.saturating_add(1);
+        self.has_news = self.is_detailed && self.watch.takes_news();
+        self.has_news || packet.unit_start()
+    }
+
+    fn shown(&mut self, service: &Service, library: &AdLibrary, shown: Shown<'_>) {
+        if !self.is_on {
+            return;
+        }
+        let program = service.config().program;
+        let place = self.place_of(program);
+        let site = Site {
+            service: Some(program),
+            packet: match shown {
+                Shown::Last => self.passed,
+                _ => self.packet,
+            },
+        };
+        let null = &Packet::null();
+        let taken = match shown {
+            Shown::Judged(packet) => Taken {
+                packet,
+                has_news: self.has_news,
+            },
+            Shown::Unjudged => Taken {
+                packet: null,
+                has_news: self.has_news,
+            },
+            Shown::Last => Taken {
+                packet: null,
+                has_news: true,
+            },
+        };
+        if let Some(sight) = self.services.get_mut(place) {
+            sight.is_found = sight.is_found || service.pid_count() > 0;
+            sight
+                .tracker
+                .look(service.switch(), library, taken, site, &mut self.watch);
+        }
+    }
+
+    fn ended(&mut self, program: u16, report: &SwitchReport, lost: u64) {
+        if !self.is_on {
+            return;
+        }
+        let place = self.place_of(program);
+        let site = Site {
+            service: Some(program),
+            packet: self.passed,
+        };
+        if let Some(sight) = self.services.get_mut(place) {
+            sight.tracker.finish(*report, site, &mut self.watch);
+        }
+        if lost > 0 {
+            site.tell(&mut self.watch, What::Lost(lost));
+        }
+    }
+}
+
+/// Runs several services on air as [`services_on_air::run_services_on_air`] does, and tells of it.
+///
+/// # Errors
+///
+/// The fault of a device alone.
+pub fn services_told_on_air<M, P, U, K, A, W>(
+    services: AirServices<M>,
+    network: &mut P,
+    automation: &mut U,
+    libraries: &[AdLibrary],
+    out: &mut K,
+    watch: &mut A,
+    listener: W,
+) -> Result<AirReport<ServiceReport>, RunFault>
+where
+    M: Allocator,
+    P: PausingPackets,
+    U: Automation,
+    K: GatheringSink,
+    A: ServicesWatch,
+    W: Watch + Drop,
+    requires { P.is_broken network.old ≡ false }
+    ensures stretches { (cs : List Config) (bs : List ℕ) → AirServicesStandFor services cs [] → length libraries.now ≡ length cs
+        → P.left network.old ≡ Some bs → IfOk result (λ told. TellsServices told cs bs) }
+    ensures devices { IfErr result IsOfDevices }
+{
+    let mut seen = SeenServices::new(watch, listener);
+    match run_services_on_air(services, network, automation, libraries, out, &mut seen) {
+        Ok(report) => {
+            seen.tell_amiss();
+            Ok(report)
+        }
+        Err(fault) => Err(fault),
+    }
+}
