@@ -1,0 +1,5 @@
+pub mod Fields
+pub mod Names
+pub mod Lines
+pub mod Logs
+pub mod Warned
