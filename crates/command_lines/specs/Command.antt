@@ -7,7 +7,7 @@ use Rattle.run_ends.specs.declared.ends.End.TheVariants.{Lines, Standard, File}
 use Rattle.command_lines.specs.declared.inject_options.Asking.{Asking as Asked}
 use Rattle.command_lines.specs.declared.inject_options.Asking.TheVariants as asking
 use Rattle.command_lines.specs.declared.inject_options.BadInject.{BadInject}
-use Rattle.command_lines.specs.declared.inject_options.BadInject.TheVariants.{Number, Asking, Input, ListInput}
+use Rattle.command_lines.specs.declared.inject_options.BadInject.TheVariants.{Number, Asking, Input, ListInput, Events}
 use Rattle.command_lines.specs.declared.splice_options.BadSplice.{BadSplice}
 use Rattle.command_lines.specs.declared.splice_options.BadSplice.TheVariants as splice
 use Rattle.command_lines.specs.declared.command.NumberOption.{NumberOption}
@@ -74,6 +74,7 @@ refused_option (Number bad) = Some bad.option
 refused_option Asking = None
 refused_option Input = None
 refused_option ListInput = None
+refused_option Events = None
 
 -- and the text that it shows
 abbrev pub refused_text : BadInject → Option (List ℕ)
@@ -81,15 +82,18 @@ refused_text (Number bad) = Some bad.text.now
 refused_text Asking = None
 refused_text Input = None
 refused_text ListInput = None
+refused_text Events = None
 
 -- and one of `splice`
 abbrev pub refused_of_splice : BadSplice → Option NumberOption
 refused_of_splice (splice.Number bad) = Some bad.option
 refused_of_splice splice.Input = None
+refused_of_splice splice.Events = None
 
 abbrev pub refused_text_of_splice : BadSplice → Option (List ℕ)
 refused_text_of_splice (splice.Number bad) = Some bad.text.now
 refused_text_of_splice splice.Input = None
+refused_text_of_splice splice.Events = None
 
 -- what the end is called where the messages come from
 abbrev pub asking_name : Asked → List ℕ
@@ -124,3 +128,4 @@ AreShared network asked adverts Asking = ⊥
 AreShared network asked adverts Input = (is_standard network ≡ true) × (is_asked_there asked ≡ true)
 AreShared network asked adverts ListInput =
     (is_listed_there adverts ≡ true) × ((is_standard network || is_asked_there asked) ≡ true)
+AreShared network asked adverts Events = ⊥

@@ -13,7 +13,7 @@ use Rattle.command_lines.specs.declared.command.NumberOption.TheVariants as numb
 use Rattle.command_lines.specs.declared.inject_options.Asking.{Asking as Asked}
 use Rattle.command_lines.specs.declared.inject_options.Asking.TheVariants as asking
 use Rattle.command_lines.specs.declared.inject_options.BadInject.{BadInject}
-use Rattle.command_lines.specs.declared.inject_options.BadInject.TheVariants.{Number, Asking, Input, ListInput}
+use Rattle.command_lines.specs.declared.inject_options.BadInject.TheVariants.{Number, Asking, Input, ListInput, Events}
 use Rattle.command_lines.specs.declared.inject_options.InjectOptions.{InjectOptions}
 use Rattle.command_lines.specs.declared.splice_options.BadSplice.{BadSplice}
 use Rattle.command_lines.specs.declared.splice_options.BadSplice.TheVariants as splice
@@ -47,6 +47,7 @@ IsNotAsking script listen (Number bad) = (script ≡ None) × (bad.option ≡ nu
 IsNotAsking script listen Asking = is_some script ≡ is_some listen
 IsNotAsking script listen Input = ⊥
 IsNotAsking script listen ListInput = ⊥
+IsNotAsking script listen Events = ⊥
 
 -- ---- what the subcommands are to do
 
@@ -66,9 +67,12 @@ pub record IsInjectOf (matches : ArgMatches) (adverts : Option End) (options : I
   pub asking : IsAsking (given matches (codes "script")) (given matches (codes "listen")) options.asking
   pub adverts_are : options.adverts ≡ adverts
   pub output : IsNamed (given matches (codes "out")) options.output
+  pub events : IsNamed (given matches (codes "events")) options.events
   pub on_air : IsFlag (one_text (found_of matches) (codes "on-air")) options.is_on_air
+  pub quiet : IsFlag (one_text (found_of matches) (codes "quiet")) options.is_quiet
   pub verbose : IsFlag (one_text (found_of matches) (codes "verbose")) options.is_verbose
   pub apart : are_two (is_standard options.network) (is_asked_there options.asking) (is_listed_there options.adverts) ≡ false
+  pub outputs_apart : (is_standard options.output && is_standard options.events) ≡ false
 
 -- likewise, and the list is the one that is named
 abbrev pub IsRunOf : ArgMatches → InjectOptions → Type 0
@@ -82,9 +86,12 @@ pub record IsSpliceOf (matches : ArgMatches) (options : SpliceOptions) : Type 0 
   pub network : IsNamed (given matches (codes "network")) options.network
   pub adverts : IsNamed (given matches (codes "adverts")) options.adverts
   pub output : IsNamed (given matches (codes "out")) options.output
+  pub events : IsNamed (given matches (codes "events")) options.events
   pub on_air : IsFlag (one_text (found_of matches) (codes "on-air")) options.is_on_air
+  pub quiet : IsFlag (one_text (found_of matches) (codes "quiet")) options.is_quiet
   pub verbose : IsFlag (one_text (found_of matches) (codes "verbose")) options.is_verbose
   pub apart : (is_standard options.network && is_standard options.adverts) ≡ false
+  pub outputs_apart : (is_standard options.output && is_standard options.events) ≡ false
 
 -- ---- why they are not taken
 
@@ -104,7 +111,8 @@ abbrev pub IsBadOf : BadNumber → List ℕ → List ℕ → List ℕ → Type 0
 IsBadOf bad program cue_pid index =
     IsRefusedOf bad.option program cue_pid index × (bad.text.now ≡ shown_of bad.option program cue_pid index)
 
--- a number, or where the messages come from; or two of the network, the script and the list are standard input
+-- a number, or where the messages come from; or two of the network, the script and the list are standard input; or what goes out and what is
+-- written of what happens are standard output both
 abbrev pub IsNoInject : ArgMatches → Option End → BadInject → Type 0
 IsNoInject matches adverts (Number bad) =
     IsBadOf bad (text_of matches (codes "program")) (text_of matches (codes "cue-pid")) (text_of matches (codes "index"))
@@ -114,15 +122,17 @@ IsNoInject matches adverts Asking =
 IsNoInject matches adverts Input = IsDash (given matches (codes "network")) × IsDash (given matches (codes "script"))
 IsNoInject matches adverts ListInput = (is_listed_there adverts ≡ true)
     × (IsDash (given matches (codes "network")) ⊎ IsDash (given matches (codes "script")))
+IsNoInject matches adverts Events = IsDash (given matches (codes "out")) × IsDash (given matches (codes "events"))
 
 -- likewise, with the list that is named
 abbrev pub IsNoRun : ArgMatches → BadInject → Type 0
 IsNoRun matches bad =
     (list : End) × IsNamed (given matches (codes "adverts")) list × IsNoInject matches (Some list) bad
 
--- a number, or the network and the list are standard input both
+-- a number, or the network and the list are standard input both; or both outputs are standard output
 abbrev pub IsNoSplice : ArgMatches → BadSplice → Type 0
 IsNoSplice matches (splice.Number bad) =
     IsRefusedOfSplice bad.option (text_of matches (codes "program")) (text_of matches (codes "cue-pid"))
     × (bad.text.now ≡ shown_of bad.option (text_of matches (codes "program")) (text_of matches (codes "cue-pid")) [])
 IsNoSplice matches splice.Input = IsDash (given matches (codes "network")) × IsDash (given matches (codes "adverts"))
+IsNoSplice matches splice.Events = IsDash (given matches (codes "out")) × IsDash (given matches (codes "events"))

@@ -38,3 +38,10 @@ pub(crate) fn is_verbose(matches: &ArgMatches<'_>) -> bool
 {
     matches.get_flag("verbose")
 }
+
+/// Whether nothing is warned of.
+pub(crate) fn is_quiet(matches: &ArgMatches<'_>) -> bool
+    ensures { IsFlag (one_text (found_of matches.now) (codes "quiet")) result }
+{
+    matches.get_flag("quiet")
+}

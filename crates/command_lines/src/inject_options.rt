@@ -1,6 +1,6 @@
 //! Of the subcommands `inject` and `run` the options and their ranges.
 
-ghost use Rattle.std.specs.Prelude.{◌≡◌, ◌^◌, IfOk, IfErr, Some, is_ok, not, is_none, IsSomeAnd, IfSome, codes, option_map, None};
+ghost use Rattle.std.specs.Prelude.{◌≡◌, ◌^◌, ◌&&◌, IfOk, IfErr, Some, is_ok, not, is_none, IsSomeAnd, IfSome, codes, option_map, None};
 ghost use Rattle.run_ends.specs.Ends.{name_of, path_of};
 ghost use Rattle.decimal_numbers.specs.Numbers.{number_below, number_within};
 ghost use Rattle.command_lines.specs.Command.{IsRefusedOf, refused_option, is_standard, is_asked_there, is_listed_there, are_two};
@@ -8,7 +8,7 @@ ghost use Rattle.command_lines.specs.Command.{AreShared, refused_text, shown_of,
 ghost use Rattle.command_lines.specs.Options.{IsAsking, IsNotAsking, IsInjectOf, IsRunOf, IsNoInject, IsNoRun};
 
 use crate::command::{BadNumber, NumberOption};
-use crate::given::{end_of, is_on_air, is_verbose, text_of};
+use crate::given::{end_of, is_on_air, is_quiet, is_verbose, text_of};
 use crate::subcommand::{Subcommand, ValueOption};
 use clap::ArgMatches;
 use decimal_numbers::{number_below, number_within};
@@ -52,6 +52,10 @@ message has; what one has asked for stands when it goes. At the end of the netwo
 at the end of one, how many packets went out `unjudged`, how many were marked in error for an adaptation field that does not fit
 (`mended`), and how many bytes were left out (`skipped`). With --verbose each new stretch is told as it begins, and damage too, at most once in 16,384 packets of each kind.
 
+With --events what happens is written to a file, one JSON object a line, as it happens: each request with its verdict, each cue, each
+break. docs/EVENTS.md of the source has the keys. At the end of a good run warnings stand on standard error, unless --quiet is given: of
+a program that was not found, a session that was closed by a bad size, lines of the script past the end of the network.
+
 FILE may be a pipe, and - is standard input or output. What came in before a pause of the network goes out before it. The contents
 of the output file are replaced; it may not be an input.";
 
@@ -87,6 +91,10 @@ At the end standard output has the three lines of `inject` and the four of `spli
 and the replies and these lines to standard error. One of the network, the script and the list may be standard input. The contents of the
 output file are replaced; it may not be an input.
 
+With --events what happens is written to a file, one JSON object a line, as it happens: each request with its verdict, each cue, each
+break, where it begins and is over, or why its advertisement does not fit, and each edge that is not clean. Warnings at the end of a
+good run tell of such edges too, and of advertisements that are not in the list; --quiet turns them off.
+
 With --on-air no fault of the network ends the run, and the report has five lines more; `dpi_chain inject --help` tells of them.";
 
 const RUN_EXAMPLE: &str = "Example, with a list whose one line is `7 advert.ts`:
@@ -99,11 +107,11 @@ The same for a channel in a pipe, which goes on behind its faults and tells of t
 
 /// How `run` is called.
 pub const RUN_USAGE: &str =
-    "dpi_chain run --network <FILE> --program <N> --cue-pid <PID> --index <N> <--script <FILE>|--listen <PORT>> --adverts <FILE> --out <FILE> [--on-air] [--verbose]";
+    "dpi_chain run --network <FILE> --program <N> --cue-pid <PID> --index <N> <--script <FILE>|--listen <PORT>> --adverts <FILE> --out <FILE> [--events <FILE>] [--on-air] [--quiet] [--verbose]";
 
 /// How `inject` is called.
 pub const INJECT_USAGE: &str =
-    "dpi_chain inject --network <FILE> --program <N> --cue-pid <PID> --index <N> <--script <FILE>|--listen <PORT>> --out <FILE> [--on-air] [--verbose]";
+    "dpi_chain inject --network <FILE> --program <N> --cue-pid <PID> --index <N> <--script <FILE>|--listen <PORT>> --out <FILE> [--events <FILE>] [--on-air] [--quiet] [--verbose]";
 
 pub(crate) const NETWORK: ValueOption = ValueOption {
     id: "network",
@@ -161,10 +169,19 @@ pub(crate) const OUT: ValueOption = ValueOption {
     is_required: true,
 };
 
-const INJECT_OPTIONS: [ValueOption; 7] = [NETWORK, PROGRAM, CUE_PID, INDEX, SCRIPT, LISTEN, OUT];
+pub(crate) const EVENTS: ValueOption = ValueOption {
+    id: "events",
+    value_name: "FILE",
+    help: "The file to write what happens to, a JSON object a line, whose contents are replaced; - is standard output",
+    is_required: false,
+};
 
-const RUN_OPTIONS: [ValueOption; 8] = [
-    NETWORK, PROGRAM, CUE_PID, INDEX, SCRIPT, LISTEN, ADVERTS, OUT,
+const INJECT_OPTIONS: [ValueOption; 8] = [
+    NETWORK, PROGRAM, CUE_PID, INDEX, SCRIPT, LISTEN, OUT, EVENTS,
+];
+
+const RUN_OPTIONS: [ValueOption; 9] = [
+    NETWORK, PROGRAM, CUE_PID, INDEX, SCRIPT, LISTEN, ADVERTS, OUT, EVENTS,
 ];
 
 const INJECT_VERBOSE: &str =
@@ -228,8 +245,12 @@ pub struct InjectOptions<'a> {
     pub adverts: Option<End<'a>>,
     /// What is written.
     pub output: End<'a>,
+    /// What is written of what happens; `Lines` where nothing is.
+    pub events: End<'a>,
     /// Whether the run goes on behind faults of the network.
     pub is_on_air: bool,
+    /// Whether nothing is warned of at the end of a good run.
+    pub is_quiet: bool,
     /// Whether more is told than the fault's line.
     pub is_verbose: bool,
 }
@@ -260,6 +281,10 @@ impl<'a> InjectOptions<'a> {
     }
 }
 
+/// What is said where the packets and what happens go to standard output both.
+pub(crate) const EVENTS_TEXT: &str =
+    "error: '--out <FILE>' and '--events <FILE>' cannot both be standard output";
+
 /// Why the options of `inject` or `run` are not taken.
 #[derive(Clone, Copy, Debug, Drop)]
 pub enum BadInject<'a> {
@@ -271,6 +296,8 @@ pub enum BadInject<'a> {
     Input,
     /// Two of the network, the script and the list are standard input.
     ListInput,
+    /// The packets and what happens go to standard output both.
+    Events,
 }
 
 impl fmt::Display for BadInject<'_> {
@@ -289,6 +316,7 @@ impl fmt::Display for BadInject<'_> {
                 f,
                 "error: only one of '--network <FILE>', '--script <FILE>' and '--adverts <FILE>' can be standard input"
             ),
+            BadInject::Events => write!(f, "{EVENTS_TEXT}"),
         }
     }
 }
@@ -403,6 +431,13 @@ pub(crate) fn check_inputs<'a>(
     Ok(())
 }
 
+/// Whether the packets and what happens go to standard output both.
+pub(crate) fn share_output(output: End<'_>, events: End<'_>) -> bool
+    ensures { result ≡ (is_standard output.entry && is_standard events.entry) }
+{
+    is_standard(output) && is_standard(events)
+}
+
 /// What the options of `inject` say, and where the subcommand has a list those of `run`.
 fn asked_options<'a>(
     matches: &ArgMatches<'a>,
@@ -418,12 +453,19 @@ fn asked_options<'a>(
     let asking = asking_of(matches.get_str("script"), matches.get_str("listen"))?;
     let network = end_of(matches, "network");
     check_inputs(network, asking, adverts)?;
+    let output = end_of(matches, "out");
+    let events = end_of(matches, "events");
+    if share_output(output, events) {
+        return Err(BadInject::Events);
+    }
     Ok(InjectOptions {
         config,
         network,
         asking,
         adverts,
-        output: end_of(matches, "out"),
+        output,
+        events,
+        is_quiet: is_quiet(matches),
         is_on_air: is_on_air(matches),
         is_verbose: is_verbose(matches),
     })
@@ -434,7 +476,7 @@ fn asked_options<'a>(
 /// # Errors
 ///
 /// The first of the numbers that is not in its range; `Asking` where not exactly one of a script and a port is given; `Input` where
-/// the network and the script are both standard input.
+/// the network and the script are both standard input; `Events` where the packets and what happens go to standard output both.
 pub fn inject_options<'a>(matches: &ArgMatches<'a>) -> Result<InjectOptions<'a>, BadInject<'a>>
     ensures taken { IfOk result (IsInjectOf matches.now None) }
     ensures refused { IfErr result (IsNoInject matches.now None) }

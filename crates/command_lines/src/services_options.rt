@@ -5,9 +5,10 @@ ghost use Rattle.run_ends.specs.Ends.{path_of};
 ghost use Rattle.command_lines.specs.Command.{asking_name};
 ghost use Rattle.command_lines.specs.Services.{IsServicesOf, IsNoServices};
 
-use crate::given::{end_of, is_on_air, is_verbose};
+use crate::given::{end_of, is_on_air, is_quiet, is_verbose};
 use crate::inject_options::{
-    Asking, BadInject, LISTEN, NETWORK, OUT, PLAYING_VERBOSE, SCRIPT, asking_of, check_inputs,
+    Asking, BadInject, EVENTS, EVENTS_TEXT, LISTEN, NETWORK, OUT, PLAYING_VERBOSE, SCRIPT,
+    asking_of, check_inputs, share_output,
 };
 use crate::subcommand::{Subcommand, ValueOption};
 use clap::ArgMatches;
@@ -45,7 +46,7 @@ films.txt:
 
 /// How `services` is called.
 pub const SERVICES_USAGE: &str =
-    "dpi_chain services --network <FILE> --services <FILE> <--script <FILE>|--listen <PORT>> --out <FILE> [--on-air] [--verbose]";
+    "dpi_chain services --network <FILE> --services <FILE> <--script <FILE>|--listen <PORT>> --out <FILE> [--events <FILE>] [--on-air] [--quiet] [--verbose]";
 
 const SERVICES_LIST: ValueOption = ValueOption {
     id: "services",
@@ -54,7 +55,7 @@ const SERVICES_LIST: ValueOption = ValueOption {
     is_required: true,
 };
 
-const SERVICES_OPTIONS: [ValueOption; 5] = [NETWORK, SERVICES_LIST, SCRIPT, LISTEN, OUT];
+const SERVICES_OPTIONS: [ValueOption; 6] = [NETWORK, SERVICES_LIST, SCRIPT, LISTEN, OUT, EVENTS];
 
 pub(crate) const SERVICES: Subcommand = Subcommand {
     name: "services",
@@ -77,8 +78,12 @@ pub struct ServicesOptions<'a> {
     pub services: End<'a>,
     /// What is written.
     pub output: End<'a>,
+    /// What is written of what happens; `Lines` where nothing is.
+    pub events: End<'a>,
     /// Whether the run goes on behind faults of the network.
     pub is_on_air: bool,
+    /// Whether nothing is warned of at the end of a good run.
+    pub is_quiet: bool,
     /// Whether more is told than the fault's line.
     pub is_verbose: bool,
 }
@@ -106,6 +111,8 @@ pub enum BadServices<'a> {
     Asked(BadInject<'a>),
     /// The list and another input are standard input.
     ListInput,
+    /// The packets and what happens go to standard output both.
+    Events,
 }
 
 impl fmt::Display for BadServices<'_> {
@@ -116,6 +123,7 @@ impl fmt::Display for BadServices<'_> {
                 f,
                 "error: only one of '--network <FILE>', '--script <FILE>' and '--services <FILE>' can be standard input"
             ),
+            BadServices::Events => write!(f, "{EVENTS_TEXT}"),
         }
     }
 }
@@ -125,7 +133,8 @@ impl fmt::Display for BadServices<'_> {
 /// # Errors
 ///
 /// `Asked` where the port is not in its range, where not exactly one of a script and a port is given, or where the network and the script are
-/// both standard input; else `ListInput` where the list and another input are.
+/// both standard input; else `ListInput` where the list and another input are; else `Events` where the packets and what happens go to standard
+/// output both.
 pub fn services_options<'a>(
     matches: &ArgMatches<'a>,
 ) -> Result<ServicesOptions<'a>, BadServices<'a>>
@@ -143,11 +152,18 @@ pub fn services_options<'a>(
         Err(BadInject::ListInput) => return Err(BadServices::ListInput),
         Err(bad) => return Err(BadServices::Asked(bad)),
     }
+    let output = end_of(matches, "out");
+    let events = end_of(matches, "events");
+    if share_output(output, events) {
+        return Err(BadServices::Events);
+    }
     Ok(ServicesOptions {
         network,
         asking,
         services,
-        output: end_of(matches, "out"),
+        output,
+        events,
+        is_quiet: is_quiet(matches),
         is_on_air: is_on_air(matches),
         is_verbose: is_verbose(matches),
     })

@@ -7,9 +7,10 @@ ghost use Rattle.command_lines.specs.Command.{IsRefusedOfSplice, refused_of_spli
 ghost use Rattle.command_lines.specs.Options.{IsSpliceOf, IsNoSplice};
 
 use crate::command::{BadNumber, NumberOption};
-use crate::given::{end_of, is_on_air, is_verbose, text_of};
+use crate::given::{end_of, is_on_air, is_quiet, is_verbose, text_of};
 use crate::inject_options::{
-    ADVERTS, LEAST_PID, NETWORK, NULL_PID, NUMBER_LIMIT, OUT, PLAYING_VERBOSE, PROGRAM, is_standard,
+    ADVERTS, EVENTS, EVENTS_TEXT, LEAST_PID, NETWORK, NULL_PID, NUMBER_LIMIT, OUT, PLAYING_VERBOSE,
+    PROGRAM, is_standard, share_output,
 };
 use crate::subcommand::{Subcommand, ValueOption};
 use clap::ArgMatches;
@@ -61,7 +62,7 @@ what went out before it stands (with --on-air only files, pipes, memory and the 
 
 /// How `splice` is called.
 pub const SPLICE_USAGE: &str =
-    "dpi_chain splice --network <FILE> --program <N> --cue-pid <PID> --adverts <FILE> --out <FILE> [--on-air] [--verbose]";
+    "dpi_chain splice --network <FILE> --program <N> --cue-pid <PID> --adverts <FILE> --out <FILE> [--events <FILE>] [--on-air] [--quiet] [--verbose]";
 
 const CUE_PID: ValueOption = ValueOption {
     id: "cue-pid",
@@ -70,7 +71,7 @@ const CUE_PID: ValueOption = ValueOption {
     is_required: true,
 };
 
-const SPLICE_OPTIONS: [ValueOption; 5] = [NETWORK, PROGRAM, CUE_PID, ADVERTS, OUT];
+const SPLICE_OPTIONS: [ValueOption; 6] = [NETWORK, PROGRAM, CUE_PID, ADVERTS, OUT, EVENTS];
 
 pub(crate) const SPLICE: Subcommand = Subcommand {
     name: "splice",
@@ -93,8 +94,12 @@ pub struct SpliceOptions<'a> {
     pub adverts: End<'a>,
     /// What is written.
     pub output: End<'a>,
+    /// What is written of what happens; `Lines` where nothing is.
+    pub events: End<'a>,
     /// Whether the run goes on behind faults of the network.
     pub is_on_air: bool,
+    /// Whether nothing is warned of at the end of a good run.
+    pub is_quiet: bool,
     /// Whether more is told than the fault's line.
     pub is_verbose: bool,
 }
@@ -115,6 +120,8 @@ pub enum BadSplice<'a> {
     Number(BadNumber<'a>),
     /// The network and the list are both standard input.
     Input,
+    /// The packets and what happens go to standard output both.
+    Events,
 }
 
 impl fmt::Display for BadSplice<'_> {
@@ -125,6 +132,7 @@ impl fmt::Display for BadSplice<'_> {
                 f,
                 "error: '--network <FILE>' and '--adverts <FILE>' cannot both be standard input"
             ),
+            BadSplice::Events => write!(f, "{EVENTS_TEXT}"),
         }
     }
 }
@@ -175,7 +183,8 @@ fn check_inputs<'a>(network: End<'a>, adverts: End<'a>) -> Result<(), BadSplice<
 ///
 /// # Errors
 ///
-/// The first of the numbers that is not in its range; `Input` where the network and the list are both standard input.
+/// The first of the numbers that is not in its range; `Input` where the network and the list are both standard input; `Events` where the
+/// packets and what happens go to standard output both.
 pub fn splice_options<'a>(matches: &ArgMatches<'a>) -> Result<SpliceOptions<'a>, BadSplice<'a>>
     ensures taken { IfOk result (IsSpliceOf matches.now) }
     ensures refused { IfErr result (IsNoSplice matches.now) }
@@ -186,11 +195,18 @@ pub fn splice_options<'a>(matches: &ArgMatches<'a>) -> Result<SpliceOptions<'a>,
     let network = end_of(matches, "network");
     let adverts = end_of(matches, "adverts");
     check_inputs(network, adverts)?;
+    let output = end_of(matches, "out");
+    let events = end_of(matches, "events");
+    if share_output(output, events) {
+        return Err(BadSplice::Events);
+    }
     Ok(SpliceOptions {
         config,
         network,
         adverts,
-        output: end_of(matches, "out"),
+        output,
+        events,
+        is_quiet: is_quiet(matches),
         is_on_air: is_on_air(matches),
         is_verbose: is_verbose(matches),
     })

@@ -37,6 +37,9 @@ impl ValueOption {
 const ON_AIR: &str =
     "Go on behind every fault of the network; what cannot be judged goes out as it came, and the report has five more lines";
 
+/// What `--quiet` does.
+const QUIET: &str = "Print no warnings on standard error at the end of a good run";
+
 /// A flag.
 pub(crate) fn flag<'a>(alloc: Global, name: &'static str, help: &'static str) -> Arg<'a>
     ensures id { result.id ≡ name.entry }
@@ -96,10 +99,11 @@ impl Subcommand {
         self.silent(alloc)?.arg(verbose)
     }
 
-    /// Likewise, with the flag `--on-air`.
+    /// Likewise, with the flags `--on-air` and `--quiet`.
     pub(crate) fn on_air<'a>(self, alloc: Global) -> Result<Command<'a>, AllocError> {
         let on_air = flag(alloc, "on-air", ON_AIR);
+        let quiet = flag(alloc, "quiet", QUIET);
         let verbose = flag(alloc, "verbose", self.verbose);
-        self.silent(alloc)?.arg(on_air)?.arg(verbose)
+        self.silent(alloc)?.arg(on_air)?.arg(quiet)?.arg(verbose)
     }
 }

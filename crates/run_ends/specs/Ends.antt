@@ -1,5 +1,8 @@
 -- The ends of a run, as options name them, and the files that are opened for them.
 use Rattle.std.specs.Prelude.{◌≡◌, ◌≢◌, ℕ, List, Option, None, Some, true, is_some, IsSome, codes}
+use Rattle.std.specs.Borrow.{Bor}
+use Rattle.std.specs.Fs.{IsFile, file_type}
+use Rattle.std.specs.declared.fs.attrs.Metadata.{Metadata}
 use Rattle.run_ends.specs.declared.ends.End.{End}
 use Rattle.run_ends.specs.declared.ends.End.TheVariants.{Lines, Standard, File}
 use Rattle.run_ends.specs.declared.ends.OpenedEnds.{OpenedEnds}
@@ -23,6 +26,11 @@ abbrev pub name_of : List ℕ → End → List ℕ
 name_of standard Lines = standard
 name_of standard Standard = standard
 name_of standard (File path) = path.now
+
+-- there is one, and it is an ordinary file
+abbrev pub IsOrdinary : Option (Bor Metadata) → Type 0
+IsOrdinary None = ⊥
+IsOrdinary (Some about) = IsFile (file_type about.now)
 
 -- A file was opened for each end that is one, and for no other; a standard input may pause.
 pub record AreOpened {F : Type 0} (input output : End) (opened : OpenedEnds F) : Type 0 where

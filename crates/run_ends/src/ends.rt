@@ -1,8 +1,8 @@
 //! Where the streams of a run come from and go to: files, the standard streams in bytes, or lines of digits on them.
 
-ghost use Rattle.std.specs.Prelude.{◌≡◌, codes, option_map, IfErr, IfOk};
-ghost use Rattle.std.specs.Fs.{file_type, IsDir};
-ghost use Rattle.run_ends.specs.Ends.{IsNamed, path_of, name_of, AreOpened, IsUnopened};
+ghost use Rattle.std.specs.Prelude.{◌≡◌, codes, option_map, true, is_some, Any, IsSome, IfErr, IfOk};
+ghost use Rattle.std.specs.Fs.{file_type, IsDir, IsFile};
+ghost use Rattle.run_ends.specs.Ends.{IsNamed, path_of, name_of, IsOrdinary, AreOpened, IsUnopened};
 
 use std::fs::{self, Metadata, OpenFile};
 use std::io;
@@ -76,11 +76,6 @@ pub struct OpenedEnds<F> {
     pub is_live: bool,
 }
 
-/// Whether the two are one ordinary file, by whatever names: then writing the one would destroy the other.
-fn is_same_file(one: &Metadata, other: &Metadata) -> bool {
-    one.is_file() && one.dev() == other.dev() && one.ino() == other.ino()
-}
-
 /// Opens a file to read, with what the system says of it.
 ///
 /// # Errors
@@ -97,34 +92,56 @@ pub fn open_input<R: Files>(rt: &R, path: &str) -> io::Result<(R::File, Metadata
     Ok((file, about))
 }
 
-/// Whether the file that stands there is one that is read.
-fn is_input(standing: &Metadata, input: Option<&Metadata>) -> bool {
-    match input {
-        Some(input) => is_same_file(input, standing),
-        None => false,
-    }
+/// Whether the two are one ordinary file, by whatever names: then writing the one would destroy the other. What the system says of the
+/// device and the number of a file is outside the proof.
+fn is_same_file(one: &Metadata, other: &Metadata) -> bool
+    ensures { result ≡ true → IsFile (file_type one.now) }
+{
+    one.is_file() && one.dev() == other.dev() && one.ino() == other.ino()
 }
 
-/// Makes a file to write anew, unless it is one of the three that are read at most: the network, the script, the list.
+/// Whether the file that stands there is one of these.
+fn is_one_of(standing: &Metadata, others: &[Option<&Metadata>]) -> bool
+    ensures { result ≡ true → Any IsOrdinary others.now }
+{
+    others.iter().any(|other| other.is_some_and(|other| is_same_file(other, standing)))
+}
+
+/// Makes a file to write anew, unless it is one of the other files of the run, which are read or written too.
 ///
 /// # Errors
 ///
-/// `Other` where it is one of the three, an ordinary file by whatever name; else the system's, where the file cannot be made.
-pub fn create_output<R: Files>(
+/// `Other` where it is one of them, an ordinary file by whatever name; else the system's, where the file cannot be made.
+pub fn create_beside<R: Files>(
     rt: &R,
     path: &str,
-    network: Option<&Metadata>,
-    script: Option<&Metadata>,
-    list: Option<&Metadata>,
+    others: &[Option<&Metadata>],
 ) -> io::Result<R::File> {
     if let Ok(standing) = fs::metadata(rt, path)
-        && (is_input(&standing, network)
-            || is_input(&standing, script)
-            || is_input(&standing, list))
+        && is_one_of(&standing, others)
     {
-        return Err(io::Error::other("it is the input file"));
+        return Err(io::Error::other("it is another file of the run"));
     }
     fs::create(rt, path)
+}
+
+/// Makes the file of an output anew, where the end is one.
+///
+/// # Errors
+///
+/// As for [`create_beside`], with the input.
+fn open_output<R: Files>(
+    rt: &R,
+    output: End<'_>,
+    input: Option<&Metadata>,
+) -> io::Result<Option<R::File>>
+    ensures opened { IfOk result (λ file. is_some file ≡ is_some (path_of output.entry)) }
+    ensures unopened { IfErr result (λ _. IsSome (path_of output.entry)) }
+{
+    match output.path() {
+        Some(path) => create_beside(rt, path, &[input]).map(Some),
+        None => Ok(None),
+    }
 }
 
 /// Opens the files of a run. Nothing is opened for writing before the input is found good, and not where both are the same file.
@@ -132,7 +149,7 @@ pub fn create_output<R: Files>(
 /// # Errors
 ///
 /// `Input` where the input is a file and could not be opened, as for [`open_input`]; `Output` where the output is a file and could not
-/// be made, as for [`create_output`].
+/// be made, as for [`create_beside`].
 pub fn open_ends<R: Files>(
     rt: &R,
     input: End<'_>,
@@ -147,10 +164,7 @@ pub fn open_ends<R: Files>(
     };
     let about = opened.as_ref().map(|(_, about)| about);
     let is_live = !about.is_some_and(|about| about.is_file());
-    let output = match output.path() {
-        Some(path) => Some(create_output(rt, path, about, None, None).map_err(Unopened::Output)?),
-        None => None,
-    };
+    let output = open_output(rt, output, about).map_err(Unopened::Output)?;
     Ok(OpenedEnds {
         input: opened.map(|(file, _)| file),
         output,

@@ -10,5 +10,5 @@ mod flushes;
 mod flushing;
 
 pub use attended::Attended;
-pub use ends::{End, OpenedEnds, Unopened, create_output, open_ends, open_input};
+pub use ends::{End, OpenedEnds, Unopened, create_beside, open_ends, open_input};
 pub use flushing::{finish, finish_buffer};
