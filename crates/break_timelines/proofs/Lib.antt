@@ -1,3 +1,4 @@
 pub mod RiseLemmas
 pub mod PictureLemmas
 pub mod CleanLemmas
+pub mod UnitLemmas

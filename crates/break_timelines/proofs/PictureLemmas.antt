@@ -14,7 +14,7 @@ use Rattle.break_timelines.specs.declared.video.Video.{Video}
 use Rattle.break_timelines.specs.declared.reader.Timed.{Timed}
 use Rattle.break_timelines.specs.Line.{tick_of}
 use Rattle.break_timelines.specs.Video.{video_from}
-use Rattle.break_timelines.specs.Timelines.{planning, timed_with, timed_of, timed_at, has_place, picture_of, picture_at}
+use Rattle.break_timelines.specs.Timelines.{planning, timed_with, timed_of, timed_at, has_place, begun_of, begun_at}
 
 module _ (program : ℕ) (p : List ℕ) (past : List (List ℕ)) where
   -- off the map
@@ -71,20 +71,20 @@ same_video program p past y some = ap (λ r. video_from 0 (streams_of_program r)
     by true e = absurd (let no : Some y ≡ None = e in cc)
     by false e = same_by program p past (first_on (pids_of (program_of (Some program) past)) p) y (program_of (Some program) past) refl refl e
 
-no_picture : (v : Option Video) (p : List ℕ) (before : ℕ) → picture_of v None p before ≡ []
-no_picture None p before = refl
-no_picture (Some v) p before = refl
+none_begun : (v : Option Video) (p : List ℕ) (before : ℕ) → begun_of v None p before ≡ None
+none_begun None p before = refl
+none_begun (Some v) p before = refl
 
 -- the picture, by the video that is known behind the packet
-pub picture_is : (program : ℕ) (p : List ℕ) (past : List (List ℕ)) (x : Option Timed) (v : Option Video) (before : ℕ) → x ≡ timed_at program p past
-    → v ≡ video_from 0 (streams_of_program (program_of (Some program) (p ∷ past))) → before ≡ length past → picture_of v x p before ≡ picture_at program p past
-picture_is program p past None v before timed is count =
-    no_picture v p before ∙ sym (no_picture (video_from 0 (streams_of_program (program_of (Some program) past))) p (length past))
-    ∙ ap (λ t. picture_of (video_from 0 (streams_of_program (program_of (Some program) past))) t p (length past)) timed
-picture_is program p past (Some x) v before timed is count =
-    ap (λ w. picture_of w (Some x) p before) (is ∙ same_video program p past x timed)
-    ∙ ap (λ n. picture_of (video_from 0 (streams_of_program (program_of (Some program) past))) (Some x) p n) count
-    ∙ ap (λ t. picture_of (video_from 0 (streams_of_program (program_of (Some program) past))) t p (length past)) timed
+pub begun_is : (program : ℕ) (p : List ℕ) (past : List (List ℕ)) (x : Option Timed) (v : Option Video) (before : ℕ) → x ≡ timed_at program p past
+    → v ≡ video_from 0 (streams_of_program (program_of (Some program) (p ∷ past))) → before ≡ length past → begun_of v x p before ≡ begun_at program p past
+begun_is program p past None v before timed is count =
+    none_begun v p before ∙ sym (none_begun (video_from 0 (streams_of_program (program_of (Some program) past))) p (length past))
+    ∙ ap (λ t. begun_of (video_from 0 (streams_of_program (program_of (Some program) past))) t p (length past)) timed
+begun_is program p past (Some x) v before timed is count =
+    ap (λ w. begun_of w (Some x) p before) (is ∙ same_video program p past x timed)
+    ∙ ap (λ n. begun_of (video_from 0 (streams_of_program (program_of (Some program) past))) (Some x) p n) count
+    ∙ ap (λ t. begun_of (video_from 0 (streams_of_program (program_of (Some program) past))) t p (length past)) timed
 
 -- ---- the streams that have begun
 

@@ -3,3 +3,4 @@ pub mod Video
 pub mod Cleaning
 pub mod Timelines
 pub mod Standing
+pub mod Pictures

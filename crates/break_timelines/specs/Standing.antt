@@ -10,6 +10,7 @@ use Rattle.break_timelines.specs.declared.reader.TimelineFault.TheVariants.{Netw
 use Rattle.break_timelines.specs.declared.timeline.Timeline.{Timeline}
 use Rattle.break_timelines.specs.Line.{tick_of, IsPast, Follows}
 use Rattle.break_timelines.specs.Timelines.{planning, has_place, has_begun, first_of, pictures_of, risen, rises_of}
+use Rattle.break_timelines.specs.Pictures.{ArePictures}
 use Rattle.break_timelines.specs.Cleaning.{cleaned_behind}
 
 -- of each stream it is known whether a unit with a time has begun
@@ -24,7 +25,7 @@ pub record ReaderStandsFor (r : TimelineReader) (program : ℕ) (past : List (Li
   pub is_past : IsPast (high_of (Some program) past)
   pub first : r.first ≡ first_of program past
   pub begun : HasBegun r.begun.items program past
-  pub pictures : r.pictures.items ≡ pictures_of program past
+  pub pictures : ArePictures r.pictures program past
   pub marks : r.marks.items ≡ rises_of program past
 
 -- Its follower was fed a packet more, and nothing else of it.
@@ -36,7 +37,7 @@ pub record ReaderMeets (r : TimelineReader) (program : ℕ) (p : List ℕ) (past
   pub follows : Follows (high_of (Some program) past) (high_of (Some program) (p ∷ past))
   pub first : r.first ≡ first_of program past
   pub begun : HasBegun r.begun.items program past
-  pub pictures : r.pictures.items ≡ pictures_of program past
+  pub pictures : ArePictures r.pictures program past
   pub marks : r.marks.items ≡ rises_of program past
 
 -- what the packet is to the greatest time

@@ -1,9 +1,10 @@
 -- THE TIMELINE of a program: its pictures, and where its greatest time rises, over all packets of a network, newest first.
-use Rattle.std.specs.Prelude.{Bool, false, not, ◌&&◌, ◌||◌, ◌==◌, ℕ, ◌+◌, ℤ, List, [], ◌∷◌, ◌++◌, length, if◌then◌else◌, Option, None, Some, is_some}
+use Rattle.std.specs.Prelude.{Bool, false, not, ◌&&◌, ◌||◌, ◌==◌, ℕ, ◌+◌, ◌^◌, ℤ, List, [], ◌∷◌, ◌++◌, length, take, if◌then◌else◌, Option, None, Some, is_some}
 use lib.Signed.{lt_z}
 use Rattle.pes_time.specs.Line.{place as line_place}
 use Rattle.unit_stream.specs.Times.{begins, stamp}
-use Rattle.ts_packet.specs.Fields.{bytes}
+use Rattle.ts_packet.specs.Fields.{pid_of, bytes}
+use Rattle.ts_packet.specs.Duplicates.{original}
 use Rattle.random_access.specs.Marks as said
 use Rattle.random_access.specs.Numbering.{continues}
 use Rattle.random_access.specs.declared.coding.VideoCoding.{VideoCoding}
@@ -15,6 +16,7 @@ use Rattle.break_choices.specs.declared.pictures.Picture.{Picture}
 use Rattle.break_choices.specs.declared.pre_rolls.Mark.{Mark}
 use Rattle.break_timelines.specs.declared.video.Video.{Video}
 use Rattle.break_timelines.specs.declared.reader.Timed.{Timed}
+use Rattle.break_timelines.specs.declared.pictures.BegunPicture.{BegunPicture}
 use Rattle.break_timelines.specs.Cleaning.{lesser_of}
 use Rattle.break_timelines.specs.Line.{tick_of}
 use Rattle.break_timelines.specs.Video.{video_from}
@@ -68,33 +70,66 @@ first_of program (p ∷ past) = first_with (timed_at program p past) (λ place. 
 
 -- ---- pictures
 
--- AN ENTRY PICTURE is a random access picture whose first packet does not show that its numbers go on from the pictures before it
-abbrev pub is_entry : VideoCoding → List ℕ → Bool
-is_entry coding p = is_some (said.mark_for (Some coding) (said.marks_of p)) && not (continues coding (bytes p))
-
--- the picture whose unit begins with a packet; whether a cut is clean there, all packets tell
-abbrev pub picture_with : VideoCoding → ℕ → List ℕ → ℕ → Picture
-picture_with coding before p time = record {
+-- the picture that begins with a packet, as far as that tells
+abbrev pub begun_with : VideoCoding → ℕ → List ℕ → ℕ → BegunPicture
+begun_with coding before p time = record {
+  coding = coding;
   time = time;
   packet = before;
-  is_entry = is_entry coding p;
-  is_clean = false;
+  is_random_access = is_some (said.mark_for (Some coding) (said.marks_of p));
 }
 
 -- if the unit is of the video
-abbrev pub picture_of : Option Video → Option Timed → List ℕ → ℕ → List Picture
-picture_of None x p before = []
-picture_of (Some v) None p before = []
-picture_of (Some v) (Some x) p before = if v.index == x.index then picture_with v.coding before p x.time ∷ [] else []
+abbrev pub begun_of : Option Video → Option Timed → List ℕ → ℕ → Option BegunPicture
+begun_of None x p before = None
+begun_of (Some v) None p before = None
+begun_of (Some v) (Some x) p before = if v.index == x.index then Some (begun_with v.coding before p x.time) else None
+
+-- the picture of the video that begins with a packet
+abbrev pub begun_at : ℕ → List ℕ → List (List ℕ) → Option BegunPicture
+begun_at program p past = begun_of (video_from 0 (streams_of_program (program_of (Some program) past))) (timed_at program p past) p (length past)
+
+-- WHAT IS LEFT OF A UNIT on a PID, of these packets in the order of the stream: the payloads of those that are no duplicates, before the next
+-- unit of the PID or picture of the video begins. `since` are the packets from its begin on, and `past` all packets, both newest first.
+unfoldable pub rest_of : ℕ → ℕ → List (List ℕ) → List (List ℕ) → List (List ℕ) → List ℕ
+rest_of program pid since past [] = []
+rest_of program pid since past (q ∷ after) = if is_some (begun_at program q past) || begins pid q since then [] else
+    ((if original pid q since then bytes q else []) ++ rest_of program pid (q ∷ since) (q ∷ past) after)
+
+-- THE UNIT that begins with a packet, by the packets behind it
+abbrev pub unit_of : ℕ → List ℕ → List (List ℕ) → List (List ℕ) → List ℕ
+unit_of program p past after = bytes p ++ rest_of program (pid_of p) (p ∷ []) (p ∷ past) after
+
+-- how many bytes of a unit are looked at
+abbrev pub looked_at : ℕ
+looked_at = 2 ^ 16
+
+-- AN ENTRY PICTURE is a random access picture whose unit does not show, as far as it is looked at, that its numbers go on from the pictures
+-- before it; whether a cut is clean there, all pictures tell
+abbrev pub judged : BegunPicture → List ℕ → Picture
+judged b unit = record {
+  time = b.time;
+  packet = b.packet;
+  is_entry = b.is_random_access && not (continues b.coding (take looked_at unit));
+  is_clean = false;
+}
+
+abbrev pub judged_by : Option BegunPicture → List ℕ → List Picture
+judged_by None unit = []
+judged_by (Some b) unit = judged b unit ∷ []
 
 -- the picture that begins with a packet
-abbrev pub picture_at : ℕ → List ℕ → List (List ℕ) → List Picture
-picture_at program p past = picture_of (video_from 0 (streams_of_program (program_of (Some program) past))) (timed_at program p past) p (length past)
+abbrev pub picture_at : ℕ → List ℕ → List (List ℕ) → List (List ℕ) → List Picture
+picture_at program p past after = judged_by (begun_at program p past) (unit_of program p past after)
+
+-- the pictures that begin with these packets, newest first, before others in the order of the stream
+unfoldable pub pictures_behind : ℕ → List (List ℕ) → List (List ℕ) → List Picture
+pictures_behind program [] after = []
+pictures_behind program (p ∷ past) after = pictures_behind program past (p ∷ after) ++ picture_at program p past after
 
 -- THE PICTURES, in the order of the stream
-unfoldable pub pictures_of : ℕ → List (List ℕ) → List Picture
-pictures_of program [] = []
-pictures_of program (p ∷ past) = pictures_of program past ++ picture_at program p past
+abbrev pub pictures_of : ℕ → List (List ℕ) → List Picture
+pictures_of program past = pictures_behind program past []
 
 -- ---- the greatest time
 

@@ -6,6 +6,7 @@
 
 mod cleaning;
 mod line;
+mod pictures;
 mod reader;
 mod timeline;
 mod video;

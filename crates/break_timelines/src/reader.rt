@@ -7,18 +7,19 @@ ghost use Rattle.program_follower.specs.Faults.{network_fault};
 ghost use Rattle.program_follower.specs.Following.{IsStartPlace, high_of};
 ghost use Rattle.break_timelines.specs.Line.{tick_of, IsPast, Follows};
 ghost use Rattle.break_timelines.specs.Timelines.{planning, timed_at, has_place, is_of, first_with};
-ghost use Rattle.break_timelines.specs.Timelines.{is_entry, picture_with, picture_of, picture_at, risen};
+ghost use Rattle.break_timelines.specs.Timelines.{begun_with, begun_of, begun_at, risen};
 ghost use Rattle.break_timelines.specs.Standing.{ReaderStandsFor, ReaderMeets, IsRise, SaysOf, IsTimelineOf};
 
 use crate::cleaning::{clean, lesser_of};
 use crate::line::{TooLong, risen, time_of};
+use crate::pictures::{BegunPicture, Pictures};
 use crate::timeline::Timeline;
 use crate::video::{Video, video_of};
-use break_choices::{Mark, Picture};
+use break_choices::Mark;
 use pes_time::Time33;
 use program_follower::{Purpose, StartFollower, StartPacket, StartPlace};
 use psi_tables::NetworkFault;
-use random_access::{Marks, VideoCoding, packet_continues};
+use random_access::{Marks, VideoCoding};
 use std::alloc::{AllocError, Global};
 use thiserror::Error;
 use ts_packet::Packet;
@@ -49,7 +50,7 @@ pub struct TimelineReader {
     first: Option<u64>,
     /// The numbers of the streams in which a unit with a time has begun.
     begun: Vec<usize>,
-    pictures: Vec<Picture>,
+    pictures: Pictures,
     marks: Vec<Mark>,
 }
 
@@ -69,7 +70,7 @@ impl TimelineReader {
             high: None,
             first: None,
             begun: Vec::new(alloc),
-            pictures: Vec::new(alloc),
+            pictures: Pictures::new(alloc),
             marks: Vec::new(alloc),
         }
     }
@@ -98,20 +99,20 @@ impl TimelineReader {
         let Ok(rise) = self.rise(earlier) else {
             return Err(TimelineFault::Long);
         };
-        let picture = self.picture_at(timed, packet);
-        match self.take(timed, picture, rise) {
+        let begun = self.begun_at(timed, packet);
+        match self.take(timed, packet, begun, rise) {
             Ok(()) => Ok(()),
             Err(_) => Err(TimelineFault::OutOfMemory),
         }
     }
 
     /// The picture that begins with a packet that the follower was fed, where this unit does.
-    fn picture_at(&self, timed: Option<Timed>, packet: &Packet) -> Option<Picture>
+    fn begun_at(&self, timed: Option<Timed>, packet: &Packet) -> Option<BegunPicture>
         ensures { (program : ℕ) (past : List (List ℕ)) → ReaderMeets self.now program packet.now past
-            → timed ≡ timed_at program packet.now past → option_to_list result ≡ picture_at program packet.now past }
+            → timed ≡ timed_at program packet.now past → result ≡ begun_at program packet.now past }
     {
         let video = video_of(self.follower.streams());
-        picture_of(video, timed, packet, self.packets)
+        begun_of(video, timed, packet, self.packets)
     }
 
     /// What a packet that the follower was fed is to the greatest time, whose stamp before it this was.
@@ -133,18 +134,19 @@ impl TimelineReader {
         }
     }
 
-    /// Takes what a packet is.
+    /// Takes a packet that the follower was fed, and what it is.
     fn take(
         &mut self,
         timed: Option<Timed>,
-        picture: Option<Picture>,
+        packet: &Packet,
+        begun: Option<BegunPicture>,
         rise: Rise,
     ) -> Result<(), AllocError>
-        ensures { (program : ℕ) (p : List ℕ) (past : List (List ℕ)) → ReaderMeets self.old program p past
-            → timed ≡ timed_at program p past → option_to_list picture ≡ picture_at program p past → IsRise rise program p past
-            → OnOk result (ReaderStandsFor self.new program (p ∷ past)) }
+        ensures { (program : ℕ) (past : List (List ℕ)) → ReaderMeets self.old program packet.now past
+            → timed ≡ timed_at program packet.now past → begun ≡ begun_at program packet.now past
+            → IsRise rise program packet.now past → OnOk result (ReaderStandsFor self.new program (packet.now ∷ past)) }
     {
-        add_picture(&mut self.pictures, picture)?;
+        self.pictures.feed(packet, begun)?;
         add_mark(&mut self.marks, rise.mark)?;
         self.first = first_with(timed, self.begun.as_slice(), self.first);
         add_begun(&mut self.begun, timed)?;
@@ -154,17 +156,25 @@ impl TimelineReader {
     }
 
     /// The timeline of all packets that were fed.
-    pub fn finish(self) -> Timeline
-        ensures { (program : ℕ) (past : List (List ℕ)) → ReaderStandsFor self program past → IsTimelineOf result program past }
+    ///
+    /// # Errors
+    ///
+    /// `OutOfMemory` where the allocator refused memory.
+    pub fn finish(self) -> Result<Timeline, TimelineFault>
+        ensures ok { (program : ℕ) (past : List (List ℕ)) → ReaderStandsFor self program past
+            → IfOk result (λ timeline. IsTimelineOf timeline program past) }
+        ensures err { IfErr result (λ fault. fault ≡ TimelineFault.OutOfMemory) }
     {
-        let mut pictures = self.pictures;
+        let Ok(mut pictures) = self.pictures.finish() else {
+            return Err(TimelineFault::OutOfMemory);
+        };
         clean(pictures.as_mut_slice());
-        Timeline {
+        Ok(Timeline {
             follower: self.follower,
             first: self.first,
             pictures,
             marks: self.marks,
-        }
+        })
     }
 }
 
@@ -251,13 +261,13 @@ fn add_begun(begun: &mut Vec<usize>, timed: Option<Timed>) -> Result<(), AllocEr
 }
 
 /// The picture that begins with a packet before which so many stand, where this unit does, if it is of the video.
-fn picture_of(
+fn begun_of(
     video: Option<Video>,
     timed: Option<Timed>,
     packet: &Packet,
     before: u64,
-) -> Option<Picture>
-    ensures { option_to_list result ≡ picture_of video timed packet.now before }
+) -> Option<BegunPicture>
+    ensures { result ≡ begun_of video timed packet.now before }
 {
     match video {
         None => None,
@@ -265,7 +275,7 @@ fn picture_of(
             None => None,
             Some(timed) => {
                 if video.index == timed.index {
-                    Some(picture_with(video.coding, before, packet, timed.time))
+                    Some(begun_with(video.coding, before, packet, timed.time))
                 } else {
                     None
                 }
@@ -274,23 +284,15 @@ fn picture_of(
     }
 }
 
-/// Whether a packet begins an entry picture of a coding: a random access picture whose numbers it does not show to go on from the pictures
-/// before it.
-fn is_entry(coding: VideoCoding, packet: &Packet) -> bool
-    ensures { result ≡ is_entry coding packet.now }
-{
-    Marks::of(packet).mark_for(Some(coding)).is_some() && !packet_continues(coding, packet)
-}
-
 /// The picture of a coding that begins with a packet before which so many stand.
-fn picture_with(coding: VideoCoding, before: u64, packet: &Packet, time: u64) -> Picture
-    ensures { result ≡ picture_with coding before packet.now time }
+fn begun_with(coding: VideoCoding, before: u64, packet: &Packet, time: u64) -> BegunPicture
+    ensures { result ≡ begun_with coding before packet.now time }
 {
-    Picture {
+    BegunPicture {
+        coding,
         time,
         packet: before,
-        is_entry: is_entry(coding, packet),
-        is_clean: false,
+        is_random_access: Marks::of(packet).mark_for(Some(coding)).is_some(),
     }
 }
 
@@ -307,16 +309,6 @@ fn mark_of(before: Option<u64>, after: Option<u64>, packets: u64) -> Option<Mark
             high,
         }),
     }
-}
-
-/// Puts a picture behind others, where there is one.
-fn add_picture(pictures: &mut Vec<Picture>, picture: Option<Picture>) -> Result<(), AllocError>
-    ensures { OnOk result (pictures.new.items ≡ pictures.old.items ++ option_to_list picture) }
-{
-    if let Some(picture) = picture {
-        pictures.push(picture)?;
-    }
-    Ok(())
 }
 
 /// Puts a mark behind others, where there is one.

@@ -50,6 +50,10 @@ unconditioned 0
 ignored 0
 ";
 
+/// What `run` warns of.
+const WARNING: &str =
+    "warning: breaks whose advertisement is not in the list: 1, the first event 40 with 8\n";
+
 /// A file of this name for tests.
 fn file(rt: &HostRuntime, name: &str) -> Result<PathBuf, Fail> {
     Ok(env::temp_dir(rt)?.join(rt.alloc(), name)?)
@@ -130,7 +134,7 @@ fn planned_breaks_are_made(rt: HostRuntime) -> Result<(), Fail> {
         "--out",
         "/dev/null",
     ];
-    expect(&rt, &run, 0, REPORT, "");
+    expect(&rt, &run, 0, REPORT, WARNING);
     expect(
         &rt,
         &plan(network, adverts, breaks, breaks),
@@ -186,6 +190,7 @@ fn breaks_begin_at_entry_pictures(rt: HostRuntime) -> Result<(), Fail> {
         first: 900_000,
         from_idr: 0,
         to_idr: 100,
+        are_in_two: false,
     };
     fs::write(&rt, network, stream_of(rt.alloc(), pictures)?.as_slice())?;
     let pictures = Pictures {
@@ -193,6 +198,7 @@ fn breaks_begin_at_entry_pictures(rt: HostRuntime) -> Result<(), Fail> {
         first: 0,
         from_idr: 25,
         to_idr: 100,
+        are_in_two: false,
     };
     fs::write(&rt, advert, stream_of(rt.alloc(), pictures)?.as_slice())?;
     fs::write(
@@ -210,6 +216,59 @@ fn breaks_begin_at_entry_pictures(rt: HostRuntime) -> Result<(), Fail> {
     );
     fs::write(&rt, network, changed_stream(rt.alloc())?.as_slice())?;
     expect(&rt, &plan(network, adverts, breaks, script), 1, "", CHANGED);
+    for path in [network, advert, adverts, breaks, script] {
+        fs::remove_file(&rt, path)?;
+    }
+    Ok(())
+}
+
+/// The same breaks in such a network whose slices begin in the second packets: behind the first packet of picture 99 comes packet 201.
+const SECOND_TOLD: &str =
+    "line 1: event 1 plays 7 at 8.000 (pts 1620000) for 2.000 s; start clean; end not clean, a clean one 2.000 s before, a clean one 2.000 s behind; advertisement fits; its first picture goes on from pictures before it; asked before packet 201, 4040 ms ahead; taken
+line 2: not planned: no entry picture within 10 s, the nearest before at 16.000 (pts 2340000), none behind
+";
+
+#[test]
+fn slices_are_looked_for_in_all_packets(rt: HostRuntime) -> Result<(), Fail> {
+    let network = file(&rt, "planning_tests_second_network.ts")?;
+    let network = network.to_str().ok_or("a name")?;
+    let advert = file(&rt, "planning_tests_second_advert.ts")?;
+    let advert = advert.to_str().ok_or("a name")?;
+    let adverts = file(&rt, "planning_tests_second_adverts.txt")?;
+    let adverts = adverts.to_str().ok_or("a name")?;
+    let breaks = file(&rt, "planning_tests_second_breaks.txt")?;
+    let breaks = breaks.to_str().ok_or("a name")?;
+    let script = file(&rt, "planning_tests_second_script.txt")?;
+    let script = script.to_str().ok_or("a name")?;
+    let pictures = Pictures {
+        count: 500,
+        first: 900_000,
+        from_idr: 0,
+        to_idr: 100,
+        are_in_two: true,
+    };
+    fs::write(&rt, network, stream_of(rt.alloc(), pictures)?.as_slice())?;
+    let pictures = Pictures {
+        count: 50,
+        first: 0,
+        from_idr: 25,
+        to_idr: 100,
+        are_in_two: true,
+    };
+    fs::write(&rt, advert, stream_of(rt.alloc(), pictures)?.as_slice())?;
+    fs::write(
+        &rt,
+        adverts,
+        format!(in rt.alloc(); "7 {advert}\n")?.as_bytes(),
+    )?;
+    fs::write(&rt, breaks, OPEN_BREAKS)?;
+    expect(
+        &rt,
+        &plan(network, adverts, breaks, script),
+        0,
+        SECOND_TOLD,
+        "",
+    );
     for path in [network, advert, adverts, breaks, script] {
         fs::remove_file(&rt, path)?;
     }

@@ -48,11 +48,11 @@ fn stamp(pts: u64) -> [u8; 5] {
     ]
 }
 
-/// The packet of the picture of this number: an adaptation field with random_access_indicator, a PES header, and the begin of a slice with this
-/// first byte of its NAL unit (ISO/IEC 14496-10, 7.3.1), four bytes.
-fn picture(number: u64, pts: u64, nal: u8) -> [u8; 188] {
+/// The first packet of the picture of this number, with this counter: an adaptation field with random_access_indicator, a PES header, and the
+/// begin of a NAL unit with this first byte (ISO/IEC 14496-10, 7.3.1), four bytes.
+fn picture(number: u64, counter: u64, pts: u64, nal: u8) -> [u8; 188] {
     let mut packet = [0xFF; 188];
-    let counter = (number % 16) as u8;
+    let counter = (counter % 16) as u8;
     let flags = if number % GROUP == 0 { 0x40 } else { 0x00 };
     packet[..6].copy_from_slice(&[0x47, 0x41, 0x00, 0x30 + counter, 165, flags]);
     packet[170..179].copy_from_slice(&[0x00, 0x00, 0x01, 0xE0, 0x00, 0x00, 0x80, 0x80, 0x05]);
@@ -61,10 +61,22 @@ fn picture(number: u64, pts: u64, nal: u8) -> [u8; 188] {
     packet
 }
 
+/// A further packet of a picture, with this counter: the begin of a NAL unit with this first byte, four bytes.
+fn further(counter: u64, nal: u8) -> [u8; 188] {
+    let mut packet = [0xFF; 188];
+    let counter = (counter % 16) as u8;
+    packet[..6].copy_from_slice(&[0x47, 0x01, 0x00, 0x30 + counter, 179, 0x00]);
+    packet[184..].copy_from_slice(&[0x00, 0x00, 0x01, nal]);
+    packet
+}
+
 /// The first byte of a slice of an IDR picture, and of another one (table 7-1).
 const IDR: u8 = 0x65;
 
 const NO_IDR: u8 = 0x41;
+
+/// That of supplemental enhancement information.
+const SEI: u8 = 0x06;
 
 /// The pictures of a stream.
 #[derive(Clone, Copy)]
@@ -77,6 +89,8 @@ pub(crate) struct Pictures {
     pub(crate) from_idr: u64,
     /// How many pictures lie from one IDR picture to the next.
     pub(crate) to_idr: u64,
+    /// Each has two packets, and its slice begins in the second, behind supplemental enhancement information in the first.
+    pub(crate) are_in_two: bool,
 }
 
 /// A stream of so many pictures, the first of this time stamp, with an IDR picture at each random access.
@@ -88,11 +102,12 @@ pub(crate) fn stream(alloc: Global, count: u64, first: u64) -> Result<Vec<u8>, A
             first,
             from_idr: 0,
             to_idr: GROUP,
+            are_in_two: false,
         },
     )
 }
 
-/// A stream of these pictures: packet 0 is the PAT, packet 1 the map, and packet `2 + k` picture `k`.
+/// A stream of these pictures: packet 0 is the PAT, packet 1 the map, and packet `2 + k` picture `k`, or packets `2 + 2 k` and `3 + 2 k`.
 pub(crate) fn stream_of(alloc: Global, pictures: Pictures) -> Result<Vec<u8>, AllocError> {
     let mut bytes = Vec::new(alloc);
     bytes.extend_from_slice(&table(0, &PAT))?;
@@ -101,7 +116,13 @@ pub(crate) fn stream_of(alloc: Global, pictures: Pictures) -> Result<Vec<u8>, Al
     let mut far = pictures.from_idr;
     for number in 0..pictures.count {
         let nal = if far == 0 { IDR } else { NO_IDR };
-        bytes.extend_from_slice(&picture(number, pts, nal))?;
+        if pictures.are_in_two {
+            let counter = number.wrapping_mul(2);
+            bytes.extend_from_slice(&picture(number, counter, pts, SEI))?;
+            bytes.extend_from_slice(&further(counter.wrapping_add(1), nal))?;
+        } else {
+            bytes.extend_from_slice(&picture(number, number, pts, nal))?;
+        }
         pts = pts.wrapping_add(PICTURE) % (1 << 33);
         far = if far.wrapping_add(1) == pictures.to_idr {
             0

@@ -25,7 +25,7 @@ returns-in-Ok-take-clause-stands c = λ program past s.
     } in
     let timed : c.in-Ok-timed_at.timed ≡ timed_at program p past
     = c.in-Ok-timed_at.ensures program p past (c.in-Ok.ensures.place (planning program) past s.follower) s.high s.is_past in
-    c.in-Ok-take.ensures program p past m timed (c.picture_at-picture.ensures program past m timed)
+    c.in-Ok-take.ensures program past m timed (c.begun_at-begun.ensures program past m timed)
     (c.in-Ok-rise.ensures program p past m (c.high-earlier.ensures (planning program) past s.follower))
 
 pub returns-in-Ok-take-clause-sound : goal.returns-in-Ok-take-clause-sound
