@@ -9,8 +9,8 @@ use Rattle.ad_library.specs.Advertisements.{Advertisement}
 use Rattle.splice_plans.specs.declared.report.SwitchReport.{SwitchReport}
 use Rattle.scte104_codec.specs.declared.reply.Reply.{Reply}
 use Rattle.std.specs.Io.KnownBytes.{Appends}
-use Rattle.chain_engine.specs.Automation.{Take}
-use Rattle.chain_engine.specs.Talks.{messages_taken, exchanges_of}
+use Rattle.chain_engine.specs.Automation.{Exchange, Take}
+use Rattle.chain_engine.specs.Talks.{CountsEnd, messages_taken, exchanges_of}
 use Rattle.chain_engine.specs.Hearing.{answers_to, lost_by}
 use Rattle.chain_engine.proofs.ExchangeLemmas.{answers_long, takes_are, answers_are}
 use Rattle.automations.specs.ScriptTakes.{ScriptTakes}
@@ -19,7 +19,7 @@ use Rattle.automations.specs.ScriptExchanges.{ScriptExchanges}
 use Rattle.automations.specs.declared.script.Script.{Script}
 use Rattle.automations.proofs.AnswerLemmas.{all_given, their_lines}
 use Rattle.chain_engine.specs.declared.hearing.SessionEnd.{SessionEnd}
-use Rattle.chain_engine.specs.Runs.{InjectsAll}
+use Rattle.chain_engine.specs.Runs.{Exchanged, InjectsAll}
 use Rattle.chain_engine.specs.Splices.{SplicesAll}
 use Rattle.chain_engine.specs.ChainRuns as chain
 use Rattle.chain_engine.specs.declared.report.Report.{Report}
@@ -141,6 +141,11 @@ module _ (told told' : Option SessionEnd → List Take → List Reply → Type 0
   cues_stop_so (listen.Run fault) input is_out fails unsent h = stops_so c told told' so fault input is_out fails unsent h
 
   module _ (filed : ℕ → Option Advertisement) where
+    pub runs_so : (input : Option (List ℕ)) (is_out : List (List ℕ) → Type 0) (report : Report) → chain.RunsAll c filed input is_out told report → chain.RunsAll c filed input is_out told' report
+    runs_so None is_out report h = tt
+    runs_so (Some bs) is_out report h =
+        record { sound = h.sound; bytes = h.bytes; ts = h.ts; rs = h.rs; serves = serves_so c told told' so _ _ _ _ h.serves; written = h.written; counted = h.counted }
+
     pub plays : (input : Option (List ℕ)) (is_out : List (List ℕ) → Type 0) (report : Report) → chain.RunsAll c filed input is_out told report
         → PassesAll (Plays c filed told') input is_out report
     plays None is_out report h = tt
@@ -163,6 +168,24 @@ pub splices : (c : Config) (filed : ℕ → Option Advertisement) (input : Optio
     → PassesAll (Splices c filed) input is_out report
 splices c filed None is_out report h = tt
 splices c filed (Some bs) is_out report h = (_, record { sound = h.sound; written = refl; counted = h.counted }, h.written)
+
+-- ---- an automation that is listened to
+
+-- What an automation exchanges behind another one that holds a reference to it, whose name is kept, it exchanges itself. `name` and `inner` are
+-- those of the reference.
+pub heard_alone : {X H : Type 0} (s t : H) (name : H → ℕ) (inner : H → X) (between : X → List Exchange → X → Type 0) (failures : X → ℕ) (old last : X)
+    → inner s ≡ old → (name t ≡ name s → last ≡ inner t)
+    → (ending : Option SessionEnd) (ts : List Take) (rs : List Reply) → length rs ≤ length (messages_taken ts)
+    → Exchanged (λ a es b. (name b ≡ name a) × between (inner a) es (inner b)) (λ a. failures (inner a)) s t ending ts rs
+    → Exchanged between failures old last ending ts rs
+heard_alone s t name inner between failures old last begins ends ending ts rs few h =
+    let is = ends h.exchanges.0 in
+    let es = exchanges_of (answers_to (lost_by ending) rs) (reverse ts) in
+    record {
+      exchanges = subst (λ x. between x es last) begins (subst (λ y. between (inner s) es y) (sym is) h.exchanges.1);
+      counted = subst (λ x. CountsEnd None ending (failures x) (failures last)) begins
+          (subst (λ y. CountsEnd None ending (failures (inner s)) (failures y)) (sym is) h.counted);
+    }
 
 -- ---- a script
 

@@ -42,6 +42,12 @@ module _ (told told' : Option SessionEnd → List Take → List Reply → Type 0
   served_so : (k : ℕ) (leaves : List Step → Type 0) (passed : List (List ℕ)) → ServedBefore (reply_by services) told k leaves passed → ServedBefore (reply_by services) told' k leaves passed
   served_so k leaves passed h = record { ts = h.ts; rs = h.rs; serves = rule_so h.ts h.rs _ _ h.serves; out = h.out }
 
+  pub ran_so : (input : Option (List ℕ)) (is_out : List (List ℕ) → Type 0) (report : ServiceReport) → ServicesRunAll services input is_out told report
+      → ServicesRunAll services input is_out told' report
+  ran_so None is_out report h = tt
+  ran_so (Some bs) is_out report h =
+      record { sound = h.sound; bytes = h.bytes; takes = h.takes; rs = h.rs; serves = rule_so _ _ _ _ h.serves; written = h.written; counted = h.counted }
+
   pub serves : (input : Option (List ℕ)) (is_out : List (List ℕ) → Type 0) (report : ServiceReport) → ServicesRunAll services input is_out told report
       → PassesAll (Serves services told') input is_out report
   serves None is_out report h = tt

@@ -8,7 +8,7 @@ use Rattle.unit_cut.specs.declared.run.CutFault.{CutFault}
 use Rattle.unit_cut.specs.declared.run.CutFault.TheVariants.{Read, Scrambled, HeaderSplit, TimeJump, Sink}
 use Rattle.packet_lines.specs.declared.lines.LinesFault.TheVariants.{BadLine, Cut}
 use Rattle.passages.specs.declared.fault.ProgramFault.{ProgramFault}
-use Rattle.passages.specs.declared.fault.ProgramFault.TheVariants.{Lines, Run, Script, List as OfList, Services, Accept, Print, File}
+use Rattle.passages.specs.declared.fault.ProgramFault.TheVariants.{Lines, Run, Script, List as OfList, Services, Accept, Print, Log, File}
 use Rattle.passages.specs.declared.fault.ProgramFault.TheVariants.{Unflushed, OutOfMemory}
 use Rattle.chain_engine.specs.declared.faults.RunFault.{RunFault}
 use Rattle.chain_engine.specs.declared.faults.RunFault.TheVariants as run
@@ -116,6 +116,7 @@ fault_name (Services fault) = services_name fault
 fault_name Accept = codes "Accept"
 -- what prints failed, or what takes the packets at the end, as a device
 fault_name Print = codes "Io"
+fault_name Log = codes "Io"
 fault_name Unflushed = codes "Io"
 fault_name File = codes "File"
 fault_name OutOfMemory = codes "OutOfMemory"

@@ -37,7 +37,7 @@ use Rattle.packet_lines.specs.declared.lines.LinesFault.TheVariants.{BadLine, Cu
 use Rattle.passages.specs.declared.listening.ListenFault.{ListenFault}
 use Rattle.passages.specs.declared.listening.ListenFault.TheVariants as listen
 use Rattle.passages.specs.declared.fault.ProgramFault.{ProgramFault}
-use Rattle.passages.specs.declared.fault.ProgramFault.TheVariants.{Lines, Run, Script, List as OfList, Services, Accept, Print, File}
+use Rattle.passages.specs.declared.fault.ProgramFault.TheVariants.{Lines, Run, Script, List as OfList, Services, Accept, Print, Log, File}
 use Rattle.passages.specs.declared.fault.ProgramFault.TheVariants.{Unflushed, OutOfMemory}
 use Rattle.passages.specs.Runs.{CuesStop, PlaysStop, ServesStop}
 use Rattle.passages.specs.Stops.{OfCut, OfRun, OfAsked, CutStops, SplicingStops, AskedStops}
@@ -53,6 +53,7 @@ of_cut_so (OfList f) one two so h = h
 of_cut_so (Services f) one two so h = h
 of_cut_so Accept one two so h = h
 of_cut_so Print one two so h = h
+of_cut_so Log one two so h = h
 of_cut_so Unflushed one two so h = h
 of_cut_so File one two so h = h
 of_cut_so OutOfMemory one two so h = h
@@ -65,6 +66,7 @@ of_run_so (OfList f) one two so h = h
 of_run_so (Services f) one two so h = h
 of_run_so Accept one two so h = h
 of_run_so Print one two so h = h
+of_run_so Log one two so h = h
 of_run_so Unflushed one two so h = h
 of_run_so File one two so h = h
 of_run_so OutOfMemory one two so h = h
@@ -78,6 +80,7 @@ of_asked_so (OfList f) one two refused refused' so also h = h
 of_asked_so (Services f) one two refused refused' so also h = h
 of_asked_so Accept one two refused refused' so also h = so listen.Accept h
 of_asked_so Print one two refused refused' so also h = h
+of_asked_so Log one two refused refused' so also h = h
 of_asked_so Unflushed one two refused refused' so also h = h
 of_asked_so File one two refused refused' so also h = h
 of_asked_so OutOfMemory one two refused refused' so also h = also h

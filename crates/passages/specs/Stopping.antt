@@ -33,6 +33,7 @@ side_of (program.List fault) = side.Reading
 side_of (program.Services fault) = side.Reading
 side_of program.Accept = side.Listening
 side_of program.Print = side.Reading
+side_of program.Log = side.Reading
 side_of program.Unflushed = side.Writing
 side_of program.File = side.Reading
 side_of program.OutOfMemory = side.Reading
@@ -45,6 +46,7 @@ reason_at side.Scripting reading writing = None
 reason_at side.Listening reading writing = None
 reason_at side.Filing reading writing = None
 reason_at side.Printing reading writing = None
+reason_at side.Telling reading writing = None
 
 -- the run stopped with this fault, at this end and for this reason, with so much read of its network, and it blames no line of a script
 abbrev pub IsStoppedWith : ProgramFault → Side → Option Error → Option Watch → Stopped → Type 0

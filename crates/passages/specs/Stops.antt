@@ -13,7 +13,7 @@ use Rattle.packet_lines.specs.declared.lines.LinesFault.TheVariants.{BadLine, Cu
 use Rattle.passages.specs.declared.listening.ListenFault.{ListenFault}
 use Rattle.passages.specs.declared.listening.ListenFault.TheVariants as listen
 use Rattle.passages.specs.declared.fault.ProgramFault.{ProgramFault}
-use Rattle.passages.specs.declared.fault.ProgramFault.TheVariants.{Lines, Run, Script, List as OfList, Services, Accept, Print, File}
+use Rattle.passages.specs.declared.fault.ProgramFault.TheVariants.{Lines, Run, Script, List as OfList, Services, Accept, Print, Log, File}
 use Rattle.passages.specs.declared.fault.ProgramFault.TheVariants.{Unflushed, OutOfMemory}
 
 -- ---- which faults a passage has
@@ -28,6 +28,7 @@ OfCut (OfList fault) said = ⊥
 OfCut (Services fault) said = ⊥
 OfCut Accept said = ⊥
 OfCut Print said = ⊥
+OfCut Log said = ⊥
 OfCut Unflushed said = ⊥
 OfCut File said = ⊥
 OfCut OutOfMemory said = ⊥
@@ -41,6 +42,7 @@ OfRun (OfList fault) said = ⊥
 OfRun (Services fault) said = ⊥
 OfRun Accept said = ⊥
 OfRun Print said = ⊥
+OfRun Log said = ⊥
 OfRun Unflushed said = ⊥
 OfRun File said = ⊥
 OfRun OutOfMemory said = ⊥
@@ -54,6 +56,7 @@ OfAsked (OfList fault) said refused = ⊥
 OfAsked (Services fault) said refused = ⊥
 OfAsked Accept said refused = said listen.Accept
 OfAsked Print said refused = ⊥
+OfAsked Log said refused = ⊥
 OfAsked Unflushed said refused = ⊥
 OfAsked File said refused = ⊥
 OfAsked OutOfMemory said refused = refused

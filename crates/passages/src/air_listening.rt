@@ -3,28 +3,31 @@
 ghost use Rattle.std.specs.Prelude.{◌≡◌, false, IfErr};
 ghost use Rattle.on_air.specs.Plain.{IsOfDevices};
 
+use crate::air_heard::{inject_heard_on_air, run_heard_on_air, services_heard_on_air};
 use ad_library::AdLibrary;
 use automations::Clients;
 use chain_engine::{Chain, Report, RunFault};
 use chain_services::ServiceReport;
-use on_air::{AirReport, AirWatch, inject_on_air, run_on_air};
-use services_on_air::{AirServices, ServicesWatch, run_services_on_air};
+use on_air::{AirReport, AirWatch};
+use run_events::{Hearing, Watch};
+use services_on_air::{AirServices, ServicesWatch};
 use std::alloc::Allocator;
 use std::io::{Read, Write};
 use std::net::{OpenListener, OpenStream};
 use ts_packet::{GatheringSink, PausingPackets};
 
-/// Runs [`inject_on_air`] with the clients of the listener as the automation. The network waits for none of them.
+/// Runs [`run_events::inject_told_on_air`] with the clients of the listener as the automation. The network waits for none of them.
 ///
 /// # Errors
 ///
-/// As for [`inject_on_air`].
-pub fn inject_listening_on_air<M, P, L, K, A>(
+/// As for [`run_events::inject_told_on_air`].
+pub fn inject_listening_on_air<M, P, L, K, A, V>(
     chain: Chain<M>,
     network: &mut P,
     listener: &L,
     out: &mut K,
     watch: &mut A,
+    hearing: &mut Hearing<V>,
 ) -> Result<AirReport<Report>, RunFault>
 where
     M: Allocator,
@@ -33,25 +36,27 @@ where
     L::Stream: OpenStream + Read + Write + Drop,
     K: GatheringSink,
     A: AirWatch,
+    V: Watch + Copy + Drop,
     requires { P.is_broken network.old ≡ false }
     ensures devices { IfErr result IsOfDevices }
 {
     let mut clients = Clients::new(listener);
-    inject_on_air(chain, network, &mut clients, out, watch)
+    inject_heard_on_air(chain, network, &mut clients, out, watch, hearing)
 }
 
-/// Runs [`run_on_air`] with the clients of the listener as the automation, likewise.
+/// Runs [`run_events::run_told_on_air`] with the clients of the listener as the automation, likewise.
 ///
 /// # Errors
 ///
-/// As for [`run_on_air`].
-pub fn run_listening_on_air<M, P, L, K, A>(
+/// As for [`run_events::run_told_on_air`].
+pub fn run_listening_on_air<M, P, L, K, A, V>(
     chain: Chain<M>,
     network: &mut P,
     listener: &L,
     library: &AdLibrary,
     out: &mut K,
     watch: &mut A,
+    hearing: &mut Hearing<V>,
 ) -> Result<AirReport<Report>, RunFault>
 where
     M: Allocator,
@@ -60,25 +65,27 @@ where
     L::Stream: OpenStream + Read + Write + Drop,
     K: GatheringSink,
     A: AirWatch,
+    V: Watch + Copy + Drop,
     requires { P.is_broken network.old ≡ false }
     ensures devices { IfErr result IsOfDevices }
 {
     let mut clients = Clients::new(listener);
-    run_on_air(chain, network, &mut clients, library, out, watch)
+    run_heard_on_air(chain, network, &mut clients, library, out, watch, hearing)
 }
 
-/// Runs [`run_services_on_air`] with the clients of the listener as the automation, likewise.
+/// Runs [`run_events::services_told_on_air`] with the clients of the listener as the automation, likewise.
 ///
 /// # Errors
 ///
-/// As for [`run_services_on_air`].
-pub fn services_listening_on_air<M, P, L, K, A>(
+/// As for [`run_events::services_told_on_air`].
+pub fn services_listening_on_air<M, P, L, K, A, V>(
     services: AirServices<M>,
     network: &mut P,
     listener: &L,
     libraries: &[AdLibrary],
     out: &mut K,
     watch: &mut A,
+    hearing: &mut Hearing<V>,
 ) -> Result<AirReport<ServiceReport>, RunFault>
 where
     M: Allocator,
@@ -87,9 +94,18 @@ where
     L::Stream: OpenStream + Read + Write + Drop,
     K: GatheringSink,
     A: ServicesWatch,
+    V: Watch + Copy + Drop,
     requires { P.is_broken network.old ≡ false }
     ensures devices { IfErr result IsOfDevices }
 {
     let mut clients = Clients::new(listener);
-    run_services_on_air(services, network, &mut clients, libraries, out, watch)
+    services_heard_on_air(
+        services,
+        network,
+        &mut clients,
+        libraries,
+        out,
+        watch,
+        hearing,
+    )
 }

@@ -3,13 +3,16 @@
 use crate::fault::{ProgramFault, fault_name};
 use crate::recovery_watch::{Recovery, RecoveryWatch};
 use crate::tell::BothWays;
-use chain_engine::RunFault;
+use ad_library::AdLibrary;
+use chain_engine::{RunFault, Service};
 use on_air::{AirWatch, Begun};
 use psi_tables::FeedFault;
-use services_on_air::{ServiceBegun, ServicesWatch};
+use services_on_air::{ServiceBegun, ServicesWatch, Shown};
+use splice_plans::SwitchReport;
 use std::cell::RefCell;
 use std::fmt::Display;
 use std::io::Write;
+use ts_packet::Packet;
 
 /// Within so many packets of the network one kind of damage is told once.
 const TOLD_ONCE: u64 = 16_384;
@@ -166,6 +169,14 @@ impl<W: Write> ServicesWatch for AirTeller<W> {
     fn unjudged(&mut self, packet: u64) {
         AirWatch::unjudged(self, packet);
     }
+
+    fn looks(&mut self, _packet: &Packet) -> bool {
+        false
+    }
+
+    fn shown(&mut self, _service: &Service, _library: &AdLibrary, _shown: Shown<'_>) {}
+
+    fn ended(&mut self, _program: u16, _report: &SwitchReport, _lost: u64) {}
 }
 
 impl<W: Write> ServicesWatch for TellingInTurn<'_, W> {
@@ -178,4 +189,12 @@ impl<W: Write> ServicesWatch for TellingInTurn<'_, W> {
     fn unjudged(&mut self, packet: u64) {
         AirWatch::unjudged(self, packet);
     }
+
+    fn looks(&mut self, _packet: &Packet) -> bool {
+        false
+    }
+
+    fn shown(&mut self, _service: &Service, _library: &AdLibrary, _shown: Shown<'_>) {}
+
+    fn ended(&mut self, _program: u16, _report: &SwitchReport, _lost: u64) {}
 }

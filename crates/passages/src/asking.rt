@@ -14,17 +14,20 @@ ghost use Rattle.on_air.specs.Plain.{IsOfDevices};
 ghost use Rattle.passages.specs.Runs.{PassesAll, AskerTells, CuesStop, Cues, PlaysStop, Plays, ServesStop};
 ghost use Rattle.passages.specs.Runs.{Serves, IfRan, IsPort, told_fault, lost_replies};
 
+use crate::air_heard::{inject_heard_on_air, run_heard_on_air, services_heard_on_air};
 use crate::air_listening::{
     inject_listening_on_air, run_listening_on_air, services_listening_on_air,
 };
 use crate::fault::ProgramFault;
+use crate::heard::{inject_heard, run_heard, services_heard};
 use crate::listening::{ListenFault, inject_listening, run_listening, services_listening};
 use ad_library::AdLibrary;
-use automations::Script;
-use chain_engine::{Chain, Report, RunFault, run, run_inject};
-use chain_services::{ServiceReport, Services, run_services};
-use on_air::{AirReport, AirWatch, inject_on_air, run_on_air};
-use services_on_air::{AirServices, ServicesWatch, run_services_on_air};
+use automations::{LateLines, Script};
+use chain_engine::{Chain, Report, RunFault};
+use chain_services::{ServiceReport, Services};
+use on_air::{AirReport, AirWatch};
+use run_events::{Hearing, Watch};
+use services_on_air::{AirServices, ServicesWatch};
 use std::io::{Read, Write};
 use std::net::{OpenListener, OpenStream};
 use ts_packet::{GatheringSink, PausingPackets, ReadFault};
@@ -37,6 +40,14 @@ pub enum Asker<W, L> {
 }
 
 impl<W, L> Asker<W, L> {
+    /// The lines of a script whose bytes never come in a network of so many packets, where there are any.
+    pub fn late_lines(&self, packets: u64) -> Option<LateLines> {
+        match self {
+            Asker::Script(script) => script.late_lines(packets),
+            Asker::Port(_) => None,
+        }
+    }
+
     /// Whether a reply could not be printed.
     pub fn has_lost_a_reply(&self) -> bool
         ensures { result ≡ nat_lt 0 (lost_replies self.now) }
@@ -53,12 +64,13 @@ impl<W, L> Asker<W, L> {
 /// # Errors
 ///
 /// `Accept` where the messages come from a port, and no connection was accepted, or it could not be set not to block, or its handle not be
-/// copied: the network and the output are as they were then. `Run` as for [`run_inject`].
-pub fn cue<P, K, W, L>(
+/// copied: the network and the output are as they were then. `Run` as for [`run_events::inject_told`].
+pub fn cue<P, K, W, L, V>(
     chain: Chain,
     network: &mut P,
     asker: &mut Asker<W, L>,
     out: &mut K,
+    hearing: &mut Hearing<V>,
 ) -> Result<Report, ListenFault>
 where
     P: PausingPackets,
@@ -66,6 +78,7 @@ where
     W: Write,
     L: OpenListener,
     L::Stream: OpenStream + Read + Write + Drop,
+    V: Watch + Copy + Drop,
     requires { P.is_broken network.old ≡ false }
     ensures done { (c : Config) (start : Option (List ℕ)) → ChainStandsFor chain c → K.holds out.old start []
         → IfOk result (PassesAll (Cues c (AskerTells W.contents asker.old asker.new)) (P.left network.old) (K.holds out.new start)) }
@@ -87,11 +100,13 @@ where
     ensures leads { K.leads out.old out.new }
 {
     match asker {
-        Asker::Script(script) => match run_inject(chain, network, script, out) {
-            Ok(report) => Ok(report),
-            Err(fault) => Err(ListenFault::Run(fault)),
-        },
-        Asker::Port(listener) => inject_listening(chain, network, listener, out),
+        Asker::Script(script) => {
+            match inject_heard(chain, network, script, out, hearing) {
+                Ok(report) => Ok(report),
+                Err(fault) => Err(ListenFault::Run(fault)),
+            }
+        }
+        Asker::Port(listener) => inject_listening(chain, network, listener, out, hearing),
     }
 }
 
@@ -99,13 +114,14 @@ where
 ///
 /// # Errors
 ///
-/// `Accept` as for [`cue`], and `Run` as for [`run`].
-pub fn play<P, K, W, L>(
+/// `Accept` as for [`cue`], and `Run` as for [`run_events::run_told`].
+pub fn play<P, K, W, L, V>(
     chain: Chain,
     network: &mut P,
     asker: &mut Asker<W, L>,
     library: &AdLibrary,
     out: &mut K,
+    hearing: &mut Hearing<V>,
 ) -> Result<Report, ListenFault>
 where
     P: PausingPackets,
@@ -113,6 +129,7 @@ where
     W: Write,
     L: OpenListener,
     L::Stream: OpenStream + Read + Write + Drop,
+    V: Watch + Copy + Drop,
     requires { P.is_broken network.old ≡ false }
     ensures done { (c : Config) (start : Option (List ℕ)) → ChainStandsFor chain c → K.holds out.old start []
         → IfOk result (PassesAll (Plays c (held library.now) (AskerTells W.contents asker.old asker.new))
@@ -135,11 +152,13 @@ where
     ensures leads { K.leads out.old out.new }
 {
     match asker {
-        Asker::Script(script) => match run(chain, network, script, library, out) {
-            Ok(report) => Ok(report),
-            Err(fault) => Err(ListenFault::Run(fault)),
-        },
-        Asker::Port(listener) => run_listening(chain, network, listener, library, out),
+        Asker::Script(script) => {
+            match run_heard(chain, network, script, library, out, hearing) {
+                Ok(report) => Ok(report),
+                Err(fault) => Err(ListenFault::Run(fault)),
+            }
+        }
+        Asker::Port(listener) => { run_listening(chain, network, listener, library, out, hearing) }
     }
 }
 
@@ -147,13 +166,14 @@ where
 ///
 /// # Errors
 ///
-/// As for [`inject_on_air`].
-pub fn cue_on_air<P, K, W, L, A>(
+/// As for [`run_events::inject_told_on_air`].
+pub fn cue_on_air<P, K, W, L, A, V>(
     chain: Chain,
     network: &mut P,
     asker: &mut Asker<W, L>,
     out: &mut K,
     watch: &mut A,
+    hearing: &mut Hearing<V>,
 ) -> Result<AirReport<Report>, RunFault>
 where
     P: PausingPackets,
@@ -162,12 +182,17 @@ where
     L: OpenListener,
     L::Stream: OpenStream + Read + Write + Drop,
     A: AirWatch,
+    V: Watch + Copy + Drop,
     requires { P.is_broken network.old ≡ false }
     ensures devices { IfErr result IsOfDevices }
 {
     match asker {
-        Asker::Script(script) => inject_on_air(chain, network, script, out, watch),
-        Asker::Port(listener) => inject_listening_on_air(chain, network, listener, out, watch),
+        Asker::Script(script) => {
+            inject_heard_on_air(chain, network, script, out, watch, hearing)
+        }
+        Asker::Port(listener) => {
+            inject_listening_on_air(chain, network, listener, out, watch, hearing)
+        }
     }
 }
 
@@ -175,14 +200,15 @@ where
 ///
 /// # Errors
 ///
-/// As for [`run_on_air`].
-pub fn play_on_air<P, K, W, L, A>(
+/// As for [`run_events::run_told_on_air`].
+pub fn play_on_air<P, K, W, L, A, V>(
     chain: Chain,
     network: &mut P,
     asker: &mut Asker<W, L>,
     library: &AdLibrary,
     out: &mut K,
     watch: &mut A,
+    hearing: &mut Hearing<V>,
 ) -> Result<AirReport<Report>, RunFault>
 where
     P: PausingPackets,
@@ -191,13 +217,16 @@ where
     L: OpenListener,
     L::Stream: OpenStream + Read + Write + Drop,
     A: AirWatch,
+    V: Watch + Copy + Drop,
     requires { P.is_broken network.old ≡ false }
     ensures devices { IfErr result IsOfDevices }
 {
     match asker {
-        Asker::Script(script) => run_on_air(chain, network, script, library, out, watch),
+        Asker::Script(script) => {
+            run_heard_on_air(chain, network, script, library, out, watch, hearing)
+        }
         Asker::Port(listener) => {
-            run_listening_on_air(chain, network, listener, library, out, watch)
+            run_listening_on_air(chain, network, listener, library, out, watch, hearing)
         }
     }
 }
@@ -206,13 +235,14 @@ where
 ///
 /// # Errors
 ///
-/// `Accept` as for [`cue`], and `Run` as for [`run_services`].
-pub fn serve<P, K, W, L>(
+/// `Accept` as for [`cue`], and `Run` as for [`run_events::services_told`].
+pub fn serve<P, K, W, L, V>(
     services: Services,
     network: &mut P,
     asker: &mut Asker<W, L>,
     libraries: &[AdLibrary],
     out: &mut K,
+    hearing: &mut Hearing<V>,
 ) -> Result<ServiceReport, ListenFault>
 where
     P: PausingPackets,
@@ -220,6 +250,7 @@ where
     W: Write,
     L: OpenListener,
     L::Stream: OpenStream + Read + Write + Drop,
+    V: Watch + Copy + Drop,
     requires unbroken { P.is_broken network.old ≡ false }
     requires libraries { length libraries.now ≡ length (services_in services.desk) }
     ensures done { (cs : List Config) (start : Option (List ℕ)) → ServicesStandFor services cs → K.holds out.old start []
@@ -243,11 +274,15 @@ where
     ensures leads { K.leads out.old out.new }
 {
     match asker {
-        Asker::Script(script) => match run_services(services, network, script, libraries, out) {
-            Ok(report) => Ok(report),
-            Err(fault) => Err(ListenFault::Run(fault)),
-        },
-        Asker::Port(listener) => services_listening(services, network, listener, libraries, out),
+        Asker::Script(script) => {
+            match services_heard(services, network, script, libraries, out, hearing) {
+                Ok(report) => Ok(report),
+                Err(fault) => Err(ListenFault::Run(fault)),
+            }
+        }
+        Asker::Port(listener) => {
+            services_listening(services, network, listener, libraries, out, hearing)
+        }
     }
 }
 
@@ -255,14 +290,15 @@ where
 ///
 /// # Errors
 ///
-/// As for [`run_services_on_air`].
-pub fn serve_on_air<P, K, W, L, A>(
+/// As for [`run_events::services_told_on_air`].
+pub fn serve_on_air<P, K, W, L, A, V>(
     services: AirServices,
     network: &mut P,
     asker: &mut Asker<W, L>,
     libraries: &[AdLibrary],
     out: &mut K,
     watch: &mut A,
+    hearing: &mut Hearing<V>,
 ) -> Result<AirReport<ServiceReport>, RunFault>
 where
     P: PausingPackets,
@@ -271,15 +307,16 @@ where
     L: OpenListener,
     L::Stream: OpenStream + Read + Write + Drop,
     A: ServicesWatch,
+    V: Watch + Copy + Drop,
     requires { P.is_broken network.old ≡ false }
     ensures devices { IfErr result IsOfDevices }
 {
     match asker {
         Asker::Script(script) => {
-            run_services_on_air(services, network, script, libraries, out, watch)
+            services_heard_on_air(services, network, script, libraries, out, watch, hearing)
         }
         Asker::Port(listener) => {
-            services_listening_on_air(services, network, listener, libraries, out, watch)
+            services_listening_on_air(services, network, listener, libraries, out, watch, hearing)
         }
     }
 }

@@ -31,6 +31,8 @@ pub enum ProgramFault {
     Accept,
     /// A reply or the report could not be printed.
     Print,
+    /// What happened could not be written.
+    Log,
     /// The output could not be flushed at the end.
     Unflushed,
     /// A file could not be opened.
@@ -187,6 +189,7 @@ pub fn fault_name(fault: ProgramFault) -> &'static str
         ProgramFault::Services(inner) => services_name(inner),
         ProgramFault::Accept => "Accept",
         ProgramFault::Print => "Io",
+        ProgramFault::Log => "Io",
         ProgramFault::Unflushed => "Io",
         ProgramFault::File => "File",
         ProgramFault::OutOfMemory => "OutOfMemory",

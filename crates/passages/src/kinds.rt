@@ -5,13 +5,14 @@ use crate::asking::{Asker, cue, play, serve, told_fault};
 use crate::fault::ProgramFault;
 use crate::running::Passage;
 use ad_library::AdLibrary;
-use chain_engine::{Chain, Report, run_splice};
+use chain_engine::{Chain, Report};
 use chain_services::{ServiceReport, Services};
 use command_lines::command::CutOptions;
 use command_lines::inject_options::InjectOptions;
 use command_lines::splice_options::SpliceOptions;
 use packet_lines::LinesFault;
 use psi_tables::Config;
+use run_events::{Hearing, Watch, splice_told};
 use splice_plans::SwitchReport;
 use std::alloc::Global;
 use std::io::{Read, Write};
@@ -55,12 +56,14 @@ impl Passage for Cutting<'_> {
 
 /// A run with the advertisements of a library, as the options say.
 #[derive(Drop)]
-pub struct Splicing<'a> {
+pub struct Splicing<'a, V> {
     pub options: &'a SpliceOptions<'a>,
     pub library: &'a AdLibrary,
+    /// Who hears of the run.
+    pub watch: V,
 }
 
-impl Passage for Splicing<'_> {
+impl<V: Watch + Drop> Passage for Splicing<'_, V> {
     ghost use Rattle.ad_library.specs.Library.{held};
     ghost use Rattle.passages.specs.Runs.{Splices};
     ghost use Rattle.passages.specs.Stops.{SplicingStops};
@@ -80,7 +83,12 @@ impl Passage for Splicing<'_> {
         network: &mut P,
         out: &mut K,
     ) -> Result<SwitchReport, ProgramFault> {
-        match run_splice(self.options.config, network, self.library, out) {
+        let Splicing {
+            options,
+            library,
+            watch,
+        } = self;
+        match splice_told(options.config, network, library, out, watch) {
             Ok(report) => Ok(report),
             Err(fault) => Err(ProgramFault::Run(fault)),
         }
@@ -89,17 +97,20 @@ impl Passage for Splicing<'_> {
 
 /// A run with cues, as the options say.
 #[derive(Drop)]
-pub struct Cueing<'a, W, L> {
+pub struct Cueing<'a, W, L, V> {
     pub alloc: Global,
     pub options: &'a InjectOptions<'a>,
     pub asker: &'a mut Asker<W, L>,
+    /// Who hears of the run.
+    pub hearing: &'a mut Hearing<V>,
 }
 
-impl<W, L> Passage for Cueing<'_, W, L>
+impl<W, L, V> Passage for Cueing<'_, W, L, V>
 where
     W: Write,
     L: OpenListener,
     L::Stream: OpenStream + Read + Write + Drop,
+    V: Watch + Copy + Drop,
 {
     ghost use Rattle.passages.specs.Runs.{Cues, CuesStop, AsksBy};
     ghost use Rattle.passages.specs.Stops.{AskedStops};
@@ -123,11 +134,12 @@ where
             alloc,
             options,
             asker,
+            hearing,
         } = self;
         let Ok(chain) = Chain::new(alloc, options.config) else {
             return Err(ProgramFault::OutOfMemory);
         };
-        match cue(chain, network, asker, out) {
+        match cue(chain, network, asker, out, hearing) {
             Ok(report) => Ok(report),
             Err(fault) => Err(told_fault(fault)),
         }
@@ -136,18 +148,21 @@ where
 
 /// A run with cues and the advertisements of a library, as the options say.
 #[derive(Drop)]
-pub struct Chaining<'a, W, L> {
+pub struct Chaining<'a, W, L, V> {
     pub alloc: Global,
     pub options: &'a InjectOptions<'a>,
     pub asker: &'a mut Asker<W, L>,
     pub library: &'a AdLibrary,
+    /// Who hears of the run.
+    pub hearing: &'a mut Hearing<V>,
 }
 
-impl<W, L> Passage for Chaining<'_, W, L>
+impl<W, L, V> Passage for Chaining<'_, W, L, V>
 where
     W: Write,
     L: OpenListener,
     L::Stream: OpenStream + Read + Write + Drop,
+    V: Watch + Copy + Drop,
 {
     ghost use Rattle.ad_library.specs.Library.{held};
     ghost use Rattle.passages.specs.Runs.{Plays, PlaysStop, AsksBy};
@@ -173,11 +188,12 @@ where
             options,
             asker,
             library,
+            hearing,
         } = self;
         let Ok(chain) = Chain::new(alloc, options.config) else {
             return Err(ProgramFault::OutOfMemory);
         };
-        match play(chain, network, asker, library, out) {
+        match play(chain, network, asker, library, out, hearing) {
             Ok(report) => Ok(report),
             Err(fault) => Err(told_fault(fault)),
         }
@@ -186,20 +202,23 @@ where
 
 /// A run of several services, each with the advertisements of its library: they were given nothing yet, and there are as many libraries.
 #[derive(Drop)]
-pub struct Serving<'a, W, L> {
+pub struct Serving<'a, W, L, V> {
     /// What each service is.
     pub configs: &'a [Config],
     /// What runs them.
     pub services: Services,
     pub asker: &'a mut Asker<W, L>,
     pub libraries: &'a [AdLibrary],
+    /// Who hears of the run.
+    pub hearing: &'a mut Hearing<V>,
 }
 
-impl<W, L> Passage for Serving<'_, W, L>
+impl<W, L, V> Passage for Serving<'_, W, L, V>
 where
     W: Write,
     L: OpenListener,
     L::Stream: OpenStream + Read + Write + Drop,
+    V: Watch + Copy + Drop,
 {
     ghost use Rattle.std.specs.Prelude.{◌≡◌, length};
     ghost use Rattle.chain_services.specs.Runs.{ServicesStandFor, terms_by};
@@ -224,12 +243,13 @@ where
         out: &mut K,
     ) -> Result<ServiceReport, ProgramFault> {
         let Serving {
+            configs: _,
             services,
             asker,
             libraries,
-            ..
+            hearing,
         } = self;
-        match serve(services, network, asker, libraries, out) {
+        match serve(services, network, asker, libraries, out, hearing) {
             Ok(report) => Ok(report),
             Err(fault) => Err(told_fault(fault)),
         }

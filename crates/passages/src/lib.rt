@@ -4,12 +4,15 @@
 //! What a caller uses: of a run that ends well what stands below the buffers, of one that stopped its fault, and `fault_name`.
 #![tactic(auto)]
 
+mod air_heard;
 pub mod air_kinds;
 pub mod air_listening;
+pub mod air_log;
 pub mod air_running;
 pub mod air_telling;
 pub mod asking;
 pub mod fault;
+mod heard;
 pub mod kinds;
 pub mod line_runs;
 pub mod listening;

@@ -12,10 +12,12 @@ ghost use Rattle.chain_services.specs.Serving.{services_in};
 ghost use Rattle.chain_services.specs.Runs.{ServicesStandFor, terms_by};
 ghost use Rattle.passages.specs.Runs.{PassesAll, Untold, Cues, CuesStop, Plays, PlaysStop, Serves, ServesStop, IfRan};
 
+use crate::heard::{inject_heard, run_heard, services_heard};
 use ad_library::AdLibrary;
 use automations::accept;
-use chain_engine::{Chain, Report, RunFault, run, run_inject};
-use chain_services::{ServiceReport, Services, run_services};
+use chain_engine::{Chain, Report, RunFault};
+use chain_services::{ServiceReport, Services};
+use run_events::{Hearing, Watch};
 use std::alloc::Allocator;
 use std::io::{Read, Write};
 use std::net::{OpenListener, OpenStream};
@@ -30,18 +32,19 @@ pub enum ListenFault {
     Run(RunFault),
 }
 
-/// Waits for one client of the listener, and then runs [`run_inject`] with it as the automation. A read that finds nothing is an empty
+/// Waits for one client of the listener, and then runs [`run_events::inject_told`] with it as the automation. A read that finds nothing is an empty
 /// piece; a reply that the client does not take at once ends its session.
 ///
 /// # Errors
 ///
 /// `Accept` where no connection was accepted, or it could not be set not to block, or its handle not be copied: the network and the output
-/// are as they were then. `Run` as for [`run_inject`].
-pub fn inject_listening<M, P, L, K>(
+/// are as they were then. `Run` as for [`run_events::inject_told`].
+pub fn inject_listening<M, P, L, K, V>(
     chain: Chain<M>,
     network: &mut P,
     listener: &L,
     out: &mut K,
+    hearing: &mut Hearing<V>,
 ) -> Result<Report, ListenFault>
 where
     M: Allocator,
@@ -49,6 +52,7 @@ where
     L: OpenListener,
     L::Stream: OpenStream + Read + Write + Drop,
     K: GatheringSink,
+    V: Watch + Copy + Drop,
     requires { P.is_broken network.old ≡ false }
     ensures ok { (c : Config) (start : Option (List ℕ)) (before : List (List ℕ)) → ChainStandsFor chain c
         → K.holds out.old start before
@@ -73,23 +77,24 @@ where
     let Some(mut client) = accept(listener) else {
         return Err(ListenFault::Accept);
     };
-    match run_inject(chain, network, &mut client, out) {
+    match inject_heard(chain, network, &mut client, out, hearing) {
         Ok(report) => Ok(report),
         Err(fault) => Err(ListenFault::Run(fault)),
     }
 }
 
-/// Waits for one client of the listener, and then runs [`run`] with it as the automation, likewise.
+/// Waits for one client of the listener, and then runs [`run_events::run_told`] with it as the automation, likewise.
 ///
 /// # Errors
 ///
-/// `Accept` as for [`inject_listening`], and `Run` as for [`run`].
-pub fn run_listening<M, P, L, K>(
+/// `Accept` as for [`inject_listening`], and `Run` as for [`run_events::run_told`].
+pub fn run_listening<M, P, L, K, V>(
     chain: Chain<M>,
     network: &mut P,
     listener: &L,
     library: &AdLibrary,
     out: &mut K,
+    hearing: &mut Hearing<V>,
 ) -> Result<Report, ListenFault>
 where
     M: Allocator,
@@ -97,6 +102,7 @@ where
     L: OpenListener,
     L::Stream: OpenStream + Read + Write + Drop,
     K: GatheringSink,
+    V: Watch + Copy + Drop,
     requires { P.is_broken network.old ≡ false }
     ensures ok { (c : Config) (start : Option (List ℕ)) (before : List (List ℕ)) → ChainStandsFor chain c
         → K.holds out.old start before → IfOk result (PassesAll (Plays c (held library.now) Untold) (P.left network.old)
@@ -121,23 +127,24 @@ where
     let Some(mut connection) = accept(listener) else {
         return Err(ListenFault::Accept);
     };
-    match run(chain, network, &mut connection, library, out) {
+    match run_heard(chain, network, &mut connection, library, out, hearing) {
         Ok(report) => Ok(report),
         Err(fault) => Err(ListenFault::Run(fault)),
     }
 }
 
-/// Waits for one client of the listener, and then runs [`run_services`] with it as the automation, likewise.
+/// Waits for one client of the listener, and then runs [`run_events::services_told`] with it as the automation, likewise.
 ///
 /// # Errors
 ///
-/// `Accept` as for [`inject_listening`], and `Run` as for [`run_services`].
-pub fn services_listening<M, P, L, K>(
+/// `Accept` as for [`inject_listening`], and `Run` as for [`run_events::services_told`].
+pub fn services_listening<M, P, L, K, V>(
     services: Services<M>,
     network: &mut P,
     listener: &L,
     libraries: &[AdLibrary],
     out: &mut K,
+    hearing: &mut Hearing<V>,
 ) -> Result<ServiceReport, ListenFault>
 where
     M: Allocator,
@@ -145,6 +152,7 @@ where
     L: OpenListener,
     L::Stream: OpenStream + Read + Write + Drop,
     K: GatheringSink,
+    V: Watch + Copy + Drop,
     requires unbroken { P.is_broken network.old ≡ false }
     requires libraries { length libraries.now ≡ length (services_in services.desk) }
     ensures ok { (cs : List Config) (start : Option (List ℕ)) (before : List (List ℕ)) → ServicesStandFor services cs
@@ -170,7 +178,7 @@ where
     let Some(mut automation) = accept(listener) else {
         return Err(ListenFault::Accept);
     };
-    match run_services(services, network, &mut automation, libraries, out) {
+    match services_heard(services, network, &mut automation, libraries, out, hearing) {
         Ok(report) => Ok(report),
         Err(fault) => Err(ListenFault::Run(fault)),
     }

@@ -25,6 +25,8 @@ pub enum Side {
     Filing,
     /// It printed replies or the report.
     Printing,
+    /// It wrote what happens.
+    Telling,
 }
 
 /// What more is known of the line of a script or of a list in which a fault stands.
@@ -186,6 +188,7 @@ impl fmt::Display for Trouble<'_> {
             Side::Listening => write!(f, "listening on {name}")?,
             Side::Filing => write!(f, "loading the list {name}")?,
             Side::Printing => write!(f, "printing to {name}")?,
+            Side::Telling => write!(f, "writing the events {name}")?,
         }
         self.write_place(f)?;
         writeln!(f)

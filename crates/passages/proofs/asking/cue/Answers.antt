@@ -6,15 +6,15 @@ use Rattle.passages.proofs.PassageLemmas.{cues, cues_so, cues_stop_so, if_ok_so,
 use Rattle.passages.proofs.asking.cue.Goals as goal
 
 pub returns-in-Ok-clause-done : goal.returns-in-Ok-clause-done
-returns-in-Ok-clause-done g c = λ d start h held. cues _ (AskerTells g.W.Write.contents c.args.asker.now (asker.Script c.run_inject.new.automation))
-    (λ ending ts rs few x. subst (λ a. AskerTells g.W.Write.contents a (asker.Script c.run_inject.new.automation) ending ts rs) (sym c.in-Script.is) (script_tells g.W.Write.contents c.in-Script.script c.run_inject.new.automation ending ts rs few x.exchanges))
+returns-in-Ok-clause-done g c = λ d start h held. cues _ (AskerTells g.W.Write.contents c.args.asker.now (asker.Script c.inject_heard.new.automation))
+    (λ ending ts rs few x. subst (λ a. AskerTells g.W.Write.contents a (asker.Script c.inject_heard.new.automation) ending ts rs) (sym c.in-Script.is) (script_tells g.W.Write.contents c.in-Script.script c.inject_heard.new.automation ending ts rs few x.exchanges))
     d _ _ _ (c.in-Ok.ensures.ok d start [] h held)
 
 pub returns-in-Err-clause-stop : goal.returns-in-Err-clause-stop
-returns-in-Err-clause-stop g c = λ d start h held. stops_so d _ (AskerTells g.W.Write.contents c.args.asker.now (asker.Script c.run_inject.new.automation))
-    (λ ending ts rs few x. subst (λ a. AskerTells g.W.Write.contents a (asker.Script c.run_inject.new.automation) ending ts rs) (sym c.in-Script.is) (script_tells g.W.Write.contents c.in-Script.script c.run_inject.new.automation ending ts rs few x.exchanges))
-    _ _ (g.K.PacketSink.holds c.run_inject.new.out start) (g.K.PacketSink.fails c.run_inject.new.out start)
-    (g.K.GatheringSink.fails_to_send c.run_inject.new.out start) (c.in-Err.ensures.err d start [] h held)
+returns-in-Err-clause-stop g c = λ d start h held. stops_so d _ (AskerTells g.W.Write.contents c.args.asker.now (asker.Script c.inject_heard.new.automation))
+    (λ ending ts rs few x. subst (λ a. AskerTells g.W.Write.contents a (asker.Script c.inject_heard.new.automation) ending ts rs) (sym c.in-Script.is) (script_tells g.W.Write.contents c.in-Script.script c.inject_heard.new.automation ending ts rs few x.exchanges))
+    _ _ (g.K.PacketSink.holds c.inject_heard.new.out start) (g.K.PacketSink.fails c.inject_heard.new.out start)
+    (g.K.GatheringSink.fails_to_send c.inject_heard.new.out start) (c.in-Err.ensures.err d start [] h held)
 
 pub returns-in-Port-clause-done : goal.returns-in-Port-clause-done
 returns-in-Port-clause-done g c = λ d start h held. if_ok_so c.inject_listening.result _ _

@@ -7,15 +7,15 @@ use Rattle.passages.proofs.PassageLemmas.{plays, plays_so, plays_stop_so, if_ok_
 use Rattle.passages.proofs.asking.play.Goals as goal
 
 pub returns-in-Ok-clause-done : goal.returns-in-Ok-clause-done
-returns-in-Ok-clause-done g c = λ d start h held. plays _ (AskerTells g.W.Write.contents c.args.asker.now (asker.Script c.run.new.automation))
-    (λ ending ts rs few x. subst (λ a. AskerTells g.W.Write.contents a (asker.Script c.run.new.automation) ending ts rs) (sym c.in-Script.is) (script_tells g.W.Write.contents c.in-Script.script c.run.new.automation ending ts rs few x.exchanges))
+returns-in-Ok-clause-done g c = λ d start h held. plays _ (AskerTells g.W.Write.contents c.args.asker.now (asker.Script c.run_heard.new.automation))
+    (λ ending ts rs few x. subst (λ a. AskerTells g.W.Write.contents a (asker.Script c.run_heard.new.automation) ending ts rs) (sym c.in-Script.is) (script_tells g.W.Write.contents c.in-Script.script c.run_heard.new.automation ending ts rs few x.exchanges))
     d _ _ _ _ (c.in-Ok.ensures.ok d start [] h held)
 
 pub returns-in-Err-clause-stop : goal.returns-in-Err-clause-stop
-returns-in-Err-clause-stop g c = λ d start h out. chain_stops_so d _ (AskerTells g.W.Write.contents c.args.asker.now (asker.Script c.run.new.automation))
-    (λ ending ts rs few x. subst (λ a. AskerTells g.W.Write.contents a (asker.Script c.run.new.automation) ending ts rs) (sym c.in-Script.is) (script_tells g.W.Write.contents c.in-Script.script c.run.new.automation ending ts rs few x.exchanges))
-    (held c.args.library.now) _ _ (g.K.PacketSink.holds c.run.new.out start) (g.K.PacketSink.fails c.run.new.out start)
-    (g.K.GatheringSink.fails_to_send c.run.new.out start) (c.in-Err.ensures.err d start [] h out)
+returns-in-Err-clause-stop g c = λ d start h out. chain_stops_so d _ (AskerTells g.W.Write.contents c.args.asker.now (asker.Script c.run_heard.new.automation))
+    (λ ending ts rs few x. subst (λ a. AskerTells g.W.Write.contents a (asker.Script c.run_heard.new.automation) ending ts rs) (sym c.in-Script.is) (script_tells g.W.Write.contents c.in-Script.script c.run_heard.new.automation ending ts rs few x.exchanges))
+    (held c.args.library.now) _ _ (g.K.PacketSink.holds c.run_heard.new.out start) (g.K.PacketSink.fails c.run_heard.new.out start)
+    (g.K.GatheringSink.fails_to_send c.run_heard.new.out start) (c.in-Err.ensures.err d start [] h out)
 
 pub returns-in-Port-clause-done : goal.returns-in-Port-clause-done
 returns-in-Port-clause-done g c = λ d start h out. if_ok_so c.run_listening.result _ _

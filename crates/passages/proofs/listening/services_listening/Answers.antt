@@ -8,5 +8,5 @@ pub returns-in-Ok-clause-ok : goal.returns-in-Ok-clause-ok
 returns-in-Ok-clause-ok g c = λ cs start before h held. serves _ _ (λ ending ts rs le x. tt) (terms_by cs c.args.libraries.now) _ _ _ (c.in-Ok.ensures.ok cs start before h held)
 
 pub returns-clause-err : goal.returns-clause-err
-returns-clause-err g c = λ cs start before h held. services_stop_so _ Untold (λ ending ts rs le x. tt) (terms_by cs c.args.libraries.now) _ (λ ps. g.K.PacketSink.holds c.run_services.new.out start (before ++ ps))
-    (λ ps. g.K.PacketSink.fails c.run_services.new.out start (before ++ ps)) (λ ps. g.K.GatheringSink.fails_to_send c.run_services.new.out start (before ++ ps)) _ (c.in-Err.ensures.err cs start before h held)
+returns-clause-err g c = λ cs start before h held. services_stop_so _ Untold (λ ending ts rs le x. tt) (terms_by cs c.args.libraries.now) _ (λ ps. g.K.PacketSink.holds c.services_heard.new.out start (before ++ ps))
+    (λ ps. g.K.PacketSink.fails c.services_heard.new.out start (before ++ ps)) (λ ps. g.K.GatheringSink.fails_to_send c.services_heard.new.out start (before ++ ps)) _ (c.in-Err.ensures.err cs start before h held)
