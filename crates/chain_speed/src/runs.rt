@@ -10,6 +10,7 @@ use automations::{Reading, Script, load_into};
 use chain_engine::Report;
 use command_lines::command::CutOptions;
 use command_lines::inject_options::{Asking, InjectOptions};
+use event_logs::{Listening, Telling, Warnings};
 use passages::asking::Asker;
 use passages::fault::{ProgramFault, fault_name};
 use passages::kinds::{Chaining, Cueing, Cutting};
@@ -18,7 +19,9 @@ use passages::tell::Stopped;
 use pes_time::Time33;
 use psi_tables::Config;
 use run_ends::End;
+use run_events::Hearing;
 use std::alloc::{AllocError, Global};
+use std::cell::RefCell;
 use std::io::{BufReader, Read, Write};
 use std::net::TcpListener;
 use ts_packet::{Buffered, Device, PacketReader, Pid};
@@ -172,7 +175,9 @@ fn run_asked(alloc: Global, job: Job) -> Result<Outcome, Fault> {
         asking: Asking::Script(End::Standard),
         adverts: None,
         output: End::Standard,
+        events: End::Lines,
         is_on_air: false,
+        is_quiet: false,
         is_verbose: false,
     };
     let mut replies = TextDigest::new();
@@ -190,6 +195,22 @@ fn run_asked(alloc: Global, job: Job) -> Result<Outcome, Fault> {
     })
 }
 
+/// A log of events, which no workload has, and the warnings that a run keeps.
+type Warned = RefCell<Telling<Vec<u8>, Vec<u8>>>;
+
+/// What the program has of a run besides: its warnings.
+fn telling() -> Warned {
+    RefCell::new(Telling::new(None, Some(Warnings::new()), None))
+}
+
+/// Who hears of a run.
+fn hearing(telling: &Warned) -> Hearing<Listening<'_, Vec<u8>, Vec<u8>>> {
+    Hearing {
+        watch: Listening::new(telling),
+        overheard: None,
+    }
+}
+
 /// Puts cues in as a script asks for them.
 fn cue<I: Read + Drop, W: Write + Drop, O: Write + Drop>(
     alloc: Global,
@@ -200,10 +221,12 @@ fn cue<I: Read + Drop, W: Write + Drop, O: Write + Drop>(
     output: O,
 ) -> Result<Report, Fault> {
     let mut asker: Asker<W, TcpListener> = Asker::Script(load(alloc, job, replies)?);
+    let telling = telling();
     let passage = Cueing {
         alloc,
         options: &*options,
         asker: &mut asker,
+        hearing: &mut hearing(&telling),
     };
     let ran = run_from(alloc, passage, None, false, input, output);
     let Ran { report, seen: _ } = with_replies(ran, asker.has_lost_a_reply())?;
@@ -222,11 +245,13 @@ fn play<I: Read + Drop, W: Write + Drop, O: Write + Drop>(
     let is_live = job.workload == Workload::Awkward;
     let library = library(alloc, job)?;
     let mut asker: Asker<W, TcpListener> = Asker::Script(load(alloc, job, replies)?);
+    let telling = telling();
     let passage = Chaining {
         alloc,
         options: &*options,
         asker: &mut asker,
         library: &library,
+        hearing: &mut hearing(&telling),
     };
     let ran = run_from(alloc, passage, None, is_live, input, output);
     let Ran { report, seen: _ } = with_replies(ran, asker.has_lost_a_reply())?;

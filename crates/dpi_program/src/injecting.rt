@@ -1,25 +1,31 @@
 //! The subcommands `inject` and `run`: a run with cues, or with cues and advertisements, between the ends that its options name.
 
 use crate::counting::air_counts;
+use crate::ends::{LogEnd, open_log, open_network, open_output};
 use crate::sharing::Sharing;
 use crate::splicing::open_library;
+use crate::telling::{hearing_of, overheard_of, tell_fault, telling_of, warnings_of, with_late};
 use ad_library::AdLibrary;
 use automations::{Reading, Script, ScriptFault, listen, load_into};
 use chain_engine::Report;
 use command_lines::inject_options::{Asking, InjectOptions};
+use event_logs::{Listening, Telling, Warnings};
+use injector::MessageCounts;
 use on_air::{AirWatch, Unwatched};
 use passages::air_kinds::{ChainingOnAir, CueingOnAir};
+use passages::air_log::AirLog;
 use passages::air_running::run_on_air_from;
 use passages::air_telling::{AirTeller, TellingInTurn};
 use passages::asking::Asker;
 use passages::fault::ProgramFault;
 use passages::kinds::{Chaining, Cueing};
 use passages::recovery_watch::RecoveryWatch;
-use passages::running::{Ran, run_from, stopped, unopened, with_replies};
+use passages::running::{Ran, run_from, stopped, with_replies};
 use passages::tell::{CueAccount, LineAbout, Side, Stopped};
 use passages::watch::Watch;
 use report_texts::AirCounts;
-use run_ends::{Attended, Unopened, create_output, open_input};
+use run_ends::{Attended, open_input};
+use run_events::Hearing;
 use std::alloc::Global;
 use std::cell::RefCell;
 use std::fs::Metadata;
@@ -39,6 +45,8 @@ pub struct Injected {
     pub air: Option<AirCounts>,
     /// What `--verbose` tells, where that was asked for.
     pub account: Option<CueAccount>,
+    /// What is to be warned of, where that is.
+    pub warnings: Option<Warnings>,
 }
 
 /// What a run with these options has done that counted this and saw this go by.
@@ -49,27 +57,33 @@ fn injected_with(
     seen: Option<(Watch, Watch)>,
 ) -> Injected {
     let plays = options.adverts.is_some();
-    Injected {
-        plays,
-        report,
-        air,
-        account: seen.map(|(read, written)| CueAccount {
+    let account = match seen {
+        Some((read, written)) => Some(CueAccount {
             plays,
             cue_pid: options.config.cue_pid,
             read,
             written,
         }),
+        None => None,
+    };
+    Injected {
+        plays,
+        report,
+        air,
+        account,
+        warnings: None,
     }
 }
 
 /// Runs from a reader, with advertisements where there is a library.
-fn run_asked<R, O, W, L>(
+fn run_asked<R, O, W, L, H>(
     alloc: Global,
     options: &InjectOptions<'_>,
     is_live: bool,
     input: R,
-    asker: Asker<W, L>,
+    asker: &mut Asker<W, L>,
     library: Option<AdLibrary>,
+    hearing: &mut Hearing<H>,
     output: O,
 ) -> Result<Injected, Stopped>
 where
@@ -78,16 +92,17 @@ where
     W: Write + Drop,
     L: OpenListener + Drop,
     L::Stream: OpenStream + Read + Write + Drop,
+    H: run_events::Watch + Copy + Drop,
 {
-    let mut asker = asker;
     let watched = options.is_verbose.then_some(options.config.cue_pid);
     let ran = match &library {
         Some(library) => {
             let passage = Chaining {
                 alloc,
                 options: &*options,
-                asker: &mut asker,
+                asker: &mut *asker,
                 library,
+                hearing,
             };
             run_from(alloc, passage, watched, is_live, input, output)
         }
@@ -95,7 +110,8 @@ where
             let passage = Cueing {
                 alloc,
                 options: &*options,
-                asker: &mut asker,
+                asker: &mut *asker,
+                hearing,
             };
             run_from(alloc, passage, watched, is_live, input, output)
         }
@@ -105,14 +121,15 @@ where
 }
 
 /// Runs on air from a reader, with advertisements where there is a library.
-fn run_asked_on_air<R, O, W, L, A, V>(
+fn run_asked_on_air<R, O, W, L, A, H, V>(
     alloc: Global,
     options: &InjectOptions<'_>,
     is_live: bool,
     input: R,
-    asker: Asker<W, L>,
+    asker: &mut Asker<W, L>,
     library: Option<AdLibrary>,
     watch: &mut A,
+    hearing: &mut Hearing<H>,
     reading: V,
     output: O,
 ) -> Result<Injected, Stopped>
@@ -123,18 +140,19 @@ where
     L: OpenListener + Drop,
     L::Stream: OpenStream + Read + Write + Drop,
     A: AirWatch,
+    H: run_events::Watch + Copy + Drop,
     V: RecoveryWatch + Drop,
 {
-    let mut asker = asker;
     let watched = options.is_verbose.then_some(options.config.cue_pid);
     let ran = match &library {
         Some(library) => {
             let passage = ChainingOnAir {
                 alloc,
                 options: &*options,
-                asker: &mut asker,
+                asker: &mut *asker,
                 library,
                 watch,
+                hearing,
             };
             run_on_air_from(alloc, passage, watched, is_live, input, reading, output)
         }
@@ -142,8 +160,9 @@ where
             let passage = CueingOnAir {
                 alloc,
                 options: &*options,
-                asker: &mut asker,
+                asker: &mut *asker,
                 watch,
+                hearing,
             };
             run_on_air_from(alloc, passage, watched, is_live, input, reading, output)
         }
@@ -154,14 +173,15 @@ where
 }
 
 /// Runs from a reader, on air or not, as the options say. A run on air is told of on the stream, where there is one.
-fn inject_from<R, O, W, L, T>(
+fn inject_from<R, O, W, L, T, X, E>(
     alloc: Global,
     options: &InjectOptions<'_>,
     is_live: bool,
     input: R,
-    asker: Asker<W, L>,
+    asker: &mut Asker<W, L>,
     library: Option<AdLibrary>,
     told: Option<T>,
+    hearing: &mut Hearing<Listening<'_, X, E>>,
     output: O,
 ) -> Result<Injected, Stopped>
 where
@@ -171,23 +191,28 @@ where
     L: OpenListener + Drop,
     L::Stream: OpenStream + Read + Write + Drop,
     T: Write + Drop,
+    X: Write,
+    E: Write,
 {
     if !options.is_on_air {
-        return run_asked(alloc, options, is_live, input, asker, library, output);
+        return run_asked(
+            alloc, options, is_live, input, asker, library, hearing, output,
+        );
     }
+    let listening = hearing.watch;
     match told {
         Some(stream) => {
             let teller = RefCell::new(AirTeller::new(stream));
-            let watch = &mut TellingInTurn::new(&teller);
+            let watch = &mut AirLog::new(TellingInTurn::new(&teller), listening);
             let reading = TellingInTurn::new(&teller);
             run_asked_on_air(
-                alloc, options, is_live, input, asker, library, watch, reading, output,
+                alloc, options, is_live, input, asker, library, watch, hearing, reading, output,
             )
         }
         None => {
-            let watch = &mut Unwatched;
+            let watch = &mut AirLog::new(Unwatched, listening);
             run_asked_on_air(
-                alloc, options, is_live, input, asker, library, watch, Unwatched, output,
+                alloc, options, is_live, input, asker, library, watch, hearing, Unwatched, output,
             )
         }
     }
@@ -249,16 +274,24 @@ where
     }
 }
 
-/// Runs between opened ends.
-fn run_ends<F, I, O, W, L, T>(
-    alloc: Global,
-    options: &InjectOptions<'_>,
+/// What is opened of a run.
+#[derive(Drop)]
+struct Opened<F, W, L> {
+    /// The network, where it is a file.
     network: Option<F>,
-    input: &mut I,
     is_live: bool,
     asker: Asker<W, L>,
     library: Option<AdLibrary>,
+}
+
+/// Runs between opened ends, and tells of the run.
+fn run_ends<F, I, O, W, L, T, X, E>(
+    alloc: Global,
+    options: &InjectOptions<'_>,
+    opened: Opened<F, W, L>,
+    input: &mut I,
     told: Option<T>,
+    telling: RefCell<Telling<X, E>>,
     output: O,
 ) -> Result<Injected, Stopped>
 where
@@ -269,37 +302,64 @@ where
     L: OpenListener + Drop,
     L::Stream: OpenStream + Read + Write + Drop,
     T: Write + Drop,
+    X: Write + Drop,
+    E: Write + Drop,
 {
-    match network {
-        Some(file) => inject_from(alloc, options, is_live, file, asker, library, told, output),
-        None => inject_from(alloc, options, is_live, input, asker, library, told, output),
-    }
+    let Opened {
+        network,
+        is_live,
+        mut asker,
+        library,
+    } = opened;
+    let listening = Listening::new(&telling);
+    let overheard = tell_fault(&telling, overheard_of(alloc, listening.has_log()))?;
+    let ran = {
+        let hearing = &mut hearing_of(&telling, overheard);
+        match network {
+            Some(file) => inject_from(
+                alloc, options, is_live, file, &mut asker, library, told, hearing, output,
+            ),
+            None => inject_from(
+                alloc, options, is_live, input, &mut asker, library, told, hearing, output,
+            ),
+        }
+    };
+    let mut injected = tell_fault(&telling, ran)?;
+    tell_report(listening, &injected);
+    injected.warnings = with_late(warnings_of(telling, options.is_on_air)?, &asker);
+    Ok(injected)
 }
 
-/// Opens the ends in their order, and runs. `standard` is there where packets go to standard output, `told` where a run on air is to be
-/// told of.
+/// Has the log write what was counted.
+fn tell_report<X: Write, E: Write>(listening: Listening<'_, X, E>, injected: &Injected) {
+    let report = injected.report;
+    let messages = MessageCounts {
+        messages: report.messages,
+        accepted: report.accepted,
+        refused: report.refused,
+    };
+    let events = injected.plays.then_some(report.switch);
+    let air = injected.air;
+    listening.write(|log| log.report(Some(messages), events, air));
+}
+
+/// Opens the ends in their order, and runs. `standard` is there where packets go to standard output; `faults` is the stream of faults.
 fn open_and_run<R, I, O, W, T>(
     rt: &R,
     options: &InjectOptions<'_>,
     input: &mut I,
     replies: W,
     standard: Option<O>,
-    told: Option<T>,
+    faults: T,
 ) -> Result<Injected, Stopped>
 where
     R: Files + Net + AllocGlobal,
     I: Read,
     O: Write + Drop,
-    W: Write + Drop,
-    T: Write + Drop,
+    W: Write + Copy + Drop,
+    T: Write + Copy + Drop,
 {
-    let opened = match options.network.path() {
-        Some(path) => match open_input(rt, path) {
-            Ok(opened) => Some(opened),
-            Err(reason) => return Err(unopened(Unopened::Input(reason))),
-        },
-        None => None,
-    };
+    let network = open_network(rt, options.network)?;
     let (asker, script) = open_asker(rt, options.asking, input, replies)?;
     let (library, list) = match options.adverts {
         Some(adverts) => {
@@ -308,37 +368,35 @@ where
         }
         None => (None, None),
     };
-    let about = opened.as_ref().map(|(_, about)| about);
-    let is_live = !about.is_some_and(|about| about.is_file());
-    let alloc = rt.alloc();
-    if let Some(standard) = standard {
-        let network = opened.map(|(file, _)| file);
-        return run_ends(
-            alloc, options, network, input, is_live, asker, library, told, standard,
-        );
-    }
-    let path = options.output.path().unwrap_or("");
-    match create_output(rt, path, about, script.as_ref(), list.as_ref()) {
-        Ok(file) => {
-            let network = opened.map(|(file, _)| file);
-            run_ends(
-                alloc, options, network, input, is_live, asker, library, told, file,
-            )
-        }
-        Err(reason) => Err(unopened(Unopened::Output(reason))),
-    }
+    let about = network.about.as_ref();
+    let inputs = [about, script.as_ref(), list.as_ref()];
+    let LogEnd { end, about: logged } = open_log(rt, options.events, replies, &inputs)?;
+    let alarm = options.is_on_air.then_some(faults);
+    let telling = telling_of(end, options.is_quiet, alarm);
+    let others = [about, script.as_ref(), list.as_ref(), logged.as_ref()];
+    let opened = open_output(rt, options.output, standard, &others);
+    let output = tell_fault(&telling, opened)?;
+    let told = (options.is_on_air && options.is_verbose).then_some(faults);
+    let opened = Opened {
+        is_live: network.is_live(),
+        network: network.file,
+        asker,
+        library,
+    };
+    run_ends(rt.alloc(), options, opened, input, told, telling, output)
 }
 
 /// Runs the subcommand `inject`, or `run` where the options name advertisements: the network is opened first, then the script or the port,
-/// then the list is loaded with all its advertisements, then the output file is opened. Then the memory of the run is taken, and where
-/// there is a port a client is waited for, but on air. Replies to a script are printed as they come, on `faults` where the packets go to standard
-/// output. With `--verbose` a run on air is told of on `faults` while it goes on.
+/// then the list is loaded with all its advertisements, then the log and then the output file is opened. Then the memory of the run is taken, and
+/// where there is a port a client is waited for, but on air. Replies to a script are printed as they come, on `faults` where the packets go to
+/// standard output. With `--verbose` a run on air is told of on `faults` while it goes on.
 ///
 /// # Errors
 ///
 /// `File` where a file could not be opened or made, `Accept` where no automation system could connect, `Script` or `List` where that was
 /// not loaded, `OutOfMemory` where the allocator refused memory. `Run` where the run stopped, else `Unflushed` where the output could not
-/// be flushed at the end, else `Print` where a reply could not be printed. What went out before stands.
+/// be flushed at the end, else `Print` where a reply could not be printed, else `Log` where off air the log could not be written. What went
+/// out before stands.
 pub fn run_inject_command<R, I, O, E>(
     rt: &R,
     options: &InjectOptions<'_>,
@@ -352,17 +410,13 @@ where
     O: Write,
     E: Write,
 {
-    let tells = options.is_on_air && options.is_verbose;
-    if !options.has_standard_output() {
-        let none: Option<&mut E> = None;
-        return open_and_run(rt, options, input, output, none, tells.then_some(faults));
+    let stream = RefCell::new(faults);
+    let faults = Sharing::new(&stream);
+    if options.has_standard_output() {
+        return open_and_run(rt, options, input, faults, Some(output), faults);
     }
-    if tells {
-        let stream = RefCell::new(faults);
-        let replies = Sharing::new(&stream);
-        let told = Some(Sharing::new(&stream));
-        return open_and_run(rt, options, input, replies, Some(output), told);
-    }
-    let told: Option<&mut E> = None;
-    open_and_run(rt, options, input, faults, Some(output), told)
+    let printed = RefCell::new(output);
+    let replies = Sharing::new(&printed);
+    let none: Option<&mut O> = None;
+    open_and_run(rt, options, input, replies, none, faults)
 }

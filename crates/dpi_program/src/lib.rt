@@ -5,6 +5,7 @@
 
 mod counting;
 mod cutting;
+mod ends;
 mod injecting;
 mod inspecting;
 mod planning;
@@ -13,6 +14,7 @@ mod requesting;
 mod serving;
 mod sharing;
 mod splicing;
+mod telling;
 
 pub use ad_lists::{ListFault, load_list};
 pub use automations::{Script, ScriptFault};

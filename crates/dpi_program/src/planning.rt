@@ -13,7 +13,7 @@ use command_lines::plan_options::PlanOptions;
 use command_lines::refusals::{DONE, report};
 use passages::fault::{ProgramFault, fault_name};
 use psi_tables::{FeedFault, NetworkFault};
-use run_ends::{End, create_output, open_input};
+use run_ends::{End, create_beside, open_input};
 use std::alloc::Global;
 use std::fmt;
 use std::fs::Metadata;
@@ -150,7 +150,10 @@ fn timeline_from<R: Read + Drop>(
             Err(TimelineFault::OutOfMemory) => return Err(NO_MEMORY),
         }
     }
-    Ok(timeline.finish())
+    match timeline.finish() {
+        Ok(timeline) => Ok(timeline),
+        Err(_) => Err(NO_MEMORY),
+    }
 }
 
 /// The pictures of the network that the options name.
@@ -192,13 +195,12 @@ fn write_plan<R: Files + AllocGlobal, O: Write>(
         return Err(NO_MEMORY);
     };
     let path = options.script.path().unwrap_or("");
-    let Ok(mut file) = create_output(
-        rt,
-        path,
+    let others = [
         inputs.network.as_ref(),
         inputs.breaks.as_ref(),
         inputs.adverts.as_ref(),
-    ) else {
+    ];
+    let Ok(mut file) = create_beside(rt, path, &others) else {
         return Err(PlanFault::Program(ProgramFault::File));
     };
     if file.write_all(script.as_slice()).is_err() || file.flush().is_err() {

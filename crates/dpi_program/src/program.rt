@@ -9,6 +9,7 @@ use crate::planning::run_plan_command;
 use crate::requesting::run_request_command;
 use crate::serving::{Served, run_services_command};
 use crate::splicing::{Spliced, run_splice_command};
+use crate::telling::print_warnings;
 use command_lines::command::{CUT_USAGE, CutOptions, command, cut_options};
 use command_lines::inject_options::{
     INJECT_USAGE, InjectOptions, RUN_USAGE, inject_options, run_options,
@@ -54,6 +55,7 @@ fn report_inject<E: Write>(faults: &mut E, options: &InjectOptions<'_>, stopped:
             Side::Listening => options.asking_name(),
             Side::Filing => options.adverts_name(),
             Side::Printing => "the standard stream",
+            Side::Telling => options.events.output_name(),
         };
         let trouble = Trouble { stopped, name };
         let _ = write!(faults, "{trouble}");
@@ -94,9 +96,11 @@ fn tell_injected<O: Write, E: Write>(
     if !is_out {
         return report(faults, fault_name(ProgramFault::Print));
     }
+    let warnings = injected.warnings;
     if let Some(account) = injected.account {
         let _ = write!(faults, "{account}");
     }
+    print_warnings(faults, &warnings);
     DONE
 }
 
@@ -128,6 +132,7 @@ fn report_splice<E: Write>(faults: &mut E, options: &SpliceOptions<'_>, stopped:
         let name = match stopped.side {
             Side::Reading => options.network.input_name(),
             Side::Writing => options.output.output_name(),
+            Side::Telling => options.events.output_name(),
             _ => options.adverts.input_name(),
         };
         let trouble = Trouble { stopped, name };
@@ -169,10 +174,12 @@ fn tell_spliced<O: Write, E: Write>(
     if !is_out {
         return report(faults, fault_name(ProgramFault::Print));
     }
+    let warnings = spliced.warnings;
     if let Some((read, written)) = spliced.seen {
         let account = SpliceAccount { read, written };
         let _ = write!(faults, "{account}");
     }
+    print_warnings(faults, &warnings);
     DONE
 }
 
@@ -225,6 +232,7 @@ fn report_services<E: Write>(faults: &mut E, options: &ServicesOptions<'_>, stop
             Side::Listening => options.asking_name(),
             Side::Filing => options.services.input_name(),
             Side::Printing => "the standard stream",
+            Side::Telling => options.events.output_name(),
         };
         let trouble = Trouble { stopped, name };
         let _ = write!(faults, "{trouble}");
@@ -254,9 +262,11 @@ fn tell_served<O: Write, E: Write>(
     if !is_out {
         return report(faults, fault_name(ProgramFault::Print));
     }
+    let warnings = served.warnings;
     if let Some(account) = served.account {
         let _ = write!(faults, "{account}");
     }
+    print_warnings(faults, &warnings);
     DONE
 }
 

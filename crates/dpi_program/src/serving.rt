@@ -4,23 +4,29 @@ ghost use Rattle.std.specs.Prelude.{IfOk};
 ghost use Rattle.service_lists.specs.Lists.{AreReady};
 
 use crate::counting::air_counts;
+use crate::ends::{LogEnd, open_log, open_network, open_output};
 use crate::injecting::open_asker;
 use crate::sharing::Sharing;
+use crate::telling::{hearing_of, overheard_of, tell_fault, telling_of, warnings_of, with_late};
 use ad_library::AdLibrary;
 use chain_services::ServiceReport;
 use command_lines::services_options::ServicesOptions;
+use event_logs::{Listening, Telling, Warnings};
+use injector::MessageCounts;
 use on_air::Unwatched;
 use passages::air_kinds::ServingOnAir;
+use passages::air_log::AirLog;
 use passages::air_running::run_on_air_from;
 use passages::air_telling::{AirTeller, TellingInTurn};
 use passages::asking::Asker;
 use passages::fault::ProgramFault;
 use passages::kinds::Serving;
 use passages::recovery_watch::RecoveryWatch;
-use passages::running::{Ran, out_of_memory, run_from, stopped, unopened, with_replies};
+use passages::running::{Ran, out_of_memory, run_from, stopped, with_replies};
 use passages::tell::{LineAbout, ServicesAccount, Side, Stopped};
 use report_texts::AirCounts;
-use run_ends::{Attended, End, Unopened, create_output, open_input};
+use run_ends::{Attended, End, open_input};
+use run_events::{Hearing, Watch};
 use service_lists::{ServiceList, ServicesFault, Unloaded, load_services};
 use services_on_air::{AirServices, ServicesWatch};
 use std::alloc::Global;
@@ -40,6 +46,8 @@ pub struct Served {
     pub air: Option<AirCounts>,
     /// What `--verbose` tells, where that was asked for.
     pub account: Option<ServicesAccount>,
+    /// What is to be warned of, where that is.
+    pub warnings: Option<Warnings>,
 }
 
 /// What is known of a list of services that was not loaded.
@@ -113,13 +121,14 @@ fn watched_for(is_verbose: bool) -> Option<Pid> {
 }
 
 /// Runs from a reader.
-fn run_plainly<R, O, W, L>(
+fn run_plainly<R, O, W, L, H>(
     alloc: Global,
     is_verbose: bool,
     is_live: bool,
     input: R,
-    asker: Asker<W, L>,
+    asker: &mut Asker<W, L>,
     list: ServiceList,
+    hearing: &mut Hearing<H>,
     output: O,
 ) -> Result<Served, Stopped>
 where
@@ -128,9 +137,9 @@ where
     W: Write + Drop,
     L: OpenListener + Drop,
     L::Stream: OpenStream + Read + Write + Drop,
+    H: Watch + Copy + Drop,
     requires { AreReady list }
 {
-    let mut asker = asker;
     let ServiceList {
         configs,
         services,
@@ -140,8 +149,9 @@ where
     let passage = Serving {
         configs: configs.as_slice(),
         services,
-        asker: &mut asker,
+        asker: &mut *asker,
         libraries: libraries.as_slice(),
+        hearing,
     };
     let ran = run_from(alloc, passage, watched, is_live, input, output);
     let Ran { report, seen } = with_replies(ran, asker.has_lost_a_reply())?;
@@ -149,19 +159,21 @@ where
         report,
         air: None,
         account: seen.map(|(read, written)| ServicesAccount { read, written }),
+        warnings: None,
     })
 }
 
 /// Runs on air from a reader.
-fn run_on_air<R, O, W, L, A, V>(
+fn run_on_air<R, O, W, L, A, H, V>(
     alloc: Global,
     is_verbose: bool,
     is_live: bool,
     input: R,
-    asker: Asker<W, L>,
+    asker: &mut Asker<W, L>,
     services: AirServices,
     libraries: &[AdLibrary],
     watch: &mut A,
+    hearing: &mut Hearing<H>,
     reading: V,
     output: O,
 ) -> Result<Served, Stopped>
@@ -172,15 +184,16 @@ where
     L: OpenListener + Drop,
     L::Stream: OpenStream + Read + Write + Drop,
     A: ServicesWatch,
+    H: Watch + Copy + Drop,
     V: RecoveryWatch + Drop,
 {
-    let mut asker = asker;
     let watched = watched_for(is_verbose);
     let passage = ServingOnAir {
         services,
-        asker: &mut asker,
+        asker: &mut *asker,
         libraries,
         watch,
+        hearing,
     };
     let ran = run_on_air_from(alloc, passage, watched, is_live, input, reading, output);
     let Ran { report, seen } = with_replies(ran, asker.has_lost_a_reply())?;
@@ -189,19 +202,21 @@ where
         report: report.report.report,
         air,
         account: seen.map(|(read, written)| ServicesAccount { read, written }),
+        warnings: None,
     })
 }
 
 /// Runs from a reader, on air where there are services for that. A run on air is told of on the stream, where there is one.
-fn run_services_from<R, O, W, L, T>(
+fn run_services_from<R, O, W, L, T, X, E>(
     alloc: Global,
     is_verbose: bool,
     is_live: bool,
     input: R,
-    asker: Asker<W, L>,
+    asker: &mut Asker<W, L>,
     list: ServiceList,
     on_air: Option<AirServices>,
     told: Option<T>,
+    hearing: &mut Hearing<Listening<'_, X, E>>,
     output: O,
 ) -> Result<Served, Stopped>
 where
@@ -211,43 +226,71 @@ where
     L: OpenListener + Drop,
     L::Stream: OpenStream + Read + Write + Drop,
     T: Write + Drop,
+    X: Write,
+    E: Write,
     requires { AreReady list }
 {
     let Some(services) = on_air else {
-        return run_plainly(alloc, is_verbose, is_live, input, asker, list, output);
+        return run_plainly(
+            alloc, is_verbose, is_live, input, asker, list, hearing, output,
+        );
     };
     let libraries = list.libraries.as_slice();
+    let listening = hearing.watch;
     match told {
         Some(stream) => {
             let teller = RefCell::new(AirTeller::new(stream));
-            let watch = &mut TellingInTurn::new(&teller);
+            let watch = &mut AirLog::new(TellingInTurn::new(&teller), listening);
             let reading = TellingInTurn::new(&teller);
             run_on_air(
-                alloc, is_verbose, is_live, input, asker, services, libraries, watch, reading,
-                output,
+                alloc, is_verbose, is_live, input, asker, services, libraries, watch, hearing,
+                reading, output,
             )
         }
         None => {
-            let watch = &mut Unwatched;
+            let watch = &mut AirLog::new(Unwatched, listening);
             run_on_air(
-                alloc, is_verbose, is_live, input, asker, services, libraries, watch, Unwatched,
-                output,
+                alloc, is_verbose, is_live, input, asker, services, libraries, watch, hearing,
+                Unwatched, output,
             )
         }
     }
 }
 
-/// Runs between opened ends.
-fn run_ends<F, I, O, W, L, T>(
-    alloc: Global,
-    is_verbose: bool,
+/// What is opened of a run.
+#[derive(Drop)]
+struct Opened<F, W, L> {
+    /// The network, where it is a file.
     network: Option<F>,
-    input: &mut I,
     is_live: bool,
     asker: Asker<W, L>,
     list: ServiceList,
     on_air: Option<AirServices>,
+}
+
+/// Has the log write what was counted.
+fn tell_report<X: Write, E: Write>(listening: Listening<'_, X, E>, served: &Served) {
+    let report = &served.report;
+    let messages = MessageCounts {
+        messages: report.messages,
+        accepted: report.accepted,
+        refused: report.refused,
+    };
+    let air = served.air;
+    listening.write(|log| log.report(Some(messages), None, air));
+    for events in report.services.iter() {
+        listening.write(|log| log.report_service(events.program, &events.switch));
+    }
+}
+
+/// Runs between opened ends, and tells of the run.
+fn run_ends<F, I, O, W, L, T, X, E>(
+    alloc: Global,
+    options: &ServicesOptions<'_>,
+    opened: Opened<F, W, L>,
+    input: &mut I,
     told: Option<T>,
+    telling: RefCell<Telling<X, E>>,
     output: O,
 ) -> Result<Served, Stopped>
 where
@@ -258,16 +301,35 @@ where
     L: OpenListener + Drop,
     L::Stream: OpenStream + Read + Write + Drop,
     T: Write + Drop,
-    requires { AreReady list }
+    X: Write + Drop,
+    E: Write + Drop,
+    requires { AreReady opened.list }
 {
-    match network {
-        Some(file) => run_services_from(
-            alloc, is_verbose, is_live, file, asker, list, on_air, told, output,
-        ),
-        None => run_services_from(
-            alloc, is_verbose, is_live, input, asker, list, on_air, told, output,
-        ),
-    }
+    let Opened {
+        network,
+        is_live,
+        mut asker,
+        list,
+        on_air,
+    } = opened;
+    let is_verbose = options.is_verbose;
+    let listening = Listening::new(&telling);
+    let overheard = tell_fault(&telling, overheard_of(alloc, listening.has_log()))?;
+    let ran = {
+        let hearing = &mut hearing_of(&telling, overheard);
+        match network {
+            Some(file) => run_services_from(
+                alloc, is_verbose, is_live, file, &mut asker, list, on_air, told, hearing, output,
+            ),
+            None => run_services_from(
+                alloc, is_verbose, is_live, input, &mut asker, list, on_air, told, hearing, output,
+            ),
+        }
+    };
+    let mut served = tell_fault(&telling, ran)?;
+    tell_report(listening, &served);
+    served.warnings = with_late(warnings_of(telling, options.is_on_air)?, &asker);
+    Ok(served)
 }
 
 /// The services of a list that are run on air, where the options say so; their memory is taken here.
@@ -285,65 +347,57 @@ fn services_on_air_of(
     }
 }
 
-/// Opens the ends in their order, and runs. `standard` is there where packets go to standard output, `told` where a run on air is to be
-/// told of.
+/// Opens the ends in their order, and runs. `standard` is there where packets go to standard output; `faults` is the stream of faults.
 fn open_and_run<R, I, O, W, T>(
     rt: &R,
     options: &ServicesOptions<'_>,
     input: &mut I,
     replies: W,
     standard: Option<O>,
-    told: Option<T>,
+    faults: T,
 ) -> Result<Served, Stopped>
 where
     R: Files + Net + AllocGlobal,
     I: Read,
     O: Write + Drop,
-    W: Write + Drop,
-    T: Write + Drop,
+    W: Write + Copy + Drop,
+    T: Write + Copy + Drop,
 {
-    let opened = match options.network.path() {
-        Some(path) => match open_input(rt, path) {
-            Ok(opened) => Some(opened),
-            Err(reason) => return Err(unopened(Unopened::Input(reason))),
-        },
-        None => None,
-    };
+    let network = open_network(rt, options.network)?;
     let (asker, script) = open_asker(rt, options.asking, input, replies)?;
     let (list, listed) = open_services(rt, options.services, input)?;
-    let about = opened.as_ref().map(|(_, about)| about);
-    let is_live = !about.is_some_and(|about| about.is_file());
     let alloc = rt.alloc();
     let on_air = services_on_air_of(alloc, options, &list)?;
-    let is_verbose = options.is_verbose;
-    if let Some(standard) = standard {
-        let network = opened.map(|(file, _)| file);
-        return run_ends(
-            alloc, is_verbose, network, input, is_live, asker, list, on_air, told, standard,
-        );
-    }
-    let path = options.output.path().unwrap_or("");
-    match create_output(rt, path, about, script.as_ref(), listed.as_ref()) {
-        Ok(file) => {
-            let network = opened.map(|(file, _)| file);
-            run_ends(
-                alloc, is_verbose, network, input, is_live, asker, list, on_air, told, file,
-            )
-        }
-        Err(reason) => Err(unopened(Unopened::Output(reason))),
-    }
+    let about = network.about.as_ref();
+    let inputs = [about, script.as_ref(), listed.as_ref()];
+    let LogEnd { end, about: logged } = open_log(rt, options.events, replies, &inputs)?;
+    let alarm = options.is_on_air.then_some(faults);
+    let telling = telling_of(end, options.is_quiet, alarm);
+    let others = [about, script.as_ref(), listed.as_ref(), logged.as_ref()];
+    let opened = open_output(rt, options.output, standard, &others);
+    let output = tell_fault(&telling, opened)?;
+    let told = (options.is_on_air && options.is_verbose).then_some(faults);
+    let opened = Opened {
+        is_live: network.is_live(),
+        network: network.file,
+        asker,
+        list,
+        on_air,
+    };
+    run_ends(alloc, options, opened, input, told, telling, output)
 }
 
 /// Runs the subcommand `services`: the network is opened first, then the script or the port, then the list is loaded line by line, with all
-/// advertisements of each, and with the memory of the services, then the output file is opened. Then, where there is a port, a client is waited
-/// for, but on air. Replies to a script are printed as they come, on `faults` where the packets go to standard output. With `--verbose` a run on air is told
-/// of on `faults` while it goes on.
+/// advertisements of each, and with the memory of the services, then the log and then the output file is opened. Then, where there is a port, a
+/// client is waited for, but on air. Replies to a script are printed as they come, on `faults` where the packets go to standard output. With
+/// `--verbose` a run on air is told of on `faults` while it goes on.
 ///
 /// # Errors
 ///
 /// `File` where a file could not be opened or made, `Accept` where no automation system could connect, `Script` or `Services` where that was
 /// not loaded, `OutOfMemory` where the allocator refused memory. `Run` where the run stopped, else `Unflushed` where the output could not
-/// be flushed at the end, else `Print` where a reply could not be printed. What went out before stands.
+/// be flushed at the end, else `Print` where a reply could not be printed, else `Log` where off air the log could not be written. What went
+/// out before stands.
 pub fn run_services_command<R, I, O, E>(
     rt: &R,
     options: &ServicesOptions<'_>,
@@ -357,17 +411,13 @@ where
     O: Write,
     E: Write,
 {
-    let tells = options.is_on_air && options.is_verbose;
-    if !options.has_standard_output() {
-        let none: Option<&mut E> = None;
-        return open_and_run(rt, options, input, output, none, tells.then_some(faults));
+    let stream = RefCell::new(faults);
+    let faults = Sharing::new(&stream);
+    if options.has_standard_output() {
+        return open_and_run(rt, options, input, faults, Some(output), faults);
     }
-    if tells {
-        let stream = RefCell::new(faults);
-        let replies = Sharing::new(&stream);
-        let told = Some(Sharing::new(&stream));
-        return open_and_run(rt, options, input, replies, Some(output), told);
-    }
-    let told: Option<&mut E> = None;
-    open_and_run(rt, options, input, faults, Some(output), told)
+    let printed = RefCell::new(output);
+    let replies = Sharing::new(&printed);
+    let none: Option<&mut O> = None;
+    open_and_run(rt, options, input, replies, none, faults)
 }

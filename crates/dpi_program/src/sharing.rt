@@ -1,13 +1,22 @@
 //! A stream of text to which several write in turn.
 
+use std::alloc::AllocError;
 use std::cell::RefCell;
 use std::io::{self, ErrorKind, Write};
 
 /// One of those who write to a stream.
-#[derive(Clone, Copy, Drop)]
+#[derive(Drop)]
 pub(crate) struct Sharing<'a, W> {
     stream: &'a RefCell<W>,
 }
+
+impl<W> Clone for Sharing<'_, W> {
+    fn clone(&self) -> Result<Self, AllocError> {
+        Ok(*self)
+    }
+}
+
+impl<W> Copy for Sharing<'_, W> {}
 
 impl<'a, W> Sharing<'a, W> {
     /// Writes to this stream.

@@ -4,21 +4,26 @@ ghost use Rattle.std.specs.Prelude.{◌≡◌, Some, true};
 ghost use Rattle.ad_lists.specs.Lists.{is_at_line};
 
 use crate::counting::air_counts;
+use crate::ends::{LogEnd, open_log, open_network, open_output};
+use crate::sharing::Sharing;
+use crate::telling::{tell_fault, telling_of, warnings_of};
 use ad_library::AdLibrary;
 use ad_lists::{ListFault, Loading, load_into};
 use command_lines::splice_options::SpliceOptions;
+use event_logs::{Listening, Telling, Warnings};
 use on_air::{AirWatch, Unwatched};
 use passages::air_kinds::SplicingOnAir;
+use passages::air_log::AirLog;
 use passages::air_running::run_on_air_from;
 use passages::air_telling::{AirTeller, TellingInTurn};
 use passages::fault::ProgramFault;
 use passages::kinds::Splicing;
 use passages::recovery_watch::RecoveryWatch;
-use passages::running::{Ran, run_from, stopped, unopened};
+use passages::running::{Ran, run_from, stopped};
 use passages::tell::{LineAbout, Side, Stopped};
 use passages::watch::Watch;
 use report_texts::AirCounts;
-use run_ends::{Attended, End, Unopened, create_output, open_input};
+use run_ends::{Attended, End, open_input};
 use splice_plans::SwitchReport;
 use std::alloc::Global;
 use std::cell::RefCell;
@@ -36,6 +41,8 @@ pub struct Spliced {
     pub air: Option<AirCounts>,
     /// What was seen go by, where that was asked for.
     pub seen: Option<(Watch, Watch)>,
+    /// What is to be warned of, where that is.
+    pub warnings: Option<Warnings>,
 }
 
 /// What is known of a list that was not loaded: where a line is at fault its number and its text, and the system's reason where its stream
@@ -97,19 +104,21 @@ where
 }
 
 /// Runs on air from a reader.
-fn splice_watched<R, A, V, O>(
+fn splice_watched<R, A, H, V, O>(
     alloc: Global,
     options: &SpliceOptions<'_>,
     is_live: bool,
     input: R,
     library: &AdLibrary,
     watch: &mut A,
+    told: H,
     reading: V,
     output: O,
 ) -> Result<Spliced, Stopped>
 where
     R: Read + Drop,
     A: AirWatch,
+    H: run_events::Watch + Drop,
     V: RecoveryWatch + Drop,
     O: Write + Drop,
 {
@@ -118,6 +127,7 @@ where
         options,
         library,
         watch,
+        told,
     };
     let Ran { report, seen } = run_on_air_from(
         alloc, passage, watched, is_live, input, reading, output,
@@ -126,75 +136,156 @@ where
         report: report.report.report,
         air: Some(air_counts(&report)),
         seen,
+        warnings: None,
     })
 }
 
 /// Runs from a reader. A run on air is told of on the stream, where there is one.
-fn splice_from<R: Read + Drop, T: Write + Drop, O: Write + Drop>(
+fn splice_from<R, T, W, E, O>(
     alloc: Global,
     options: &SpliceOptions<'_>,
     is_live: bool,
     input: R,
     library: &AdLibrary,
     told: Option<T>,
+    listening: Listening<'_, W, E>,
     output: O,
-) -> Result<Spliced, Stopped> {
+) -> Result<Spliced, Stopped>
+where
+    R: Read + Drop,
+    T: Write + Drop,
+    W: Write,
+    E: Write,
+    O: Write + Drop,
+{
     if options.is_on_air {
         return match told {
             Some(stream) => {
                 let teller = RefCell::new(AirTeller::new(stream));
-                let watch = &mut TellingInTurn::new(&teller);
+                let watch = &mut AirLog::new(TellingInTurn::new(&teller), listening);
                 let reading = TellingInTurn::new(&teller);
                 splice_watched(
-                    alloc, options, is_live, input, library, watch, reading, output,
+                    alloc, options, is_live, input, library, watch, listening, reading, output,
                 )
             }
-            None => splice_watched(
-                alloc,
-                options,
-                is_live,
-                input,
-                library,
-                &mut Unwatched,
-                Unwatched,
-                output,
-            ),
+            None => {
+                let watch = &mut AirLog::new(Unwatched, listening);
+                splice_watched(
+                    alloc, options, is_live, input, library, watch, listening, Unwatched, output,
+                )
+            }
         };
     }
     let watched = options.is_verbose.then_some(options.config.cue_pid);
-    let passage = Splicing { options, library };
+    let passage = Splicing {
+        options,
+        library,
+        watch: listening,
+    };
     let Ran { report, seen } = run_from(alloc, passage, watched, is_live, input, output)?;
     Ok(Spliced {
         report,
         air: None,
         seen,
+        warnings: None,
     })
 }
 
-/// Runs between opened ends.
-fn run_ends<F: Read + Drop, I: Read, T: Write + Drop, O: Write + Drop>(
-    alloc: Global,
-    options: &SpliceOptions<'_>,
+/// What is opened of a run.
+#[derive(Drop)]
+struct Opened<F> {
+    /// The network, where it is a file.
     network: Option<F>,
-    input: &mut I,
     is_live: bool,
-    library: &AdLibrary,
-    told: Option<T>,
-    output: O,
-) -> Result<Spliced, Stopped> {
-    match network {
-        Some(file) => splice_from(alloc, options, is_live, file, library, told, output),
-        None => splice_from(alloc, options, is_live, input, library, told, output),
-    }
+    library: AdLibrary,
 }
 
-/// Runs the subcommand `splice`: the network is opened first, then the list is loaded with all its advertisements, then the output file is
-/// opened. With `--verbose` a run on air is told of on `faults` while it goes on.
+/// Runs between opened ends, and tells of the run.
+fn run_ends<F, I, T, W, E, O>(
+    alloc: Global,
+    options: &SpliceOptions<'_>,
+    opened: Opened<F>,
+    input: &mut I,
+    told: Option<T>,
+    telling: RefCell<Telling<W, E>>,
+    output: O,
+) -> Result<Spliced, Stopped>
+where
+    F: Read + Drop,
+    I: Read,
+    T: Write + Drop,
+    W: Write + Drop,
+    E: Write + Drop,
+    O: Write + Drop,
+{
+    let Opened {
+        network,
+        is_live,
+        library,
+    } = opened;
+    let listening = Listening::new(&telling);
+    let ran = match network {
+        Some(file) => splice_from(
+            alloc, options, is_live, file, &library, told, listening, output,
+        ),
+        None => splice_from(
+            alloc, options, is_live, input, &library, told, listening, output,
+        ),
+    };
+    let mut spliced = tell_fault(&telling, ran)?;
+    let (report, air) = (spliced.report, spliced.air);
+    listening.write(|log| log.report(None, Some(report), air));
+    spliced.warnings = warnings_of(telling, options.is_on_air)?;
+    Ok(spliced)
+}
+
+/// Opens the ends in their order, and runs. `standard` is there where packets go to standard output; `faults` is the stream of faults.
+fn open_and_run<R, I, O, W, T>(
+    rt: &R,
+    options: &SpliceOptions<'_>,
+    input: &mut I,
+    printed: W,
+    standard: Option<O>,
+    faults: T,
+) -> Result<Spliced, Stopped>
+where
+    R: Files + AllocGlobal,
+    I: Read,
+    O: Write + Drop,
+    W: Write + Drop,
+    T: Write + Copy + Drop,
+{
+    let network = open_network(rt, options.network)?;
+    let (library, list) = open_library(rt, options.adverts, input)?;
+    let about = network.about.as_ref();
+    let LogEnd { end, about: logged } = open_log(
+        rt,
+        options.events,
+        printed,
+        &[about, list.as_ref()],
+    )?;
+    let alarm = options.is_on_air.then_some(faults);
+    let telling = telling_of(end, options.is_quiet, alarm);
+    let others = [about, list.as_ref(), logged.as_ref()];
+    let opened = open_output(rt, options.output, standard, &others);
+    let output = tell_fault(&telling, opened)?;
+    let told = options.is_verbose.then_some(faults);
+    let opened = Opened {
+        is_live: network.is_live(),
+        network: network.file,
+        library,
+    };
+    run_ends(rt.alloc(), options, opened, input, told, telling, output)
+}
+
+/// Runs the subcommand `splice`: the network is opened first, then the list is loaded with all its advertisements, then the log and then the
+/// output file is opened. With `--verbose` a run on air is told of on `faults` while it goes on.
 ///
 /// # Errors
 ///
 /// `File` where a file could not be opened or made, `List` where the list was not loaded, `OutOfMemory` where the allocator refused
-/// memory, `Run` where the run stopped, `Unflushed` where the output could not be flushed at the end. What went out before stands.
+/// memory, `Run` where the run stopped, `Unflushed` where the output could not be flushed at the end, `Log` where off air the log could not be
+/// written. What went out before stands.
 pub fn run_splice_command<R, I, O, E>(
     rt: &R,
     options: &SpliceOptions<'_>,
@@ -208,31 +299,12 @@ where
     O: Write,
     E: Write,
 {
-    let opened = match options.network.path() {
-        Some(path) => match open_input(rt, path) {
-            Ok(opened) => Some(opened),
-            Err(reason) => return Err(unopened(Unopened::Input(reason))),
-        },
-        None => None,
-    };
-    let (library, list) = open_library(rt, options.adverts, input)?;
-    let about = opened.as_ref().map(|(_, about)| about);
-    let is_live = !about.is_some_and(|about| about.is_file());
-    let alloc = rt.alloc();
-    let told = options.is_verbose.then_some(faults);
-    let Some(path) = options.output.path() else {
-        let network = opened.map(|(file, _)| file);
-        return run_ends(
-            alloc, options, network, input, is_live, &library, told, output,
-        );
-    };
-    match create_output(rt, path, about, None, list.as_ref()) {
-        Ok(file) => {
-            let network = opened.map(|(file, _)| file);
-            run_ends(
-                alloc, options, network, input, is_live, &library, told, file,
-            )
-        }
-        Err(reason) => Err(unopened(Unopened::Output(reason))),
+    let stream = RefCell::new(faults);
+    let faults = Sharing::new(&stream);
+    if options.has_standard_output() {
+        return open_and_run(rt, options, input, faults, Some(output), faults);
     }
+    let printed = RefCell::new(output);
+    let none: Option<&mut O> = None;
+    open_and_run(rt, options, input, Sharing::new(&printed), none, faults)
 }
