@@ -14,6 +14,7 @@ use passages::tell::{Side, Stopped};
 use pes_time::Time33;
 use psi_tables::Config;
 use run_ends::End;
+use run_events::Unheard;
 use std::alloc::{AllocError, Global};
 use std::io::{Read, Write};
 use std::process::Abort;
@@ -66,13 +67,16 @@ fn splice<R: Read + Drop, O: Write + Drop>(
         network: End::Standard,
         adverts: End::Standard,
         output: End::Standard,
+        events: End::Lines,
         is_on_air: false,
+        is_quiet: false,
         is_verbose: false,
     };
     let library = AdLibrary::new(alloc);
     let passage = Splicing {
         options: &options,
         library: &library,
+        watch: Unheard,
     };
     match run_from(alloc, passage, None, is_live, input, output) {
         Ok(_) => Ok(Ok(())),

@@ -465,7 +465,7 @@ fn expect_same_file<R: Files + Net + AllocGlobal + Abort>(
     assert_eq!(rt; run.status, 1, "{output}");
     let says = std::str::from_utf8(run.faults.as_slice())?;
     assert!(rt; says.starts_with("fault: File\nwriting "), "{says}");
-    assert!(rt; says.ends_with("it is the input file\n"), "{says}");
+    assert!(rt; says.ends_with("it is another file of the run\n"), "{says}");
     Ok(())
 }
 

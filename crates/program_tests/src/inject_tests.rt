@@ -4,6 +4,7 @@ use crate::expecting::expect;
 use chain_engine::{Chain, Report};
 use dpi_program::inject_listening;
 use psi_tables::Config;
+use run_events::{Hearing, Unheard};
 use std::io::{Read, Write};
 use std::net::{Net, OpenListener, OpenStream, Shutdown, SocketAddr, TcpListener, TcpStream};
 use std::process::Abort;
@@ -172,7 +173,11 @@ fn run_with_client<R: Net + AllocGlobal + Abort>(
     let mut target = Device::new(Vec::new(rt.alloc()));
     let mut network = PacketReader::new(&mut input);
     let mut out = PacketWriter::new(&mut target);
-    let Ok(report) = inject_listening(chain, &mut network, &listener, &mut out) else {
+    let unheard = &mut Hearing {
+        watch: Unheard,
+        overheard: None,
+    };
+    let Ok(report) = inject_listening(chain, &mut network, &listener, &mut out, unheard) else {
         return Err(Fail::from("a run"));
     };
     assert!(rt; target.into_inner().as_slice() == packet.as_slice());

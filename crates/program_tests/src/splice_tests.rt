@@ -80,7 +80,7 @@ fn each_subcommand_tells_how_it_is_called(rt: HostRuntime) {
         2,
         "error: invalid value '0' for '--program <N>': a program's number is a decimal number from 1 to 65535
 
-Usage: dpi_chain run --network <FILE> --program <N> --cue-pid <PID> --index <N> <--script <FILE>|--listen <PORT>> --adverts <FILE> --out <FILE> [--on-air] [--verbose]
+Usage: dpi_chain run --network <FILE> --program <N> --cue-pid <PID> --index <N> <--script <FILE>|--listen <PORT>> --adverts <FILE> --out <FILE> [--events <FILE>] [--on-air] [--quiet] [--verbose]
 
 For more information, try '--help'.
 ",
@@ -91,7 +91,7 @@ For more information, try '--help'.
         2,
         "error: '--network <FILE>' and '--adverts <FILE>' cannot both be standard input
 
-Usage: dpi_chain splice --network <FILE> --program <N> --cue-pid <PID> --adverts <FILE> --out <FILE> [--on-air] [--verbose]
+Usage: dpi_chain splice --network <FILE> --program <N> --cue-pid <PID> --adverts <FILE> --out <FILE> [--events <FILE>] [--on-air] [--quiet] [--verbose]
 
 For more information, try '--help'.
 ",
