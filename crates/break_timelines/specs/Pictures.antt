@@ -28,4 +28,4 @@ Settle ps (Some o) unit program past = (pid : ℕ) × (since : List (List ℕ)) 
 
 -- THEY ARE THE PICTURES of the program in these packets, newest first
 abbrev pub ArePictures : Pictures → ℕ → List (List ℕ) → Type 0
-ArePictures x program past = Settle x.settled.items x.open x.unit.items program past
+ArePictures x program past = Settle x.settled.items x.unfinished x.unit.items program past

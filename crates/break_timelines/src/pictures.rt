@@ -89,7 +89,7 @@ pub(crate) struct Pictures {
     /// Those of which it is known whether they are entry pictures.
     settled: Vec<Picture>,
     /// The unit of the one behind these.
-    open: Option<OpenUnit>,
+    unfinished: Option<OpenUnit>,
     /// The bytes of that unit, as far as they are looked at.
     unit: Vec<u8>,
 }
@@ -101,7 +101,7 @@ impl Pictures {
     {
         Pictures {
             settled: Vec::new(alloc),
-            open: None,
+            unfinished: None,
             unit: Vec::new(alloc),
         }
     }
@@ -133,7 +133,7 @@ impl Pictures {
         ensures { (program : ℕ) (past : List (List ℕ)) → ArePictures self.old program past → None ≡ begun_at program packet.now past
             → OnOk result (ArePictures self.new program (packet.now ∷ past)) }
     {
-        let Some(open) = &mut self.open else {
+        let Some(open) = &mut self.unfinished else {
             return Ok(());
         };
         if !open.is_original(packet) {
@@ -147,21 +147,21 @@ impl Pictures {
 
     /// The unit that was open has ended.
     fn settle(&mut self) -> Result<(), AllocError>
-        ensures open { OnOk result (self.new.open ≡ None) }
+        ensures open { OnOk result (self.new.unfinished ≡ None) }
         ensures settled { OnOk result (self.new.settled.items
-            ≡ with_open self.old.settled.items self.old.open self.old.unit.items) }
+            ≡ with_open self.old.settled.items self.old.unfinished self.old.unit.items) }
     {
-        if let Some(open) = &self.open {
+        if let Some(open) = &self.unfinished {
             self.settled
                 .push(open.picture.judged(self.unit.as_slice()))?;
-            self.open = None;
+            self.unfinished = None;
         }
         Ok(())
     }
 
     /// The picture begins with this packet, and no unit is open.
     fn begin(&mut self, picture: BegunPicture, packet: &Packet) -> Result<(), AllocError>
-        ensures { (program : ℕ) (past : List (List ℕ)) → self.old.open ≡ None
+        ensures { (program : ℕ) (past : List (List ℕ)) → self.old.unfinished ≡ None
             → ((after : List (List ℕ)) → pictures_behind program past (packet.now ∷ after) ≡ self.old.settled.items)
             → Some picture ≡ begun_at program packet.now past
             → OnOk result (ArePictures self.new program (packet.now ∷ past)) }
@@ -172,7 +172,7 @@ impl Pictures {
         }
         self.unit.clear();
         hold(&mut self.unit, packet)?;
-        self.open = Some(OpenUnit::new(picture, packet));
+        self.unfinished = Some(OpenUnit::new(picture, packet));
         Ok(())
     }
 

@@ -8,7 +8,7 @@ pub returns-then-not-picture : goal.returns-then-not-picture
 returns-then-not-picture c = λ program past none is some.
     let self = c.args.self.now in
     let p = c.args.packet.now in
-    closed program (p ∷ past) c.push.new.self.items self.open self.unit.items none
+    closed program (p ∷ past) c.push.new.self.items self.unfinished self.unit.items none
     (λ after. behind_some program p past after c.args.picture some
     ∙ ap (λ ps. ps ++ judged c.args.picture (unit_of program p past after) ∷ []) (is after)
     ∙ ap (λ q. self.settled.items ++ q ∷ []) (judged_none c.args.picture (unit_of program p past after) [] c.if-not-picture.true ∙ sym c.judged.ensures)

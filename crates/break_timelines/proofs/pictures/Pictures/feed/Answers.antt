@@ -9,5 +9,5 @@ returns-in_ok-settle-in-Some c = λ program past s begun.
     let p = c.args.packet.now in
     let some : Some c.in-Some.picture ≡ begun_at program p past = sym c.in-Some.is ∙ begun in
     c.begin.ensures program past c.in_ok-settle-in-Some.ensures.open
-    (λ after. ended_before program p past self.settled.items self.open self.unit.items c.in-Some.picture some s after
+    (λ after. ended_before program p past self.settled.items self.unfinished self.unit.items c.in-Some.picture some s after
     ∙ sym c.in_ok-settle-in-Some.ensures.settled) some

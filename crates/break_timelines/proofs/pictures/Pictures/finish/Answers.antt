@@ -4,4 +4,4 @@ use Rattle.break_timelines.proofs.pictures.Pictures.finish.Goals as goal
 
 pub returns : goal.returns
 returns c = λ program past s.
-    c.in_ok-settle.ensures.settled ∙ ended_last program past c.args.self.settled.items c.args.self.open c.args.self.unit.items s
+    c.in_ok-settle.ensures.settled ∙ ended_last program past c.args.self.settled.items c.args.self.unfinished c.args.self.unit.items s

@@ -27,7 +27,7 @@ returns-then-unit_start c = λ program past s none.
     let p = c.args.packet.now in
     let start : unit_start p ≡ true = sym c.unit_start.ensures ∙ c.if-unit_start.true in
     both_ok c.settle.result
-    (λ none_left settled. closed program (p ∷ past) c.settle.new.self.settled.items c.settle.new.self.open c.settle.new.self.unit.items none_left
+    (λ none_left settled. closed program (p ∷ past) c.settle.new.self.settled.items c.settle.new.self.unfinished c.settle.new.self.unit.items none_left
     (λ after. ended program p past self.settled.items c.in-Some.open self.unit.items none
     (λ pid since f. ap (λ b. b && unit_start p) (sym (c.is_original.ensures.answer pid since f) ∙ c.if-not-is_original.false) ∙ start)
     (subst (λ o. Settle self.settled.items o self.unit.items program past) c.in-Some.is s) after
