@@ -7,5 +7,6 @@ pub mod CountLemmas
 pub mod OtherLemmas
 pub mod CrossLemmas
 pub mod PassLemmas
+pub mod SteppingLemmas
 pub mod CrossedLemmas
 pub mod ReportLemmas

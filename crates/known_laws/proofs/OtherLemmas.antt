@@ -1,6 +1,6 @@
 -- A packet of no switched stream, as one with cues, changes nothing.
-use Rattle.std.proofs.Common.{◌≡◌, ℕ, zero, suc, ◌≤◌, List, [], ◌∷◌, ◌++◌, Bool, false, ◌&&◌, refl, sym, ap, ◌∙◌, subst, Option, None, Some, length, reverse, if◌then◌else◌}
-use Rattle.std.specs.Prelude.{ℤ, Contains, slice_index_or, slice_get, filter, find}
+use Rattle.std.proofs.Common.{◌≡◌, ℕ, zero, suc, ◌≤◌, List, [], ◌∷◌, Bool, false, ◌&&◌, refl, sym, ap, ◌∙◌, subst, Option, None, Some, length, if◌then◌else◌}
+use Rattle.std.specs.Prelude.{ℤ, Contains, slice_index_or, slice_get, filter, find, is_some, option_map}
 use Rattle.std.specs.Ordering.{int_eq}
 use Rattle.std.proofs.lemmas.Bool.{or_from, or_parts}
 use Rattle.ts_packet.specs.Fields.{on, on_one}
@@ -10,7 +10,7 @@ use Rattle.unit_stream.specs.Times.{begins_one, high, unit_time, raised, timed, 
 use Rattle.unit_stream.specs.Fates.{is_left_out}
 use Rattle.unit_stream.proofs.ClockLemmas.{begins_off, begins_off_all}
 use Rattle.psi_tables.specs.ProgramMap.{ProgramMap}
-use Rattle.program_follower.specs.Program.{known_map}
+use Rattle.program_follower.specs.Program.{known_map, program_in}
 use Rattle.event_table.specs.Standing.{Standing, stands}
 use Rattle.armed_events.specs.Arming.{standing}
 use Rattle.armed_events.specs.Valuing.{values_by}
@@ -18,17 +18,19 @@ use Rattle.armed_laws.specs.Laws.{Grows}
 use Rattle.armed_laws.proofs.GrowLemmas.{packet-grows}
 use Rattle.armed_laws.proofs.TimeLemmas.{ahead-of}
 use Rattle.splice_laws.proofs.SettledLemmas.{switched_pids_are_within}
-use Rattle.output_laws.specs.Output.{Move, Keep, Leave, Packing, counter_steps}
+use Rattle.output_laws.specs.Output.{Move, Keep, Leave, Packing}
 use Rattle.splice_plans.specs.declared.plan.Plan.{Plan}
 use Rattle.splice_plans.specs.declared.stream.SwitchedStream.{SwitchedStream}
 use Rattle.splice_plans.specs.Playing.{Adverts, History, is_inside}
-use Rattle.splice_plans.specs.Switching.{Setting, puts_before, moves, switched_at, high_at, events_at, history_at}
+use Rattle.splice_plans.specs.Counters.{PidSteps, counted_at, counted_after}
+use Rattle.splice_plans.specs.Switching.{Setting, puts_before, fate, switched_at, high_at, events_at, history_at}
 use Rattle.splice_plans.specs.Histories.{AreSteady}
-use Rattle.splice_plans.specs.Known.{plan_found, plan_at, GoesAs, AllGo, adverts_at, behind_at, plans_at, inside_at, moves_at, counts_known, is_forgotten}
+use Rattle.splice_plans.specs.Known.{plan_found, plan_at, GoesAs, AllGo, adverts_at, behind_at, plans_at, inside_at, fate_at, counts_known, is_forgotten}
+use Rattle.splice_plans.specs.Stepping.{counted_before, counted_next}
 use Rattle.splice_plans.proofs.PutLemmas.{puts_at_unit_starts}
 use Rattle.splice_plans.proofs.KnownLemmas.{contained}
 use Rattle.known_laws.specs.Laws.{ChangesNothing, UnswitchedChangeNothing}
-use Rattle.known_laws.proofs.HeadLemmas.{none-switched, none-high, first-behind, first-high, none-armed, first-armed, same-switched, same-adverts, more-behind, same-history, high-next}
+use Rattle.known_laws.proofs.HeadLemmas.{none-switched, none-high, first-high, none-armed, first-armed, is-behind, same-switched, same-adverts, more-behind, same-history, high-next}
 use Rattle.known_laws.proofs.QuietLemmas.{plan-still, any-crossed-still}
 use Rattle.known_laws.proofs.SameLemmas.{found-same, found-ahead}
 use Rattle.known_laws.proofs.HeldLemmas.{inside-same}
@@ -66,16 +68,13 @@ module _ (switched : List ℕ) (ads : Adverts) (steady : AreSteady ads) (events 
   pub high-still : high switched (p ∷ past) ≡ high switched past
   high-still = ap (λ b. if b then raised (high switched past) (stamp p) else high switched past) quiet
 
-  pub moves-more : moves switched ads events (p ∷ past) ≡ Keep p ∷ moves switched ads events past
-  moves-more =
-      ap (λ b. (if b then Leave p else Keep p) ∷ (reverse (puts_before switched ads events p past) ++ moves switched ads events past))
+  counted-same : (packed : Packing) (steps : PidSteps) (pid : ℕ) → on pid p ≡ false
+      → counted_at packed (fate switched ads events p past) past (counted_after packed steps (puts_before switched ads events p past)) pid ≡ steps pid
+  counted-same packed steps pid n =
+      ap (λ b. counted_at packed (if b then Leave p else Keep p) past (counted_after packed steps (puts_before switched ads events p past)) pid)
       (none-left-out (λ pid time. is_inside ads (events (p ∷ past)) time) switched p past switched off)
-      ∙ ap (λ (ms : List Move). Keep p ∷ (reverse ms ++ moves switched ads events past)) (puts_at_unit_starts switched ads events p past quiet)
-
-  steps-same : (packed : Packing) (pid : ℕ) → on pid p ≡ false → counter_steps packed pid (moves switched ads events (p ∷ past)) ≡ counter_steps packed pid (moves switched ads events past)
-  steps-same packed pid n =
-      ap (counter_steps packed pid) moves-more
-      ∙ ap (λ b. if b then Kept p ∷ counter_steps packed pid (moves switched ads events past) else counter_steps packed pid (moves switched ads events past)) n
+      ∙ ap (λ (ms : List Move). counted_at packed (Keep p) past (counted_after packed steps ms) pid) (puts_at_unit_starts switched ads events p past quiet)
+      ∙ ap (λ b. if b then Kept p ∷ steps pid else steps pid) n
 
   time-same : (pid : ℕ) → on pid p ≡ false → unit_time switched pid (p ∷ past) ≡ unit_time switched pid past
   time-same pid n = ap (λ b. if b then timed (high switched past) (stamp p) (unit_time switched pid past) else unit_time switched pid past) (begins_off pid p past (off_payload pid p n))
@@ -88,16 +87,15 @@ module _ (switched : List ℕ) (ads : Adverts) (steady : AreSteady ads) (events 
     abbrev inside : List Standing → List (List ℕ) → ℕ → Bool
     inside es behind pid = is_inside ads es (unit_time switched pid behind)
 
-    goes-one : (packed : Packing) (s : SwitchedStream) (i : ℕ) (o : Option ℕ) → slice_get switched i ≡ o → GoesAs s packed (inside es past) (moves switched ads events past) o
-        → GoesAs s packed (inside later (p ∷ past)) (moves switched ads events (p ∷ past)) o
-    goes-one packed s i None is go = go
-    goes-one packed s i (Some pid) is go =
-        let n = off-at switched p i pid off is in
-        record { counter = subst (Counts s.counter) (sym (steps-same packed pid n)) go.counter; leaving = go.leaving ∙ inside-still pid (contained switched i pid is) n }
+    module _ (steps next : PidSteps) (same : (pid : ℕ) → on pid p ≡ false → next pid ≡ steps pid) where
+      goes-one : (s : SwitchedStream) (i : ℕ) (o : Option ℕ) → slice_get switched i ≡ o → GoesAs s (inside es past) steps o → GoesAs s (inside later (p ∷ past)) next o
+      goes-one s i None is go = go
+      goes-one s i (Some pid) is go =
+          let n = off-at switched p i pid off is in
+          record { counter = subst (Counts s.counter) (sym (same pid n)) go.counter; leaving = go.leaving ∙ inside-still pid (contained switched i pid is) n }
 
-    pub all-go-on : (packed : Packing) (streams : List SwitchedStream) → AllGo streams packed (inside es past) (moves switched ads events past) switched
-        → AllGo streams packed (inside later (p ∷ past)) (moves switched ads events (p ∷ past)) switched
-    all-go-on packed streams all = λ i s l. goes-one packed (slice_index_or streams i s) i (slice_get switched i) refl (all i s l)
+      pub all-go-on : (streams : List SwitchedStream) → AllGo streams (inside es past) steps switched → AllGo streams (inside later (p ∷ past)) next switched
+      all-go-on streams all = λ i s l. goes-one (slice_index_or streams i s) i (slice_get switched i) refl (all i s l)
 
     pub all-plans : length switched ≤ 8 → (start : ℤ) → plan_at switched ads events (p ∷ past) later start ≡ plan_at switched ads events past es start
     all-plans few start =
@@ -141,6 +139,11 @@ module _ (k : Setting) (p : List ℕ) (past : List (List ℕ)) (off : on_one (sw
         five (λ s a h b es. plan_at s a h b es start)
         ∙ all-plans sw ads steady hist p (behind_at k past) off (events_at k past) (events_at k (p ∷ past)) grown few start
 
+    pub next-same : (steps : PidSteps) (pid : ℕ) → on pid p ≡ false → counted_next k steps p past pid ≡ steps pid
+    next-same steps pid n =
+        ap (λ b. (if b then counted_at k.packed (fate_at k p past) (behind_at k past) (counted_before k steps p past) else (λ pid. [])) pid) (is-behind k p past m is)
+        ∙ counted-same sw ads steady hist p (behind_at k past) off k.packed steps pid n
+
     events-are : events_at k (p ∷ past) ≡ events_at k (p ∷ past)
     events-are = refl
 
@@ -149,10 +152,10 @@ module _ (k : Setting) (p : List ℕ) (past : List (List ℕ)) (off : on_one (sw
       high = same-high;
       fresh = λ start a. same-plans start ∙ found-ahead sw ads hist (behind_at k past) few steady start (ahead-of (high_at k past) start a) (events_at k past);
       plans = sym (values-same (plans_at k (p ∷ past) (behind_at k (p ∷ past))) (plans_at k past (behind_at k past)) same-plans (standing k.cue_pid (high_at k) past));
-      streams = λ streams all.
-          with-five (λ s a h b es. AllGo streams k.packed (λ pid. is_inside a es (unit_time s pid b)) (moves s a h b) s)
+      streams = λ streams steps all.
+          with-five (λ s a h b es. AllGo streams (λ pid. is_inside a es (unit_time s pid b)) (counted_next k steps p past) s)
           (same-switched k p past m is) (same-adverts k p past m is) (same-history k p past m is) (more-behind k p past m is) events-are
-          (all-go-on sw ads steady hist p (behind_at k past) off (events_at k past) (events_at k (p ∷ past)) grown k.packed streams all);
+          (all-go-on sw ads steady hist p (behind_at k past) off (events_at k past) (events_at k (p ∷ past)) grown steps (counted_next k steps p past) (next-same steps) streams all);
       forgotten =
           ap (λ latest. counts_known k (p ∷ past) (is_forgotten latest)) same-high
           ∙ five (λ s a h b es. counts_of s a h b es (is_forgotten (high_at k past)))
@@ -167,10 +170,14 @@ module _ (k : Setting) (p : List ℕ) (past : List (List ℕ)) (off : on_one (sw
     empty-next : {F : Type 0} (f : List Standing → F) → f (events_at k (p ∷ past)) ≡ f []
     empty-next f = ap f (first-armed k p past none)
 
-    goes-first : (s : SwitchedStream) (f : ℕ → Bool) (ms : List Move) (o : Option ℕ) → GoesAs s k.packed f ms None → GoesAs s k.packed (inside_at k (p ∷ past) (behind_at k (p ∷ past))) (moves_at k (p ∷ past)) o
-    goes-first s f ms None go = go
-    goes-first s f ms (Some pid) go = record {
-      counter = subst (Counts s.counter) (sym (ap (λ b. counter_steps k.packed pid (moves (switched_at k (p ∷ past)) (adverts_at k (p ∷ past)) (history_at k (p ∷ past)) b)) (first-behind k past none p))) go.0;
+    next-none : (steps : PidSteps) (pid : ℕ) → counted_next k steps p past pid ≡ []
+    next-none steps pid =
+        ap (λ o. (if is_some (option_map program_in o) then counted_at k.packed (fate_at k p past) (behind_at k past) (counted_before k steps p past) else (λ pid. [])) pid) none
+
+    goes-first : (s : SwitchedStream) (f : ℕ → Bool) (steps : PidSteps) (o : Option ℕ) → GoesAs s f steps None → GoesAs s (inside_at k (p ∷ past) (behind_at k (p ∷ past))) (counted_next k steps p past) o
+    goes-first s f steps None go = go
+    goes-first s f steps (Some pid) go = record {
+      counter = subst (Counts s.counter) (sym (next-none steps pid)) go.0;
       leaving = go.1 ∙ sym (empty-next (λ es. is_inside (adverts_at k (p ∷ past)) es (unit_time (switched_at k (p ∷ past)) pid (behind_at k (p ∷ past)))));
     }
 
@@ -181,9 +188,9 @@ module _ (k : Setting) (p : List ℕ) (past : List (List ℕ)) (off : on_one (sw
       plans =
           empty (λ es. values_by (plans_at k past (behind_at k past)) (filter (stands (high_at k past)) es))
           ∙ sym (empty (λ es. values_by (plans_at k (p ∷ past) (behind_at k (p ∷ past))) (filter (stands (high_at k past)) es)));
-      streams = λ streams all i s l.
-          goes-first (slice_index_or streams i s) (inside_at k past (behind_at k past)) (moves_at k past) (slice_get (switched_at k (p ∷ past)) i)
-          (subst (λ (pids : List ℕ). GoesAs (slice_index_or streams i s) k.packed (inside_at k past (behind_at k past)) (moves_at k past) (slice_get pids i)) (none-switched k past none) (all i s l));
+      streams = λ streams steps all i s l.
+          goes-first (slice_index_or streams i s) (inside_at k past (behind_at k past)) steps (slice_get (switched_at k (p ∷ past)) i)
+          (subst (λ (pids : List ℕ). GoesAs (slice_index_or streams i s) (inside_at k past (behind_at k past)) steps (slice_get pids i)) (none-switched k past none) (all i s l));
       forgotten =
           empty-next (λ es. counts_of (switched_at k (p ∷ past)) (adverts_at k (p ∷ past)) (history_at k (p ∷ past)) (behind_at k (p ∷ past)) es (is_forgotten (high_at k (p ∷ past))))
           ∙ sym (empty (λ es. counts_of (switched_at k past) (adverts_at k past) (history_at k past) (behind_at k past) es (is_forgotten (high_at k past))));

@@ -8,10 +8,12 @@ use Rattle.armed_events.specs.Arming.{standing}
 use Rattle.armed_events.specs.Valuing.{values_by, IsFreshAhead}
 use Rattle.splice_plans.specs.declared.plan.Plan.{Plan}
 use Rattle.splice_plans.specs.declared.stream.SwitchedStream.{SwitchedStream}
-use Rattle.splice_plans.specs.Switching.{Setting, fate, switched_at, high_at, events_at, history_at, is_behind_head}
+use Rattle.splice_plans.specs.Counters.{PidSteps}
+use Rattle.splice_plans.specs.Switching.{Setting, fate, switched_at, high_at, events_at, history_at, is_behind_head, front_at, place_at, rest_at, switched_at_packet}
 use Rattle.splice_plans.specs.Histories.{AreSteady}
 use Rattle.splice_plans.specs.Parts.{beside}
 use Rattle.splice_plans.specs.Known.{nothing_known, is_crossed_known, AllGo, adverts_at, behind_at, plans_at, inside_at, moves_at, puts_at, counts_known, is_forgotten}
+use Rattle.splice_plans.specs.Stepping.{steps_at, front_by, place_by, rest_by, counted_next, journey_at, puts_next, journey_next}
 use Rattle.splice_plans.specs.Reporting.{EventCounts, with_counted, is_out_at, is_any, report_of}
 
 -- the events that stand behind a past
@@ -36,9 +38,9 @@ pub record ChangesNothing (k : Setting) (p : List ℕ) (past : List (List ℕ)) 
   pub high : high_at k (p ∷ past) ≡ high_at k past
   pub fresh : IsFreshAhead (plans_at k (p ∷ past) (behind_at k (p ∷ past))) (high_at k past) nothing_known
   pub plans : plans_beside k past ≡ values_by (plans_at k (p ∷ past) (behind_at k (p ∷ past))) (standing_behind k past)
-  pub streams : (streams : List SwitchedStream) →
-      AllGo streams k.packed (inside_at k past (behind_at k past)) (moves_at k past) (switched_at k past) →
-      AllGo streams k.packed (inside_at k (p ∷ past) (behind_at k (p ∷ past))) (moves_at k (p ∷ past)) (switched_at k (p ∷ past))
+  pub streams : (streams : List SwitchedStream) (steps : PidSteps) →
+      AllGo streams (inside_at k past (behind_at k past)) steps (switched_at k past) →
+      AllGo streams (inside_at k (p ∷ past) (behind_at k (p ∷ past))) (counted_next k steps p past) (switched_at k (p ∷ past))
   pub forgotten : forgotten_counts k (p ∷ past) ≡ forgotten_counts k past
 
 -- THE LAW OF OTHER PACKETS: where the advertisements are steady, and no more than eight streams are switched
@@ -65,6 +67,21 @@ pub record PassesOn (k : Setting) (p : List ℕ) (past : List (List ℕ)) : Type
 abbrev pub PacketsPass : Type 0
 PacketsPass = (k : Setting) (p : List ℕ) (past : List (List ℕ)) → is_behind_head k past ≡ true → on k.cue_pid p ≡ false →
     AreSteady (adverts_at k past) → unit_fault (switched_at k past) p (behind_at k past) ≡ None → PassesOn k p past
+
+-- ---- what has been counted
+
+-- where all packets went through the switch, what goes out by the steps that were counted is what goes out by the moves
+pub record GoesByMoves (k : Setting) (past : List (List ℕ)) : Type 0 where
+  pub front : (p : List ℕ) → front_by k (steps_at k past) p past ≡ front_at k p past
+  pub place : (p : List ℕ) → place_by k (steps_at k past) p past ≡ place_at k p past
+  pub rest : rest_by k (steps_at k past) past ≡ rest_at k past
+  pub next : (p : List ℕ) → counted_next k (steps_at k past) p past ≡ steps_at k (p ∷ past)
+  pub puts : (p : List ℕ) → puts_next k (journey_at k past) p ≡ switched_at_packet k p past
+  pub journey : (p : List ℕ) → journey_next k (journey_at k past) p ≡ journey_at k (p ∷ past)
+
+-- THE LAW OF STEPS
+abbrev pub StepsAreOfMoves : Type 0
+StepsAreOfMoves = (k : Setting) (past : List (List ℕ)) → GoesByMoves k past
 
 -- ---- the report
 

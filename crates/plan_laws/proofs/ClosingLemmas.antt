@@ -15,7 +15,7 @@ use Rattle.ad_library.specs.Advertisements.{AdvertUnit, Advertisement, count_of_
 use Rattle.splice_laws.specs.Splicing.{SliceUnit, stream}
 use Rattle.splice_laws.proofs.PidLemmas.{pids_are_streams}
 use Rattle.splice_laws.proofs.SettledLemmas.{switched_pids_are_within}
-use Rattle.output_laws.specs.Output.{Move, counter_steps, out_after}
+use Rattle.splice_plans.specs.Counters.{PidSteps, counted_after, out_behind}
 use Rattle.splice_plans.specs.declared.plan.Part.{Part}
 use Rattle.splice_plans.specs.declared.plan.Plan.{Plan}
 use Rattle.splice_plans.specs.Playing.{Adverts, History, is_played, as_played, put_by_start, by_start, played, closing_at}
@@ -29,7 +29,7 @@ use Rattle.splice_plans.proofs.KnownLemmas.{contained}
 use Rattle.plan_laws.proofs.StageLemmas.{none-closed, closed-stays}
 use Rattle.plan_laws.proofs.UnstampedLemmas.{unstamped-closed}
 use Rattle.plan_laws.proofs.DueLemmas.{closing-none, forgotten-closing}
-use Rattle.plan_laws.proofs.PlayedLemmas.{pushed, put_on, pushed-append, out-append, as_played_units, rest_filed, rest-packets, rest-steps}
+use Rattle.plan_laws.proofs.PlayedLemmas.{put_on, counted-append, out-append, as_played_units, rest_filed, rest-packets, rest-steps}
 use Rattle.plan_laws.proofs.EventLemmas.{closing-is}
 use Rattle.plan_laws.proofs.PlanLemmas.{switched, ads, known, sent_at, flag_closed, IsOf, falls, slice-is, now-end, shut-flags, none-begins, turned-there, closes-is}
 use Rattle.plan_laws.proofs.RunningLemmas.{TellsOf, first}
@@ -64,35 +64,35 @@ beside-turned adverts n t before (e ∷ es) = ap (λ l. (e, plan_turned e t (is_
 -- ---- one after another
 
 module _ (filed : ℕ → Option Advertisement) (streams : List Stream) (n : ℕ) (of : Stream) (pid : ℕ) (f : Standing → Plan) (left : Standing → List SliceUnit) where
-  abbrev steps_behind : List Move → List Step
-  steps_behind done = counter_steps packed_units pid done
+  abbrev steps_behind : PidSteps → List Step
+  steps_behind done = done pid
 
   abbrev one : List Step → Standing → List (List ℕ)
   one steps e = pair_packets filed streams n of None steps (e, f e)
 
   -- its packets are those of the moves that put in what is left of it
   abbrev pub IsPut : Standing → Type 0
-  IsPut e = (done : List Move) → (one (steps_behind done) e ≡ out_after packed_units done (put_on pid (left e))) × (steps_behind (pushed done (put_on pid (left e))) ≡ put_in (one (steps_behind done) e) (steps_behind done))
+  IsPut e = (done : PidSteps) → (one (steps_behind done) e ≡ out_behind packed_units done (put_on pid (left e))) × (steps_behind (counted_after packed_units done (put_on pid (left e))) ≡ put_in (one (steps_behind done) e) (steps_behind done))
 
   abbrev rest : List Step → List Standing → List (List ℕ)
   rest steps es = rest_packets filed streams n of steps (map (pair f) es)
 
-  rest-put : (es : List Standing) → AllByRecursion IsPut es → (done : List Move)
-      → (rest (steps_behind done) es ≡ out_after packed_units done (put_on pid (flat_map left es))) × (steps_behind (pushed done (put_on pid (flat_map left es))) ≡ put_in (rest (steps_behind done) es) (steps_behind done))
+  rest-put : (es : List Standing) → AllByRecursion IsPut es → (done : PidSteps)
+      → (rest (steps_behind done) es ≡ out_behind packed_units done (put_on pid (flat_map left es))) × (steps_behind (counted_after packed_units done (put_on pid (flat_map left es))) ≡ put_in (rest (steps_behind done) es) (steps_behind done))
   rest-put [] a done = (refl, refl)
   rest-put (e ∷ es) a done =
       let X = put_on pid (left e) in
       let later = put_on pid (flat_map left es) in
       let st = steps_behind done in
       let now = a.0 done in
-      let next = rest-put es a.1 (pushed done X) in
+      let next = rest-put es a.1 (counted_after packed_units done X) in
       let split : put_on pid (left e ++ flat_map left es) ≡ X ++ later = map-append _ (left e) (flat_map left es) in (
         ap (λ s. one st e ++ rest s es) (sym now.1)
             ∙ ap (λ ps. one st e ++ ps) next.0
-            ∙ ap (λ ps. ps ++ out_after packed_units (pushed done X) later) now.0
-            ∙ sym (ap (out_after packed_units done) split ∙ out-append packed_units done X later),
-        ap (λ ms. steps_behind (pushed done ms)) split
-            ∙ ap steps_behind (pushed-append done X later)
+            ∙ ap (λ ps. ps ++ out_behind packed_units (counted_after packed_units done X) later) now.0
+            ∙ sym (ap (out_behind packed_units done) split ∙ out-append packed_units done X later),
+        ap (λ ms. steps_behind (counted_after packed_units done ms)) split
+            ∙ ap steps_behind (counted-append done X later)
             ∙ next.1
             ∙ ap (λ s. put_in (rest s es) s) now.1
             ∙ sym (put_in-append (one st e) (rest (put_in (one st e) st) es) st),
@@ -174,7 +174,7 @@ module _ (filed : ℕ → Option Advertisement) (streams : List Stream) (events 
       one-put : (e : Standing) → Tells e → stands (high pids past) e ≡ true → closes e ≡ true → IsPut filed streams n of pid turned_plan (close pid) e
       one-put e told up y done =
           let flags = shut-flags _ _ (sym (closes-by e told up) ∙ y) in
-          let st = counter_steps packed_units pid done in
+          let st = done pid in
           let kind = of.kind in
           let k = count_of_kind of.kind (take n streams) in
           let out = length (sent_at filed streams events p past e pid past) in
@@ -185,8 +185,8 @@ module _ (filed : ℕ → Option Advertisement) (streams : List Stream) (events 
           = closing-is (begins_one pids) (stream pids pid) (pids_are_streams pids pid) (switched_pids_are_within pids pid (contained pids n pid there)) e (known filed streams events p past e) (adverts.units e pid)
           (falls filed streams events p past h e n pid there) p past turn (now-end filed streams events p past h turn e told pid n there)
           (filed e.program) kind k (slice-is filed streams events p past e n pid of o) flags.1 flags.0 in (
-            packets ∙ sym (rest-packets e.start kind k e.length (filed e.program) out None pid done) ∙ ap (λ us. out_after packed_units done (put_on pid us)) (sym units),
-            ap (λ us. counter_steps packed_units pid (pushed done (put_on pid us))) units ∙ rest-steps e.start kind k e.length (filed e.program) out None pid done ∙ ap (λ ps. put_in ps st) (sym packets),
+            packets ∙ sym (rest-packets e.start kind k e.length (filed e.program) out None pid done) ∙ ap (λ us. out_behind packed_units done (put_on pid us)) (sym units),
+            ap (λ us. ((counted_after packed_units done (put_on pid us)) pid)) units ∙ rest-steps e.start kind k e.length (filed e.program) out None pid done ∙ ap (λ ps. put_in ps st) (sym packets),
           )
 
       puts-each : (es : List Standing) → AllByRecursion Tells es → AllByRecursion (λ e. stands (high pids past) e ≡ true) es → AllByRecursion (λ e. closes e ≡ true → IsPut filed streams n of pid turned_plan (close pid) e) es
@@ -208,12 +208,12 @@ module _ (filed : ℕ → Option Advertisement) (streams : List Stream) (events 
           )
 
       -- what goes out of all that it closes, and what that does to the counter
-      pub closing-put : (evs : List Standing) → AllByRecursion Tells evs → (es : List Standing) → es ≡ filter (stands (high pids past)) evs → AllByRecursion Tells es → AllByRecursion (λ e. stands (high pids past) e ≡ true) es → (done : List Move)
-          → (rest_packets filed streams n of (counter_steps packed_units pid done) (closing_pairs n (beside es (all_turned adverts n t es (map (first filed streams events p past h turn) es)))) ≡ out_after packed_units done (put_on pid (flat_map (close pid) (played adverts evs))))
-          × (counter_steps packed_units pid (pushed done (put_on pid (flat_map (close pid) (played adverts evs))))
-          ≡ put_in (rest_packets filed streams n of (counter_steps packed_units pid done) (closing_pairs n (beside es (all_turned adverts n t es (map (first filed streams events p past h turn) es))))) (counter_steps packed_units pid done))
+      pub closing-put : (evs : List Standing) → AllByRecursion Tells evs → (es : List Standing) → es ≡ filter (stands (high pids past)) evs → AllByRecursion Tells es → AllByRecursion (λ e. stands (high pids past) e ≡ true) es → (done : PidSteps)
+          → (rest_packets filed streams n of (done pid) (closing_pairs n (beside es (all_turned adverts n t es (map (first filed streams events p past h turn) es)))) ≡ out_behind packed_units done (put_on pid (flat_map (close pid) (played adverts evs))))
+          × (((counted_after packed_units done (put_on pid (flat_map (close pid) (played adverts evs)))) pid)
+          ≡ put_in (rest_packets filed streams n of (done pid) (closing_pairs n (beside es (all_turned adverts n t es (map (first filed streams events p past h turn) es))))) (done pid))
       closing-put evs told es is told_es up done =
-          let st = counter_steps packed_units pid done in
+          let st = done pid in
           let taken = by_start (filter closes es) in
           let pairs : closing_pairs n (beside es (all_turned adverts n t es (map (first filed streams events p past h turn) es))) ≡ map (pair turned_plan) taken
           = ap (closing_pairs n) (beside-turned adverts n t (first filed streams events p past h turn) es) ∙ pairs-are turned_plan n es in
@@ -221,6 +221,6 @@ module _ (filed : ℕ → Option Advertisement) (streams : List Stream) (events 
           let puts = rest-put filed streams n of pid turned_plan (close pid) taken (all-sorted P (filter closes es) (all-taken P closes es (puts-each es told_es up))) done in
           let units : flat_map (close pid) taken ≡ flat_map (close pid) (played adverts evs)
           = ap (λ l. flat_map (close pid) (by_start (filter closes l))) is ∙ left-by-start (close pid) closes (is_played adverts) (stands (high pids past)) evs (idle-each evs told) in (
-            ap (rest_packets filed streams n of st) pairs ∙ puts.0 ∙ ap (λ us. out_after packed_units done (put_on pid us)) units,
-            ap (λ us. counter_steps packed_units pid (pushed done (put_on pid us))) (sym units) ∙ puts.1 ∙ ap (λ xs. put_in (rest_packets filed streams n of st xs) st) (sym pairs),
+            ap (rest_packets filed streams n of st) pairs ∙ puts.0 ∙ ap (λ us. out_behind packed_units done (put_on pid us)) units,
+            ap (λ us. ((counted_after packed_units done (put_on pid us)) pid)) (sym units) ∙ puts.1 ∙ ap (λ xs. put_in (rest_packets filed streams n of st xs) st) (sym pairs),
           )

@@ -9,8 +9,8 @@ use Rattle.unit_stream.specs.UnitPackets.{put_in}
 use Rattle.psi_tables.specs.declared.stream.Stream.{Stream}
 use Rattle.event_table.specs.Standing.{Standing}
 use Rattle.ad_library.specs.Advertisements.{Advertisement}
-use Rattle.output_laws.specs.Output.{Move, counter_steps}
 use Rattle.splice_laws.specs.Splicing.{SliceUnit}
+use Rattle.splice_plans.specs.Counters.{PidSteps, counted_after}
 use Rattle.splice_plans.specs.declared.plan.Plan.{Plan}
 use Rattle.splice_plans.specs.Playing.{History, played}
 use Rattle.splice_plans.specs.Switching.{puts_by}
@@ -22,7 +22,7 @@ use Rattle.splice_plans.specs.Known.{AreSeparate}
 use Rattle.program_follower.specs.Faults.{pids_in}
 use Rattle.ts_packet.proofs.FieldLemmas.{among-get}
 use Rattle.plan_laws.proofs.PartLemmas.{small-number}
-use Rattle.plan_laws.proofs.PlayedLemmas.{pushed, put_on, pushed-append, steps-other}
+use Rattle.plan_laws.proofs.PlayedLemmas.{put_on, counted-append, steps-other}
 use Rattle.plan_laws.proofs.RunningLemmas.{AllOf, all-run}
 use Rattle.plan_laws.proofs.PacketLemmas.{all-found}
 use Rattle.plan_laws.proofs.StandingLemmas.{once-place}
@@ -60,18 +60,18 @@ module _ (filed : ℕ → Option Advertisement) (streams : List Stream) (events 
       (λ t. t)
 
   -- what is put on later streams leaves an earlier one's counter
-  later-leave : (rest : List Stream) (i j q : ℕ) → AllOf filed streams events p past h (turned filed streams events p past h stay s n pid there b) i rest → slice_get pids j ≡ Some q → j < i → (done : List Move)
-      → counter_steps packed_units q (pushed done (puts_by (pids_in rest) all_played puts)) ≡ counter_steps packed_units q done
+  later-leave : (rest : List Stream) (i j q : ℕ) → AllOf filed streams events p past h (turned filed streams events p past h stay s n pid there b) i rest → slice_get pids j ≡ Some q → j < i → (done : PidSteps)
+      → ((counted_after packed_units done (puts_by (pids_in rest) all_played puts)) q) ≡ done q
   later-leave [] i j q all y l done = refl
   later-leave (of ∷ rest) i j q all y l done =
       let X = put_on of.pid (flat_map (puts of.pid) all_played) in
       let off : (of.pid == q) ≡ false = apart-pids i j of.pid q (all.1).there y (λ e. absurd (omega (arith, e, l))) in
-      ap (counter_steps packed_units q) (pushed-append done X (puts_by (pids_in rest) all_played puts))
-      ∙ later-leave rest (i + 1) j q all.2 y (omega (arith, l)) (pushed done X) ∙ steps-other packed_units of.pid q done (flat_map (puts of.pid) all_played) off
+      ap (λ (f : PidSteps). f q) (counted-append done X (puts_by (pids_in rest) all_played puts))
+      ∙ later-leave rest (i + 1) j q all.2 y (omega (arith, l)) (counted_after packed_units done X) ∙ steps-other packed_units of.pid q done (flat_map (puts of.pid) all_played) off
 
-  pub all-counted : (rest : List Stream) (i : ℕ) (all : AllOf filed streams events p past h (turned filed streams events p past h stay s n pid there b) i rest) (done : List Move) (steps : ℕ → List Step)
+  pub all-counted : (rest : List Stream) (i : ℕ) (all : AllOf filed streams events p past h (turned filed streams events p past h stay s n pid there b) i rest) (done : PidSteps) (steps : ℕ → List Step)
       → Counted filed streams events p past h stay s n pid there b i steps done → (j q : ℕ) → slice_get pids j ≡ Some q → i ≤ j → j < i + length rest
-      → put_in (running_of filed streams (high pids (p ∷ past)) standing steps (map (plans_then i) standing) i rest j) (steps j) ≡ counter_steps packed_units q (pushed done (puts_by (pids_in rest) all_played puts))
+      → put_in (running_of filed streams (high pids (p ∷ past)) standing steps (map (plans_then i) standing) i rest j) (steps j) ≡ ((counted_after packed_units done (puts_by (pids_in rest) all_played puts)) q)
   all-counted [] i all done steps c j q y low l = absurd (omega (arith, low, l))
   all-counted (of ∷ rest) i all done steps c j q y low l =
       let w = turned filed streams events p past h stay s n pid there b in
@@ -90,21 +90,21 @@ module _ (filed : ℕ → Option Advertisement) (streams : List Stream) (events 
       let pid_is : Some z ≡ Some q = sym o.there ∙ ap (slice_get pids) same ∙ y in
       let is : z ≡ q = cc in
       let found = all-found filed streams events p past h w i z small of o done standing t a in
-      let st : steps i ≡ counter_steps packed_units z done = c i z o.there (omega arith) in
+      let st : steps i ≡ done z = c i z o.there (omega arith) in
       simp e (ap (λ m. put_in (running_packets filed streams i of top (steps i) (beside standing (map (plans_then i) standing))) (steps m)) (sym same)
       ∙ ap (λ g. put_in (running_packets filed streams i of top g (beside standing (map (plans_then i) standing))) g) st
       ∙ sym found.1
-      ∙ ap (λ us. counter_steps packed_units z (pushed done (put_on z us))) (sym (puts-same filed streams events p past h stay s n pid there b i z small of o))
-      ∙ sym (later-leave rest (i + 1) i z all.2 o.there (omega arith) (pushed done X))
-      ∙ ap (counter_steps packed_units z) (sym (pushed-append done X later))
-      ∙ ap (λ m. counter_steps packed_units m (pushed done (X ++ later))) is))
+      ∙ ap (λ us. ((counted_after packed_units done (put_on z us)) z)) (sym (puts-same filed streams events p past h stay s n pid there b i z small of o))
+      ∙ sym (later-leave rest (i + 1) i z all.2 o.there (omega arith) (counted_after packed_units done X))
+      ∙ ap (λ (f : PidSteps). f z) (sym (counted-append done X later))
+      ∙ ap (λ m. ((counted_after packed_units done (X ++ later)) m)) is))
       (λ e.
-      let next : Counted filed streams events p past h stay s n pid there b (i + 1) steps (pushed done X)
+      let next : Counted filed streams events p past h stay s n pid there b (i + 1) steps (counted_after packed_units done X)
       = λ j m y l. c j m y (omega (arith, l)) ∙ sym (steps-other packed_units z m done (flat_map (puts z) all_played) (apart-pids i j z m o.there y (λ k. absurd (omega (arith, k, l))))) in
       let beyond : i + 1 ≤ j = over i j e low in
       simp e (ap (λ plans. put_in (running_of filed streams top standing steps plans (i + 1) rest j) (steps j)) (all-run filed streams events p past h w i z o.there small of o standing t a)
-      ∙ all-counted rest (i + 1) all.2 (pushed done X) steps next j q y beyond (omega (arith, l))
-      ∙ ap (counter_steps packed_units q) (sym (pushed-append done X later))))
+      ∙ all-counted rest (i + 1) all.2 (counted_after packed_units done X) steps next j q y beyond (omega (arith, l))
+      ∙ ap (λ (f : PidSteps). f q) (sym (counted-append done X later))))
     where
       over : (i j : ℕ) → (i == j) ≡ false → i ≤ j → i + 1 ≤ j
       over i j e l = grind (arith, nat_tests, e, l)

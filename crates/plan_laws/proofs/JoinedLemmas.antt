@@ -1,5 +1,5 @@
 -- The joined laws of a unit start: the plans, the front and the counters.
-use Rattle.std.proofs.Common.{◌≡◌, ℕ, List, [], ◌∷◌, ◌++◌, Bool, true, false, refl, sym, ap, ◌∙◌, subst, Option, Some, if◌then◌else◌, reverse}
+use Rattle.std.proofs.Common.{◌≡◌, ℕ, List, [], ◌∷◌, ◌++◌, Bool, true, false, refl, sym, ap, ◌∙◌, subst, Option, Some, if◌then◌else◌}
 use Rattle.std.specs.Prelude.{ℤ, slice_get, slice_index_or}
 use Rattle.std.proofs.lemmas.Bool.{true≢false}
 use Rattle.ts_packet.specs.Numbering.{Step}
@@ -13,11 +13,13 @@ use Rattle.ad_library.specs.Advertisements.{Advertisement}
 use Rattle.output_laws.specs.Output.{Packing}
 use Rattle.splice_plans.specs.declared.plan.Plan.{Plan}
 use Rattle.splice_plans.specs.Playing.{Adverts, History}
-use Rattle.splice_plans.specs.Switching.{Setting, puts_before, moves, front_of, front_at, switched_at, streams_at, high_at, events_at, history_at, is_behind_head}
+use Rattle.splice_plans.specs.Counters.{PidSteps, counted_after, out_behind}
+use Rattle.splice_plans.specs.Switching.{Setting, puts_before, switched_at, streams_at, high_at, events_at, history_at, is_behind_head}
 use Rattle.splice_plans.specs.Histories.{IsHistory}
 use Rattle.splice_plans.specs.Adverts.{adverts_of, packed_units}
 use Rattle.splice_plans.specs.Fronts.{closing_packets, closed_plans, all_running, running_of, all_ran}
 use Rattle.splice_plans.specs.Known.{AreSeparate, plan_at, behind_at}
+use Rattle.splice_plans.specs.Stepping.{front_by}
 use Rattle.splice_plans.proofs.HistoryLemmas.{armed_is_history}
 use Rattle.program_follower.specs.Faults.{pids_in}
 use Rattle.plan_laws.specs.Laws.{Starts, FrontGoesOut, PlansGoOn, CountersGoOn, steps_of, steps_with}
@@ -79,7 +81,7 @@ module _ (k : Setting) (filed : ℕ → Option Advertisement) (n pid : ℕ) (p :
       (subst (λ top. P (pids_in streams) (adverts_of filed streams) packed_units top (events_at k past)) high-now
       (subst (λ evs. P (pids_in streams) (adverts_of filed streams) packed_units (high (pids_in streams) (p ∷ behind)) evs) (events-are k p past) x))))
 
-  module _ (of : Stream) (of_is : of ≡ slice_index_or streams n of) (sw : List ℕ) (av : Adverts) (packed : Packing) (top : Option ℤ) (evs : List Standing) where
+  module _ (of : Stream) (of_is : of ≡ slice_index_or streams n of) (steps : PidSteps) (sw : List ℕ) (av : Adverts) (packed : Packing) (top : Option ℤ) (evs : List Standing) where
     abbrev standing_with : List Standing
     standing_with = standing_at (high sw behind) evs
 
@@ -87,7 +89,7 @@ module _ (k : Setting) (filed : ℕ → Option Advertisement) (n pid : ℕ) (p :
     plans_with = values_by (plan_at sw av hist behind evs) standing_with
 
     abbrev steps_before_with : ℕ → List Step
-    steps_before_with i = steps_of packed (moves sw av hist behind) (slice_get sw i)
+    steps_before_with i = steps_of steps (slice_get sw i)
 
     abbrev closing_with : List (List ℕ)
     closing_with = closing_packets filed streams n of (high sw behind) (stamp p) (steps_before_with n) standing_with plans_with
@@ -99,34 +101,34 @@ module _ (k : Setting) (filed : ℕ → Option Advertisement) (n pid : ℕ) (p :
     plans_between_with = closed_plans filed streams n of (high sw behind) (stamp p) standing_with plans_with
 
     abbrev FrontWith : Type 0
-    FrontWith = front_of sw av hist packed p behind ≡ closing_with ++ all_running filed streams top standing_with steps_between_with plans_between_with 0 streams
+    FrontWith = out_behind packed steps (puts_before sw av hist p behind) ≡ closing_with ++ all_running filed streams top standing_with steps_between_with plans_between_with 0 streams
 
     abbrev CountersWith : Type 0
     CountersWith = (i : ℕ) → put_in (running_of filed streams top standing_with steps_between_with plans_between_with 0 streams i) (steps_between_with i)
-        ≡ steps_of packed (reverse (puts_before sw av hist p behind) ++ moves sw av hist behind) (slice_get sw i)
+        ≡ steps_of (counted_after packed steps (puts_before sw av hist p behind)) (slice_get sw i)
 
-  front-at : front_at k p past ≡ front_of (switched_at k past) (k.adverts streams) hist k.packed p behind
-  front-at = by (is_behind_head k past) (has-head k p past n pid s.of)
+  front-at : (steps : PidSteps) → front_by k steps p past ≡ out_behind k.packed steps (puts_before (switched_at k past) (k.adverts streams) hist p behind)
+  front-at steps = by (is_behind_head k past) (has-head k p past n pid s.of)
     where
-      by : (c : Bool) → c ≡ true → (if c then front_of (switched_at k past) (k.adverts streams) hist k.packed p behind else []) ≡ front_of (switched_at k past) (k.adverts streams) hist k.packed p behind
+      by : (c : Bool) → c ≡ true → (if c then out_behind k.packed steps (puts_before (switched_at k past) (k.adverts streams) hist p behind) else []) ≡ out_behind k.packed steps (puts_before (switched_at k past) (k.adverts streams) hist p behind)
       by true h = refl
       by false h = absurd (true≢false (sym h))
 
-  pub front-goes-out : (of : Stream) (is : of ≡ slice_index_or streams n of)
-      → front_at k p past ≡ closing_with of is (switched_at k past) (k.adverts streams) k.packed (high_at k (p ∷ past)) (events_at k past)
-      ++ all_running filed streams (high_at k (p ∷ past)) (standing_with of is (switched_at k past) (k.adverts streams) k.packed (high_at k (p ∷ past)) (events_at k past))
-      (steps_between_with of is (switched_at k past) (k.adverts streams) k.packed (high_at k (p ∷ past)) (events_at k past))
-      (plans_between_with of is (switched_at k past) (k.adverts streams) k.packed (high_at k (p ∷ past)) (events_at k past)) 0 streams
-  front-goes-out of is = front-at ∙ go-over (FrontWith of is) (front-is filed streams hist p behind history stay separate n pid there s.begins_it of is)
+  pub front-goes-out : (of : Stream) (is : of ≡ slice_index_or streams n of) (steps : PidSteps)
+      → front_by k steps p past ≡ closing_with of is steps (switched_at k past) (k.adverts streams) k.packed (high_at k (p ∷ past)) (events_at k past)
+      ++ all_running filed streams (high_at k (p ∷ past)) (standing_with of is steps (switched_at k past) (k.adverts streams) k.packed (high_at k (p ∷ past)) (events_at k past))
+      (steps_between_with of is steps (switched_at k past) (k.adverts streams) k.packed (high_at k (p ∷ past)) (events_at k past))
+      (plans_between_with of is steps (switched_at k past) (k.adverts streams) k.packed (high_at k (p ∷ past)) (events_at k past)) 0 streams
+  front-goes-out of is steps = front-at steps ∙ go-over (FrontWith of is steps) (front-is filed streams hist p behind history stay separate n pid there s.begins_it of is steps)
 
-  pub counters-go-on : (of : Stream) (is : of ≡ slice_index_or streams n of) → CountersWith of is (switched_at k past) (k.adverts streams) k.packed (high_at k (p ∷ past)) (events_at k past)
-  counters-go-on of is = go-over (CountersWith of is) (counters-are filed streams hist p behind history stay separate n pid there s.begins_it of is)
+  pub counters-go-on : (of : Stream) (is : of ≡ slice_index_or streams n of) (steps : PidSteps) → CountersWith of is steps (switched_at k past) (k.adverts streams) k.packed (high_at k (p ∷ past)) (events_at k past)
+  counters-go-on of is steps = go-over (CountersWith of is steps) (counters-are filed streams hist p behind history stay separate n pid there s.begins_it of is steps)
 
 pub plans_go_on : PlansGoOn
 plans_go_on k filed n pid of p past r = plans-go-on k filed n pid p past r.starts of r.of_is
 
 pub front_goes_out : FrontGoesOut
-front_goes_out k filed n pid of p past r = front-goes-out k filed n pid p past r.starts of r.of_is
+front_goes_out k filed n pid of p past r steps = front-goes-out k filed n pid p past r.starts of r.of_is steps
 
 pub counters_go_on : CountersGoOn
-counters_go_on k filed n pid of p past r = counters-go-on k filed n pid p past r.starts of r.of_is
+counters_go_on k filed n pid of p past r steps = counters-go-on k filed n pid p past r.starts of r.of_is steps

@@ -9,6 +9,7 @@ use Rattle.psi_tables.specs.declared.stream.Stream.{Stream}
 use Rattle.event_table.specs.Standing.{Standing, IsWithin}
 use Rattle.armed_events.specs.Valuing.{values_by}
 use Rattle.ad_library.specs.Advertisements.{Advertisement}
+use Rattle.splice_plans.specs.Counters.{PidSteps}
 use Rattle.splice_plans.specs.Switching.{streams_at, high_at}
 use Rattle.splice_plans.specs.Fronts.{closing_packets, closed_plans, all_running, running_of, all_ran}
 use Rattle.splice_plans.specs.Known.{behind_at, plans_at}
@@ -47,15 +48,17 @@ nothing_stands k filed n pid of p past r none =
     let top = high_at k (p ∷ past) in
     let ss = streams_at k past in
     let v = plans_at k past (behind_at k past) in
-    let before = steps_before k filed n of p past in
     let gone : latest ≡ None = none-raised latest (stamp p) (sym (high-raised k filed n pid p past r.starts) ∙ none) in
     let empty : standing_before k filed n of p past ≡ [] = none-within (standing_before k filed n of p past) (subst (λ l. All (IsWithin l) (standing_before k filed n of p past)) gone r.within) in
     let closed = none-closed filed ss n of latest (stamp p) in
-    let steps : List Standing → ℕ → List Step = λ es. steps_with n (closing_packets filed ss n of latest (stamp p) (before n) es (values_by v es)) before in
-    subst (λ es. (all_running filed ss top es (steps es) (closed_plans filed ss n of latest (stamp p) es (values_by v es)) 0 ss ≡ [])
-    × ((i : ℕ) → running_of filed ss top es (steps es) (closed_plans filed ss n of latest (stamp p) es (values_by v es)) 0 ss i ≡ [])
+    let between : PidSteps → List Standing → ℕ → List Step
+    = λ steps es. steps_with n (closing_packets filed ss n of latest (stamp p) (steps_before k filed n of p past steps n) es (values_by v es)) (steps_before k filed n of p past steps) in
+    subst (λ es. ((steps : PidSteps) → (all_running filed ss top es (between steps es) (closed_plans filed ss n of latest (stamp p) es (values_by v es)) 0 ss ≡ [])
+    × ((i : ℕ) → running_of filed ss top es (between steps es) (closed_plans filed ss n of latest (stamp p) es (values_by v es)) 0 ss i ≡ []))
     × (all_ran filed ss top es (closed_plans filed ss n of latest (stamp p) es (values_by v es)) 0 ss ≡ closed_plans filed ss n of latest (stamp p) es (values_by v es))) (sym empty) (
-      ap (λ plans. all_running filed ss top [] (steps []) plans 0 ss) closed ∙ none-running filed ss top (steps []) ss 0,
-      λ i. ap (λ plans. running_of filed ss top [] (steps []) plans 0 ss i) closed ∙ none-in filed ss top (steps []) ss 0 i,
-      ap (λ plans. all_ran filed ss top [] plans 0 ss) closed ∙ none-ran filed ss top (steps []) ss 0 ∙ sym closed,
+      λ steps. (
+        ap (λ plans. all_running filed ss top [] (between steps []) plans 0 ss) closed ∙ none-running filed ss top (between steps []) ss 0,
+        λ i. ap (λ plans. running_of filed ss top [] (between steps []) plans 0 ss i) closed ∙ none-in filed ss top (between steps []) ss 0 i,
+      ),
+      ap (λ plans. all_ran filed ss top [] plans 0 ss) closed ∙ none-ran filed ss top (λ i. []) ss 0 ∙ sym closed,
     )

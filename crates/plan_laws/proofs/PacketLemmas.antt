@@ -16,7 +16,7 @@ use Rattle.ad_library.specs.Advertisements.{AdvertUnit, Advertisement, count_of_
 use Rattle.splice_laws.specs.Splicing.{SliceUnit, stream}
 use Rattle.splice_laws.proofs.PidLemmas.{pids_are_streams}
 use Rattle.splice_laws.proofs.SettledLemmas.{switched_pids_are_within}
-use Rattle.output_laws.specs.Output.{Move, counter_steps, out_after}
+use Rattle.splice_plans.specs.Counters.{PidSteps, counted_after, out_behind}
 use Rattle.splice_plans.specs.declared.plan.Part.{Part}
 use Rattle.splice_plans.specs.declared.plan.Plan.{Plan}
 use Rattle.splice_plans.specs.Playing.{History, as_played, running_at}
@@ -26,7 +26,7 @@ use Rattle.splice_plans.specs.Slicing.{slice_packets}
 use Rattle.splice_plans.specs.Parts.{beside, delta_in, packets_in, pair_packets, found_packets, running_packets, runs_in, reached_by}
 use Rattle.splice_plans.proofs.KnownLemmas.{contained}
 use Rattle.plan_laws.proofs.DueLemmas.{running-none}
-use Rattle.plan_laws.proofs.PlayedLemmas.{pushed, put_on, as_played_units, rest_filed, rest-packets, rest-steps}
+use Rattle.plan_laws.proofs.PlayedLemmas.{put_on, as_played_units, rest_filed, rest-packets, rest-steps}
 use Rattle.plan_laws.proofs.EventLemmas.{running-is}
 use Rattle.plan_laws.proofs.PlanLemmas.{switched, ads, known, sent_at, flag_closed, IsOf, falls, slice-is, now-end, mid-there, runs-is, pick-second, shut-flags, none-begins}
 use Rattle.plan_laws.proofs.RunningLemmas.{TellsOf, runs_on, mixed, NoneRun, others-idle}
@@ -49,9 +49,9 @@ module _ (filed : ℕ → Option Advertisement) (streams : List Stream) (events 
   abbrev pub rule : ℕ → Standing → List SliceUnit
   rule q e = running_at (begins_one pids) (stream pids q) (as_played e) (known filed streams events p past e) ((ads filed streams events p past).units e q) p past
 
-  module _ (i q : ℕ) (small : i % 8 ≡ i) (of : Stream) (o : IsOf filed streams events p past i q of) (done : List Move) where
+  module _ (i q : ℕ) (small : i % 8 ≡ i) (of : Stream) (o : IsOf filed streams events p past i q of) (done : PidSteps) where
     abbrev steps : List Step
-    steps = counter_steps packed_units q done
+    steps = done q
 
     abbrev out : Standing → ℕ
     out e = length (sent_at filed streams events p past e q past)
@@ -75,16 +75,16 @@ module _ (filed : ℕ → Option Advertisement) (streams : List Stream) (events 
         ∙ ap (λ z. slice_packets z (delta_in (ring_of e.start) (filed e.program)) steps (left e)) o.pid_is
 
     one-out : (e : Standing) → Tells e → runs_on filed streams events p past h turn q e ≡ true
-        → pair_packets filed streams i of (reached_by top e) steps (e, plan i e) ≡ out_after packed_units done (put_on q (rule q e))
+        → pair_packets filed streams i of (reached_by top e) steps (e, plan i e) ≡ out_behind packed_units done (put_on q (rule q e))
     one-out e told y =
         packets-are e told y
         ∙ sym (rest-packets e.start of.kind (count_of_kind of.kind (take i streams)) e.length (filed e.program) (out e) (reached_by top e) q done)
-        ∙ ap (λ us. out_after packed_units done (put_on q us)) (sym (rule-is e told y))
+        ∙ ap (λ us. out_behind packed_units done (put_on q us)) (sym (rule-is e told y))
 
     one-steps : (e : Standing) → Tells e → runs_on filed streams events p past h turn q e ≡ true
-        → counter_steps packed_units q (pushed done (put_on q (rule q e))) ≡ put_in (pair_packets filed streams i of (reached_by top e) steps (e, plan i e)) steps
+        → ((counted_after packed_units done (put_on q (rule q e))) q) ≡ put_in (pair_packets filed streams i of (reached_by top e) steps (e, plan i e)) steps
     one-steps e told y =
-        ap (λ us. counter_steps packed_units q (pushed done (put_on q us))) (rule-is e told y)
+        ap (λ us. ((counted_after packed_units done (put_on q us)) q)) (rule-is e told y)
         ∙ rest-steps e.start of.kind (count_of_kind of.kind (take i streams)) e.length (filed e.program) (out e) (reached_by top e) q done
         ∙ ap (λ ps. put_in ps steps) (sym (packets-are e told y))
 
@@ -101,7 +101,7 @@ module _ (filed : ℕ → Option Advertisement) (streams : List Stream) (events 
     found es = running_packets filed streams i of top steps (beside es (map (plan i) es))
 
     pub all-found : (es : List Standing) → AllByRecursion Tells es → NoneMeet es
-        → (found es ≡ out_after packed_units done (put_on q (flat_map (rule q) es))) × (counter_steps packed_units q (pushed done (put_on q (flat_map (rule q) es))) ≡ put_in (found es) steps)
+        → (found es ≡ out_behind packed_units done (put_on q (flat_map (rule q) es))) × (((counted_after packed_units done (put_on q (flat_map (rule q) es))) q) ≡ put_in (found es) steps)
     all-found [] told m = (refl, refl)
     all-found (e ∷ es) told m = by_test (runs_on filed streams events p past h turn q e) runs (idle (all-found es told.1 m.2))
       where
@@ -126,16 +126,16 @@ module _ (filed : ℕ → Option Advertisement) (streams : List Stream) (events 
         rest y = ap (λ us. us ++ flat_map (rule q) es) (rule-none e y)
 
         runs : runs_on filed streams events p past h turn q e ≡ true
-            → (found (e ∷ es) ≡ out_after packed_units done (put_on q (flat_map (rule q) (e ∷ es)))) × (counter_steps packed_units q (pushed done (put_on q (flat_map (rule q) (e ∷ es)))) ≡ put_in (found (e ∷ es)) steps)
+            → (found (e ∷ es) ≡ out_behind packed_units done (put_on q (flat_map (rule q) (e ∷ es)))) × (((counted_after packed_units done (put_on q (flat_map (rule q) (e ∷ es)))) q) ≡ put_in (found (e ∷ es)) steps)
         runs y = (
-          here y ∙ one-out e told.0 y ∙ ap (λ us. out_after packed_units done (put_on q us)) (sym (only y)),
-          ap (λ us. counter_steps packed_units q (pushed done (put_on q us))) (only y) ∙ one-steps e told.0 y ∙ ap (λ ps. put_in ps steps) (sym (here y)),
+          here y ∙ one-out e told.0 y ∙ ap (λ us. out_behind packed_units done (put_on q us)) (sym (only y)),
+          ap (λ us. ((counted_after packed_units done (put_on q us)) q)) (only y) ∙ one-steps e told.0 y ∙ ap (λ ps. put_in ps steps) (sym (here y)),
         )
 
-        idle : (found es ≡ out_after packed_units done (put_on q (flat_map (rule q) es))) × (counter_steps packed_units q (pushed done (put_on q (flat_map (rule q) es))) ≡ put_in (found es) steps)
+        idle : (found es ≡ out_behind packed_units done (put_on q (flat_map (rule q) es))) × (((counted_after packed_units done (put_on q (flat_map (rule q) es))) q) ≡ put_in (found es) steps)
             → runs_on filed streams events p past h turn q e ≡ false
-            → (found (e ∷ es) ≡ out_after packed_units done (put_on q (flat_map (rule q) (e ∷ es)))) × (counter_steps packed_units q (pushed done (put_on q (flat_map (rule q) (e ∷ es)))) ≡ put_in (found (e ∷ es)) steps)
+            → (found (e ∷ es) ≡ out_behind packed_units done (put_on q (flat_map (rule q) (e ∷ es)))) × (((counted_after packed_units done (put_on q (flat_map (rule q) (e ∷ es)))) q) ≡ put_in (found (e ∷ es)) steps)
         idle i y = (
-          later y ∙ i.0 ∙ ap (λ us. out_after packed_units done (put_on q us)) (sym (rest y)),
-          ap (λ us. counter_steps packed_units q (pushed done (put_on q us))) (rest y) ∙ i.1 ∙ ap (λ ps. put_in ps steps) (sym (later y)),
+          later y ∙ i.0 ∙ ap (λ us. out_behind packed_units done (put_on q us)) (sym (rest y)),
+          ap (λ us. ((counted_after packed_units done (put_on q us)) q)) (rest y) ∙ i.1 ∙ ap (λ ps. put_in ps steps) (sym (later y)),
         )

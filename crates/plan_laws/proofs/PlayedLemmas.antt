@@ -1,9 +1,9 @@
 -- The units of an advertisement that are due of an event are those of its slice that are, and their packets are those of the moves.
-use Rattle.std.proofs.Common.{◌≡◌, ℕ, zero, suc, ◌==◌, ◌<◌, List, [], ◌∷◌, ◌++◌, Bool, true, false, ◌||◌, inl, inr, refl, sym, ap, ◌∙◌, append_assoc, Option, None, Some, arith, length, drop, take, map, reverse}
+use Rattle.std.proofs.Common.{◌≡◌, ℕ, zero, suc, ◌==◌, ◌<◌, List, [], ◌∷◌, ◌++◌, Bool, true, false, ◌||◌, inl, inr, refl, sym, ap, ◌∙◌, append_assoc, Option, None, Some, arith, length, drop, take, map}
 use Rattle.std.specs.Prelude.{ℤ, pos, negsuc, ◌+ℤ◌, ◌-ℤ◌, slice_index_or, option_map}
 use Rattle.std.proofs.lemmas.Int.{ints}
 use Rattle.std.proofs.lemmas.Bool.{true≢false}
-use Rattle.std.proofs.lemmas.List.{append-nil, reverse-append, length-map}
+use Rattle.std.proofs.lemmas.List.{append-nil, length-map}
 use lib.Signed.{le_z, lt_z}
 use Rattle.ts_packet.proofs.Cases.{by_test, test-same}
 use Rattle.pes_time.specs.Line.{ring_of}
@@ -17,9 +17,10 @@ use Rattle.ts_packet.specs.Fields.{is_among}
 use Rattle.splice_laws.specs.Streams.{IsOnce}
 use Rattle.splice_laws.specs.Ends.{up_to_end}
 use Rattle.splice_laws.proofs.EndLemmas.{run_of}
-use Rattle.output_laws.specs.Output.{Move, Put, Packing, counter_steps, out_at, out_after}
+use Rattle.output_laws.specs.Output.{Move, Put, Packing}
 use Rattle.ad_library.specs.Advertisements.{AdvertUnit, AdvertStream, Advertisement, stream_at, count_of_kind, slice_of}
 use Rattle.ad_library.specs.Library.{slice_held}
+use Rattle.splice_plans.specs.Counters.{PidSteps, counted_at, out_by, counted_after, out_behind}
 use Rattle.splice_plans.specs.Adverts.{slice_unit, slice_units, kind_and_place, units_at, packed_units}
 use Rattle.splice_plans.specs.Slicing.{due_units, delta_at, moved_packets, slice_packets}
 use Rattle.splice_plans.specs.Parts.{units_or, delta_in}
@@ -31,31 +32,25 @@ moved-by (pos a) (negsuc b) = grind (arith, ints)
 moved-by (negsuc a) (pos b) = grind (arith, ints)
 moved-by (negsuc a) (negsuc b) = grind (arith, ints)
 
--- ---- moves put one after another
+-- ---- units put in one after another
 
-abbrev pub pushed : List Move → List Move → List Move
-pushed past [] = past
-pushed past (m ∷ ms) = pushed (m ∷ past) ms
+pub counted-append : (steps : PidSteps) (a b : List Move) → counted_after packed_units steps (a ++ b) ≡ counted_after packed_units (counted_after packed_units steps a) b
+counted-append steps [] b = refl
+counted-append steps (m ∷ a) b = counted-append (counted_at packed_units m [] steps) a b
 
-pub pushed-is : (past ms : List Move) → pushed past ms ≡ reverse ms ++ past
-pushed-is past [] = refl
-pushed-is past (m ∷ ms) = pushed-is (m ∷ past) ms ∙ sym (append_assoc (reverse ms) (m ∷ []) past) ∙ ap (λ l. l ++ past) (sym (reverse-append (m ∷ []) ms))
-
-pub pushed-append : (past a b : List Move) → pushed past (a ++ b) ≡ pushed (pushed past a) b
-pushed-append past [] b = refl
-pushed-append past (m ∷ a) b = pushed-append (m ∷ past) a b
-
-pub out-append : (packed : Packing) (past a b : List Move) → out_after packed past (a ++ b) ≡ out_after packed past a ++ out_after packed (pushed past a) b
-out-append packed past [] b = refl
-out-append packed past (m ∷ a) b = ap (λ l. out_at packed m past ++ l) (out-append packed (m ∷ past) a b) ∙ sym (append_assoc (out_at packed m past) (out_after packed (m ∷ past) a) (out_after packed (pushed (m ∷ past) a) b))
+pub out-append : (packed : Packing) (steps : PidSteps) (a b : List Move) → out_behind packed steps (a ++ b) ≡ out_behind packed steps a ++ out_behind packed (counted_after packed steps a) b
+out-append packed steps [] b = refl
+out-append packed steps (m ∷ a) b =
+    let next = counted_at packed m [] steps in
+    ap (λ l. out_by packed m [] steps ++ l) (out-append packed next a b) ∙ sym (append_assoc (out_by packed m [] steps) (out_behind packed next a) (out_behind packed (counted_after packed next a) b))
 
 abbrev pub put_on : ℕ → List SliceUnit → List Move
 put_on pid us = map (λ (u : SliceUnit). Put pid u) us
 
 -- on another PID they count nothing
-pub steps-other : (packed : Packing) (pid q : ℕ) (past : List Move) (us : List SliceUnit) → (pid == q) ≡ false → counter_steps packed q (pushed past (put_on pid us)) ≡ counter_steps packed q past
-steps-other packed pid q past [] h = refl
-steps-other packed pid q past (u ∷ us) h = steps-other packed pid q (Put pid u ∷ past) us h ∙ simp h refl
+pub steps-other : (packed : Packing) (pid q : ℕ) (steps : PidSteps) (us : List SliceUnit) → (pid == q) ≡ false → counted_after packed steps (put_on pid us) q ≡ steps q
+steps-other packed pid q steps [] h = refl
+steps-other packed pid q steps (u ∷ us) h = steps-other packed pid q (counted_at packed (Put pid u) [] steps) us h ∙ simp h refl
 
 -- ---- of an advertisement
 
@@ -86,28 +81,29 @@ module _ (start : ℤ) (ad : Advertisement) where
   drop-is (suc n) [] = refl
   drop-is (suc n) (u ∷ us) = drop-is n us
 
-  one-packet : (pid : ℕ) (u : AdvertUnit) (past : List Move) → out_at packed_units (Put pid (slice_unit start ad u)) past ≡ moved_packets pid (delta_at (ring_of start) ad.zero) (counter_steps packed_units pid past) u
-  one-packet pid u past = ap (λ d. unit_packets pid u.random_access (next_number (counter_steps packed_units pid past)) (restamped u.payload d)) (sym (moved-by start ad.zero))
+  one-packet : (pid : ℕ) (u : AdvertUnit) (steps : PidSteps) → out_by packed_units (Put pid (slice_unit start ad u)) [] steps ≡ moved_packets pid (delta_at (ring_of start) ad.zero) (steps pid) u
+  one-packet pid u steps = ap (λ d. unit_packets pid u.random_access (next_number (steps pid)) (restamped u.payload d)) (sym (moved-by start ad.zero))
 
-  step-one : (pid : ℕ) (u : AdvertUnit) (past : List Move) → counter_steps packed_units pid (Put pid (slice_unit start ad u) ∷ past)
-      ≡ put_in (moved_packets pid (delta_at (ring_of start) ad.zero) (counter_steps packed_units pid past) u) (counter_steps packed_units pid past)
-  step-one pid u past = let t = test-same pid in simp t (ap (λ l. put_in l (counter_steps packed_units pid past)) (one-packet pid u past))
+  step-one : (pid : ℕ) (u : AdvertUnit) (steps : PidSteps) → counted_at packed_units (Put pid (slice_unit start ad u)) [] steps pid
+      ≡ put_in (moved_packets pid (delta_at (ring_of start) ad.zero) (steps pid) u) (steps pid)
+  step-one pid u steps = let t = test-same pid in simp t (ap (λ l. put_in l (steps pid)) (one-packet pid u steps))
 
-  packets-are : (pid : ℕ) (past : List Move) (us : List AdvertUnit) → out_after packed_units past (put_on pid (played us)) ≡ slice_packets pid (delta_at (ring_of start) ad.zero) (counter_steps packed_units pid past) us
-  packets-are pid past [] = refl
-  packets-are pid past (u ∷ us) =
-      ap (λ l. l ++ out_after packed_units (Put pid (slice_unit start ad u) ∷ past) (put_on pid (played us))) (one-packet pid u past)
-      ∙ ap (λ l. moved_packets pid (delta_at (ring_of start) ad.zero) (counter_steps packed_units pid past) u ++ l)
-      (packets-are pid (Put pid (slice_unit start ad u) ∷ past) us ∙ ap (λ s. slice_packets pid (delta_at (ring_of start) ad.zero) s us) (step-one pid u past))
+  packets-are : (pid : ℕ) (steps : PidSteps) (us : List AdvertUnit) → out_behind packed_units steps (put_on pid (played us)) ≡ slice_packets pid (delta_at (ring_of start) ad.zero) (steps pid) us
+  packets-are pid steps [] = refl
+  packets-are pid steps (u ∷ us) =
+      let next = counted_at packed_units (Put pid (slice_unit start ad u)) [] steps in
+      ap (λ l. l ++ out_behind packed_units next (put_on pid (played us))) (one-packet pid u steps)
+      ∙ ap (λ l. moved_packets pid (delta_at (ring_of start) ad.zero) (steps pid) u ++ l)
+      (packets-are pid next us ∙ ap (λ s. slice_packets pid (delta_at (ring_of start) ad.zero) s us) (step-one pid u steps))
 
-  steps-are : (pid : ℕ) (past : List Move) (us : List AdvertUnit) → counter_steps packed_units pid (pushed past (put_on pid (played us)))
-      ≡ put_in (slice_packets pid (delta_at (ring_of start) ad.zero) (counter_steps packed_units pid past) us) (counter_steps packed_units pid past)
-  steps-are pid past [] = refl
-  steps-are pid past (u ∷ us) =
-      let s = counter_steps packed_units pid past in
+  steps-are : (pid : ℕ) (steps : PidSteps) (us : List AdvertUnit) → counted_after packed_units steps (put_on pid (played us)) pid
+      ≡ put_in (slice_packets pid (delta_at (ring_of start) ad.zero) (steps pid) us) (steps pid)
+  steps-are pid steps [] = refl
+  steps-are pid steps (u ∷ us) =
+      let s = steps pid in
       let q = moved_packets pid (delta_at (ring_of start) ad.zero) s u in
-      steps-are pid (Put pid (slice_unit start ad u) ∷ past) us
-      ∙ ap (λ s. put_in (slice_packets pid (delta_at (ring_of start) ad.zero) s us) s) (step-one pid u past)
+      steps-are pid (counted_at packed_units (Put pid (slice_unit start ad u)) [] steps) us
+      ∙ ap (λ s. put_in (slice_packets pid (delta_at (ring_of start) ad.zero) s us) s) (step-one pid u steps)
       ∙ sym (put_in-append q (slice_packets pid (delta_at (ring_of start) ad.zero) (put_in q s) us) s)
 
 -- ---- of what is filed
@@ -160,16 +156,16 @@ module _ (start : ℤ) where
     rest-length None sent reached = sym (ap length (rest-none sent reached))
     rest-length (Some ad) sent reached = length-map (rest_filed (Some ad) sent reached) (slice_unit start ad)
 
-    pub rest-packets : (o : Option Advertisement) (sent : ℕ) (reached : Option ℕ) (pid : ℕ) (past : List Move) →
-        out_after packed_units past (put_on pid (as_played_units o (rest_filed o sent reached))) ≡ slice_packets pid (delta_in (ring_of start) o) (counter_steps packed_units pid past) (rest_filed o sent reached)
-    rest-packets None sent reached pid past = sym (ap (slice_packets pid 0 (counter_steps packed_units pid past)) (rest-none sent reached))
-    rest-packets (Some ad) sent reached pid past = packets-are start ad pid past (rest_filed (Some ad) sent reached)
+    pub rest-packets : (o : Option Advertisement) (sent : ℕ) (reached : Option ℕ) (pid : ℕ) (steps : PidSteps) →
+        out_behind packed_units steps (put_on pid (as_played_units o (rest_filed o sent reached))) ≡ slice_packets pid (delta_in (ring_of start) o) (steps pid) (rest_filed o sent reached)
+    rest-packets None sent reached pid steps = sym (ap (slice_packets pid 0 (steps pid)) (rest-none sent reached))
+    rest-packets (Some ad) sent reached pid steps = packets-are start ad pid steps (rest_filed (Some ad) sent reached)
 
-    pub rest-steps : (o : Option Advertisement) (sent : ℕ) (reached : Option ℕ) (pid : ℕ) (past : List Move) →
-        counter_steps packed_units pid (pushed past (put_on pid (as_played_units o (rest_filed o sent reached))))
-        ≡ put_in (slice_packets pid (delta_in (ring_of start) o) (counter_steps packed_units pid past) (rest_filed o sent reached)) (counter_steps packed_units pid past)
-    rest-steps None sent reached pid past = sym (ap (λ us. put_in (slice_packets pid 0 (counter_steps packed_units pid past) us) (counter_steps packed_units pid past)) (rest-none sent reached))
-    rest-steps (Some ad) sent reached pid past = steps-are start ad pid past (rest_filed (Some ad) sent reached)
+    pub rest-steps : (o : Option Advertisement) (sent : ℕ) (reached : Option ℕ) (pid : ℕ) (steps : PidSteps) →
+        counted_after packed_units steps (put_on pid (as_played_units o (rest_filed o sent reached))) pid
+        ≡ put_in (slice_packets pid (delta_in (ring_of start) o) (steps pid) (rest_filed o sent reached)) (steps pid)
+    rest-steps None sent reached pid steps = sym (ap (λ us. put_in (slice_packets pid 0 (steps pid) us) (steps pid)) (rest-none sent reached))
+    rest-steps (Some ad) sent reached pid steps = steps-are start ad pid steps (rest_filed (Some ad) sent reached)
 
 -- ---- where a stream stands among those of its type
 

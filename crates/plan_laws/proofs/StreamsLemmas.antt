@@ -14,7 +14,7 @@ use Rattle.armed_laws.specs.Laws.{NoneMeet}
 use Rattle.ad_library.specs.Advertisements.{Advertisement}
 use Rattle.splice_laws.specs.Splicing.{SliceUnit, stream}
 use Rattle.splice_laws.proofs.PidLemmas.{pids_are_streams}
-use Rattle.output_laws.specs.Output.{Move, counter_steps, out_after}
+use Rattle.splice_plans.specs.Counters.{PidSteps, counted_after, out_behind}
 use Rattle.splice_plans.specs.declared.plan.Plan.{Plan}
 use Rattle.splice_plans.specs.Playing.{Adverts, History, is_played, played, as_played}
 use Rattle.splice_plans.specs.Switching.{puts_by}
@@ -28,7 +28,7 @@ use Rattle.ts_packet.proofs.FieldLemmas.{among-get}
 use Rattle.plan_laws.proofs.ToldLemmas.{Told}
 use Rattle.plan_laws.proofs.PartLemmas.{small-number}
 use Rattle.plan_laws.proofs.DueLemmas.{forgotten-running}
-use Rattle.plan_laws.proofs.PlayedLemmas.{pushed, put_on, out-append, steps-other}
+use Rattle.plan_laws.proofs.PlayedLemmas.{put_on, out-append, steps-other}
 use Rattle.plan_laws.proofs.PlanLemmas.{known, falls, none-begins, IsOf}
 use Rattle.plan_laws.proofs.RunningLemmas.{runs_on, mixed, AllOf, others-idle, played-run, all-run}
 use Rattle.plan_laws.proofs.PacketLemmas.{rule, all-found, none-rules, rule-none}
@@ -63,7 +63,7 @@ module _ (filed : ℕ → Option Advertisement) (streams : List Stream) (events 
 
   module _ (i q : ℕ) (small : i % 8 ≡ i) (of : Stream) (o : IsOf filed streams events p past i q of) where
     none-idle : (e : Standing) → runs_on filed streams events p past h turned q e ≡ false → put q e ≡ []
-    none-idle e y = rule-none filed streams events p past h turned i q small of o [] e y
+    none-idle e y = rule-none filed streams events p past h turned i q small of o (λ n. []) e y
 
     not-played : (evs : List Standing) → AllByRecursion (Told pids ads events p past) evs → AllByRecursion (λ e. is_played ads e ≡ false → put q e ≡ []) evs
     not-played [] t = tt
@@ -81,7 +81,7 @@ module _ (filed : ℕ → Option Advertisement) (streams : List Stream) (events 
     alone-all [] t m = tt
     alone-all (e ∷ evs) t m = (
       by_test (runs_on filed streams events p past h turned q e)
-          (λ y. inr (none-rules filed streams events p past h turned i q small of o [] evs (others-idle filed streams events p past h turned i q o.there e t.0 y evs t.1 m.1)))
+          (λ y. inr (none-rules filed streams events p past h turned i q small of o (λ n. []) evs (others-idle filed streams events p past h turned i q o.there e t.0 y evs t.1 m.1)))
           (λ y. inl (none-idle e y)),
       alone-all evs t.1 m.2,
     )
@@ -102,11 +102,11 @@ module _ (filed : ℕ → Option Advertisement) (streams : List Stream) (events 
       absurd (omega (arith, e, l)))
       (λ t. t)
 
-  abbrev pub Counted : ℕ → (ℕ → List Step) → List Move → Type 0
-  Counted i steps done = (j q : ℕ) → slice_get pids j ≡ Some q → i ≤ j → steps j ≡ counter_steps packed_units q done
+  abbrev pub Counted : ℕ → (ℕ → List Step) → PidSteps → Type 0
+  Counted i steps done = (j q : ℕ) → slice_get pids j ≡ Some q → i ≤ j → steps j ≡ done q
 
-  pub all-put : (rest : List Stream) (i : ℕ) → AllOf filed streams events p past h turned i rest → (done : List Move) (steps : ℕ → List Step) → Counted i steps done
-      → all_running filed streams (high pids (p ∷ past)) es steps (map (plan i) es) i rest ≡ out_after packed_units done (puts_by (pids_in rest) (played ads (events past)) put)
+  pub all-put : (rest : List Stream) (i : ℕ) → AllOf filed streams events p past h turned i rest → (done : PidSteps) (steps : ℕ → List Step) → Counted i steps done
+      → all_running filed streams (high pids (p ∷ past)) es steps (map (plan i) es) i rest ≡ out_behind packed_units done (puts_by (pids_in rest) (played ads (events past)) put)
   all-put [] i all done steps c = refl
   all-put (of ∷ rest) i all done steps c =
       let q = of.pid in
@@ -116,14 +116,14 @@ module _ (filed : ℕ → Option Advertisement) (streams : List Stream) (events 
       let a = apart filed streams events p past h stay s n pid there b in
       let X = put_on q (flat_map (put q) (played ads (events past))) in
       let later = puts_by (pids_in rest) (played ads (events past)) put in
-      let now : running_packets filed streams i of (high pids (p ∷ past)) (steps i) (beside es (map (plan i) es)) ≡ out_after packed_units done X
+      let now : running_packets filed streams i of (high pids (p ∷ past)) (steps i) (beside es (map (plan i) es)) ≡ out_behind packed_units done X
       = ap (λ st. running_packets filed streams i of (high pids (p ∷ past)) st (beside es (map (plan i) es))) (c i q o.there (omega arith))
       ∙ (all-found filed streams events p past h turned i q small of o done es t a).0
-      ∙ ap (λ us. out_after packed_units done (put_on q us)) (sym (puts-same i q small of o)) in
-      let next : Counted (i + 1) steps (pushed done X)
+      ∙ ap (λ us. out_behind packed_units done (put_on q us)) (sym (puts-same i q small of o)) in
+      let next : Counted (i + 1) steps (counted_after packed_units done X)
       = λ j z y l. c j z y (omega (arith, l)) ∙ sym (steps-other packed_units q z done (flat_map (put q) (played ads (events past))) (differ i j q z o.there y l)) in
       ap (λ ps. ps ++ all_running filed streams (high pids (p ∷ past)) es steps (ran_plans filed streams i of (high pids (p ∷ past)) (beside es (map (plan i) es))) (i + 1) rest) now
-      ∙ ap (λ ps. out_after packed_units done X ++ ps)
+      ∙ ap (λ ps. out_behind packed_units done X ++ ps)
       (ap (λ plans. all_running filed streams (high pids (p ∷ past)) es steps plans (i + 1) rest) (all-run filed streams events p past h turned i q o.there small of o es t a)
-      ∙ all-put rest (i + 1) all.2 (pushed done X) steps next)
+      ∙ all-put rest (i + 1) all.2 (counted_after packed_units done X) steps next)
       ∙ sym (out-append packed_units done X later)

@@ -1,6 +1,6 @@
 -- Events in order of their starts, of which no two have one.
 use Rattle.std.proofs.Common.{◌≡◌, Bool, ◌⊎◌, inl, inr, refl, sym, ap, ◌∙◌, subst, List, [], ◌∷◌, length, arith}
-use Rattle.std.specs.Prelude.{ℤ, ◌<ℤ◌, ◌≤ℤ◌, int_lt, filter}
+use Rattle.std.specs.Prelude.{◌<ℤ◌, ◌≤ℤ◌, int_lt, filter}
 use Rattle.std.proofs.lemmas.Int.{ints}
 use Rattle.ts_packet.specs.Membership.{In}
 use Rattle.ts_packet.proofs.Cases.{by_test}

@@ -2,7 +2,7 @@
 use Rattle.std.specs.Prelude.{◌≡◌, ℕ, ◌-◌, ◌<◌, ◌≤◌, List, [], ◌∷◌, ◌++◌, length, map, replicate, count_by, find, Bool, true, false, not, ◌&&◌, ◌||◌, if◌then◌else◌, slice_index_or, slice_get, ℤ, Option, None, Some}
 use Rattle.std.specs.List.{list_any}
 use Rattle.std.specs.Ordering.{int_eq}
-use Rattle.ts_packet.specs.Numbering.{Counts}
+use Rattle.ts_packet.specs.Numbering.{Step, Counts}
 use Rattle.unit_stream.specs.Times.{begins_one, unit_time}
 use Rattle.event_table.specs.Standing.{Standing, stands}
 use Rattle.program_follower.specs.Program.{behind_head}
@@ -10,14 +10,15 @@ use Rattle.splice_laws.specs.Splicing.{PlayedEvent, TimedStream, stream, below}
 use Rattle.ts_packet.specs.Fields.{is_among}
 use Rattle.splice_laws.specs.Streams.{IsOnce}
 use Rattle.splice_laws.specs.Settled.{begun_now, closed_now}
-use Rattle.output_laws.specs.Output.{Packing, Move, counter_steps}
+use Rattle.output_laws.specs.Output.{Move}
 use Rattle.splice_plans.specs.declared.plan.Stage.{Stage}
 use Rattle.splice_plans.specs.declared.plan.Stage.TheVariants.{Waiting, Running, Closing, Over}
 use Rattle.splice_plans.specs.declared.plan.Part.{Part}
 use Rattle.splice_plans.specs.declared.plan.Plan.{Plan}
 use Rattle.splice_plans.specs.declared.stream.SwitchedStream.{SwitchedStream}
 use Rattle.splice_plans.specs.Playing.{Adverts, History, is_played, as_played, end_known, is_inside, sent_known}
-use Rattle.splice_plans.specs.Switching.{Setting, puts_before, moves, switched_at, streams_at, events_at, history_at}
+use Rattle.splice_plans.specs.Counters.{PidSteps}
+use Rattle.splice_plans.specs.Switching.{Setting, puts_before, fate, moves, switched_at, streams_at, events_at, history_at}
 use Rattle.splice_plans.specs.Reporting.{EventCounts as Reported, is_not_fitted}
 use Rattle.splice_plans.specs.Turning.{waiting}
 
@@ -79,17 +80,17 @@ pub record AreSeparate (switched : List ℕ) : Type 0 where
   pub few : length switched ≤ 8
   pub alone : (pid : ℕ) → is_among pid switched ≡ true → IsOnce pid switched
 
-pub record Goes (s : SwitchedStream) (packed : Packing) (pid : ℕ) (moves : List Move) (is_in : Bool) : Type 0 where
-  pub counter : Counts s.counter (counter_steps packed pid moves)
+pub record Goes (s : SwitchedStream) (steps : List Step) (is_in : Bool) : Type 0 where
+  pub counter : Counts s.counter steps
   pub leaving : s.is_leaving ≡ is_in
 
 -- the stream of a PID, or one that is not used
-abbrev pub GoesAs : SwitchedStream → Packing → (ℕ → Bool) → List Move → Option ℕ → Type 0
-GoesAs s packed is_in moves None = Counts s.counter [] × (s.is_leaving ≡ false)
-GoesAs s packed is_in moves (Some pid) = Goes s packed pid moves (is_in pid)
+abbrev pub GoesAs : SwitchedStream → (ℕ → Bool) → PidSteps → Option ℕ → Type 0
+GoesAs s is_in steps None = Counts s.counter [] × (s.is_leaving ≡ false)
+GoesAs s is_in steps (Some pid) = Goes s (steps pid) (is_in pid)
 
-abbrev pub AllGo : List SwitchedStream → Packing → (ℕ → Bool) → List Move → List ℕ → Type 0
-AllGo streams packed is_in moves switched = (i : ℕ) (s : SwitchedStream) → i < 8 → GoesAs (slice_index_or streams i s) packed is_in moves (slice_get switched i)
+abbrev pub AllGo : List SwitchedStream → (ℕ → Bool) → PidSteps → List ℕ → Type 0
+AllGo streams is_in steps switched = (i : ℕ) (s : SwitchedStream) → i < 8 → GoesAs (slice_index_or streams i s) is_in steps (slice_get switched i)
 
 -- ---- the network
 
@@ -114,6 +115,10 @@ moves_at k past = moves (switched_at k past) (adverts_at k past) (history_at k p
 -- what is put in before a packet
 abbrev pub puts_at : Setting → List ℕ → List (List ℕ) → List Move
 puts_at k p past = puts_before (switched_at k past) (adverts_at k past) (history_at k past) p (behind_at k past)
+
+-- what becomes of it
+abbrev pub fate_at : Setting → List ℕ → List (List ℕ) → Move
+fate_at k p past = fate (switched_at k past) (adverts_at k past) (history_at k past) p (behind_at k past)
 
 -- counts over those events that the test takes
 abbrev pub counts_known : Setting → List (List ℕ) → (Standing → Bool) → Reported

@@ -10,4 +10,6 @@ pub mod Adverts
 pub mod Parts
 pub mod Waiting
 pub mod Fronts
+pub mod Counters
 pub mod Known
+pub mod Stepping
